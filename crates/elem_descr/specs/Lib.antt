@@ -1,0 +1,4 @@
+pub mod Refusals
+pub mod Values
+pub mod Encoding
+pub mod TypeStrings

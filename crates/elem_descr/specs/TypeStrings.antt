@@ -1,0 +1,90 @@
+-- Type strings, as NumPy's array interface has them: a byte order, a letter for the kind, and the bytes of an item.
+use Rattle.std.specs.Prelude.{ℕ, ◌+◌, ◌-◌, ◌*◌, Bool, true, false, List, [], ◌∷◌, ◌++◌, codes, decimal, fold, find, nat_eq, nat_le, if◌then◌else◌, Option, Some, None, Result, Ok, Err}
+use Rattle.std.specs.Char.{is_ascii_digit}
+use Rattle.std.specs.List.{list_all, list_any}
+use Rattle.std.specs.Option.{option_map}
+use Rattle.std.specs.Str.{bytes_eq}
+use Rattle.elem_descr.specs.declared.refusal.Refusal.{Refusal}
+use Rattle.elem_descr.specs.declared.refusal.Refusal.TheVariants.{BadDescriptor, DescriptorLeftOut, TooLarge}
+use Rattle.elem_descr.specs.declared.scalar.Order.{Order}
+use Rattle.elem_descr.specs.declared.scalar.Order.TheVariants.{Little, Big}
+use Rattle.elem_descr.specs.declared.scalar.Width.TheVariants.{Two, Four, Eight}
+use Rattle.elem_descr.specs.declared.scalar.Scalar.{Scalar}
+use Rattle.elem_descr.specs.declared.scalar.Scalar.TheVariants.{Bool as BoolScalar, Byte, Int, Bytes}
+use Rattle.elem_descr.specs.Encoding.{size}
+
+-- the byte is one of these
+abbrev pub is_one_of : List ℕ → ℕ → Bool
+is_one_of bytes b = list_any (λ c. nat_eq c b) bytes
+
+-- the byte order that a mark at the front means, and what follows the mark
+abbrev pub marked : List ℕ → Order × List ℕ
+marked [] = (Little, [])
+marked (b ∷ rest) = if is_one_of (codes ">") b then (Big, rest) else if is_one_of (codes "<|=") b then (Little, rest) else (Little, b ∷ rest)
+
+-- the spellings of bools and integers
+abbrev pub numbers : Order → List (List ℕ × Scalar)
+numbers order =
+    (codes "b1", BoolScalar)
+    ∷ ((codes "i1", Byte true)
+    ∷ ((codes "u1", Byte false)
+    ∷ ((codes "i2", Int true Two order)
+    ∷ ((codes "i4", Int true Four order)
+    ∷ ((codes "i8", Int true Eight order)
+    ∷ ((codes "u2", Int false Two order)
+    ∷ ((codes "u4", Int false Four order)
+    ∷ ((codes "u8", Int false Eight order) ∷ []))))))))
+
+-- the number that decimal digits spell
+abbrev pub value_of : List ℕ → ℕ
+value_of digits = fold (λ n d. n * 10 + (d - 48)) 0 digits
+
+-- the bool or the integer that is spelled so
+abbrev pub number_spelled : Order → List ℕ → Option Scalar
+number_spelled order kind = option_map (λ entry. entry.1) (find (λ entry. bytes_eq entry.0 kind) (numbers order))
+
+-- a byte string of this length
+abbrev pub of_length : ℕ → Result Scalar Refusal
+of_length n = if nat_eq n 0 then Err DescriptorLeftOut else if nat_le n 65536 then Ok (Bytes n) else Err TooLarge
+
+-- a byte string whose length these digits spell
+abbrev pub byte_string : List ℕ → Result Scalar Refusal
+byte_string digits = if list_all is_ascii_digit digits then of_length (value_of digits) else Err BadDescriptor
+
+-- the kinds that are no numbers, and those that are left out
+abbrev pub by_letter : List ℕ → Result Scalar Refusal
+by_letter [] = Err BadDescriptor
+by_letter (letter ∷ rest) =
+    if is_one_of (codes "S") letter then byte_string rest
+    else if is_one_of (codes "fcmMOUV") letter then Err DescriptorLeftOut
+    else Err BadDescriptor
+
+abbrev pub or_else : Option Scalar → Result Scalar Refusal → Result Scalar Refusal
+or_else None other = other
+or_else (Some scalar) other = Ok scalar
+
+-- the scalar that a type string means, or the fault in it
+abbrev pub typestr : List ℕ → Result Scalar Refusal
+typestr text = let m = marked text in or_else (number_spelled m.0 m.1) (by_letter m.1)
+
+-- `>` is big-endian and `<` little-endian, and `|` is written where there is no order
+abbrev pub mark : Scalar → List ℕ
+mark BoolScalar = codes "|"
+mark (Byte signed) = codes "|"
+mark (Int signed width Little) = codes "<"
+mark (Int signed width Big) = codes ">"
+mark (Bytes n) = codes "|"
+
+abbrev pub integer_letter : Bool → List ℕ
+integer_letter true = codes "i"
+integer_letter false = codes "u"
+
+abbrev pub letter_of : Scalar → List ℕ
+letter_of BoolScalar = codes "b"
+letter_of (Byte signed) = integer_letter signed
+letter_of (Int signed width order) = integer_letter signed
+letter_of (Bytes n) = codes "S"
+
+-- the type string of a scalar
+abbrev pub spelling : Scalar → List ℕ
+spelling scalar = mark scalar ++ letter_of scalar ++ decimal (size scalar)

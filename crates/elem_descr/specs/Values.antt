@@ -1,0 +1,25 @@
+-- The values of an element.
+use Rattle.std.specs.Prelude.{◌≡◌, ◌⊎◌, ℕ, ℤ, List, refl}
+use Rattle.std.specs.Coded.{Coded, code_by, coded⊎, coded_ℕ, coded_ℤ, coded_list}
+use Rattle.std.proofs.Common.{inl, inr}
+
+-- a bool or an integer is a number, a bool 0 or 1; a byte string is its bytes without trailing NULs
+pub data LeafValue : Type 0 where
+  number : ℤ → LeafValue
+  text : List ℕ → LeafValue
+
+-- the code of a value, by which a proof tells values apart
+abbrev pub split_leaf : LeafValue → ℤ ⊎ List ℕ
+split_leaf (number n) = inl n
+split_leaf (text bytes) = inr bytes
+
+abbrev pub join_leaf : ℤ ⊎ List ℕ → LeafValue
+join_leaf (inl n) = number n
+join_leaf (inr bytes) = text bytes
+
+pub join-split_leaf : (value : LeafValue) → join_leaf (split_leaf value) ≡ value
+join-split_leaf (number n) = refl
+join-split_leaf (text bytes) = refl
+
+abbrev pub leaf_code : Coded LeafValue
+leaf_code = code_by (ℤ ⊎ List ℕ) (coded⊎ coded_ℤ (coded_list coded_ℕ)) split_leaf join_leaf join-split_leaf

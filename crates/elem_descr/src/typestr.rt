@@ -1,0 +1,162 @@
+// Type strings of NumPy's array interface.
+ghost use Rattle.std.specs.Prelude.{◌≡◌, ◌∷◌, [], min, IfOk, IsTrue};
+ghost use Rattle.std.specs.Char.{is_ascii_digit};
+ghost use Rattle.std.specs.List.{list_all};
+ghost use Rattle.elem_descr.specs.TypeStrings.{marked, number_spelled, value_of, byte_string, typestr, mark, letter_of, spelling};
+
+use crate::refusal::Refusal;
+use crate::scalar::{BytesLen, MAX_ITEM_SIZE, Order, Scalar, Width};
+use itoa::Buffer;
+use std::alloc::{AllocError, Global};
+
+/// The byte order that a mark at the front means, and what follows the mark.
+fn marked(text: &[u8]) -> (Order, &[u8])
+    ensures { (result.0, result.1.now) ≡ marked text.now }
+{
+    match text {
+        [b'>', rest @ ..] => (Order::Big, rest),
+        [b'<' | b'|' | b'=', rest @ ..] => (Order::Little, rest),
+        _ => (Order::Little, text),
+    }
+}
+
+/// The bool or the integer that is spelled so.
+fn number_spelled(order: Order, kind: &[u8]) -> Option<Scalar>
+    ensures { result ≡ number_spelled order kind.now }
+{
+    match kind {
+        b"b1" => Some(Scalar::Bool),
+        b"i1" => Some(Scalar::Byte { signed: true }),
+        b"u1" => Some(Scalar::Byte { signed: false }),
+        b"i2" => Some(Scalar::Int {
+            signed: true,
+            width: Width::Two,
+            order,
+        }),
+        b"i4" => Some(Scalar::Int {
+            signed: true,
+            width: Width::Four,
+            order,
+        }),
+        b"i8" => Some(Scalar::Int {
+            signed: true,
+            width: Width::Eight,
+            order,
+        }),
+        b"u2" => Some(Scalar::Int {
+            signed: false,
+            width: Width::Two,
+            order,
+        }),
+        b"u4" => Some(Scalar::Int {
+            signed: false,
+            width: Width::Four,
+            order,
+        }),
+        b"u8" => Some(Scalar::Int {
+            signed: false,
+            width: Width::Eight,
+            order,
+        }),
+        _ => None,
+    }
+}
+
+fn are_digits(text: &[u8]) -> bool
+    ensures { result ≡ list_all is_ascii_digit text.now }
+{
+    text.iter().all(|b| b.is_ascii_digit())
+}
+
+/// The number that digits spell, or one past the most bytes of an item where it is larger: the
+/// digits may be thousands.
+fn capped_value(digits: &[u8]) -> usize
+    requires { IsTrue (list_all is_ascii_digit digits.now) }
+    ensures { result ≡ min (value_of digits.now) 65537 }
+{
+    let mut value = 0usize;
+    for digit in digits {
+        value = (value * 10 + usize::from(*digit - b'0')).min(MAX_ITEM_SIZE + 1);
+    }
+    value
+}
+
+fn byte_string(digits: &[u8]) -> Result<Scalar, Refusal>
+    ensures { result ≡ byte_string digits.now }
+{
+    if !are_digits(digits) {
+        return Err(Refusal::BadDescriptor);
+    }
+    let value = capped_value(digits);
+    if value == 0 {
+        return Err(Refusal::DescriptorLeftOut);
+    }
+    match BytesLen::try_new(value) {
+        Some(len) => Ok(Scalar::Bytes(len)),
+        None => Err(Refusal::TooLarge),
+    }
+}
+
+/// Reads a type string: an optional mark out of `<`, `>`, `|` and `=`, then `b1`, `i1`, `i2`, `i4`,
+/// `i8`, `u1`, `u2`, `u4`, `u8`, or `S` with a number of bytes. `>` before an integer of two or more
+/// bytes means big-endian, every other mark or none little-endian.
+///
+/// A kind of NumPy that is left out, and a byte string of no bytes, are `DescriptorLeftOut`; a byte
+/// string of more than 65,536 bytes is `TooLarge`; every other text is `BadDescriptor`.
+pub fn typestr_read(text: &[u8]) -> Result<Scalar, Refusal>
+    ensures { result ≡ typestr text.now }
+{
+    let (order, kind) = marked(text);
+    if let Some(scalar) = number_spelled(order, kind) {
+        return Ok(scalar);
+    }
+    match kind {
+        [b'S', digits @ ..] => byte_string(digits),
+        [b'f' | b'c' | b'm' | b'M' | b'O' | b'U' | b'V', ..] => Err(Refusal::DescriptorLeftOut),
+        _ => Err(Refusal::BadDescriptor),
+    }
+}
+
+fn mark(scalar: &Scalar) -> u8
+    ensures { result ∷ [] ≡ mark scalar.now }
+{
+    match scalar {
+        Scalar::Int {
+            order: Order::Little,
+            ..
+        } => b'<',
+        Scalar::Int {
+            order: Order::Big,
+            ..
+        } => b'>',
+        _ => b'|',
+    }
+}
+
+fn letter(scalar: &Scalar) -> u8
+    ensures { result ∷ [] ≡ letter_of scalar.now }
+{
+    match scalar {
+        Scalar::Bool => b'b',
+        Scalar::Byte { signed } | Scalar::Int { signed, .. } => {
+            if *signed { b'i' } else { b'u' }
+        }
+        Scalar::Bytes(_) => b'S',
+    }
+}
+
+/// Writes the type string of a scalar: its mark, the letter of its kind, and the bytes of an item.
+#[tactic(auto, using(crate::proofs::Spellings::reads_spelling))]
+pub fn typestr_write(alloc: Global, scalar: Scalar) -> Result<Vec<u8>, AllocError>
+    ensures spelled { IfOk result (λ text. text.items ≡ spelling scalar) }
+    ensures reads_back { typestr (spelling scalar) ≡ Ok scalar }
+{
+    let size = scalar.size();
+    let mut buffer = Buffer::new();
+    let mut text = Vec::from_slice(alloc, &[mark(&scalar), letter(&scalar)])?;
+    text.extend_from_slice(buffer.format(size).as_bytes())?;
+    Ok(text)
+}
+
+#[cfg(test)]
+mod tests;
