@@ -1,0 +1,44 @@
+-- Copies to items that lie apart: each item is then its source's, and all else is as before.
+use Rattle.std.proofs.Common.{◌≡◌, ℕ, zero, suc, ◌+◌, ◌<◌, ◌≤◌, ◌⊎◌, inl, inr, List, length, refl, sym, ap, ◌∙◌, arith}
+use lib.IntN.{ℤ}
+use Rattle.raw_block.specs.Bytes.{place, item_at, copied, EachWithin}
+use Rattle.raw_block.proofs.Exchanges.{last_or_before}
+use Rattle.raw_block.proofs.Laws.{place_within, fewer, length-copied, item_at-put_same, item_at-put_apart}
+use Rattle.raw_block.proofs.Puts.{length-item_at}
+
+module _ (dst : ℕ) (dst_step : ℤ) (other : List ℕ) (src : ℕ) (src_step : ℤ) (width : ℕ) (bytes : List ℕ) where
+  abbrev after : ℕ → List ℕ
+  after n = copied dst dst_step other src src_step width n bytes
+
+  abbrev source : ℕ → List ℕ
+  source n = item_at (place src src_step n) width other
+
+  module _ (n : ℕ) (to : EachWithin (length bytes) dst dst_step width (suc n)) (from : EachWithin (length other) src src_step width (suc n)) where
+    kept : length (after n) ≡ length bytes
+    kept = length-copied dst dst_step other src src_step width n bytes (fewer _ dst dst_step width n to) (fewer _ src src_step width n from)
+
+    counted : length (source n) ≡ width
+    counted = length-item_at (place src src_step n) width other (place_within (length other) src src_step width (suc n) n from (omega arith))
+
+    inside : place dst dst_step n + length (source n) ≤ length (after n)
+    inside = let within = place_within (length bytes) dst dst_step width (suc n) n to (omega arith) in omega (arith, kept, counted)
+
+    copied_apart : (at size : ℕ) → at + size ≤ length bytes → (at + size ≤ place dst dst_step n) ⊎ (place dst dst_step n + width ≤ at) → item_at at size (after (suc n)) ≡ item_at at size (after n)
+    copied_apart at size le apart =
+        item_at-put_apart (place dst dst_step n) (source n) (after n) at size inside (omega (arith, kept)) (elim apart [ inl h ↦ inl h | inr h ↦ inr (omega (arith, counted)) ])
+
+  pub copied-outside : (n at size : ℕ) → EachWithin (length bytes) dst dst_step width n → EachWithin (length other) src src_step width n → at + size ≤ length bytes
+      → ((k : ℕ) → k < n → (at + size ≤ place dst dst_step k) ⊎ (place dst dst_step k + width ≤ at)) → item_at at size (after n) ≡ item_at at size bytes
+  copied-outside zero at size to from le apart = refl
+  copied-outside (suc n) at size to from le apart =
+      copied_apart n to from at size le (apart n (omega arith)) ∙ copied-outside n at size (fewer _ dst dst_step width n to) (fewer _ src src_step width n from) le (λ k lt. apart k (omega arith))
+
+  pub copied-item : (n k : ℕ) → EachWithin (length bytes) dst dst_step width n → EachWithin (length other) src src_step width n → k < n
+      → ((i j : ℕ) → i < j → j < n → (place dst dst_step i + width ≤ place dst dst_step j) ⊎ (place dst dst_step j + width ≤ place dst dst_step i)) → item_at (place dst dst_step k) width (after n) ≡ source k
+  copied-item zero k to from lt apart = absurd (omega arith)
+  copied-item (suc n) k to from lt apart = elim (last_or_before k n lt) [
+    | inl before ↦ copied_apart n to from (place dst dst_step k) width (place_within (length bytes) dst dst_step width (suc n) k to lt) (apart k n before (omega arith))
+        ∙ copied-item n k (fewer _ dst dst_step width n to) (fewer _ src src_step width n from) before (λ i j less below. apart i j less (omega arith))
+    | inr last ↦ ap (λ i. item_at (place dst dst_step i) width (after (suc n))) last ∙ ap (λ m. item_at (place dst dst_step n) m (after (suc n))) (sym (counted n to from))
+        ∙ item_at-put_same (place dst dst_step n) (source n) (after n) (inside n to from) ∙ ap source (sym last)
+  ]

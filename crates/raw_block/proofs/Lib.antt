@@ -1,0 +1,9 @@
+pub mod Carving
+pub mod Copies
+pub mod Exchanges
+pub mod Laws
+pub mod Numbers
+pub mod Places
+pub mod Puts
+pub mod Sharing
+pub mod Values

@@ -1,0 +1,37 @@
+-- A `&` to the owner of the bytes is a `&` to each of them. Assumes `Logic`.
+use Rattle.std.proofs.Common.{ℕ, ◌+◌, ◌^◌, List, [], ◌∷◌, length}
+use seplogic.Ra.Ura.{Ura}
+use base.Fraction.{full_share}
+use base.Fml.{Fml, ftrue, ffalse, fsep, flt}
+use types.Logic.{Logic}
+use denote.Builtin.{u8}
+use denote.Memory.{part_at, shared_of}
+use denote.Sharing.{ShrLaws, said}
+use denote.SharingLaws.{beside_shr_laws, said_shr_laws}
+use denote.Slice.{elements_shared, elements_shr_laws}
+use denote.Struct.Field.{u8-field}
+use denote.Struct.Laws.{u8-copy}
+use denote.Struct.Lending.{Lends, Lends-both, Lends-first, Lends-nothing, Lends-said, Lends-false}
+use denote.Param.Shared.{Sharable, copy_shared}
+use denote.RawPtr.{Ptr, block_ptr, null_ptr}
+use denote.RawPtr.Bytes.{bytes}
+use Rattle.raw_block.specs.Ownership.{unwritten, bytes_own, bytes_lent}
+
+u8_shared : Sharable u8-field
+u8_shared = copy_shared u8-field u8-copy
+
+pub bytes_lent_laws : (p : Ptr) (xs : List ℕ) (n : ℕ) → ShrLaws (bytes_lent p xs n)
+bytes_lent_laws (block_ptr b o) xs n = beside_shr_laws (said (flt (length xs + n) (2 ^ 63))) (elements_shared u8 xs b o) (said_shr_laws (flt (length xs + n) (2 ^ 63)) tt) (elements_shr_laws u8 u8_shared.shr_laws xs b o)
+bytes_lent_laws null_ptr xs n = said_shr_laws ffalse tt
+
+module _ {M : Type 1} {𝓤 : Ura M} (𝓛 : Logic 𝓤) where
+  Lends-bytes : (xs : List ℕ) (b o : ℕ) → Lends 𝓛 (bytes full_share xs b o) (elements_shared u8 xs b o) []
+  Lends-bytes [] b o = Lends-nothing 𝓛 ftrue []
+  Lends-bytes (x ∷ xs) b o = Lends-both 𝓛 (part_at u8 full_share x b o) (bytes full_share xs b (o + 1)) (shared_of u8 x b o) (elements_shared u8 xs b (o + 1)) []
+      (λ κ ts. u8_shared.shares M 𝓤 𝓛 x κ ts b o) (Lends-bytes xs b (o + 1))
+
+  pub Lends-owned : (p : Ptr) (xs : List ℕ) (n : ℕ) → Lends 𝓛 (bytes_own p xs n) (bytes_lent p xs n) []
+  Lends-owned (block_ptr b o) xs n =
+      let few : Fml = flt (length xs + n) (2 ^ 63) in let rest : Fml = unwritten b (o + length xs) n in
+      Lends-both 𝓛 few (fsep (bytes full_share xs b o) rest) (said few) (elements_shared u8 xs b o) [] (Lends-said 𝓛 few tt []) (Lends-first 𝓛 (bytes full_share xs b o) rest (elements_shared u8 xs b o) [] (Lends-bytes xs b o))
+  Lends-owned null_ptr xs n = Lends-false 𝓛 (said ffalse) []

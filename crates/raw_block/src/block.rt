@@ -1,0 +1,216 @@
+//! A block of bytes: made, read and written whole, and dropped.
+ghost use Rattle.std.specs.Prelude.{◌≡◌, ℕ, ◌+◌, ◌*◌, ◌/◌, ◌^◌, ◌<◌, ◌≤◌, List, length, replicate, IfOk};
+ghost use Rattle.std.specs.Borrow.{sem};
+ghost use Rattle.std.specs.List.{refill};
+ghost use Rattle.raw_block.specs.Bytes.{item_at, put, little_number, little_bytes, EachWithin, copied, copied_within, filled, swapped};
+ghost use Rattle.raw_block.specs.Ownership.{IsSizeFor};
+
+use crate::base::{Base, Bytes, Deed, WORD, allocate, deallocate};
+use crate::item::{move_item, number_of, put_item, put_number};
+use crate::strided;
+use std::alloc::{AllocError, Global};
+use std::marker::Model;
+
+/// The longest block: with its last word filled up, its bytes are still numbered by an `isize`.
+const MAX_LEN: usize = isize::MAX as usize - 15;
+
+/// One block of memory, zeroed when it is made, which starts at a multiple of 16.
+/// A contract sees a block as the list of its bytes.
+pub struct RawBlock {
+    base: Base,
+    len: usize,
+    bytes: Bytes,
+    deed: Deed<Global>,
+    alloc: Global,
+}
+
+impl Model for RawBlock {
+    ghost use Rattle.std.specs.Prelude.{ℕ, List};
+
+    ghost Value = { List ℕ };
+
+    ghost use Rattle.raw_block.specs.Block.{IsBlock};
+
+    ghost view = { λ b. b.bytes.items };
+
+    ghost invariant = { IsBlock };
+}
+
+/// The bytes of the words that hold `len` bytes.
+fn padded(len: usize) -> usize
+    requires { len + 15 < 2 ^ 63 }
+    ensures value { result ≡ (len + 15) / 16 * 16 }
+    ensures size { IsSizeFor result len }
+{
+    (len + 15) / WORD * WORD
+}
+
+impl RawBlock {
+    ghost use Rattle.raw_block.specs.BlockLends.{lends_block};
+
+    /// Takes memory for `len` zeros. An `Err` says that there is none; above `isize::MAX - 15` there
+    /// never is.
+    pub fn try_zeroed(alloc: Global, len: usize) -> Result<RawBlock, AllocError>
+        ensures { IfOk result (λ b. b ≡ replicate len 0) }
+    {
+        if len > MAX_LEN {
+            return Err(AllocError);
+        }
+        let (base, mut bytes, deed) = allocate(&alloc, len, padded(len))?;
+        for index in 0..len {
+            bytes.push_zero(base, index);
+        }
+        Ok(RawBlock {
+            base,
+            len,
+            bytes,
+            deed,
+            alloc,
+        })
+    }
+
+    /// The number of bytes.
+    pub fn len(&self) -> usize
+        ensures len { result ≡ length self.now }
+        ensures small { result < 2 ^ 63 }
+    {
+        self.len
+    }
+
+    /// All bytes, to read.
+    pub fn bytes(&self) -> &[u8]
+        ensures { result.now ≡ self.now }
+    {
+        self.bytes.as_slice(self.base, self.len)
+    }
+
+    /// All bytes, to write to.
+    pub(crate) fn bytes_mut(&mut self) -> &mut [u8]
+        ensures* writes_back { sem 𝓛 (lends_block self.entry result) }
+        ensures value { result.now ≡ self.old }
+        ensures same_len { (ws : List ℕ) → length ws ≡ length self.old → refill (length self.old) self.old ws ≡ ws }
+    {
+        self.bytes.as_mut_slice(self.base, self.len)
+    }
+
+    /// The number in the `width` bytes from `at` on, the lowest byte first.
+    pub fn load(&self, at: usize, width: usize) -> u64
+        requires width { (1 ≤ width) × (width ≤ 8) }
+        requires bounds { at + width ≤ length self.now }
+        ensures value { result ≡ little_number width (item_at at width self.now) }
+        ensures small { result < 256 ^ width }
+    {
+        number_of(&self.bytes()[at..at + width])
+    }
+
+    /// Writes the lowest `width` bytes of `bits` to those from `at` on, the lowest byte first.
+    pub fn store(&mut self, at: usize, width: usize, bits: u64)
+        requires width { (1 ≤ width) × (width ≤ 8) }
+        requires bounds { at + width ≤ length self.old }
+        ensures stored { self.new ≡ put at (little_bytes width bits) self.old }
+        ensures len { length self.new ≡ length self.old }
+    {
+        put_number(self.bytes_mut(), at, width, bits);
+    }
+
+    /// Copies the `n` bytes from `src` on to those from `dst` on, as if they were read first.
+    pub fn move_within(&mut self, dst: usize, src: usize, n: usize)
+        requires dst { dst + n ≤ length self.old }
+        requires src { src + n ≤ length self.old }
+        ensures moved { self.new ≡ put dst (item_at src n self.old) self.old }
+        ensures len { length self.new ≡ length self.old }
+    {
+        move_item(self.bytes_mut(), dst, src, n);
+    }
+
+    /// Copies the `n` bytes of `other` from `src` on to those from `dst` on.
+    pub fn copy_from(&mut self, dst: usize, other: &RawBlock, src: usize, n: usize)
+        requires dst { dst + n ≤ length self.old }
+        requires src { src + n ≤ length other.now }
+        ensures copied { self.new ≡ put dst (item_at src n other.now) self.old }
+        ensures len { length self.new ≡ length self.old }
+    {
+        put_item(self.bytes_mut(), dst, &other.bytes()[src..src + n]);
+    }
+
+    /// Copies `n` items of `width` bytes of `other`. The first lies at `src` and goes to `dst`, and
+    /// each next one lies and goes a step further, in bytes.
+    pub fn copy_strided(
+        &mut self,
+        dst: usize,
+        dst_step: isize,
+        other: &RawBlock,
+        src: usize,
+        src_step: isize,
+        width: usize,
+        n: usize,
+    )
+        requires dst { EachWithin (length self.old) dst dst_step width n }
+        requires src { EachWithin (length other.now) src src_step width n }
+        ensures copied { self.new ≡ copied dst dst_step other.now src src_step width n self.old }
+        ensures len { length self.new ≡ length self.old }
+    {
+        let bytes = self.bytes_mut();
+        strided::copy(bytes, dst, dst_step, other.bytes(), src, src_step, width, n);
+    }
+
+    /// Copies `n` items of `width` bytes of the block itself, one after the other: where they overlap,
+    /// later ones are read as earlier ones left them.
+    pub fn copy_strided_within(
+        &mut self,
+        dst: usize,
+        dst_step: isize,
+        src: usize,
+        src_step: isize,
+        width: usize,
+        n: usize,
+    )
+        requires dst { EachWithin (length self.old) dst dst_step width n }
+        requires src { EachWithin (length self.old) src src_step width n }
+        ensures copied { self.new ≡ copied_within dst dst_step src src_step width n self.old }
+        ensures len { length self.new ≡ length self.old }
+    {
+        strided::copy_within(self.bytes_mut(), dst, dst_step, src, src_step, width, n);
+    }
+
+    /// Writes the item `n` times, first to `dst`, and each time a step further, in bytes.
+    pub fn fill_strided(&mut self, dst: usize, step: isize, item: &[u8], n: usize)
+        requires { EachWithin (length self.old) dst step (length item.now) n }
+        ensures filled { self.new ≡ filled dst step item.now n self.old }
+        ensures len { length self.new ≡ length self.old }
+    {
+        strided::fill(self.bytes_mut(), dst, step, item, n);
+    }
+
+    /// Exchanges `n` pairs of items of `width` bytes, one pair after the other. The two items of a
+    /// pair may overlap: their bytes are exchanged one by one, from the first on.
+    pub fn swap_strided(
+        &mut self,
+        a: usize,
+        a_step: isize,
+        b: usize,
+        b_step: isize,
+        width: usize,
+        n: usize,
+    )
+        requires a { EachWithin (length self.old) a a_step width n }
+        requires b { EachWithin (length self.old) b b_step width n }
+        ensures swapped { self.new ≡ swapped a a_step b b_step width n self.old }
+        ensures len { length self.new ≡ length self.old }
+    {
+        strided::swap(self.bytes_mut(), a, a_step, b, b_step, width, n);
+    }
+}
+
+impl Drop for RawBlock {
+    fn drop(self) {
+        let RawBlock {
+            base,
+            len,
+            bytes,
+            deed,
+            alloc,
+        } = self;
+        deallocate(&alloc, base, padded(len), bytes, deed);
+    }
+}
