@@ -1,0 +1,61 @@
+-- Laws of the number of items: the product that is capped, and the one that is divided.
+use Rattle.std.proofs.Common.{◌≡◌, ℕ, zero, suc, ◌+◌, ◌*◌, ◌/◌, ◌<◌, ◌≤◌, min, ℤ, pos, List, [], ◌∷◌, map, length, get_or, drop, inl, inr, refl, sym, ◌∙◌, ap, arith, zero-mul, mul-zero, mul_assoc, mul_comm, mul-div_cancel, mul-suc}
+use Rattle.std.proofs.Math.Nat.{min-eq_left, min-eq_right}
+use Rattle.std.proofs.lemmas.Bool.{cases_lt}
+use Rattle.std.proofs.lemmas.List.{drop_more, length-map}
+use Rattle.shape_strides.specs.Indexes.{count}
+use Rattle.shape_strides.specs.Layouts.{c_strides}
+
+-- a cap may be put on a factor
+pub min-mul : (a c top : ℕ) → min (min a top * c) top ≡ min (a * c) top
+min-mul a zero top = ap (λ x. min x top) (mul-zero (min a top) ∙ sym (mul-zero a))
+min-mul a (suc c) top =
+    elim (cases_lt a top) [
+      | inl below ↦ ap (λ x. min (x * suc c) top) (min-eq_left (omega arith))
+      | inr above ↦
+          let grown : top ≤ a * suc c = omega (arith, mul-suc a c) in
+          let grown' : top ≤ top * suc c = omega (arith, mul-suc top c) in
+          ap (λ x. min (x * suc c) top) (min-eq_right above) ∙ min-eq_right grown' ∙ sym (min-eq_right grown)
+    ]
+
+-- the count from an axis on is that axis's length times the count after it
+pub count-drop : (shape : List ℕ) (k : ℕ) → k < length shape → count (drop k shape) ≡ get_or shape k 0 * count (drop (k + 1) shape)
+count-drop shape k below = ap count (drop_more shape k 0 below)
+
+pos_of_factors : (n m : ℕ) → 0 < n * m → 0 < n
+pos_of_factors zero m some = absurd (omega (arith, zero-mul m))
+pos_of_factors (suc n) m some = omega arith
+
+-- one more factor of the capped product
+pub capped-more : (lengths : List ℕ) (k items top : ℕ) → k < length lengths → min (min (items * get_or lengths k 0) top * count (drop (k + 1) lengths)) top ≡ min (items * count (drop k lengths)) top
+capped-more lengths k items top below =
+    let n = get_or lengths k 0 in
+    let c = count (drop (k + 1) lengths) in
+    min-mul (items * n) c top ∙ ap (λ x. min x top) (mul_assoc items n c ∙ ap (λ x. items * x) (sym (count-drop lengths k below)))
+
+-- the bytes of an axis, divided by its length, are the bytes of one step along it
+pub bytes-more : (lengths : List ℕ) (k bytes item : ℕ) → k < length lengths → 0 < bytes → bytes ≡ count (drop k lengths) * item → (bytes / get_or lengths k 0 ≡ count (drop (k + 1) lengths) * item) × (0 < bytes / get_or lengths k 0)
+bytes-more lengths k bytes item below some is =
+    let n = get_or lengths k 0 in
+    let c = count (drop (k + 1) lengths) in
+    let whole : bytes ≡ n * (c * item) = is ∙ ap (λ x. x * item) (count-drop lengths k below) ∙ mul_assoc n c item in
+    let long : 0 < n = pos_of_factors n (c * item) (omega arith) in
+    let step : bytes / n ≡ c * item = ap (λ x. x / n) (whole ∙ mul_comm n (c * item)) ∙ mul-div_cancel (c * item) long in
+    let some_step : 0 < c * item = pos_of_factors (c * item) n (omega (arith, mul_comm n (c * item))) in
+    (step, omega arith)
+
+pub c_strides-drop : (item : ℕ) (lengths : List ℕ) (k : ℕ) → k < length lengths → c_strides item (drop k lengths) ≡ pos (count (drop (k + 1) lengths) * item) ∷ c_strides item (drop (k + 1) lengths)
+c_strides-drop item lengths k below = ap (c_strides item) (drop_more lengths k 0 below)
+
+-- ---- a stride for each axis
+
+pub length-c_strides : (item : ℕ) (shape : List ℕ) → length (c_strides item shape) ≡ length shape
+length-c_strides item [] = refl
+length-c_strides item (n ∷ shape) = ap suc (length-c_strides item shape)
+
+pub length-c_order : (item : ℕ) (shape : List ℕ) (strides : List ℤ) → (0 < count shape → strides ≡ c_strides item shape) → (count shape ≡ 0 → strides ≡ map (λ _. pos 0) shape) → length strides ≡ length shape
+length-c_order item shape strides some none =
+    elim (cases_lt 0 (count shape)) [
+      | inl above ↦ ap length (some above) ∙ length-c_strides item shape
+      | inr empty ↦ ap length (none (omega arith)) ∙ length-map shape (λ _. pos 0)
+    ]

@@ -1,0 +1,124 @@
+-- Laws of the reach of a layout's addresses.
+use Rattle.std.proofs.Common.{◌≡◌, ℕ, zero, suc, ◌+◌, ◌-◌, ◌*◌, ◌<◌, ◌≤◌, IsTrue, nat_le, ℤ, pos, negsuc, ◌+ℤ◌, ◌*ℤ◌, neg_ℤ, ◌≤ℤ◌, List, [], ◌∷◌, length, refl, ap, arith, zero-mul, mul-zero, mul-le-mul_left}
+use Rattle.std.proofs.lemmas.Int.{ints}
+use Rattle.std.proofs.lemmas.Bool.Decides.{nat_tests}
+use lib.IntN.{*ℤ-zero, negsuc-*ℤ-pos}
+use Rattle.shape_strides.specs.declared.layout.Layout.{Layout}
+use Rattle.shape_strides.specs.Indexes.{count, IsIndex}
+use Rattle.shape_strides.specs.Layouts.{dot, natural, Fits}
+use Rattle.shape_strides.specs.Reach.{reach_above, reach_below}
+use Rattle.shape_strides.proofs.IndexLaws.{rank-lt}
+
+-- an axis's part of an address, at a number below its length
+axis_high : (s : ℤ) (k n : ℕ) → k < n → (s *ℤ pos k) ≤ℤ pos (natural s * (n - 1))
+axis_high (pos a) k n below = let step : a * k ≤ a * (n - 1) = mul-le-mul_left a (omega arith) in omega (arith, ints)
+axis_high (negsuc a) k n below = let is = negsuc-*ℤ-pos a k in omega (arith, ints, zero-mul (n - 1))
+
+axis_low : (s : ℤ) (k n : ℕ) → k < n → pos 0 ≤ℤ (pos (natural (neg_ℤ s) * (n - 1)) +ℤ s *ℤ pos k)
+axis_low (pos zero) k n below = omega (arith, ints, zero-mul (n - 1), zero-mul k)
+axis_low (pos (suc a)) k n below = omega (arith, ints, zero-mul (n - 1))
+axis_low (negsuc a) k n below =
+    let step : suc a * k ≤ suc a * (n - 1) = mul-le-mul_left (suc a) (omega arith) in
+    let is = negsuc-*ℤ-pos a k in
+    omega (arith, ints)
+
+-- no index reaches further
+pub dot_high : (strides : List ℤ) (shape index : List ℕ) → IsIndex shape index → dot strides index ≤ℤ pos (reach_above strides shape)
+dot_high [] shape index in' = omega (arith, ints)
+dot_high (s ∷ strides) [] [] in' = omega (arith, ints)
+dot_high (s ∷ strides) [] (k ∷ index) in' = absurd in'
+dot_high (s ∷ strides) (n ∷ shape) [] in' = absurd in'
+dot_high (s ∷ strides) (n ∷ shape) (k ∷ index) in' =
+    let first = axis_high s k n in'.0 in
+    let later = dot_high strides shape index in'.1 in
+    omega (arith, ints)
+
+pub dot_low : (strides : List ℤ) (shape index : List ℕ) → IsIndex shape index → pos 0 ≤ℤ (pos (reach_below strides shape) +ℤ dot strides index)
+dot_low [] shape index in' = omega (arith, ints)
+dot_low (s ∷ strides) [] [] in' = omega (arith, ints)
+dot_low (s ∷ strides) [] (k ∷ index) in' = absurd in'
+dot_low (s ∷ strides) (n ∷ shape) [] in' = absurd in'
+dot_low (s ∷ strides) (n ∷ shape) (k ∷ index) in' =
+    let first = axis_low s k n in'.0 in
+    let later = dot_low strides shape index in'.1 in
+    omega (arith, ints)
+
+-- both factors of a product that is not 0
+pub factors_pos : (n c : ℕ) → 0 < n * c → (0 < n) × (0 < c)
+factors_pos zero c some = absurd (omega (arith, zero-mul c))
+factors_pos (suc n) zero some = absurd (omega (arith, mul-zero (suc n)))
+factors_pos (suc n) (suc c) some = (omega arith, omega arith)
+
+-- an index that reaches so far up
+pub top_of : (strides : List ℤ) (shape : List ℕ) → length strides ≡ length shape → 0 < count shape → (index : List ℕ) × IsIndex shape index × (dot strides index ≡ pos (reach_above strides shape))
+top_of [] [] same some = ([], tt, refl)
+top_of [] (n ∷ shape) same some = absurd (omega arith)
+top_of (s ∷ strides) [] same some = absurd (omega arith)
+top_of (pos a ∷ strides) (n ∷ shape) same some =
+    let both = factors_pos n (count shape) some in
+    let rest = top_of strides shape (omega arith) both.1 in
+    ((n - 1) ∷ rest.0, (omega arith, rest.1), ap (λ z. pos (a * (n - 1)) +ℤ z) rest.2)
+top_of (negsuc a ∷ strides) (n ∷ shape) same some =
+    let both = factors_pos n (count shape) some in
+    let rest = top_of strides shape (omega arith) both.1 in
+    let none = *ℤ-zero (negsuc a) in
+    let is = rest.2 in
+    (0 ∷ rest.0, (both.0, rest.1), omega (arith, ints, zero-mul (n - 1)))
+
+-- an index that reaches so far down
+pub bottom_of : (strides : List ℤ) (shape : List ℕ) → length strides ≡ length shape → 0 < count shape → (index : List ℕ) × IsIndex shape index × (pos (reach_below strides shape) +ℤ dot strides index ≡ pos 0)
+bottom_of [] [] same some = ([], tt, refl)
+bottom_of [] (n ∷ shape) same some = absurd (omega arith)
+bottom_of (s ∷ strides) [] same some = absurd (omega arith)
+bottom_of (pos zero ∷ strides) (n ∷ shape) same some =
+    let both = factors_pos n (count shape) some in
+    let rest = bottom_of strides shape (omega arith) both.1 in
+    let is = rest.2 in
+    (0 ∷ rest.0, (both.0, rest.1), omega (arith, ints, zero-mul (n - 1)))
+bottom_of (pos (suc a) ∷ strides) (n ∷ shape) same some =
+    let both = factors_pos n (count shape) some in
+    let rest = bottom_of strides shape (omega arith) both.1 in
+    let none = *ℤ-zero (pos (suc a)) in
+    let is = rest.2 in
+    (0 ∷ rest.0, (both.0, rest.1), omega (arith, ints, zero-mul (n - 1)))
+bottom_of (negsuc a ∷ strides) (n ∷ shape) same some =
+    let both = factors_pos n (count shape) some in
+    let rest = bottom_of strides shape (omega arith) both.1 in
+    let first = negsuc-*ℤ-pos a (n - 1) in
+    let is = rest.2 in
+    ((n - 1) ∷ rest.0, (omega arith, rest.1), omega (arith, ints))
+
+pub Fits-from_reach : (l : Layout) (len item : ℕ) → reach_below l.strides l.shape ≤ l.offset → l.offset + reach_above l.strides l.shape + item ≤ len → Fits l len item
+Fits-from_reach l len item low high = record {
+  from_zero = λ index in'.
+      let is = dot_low l.strides l.shape index in' in
+      omega (arith, ints);
+  within = λ index in'.
+      let is = dot_high l.strides l.shape index in' in
+      omega (arith, ints);
+}
+
+pub reach_from_Fits : (l : Layout) (len item : ℕ) → length l.strides ≡ length l.shape → 0 < count l.shape → Fits l len item → (reach_below l.strides l.shape ≤ l.offset) × (l.offset + reach_above l.strides l.shape + item ≤ len)
+reach_from_Fits l len item same some fits =
+    let top = top_of l.strides l.shape same some in
+    let top_is = top.2 in
+    let high = fits.within top.0 top.1 in
+    let bottom = bottom_of l.strides l.shape same some in
+    let bottom_is = bottom.2 in
+    let low = fits.from_zero bottom.0 bottom.1 in
+    (omega (arith, ints), omega (arith, ints))
+
+-- without items
+pub Fits-empty : (l : Layout) (len item : ℕ) → count l.shape ≡ 0 → Fits l len item
+Fits-empty l len item none = record {
+  from_zero = λ index in'. absurd (omega (arith, rank-lt l.shape index in'));
+  within = λ index in'. absurd (omega (arith, rank-lt l.shape index in'));
+}
+
+-- ---- tests of numbers
+
+pub le_from_test : (m n : ℕ) → IsTrue (nat_le m n) → m ≤ n
+le_from_test m n test = grind (arith, nat_tests)
+
+pub test_from_le : (m n : ℕ) → m ≤ n → IsTrue (nat_le m n)
+test_from_le m n low = grind (arith, nat_tests)

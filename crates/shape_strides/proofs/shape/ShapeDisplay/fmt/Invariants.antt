@@ -1,0 +1,8 @@
+use Rattle.std.proofs.Common.{◌++◌, codes, take, decimal}
+use Rattle.std.specs.List.{flat_map}
+use Rattle.std.specs.Fmt.{HasWritten, IsPlainFormatter}
+use Rattle.shape_strides.proofs.shape.ShapeDisplay.fmt.Given as goal
+
+abbrev pub invariant-loop-len : goal.invariant-loop-len
+invariant-loop-len g l =
+    IsPlainFormatter l.initial.f → HasWritten g.W.Write.write_str_gives l.initial.f (flat_map (λ m. codes ", " ++ decimal m) (take l.len-index l.rest)) l.f

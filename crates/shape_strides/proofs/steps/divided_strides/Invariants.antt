@@ -1,0 +1,12 @@
+use Rattle.std.proofs.Common.{◌≡◌, ◌*◌, ◌^◌, ◌<◌, ◌≤◌, ◌++◌, drop}
+use Rattle.shape_strides.specs.Indexes.{count}
+use Rattle.shape_strides.specs.Layouts.{c_strides}
+use Rattle.shape_strides.proofs.steps.divided_strides.Given as goal
+
+abbrev pub invariant-loop-len : goal.invariant-loop-len
+invariant-loop-len l = record {
+  some : 0 < l.bytes;
+  small : l.bytes ≤ 2 ^ 28;
+  is : l.bytes ≡ count (drop l.len-index l.lengths) * l.item;
+  rest : l.strides ++ c_strides l.item (drop l.len-index l.lengths) ≡ c_strides l.item l.lengths;
+}

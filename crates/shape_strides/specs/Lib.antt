@@ -1,0 +1,5 @@
+pub mod Indexes
+pub mod Shapes
+pub mod Layouts
+pub mod Reach
+pub mod Walks

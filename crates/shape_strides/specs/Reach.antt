@@ -1,0 +1,13 @@
+-- How far a layout's addresses reach to either side of its offset, where it has items.
+use Rattle.std.specs.Prelude.{ℕ, ◌+◌, ◌-◌, ◌*◌, ℤ, neg_ℤ, List, ◌∷◌}
+use Rattle.shape_strides.specs.Layouts.{natural}
+
+-- above: the axes with a positive stride, each at its last number
+abbrev pub reach_above : List ℤ → List ℕ → ℕ
+reach_above (stride ∷ strides) (n ∷ shape) = natural stride * (n - 1) + reach_above strides shape
+reach_above _ _ = 0
+
+-- below: the axes with a negative stride, each at its last number
+abbrev pub reach_below : List ℤ → List ℕ → ℕ
+reach_below (stride ∷ strides) (n ∷ shape) = natural (neg_ℤ stride) * (n - 1) + reach_below strides shape
+reach_below _ _ = 0

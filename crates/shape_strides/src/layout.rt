@@ -1,0 +1,92 @@
+ghost use Rattle.std.specs.Prelude.{◌≡◌, ◌↔◌, ◌+◌, ◌*◌, ◌^◌, ◌<◌, ◌≤◌, pos, length, map, slice_index, All, IfOk, IsTrue};
+
+use crate::shape::Shape;
+use crate::steps::{c_order_strides, forward, reach_above, reach_below};
+use crate::strides::Strides;
+use std::alloc::{AllocError, Global};
+
+/// Where in a buffer the items of an array lie: the first one is `offset` bytes from the buffer's
+/// start, and each step along an axis goes on by that axis's stride.
+#[derive(Drop)]
+pub struct Layout {
+    pub shape: Shape,
+    pub strides: Strides,
+    pub offset: usize,
+    ghost one_stride_an_axis: { length strides ≡ length shape },
+}
+
+impl Layout {
+    ghost use Rattle.shape_strides.specs.Indexes.{count, rank, IsIndex};
+    ghost use Rattle.shape_strides.specs.Layouts.{address, offsets, Fits, IsNested, multiples, c_strides};
+
+    /// The layout of items of `item` bytes one after another in C order, from the buffer's start.
+    /// Where there is no item, its strides are 0.
+    pub fn c_order(alloc: Global, shape: &Shape, item: usize) -> Result<Layout, AllocError>
+        requires item_low { 1 ≤ item }
+        requires item_high { item ≤ 65536 }
+        requires bytes { count shape.now * item ≤ 2 ^ 28 }
+        ensures shape { IfOk result (λ l. l.shape ≡ shape.now) }
+        ensures offset { IfOk result (λ l. l.offset ≡ 0) }
+        ensures strides { IfOk result (λ l. 0 < count shape.now → l.strides ≡ c_strides item shape.now) }
+        ensures empty { IfOk result (λ l. count shape.now ≡ 0 → l.strides ≡ map (λ _. pos 0) shape.now) }
+        ensures offsets { IfOk result (λ l. offsets l ≡ multiples item (count shape.now)) }
+        ensures count { IfOk result (λ l. length (offsets l) ≡ count shape.now) }
+        ensures nested { IfOk result (λ l. IsNested (offsets l) item) }
+        ensures fits { IfOk result (λ l. Fits l (count shape.now * item) item) }
+        ensures fits_limit { IfOk result (λ l. Fits l (2 ^ 28) 1) }
+    {
+        let strides = c_order_strides(alloc, shape, item)?;
+        let shape = Shape::try_copy(alloc, shape)?;
+        Ok(Layout {
+            shape,
+            strides,
+            offset: 0,
+        })
+    }
+
+    pub fn try_copy(alloc: Global, layout: &Layout) -> Result<Layout, AllocError>
+        ensures { IfOk result (λ l. l ≡ layout.now) }
+    {
+        let shape = Shape::try_copy(alloc, &layout.shape)?;
+        let strides = Strides::from_slice(alloc, layout.strides.as_slice())?;
+        Ok(Layout {
+            shape,
+            strides,
+            offset: layout.offset,
+        })
+    }
+
+    /// The offset of the item at an index.
+    pub fn at(&self, index: &[usize]) -> usize
+        requires fits { Fits self.now (2 ^ 28) 1 }
+        requires index { IsIndex self.now.shape index.now }
+        ensures entry { result ≡ slice_index (offsets self.now) (rank self.now.shape index.now) }
+        ensures address { pos result ≡ address self.now index.now }
+        ensures bound { result < 2 ^ 28 }
+    {
+        let _lengths = self.shape.as_slice();
+        let strides = self.strides.as_slice();
+        let mut at = self.offset;
+        for (axis, number) in index.iter().enumerate() {
+            at = forward(at, strides, axis, *number);
+        }
+        at
+    }
+
+    /// Whether every item, of `item` bytes, lies within the first `len` bytes. So it is for a
+    /// layout without items.
+    pub fn fits(&self, len: usize, item: usize) -> bool
+        ensures value { IsTrue result ↔ Fits self.now len item }
+        ensures offsets { IsTrue result → All (λ offset. offset + item ≤ len) (offsets self.now) }
+    {
+        let lengths = self.shape.as_slice();
+        let strides = self.strides.as_slice();
+        if self.shape.items() == 0 {
+            return true;
+        }
+        let offset = self.offset as u128;
+        let below = reach_below(lengths, strides);
+        let end = offset + reach_above(lengths, strides) + item as u128;
+        below <= offset && end <= len as u128
+    }
+}

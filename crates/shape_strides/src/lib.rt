@@ -1,0 +1,17 @@
+//! Shapes and layouts of arrays: how many items there are along each axis, and where in a buffer
+//! each of them lies.
+#![tactic(auto)]
+
+pub mod layout;
+pub mod shape;
+mod steps;
+pub mod strides;
+pub mod walk;
+
+pub use layout::Layout;
+pub use shape::{MAX_AXES, MAX_ITEMS, Shape};
+pub use strides::Strides;
+pub use walk::Walk;
+
+#[cfg(test)]
+mod tests;

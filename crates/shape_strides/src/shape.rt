@@ -1,0 +1,133 @@
+ghost use Rattle.std.specs.Prelude.{◌≡◌, ◌+◌, ◌^◌, ◌≤◌, min, length, nat_le, IsTrue, All, IfOk, Some};
+ghost use Rattle.std.specs.List.{list_all};
+ghost use Rattle.elem_descr.specs.Refusals.{Gives};
+ghost use Rattle.shape_strides.specs.Indexes.{count};
+ghost use Rattle.shape_strides.specs.Shapes.{shape_of, shape_text};
+
+use elem_descr::Refusal;
+use smallvec::SmallVec;
+use std::alloc::{AllocError, Global};
+use std::fmt;
+use std::marker::Model;
+
+/// The greatest number of axes.
+pub const MAX_AXES: usize = 64;
+
+/// The greatest length of an axis, and the greatest number of items.
+pub const MAX_ITEMS: usize = 1 << 24;
+
+/// The lengths of an array's axes, first axis first. Up to 8 axes take no memory.
+#[derive(Drop)]
+pub struct Shape {
+    axes: SmallVec<usize, 8>,
+    items: usize,
+}
+
+impl Model for Shape {
+    ghost use Rattle.std.specs.Prelude.{◌≡◌, List, ℕ};
+    ghost use Rattle.shape_strides.specs.Indexes.{count};
+    ghost use Rattle.shape_strides.specs.Shapes.{IsShape};
+
+    ghost Value = { List ℕ };
+
+    ghost view = { λ s. s.axes.items };
+
+    ghost invariant = { λ s. IsShape s.axes.items × (s.items ≡ count s.axes.items) };
+}
+
+/// Whether each length is within the limit.
+fn are_within_limit(lengths: &[usize]) -> bool
+    ensures value { result ≡ list_all (λ n. nat_le n (2 ^ 24)) lengths.now }
+    ensures all { IsTrue result → All (λ n. n ≤ 2 ^ 24) lengths.now }
+{
+    lengths.iter().all(|len| *len <= MAX_ITEMS)
+}
+
+/// The product of the lengths, or one more than `MAX_ITEMS` if it is greater than that.
+fn capped_count(lengths: &[usize]) -> usize
+    requires { All (λ n. n ≤ 2 ^ 24) lengths.now }
+    ensures { result ≡ min (count lengths.now) (2 ^ 24 + 1) }
+{
+    let mut items = 1;
+    for len in lengths {
+        items = (items * *len).min(MAX_ITEMS + 1);
+    }
+    items
+}
+
+impl Shape {
+    /// The shape with these lengths. More than 64 axes are refused first; then a length or a
+    /// number of items above 2^24, where the number of items is the exact product, so that one
+    /// length of 0 makes it 0.
+    pub fn try_new(alloc: Global, lengths: &[usize]) -> Result<Shape, Refusal>
+        ensures { Gives (λ s. s) result (shape_of lengths.now) }
+    {
+        if lengths.len() > MAX_AXES {
+            return Err(Refusal::TooManyAxes);
+        }
+        if !are_within_limit(lengths) {
+            return Err(Refusal::TooLarge);
+        }
+        let items = capped_count(lengths);
+        if items > MAX_ITEMS {
+            return Err(Refusal::TooLarge);
+        }
+        let axes = SmallVec::from_slice(alloc, lengths)?;
+        Ok(Shape { axes, items })
+    }
+
+    /// The lengths of the axes.
+    pub fn as_slice(&self) -> &[usize]
+        ensures value { result.now ≡ self.now }
+        ensures rank { length self.now ≤ 64 }
+        ensures lengths { All (λ n. n ≤ 2 ^ 24) self.now }
+        ensures items { count self.now ≤ 2 ^ 24 }
+    {
+        self.axes.as_slice()
+    }
+
+    /// The number of axes.
+    pub fn rank(&self) -> usize
+        ensures value { result ≡ length self.now }
+        ensures limit { result ≤ 64 }
+    {
+        self.axes.len()
+    }
+
+    /// The number of items.
+    pub fn items(&self) -> usize
+        ensures value { result ≡ count self.now }
+        ensures limit { result ≤ 2 ^ 24 }
+    {
+        self.items
+    }
+
+    pub fn try_copy(alloc: Global, shape: &Shape) -> Result<Shape, AllocError>
+        ensures { IfOk result (λ s. s ≡ shape.now) }
+    {
+        let axes = SmallVec::from_slice(alloc, shape.axes.as_slice())?;
+        Ok(Shape {
+            axes,
+            items: shape.items,
+        })
+    }
+}
+
+/// As Python writes a tuple: `()`, `(3,)`, `(2, 3)`.
+impl fmt::Display for Shape {
+    ghost output = { λ s. Some (shape_text s) };
+
+    fn fmt<W: fmt::Write>(&self, f: &mut fmt::Formatter<W>) -> fmt::Result {
+        match self.as_slice() {
+            [] => write!(f, "()"),
+            [len] => write!(f, "({len},)"),
+            [first, rest @ ..] => {
+                write!(f, "({first}")?;
+                for len in rest {
+                    write!(f, ", {len}")?;
+                }
+                write!(f, ")")
+            }
+        }
+    }
+}

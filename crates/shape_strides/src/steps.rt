@@ -1,0 +1,140 @@
+//! Sums of strides. A stride is read from its slice, and an offset is never below 0.
+ghost use Rattle.std.specs.Prelude.{◌≡◌, ◌-◌, ◌*◌, ◌^◌, ◌<◌, ◌≤◌, pos, neg_ℤ, ◌+ℤ◌, ◌-ℤ◌, ◌*ℤ◌, ◌≤ℤ◌, length, map, slice_index_or, All, IfOk};
+ghost use Rattle.shape_strides.specs.Indexes.{count};
+ghost use Rattle.shape_strides.specs.Layouts.{natural, c_strides};
+ghost use Rattle.shape_strides.specs.Reach.{reach_above, reach_below};
+
+use crate::shape::Shape;
+use crate::strides::Strides;
+use std::alloc::{AllocError, Global};
+
+/// The offset that is so many steps further along an axis.
+pub(crate) fn forward(from: usize, strides: &[isize], axis: usize, steps: usize) -> usize
+    requires axis { axis < length strides.now }
+    requires start { from ≤ 2 ^ 28 }
+    requires steps { steps ≤ 2 ^ 24 }
+    requires low { pos 0 ≤ℤ (pos from +ℤ slice_index_or strides.now axis (pos 0) *ℤ pos steps) }
+    requires high { (pos from +ℤ slice_index_or strides.now axis (pos 0) *ℤ pos steps) ≤ℤ pos (2 ^ 28) }
+    ensures { pos result ≡ pos from +ℤ slice_index_or strides.now axis (pos 0) *ℤ pos steps }
+{
+    (from as isize + strides[axis] * steps as isize) as usize
+}
+
+/// The offset that is so many steps back along an axis.
+pub(crate) fn back(from: usize, strides: &[isize], axis: usize, steps: usize) -> usize
+    requires axis { axis < length strides.now }
+    requires start { from ≤ 2 ^ 28 }
+    requires steps { steps ≤ 2 ^ 24 }
+    requires low { pos 0 ≤ℤ (pos from -ℤ slice_index_or strides.now axis (pos 0) *ℤ pos steps) }
+    requires high { (pos from -ℤ slice_index_or strides.now axis (pos 0) *ℤ pos steps) ≤ℤ pos (2 ^ 28) }
+    ensures { pos result ≡ pos from -ℤ slice_index_or strides.now axis (pos 0) *ℤ pos steps }
+{
+    (from as isize - strides[axis] * steps as isize) as usize
+}
+
+/// How far the last number of an axis lies above its first.
+fn axis_above(strides: &[isize], axis: usize, len: usize) -> u128
+    requires axis { axis < length strides.now }
+    requires len { len ≤ 2 ^ 24 }
+    ensures value { result ≡ natural (slice_index_or strides.now axis (pos 0)) * (len - 1) }
+    ensures bound { result ≤ 2 ^ 88 }
+{
+    if strides[axis] <= 0 {
+        return 0;
+    }
+    strides[axis].unsigned_abs() as u128 * len.saturating_sub(1) as u128
+}
+
+/// How far the last number of an axis lies below its first.
+fn axis_below(strides: &[isize], axis: usize, len: usize) -> u128
+    requires axis { axis < length strides.now }
+    requires len { len ≤ 2 ^ 24 }
+    ensures value { result ≡ natural (neg_ℤ (slice_index_or strides.now axis (pos 0))) * (len - 1) }
+    ensures bound { result ≤ 2 ^ 88 }
+{
+    if strides[axis] >= 0 {
+        return 0;
+    }
+    strides[axis].unsigned_abs() as u128 * len.saturating_sub(1) as u128
+}
+
+/// How far the addresses reach above the offset.
+pub(crate) fn reach_above(lengths: &[usize], strides: &[isize]) -> u128
+    requires one_each { length strides.now ≡ length lengths.now }
+    requires axes { length lengths.now ≤ 64 }
+    requires lengths { All (λ n. n ≤ 2 ^ 24) lengths.now }
+    ensures value { result ≡ reach_above strides.now lengths.now }
+    ensures bound { result ≤ 64 * 2 ^ 88 }
+{
+    let mut reach = 0;
+    for (axis, len) in lengths.iter().enumerate() {
+        reach += axis_above(strides, axis, *len);
+    }
+    reach
+}
+
+/// How far the addresses reach below the offset.
+pub(crate) fn reach_below(lengths: &[usize], strides: &[isize]) -> u128
+    requires one_each { length strides.now ≡ length lengths.now }
+    requires axes { length lengths.now ≤ 64 }
+    requires lengths { All (λ n. n ≤ 2 ^ 24) lengths.now }
+    ensures value { result ≡ reach_below strides.now lengths.now }
+    ensures bound { result ≤ 64 * 2 ^ 88 }
+{
+    let mut reach = 0;
+    for (axis, len) in lengths.iter().enumerate() {
+        reach += axis_below(strides, axis, *len);
+    }
+    reach
+}
+
+/// A stride of 0 for each axis.
+fn zero_strides(alloc: Global, lengths: &[usize]) -> Result<Strides, AllocError>
+    ensures { IfOk result (λ s. s ≡ map (λ _. pos 0) lengths.now) }
+{
+    let mut strides = Strides::new(alloc);
+    for _len in lengths {
+        strides.push(0)?;
+    }
+    Ok(strides)
+}
+
+/// The strides of C order, of which the first axis is `bytes` bytes long.
+fn divided_strides(
+    alloc: Global,
+    lengths: &[usize],
+    items: usize,
+    item: usize,
+) -> Result<Strides, AllocError>
+    requires items { items ≡ count lengths.now }
+    requires some { 0 < items }
+    requires item { 0 < item }
+    requires bytes { items * item ≤ 2 ^ 28 }
+    ensures { IfOk result (λ s. s ≡ c_strides item lengths.now) }
+{
+    let mut strides = Strides::new(alloc);
+    let mut bytes = items * item;
+    for len in lengths {
+        bytes /= *len;
+        strides.push(bytes as isize)?;
+    }
+    Ok(strides)
+}
+
+/// The strides of C order, or 0 for each axis where there is no item.
+pub(crate) fn c_order_strides(
+    alloc: Global,
+    shape: &Shape,
+    item: usize,
+) -> Result<Strides, AllocError>
+    requires item { 0 < item }
+    requires bytes { count shape.now * item ≤ 2 ^ 28 }
+    ensures some { IfOk result (λ s. 0 < count shape.now → s ≡ c_strides item shape.now) }
+    ensures none { IfOk result (λ s. count shape.now ≡ 0 → s ≡ map (λ _. pos 0) shape.now) }
+{
+    let items = shape.items();
+    if items == 0 {
+        return zero_strides(alloc, shape.as_slice());
+    }
+    divided_strides(alloc, shape.as_slice(), items, item)
+}

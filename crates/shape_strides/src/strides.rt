@@ -1,0 +1,51 @@
+ghost use Rattle.std.specs.Prelude.{◌≡◌, [], ◌∷◌, ◌++◌, IfOk, OnOk, OnErr};
+
+use smallvec::SmallVec;
+use std::alloc::{AllocError, Global};
+use std::marker::Model;
+
+/// How many bytes each axis steps over from one item to the next, first axis first. A step may be
+/// negative. Up to 8 of them take no memory.
+#[derive(Drop)]
+pub struct Strides {
+    steps: SmallVec<isize, 8>,
+}
+
+impl Model for Strides {
+    ghost use Rattle.std.specs.Prelude.{List, ℤ};
+
+    ghost Value = { List ℤ };
+
+    ghost view = { λ s. s.steps.items };
+}
+
+impl Strides {
+    pub fn new(alloc: Global) -> Strides
+        ensures { result ≡ [] }
+    {
+        Strides {
+            steps: SmallVec::new(alloc),
+        }
+    }
+
+    pub fn from_slice(alloc: Global, steps: &[isize]) -> Result<Strides, AllocError>
+        ensures { IfOk result (λ s. s ≡ steps.now) }
+    {
+        let steps = SmallVec::from_slice(alloc, steps)?;
+        Ok(Strides { steps })
+    }
+
+    pub fn as_slice(&self) -> &[isize]
+        ensures { result.now ≡ self.now }
+    {
+        self.steps.as_slice()
+    }
+
+    pub fn push(&mut self, step: isize) -> Result<(), AllocError>
+        ensures ok { OnOk result (self.new ≡ self.old ++ step ∷ []) }
+        ensures err { OnErr result (self.new ≡ self.old) }
+    {
+        self.steps.push(step)?;
+        Ok(())
+    }
+}
