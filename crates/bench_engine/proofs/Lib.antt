@@ -1,0 +1,17 @@
+pub mod Blocks
+pub mod Buffers
+pub mod Commands
+pub mod Feeding
+pub mod FreshZeros
+pub mod Indices
+pub mod Known
+pub mod Lines
+pub mod Lists
+pub mod Names
+pub mod Numbers
+pub mod PrintLaws
+pub mod Prints
+pub mod Spelling
+pub mod Steps
+pub mod Whole
+pub mod Writes

@@ -1,0 +1,34 @@
+-- Bytes that spell numbers.
+use Rattle.std.proofs.Common.{◌≡◌, ◌≤◌, ◌<◌, ◌^◌, ◌+◌, ℕ, suc, Bool, true, false, List, [], ◌∷◌, take, Some, None, refl, arith, nat_eq, cond}
+use Rattle.std.specs.Prelude.{if◌then◌else◌}
+use Rattle.std.proofs.Math.Nat.{pow-le-pow_right}
+use Rattle.std.specs.List.{list_all, prefix_len}
+use Rattle.std.specs.Option.{option_map}
+use Rattle.bench_engine.specs.Script.{byte_at, number_at, signed_at, positive, negative}
+
+-- fewer digits spell a smaller number
+pub below_power : (k n i : ℕ) → n < 10 ^ i → i ≤ k → n < 10 ^ k
+below_power k n i small few = let powers : 10 ^ i ≤ 10 ^ k = pow-le-pow_right (omega arith) few in omega arith
+
+passing_cons : (test : ℕ → Bool) (b : ℕ) (bytes : List ℕ) (t : Bool) → test b ≡ t → list_all test (take (prefix_len test bytes) bytes) ≡ true → list_all test (take (cond t (1 + prefix_len test bytes) 0) (b ∷ bytes)) ≡ true
+passing_cons test b bytes false is rest = refl
+passing_cons test b bytes true is rest =
+    let next : 1 + prefix_len test bytes ≡ suc (prefix_len test bytes) = omega arith in
+    rw (next, is) rest
+
+-- each element of the longest front that passes
+pub passing_front : (test : ℕ → Bool) (bytes : List ℕ) → list_all test (take (prefix_len test bytes) bytes) ≡ true
+passing_front test [] = refl
+passing_front test (b ∷ bytes) = passing_cons test b bytes (test b) refl (passing_front test bytes)
+
+neither : {A B : Type 0} (s t : Bool) (x : A) (minus plus plain : B) → (if s then Some x else None) ≡ None → (if t then Some x else None) ≡ None → (if s then minus else if t then plus else plain) ≡ plain
+neither false false x minus plus plain no_minus no_plus = refl
+neither false true x minus plus plain no_minus no_plus = cc
+neither true t x minus plus plain no_minus no_plus = cc
+
+-- no sign comes first
+pub signed_plain : (bytes : List ℕ) → byte_at 45 bytes ≡ None → byte_at 43 bytes ≡ None → signed_at bytes ≡ option_map positive (number_at bytes)
+unfolding number_at
+signed_plain [] no_minus no_plus = refl
+signed_plain (b ∷ bytes) no_minus no_plus =
+    neither (nat_eq b 45) (nat_eq b 43) bytes (option_map negative (number_at bytes)) (option_map positive (number_at bytes)) (option_map positive (number_at (b ∷ bytes))) no_minus no_plus

@@ -1,0 +1,96 @@
+-- The cases of a command and of a line, from what carries them out.
+use Rattle.std.proofs.Common.{◌≡◌, ◌≤◌, ◌+◌, ℕ, suc, Bool, true, false, ◌||◌, List, [], ◌∷◌, Some, None, refl, sym, ap, subst, ◌∙◌, inl, inr, arith, Err, Ok, IsTrue}
+use Rattle.std.specs.Ordering.{nat_cmp}
+use Rattle.std.specs.List.{AllByRecursion}
+use Rattle.std.specs.FinMap.{FinMap, get, get-entries, find, entries}
+use Rattle.std.proofs.lemmas.List.Elements.{All-from_recursion}
+use Rattle.elem_descr.specs.declared.refusal.Refusal.{Refusal}
+use Rattle.elem_descr.specs.declared.refusal.Refusal.TheVariants.{LineTooLong, OutOfMemory}
+use Rattle.bench_engine.specs.declared.command.Command.{Command}
+use Rattle.bench_engine.specs.States.{State, Array, Buffer}
+use Rattle.bench_engine.specs.Replies.{Reply, refusal}
+use Rattle.bench_engine.specs.Machine.{Choice, IsAllowed, outcome, settled, names_are_bound}
+use Rattle.bench_engine.specs.Contract.{IsRefused}
+use Rattle.bench_engine.specs.Script.{Line, silent, too_long, bad_byte, misspelt, asks}
+use Rattle.bench_engine.specs.Reading.{needs_room, MayLackRoom, SaysHeld}
+use Rattle.bench_engine.specs.Runs.{Case, Answered}
+use Rattle.bench_engine.proofs.Buffers.{apart}
+
+over : List (ℕ × Buffer) → ℕ
+over [] = 0
+over (e ∷ es) = suc e.0 + over es
+
+find-over : (es : List (ℕ × Buffer)) (q : ℕ) → over es ≤ q → find nat_cmp q es ≡ None
+unfolding over
+find-over [] q h = refl
+find-over (e ∷ es) q h = rw (apart q e.0 (λ same. omega arith)) (find-over es q (omega arith))
+
+over_kept : List (List (List ℕ × Array) × FinMap nat_cmp Buffer) → ℕ
+over_kept [] = 0
+over_kept (k ∷ kept) = over (entries k.1) + over_kept kept
+
+unkept : (kept : List (List (List ℕ × Array) × FinMap nat_cmp Buffer)) (q : ℕ) → over_kept kept ≤ q → AllByRecursion (λ k. get k.1 q ≡ None) kept
+unfolding over_kept
+unkept [] q h = tt
+unkept (k ∷ kept) q h = (get-entries k.1 q ∙ find-over (entries k.1) q (omega arith), unkept kept q (omega arith))
+
+-- some choice is always allowed
+pub spare : (s : State) → (choice : Choice) × IsAllowed s choice
+spare s =
+    let n : ℕ = over (entries s.buffers) + over_kept s.kept in (
+      record { fresh = n },
+      record {
+        unused = get-entries s.buffers n ∙ find-over (entries s.buffers) n (omega arith);
+        unkept = All-from_recursion _ s.kept (unkept s.kept n (omega arith));
+      },
+    )
+
+-- a refused command
+pub refused : (old new : State) (command : Command) (r : Refusal) → new ≡ old → IsRefused (names_are_bound old command) (λ choice. outcome choice old command) r → Case old command new (refusal r)
+refused old new command r same (inl lacks) = inr (lacks.1, (same, ap refusal lacks.0))
+refused old new command r same (inr is) =
+    let any = spare old in
+    inl (any.0, any.1, ap (settled old) (is any.0) ∙ ap (λ (s : State). (s, refusal r)) (sym same))
+
+either : (a b : Bool) → IsTrue a → IsTrue (a || b)
+either true b h = h
+either false b h = absurd (no h)
+  where
+    no : IsTrue false → ⊥
+    no e = cc
+
+or_else : (a b : Bool) → IsTrue b → IsTrue (a || b)
+or_else true b h = refl
+or_else false b h = h
+
+-- a line that asks for a command
+pub answered : (old new : State) (line : Line) (command : Command) (reply : Reply) → line ≡ asks command → Case old command new reply → Answered old line new (reply ∷ [])
+answered old new line command reply is (inl step) = subst (λ (l : Line). Answered old l new (reply ∷ [])) (sym is) (reply, refl, inl step)
+answered old new line command reply is (inr lacks) =
+    subst (λ (l : Line). Answered old l new (reply ∷ [])) (sym is) (reply, refl, inr (either (names_are_bound old command) (needs_room command) lacks.0, lacks.1))
+
+lacking : (old : State) (line : Line) → MayLackRoom line → Answered old line old (refusal OutOfMemory ∷ [])
+lacking old silent h = absurd h
+lacking old too_long h = absurd h
+lacking old bad_byte h = absurd h
+lacking old misspelt h = (refusal OutOfMemory, refl, inr (refl, refl))
+lacking old (asks command) h = (refusal OutOfMemory, refl, inr (or_else (names_are_bound old command) (needs_room command) h, (refl, refl)))
+
+-- a line that is refused
+pub refused_line : (old : State) (line : Line) (r : Refusal) → SaysHeld (Err r) line → Answered old line old (refusal r ∷ [])
+refused_line old line r (inl (inl p)) = subst (λ (l : Line). Answered old l old (refusal r ∷ [])) (sym p.1) (refusal r, refl, inl (refl, ap refusal p.0))
+refused_line old line r (inl (inr (inl p))) = subst (λ (l : Line). Answered old l old (refusal r ∷ [])) (sym p.1) (refl, ap (λ e. refusal e ∷ []) p.0)
+refused_line old line r (inl (inr (inr p))) = subst (λ (e : Refusal). Answered old line old (refusal e ∷ [])) (sym p.0) (lacking old line p.1)
+refused_line old line r (inr p) =
+    let which : r ≡ LineTooLong = cc in
+    subst (λ (l : Line). Answered old l old (refusal r ∷ [])) (sym p.1) (refl, ap (λ e. refusal e ∷ []) which)
+
+-- what is held says a command
+pub said_command : (line : Line) (command : Command) → SaysHeld (Ok (Some command)) line → line ≡ asks command
+said_command line command (inl is) = is
+said_command line command (inr p) = cc
+
+-- a line that asks for nothing
+pub silent_line : (old : State) (line : Line) → SaysHeld (Ok None) line → Answered old line old []
+silent_line old line (inl is) = subst (λ (l : Line). Answered old l old []) (sym is) (refl, refl)
+silent_line old line (inr p) = cc

@@ -1,0 +1,35 @@
+//! Writes bytes to a writer, all of them or some first ones.
+ghost use Rattle.std.specs.Prelude.{◌≡◌, ◌<◌, ◌++◌, ◌∷◌, [], List, ℕ, length, OnOk, OnErr};
+ghost use Rattle.std.specs.Io.KnownBytes.{Appends};
+
+use std::io::Write;
+
+/// A write failed or took nothing.
+#[derive(Clone, Copy, Debug, PartialEq, Eq)]
+pub struct WriteFault;
+
+/// Writes all of the bytes; after a fault some first ones, not all, have gone out.
+pub fn send<W: Write>(writer: &mut W, bytes: &[u8]) -> Result<(), WriteFault>
+    ensures ok { OnOk result (Appends (W.contents writer.old) (W.contents writer.new) bytes.now) }
+    ensures err { OnErr result ((gone missing : List ℕ) × (bytes.now ≡ gone ++ missing)
+        × (0 < length missing) × Appends (W.contents writer.old) (W.contents writer.new) gone) }
+{
+    let mut rest = bytes;
+    while !rest.is_empty() {
+        match writer.write(rest) {
+            Ok(0) | Err(_) => return Err(WriteFault),
+            Ok(n) => rest = &rest[n..],
+        }
+    }
+    Ok(())
+}
+
+/// Writes the bytes and a newline.
+pub fn send_line<W: Write>(writer: &mut W, bytes: &[u8]) -> Result<(), WriteFault>
+    ensures ok { OnOk result (Appends (W.contents writer.old) (W.contents writer.new) (bytes.now ++ 10 ∷ [])) }
+    ensures err { OnErr result ((gone missing : List ℕ) × (bytes.now ++ 10 ∷ [] ≡ gone ++ missing)
+        × (0 < length missing) × Appends (W.contents writer.old) (W.contents writer.new) gone) }
+{
+    send(writer, bytes)?;
+    send(writer, b"\n")
+}

@@ -1,0 +1,102 @@
+//! The words of the command line.
+ghost use Rattle.std.specs.Prelude.{IfErr};
+ghost use Rattle.bench_main.specs.Faults.{IsToldApart};
+
+use crate::words::{Options, OptionsFault};
+use clap::error::ErrorKind;
+use clap::{Arg, Command, Error};
+use std::alloc::{AllocError, Global};
+
+/// What a script may say.
+const COMMANDS: &str = "Commands, one a line:
+  X = zeros D S     binds X to an array of zeros, as a = zeros <i4 (2,3); D is <i4 or <i8
+  set X[ix] = L     writes an integer to one item, as set a[1,-1] = 7
+  print X           prints an array
+  # ..              is a comment
+
+A refused command replies `no`, a code and its meaning, and changes nothing.
+Status: 0 all commands were accepted, 1 one was refused, 2 bad words, 3 the run stopped.";
+
+/// The command line of the program.
+fn command<'a>(alloc: Global) -> Result<Command<'a>, AllocError> {
+    let script = Arg::new(alloc, "script").value_name("SCRIPT").help(
+        "The script, one command a line; standard input where it is left out",
+    );
+    Command::new(alloc, "bench")
+        .bin_name("bench")?
+        .about("Runs a script of commands on named arrays, and prints a reply to each")
+        .after_help(COMMANDS)
+        .arg(script)
+}
+
+/// What a fault of `clap` comes to: it may be want of memory.
+fn fault_of(error: Error) -> OptionsFault
+    ensures { IsToldApart result }
+{
+    match error.kind() {
+        ErrorKind::OutOfMemory => OptionsFault::Memory,
+        _ => OptionsFault::Words(error),
+    }
+}
+
+/// Reads the words, of which the first is the program's own name. Help is asked for by a fault of
+/// the words too, as `clap` has it.
+pub fn options(alloc: Global, words: &[String]) -> Result<Options, OptionsFault>
+    ensures { IfErr result IsToldApart }
+{
+    let matches = match command(alloc)?.try_get_matches_from(words) {
+        Ok(matches) => matches,
+        Err(error) => return Err(fault_of(error)),
+    };
+    let script = match matches.get_str("script") {
+        Some(text) => Some(String::from_str(alloc, text)?),
+        None => None,
+    };
+    Ok(Options { script })
+}
+
+#[cfg(test)]
+mod tests {
+    use super::*;
+    use std::test::Fail;
+
+    /// The words, as text that the program is given.
+    fn given(alloc: Global, words: &[&str]) -> Result<Vec<String>, AllocError> {
+        let mut texts = Vec::new(alloc);
+        for word in words {
+            texts.push(String::from_str(alloc, word)?)?;
+        }
+        Ok(texts)
+    }
+
+    #[test]
+    fn a_script_is_named_or_not(rt: HostRuntime) -> Result<(), Fail> {
+        let words = given(rt.alloc(), &["bench"])?;
+        let none = options(rt.alloc(), words.as_slice()).map_err(|_| "refused")?;
+        assert!(rt; none.script.is_none());
+        let words = given(rt.alloc(), &["bench", "first.bench"])?;
+        let one = options(rt.alloc(), words.as_slice()).map_err(|_| "refused")?;
+        let script = one.script.ok_or("no script")?;
+        assert_eq!(rt; script.as_str(), "first.bench");
+        Ok(())
+    }
+
+    #[test]
+    fn other_words_are_refused(rt: HostRuntime) -> Result<(), Fail> {
+        let rows: [(&[&str], i32); 4] = [
+            (&["bench", "--help"], 0),
+            (&["bench", "one", "two"], 2),
+            (&["bench", "--unknown"], 2),
+            (&["bench", "--undo", "65"], 2),
+        ];
+        for (line, status) in rows {
+            let words = given(rt.alloc(), line)?;
+            let fault = options(rt.alloc(), words.as_slice()).err().ok_or("taken")?;
+            match fault {
+                OptionsFault::Words(error) => assert_eq!(rt; error.exit_code(), status),
+                OptionsFault::Memory => assert!(rt; false, "memory"),
+            }
+        }
+        Ok(())
+    }
+}

@@ -1,0 +1,62 @@
+//! `bench [SCRIPT]`: runs a script of commands on named arrays.
+#![tactic(auto)]
+
+mod command_line;
+mod status;
+mod words;
+
+use bench_engine::{RunFault, Summary, run};
+use command_line::options;
+use status::{FAULT, NO_MEMORY, NO_SCRIPT, outcome};
+use std::process::ExitCode;
+use std::rt::Files;
+use std::{env, fs, io};
+use words::{Options, OptionsFault};
+
+/// Says a text on standard error, and answers the status.
+fn stop(rt: &impl Eprint, status: u8, text: &str) -> ExitCode {
+    let _ = rt.eprintln(text);
+    ExitCode::from(status)
+}
+
+/// Ends as a run did.
+fn finish(rt: &impl Eprint, run: &Result<Summary, RunFault>) -> ExitCode {
+    let (status, text) = outcome(run);
+    if text.is_empty() {
+        return ExitCode::from(status);
+    }
+    stop(rt, status, text)
+}
+
+/// Runs the script that the options name.
+fn run_script<R: Files + Input + Print + Eprint + AllocGlobal>(
+    rt: &R,
+    options: &Options,
+) -> ExitCode {
+    let mut writer = io::writer(rt);
+    match &options.script {
+        Some(path) => match fs::open(rt, path.as_str()) {
+            Ok(mut file) => finish(rt, &run(rt.alloc(), &mut file, &mut writer)),
+            Err(_) => stop(rt, FAULT, NO_SCRIPT),
+        },
+        None => finish(rt, &run(rt.alloc(), &mut rt.reader(), &mut writer)),
+    }
+}
+
+fn main(rt: HostRuntime) -> ExitCode {
+    let Ok(args) = env::args(&rt) else {
+        return stop(&rt, FAULT, NO_MEMORY);
+    };
+    let words: Result<Vec<String>, _> = args.collect(rt.alloc());
+    let Ok(words) = words else {
+        return stop(&rt, FAULT, NO_MEMORY);
+    };
+    match options(rt.alloc(), words.as_slice()) {
+        Ok(options) => run_script(&rt, &options),
+        Err(OptionsFault::Words(error)) => {
+            let _ = error.print(&rt);
+            ExitCode::from(error.exit_code() as u8)
+        }
+        Err(OptionsFault::Memory) => stop(&rt, FAULT, NO_MEMORY),
+    }
+}

@@ -1,0 +1,28 @@
+//! How the program ends.
+ghost use Rattle.std.specs.Prelude.{◌≡◌};
+ghost use Rattle.bench_main.specs.Outcomes.{outcome_of};
+
+use bench_engine::{RunFault, Summary};
+
+/// The text where the script can't be opened.
+pub const NO_SCRIPT: &str = "bench: no script";
+
+/// The text where no memory is found to begin with.
+pub const NO_MEMORY: &str = "bench: out of memory";
+
+/// The status where a script can't be run to its end.
+pub const FAULT: u8 = 3;
+
+/// The exit status of a run and the text for standard error: 0 where every command was accepted,
+/// 1 where one was refused, and 3 with a text where the run stopped before its end.
+pub fn outcome(run: &Result<Summary, RunFault>) -> (u8, &'static str)
+    ensures { (result.0, result.1.now) ≡ outcome_of run.now }
+{
+    match run {
+        Ok(summary) if summary.refused == 0 => (0, ""),
+        Ok(_) => (1, ""),
+        Err(RunFault::Read) => (FAULT, "bench: read fault"),
+        Err(RunFault::Write) => (FAULT, "bench: write fault"),
+        Err(RunFault::Memory) => (FAULT, NO_MEMORY),
+    }
+}
