@@ -2,3 +2,13 @@ pub mod Decimals
 pub mod Spellings
 pub mod Wraps
 pub mod Numbers
+pub mod Marks
+pub mod Fronts
+pub mod Drafts
+pub mod DefaultNames
+pub mod Turns
+pub mod Binds
+pub mod Fields
+pub mod WrittenMembers
+pub mod RoundTrip
+pub mod Vectors

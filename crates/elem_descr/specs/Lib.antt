@@ -2,3 +2,9 @@ pub mod Refusals
 pub mod Values
 pub mod Encoding
 pub mod TypeStrings
+pub mod Names
+pub mod Descriptors
+pub mod Items
+pub mod FormatTexts
+pub mod Partials
+pub mod WrittenFormats

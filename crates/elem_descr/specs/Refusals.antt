@@ -18,3 +18,8 @@ abbrev pub ◌>>=◌ : {X Y : Type 0} → Result X Refusal → (X → Result Y R
 abbrev pub check : Bool → Refusal → Result (Unit {0}) Refusal
 check true refusal = Ok tt
 check false refusal = Err refusal
+
+-- what a call answers is what is there, as the view shows it
+abbrev pub Answers : {X Y : Type 0} → (X → Y) → Result X Refusal → Result Y Refusal → Type 0
+Answers view (Ok x) there = there ≡ Ok (view x)
+Answers view (Err e) there = there ≡ Err e

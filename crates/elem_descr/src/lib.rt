@@ -1,11 +1,19 @@
 //! Element types of an array: their descriptors as texts, and their values as bytes.
 #![tactic(auto)]
 
+pub mod descr;
+mod digits;
+pub mod format_text;
+pub mod leaf;
 pub mod number;
 pub mod refusal;
 pub mod scalar;
 pub mod typestr;
 
+pub use descr::{Descr, Record};
+pub use format_text::read::format_read;
+pub use format_text::write::format_write;
+pub use leaf::{FieldName, Leaf};
 pub use number::{num_read, num_write};
 pub use refusal::Refusal;
 pub use scalar::{BytesLen, Order, Scalar, Width};

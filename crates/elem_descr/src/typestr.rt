@@ -1,11 +1,10 @@
 // Type strings of NumPy's array interface.
-ghost use Rattle.std.specs.Prelude.{◌≡◌, ◌∷◌, [], min, IfOk, IsTrue};
-ghost use Rattle.std.specs.Char.{is_ascii_digit};
-ghost use Rattle.std.specs.List.{list_all};
-ghost use Rattle.elem_descr.specs.TypeStrings.{marked, number_spelled, value_of, byte_string, typestr, mark, letter_of, spelling};
+ghost use Rattle.std.specs.Prelude.{◌≡◌, ◌∷◌, [], IfOk};
+ghost use Rattle.elem_descr.specs.TypeStrings.{marked, number_spelled, byte_string, typestr, mark, letter_of, spelling};
 
+use crate::digits::{are_digits, capped_value};
 use crate::refusal::Refusal;
-use crate::scalar::{BytesLen, MAX_ITEM_SIZE, Order, Scalar, Width};
+use crate::scalar::{BytesLen, Order, Scalar, Width};
 use itoa::Buffer;
 use std::alloc::{AllocError, Global};
 
@@ -60,25 +59,6 @@ fn number_spelled(order: Order, kind: &[u8]) -> Option<Scalar>
         }),
         _ => None,
     }
-}
-
-fn are_digits(text: &[u8]) -> bool
-    ensures { result ≡ list_all is_ascii_digit text.now }
-{
-    text.iter().all(|b| b.is_ascii_digit())
-}
-
-/// The number that digits spell, or one past the most bytes of an item where it is larger: the
-/// digits may be thousands.
-fn capped_value(digits: &[u8]) -> usize
-    requires { IsTrue (list_all is_ascii_digit digits.now) }
-    ensures { result ≡ min (value_of digits.now) 65537 }
-{
-    let mut value = 0usize;
-    for digit in digits {
-        value = (value * 10 + usize::from(*digit - b'0')).min(MAX_ITEM_SIZE + 1);
-    }
-    value
 }
 
 fn byte_string(digits: &[u8]) -> Result<Scalar, Refusal>

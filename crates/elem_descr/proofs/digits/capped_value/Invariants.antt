@@ -1,6 +1,6 @@
 use Rattle.std.proofs.Common.{◌≡◌, min, take}
 use Rattle.elem_descr.specs.TypeStrings.{value_of}
-use Rattle.elem_descr.proofs.typestr.capped_value.Given as goal
+use Rattle.elem_descr.proofs.digits.capped_value.Given as goal
 
 -- the digits so far are read
 abbrev pub invariant-loop-digit : goal.invariant-loop-digit

@@ -1,0 +1,10 @@
+-- Steps that may be refused, one after the other.
+use Rattle.std.proofs.Common.{◌≡◌, Result, Ok, Err, ap}
+use Rattle.elem_descr.specs.declared.refusal.Refusal.{Refusal}
+use Rattle.elem_descr.specs.Refusals.{◌>>=◌}
+
+pub after_ok : {X Y : Type 0} (r : Result X Refusal) (f : X → Result Y Refusal) (x : X) → r ≡ Ok x → (r >>= f) ≡ f x
+after_ok {X = X} r f x e = ap (λ (s : Result X Refusal). s >>= f) e
+
+pub after_err : {X Y : Type 0} (r : Result X Refusal) (f : X → Result Y Refusal) (refusal : Refusal) → r ≡ Err refusal → (r >>= f) ≡ Err refusal
+after_err {X = X} r f refusal e = ap (λ (s : Result X Refusal). s >>= f) e

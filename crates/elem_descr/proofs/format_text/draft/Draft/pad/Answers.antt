@@ -1,0 +1,10 @@
+use Rattle.std.proofs.Common.{arith}
+use Rattle.elem_descr.specs.FormatTexts.{Partial}
+use Rattle.elem_descr.proofs.Drafts.{widened_partial}
+use Rattle.elem_descr.proofs.format_text.draft.Draft.pad.Goals as goal
+
+pub invariant_of-self : goal.invariant_of-self
+invariant_of-self c =
+    let d = c.self.inside in
+    let p : Partial = record { size = d.size; alignment = d.alignment; leaves = d.leaves.items } in
+    widened_partial p c.in-Some.count c.self.invariant (omega (arith, c.self.invariant.small, c.if-count-self.false))

@@ -1,0 +1,57 @@
+-- The format text that is written of a descriptor.
+use Rattle.std.specs.Prelude.{ℕ, zero, suc, ◌+◌, ◌-◌, true, false, List, [], ◌∷◌, ◌++◌, codes, decimal}
+use Rattle.elem_descr.specs.declared.scalar.Order.TheVariants.{Big}
+use Rattle.elem_descr.specs.declared.scalar.Width.TheVariants.{Two, Four, Eight}
+use Rattle.elem_descr.specs.declared.scalar.Scalar.{Scalar}
+use Rattle.elem_descr.specs.declared.scalar.Scalar.TheVariants.{Bool as BoolScalar, Byte, Int, Bytes}
+use Rattle.elem_descr.specs.declared.leaf.Leaf.{Leaf}
+use Rattle.elem_descr.specs.declared.descr.Descr.{Descr}
+use Rattle.elem_descr.specs.declared.descr.Descr.TheVariants.{Scalar as ScalarDescr, Record as RecordDescr}
+use Rattle.elem_descr.specs.Encoding.{size}
+
+-- `>` before a big-endian integer of two or more bytes, and else `<`
+abbrev pub written_mark : Scalar → List ℕ
+written_mark (Int signed width Big) = codes ">"
+written_mark scalar = codes "<"
+
+-- the letter of a number; signed integers are in lower case
+abbrev pub written_letter : Scalar → List ℕ
+written_letter BoolScalar = codes "?"
+written_letter (Byte true) = codes "b"
+written_letter (Byte false) = codes "B"
+written_letter (Int true Two order) = codes "h"
+written_letter (Int false Two order) = codes "H"
+written_letter (Int true Four order) = codes "i"
+written_letter (Int false Four order) = codes "I"
+written_letter (Int true Eight order) = codes "q"
+written_letter (Int false Eight order) = codes "Q"
+written_letter (Bytes n) = codes "s"
+
+-- only a byte string has a count
+abbrev pub written_count : Scalar → List ℕ
+written_count (Bytes n) = decimal n
+written_count scalar = []
+
+-- a member without its name
+abbrev pub written_scalar : Scalar → List ℕ
+written_scalar scalar = written_mark scalar ++ written_count scalar ++ written_letter scalar
+
+-- so many bytes of padding
+abbrev pub written_pad : ℕ → List ℕ
+written_pad zero = []
+written_pad (suc n) = decimal (suc n) ++ codes "x"
+
+-- a field and its name
+abbrev pub written_field : Leaf → List ℕ
+written_field leaf = written_scalar leaf.scalar ++ codes ":" ++ leaf.name ++ codes ":"
+
+-- the fields from this byte on, and the padding before each and after the last
+abbrev pub written_fields : ℕ → List Leaf → ℕ → List ℕ
+written_fields from [] bytes = written_pad (bytes - from)
+written_fields from (leaf ∷ leaves) bytes =
+    written_pad (leaf.at - from) ++ (written_field leaf ++ written_fields (leaf.at + size leaf.scalar) leaves bytes)
+
+-- the format text of a descriptor
+abbrev pub written : Descr → List ℕ
+written (ScalarDescr scalar) = written_scalar scalar
+written (RecordDescr structure) = codes "T{" ++ (written_fields 0 structure.leaves structure.size ++ codes "}")

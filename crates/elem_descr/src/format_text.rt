@@ -1,0 +1,9 @@
+// Format texts of PEP 3118.
+pub mod draft;
+mod field;
+pub mod mark;
+mod member;
+pub mod read;
+#[cfg(test)]
+mod tests;
+pub mod write;

@@ -1,0 +1,123 @@
+// The marks of a format text, and the numbers by their letters.
+ghost use Rattle.std.specs.Prelude.{◌≡◌, ◌≤◌};
+ghost use Rattle.elem_descr.specs.FormatTexts.{after, marked, number_letter, order_under, long_under, is_aligning, alignment};
+
+use crate::scalar::{Order, Scalar, Width};
+
+/// What a mark sets: the byte order, native sizes, and native alignment.
+#[derive(Clone, Copy, Debug, PartialEq, Eq)]
+pub enum Mark {
+    /// `@`: little-endian with native sizes and native alignment.
+    Aligned,
+    /// `^`: little-endian with native sizes, not aligned.
+    Native,
+    /// `<` and `=`: little-endian with standard sizes.
+    Little,
+    /// `>` and `!`: big-endian with standard sizes.
+    Big,
+}
+
+impl Mark {
+    /// The mark in force after a mark or a blank.
+    fn after(self, byte: u8) -> Option<Mark>
+        ensures { result ≡ after self byte }
+    {
+        match byte {
+            b' ' => Some(self),
+            b'@' => Some(Mark::Aligned),
+            b'^' => Some(Mark::Native),
+            b'<' | b'=' => Some(Mark::Little),
+            b'>' | b'!' => Some(Mark::Big),
+            _ => None,
+        }
+    }
+
+    fn order(self) -> Order
+        ensures { result ≡ order_under self }
+    {
+        match self {
+            Mark::Big => Order::Big,
+            _ => Order::Little,
+        }
+    }
+
+    /// The width of `l` and `L`.
+    fn long(self) -> Width
+        ensures { result ≡ long_under self }
+    {
+        match self {
+            Mark::Aligned | Mark::Native => Width::Eight,
+            Mark::Little | Mark::Big => Width::Four,
+        }
+    }
+
+    fn integer(self, signed: bool, width: Width) -> Scalar
+        ensures { result ≡ Scalar.Int signed width (order_under self) }
+    {
+        Scalar::Int {
+            signed,
+            width,
+            order: self.order(),
+        }
+    }
+
+    /// The number that a letter means.
+    pub fn number(self, letter: u8) -> Option<Scalar>
+        ensures { result ≡ number_letter self letter }
+    {
+        match letter {
+            b'?' => Some(Scalar::Bool),
+            b'b' => Some(Scalar::Byte { signed: true }),
+            b'B' => Some(Scalar::Byte { signed: false }),
+            b'h' => Some(self.integer(true, Width::Two)),
+            b'H' => Some(self.integer(false, Width::Two)),
+            b'i' => Some(self.integer(true, Width::Four)),
+            b'I' => Some(self.integer(false, Width::Four)),
+            b'l' => Some(self.integer(true, self.long())),
+            b'L' => Some(self.integer(false, self.long())),
+            b'q' => Some(self.integer(true, Width::Eight)),
+            b'Q' => Some(self.integer(false, Width::Eight)),
+            _ => None,
+        }
+    }
+
+    pub fn is_aligning(self) -> bool
+        ensures { result ≡ is_aligning self }
+    {
+        match self {
+            Mark::Aligned => true,
+            _ => false,
+        }
+    }
+
+    /// What the offset of a member is a multiple of, in bytes.
+    pub fn alignment(self, scalar: &Scalar) -> usize
+        ensures value { result ≡ alignment self scalar.now }
+        ensures not_zero { 1 ≤ result }
+        ensures within { result ≤ 8 }
+    {
+        if !self.is_aligning() {
+            return 1;
+        }
+        match scalar {
+            Scalar::Bytes(_) => 1,
+            Scalar::Bool | Scalar::Byte { .. } => 1,
+            Scalar::Int { width, .. } => width.bytes(),
+        }
+    }
+}
+
+/// The mark in force after the blanks and marks at the front, and what follows them.
+#[tactic(auto, using(crate::proofs::Marks::marked_more, crate::proofs::Marks::marked_stops))]
+pub fn marked(mark: Mark, text: &[u8]) -> (Mark, &[u8])
+    ensures { (result.0, result.1.now) ≡ marked mark text.now }
+{
+    let mut mark = mark;
+    for (i, byte) in text.iter().enumerate() {
+        let Some(next) = mark.after(*byte) else {
+            return (mark, &text[i..]);
+        };
+        mark = next;
+    }
+    (mark, &[])
+}

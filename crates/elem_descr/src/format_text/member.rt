@@ -1,0 +1,157 @@
+// The members of a format text, and their names.
+ghost use Rattle.std.specs.Prelude.{◌≡◌, ◌≤◌, not, length, take, drop, IsTrue, IfSome, IfOk};
+ghost use Rattle.std.specs.Char.{is_ascii_digit};
+ghost use Rattle.std.specs.List.{list_all, prefix_len};
+ghost use Rattle.elem_descr.specs.Refusals.{Answers};
+ghost use Rattle.elem_descr.specs.Names.{is_legal_name};
+ghost use Rattle.elem_descr.specs.FormatTexts.{is_colon, is_named, is_opened, count_of, is_left_out, text_member, lettered, member_at, name_at};
+
+use crate::digits::capped_value;
+use crate::format_text::mark::Mark;
+use crate::leaf::is_legal_name;
+use crate::refusal::Refusal;
+use crate::scalar::{BytesLen, MAX_ITEM_SIZE, Scalar};
+
+/// A member of a format text, without its name.
+#[derive(Clone, Copy, Debug, PartialEq, Eq)]
+pub enum Member {
+    /// A value of this scalar. It is `None` for a byte string that is larger than any item.
+    Value(Option<Scalar>),
+    /// So many bytes of padding, `None` where they are more than any item has.
+    Pad(Option<usize>),
+}
+
+fn digits_len(text: &[u8]) -> usize
+    ensures value { result ≡ prefix_len is_ascii_digit text.now }
+    ensures within { result ≤ length text.now }
+{
+    text.iter().take_while(|b| b.is_ascii_digit()).count()
+}
+
+fn is_colon(byte: u8) -> bool
+    ensures { result ≡ is_colon byte }
+{
+    byte == b':'
+}
+
+fn name_len(text: &[u8]) -> usize
+    ensures value { result ≡ prefix_len (λ b. not (is_colon b)) text.now }
+    ensures within { result ≤ length text.now }
+{
+    text.iter().take_while(|b| !is_colon(**b)).count()
+}
+
+/// Whether the text begins with a colon, as the name of a member does.
+pub fn is_named(text: &[u8]) -> bool
+    ensures { result ≡ is_named text.now }
+{
+    match text {
+        [b, ..] => is_colon(*b),
+        [] => false,
+    }
+}
+
+fn is_opened(text: &[u8]) -> bool
+    ensures { result ≡ is_opened text.now }
+{
+    match text {
+        [b, ..] => *b == b'{',
+        [] => false,
+    }
+}
+
+fn is_left_out(letter: u8) -> bool
+    ensures { result ≡ is_left_out letter }
+{
+    b"cnNPpefdgOZuwt&X(".contains(&letter)
+}
+
+/// The digits at the front, and what follows them.
+#[tactic(auto, using(crate::proofs::Fronts::front_passes))]
+fn split_digits(text: &[u8]) -> (&[u8], &[u8])
+    ensures digits { result.0.now ≡ take (prefix_len is_ascii_digit text.now) text.now }
+    ensures rest { result.1.now ≡ drop (prefix_len is_ascii_digit text.now) text.now }
+    ensures all_digits { IsTrue (list_all is_ascii_digit result.0.now) }
+{
+    text.split_at(digits_len(text))
+}
+
+/// The count that digits spell: 1 where there are none, `None` where no item has as many bytes.
+fn count(digits: &[u8]) -> Option<usize>
+    requires { IsTrue (list_all is_ascii_digit digits.now) }
+    ensures value { result ≡ count_of digits.now }
+    ensures within { IfSome result (λ n. n ≤ 65536) }
+{
+    if digits.is_empty() {
+        return Some(1);
+    }
+    let value = capped_value(digits);
+    if value > MAX_ITEM_SIZE {
+        return None;
+    }
+    Some(value)
+}
+
+fn text_member(digits: &[u8]) -> Result<Member, Refusal>
+    requires { IsTrue (list_all is_ascii_digit digits.now) }
+    ensures { result ≡ text_member (count_of digits.now) }
+{
+    let Some(count) = count(digits) else {
+        return Ok(Member::Value(None));
+    };
+    if count == 0 {
+        return Err(Refusal::DescriptorLeftOut);
+    }
+    match BytesLen::try_new(count) {
+        Some(len) => Ok(Member::Value(Some(Scalar::Bytes(len)))),
+        None => unreachable!(),
+    }
+}
+
+fn lettered(mark: Mark, digits: &[u8], letter: u8, rest: &[u8]) -> Result<Member, Refusal>
+    requires { IsTrue (list_all is_ascii_digit digits.now) }
+    ensures { result ≡ lettered mark digits.now letter rest.now }
+{
+    if let Some(scalar) = mark.number(letter) {
+        if !digits.is_empty() {
+            return Err(Refusal::DescriptorLeftOut);
+        }
+        return Ok(Member::Value(Some(scalar)));
+    }
+    match letter {
+        b's' => text_member(digits),
+        b'x' => Ok(Member::Pad(count(digits))),
+        b'T' if is_opened(rest) && digits.is_empty() => Err(Refusal::DescriptorLeftOut),
+        _ if is_left_out(letter) => Err(Refusal::DescriptorLeftOut),
+        _ => Err(Refusal::BadDescriptor),
+    }
+}
+
+/// The member at the front, and what follows it.
+pub fn member_at(mark: Mark, text: &[u8]) -> Result<(Member, &[u8]), Refusal>
+    ensures { Answers (λ m. (m.0, m.1.now)) result (member_at mark text.now) }
+{
+    let (digits, rest) = split_digits(text);
+    let [letter, rest @ ..] = rest else {
+        return Err(Refusal::BadDescriptor);
+    };
+    match lettered(mark, digits, *letter, rest) {
+        Ok(member) => Ok((member, rest)),
+        Err(refusal) => Err(refusal),
+    }
+}
+
+/// The name before the next colon, and what follows the colon.
+pub fn name_at(text: &[u8]) -> Result<(&[u8], &[u8]), Refusal>
+    ensures answers { Answers (λ m. (m.0.now, m.1.now)) result (name_at text.now) }
+    ensures legal { IfOk result (λ m. IsTrue (is_legal_name m.0.now)) }
+{
+    let (name, rest) = text.split_at(name_len(text));
+    if rest.is_empty() {
+        return Err(Refusal::BadDescriptor);
+    }
+    if !is_legal_name(name) {
+        return Err(Refusal::DescriptorLeftOut);
+    }
+    Ok((name, &rest[1..]))
+}
