@@ -1,5 +1,5 @@
 -- Laws of printed text: blocks, what joins them, and what stays in front.
-use Rattle.std.proofs.Common.{◌≡◌, ℕ, zero, suc, ◌+◌, ◌-◌, ◌*◌, ◌<◌, ◌≤◌, List, ◌∷◌, ◌++◌, codes, map, length, take, drop, get_or, refl, sym, ◌∙◌, ap, arith, add-one, suc-mul, mul-suc, zero-mul, mul_comm, mul-le-mul_left, append_assoc}
+use Rattle.std.proofs.Common.{◌≡◌, ℕ, zero, suc, ◌+◌, ◌-◌, ◌*◌, ◌<◌, ◌≤◌, List, ◌∷◌, ◌++◌, codes, map, length, take, drop, get_or, refl, sym, ◌∙◌, ap, arith, add-one, suc-mul, zero-mul, append_assoc}
 use Rattle.std.proofs.lemmas.List.{take_at, take-take, take-map, drop-map, drop-drop, drop-take, length-take, length-drop, drop_more}
 use Rattle.std.specs.Io.{StartsWith}
 use Rattle.shape_strides.specs.Indexes.{count}
@@ -57,7 +57,7 @@ joined-map-more separator text f c k xs =
     let here : take c (drop (k * c) (map f xs)) ≡ map f (take c (drop (k * c) xs)) = ap (λ l. take c l) (drop-map f (k * c) xs) ∙ take-map f c (drop (k * c) xs) in
     joined-more separator text c k (map f xs) ∙ ap (λ l. joined separator (map text (blocks c k (map f xs))) ++ lead k separator ++ text l) here
 
--- all blocks of an axis, in brackets or out of them
+-- the blocks of the items that are taken are those of all
 pub blocks-map-take : (f : ℕ → List ℕ) (c n : ℕ) (xs : List ℕ) → blocks c n (map f (take (n * c) xs)) ≡ blocks c n (map f xs)
 blocks-map-take f c n xs = ap (blocks c n) (sym (take-map f (n * c) xs)) ∙ blocks-take c n (map f xs)
 
@@ -92,19 +92,6 @@ pub walked-more : (c k : ℕ) (offsets walk walk' : List ℕ) → walk ≡ drop 
 walked-more c k offsets walk walk' before step =
     let size : k * c + c ≡ (k + 1) * c = grind arith in
     step ∙ ap (λ l. drop c l) before ∙ drop-drop c (k * c) offsets ∙ ap (λ m. drop m offsets) size
-
-pub count-axis : (axes : List ℕ) (axis : ℕ) → axis < length axes → count (drop axis axes) ≡ get_or axes axis 0 * count (drop (axis + 1) axes)
-count-axis axes axis below = ap count (drop_more axes axis 0 below)
-
--- there is one block more to walk over
-pub block_left : (axes : List ℕ) (axis k : ℕ) (offsets walk : List ℕ) → axis < length axes → count (drop axis axes) ≤ length offsets → k < get_or axes axis 0 → walk ≡ drop (k * count (drop (axis + 1) axes)) offsets → count (drop (axis + 1) axes) ≤ length walk
-block_left axes axis k offsets walk below enough inside walked =
-    let c = count (drop (axis + 1) axes) in
-    let n = get_or axes axis 0 in
-    let step : c * k + c ≤ c * n = omega (arith, mul-le-mul_left c inside, mul-suc c k) in
-    let turned : c * k ≡ k * c = mul_comm c k in
-    let turned' : c * n ≡ n * c = mul_comm c n in
-    omega (arith, ap length walked, length-drop (k * c) offsets, count-axis axes axis below)
 
 -- all blocks of an axis, and its brackets
 pub opened-all : (f : ℕ → List ℕ) (axes : List ℕ) (axis k : ℕ) (offsets old out out' : List ℕ) → axis < length axes → k ≡ get_or axes axis 0 → out ≡ old ++ opened f axes axis k offsets → out' ≡ out ++ codes "]" → out' ≡ old ++ block_text axis (drop axis axes) (map f (take (count (drop axis axes)) offsets))

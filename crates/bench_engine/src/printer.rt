@@ -1,7 +1,6 @@
 //! The text of an array: items, padded to one width, in nested brackets.
-ghost use Rattle.std.specs.Prelude.{◌≡◌, ℕ, ◌+◌, ◌-◌, ◌*◌, ◌^◌, ◌<◌, ◌≤◌, ◌++◌, ◌∷◌, [], length, map, take, drop, replicate, All, OnOk, IfOk, vec_capacity, max};
+ghost use Rattle.std.specs.Prelude.{◌≡◌, ◌+◌, ◌^◌, ◌≤◌, ◌++◌, length, map, take, drop, max, replicate, slice_index, vec_capacity, All, OnOk};
 ghost use Rattle.std.specs.Io.{StartsWith};
-ghost use Rattle.std.specs.Fmt.{signed_decimal};
 ghost use Rattle.elem_descr.specs.Encoding.{IsNumber, size, decode};
 ghost use Rattle.elem_descr.specs.Values.{number};
 ghost use Rattle.shape_strides.specs.Indexes.{count};
@@ -100,9 +99,9 @@ fn push_padded(out: &mut Vec<u8>, text: &str, width: usize) -> Result<(), AllocE
     ensures kept { StartsWith out.new.items out.old.items }
     ensures room { vec_capacity out.old ≤ vec_capacity out.new }
 {
-    push_repeated(out, b' ', width.saturating_sub(text.len()))?;
-    out.extend_from_slice(text.as_bytes())?;
-    Ok(())
+    let blanks = width.saturating_sub(text.len());
+    push_repeated(out, b' ', blanks)?;
+    out.extend_from_slice(text.as_bytes())
 }
 
 /// Appends the text of one item.
@@ -123,8 +122,8 @@ fn push_next(out: &mut Vec<u8>, walk: &mut Walk<'_>, items: &Items<'_>) -> Resul
     requires number { IsNumber items.now.scalar }
     requires some { 1 ≤ length walk.old }
     requires inside { All (λ offset. offset + size items.now.scalar ≤ length items.now.block.now) walk.old }
-    ensures ok { OnOk result (out.new.items ≡ out.old.items ++ block_text 0 []
-        (map (shown items.now.width items.now.scalar items.now.block.now) (take 1 walk.old))) }
+    ensures ok { OnOk result (out.new.items ≡ out.old.items
+        ++ shown items.now.width items.now.scalar items.now.block.now (slice_index walk.old 0)) }
     ensures rest { OnOk result (walk.new ≡ drop 1 walk.old) }
     ensures kept { StartsWith out.new.items out.old.items }
     ensures room { vec_capacity out.old ≤ vec_capacity out.new }
@@ -135,8 +134,8 @@ fn push_next(out: &mut Vec<u8>, walk: &mut Walk<'_>, items: &Items<'_>) -> Resul
     }
 }
 
-/// Appends the text of the next block of a walk: of its axes from `axis` on, inside so many
-/// brackets.
+/// Appends the text of the next block of a walk. Its axes are those from `axis` on, and as many
+/// brackets are open before its own as there are axes before them.
 fn push_block(
     out: &mut Vec<u8>,
     walk: &mut Walk<'_>,
@@ -184,8 +183,7 @@ pub fn push_array(
     ensures room { vec_capacity out.old ≤ vec_capacity out.new }
 {
     if layout.shape.items() == 0 {
-        out.extend_from_slice(b"[]")?;
-        return Ok(());
+        return out.extend_from_slice(b"[]");
     }
     let width = widest_at(Walk::new(alloc, layout)?, &scalar, block);
     let items = Items {
@@ -196,3 +194,6 @@ pub fn push_array(
     let mut walk = Walk::new(alloc, layout)?;
     push_block(out, &mut walk, &items, layout.shape.as_slice(), 0)
 }
+
+#[cfg(test)]
+mod tests;
