@@ -8,3 +8,4 @@ pub mod Items
 pub mod FormatTexts
 pub mod Partials
 pub mod WrittenFormats
+pub mod DescrTexts

@@ -2,6 +2,7 @@
 #![tactic(auto)]
 
 pub mod descr;
+pub mod descr_text;
 mod digits;
 pub mod format_text;
 pub mod leaf;
@@ -11,6 +12,7 @@ pub mod scalar;
 pub mod typestr;
 
 pub use descr::{Descr, Record};
+pub use descr_text::descr_read;
 pub use format_text::read::format_read;
 pub use format_text::write::format_write;
 pub use leaf::{FieldName, Leaf};

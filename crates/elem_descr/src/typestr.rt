@@ -9,7 +9,7 @@ use itoa::Buffer;
 use std::alloc::{AllocError, Global};
 
 /// The byte order that a mark at the front means, and what follows the mark.
-fn marked(text: &[u8]) -> (Order, &[u8])
+pub(crate) fn marked(text: &[u8]) -> (Order, &[u8])
     ensures { (result.0, result.1.now) ≡ marked text.now }
 {
     match text {

@@ -1,0 +1,27 @@
+-- A descriptor as a script gives it: a type string or a format text.
+use Rattle.std.specs.Prelude.{ℕ, Bool, true, false, List, [], ◌∷◌, codes, ◌&&◌, ◌||◌, if◌then◌else◌, Result, Ok}
+use Rattle.std.specs.Char.{is_ascii_digit}
+use Rattle.elem_descr.specs.declared.refusal.Refusal.{Refusal}
+use Rattle.elem_descr.specs.declared.descr.Descr.{Descr}
+use Rattle.elem_descr.specs.declared.descr.Descr.TheVariants.{Scalar as ScalarDescr}
+use Rattle.elem_descr.specs.Refusals.{◌>>=◌}
+use Rattle.elem_descr.specs.TypeStrings.{is_one_of, typestr}
+use Rattle.elem_descr.specs.TypeStrings as type_strings
+use Rattle.elem_descr.specs.FormatTexts.{is_empty, format}
+
+abbrev pub begins_with_digit : List ℕ → Bool
+begins_with_digit [] = false
+begins_with_digit (b ∷ rest) = is_ascii_digit b
+
+-- a kind letter of NumPy before a digit, or `S` alone
+abbrev pub is_kind : List ℕ → Bool
+is_kind [] = false
+is_kind (letter ∷ rest) = (is_one_of (codes "biuSfcmMOUV") letter && begins_with_digit rest) || (is_one_of (codes "S") letter && is_empty rest)
+
+-- such a kind behind an optional mark
+abbrev pub is_type_string : List ℕ → Bool
+is_type_string text = is_kind (type_strings.marked text).1
+
+-- the descriptor that a text of a script means, or the first fault in it
+unfoldable pub descriptor : List ℕ → Result Descr Refusal
+descriptor text = if is_type_string text then (typestr text >>= λ scalar. Ok (ScalarDescr scalar)) else format text
