@@ -1,0 +1,5 @@
+pub mod Spelling
+pub mod Braces
+pub mod Lists
+pub mod Rooms
+pub mod Commands

@@ -1,0 +1,103 @@
+-- What is held in memory of its own.
+use Rattle.std.proofs.Common.{◌≡◌, ◌==◌, ℕ, Bool, true, false, List, length, not, Option, Some, None, refl}
+use Rattle.std.specs.Prelude.{IsTrue, IfSome, nat_le, count_by, ◌||◌}
+use Rattle.std.specs.Option.{option_and_then, option_map}
+use Rattle.std.proofs.lemmas.Bool.{false≢true}
+use Rattle.script_lang.specs.declared.index.IndexItem.{IndexItem}
+use Rattle.script_lang.specs.declared.literal.ScalarLiteral.{ScalarLiteral}
+use Rattle.script_lang.specs.declared.literal.Literal.{Literal}
+use Rattle.script_lang.specs.declared.command.Operand.{Operand}
+use Rattle.script_lang.specs.declared.command.Argument.{Argument}
+use Rattle.script_lang.specs.Ellipses.{is_ellipsis}
+use Rattle.script_lang.specs.Tokens.{where_true, byte_at, name_at}
+use Rattle.script_lang.specs.Lists.{entries_at, items_at}
+use Rattle.script_lang.specs.Literals.{byte_text_at, bytes_at, scalar_at, scalar_of, record_at, literal_at}
+use Rattle.script_lang.specs.Indexes.{item_at, index_at, optional_index_at, operand_at, operand_of, literal_of, begins_name, argument_at}
+use Rattle.script_lang.specs.Reading.{scalar_room, literal_room, index_room, optional_index_room, operand_room, argument_room}
+
+-- what each step gives, once each goes on
+pub after_step : {A B : Type 0} (P : B → Type 0) (step : Option A) (next : A → Option B) → ((x : A) → IfSome (next x) P) → IfSome (option_and_then next step) P
+after_step P None next each = tt
+after_step P (Some x) next each = each x
+
+-- the same, where what a step gives is known to have Q
+pub after_known : {A B : Type 0} (Q : A → Type 0) (P : B → Type 0) (step : Option A) (next : A → Option B) → IfSome step Q → ((x : A) → Q x → IfSome (next x) P) → IfSome (option_and_then next step) P
+after_known Q P None next known each = tt
+after_known Q P (Some x) next known each = each x known
+
+pub or_left : (a b : Bool) → IsTrue a → IsTrue (a || b)
+or_left true b is = refl
+or_left false b is = absurd (false≢true is)
+
+pub or_right : (a b : Bool) → IsTrue b → IsTrue (a || b)
+or_right true b is = refl
+or_right false b is = is
+
+abbrev HasScalarRoom : ScalarLiteral × List ℕ → Type 0
+HasScalarRoom r = IsTrue (scalar_room r.0)
+
+abbrev HasLiteralRoom : Literal × List ℕ → Type 0
+HasLiteralRoom r = IsTrue (literal_room r.0)
+
+abbrev pub HasIndexRoom : List IndexItem × List ℕ → Type 0
+HasIndexRoom r = IsTrue (index_room r.0)
+
+abbrev HasOptionalRoom : Option (List IndexItem) × List ℕ → Type 0
+HasOptionalRoom r = IsTrue (optional_index_room r.0)
+
+abbrev pub HasOperandRoom : Operand × List ℕ → Type 0
+HasOperandRoom r = IsTrue (operand_room r.0)
+
+abbrev pub HasArgumentRoom : Argument × List ℕ → Type 0
+HasArgumentRoom r = IsTrue (argument_room r.0)
+
+pub bytes_room : (bytes : List ℕ) → IfSome (bytes_at bytes) (λ r. IsTrue (scalar_room r.0))
+unfolding bytes_at
+bytes_room bytes = after_step HasScalarRoom (byte_text_at bytes) _ (λ text. refl)
+
+pub record_room : (bytes : List ℕ) → IfSome (record_at bytes) (λ r. IsTrue (literal_room r.0))
+unfolding record_at
+record_room bytes =
+    after_step HasLiteralRoom (entries_at scalar_at 41 (length bytes) bytes) _
+    (λ values. after_step HasLiteralRoom (where_true (not (length values.0 == 0))) _ (λ some. refl))
+
+scalar_kept : (o : Option (ScalarLiteral × List ℕ)) → IfSome o (λ r. IsTrue (scalar_room r.0)) → IfSome (option_map scalar_of o) (λ r. IsTrue (literal_room r.0))
+scalar_kept None known = tt
+scalar_kept (Some r) known = known
+
+pub scalar_literal_room : (bytes : List ℕ) → IfSome (scalar_at bytes) (λ r. IsTrue (scalar_room r.0)) → IfSome (option_map scalar_of (scalar_at bytes)) (λ r. IsTrue (literal_room r.0))
+scalar_literal_room bytes known = scalar_kept (scalar_at bytes) known
+
+pub index_list_room : (bytes : List ℕ) → IfSome (items_at item_at 93 (length bytes) bytes) (λ r. IsTrue (index_room r.0)) → IfSome (index_at bytes) (λ r. IsTrue (index_room r.0))
+unfolding index_at
+index_list_room bytes known =
+    after_known HasIndexRoom HasIndexRoom (items_at item_at 93 (length bytes) bytes) _ known
+    (λ items more. after_step HasIndexRoom (where_true (nat_le (count_by is_ellipsis items.0) 1)) _ (λ once. more))
+
+index_kept : (o : Option (List IndexItem × List ℕ)) → IfSome o (λ r. IsTrue (index_room r.0)) → IfSome (option_map (λ (index : List IndexItem × List ℕ). (Some index.0, index.1)) o) HasOptionalRoom
+index_kept None known = tt
+index_kept (Some r) known = known
+
+pub optional_index_list_room : (bytes inside : List ℕ) → byte_at 91 bytes ≡ Some inside → IfSome (index_at inside) (λ r. IsTrue (index_room r.0)) → IfSome (optional_index_at bytes) (λ r. IsTrue (optional_index_room r.0))
+unfolding optional_index_at
+optional_index_list_room bytes inside found known = rw found (index_kept (index_at inside) known)
+
+pub indexed_room : (bytes : List ℕ) (name : List ℕ × List ℕ) → name_at bytes ≡ Some name → IfSome (optional_index_at name.1) (λ r. IsTrue (optional_index_room r.0)) → IfSome (operand_at bytes) (λ r. IsTrue (operand_room r.0))
+unfolding operand_at
+indexed_room bytes name named known = rw named (after_known HasOptionalRoom HasOperandRoom (optional_index_at name.1) _ known (λ index more. more))
+
+operand_kept : (o : Option (Operand × List ℕ)) → IfSome o (λ r. IsTrue (operand_room r.0)) → IfSome (option_map operand_of o) HasArgumentRoom
+operand_kept None known = tt
+operand_kept (Some r) known = known
+
+pub operand_argument_room : (bytes : List ℕ) → begins_name bytes ≡ true → IfSome (operand_at bytes) (λ r. IsTrue (operand_room r.0)) → IfSome (argument_at bytes) (λ r. IsTrue (argument_room r.0))
+unfolding argument_at
+operand_argument_room bytes named known = rw named (operand_kept (operand_at bytes) known)
+
+literal_kept : (o : Option (Literal × List ℕ)) → IfSome o (λ r. IsTrue (literal_room r.0)) → IfSome (option_map literal_of o) HasArgumentRoom
+literal_kept None known = tt
+literal_kept (Some r) known = known
+
+pub literal_argument_room : (bytes : List ℕ) → begins_name bytes ≡ false → IfSome (literal_at bytes) (λ r. IsTrue (literal_room r.0)) → IfSome (argument_at bytes) (λ r. IsTrue (argument_room r.0))
+unfolding argument_at
+literal_argument_room bytes named known = rw named (literal_kept (literal_at bytes) known)

@@ -1,0 +1,64 @@
+-- Bytes that spell numbers.
+use Rattle.std.proofs.Common.{◌≡◌, ◌≤◌, ◌<◌, ◌^◌, ◌+◌, ℕ, suc, Bool, true, false, List, [], ◌∷◌, take, Some, None, refl, arith, nat_eq, cond}
+use Rattle.std.specs.Prelude.{if◌then◌else◌, IfSome, length, drop}
+use Rattle.std.proofs.Common.{subst, sym, length-drop, Option}
+use Rattle.std.specs.Option.{option_and_then}
+use Rattle.script_lang.specs.Descriptors.{record_mark_at, is_mark}
+use Rattle.std.proofs.Math.Nat.{pow-le-pow_right}
+use Rattle.std.specs.List.{list_all, prefix_len}
+use Rattle.std.specs.Option.{option_map}
+use Rattle.script_lang.specs.Tokens.{byte_at, number_at, signed_at, positive, negative}
+
+-- fewer digits spell a smaller number
+pub below_power : (k n i : ℕ) → n < 10 ^ i → i ≤ k → n < 10 ^ k
+below_power k n i small few = let powers : 10 ^ i ≤ 10 ^ k = pow-le-pow_right (omega arith) few in omega arith
+
+passing_cons : (test : ℕ → Bool) (b : ℕ) (bytes : List ℕ) (t : Bool) → test b ≡ t → list_all test (take (prefix_len test bytes) bytes) ≡ true → list_all test (take (cond t (1 + prefix_len test bytes) 0) (b ∷ bytes)) ≡ true
+passing_cons test b bytes false is rest = refl
+passing_cons test b bytes true is rest =
+    let next : 1 + prefix_len test bytes ≡ suc (prefix_len test bytes) = omega arith in
+    rw (next, is) rest
+
+-- each element of the longest front that passes
+pub passing_front : (test : ℕ → Bool) (bytes : List ℕ) → list_all test (take (prefix_len test bytes) bytes) ≡ true
+passing_front test [] = refl
+passing_front test (b ∷ bytes) = passing_cons test b bytes (test b) refl (passing_front test bytes)
+
+neither : {A B : Type 0} (s t : Bool) (x : A) (minus plus plain : B) → (if s then Some x else None) ≡ None → (if t then Some x else None) ≡ None → (if s then minus else if t then plus else plain) ≡ plain
+neither false false x minus plus plain no_minus no_plus = refl
+neither false true x minus plus plain no_minus no_plus = cc
+neither true t x minus plus plain no_minus no_plus = cc
+
+-- no sign comes first
+pub signed_plain : (bytes : List ℕ) → byte_at 45 bytes ≡ None → byte_at 43 bytes ≡ None → signed_at bytes ≡ option_map positive (number_at bytes)
+unfolding number_at
+signed_plain [] no_minus no_plus = refl
+signed_plain (b ∷ bytes) no_minus no_plus =
+    neither (nat_eq b 45) (nat_eq b 43) bytes (option_map negative (number_at bytes)) (option_map positive (number_at bytes)) (option_map positive (number_at (b ∷ bytes))) no_minus no_plus
+
+byte_test : (t : Bool) (c : ℕ) (bytes : List ℕ) → IfSome (if t then Some bytes else None) (λ rest. length rest < length (c ∷ bytes))
+byte_test true c bytes = omega arith
+byte_test false c bytes = tt
+
+-- what follows a byte is shorter
+byte_shorter : (b : ℕ) (bytes : List ℕ) → IfSome (byte_at b bytes) (λ rest. length rest < length bytes)
+byte_shorter b [] = tt
+byte_shorter b (c ∷ bytes) = byte_test (nat_eq c b) c bytes
+
+at_found : {A : Type 0} (P : A → Type 0) (o : Option A) (x : A) → IfSome o P → o ≡ Some x → P x
+at_found {A = A} P o x known is = let there : IfSome (Some x) P = subst (λ (v : Option A). IfSome v P) is known in there
+
+-- what follows two bytes is shorter
+two_shorter : (b c : ℕ) (bytes inside : List ℕ) (first : Option (List ℕ)) → first ≡ byte_at b bytes → option_and_then (byte_at c) first ≡ Some inside → length inside ≤ length bytes
+two_shorter b c bytes inside None is found = cc
+two_shorter b c bytes inside (Some rest) is found =
+    let one : length rest < length bytes = at_found (λ (r : List ℕ). length r < length bytes) (byte_at b bytes) rest (byte_shorter b bytes) (sym is) in
+    let two : length inside < length rest = at_found (λ (r : List ℕ). length r < length rest) (byte_at c rest) inside (byte_shorter c rest) found in
+    omega arith
+
+-- what follows the marks and `T{` is shorter
+pub record_mark_shorter : (bytes inside : List ℕ) → record_mark_at bytes ≡ Some inside → length inside ≤ length bytes
+unfolding record_mark_at
+record_mark_shorter bytes inside found =
+    let shorter : length inside ≤ length (drop (prefix_len is_mark bytes) bytes) = two_shorter 84 123 (drop (prefix_len is_mark bytes) bytes) inside (byte_at 84 (drop (prefix_len is_mark bytes) bytes)) refl found in
+    omega (arith, length-drop (prefix_len is_mark bytes) bytes)

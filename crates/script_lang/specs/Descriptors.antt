@@ -1,0 +1,41 @@
+-- The text of a descriptor.
+use Rattle.std.specs.Prelude.{ℕ, ◌+◌, ◌-◌, Bool, true, false, List, [], ◌∷◌, length, Option, Some, None, nat_eq, if◌then◌else◌, take, drop, not, ◌||◌}
+use Rattle.std.specs.List.{prefix_len}
+use Rattle.std.specs.Option.{option_map}
+use Rattle.script_lang.specs.Tokens.{◌>>=◌, if_found, where_true, is_blank, is_parted, byte_at, front_at}
+
+-- < > ! = @ ^
+abbrev pub is_mark : ℕ → Bool
+is_mark b = nat_eq b 60 || nat_eq b 62 || nat_eq b 33 || nat_eq b 61 || nat_eq b 64 || nat_eq b 94
+
+-- the bytes behind the marks and `T{` that come next
+unfoldable pub record_mark_at : List ℕ → Option (List ℕ)
+record_mark_at bytes = byte_at 84 (drop (prefix_len is_mark bytes) bytes) >>= byte_at 123
+
+-- How many braces are open behind a byte that stands between the two colons of a name or not.
+abbrev pub depth_behind : Bool → ℕ → ℕ → ℕ
+depth_behind true b depth = depth
+depth_behind false b depth = if nat_eq b 123 then depth + 1 else if nat_eq b 125 then depth - 1 else depth
+
+-- whether the byte behind this one stands between the two colons of a name
+abbrev pub named_behind : Bool → ℕ → Bool
+named_behind named b = if nat_eq b 58 then not named else named
+
+-- How many bytes there are up to the brace that closes the last one open. Braces between the two
+-- colons of a name are not counted.
+unfoldable pub record_len : Bool → ℕ → List ℕ → Option ℕ
+record_len named depth [] = None
+record_len named depth (b ∷ bytes) = if nat_eq (depth_behind named b depth) 0 then Some 1 else option_map (λ n. n + 1) (record_len (named_behind named b) (depth_behind named b depth) bytes)
+
+-- the text up to the brace that closes, given the bytes behind `T{`
+unfoldable pub record_text_at : List ℕ → List ℕ → Option (List ℕ × List ℕ)
+record_text_at bytes inside = do
+  n ← record_len false 1 inside
+  _ ← where_true (is_parted (drop n inside))
+  Some (take (length bytes - length inside + n) bytes, drop n inside)
+
+-- a descriptor, behind some blanks: a record's text, or the bytes up to the next blank
+unfoldable pub descr_at : List ℕ → Option (List ℕ × List ℕ)
+descr_at bytes = do
+  blanks ← front_at is_blank bytes
+  if_found (record_mark_at blanks.1) (record_text_at blanks.1) (front_at (λ b. not (is_blank b)) blanks.1)

@@ -1,0 +1,99 @@
+-- Shapes, index lists and operands.
+use Rattle.std.specs.Prelude.{ℕ, ℤ, Bool, List, length, codes, Option, Some, None, is_some, nat_le, not, ◌&&◌, count_by, if◌then◌else◌}
+use Rattle.std.specs.Option.{option_map}
+use Rattle.script_lang.specs.declared.index.IndexItem.{IndexItem}
+use Rattle.script_lang.specs.declared.index.IndexItem.TheVariants.{Integer, Slice, Ellipsis, NewAxis, Array}
+use Rattle.script_lang.specs.declared.literal.Literal.{Literal}
+use Rattle.script_lang.specs.declared.command.Operand.{Operand}
+use Rattle.script_lang.specs.declared.command.Argument.{Argument}
+use Rattle.script_lang.specs.declared.command.Argument.TheVariants as argument
+use Rattle.script_lang.specs.Ellipses.{is_ellipsis}
+use Rattle.script_lang.specs.Tokens.{◌>>=◌, ◌or_else◌, if_found, where_true, unspaced, byte_at, symbol_at, bytes_mark_at, keyword_at, name_at, length_at, integer_at, optional_integer_at}
+use Rattle.script_lang.specs.Lists.{entries_at, items_at}
+use Rattle.script_lang.specs.Literals.{literal_at}
+
+-- S: a shape, lengths in parentheses
+unfoldable pub shape_at : List ℕ → Option (List ℕ × List ℕ)
+shape_at bytes = do
+  inside ← symbol_at 40 bytes
+  entries_at length_at 41 (length inside) inside
+
+-- S with signs
+unfoldable pub signed_shape_at : List ℕ → Option (List ℤ × List ℕ)
+signed_shape_at bytes = do
+  inside ← symbol_at 40 bytes
+  entries_at integer_at 41 (length inside) inside
+
+-- behind the first colon of a slice and its stop: the step, if there is a second colon
+abbrev pub step_at : List ℕ → Option (List ℕ) → Option ℤ × List ℕ
+step_at bytes None = (None, bytes)
+step_at bytes (Some rest) = optional_integer_at rest
+
+-- a:b or a:b:c, each part optional
+unfoldable pub slice_at : List ℕ → Option (IndexItem × List ℕ)
+slice_at bytes = do
+  rest ← symbol_at 58 (optional_integer_at bytes).1
+  let stop = optional_integer_at rest
+  let step = step_at stop.1 (symbol_at 58 stop.1)
+  Some (Slice (optional_integer_at bytes).0 stop.0 step.0, step.1)
+
+abbrev pub integer_item : ℤ × List ℕ → IndexItem × List ℕ
+integer_item found = (Integer found.0, found.1)
+
+-- ...
+unfoldable pub ellipsis_at : List ℕ → Option (List ℕ)
+ellipsis_at bytes = symbol_at 46 bytes >>= byte_at 46 >>= byte_at 46
+
+abbrev pub item_of : IndexItem → List ℕ → IndexItem × List ℕ
+item_of item rest = (item, rest)
+
+abbrev pub array_item : List ℕ × List ℕ → IndexItem × List ℕ
+array_item found = (Array found.0, found.1)
+
+-- one item of an index list
+unfoldable pub item_at : List ℕ → Option (IndexItem × List ℕ)
+item_at bytes =
+    slice_at bytes
+    or_else option_map integer_item (integer_at bytes)
+    or_else option_map (item_of Ellipsis) (ellipsis_at bytes)
+    or_else option_map (item_of NewAxis) (keyword_at (codes "None") bytes)
+    or_else option_map array_item (name_at bytes)
+
+-- ix], behind `[`: the items up to the bracket, `...` at most once
+unfoldable pub index_at : List ℕ → Option (List IndexItem × List ℕ)
+index_at bytes = do
+  items ← items_at item_at 93 (length bytes) bytes
+  _ ← where_true (nat_le (count_by is_ellipsis items.0) 1)
+  Some items
+
+-- [ix], the bracket at once
+unfoldable pub bracket_at : List ℕ → Option (List IndexItem × List ℕ)
+bracket_at bytes = byte_at 91 bytes >>= index_at
+
+-- behind `[`: an index that is there
+abbrev pub some_index_at : List ℕ → Option (Option (List IndexItem) × List ℕ)
+some_index_at bytes = option_map (λ index. (Some index.0, index.1)) (index_at bytes)
+
+unfoldable pub optional_index_at : List ℕ → Option (Option (List IndexItem) × List ℕ)
+optional_index_at bytes = if_found (byte_at 91 bytes) some_index_at (Some (None, bytes))
+
+-- Y or Y[ix]
+unfoldable pub operand_at : List ℕ → Option (Operand × List ℕ)
+operand_at bytes = do
+  name ← name_at bytes
+  index ← optional_index_at name.1
+  Some (record { name = name.0; index = index.0 }, index.1)
+
+-- whether a name comes next, and no bytes literal
+unfoldable pub begins_name : List ℕ → Bool
+begins_name bytes = is_some (name_at bytes) && not (is_some (bytes_mark_at (unspaced bytes)))
+
+abbrev pub operand_of : Operand × List ℕ → Argument × List ℕ
+operand_of found = (argument.Operand found.0, found.1)
+
+abbrev pub literal_of : Literal × List ℕ → Argument × List ℕ
+literal_of found = (argument.Literal found.0, found.1)
+
+-- Z: an operand or a literal
+unfoldable pub argument_at : List ℕ → Option (Argument × List ℕ)
+argument_at bytes = if begins_name bytes then option_map operand_of (operand_at bytes) else option_map literal_of (literal_at bytes)

@@ -1,0 +1,11 @@
+pub mod Commands
+pub mod Descriptors
+pub mod Ellipses
+pub mod Indexes
+pub mod Lines
+pub mod Lists
+pub mod Literals
+pub mod Operations
+pub mod Reading
+pub mod Refusals
+pub mod Tokens

@@ -1,0 +1,33 @@
+-- What a line of the script says.
+use Rattle.std.specs.Prelude.{ℕ, Bool, true, List, [], ◌∷◌, Option, Some, None, nat_eq, nat_le, if◌then◌else◌, ◌||◌, ◌&&◌}
+use Rattle.std.specs.List.{list_all}
+use Rattle.script_lang.specs.declared.command.Command.{Command}
+use Rattle.script_lang.specs.Tokens.{unspaced}
+use Rattle.script_lang.specs.Commands.{command_at}
+
+-- a tab, or 32 to 126
+abbrev pub is_allowed : ℕ → Bool
+is_allowed b = nat_eq b 9 || (nat_le 32 b && nat_le b 126)
+
+abbrev pub is_silent_front : List ℕ → Bool
+is_silent_front [] = true
+is_silent_front (b ∷ bytes) = nat_eq b 35
+
+-- blanks alone, or a comment: the first byte that is no blank is `#`
+abbrev pub is_silent : List ℕ → Bool
+is_silent line = is_silent_front (unspaced line)
+
+-- what a line says
+pub data Line : Type 0 where
+  silent : Line
+  bad_byte : Line
+  misspelt : Line
+  asks : Command → Line
+
+abbrev pub spelled : Option Command → Line
+spelled None = misspelt
+spelled (Some command) = asks command
+
+-- in this order: silent, a byte that is not allowed, the grammar
+unfoldable pub line_of : List ℕ → Line
+line_of line = if is_silent line then silent else if list_all is_allowed line then spelled (command_at line) else bad_byte

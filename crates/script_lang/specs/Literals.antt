@@ -1,0 +1,88 @@
+-- Literals.
+use Rattle.std.specs.Prelude.{ℕ, ◌+◌, ◌-◌, ◌*◌, ◌==◌, ℤ, Bool, true, false, List, [], ◌∷◌, length, codes, Option, Some, None, nat_eq, nat_le, if◌then◌else◌, not, ◌&&◌}
+use Rattle.std.specs.Option.{option_map}
+use Rattle.std.specs.Str.{bytes_eq}
+use Rattle.script_lang.specs.declared.literal.ScalarLiteral.{ScalarLiteral}
+use Rattle.script_lang.specs.declared.literal.ScalarLiteral.TheVariants.{Integer, Boolean, Bytes}
+use Rattle.script_lang.specs.declared.literal.Literal.{Literal}
+use Rattle.script_lang.specs.declared.literal.Literal.TheVariants.{Scalar, Record}
+use Rattle.script_lang.specs.Tokens.{◌>>=◌, ◌or_else◌, if_found, where_true, is_digit, unspaced, byte_at, symbol_at, at_end, bytes_mark_at, word_at, integer_at}
+use Rattle.script_lang.specs.Lists.{entries_at, row_at}
+
+-- the digit that a byte is in base 16
+unfoldable pub hex_value : ℕ → Option ℕ
+hex_value b =
+    if is_digit b then Some (b - 48)
+    else if nat_le 97 b && nat_le b 102 then Some (b - 87)
+    else if nat_le 65 b && nat_le b 70 then Some (b - 55)
+    else None
+
+unfoldable pub hex_digit_at : List ℕ → Option (ℕ × List ℕ)
+hex_digit_at [] = None
+hex_digit_at (b ∷ bytes) = option_map (λ digit. (digit, bytes)) (hex_value b)
+
+-- behind a backslash: x and two digits in base 16
+unfoldable pub escape_at : List ℕ → Option (ℕ × List ℕ)
+escape_at bytes = do
+  digits ← byte_at 120 bytes
+  high ← hex_digit_at digits
+  low ← hex_digit_at high.1
+  Some (high.0 * 16 + low.0, low.1)
+
+-- 32 to 126, neither an apostrophe nor a backslash
+abbrev pub is_plain : ℕ → Bool
+is_plain b = nat_le 32 b && nat_le b 126 && not (nat_eq b 39) && not (nat_eq b 92)
+
+abbrev pub plain_byte_at : List ℕ → Option (ℕ × List ℕ)
+plain_byte_at [] = None
+plain_byte_at (b ∷ bytes) = if is_plain b then Some (b, bytes) else None
+
+-- one byte of a bytes literal
+unfoldable pub text_byte_at : List ℕ → Option (ℕ × List ℕ)
+text_byte_at bytes = if_found (byte_at 92 bytes) escape_at (plain_byte_at bytes)
+
+-- behind b': the bytes up to the apostrophe
+unfoldable pub byte_text_at : List ℕ → Option (List ℕ × List ℕ)
+byte_text_at bytes = row_at text_byte_at (byte_at 39) (length bytes) bytes
+
+abbrev pub integer_of : ℤ × List ℕ → ScalarLiteral × List ℕ
+integer_of found = (Integer found.0, found.1)
+
+-- `True` or `False`
+unfoldable pub boolean_at : List ℕ → Option (ScalarLiteral × List ℕ)
+boolean_at bytes = do
+  word ← word_at bytes
+  if bytes_eq word.0 (codes "True") then Some (Boolean true, word.1)
+      else if bytes_eq word.0 (codes "False") then Some (Boolean false, word.1)
+      else None
+
+-- behind b': a bytes literal
+unfoldable pub bytes_at : List ℕ → Option (ScalarLiteral × List ℕ)
+bytes_at bytes = do
+  text ← byte_text_at bytes
+  Some (Bytes text.0, text.1)
+
+-- an integer, a boolean or bytes
+unfoldable pub scalar_at : List ℕ → Option (ScalarLiteral × List ℕ)
+scalar_at bytes = if_found (bytes_mark_at (unspaced bytes)) bytes_at (option_map integer_of (integer_at bytes) or_else boolean_at bytes)
+
+-- behind `(`: one or more scalars, a last comma allowed
+unfoldable pub record_at : List ℕ → Option (Literal × List ℕ)
+record_at bytes = do
+  values ← entries_at scalar_at 41 (length bytes) bytes
+  _ ← where_true (not (length values.0 == 0))
+  Some (Record values.0, values.1)
+
+abbrev pub scalar_of : ScalarLiteral × List ℕ → Literal × List ℕ
+scalar_of found = (Scalar found.0, found.1)
+
+-- L: a literal
+unfoldable pub literal_at : List ℕ → Option (Literal × List ℕ)
+literal_at bytes = if_found (symbol_at 40 bytes) record_at (option_map scalar_of (scalar_at bytes))
+
+abbrev pub line_end_at : List ℕ → Option (List ℕ)
+line_end_at bytes = option_map (λ _. []) (at_end bytes)
+
+-- L..: literals up to the line's end, none or more
+unfoldable pub literals_at : List ℕ → Option (List Literal × List ℕ)
+literals_at bytes = row_at literal_at line_end_at (length bytes + 1) bytes

@@ -1,0 +1,86 @@
+-- What a parser answers, beside what the line says.
+use Rattle.std.specs.Prelude.{◌≡◌, ◌⊎◌, Bool, true, false, IsTrue, IfSome, List, Option, Some, None, is_some, Result, Ok, Err, length, nat_lt, ◌||◌}
+use Rattle.elem_descr.specs.declared.refusal.Refusal.{Refusal}
+use Rattle.elem_descr.specs.declared.refusal.Refusal.TheVariants.{ByteNotAllowed, Syntax, OutOfMemory}
+use Rattle.script_lang.specs.declared.index.IndexItem.{IndexItem}
+use Rattle.script_lang.specs.declared.literal.ScalarLiteral.{ScalarLiteral}
+use Rattle.script_lang.specs.declared.literal.ScalarLiteral.TheVariants.{Bytes}
+use Rattle.script_lang.specs.declared.literal.Literal.{Literal}
+use Rattle.script_lang.specs.declared.literal.Literal.TheVariants.{Scalar, Record}
+use Rattle.script_lang.specs.declared.command.Operand.{Operand}
+use Rattle.script_lang.specs.declared.command.Argument.{Argument}
+use Rattle.script_lang.specs.declared.command.Argument.TheVariants as argument
+use Rattle.script_lang.specs.declared.command.Command.{Command}
+use Rattle.script_lang.specs.declared.command.Command.TheVariants.{View, Transpose, Duplicate, Combine, Transform, Reduce, Load, Set, Update, Delete, Undo, Print, Info, Format, Names, Shares, Save}
+use Rattle.script_lang.specs.Lines.{Line, silent, bad_byte, misspelt, asks}
+
+-- What is held in memory of its own: bytes and record literals, an index of more than 8 items.
+abbrev pub scalar_room : ScalarLiteral → Bool
+scalar_room (Bytes text) = true
+scalar_room _ = false
+
+abbrev pub literal_room : Literal → Bool
+literal_room (Scalar scalar) = scalar_room scalar
+literal_room (Record values) = true
+
+abbrev pub index_room : List IndexItem → Bool
+index_room index = nat_lt 8 (length index)
+
+abbrev pub optional_index_room : Option (List IndexItem) → Bool
+optional_index_room None = false
+optional_index_room (Some index) = index_room index
+
+abbrev pub operand_room : Operand → Bool
+operand_room operand = optional_index_room operand.index
+
+abbrev pub argument_room : Argument → Bool
+argument_room (argument.Operand operand) = operand_room operand
+argument_room (argument.Literal literal) = literal_room literal
+
+-- A command that is held in memory of its own: one with a part that is, or with a descriptor, a
+-- shape, axes, or the name of a field.
+abbrev pub needs_room : Command → Bool
+needs_room (View name source) = operand_room source
+needs_room (Transpose name source axes) = is_some axes
+needs_room (Duplicate name source order) = false
+needs_room (Combine name operation left right) = operand_room left || argument_room right
+needs_room (Transform name operation operand) = operand_room operand
+needs_room (Reduce name reduction source axis keep) = false
+needs_room (Load name file) = false
+needs_room (Set name index value) = index_room index || argument_room value
+needs_room (Update name index operation value) = index_room index || argument_room value
+needs_room (Delete name) = false
+needs_room Undo = false
+needs_room (Print name) = false
+needs_room (Info name) = false
+needs_room (Format name) = false
+needs_room Names = false
+needs_room (Shares left right) = false
+needs_room (Save name file) = false
+needs_room _ = true
+
+-- Memory is asked for only on the way to such a command.
+abbrev pub MayLackRoom : Line → Type 0
+MayLackRoom silent = ⊥
+MayLackRoom bad_byte = ⊥
+MayLackRoom misspelt = Unit {0}
+MayLackRoom (asks command) = IsTrue (needs_room command)
+
+-- The command is what the line asks for; a refusal says why there is none, or that memory ran out.
+abbrev pub Says : Result (Option Command) Refusal → Line → Type 0
+Says (Ok None) line = line ≡ silent
+Says (Ok (Some command)) line = line ≡ asks command
+Says (Err refusal) line =
+    ((refusal ≡ Syntax) × (line ≡ misspelt)) ⊎ (((refusal ≡ ByteNotAllowed) × (line ≡ bad_byte)) ⊎ ((refusal ≡ OutOfMemory) × MayLackRoom line))
+
+-- What a scanner found, seen by view, is what is there.
+abbrev pub Finds : {X Y : Type 0} → (X → Y) → Option X → Option Y → Type 0
+Finds view None there = there ≡ None
+Finds view (Some x) there = there ≡ Some (view x)
+
+-- What a reader that takes memory answers: what is there, that nothing is, or that memory ran out,
+-- which it may where nothing is or where what is there is held in memory of its own.
+abbrev pub Reads : {X Y : Type 0} → (X → Y) → (Y → Bool) → Result X Refusal → Option Y → Type 0
+Reads view takes_memory (Ok x) there = there ≡ Some (view x)
+Reads view takes_memory (Err refusal) there =
+    ((refusal ≡ Syntax) × (there ≡ None)) ⊎ ((refusal ≡ OutOfMemory) × IfSome there (λ y. IsTrue (takes_memory y)))

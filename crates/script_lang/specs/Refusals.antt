@@ -1,0 +1,43 @@
+-- What a refused line is answered.
+use Rattle.std.specs.Prelude.{ℕ, List, codes}
+use Rattle.elem_descr.specs.declared.refusal.Refusal.{Refusal}
+use Rattle.elem_descr.specs.declared.refusal.Refusal.TheVariants.{LineTooLong, ByteNotAllowed, Syntax, BadDescriptor, DescriptorLeftOut, UnknownName, TooManyNames, TooManyAxes, TooLarge, TooManyIndices, IndexOutOfRange, ZeroStep, MaskLengths, NotAnIndexType, IndexShapes, ShapesDoNotBroadcast, BadAxis, BadReshape, NoSuchField, ReadOnly, NeedsFloats, NotForThisKind, LiteralOutOfRange, NotSameKind, EmptyReduction, NothingToUndo, StoreFault, BadMagic, BadVersion, BadHeader, Truncated, NumberOfValues, NoSuchCast, NoSuchFile, FileTooLong, OutOfMemory}
+
+-- `no`, the code and the text
+abbrev pub text_of : Refusal → List ℕ
+text_of LineTooLong = codes "no E01 line too long"
+text_of ByteNotAllowed = codes "no E02 byte not allowed"
+text_of Syntax = codes "no E03 syntax"
+text_of BadDescriptor = codes "no E04 bad descriptor"
+text_of DescriptorLeftOut = codes "no E05 descriptor left out"
+text_of UnknownName = codes "no E06 unknown name"
+text_of TooManyNames = codes "no E07 too many names"
+text_of TooManyAxes = codes "no E08 too many axes"
+text_of TooLarge = codes "no E09 too large"
+text_of TooManyIndices = codes "no E10 too many indices"
+text_of IndexOutOfRange = codes "no E11 index out of range"
+text_of ZeroStep = codes "no E12 zero step"
+text_of MaskLengths = codes "no E13 mask lengths"
+text_of NotAnIndexType = codes "no E14 not an index type"
+text_of IndexShapes = codes "no E15 index shapes"
+text_of ShapesDoNotBroadcast = codes "no E16 shapes do not broadcast"
+text_of BadAxis = codes "no E17 bad axis"
+text_of BadReshape = codes "no E18 bad reshape"
+text_of NoSuchField = codes "no E19 no such field"
+text_of ReadOnly = codes "no E20 read-only"
+text_of NeedsFloats = codes "no E21 needs floats"
+text_of NotForThisKind = codes "no E22 not for this kind"
+text_of LiteralOutOfRange = codes "no E23 literal out of range"
+text_of NotSameKind = codes "no E24 not same kind"
+text_of EmptyReduction = codes "no E25 empty reduction"
+text_of NothingToUndo = codes "no E26 nothing to undo"
+text_of StoreFault = codes "no E27 store fault"
+text_of BadMagic = codes "no E28 bad magic"
+text_of BadVersion = codes "no E29 bad version"
+text_of BadHeader = codes "no E30 bad header"
+text_of Truncated = codes "no E31 truncated"
+text_of NumberOfValues = codes "no E32 number of values"
+text_of NoSuchCast = codes "no E33 no such cast"
+text_of NoSuchFile = codes "no E34 no such file"
+text_of FileTooLong = codes "no E35 file too long"
+text_of OutOfMemory = codes "no E40 out of memory"

@@ -1,0 +1,199 @@
+-- The tokens of a line. A reading word takes the bytes that are left, and answers what it reads
+-- with the bytes behind it. Blanks may stand before each token but where it says 'at once'.
+use Rattle.std.specs.Prelude.{ℕ, ◌+◌, ◌-◌, ◌*◌, ℤ, pos, neg_ℤ, Bool, true, false, List, [], ◌∷◌, length, codes, Option, Some, None, is_some, nat_eq, nat_le, if◌then◌else◌, take, drop, fold, not, ◌||◌, ◌&&◌}
+use Rattle.std.specs.List.{prefix_len, list_all, list_any, slice_split}
+use Rattle.std.specs.Option.{option_and_then, option_map}
+use Rattle.std.specs.Str.{bytes_eq}
+
+infixl 10 ◌>>=◌
+abbrev pub ◌>>=◌ : {A B : Type 0} → Option A → (A → Option B) → Option B
+o >>= f = option_and_then f o
+
+-- the second reading, where the first finds nothing
+infixl 8 ◌or_else◌
+abbrev pub ◌or_else◌ : {A : Type 0} → Option A → Option A → Option A
+None or_else second = second
+(Some x) or_else second = Some x
+
+-- how the reading goes on from what is found, if it is; else the other reading
+abbrev pub if_found : {A B : Type 0} → Option B → (B → Option A) → Option A → Option A
+if_found None next other = other
+if_found (Some found) next other = next found
+
+-- nothing, unless the test holds
+abbrev pub where_true : Bool → Option (Unit {0})
+where_true true = Some tt
+where_true false = None
+
+-- a space or a tab
+abbrev pub is_blank : ℕ → Bool
+is_blank b = nat_eq b 32 || nat_eq b 9
+
+abbrev pub is_digit : ℕ → Bool
+is_digit b = nat_le 48 b && nat_le b 57
+
+abbrev pub is_sign : ℕ → Bool
+is_sign b = nat_eq b 43 || nat_eq b 45
+
+-- a letter or an underscore
+abbrev pub is_name_start : ℕ → Bool
+is_name_start b = (nat_le 65 b && nat_le b 90) || (nat_le 97 b && nat_le b 122) || nat_eq b 95
+
+abbrev pub is_name_byte : ℕ → Bool
+is_name_byte b = is_name_start b || is_digit b
+
+-- the bytes behind the blanks at the front
+abbrev pub unspaced : List ℕ → List ℕ
+unspaced bytes = drop (prefix_len is_blank bytes) bytes
+
+-- this byte, at once
+abbrev pub byte_at : ℕ → List ℕ → Option (List ℕ)
+byte_at b [] = None
+byte_at b (c ∷ bytes) = if nat_eq c b then Some bytes else None
+
+-- this byte
+abbrev pub symbol_at : ℕ → List ℕ → Option (List ℕ)
+symbol_at b bytes = byte_at b (unspaced bytes)
+
+-- nothing but blanks is left
+abbrev pub at_end : List ℕ → Option (Unit {0})
+at_end bytes = where_true (nat_eq (length (unspaced bytes)) 0)
+
+-- the first n bytes and the rest, unless n is 0
+abbrev pub front_of : ℕ → List ℕ → Option (List ℕ × List ℕ)
+front_of n bytes = if nat_eq n 0 then None else Some (take n bytes, drop n bytes)
+
+-- the longest front whose bytes pass the test, of one byte or more, at once
+abbrev pub front_at : (ℕ → Bool) → List ℕ → Option (List ℕ × List ℕ)
+front_at test bytes = front_of (prefix_len test bytes) bytes
+
+-- b', which begins a bytes literal, at once
+unfoldable pub bytes_mark_at : List ℕ → Option (List ℕ)
+bytes_mark_at bytes = byte_at 98 bytes >>= byte_at 39
+
+-- Blanks must stand between two words, numbers or descriptors: neither a word nor a number follows
+-- at once.
+unfoldable pub is_parted : List ℕ → Bool
+is_parted [] = true
+is_parted (b ∷ bytes) = if is_name_byte b || is_sign b then is_some (bytes_mark_at (b ∷ bytes)) else true
+
+-- a word: letters, digits and underscores
+unfoldable pub word_at : List ℕ → Option (List ℕ × List ℕ)
+word_at bytes = do
+  word ← front_at is_name_byte (unspaced bytes)
+  _ ← where_true (is_parted word.1)
+  Some word
+
+-- this word
+unfoldable pub keyword_at : List ℕ → List ℕ → Option (List ℕ)
+keyword_at keyword bytes = do
+  word ← word_at bytes
+  _ ← where_true (bytes_eq word.0 keyword)
+  Some word.1
+
+-- words that name no array
+abbrev pub reserved_words : List ℕ
+reserved_words =
+    codes "zeros full arange array field transpose reshape broadcast copy cast load set upd del undo print info format names shares save add sub mul fdiv mod and or xor shl shr div eq ne lt le gt ge neg not sum prod min max any all argmin argmax True False None"
+
+-- the words of a text, which single spaces part
+abbrev pub words : List ℕ → List (List ℕ)
+words text = slice_split (λ b. nat_eq b 32) text
+
+unfoldable pub is_reserved : List ℕ → Bool
+is_reserved word = list_any (bytes_eq word) (words reserved_words)
+
+abbrev pub starts_name : List ℕ → Bool
+starts_name [] = false
+starts_name (b ∷ word) = is_name_start b
+
+-- a word that begins with no digit, has at most 32 bytes and is not reserved
+abbrev pub is_name : List ℕ → Bool
+is_name word = starts_name word && nat_le (length word) 32 && not (is_reserved word)
+
+-- X, Y: a name
+unfoldable pub name_at : List ℕ → Option (List ℕ × List ℕ)
+name_at bytes = do
+  word ← word_at bytes
+  _ ← where_true (is_name word.0)
+  Some word
+
+-- the number that digits spell
+abbrev pub value_of : List ℕ → ℕ
+value_of digits = fold (λ n d. n * 10 + (d - 48)) 0 digits
+
+-- one to 30 digits, at once
+unfoldable pub number_at : List ℕ → Option (ℕ × List ℕ)
+number_at bytes = do
+  digits ← front_at is_digit bytes
+  _ ← where_true (nat_le (length digits.0) 30)
+  _ ← where_true (is_parted digits.1)
+  Some (value_of digits.0, digits.1)
+
+-- an integer without sign
+unfoldable pub length_at : List ℕ → Option (ℕ × List ℕ)
+length_at bytes = number_at (unspaced bytes)
+
+abbrev pub positive : ℕ × List ℕ → ℤ × List ℕ
+positive n = (pos n.0, n.1)
+
+abbrev pub negative : ℕ × List ℕ → ℤ × List ℕ
+negative n = (neg_ℤ (pos n.0), n.1)
+
+-- digits behind an optional sign, at once
+abbrev pub signed_at : List ℕ → Option (ℤ × List ℕ)
+signed_at [] = None
+signed_at (b ∷ bytes) =
+    if nat_eq b 45 then option_map negative (number_at bytes)
+    else if nat_eq b 43 then option_map positive (number_at bytes)
+    else option_map positive (number_at (b ∷ bytes))
+
+-- an integer: digits behind an optional sign
+unfoldable pub integer_at : List ℕ → Option (ℤ × List ℕ)
+integer_at bytes = signed_at (unspaced bytes)
+
+-- what is read if it is there, and the bytes behind it
+abbrev pub optional : {A : Type 0} → List ℕ → Option (A × List ℕ) → Option A × List ℕ
+optional bytes None = (None, bytes)
+optional bytes (Some found) = (Some found.0, found.1)
+
+-- an integer, or none
+unfoldable pub optional_integer_at : List ℕ → Option ℤ × List ℕ
+optional_integer_at bytes = optional bytes (integer_at bytes)
+
+-- whether this word comes next, and the bytes behind it if so
+abbrev pub flag : List ℕ → Option (List ℕ) → Bool × List ℕ
+flag bytes None = (false, bytes)
+flag bytes (Some rest) = (true, rest)
+
+unfoldable pub flag_at : List ℕ → List ℕ → Bool × List ℕ
+flag_at keyword bytes = flag bytes (keyword_at keyword bytes)
+
+abbrev pub is_unquoted : ℕ → Bool
+is_unquoted b = not (nat_eq b 34)
+
+-- the bytes between two quotation marks
+unfoldable pub quoted_at : List ℕ → Option (List ℕ × List ℕ)
+quoted_at bytes = do
+  inside ← symbol_at 34 bytes
+  rest ← byte_at 34 (drop (prefix_len is_unquoted inside) inside)
+  Some (take (prefix_len is_unquoted inside) inside, rest)
+
+-- a letter, a digit, an underscore, a full stop or a hyphen
+abbrev pub is_file_byte : ℕ → Bool
+is_file_byte b = is_name_byte b || nat_eq b 46 || nat_eq b 45
+
+abbrev pub starts_file_name : List ℕ → Bool
+starts_file_name [] = false
+starts_file_name (b ∷ name) = is_name_byte b
+
+-- at most 64 of those bytes, the first no full stop and no hyphen
+abbrev pub is_file_name : List ℕ → Bool
+is_file_name name = starts_file_name name && nat_le (length name) 64 && list_all is_file_byte name
+
+-- the name of a file between quotation marks
+unfoldable pub file_name_at : List ℕ → Option (List ℕ × List ℕ)
+file_name_at bytes = do
+  name ← quoted_at bytes
+  _ ← where_true (is_file_name name.0)
+  Some name

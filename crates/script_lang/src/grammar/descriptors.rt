@@ -1,0 +1,95 @@
+//! The text of a descriptor.
+ghost use Rattle.std.specs.Prelude.{◌≡◌, ◌≤◌, ◌<◌, ◌+◌, ◌^◌, length, IfSome, false};
+ghost use Rattle.std.specs.List.{prefix_len};
+ghost use Rattle.script_lang.specs.Descriptors.{is_mark, depth_behind, named_behind, record_mark_at, record_len, record_text_at, descr_at};
+ghost use Rattle.script_lang.specs.Reading.{Finds};
+
+use crate::grammar::tokens::{blanks, byte, filled, is_parted};
+
+fn is_mark(byte: u8) -> bool
+    ensures { result ≡ is_mark byte }
+{
+    matches!(byte, b'<' | b'>' | b'!' | b'=' | b'@' | b'^')
+}
+
+fn mark_len(bytes: &[u8]) -> usize
+    ensures value { result ≡ prefix_len is_mark bytes.now }
+    ensures within { result ≤ length bytes.now }
+{
+    bytes.iter().take_while(|b| is_mark(**b)).count()
+}
+
+/// The bytes behind the marks and `T{` that come at once.
+#[tactic(auto, unfolding(crate::specs::Descriptors::record_mark_at))]
+fn record_mark(bytes: &[u8]) -> Option<&[u8]>
+    ensures { Finds (λ rest. rest.now) result (record_mark_at bytes.now) }
+{
+    let (_, rest) = bytes.split_at(mark_len(bytes));
+    let rest = byte(b'T', rest)?;
+    byte(b'{', rest)
+}
+
+fn depth_behind(is_named: bool, byte: u8, depth: usize) -> usize
+    requires { depth < 2 ^ 63 }
+    ensures value { result ≡ depth_behind is_named byte depth }
+    ensures small { result ≤ depth + 1 }
+{
+    if is_named {
+        return depth;
+    }
+    match byte {
+        b'{' => depth + 1,
+        b'}' => depth.saturating_sub(1),
+        _ => depth,
+    }
+}
+
+fn named_behind(is_named: bool, byte: u8) -> bool
+    ensures { result ≡ named_behind is_named byte }
+{
+    if byte == b':' { !is_named } else { is_named }
+}
+
+/// How many bytes there are up to the brace that closes the one before them.
+fn record_len(bytes: &[u8]) -> Option<usize>
+    ensures found { Finds (λ n. n) result (record_len false 1 bytes.now) }
+    ensures within { IfSome result (λ n. n ≤ length bytes.now) }
+{
+    let mut depth = 1;
+    let mut is_named = false;
+    for (i, b) in bytes.iter().enumerate() {
+        depth = depth_behind(is_named, *b, depth);
+        if depth == 0 {
+            return Some(i + 1);
+        }
+        is_named = named_behind(is_named, *b);
+    }
+    None
+}
+
+/// The text up to the brace that closes and what follows it, given the bytes behind `T{`.
+#[tactic(auto, unfolding(crate::specs::Descriptors::record_text_at))]
+fn record_text<'a>(bytes: &'a [u8], inside: &'a [u8]) -> Option<(&'a [u8], &'a [u8])>
+    requires { length inside.now ≤ length bytes.now }
+    ensures { Finds (λ w. (w.0.now, w.1.now)) result (record_text_at bytes.now inside.now) }
+{
+    let len = record_len(inside)?;
+    let (_, rest) = inside.split_at(len);
+    if !is_parted(rest) {
+        return None;
+    }
+    let (text, _) = bytes.split_at(bytes.len() - inside.len() + len);
+    Some((text, rest))
+}
+
+/// The descriptor that comes next, behind at least one blank, and what follows it.
+#[tactic(auto, unfolding(crate::specs::Descriptors::descr_at), using(crate::proofs::Spelling::record_mark_shorter))]
+pub fn descr(bytes: &[u8]) -> Option<(&[u8], &[u8])>
+    ensures { Finds (λ w. (w.0.now, w.1.now)) result (descr_at bytes.now) }
+{
+    let (_, text) = blanks(bytes)?;
+    if let Some(inside) = record_mark(text) {
+        return record_text(text, inside);
+    }
+    filled(text)
+}

@@ -1,0 +1,155 @@
+//! Index lists, and the operands that they stand behind.
+ghost use Rattle.std.specs.Prelude.{◌≡◌, length};
+ghost use Rattle.script_lang.specs.Tokens.{symbol_at};
+ghost use Rattle.script_lang.specs.Lists.{items_at};
+ghost use Rattle.script_lang.specs.Indexes.{step_at, slice_at, ellipsis_at, item_at, index_at, bracket_at, optional_index_at, operand_at, begins_name, argument_at};
+ghost use Rattle.script_lang.specs.Reading.{Finds, Reads, index_room, optional_index_room, operand_room, argument_room};
+
+use crate::command::{Argument, Operand};
+use crate::grammar::literals::literal;
+use crate::grammar::names::name;
+use crate::grammar::numbers::{integer, optional_integer};
+use crate::grammar::tokens::{byte, bytes_mark, keyword, symbol, unspaced};
+use crate::index::{Index, IndexItem};
+use crate::name::Name;
+use elem_descr::Refusal;
+use std::alloc::Global;
+
+/// The step behind the second colon, if there is one, and what follows it.
+fn step(bytes: &[u8]) -> (Option<i128>, &[u8])
+    ensures { (result.0, result.1.now) ≡ step_at bytes.now (symbol_at 58 bytes.now) }
+{
+    match symbol(b':', bytes) {
+        Some(rest) => optional_integer(rest),
+        None => (None, bytes),
+    }
+}
+
+#[tactic(auto, unfolding(crate::specs::Indexes::slice_at))]
+fn slice(bytes: &[u8]) -> Option<(IndexItem, &[u8])>
+    ensures { Finds (λ r. (r.0, r.1.now)) result (slice_at bytes.now) }
+{
+    let (start, rest) = optional_integer(bytes);
+    let rest = symbol(b':', rest)?;
+    let (stop, rest) = optional_integer(rest);
+    let (step, rest) = step(rest);
+    Some((IndexItem::Slice { start, stop, step }, rest))
+}
+
+/// What follows `...`, which must come next.
+#[tactic(auto, unfolding(crate::specs::Indexes::ellipsis_at))]
+fn ellipsis(bytes: &[u8]) -> Option<&[u8]>
+    ensures { Finds (λ rest. rest.now) result (ellipsis_at bytes.now) }
+{
+    let rest = symbol(b'.', bytes)?;
+    let rest = byte(b'.', rest)?;
+    byte(b'.', rest)
+}
+
+/// The item of an index list that comes next, and what follows it.
+#[tactic(auto, unfolding(crate::specs::Indexes::item_at))]
+fn item(alloc: Global, bytes: &[u8]) -> Option<(IndexItem, &[u8])>
+    ensures { Finds (λ r. (r.0, r.1.now)) result (item_at bytes.now) }
+{
+    if let Some(found) = slice(bytes) {
+        return Some(found);
+    }
+    if let Some((n, rest)) = integer(bytes) {
+        return Some((IndexItem::Integer(n), rest));
+    }
+    if let Some(rest) = ellipsis(bytes) {
+        return Some((IndexItem::Ellipsis, rest));
+    }
+    if let Some(rest) = keyword(b"None", bytes) {
+        return Some((IndexItem::NewAxis, rest));
+    }
+    let (name, rest) = name(bytes)?;
+    Some((IndexItem::Array(Name::from_slice(alloc, name)), rest))
+}
+
+/// Items that commas part, up to the bracket that ends them, and what follows it.
+fn items(alloc: Global, bytes: &[u8]) -> Result<(Index, &[u8]), Refusal>
+    ensures { Reads (λ r. (r.0, r.1.now)) (λ r. index_room r.0) result (items_at item_at 93 (length bytes.now) bytes.now) }
+{
+    let mut index = Index::new(alloc);
+    let mut rest = bytes;
+    for _turn in 0..bytes.len() {
+        let Some((entry, after)) = item(alloc, rest) else {
+            return Err(Refusal::Syntax);
+        };
+        index.push(entry)?;
+        if let Some(end) = symbol(b']', after) {
+            return Ok((index, end));
+        }
+        let Some(next) = symbol(b',', after) else {
+            return Err(Refusal::Syntax);
+        };
+        rest = next;
+    }
+    Err(Refusal::Syntax)
+}
+
+/// The index list behind `[`, and what follows its bracket.
+#[tactic(auto, unfolding(crate::specs::Indexes::index_at), using(crate::proofs::Rooms::index_list_room))]
+fn index(alloc: Global, bytes: &[u8]) -> Result<(Index, &[u8]), Refusal>
+    ensures { Reads (λ r. (r.0, r.1.now)) (λ r. index_room r.0) result (index_at bytes.now) }
+{
+    let (index, rest) = items(alloc, bytes)?;
+    if index.ellipses() > 1 {
+        return Err(Refusal::Syntax);
+    }
+    Ok((index, rest))
+}
+
+/// The index list in the brackets that come at once, and what follows them.
+#[tactic(auto, unfolding(crate::specs::Indexes::bracket_at))]
+pub fn bracket(alloc: Global, bytes: &[u8]) -> Result<(Index, &[u8]), Refusal>
+    ensures { Reads (λ r. (r.0, r.1.now)) (λ r. index_room r.0) result (bracket_at bytes.now) }
+{
+    let inside = byte(b'[', bytes).ok_or(Refusal::Syntax)?;
+    index(alloc, inside)
+}
+
+/// The same, or no index where no bracket comes at once.
+#[tactic(auto, unfolding(crate::specs::Indexes::optional_index_at), using(crate::proofs::Rooms::optional_index_list_room))]
+fn optional_index(alloc: Global, bytes: &[u8]) -> Result<(Option<Index>, &[u8]), Refusal>
+    ensures { Reads (λ r. (r.0, r.1.now)) (λ r. optional_index_room r.0) result (optional_index_at bytes.now) }
+{
+    let Some(inside) = byte(b'[', bytes) else {
+        return Ok((None, bytes));
+    };
+    let (index, rest) = index(alloc, inside)?;
+    Ok((Some(index), rest))
+}
+
+/// The operand that comes next, and what follows it.
+#[tactic(auto, unfolding(crate::specs::Indexes::operand_at), using(crate::proofs::Rooms::indexed_room))]
+pub fn operand(alloc: Global, bytes: &[u8]) -> Result<(Operand, &[u8]), Refusal>
+    ensures { Reads (λ r. (r.0, r.1.now)) (λ r. operand_room r.0) result (operand_at bytes.now) }
+{
+    let (name, rest) = name(bytes).ok_or(Refusal::Syntax)?;
+    let (index, rest) = optional_index(alloc, rest)?;
+    let name = Name::from_slice(alloc, name);
+    Ok((Operand { name, index }, rest))
+}
+
+/// Whether a name comes next, and no bytes literal.
+#[tactic(auto, unfolding(crate::specs::Indexes::begins_name))]
+fn begins_name(bytes: &[u8]) -> bool
+    ensures { result ≡ begins_name bytes.now }
+{
+    name(bytes).is_some() && bytes_mark(unspaced(bytes)).is_none()
+}
+
+/// The operand or literal that comes next, and what follows it.
+#[tactic(auto, unfolding(crate::specs::Indexes::argument_at), using(crate::proofs::Rooms::operand_argument_room, crate::proofs::Rooms::literal_argument_room))]
+pub fn argument(alloc: Global, bytes: &[u8]) -> Result<(Argument, &[u8]), Refusal>
+    ensures { Reads (λ r. (r.0, r.1.now)) (λ r. argument_room r.0) result (argument_at bytes.now) }
+{
+    if begins_name(bytes) {
+        let (operand, rest) = operand(alloc, bytes)?;
+        return Ok((Argument::Operand(operand), rest));
+    }
+    let (literal, rest) = literal(alloc, bytes)?;
+    Ok((Argument::Literal(literal), rest))
+}

@@ -1,0 +1,80 @@
+//! The lists of shapes.
+ghost use Rattle.std.specs.Prelude.{◌≡◌, length, true};
+ghost use Rattle.script_lang.specs.Tokens.{length_at, integer_at};
+ghost use Rattle.script_lang.specs.Lists.{entries_at};
+ghost use Rattle.script_lang.specs.Indexes.{shape_at, signed_shape_at};
+ghost use Rattle.script_lang.specs.Reading.{Reads};
+
+use crate::grammar::numbers::{integer, length};
+use crate::grammar::tokens::symbol;
+use crate::shape::{Integers, Lengths};
+use elem_descr::Refusal;
+use std::alloc::Global;
+
+/// Lengths that commas part, up to the parenthesis that ends them, and what follows it.
+fn lengths(alloc: Global, bytes: &[u8]) -> Result<(Lengths, &[u8]), Refusal>
+    ensures { Reads (λ r. (r.0, r.1.now)) (λ _. true) result (entries_at length_at 41 (length bytes.now) bytes.now) }
+{
+    let mut lengths = Lengths::new(alloc);
+    let mut rest = bytes;
+    for _turn in 0..bytes.len() {
+        if let Some(end) = symbol(b')', rest) {
+            return Ok((lengths, end));
+        }
+        let Some((entry, after)) = length(rest) else {
+            return Err(Refusal::Syntax);
+        };
+        lengths.push(entry)?;
+        if let Some(end) = symbol(b')', after) {
+            return Ok((lengths, end));
+        }
+        let Some(next) = symbol(b',', after) else {
+            return Err(Refusal::Syntax);
+        };
+        rest = next;
+    }
+    Err(Refusal::Syntax)
+}
+
+/// Integers that commas part, up to the parenthesis that ends them, and what follows it.
+fn integers(alloc: Global, bytes: &[u8]) -> Result<(Integers, &[u8]), Refusal>
+    ensures { Reads (λ r. (r.0, r.1.now)) (λ _. true) result (entries_at integer_at 41 (length bytes.now) bytes.now) }
+{
+    let mut integers = Integers::new(alloc);
+    let mut rest = bytes;
+    for _turn in 0..bytes.len() {
+        if let Some(end) = symbol(b')', rest) {
+            return Ok((integers, end));
+        }
+        let Some((entry, after)) = integer(rest) else {
+            return Err(Refusal::Syntax);
+        };
+        integers.push(entry)?;
+        if let Some(end) = symbol(b')', after) {
+            return Ok((integers, end));
+        }
+        let Some(next) = symbol(b',', after) else {
+            return Err(Refusal::Syntax);
+        };
+        rest = next;
+    }
+    Err(Refusal::Syntax)
+}
+
+/// The shape that comes next, and what follows it.
+#[tactic(auto, unfolding(crate::specs::Indexes::shape_at))]
+pub fn shape(alloc: Global, bytes: &[u8]) -> Result<(Lengths, &[u8]), Refusal>
+    ensures { Reads (λ r. (r.0, r.1.now)) (λ _. true) result (shape_at bytes.now) }
+{
+    let rest = symbol(b'(', bytes).ok_or(Refusal::Syntax)?;
+    lengths(alloc, rest)
+}
+
+/// The shape with signs that comes next, and what follows it.
+#[tactic(auto, unfolding(crate::specs::Indexes::signed_shape_at))]
+pub fn signed_shape(alloc: Global, bytes: &[u8]) -> Result<(Integers, &[u8]), Refusal>
+    ensures { Reads (λ r. (r.0, r.1.now)) (λ _. true) result (signed_shape_at bytes.now) }
+{
+    let rest = symbol(b'(', bytes).ok_or(Refusal::Syntax)?;
+    integers(alloc, rest)
+}

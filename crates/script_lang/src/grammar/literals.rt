@@ -1,0 +1,190 @@
+//! Literals.
+ghost use Rattle.std.specs.Prelude.{◌≡◌, ◌<◌, ◌+◌, [], length, true, IfSome};
+ghost use Rattle.script_lang.specs.Tokens.{byte_at};
+ghost use Rattle.script_lang.specs.Lists.{entries_at, row_at};
+ghost use Rattle.script_lang.specs.Literals.{hex_value, hex_digit_at, escape_at, plain_byte_at, text_byte_at, byte_text_at, boolean_at, bytes_at, scalar_at, record_at, literal_at, line_end_at};
+ghost use Rattle.script_lang.specs.Reading.{Finds, Reads, scalar_room, literal_room};
+
+use crate::grammar::numbers::integer;
+use crate::grammar::tokens::{byte, bytes_mark, is_at_end, symbol, unspaced, word};
+use crate::literal::{ByteText, Literal, Literals, RecordLiteral, ScalarLiteral};
+use elem_descr::Refusal;
+use std::alloc::Global;
+
+/// The digit that the byte is in base 16.
+#[tactic(auto, unfolding(crate::specs::Literals::hex_value))]
+fn hex_value(byte: u8) -> Option<u8>
+    ensures value { result ≡ hex_value byte }
+    ensures small { IfSome result (λ d. d < 16) }
+{
+    match byte {
+        b'0'..=b'9' => Some(byte - b'0'),
+        b'a'..=b'f' => Some(byte - b'a' + 10),
+        b'A'..=b'F' => Some(byte - b'A' + 10),
+        _ => None,
+    }
+}
+
+#[tactic(auto, unfolding(crate::specs::Literals::hex_digit_at))]
+fn hex_digit(bytes: &[u8]) -> Option<(u8, &[u8])>
+    ensures found { Finds (λ d. (d.0, d.1.now)) result (hex_digit_at bytes.now) }
+    ensures small { IfSome result (λ d. d.0 < 16) }
+{
+    let [first, rest @ ..] = bytes else {
+        return None;
+    };
+    let digit = hex_value(*first)?;
+    Some((digit, rest))
+}
+
+/// The byte that `x` and two digits give, and what follows them.
+#[tactic(auto, unfolding(crate::specs::Literals::escape_at))]
+fn escape(bytes: &[u8]) -> Option<(u8, &[u8])>
+    ensures { Finds (λ b. (b.0, b.1.now)) result (escape_at bytes.now) }
+{
+    let digits = byte(b'x', bytes)?;
+    let (high, rest) = hex_digit(digits)?;
+    let (low, rest) = hex_digit(rest)?;
+    Some((high * 16 + low, rest))
+}
+
+fn plain_byte(bytes: &[u8]) -> Option<(u8, &[u8])>
+    ensures { Finds (λ b. (b.0, b.1.now)) result (plain_byte_at bytes.now) }
+{
+    match bytes {
+        [first, rest @ ..] if matches!(*first, b' '..=b'~') && *first != b'\'' && *first != b'\\' =>
+            { Some((*first, rest)) }
+        _ => None,
+    }
+}
+
+/// The next byte of a bytes literal, and what follows it.
+#[tactic(auto, unfolding(crate::specs::Literals::text_byte_at))]
+fn text_byte(bytes: &[u8]) -> Option<(u8, &[u8])>
+    ensures { Finds (λ b. (b.0, b.1.now)) result (text_byte_at bytes.now) }
+{
+    match byte(b'\\', bytes) {
+        Some(rest) => escape(rest),
+        None => plain_byte(bytes),
+    }
+}
+
+/// The bytes up to the apostrophe, and what follows it.
+fn byte_row(alloc: Global, bytes: &[u8]) -> Result<(ByteText, &[u8]), Refusal>
+    ensures { Reads (λ r. (r.0, r.1.now)) (λ _. true) result (row_at text_byte_at (byte_at 39) (length bytes.now) bytes.now) }
+{
+    let mut text = ByteText::new(alloc);
+    let mut rest = bytes;
+    for _turn in 0..bytes.len() {
+        if let Some(end) = byte(b'\'', rest) {
+            return Ok((text, end));
+        }
+        let Some((next, after)) = text_byte(rest) else {
+            return Err(Refusal::Syntax);
+        };
+        text.push(next)?;
+        rest = after;
+    }
+    Err(Refusal::Syntax)
+}
+
+/// The bytes literal behind `b'`, and what follows it.
+#[tactic(auto, unfolding(crate::specs::Literals::bytes_at, crate::specs::Literals::byte_text_at), using(crate::proofs::Rooms::bytes_room))]
+fn bytes_literal(alloc: Global, bytes: &[u8]) -> Result<(ScalarLiteral, &[u8]), Refusal>
+    ensures { Reads (λ r. (r.0, r.1.now)) (λ r. scalar_room r.0) result (bytes_at bytes.now) }
+{
+    let (text, rest) = byte_row(alloc, bytes)?;
+    Ok((ScalarLiteral::Bytes(text), rest))
+}
+
+#[tactic(auto, unfolding(crate::specs::Literals::boolean_at))]
+fn boolean(bytes: &[u8]) -> Option<(ScalarLiteral, &[u8])>
+    ensures { Finds (λ r. (r.0, r.1.now)) result (boolean_at bytes.now) }
+{
+    let (word, rest) = word(bytes)?;
+    if word == b"True".as_slice() {
+        return Some((ScalarLiteral::Boolean(true), rest));
+    }
+    if word == b"False".as_slice() {
+        return Some((ScalarLiteral::Boolean(false), rest));
+    }
+    None
+}
+
+/// The literal that comes next and is no record, and what follows it.
+#[tactic(auto, unfolding(crate::specs::Literals::scalar_at))]
+pub fn scalar(alloc: Global, bytes: &[u8]) -> Result<(ScalarLiteral, &[u8]), Refusal>
+    ensures { Reads (λ r. (r.0, r.1.now)) (λ r. scalar_room r.0) result (scalar_at bytes.now) }
+{
+    if let Some(inside) = bytes_mark(unspaced(bytes)) {
+        return bytes_literal(alloc, inside);
+    }
+    if let Some((n, rest)) = integer(bytes) {
+        return Ok((ScalarLiteral::Integer(n), rest));
+    }
+    boolean(bytes).ok_or(Refusal::Syntax)
+}
+
+/// Scalars that commas part, up to the parenthesis that ends them, and what follows it.
+fn scalars(alloc: Global, bytes: &[u8]) -> Result<(RecordLiteral, &[u8]), Refusal>
+    ensures { Reads (λ r. (r.0, r.1.now)) (λ _. true) result (entries_at scalar_at 41 (length bytes.now) bytes.now) }
+{
+    let mut values = RecordLiteral::new(alloc);
+    let mut rest = bytes;
+    for _turn in 0..bytes.len() {
+        if let Some(end) = symbol(b')', rest) {
+            return Ok((values, end));
+        }
+        let (entry, after) = scalar(alloc, rest)?;
+        values.push(entry)?;
+        if let Some(end) = symbol(b')', after) {
+            return Ok((values, end));
+        }
+        let Some(next) = symbol(b',', after) else {
+            return Err(Refusal::Syntax);
+        };
+        rest = next;
+    }
+    Err(Refusal::Syntax)
+}
+
+/// The record literal behind `(`, and what follows it.
+#[tactic(auto, unfolding(crate::specs::Literals::record_at), using(crate::proofs::Rooms::record_room))]
+fn record(alloc: Global, bytes: &[u8]) -> Result<(Literal, &[u8]), Refusal>
+    ensures { Reads (λ r. (r.0, r.1.now)) (λ r. literal_room r.0) result (record_at bytes.now) }
+{
+    let (values, rest) = scalars(alloc, bytes)?;
+    if values.is_empty() {
+        return Err(Refusal::Syntax);
+    }
+    Ok((Literal::Record(values), rest))
+}
+
+/// The literal that comes next, and what follows it.
+#[tactic(auto, unfolding(crate::specs::Literals::literal_at), using(crate::proofs::Rooms::scalar_literal_room))]
+pub fn literal(alloc: Global, bytes: &[u8]) -> Result<(Literal, &[u8]), Refusal>
+    ensures { Reads (λ r. (r.0, r.1.now)) (λ r. literal_room r.0) result (literal_at bytes.now) }
+{
+    if let Some(inside) = symbol(b'(', bytes) {
+        return record(alloc, inside);
+    }
+    let (value, rest) = scalar(alloc, bytes)?;
+    Ok((Literal::Scalar(value), rest))
+}
+
+/// The literals up to the line's end.
+pub fn literals(alloc: Global, bytes: &[u8]) -> Result<Literals, Refusal>
+    ensures { Reads (λ r. (r, [])) (λ _. true) result (row_at literal_at line_end_at (length bytes.now + 1) bytes.now) }
+{
+    let mut literals = Literals::new(alloc);
+    let mut rest = bytes;
+    for _turn in 0..bytes.len() + 1 {
+        if is_at_end(rest) {
+            return Ok(literals);
+        }
+        let (entry, after) = literal(alloc, rest)?;
+        literals.push(entry)?;
+        rest = after;
+    }
+    Err(Refusal::Syntax)
+}

@@ -1,0 +1,25 @@
+//! The script's language: the commands, and the grammar of a line.
+#![tactic(auto)]
+
+mod command;
+mod grammar;
+mod index;
+mod literal;
+mod name;
+mod operation;
+mod refusal_text;
+mod shape;
+mod text;
+
+pub use command::{Argument, Command, MemoryOrder, Operand};
+pub use grammar::parse;
+pub use index::{Index, IndexItem};
+pub use literal::{ByteText, Literal, Literals, RecordLiteral, ScalarLiteral};
+pub use name::Name;
+pub use operation::{BinaryOperation, Comparison, Operation, Reduction, UnaryOperation};
+pub use refusal_text::word;
+pub use shape::{Integers, Lengths};
+pub use text::{DescrText, FieldName, FileName};
+
+#[cfg(test)]
+mod tests;

@@ -1,0 +1,369 @@
+//! What was read, as text for the tables.
+use crate::{Argument, Command, Index, IndexItem, Literal, MemoryOrder, Operand, ScalarLiteral};
+use elem_descr::Refusal;
+use std::alloc::{AllocError, Global};
+
+type Written = Result<(), AllocError>;
+
+fn put(out: &mut Vec<u8>, text: &[u8]) -> Written {
+    out.extend_from_slice(text)
+}
+
+fn put_word(out: &mut Vec<u8>, text: &[u8]) -> Written {
+    put(out, b" ")?;
+    put(out, text)
+}
+
+fn put_integer(alloc: Global, out: &mut Vec<u8>, n: i128) -> Written {
+    let text = format!(in alloc; "{n}")?;
+    put(out, text.as_bytes())
+}
+
+fn put_part(alloc: Global, out: &mut Vec<u8>, part: Option<i128>) -> Written {
+    match part {
+        Some(n) => put_integer(alloc, out, n),
+        None => put(out, b"_"),
+    }
+}
+
+fn put_scalar(alloc: Global, out: &mut Vec<u8>, scalar: &ScalarLiteral) -> Written {
+    match scalar {
+        ScalarLiteral::Integer(n) => put_integer(alloc, out, *n),
+        ScalarLiteral::Boolean(true) => put(out, b"True"),
+        ScalarLiteral::Boolean(false) => put(out, b"False"),
+        ScalarLiteral::Bytes(text) => {
+            put(out, b"{")?;
+            for b in text.as_slice() {
+                put_integer(alloc, out, i128::from(*b))?;
+                put(out, b" ")?;
+            }
+            put(out, b"}")
+        }
+    }
+}
+
+fn put_literal(alloc: Global, out: &mut Vec<u8>, literal: &Literal) -> Written {
+    put(out, b" ")?;
+    match literal {
+        Literal::Scalar(scalar) => put_scalar(alloc, out, scalar),
+        Literal::Record(values) => {
+            put(out, b"<")?;
+            for value in values.as_slice() {
+                put_scalar(alloc, out, value)?;
+                put(out, b",")?;
+            }
+            put(out, b">")
+        }
+    }
+}
+
+fn put_item(alloc: Global, out: &mut Vec<u8>, item: &IndexItem) -> Written {
+    match item {
+        IndexItem::Integer(n) => put_integer(alloc, out, *n),
+        IndexItem::Slice { start, stop, step } => {
+            put_part(alloc, out, *start)?;
+            put(out, b":")?;
+            put_part(alloc, out, *stop)?;
+            put(out, b":")?;
+            put_part(alloc, out, *step)
+        }
+        IndexItem::Ellipsis => put(out, b"..."),
+        IndexItem::NewAxis => put(out, b"None"),
+        IndexItem::Array(name) => put(out, name.as_slice()),
+    }
+}
+
+fn put_index(alloc: Global, out: &mut Vec<u8>, index: &Index) -> Written {
+    put(out, b"[")?;
+    for item in index.as_slice() {
+        put_item(alloc, out, item)?;
+        put(out, b",")?;
+    }
+    put(out, b"]")
+}
+
+fn put_operand(alloc: Global, out: &mut Vec<u8>, operand: &Operand) -> Written {
+    put_word(out, operand.name.as_slice())?;
+    match &operand.index {
+        Some(index) => put_index(alloc, out, index),
+        None => Ok(()),
+    }
+}
+
+fn put_argument(alloc: Global, out: &mut Vec<u8>, argument: &Argument) -> Written {
+    match argument {
+        Argument::Operand(operand) => put_operand(alloc, out, operand),
+        Argument::Literal(literal) => put_literal(alloc, out, literal),
+    }
+}
+
+fn put_lengths(alloc: Global, out: &mut Vec<u8>, lengths: &[u128]) -> Written {
+    put(out, b" (")?;
+    for length in lengths {
+        let text = format!(in alloc; "{length},")?;
+        put(out, text.as_bytes())?;
+    }
+    put(out, b")")
+}
+
+fn put_integers(alloc: Global, out: &mut Vec<u8>, integers: &[i128]) -> Written {
+    put(out, b" (")?;
+    for integer in integers {
+        put_integer(alloc, out, *integer)?;
+        put(out, b",")?;
+    }
+    put(out, b")")
+}
+
+fn put_creation(alloc: Global, out: &mut Vec<u8>, command: &Command) -> Written {
+    match command {
+        Command::Zeros { name, descr, shape } => {
+            put(out, b"zeros")?;
+            put_word(out, name.as_slice())?;
+            put_word(out, descr.as_slice())?;
+            put_lengths(alloc, out, shape.as_slice())
+        }
+        Command::Full {
+            name,
+            descr,
+            shape,
+            value,
+        } => {
+            put(out, b"full")?;
+            put_word(out, name.as_slice())?;
+            put_word(out, descr.as_slice())?;
+            put_lengths(alloc, out, shape.as_slice())?;
+            put_literal(alloc, out, value)
+        }
+        Command::Arange {
+            name,
+            descr,
+            start,
+            stop,
+            step,
+        } => {
+            put(out, b"arange")?;
+            put_word(out, name.as_slice())?;
+            put_word(out, descr.as_slice())?;
+            put_integers(alloc, out, &[*start, *stop, *step])
+        }
+        Command::Array {
+            name,
+            descr,
+            shape,
+            values,
+        } => {
+            put(out, b"array")?;
+            put_word(out, name.as_slice())?;
+            put_word(out, descr.as_slice())?;
+            put_lengths(alloc, out, shape.as_slice())?;
+            for value in values.as_slice() {
+                put_literal(alloc, out, value)?;
+            }
+            Ok(())
+        }
+        Command::Load { name, file } => {
+            put(out, b"load")?;
+            put_word(out, name.as_slice())?;
+            put_word(out, file.as_slice())
+        }
+        other => put_view(alloc, out, other),
+    }
+}
+
+fn put_view(alloc: Global, out: &mut Vec<u8>, command: &Command) -> Written {
+    match command {
+        Command::View { name, source } => {
+            put(out, b"view")?;
+            put_word(out, name.as_slice())?;
+            put_operand(alloc, out, source)
+        }
+        Command::Field {
+            name,
+            source,
+            field,
+        } => {
+            put(out, b"field")?;
+            put_word(out, name.as_slice())?;
+            put_word(out, source.as_slice())?;
+            put_word(out, field.as_slice())
+        }
+        Command::Transpose { name, source, axes } => {
+            put(out, b"transpose")?;
+            put_word(out, name.as_slice())?;
+            put_word(out, source.as_slice())?;
+            match axes {
+                Some(axes) => put_integers(alloc, out, axes.as_slice()),
+                None => Ok(()),
+            }
+        }
+        Command::Reshape {
+            name,
+            source,
+            shape,
+        } => {
+            put(out, b"reshape")?;
+            put_word(out, name.as_slice())?;
+            put_word(out, source.as_slice())?;
+            put_integers(alloc, out, shape.as_slice())
+        }
+        Command::Broadcast {
+            name,
+            source,
+            shape,
+        } => {
+            put(out, b"broadcast")?;
+            put_word(out, name.as_slice())?;
+            put_word(out, source.as_slice())?;
+            put_lengths(alloc, out, shape.as_slice())
+        }
+        other => put_computation(alloc, out, other),
+    }
+}
+
+fn put_computation(alloc: Global, out: &mut Vec<u8>, command: &Command) -> Written {
+    match command {
+        Command::Duplicate {
+            name,
+            source,
+            order,
+        } => {
+            put(out, b"copy")?;
+            put_word(out, name.as_slice())?;
+            put_word(out, source.as_slice())?;
+            match order {
+                MemoryOrder::C => put(out, b" C"),
+                MemoryOrder::F => put(out, b" F"),
+            }
+        }
+        Command::Cast {
+            name,
+            source,
+            descr,
+        } => {
+            put(out, b"cast")?;
+            put_word(out, name.as_slice())?;
+            put_word(out, source.as_slice())?;
+            put_word(out, descr.as_slice())
+        }
+        Command::Combine {
+            name,
+            operation,
+            left,
+            right,
+        } => {
+            let operation = format!(in alloc; "{operation:?}")?;
+            put(out, operation.as_bytes())?;
+            put_word(out, name.as_slice())?;
+            put_operand(alloc, out, left)?;
+            put_argument(alloc, out, right)
+        }
+        Command::Transform {
+            name,
+            operation,
+            operand,
+        } => {
+            let operation = format!(in alloc; "{operation:?}")?;
+            put(out, operation.as_bytes())?;
+            put_word(out, name.as_slice())?;
+            put_operand(alloc, out, operand)
+        }
+        Command::Reduce {
+            name,
+            reduction,
+            source,
+            axis,
+            keep,
+        } => {
+            let reduction = format!(in alloc; "{reduction:?}")?;
+            put(out, reduction.as_bytes())?;
+            put_word(out, name.as_slice())?;
+            put_word(out, source.as_slice())?;
+            put(out, b" ")?;
+            put_part(alloc, out, *axis)?;
+            put(
+                out,
+                if *keep {
+                    b" keep".as_slice()
+                } else {
+                    b"".as_slice()
+                },
+            )
+        }
+        other => put_statement(alloc, out, other),
+    }
+}
+
+fn put_statement(alloc: Global, out: &mut Vec<u8>, command: &Command) -> Written {
+    match command {
+        Command::Set { name, index, value } => {
+            put(out, b"set")?;
+            put_word(out, name.as_slice())?;
+            put_index(alloc, out, index)?;
+            put_argument(alloc, out, value)
+        }
+        Command::Update {
+            name,
+            index,
+            operation,
+            value,
+        } => {
+            let operation = format!(in alloc; "upd {operation:?}")?;
+            put(out, operation.as_bytes())?;
+            put_word(out, name.as_slice())?;
+            put_index(alloc, out, index)?;
+            put_argument(alloc, out, value)
+        }
+        Command::Shares { left, right } => {
+            put(out, b"shares")?;
+            put_word(out, left.as_slice())?;
+            put_word(out, right.as_slice())
+        }
+        Command::Save { name, file } => {
+            put(out, b"save")?;
+            put_word(out, name.as_slice())?;
+            put_word(out, file.as_slice())
+        }
+        other => put_name(out, other),
+    }
+}
+
+fn put_name(out: &mut Vec<u8>, command: &Command) -> Written {
+    match command {
+        Command::Undo => put(out, b"undo"),
+        Command::Names => put(out, b"names"),
+        Command::Delete { name } => {
+            put(out, b"del")?;
+            put_word(out, name.as_slice())
+        }
+        Command::Print { name } => {
+            put(out, b"print")?;
+            put_word(out, name.as_slice())
+        }
+        Command::Info { name } => {
+            put(out, b"info")?;
+            put_word(out, name.as_slice())
+        }
+        Command::Format { name } => {
+            put(out, b"format")?;
+            put_word(out, name.as_slice())
+        }
+        _ => put(out, b"?"),
+    }
+}
+
+/// The command, `-` for none, or the code of the refusal.
+pub fn shown(
+    alloc: Global,
+    parsed: &Result<Option<Command>, Refusal>,
+) -> Result<Vec<u8>, AllocError> {
+    let mut out = Vec::new(alloc);
+    match parsed {
+        Ok(Some(command)) => put_creation(alloc, &mut out, command)?,
+        Ok(None) => put(&mut out, b"-")?,
+        Err(Refusal::ByteNotAllowed) => put(&mut out, b"E02")?,
+        Err(Refusal::Syntax) => put(&mut out, b"E03")?,
+        Err(_) => put(&mut out, b"E40")?,
+    }
+    Ok(out)
+}

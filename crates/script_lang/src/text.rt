@@ -1,0 +1,102 @@
+//! Texts that a command takes over as they stand.
+ghost use Rattle.std.specs.Prelude.{◌≡◌, ◌≤◌, length, IfOk};
+
+use smallvec::SmallVec;
+use std::alloc::{AllocError, Global};
+use std::marker::Model;
+
+/// The most bytes of a file's name.
+pub const MAX_FILE_NAME_LEN: usize = 64;
+
+/// The text of a descriptor, as it stands in the script.
+#[derive(Drop)]
+pub struct DescrText {
+    bytes: SmallVec<u8, 32>,
+}
+
+impl Model for DescrText {
+    ghost use Rattle.std.specs.Prelude.{List, ℕ};
+
+    ghost Value = { List ℕ };
+
+    ghost view = { λ d. d.bytes.items };
+}
+
+/// What stands between the quotation marks of `field`: any bytes.
+#[derive(Drop)]
+pub struct FieldName {
+    bytes: SmallVec<u8, 32>,
+}
+
+impl Model for FieldName {
+    ghost use Rattle.std.specs.Prelude.{List, ℕ};
+
+    ghost Value = { List ℕ };
+
+    ghost view = { λ f. f.bytes.items };
+}
+
+/// The name of a file: at most 64 bytes, which take no memory of their own.
+#[derive(Drop)]
+pub struct FileName {
+    bytes: SmallVec<u8, 64>,
+}
+
+impl Model for FileName {
+    ghost use Rattle.std.specs.Prelude.{List, ℕ, ◌≤◌, length};
+
+    ghost Value = { List ℕ };
+
+    ghost view = { λ f. f.bytes.items };
+
+    ghost invariant = { λ f. length f.bytes.items ≤ 64 };
+}
+
+impl DescrText {
+    pub fn from_slice(alloc: Global, bytes: &[u8]) -> Result<DescrText, AllocError>
+        ensures { IfOk result (λ d. d ≡ bytes.now) }
+    {
+        let bytes = SmallVec::from_slice(alloc, bytes)?;
+        Ok(DescrText { bytes })
+    }
+
+    pub fn as_slice(&self) -> &[u8]
+        ensures { result.now ≡ self.now }
+    {
+        self.bytes.as_slice()
+    }
+}
+
+impl FieldName {
+    pub fn from_slice(alloc: Global, bytes: &[u8]) -> Result<FieldName, AllocError>
+        ensures { IfOk result (λ f. f ≡ bytes.now) }
+    {
+        let bytes = SmallVec::from_slice(alloc, bytes)?;
+        Ok(FieldName { bytes })
+    }
+
+    pub fn as_slice(&self) -> &[u8]
+        ensures { result.now ≡ self.now }
+    {
+        self.bytes.as_slice()
+    }
+}
+
+impl FileName {
+    /// A copy of the bytes.
+    pub fn from_slice(alloc: Global, bytes: &[u8]) -> FileName
+        requires { length bytes.now ≤ 64 }
+        ensures { result ≡ bytes.now }
+    {
+        FileName {
+            bytes: SmallVec::from_slice(alloc, bytes).unwrap(),
+        }
+    }
+
+    pub fn as_slice(&self) -> &[u8]
+        ensures value { result.now ≡ self.now }
+        ensures short { length result.now ≤ 64 }
+    {
+        self.bytes.as_slice()
+    }
+}

@@ -1,0 +1,106 @@
+-- Which axes a list of numbers names.
+use Rattle.std.proofs.Common.{◌≡◌, ◌≢◌, ℕ, zero, suc, ◌+◌, ◌-◌, ◌<◌, ◌≤◌, ◌==◌, Bool, true, false, not, ◌&&◌, ℤ, pos, negsuc, int_lt, Option, Some, None, List, [], ◌∷◌, map, length, get_or, Result, Ok, Err, inl, inr, refl, sym, ap, ◌∙◌, arith}
+use Rattle.std.specs.List.{list_any, list_all, range_with_len}
+use Rattle.std.proofs.lemmas.Bool.{cases_Bool, cases_eq, false≢true}
+use Rattle.std.specs.Result.{is_ok}
+use Rattle.elem_descr.specs.declared.refusal.Refusal.{Refusal}
+use Rattle.std.proofs.lemmas.Bool.Decides.{nat_tests}
+use Rattle.std.proofs.lemmas.List.{length-map}
+use Rattle.std.proofs.lemmas.List.FromFn.{length-range_with_len}
+use Rattle.elem_descr.specs.declared.refusal.Refusal.TheVariants.{BadAxis}
+use Rattle.shape_strides.specs.Layouts.{natural}
+use Rattle.view_ops.specs.Slices.{from_front}
+use Rattle.view_ops.specs.Transposes.{is_axis, are_distinct, AreAxes, AreAllAxes, axes_of}
+
+pub axes_of-count : (rank : ℕ) (named : List ℤ) → length named ≢ rank → axes_of rank (Some named) ≡ Err BadAxis
+unfolding axes_of
+axes_of-count rank named other =
+    let test : (length named == rank) ≡ false = grind (arith, nat_tests) in
+    rw test
+
+pub axes_of-range : (rank : ℕ) (named : List ℤ) → length named ≡ rank → list_all (is_axis rank) named ≡ false → axes_of rank (Some named) ≡ Err BadAxis
+unfolding axes_of
+axes_of-range rank named size out =
+    let test : (length named == rank) ≡ true = grind (arith, nat_tests) in
+    rw (test, out)
+
+pub axes_of-repeated : (rank : ℕ) (named : List ℤ) → length named ≡ rank → list_all (is_axis rank) named ≡ true → are_distinct (map (λ axis. natural (from_front rank axis)) named) ≡ false → axes_of rank (Some named) ≡ Err BadAxis
+unfolding axes_of
+axes_of-repeated rank named size within again =
+    let test : (length named == rank) ≡ true = grind (arith, nat_tests) in
+    rw (test, within, again)
+
+pub axes_of-ok : (rank : ℕ) (named : List ℤ) (axes : List ℕ) → length named ≡ rank → list_all (is_axis rank) named ≡ true → axes ≡ map (λ axis. natural (from_front rank axis)) named → are_distinct axes ≡ true → axes_of rank (Some named) ≡ Ok axes
+unfolding axes_of
+axes_of-ok rank named axes size within are once =
+    let test : (length named == rank) ≡ true = grind (arith, nat_tests) in
+    let once' : are_distinct (map (λ axis. natural (from_front rank axis)) named) ≡ true = ap are_distinct (sym are) ∙ once in
+    rw (test, within, once') (ap Ok (sym are))
+
+-- ---- what is named are axes
+
+pub axis-lt : (n : ℕ) (axes : List ℕ) (k : ℕ) → AreAxes n axes → k < length axes → get_or axes k 0 < n
+axis-lt n [] k are low = absurd (omega arith)
+axis-lt n (a ∷ axes) zero are low = are.0
+axis-lt n (a ∷ axes) (suc k) are low = axis-lt n axes k are.2 (omega arith)
+
+and_left : (x y : Bool) → (x && y) ≡ true → x ≡ true
+and_left x y both = grind arith
+
+and_right : (x y : Bool) → (x && y) ≡ true → y ≡ true
+and_right x y both = grind arith
+
+not_true : (x : Bool) → not x ≡ true → x ≡ false
+not_true x test = grind arith
+
+axis_below : (n : ℕ) (z : ℤ) → (not (int_lt z (pos 0)) && int_lt z (pos n)) ≡ true → natural z < n
+axis_below n (pos k) test = grind (arith, nat_tests)
+axis_below n (negsuc k) test = absurd (false≢true (and_left false (int_lt (negsuc k) (pos n)) test))
+
+AreAxes-counted : (n : ℕ) (named : List ℤ) → list_all (is_axis n) named ≡ true → are_distinct (map (λ axis. natural (from_front n axis)) named) ≡ true → AreAxes n (map (λ axis. natural (from_front n axis)) named)
+AreAxes-counted n [] within once = tt
+AreAxes-counted n (axis ∷ named) within once =
+    let rest = map (λ z. natural (from_front n z)) named in
+    let a = natural (from_front n axis) in (
+      axis_below n (from_front n axis) (and_left (is_axis n axis) (list_all (is_axis n) named) within),
+      not_true (list_any (λ other. other == a) rest) (and_left (not (list_any (λ other. other == a) rest)) (are_distinct rest) once),
+      AreAxes-counted n named (and_right (is_axis n axis) (list_all (is_axis n) named) within) (and_right (not (list_any (λ other. other == a) rest)) (are_distinct rest) once),
+    )
+
+not_later : (n a m j : ℕ) → a + m ≤ n → n - a ≤ j → list_any (λ other. other == j) (map (λ k. n - 1 - k) (range_with_len a m)) ≡ false
+not_later n a zero j few high = refl
+not_later n a (suc m) j few high =
+    let test : (n - 1 - a == j) ≡ false = grind (arith, nat_tests) in
+    rw (test, not_later n (a + 1) m j (omega arith) (omega arith))
+
+AreAxes-reversed : (n a m : ℕ) → a + m ≤ n → AreAxes n (map (λ k. n - 1 - k) (range_with_len a m))
+AreAxes-reversed n a zero few = tt
+AreAxes-reversed n a (suc m) few = (omega arith, not_later n (a + 1) m (n - 1 - a) (omega arith) (omega arith), AreAxes-reversed n (a + 1) m (omega arith))
+
+-- the list in an answer
+abbrev list_in : Result (List ℕ) Refusal → List ℕ
+list_in (Ok list) = list
+list_in (Err refusal) = []
+
+no_axes : (axes : List ℕ) (e : Refusal) (there : Result (List ℕ) Refusal) → there ≡ Err e → there ≡ Ok axes → ⊥
+no_axes axes e there refused is = false≢true (ap is_ok (sym refused ∙ is))
+
+pub all_axes : (n : ℕ) (named : Option (List ℤ)) (axes : List ℕ) → axes_of n named ≡ Ok axes → AreAllAxes n axes
+unfolding axes_of
+all_axes n None axes is =
+    let list : map (λ k. n - 1 - k) (range_with_len 0 n) ≡ axes = ap list_in is in
+    rw (← list) (record { size = length-map (range_with_len 0 n) (λ k. n - 1 - k) ∙ length-range_with_len 0 n; are = AreAxes-reversed n 0 n (omega arith) })
+all_axes n (Some named) axes is =
+    let counted = map (λ axis. natural (from_front n axis)) named in
+    elim (cases_eq (length named) n) [
+      | inr other ↦ absurd (no_axes axes BadAxis (axes_of n (Some named)) (axes_of-count n named other) is)
+      | inl size ↦ elim (cases_Bool (list_all (is_axis n) named)) [
+        | inr out ↦ absurd (no_axes axes BadAxis (axes_of n (Some named)) (axes_of-range n named size out) is)
+        | inl within ↦ elim (cases_Bool (are_distinct counted)) [
+          | inr again ↦ absurd (no_axes axes BadAxis (axes_of n (Some named)) (axes_of-repeated n named size within again) is)
+          | inl once ↦
+              let list : counted ≡ axes = ap list_in (sym (axes_of-ok n named counted size within refl once) ∙ is) in
+              rw (← list) (record { size = length-map named (λ axis. natural (from_front n axis)) ∙ size; are = AreAxes-counted n named within once })
+        ]
+      ]
+    ]

@@ -1,0 +1,72 @@
+-- Laws of views.
+use Rattle.std.proofs.Common.{◌≡◌, ℕ, ◌<◌, ◌≤◌, List, [], map, length, get_or, inl, inr, sym, ap, ◌∙◌, arith}
+use Rattle.std.proofs.lemmas.Bool.{cases_lt}
+use Rattle.std.proofs.lemmas.List.{length-map, get_or-map, same_lists}
+use Rattle.shape_strides.specs.declared.layout.Layout.{Layout}
+use Rattle.shape_strides.specs.Indexes.{count, indexes, rank, IsIndex}
+use Rattle.shape_strides.specs.Layouts.{address, natural, offsets, Fits, distance, IsNested}
+use Rattle.shape_strides.proofs.IndexLaws.{length-indexes, rank-lt, get_or-indexes, index_at}
+use Rattle.shape_strides.proofs.LayoutLaws.{length-offsets, get_or-offsets}
+use Rattle.view_ops.specs.Views.{view_through}
+
+-- a layout shows the items of another one through m
+pub record IsView (old new : Layout) (m : List ℕ → List ℕ) : Type 0 where
+  pub leads : (index : List ℕ) → IsIndex new.shape index → IsIndex old.shape (m index)
+  pub same : (index : List ℕ) → IsIndex new.shape index → address new index ≡ address old (m index)
+
+-- functions that agree on the indexes of a shape
+pub same_on_indexes : (shape : List ℕ) (f g : List ℕ → ℕ) → ((index : List ℕ) → IsIndex shape index → f index ≡ g index) → map f (indexes shape) ≡ map g (indexes shape)
+same_on_indexes shape f g agree =
+    same_lists (map f (indexes shape)) (map g (indexes shape)) (length-map (indexes shape) f ∙ sym (length-map (indexes shape) g)) (λ k d below.
+    let low : k < count shape = omega (arith, length-map (indexes shape) f, length-indexes shape) in
+    let inside : k < length (indexes shape) = omega (arith, length-indexes shape) in
+    let found = index_at shape k low in
+    let here : get_or (indexes shape) k [] ≡ found.0 = ap (λ r. get_or (indexes shape) r []) (sym found.2) ∙ get_or-indexes shape found.0 [] found.1 in
+    get_or-map f (indexes shape) k [] d inside ∙ ap f here ∙ agree found.0 found.1 ∙ ap g (sym here) ∙ sym (get_or-map g (indexes shape) k [] d inside))
+
+pub offsets-view : (old new : Layout) (m : List ℕ → List ℕ) → IsView old new m → offsets new ≡ view_through (offsets old) old.shape new.shape m
+unfolding offsets
+offsets-view old new m view =
+    same_on_indexes new.shape (λ index. natural (address new index)) (λ index. get_or (offsets old) (rank old.shape (m index)) 0)
+    (λ index in'. ap natural (view.same index in') ∙ sym (get_or-offsets old (m index) 0 (view.leads index in')))
+
+pub Fits-view : (old new : Layout) (m : List ℕ → List ℕ) (len item : ℕ) → IsView old new m → Fits old len item → Fits new len item
+Fits-view old new m len item view fits = record {
+  from_zero = λ index in'. rw (view.same index in') (fits.from_zero (m index) (view.leads index in'));
+  within = λ index in'. rw (view.same index in') (fits.within (m index) (view.leads index in'));
+}
+
+-- indexes with one rank are one index
+pub rank-same : (shape i j : List ℕ) → IsIndex shape i → IsIndex shape j → rank shape i ≡ rank shape j → i ≡ j
+rank-same shape i j in-i in-j same = sym (get_or-indexes shape i [] in-i) ∙ ap (λ r. get_or (indexes shape) r []) same ∙ get_or-indexes shape j [] in-j
+
+-- the offset of the view at the rank of an index
+offset-view : (old new : Layout) (m : List ℕ → List ℕ) → IsView old new m → (index : List ℕ) → IsIndex new.shape index → get_or (offsets new) (rank new.shape index) 0 ≡ get_or (offsets old) (rank old.shape (m index)) 0
+offset-view old new m view index in' = get_or-offsets new index 0 in' ∙ ap natural (view.same index in') ∙ sym (get_or-offsets old (m index) 0 (view.leads index in'))
+
+apart_either : (a b item : ℕ) → item ≤ distance a b → item ≤ distance b a
+apart_either a b item far = omega arith
+
+strictly : (p q : ℕ) → (p ≡ q → ⊥) → q ≤ p → q < p
+strictly p q other more = omega arith
+
+pub IsNested-view : (old new : Layout) (m : List ℕ → List ℕ) (item : ℕ) → IsView old new m → ((i j : List ℕ) → IsIndex new.shape i → IsIndex new.shape j → m i ≡ m j → i ≡ j) → IsNested (offsets old) item → IsNested (offsets new) item
+IsNested-view old new m item view one nested = record {
+  apart = λ j k before inside.
+      let high : k < count new.shape = omega (arith, length-offsets new) in
+      let a = index_at new.shape j (omega arith) in
+      let b = index_at new.shape k high in
+      let p = rank old.shape (m a.0) in
+      let q = rank old.shape (m b.0) in
+      let low-p : p < length (offsets old) = omega (arith, length-offsets old, rank-lt old.shape (m a.0) (view.leads a.0 a.1)) in
+      let low-q : q < length (offsets old) = omega (arith, length-offsets old, rank-lt old.shape (m b.0) (view.leads b.0 b.1)) in
+      let first : get_or (offsets new) j 0 ≡ get_or (offsets old) p 0 = ap (λ r. get_or (offsets new) r 0) (sym a.2) ∙ offset-view old new m view a.0 a.1 in
+      let second : get_or (offsets new) k 0 ≡ get_or (offsets old) q 0 = ap (λ r. get_or (offsets new) r 0) (sym b.2) ∙ offset-view old new m view b.0 b.1 in
+      let other : p ≡ q → ⊥ = λ same.
+      let is : a.0 ≡ b.0 = one a.0 b.0 a.1 b.1 (rank-same old.shape (m a.0) (m b.0) (view.leads a.0 a.1) (view.leads b.0 b.1) same) in
+      omega (arith, a.2, b.2, ap (rank new.shape) is) in
+      rw (first, second) (elim (cases_lt p q) [
+        | inl less ↦ nested.apart p q less low-q
+        | inr more ↦ apart_either (get_or (offsets old) q 0) (get_or (offsets old) p 0) item (nested.apart q p (strictly p q other more) low-p)
+      ]);
+}

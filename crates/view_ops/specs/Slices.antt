@@ -1,0 +1,63 @@
+-- Python's slices: `slice(start, stop, step).indices(n)`, and the `range` that it means.
+use Rattle.std.specs.Prelude.{◌≢◌, ℕ, ◌<◌, ◌≤◌, Bool, not, if◌then◌else◌, ℤ, pos, negsuc, ◌+ℤ◌, ◌*ℤ◌, ◌≤ℤ◌, int_lt, Option, Some, None, unwrap_or, List, map, filter, Result, Ok}
+use Rattle.std.specs.Int.{int_min, int_max}
+use Rattle.std.specs.Ordering.{int_eq}
+use Rattle.std.specs.List.{range_with_len}
+use Rattle.elem_descr.specs.declared.refusal.Refusal.{Refusal}
+use Rattle.elem_descr.specs.declared.refusal.Refusal.TheVariants.{ZeroStep}
+use Rattle.elem_descr.specs.Refusals.{◌>>=◌, check}
+use Rattle.shape_strides.specs.Layouts.{natural}
+use Rattle.view_ops.specs.declared.slice.Run.{Run}
+
+-- bounds are put between 0 and n for a positive step, and between -1 and n - 1 for a negative one
+abbrev pub lowest : ℤ → ℤ
+lowest step = if int_lt step (pos 0) then negsuc 0 else pos 0
+
+abbrev pub highest : ℕ → ℤ → ℤ
+highest n step = lowest step +ℤ pos n
+
+-- a negative bound counts from the end
+abbrev pub from_front : ℕ → ℤ → ℤ
+from_front n at = if int_lt at (pos 0) then at +ℤ pos n else at
+
+abbrev pub clamped : ℕ → ℤ → ℤ → ℤ
+clamped n step at = int_min (int_max (from_front n at) (lowest step)) (highest n step)
+
+-- a missing start is the end at which the step begins, and a missing stop is the other end
+abbrev pub start_of : ℕ → ℤ → Option ℤ → ℤ
+start_of n step None = if int_lt step (pos 0) then highest n step else lowest step
+start_of n step (Some at) = clamped n step at
+
+abbrev pub stop_of : ℕ → ℤ → Option ℤ → ℤ
+stop_of n step None = if int_lt step (pos 0) then lowest step else highest n step
+stop_of n step (Some at) = clamped n step at
+
+-- strictly before the stop, as the step goes
+abbrev pub is_before : ℤ → ℤ → ℤ → Bool
+is_before step stop number = if int_lt step (pos 0) then int_lt stop number else int_lt number stop
+
+-- start, start + step, start + 2 * step, ..: those before the stop, of which there are n at most
+unfoldable pub stepped : ℕ → ℤ → ℤ → ℤ → List ℕ
+stepped n start stop step = map natural (filter (is_before step stop) (map (λ k. start +ℤ step *ℤ pos k) (range_with_len 0 n)))
+
+-- the numbers that a slice takes of 0, 1, .., n - 1, or its refusal
+unfoldable pub slice_indices : ℕ → Option ℤ → Option ℤ → Option ℤ → Result (List ℕ) Refusal
+slice_indices n start stop given = do
+  let step = unwrap_or given (pos 1)
+  _ ← check (not (int_eq step (pos 0))) ZeroStep
+  Ok (stepped n (start_of n step start) (stop_of n step stop) step)
+
+-- the number at a place of a run
+abbrev pub run_number : Run → ℕ → ℕ
+run_number run k = natural (pos run.first +ℤ run.step *ℤ pos k)
+
+-- the numbers of a run
+abbrev pub run_numbers : Run → List ℕ
+run_numbers run = map (run_number run) (range_with_len 0 run.count)
+
+-- the numbers of a run are different places of n items
+pub record IsRunWithin (run : Run) (n : ℕ) : Type 0 where
+  pub moves : run.step ≢ pos 0
+  pub count_within : run.count ≤ n
+  pub from_zero : (k : ℕ) → k < run.count → pos 0 ≤ℤ (pos run.first +ℤ run.step *ℤ pos k)
+  pub below : (k : ℕ) → k < run.count → run_number run k < n

@@ -1,0 +1,57 @@
+-- Transposes, as NumPy has them: axis k of the result is the axis that is named at place k.
+use Rattle.std.specs.Prelude.{◌≡◌, ℕ, ◌-◌, ◌<◌, ◌==◌, Bool, true, false, not, ◌&&◌, ℤ, pos, int_lt, Option, Some, None, List, [], ◌∷◌, map, length, replicate, slice_index, slice_set, Result, Ok}
+use Rattle.std.specs.List.{list_any, list_all, range_with_len}
+use Rattle.elem_descr.specs.declared.refusal.Refusal.{Refusal}
+use Rattle.elem_descr.specs.declared.refusal.Refusal.TheVariants.{BadAxis}
+use Rattle.elem_descr.specs.Refusals.{◌>>=◌, check}
+use Rattle.shape_strides.specs.Layouts.{natural}
+use Rattle.view_ops.specs.Slices.{from_front}
+use Rattle.view_ops.specs.Views.{View}
+
+-- a number names one of the axes: from 0 up, or from -1 down for the last ones
+abbrev pub is_axis : ℕ → ℤ → Bool
+is_axis rank axis = not (int_lt (from_front rank axis) (pos 0)) && int_lt (from_front rank axis) (pos rank)
+
+-- no number is repeated
+abbrev pub are_distinct : List ℕ → Bool
+are_distinct [] = true
+are_distinct (axis ∷ axes) = not (list_any (λ other. other == axis) axes) && are_distinct axes
+
+-- different axes of so many
+abbrev pub AreAxes : ℕ → List ℕ → Type 0
+AreAxes rank [] = Unit {0}
+AreAxes rank (axis ∷ axes) = (axis < rank) × (list_any (λ other. other == axis) axes ≡ false) × AreAxes rank axes
+
+-- so many axes, all different
+pub record AreAllAxes (rank : ℕ) (axes : List ℕ) : Type 0 where
+  pub size : length axes ≡ rank
+  pub are : AreAxes rank axes
+
+-- the axes that are named, each once; all of them in reverse order where none is
+unfoldable pub axes_of : ℕ → Option (List ℤ) → Result (List ℕ) Refusal
+axes_of rank None = Ok (map (λ k. rank - 1 - k) (range_with_len 0 rank))
+axes_of rank (Some named) = do
+  let axes = map (λ axis. natural (from_front rank axis)) named
+  _ ← check (length named == rank) BadAxis
+  _ ← check (list_all (is_axis rank) named) BadAxis
+  _ ← check (are_distinct axes) BadAxis
+  Ok axes
+
+-- the shape of the result: axis k is as long as the axis that is named at place k
+abbrev pub transposed_shape : List ℕ → List ℕ → List ℕ
+transposed_shape axes shape = map (λ axis. slice_index shape axis) axes
+
+-- numbers put to the axes that are named, over a list of numbers
+abbrev pub put_at : List ℕ → List ℕ → List ℕ → List ℕ
+put_at (axis ∷ axes) (number ∷ numbers) over = slice_set (put_at axes numbers over) axis number
+put_at _ _ over = over
+
+-- where an index of the result leads: number k goes to the axis that is named at place k
+abbrev pub transposed_index : List ℕ → List ℕ → List ℕ
+transposed_index axes index = put_at axes index (replicate (length axes) 0)
+
+-- the view with its axes in another order
+unfoldable pub transposed : List ℕ → Option (List ℤ) → Result View Refusal
+transposed shape named = do
+  axes ← axes_of (length shape) named
+  Ok (record { shape = transposed_shape axes shape; leads = transposed_index axes })

@@ -1,0 +1,31 @@
+-- Views: the same items under another shape.
+use Rattle.std.specs.Prelude.{◌≡◌, ℕ, ◌⊎◌, pos, List, map, slice_index, Result, Ok, Err}
+use Rattle.elem_descr.specs.declared.refusal.Refusal.{Refusal}
+use Rattle.elem_descr.specs.declared.refusal.Refusal.TheVariants.{OutOfMemory}
+use Rattle.shape_strides.specs.declared.layout.Layout.{Layout}
+use Rattle.shape_strides.specs.Indexes.{count, indexes, rank}
+use Rattle.shape_strides.specs.Layouts.{offsets, Fits, IsNested}
+
+-- The list of a view of an array that has this list and shape: at each index of the new shape stands
+-- the item at the index of the old one that `leads` gives. It serves byte offsets and places alike.
+abbrev pub view_through : List ℕ → List ℕ → List ℕ → (List ℕ → List ℕ) → List ℕ
+view_through list shape new leads = map (λ index. slice_index list (rank shape (leads index))) (indexes new)
+
+-- a view: its shape, and the index of the old array to which each of its own leads
+pub record View : Type 0 where
+  pub shape : List ℕ
+  pub leads : List ℕ → List ℕ
+
+-- a layout is this view of an older one
+pub record IsViewOf (old new : Layout) (view : View) : Type 0 where
+  pub shape : new.shape ≡ view.shape
+  pub places : offsets new ≡ view_through (offsets old) old.shape view.shape view.leads
+  pub fits : (len item : ℕ) → Fits old len item → Fits new len item
+  pub nested : (item : ℕ) → IsNested (offsets old) item → IsNested (offsets new) item
+  pub empty : count view.shape ≡ 0 → (new.offset ≡ 0) × (new.strides ≡ map (λ _. pos 0) view.shape)
+
+-- the layout is the view that is there, and a refusal is the one that is there, unless memory ran out
+abbrev pub GivesView : Layout → Result Layout Refusal → Result View Refusal → Type 0
+GivesView old (Ok new) (Ok view) = IsViewOf old new view
+GivesView old (Ok new) (Err refusal) = ⊥
+GivesView old (Err refusal) there = (refusal ≡ OutOfMemory) ⊎ (there ≡ Err refusal)

@@ -1,0 +1,93 @@
+//! Which axes a list of numbers names.
+ghost use Rattle.std.specs.Prelude.{◌≡◌, ℕ, ◌-◌, ◌<◌, ◌≤◌, ◌^◌, map, length, Some, IfOk, IsTrue, option_copied, true};
+ghost use Rattle.std.specs.List.{list_all, range_with_len};
+ghost use Rattle.elem_descr.specs.Refusals.{Gives};
+ghost use Rattle.shape_strides.specs.Layouts.{natural};
+ghost use Rattle.view_ops.specs.Slices.{from_front};
+ghost use Rattle.view_ops.specs.Transposes.{is_axis, are_distinct, axes_of};
+
+use crate::slice::from_front;
+use elem_descr::Refusal;
+use smallvec::SmallVec;
+use std::alloc::{AllocError, Global};
+
+fn is_axis(rank: usize, axis: i128) -> bool
+    ensures { result ≡ is_axis rank axis }
+{
+    let at = from_front(rank, axis);
+    !(at < 0) && at < rank as i128
+}
+
+fn are_in_range(rank: usize, named: &[i128]) -> bool
+    ensures { result ≡ list_all (is_axis rank) named.now }
+{
+    named.iter().all(|axis| is_axis(rank, *axis))
+}
+
+fn are_distinct(axes: &[usize]) -> bool
+    ensures { result ≡ are_distinct axes.now }
+{
+    for (k, axis) in axes.iter().enumerate() {
+        if axes[k + 1..].contains(axis) {
+            return false;
+        }
+    }
+    true
+}
+
+/// The axes from the last one to the first.
+fn reversed_axes(alloc: Global, rank: usize) -> Result<SmallVec<usize, 8>, AllocError>
+    ensures { IfOk result (λ v. v.items ≡ map (λ k. rank - 1 - k) (range_with_len 0 rank)) }
+{
+    let mut axes = SmallVec::new(alloc);
+    for k in 0..rank {
+        axes.push(rank - 1 - k)?;
+    }
+    Ok(axes)
+}
+
+/// The axes that are named, as counted from the front.
+fn counted_axes(
+    alloc: Global,
+    rank: usize,
+    named: &[i128],
+) -> Result<SmallVec<usize, 8>, AllocError>
+    requires { list_all (is_axis rank) named.now ≡ true }
+    ensures { IfOk result (λ v. v.items ≡ map (λ axis. natural (from_front rank axis)) named.now) }
+{
+    let mut axes = SmallVec::new(alloc);
+    for axis in named {
+        axes.push(from_front(rank, *axis) as usize)?;
+    }
+    Ok(axes)
+}
+
+fn named_axes(alloc: Global, rank: usize, named: &[i128]) -> Result<SmallVec<usize, 8>, Refusal>
+    ensures { Gives (λ v. v.items) result (axes_of rank (Some named.now)) }
+{
+    if named.len() != rank {
+        return Err(Refusal::BadAxis);
+    }
+    if !are_in_range(rank, named) {
+        return Err(Refusal::BadAxis);
+    }
+    let axes = counted_axes(alloc, rank, named)?;
+    if !are_distinct(axes.as_slice()) {
+        return Err(Refusal::BadAxis);
+    }
+    Ok(axes)
+}
+
+/// The axes in the order that a transpose is to have.
+pub(crate) fn axes_of(
+    alloc: Global,
+    rank: usize,
+    named: Option<&[i128]>,
+) -> Result<SmallVec<usize, 8>, Refusal>
+    ensures { Gives (λ v. v.items) result (axes_of rank (option_copied named.entry)) }
+{
+    match named {
+        None => Ok(reversed_axes(alloc, rank)?),
+        Some(named) => named_axes(alloc, rank, named),
+    }
+}
