@@ -5,6 +5,7 @@ pub mod TypeStrings
 pub mod Names
 pub mod Descriptors
 pub mod Items
+pub mod Blocks
 pub mod FormatTexts
 pub mod Partials
 pub mod WrittenFormats

@@ -62,6 +62,7 @@ impl Layout {
         requires index { IsIndex self.now.shape index.now }
         ensures entry { result ≡ slice_index (offsets self.now) (rank self.now.shape index.now) }
         ensures address { pos result ≡ address self.now index.now }
+        ensures among { rank self.now.shape index.now < length (offsets self.now) }
         ensures bound { result < 2 ^ 28 }
     {
         let _lengths = self.shape.as_slice();

@@ -3,8 +3,8 @@ use Rattle.std.proofs.lemmas.Int.{ints}
 use lib.IntN.{+ℤ_idr}
 use Rattle.shape_strides.specs.Layouts.{dot}
 use Rattle.shape_strides.proofs.StepLaws.{dot-nil, goes_on}
-use Rattle.shape_strides.proofs.IndexLaws.{length-index, number-lt}
-use Rattle.shape_strides.proofs.LayoutLaws.{pos-offset}
+use Rattle.shape_strides.proofs.IndexLaws.{length-index, number-lt, rank-lt}
+use Rattle.shape_strides.proofs.LayoutLaws.{length-offsets, pos-offset}
 use Rattle.shape_strides.proofs.layout.Layout.at.Goals as goal
 
 pub loop-axis-init : goal.loop-axis-init
@@ -52,3 +52,7 @@ returns-clause-entry c =
     let entry = pos-offset l (2 ^ 28) 1 c.requires.fits c.args.index.now 0 c.requires.index in
     let same = is ∙ sym entry in
     omega (arith, ints, same)
+
+pub returns-clause-among : goal.returns-clause-among
+returns-clause-among c =
+    omega (arith, length-offsets c.args.self.now, rank-lt c.args.self.now.shape c.args.index.now c.requires.index)
