@@ -1,5 +1,5 @@
 //! Literals.
-ghost use Rattle.std.specs.Prelude.{◌≡◌, ◌==◌, ◌++◌, ◌∷◌, [], length, OnOk, OnErr};
+ghost use Rattle.std.specs.Prelude.{◌≡◌, ◌==◌, ◌<◌, ◌++◌, ◌∷◌, [], length, IsOk, OnOk, OnErr};
 
 use smallvec::SmallVec;
 use std::alloc::{AllocError, Global};
@@ -12,11 +12,13 @@ pub struct ByteText {
 }
 
 impl Model for ByteText {
-    ghost use Rattle.std.specs.Prelude.{List, ℕ};
+    ghost use Rattle.std.specs.Prelude.{List, ℕ, ◌≤◌};
 
     ghost Value = { List ℕ };
 
     ghost view = { λ t. t.bytes.items };
+
+    ghost invariant = { λ t. 32 ≤ t.bytes.capacity };
 }
 
 /// A literal that is no record.
@@ -73,9 +75,11 @@ impl ByteText {
         }
     }
 
+    /// Up to 32 bytes take no memory of their own.
     pub fn push(&mut self, byte: u8) -> Result<(), AllocError>
         ensures ok { OnOk result (self.new ≡ self.old ++ byte ∷ []) }
         ensures err { OnErr result (self.new ≡ self.old) }
+        ensures succeeds { length self.old < 32 → IsOk result }
     {
         self.bytes.push(byte)?;
         Ok(())

@@ -1,5 +1,5 @@
 //! Lists of numbers, as they stand in the script: up to 30 digits each.
-ghost use Rattle.std.specs.Prelude.{◌≡◌, ◌++◌, ◌∷◌, [], OnOk, OnErr};
+ghost use Rattle.std.specs.Prelude.{◌≡◌, ◌<◌, ◌++◌, ◌∷◌, [], length, IsOk, OnOk, OnErr};
 
 use smallvec::SmallVec;
 use std::alloc::{AllocError, Global};
@@ -12,11 +12,13 @@ pub struct Lengths {
 }
 
 impl Model for Lengths {
-    ghost use Rattle.std.specs.Prelude.{List, ℕ};
+    ghost use Rattle.std.specs.Prelude.{List, ℕ, ◌≤◌};
 
     ghost Value = { List ℕ };
 
     ghost view = { λ l. l.lengths.items };
+
+    ghost invariant = { λ l. 8 ≤ l.lengths.capacity };
 }
 
 /// The lengths of `reshape` or the axes of `transpose`, which may have signs.
@@ -26,11 +28,13 @@ pub struct Integers {
 }
 
 impl Model for Integers {
-    ghost use Rattle.std.specs.Prelude.{List, ℤ};
+    ghost use Rattle.std.specs.Prelude.{List, ℤ, ◌≤◌};
 
     ghost Value = { List ℤ };
 
     ghost view = { λ l. l.integers.items };
+
+    ghost invariant = { λ l. 8 ≤ l.integers.capacity };
 }
 
 impl Lengths {
@@ -42,11 +46,13 @@ impl Lengths {
         }
     }
 
-    pub fn push(&mut self, length: u128) -> Result<(), AllocError>
-        ensures ok { OnOk result (self.new ≡ self.old ++ length ∷ []) }
+    /// Up to 8 lengths take no memory of their own.
+    pub fn push(&mut self, number: u128) -> Result<(), AllocError>
+        ensures ok { OnOk result (self.new ≡ self.old ++ number ∷ []) }
         ensures err { OnErr result (self.new ≡ self.old) }
+        ensures succeeds { length self.old < 8 → IsOk result }
     {
-        self.lengths.push(length)?;
+        self.lengths.push(number)?;
         Ok(())
     }
 
@@ -66,9 +72,11 @@ impl Integers {
         }
     }
 
+    /// Up to 8 integers take no memory of their own.
     pub fn push(&mut self, integer: i128) -> Result<(), AllocError>
         ensures ok { OnOk result (self.new ≡ self.old ++ integer ∷ []) }
         ensures err { OnErr result (self.new ≡ self.old) }
+        ensures succeeds { length self.old < 8 → IsOk result }
     {
         self.integers.push(integer)?;
         Ok(())

@@ -1,5 +1,5 @@
 //! Texts that a command takes over as they stand.
-ghost use Rattle.std.specs.Prelude.{◌≡◌, ◌≤◌, length, IfOk};
+ghost use Rattle.std.specs.Prelude.{◌≡◌, ◌≤◌, length, IfOk, IsOk};
 
 use smallvec::SmallVec;
 use std::alloc::{AllocError, Global};
@@ -53,8 +53,10 @@ impl Model for FileName {
 }
 
 impl DescrText {
+    /// A copy of the bytes; up to 32 take no memory of their own.
     pub fn from_slice(alloc: Global, bytes: &[u8]) -> Result<DescrText, AllocError>
-        ensures { IfOk result (λ d. d ≡ bytes.now) }
+        ensures value { IfOk result (λ d. d ≡ bytes.now) }
+        ensures succeeds { length bytes.now ≤ 32 → IsOk result }
     {
         let bytes = SmallVec::from_slice(alloc, bytes)?;
         Ok(DescrText { bytes })
@@ -68,8 +70,10 @@ impl DescrText {
 }
 
 impl FieldName {
+    /// A copy of the bytes; up to 32 take no memory of their own.
     pub fn from_slice(alloc: Global, bytes: &[u8]) -> Result<FieldName, AllocError>
-        ensures { IfOk result (λ f. f ≡ bytes.now) }
+        ensures value { IfOk result (λ f. f ≡ bytes.now) }
+        ensures succeeds { length bytes.now ≤ 32 → IsOk result }
     {
         let bytes = SmallVec::from_slice(alloc, bytes)?;
         Ok(FieldName { bytes })

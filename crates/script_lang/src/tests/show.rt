@@ -1,5 +1,8 @@
 //! What was read, as text for the tables.
-use crate::{Argument, Command, Index, IndexItem, Literal, MemoryOrder, Operand, ScalarLiteral};
+use crate::{
+    Argument, Command, DescrText, Index, IndexItem, Integers, Lengths, Literal, MemoryOrder, Name,
+    Operand, ScalarLiteral,
+};
 use elem_descr::Refusal;
 use std::alloc::{AllocError, Global};
 
@@ -12,6 +15,18 @@ fn put(out: &mut Vec<u8>, text: &[u8]) -> Written {
 fn put_word(out: &mut Vec<u8>, text: &[u8]) -> Written {
     put(out, b" ")?;
     put(out, text)
+}
+
+/// The word of a command and the name that it binds or changes.
+fn put_head(out: &mut Vec<u8>, verb: &[u8], name: &Name) -> Written {
+    put(out, verb)?;
+    put_word(out, name.as_slice())
+}
+
+/// The same, and a second name.
+fn put_names(out: &mut Vec<u8>, verb: &[u8], name: &Name, source: &Name) -> Written {
+    put_head(out, verb, name)?;
+    put_word(out, source.as_slice())
 }
 
 fn put_integer(alloc: Global, out: &mut Vec<u8>, n: i128) -> Written {
@@ -115,13 +130,24 @@ fn put_integers(alloc: Global, out: &mut Vec<u8>, integers: &[i128]) -> Written 
     put(out, b")")
 }
 
+/// The word of a command, the name, the descriptor and the shape.
+fn put_made(
+    alloc: Global,
+    out: &mut Vec<u8>,
+    verb: &[u8],
+    name: &Name,
+    descr: &DescrText,
+    shape: &Lengths,
+) -> Written {
+    put_head(out, verb, name)?;
+    put_word(out, descr.as_slice())?;
+    put_lengths(alloc, out, shape.as_slice())
+}
+
 fn put_creation(alloc: Global, out: &mut Vec<u8>, command: &Command) -> Written {
     match command {
         Command::Zeros { name, descr, shape } => {
-            put(out, b"zeros")?;
-            put_word(out, name.as_slice())?;
-            put_word(out, descr.as_slice())?;
-            put_lengths(alloc, out, shape.as_slice())
+            put_made(alloc, out, b"zeros", name, descr, shape)
         }
         Command::Full {
             name,
@@ -129,23 +155,8 @@ fn put_creation(alloc: Global, out: &mut Vec<u8>, command: &Command) -> Written 
             shape,
             value,
         } => {
-            put(out, b"full")?;
-            put_word(out, name.as_slice())?;
-            put_word(out, descr.as_slice())?;
-            put_lengths(alloc, out, shape.as_slice())?;
+            put_made(alloc, out, b"full", name, descr, shape)?;
             put_literal(alloc, out, value)
-        }
-        Command::Arange {
-            name,
-            descr,
-            start,
-            stop,
-            step,
-        } => {
-            put(out, b"arange")?;
-            put_word(out, name.as_slice())?;
-            put_word(out, descr.as_slice())?;
-            put_integers(alloc, out, &[*start, *stop, *step])
         }
         Command::Array {
             name,
@@ -153,58 +164,60 @@ fn put_creation(alloc: Global, out: &mut Vec<u8>, command: &Command) -> Written 
             shape,
             values,
         } => {
-            put(out, b"array")?;
-            put_word(out, name.as_slice())?;
-            put_word(out, descr.as_slice())?;
-            put_lengths(alloc, out, shape.as_slice())?;
+            put_made(alloc, out, b"array", name, descr, shape)?;
             for value in values.as_slice() {
                 put_literal(alloc, out, value)?;
             }
             Ok(())
         }
+        other => put_range_or_file(alloc, out, other),
+    }
+}
+
+fn put_range_or_file(alloc: Global, out: &mut Vec<u8>, command: &Command) -> Written {
+    match command {
+        Command::Arange {
+            name,
+            descr,
+            start,
+            stop,
+            step,
+        } => {
+            put_head(out, b"arange", name)?;
+            put_word(out, descr.as_slice())?;
+            put_integers(alloc, out, &[*start, *stop, *step])
+        }
         Command::Load { name, file } => {
-            put(out, b"load")?;
-            put_word(out, name.as_slice())?;
+            put_head(out, b"load", name)?;
             put_word(out, file.as_slice())
         }
         other => put_view(alloc, out, other),
     }
 }
 
+fn put_axes(alloc: Global, out: &mut Vec<u8>, axes: &Option<Integers>) -> Written {
+    match axes {
+        Some(axes) => put_integers(alloc, out, axes.as_slice()),
+        None => Ok(()),
+    }
+}
+
 fn put_view(alloc: Global, out: &mut Vec<u8>, command: &Command) -> Written {
     match command {
         Command::View { name, source } => {
-            put(out, b"view")?;
-            put_word(out, name.as_slice())?;
+            put_head(out, b"view", name)?;
             put_operand(alloc, out, source)
         }
-        Command::Field {
-            name,
-            source,
-            field,
-        } => {
-            put(out, b"field")?;
-            put_word(out, name.as_slice())?;
-            put_word(out, source.as_slice())?;
-            put_word(out, field.as_slice())
-        }
         Command::Transpose { name, source, axes } => {
-            put(out, b"transpose")?;
-            put_word(out, name.as_slice())?;
-            put_word(out, source.as_slice())?;
-            match axes {
-                Some(axes) => put_integers(alloc, out, axes.as_slice()),
-                None => Ok(()),
-            }
+            put_names(out, b"transpose", name, source)?;
+            put_axes(alloc, out, axes)
         }
         Command::Reshape {
             name,
             source,
             shape,
         } => {
-            put(out, b"reshape")?;
-            put_word(out, name.as_slice())?;
-            put_word(out, source.as_slice())?;
+            put_names(out, b"reshape", name, source)?;
             put_integers(alloc, out, shape.as_slice())
         }
         Command::Broadcast {
@@ -212,25 +225,29 @@ fn put_view(alloc: Global, out: &mut Vec<u8>, command: &Command) -> Written {
             source,
             shape,
         } => {
-            put(out, b"broadcast")?;
-            put_word(out, name.as_slice())?;
-            put_word(out, source.as_slice())?;
+            put_names(out, b"broadcast", name, source)?;
             put_lengths(alloc, out, shape.as_slice())
         }
-        other => put_computation(alloc, out, other),
+        other => put_copy(alloc, out, other),
     }
 }
 
-fn put_computation(alloc: Global, out: &mut Vec<u8>, command: &Command) -> Written {
+fn put_copy(alloc: Global, out: &mut Vec<u8>, command: &Command) -> Written {
     match command {
+        Command::Field {
+            name,
+            source,
+            field,
+        } => {
+            put_names(out, b"field", name, source)?;
+            put_word(out, field.as_slice())
+        }
         Command::Duplicate {
             name,
             source,
             order,
         } => {
-            put(out, b"copy")?;
-            put_word(out, name.as_slice())?;
-            put_word(out, source.as_slice())?;
+            put_names(out, b"copy", name, source)?;
             match order {
                 MemoryOrder::C => put(out, b" C"),
                 MemoryOrder::F => put(out, b" F"),
@@ -241,11 +258,15 @@ fn put_computation(alloc: Global, out: &mut Vec<u8>, command: &Command) -> Writt
             source,
             descr,
         } => {
-            put(out, b"cast")?;
-            put_word(out, name.as_slice())?;
-            put_word(out, source.as_slice())?;
+            put_names(out, b"cast", name, source)?;
             put_word(out, descr.as_slice())
         }
+        other => put_computation(alloc, out, other),
+    }
+}
+
+fn put_computation(alloc: Global, out: &mut Vec<u8>, command: &Command) -> Written {
+    match command {
         Command::Combine {
             name,
             operation,
@@ -253,8 +274,7 @@ fn put_computation(alloc: Global, out: &mut Vec<u8>, command: &Command) -> Writt
             right,
         } => {
             let operation = format!(in alloc; "{operation:?}")?;
-            put(out, operation.as_bytes())?;
-            put_word(out, name.as_slice())?;
+            put_head(out, operation.as_bytes(), name)?;
             put_operand(alloc, out, left)?;
             put_argument(alloc, out, right)
         }
@@ -264,10 +284,15 @@ fn put_computation(alloc: Global, out: &mut Vec<u8>, command: &Command) -> Writt
             operand,
         } => {
             let operation = format!(in alloc; "{operation:?}")?;
-            put(out, operation.as_bytes())?;
-            put_word(out, name.as_slice())?;
+            put_head(out, operation.as_bytes(), name)?;
             put_operand(alloc, out, operand)
         }
+        other => put_reduction(alloc, out, other),
+    }
+}
+
+fn put_reduction(alloc: Global, out: &mut Vec<u8>, command: &Command) -> Written {
+    match command {
         Command::Reduce {
             name,
             reduction,
@@ -276,19 +301,13 @@ fn put_computation(alloc: Global, out: &mut Vec<u8>, command: &Command) -> Writt
             keep,
         } => {
             let reduction = format!(in alloc; "{reduction:?}")?;
-            put(out, reduction.as_bytes())?;
-            put_word(out, name.as_slice())?;
-            put_word(out, source.as_slice())?;
+            put_names(out, reduction.as_bytes(), name, source)?;
             put(out, b" ")?;
             put_part(alloc, out, *axis)?;
-            put(
-                out,
-                if *keep {
-                    b" keep".as_slice()
-                } else {
-                    b"".as_slice()
-                },
-            )
+            if *keep {
+                return put(out, b" keep");
+            }
+            Ok(())
         }
         other => put_statement(alloc, out, other),
     }
@@ -297,8 +316,7 @@ fn put_computation(alloc: Global, out: &mut Vec<u8>, command: &Command) -> Writt
 fn put_statement(alloc: Global, out: &mut Vec<u8>, command: &Command) -> Written {
     match command {
         Command::Set { name, index, value } => {
-            put(out, b"set")?;
-            put_word(out, name.as_slice())?;
+            put_head(out, b"set", name)?;
             put_index(alloc, out, index)?;
             put_argument(alloc, out, value)
         }
@@ -309,19 +327,12 @@ fn put_statement(alloc: Global, out: &mut Vec<u8>, command: &Command) -> Written
             value,
         } => {
             let operation = format!(in alloc; "upd {operation:?}")?;
-            put(out, operation.as_bytes())?;
-            put_word(out, name.as_slice())?;
+            put_head(out, operation.as_bytes(), name)?;
             put_index(alloc, out, index)?;
             put_argument(alloc, out, value)
         }
-        Command::Shares { left, right } => {
-            put(out, b"shares")?;
-            put_word(out, left.as_slice())?;
-            put_word(out, right.as_slice())
-        }
         Command::Save { name, file } => {
-            put(out, b"save")?;
-            put_word(out, name.as_slice())?;
+            put_head(out, b"save", name)?;
             put_word(out, file.as_slice())
         }
         other => put_name(out, other),
@@ -332,28 +343,17 @@ fn put_name(out: &mut Vec<u8>, command: &Command) -> Written {
     match command {
         Command::Undo => put(out, b"undo"),
         Command::Names => put(out, b"names"),
-        Command::Delete { name } => {
-            put(out, b"del")?;
-            put_word(out, name.as_slice())
-        }
-        Command::Print { name } => {
-            put(out, b"print")?;
-            put_word(out, name.as_slice())
-        }
-        Command::Info { name } => {
-            put(out, b"info")?;
-            put_word(out, name.as_slice())
-        }
-        Command::Format { name } => {
-            put(out, b"format")?;
-            put_word(out, name.as_slice())
-        }
+        Command::Shares { left, right } => put_names(out, b"shares", left, right),
+        Command::Delete { name } => put_head(out, b"del", name),
+        Command::Print { name } => put_head(out, b"print", name),
+        Command::Info { name } => put_head(out, b"info", name),
+        Command::Format { name } => put_head(out, b"format", name),
         _ => put(out, b"?"),
     }
 }
 
 /// The command, `-` for none, or the code of the refusal.
-pub fn shown(
+pub(super) fn shown(
     alloc: Global,
     parsed: &Result<Option<Command>, Refusal>,
 ) -> Result<Vec<u8>, AllocError> {
