@@ -1,0 +1,8 @@
+pub mod Nuls
+pub mod Lists
+pub mod Decided
+pub mod Leaves
+pub mod Blocked
+pub mod Stepping
+pub mod Scalars
+mod Vectors

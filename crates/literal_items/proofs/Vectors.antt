@@ -1,0 +1,158 @@
+-- Literals and ranges as items, worked out by hand and by NumPy.
+use Rattle.std.proofs.Common.{◌≡◌, true, false, pos, negsuc, [], ◌∷◌, Ok, Err, codes, refl}
+use Rattle.elem_descr.specs.declared.refusal.Refusal.TheVariants.{LiteralOutOfRange, NoSuchCast, TooLarge, ZeroStep}
+use Rattle.elem_descr.specs.declared.scalar.Order.TheVariants.{Little, Big}
+use Rattle.elem_descr.specs.declared.scalar.Width.TheVariants.{Four, Eight}
+use Rattle.elem_descr.specs.declared.scalar.Scalar.TheVariants.{Bool as BoolScalar, Byte, Int, Bytes as BytesScalar}
+use Rattle.elem_descr.specs.declared.descr.Descr.{Descr}
+use Rattle.elem_descr.specs.declared.descr.Descr.TheVariants.{Scalar as ScalarDescr, Record as RecordDescr}
+use Rattle.elem_descr.specs.Values.{number, text}
+use Rattle.script_lang.specs.declared.literal.ScalarLiteral.TheVariants.{Integer, Boolean, Bytes}
+use Rattle.script_lang.specs.declared.literal.Literal.TheVariants.{Scalar as ScalarOf, Record as RecordOf}
+use Rattle.literal_items.specs.LiteralItems.{item_value, item_values}
+use Rattle.literal_items.specs.RangeItems.{range_length, range_items}
+
+-- T{<b:x:3x<i:y:}
+abbrev pair : Descr
+pair = RecordDescr (record {
+  size = 8;
+  leaves = record { name = codes "x"; scalar = Byte true; at = 0 } ∷ (record { name = codes "y"; scalar = Int true Four Little; at = 4 } ∷ []);
+})
+
+-- T{<B:x:2s:t:}
+abbrev mixed : Descr
+mixed = RecordDescr (record {
+  size = 3;
+  leaves = record { name = codes "x"; scalar = Byte false; at = 0 } ∷ (record { name = codes "t"; scalar = BytesScalar 2; at = 1 } ∷ []);
+})
+
+cut : item_value (ScalarDescr (BytesScalar 3)) (ScalarOf (Bytes (codes "abcd"))) ≡ Ok (text (codes "abc") ∷ [])
+unfolding item_value
+cut = refl
+
+-- b'a\x00b\x00' into |S3
+nuls_lost : item_value (ScalarDescr (BytesScalar 4)) (ScalarOf (Bytes (97 ∷ 0 ∷ 98 ∷ 0 ∷ 99 ∷ []))) ≡ Ok (text (97 ∷ 0 ∷ 98 ∷ []) ∷ [])
+unfolding item_value
+nuls_lost = refl
+
+by_position : item_value pair (RecordOf (Integer (pos 5) ∷ Integer (negsuc 0) ∷ [])) ≡ Ok (number (pos 5) ∷ number (negsuc 0) ∷ [])
+unfolding item_value
+by_position = refl
+
+to_each : item_value pair (ScalarOf (Integer (pos 7))) ≡ Ok (number (pos 7) ∷ number (pos 7) ∷ [])
+unfolding item_value
+to_each = refl
+
+too_great : item_value (ScalarDescr (Byte false)) (ScalarOf (Integer (pos 300))) ≡ Err LiteralOutOfRange
+unfolding item_value
+too_great = refl
+
+too_great_for_eight : item_value (ScalarDescr (Int false Eight Little)) (ScalarOf (Integer (pos 18446744073709551616))) ≡ Err LiteralOutOfRange
+unfolding item_value
+too_great_for_eight = refl
+
+too_small_for_eight : item_value (ScalarDescr (Int true Eight Big)) (ScalarOf (Integer (negsuc 9223372036854775808))) ≡ Err LiteralOutOfRange
+unfolding item_value
+too_small_for_eight = refl
+
+any_number_is_true : item_value (ScalarDescr BoolScalar) (ScalarOf (Integer (pos 7))) ≡ Ok (number (pos 1) ∷ [])
+unfolding item_value
+any_number_is_true = refl
+
+true_is_one : item_value (ScalarDescr (Int true Four Little)) (ScalarOf (Boolean true)) ≡ Ok (number (pos 1) ∷ [])
+unfolding item_value
+true_is_one = refl
+
+false_is_zero : item_value (ScalarDescr BoolScalar) (ScalarOf (Boolean false)) ≡ Ok (number (pos 0) ∷ [])
+unfolding item_value
+false_is_zero = refl
+
+bytes_to_a_number : item_value (ScalarDescr (Int true Four Little)) (ScalarOf (Bytes (codes "a"))) ≡ Err NoSuchCast
+unfolding item_value
+bytes_to_a_number = refl
+
+bytes_to_a_bool : item_value (ScalarDescr BoolScalar) (ScalarOf (Bytes (codes "a"))) ≡ Err NoSuchCast
+unfolding item_value
+bytes_to_a_bool = refl
+
+number_to_bytes : item_value (ScalarDescr (BytesScalar 2)) (ScalarOf (Integer (pos 1))) ≡ Err NoSuchCast
+unfolding item_value
+number_to_bytes = refl
+
+bool_to_bytes : item_value (ScalarDescr (BytesScalar 2)) (ScalarOf (Boolean true)) ≡ Err NoSuchCast
+unfolding item_value
+bool_to_bytes = refl
+
+record_to_a_scalar : item_value (ScalarDescr (Byte true)) (RecordOf (Integer (pos 5) ∷ [])) ≡ Err NoSuchCast
+unfolding item_value
+record_to_a_scalar = refl
+
+one_value_short : item_value pair (RecordOf (Integer (pos 5) ∷ [])) ≡ Err NoSuchCast
+unfolding item_value
+one_value_short = refl
+
+one_value_too_many : item_value pair (RecordOf (Integer (pos 5) ∷ Integer (pos 5) ∷ Integer (pos 5) ∷ [])) ≡ Err NoSuchCast
+unfolding item_value
+one_value_too_many = refl
+
+-- a value that cannot be cast comes before one that is out of range
+cast_first : item_value mixed (RecordOf (Integer (pos 300) ∷ Integer (pos 1) ∷ [])) ≡ Err NoSuchCast
+unfolding item_value
+cast_first = refl
+
+cast_first_of_all : item_values (ScalarDescr (Byte false)) (ScalarOf (Integer (pos 300)) ∷ ScalarOf (Bytes (codes "a")) ∷ []) ≡ Err NoSuchCast
+unfolding item_values
+cast_first_of_all = refl
+
+one_out_of_range : item_values (ScalarDescr (Byte false)) (ScalarOf (Integer (pos 3)) ∷ ScalarOf (Integer (negsuc 0)) ∷ []) ≡ Err LiteralOutOfRange
+unfolding item_values
+one_out_of_range = refl
+
+many : item_values (ScalarDescr (Byte false)) (ScalarOf (Integer (pos 3)) ∷ ScalarOf (Boolean true) ∷ []) ≡ Ok ((number (pos 3) ∷ []) ∷ (number (pos 1) ∷ []) ∷ [])
+unfolding item_values
+many = refl
+
+-- numpy.arange
+signed_byte_passed : range_items (Byte true) (pos 0) (pos 201) (pos 100) ≡ Err LiteralOutOfRange
+unfolding range_items range_length
+signed_byte_passed = refl
+
+signed_byte : range_items (Byte true) (pos 0) (pos 200) (pos 100) ≡ Ok ((number (pos 0) ∷ []) ∷ (number (pos 100) ∷ []) ∷ [])
+unfolding range_items range_length
+signed_byte = refl
+
+five : range_items (Int true Four Little) (pos 0) (pos 5) (pos 1) ≡ Ok ((number (pos 0) ∷ []) ∷ (number (pos 1) ∷ []) ∷ (number (pos 2) ∷ []) ∷ (number (pos 3) ∷ []) ∷ (number (pos 4) ∷ []) ∷ [])
+unfolding range_items range_length
+five = refl
+
+backwards : range_items (Int true Four Little) (pos 5) (pos 0) (negsuc 1) ≡ Ok ((number (pos 5) ∷ []) ∷ (number (pos 3) ∷ []) ∷ (number (pos 1) ∷ []) ∷ [])
+unfolding range_items range_length
+backwards = refl
+
+none : range_items (Int true Four Little) (pos 3) (pos 3) (pos 1) ≡ Ok []
+unfolding range_items range_length
+none = refl
+
+away : range_items (Int true Four Little) (pos 0) (pos 5) (negsuc 0) ≡ Ok []
+unfolding range_items range_length
+away = refl
+
+three : range_items (Int false Eight Little) (pos 0) (pos 18446744073709551615) (pos 9223372036854775807) ≡ Ok ((number (pos 0) ∷ []) ∷ (number (pos 9223372036854775807) ∷ []) ∷ (number (pos 18446744073709551614) ∷ []) ∷ [])
+unfolding range_items range_length
+three = refl
+
+too_many : range_items (Int true Eight Little) (pos 0) (pos 999999999999999999999999999999) (pos 1) ≡ Err TooLarge
+unfolding range_items range_length
+too_many = refl
+
+one_too_many : range_length (pos 0) (pos 16777217) (pos 1) ≡ Err TooLarge
+unfolding range_length
+one_too_many = refl
+
+as_many_as_may_be : range_length (pos 0) (pos 16777216) (pos 1) ≡ Ok 16777216
+unfolding range_length
+as_many_as_may_be = refl
+
+no_step : range_items (Int true Four Little) (pos 0) (pos 5) (pos 0) ≡ Err ZeroStep
+unfolding range_items range_length
+no_step = refl

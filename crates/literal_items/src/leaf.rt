@@ -1,0 +1,63 @@
+// Literals as the bytes of one leaf.
+ghost use Rattle.std.specs.Prelude.{◌≡◌, true, pos, length, take};
+ghost use Rattle.elem_descr.specs.Values.{number};
+ghost use Rattle.elem_descr.specs.Encoding.{IsNumber, size, decode, encode, wrap, padded, without_nuls};
+ghost use Rattle.literal_items.specs.LiteralItems.{takes_number, is_castable, is_in_range, leaf_value};
+
+use crate::number::write_number;
+use elem_descr::Scalar;
+use script_lang::ScalarLiteral;
+
+/// Whether the literal can be a value of the scalar.
+pub(crate) fn is_castable(scalar: &Scalar, literal: &ScalarLiteral) -> bool
+    ensures { result ≡ is_castable scalar.now literal.now }
+{
+    let is_text = matches!(literal, ScalarLiteral::Bytes(_));
+    match scalar {
+        Scalar::Bytes(_) => is_text,
+        _ => !is_text,
+    }
+}
+
+/// Writes bytes as an item: those that do not fit are cut off, and NULs stand where there are fewer.
+fn write_bytes(bytes: &[u8], item: &mut [u8])
+    ensures encoded { item.new ≡ padded (length item.old) (without_nuls (take (length item.old) bytes.now)) }
+    ensures reads_back { without_nuls item.new ≡ without_nuls (take (length item.old) bytes.now) }
+{
+    let kept = bytes.len().min(item.len());
+    item.fill(0);
+    item[..kept].copy_from_slice(&bytes[..kept]);
+}
+
+/// Writes a number as a value of the scalar, and answers whether it is in range.
+fn write_in_range(scalar: &Scalar, value: &i128, item: &mut [u8]) -> bool
+    requires number { IsNumber scalar.now }
+    requires whole { length item.old ≡ size scalar.now }
+    ensures held { result ≡ takes_number scalar.now value.now }
+    ensures encoded { item.new ≡ encode scalar.now (number (wrap scalar.now value.now)) }
+    ensures reads_back { decode scalar.now item.new ≡ number (wrap scalar.now value.now) }
+{
+    let is_held = write_number(scalar, value, item);
+    match scalar {
+        Scalar::Bool => true,
+        _ => is_held,
+    }
+}
+
+/// Writes a literal as a value of the scalar, and answers whether it is in range.
+pub(crate) fn write_leaf(scalar: &Scalar, literal: &ScalarLiteral, item: &mut [u8]) -> bool
+    requires castable { is_castable scalar.now literal.now ≡ true }
+    requires whole { length item.old ≡ size scalar.now }
+    ensures held { result ≡ is_in_range scalar.now literal.now }
+    ensures encoded { item.new ≡ encode scalar.now (leaf_value scalar.now literal.now) }
+    ensures reads_back { decode scalar.now item.new ≡ leaf_value scalar.now literal.now }
+{
+    match literal {
+        ScalarLiteral::Integer(value) => write_in_range(scalar, value, item),
+        ScalarLiteral::Boolean(value) => write_in_range(scalar, &i128::from(*value), item),
+        ScalarLiteral::Bytes(text) => {
+            write_bytes(text.as_slice(), item);
+            true
+        }
+    }
+}

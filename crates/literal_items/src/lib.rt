@@ -1,0 +1,13 @@
+//! Literals of a script, and the numbers of a range, as items of a descriptor.
+#![tactic(auto)]
+
+pub mod item;
+mod leaf;
+mod number;
+pub mod range;
+
+pub use item::{can_be_item, fill, write_item, write_items};
+pub use range::{range_len, write_range};
+
+#[cfg(test)]
+mod tests;

@@ -1,0 +1,75 @@
+//! The numbers of a range as items.
+ghost use Rattle.std.specs.Prelude.{◌≡◌, ◌<◌, ◌≤◌, ◌^◌, ◌↔◌, ◌*◌, ℕ, ℤ, pos, ◌+ℤ◌, ◌*ℤ◌, FitsSigned, IsTrue, length, map, Ok, Err, IfOk, MatchResult};
+ghost use Rattle.std.specs.Int.{w128};
+ghost use Rattle.elem_descr.specs.declared.descr.Descr.TheVariants.{Scalar as ScalarDescr};
+ghost use Rattle.elem_descr.specs.Encoding.{IsNumber, size};
+ghost use Rattle.elem_descr.specs.Items.{decode_item};
+ghost use Rattle.elem_descr.specs.Blocks.{blocks};
+ghost use Rattle.literal_items.specs.RangeItems.{is_before, distance, range_count, range_length, range_items};
+
+use crate::number::write_number;
+use elem_descr::{Refusal, Scalar};
+
+/// The most numbers that a range may have.
+const MAX_NUMBERS: u128 = 1 << 24;
+
+/// How far the stop is from the start, as the step goes.
+fn distance(start: &i128, stop: &i128, step: &i128) -> u128
+    ensures value { result ≡ distance start.now stop.now step.now }
+    ensures start_fits { FitsSigned w128 start.now }
+    ensures stop_fits { FitsSigned w128 stop.now }
+{
+    let is_ahead = if *step < 0 {
+        stop < start
+    } else {
+        start < stop
+    };
+    if is_ahead { start.abs_diff(*stop) } else { 0 }
+}
+
+/// How many numbers start, start + step, .. there are before the stop. A step of 0 is refused as
+/// `ZeroStep`, and more than 2^24 numbers as `TooLarge`.
+pub fn range_len(start: &i128, stop: &i128, step: &i128) -> Result<usize, Refusal>
+    ensures value { result ≡ range_length start.now stop.now step.now }
+    ensures count { IfOk result (λ n. n ≡ range_count start.now stop.now step.now) }
+    ensures few { IfOk result (λ n. n ≤ 2 ^ 24) }
+    ensures before { IfOk result (λ n. (k : ℕ) → (k < n) ↔ IsTrue (is_before step.now stop.now (start.now +ℤ step.now *ℤ pos k))) }
+    ensures fits { IfOk result (λ n. (k : ℕ) → k < n → FitsSigned w128 (start.now +ℤ step.now *ℤ pos k)) }
+{
+    if *step == 0 {
+        return Err(Refusal::ZeroStep);
+    }
+    let count = distance(start, stop, step).div_ceil(step.unsigned_abs());
+    if count > MAX_NUMBERS {
+        return Err(Refusal::TooLarge);
+    }
+    Ok(count as usize)
+}
+
+/// Writes the numbers start, start + step, .. before the stop as items one after another. A step of 0
+/// is refused as `ZeroStep`, more than 2^24 numbers as `TooLarge`, and then a number that is no value
+/// of the scalar as `LiteralOutOfRange`.
+pub fn write_range(
+    scalar: &Scalar,
+    start: &i128,
+    stop: &i128,
+    step: &i128,
+    block: &mut [u8],
+) -> Result<(), Refusal>
+    requires number { IsNumber scalar.now }
+    requires whole { length block.old ≡ range_count start.now stop.now step.now * size scalar.now }
+    ensures { MatchResult result
+        (λ _. range_items scalar.now start.now stop.now step.now ≡ Ok (map (decode_item (ScalarDescr scalar.now)) (blocks (size scalar.now) (range_count start.now stop.now step.now) block.new)))
+        (λ refusal. range_items scalar.now start.now stop.now step.now ≡ Err refusal) }
+{
+    let count = range_len(start, stop, step)?;
+    let size = scalar.size();
+    let mut number = *start;
+    for k in 0..count {
+        if !write_number(scalar, &number, &mut block[k * size..(k + 1) * size]) {
+            return Err(Refusal::LiteralOutOfRange);
+        }
+        number = number.wrapping_add(*step);
+    }
+    Ok(())
+}
