@@ -1,0 +1,195 @@
+-- Laws of the texts of an item's values, and of their widths.
+use Rattle.std.proofs.Common.{◌≡◌, ℕ, zero, suc, ◌+◌, ◌<◌, ◌≤◌, List, [], ◌∷◌, ◌++◌, length, map, take, drop, replicate, codes, get_or, refl, sym, ap, subst, ◌∙◌, ◌-◌, arith, append_assoc}
+use Rattle.std.specs.Prelude.{Bool, IfSome, slice_get}
+use Rattle.std.specs.Fmt.{signed_decimal}
+use Rattle.std.proofs.lemmas.List.{take-take, drop-take, drop-drop, take_more, length-take}
+use Rattle.std.proofs.lemmas.Slice.Zip.{AllZip-long}
+use Rattle.elem_descr.specs.declared.scalar.Scalar.{Scalar}
+use Rattle.elem_descr.specs.declared.scalar.Scalar.TheVariants.{Bool as BoolScalar, Byte, Int, Bytes}
+use Rattle.elem_descr.specs.declared.scalar.Order.{Order}
+use Rattle.elem_descr.specs.declared.scalar.Width.{Width}
+use Rattle.elem_descr.specs.declared.leaf.Leaf.{Leaf}
+use Rattle.elem_descr.specs.declared.descr.Descr.{Descr}
+use Rattle.elem_descr.specs.declared.descr.Descr.TheVariants.{Scalar as ScalarDescr, Record as RecordDescr}
+use Rattle.elem_descr.specs.Descriptors.{Structure}
+use Rattle.elem_descr.specs.Values.{LeafValue}
+use Rattle.elem_descr.specs.Encoding.{size, decode, number_of}
+use Rattle.elem_descr.specs.Items.{item_size, leaves_of}
+use Rattle.array_print.specs.Printed.{leaf_text, leaf_texts, first_text, later_texts, leaf_width, leaf_widths, widths, widest, padded, aligned, joined, record_end, in_parentheses, items_at}
+use Rattle.array_print.specs.Shown.{IsWidth, AreWidths, integer_at, lead, texts_at, shown}
+
+-- ---- values in a block
+
+-- the bytes of a leaf of an item, by their place in the block
+pub bytes-at : (block : List ℕ) (offset at wide n : ℕ) → at + wide ≤ n → take wide (drop at (take n (drop offset block))) ≡ take wide (drop (offset + at) block)
+bytes-at block offset at wide n fits =
+    let more : n ≡ at + (n - at) = omega arith in
+    let most : wide ≤ n - at = omega arith in
+    ap (λ m. take wide (drop at (take m (drop offset block)))) more
+    ∙ ap (take wide) (drop-take at (n - at) (drop offset block))
+    ∙ take-take wide (n - at) (drop at (drop offset block)) most
+    ∙ ap (take wide) (drop-drop at offset block)
+
+-- the value of a leaf in the bytes of an item
+abbrev pub value_in : List ℕ → Leaf → LeafValue
+value_in bytes leaf = decode leaf.scalar (take (size leaf.scalar) (drop leaf.at bytes))
+
+-- ---- widths of leaves
+
+pub count-widths : (leaves : List Leaf) (ws : List ℕ) → AreWidths leaves ws → length ws ≡ length leaves
+count-widths leaves ws are = AllZip-long (λ leaf width. IsWidth leaf.scalar width) leaves ws are
+
+pub width-at : (leaves : List Leaf) (ws : List ℕ) (k : ℕ) (scalar : Scalar) (at : ℕ) → AreWidths leaves ws → k < length leaves → IfSome (slice_get leaves k) (λ leaf. (scalar ≡ leaf.scalar) × (at ≡ leaf.at)) → IsWidth scalar (get_or ws k 0)
+width-at [] ws k scalar at are below is = absurd (omega arith)
+width-at (leaf ∷ leaves) [] k scalar at are below is = absurd are
+width-at (leaf ∷ leaves) (w ∷ ws) zero scalar at are below is = subst (λ s. IsWidth s w) (sym is.0) are.0
+width-at (leaf ∷ leaves) (w ∷ ws) (suc k) scalar at are below is = width-at leaves ws k scalar at are.1 (omega arith) is
+
+is-width : (scalar : Scalar) (texts : List (List ℕ)) → IsWidth scalar (leaf_width scalar texts)
+is-width BoolScalar texts = tt
+is-width (Byte signed) texts = tt
+is-width (Int signed wide order) texts = tt
+is-width (Bytes n) texts = refl
+
+no-width : (scalar : Scalar) → IsWidth scalar 0
+no-width BoolScalar = tt
+no-width (Byte signed) = tt
+no-width (Int signed wide order) = tt
+no-width (Bytes n) = refl
+
+are-leaf-widths : (leaves : List Leaf) (items : List (List (List ℕ))) → AreWidths leaves (leaf_widths leaves items)
+are-leaf-widths [] items = tt
+are-leaf-widths (leaf ∷ leaves) items = (is-width leaf.scalar (map first_text items), are-leaf-widths leaves (map later_texts items))
+
+are-no-widths : (leaves : List Leaf) → AreWidths leaves (replicate (length leaves) 0)
+are-no-widths [] = tt
+are-no-widths (leaf ∷ leaves) = (no-width leaf.scalar, are-no-widths leaves)
+
+pub are-widths : (descr : Descr) (shape : List ℕ) (items : List (List LeafValue)) → AreWidths (leaves_of descr) (widths descr shape items)
+are-widths descr [] items = are-no-widths (leaves_of descr)
+are-widths descr (n ∷ shape) items = are-leaf-widths (leaves_of descr) (map (leaf_texts (leaves_of descr)) items)
+
+-- ---- the texts of an item
+
+pub text-at : (leaves : List Leaf) (ws bytes : List ℕ) (k : ℕ) (scalar : Scalar) (at : ℕ) → AreWidths leaves ws → k < length leaves → IfSome (slice_get leaves k) (λ leaf. (scalar ≡ leaf.scalar) × (at ≡ leaf.at)) →
+    get_or (aligned ws (leaf_texts leaves (map (value_in bytes) leaves))) k [] ≡ padded (get_or ws k 0) (leaf_text scalar (decode scalar (take (size scalar) (drop at bytes))))
+text-at [] ws bytes k scalar at are below is = absurd (omega arith)
+text-at (leaf ∷ leaves) [] bytes k scalar at are below is = absurd are
+text-at (leaf ∷ leaves) (w ∷ ws) bytes zero scalar at are below is =
+    λ i. padded w (leaf_text (sym is.0 i) (decode (sym is.0 i) (take (size (sym is.0 i)) (drop (sym is.1 i) bytes))))
+text-at (leaf ∷ leaves) (w ∷ ws) bytes (suc k) scalar at are below is = text-at leaves ws bytes k scalar at are.1 (omega arith) is
+
+pub length-texts : (leaves : List Leaf) (ws bytes : List ℕ) → AreWidths leaves ws → length (aligned ws (leaf_texts leaves (map (value_in bytes) leaves))) ≡ length leaves
+length-texts [] [] bytes are = refl
+length-texts [] (w ∷ ws) bytes are = absurd are
+length-texts (leaf ∷ leaves) [] bytes are = absurd are
+length-texts (leaf ∷ leaves) (w ∷ ws) bytes are = ap suc (length-texts leaves ws bytes are.1)
+
+-- the one text of a scalar
+pub one-text : (texts : List (List ℕ)) → length texts ≡ 1 → joined [] texts ≡ get_or texts 0 []
+one-text [] one = absurd (omega arith)
+one-text (text ∷ []) one = refl
+one-text (text ∷ (next ∷ texts)) one = absurd (omega arith)
+
+-- one text more, with what leads it
+joined-push : (separator text : List ℕ) (texts : List (List ℕ)) → joined separator (texts ++ text ∷ []) ≡ joined separator texts ++ lead (length texts) separator ++ text
+joined-push separator text [] = refl
+joined-push separator text (first ∷ []) = refl
+joined-push separator text (first ∷ (next ∷ texts)) =
+    let rest = joined separator (next ∷ texts) in
+    ap (λ l. first ++ separator ++ l) (joined-push separator text (next ∷ texts))
+    ∙ sym (append_assoc (first ++ separator) (rest ++ separator) text)
+    ∙ ap (λ l. l ++ text) (sym (append_assoc (first ++ separator) rest separator))
+
+pub joined-take-more : (separator : List ℕ) (texts : List (List ℕ)) (k : ℕ) → k < length texts → joined separator (take (k + 1) texts) ≡ joined separator (take k texts) ++ lead k separator ++ get_or texts k []
+joined-take-more separator texts k below =
+    let count : length (take k texts) ≡ k = omega (arith, length-take k texts) in
+    ap (joined separator) (take_more texts k [] below)
+    ∙ joined-push separator (get_or texts k []) (take k texts)
+    ∙ ap (λ n. joined separator (take k texts) ++ lead n separator ++ get_or texts k []) count
+
+-- ---- the texts of one leaf in all items
+
+first-texts : (leaf : Leaf) (leaves : List Leaf) (bytes : ℕ → List ℕ) (offsets : List ℕ) →
+    map first_text (map (leaf_texts (leaf ∷ leaves)) (map (λ offset. map (value_in (bytes offset)) (leaf ∷ leaves)) offsets)) ≡ map (λ offset. leaf_text leaf.scalar (value_in (bytes offset) leaf)) offsets
+first-texts leaf leaves bytes [] = refl
+first-texts leaf leaves bytes (offset ∷ offsets) = ap (λ later. leaf_text leaf.scalar (value_in (bytes offset) leaf) ∷ later) (first-texts leaf leaves bytes offsets)
+
+rest-texts : (leaf : Leaf) (leaves : List Leaf) (bytes : ℕ → List ℕ) (offsets : List ℕ) →
+    map later_texts (map (leaf_texts (leaf ∷ leaves)) (map (λ offset. map (value_in (bytes offset)) (leaf ∷ leaves)) offsets)) ≡ map (leaf_texts leaves) (map (λ offset. map (value_in (bytes offset)) leaves) offsets)
+rest-texts leaf leaves bytes [] = refl
+rest-texts leaf leaves bytes (offset ∷ offsets) = ap (λ later. leaf_texts leaves (map (value_in (bytes offset)) leaves) ∷ later) (rest-texts leaf leaves bytes offsets)
+
+pub leaf-width-at : (leaves : List Leaf) (bytes : ℕ → List ℕ) (offsets : List ℕ) (k : ℕ) (scalar : Scalar) (at : ℕ) → k < length leaves → IfSome (slice_get leaves k) (λ leaf. (scalar ≡ leaf.scalar) × (at ≡ leaf.at)) →
+    get_or (leaf_widths leaves (map (leaf_texts leaves) (map (λ offset. map (value_in (bytes offset)) leaves) offsets))) k 0 ≡ leaf_width scalar (map (λ offset. leaf_text scalar (decode scalar (take (size scalar) (drop at (bytes offset))))) offsets)
+leaf-width-at [] bytes offsets k scalar at below is = absurd (omega arith)
+leaf-width-at (leaf ∷ leaves) bytes offsets zero scalar at below is =
+    ap (leaf_width leaf.scalar) (first-texts leaf leaves bytes offsets)
+    ∙ λ i. leaf_width (sym is.0 i) (map (λ offset. leaf_text (sym is.0 i) (decode (sym is.0 i) (take (size (sym is.0 i)) (drop (sym is.1 i) (bytes offset))))) offsets)
+leaf-width-at (leaf ∷ leaves) bytes offsets (suc k) scalar at below is =
+    ap (λ items. get_or (leaf_widths leaves items) k 0) (rest-texts leaf leaves bytes offsets)
+    ∙ leaf-width-at leaves bytes offsets k scalar at (omega arith) is
+
+-- an array with axes
+pub array-width-at : (descr : Descr) (shape block offsets : List ℕ) (k : ℕ) (scalar : Scalar) (at : ℕ) → 0 < length shape → k < length (leaves_of descr) → IfSome (slice_get (leaves_of descr) k) (λ leaf. (scalar ≡ leaf.scalar) × (at ≡ leaf.at)) →
+    get_or (widths descr shape (items_at descr block offsets)) k 0 ≡ leaf_width scalar (map (λ offset. leaf_text scalar (decode scalar (take (size scalar) (drop at (take (item_size descr) (drop offset block)))))) offsets)
+array-width-at descr [] block offsets k scalar at axes below is = absurd (omega arith)
+array-width-at descr (n ∷ shape) block offsets k scalar at axes below is =
+    leaf-width-at (leaves_of descr) (λ offset. take (item_size descr) (drop offset block)) offsets k scalar at below is
+
+pub bool-width : (descr : Descr) (shape block offsets : List ℕ) (k : ℕ) (scalar : Scalar) (at : ℕ) → scalar ≡ BoolScalar → 0 < length shape → k < length (leaves_of descr) → IfSome (slice_get (leaves_of descr) k) (λ leaf. (scalar ≡ leaf.scalar) × (at ≡ leaf.at)) →
+    5 ≡ get_or (widths descr shape (items_at descr block offsets)) k 0
+bool-width descr shape block offsets k scalar at bool axes below is =
+    let texts = map (λ offset. leaf_text scalar (decode scalar (take (size scalar) (drop at (take (item_size descr) (drop offset block)))))) offsets in
+    sym (array-width-at descr shape block offsets k scalar at axes below is ∙ ap (λ s. leaf_width s texts) bool)
+
+pub bytes-width : (descr : Descr) (shape block offsets : List ℕ) (k : ℕ) (scalar : Scalar) (at n : ℕ) → scalar ≡ Bytes n → 0 < length shape → k < length (leaves_of descr) → IfSome (slice_get (leaves_of descr) k) (λ leaf. (scalar ≡ leaf.scalar) × (at ≡ leaf.at)) →
+    0 ≡ get_or (widths descr shape (items_at descr block offsets)) k 0
+bytes-width descr shape block offsets k scalar at n string axes below is =
+    let texts = map (λ offset. leaf_text scalar (decode scalar (take (size scalar) (drop at (take (item_size descr) (drop offset block)))))) offsets in
+    sym (array-width-at descr shape block offsets k scalar at axes below is ∙ ap (λ s. leaf_width s texts) string)
+
+-- an integer's text and width
+abbrev pub PrintsInteger : Scalar → Type 0
+PrintsInteger scalar = ((texts : List (List ℕ)) → leaf_width scalar texts ≡ widest texts) × ((value : LeafValue) → leaf_text scalar value ≡ signed_decimal (number_of value))
+
+pub byte-prints : (scalar : Scalar) (signed : Bool) → scalar ≡ Byte signed → PrintsInteger scalar
+byte-prints scalar signed is = subst PrintsInteger (sym is) ((λ texts. refl), (λ value. refl))
+
+pub int-prints : (scalar : Scalar) (signed : Bool) (wide : Width) (order : Order) → scalar ≡ Int signed wide order → PrintsInteger scalar
+int-prints scalar signed wide order is = subst PrintsInteger (sym is) ((λ texts. refl), (λ value. refl))
+
+integers-at : (scalar : Scalar) (block : List ℕ) (at n : ℕ) (offsets : List ℕ) → PrintsInteger scalar → at + size scalar ≤ n →
+    map (λ offset. leaf_text scalar (decode scalar (take (size scalar) (drop at (take n (drop offset block)))))) offsets ≡ map (λ offset. integer_at scalar block (offset + at)) offsets
+integers-at scalar block at n [] prints fits = refl
+integers-at scalar block at n (offset ∷ offsets) prints fits =
+    let here : leaf_text scalar (decode scalar (take (size scalar) (drop at (take n (drop offset block))))) ≡ integer_at scalar block (offset + at) =
+    prints.1 (decode scalar (take (size scalar) (drop at (take n (drop offset block)))))
+    ∙ ap (λ bytes. signed_decimal (number_of (decode scalar bytes))) (bytes-at block offset at (size scalar) n fits) in
+    λ i. here i ∷ integers-at scalar block at n offsets prints fits i
+
+pub integer-width : (descr : Descr) (shape block offsets walk : List ℕ) (k : ℕ) (scalar : Scalar) (at width : ℕ) → PrintsInteger scalar → at + size scalar ≤ item_size descr → 0 < length shape → k < length (leaves_of descr) →
+    IfSome (slice_get (leaves_of descr) k) (λ leaf. (scalar ≡ leaf.scalar) × (at ≡ leaf.at)) → walk ≡ offsets → width ≡ widest (map (λ offset. integer_at scalar block (offset + at)) walk) → width ≡ get_or (widths descr shape (items_at descr block offsets)) k 0
+integer-width descr shape block offsets walk k scalar at width prints fits axes below is walked wide =
+    wide
+    ∙ ap (λ l. widest (map (λ offset. integer_at scalar block (offset + at)) l)) walked
+    ∙ ap widest (sym (integers-at scalar block at (item_size descr) offsets prints fits))
+    ∙ sym (prints.0 (map (λ offset. leaf_text scalar (decode scalar (take (size scalar) (drop at (take (item_size descr) (drop offset block)))))) offsets))
+    ∙ sym (array-width-at descr shape block offsets k scalar at axes below is)
+
+-- ---- the texts of an item in a block
+
+pub length-texts-at : (descr : Descr) (ws block : List ℕ) (offset : ℕ) → AreWidths (leaves_of descr) ws → length (texts_at descr ws block offset) ≡ length (leaves_of descr)
+length-texts-at descr ws block offset are = length-texts (leaves_of descr) ws (take (item_size descr) (drop offset block)) are
+
+-- the one text of a scalar stands alone
+pub shown-scalar : (descr : Descr) (scalar : Scalar) (ws block : List ℕ) (offset : ℕ) → descr ≡ ScalarDescr scalar → AreWidths (leaves_of descr) ws → shown descr ws block offset ≡ get_or (texts_at descr ws block offset) 0 []
+shown-scalar descr scalar ws block offset is are =
+    let one : length (texts_at descr ws block offset) ≡ 1 = length-texts-at descr ws block offset are ∙ ap (λ d. length (leaves_of d)) is in
+    ap (λ d. in_parentheses d (texts_at descr ws block offset)) is
+    ∙ one-text (texts_at descr ws block offset) one
+
+-- those of a record stand in parentheses
+pub shown-record : (descr : Descr) (structure : Structure) (ws block : List ℕ) (offset : ℕ) → descr ≡ RecordDescr structure →
+    shown descr ws block offset ≡ codes "(" ++ joined (codes ", ") (texts_at descr ws block offset) ++ record_end (length (texts_at descr ws block offset))
+shown-record descr structure ws block offset is = ap (λ d. in_parentheses d (texts_at descr ws block offset)) is

@@ -1,0 +1,3 @@
+pub mod LeafLaws
+pub mod PrintLaws
+pub mod Vectors

@@ -1,0 +1,82 @@
+-- The definitions at arrays that NumPy prints.
+use Rattle.std.proofs.Common.{◌≡◌, [], ◌∷◌, List, ℕ, true, false, codes, refl}
+use Rattle.std.specs.Fmt.{digits}
+use Rattle.elem_descr.specs.declared.scalar.Order.TheVariants.{Little, Big}
+use Rattle.elem_descr.specs.declared.scalar.Width.TheVariants.{Two, Four, Eight}
+use Rattle.elem_descr.specs.declared.scalar.Scalar.TheVariants.{Bool as BoolScalar, Byte, Int, Bytes}
+use Rattle.elem_descr.specs.declared.descr.Descr.{Descr}
+use Rattle.elem_descr.specs.declared.descr.Descr.TheVariants.{Scalar as ScalarDescr, Record as RecordDescr}
+use Rattle.array_print.specs.Printed.{array_text, items_at}
+
+-- the items of a block in a shape
+abbrev text_of_array : Descr → List ℕ → List ℕ → List ℕ → List ℕ
+text_of_array descr shape offsets block = array_text descr shape (items_at descr block offsets)
+
+bools : text_of_array (ScalarDescr BoolScalar) (3 ∷ []) (0 ∷ 1 ∷ 2 ∷ []) (1 ∷ 0 ∷ 7 ∷ []) ≡ codes "[ True False  True]"
+bools = refl
+
+bytes_u1 : text_of_array (ScalarDescr (Byte false)) (3 ∷ []) (0 ∷ 1 ∷ 2 ∷ []) (255 ∷ 0 ∷ 44 ∷ []) ≡ codes "[255   0  44]"
+unfolding digits
+bytes_u1 = refl
+
+strings : text_of_array (ScalarDescr (Bytes 3)) (2 ∷ []) (0 ∷ 3 ∷ []) (97 ∷ 98 ∷ 0 ∷ 97 ∷ 0 ∷ 99 ∷ []) ≡ codes "[b'ab' b'a\\x00c']"
+strings = refl
+
+quotes : text_of_array (ScalarDescr (Bytes 3)) [] (0 ∷ []) (39 ∷ 92 ∷ 200 ∷ []) ≡ codes "b'\\x27\\x5c\\xc8'"
+quotes = refl
+
+-- `T{<i:x:>h:y:}`
+both_orders : Descr
+both_orders = RecordDescr (record { size = 6; leaves = record { name = codes "x"; scalar = Int true Four Little; at = 0 } ∷ record { name = codes "y"; scalar = Int true Two Big; at = 4 } ∷ [] })
+
+-- `T{<b:x:3x<i:y:}`
+padded_record : Descr
+padded_record = RecordDescr (record { size = 8; leaves = record { name = codes "x"; scalar = Byte true; at = 0 } ∷ record { name = codes "y"; scalar = Int true Four Little; at = 4 } ∷ [] })
+
+one_field : Descr
+one_field = RecordDescr (record { size = 1; leaves = record { name = codes "x"; scalar = Byte true; at = 0 } ∷ [] })
+
+bool_and_byte : Descr
+bool_and_byte = RecordDescr (record { size = 2; leaves = record { name = codes "x"; scalar = BoolScalar; at = 0 } ∷ record { name = codes "y"; scalar = Byte true; at = 1 } ∷ [] })
+
+records : text_of_array both_orders (1 ∷ []) (0 ∷ []) (0 ∷ 0 ∷ 0 ∷ 0 ∷ 1 ∷ 2 ∷ []) ≡ codes "[(0, 258)]"
+unfolding digits both_orders
+records = refl
+
+padded_records : text_of_array padded_record (2 ∷ []) (0 ∷ 8 ∷ []) (0 ∷ 9 ∷ 9 ∷ 9 ∷ 0 ∷ 0 ∷ 0 ∷ 0 ∷ 5 ∷ 9 ∷ 9 ∷ 9 ∷ 255 ∷ 255 ∷ 255 ∷ 255 ∷ []) ≡ codes "[(0,  0) (5, -1)]"
+unfolding digits padded_record
+padded_records = refl
+
+records_of_one : text_of_array one_field (1 ∷ []) (0 ∷ []) (1 ∷ []) ≡ codes "[(1,)]"
+unfolding digits one_field
+records_of_one = refl
+
+record_of_one : text_of_array one_field [] (0 ∷ []) (5 ∷ []) ≡ codes "(5,)"
+unfolding digits one_field
+record_of_one = refl
+
+bools_in_records : text_of_array bool_and_byte (2 ∷ []) (0 ∷ 2 ∷ []) (1 ∷ 1 ∷ 0 ∷ 2 ∷ []) ≡ codes "[( True, 1) (False, 2)]"
+unfolding digits bool_and_byte
+bools_in_records = refl
+
+record_without_axes : text_of_array bool_and_byte [] (0 ∷ []) (1 ∷ 1 ∷ []) ≡ codes "(True, 1)"
+unfolding digits bool_and_byte
+record_without_axes = refl
+
+bool_without_axes : text_of_array (ScalarDescr BoolScalar) [] (0 ∷ []) (1 ∷ []) ≡ codes "True"
+bool_without_axes = refl
+
+empty : text_of_array (ScalarDescr BoolScalar) (2 ∷ 0 ∷ 3 ∷ []) [] [] ≡ codes "[]"
+empty = refl
+
+greatest : text_of_array (ScalarDescr (Int false Eight Big)) [] (0 ∷ []) (255 ∷ 255 ∷ 255 ∷ 255 ∷ 255 ∷ 255 ∷ 255 ∷ 255 ∷ []) ≡ codes "18446744073709551615"
+unfolding digits
+greatest = refl
+
+least : text_of_array (ScalarDescr (Int true Eight Little)) (1 ∷ []) (0 ∷ []) (0 ∷ 0 ∷ 0 ∷ 0 ∷ 0 ∷ 0 ∷ 0 ∷ 128 ∷ []) ≡ codes "[-9223372036854775808]"
+unfolding digits
+least = refl
+
+three_axes : text_of_array (ScalarDescr (Byte true)) (2 ∷ 2 ∷ 2 ∷ []) (0 ∷ 1 ∷ 2 ∷ 3 ∷ 4 ∷ 5 ∷ 6 ∷ 7 ∷ []) (0 ∷ 1 ∷ 2 ∷ 3 ∷ 4 ∷ 5 ∷ 6 ∷ 249 ∷ []) ≡ codes "[[[ 0  1]\n  [ 2  3]]\n\n [[ 4  5]\n  [ 6 -7]]]"
+unfolding digits
+three_axes = refl

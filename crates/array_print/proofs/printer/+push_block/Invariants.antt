@@ -1,0 +1,16 @@
+use Rattle.std.proofs.Common.{◌≡◌, ◌+◌, ◌-◌, ◌*◌, ◌≤◌, ◌++◌, length, drop, vec_capacity}
+use Rattle.shape_strides.specs.Indexes.{count}
+use Rattle.array_print.specs.Shown.{shown}
+use Rattle.array_print.proofs.PrintLaws.{opened}
+use Rattle.array_print.proofs.printer.+push_block.Given as goal
+
+-- the blocks so far stand behind their bracket
+abbrev pub invariant-loop-k : goal.invariant-loop-k
+invariant-loop-k l = record {
+  pushed : l.out.items ≡ l.fn.out.items ++ opened (shown l.items.descr.now l.items.widths.now l.items.block.now) l.axes l.axis l.k l.fn.walk;
+  walked : l.walk ≡ drop (l.k * count (drop (l.axis + 1) l.axes)) l.fn.walk;
+  room : vec_capacity l.fn.out ≤ vec_capacity l.out;
+}
+
+abbrev pub decreases-push_block : goal.decreases-push_block
+decreases-push_block l = length l.axes.now - l.axis

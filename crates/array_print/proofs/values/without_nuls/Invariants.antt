@@ -1,0 +1,13 @@
+use Rattle.std.proofs.Common.{◌≡◌, ◌+◌, ◌≤◌, nat_eq, length, take}
+use Rattle.std.specs.List.{suffix_len}
+use Rattle.array_print.proofs.values.without_nuls.Given as goal
+
+-- as many NULs as were cut off end the whole string
+abbrev pub invariant-loop-len : goal.invariant-loop-len
+invariant-loop-len l = record {
+  within : l.len ≤ length l.bytes;
+  cut : l.len + suffix_len (λ b. nat_eq b 0) l.bytes ≡ length l.bytes + suffix_len (λ b. nat_eq b 0) (take l.len l.bytes);
+}
+
+abbrev pub decreases-loop-len : goal.decreases-loop-len
+decreases-loop-len l = l.len

@@ -1,0 +1,131 @@
+-- The printed text of an array.
+use Rattle.std.specs.Prelude.{ℕ, zero, suc, ◌+◌, ◌-◌, ◌/◌, ◌%◌, ℤ, pos, Bool, ◌&&◌, not, List, [], ◌∷◌, ◌++◌, length, map, replicate, codes, take, drop, fold, max, flat_map, slice_index, nat_eq, nat_le, if◌then◌else◌}
+use Rattle.std.specs.Fmt.{signed_decimal}
+use Rattle.elem_descr.specs.declared.scalar.Scalar.{Scalar}
+use Rattle.elem_descr.specs.declared.scalar.Scalar.TheVariants.{Bool as BoolScalar, Byte, Int, Bytes}
+use Rattle.elem_descr.specs.declared.leaf.Leaf.{Leaf}
+use Rattle.elem_descr.specs.declared.descr.Descr.{Descr}
+use Rattle.elem_descr.specs.declared.descr.Descr.TheVariants.{Scalar as ScalarDescr, Record as RecordDescr}
+use Rattle.elem_descr.specs.Values.{LeafValue}
+use Rattle.elem_descr.specs.Encoding.{number_of, text_of}
+use Rattle.elem_descr.specs.TypeStrings.{is_one_of}
+use Rattle.elem_descr.specs.Items.{item_size, leaves_of, decode_item}
+use Rattle.elem_descr.specs.Blocks.{blocks}
+use Rattle.shape_strides.specs.Indexes.{count}
+
+-- a hexadecimal digit, in lower case
+abbrev pub hex_digit : ℕ → ℕ
+hex_digit n = slice_index (codes "0123456789abcdef") n
+
+-- a printable byte that is no quote and no backslash
+abbrev pub is_plain : ℕ → Bool
+is_plain byte = nat_le 32 byte && nat_le byte 126 && not (is_one_of (codes "'\\") byte)
+
+-- the text of a byte inside b'..': itself, or two hexadecimal digits behind `\x`
+abbrev pub escaped : ℕ → List ℕ
+escaped byte = if is_plain byte then byte ∷ [] else codes "\\x" ++ (hex_digit (byte / 16) ∷ (hex_digit (byte % 16) ∷ []))
+
+-- the text of a bool
+abbrev pub bool_text : ℤ → List ℕ
+bool_text (pos zero) = codes "False"
+bool_text value = codes "True"
+
+-- the text of a byte string
+abbrev pub byte_string_text : List ℕ → List ℕ
+byte_string_text bytes = codes "b'" ++ flat_map escaped bytes ++ codes "'"
+
+-- the text of a value
+abbrev pub leaf_text : Scalar → LeafValue → List ℕ
+leaf_text BoolScalar value = bool_text (number_of value)
+leaf_text (Byte signed) value = signed_decimal (number_of value)
+leaf_text (Int signed width order) value = signed_decimal (number_of value)
+leaf_text (Bytes n) value = byte_string_text (text_of value)
+
+-- the texts of an item's values
+abbrev pub leaf_texts : List Leaf → List LeafValue → List (List ℕ)
+leaf_texts (leaf ∷ leaves) (value ∷ values) = leaf_text leaf.scalar value ∷ leaf_texts leaves values
+leaf_texts _ _ = []
+
+-- the length of the longest text
+abbrev pub widest : List (List ℕ) → ℕ
+widest texts = fold (λ width text. max width (length text)) 0 texts
+
+-- the width to which texts of a leaf are filled up: 5 for bools, none for byte strings, and for integers that of the longest
+abbrev pub leaf_width : Scalar → List (List ℕ) → ℕ
+leaf_width BoolScalar texts = 5
+leaf_width (Byte signed) texts = widest texts
+leaf_width (Int signed width order) texts = widest texts
+leaf_width (Bytes n) texts = 0
+
+-- the first text of an item, and those after it
+abbrev pub first_text : List (List ℕ) → List ℕ
+first_text [] = []
+first_text (text ∷ texts) = text
+
+abbrev pub later_texts : List (List ℕ) → List (List ℕ)
+later_texts [] = []
+later_texts (text ∷ texts) = texts
+
+-- the width of each leaf, from its texts in all items
+abbrev pub leaf_widths : List Leaf → List (List (List ℕ)) → List ℕ
+leaf_widths [] items = []
+leaf_widths (leaf ∷ leaves) items = leaf_width leaf.scalar (map first_text items) ∷ leaf_widths leaves (map later_texts items)
+
+-- the width of each leaf of an array: none where it has no axes
+abbrev pub widths : Descr → List ℕ → List (List LeafValue) → List ℕ
+widths descr [] items = replicate (length (leaves_of descr)) 0
+widths descr (n ∷ shape) items = leaf_widths (leaves_of descr) (map (leaf_texts (leaves_of descr)) items)
+
+-- a text, with blanks before it up to a width
+abbrev pub padded : ℕ → List ℕ → List ℕ
+padded width text = replicate (width - length text) 32 ++ text
+
+-- each text as wide as it is to be
+abbrev pub aligned : List ℕ → List (List ℕ) → List (List ℕ)
+aligned (width ∷ widths) (text ∷ texts) = padded width text ∷ aligned widths texts
+aligned _ _ = []
+
+-- texts, and a separator between each two
+abbrev pub joined : List ℕ → List (List ℕ) → List ℕ
+joined separator [] = []
+joined separator (first ∷ []) = first
+joined separator (first ∷ (next ∷ texts)) = first ++ separator ++ joined separator (next ∷ texts)
+
+-- what follows the texts of a record: one text alone has a comma after it
+abbrev pub record_end : ℕ → List ℕ
+record_end n = if nat_eq n 1 then codes ",)" else codes ")"
+
+-- the texts of a record in parentheses; that of a scalar stands alone
+abbrev pub in_parentheses : Descr → List (List ℕ) → List ℕ
+in_parentheses (ScalarDescr scalar) texts = joined [] texts
+in_parentheses (RecordDescr structure) texts = codes "(" ++ joined (codes ", ") texts ++ record_end (length texts)
+
+-- the text of an item, each leaf's text as wide as it is to be
+abbrev pub item_text : Descr → List ℕ → List LeafValue → List ℕ
+item_text descr widths values = in_parentheses descr (aligned widths (leaf_texts (leaves_of descr) values))
+
+-- What stands between two blocks, below an axis that has `inner` axes inside it and so many
+-- brackets open before its own: a space between items, and else as many newlines as there are inner axes and
+-- as many spaces as there are brackets open.
+abbrev pub separator : ℕ → ℕ → List ℕ
+separator brackets zero = codes " "
+separator brackets (suc inner) = replicate (suc inner) 10 ++ replicate (brackets + 1) 32
+
+-- the blocks of an axis in brackets, and the one item where no axis is left
+abbrev pub block_text : ℕ → List ℕ → List (List ℕ) → List ℕ
+block_text brackets [] texts = joined [] texts
+block_text brackets (n ∷ shape) texts =
+    codes "[" ++ joined (separator brackets (length shape)) (map (block_text (brackets + 1) shape) (blocks (count shape) n texts)) ++ codes "]"
+
+-- the text of items in a shape; an array of no items is `[]`
+abbrev pub array_text : Descr → List ℕ → List (List LeafValue) → List ℕ
+array_text descr shape items =
+    if nat_eq (count shape) 0 then codes "[]" else block_text 0 shape (map (item_text descr (widths descr shape items)) items)
+
+-- the item of a block whose bytes begin at an offset
+abbrev pub item_at : Descr → List ℕ → ℕ → List LeafValue
+item_at descr block offset = decode_item descr (take (item_size descr) (drop offset block))
+
+-- the items of a block by their offsets
+abbrev pub items_at : Descr → List ℕ → List ℕ → List (List LeafValue)
+items_at descr block offsets = map (item_at descr block) offsets

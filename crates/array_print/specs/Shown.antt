@@ -1,0 +1,39 @@
+-- How parts of an array's text come from its block of bytes.
+use Rattle.std.specs.Prelude.{◌≡◌, ℕ, zero, suc, List, [], take, drop}
+use Rattle.std.specs.Fmt.{signed_decimal}
+use Rattle.std.specs.List.{AllZip}
+use Rattle.elem_descr.specs.declared.scalar.Scalar.{Scalar}
+use Rattle.elem_descr.specs.declared.scalar.Scalar.TheVariants.{Bool as BoolScalar, Byte, Int, Bytes}
+use Rattle.elem_descr.specs.declared.leaf.Leaf.{Leaf}
+use Rattle.elem_descr.specs.declared.descr.Descr.{Descr}
+use Rattle.elem_descr.specs.Encoding.{size, decode, number_of}
+use Rattle.elem_descr.specs.Items.{leaves_of}
+use Rattle.array_print.specs.Printed.{leaf_texts, aligned, item_text, item_at}
+
+-- the text of the integer whose bytes begin at a place
+abbrev pub integer_at : Scalar → List ℕ → ℕ → List ℕ
+integer_at scalar block place = signed_decimal (number_of (decode scalar (take (size scalar) (drop place block))))
+
+-- the widths that texts of a scalar may have: a byte string has none
+abbrev pub IsWidth : Scalar → ℕ → Type 0
+IsWidth BoolScalar width = Unit {0}
+IsWidth (Byte signed) width = Unit {0}
+IsWidth (Int signed size order) width = Unit {0}
+IsWidth (Bytes n) width = width ≡ 0
+
+-- one width for each leaf
+abbrev pub AreWidths : List Leaf → List ℕ → Type 0
+AreWidths leaves widths = AllZip (λ leaf width. IsWidth leaf.scalar width) leaves widths
+
+-- the texts of the item whose bytes begin at an offset, each as wide as it is to be
+abbrev pub texts_at : Descr → List ℕ → List ℕ → ℕ → List (List ℕ)
+texts_at descr widths block offset = aligned widths (leaf_texts (leaves_of descr) (item_at descr block offset))
+
+-- the text of that item
+abbrev pub shown : Descr → List ℕ → List ℕ → ℕ → List ℕ
+shown descr widths block offset = item_text descr widths (item_at descr block offset)
+
+-- what stands before the k-th of some texts that a separator joins
+abbrev pub lead : ℕ → List ℕ → List ℕ
+lead zero separator = []
+lead (suc k) separator = separator

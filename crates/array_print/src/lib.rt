@@ -1,0 +1,11 @@
+//! The text of an array of any descriptor, as NumPy prints it.
+#![tactic(auto)]
+
+mod padding;
+mod printer;
+#[cfg(test)]
+mod tests;
+mod values;
+mod widths;
+
+pub use printer::print_into;

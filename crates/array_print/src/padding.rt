@@ -1,0 +1,87 @@
+//! Blanks, separators, and texts that are padded to a width.
+ghost use Rattle.std.specs.Prelude.{◌≡◌, ◌+◌, ◌≤◌, ◌++◌, codes, replicate, vec_capacity, OnOk};
+ghost use Rattle.std.specs.Io.{StartsWith};
+ghost use Rattle.array_print.specs.Printed.{separator, padded, record_end};
+ghost use Rattle.array_print.specs.Shown.{lead};
+
+use std::alloc::AllocError;
+
+/// Appends so many copies of a byte. Where memory runs out, some may stand past the old end.
+fn push_repeated(out: &mut Vec<u8>, byte: u8, n: usize) -> Result<(), AllocError>
+    ensures ok { OnOk result (out.new.items ≡ out.old.items ++ replicate n byte) }
+    ensures kept { StartsWith out.new.items out.old.items }
+    ensures room { vec_capacity out.old ≤ vec_capacity out.new }
+{
+    for _i in 0..n {
+        out.push(byte)?;
+    }
+    Ok(())
+}
+
+/// Appends what stands before the block at `k` of an axis that has so many axes inside it: nothing
+/// before the first.
+pub fn push_lead(
+    out: &mut Vec<u8>,
+    k: usize,
+    brackets: usize,
+    inner: usize,
+) -> Result<(), AllocError>
+    requires { brackets ≤ 64 }
+    ensures ok { OnOk result (out.new.items ≡ out.old.items ++ lead k (separator brackets inner)) }
+    ensures kept { StartsWith out.new.items out.old.items }
+    ensures room { vec_capacity out.old ≤ vec_capacity out.new }
+{
+    if k == 0 {
+        return Ok(());
+    }
+    push_separator(out, brackets, inner)
+}
+
+/// Appends what stands between two blocks of an axis with so many axes inside it.
+fn push_separator(out: &mut Vec<u8>, brackets: usize, inner: usize) -> Result<(), AllocError>
+    requires { brackets ≤ 64 }
+    ensures ok { OnOk result (out.new.items ≡ out.old.items ++ separator brackets inner) }
+    ensures kept { StartsWith out.new.items out.old.items }
+    ensures room { vec_capacity out.old ≤ vec_capacity out.new }
+{
+    if inner == 0 {
+        return push_repeated(out, b' ', 1);
+    }
+    push_repeated(out, b'\n', inner)?;
+    push_repeated(out, b' ', brackets + 1)
+}
+
+/// Appends a text, padded on the left to a width.
+pub fn push_padded(out: &mut Vec<u8>, text: &str, width: usize) -> Result<(), AllocError>
+    ensures ok { OnOk result (out.new.items ≡ out.old.items ++ padded width text.now) }
+    ensures kept { StartsWith out.new.items out.old.items }
+    ensures room { vec_capacity out.old ≤ vec_capacity out.new }
+{
+    let blanks = width.saturating_sub(text.len());
+    push_repeated(out, b' ', blanks)?;
+    out.extend_from_slice(text.as_bytes())
+}
+
+/// Appends what stands before the `k`-th value of a record: nothing before the first.
+pub fn push_comma(out: &mut Vec<u8>, k: usize) -> Result<(), AllocError>
+    ensures ok { OnOk result (out.new.items ≡ out.old.items ++ lead k (codes ", ")) }
+    ensures kept { StartsWith out.new.items out.old.items }
+    ensures room { vec_capacity out.old ≤ vec_capacity out.new }
+{
+    if k == 0 {
+        return Ok(());
+    }
+    out.extend_from_slice(b", ")
+}
+
+/// Appends what follows the values of a record, of which there are so many.
+pub fn push_record_end(out: &mut Vec<u8>, values: usize) -> Result<(), AllocError>
+    ensures ok { OnOk result (out.new.items ≡ out.old.items ++ record_end values) }
+    ensures kept { StartsWith out.new.items out.old.items }
+    ensures room { vec_capacity out.old ≤ vec_capacity out.new }
+{
+    if values == 1 {
+        return out.extend_from_slice(b",)");
+    }
+    out.extend_from_slice(b")")
+}

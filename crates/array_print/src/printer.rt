@@ -1,0 +1,182 @@
+//! The text of an array: items in nested brackets, each value padded to the width of its leaf.
+ghost use Rattle.std.specs.Prelude.{◌≡◌, ◌+◌, ◌^◌, ◌≤◌, ◌<◌, ◌++◌, [], codes, get_or, length, map, take, drop, slice_index, vec_capacity, All, OnOk, OnErr};
+ghost use Rattle.std.specs.Io.{StartsWith};
+ghost use Rattle.elem_descr.specs.Items.{item_size, leaves_of};
+ghost use Rattle.shape_strides.specs.Indexes.{count};
+ghost use Rattle.shape_strides.specs.Layouts.{offsets, Fits};
+ghost use Rattle.array_print.specs.Printed.{array_text, block_text, joined, record_end, items_at};
+ghost use Rattle.array_print.specs.Shown.{AreWidths, texts_at, shown};
+
+use crate::padding::{push_comma, push_lead, push_record_end};
+use crate::values::push_value;
+use crate::widths::widths_of;
+use elem_descr::Descr;
+use shape_strides::{Layout, Walk};
+use std::alloc::{AllocError, Global};
+
+/// Items of one descriptor in a block of bytes, and the widths to which the texts of their values
+/// are padded.
+#[derive(Clone, Copy)]
+struct Items<'a> {
+    descr: &'a Descr,
+    block: &'a [u8],
+    widths: &'a [usize],
+}
+
+/// Appends the text of the `k`-th value of the item at an offset.
+fn push_leaf(
+    out: &mut Vec<u8>,
+    items: &Items<'_>,
+    k: usize,
+    offset: usize,
+) -> Result<(), AllocError>
+    requires leaf { k < length (leaves_of items.now.descr.now) }
+    requires few { k ≤ 64 }
+    requires widths { AreWidths (leaves_of items.now.descr.now) items.now.widths.now }
+    requires inside { offset + item_size items.now.descr.now ≤ length items.now.block.now }
+    ensures ok { OnOk result (out.new.items ≡ out.old.items
+        ++ get_or (texts_at items.now.descr.now items.now.widths.now items.now.block.now offset) k []) }
+    ensures kept { StartsWith out.new.items out.old.items }
+    ensures room { vec_capacity out.old ≤ vec_capacity out.new }
+{
+    let (scalar, at) = items.descr.leaf_at(k);
+    let place = offset + at;
+    let bytes = &items.block[place..place + scalar.size()];
+    push_value(out, &scalar, items.widths[k], bytes)
+}
+
+/// Appends the text of a record: its values in parentheses.
+fn push_record(out: &mut Vec<u8>, items: &Items<'_>, offset: usize) -> Result<(), AllocError>
+    requires widths { AreWidths (leaves_of items.now.descr.now) items.now.widths.now }
+    requires inside { offset + item_size items.now.descr.now ≤ length items.now.block.now }
+    ensures ok { OnOk result (out.new.items ≡ out.old.items
+        ++ (codes "("
+        ++ joined (codes ", ") (texts_at items.now.descr.now items.now.widths.now items.now.block.now offset)
+        ++ record_end (length (texts_at items.now.descr.now items.now.widths.now items.now.block.now offset)))) }
+    ensures kept { StartsWith out.new.items out.old.items }
+    ensures room { vec_capacity out.old ≤ vec_capacity out.new }
+{
+    let count = items.descr.leaf_count();
+    out.push(b'(')?;
+    for k in 0..count {
+        push_comma(out, k)?;
+        push_leaf(out, items, k, offset)?;
+    }
+    push_record_end(out, count)
+}
+
+/// Appends the text of one item.
+fn push_item(out: &mut Vec<u8>, items: &Items<'_>, offset: usize) -> Result<(), AllocError>
+    requires widths { AreWidths (leaves_of items.now.descr.now) items.now.widths.now }
+    requires inside { offset + item_size items.now.descr.now ≤ length items.now.block.now }
+    ensures ok { OnOk result (out.new.items ≡ out.old.items
+        ++ shown items.now.descr.now items.now.widths.now items.now.block.now offset) }
+    ensures kept { StartsWith out.new.items out.old.items }
+    ensures room { vec_capacity out.old ≤ vec_capacity out.new }
+{
+    match items.descr {
+        Descr::Scalar(_) => push_leaf(out, items, 0, offset),
+        Descr::Record(_) => push_record(out, items, offset),
+    }
+}
+
+/// Appends the text of the next item of a walk.
+fn push_next(out: &mut Vec<u8>, walk: &mut Walk<'_>, items: &Items<'_>) -> Result<(), AllocError>
+    requires widths { AreWidths (leaves_of items.now.descr.now) items.now.widths.now }
+    requires some { 1 ≤ length walk.old }
+    requires inside { All (λ offset. offset + item_size items.now.descr.now ≤ length items.now.block.now) walk.old }
+    ensures ok { OnOk result (out.new.items ≡ out.old.items
+        ++ shown items.now.descr.now items.now.widths.now items.now.block.now (slice_index walk.old 0)) }
+    ensures rest { OnOk result (walk.new ≡ drop 1 walk.old) }
+    ensures kept { StartsWith out.new.items out.old.items }
+    ensures room { vec_capacity out.old ≤ vec_capacity out.new }
+{
+    match walk.next() {
+        Some(offset) => push_item(out, items, offset),
+        None => Ok(()),
+    }
+}
+
+/// Appends the text of the next block of a walk. Its axes are those from `axis` on, and as many
+/// brackets are open before its own as there are axes before them.
+fn push_block(
+    out: &mut Vec<u8>,
+    walk: &mut Walk<'_>,
+    items: &Items<'_>,
+    axes: &[usize],
+    axis: usize,
+) -> Result<(), AllocError>
+    requires widths { AreWidths (leaves_of items.now.descr.now) items.now.widths.now }
+    requires axis { axis ≤ length axes.now }
+    requires axes { length axes.now ≤ 64 }
+    requires enough { count (drop axis axes.now) ≤ length walk.old }
+    requires inside { All (λ offset. offset + item_size items.now.descr.now ≤ length items.now.block.now) walk.old }
+    ensures ok { OnOk result (out.new.items ≡ out.old.items ++ block_text axis (drop axis axes.now)
+        (map (shown items.now.descr.now items.now.widths.now items.now.block.now) (take (count (drop axis axes.now)) walk.old))) }
+    ensures rest { OnOk result (walk.new ≡ drop (count (drop axis axes.now)) walk.old) }
+    ensures kept { StartsWith out.new.items out.old.items }
+    ensures room { vec_capacity out.old ≤ vec_capacity out.new }
+{
+    if axis == axes.len() {
+        return push_next(out, walk, items);
+    }
+    out.push(b'[')?;
+    for k in 0..axes[axis] {
+        push_lead(out, k, axis, axes.len() - axis - 1)?;
+        push_block(out, walk, items, axes, axis + 1)?;
+    }
+    out.push(b']')?;
+    Ok(())
+}
+
+/// Appends the text of an array. Where memory runs out, some of it may stand past the old end.
+fn push_array(
+    alloc: Global,
+    out: &mut Vec<u8>,
+    block: &[u8],
+    layout: &Layout,
+    descr: &Descr,
+) -> Result<(), AllocError>
+    requires fits { Fits layout.now (2 ^ 28) 1 }
+    requires inside { All (λ offset. offset + item_size descr.now ≤ length block.now) (offsets layout.now) }
+    ensures ok { OnOk result (out.new.items ≡ out.old.items
+        ++ array_text descr.now layout.now.shape (items_at descr.now block.now (offsets layout.now))) }
+    ensures kept { StartsWith out.new.items out.old.items }
+    ensures room { vec_capacity out.old ≤ vec_capacity out.new }
+{
+    if layout.shape.items() == 0 {
+        return out.extend_from_slice(b"[]");
+    }
+    let widths = widths_of(alloc, block, layout, descr)?;
+    let items = Items {
+        descr,
+        block,
+        widths: widths.as_slice(),
+    };
+    let mut walk = Walk::new(alloc, layout)?;
+    push_block(out, &mut walk, &items, layout.shape.as_slice(), 0)
+}
+
+/// Appends the text of an array whose items lie at the layout's offsets in a block. Where memory
+/// runs out, the text is as before.
+pub fn print_into(
+    alloc: Global,
+    out: &mut Vec<u8>,
+    block: &[u8],
+    layout: &Layout,
+    descr: &Descr,
+) -> Result<(), AllocError>
+    requires fits { Fits layout.now (2 ^ 28) 1 }
+    requires inside { All (λ offset. offset + item_size descr.now ≤ length block.now) (offsets layout.now) }
+    ensures ok { OnOk result (out.new.items ≡ out.old.items
+        ++ array_text descr.now layout.now.shape (items_at descr.now block.now (offsets layout.now))) }
+    ensures err { OnErr result (out.new.items ≡ out.old.items) }
+    ensures room { vec_capacity out.old ≤ vec_capacity out.new }
+{
+    let before = out.len();
+    let printed = push_array(alloc, out, block, layout, descr);
+    if printed.is_err() {
+        out.truncate(before);
+    }
+    printed
+}

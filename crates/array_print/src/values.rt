@@ -1,0 +1,120 @@
+//! The texts of single values.
+ghost use Rattle.std.specs.Prelude.{◌≡◌, ◌++◌, ◌≤◌, ◌<◌, length, flat_map, vec_capacity, OnOk};
+ghost use Rattle.std.specs.Io.{StartsWith};
+ghost use Rattle.std.specs.Fmt.{signed_decimal};
+ghost use Rattle.elem_descr.specs.Encoding.{IsNumber, size, decode, number_of, without_nuls};
+ghost use Rattle.array_print.specs.Printed.{hex_digit, is_plain, escaped, byte_string_text, bool_text, leaf_text, padded};
+ghost use Rattle.array_print.specs.Shown.{IsWidth};
+
+use crate::padding::push_padded;
+use elem_descr::{Scalar, num_read};
+use itoa::Buffer;
+use std::alloc::AllocError;
+
+/// A hexadecimal digit, in lower case.
+fn hex_digit(digit: u8) -> u8
+    requires { digit < 16 }
+    ensures { result ≡ hex_digit digit }
+{
+    b"0123456789abcdef"[usize::from(digit)]
+}
+
+/// Whether a byte of a byte string is printed as itself.
+fn is_plain(byte: u8) -> bool
+    ensures { result ≡ is_plain byte }
+{
+    byte >= b' ' && byte <= b'~' && !b"'\\".contains(&byte)
+}
+
+/// Appends a byte of a byte string.
+fn push_escaped(out: &mut Vec<u8>, byte: u8) -> Result<(), AllocError>
+    ensures ok { OnOk result (out.new.items ≡ out.old.items ++ escaped byte) }
+    ensures kept { StartsWith out.new.items out.old.items }
+    ensures room { vec_capacity out.old ≤ vec_capacity out.new }
+{
+    if is_plain(byte) {
+        return out.extend_from_slice(&[byte]);
+    }
+    out.extend_from_slice(&[b'\\', b'x', hex_digit(byte / 16), hex_digit(byte % 16)])
+}
+
+/// Appends the bytes of a byte string.
+fn push_all_escaped(out: &mut Vec<u8>, bytes: &[u8]) -> Result<(), AllocError>
+    ensures ok { OnOk result (out.new.items ≡ out.old.items ++ flat_map escaped bytes.now) }
+    ensures kept { StartsWith out.new.items out.old.items }
+    ensures room { vec_capacity out.old ≤ vec_capacity out.new }
+{
+    for byte in bytes {
+        push_escaped(out, *byte)?;
+    }
+    Ok(())
+}
+
+/// A byte string without the NULs at its end.
+fn without_nuls(bytes: &[u8]) -> &[u8]
+    ensures { result.now ≡ without_nuls bytes.now }
+{
+    let mut len = bytes.len();
+    while len > 0 && bytes[len - 1] == 0 {
+        len -= 1;
+    }
+    &bytes[..len]
+}
+
+/// Appends the text of a byte string, without the NULs at its end.
+fn push_byte_string(out: &mut Vec<u8>, bytes: &[u8]) -> Result<(), AllocError>
+    ensures ok { OnOk result (out.new.items ≡ out.old.items ++ byte_string_text (without_nuls bytes.now)) }
+    ensures kept { StartsWith out.new.items out.old.items }
+    ensures room { vec_capacity out.old ≤ vec_capacity out.new }
+{
+    out.extend_from_slice(b"b'")?;
+    push_all_escaped(out, without_nuls(bytes))?;
+    out.extend_from_slice(b"'")
+}
+
+/// The text of a bool.
+fn bool_text(value: &i128) -> &'static str
+    ensures { result.now ≡ bool_text value.now }
+{
+    if *value == 0 { "False" } else { "True" }
+}
+
+/// Appends the text of an integer, padded on the left to a width.
+fn push_integer(
+    out: &mut Vec<u8>,
+    scalar: &Scalar,
+    width: usize,
+    bytes: &[u8],
+) -> Result<(), AllocError>
+    requires number { IsNumber scalar.now }
+    requires whole { length bytes.now ≡ size scalar.now }
+    ensures ok { OnOk result (out.new.items ≡ out.old.items
+        ++ padded width (signed_decimal (number_of (decode scalar.now bytes.now)))) }
+    ensures kept { StartsWith out.new.items out.old.items }
+    ensures room { vec_capacity out.old ≤ vec_capacity out.new }
+{
+    let value = num_read(*scalar, bytes);
+    push_padded(out, Buffer::new().format(value), width)
+}
+
+/// Appends the text of a value, padded on the left to a width.
+pub fn push_value(
+    out: &mut Vec<u8>,
+    scalar: &Scalar,
+    width: usize,
+    bytes: &[u8],
+) -> Result<(), AllocError>
+    requires width { IsWidth scalar.now width }
+    requires whole { length bytes.now ≡ size scalar.now }
+    ensures ok { OnOk result (out.new.items ≡ out.old.items
+        ++ padded width (leaf_text scalar.now (decode scalar.now bytes.now))) }
+    ensures kept { StartsWith out.new.items out.old.items }
+    ensures room { vec_capacity out.old ≤ vec_capacity out.new }
+{
+    match scalar {
+        Scalar::Bool => push_padded(out, bool_text(&num_read(*scalar, bytes)), width),
+        Scalar::Byte { .. } => push_integer(out, scalar, width, bytes),
+        Scalar::Int { .. } => push_integer(out, scalar, width, bytes),
+        Scalar::Bytes(_) => push_byte_string(out, bytes),
+    }
+}
