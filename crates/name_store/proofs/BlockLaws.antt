@@ -1,0 +1,108 @@
+-- Items in a block of bytes, one after another.
+use Rattle.std.proofs.Common.{◌≡◌, ◌≤◌, ◌<◌, ◌+◌, ◌*◌, ℕ, zero, suc, List, [], ◌∷◌, ◌++◌, length, take, drop, map, replicate, refl, sym, ap, ◌∙◌, Some, slice_get, slice_set, append_assoc, arith, length-take, length-drop, length-append}
+use Rattle.std.specs.List.{AllByRecursion}
+use Rattle.std.proofs.Math.Nat.{mul-suc, suc-mul, mul-le-mul_left}
+use Rattle.std.proofs.Math.Seq.{take-add, take-append_seam, drop-append_seam}
+use Rattle.std.proofs.lemmas.List.{map-set}
+use Rattle.elem_descr.specs.declared.descr.Descr.{Descr}
+use Rattle.elem_descr.specs.Items.{item_size, decode_item}
+use Rattle.raw_block.specs.Bytes.{put}
+use Rattle.name_store.specs.Arrays.{write}
+use Rattle.elem_descr.specs.Blocks.{blocks, items_in, item_from}
+use Rattle.name_store.specs.Places.{offsets_of}
+use Rattle.name_store.specs.Targets.{put_each}
+
+-- the front of so many bytes, and what follows it
+take_front : (width : ℕ) (front back : List ℕ) → length front ≡ width → take width (front ++ back) ≡ front
+take_front width front back is = ap (λ n. take n (front ++ back)) (sym is) ∙ take-append_seam front back
+
+drop_front : (width : ℕ) (front back : List ℕ) → length front ≡ width → drop width (front ++ back) ≡ back
+drop_front width front back is = ap (λ n. drop n (front ++ back)) (sym is) ∙ drop-append_seam front back
+
+drop-drop : (n m : ℕ) (xs : List ℕ) → drop (n + m) xs ≡ drop m (drop n xs)
+drop-drop zero m xs = ap (λ k. drop k xs) (omega arith)
+drop-drop (suc n) m [] = ap (λ k. drop k none) same ∙ empty m
+  where
+    none : List ℕ
+    none = []
+
+    same : suc n + m ≡ suc (n + m)
+    same = omega arith
+
+    empty : (m : ℕ) → none ≡ drop m none
+    empty zero = refl
+    empty (suc m) = refl
+drop-drop (suc n) m (x ∷ xs) = ap (λ k. drop k (x ∷ xs)) same ∙ drop-drop n m xs
+  where
+    same : suc n + m ≡ suc (n + m)
+    same = omega arith
+
+put-add : (width at : ℕ) (item bytes : List ℕ) → put (width + at) item bytes ≡ take width bytes ++ put at item (drop width bytes)
+put-add width at item bytes =
+    ap (λ front. front ++ item ++ drop ((width + at) + length item) bytes) (take-add width at bytes)
+    ∙ ap (λ back. (take width bytes ++ take at (drop width bytes)) ++ item ++ back) later
+    ∙ ap (λ front. front ++ drop (at + length item) (drop width bytes)) (append_assoc (take width bytes) (take at (drop width bytes)) item)
+    ∙ append_assoc (take width bytes) (take at (drop width bytes) ++ item) (drop (at + length item) (drop width bytes))
+  where
+    later : drop ((width + at) + length item) bytes ≡ drop (at + length item) (drop width bytes)
+    later = ap (λ n. drop n bytes) (omega arith) ∙ drop-drop width (at + length item) bytes
+
+-- one item of a block is put
+blocks-put : (width n place at : ℕ) (item bytes : List ℕ) → place < n → at ≡ width * place → length item ≡ width → n * width ≤ length bytes →
+    blocks width n (put at item bytes) ≡ slice_set (blocks width n bytes) place item
+blocks-put width zero place at item bytes within is whole fits = absurd (omega arith)
+blocks-put width (suc n) zero at item bytes within is whole fits =
+    let none : at ≡ 0 = omega arith in
+    let there : put at item bytes ≡ item ++ drop width bytes = ap (λ k. take k bytes ++ item ++ drop (k + length item) bytes) none ∙ ap (λ k. item ++ drop k bytes) (omega arith) in
+    ap (blocks width (suc n)) there
+    ∙ λ i. take_front width item (drop width bytes) whole i ∷ blocks width n (drop_front width item (drop width bytes) whole i)
+blocks-put width (suc n) (suc place) at item bytes within is whole fits =
+    let more : at ≡ width + width * place = is ∙ mul-suc width place ∙ omega arith in
+    let enough : n * width + width ≤ length bytes = omega (arith, suc-mul n width) in
+    let front : length (take width bytes) ≡ width = omega (arith, length-take width bytes) in
+    ap (λ k. blocks width (suc n) (put k item bytes)) more
+    ∙ ap (blocks width (suc n)) (put-add width (width * place) item bytes)
+    ∙ (λ i. take_front width (take width bytes) (put (width * place) item (drop width bytes)) front i ∷ blocks width n (drop_front width (take width bytes) (put (width * place) item (drop width bytes)) front i))
+    ∙ ap (λ later. take width bytes ∷ later) (blocks-put width n place (width * place) item (drop width bytes) (omega arith) refl whole (omega (arith, length-drop width bytes)))
+
+length-blocks : (width n : ℕ) (bytes : List ℕ) → length (blocks width n bytes) ≡ n
+length-blocks width zero bytes = refl
+length-blocks width (suc n) bytes = ap suc (length-blocks width n (drop width bytes))
+
+pub length-items_in : (descr : Descr) (n : ℕ) (bytes : List ℕ) → length (items_in descr n bytes) ≡ n
+length-items_in descr zero bytes = refl
+length-items_in descr (suc n) bytes = ap suc (length-items_in descr n (drop (item_size descr) bytes))
+
+pub length-put : (at : ℕ) (item bytes : List ℕ) → at + length item ≤ length bytes → length (put at item bytes) ≡ length bytes
+length-put at item bytes h =
+    omega (arith, length-append (take at bytes ++ item) (drop (at + length item) bytes), length-append (take at bytes) item, length-take at bytes, length-drop (at + length item) bytes)
+
+-- the item at a place is the one whose bytes begin there
+pub item-at : (descr : Descr) (n place : ℕ) (bytes : List ℕ) → place < n → slice_get (items_in descr n bytes) place ≡ Some (item_from descr bytes (item_size descr * place))
+item-at descr zero place bytes h = absurd (omega arith)
+item-at descr (suc n) zero bytes h =
+    let none : 0 ≡ item_size descr * 0 = omega arith in ap (λ at. Some (item_from descr bytes at)) none
+item-at descr (suc n) (suc place) bytes h =
+    item-at descr n place (drop (item_size descr) bytes) (omega arith)
+    ∙ ap (λ rest. Some (decode_item descr (take (item_size descr) rest))) (sym (drop-drop (item_size descr) (item_size descr * place) bytes) ∙ ap (λ at. drop at bytes) (omega (arith, mul-suc (item_size descr) place)))
+
+-- an item's last byte
+pub item-inside : (width n place : ℕ) → place < n → width * place + width ≤ n * width
+item-inside width n place h =
+    let most : width * suc place ≤ width * n = mul-le-mul_left width h in
+    omega (arith, mul-suc width place)
+
+put-item : (descr : Descr) (n place : ℕ) (item bytes : List ℕ) → place < n → length item ≡ item_size descr → n * item_size descr ≤ length bytes →
+    items_in descr n (put (item_size descr * place) item bytes) ≡ slice_set (items_in descr n bytes) place (decode_item descr item)
+put-item descr n place item bytes within whole fits =
+    ap (map (decode_item descr)) (blocks-put (item_size descr) n place (item_size descr * place) item bytes within refl whole fits)
+    ∙ map-set (decode_item descr) (blocks (item_size descr) n bytes) place item
+
+-- an item put at each of some places, one after the other
+pub put_each-items : (descr : Descr) (n : ℕ) (places : List ℕ) (item bytes : List ℕ) → AllByRecursion (λ place. place < n) places → length item ≡ item_size descr → n * item_size descr ≤ length bytes →
+    items_in descr n (put_each (offsets_of (item_size descr) places) item bytes) ≡ write places (replicate (length places) (decode_item descr item)) (items_in descr n bytes)
+put_each-items descr n [] item bytes within whole fits = refl
+put_each-items descr n (place ∷ places) item bytes within whole fits =
+    let long : length (put (item_size descr * place) item bytes) ≡ length bytes = length-put (item_size descr * place) item bytes (omega (arith, item-inside (item_size descr) n place within.0)) in
+    put_each-items descr n places item (put (item_size descr * place) item bytes) within.1 whole (omega arith)
+    ∙ ap (write places (replicate (length places) (decode_item descr item))) (put-item descr n place item bytes within.0 whole fits)

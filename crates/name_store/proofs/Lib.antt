@@ -1,0 +1,8 @@
+pub mod BlockLaws
+pub mod NameLaws
+pub mod SlotLaws
+pub mod StateLaws
+pub mod FreshLaws
+pub mod BindLaws
+pub mod ShowLaws
+pub mod WriteLaws

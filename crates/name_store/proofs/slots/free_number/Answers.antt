@@ -1,0 +1,7 @@
+use Rattle.std.proofs.Common.{ap, ◌∙◌, length, unwrap_or}
+use Rattle.name_store.proofs.SlotLaws.{slot_at-first}
+use Rattle.name_store.specs.View.{slot_at}
+use Rattle.name_store.proofs.slots.free_number.Goals as goal
+
+pub returns-clause-free : goal.returns-clause-free
+returns-clause-free c = ap (slot_at c.args.slots.now) (c.unwrap_or.ensures ∙ ap (λ found. unwrap_or found (length c.args.slots.now)) c.first_free.ensures) ∙ slot_at-first c.args.slots.now

@@ -1,0 +1,15 @@
+use Rattle.std.proofs.Common.{◌≡◌, ap, sym, ◌∙◌, refl}
+use Rattle.name_store.specs.Targets.{put_each}
+use Rattle.name_store.specs.declared.slot.Slot.{Slot}
+use Rattle.name_store.proofs.WriteLaws.{some-same}
+use Rattle.name_store.proofs.write.fill_slot.Goals as goal
+
+pub returns-in-Some-clause-some : goal.returns-in-Some-clause-some
+returns-in-Some-clause-some c old is =
+    let same : c.in-Some.slot ≡ old = some-same _ _ (sym c.in-Some.is ∙ is) in (
+      _,
+      refl,
+      ap (λ (s : Slot). s.descr) same,
+      ap (λ (s : Slot). s.items) same,
+      c.fill.ensures.bytes ∙ ap (λ (s : Slot). put_each c.args.offsets c.args.item.now s.block) same,
+    )

@@ -1,0 +1,78 @@
+-- Names, arrays and buffers of a state: looked up, bound, removed, read and written.
+use Rattle.std.specs.Prelude.{ℕ, Bool, true, List, [], ◌∷◌, length, map, Option, Some, None, slice_get, slice_set, is_some, nat_eq, nat_lt, if◌then◌else◌, unwrap_or, ◌||◌}
+use Rattle.std.specs.List.{list_any, range_with_len}
+use Rattle.std.specs.Str.{bytes_eq}
+use Rattle.std.specs.FinMap.{get, insert, retain_keys}
+use Rattle.elem_descr.specs.declared.descr.Descr.TheVariants.{Scalar as ScalarDescr}
+use Rattle.elem_descr.specs.declared.scalar.Scalar.TheVariants.{Int}
+use Rattle.elem_descr.specs.declared.scalar.Width.TheVariants.{Four}
+use Rattle.elem_descr.specs.declared.scalar.Order.TheVariants.{Little}
+use Rattle.elem_descr.specs.Values.{LeafValue}
+use Rattle.shape_strides.specs.Indexes.{count}
+use Rattle.name_store.specs.States.{Buffer, Array, State}
+
+-- Names
+
+abbrev pub find_array : List (List ℕ × Array) → List ℕ → Option Array
+find_array [] name = None
+find_array (entry ∷ names) name = if bytes_eq entry.0 name then Some entry.1 else find_array names name
+
+abbrev pub is_bound : State → List ℕ → Bool
+is_bound s name = is_some (find_array s.names name)
+
+-- a name that is bound keeps its place, and another comes last
+abbrev pub put_array : List (List ℕ × Array) → List ℕ → Array → List (List ℕ × Array)
+put_array [] name array = (name, array) ∷ []
+put_array (entry ∷ names) name array = if bytes_eq entry.0 name then (name, array) ∷ names else entry ∷ put_array names name array
+
+-- one name fewer: those after it close up
+abbrev pub without : List (List ℕ × Array) → List ℕ → List (List ℕ × Array)
+without [] name = []
+without (entry ∷ names) name = if bytes_eq entry.0 name then names else entry ∷ without names name
+
+-- at most 1,024 names are bound at one time
+abbrev pub has_room_for : State → List ℕ → Bool
+has_room_for s name = is_bound s name || nat_lt (length s.names) 1024
+
+-- whether some name's array lies in a buffer
+abbrev pub is_in_use : List (List ℕ × Array) → ℕ → Bool
+is_in_use names buffer = list_any (λ entry. nat_eq entry.1.buffer buffer) names
+
+-- A name is bound to an array over a fresh buffer. A buffer that no name uses any more is gone.
+abbrev pub bound_to : State → List ℕ → Array → Buffer → State
+bound_to s name array buffer =
+    let names = put_array s.names name array in
+    record s { names = names; buffers = retain_keys (insert s.buffers array.buffer buffer) (is_in_use names) }
+
+-- A name is bound no longer. A buffer that no name uses any more is gone.
+abbrev pub unbound : State → List ℕ → State
+unbound s name =
+    let names = without s.names name in
+    record s { names = names; buffers = retain_keys s.buffers (is_in_use names) }
+
+-- Arrays
+
+-- a writable array over a buffer of its own, stored in C order
+abbrev pub fresh_array : ℕ → List ℕ → Array
+fresh_array buffer shape = record { buffer = buffer; path = []; shape = shape; places = range_with_len 0 (count shape); writable = true }
+
+abbrev pub no_buffer : Buffer
+no_buffer = record { descr = ScalarDescr (Int true Four Little); items = [] }
+
+-- the buffer of an array
+abbrev pub buffer_of : State → Array → Buffer
+buffer_of s array = unwrap_or (get s.buffers array.buffer) no_buffer
+
+-- the items of an array, place by place
+abbrev pub read : State → Array → List (List LeafValue)
+read s array = map (λ place. unwrap_or (slice_get (buffer_of s array).items place) []) array.places
+
+-- items put at places, one after the other
+abbrev pub write : List ℕ → List (List LeafValue) → List (List LeafValue) → List (List LeafValue)
+write (place ∷ places) (item ∷ new) items = write places new (slice_set items place item)
+write places new items = items
+
+-- the state in which the places of an array's buffer have new items
+abbrev pub written : State → Array → List ℕ → List (List LeafValue) → State
+written s array places new =
+    record s { buffers = insert s.buffers array.buffer (record (buffer_of s array) { items = write places new (buffer_of s array).items }) }

@@ -1,0 +1,47 @@
+-- What a call that changes a bench answers.
+use Rattle.std.specs.Prelude.{◌≡◌, ◌⊎◌, ℕ, true, false, List, Result, Ok, Err, None, All}
+use Rattle.std.specs.FinMap.{get}
+use Rattle.elem_descr.specs.declared.refusal.Refusal.{Refusal}
+use Rattle.elem_descr.specs.declared.refusal.Refusal.TheVariants.{OutOfMemory, TooManyNames, UnknownName}
+use Rattle.overlap_copy.specs.declared.owned.Owned.{Owned}
+use Rattle.shape_strides.specs.Indexes.{count}
+use Rattle.name_store.specs.States.{State, Array, Buffer}
+use Rattle.name_store.specs.Arrays.{is_bound, has_room_for, fresh_array, bound_to, unbound, buffer_of, written}
+use Rattle.elem_descr.specs.Blocks.{items_in}
+use Rattle.name_store.specs.Targets.{layout_of, new_items, LeadsTo}
+use Rattle.name_store.specs.declared.target.Source.{Source}
+use Rattle.name_store.specs.declared.target.Target.{Target}
+use Rattle.name_store.specs.declared.bound.Bound.{Bound}
+use Rattle.name_store.specs.declared.bound.Bound.TheVariants.{Fresh}
+
+-- the buffer of an array that has a block of its own
+abbrev pub own_buffer : Owned → Buffer
+own_buffer o = record { descr = o.descr; items = items_in o.descr (count o.layout.shape) o.block }
+
+-- a number that neither the state nor a kept state uses
+pub record IsUnused (s : State) (number : ℕ) : Type 0 where
+  pub unused : get s.buffers number ≡ None
+  pub unkept : All (λ state. get state.1 number ≡ None) s.kept
+
+-- the state once a name is bound; the number of a fresh buffer is any that is not in use
+abbrev pub Binds : State → List ℕ → Bound → State → Type 0
+Binds old name (Fresh o) new =
+    (number : ℕ) × IsUnused old number × (new ≡ bound_to old name (fresh_array number o.layout.shape) (own_buffer o))
+
+-- A name is bound where there is room for it. Else it is refused, or for want of memory, and nothing has changed.
+abbrev pub AnswersBind : State → List ℕ → Bound → Result (Unit {0}) Refusal → State → Type 0
+AnswersBind old name bound (Ok _) new = (has_room_for old name ≡ true) × Binds old name bound new
+AnswersBind old name bound (Err refusal) new =
+    (new ≡ old) × (((has_room_for old name ≡ false) × (refusal ≡ TooManyNames)) ⊎ ((has_room_for old name ≡ true) × (refusal ≡ OutOfMemory)))
+
+-- A name that is bound is so no longer, and another is refused, with nothing changed.
+abbrev pub AnswersUnbind : State → List ℕ → Result (Unit {0}) Refusal → State → Type 0
+AnswersUnbind old name (Ok _) new = (is_bound old name ≡ true) × (new ≡ unbound old name)
+AnswersUnbind old name (Err refusal) new = (is_bound old name ≡ false) × (refusal ≡ UnknownName) × (new ≡ old)
+
+-- The items of the target are written, as many as the answer says; only want of memory refuses it, and then nothing has changed.
+abbrev pub AnswersWrite : State → List ℕ → Target → Source → Result ℕ Refusal → State → Type 0
+AnswersWrite old name target source (Ok n) new =
+    (n ≡ count (layout_of target).shape)
+    × ((array : Array) (places : List ℕ) → LeadsTo old name target array places → new ≡ written old array places (new_items (buffer_of old array).descr n source))
+AnswersWrite old name target source (Err refusal) new = (new ≡ old) × (refusal ≡ OutOfMemory)

@@ -1,0 +1,9 @@
+pub mod Arrays
+pub mod Calls
+pub mod Codes
+pub mod Invariants
+pub mod Places
+pub mod Shown
+pub mod States
+pub mod Targets
+pub mod View

@@ -1,0 +1,32 @@
+-- What a look-up shows of an array.
+use Rattle.std.specs.Prelude.{◌≡◌, ◌*◌, ◌^◌, [], map, length, Option, Some, None, IsTrue, All, ◌+◌, ◌≤◌}
+use Rattle.elem_descr.specs.Items.{item_size}
+use Rattle.shape_strides.specs.Layouts.{offsets, Fits, IsNested}
+use Rattle.name_store.specs.States.{State, Array}
+use Rattle.name_store.specs.Arrays.{buffer_of, read}
+use Rattle.elem_descr.specs.Blocks.{items_in, item_from}
+use Rattle.name_store.specs.Places.{offsets_of}
+use Rattle.name_store.specs.declared.array_ref.ArrayRef.{ArrayRef}
+
+-- the array of a state, by its buffer's block and by a layout of offsets in it
+pub record Shows (s : State) (array : Array) (r : ArrayRef) : Type 0 where
+  pub number : r.number ≡ array.buffer
+  pub path : array.path ≡ []
+  pub shape : r.layout.now.shape ≡ array.shape
+  pub places : offsets r.layout.now ≡ offsets_of (item_size r.descr.now) array.places
+  pub writable : r.writable ≡ array.writable
+  pub descr : (buffer_of s array).descr ≡ r.descr.now
+  pub items : (buffer_of s array).items ≡ items_in r.descr.now (length (buffer_of s array).items) r.block.now
+  pub whole : length r.block.now ≡ length (buffer_of s array).items * item_size r.descr.now
+  pub reads : read s array ≡ map (item_from r.descr.now r.block.now) (offsets r.layout.now)
+  pub inside : All (λ offset. offset + item_size r.descr.now ≤ length r.block.now) (offsets r.layout.now)
+  pub fits : Fits r.layout.now (length r.block.now) (item_size r.descr.now)
+  pub fits_limit : Fits r.layout.now (2 ^ 28) 1
+  pub nested : IsTrue r.writable → IsNested (offsets r.layout.now) (item_size r.descr.now)
+
+-- what is found shows the array that is there, and nothing is found where none is
+abbrev pub Finds : State → Option Array → Option ArrayRef → Type 0
+Finds s None None = Unit {0}
+Finds s None (Some r) = ⊥
+Finds s (Some array) None = ⊥
+Finds s (Some array) (Some r) = Shows s array r

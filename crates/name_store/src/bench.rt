@@ -1,0 +1,124 @@
+//! The bench.
+ghost use Rattle.std.specs.Prelude.{◌≡◌, ◌≤◌, ◌<◌, length, map, Some, slice_get, IfOk};
+ghost use Rattle.std.specs.Option.{option_map};
+
+use crate::array_ref::ArrayRef;
+use crate::bind::bind_in;
+use crate::bound::Bound;
+use crate::entry::{Entry, Key};
+use crate::look::look_in;
+use crate::slot::Slot;
+use crate::target::{Source, Target};
+use crate::unbind::unbind_in;
+use crate::write::write_in;
+use elem_descr::Refusal;
+use indexmap::IndexMap;
+use script_lang::Name;
+use std::alloc::{AllocError, Global};
+use std::marker::Model;
+
+/// Named arrays and their buffers, seen as a state: the names in the order in which they were
+/// first bound, the buffers by their numbers, and the states that are kept.
+#[derive(Drop)]
+pub struct Bench {
+    alloc: Global,
+    names: IndexMap<Key, Entry>,
+    slots: Vec<Option<Slot>>,
+}
+
+impl Model for Bench {
+    ghost use Rattle.name_store.specs.States.{State};
+    ghost use Rattle.name_store.specs.Codes.{state_code};
+
+    ghost Value = { State };
+
+    ghost coded = { state_code };
+
+    ghost use Rattle.name_store.specs.View.{state_of};
+    ghost use Rattle.name_store.specs.Invariants.{Holds};
+
+    ghost view = { λ f. state_of f.names.entries f.slots.items };
+
+    ghost invariant = { λ f. Holds f.names.entries f.slots.items };
+}
+
+impl Bench {
+    ghost use Rattle.name_store.specs.States.{start};
+    ghost use Rattle.name_store.specs.Arrays.{find_array};
+    ghost use Rattle.name_store.specs.Calls.{AnswersBind, AnswersUnbind, AnswersWrite};
+    ghost use Rattle.name_store.specs.Shown.{Finds};
+    ghost use Rattle.name_store.specs.Targets.{IsAim};
+
+    /// A bench on which no name is bound, and that keeps no earlier state.
+    pub fn try_new(alloc: Global, depth: usize) -> Result<Bench, AllocError>
+        requires { depth ≡ 0 }
+        ensures { IfOk result (λ bench. bench ≡ start) }
+    {
+        Ok(Bench {
+            alloc,
+            names: IndexMap::new(alloc),
+            slots: Vec::new(alloc),
+        })
+    }
+
+    /// The array of a name, if it is bound.
+    pub fn get(&self, name: &Name) -> Option<ArrayRef<'_>>
+        ensures { Finds self.now (find_array self.now.names name.now) result }
+    {
+        look_in(
+            &self.names,
+            self.slots.as_slice(),
+            &Key::of(self.alloc, name),
+        )
+    }
+
+    /// Binds a name. One that is bound keeps its place among the names.
+    pub fn bind(&mut self, alloc: Global, name: &Name, bound: Bound) -> Result<(), Refusal>
+        ensures { AnswersBind self.old name.now bound result self.new }
+    {
+        bind_in(
+            &mut self.names,
+            &mut self.slots,
+            Key::of(alloc, name),
+            bound,
+        )
+    }
+
+    /// Writes items to places of a name's array, and answers how many.
+    pub fn write_items(
+        &mut self,
+        alloc: Global,
+        name: &Name,
+        target: Target,
+        source: Source<'_>,
+    ) -> Result<usize, Refusal>
+        requires aim { IsAim self.old name.now target source }
+        ensures { AnswersWrite self.old name.now target source.entry result self.new }
+    {
+        let key = Key::of(alloc, name);
+        write_in(alloc, &self.names, &mut self.slots, &key, target, source)
+    }
+
+    /// Unbinds a name. The names after it close up.
+    pub fn unbind(&mut self, name: &Name) -> Result<(), Refusal>
+        ensures { AnswersUnbind self.old name.now result self.new }
+    {
+        unbind_in(&mut self.names, &mut self.slots, &Key::of(self.alloc, name))
+    }
+
+    /// How many names are bound.
+    pub fn len(&self) -> usize
+        ensures len { result ≡ length self.now.names }
+        ensures few { result ≤ 1024 }
+    {
+        self.names.len()
+    }
+
+    /// The name that was bound as the k-th, counted from 0.
+    pub fn name_at(&self, k: usize) -> &[u8]
+        requires { k < length self.now.names }
+        ensures { option_map (λ entry. entry.0) (slice_get self.now.names k) ≡ Some result.now }
+    {
+        self.names.get_index(k).unwrap().0.bytes.as_slice()
+    }
+}

@@ -1,0 +1,29 @@
+//! A bench of named arrays: the names in the order in which they were first bound, and the buffers
+//! that their arrays lie in.
+#![tactic(auto)]
+
+mod array_ref;
+mod bench;
+mod bind;
+mod bound;
+mod entry;
+mod look;
+mod slot;
+mod slots;
+mod target;
+mod unbind;
+mod write;
+
+pub use array_ref::ArrayRef;
+pub use bench::Bench;
+pub use bound::Bound;
+pub use target::{Source, Target};
+
+// A crate can name a bench in a contract only if the types of its fields are exported.
+#[doc(hidden)]
+pub use entry::{Entry, Key};
+#[doc(hidden)]
+pub use slot::Slot;
+
+#[cfg(test)]
+mod tests;

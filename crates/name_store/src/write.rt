@@ -1,0 +1,105 @@
+//! Items of a name's array are written.
+ghost use Rattle.std.specs.Prelude.{◌≡◌, ◌+◌, ◌≤◌, ◌<◌, ℕ, length, All, IfSome, None, Some, nat_eq, if◌then◌else◌, vec_len};
+ghost use Rattle.name_store.specs.declared.slot.Slot.{Slot};
+ghost use Rattle.raw_block.specs.Bytes.{put};
+ghost use Rattle.name_store.specs.Calls.{AnswersWrite};
+ghost use Rattle.name_store.specs.Invariants.{Holds};
+ghost use Rattle.name_store.specs.Targets.{IsAim, put_each};
+ghost use Rattle.name_store.specs.View.{slot_at, state_of};
+ghost use Rattle.name_store.specs.declared.target.Source.TheVariants.{One};
+ghost use Rattle.name_store.specs.declared.target.Target.TheVariants.{View};
+
+use crate::entry::{Entry, Key};
+use crate::slot::Slot;
+use crate::target::{Source, Target};
+use elem_descr::Refusal;
+use indexmap::IndexMap;
+use raw_block::RawBlock;
+use shape_strides::{Layout, Walk};
+use std::alloc::Global;
+
+/// Writes the bytes of an item at an offset.
+fn put_at(block: &mut RawBlock, offset: usize, item: &[u8])
+    requires { offset + length item.now ≤ length block.old }
+    ensures bytes { block.new ≡ put offset item.now block.old }
+    ensures len { length block.new ≡ length block.old }
+{
+    block.fill_strided(offset, 0, item, 1);
+}
+
+/// Writes the bytes of an item at each of the offsets.
+fn fill(block: &mut RawBlock, offsets: Walk<'_>, item: &[u8])
+    requires { All (λ offset. offset + length item.now ≤ length block.old) offsets }
+    ensures bytes { block.new ≡ put_each offsets.entry item.now block.old }
+    ensures len { length block.new ≡ length block.old }
+{
+    for offset in offsets {
+        put_at(block, offset, item);
+    }
+}
+
+/// The same in a slot that is occupied.
+fn fill_slot(slot: &mut Option<Slot>, offsets: Walk<'_>, item: &[u8])
+    requires { IfSome slot.old (λ s. All (λ offset. offset + length item.now ≤ length s.block) offsets) }
+    ensures none { slot.old ≡ None → slot.new ≡ None }
+    ensures some { (old : Slot) → slot.old ≡ Some old → (new : Slot) × (slot.new ≡ Some new)
+        × (new.descr ≡ old.descr) × (new.items ≡ old.items) × (new.block ≡ put_each offsets.entry item.now old.block) }
+{
+    if let Some(slot) = slot {
+        fill(&mut slot.block, offsets, item);
+    }
+}
+
+/// The same in the slot with this number.
+fn fill_at(slots: &mut Vec<Option<Slot>>, number: usize, offsets: Walk<'_>, item: &[u8])
+    requires within { number < vec_len slots.old }
+    requires fits { IfSome (slot_at slots.old.items number) (λ s. All (λ offset. offset + length item.now ≤ length s.block) offsets) }
+    ensures { (old : Slot) → slot_at slots.old.items number ≡ Some old → (new : Slot)
+        × (new.descr ≡ old.descr) × (new.items ≡ old.items) × (new.block ≡ put_each offsets.entry item.now old.block)
+        × ((other : ℕ) → slot_at slots.new.items other ≡ (if nat_eq other number then Some new else slot_at slots.old.items other)) }
+{
+    fill_slot(&mut slots[number], offsets, item);
+}
+
+/// Writes one item to the places of a layout. The walk over them is all that takes memory.
+fn write_one(
+    alloc: Global,
+    names: &IndexMap<Key, Entry>,
+    slots: &mut Vec<Option<Slot>>,
+    key: &Key,
+    layout: &Layout,
+    item: &[u8],
+) -> Result<usize, Refusal>
+    requires holds { Holds names.now.entries slots.old.items }
+    requires aim { IsAim (state_of names.now.entries slots.old.items) key.now.bytes.items (View layout.now) (One item) }
+    ensures holds { Holds names.now.entries slots.new.items }
+    ensures answers { AnswersWrite (state_of names.now.entries slots.old.items) key.now.bytes.items (View layout.now) (One item.entry) result
+        (state_of names.now.entries slots.new.items) }
+{
+    let number = names.get(key).unwrap().number;
+    let offsets = Walk::new(alloc, layout)?;
+    fill_at(slots, number, offsets, item);
+    Ok(layout.shape.items())
+}
+
+/// Writes the source's items to the target's places.
+pub(crate) fn write_in(
+    alloc: Global,
+    names: &IndexMap<Key, Entry>,
+    slots: &mut Vec<Option<Slot>>,
+    key: &Key,
+    target: Target,
+    source: Source<'_>,
+) -> Result<usize, Refusal>
+    requires holds { Holds names.now.entries slots.old.items }
+    requires aim { IsAim (state_of names.now.entries slots.old.items) key.now.bytes.items target source }
+    ensures holds { Holds names.now.entries slots.new.items }
+    ensures answers { AnswersWrite (state_of names.now.entries slots.old.items) key.now.bytes.items target source.entry result
+        (state_of names.now.entries slots.new.items) }
+{
+    match target {
+        Target::View(layout) => match source {
+            Source::One(item) => write_one(alloc, names, slots, key, &layout, item),
+        },
+    }
+}
