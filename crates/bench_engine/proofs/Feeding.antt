@@ -5,10 +5,9 @@ use Rattle.std.proofs.lemmas.List.Sums.{sum_by-append}
 use Rattle.std.proofs.lemmas.List.{append-nil, map-append, take-append-drop}
 use Rattle.std.proofs.lemmas.Grind.{flat_map-append}
 use Rattle.bench_engine.specs.declared.session.Session.{Session}
-use Rattle.bench_engine.specs.States.{State, start}
+use Rattle.name_store.specs.States.{State, start}
 use Rattle.bench_engine.specs.Replies.{Reply}
-use Rattle.bench_engine.specs.Lines.{lines, ended, unended, trimmed, if_any}
-use Rattle.bench_engine.specs.Script.{line_of}
+use Rattle.bench_engine.specs.Lines.{lines, ended, unended, trimmed, if_any, meaning_of}
 use Rattle.bench_engine.specs.Runs.{Answered, output, reply_line}
 use Rattle.bench_engine.specs.Held.{Cut, accepted_count, refused_count}
 use Rattle.bench_engine.specs.Sessions.{Holds, said, Fed, Told, ToldInPart, KeepsAnswers, IsNew, Ended}
@@ -28,7 +27,7 @@ fed-other before written read old new byte other kept held fed = record {
   refused = kept.refused ∙ fed.refused;
 }
 
-line-answered : (read : List ℕ) (line : List ℕ) (is_long : Bool) (from to : State) (replies : List Reply) → Holds line is_long (unended read) → Answered from (said (trimmed line) is_long) to replies → Answered from (line_of (trimmed (unended read))) to replies
+line-answered : (read : List ℕ) (line : List ℕ) (is_long : Bool) (from to : State) (replies : List Reply) → Holds line is_long (unended read) → Answered from (said (trimmed line) is_long) to replies → Answered from (meaning_of (trimmed (unended read))) to replies
 line-answered read line is_long from to replies held answered = subst (λ s. Answered from s to replies) (said-holds line is_long (unended read) held) answered
 
 lines-newline : (read : List ℕ) → map trimmed (ended (read ++ 10 ∷ [])) ≡ map trimmed (ended read) ++ trimmed (unended read) ∷ []

@@ -1,12 +1,14 @@
 -- Integers on axes, one axis after the other.
-use Rattle.std.proofs.Common.{◌≡◌, ◌<◌, ◌≤◌, ℕ, ℤ, zero, suc, pos, negsuc, List, [], ◌∷◌, ◌++◌, length, drop, get_or, Result, Ok, Err, refl, sym, ap, subst, ◌∙◌, ◌-◌, append_assoc, arith, cond, nat_lt, true, false}
+use Rattle.std.proofs.Common.{◌≡◌, ◌<◌, ◌≤◌, ℕ, ℤ, zero, suc, pos, negsuc, List, [], ◌∷◌, ◌++◌, length, map, drop, get_or, Result, Ok, Err, refl, sym, ap, subst, ◌∙◌, ◌-◌, append_assoc, arith, cond, nat_lt, true, false}
 use Rattle.std.proofs.lemmas.List.{append-nil}
 use Rattle.std.proofs.lemmas.Bool.{ltb-true, le-leb, lt-leb}
 use Rattle.elem_descr.specs.declared.refusal.Refusal.{Refusal}
 use Rattle.elem_descr.specs.declared.refusal.Refusal.TheVariants.{Syntax, TooManyIndices, IndexOutOfRange}
 use Rattle.elem_descr.specs.Refusals.{◌>>=◌}
 use Rattle.shape_strides.specs.Indexes.{IsIndex}
-use Rattle.bench_engine.specs.Machine.{axis_index, axis_indices, whole_index}
+use Rattle.script_lang.specs.declared.index.IndexItem.{IndexItem}
+use Rattle.script_lang.specs.declared.index.IndexItem.TheVariants.{Ellipsis}
+use Rattle.bench_engine.specs.Machine.{axis_index, axis_indices, whole_index, integer_of}
 
 -- what is read, with some numbers before it
 abbrev pub behind : List ℕ → Result (List ℕ) Refusal → Result (List ℕ) Refusal
@@ -95,3 +97,9 @@ IsIndex-axis_indices (n ∷ shape) (i ∷ index) indices same is =
     split (Ok k) (Ok others) below rest e = let both : k ∷ others ≡ indices = cc in subst (IsIndex (n ∷ shape)) both (below k refl, rest others refl)
     split (Ok k) (Err r) below rest e = cc
     split (Err r) later below rest e = cc
+
+-- the integer of an item
+pub integer_at : (index : List IndexItem) (axis : ℕ) → get_or (map integer_of index) axis (pos 0) ≡ integer_of (get_or index axis Ellipsis)
+integer_at [] axis = refl
+integer_at (item ∷ index) zero = refl
+integer_at (item ∷ index) (suc axis) = integer_at index axis

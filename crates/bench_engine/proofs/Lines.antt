@@ -2,18 +2,18 @@
 use Rattle.std.proofs.Common.{◌≡◌, ◌<◌, ◌≤◌, ◌+◌, ℕ, Bool, true, false, List, [], ◌∷◌, ◌++◌, length, refl, sym, ap, ◌∙◌, cond, arith, append_assoc, nat_eq, subst, take, ◌-◌, length-take}
 use Rattle.std.specs.List.{ends_with}
 use Rattle.std.proofs.lemmas.List.{append-nil}
-use Rattle.std.proofs.lemmas.Bool.{lt-ltb}
-use Rattle.bench_engine.specs.States.{State}
+use Rattle.std.proofs.lemmas.Bool.{lt-ltb, le-ltb}
+use Rattle.name_store.specs.States.{State}
 use Rattle.bench_engine.specs.Replies.{Reply}
-use Rattle.bench_engine.specs.Lines.{ended, unended, onto_first_piece, before_rest, trimmed}
-use Rattle.bench_engine.specs.Script.{line_of, limit, too_long}
+use Rattle.bench_engine.specs.Lines.{ended, unended, onto_first_piece, before_rest, trimmed, meaning_of, limit, too_long, says}
+use Rattle.script_lang.specs.Lines.{line_of}
 use Rattle.bench_engine.specs.Runs.{Answered, Run}
 use Rattle.bench_engine.specs.Sessions.{Holds, said}
 
 -- one more line in a run
-pub run_more : (old mid new : State) (ls : List (List ℕ)) (line : List ℕ) (replies more : List Reply) → Run old ls replies mid → Answered mid (line_of line) new more → Run old (ls ++ line ∷ []) (replies ++ more) new
+pub run_more : (old mid new : State) (ls : List (List ℕ)) (line : List ℕ) (replies more : List Reply) → Run old ls replies mid → Answered mid (meaning_of line) new more → Run old (ls ++ line ∷ []) (replies ++ more) new
 run_more old mid new [] line replies more run answered =
-    (new, more, [], ap (λ r. r ++ more) run.0 ∙ sym (append-nil more), subst (λ (s : State). Answered s (line_of line) new more) run.1 answered, (refl, refl))
+    (new, more, [], ap (λ r. r ++ more) run.0 ∙ sym (append-nil more), subst (λ (s : State). Answered s (meaning_of line) new more) run.1 answered, (refl, refl))
 run_more old mid new (l ∷ ls) line replies more run answered =
     (run.0, run.1, run.2 ++ more, ap (λ r. r ++ more) run.3 ∙ append_assoc run.1 run.2 more, run.4, run_more run.0 mid new ls line run.2 more run.5 answered)
 
@@ -76,11 +76,15 @@ length-trimmed : (piece : List ℕ) → length piece ≤ length (trimmed piece) 
 length-trimmed piece = elim (ends_with nat_eq piece (13 ∷ [])) as (λ t. length piece ≤ length (cond t (take (length piece - 1) piece) piece) + 1) [ true ↦ omega (arith, length-take (length piece - 1) piece) | false ↦ omega arith ]
 
 -- what is held says what the piece says
-pub said-holds : (line : List ℕ) (is_long : Bool) (piece : List ℕ) → Holds line is_long piece → said (trimmed line) is_long ≡ line_of (trimmed piece)
-unfolding line_of
+pub said-holds : (line : List ℕ) (is_long : Bool) (piece : List ℕ) → Holds line is_long piece → said (trimmed line) is_long ≡ meaning_of (trimmed piece)
+unfolding meaning_of
 said-holds line true piece holds = let long : limit < length (trimmed piece) = omega (arith, length-trimmed piece) in rw (lt-ltb limit (length (trimmed piece)) long) refl
-said-holds line false piece holds = ap (λ l. line_of (trimmed l)) holds
+said-holds line false piece holds = ap (λ l. meaning_of (trimmed l)) holds
 
-pub line_of-long : (line : List ℕ) → limit < length line → line_of line ≡ too_long
-unfolding line_of
-line_of-long line long = rw (lt-ltb limit (length line) long) refl
+pub meaning_of-long : (line : List ℕ) → limit < length line → meaning_of line ≡ too_long
+unfolding meaning_of
+meaning_of-long line long = rw (lt-ltb limit (length line) long) refl
+
+pub meaning_of-short : (line : List ℕ) → length line ≤ limit → meaning_of line ≡ says (line_of line)
+unfolding meaning_of
+meaning_of-short line short = rw (le-ltb limit (length line) short) refl

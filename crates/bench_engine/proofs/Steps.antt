@@ -1,20 +1,30 @@
 -- The cases of a command and of a line, from what carries them out.
-use Rattle.std.proofs.Common.{◌≡◌, ◌≤◌, ◌+◌, ℕ, suc, Bool, true, false, ◌||◌, List, [], ◌∷◌, Some, None, refl, sym, ap, subst, ◌∙◌, inl, inr, arith, Err, Ok, IsTrue}
-use Rattle.std.specs.Ordering.{nat_cmp}
+use Rattle.std.proofs.Common.{◌≡◌, ◌≢◌, ◌≤◌, ◌+◌, ℕ, suc, Bool, true, false, ◌||◌, List, [], ◌∷◌, Some, None, refl, sym, ap, subst, ◌∙◌, inl, inr, arith, Err, Ok, IsTrue}
+use Rattle.std.specs.Ordering.{nat_cmp, eq_by_cmp, is_eq}
+use Rattle.std.specs.declared.cmp.Ordering.TheVariants.{Less, Equal, Greater}
 use Rattle.std.specs.List.{AllByRecursion}
-use Rattle.std.specs.FinMap.{FinMap, get, get-entries, find, entries}
+use Rattle.std.specs.FinMap.{FinMap, get, get-entries, find, entries, nat_cmp-IsAntisymmetric}
 use Rattle.std.proofs.lemmas.List.Elements.{All-from_recursion}
 use Rattle.elem_descr.specs.declared.refusal.Refusal.{Refusal}
 use Rattle.elem_descr.specs.declared.refusal.Refusal.TheVariants.{LineTooLong, OutOfMemory}
-use Rattle.bench_engine.specs.declared.command.Command.{Command}
-use Rattle.bench_engine.specs.States.{State, Array, Buffer}
+use Rattle.script_lang.specs.declared.command.Command.{Command}
+use Rattle.script_lang.specs.Lines.{Line, silent, bad_byte, misspelt, asks}
+use Rattle.script_lang.specs.Reading.{needs_room, MayLackRoom, Says}
+use Rattle.name_store.specs.States.{State, Array, Buffer}
 use Rattle.bench_engine.specs.Replies.{Reply, refusal}
-use Rattle.bench_engine.specs.Machine.{Choice, IsAllowed, outcome, settled, names_are_bound}
+use Rattle.bench_engine.specs.Machine.{Choice, IsAllowed, outcome, settled, may_lack_memory}
 use Rattle.bench_engine.specs.Contract.{IsRefused}
-use Rattle.bench_engine.specs.Script.{Line, silent, too_long, bad_byte, misspelt, asks}
-use Rattle.bench_engine.specs.Reading.{needs_room, MayLackRoom, SaysHeld}
+use Rattle.bench_engine.specs.Lines.{Meaning, too_long, says}
+use Rattle.bench_engine.specs.Sessions.{SaysHeld}
 use Rattle.bench_engine.specs.Runs.{Case, Answered}
-use Rattle.bench_engine.proofs.Buffers.{apart}
+
+apart : (q k : ℕ) → k ≢ q → eq_by_cmp nat_cmp q k ≡ false
+apart q k ne =
+    elim (nat_cmp q k) as (λ r. nat_cmp q k ≡ r → is_eq r ≡ false) [
+      | Less ↦ λ _. refl
+      | Equal ↦ λ e. absurd (ne (sym (nat_cmp-IsAntisymmetric q k e)))
+      | Greater ↦ λ _. refl
+    ] refl
 
 over : List (ℕ × Buffer) → ℕ
 over [] = 0
@@ -46,7 +56,7 @@ spare s =
     )
 
 -- a refused command
-pub refused : (old new : State) (command : Command) (r : Refusal) → new ≡ old → IsRefused (names_are_bound old command) (λ choice. outcome choice old command) r → Case old command new (refusal r)
+pub refused : (old new : State) (command : Command) (r : Refusal) → new ≡ old → IsRefused (may_lack_memory old command) (λ choice. outcome choice old command) r → Case old command new (refusal r)
 refused old new command r same (inl lacks) = inr (lacks.1, (same, ap refusal lacks.0))
 refused old new command r same (inr is) =
     let any = spare old in
@@ -64,33 +74,35 @@ or_else true b h = refl
 or_else false b h = h
 
 -- a line that asks for a command
-pub answered : (old new : State) (line : Line) (command : Command) (reply : Reply) → line ≡ asks command → Case old command new reply → Answered old line new (reply ∷ [])
-answered old new line command reply is (inl step) = subst (λ (l : Line). Answered old l new (reply ∷ [])) (sym is) (reply, refl, inl step)
-answered old new line command reply is (inr lacks) =
-    subst (λ (l : Line). Answered old l new (reply ∷ [])) (sym is) (reply, refl, inr (either (names_are_bound old command) (needs_room command) lacks.0, lacks.1))
+asked : (old new : State) (line : Line) (command : Command) (reply : Reply) → line ≡ asks command → Case old command new reply → Answered old (says line) new (reply ∷ [])
+asked old new line command reply is (inl step) = subst (λ (l : Line). Answered old (says l) new (reply ∷ [])) (sym is) (reply, refl, inl step)
+asked old new line command reply is (inr lacks) =
+    subst (λ (l : Line). Answered old (says l) new (reply ∷ [])) (sym is) (reply, refl, inr (either (may_lack_memory old command) (needs_room command) lacks.0, lacks.1))
 
-lacking : (old : State) (line : Line) → MayLackRoom line → Answered old line old (refusal OutOfMemory ∷ [])
+pub answered : (old new : State) (meaning : Meaning) (command : Command) (reply : Reply) → SaysHeld (Ok (Some command)) meaning → Case old command new reply → Answered old meaning new (reply ∷ [])
+answered old new too_long command reply is done = cc
+answered old new (says line) command reply is done = asked old new line command reply is done
+
+lacking : (old : State) (line : Line) → MayLackRoom line → Answered old (says line) old (refusal OutOfMemory ∷ [])
 lacking old silent h = absurd h
-lacking old too_long h = absurd h
 lacking old bad_byte h = absurd h
 lacking old misspelt h = (refusal OutOfMemory, refl, inr (refl, refl))
-lacking old (asks command) h = (refusal OutOfMemory, refl, inr (or_else (names_are_bound old command) (needs_room command) h, (refl, refl)))
+lacking old (asks command) h = (refusal OutOfMemory, refl, inr (or_else (may_lack_memory old command) (needs_room command) h, (refl, refl)))
 
 -- a line that is refused
-pub refused_line : (old : State) (line : Line) (r : Refusal) → SaysHeld (Err r) line → Answered old line old (refusal r ∷ [])
-refused_line old line r (inl (inl p)) = subst (λ (l : Line). Answered old l old (refusal r ∷ [])) (sym p.1) (refusal r, refl, inl (refl, ap refusal p.0))
-refused_line old line r (inl (inr (inl p))) = subst (λ (l : Line). Answered old l old (refusal r ∷ [])) (sym p.1) (refl, ap (λ e. refusal e ∷ []) p.0)
-refused_line old line r (inl (inr (inr p))) = subst (λ (e : Refusal). Answered old line old (refusal e ∷ [])) (sym p.0) (lacking old line p.1)
-refused_line old line r (inr p) =
-    let which : r ≡ LineTooLong = cc in
-    subst (λ (l : Line). Answered old l old (refusal r ∷ [])) (sym p.1) (refl, ap (λ e. refusal e ∷ []) which)
+misread : (old : State) (line : Line) (r : Refusal) → Says (Err r) line → Answered old (says line) old (refusal r ∷ [])
+misread old line r (inl p) = subst (λ (l : Line). Answered old (says l) old (refusal r ∷ [])) (sym p.1) (refusal r, refl, inl (refl, ap refusal p.0))
+misread old line r (inr (inl p)) = subst (λ (l : Line). Answered old (says l) old (refusal r ∷ [])) (sym p.1) (refl, ap (λ e. refusal e ∷ []) p.0)
+misread old line r (inr (inr p)) = subst (λ (e : Refusal). Answered old (says line) old (refusal e ∷ [])) (sym p.0) (lacking old line p.1)
 
--- what is held says a command
-pub said_command : (line : Line) (command : Command) → SaysHeld (Ok (Some command)) line → line ≡ asks command
-said_command line command (inl is) = is
-said_command line command (inr p) = cc
+pub refused_line : (old : State) (meaning : Meaning) (r : Refusal) → SaysHeld (Err r) meaning → Answered old meaning old (refusal r ∷ [])
+refused_line old too_long r is = let which : r ≡ LineTooLong = cc in (refl, ap (λ e. refusal e ∷ []) which)
+refused_line old (says line) r is = misread old line r is
 
 -- a line that asks for nothing
-pub silent_line : (old : State) (line : Line) → SaysHeld (Ok None) line → Answered old line old []
-silent_line old line (inl is) = subst (λ (l : Line). Answered old l old []) (sym is) (refl, refl)
-silent_line old line (inr p) = cc
+nothing_asked : (old : State) (line : Line) → line ≡ silent → Answered old (says line) old []
+nothing_asked old line is = subst (λ (l : Line). Answered old (says l) old []) (sym is) (refl, refl)
+
+pub silent_line : (old : State) (meaning : Meaning) → SaysHeld (Ok None) meaning → Answered old meaning old []
+silent_line old too_long is = cc
+silent_line old (says line) is = nothing_asked old line is

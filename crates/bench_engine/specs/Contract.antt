@@ -3,7 +3,7 @@ use Rattle.std.specs.Prelude.{◌≡◌, ◌⊎◌, ℕ, Bool, IsTrue, List, ◌
 use Rattle.std.specs.Io.{StartsWith}
 use Rattle.elem_descr.specs.declared.refusal.Refusal.{Refusal}
 use Rattle.elem_descr.specs.declared.refusal.Refusal.TheVariants.{OutOfMemory}
-use Rattle.bench_engine.specs.States.{State}
+use Rattle.name_store.specs.States.{State}
 use Rattle.bench_engine.specs.Machine.{Choice, Outcome, IsAllowed}
 
 -- a refusal is that of the machine, whatever it chooses, or want of memory, where that may be

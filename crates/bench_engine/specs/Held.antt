@@ -2,7 +2,7 @@
 use Rattle.std.specs.Prelude.{◌≡◌, ◌<◌, ℕ, List, [], ◌∷◌, ◌++◌, length, map, Option, count_by, not}
 use Rattle.std.specs.Io.KnownBytes.{Appends, Consumes, IsAtEnd}
 use Rattle.bench_engine.specs.declared.session.Summary.{Summary}
-use Rattle.bench_engine.specs.States.{State, start}
+use Rattle.name_store.specs.States.{State, start}
 use Rattle.bench_engine.specs.Replies.{Reply}
 use Rattle.bench_engine.specs.Lines.{lines, ended, trimmed}
 use Rattle.bench_engine.specs.Runs.{Run, output, reply_line}

@@ -1,15 +1,8 @@
-pub mod Blocks
-pub mod Codes
+pub mod Contents
 pub mod Contract
 pub mod Held
 pub mod Lines
 pub mod Machine
-pub mod Printed
-pub mod Reading
 pub mod Replies
 pub mod Runs
-pub mod Script
 pub mod Sessions
-pub mod Shown
-pub mod States
-pub mod View

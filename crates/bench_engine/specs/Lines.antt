@@ -1,6 +1,7 @@
 -- The lines of a script.
-use Rattle.std.specs.Prelude.{ℕ, ◌-◌, List, [], ◌∷◌, ◌++◌, length, map, take, nat_eq, if◌then◌else◌}
+use Rattle.std.specs.Prelude.{ℕ, ◌-◌, List, [], ◌∷◌, ◌++◌, length, map, take, nat_eq, nat_lt, if◌then◌else◌}
 use Rattle.std.specs.List.{ends_with}
+use Rattle.script_lang.specs.Lines.{Line, line_of}
 
 -- a byte at the front of the first piece, if there is one
 abbrev pub onto_first_piece : ℕ → List (List ℕ) → List (List ℕ)
@@ -34,3 +35,15 @@ if_any (b ∷ bytes) = (b ∷ bytes) ∷ []
 -- the pieces that newlines end, and the last without one where it isn't empty
 abbrev pub lines : List ℕ → List (List ℕ)
 lines bytes = map trimmed (ended bytes ++ if_any (unended bytes))
+
+-- the most bytes of a line
+abbrev pub limit : ℕ
+limit = 65536
+
+-- what a line means: it is too long, or it says what the grammar reads in it
+pub data Meaning : Type 0 where
+  too_long : Meaning
+  says : Line → Meaning
+
+unfoldable pub meaning_of : List ℕ → Meaning
+meaning_of line = if nat_lt limit (length line) then too_long else says (line_of line)

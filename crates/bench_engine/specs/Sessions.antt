@@ -1,11 +1,14 @@
 -- What a session stands for, once some bytes have come.
-use Rattle.std.specs.Prelude.{◌≡◌, ◌<◌, ◌≤◌, ◌+◌, ℕ, Bool, true, false, List, [], ◌∷◌, ◌++◌, length, map, Option, Some, None, vec_capacity}
+use Rattle.std.specs.Prelude.{◌≡◌, ◌<◌, ◌≤◌, ◌+◌, ℕ, Bool, true, false, List, [], ◌∷◌, ◌++◌, length, map, Option, Some, None, Result, IsErrOf, vec_capacity}
 use Rattle.std.specs.Io.KnownBytes.{Appends}
+use Rattle.elem_descr.specs.declared.refusal.Refusal.{Refusal}
+use Rattle.elem_descr.specs.declared.refusal.Refusal.TheVariants.{LineTooLong}
+use Rattle.script_lang.specs.declared.command.Command.{Command}
+use Rattle.script_lang.specs.Reading.{Says}
 use Rattle.bench_engine.specs.declared.session.Session.{Session}
-use Rattle.bench_engine.specs.States.{start}
+use Rattle.name_store.specs.States.{start}
 use Rattle.bench_engine.specs.Replies.{Reply}
-use Rattle.bench_engine.specs.Lines.{lines, ended, unended, trimmed}
-use Rattle.bench_engine.specs.Script.{Line, too_long, line_of, limit}
+use Rattle.bench_engine.specs.Lines.{lines, ended, unended, trimmed, Meaning, too_long, says, meaning_of, limit}
 use Rattle.bench_engine.specs.Runs.{Answered, Run, output, reply_line}
 use Rattle.bench_engine.specs.Held.{accepted_count, refused_count}
 
@@ -14,10 +17,15 @@ abbrev pub Holds : List ℕ → Bool → List ℕ → Type 0
 Holds line true piece = limit + 1 < length piece
 Holds line false piece = line ≡ piece
 
--- what the line that is held says
-abbrev pub said : List ℕ → Bool → Line
+-- what the line that is held means
+abbrev pub said : List ℕ → Bool → Meaning
 said line true = too_long
-said line false = line_of line
+said line false = meaning_of line
+
+-- what reading the line that is held answers: what the grammar says, or that it is too long
+abbrev pub SaysHeld : Result (Option Command) Refusal → Meaning → Type 0
+SaysHeld result too_long = IsErrOf result LineTooLong
+SaysHeld result (says line) = Says result line
 
 -- at most one reply, which stands in out
 abbrev pub Tells : List Reply → Option Bool → List ℕ → Type 0

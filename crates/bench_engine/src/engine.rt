@@ -1,19 +1,61 @@
 //! One line: what it says, carried out, with the reply at the end of `out`.
 ghost use Rattle.std.specs.Prelude.{◌≡◌, ◌≤◌, ◌+◌, ◌++◌, ◌⊎◌, [], List, ℕ, length, IsTrue, false, vec_len, vec_capacity};
+ghost use Rattle.bench_engine.specs.Contract.{Answers};
+ghost use Rattle.bench_engine.specs.Machine.{outcome, may_lack_memory};
 ghost use Rattle.bench_engine.specs.Replies.{Reply};
 ghost use Rattle.bench_engine.specs.Runs.{Case, Answered};
-ghost use Rattle.bench_engine.specs.Sessions.{said, Tells};
-ghost use Rattle.bench_engine.specs.Reading.{SaysHeld};
+ghost use Rattle.bench_engine.specs.Sessions.{said, SaysHeld, Tells};
 
-use crate::bench::Bench;
-use crate::command::Command;
-use crate::replies::word;
-use crate::script::{MAX_LINE_LEN, parse};
+use crate::create::create;
+use crate::delete::delete;
+use crate::format::format;
+use crate::names::names;
+use crate::print::print;
+use crate::set::set;
 use elem_descr::Refusal;
+use name_store::Bench;
+use script_lang::{Argument, Command, parse, word};
 use std::alloc::Global;
 
+/// The most bytes of a line.
+pub const MAX_LINE_LEN: usize = 65_536;
+
+/// The most bytes of a refusal's text.
+pub const MAX_REFUSAL_LEN: usize = 64;
+
+/// Carries out a command and appends its reply. A refusal changes nothing, but for what stands past
+/// the old end of `out`.
+fn perform(
+    alloc: Global,
+    bench: &mut Bench,
+    command: &Command,
+    out: &mut Vec<u8>,
+) -> Result<(), Refusal>
+    requires room { vec_len out.old + 64 ≤ vec_capacity out.old }
+    ensures answers { Answers (may_lack_memory bench.old command.now) (λ choice. outcome choice bench.old command.now)
+        bench.old bench.new out.old.items out.new.items result }
+    ensures room { vec_capacity out.old ≤ vec_capacity out.new }
+{
+    match command {
+        Command::Zeros { name, .. }
+        | Command::Full { name, .. }
+        | Command::Arange { name, .. }
+        | Command::Array { name, .. } => create(alloc, bench, name, command, out),
+        Command::Set { name, index, value } => match value {
+            Argument::Literal(literal) => set(alloc, bench, name, index, literal, out),
+            Argument::Operand(_) => Err(Refusal::Syntax),
+        },
+        Command::Delete { name } => delete(bench, name, out),
+        Command::Print { name } => print(alloc, bench, name, out),
+        Command::Format { name } => format(alloc, bench, name, out),
+        Command::Names => names(bench, out),
+        _ => Err(Refusal::Syntax),
+    }
+}
+
 /// Carries out a command, appends its reply, and answers whether it was accepted. A refused
-/// command changes nothing. Want of memory is never answered where a name is unknown.
+/// command changes nothing. Want of memory is never answered where a name is unknown, nor for a
+/// command that is not carried out so far, which is refused as `Syntax`.
 pub fn execute(alloc: Global, bench: &mut Bench, command: &Command, out: &mut Vec<u8>) -> bool
     requires room { vec_len out.old + 64 ≤ vec_capacity out.old }
     ensures case { (reply : Reply) × (out.new.items ≡ out.old.items ++ reply.text)
@@ -21,7 +63,7 @@ pub fn execute(alloc: Global, bench: &mut Bench, command: &Command, out: &mut Ve
     ensures room { vec_capacity out.old ≤ vec_capacity out.new }
 {
     let before = out.len();
-    match bench.perform(alloc, command, out) {
+    match perform(alloc, bench, command, out) {
         Ok(()) => true,
         Err(refusal) => {
             out.truncate(before);

@@ -1,22 +1,20 @@
-//! The workbench: named arrays, the commands of a script that make, change and print them, and a
-//! whole run from what is read to what is written.
+//! The workbench: the commands of a script that make, change and print named arrays, and a whole run
+//! from what is read to what is written.
 #![tactic(auto)]
 
-pub mod bench;
-mod binding;
-pub mod command;
+mod contents;
+mod create;
+mod delete;
 pub mod engine;
+mod format;
+mod names;
 mod print;
-mod printer;
-pub mod replies;
 pub mod runner;
-pub mod script;
 mod send;
 mod session;
 mod set;
 #[cfg(test)]
 mod tests;
-mod zeros;
 
 pub use engine::execute;
 pub use runner::{RunFault, run};

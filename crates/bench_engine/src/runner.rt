@@ -88,7 +88,6 @@ pub fn run<R: Read, W: Write>(
     ensures script { IfOk result (λ summary. IfSome (R.remaining reader.old) (λ script.
         Answers script (W.contents writer.old) (W.contents writer.new) summary)) }
     ensures ok { IfOk result (Finished (R.remaining reader.old) (R.remaining reader.new) (W.contents writer.old) (W.contents writer.new)) }
-
     ensures read { IsErrOf result RunFault.Read → StoppedReading (R.remaining reader.old) (R.remaining reader.new) (W.contents writer.old) (W.contents writer.new) }
     ensures write { IsErrOf result RunFault.Write → StoppedWriting (R.remaining reader.old) (R.remaining reader.new) (W.contents writer.old) (W.contents writer.new) }
     ensures memory { IsErrOf result RunFault.Memory → (reader.new ≡ reader.old) × (writer.new ≡ writer.old) }

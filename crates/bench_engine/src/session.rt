@@ -4,11 +4,9 @@ ghost use Rattle.bench_engine.specs.Held.{Cut};
 ghost use Rattle.bench_engine.specs.Sessions.{Holds, HasRoom, Fed, Told, ToldInPart, KeepsAnswers, AnswersLine, IsNew, Ended};
 ghost use Rattle.bench_engine.specs.Lines.{trimmed};
 
-use crate::bench::Bench;
-use crate::engine::answer;
-use crate::replies::MAX_REFUSAL_LEN;
-use crate::script::MAX_LINE_LEN;
+use crate::engine::{MAX_LINE_LEN, MAX_REFUSAL_LEN, answer};
 use crate::send::{WriteFault, send_line};
+use name_store::Bench;
 use std::alloc::{AllocError, Global};
 use std::io::Write;
 
@@ -148,7 +146,7 @@ impl Session {
         let line = Vec::with_capacity(alloc, MAX_LINE_LEN + 1)?;
         let out = Vec::with_capacity(alloc, MAX_REFUSAL_LEN)?;
         Ok(Session {
-            bench: Bench::new(alloc),
+            bench: Bench::try_new(alloc, 0)?,
             line,
             is_long: false,
             out,

@@ -92,7 +92,7 @@ const FIRST_RUN: &[u8] = b"a = zeros <i4 (2,3)\nset a[1,0] = 7\nprint a\n";
 
 const FIRST_REPLIES: &[u8] = b"ok a <i4 (2, 3) new\nok set 1\n[[0 0 0]\n [7 0 0]]\n";
 
-const ROWS: [Row; 12] = [
+const ROWS: [Row; 20] = [
     Row {
         script: FIRST_RUN,
         replies: FIRST_REPLIES,
@@ -147,10 +147,10 @@ const ROWS: [Row; 12] = [
     },
     // Sizes at their limits: the exact product counts, and a buffer has at most 2^28 bytes.
     Row {
-        script: b"a = zeros <i4 (0,16777216,16777216)\nprint a\nb = zeros <i4 (16777216,2)\nc = zeros <i8 (4097,4096)\nd = zeros <i4 (999999999999999999999999999999)\ne = zeros <f4 (16777217)\nf = zeros >i4 (1)\ng = zeros |u1 (1)\nh = zeros i4 (1,)\n",
-        replies: b"ok a <i4 (0, 16777216, 16777216) new\n[]\nno E09 too large\nno E09 too large\nno E09 too large\nno E05 descriptor left out\nno E05 descriptor left out\nno E05 descriptor left out\nok h <i4 (1,) new\n",
-        accepted: 3,
-        refused: 6,
+        script: b"a = zeros <i4 (0,16777216,16777216)\nprint a\nb = zeros <i4 (16777216,2)\nc = zeros <i8 (4097,8192)\nd = zeros <i4 (999999999999999999999999999999)\ne = zeros <f4 (16777217)\nf = zeros |S65536 (4097)\n",
+        replies: b"ok a <i4 (0, 16777216, 16777216) new\n[]\nno E09 too large\nno E09 too large\nno E09 too large\nno E05 descriptor left out\nno E09 too large\n",
+        accepted: 2,
+        refused: 5,
     },
     Row {
         script: b"a = zeros <i4 (2,2,2)\nset a[1,1,1] = -12\nprint a\n",
@@ -167,10 +167,63 @@ const ROWS: [Row; 12] = [
     },
     // Commands that are not carried out yet.
     Row {
-        script: b"a = full <i4 (1) 1\ndel a\nundo\nnames\ninfo a\na = b\nset a[:] = 1\nset a[0] = True\n",
-        replies: b"no E03 syntax\nno E03 syntax\nno E03 syntax\nno E03 syntax\nno E03 syntax\nno E03 syntax\nno E03 syntax\nno E03 syntax\n",
-        accepted: 0,
-        refused: 8,
+        script: b"a = zeros <i4 (1)\nundo\ninfo a\nb = a\nset a[:] = 1\nset a[0] = a\nupd a[0] add 1\nc = add a 1\nd = sum a\nsave a \"a.npy\"\nset q[:] = 1\n",
+        replies: b"ok a <i4 (1,) new\nno E03 syntax\nno E03 syntax\nno E03 syntax\nno E03 syntax\nno E03 syntax\nno E03 syntax\nno E03 syntax\nno E03 syntax\nno E03 syntax\nno E03 syntax\n",
+        accepted: 1,
+        refused: 10,
+    },
+    Row {
+        script: b"a = arange <i4 0 5 1\nprint a\na = array ? (3) True False True\nprint a\n",
+        replies: b"ok a <i4 (5,) new\n[0 1 2 3 4]\nok a |b1 (3,) new\n[ True False  True]\n",
+        accepted: 4,
+        refused: 0,
+    },
+    // Byte strings are cut to their length, and lose the NULs at their end.
+    Row {
+        script: b"s = array |S3 (2) b'ab' b'a\\x00c'\nprint s\nset s[0] = b'abcd'\nprint s\nformat s\nset s[0] = 1\n",
+        replies: b"ok s |S3 (2,) new\n[b'ab' b'a\\x00c']\nok set 1\n[b'abc' b'a\\x00c']\nformat <3s\nno E33 no such cast\n",
+        accepted: 5,
+        refused: 1,
+    },
+    // Records: a record literal goes by position, a scalar to every field.
+    Row {
+        script: b"r = zeros T{b:x:i:y:} (2)\nformat r\nset r[1] = (5,-1)\nprint r\nset r[0] = 7\nprint r\nset r[0] = (1,2,3)\nset r[0] = (300,b'a')\nset r[0] = (300,1)\nz = zeros T{b:x:T{i:y:}:s:} (1)\n",
+        replies: b"ok r T{<b:x:3x<i:y:} (2,) new\nformat T{<b:x:3x<i:y:}\nok set 1\n[(0,  0) (5, -1)]\nok set 1\n[(7,  7) (5, -1)]\nno E33 no such cast\nno E33 no such cast\nno E23 literal out of range\nno E05 descriptor left out\n",
+        accepted: 6,
+        refused: 4,
+    },
+    // The number of values, then their kinds, then their ranges.
+    Row {
+        script: b"e = array <i4 (2) 1\ne = array <i4 (2) 1 2 3\ne = array |u1 (2) 300 b'a'\ne = array |u1 (2) 300 1\ne = array <i4 () 5\nprint e\ne = array <i4 (0)\nprint e\n",
+        replies: b"no E32 number of values\nno E32 number of values\nno E33 no such cast\nno E23 literal out of range\nok e <i4 () new\n5\nok e <i4 (0,) new\n[]\n",
+        accepted: 4,
+        refused: 4,
+    },
+    Row {
+        script: b"a = arange |i1 0 201 100\na = arange |i1 0 200 100\nprint a\na = arange |b1 0 2 1\na = arange <i4 0 1 0\na = arange <i8 0 999999999999999999999999999999 1\na = arange >i2 3 -4 -3\nprint a\na = arange <u8 0 18446744073709551615 9223372036854775807\nprint a\na = arange T{i:x:} 0 1 0\n",
+        replies: b"no E23 literal out of range\nok a |i1 (2,) new\n[  0 100]\nno E22 not for this kind\nno E12 zero step\nno E09 too large\nok a >i2 (3,) new\n[ 3  0 -3]\nok a <u8 (3,) new\n[                   0  9223372036854775807 18446744073709551614]\nno E22 not for this kind\n",
+        accepted: 6,
+        refused: 5,
+    },
+    Row {
+        script: b"f = full |u1 (2,2) 200\nprint f\nf = full |u1 (1) 256\nf = full |S2 (2) b'abc'\nprint f\nf = full |S2 (1) 1\nf = full ? () 7\nprint f\nset f[0] = 1\n",
+        replies: b"ok f |u1 (2, 2) new\n[[200 200]\n [200 200]]\nno E23 literal out of range\nok f |S2 (2,) new\n[b'ab' b'ab']\nno E33 no such cast\nok f |b1 () new\nTrue\nno E10 too many indices\n",
+        accepted: 6,
+        refused: 3,
+    },
+    // A name that is bound again comes last; one that is bound keeps its place.
+    Row {
+        script: b"a = zeros <i4 (1)\nb = zeros <i4 (1)\nc = zeros <i4 (1)\ndel b\nb = zeros <i4 (1)\nnames\na = zeros <i4 (2)\nnames\ndel q\ndel a\nprint a\nset b[0] = 3\nprint c\ndel b\ndel c\nnames\n",
+        replies: b"ok a <i4 (1,) new\nok b <i4 (1,) new\nok c <i4 (1,) new\nok del b\nok b <i4 (1,) new\nnames a c b\nok a <i4 (2,) new\nnames a c b\nno E06 unknown name\nok del a\nno E06 unknown name\nok set 1\n[0]\nok del b\nok del c\nnames\n",
+        accepted: 14,
+        refused: 2,
+    },
+    // Every integer type at its ends, in both byte orders.
+    Row {
+        script: b"a = array |i1 (2) -128 127\nprint a\na = array |u1 (2) 0 255\nprint a\na = array >i2 (2) -32768 32767\nprint a\na = array >u4 (2) 0 4294967295\nprint a\na = array >i8 (2) -9223372036854775808 9223372036854775807\nprint a\na = array <u8 (1) 18446744073709551616\na = array <u2 (1) -1\nformat a\n",
+        replies: b"ok a |i1 (2,) new\n[-128  127]\nok a |u1 (2,) new\n[  0 255]\nok a >i2 (2,) new\n[-32768  32767]\nok a >u4 (2,) new\n[         0 4294967295]\nok a >i8 (2,) new\n[-9223372036854775808  9223372036854775807]\nno E23 literal out of range\nno E23 literal out of range\nformat >q\n",
+        accepted: 11,
+        refused: 2,
     },
 ];
 
@@ -321,6 +374,16 @@ const SHORT_OF_MEMORY: [&[u8]; 4] = [
     b"ok a <i4 (2, 3) new\nok set 1\nno E40 out of memory\n",
 ];
 
+const RECORD_RUN: &[u8] = b"r = array T{b:x:i:y:} (2) (5,-1) 7\nprint r\ndel r\nnames\n";
+
+/// What the second run may reply where memory runs out once: never for `del`.
+const SHORT_OF_MEMORY_FOR_RECORDS: [&[u8]; 4] = [
+    b"ok r T{<b:x:3x<i:y:} (2,) new\n[(5, -1) (7,  7)]\nok del r\nnames\n",
+    b"no E40 out of memory\nno E06 unknown name\nno E06 unknown name\nnames\n",
+    b"ok r T{<b:x:3x<i:y:} (2,) new\nno E40 out of memory\nok del r\nnames\n",
+    b"ok r T{<b:x:3x<i:y:} (2,) new\n[(5, -1) (7,  7)]\nok del r\nno E40 out of memory\n",
+];
+
 #[test]
 fn a_run_outlives_want_of_memory(rt: HostRuntime) -> Result<(), Fail> {
     let mut reader = FIRST_RUN;
@@ -332,5 +395,37 @@ fn a_run_outlives_want_of_memory(rt: HostRuntime) -> Result<(), Fail> {
             assert_eq!(rt; bytes_in(&writer), b"".as_slice());
         }
     }
+    Ok(())
+}
+
+#[test]
+fn a_run_of_records_outlives_want_of_memory(rt: HostRuntime) -> Result<(), Fail> {
+    let mut reader = RECORD_RUN;
+    let mut writer = room_for(256);
+    match run(rt.alloc(), &mut reader, &mut writer) {
+        Ok(_) => assert!(rt; SHORT_OF_MEMORY_FOR_RECORDS.contains(&bytes_in(&writer))),
+        Err(fault) => {
+            assert_eq!(rt; fault, RunFault::Memory);
+            assert_eq!(rt; bytes_in(&writer), b"".as_slice());
+        }
+    }
+    Ok(())
+}
+
+/// Two thousand names that are bound and removed again, one after the other.
+fn passing_names_script(alloc: Global) -> Result<String, AllocError> {
+    let mut script = String::new(alloc);
+    for n in 0..2000u32 {
+        write!(script, "n{n} = zeros <i4 (1)\ndel n{n}\n")?;
+    }
+    script.push_str("names\n")?;
+    Ok(script)
+}
+
+#[test]
+fn names_pass(rt: HostRuntime) -> Result<(), Fail> {
+    let script = passing_names_script(rt.alloc())?;
+    let found = replies(rt.alloc(), script.as_bytes())?;
+    assert!(rt; found.as_slice().ends_with(b"ok del n1999\nnames\n"));
     Ok(())
 }

@@ -9,10 +9,18 @@ use std::alloc::{AllocError, Global};
 
 /// What a script may say.
 const COMMANDS: &str = "Commands, one a line:
-  X = zeros D S     binds X to an array of zeros, as a = zeros <i4 (2,3); D is <i4 or <i8
-  set X[ix] = L     writes an integer to one item, as set a[1,-1] = 7
-  print X           prints an array
-  # ..              is a comment
+  X = zeros D S         binds X to a new array of zeros, as a = zeros <i4 (2,3)
+  X = full D S L        of one literal, as a = full |u1 (4) 255
+  X = arange D a b s    of the integers a, a+s, .. before b
+  X = array D S L..     of literals, as r = array T{<h:x:?:on:} (2) (5,True) 0
+  set X[ix] = L         writes a literal to one item, as set a[1,-1] = 7
+  del X                 unbinds X
+  names                 lists the names in the order in which they were first bound
+  print X, format X     shows the array, or the format text of its type
+  # ..                  is a comment
+
+D is a type string (<i4, >u2, |b1, |S5) or a format text of PEP 3118 (T{<i:x:>h:y:}).
+L is an integer, True, False, bytes as b'a\\x00', or a record of these, as (1,b'x').
 
 A refused command replies `no`, a code and its meaning, and changes nothing.
 Status: 0 all commands were accepted, 1 one was refused, 2 bad words, 3 the run stopped.";

@@ -1,7 +1,8 @@
 use Rattle.std.proofs.Common.{refl, ap, [], ◌∷◌, ◌++◌, arith, ◌∙◌, ◌≡◌}
 use Rattle.std.proofs.lemmas.Grind.{common_steps}
-use Rattle.bench_engine.specs.Replies.{refusal, word}
-use Rattle.bench_engine.proofs.Steps.{answered, silent_line, said_command, refused_line}
+use Rattle.bench_engine.specs.Replies.{refusal}
+use Rattle.script_lang.specs.Refusals.{text_of}
+use Rattle.bench_engine.proofs.Steps.{answered, silent_line, refused_line}
 use Rattle.bench_engine.proofs.engine.answer.Goals as goal
 
 pub returns-in-Ok-None-clause-answered : goal.returns-in-Ok-None-clause-answered
@@ -10,9 +11,9 @@ returns-in-Ok-None-clause-answered c = ([], (refl, c.requires.empty), silent_lin
 pub returns-in-Ok-Some-clause-answered : goal.returns-in-Ok-Some-clause-answered
 returns-in-Ok-Some-clause-answered c =
     let done = c.execute.ensures.case in
-    (done.0 ∷ [], (done.0, refl, done.2, done.1 ∙ ap (λ before. before ++ done.0.text) c.requires.empty), answered _ _ _ _ _ (said_command _ _ (rw c.in-Ok-Some.field-0-is at c.in-Ok-Some.ensures)) done.3)
+    (done.0 ∷ [], (done.0, refl, done.2, done.1 ∙ ap (λ before. before ++ done.0.text) c.requires.empty), answered _ _ _ _ _ (rw c.in-Ok-Some.field-0-is at c.in-Ok-Some.ensures) done.3)
 
 pub returns-in-Err-clause-answered : goal.returns-in-Err-clause-answered
 returns-in-Err-clause-answered c =
-    let text : c.extend_from_slice.new.self.items ≡ word c.in-Err.refusal = grind (arith, common_steps, c.requires.empty, c.word.ensures.text) in
+    let text : c.extend_from_slice.new.self.items ≡ text_of c.in-Err.refusal = grind (arith, common_steps, c.requires.empty, c.word.ensures.text) in
     (refusal c.in-Err.refusal ∷ [], (refusal c.in-Err.refusal, refl, refl, text), refused_line _ _ _ c.in-Err.ensures)

@@ -1,6 +1,9 @@
-use Rattle.std.proofs.Common.{refl, inr, arith}
-use Rattle.bench_engine.proofs.Lines.{line_of-long}
+use Rattle.std.proofs.Common.{refl, arith}
+use Rattle.bench_engine.proofs.Lines.{meaning_of-long, meaning_of-short}
 use Rattle.bench_engine.proofs.engine.read_line.Goals as goal
 
 pub returns-then-line-gt-MAX_LINE_LEN : goal.returns-then-line-gt-MAX_LINE_LEN
-returns-then-line-gt-MAX_LINE_LEN c = rw c.if-is_long.false (inr (refl, line_of-long _ (omega arith)))
+returns-then-line-gt-MAX_LINE_LEN c = rw (c.if-is_long.false, meaning_of-long c.args.line.now (omega arith)) refl
+
+pub returns : goal.returns
+returns c = rw (c.if-is_long.false, meaning_of-short c.args.line.now (omega arith)) c.parse.ensures

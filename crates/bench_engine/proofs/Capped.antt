@@ -1,0 +1,49 @@
+-- Lengths of a script as numbers of the machine.
+use Rattle.std.proofs.Common.{◌≡◌, ◌≤◌, ◌-◌, ◌^◌, ℕ, Bool, true, false, List, [], ◌∷◌, length, map, min, refl, sym, ap, ◌∙◌, ◌&&◌, Err, nat_le, arith}
+use Rattle.std.specs.List.{list_all}
+use Rattle.std.proofs.lemmas.Bool.{le-leb, leb-true, leb-false, lt-leb}
+use Rattle.std.proofs.lemmas.List.{length-map}
+use Rattle.elem_descr.specs.Refusals.{◌>>=◌, check}
+use Rattle.elem_descr.specs.declared.refusal.Refusal.TheVariants.{TooManyAxes, TooLarge}
+use Rattle.shape_strides.specs.Shapes.{shape_of}
+
+-- a length that is capped is as much too large
+pub capped-fits : (n : ℕ) → nat_le (min n (2 ^ 64 - 1)) (2 ^ 24) ≡ nat_le n (2 ^ 24)
+capped-fits n = elim (nat_le n (2 ^ 24)) as (λ t. nat_le n (2 ^ 24) ≡ t → nat_le (min n (2 ^ 64 - 1)) (2 ^ 24) ≡ t) [
+  | true ↦ λ e. le-leb _ _ (omega (arith, leb-true n (2 ^ 24) e))
+  | false ↦ λ e. lt-leb _ _ (omega (arith, leb-false n (2 ^ 24) e))
+] refl
+
+all-capped : (xs : List ℕ) → list_all (λ n. nat_le n (2 ^ 24)) (map (λ n. min n (2 ^ 64 - 1)) xs) ≡ list_all (λ n. nat_le n (2 ^ 24)) xs
+all-capped [] = refl
+all-capped (x ∷ xs) = rw (capped-fits x, all-capped xs) refl
+
+and-first : (a b : Bool) → (a && b) ≡ true → a ≡ true
+and-first true b h = refl
+and-first false b h = h
+
+and-second : (a b : Bool) → (a && b) ≡ true → b ≡ true
+and-second true b h = h
+and-second false b h = let no : false ≡ true = h in cc
+
+capped-same : (xs : List ℕ) → list_all (λ n. nat_le n (2 ^ 24)) xs ≡ true → map (λ n. min n (2 ^ 64 - 1)) xs ≡ xs
+capped-same [] h = refl
+capped-same (x ∷ xs) h =
+    let small : x ≤ 2 ^ 24 = leb-true x (2 ^ 24) (and-first _ _ h) in
+    let same : min x (2 ^ 64 - 1) ≡ x = omega arith in
+    λ i. same i ∷ capped-same xs (and-second (nat_le x (2 ^ 24)) _ h) i
+
+-- a shape with a length that is too large
+shape_of-wide : (xs : List ℕ) → list_all (λ n. nat_le n (2 ^ 24)) xs ≡ false → shape_of xs ≡ (check (nat_le (length xs) 64) TooManyAxes >>= λ _. Err TooLarge)
+unfolding shape_of
+shape_of-wide xs wide = rw wide refl
+
+pub shape_of-capped : (xs : List ℕ) → shape_of (map (λ n. min n (2 ^ 64 - 1)) xs) ≡ shape_of xs
+shape_of-capped xs =
+    elim (list_all (λ n. nat_le n (2 ^ 24)) xs) as (λ t. list_all (λ n. nat_le n (2 ^ 24)) xs ≡ t → shape_of (map (λ n. min n (2 ^ 64 - 1)) xs) ≡ shape_of xs) [
+      | true ↦ λ e. ap shape_of (capped-same xs e)
+      | false ↦ λ e.
+          shape_of-wide (map (λ n. min n (2 ^ 64 - 1)) xs) (all-capped xs ∙ e)
+          ∙ ap (λ n. check (nat_le n 64) TooManyAxes >>= λ _. Err TooLarge) (length-map xs (λ n. min n (2 ^ 64 - 1)))
+          ∙ sym (shape_of-wide xs e)
+    ] refl

@@ -1,0 +1,61 @@
+-- A name bound to a new array.
+use Rattle.std.proofs.Common.{◌≡◌, ℕ, ℤ, true, false, List, ◌++◌, length, refl, sym, ap, ◌∙◌, Result, Ok, Err, ◌⊎◌, inl, inr, take}
+use Rattle.std.specs.Io.{StartsWith}
+use Rattle.std.proofs.Math.Seq.{take-append_seam}
+use Rattle.elem_descr.specs.declared.refusal.Refusal.{Refusal}
+use Rattle.elem_descr.specs.declared.refusal.Refusal.TheVariants.{OutOfMemory, TooManyNames}
+use Rattle.overlap_copy.specs.declared.owned.Owned.{Owned}
+use Rattle.name_store.specs.States.{State}
+use Rattle.name_store.specs.Arrays.{has_room_for, bound_to, fresh_array}
+use Rattle.name_store.specs.Calls.{AnswersBind}
+use Rattle.name_store.specs.declared.bound.Bound.TheVariants.{Fresh}
+use Rattle.script_lang.specs.declared.literal.Literal.{Literal}
+use Rattle.script_lang.specs.declared.command.Command.{Command}
+use Rattle.script_lang.specs.declared.command.Command.TheVariants.{Zeros, Full, Arange, Array}
+use Rattle.bench_engine.specs.Contents.{Contents, held, contents_of}
+use Rattle.bench_engine.specs.Contract.{IsRefused, Answers}
+use Rattle.bench_engine.specs.Machine.{Choice, creation_outcome, outcome, may_lack_memory}
+use Rattle.bench_engine.specs.Replies.{fresh_text}
+
+pub creation-many : (choice : Choice) (s : State) (name : List ℕ) (contents : Result Contents Refusal) → has_room_for s name ≡ false → creation_outcome choice s name contents ≡ Err TooManyNames
+unfolding creation_outcome
+creation-many choice s name contents full = rw full refl
+
+creation-bad : (choice : Choice) (s : State) (name : List ℕ) (contents : Result Contents Refusal) (e : Refusal) → has_room_for s name ≡ true → contents ≡ Err e → creation_outcome choice s name contents ≡ Err e
+unfolding creation_outcome
+creation-bad choice s name contents e room bad = rw (room, bad) refl
+
+creation-done : (choice : Choice) (s : State) (name : List ℕ) (contents : Result Contents Refusal) (new : Contents) → has_room_for s name ≡ true → contents ≡ Ok new →
+    creation_outcome choice s name contents ≡ Ok (bound_to s name (fresh_array choice.fresh new.shape) new.buffer, fresh_text name new.buffer.descr new.shape)
+unfolding creation_outcome
+creation-done choice s name contents new room good = rw (room, good) refl
+
+pub creation-refused : (s : State) (name : List ℕ) (contents : Result Contents Refusal) (e : Refusal) → has_room_for s name ≡ true → (e ≡ OutOfMemory) ⊎ (contents ≡ Err e) →
+    IsRefused true (λ choice. creation_outcome choice s name contents) e
+creation-refused s name contents e room (inl lacks) = inl (lacks, refl)
+creation-refused s name contents e room (inr bad) = inr (λ choice. creation-bad choice s name contents e room bad)
+
+starts : (before reply after : List ℕ) → after ≡ before ++ reply → StartsWith after before
+starts before reply after is = ap (take (length before)) is ∙ take-append_seam before reply
+
+-- the name is bound, or refused for want of memory
+pub creation-answers : (s new : State) (name : List ℕ) (contents : Result Contents Refusal) (o : Owned) (result : Result (Unit {0}) Refusal) (before after : List ℕ) → has_room_for s name ≡ true → contents ≡ Ok (held o) →
+    after ≡ before ++ fresh_text name o.descr o.layout.shape → AnswersBind s name (Fresh o) result new → Answers true (λ choice. creation_outcome choice s name contents) s new before after result
+creation-answers s new name contents o (Ok done) before after room good told (_, (number, unused, is)) =
+    (record { fresh = number }, unused, fresh_text name o.descr o.layout.shape, creation-done (record { fresh = number }) s name contents (held o) room good ∙ ap (λ (t : State). Ok (t, fresh_text name o.descr o.layout.shape)) (sym is), told)
+creation-answers s new name contents o (Err e) before after room good told (kept, inl full) =
+    let no : true ≡ false = sym room ∙ full.0 in cc
+creation-answers s new name contents o (Err e) before after room good told (kept, inr lacks) =
+    (kept, starts before (fresh_text name o.descr o.layout.shape) after told, inl (lacks.1, refl))
+
+-- each command that makes an array
+pub created : (s new : State) (command : Command) (name before after : List ℕ) (result : Result (Unit {0}) Refusal) →
+    ((d : List ℕ) × (l : List ℕ) × (command ≡ Zeros name d l)) ⊎
+    (((d : List ℕ) × (l : List ℕ) × (v : Literal) × (command ≡ Full name d l v)) ⊎
+    (((d : List ℕ) × (start : ℤ) × (stop : ℤ) × (step : ℤ) × (command ≡ Arange name d start stop step)) ⊎
+    ((d : List ℕ) × (l : List ℕ) × (vs : List Literal) × (command ≡ Array name d l vs)))) →
+    Answers true (λ choice. creation_outcome choice s name (contents_of command)) s new before after result → Answers (may_lack_memory s command) (λ choice. outcome choice s command) s new before after result
+created s new command name before after result (inl is) h = rw is.2 (rw is.2 at h)
+created s new command name before after result (inr (inl is)) h = rw is.3 (rw is.3 at h)
+created s new command name before after result (inr (inr (inl is))) h = rw is.4 (rw is.4 at h)
+created s new command name before after result (inr (inr (inr is))) h = rw is.3 (rw is.3 at h)

@@ -1,0 +1,159 @@
+-- What the commands that make an array put into it, by the ways in which they end.
+use Rattle.std.proofs.Common.{◌≡◌, ◌≢◌, ◌≤◌, ◌<◌, ◌*◌, ◌^◌, ℕ, zero, suc, ℤ, List, [], ◌∷◌, ◌++◌, length, take, drop, map, replicate, refl, sym, ap, ◌∙◌, Result, Ok, Err, ◌⊎◌, inl, inr, arith}
+use Rattle.std.proofs.lemmas.Bool.{le-leb, lt-leb, ne_eqb, eq-eqb}
+use Rattle.std.proofs.lemmas.List.{length-map}
+use Rattle.std.proofs.Math.Seq.{take-append_seam}
+use Rattle.elem_descr.specs.declared.refusal.Refusal.{Refusal}
+use Rattle.elem_descr.specs.declared.refusal.Refusal.TheVariants.{OutOfMemory, TooLarge, NumberOfValues}
+use Rattle.elem_descr.specs.declared.scalar.Scalar.{Scalar}
+use Rattle.elem_descr.specs.declared.descr.Descr.{Descr}
+use Rattle.elem_descr.specs.declared.descr.Descr.TheVariants.{Scalar as ScalarDescr}
+use Rattle.elem_descr.specs.DescrTexts.{descriptor}
+use Rattle.elem_descr.specs.Encoding.{size}
+use Rattle.elem_descr.specs.Items.{item_size, decode_item}
+use Rattle.elem_descr.specs.Blocks.{blocks, items_in}
+use Rattle.elem_descr.specs.Values.{LeafValue}
+use Rattle.shape_strides.specs.Indexes.{count}
+use Rattle.shape_strides.specs.Shapes.{shape_of}
+use Rattle.script_lang.specs.declared.literal.Literal.{Literal}
+use Rattle.overlap_copy.specs.declared.owned.Owned.{Owned}
+use Rattle.literal_items.specs.LiteralItems.{item_value, item_values}
+use Rattle.literal_items.specs.RangeItems.{range_length, range_items}
+use Rattle.bench_engine.specs.Contents.{made, held, array_type, zeros_contents, full_contents, array_contents, arange_contents, integer_scalar}
+use Rattle.bench_engine.proofs.Zeros.{items_in-zeros}
+
+-- a slice that was written to, back in its place
+pub refilled : (new old : List ℕ) (len : ℕ) → length new ≡ len → take len (new ++ drop (length new) old) ≡ new
+refilled new old len whole = ap (λ n. take n (new ++ drop (length new) old)) (sym whole) ∙ take-append_seam new (drop (length new) old)
+
+-- a refusal that is passed on
+pub passed : {X Y : Type 0} (x : Result X Refusal) (y : Result Y Refusal) (e : Refusal) → (x ≡ Err e → y ≡ Err e) → (e ≡ OutOfMemory) ⊎ (x ≡ Err e) → (e ≡ OutOfMemory) ⊎ (y ≡ Err e)
+passed x y e on (inl lacks) = inl lacks
+passed x y e on (inr is) = inr (on is)
+
+-- the element type and the shape
+pub type-descr : (descr lengths : List ℕ) (e : Refusal) → descriptor descr ≡ Err e → array_type descr lengths ≡ Err e
+unfolding array_type
+type-descr descr lengths e bad = rw bad refl
+
+pub type-shape : (text lengths : List ℕ) (descr : Descr) (e : Refusal) → descriptor text ≡ Ok descr → shape_of lengths ≡ Err e → array_type text lengths ≡ Err e
+unfolding array_type
+type-shape text lengths descr e good bad = rw (good, bad) refl
+
+pub type-large : (text lengths : List ℕ) (descr : Descr) (shape : List ℕ) → descriptor text ≡ Ok descr → shape_of lengths ≡ Ok shape → 2 ^ 28 < count shape * item_size descr → array_type text lengths ≡ Err TooLarge
+unfolding array_type
+type-large text lengths descr shape good fits large = rw (good, fits, lt-leb (count shape * item_size descr) (2 ^ 28) large) refl
+
+pub type-done : (text lengths : List ℕ) (descr : Descr) (shape : List ℕ) → descriptor text ≡ Ok descr → shape_of lengths ≡ Ok shape → count shape * item_size descr ≤ 2 ^ 28 → array_type text lengths ≡ Ok (descr, shape)
+unfolding array_type
+type-done text lengths descr shape good fits small = rw (good, fits, le-leb (count shape * item_size descr) (2 ^ 28) small) refl
+
+-- what a block holds
+held-is : (o : Owned) (descr : Descr) (shape bytes : List ℕ) (items : List (List LeafValue)) → o.descr ≡ descr → o.layout.shape ≡ shape → o.block ≡ bytes → items ≡ items_in descr (count shape) bytes → made descr shape items ≡ held o
+held-is o descr shape bytes items typed shaped filled is =
+    (λ i. made (sym typed i) (sym shaped i) ((is ∙ λ j. items_in (sym typed j) (count (sym shaped j)) (sym filled j)) i))
+
+-- zeros
+pub zeros-type : (text lengths : List ℕ) (e : Refusal) → array_type text lengths ≡ Err e → zeros_contents text lengths ≡ Err e
+unfolding zeros_contents
+zeros-type text lengths e bad = rw bad refl
+
+pub zeros-done : (text lengths : List ℕ) (descr : Descr) (shape : List ℕ) (o : Owned) → array_type text lengths ≡ Ok (descr, shape) → o.descr ≡ descr → o.layout.shape ≡ shape → o.block ≡ replicate (count shape * item_size descr) 0 →
+    zeros_contents text lengths ≡ Ok (held o)
+unfolding zeros_contents
+zeros-done text lengths descr shape o good typed shaped filled =
+    rw good (ap Ok (held-is o descr shape (replicate (count shape * item_size descr) 0) _ typed shaped filled (sym (items_in-zeros descr (count shape) (count shape * item_size descr)))))
+
+-- full
+pub full-type : (text lengths : List ℕ) (literal : Literal) (e : Refusal) → array_type text lengths ≡ Err e → full_contents text lengths literal ≡ Err e
+unfolding full_contents
+full-type text lengths literal e bad = rw bad refl
+
+pub full-literal : (text lengths : List ℕ) (literal : Literal) (descr : Descr) (shape : List ℕ) (e : Refusal) → array_type text lengths ≡ Ok (descr, shape) → item_value descr literal ≡ Err e → full_contents text lengths literal ≡ Err e
+unfolding full_contents
+full-literal text lengths literal descr shape e good bad = rw (good, bad) refl
+
+each-copy : (descr : Descr) (item : List ℕ) (n : ℕ) → map (decode_item descr) (replicate n item) ≡ replicate n (decode_item descr item)
+each-copy descr item zero = refl
+each-copy descr item (suc n) = ap (λ items. decode_item descr item ∷ items) (each-copy descr item n)
+
+pub full-done : (text lengths : List ℕ) (literal : Literal) (descr : Descr) (shape item bytes : List ℕ) (o : Owned) → array_type text lengths ≡ Ok (descr, shape) → item_value descr literal ≡ Ok (decode_item descr item) →
+    length item ≡ item_size descr → blocks (length item) (count shape) bytes ≡ replicate (count shape) item → o.descr ≡ descr → o.layout.shape ≡ shape → o.block ≡ bytes → full_contents text lengths literal ≡ Ok (held o)
+unfolding full_contents
+full-done text lengths literal descr shape item bytes o good value whole copies typed shaped filled =
+    rw (good, value) (ap Ok (held-is o descr shape bytes (replicate (count shape) (decode_item descr item)) typed shaped filled items))
+  where
+    items : replicate (count shape) (decode_item descr item) ≡ items_in descr (count shape) bytes
+    items = sym (each-copy descr item (count shape)) ∙ ap (map (decode_item descr)) (sym copies) ∙ ap (λ n. map (decode_item descr) (blocks n (count shape) bytes)) whole
+
+-- array
+pub array-type : (text lengths : List ℕ) (literals : List Literal) (e : Refusal) → array_type text lengths ≡ Err e → array_contents text lengths literals ≡ Err e
+unfolding array_contents
+array-type text lengths literals e bad = rw bad refl
+
+pub array-number : (text lengths : List ℕ) (literals : List Literal) (descr : Descr) (shape : List ℕ) → array_type text lengths ≡ Ok (descr, shape) → length literals ≢ count shape → array_contents text lengths literals ≡ Err NumberOfValues
+unfolding array_contents
+array-number text lengths literals descr shape good other = rw (good, ne_eqb (length literals) (count shape) other) refl
+
+pub array-values : (text lengths : List ℕ) (literals : List Literal) (descr : Descr) (shape : List ℕ) (e : Refusal) → array_type text lengths ≡ Ok (descr, shape) → length literals ≡ count shape → item_values descr literals ≡ Err e → array_contents text lengths literals ≡ Err e
+unfolding array_contents
+array-values text lengths literals descr shape e good many bad = rw (good, eq-eqb (length literals) (count shape) many, bad) refl
+
+pub array-done : (text lengths : List ℕ) (literals : List Literal) (descr : Descr) (shape bytes : List ℕ) (o : Owned) → array_type text lengths ≡ Ok (descr, shape) → length literals ≡ count shape →
+    item_values descr literals ≡ Ok (map (decode_item descr) (blocks (item_size descr) (length literals) bytes)) → o.descr ≡ descr → o.layout.shape ≡ shape → o.block ≡ bytes → array_contents text lengths literals ≡ Ok (held o)
+unfolding array_contents
+array-done text lengths literals descr shape bytes o good many values typed shaped filled =
+    rw (good, eq-eqb (length literals) (count shape) many, values) (ap Ok (held-is o descr shape bytes _ typed shaped filled (ap (λ n. items_in descr n bytes) many)))
+
+-- arange
+pub arange-descr : (text : List ℕ) (start stop step : ℤ) (e : Refusal) → descriptor text ≡ Err e → arange_contents text start stop step ≡ Err e
+unfolding arange_contents
+arange-descr text start stop step e bad = rw bad refl
+
+pub arange-kind : (text : List ℕ) (start stop step : ℤ) (descr : Descr) (e : Refusal) → descriptor text ≡ Ok descr → integer_scalar descr ≡ Err e → arange_contents text start stop step ≡ Err e
+unfolding arange_contents
+arange-kind text start stop step descr e good bad = rw (good, bad) refl
+
+pub arange-length : (text : List ℕ) (start stop step : ℤ) (descr : Descr) (scalar : Scalar) (e : Refusal) → descriptor text ≡ Ok descr → integer_scalar descr ≡ Ok scalar → range_length start stop step ≡ Err e → arange_contents text start stop step ≡ Err e
+unfolding arange_contents range_items
+arange-length text start stop step descr scalar e good kind bad = rw (good, kind, bad) refl
+
+pub arange-range : (text : List ℕ) (start stop step : ℤ) (descr : Descr) (scalar : Scalar) (e : Refusal) → descriptor text ≡ Ok descr → integer_scalar descr ≡ Ok scalar → range_items scalar start stop step ≡ Err e →
+    arange_contents text start stop step ≡ Err e
+unfolding arange_contents
+arange-range text start stop step descr scalar e good kind bad = rw (good, kind, bad) refl
+
+-- a shape of one axis
+one_axis : (n : ℕ) → n ≤ 2 ^ 24 → shape_of (n ∷ []) ≡ Ok (n ∷ [])
+unfolding shape_of
+one_axis n few = let once : n * 1 ≤ 2 ^ 24 = omega arith in rw (le-leb n (2 ^ 24) few, le-leb (n * 1) (2 ^ 24) once) refl
+
+pub range-shape : (n : ℕ) (shape : List ℕ) → n ≤ 2 ^ 24 → shape_of (n ∷ []) ≡ Ok shape → shape ≡ n ∷ []
+range-shape n shape few is = let same : Ok (n ∷ []) ≡ Ok shape = sym (one_axis n few) ∙ is in cc
+
+pub range-shape-refused : (n : ℕ) (e : Refusal) → n ≤ 2 ^ 24 → (e ≡ OutOfMemory) ⊎ (shape_of (n ∷ []) ≡ Err e) → e ≡ OutOfMemory
+range-shape-refused n e few (inl lacks) = lacks
+range-shape-refused n e few (inr bad) = let no : Ok (n ∷ []) ≡ Err e = sym (one_axis n few) ∙ bad in cc
+
+length-blocks : {A : Type 0} (width n : ℕ) (xs : List A) → length (blocks width n xs) ≡ n
+length-blocks width zero xs = refl
+length-blocks width (suc n) xs = ap suc (length-blocks width n (drop width xs))
+
+pub arange-done : (text : List ℕ) (start stop step : ℤ) (descr : Descr) (scalar : Scalar) (n : ℕ) (bytes : List ℕ) (o : Owned) → descriptor text ≡ Ok descr → integer_scalar descr ≡ Ok scalar →
+    range_items scalar start stop step ≡ Ok (map (decode_item (ScalarDescr scalar)) (blocks (size scalar) n bytes)) →
+    o.descr ≡ ScalarDescr scalar → o.layout.shape ≡ n ∷ [] → o.block ≡ bytes → arange_contents text start stop step ≡ Ok (held o)
+unfolding arange_contents
+arange-done text start stop step descr scalar n bytes o good kind numbers typed shaped filled =
+    rw (good, kind, numbers) (ap Ok (held-is o (ScalarDescr scalar) (length items ∷ []) bytes items typed (shaped ∙ ap (λ m. m ∷ []) (sym many)) filled is))
+  where
+    items : List (List LeafValue)
+    items = map (decode_item (ScalarDescr scalar)) (blocks (size scalar) n bytes)
+
+    many : length (map (decode_item (ScalarDescr scalar)) (blocks (size scalar) n bytes)) ≡ n
+    many = length-map (blocks (size scalar) n bytes) (decode_item (ScalarDescr scalar)) ∙ length-blocks (size scalar) n bytes
+
+    once : length items * 1 ≡ n
+    once = omega (arith, many)
+
+    is : items ≡ items_in (ScalarDescr scalar) (count (length items ∷ [])) bytes
+    is = ap (λ m. items_in (ScalarDescr scalar) m bytes) (sym once)

@@ -1,0 +1,12 @@
+use Rattle.std.proofs.lemmas.Result.{err_from_is_err_and}
+use Rattle.bench_engine.specs.Contents.{array_type}
+use Rattle.bench_engine.proofs.Makes.{passed, zeros-type, zeros-done}
+use Rattle.bench_engine.proofs.contents.zeros.Goals as goal
+
+pub returns-in_err-descr : goal.returns-in_err-descr
+returns-in_err-descr c =
+    let p = err_from_is_err_and c.from_residual.result c.from_residual.ensures.1 in
+    rw (p.1, p.2) (passed (array_type c.args.descr.now c.args.lengths.now) _ _ (zeros-type _ _ _) c.in_err-descr.ensures.value)
+
+pub returns : goal.returns
+returns c = zeros-done _ _ _ _ c.in_ok-owned.owned c.in_ok-descr.ensures.value c.in_ok-owned.ensures.descr c.in_ok-owned.ensures.shape c.in_ok-owned.ensures.zeros

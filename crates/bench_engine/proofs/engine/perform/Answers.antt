@@ -1,0 +1,20 @@
+use Rattle.bench_engine.proofs.Creates.{created}
+use Rattle.bench_engine.proofs.engine.perform.Goals as goal
+
+pub returns-in-Print-clause-answers : goal.returns-in-Print-clause-answers
+returns-in-Print-clause-answers c = rw c.in-Print.is c.print.ensures.answers
+
+pub returns-in-Format-clause-answers : goal.returns-in-Format-clause-answers
+returns-in-Format-clause-answers c = rw c.in-Format.is c.format.ensures.answers
+
+pub returns-in-Zeros-clause-answers : goal.returns-in-Zeros-clause-answers
+returns-in-Zeros-clause-answers c = created _ _ _ _ _ _ _ c.in-Zeros.is c.create.ensures.answers
+
+pub returns-in-Literal-clause-answers : goal.returns-in-Literal-clause-answers
+returns-in-Literal-clause-answers c = rw (c.in-Set.is, c.in-Literal.is) c.set.ensures.answers
+
+pub returns-in-Delete-clause-answers : goal.returns-in-Delete-clause-answers
+returns-in-Delete-clause-answers c = rw c.in-Delete.is c.delete.ensures.answers
+
+pub returns-in-Names-clause-answers : goal.returns-in-Names-clause-answers
+returns-in-Names-clause-answers c = rw c.in-Names.is c.names.ensures.answers

@@ -1,9 +1,0 @@
-use Rattle.std.proofs.Common.{◌≡◌, ◌≤◌, ◌++◌, replicate, vec_capacity}
-use Rattle.bench_engine.proofs.printer.push_repeated.Given as goal
-
--- the copies so far stand at the end
-abbrev pub invariant-loop-i : goal.invariant-loop-i
-invariant-loop-i l = record {
-  pushed : l.out.items ≡ l.fn.out.items ++ replicate l._i l.byte;
-  room : vec_capacity l.fn.out ≤ vec_capacity l.out;
-}

@@ -1,7 +1,0 @@
-use Rattle.std.proofs.Common.{◌≡◌, ◌<◌, ◌^◌, take}
-use Rattle.bench_engine.specs.Script.{value_of}
-use Rattle.bench_engine.proofs.script.numbers.value_of.Given as goal
-
--- the digits so far are read
-abbrev pub invariant-loop-d : goal.invariant-loop-d
-invariant-loop-d l = record { value : l.n ≡ value_of (take l.d-index l.digits); few : l.n < 10 ^ l.d-index }

@@ -1,0 +1,93 @@
+-- What the commands that make an array put into it.
+use Rattle.std.specs.Prelude.{ℕ, ◌*◌, ◌^◌, ℤ, pos, List, [], ◌∷◌, length, map, replicate, Result, Ok, Err, nat_eq, nat_le}
+use Rattle.elem_descr.specs.declared.refusal.Refusal.{Refusal}
+use Rattle.elem_descr.specs.declared.refusal.Refusal.TheVariants.{Syntax, TooLarge, NotForThisKind, NumberOfValues}
+use Rattle.elem_descr.specs.declared.scalar.Scalar.{Scalar}
+use Rattle.elem_descr.specs.declared.scalar.Scalar.TheVariants.{Byte, Int, Bytes}
+use Rattle.elem_descr.specs.declared.descr.Descr.{Descr}
+use Rattle.elem_descr.specs.declared.descr.Descr.TheVariants.{Scalar as ScalarDescr}
+use Rattle.elem_descr.specs.Refusals.{◌>>=◌, check}
+use Rattle.elem_descr.specs.DescrTexts.{descriptor}
+use Rattle.elem_descr.specs.Items.{item_size, leaves_of}
+use Rattle.elem_descr.specs.Values.{LeafValue, number, text}
+use Rattle.shape_strides.specs.Indexes.{count}
+use Rattle.shape_strides.specs.Shapes.{shape_of}
+use Rattle.script_lang.specs.declared.literal.Literal.{Literal}
+use Rattle.script_lang.specs.declared.command.Command.{Command}
+use Rattle.script_lang.specs.declared.command.Command.TheVariants.{Zeros, Full, Arange, Array}
+use Rattle.overlap_copy.specs.declared.owned.Owned.{Owned}
+use Rattle.name_store.specs.States.{Buffer}
+use Rattle.name_store.specs.Calls.{own_buffer}
+use Rattle.literal_items.specs.LiteralItems.{item_value, item_values}
+use Rattle.literal_items.specs.RangeItems.{range_items}
+
+-- a shape, and a buffer with an item for each of its indices in C order
+pub record Contents : Type 0 where
+  pub shape : List ℕ
+  pub buffer : Buffer
+
+abbrev pub made : Descr → List ℕ → List (List LeafValue) → Contents
+made descr shape items = record { shape = shape; buffer = record { descr = descr; items = items } }
+
+-- the contents of a block
+abbrev pub held : Owned → Contents
+held o = record { shape = o.layout.shape; buffer = own_buffer o }
+
+-- the value 0, and the byte string of no bytes
+abbrev pub zero_of : Scalar → LeafValue
+zero_of (Bytes n) = text []
+zero_of scalar = number (pos 0)
+
+abbrev pub zero_item : Descr → List LeafValue
+zero_item descr = map (λ leaf. zero_of leaf.scalar) (leaves_of descr)
+
+-- the element type and the shape of a new array, whose items have at most 2^28 bytes in all
+unfoldable pub array_type : List ℕ → List ℕ → Result (Descr × List ℕ) Refusal
+array_type descr lengths = do
+  descr ← descriptor descr
+  shape ← shape_of lengths
+  _ ← check (nat_le (count shape * item_size descr) (2 ^ 28)) TooLarge
+  Ok (descr, shape)
+
+-- zeros D S
+unfoldable pub zeros_contents : List ℕ → List ℕ → Result Contents Refusal
+zeros_contents descr lengths = do
+  type ← array_type descr lengths
+  Ok (made type.0 type.1 (replicate (count type.1) (zero_item type.0)))
+
+-- full D S L
+unfoldable pub full_contents : List ℕ → List ℕ → Literal → Result Contents Refusal
+full_contents descr lengths literal = do
+  type ← array_type descr lengths
+  item ← item_value type.0 literal
+  Ok (made type.0 type.1 (replicate (count type.1) item))
+
+-- array D S L..
+unfoldable pub array_contents : List ℕ → List ℕ → List Literal → Result Contents Refusal
+array_contents descr lengths literals = do
+  type ← array_type descr lengths
+  _ ← check (nat_eq (length literals) (count type.1)) NumberOfValues
+  items ← item_values type.0 literals
+  Ok (made type.0 type.1 items)
+
+-- the scalar of an element type whose values are integers
+abbrev pub integer_scalar : Descr → Result Scalar Refusal
+integer_scalar (ScalarDescr (Byte signed)) = Ok (Byte signed)
+integer_scalar (ScalarDescr (Int signed width order)) = Ok (Int signed width order)
+integer_scalar _ = Err NotForThisKind
+
+-- arange D a b s
+unfoldable pub arange_contents : List ℕ → ℤ → ℤ → ℤ → Result Contents Refusal
+arange_contents descr start stop step = do
+  descr ← descriptor descr
+  scalar ← integer_scalar descr
+  items ← range_items scalar start stop step
+  Ok (made (ScalarDescr scalar) (length items ∷ []) items)
+
+-- what a command that makes an array puts into it
+abbrev pub contents_of : Command → Result Contents Refusal
+contents_of (Zeros name descr shape) = zeros_contents descr shape
+contents_of (Full name descr shape value) = full_contents descr shape value
+contents_of (Arange name descr start stop step) = arange_contents descr start stop step
+contents_of (Array name descr shape values) = array_contents descr shape values
+contents_of _ = Err Syntax

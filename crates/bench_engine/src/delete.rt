@@ -1,0 +1,21 @@
+//! `del X`: a name is bound no longer.
+ghost use Rattle.std.specs.Prelude.{◌≡◌, ◌≤◌, ◌+◌, false, vec_len, vec_capacity};
+ghost use Rattle.bench_engine.specs.Contract.{Answers};
+ghost use Rattle.bench_engine.specs.Machine.{delete_outcome};
+
+use elem_descr::Refusal;
+use name_store::Bench;
+use script_lang::Name;
+
+/// Unbinds a name. It takes no memory.
+pub fn delete(bench: &mut Bench, name: &Name, out: &mut Vec<u8>) -> Result<(), Refusal>
+    requires room { vec_len out.old + 64 ≤ vec_capacity out.old }
+    ensures room { vec_capacity out.old ≤ vec_capacity out.new }
+    ensures answers { Answers false (λ choice. delete_outcome bench.old name.now)
+        bench.old bench.new out.old.items out.new.items result }
+{
+    bench.unbind(name)?;
+    out.extend_from_slice(b"ok del ").unwrap();
+    out.extend_from_slice(name.as_slice()).unwrap();
+    Ok(())
+}
