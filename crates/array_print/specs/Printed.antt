@@ -1,5 +1,5 @@
 -- The printed text of an array.
-use Rattle.std.specs.Prelude.{ℕ, zero, suc, ◌+◌, ◌-◌, ◌/◌, ◌%◌, ℤ, pos, Bool, ◌&&◌, not, List, [], ◌∷◌, ◌++◌, length, map, replicate, codes, take, drop, fold, max, flat_map, slice_index, nat_eq, nat_le, if◌then◌else◌}
+use Rattle.std.specs.Prelude.{ℕ, zero, suc, ◌+◌, ◌-◌, ◌/◌, ◌%◌, ℤ, pos, Bool, ◌&&◌, not, List, [], ◌∷◌, ◌++◌, length, map, replicate, codes, fold, max, flat_map, slice_index, nat_eq, nat_le, if◌then◌else◌}
 use Rattle.std.specs.Fmt.{signed_decimal}
 use Rattle.elem_descr.specs.declared.scalar.Scalar.{Scalar}
 use Rattle.elem_descr.specs.declared.scalar.Scalar.TheVariants.{Bool as BoolScalar, Byte, Int, Bytes}
@@ -9,8 +9,8 @@ use Rattle.elem_descr.specs.declared.descr.Descr.TheVariants.{Scalar as ScalarDe
 use Rattle.elem_descr.specs.Values.{LeafValue}
 use Rattle.elem_descr.specs.Encoding.{number_of, text_of}
 use Rattle.elem_descr.specs.TypeStrings.{is_one_of}
-use Rattle.elem_descr.specs.Items.{item_size, leaves_of, decode_item}
-use Rattle.elem_descr.specs.Blocks.{blocks}
+use Rattle.elem_descr.specs.Items.{leaves_of}
+use Rattle.elem_descr.specs.Blocks.{blocks, item_from}
 use Rattle.shape_strides.specs.Indexes.{count}
 
 -- a hexadecimal digit, in lower case
@@ -122,10 +122,6 @@ abbrev pub array_text : Descr → List ℕ → List (List LeafValue) → List �
 array_text descr shape items =
     if nat_eq (count shape) 0 then codes "[]" else block_text 0 shape (map (item_text descr (widths descr shape items)) items)
 
--- the item of a block whose bytes begin at an offset
-abbrev pub item_at : Descr → List ℕ → ℕ → List LeafValue
-item_at descr block offset = decode_item descr (take (item_size descr) (drop offset block))
-
 -- the items of a block by their offsets
 abbrev pub items_at : Descr → List ℕ → List ℕ → List (List LeafValue)
-items_at descr block offsets = map (item_at descr block) offsets
+items_at descr block offsets = map (item_from descr block) offsets

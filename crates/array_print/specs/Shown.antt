@@ -8,7 +8,8 @@ use Rattle.elem_descr.specs.declared.leaf.Leaf.{Leaf}
 use Rattle.elem_descr.specs.declared.descr.Descr.{Descr}
 use Rattle.elem_descr.specs.Encoding.{size, decode, number_of}
 use Rattle.elem_descr.specs.Items.{leaves_of}
-use Rattle.array_print.specs.Printed.{leaf_texts, aligned, item_text, item_at}
+use Rattle.elem_descr.specs.Blocks.{item_from}
+use Rattle.array_print.specs.Printed.{leaf_texts, aligned, item_text}
 
 -- the text of the integer whose bytes begin at a place
 abbrev pub integer_at : Scalar → List ℕ → ℕ → List ℕ
@@ -27,11 +28,11 @@ AreWidths leaves widths = AllZip (λ leaf width. IsWidth leaf.scalar width) leav
 
 -- the texts of the item whose bytes begin at an offset, each as wide as it is to be
 abbrev pub texts_at : Descr → List ℕ → List ℕ → ℕ → List (List ℕ)
-texts_at descr widths block offset = aligned widths (leaf_texts (leaves_of descr) (item_at descr block offset))
+texts_at descr widths block offset = aligned widths (leaf_texts (leaves_of descr) (item_from descr block offset))
 
 -- the text of that item
 abbrev pub shown : Descr → List ℕ → List ℕ → ℕ → List ℕ
-shown descr widths block offset = item_text descr widths (item_at descr block offset)
+shown descr widths block offset = item_text descr widths (item_from descr block offset)
 
 -- what stands before the k-th of some texts that a separator joins
 abbrev pub lead : ℕ → List ℕ → List ℕ

@@ -5,7 +5,6 @@ ghost use Rattle.bench_engine.specs.Contents.{contents_of};
 ghost use Rattle.bench_engine.specs.Contract.{Answers};
 ghost use Rattle.bench_engine.specs.Machine.{creation_outcome};
 ghost use Rattle.bench_engine.specs.Replies.{descr_text, fresh_text};
-ghost use Rattle.name_store.specs.Arrays.{has_room_for};
 
 use crate::contents::contents_of;
 use elem_descr::{Descr, Refusal, format_write, typestr_write};
@@ -13,9 +12,6 @@ use name_store::{Bench, Bound};
 use script_lang::{Command, Name};
 use shape_strides::Shape;
 use std::alloc::{AllocError, Global};
-
-/// The most names that are bound at one time.
-const MAX_NAMES: usize = 1024;
 
 /// An element type as replies show it.
 fn descr_text(alloc: Global, descr: &Descr) -> Result<Vec<u8>, AllocError>
@@ -51,13 +47,6 @@ fn push_fresh_text(
     Ok(())
 }
 
-/// Whether a name may be bound.
-fn has_room_for(bench: &Bench, name: &Name) -> bool
-    ensures { result ≡ has_room_for bench.now name.now }
-{
-    bench.get(name).is_some() || bench.len() < MAX_NAMES
-}
-
 /// Binds a name to the array that a command makes. The reply is appended before the change, which is
 /// the last step that may lack memory.
 pub fn create(
@@ -71,7 +60,7 @@ pub fn create(
     ensures answers { Answers true (λ choice. creation_outcome choice bench.old name.now (contents_of command.now))
         bench.old bench.new out.old.items out.new.items result }
 {
-    if !has_room_for(bench, name) {
+    if !bench.has_room_for(name) {
         return Err(Refusal::TooManyNames);
     }
     let owned = contents_of(alloc, command)?;

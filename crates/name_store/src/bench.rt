@@ -3,7 +3,7 @@ ghost use Rattle.std.specs.Prelude.{◌≡◌, ◌≤◌, ◌<◌, length, map, 
 ghost use Rattle.std.specs.Option.{option_map};
 
 use crate::array_ref::ArrayRef;
-use crate::bind::bind_in;
+use crate::bind::{bind_in, has_room};
 use crate::bound::Bound;
 use crate::entry::{Entry, Key};
 use crate::look::look_in;
@@ -44,7 +44,7 @@ impl Model for Bench {
 
 impl Bench {
     ghost use Rattle.name_store.specs.States.{start};
-    ghost use Rattle.name_store.specs.Arrays.{find_array};
+    ghost use Rattle.name_store.specs.Arrays.{find_array, has_room_for};
     ghost use Rattle.name_store.specs.Calls.{AnswersBind, AnswersUnbind, AnswersWrite};
     ghost use Rattle.name_store.specs.Shown.{Finds};
     ghost use Rattle.name_store.specs.Targets.{IsAim};
@@ -66,6 +66,17 @@ impl Bench {
         ensures { Finds self.now (find_array self.now.names name.now) result }
     {
         look_in(
+            &self.names,
+            self.slots.as_slice(),
+            &Key::of(self.alloc, name),
+        )
+    }
+
+    /// Whether a name may be bound: it is, or fewer than 1,024 are.
+    pub fn has_room_for(&self, name: &Name) -> bool
+        ensures { result ≡ has_room_for self.now name.now }
+    {
+        has_room(
             &self.names,
             self.slots.as_slice(),
             &Key::of(self.alloc, name),

@@ -18,7 +18,8 @@ use std::alloc::Global;
 /// The most names that are bound at one time.
 const MAX_NAMES: usize = 1024;
 
-fn has_room(names: &IndexMap<Key, Entry>, slots: &[Option<Slot>], key: &Key) -> bool
+/// Whether a name may be bound.
+pub(crate) fn has_room(names: &IndexMap<Key, Entry>, slots: &[Option<Slot>], key: &Key) -> bool
     ensures { result ≡ has_room_for (state_of names.now.entries slots.now) key.now.bytes.items }
 {
     names.contains_key(key) || names.len() < MAX_NAMES
