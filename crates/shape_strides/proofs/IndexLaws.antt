@@ -1,7 +1,7 @@
 -- Laws of indexes, ranks and counts.
 use Rattle.std.proofs.Common.{◌≡◌, ℕ, zero, suc, ◌+◌, ◌*◌, ◌/◌, ◌%◌, ◌<◌, List, [], ◌∷◌, ◌++◌, map, length, get_or, refl, sym, ◌∙◌, ap, arith, length-append, get_or-append-add, zero-mul, suc-mul, mod-lt, div-add-mod', mul_comm, mul-zero}
 use Rattle.std.specs.List.{flat_map, range_with_len}
-use Rattle.std.proofs.lemmas.List.{get_or_append_left, length-map, get_or-map}
+use Rattle.std.proofs.lemmas.List.{get_or_append_left, length-map, get_or-map, same_lists}
 use Rattle.std.proofs.lemmas.Nat.{mul-add-lt, div_below}
 use Rattle.shape_strides.specs.Indexes.{count, indexes, rank, IsIndex}
 
@@ -67,6 +67,20 @@ index_at (n ∷ shape) k below =
     let some : 0 < c = pos_of_factor n c k below in
     let rest = index_at shape (k % c) (mod-lt k some) in
     (k / c ∷ rest.0, (div_below k c n some below, rest.1), ap (λ r. k / c * c + r) rest.2 ∙ div-add-mod' k c)
+
+-- functions that agree on the indexes
+pub same_on_indexes : (shape : List ℕ) (f g : List ℕ → ℕ) → ((index : List ℕ) → IsIndex shape index → f index ≡ g index) → map f (indexes shape) ≡ map g (indexes shape)
+same_on_indexes shape f g agree =
+    same_lists (map f (indexes shape)) (map g (indexes shape)) (length-map (indexes shape) f ∙ sym (length-map (indexes shape) g)) (λ k d below.
+    let low : k < count shape = omega (arith, length-map (indexes shape) f, length-indexes shape) in
+    let inside : k < length (indexes shape) = omega (arith, length-indexes shape) in
+    let found = index_at shape k low in
+    let here : get_or (indexes shape) k [] ≡ found.0 = ap (λ r. get_or (indexes shape) r []) (sym found.2) ∙ get_or-indexes shape found.0 [] found.1 in
+    get_or-map f (indexes shape) k [] d inside ∙ ap f here ∙ agree found.0 found.1 ∙ ap g (sym here) ∙ sym (get_or-map g (indexes shape) k [] d inside))
+
+-- indexes with one rank are one index
+pub rank-same : (shape i j : List ℕ) → IsIndex shape i → IsIndex shape j → rank shape i ≡ rank shape j → i ≡ j
+rank-same shape i j in-i in-j same = sym (get_or-indexes shape i [] in-i) ∙ ap (λ r. get_or (indexes shape) r []) same ∙ get_or-indexes shape j [] in-j
 
 -- ---- indexes, number by number
 

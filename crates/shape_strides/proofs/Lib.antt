@@ -2,8 +2,14 @@ pub mod IndexLaws
 pub mod LayoutLaws
 pub mod StepLaws
 pub mod ReachLaws
+pub mod SpanLaws
 pub mod CountLaws
 pub mod ShapeAnswers
 pub mod AdvanceLaws
 pub mod WalkLaws
+pub mod ContiguityLaws
+pub mod FortranLaws
+pub mod StackLaws
+pub mod StackedLaws
 mod Vectors
+mod ContiguityVectors

@@ -1,8 +1,8 @@
 -- The addresses of a layout's items, in bytes.
-use Rattle.std.specs.Prelude.{ℕ, ◌+◌, ◌-◌, ◌*◌, ◌<◌, ◌≤◌, ℤ, pos, negsuc, ◌+ℤ◌, ◌*ℤ◌, ◌≤ℤ◌, List, [], ◌∷◌, length, map, slice_index}
+use Rattle.std.specs.Prelude.{ℕ, ◌+◌, ◌-◌, ◌*◌, ◌<◌, ◌≤◌, ℤ, pos, negsuc, ◌+ℤ◌, ◌*ℤ◌, ◌≤ℤ◌, List, [], ◌∷◌, length, map, reverse, slice_index}
 use Rattle.std.specs.List.{range_with_len}
 use Rattle.shape_strides.specs.declared.layout.Layout.{Layout}
-use Rattle.shape_strides.specs.Indexes.{count, indexes, IsIndex}
+use Rattle.shape_strides.specs.Indexes.{count, indexes, rank, IsIndex}
 
 -- what an index adds to the offset: each of its numbers times the stride of its axis, in one sum
 abbrev pub dot : List ℤ → List ℕ → ℤ
@@ -43,3 +43,12 @@ multiples item n = map (λ k. item * k) (range_with_len 0 n)
 abbrev pub c_strides : ℕ → List ℕ → List ℤ
 c_strides item [] = []
 c_strides item (n ∷ shape) = pos (count shape * item) ∷ c_strides item shape
+
+-- the strides of Fortran order: an axis steps over all the items of the axes before it
+abbrev pub f_strides : ℕ → List ℕ → List ℤ
+f_strides item [] = []
+f_strides item (n ∷ shape) = pos item ∷ f_strides (item * n) shape
+
+-- the offsets of items in Fortran order: each is the item's size times its rank, where the first axis runs fastest
+abbrev pub f_multiples : ℕ → List ℕ → List ℕ
+f_multiples item shape = map (λ index. item * rank (reverse shape) (reverse index)) (indexes shape)

@@ -3,3 +3,5 @@ pub mod Shapes
 pub mod Layouts
 pub mod Reach
 pub mod Walks
+pub mod Contiguity
+pub mod Stacks

@@ -1,5 +1,5 @@
 -- How far a layout's addresses reach to either side of its offset, where it has items.
-use Rattle.std.specs.Prelude.{ℕ, ◌+◌, ◌-◌, ◌*◌, ℤ, neg_ℤ, List, ◌∷◌}
+use Rattle.std.specs.Prelude.{ℕ, ◌+◌, ◌-◌, ◌*◌, nat_le, if◌then◌else◌, ℤ, neg_ℤ, unsigned_abs, List, ◌∷◌}
 use Rattle.shape_strides.specs.Layouts.{natural}
 
 -- above: the axes with a positive stride, each at its last number
@@ -11,3 +11,8 @@ reach_above _ _ = 0
 abbrev pub reach_below : List ℤ → List ℕ → ℕ
 reach_below (stride ∷ strides) (n ∷ shape) = natural (neg_ℤ stride) * (n - 1) + reach_below strides shape
 reach_below _ _ = 0
+
+-- either way: the axes that step over so many bytes at most
+abbrev pub reach_within : ℕ → List ℤ → List ℕ → ℕ
+reach_within step (stride ∷ strides) (n ∷ shape) = (if nat_le (unsigned_abs stride) step then unsigned_abs stride * (n - 1) else 0) + reach_within step strides shape
+reach_within step _ _ = 0

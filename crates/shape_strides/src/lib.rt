@@ -2,8 +2,11 @@
 //! each of them lies.
 #![tactic(auto)]
 
+pub mod contiguous;
 pub mod layout;
 pub mod shape;
+mod span;
+pub mod stacked;
 mod steps;
 pub mod strides;
 pub mod walk;

@@ -1,7 +1,7 @@
 //! Sums of strides. A stride is read from its slice, and an offset is never below 0.
 ghost use Rattle.std.specs.Prelude.{◌≡◌, ◌-◌, ◌*◌, ◌^◌, ◌<◌, ◌≤◌, pos, neg_ℤ, ◌+ℤ◌, ◌-ℤ◌, ◌*ℤ◌, ◌≤ℤ◌, length, map, slice_index_or, All, IfOk};
 ghost use Rattle.shape_strides.specs.Indexes.{count};
-ghost use Rattle.shape_strides.specs.Layouts.{natural, c_strides};
+ghost use Rattle.shape_strides.specs.Layouts.{natural, c_strides, f_strides};
 ghost use Rattle.shape_strides.specs.Reach.{reach_above, reach_below};
 
 use crate::shape::Shape;
@@ -89,7 +89,7 @@ pub(crate) fn reach_below(lengths: &[usize], strides: &[isize]) -> u128
 }
 
 /// A stride of 0 for each axis.
-fn zero_strides(alloc: Global, lengths: &[usize]) -> Result<Strides, AllocError>
+pub(crate) fn zero_strides(alloc: Global, lengths: &[usize]) -> Result<Strides, AllocError>
     ensures { IfOk result (λ s. s ≡ map (λ _. pos 0) lengths.now) }
 {
     let mut strides = Strides::new(alloc);
@@ -137,4 +137,35 @@ pub(crate) fn c_order_strides(
         return zero_strides(alloc, shape.as_slice());
     }
     divided_strides(alloc, shape.as_slice(), items, item)
+}
+
+/// The strides of Fortran order, of which the first axis steps over one item.
+fn multiplied_strides(alloc: Global, lengths: &[usize], item: usize) -> Result<Strides, AllocError>
+    requires some { 0 < count lengths.now }
+    requires bytes { count lengths.now * item ≤ 2 ^ 28 }
+    ensures { IfOk result (λ s. s ≡ f_strides item lengths.now) }
+{
+    let mut strides = Strides::new(alloc);
+    let mut step = item;
+    for len in lengths {
+        strides.push(step as isize)?;
+        step *= *len;
+    }
+    Ok(strides)
+}
+
+/// The strides of Fortran order, or 0 for each axis where there is no item.
+pub(crate) fn f_order_strides(
+    alloc: Global,
+    shape: &Shape,
+    item: usize,
+) -> Result<Strides, AllocError>
+    requires bytes { count shape.now * item ≤ 2 ^ 28 }
+    ensures some { IfOk result (λ s. 0 < count shape.now → s ≡ f_strides item shape.now) }
+    ensures none { IfOk result (λ s. count shape.now ≡ 0 → s ≡ map (λ _. pos 0) shape.now) }
+{
+    if shape.items() == 0 {
+        return zero_strides(alloc, shape.as_slice());
+    }
+    multiplied_strides(alloc, shape.as_slice(), item)
 }

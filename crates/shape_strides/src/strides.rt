@@ -1,7 +1,9 @@
-ghost use Rattle.std.specs.Prelude.{◌≡◌, [], ◌∷◌, ◌++◌, IfOk, OnOk, OnErr};
+ghost use Rattle.std.specs.Prelude.{◌≡◌, [], ◌∷◌, ◌++◌, IfOk, OnOk, OnErr, Some};
+ghost use Rattle.shape_strides.specs.Contiguity.{strides_text};
 
 use smallvec::SmallVec;
 use std::alloc::{AllocError, Global};
+use std::fmt;
 use std::marker::Model;
 
 /// How many bytes each axis steps over from one item to the next, first axis first. A step may be
@@ -47,5 +49,24 @@ impl Strides {
     {
         self.steps.push(step)?;
         Ok(())
+    }
+}
+
+/// As Python writes a tuple: `()`, `(12,)`, `(-8, 4)`.
+impl fmt::Display for Strides {
+    ghost output = { λ s. Some (strides_text s) };
+
+    fn fmt<W: fmt::Write>(&self, f: &mut fmt::Formatter<W>) -> fmt::Result {
+        match self.as_slice() {
+            [] => write!(f, "()"),
+            [stride] => write!(f, "({stride},)"),
+            [first, rest @ ..] => {
+                write!(f, "({first}")?;
+                for stride in rest {
+                    write!(f, ", {stride}")?;
+                }
+                write!(f, ")")
+            }
+        }
     }
 }

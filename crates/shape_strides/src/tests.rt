@@ -127,6 +127,88 @@ fn c_order_strides(rt: HostRuntime) -> Result<(), Fail> {
 }
 
 #[test]
+fn f_order_strides(rt: HostRuntime) -> Result<(), Fail> {
+    let alloc = rt.alloc();
+    for (lengths, item, want, first) in [
+        (&[2, 3, 4][..], 1, &[1, 2, 6][..], &[0, 6, 12, 18, 2][..]),
+        (&[3, 2][..], 2, &[2, 6][..], &[0, 6, 2, 8, 4][..]),
+        (&[][..], 8, &[][..], &[0][..]),
+        (&[2, 0, 3][..], 8, &[0, 0, 0][..], &[][..]),
+    ] {
+        let shape = Shape::try_new(alloc, lengths)?;
+        assert!(rt; item <= 8 && shape.items() <= 24);
+        let layout = Layout::f_order(alloc, &shape, item)?;
+        assert!(rt; layout.strides.as_slice() == want);
+        assert_eq!(rt; layout.offset, 0);
+        assert!(rt; layout.is_f(item));
+        let mut offsets = Walk::new(alloc, &layout)?;
+        for offset in first {
+            assert!(rt; offsets.next() == Some(*offset));
+        }
+    }
+    Ok(())
+}
+
+#[test]
+fn strides_and_flags_as_numpy_prints_them(rt: HostRuntime) -> Result<(), Fail> {
+    let alloc = rt.alloc();
+    for (lengths, steps, offset, want, first, is_c, is_f) in [
+        (&[2, 3][..], &[12, 4][..], 0, "(12, 4)", 0, true, false),
+        (&[2, 3][..], &[4, 8][..], 4, "(4, 8)", 4, false, true),
+        (&[3][..], &[-8][..], 16, "(-8,)", 16, false, false),
+        (&[1][..], &[-8][..], 12, "(0,)", 12, true, true),
+        (&[2, 1][..], &[12, 4][..], 0, "(12, 0)", 0, false, false),
+        (
+            &[2, 1, 3][..],
+            &[12, 99, 4][..],
+            0,
+            "(12, 0, 4)",
+            0,
+            true,
+            false,
+        ),
+        (&[2, 3][..], &[24, 8][..], 0, "(24, 8)", 0, false, false),
+        (&[2, 2][..], &[0, 4][..], 8, "(0, 4)", 8, false, false),
+        (&[0][..], &[-8][..], 99, "(0,)", 0, true, true),
+        (&[2, 0][..], &[16, 4][..], 0, "(0, 0)", 0, true, true),
+        (&[][..], &[][..], 8, "()", 8, true, true),
+    ] {
+        let layout = layout_of(&rt, alloc, lengths, steps, offset)?;
+        assert!(rt; layout.fits(1 << 28, 1));
+        let strides = Layout::printed_strides(alloc, &layout)?;
+        let text = format!(in alloc; "{strides}")?;
+        assert_eq!(rt; text.as_str(), want);
+        assert_eq!(rt; layout.first_address(), first);
+        assert_eq!(rt; layout.is_c(4), is_c);
+        assert_eq!(rt; layout.is_f(4), is_f);
+    }
+    Ok(())
+}
+
+#[test]
+fn stacked_layouts(rt: HostRuntime) -> Result<(), Fail> {
+    let alloc = rt.alloc();
+    for (lengths, steps, offset, want) in [
+        (&[2, 3][..], &[12, 4][..], 0, true),
+        (&[3, 2][..], &[4, 12][..], 0, true),
+        (&[2, 3][..], &[-12, 4][..], 12, true),
+        (&[2, 2, 2][..], &[-8, 16, 4][..], 8, true),
+        (&[2, 3][..], &[11, 4][..], 0, false),
+        (&[2, 3][..], &[4, 4][..], 0, false),
+        (&[2, 3][..], &[0, 4][..], 0, false),
+        (&[3][..], &[3][..], 0, false),
+        (&[1, 3][..], &[0, 4][..], 0, true),
+        (&[0, 3][..], &[0, 0][..], 0, true),
+        (&[][..], &[][..], 8, true),
+    ] {
+        let layout = layout_of(&rt, alloc, lengths, steps, offset)?;
+        assert!(rt; layout.fits(1 << 28, 1));
+        assert_eq!(rt; layout.is_stacked(4), want);
+    }
+    Ok(())
+}
+
+#[test]
 fn walks(rt: HostRuntime) -> Result<(), Fail> {
     let alloc = rt.alloc();
     let nine = [1, 1, 1, 1, 1, 1, 1, 1, 2];
@@ -181,5 +263,25 @@ fn at_an_index(rt: HostRuntime) -> Result<(), Fail> {
     let mut strides = Strides::new(alloc);
     strides.push(-2)?;
     assert!(rt; strides.as_slice() == [-2].as_slice());
+    Ok(())
+}
+
+#[test]
+fn spans_of_bytes(rt: HostRuntime) -> Result<(), Fail> {
+    let alloc = rt.alloc();
+    for (lengths, steps, offset, item, start, end) in [
+        (&[3, 2][..], &[4, 12][..], 0, 4, 0, 24),
+        (&[3][..], &[-8][..], 16, 4, 0, 20),
+        (&[2, 2][..], &[-6, 2][..], 8, 1, 2, 11),
+        (&[2, 3][..], &[0, 1][..], 5, 2, 5, 9),
+        (&[][..], &[][..], 7, 2, 7, 9),
+        (&[2, 0][..], &[4, 4][..], 12, 4, 0, 0),
+    ] {
+        let layout = layout_of(&rt, alloc, lengths, steps, offset)?;
+        assert!(rt; layout.fits(1 << 28, item));
+        let bytes = layout.span(item);
+        assert_eq!(rt; bytes.start, start);
+        assert_eq!(rt; bytes.end, end);
+    }
     Ok(())
 }

@@ -1,0 +1,250 @@
+-- Laws of addresses that lie one after another, and of the strides that say so.
+use Rattle.std.proofs.Common.{◌≡◌, ℕ, zero, suc, ◌+◌, ◌*◌, ◌^◌, ◌<◌, ◌≤◌, ◌≢◌, true, false, ◌==◌, ℤ, pos, ◌+ℤ◌, ◌*ℤ◌, List, [], ◌∷◌, length, get_or, drop, mul-le-mul, mul-le-mul_right, add-one, inl, inr, refl, sym, ◌∙◌, ap, arith, map, nat_le, unsigned_abs, negsuc, mul-zero, one-mul, mul-suc, zero-mul, mul_comm}
+use Rattle.std.proofs.lemmas.Bool.{cases_lt, cases_Bool, cond-true, cond-false, eqb-true, eq-eqb, and_parts, and_from, false_from_ne_true}
+use Rattle.std.proofs.lemmas.Bool.Decides.{nat_tests}
+use Rattle.std.proofs.lemmas.Int.{ints}
+use Rattle.std.proofs.lemmas.List.{drop_more, nil_from_length}
+use lib.IntN.{one, *ℤ-zero, *ℤ-one, +ℤ_idl, +ℤ_idr}
+use Rattle.shape_strides.specs.declared.layout.Layout.{Layout}
+use Rattle.shape_strides.specs.Indexes.{count, rank, IsIndex}
+use Rattle.shape_strides.specs.Layouts.{dot, natural, offsets, Fits}
+use Rattle.shape_strides.specs.Contiguity.{first_address, printed_stride, printed_strides, is_c_contiguous}
+use Rattle.shape_strides.proofs.IndexLaws.{rank-lt, index_at}
+use Rattle.shape_strides.proofs.ReachLaws.{factors_pos}
+use Rattle.shape_strides.proofs.CountLaws.{count-drop}
+use Rattle.shape_strides.proofs.StepLaws.{padded, dot-zeros, rank-zeros}
+use Rattle.shape_strides.proofs.AdvanceLaws.{IsIndex-first}
+use Rattle.shape_strides.proofs.LayoutLaws.{length-offsets, get_or-offsets, pos-offset, offsets_within}
+
+-- ---- addresses that go up by an item
+
+-- each address is an item after the one before
+pub record GoesUp (item : ℕ) (addresses : List ℕ) : Type 0 where
+  pub next : (k : ℕ) → suc k < length addresses → get_or addresses (suc k) 0 ≡ get_or addresses k 0 + item
+
+next_from_test : (item : ℕ) (addresses : List ℕ) (k : ℕ) → is_c_contiguous item addresses ≡ true → suc k < length addresses → get_or addresses (suc k) 0 ≡ get_or addresses k 0 + item
+next_from_test item [] k test below = absurd (omega arith)
+next_from_test item (a ∷ []) k test below = absurd (omega arith)
+next_from_test item (a ∷ b ∷ addresses) zero test below = eqb-true b (a + item) (and_parts (b == a + item) (is_c_contiguous item (b ∷ addresses)) test).0
+next_from_test item (a ∷ b ∷ addresses) (suc k) test below =
+    next_from_test item (b ∷ addresses) k (and_parts (b == a + item) (is_c_contiguous item (b ∷ addresses)) test).1 (omega arith)
+
+pub GoesUp-from_test : (item : ℕ) (addresses : List ℕ) → is_c_contiguous item addresses ≡ true → GoesUp item addresses
+GoesUp-from_test item addresses test = record { next = λ k below. next_from_test item addresses k test below }
+
+pub test_from_GoesUp : (item : ℕ) (addresses : List ℕ) → GoesUp item addresses → is_c_contiguous item addresses ≡ true
+test_from_GoesUp item [] up = refl
+test_from_GoesUp item (a ∷ []) up = refl
+test_from_GoesUp item (a ∷ b ∷ addresses) up =
+    and_from (b == a + item) (is_c_contiguous item (b ∷ addresses)) (eq-eqb b (a + item) (up.next 0 (omega arith))) (test_from_GoesUp item (b ∷ addresses) (record { next = λ k below. up.next (suc k) (omega arith) }))
+
+-- the address at a place
+pub address_of_place : (item : ℕ) (addresses : List ℕ) (k : ℕ) → GoesUp item addresses → k < length addresses → get_or addresses k 0 ≡ get_or addresses 0 0 + item * k
+address_of_place item addresses zero up below = omega (arith, mul-zero item)
+address_of_place item addresses (suc k) up below =
+    let before = address_of_place item addresses k up (omega arith) in
+    let step = up.next k below in
+    omega (arith, mul-suc item k)
+
+-- ---- strides that step over all the items of the axes after
+
+-- each axis of 2 items or more does
+abbrev pub StepsOver : ℕ → List ℤ → List ℕ → Type 0
+StepsOver item (stride ∷ strides) (n ∷ shape) = (2 ≤ n → stride ≡ pos (count shape * item)) × StepsOver item strides shape
+StepsOver item _ _ = Unit {0}
+
+-- an axis of length 1 adds nothing
+axis_part : (item c k n r : ℕ) (stride : ℤ) → k < n → (2 ≤ n → stride ≡ pos (c * item)) → stride *ℤ pos k +ℤ pos (item * r) ≡ pos (item * (k * c + r))
+axis_part item c zero n r stride below steps =
+    let none : r ≡ zero * c + r = omega (arith, zero-mul c) in
+    ap (λ z. z +ℤ pos (item * r)) (*ℤ-zero stride) ∙ +ℤ_idl (pos (item * r)) ∙ ap (λ x. pos (item * x)) none
+axis_part item c (suc k) n r stride below steps =
+    let total : c * item * suc k + item * r ≡ item * (suc k * c + r) = grind arith in
+    ap (λ s. s *ℤ pos (suc k) +ℤ pos (item * r)) (steps (omega arith)) ∙ ap pos total
+
+pub dot-steps : (item : ℕ) (strides : List ℤ) (shape index : List ℕ) → length strides ≡ length shape → StepsOver item strides shape → IsIndex shape index → dot strides index ≡ pos (item * rank shape index)
+dot-steps item [] [] [] same steps in' = ap pos (sym (mul-zero item))
+dot-steps item [] [] (k ∷ index) same steps in' = absurd in'
+dot-steps item [] (n ∷ shape) index same steps in' = absurd (omega arith)
+dot-steps item (s ∷ strides) [] index same steps in' = absurd (omega arith)
+dot-steps item (s ∷ strides) (n ∷ shape) [] same steps in' = absurd in'
+dot-steps item (s ∷ strides) (n ∷ shape) (k ∷ index) same steps in' =
+    ap (λ z. s *ℤ pos k +ℤ z) (dot-steps item strides shape index (omega arith) steps.1 in'.1) ∙ axis_part item (count shape) k n (rank shape index) s in'.0 steps.0
+
+-- one more axis before
+pub StepsOver-more : (item : ℕ) (strides : List ℤ) (shape : List ℕ) (k : ℕ) → length strides ≡ length shape → k < length shape → (2 ≤ get_or shape k 0 → get_or strides k (pos 0) ≡ pos (count (drop (k + 1) shape) * item)) → StepsOver item (drop (k + 1) strides) (drop (k + 1) shape) → StepsOver item (drop k strides) (drop k shape)
+StepsOver-more item strides shape k same below first later =
+    rw (drop_more strides k (pos 0) (omega arith), drop_more shape k 0 below) (first, later)
+
+-- ---- the addresses of a layout whose strides do
+
+-- the first one
+pub entry-first : (l : Layout) → 0 < count l.shape → get_or (offsets l) 0 0 ≡ l.offset
+entry-first l some =
+    let zeros = padded l.shape [] in
+    ap (λ r. get_or (offsets l) r 0) (sym (rank-zeros l.shape)) ∙ get_or-offsets l zeros 0 (IsIndex-first l.shape some) ∙ ap (λ z. natural (pos l.offset +ℤ z)) (dot-zeros l.strides l.shape) ∙ ap natural (+ℤ_idr (pos l.offset))
+
+pub first_address-entry : (addresses : List ℕ) → first_address addresses ≡ get_or addresses 0 0
+first_address-entry [] = refl
+first_address-entry (a ∷ addresses) = refl
+
+pub entry-steps : (l : Layout) (item k : ℕ) → length l.strides ≡ length l.shape → StepsOver item l.strides l.shape → k < count l.shape → get_or (offsets l) k 0 ≡ l.offset + item * k
+entry-steps l item k same steps below =
+    let found = index_at l.shape k below in
+    ap (λ r. get_or (offsets l) r 0) (sym found.2) ∙ get_or-offsets l found.0 0 found.1 ∙ ap (λ z. natural (pos l.offset +ℤ z)) (dot-steps item l.strides l.shape found.0 same steps found.1) ∙ ap (λ r. l.offset + item * r) found.2
+
+pub GoesUp-steps : (l : Layout) (item : ℕ) → length l.strides ≡ length l.shape → StepsOver item l.strides l.shape → GoesUp item (offsets l)
+GoesUp-steps l item same steps = record {
+  next = λ k below.
+      let size = length-offsets l in
+      omega (arith, entry-steps l item k same steps (omega arith), entry-steps l item (suc k) same steps (omega arith), mul-suc item k);
+}
+
+-- ---- the index that is 1 along an axis and 0 along the others
+
+abbrev pub unit : List ℕ → ℕ → List ℕ
+unit [] axis = []
+unit (n ∷ shape) zero = 1 ∷ padded shape []
+unit (n ∷ shape) (suc axis) = 0 ∷ unit shape axis
+
+pub IsIndex-unit : (shape : List ℕ) (axis : ℕ) → 0 < count shape → axis < length shape → 2 ≤ get_or shape axis 0 → IsIndex shape (unit shape axis)
+IsIndex-unit [] axis some below long = absurd (omega arith)
+IsIndex-unit (n ∷ shape) zero some below long = let both = factors_pos n (count shape) some in (omega arith, IsIndex-first shape both.1)
+IsIndex-unit (n ∷ shape) (suc axis) some below long =
+    let both = factors_pos n (count shape) some in
+    (both.0, IsIndex-unit shape axis both.1 (omega arith) long)
+
+pub rank-unit : (shape : List ℕ) (axis : ℕ) → axis < length shape → rank shape (unit shape axis) ≡ count (drop (suc axis) shape)
+rank-unit [] axis below = absurd (omega arith)
+rank-unit (n ∷ shape) zero below = omega (arith, rank-zeros shape, one-mul (count shape))
+rank-unit (n ∷ shape) (suc axis) below = omega (arith, rank-unit shape axis (omega arith), zero-mul (count shape))
+
+one-step : (s : ℤ) → s *ℤ pos 1 ≡ s
+unfolding one
+one-step s = *ℤ-one s
+
+pub dot-unit : (strides : List ℤ) (shape : List ℕ) (axis : ℕ) → length strides ≡ length shape → axis < length shape → dot strides (unit shape axis) ≡ get_or strides axis (pos 0)
+dot-unit [] shape axis same below = absurd (omega arith)
+dot-unit (s ∷ strides) [] axis same below = absurd (omega arith)
+dot-unit (s ∷ strides) (n ∷ shape) zero same below = ap (λ z. s *ℤ pos 1 +ℤ z) (dot-zeros strides shape) ∙ +ℤ_idr (s *ℤ pos 1) ∙ one-step s
+dot-unit (s ∷ strides) (n ∷ shape) (suc axis) same below = rw (*ℤ-zero s, +ℤ_idl (dot strides (unit shape axis))) (dot-unit strides shape axis (omega arith) (omega arith))
+
+-- the address there
+pub entry-unit : (l : Layout) (len item axis : ℕ) → Fits l len item → length l.strides ≡ length l.shape → 0 < count l.shape → axis < length l.shape → 2 ≤ get_or l.shape axis 0 → pos (get_or (offsets l) (count (drop (suc axis) l.shape)) 0) ≡ pos l.offset +ℤ get_or l.strides axis (pos 0)
+entry-unit l len item axis fits same some below long =
+    ap (λ r. pos (get_or (offsets l) r 0)) (sym (rank-unit l.shape axis below)) ∙ pos-offset l len item fits (unit l.shape axis) 0 (IsIndex-unit l.shape axis some below long) ∙ ap (λ z. pos l.offset +ℤ z) (dot-unit l.strides l.shape axis same below)
+
+unit-lt : (l : Layout) (axis : ℕ) → 0 < count l.shape → axis < length l.shape → 2 ≤ get_or l.shape axis 0 → count (drop (suc axis) l.shape) < length (offsets l)
+unit-lt l axis some below long =
+    omega (arith, length-offsets l, rank-unit l.shape axis below, rank-lt l.shape (unit l.shape axis) (IsIndex-unit l.shape axis some below long))
+
+-- where the addresses go up by an item, so do the strides
+pub steps_from_GoesUp : (l : Layout) (len item axis : ℕ) → Fits l len 1 → length l.strides ≡ length l.shape → 0 < count l.shape → axis < length l.shape → 2 ≤ get_or l.shape axis 0 → GoesUp item (offsets l) → get_or l.strides axis (pos 0) ≡ pos (count (drop (suc axis) l.shape) * item)
+steps_from_GoesUp l len item axis fits same some below long up =
+    let c = count (drop (suc axis) l.shape) in
+    let there = entry-unit l len 1 axis fits same some below long in
+    let place = address_of_place item (offsets l) c up (unit-lt l axis some below long) in
+    let first = entry-first l some in
+    let turned : item * c ≡ c * item = mul_comm item c in
+    omega (arith, ints)
+
+-- ---- the test of a layout
+
+pub lengths-pos : (shape : List ℕ) (axis : ℕ) → 0 < count shape → axis < length shape → 0 < get_or shape axis 0
+lengths-pos [] axis some below = absurd (omega arith)
+lengths-pos (n ∷ shape) zero some below = (factors_pos n (count shape) some).0
+lengths-pos (n ∷ shape) (suc axis) some below = lengths-pos shape axis (factors_pos n (count shape) some).1 (omega arith)
+
+pub is_c-empty : (l : Layout) (item : ℕ) → count l.shape ≡ 0 → is_c_contiguous item (offsets l) ≡ true
+is_c-empty l item none =
+    test_from_GoesUp item (offsets l) (record { next = λ k below. absurd (omega (arith, length-offsets l)) })
+
+pub is_c-true : (l : Layout) (item : ℕ) → length l.strides ≡ length l.shape → StepsOver item l.strides l.shape → is_c_contiguous item (offsets l) ≡ true
+is_c-true l item same steps = test_from_GoesUp item (offsets l) (GoesUp-steps l item same steps)
+
+-- one axis that steps over other bytes
+pub is_c-false : (l : Layout) (len item axis bytes : ℕ) → Fits l len 1 → length l.strides ≡ length l.shape → 0 < count l.shape → axis < length l.shape → bytes ≡ count (drop (axis + 1) l.shape) * item → get_or l.shape axis 0 ≢ 1 → get_or l.strides axis (pos 0) ≢ pos bytes → is_c_contiguous item (offsets l) ≡ false
+is_c-false l len item axis bytes fits same some below is long other =
+    let some_there = lengths-pos l.shape axis some below in
+    false_from_ne_true (is_c_contiguous item (offsets l)) (λ test.
+    other (steps_from_GoesUp l len item axis fits same some below (omega (arith, long)) (GoesUp-from_test item (offsets l) test) ∙ ap pos (sym (is ∙ ap (λ k. count (drop k l.shape) * item) (add-one axis)))))
+
+-- ---- the bytes of the axes from one on
+
+count-drop-le : (shape : List ℕ) (k : ℕ) → 0 < count shape → count (drop k shape) ≤ count shape
+count-drop-le [] zero some = omega arith
+count-drop-le [] (suc k) some = omega arith
+count-drop-le (n ∷ shape) zero some = omega arith
+count-drop-le (n ∷ shape) (suc k) some =
+    let both = factors_pos n (count shape) some in
+    let grown : 1 * count shape ≤ n * count shape = mul-le-mul_right (count shape) both.0 in
+    omega (arith, count-drop-le shape k both.1, one-mul (count shape))
+
+pub bytes-bound : (shape : List ℕ) (k bytes item : ℕ) → 0 < count shape → count shape ≤ 2 ^ 24 → item < 2 ^ 64 → bytes ≡ count (drop k shape) * item → bytes ≤ 2 ^ 88
+bytes-bound shape k bytes item some few small is =
+    let factor : count (drop k shape) ≤ 2 ^ 24 = omega (arith, count-drop-le shape k some) in
+    let most : item ≤ 2 ^ 64 = omega arith in
+    omega (arith, mul-le-mul factor most)
+
+pub bytes-step : (shape : List ℕ) (k bytes item : ℕ) → k < length shape → bytes ≡ count (drop (k + 1) shape) * item → bytes * get_or shape k 0 ≡ count (drop k shape) * item
+bytes-step shape k bytes item below is =
+    let n = get_or shape k 0 in
+    let c = count (drop (k + 1) shape) in
+    let turned : c * item * n ≡ n * c * item = grind arith in
+    ap (λ b. b * n) is ∙ turned ∙ ap (λ x. x * item) (sym (count-drop shape k below))
+
+-- ---- the strides that are printed
+
+pub printed-at : (shape addresses : List ℕ) (axis : ℕ) → axis < length shape → get_or (printed_strides shape addresses) axis (pos 0) ≡ printed_stride (get_or shape axis 0) (count (drop (suc axis) shape)) addresses
+printed-at [] addresses axis below = absurd (omega arith)
+printed-at (n ∷ shape) addresses zero below = refl
+printed-at (n ∷ shape) addresses (suc axis) below = printed-at shape addresses axis (omega arith)
+
+pub length-printed : (shape addresses : List ℕ) → length (printed_strides shape addresses) ≡ length shape
+length-printed [] addresses = refl
+length-printed (n ∷ shape) addresses = ap suc (length-printed shape addresses)
+
+pub printed-short : (shape addresses : List ℕ) (axis : ℕ) → axis < length shape → get_or shape axis 0 < 2 → get_or (printed_strides shape addresses) axis (pos 0) ≡ pos 0
+printed-short shape addresses axis below short =
+    let test : nat_le 2 (get_or shape axis 0) ≡ false = grind (arith, nat_tests) in
+    printed-at shape addresses axis below ∙ cond-false (nat_le 2 (get_or shape axis 0)) _ _ test
+
+pub printed-long : (l : Layout) (len axis : ℕ) → Fits l len 1 → length l.strides ≡ length l.shape → 0 < count l.shape → axis < length l.shape → 2 ≤ get_or l.shape axis 0 → get_or (printed_strides l.shape (offsets l)) axis (pos 0) ≡ get_or l.strides axis (pos 0)
+printed-long l len axis fits same some below long =
+    let test : nat_le 2 (get_or l.shape axis 0) ≡ true = grind (arith, nat_tests) in
+    let there = entry-unit l len 1 axis fits same some below long in
+    let first = entry-first l some in
+    printed-at l.shape (offsets l) axis below ∙ cond-true (nat_le 2 (get_or l.shape axis 0)) _ _ test ∙ omega (arith, ints)
+
+pub printed-entry : (l : Layout) (len axis : ℕ) (stride : ℤ) → Fits l len 1 → length l.strides ≡ length l.shape → 0 < count l.shape → axis < length l.shape → (get_or l.shape axis 0 < 2 → stride ≡ pos 0) → (2 ≤ get_or l.shape axis 0 → stride ≡ get_or l.strides axis (pos 0)) → stride ≡ get_or (printed_strides l.shape (offsets l)) axis (pos 0)
+printed-entry l len axis stride fits same some below short long = elim (cases_lt (get_or l.shape axis 0) 2) [
+  | inl is ↦ short is ∙ sym (printed-short l.shape (offsets l) axis below is)
+  | inr is ↦ long is ∙ sym (printed-long l len axis fits same some below is)
+]
+
+-- none is longer than the buffer
+gap-small : (s : ℤ) (a b n : ℕ) → pos a ≡ pos b +ℤ s → a ≤ n → b ≤ n → unsigned_abs s ≤ n
+gap-small (pos x) a b n is low low' = omega (arith, ints)
+gap-small (negsuc x) a b n is low low' = omega (arith, ints)
+
+pub printed-small : (l : Layout) (len axis : ℕ) → Fits l len 1 → length l.strides ≡ length l.shape → 0 < count l.shape → axis < length l.shape → unsigned_abs (get_or (printed_strides l.shape (offsets l)) axis (pos 0)) ≤ len
+printed-small l len axis fits same some below = elim (cases_lt (get_or l.shape axis 0) 2) [
+  | inl is ↦ rw (printed-short l.shape (offsets l) axis below is) (omega arith)
+  | inr is ↦
+      let c = count (drop (suc axis) l.shape) in
+      let first = entry-first l some in
+      let near = offsets_within l len 1 fits 0 0 (omega (arith, length-offsets l)) in
+      let far = offsets_within l len 1 fits c 0 (unit-lt l axis some below is) in
+      rw (printed-long l len axis fits same some below is) (gap-small (get_or l.strides axis (pos 0)) (get_or (offsets l) c 0) l.offset len (entry-unit l len 1 axis fits same some below is) (omega arith) (omega arith))
+]
+
+-- without items each is 0
+pub printed-empty : (shape : List ℕ) → printed_strides shape [] ≡ map (λ _. pos 0) shape
+printed-empty [] = refl
+printed-empty (n ∷ shape) = elim (cases_Bool (nat_le 2 n)) [
+  | inl long ↦ ap (λ z. z ∷ printed_strides shape []) (cond-true (nat_le 2 n) _ _ long) ∙ ap (λ s. pos 0 ∷ s) (printed-empty shape)
+  | inr short ↦ ap (λ z. z ∷ printed_strides shape []) (cond-false (nat_le 2 n) _ _ short) ∙ ap (λ s. pos 0 ∷ s) (printed-empty shape)
+]
+
+pub no_offsets : (l : Layout) → count l.shape ≡ 0 → offsets l ≡ []
+no_offsets l none = nil_from_length (offsets l) (length-offsets l ∙ none)

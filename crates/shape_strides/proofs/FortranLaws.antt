@@ -1,0 +1,271 @@
+-- Laws of Fortran order: the axes in reverse.
+use Rattle.std.proofs.Common.{◌≡◌, ℕ, zero, suc, ◌+◌, ◌*◌, ◌^◌, ◌-◌, ◌<◌, ◌≤◌, ◌≢◌, true, false, ℤ, pos, ◌+ℤ◌, ◌*ℤ◌, List, [], ◌∷◌, ◌++◌, map, reverse, length, get_or, take, drop, refl, sym, ◌∙◌, ap, arith, mul_comm, mul_assoc, mul-one, one-mul, mul-le-mul, mul-le-mul_left, length-drop, take_all, inl, inr}
+use Rattle.std.proofs.lemmas.Bool.{cases_lt, cases_order}
+use Rattle.std.proofs.lemmas.Int.{ints}
+use Rattle.std.proofs.lemmas.List.{drop_more, length-map, length-reverse, reverse-reverse, reverse-append, take_more, get_or-reverse, take-append-drop}
+use Rattle.std.proofs.Math.Seq.{drop-append_seam}
+use Rattle.std.proofs.lemmas.Grind.{reverse_onto}
+use lib.IntN.{+ℤ_idl, +ℤ_assoc}
+use Rattle.shape_strides.specs.declared.layout.Layout.{Layout}
+use Rattle.shape_strides.specs.Indexes.{count, rank, IsIndex}
+use Rattle.shape_strides.specs.Layouts.{dot, address, natural, offsets, Fits, IsNested, distance, multiples, c_strides, f_strides, f_multiples}
+use Rattle.shape_strides.specs.Contiguity.{fortran_order, is_c_contiguous, is_f_contiguous}
+use Rattle.shape_strides.proofs.IndexLaws.{same_on_indexes, rank-same, index_at, rank-lt, length-index, IsIndex-append}
+use Rattle.shape_strides.proofs.LayoutLaws.{length-offsets, get_or-offsets, dot-c_strides, StandsInCOrder, offsets-c_order, mul-step}
+use Rattle.shape_strides.proofs.CountLaws.{count-drop, length-c_strides}
+use Rattle.shape_strides.proofs.ReachLaws.{factors_pos}
+use Rattle.shape_strides.proofs.ContiguityLaws.{StepsOver, is_c-empty, is_c-true, is_c-false}
+
+-- ---- lists in reverse
+
+pub reverse-cons : {X : Type 0} (x : X) (xs : List X) → reverse (x ∷ xs) ≡ reverse xs ++ x ∷ []
+reverse-cons x xs = reverse_onto xs x []
+
+pub count-append : (shape shape' : List ℕ) → count (shape ++ shape') ≡ count shape * count shape'
+count-append [] shape' = sym (one-mul (count shape'))
+count-append (n ∷ shape) shape' = ap (λ c. n * c) (count-append shape shape') ∙ sym (mul_assoc n (count shape) (count shape'))
+
+pub count-reverse : (shape : List ℕ) → count (reverse shape) ≡ count shape
+count-reverse [] = refl
+count-reverse (n ∷ shape) =
+    let last : count (n ∷ []) ≡ n = mul-one n in
+    ap count (reverse-cons n shape) ∙ count-append (reverse shape) (n ∷ []) ∙ ap (λ c. count (reverse shape) * c) last ∙ ap (λ c. c * n) (count-reverse shape) ∙ mul_comm (count shape) n
+
+pub IsIndex-reverse : (shape index : List ℕ) → IsIndex shape index → IsIndex (reverse shape) (reverse index)
+IsIndex-reverse [] [] in' = tt
+IsIndex-reverse [] (k ∷ index) in' = absurd in'
+IsIndex-reverse (n ∷ shape) [] in' = absurd in'
+IsIndex-reverse (n ∷ shape) (k ∷ index) in' =
+    rw (reverse-cons n shape, reverse-cons k index) (IsIndex-append (reverse shape) (n ∷ []) (reverse index) (k ∷ []) (IsIndex-reverse shape index in'.1) (in'.0, tt))
+
+-- an index of the reversed shape, and back
+pub IsIndex-from_reverse : (shape index : List ℕ) → IsIndex (reverse shape) index → IsIndex shape (reverse index)
+IsIndex-from_reverse shape index in' = rw (← reverse-reverse shape) (IsIndex-reverse (reverse shape) index in')
+
+pub dot-append : (strides strides' : List ℤ) (index index' : List ℕ) → length strides ≡ length index → dot (strides ++ strides') (index ++ index') ≡ dot strides index +ℤ dot strides' index'
+dot-append [] strides' [] index' same = sym (+ℤ_idl (dot strides' index'))
+dot-append [] strides' (k ∷ index) index' same = absurd (omega arith)
+dot-append (s ∷ strides) strides' [] index' same = absurd (omega arith)
+dot-append (s ∷ strides) strides' (k ∷ index) index' same =
+    ap (λ z. s *ℤ pos k +ℤ z) (dot-append strides strides' index index' (omega arith)) ∙ sym (+ℤ_assoc (s *ℤ pos k) (dot strides index) (dot strides' index'))
+
+turned_sum : (a b : ℤ) → a +ℤ (b +ℤ pos 0) ≡ b +ℤ a
+turned_sum a b = omega (arith, ints)
+
+pub dot-reverse : (strides : List ℤ) (index : List ℕ) → length strides ≡ length index → dot (reverse strides) (reverse index) ≡ dot strides index
+dot-reverse [] [] same = refl
+dot-reverse [] (k ∷ index) same = absurd (omega arith)
+dot-reverse (s ∷ strides) [] same = absurd (omega arith)
+dot-reverse (s ∷ strides) (k ∷ index) same =
+    rw (reverse-cons s strides, reverse-cons k index) (dot-append (reverse strides) (s ∷ []) (reverse index) (k ∷ []) (omega (arith, length-reverse strides, length-reverse index)) ∙ turned_sum (dot (reverse strides) (reverse index)) (s *ℤ pos k) ∙ ap (λ z. s *ℤ pos k +ℤ z) (dot-reverse strides index (omega arith)))
+
+-- ---- a layout with its axes in reverse
+
+abbrev pub reversed : Layout → Layout
+reversed l = record {
+  shape = reverse l.shape;
+  strides = reverse l.strides;
+  offset = l.offset;
+  one_stride_an_axis = length-reverse l.strides ∙ l.one_stride_an_axis ∙ sym (length-reverse l.shape);
+}
+
+pub address-reversed : (l : Layout) (index : List ℕ) → IsIndex (reverse l.shape) index → address (reversed l) index ≡ address l (reverse index)
+address-reversed l index in' =
+    let size = length-index (reverse l.shape) index in' in
+    let same : length l.strides ≡ length (reverse index) = omega (arith, l.one_stride_an_axis, length-reverse l.shape, length-reverse index) in
+    let turned : dot (reverse l.strides) (reverse (reverse index)) ≡ dot l.strides (reverse index) = dot-reverse l.strides (reverse index) same in
+    ap (λ i. pos l.offset +ℤ dot (reverse l.strides) i) (sym (reverse-reverse index)) ∙ ap (λ z. pos l.offset +ℤ z) turned
+
+-- its items in C order are those of the layout in Fortran order
+pub fortran_order-offsets : (l : Layout) → fortran_order l.shape (offsets l) ≡ offsets (reversed l)
+unfolding offsets
+fortran_order-offsets l =
+    same_on_indexes (reverse l.shape) (λ index. get_or (offsets l) (rank l.shape (reverse index)) 0) (λ index. natural (address (reversed l) index))
+    (λ index in'. get_or-offsets l (reverse index) 0 (IsIndex-from_reverse l.shape index in') ∙ ap natural (sym (address-reversed l index in')))
+
+pub Fits-reversed : (l : Layout) (len item : ℕ) → Fits l len item → Fits (reversed l) len item
+Fits-reversed l len item fits = record {
+  from_zero = λ index in'. rw (address-reversed l index in') (fits.from_zero (reverse index) (IsIndex-from_reverse l.shape index in'));
+  within = λ index in'. rw (address-reversed l index in') (fits.within (reverse index) (IsIndex-from_reverse l.shape index in'));
+}
+
+-- ---- the test of a layout
+
+pub is_f-empty : (l : Layout) (item : ℕ) → count l.shape ≡ 0 → is_f_contiguous item l.shape (offsets l) ≡ true
+is_f-empty l item none =
+    ap (is_c_contiguous item) (fortran_order-offsets l) ∙ is_c-empty (reversed l) item (count-reverse l.shape ∙ none)
+
+-- the first axes in reverse, with one more
+pub reverse-take_more : {X : Type 0} (xs : List X) (k : ℕ) (d : X) → k < length xs → reverse (take (k + 1) xs) ≡ get_or xs k d ∷ reverse (take k xs)
+reverse-take_more xs k d below = ap reverse (take_more xs k d below) ∙ reverse-append (take k xs) (get_or xs k d ∷ [])
+
+count-take-le : (shape : List ℕ) (k : ℕ) → 0 < count shape → count (take k shape) ≤ count shape
+count-take-le [] zero some = omega arith
+count-take-le [] (suc k) some = omega arith
+count-take-le (n ∷ shape) zero some = omega arith
+count-take-le (n ∷ shape) (suc k) some = mul-le-mul_left n (count-take-le shape k (factors_pos n (count shape) some).1)
+
+pub f_bytes-bound : (shape : List ℕ) (k bytes item : ℕ) → 0 < count shape → count shape ≤ 2 ^ 24 → item < 2 ^ 64 → bytes ≡ count (reverse (take k shape)) * item → bytes ≤ 2 ^ 88
+f_bytes-bound shape k bytes item some few small is =
+    let factor : count (take k shape) ≤ 2 ^ 24 = omega (arith, count-take-le shape k some) in
+    let most : item ≤ 2 ^ 64 = omega arith in
+    let is' : bytes ≡ count (take k shape) * item = is ∙ ap (λ c. c * item) (count-reverse (take k shape)) in
+    omega (arith, mul-le-mul factor most)
+
+pub f_bytes-step : (shape : List ℕ) (k bytes item : ℕ) → k < length shape → bytes ≡ count (reverse (take k shape)) * item → bytes * get_or shape k 0 ≡ count (reverse (take (k + 1) shape)) * item
+f_bytes-step shape k bytes item below is =
+    let n = get_or shape k 0 in
+    let c = count (reverse (take k shape)) in
+    let turned : c * item * n ≡ n * c * item = grind arith in
+    ap (λ b. b * n) is ∙ turned ∙ ap (λ s. count s * item) (sym (reverse-take_more shape k 0 below))
+
+pub f_steps-more : (item : ℕ) (strides : List ℤ) (shape : List ℕ) (k : ℕ) → length strides ≡ length shape → k < length shape → (2 ≤ get_or shape k 0 → get_or strides k (pos 0) ≡ pos (count (reverse (take k shape)) * item)) → StepsOver item (reverse (take k strides)) (reverse (take k shape)) → StepsOver item (reverse (take (k + 1) strides)) (reverse (take (k + 1) shape))
+f_steps-more item strides shape k same below first before =
+    rw (reverse-take_more strides k (pos 0) (omega arith), reverse-take_more shape k 0 below) (first, before)
+
+pub is_f-true : (l : Layout) (item k : ℕ) → length l.shape ≤ k → StepsOver item (reverse (take k l.strides)) (reverse (take k l.shape)) → is_f_contiguous item l.shape (offsets l) ≡ true
+is_f-true l item k all steps =
+    let lengths : take k l.shape ≡ l.shape = take_all k l.shape all in
+    let strides : take k l.strides ≡ l.strides = take_all k l.strides (omega (arith, l.one_stride_an_axis)) in
+    let whole = rw (lengths, strides) at steps in
+    ap (is_c_contiguous item) (fortran_order-offsets l) ∙ is_c-true (reversed l) item (reversed l).one_stride_an_axis whole
+
+-- the axes after one, in reverse, stand before it
+drop-reverse : {X : Type 0} (xs : List X) (k : ℕ) → k < length xs → drop (length xs - 1 - k + 1) (reverse xs) ≡ reverse (take k xs)
+drop-reverse xs k below =
+    let parts : xs ≡ take k xs ++ drop k xs = sym (take-append-drop k xs) in
+    let front : length (reverse (drop k xs)) ≡ length xs - 1 - k + 1 = omega (arith, length-reverse (drop k xs), length-drop k xs) in
+    ap (λ ys. drop (length xs - 1 - k + 1) (reverse ys)) parts ∙ ap (drop (length xs - 1 - k + 1)) (reverse-append (take k xs) (drop k xs)) ∙ ap (λ j. drop j (reverse (drop k xs) ++ reverse (take k xs))) (sym front) ∙ drop-append_seam (reverse (drop k xs)) (reverse (take k xs))
+
+-- an entry from the front stands so far from the back
+get_or-reverse_back : {X : Type 0} (xs : List X) (k : ℕ) (d : X) → k < length xs → get_or (reverse xs) (length xs - 1 - k) d ≡ get_or xs k d
+get_or-reverse_back xs k d below =
+    let back : length xs - 1 - (length xs - 1 - k) ≡ k = omega arith in
+    get_or-reverse xs (length xs - 1 - k) d (omega arith) ∙ ap (λ j. get_or xs j d) back
+
+pub is_f-false : (l : Layout) (len item axis bytes : ℕ) → Fits l len 1 → 0 < count l.shape → axis < length l.shape → bytes ≡ count (reverse (take axis l.shape)) * item → get_or l.shape axis 0 ≢ 1 → get_or l.strides axis (pos 0) ≢ pos bytes → is_f_contiguous item l.shape (offsets l) ≡ false
+is_f-false l len item axis bytes fits some below is long other =
+    let k = length l.shape - 1 - axis in
+    let before : bytes ≡ count (drop (k + 1) (reverse l.shape)) * item = is ∙ ap (λ s. count s * item) (sym (drop-reverse l.shape axis below)) in
+    let one = l.one_stride_an_axis in
+    let back : length l.strides - 1 - axis ≡ k = omega arith in
+    let stride : get_or (reverse l.strides) k (pos 0) ≡ get_or l.strides axis (pos 0) = ap (λ j. get_or (reverse l.strides) j (pos 0)) (sym back) ∙ get_or-reverse_back l.strides axis (pos 0) (omega arith) in
+    let number : get_or (reverse l.shape) k 0 ≡ get_or l.shape axis 0 = get_or-reverse_back l.shape axis 0 below in
+    let some' : 0 < count (reverse l.shape) = omega (arith, count-reverse l.shape) in
+    let within : k < length (reverse l.shape) = omega (arith, length-reverse l.shape) in
+    ap (is_c_contiguous item) (fortran_order-offsets l) ∙ is_c-false (reversed l) len item k bytes (Fits-reversed l len 1 fits) (reversed l).one_stride_an_axis some' within before (λ e. long (sym number ∙ e)) (λ e. other (sym stride ∙ e))
+
+-- ---- the strides of Fortran order
+
+c_strides-push : (item : ℕ) (shape : List ℕ) (n : ℕ) → c_strides item (shape ++ n ∷ []) ≡ c_strides (item * n) shape ++ pos item ∷ []
+c_strides-push item [] n = let one : 1 * item ≡ item = one-mul item in ap (λ k. pos k ∷ []) one
+c_strides-push item (m ∷ shape) n =
+    let last : count (n ∷ []) ≡ n = mul-one n in
+    let turned : count shape * n * item ≡ count shape * (item * n) = grind arith in
+    let total : count (shape ++ n ∷ []) * item ≡ count shape * (item * n) = ap (λ c. c * item) (count-append shape (n ∷ []) ∙ ap (λ c. count shape * c) last) ∙ turned in
+    ap (λ k. pos k ∷ c_strides item (shape ++ n ∷ [])) total ∙ ap (λ s. pos (count shape * (item * n)) ∷ s) (c_strides-push item shape n)
+
+-- those of C order for the axes in reverse, in reverse
+pub f_strides-reverse : (item : ℕ) (shape : List ℕ) → f_strides item shape ≡ reverse (c_strides item (reverse shape))
+f_strides-reverse item [] = refl
+f_strides-reverse item (n ∷ shape) =
+    ap (λ s. pos item ∷ s) (f_strides-reverse (item * n) shape) ∙ sym (ap (λ s. reverse (c_strides item s)) (reverse-cons n shape) ∙ ap reverse (c_strides-push item (reverse shape) n) ∙ reverse-append (c_strides (item * n) (reverse shape)) (pos item ∷ []))
+
+pub length-f_strides : (item : ℕ) (shape : List ℕ) → length (f_strides item shape) ≡ length shape
+length-f_strides item [] = refl
+length-f_strides item (n ∷ shape) = ap suc (length-f_strides (item * n) shape)
+
+pub dot-f_strides : (item : ℕ) (shape index : List ℕ) → IsIndex shape index → dot (f_strides item shape) index ≡ pos (item * rank (reverse shape) (reverse index))
+dot-f_strides item shape index in' =
+    let steps = c_strides item (reverse shape) in
+    let size = length-index shape index in' in
+    let same : length steps ≡ length (reverse index) = omega (arith, length-c_strides item (reverse shape), length-reverse shape, length-reverse index) in
+    ap (λ s. dot s index) (f_strides-reverse item shape) ∙ ap (dot (reverse steps)) (sym (reverse-reverse index)) ∙ dot-reverse steps (reverse index) same ∙ dot-c_strides item (reverse shape) (reverse index) (IsIndex-reverse shape index in')
+
+-- each address is the item's size times the rank where the first axis runs fastest
+pub record StandsInFOrder (l : Layout) (item : ℕ) : Type 0 where
+  pub addresses : (index : List ℕ) → IsIndex l.shape index → address l index ≡ pos (item * rank (reverse l.shape) (reverse index))
+
+pub f_order_stands : (l : Layout) (shape : List ℕ) (item : ℕ) → l.shape ≡ shape → l.offset ≡ 0 → (0 < count shape → l.strides ≡ f_strides item shape) → StandsInFOrder l item
+f_order_stands l shape item same first some = record {
+  addresses = λ index in'.
+      let above : 0 < count shape = omega (arith, ap count same, rank-lt l.shape index in') in
+      let strides : l.strides ≡ f_strides item l.shape = some above ∙ ap (f_strides item) (sym same) in
+      ap (λ z. pos z +ℤ dot l.strides index) first ∙ +ℤ_idl (dot l.strides index) ∙ ap (λ s. dot s index) strides ∙ dot-f_strides item l.shape index in';
+}
+
+pub f_order_offsets : (l : Layout) (shape : List ℕ) (item : ℕ) → l.shape ≡ shape → StandsInFOrder l item → offsets l ≡ f_multiples item shape
+unfolding offsets
+f_order_offsets l shape item same stands =
+    same_on_indexes l.shape (λ index. natural (address l index)) (λ index. item * rank (reverse l.shape) (reverse index)) (λ index in'. ap natural (stands.addresses index in')) ∙ ap (f_multiples item) same
+
+-- with its axes in reverse it stands in C order
+reversed_stands : (l : Layout) (item : ℕ) → StandsInFOrder l item → StandsInCOrder (reversed l) item
+reversed_stands l item stands = record {
+  addresses = λ index in'.
+      address-reversed l index in' ∙ stands.addresses (reverse index) (IsIndex-from_reverse l.shape index in') ∙ ap (λ i. pos (item * rank (reverse l.shape) i)) (reverse-reverse index);
+}
+
+pub f_order_order : (l : Layout) (shape : List ℕ) (item : ℕ) → l.shape ≡ shape → StandsInFOrder l item → fortran_order shape (offsets l) ≡ multiples item (count shape)
+f_order_order l shape item same stands =
+    ap (λ s. fortran_order s (offsets l)) (sym same) ∙ fortran_order-offsets l ∙ offsets-c_order (reversed l) item (reversed_stands l item stands) ∙ ap (multiples item) (count-reverse l.shape ∙ ap count same)
+
+pub f_order_fits : (l : Layout) (shape : List ℕ) (item : ℕ) → l.shape ≡ shape → StandsInFOrder l item → Fits l (count shape * item) item
+f_order_fits l shape item same stands = record {
+  from_zero = λ index in'.
+      let here = stands.addresses index in' in
+      omega (arith, ints);
+  within = λ index in'.
+      let here = stands.addresses index in' in
+      let below : rank (reverse l.shape) (reverse index) < count shape = omega (arith, rank-lt (reverse l.shape) (reverse index) (IsIndex-reverse l.shape index in'), count-reverse l.shape, ap count same) in
+      let step = mul-step item (rank (reverse l.shape) (reverse index)) (count shape) below in
+      let turned : count shape * item ≡ item * count shape = mul_comm (count shape) item in
+      omega (arith, ints);
+}
+
+-- one more axis
+pub f_strides-drop : (step : ℕ) (lengths : List ℕ) (k : ℕ) → k < length lengths → f_strides step (drop k lengths) ≡ pos step ∷ f_strides (step * get_or lengths k 0) (drop (k + 1) lengths)
+f_strides-drop step lengths k below = ap (f_strides step) (drop_more lengths k 0 below)
+
+pub step-more : (lengths : List ℕ) (k step : ℕ) → k < length lengths → count (drop (k + 1) lengths) * (step * get_or lengths k 0) ≡ count (drop k lengths) * step
+step-more lengths k step below =
+    let n = get_or lengths k 0 in
+    let c = count (drop (k + 1) lengths) in
+    let turned : c * (step * n) ≡ n * c * step = grind arith in
+    turned ∙ ap (λ x. x * step) (sym (count-drop lengths k below))
+
+pub count-rest : (lengths : List ℕ) (k : ℕ) → k < length lengths → 0 < count (drop k lengths) → 0 < count (drop (k + 1) lengths)
+count-rest lengths k below some = (factors_pos (get_or lengths k 0) (count (drop (k + 1) lengths)) (omega (arith, count-drop lengths k below))).1
+
+-- ---- different items lie apart
+
+-- different multiples of a number
+multiples_apart : (item a b : ℕ) → a ≢ b → item ≤ distance (item * a) (item * b)
+multiples_apart item a b other = elim (cases_order a b) [
+  | inl same ↦ absurd (other same)
+  | inr (inl below) ↦ omega (arith, mul-step item a b below)
+  | inr (inr above) ↦ omega (arith, mul-step item b a above)
+]
+
+pub f_order_nested : (l : Layout) (item : ℕ) → StandsInFOrder l item → IsNested (offsets l) item
+f_order_nested l item stands = record {
+  apart = λ j k before inside.
+      let size = length-offsets l in
+      let low = index_at l.shape j (omega arith) in
+      let high = index_at l.shape k (omega arith) in
+      let turned : List ℕ → ℕ = λ i. rank (reverse l.shape) (reverse i) in
+      let first : get_or (offsets l) j 0 ≡ item * turned low.0 = ap (λ r. get_or (offsets l) r 0) (sym low.2) ∙ get_or-offsets l low.0 0 low.1 ∙ ap natural (stands.addresses low.0 low.1) in
+      let second : get_or (offsets l) k 0 ≡ item * turned high.0 = ap (λ r. get_or (offsets l) r 0) (sym high.2) ∙ get_or-offsets l high.0 0 high.1 ∙ ap natural (stands.addresses high.0 high.1) in
+      let other : turned low.0 ≢ turned high.0 = λ e.
+      let back = rank-same (reverse l.shape) (reverse low.0) (reverse high.0) (IsIndex-reverse l.shape low.0 low.1) (IsIndex-reverse l.shape high.0 high.1) e in
+      let whole : low.0 ≡ high.0 = sym (reverse-reverse low.0) ∙ ap reverse back ∙ reverse-reverse high.0 in
+      omega (arith, ap (rank l.shape) whole, low.2, high.2) in
+      rw (first, second) (multiples_apart item (turned low.0) (turned high.0) other);
+}
+
+pub length-f_order : (item : ℕ) (shape : List ℕ) (strides : List ℤ) → (0 < count shape → strides ≡ f_strides item shape) → (count shape ≡ 0 → strides ≡ map (λ _. pos 0) shape) → length strides ≡ length shape
+length-f_order item shape strides some none =
+    elim (cases_lt 0 (count shape)) [
+      | inl above ↦ ap length (some above) ∙ length-f_strides item shape
+      | inr empty ↦ ap length (none (omega arith)) ∙ length-map shape (λ _. pos 0)
+    ]

@@ -1,0 +1,78 @@
+//! Layouts whose axes step clear of one another.
+ghost use Rattle.std.specs.Prelude.{◌≡◌, ◌↔◌, ◌+◌, ◌-◌, ◌*◌, ◌^◌, ◌<◌, ◌≤◌, pos, nat_le, unsigned_abs, if◌then◌else◌, length, slice_index, slice_index_or, All, IsTrue};
+ghost use Rattle.shape_strides.specs.Layouts.{offsets, Fits, IsNested};
+ghost use Rattle.shape_strides.specs.Reach.{reach_within};
+ghost use Rattle.shape_strides.specs.Stacks.{IsStacked};
+
+use crate::layout::Layout;
+
+/// How far an axis reaches from its first item to its last, if it steps over so many bytes at most.
+fn axis_within(strides: &[isize], axis: usize, len: usize, step: usize) -> u128
+    requires axis { axis < length strides.now }
+    requires len { len ≤ 2 ^ 24 }
+    ensures value { let own = unsigned_abs (slice_index_or strides.now axis (pos 0)) in
+        result ≡ (if nat_le own step then own * (len - 1) else 0) }
+    ensures bound { result ≤ 2 ^ 88 }
+{
+    let own = strides[axis].unsigned_abs();
+    if own > step {
+        return 0;
+    }
+    own as u128 * len.saturating_sub(1) as u128
+}
+
+/// How far the axes reach that step over so many bytes at most.
+fn reach_within(lengths: &[usize], strides: &[isize], step: usize) -> u128
+    requires one_each { length strides.now ≡ length lengths.now }
+    requires axes { length lengths.now ≤ 64 }
+    requires lengths { All (λ n. n ≤ 2 ^ 24) lengths.now }
+    ensures value { result ≡ reach_within step strides.now lengths.now }
+    ensures bound { result ≤ 64 * 2 ^ 88 }
+{
+    let mut reach = 0;
+    for (axis, len) in lengths.iter().enumerate() {
+        reach += axis_within(strides, axis, *len, step);
+    }
+    reach
+}
+
+/// Whether an axis steps over an item and all that the other axes reach of those that step no
+/// further. One of length 1 does.
+fn steps_clear(lengths: &[usize], strides: &[isize], axis: usize, item: usize) -> bool
+    requires one_each { length strides.now ≡ length lengths.now }
+    requires axes { length lengths.now ≤ 64 }
+    requires lengths { All (λ n. n ≤ 2 ^ 24) lengths.now }
+    requires axis { axis < length lengths.now }
+    ensures { let step = unsigned_abs (slice_index_or strides.now axis (pos 0)) in
+        IsTrue result ↔ (2 ≤ slice_index lengths.now axis → item + reach_within step strides.now lengths.now ≤ step * slice_index lengths.now axis) }
+{
+    if lengths[axis] < 2 {
+        return true;
+    }
+    let step = strides[axis].unsigned_abs();
+    let below = item as u128 + reach_within(lengths, strides, step);
+    below <= step as u128 * lengths[axis] as u128
+}
+
+impl Layout {
+    /// Whether the axes can be put in an order in which each of 2 items or more steps over an item
+    /// of `item` bytes and all that the axes before it reach. So it is for a layout without items.
+    pub fn is_stacked(&self, item: usize) -> bool
+        requires fits { Fits self.now (2 ^ 28) 1 }
+        requires item { 1 ≤ item }
+        ensures value { IsTrue result ↔ IsStacked self.now item }
+        ensures nested { IsStacked self.now item → IsNested (offsets self.now) item }
+    {
+        if self.shape.items() == 0 {
+            return true;
+        }
+        let lengths = self.shape.as_slice();
+        let strides = self.strides.as_slice();
+        for axis in 0..lengths.len() {
+            if !steps_clear(lengths, strides, axis, item) {
+                return false;
+            }
+        }
+        true
+    }
+}
