@@ -1,0 +1,4 @@
+pub mod MarkLaws
+pub mod OverlapLaws
+pub mod ShareLaws
+mod Vectors
