@@ -9,8 +9,8 @@ use Rattle.std.proofs.lemmas.List.{length-map}
 use Rattle.std.proofs.lemmas.List.FromFn.{length-range_with_len}
 use Rattle.elem_descr.specs.declared.refusal.Refusal.TheVariants.{BadAxis}
 use Rattle.shape_strides.specs.Layouts.{natural}
-use Rattle.view_ops.specs.Slices.{from_front}
-use Rattle.view_ops.specs.Transposes.{is_axis, are_distinct, AreAxes, AreAllAxes, axes_of}
+use Rattle.view_ops.specs.Slices.{from_front, is_place}
+use Rattle.view_ops.specs.Transposes.{are_distinct, AreAxes, AreAllAxes, axes_of}
 
 pub axes_of-count : (rank : ℕ) (named : List ℤ) → length named ≢ rank → axes_of rank (Some named) ≡ Err BadAxis
 unfolding axes_of
@@ -18,19 +18,19 @@ axes_of-count rank named other =
     let test : (length named == rank) ≡ false = grind (arith, nat_tests) in
     rw test
 
-pub axes_of-range : (rank : ℕ) (named : List ℤ) → length named ≡ rank → list_all (is_axis rank) named ≡ false → axes_of rank (Some named) ≡ Err BadAxis
+pub axes_of-range : (rank : ℕ) (named : List ℤ) → length named ≡ rank → list_all (is_place rank) named ≡ false → axes_of rank (Some named) ≡ Err BadAxis
 unfolding axes_of
 axes_of-range rank named size out =
     let test : (length named == rank) ≡ true = grind (arith, nat_tests) in
     rw (test, out)
 
-pub axes_of-repeated : (rank : ℕ) (named : List ℤ) → length named ≡ rank → list_all (is_axis rank) named ≡ true → are_distinct (map (λ axis. natural (from_front rank axis)) named) ≡ false → axes_of rank (Some named) ≡ Err BadAxis
+pub axes_of-repeated : (rank : ℕ) (named : List ℤ) → length named ≡ rank → list_all (is_place rank) named ≡ true → are_distinct (map (λ axis. natural (from_front rank axis)) named) ≡ false → axes_of rank (Some named) ≡ Err BadAxis
 unfolding axes_of
 axes_of-repeated rank named size within again =
     let test : (length named == rank) ≡ true = grind (arith, nat_tests) in
     rw (test, within, again)
 
-pub axes_of-ok : (rank : ℕ) (named : List ℤ) (axes : List ℕ) → length named ≡ rank → list_all (is_axis rank) named ≡ true → axes ≡ map (λ axis. natural (from_front rank axis)) named → are_distinct axes ≡ true → axes_of rank (Some named) ≡ Ok axes
+pub axes_of-ok : (rank : ℕ) (named : List ℤ) (axes : List ℕ) → length named ≡ rank → list_all (is_place rank) named ≡ true → axes ≡ map (λ axis. natural (from_front rank axis)) named → are_distinct axes ≡ true → axes_of rank (Some named) ≡ Ok axes
 unfolding axes_of
 axes_of-ok rank named axes size within are once =
     let test : (length named == rank) ≡ true = grind (arith, nat_tests) in
@@ -57,14 +57,14 @@ axis_below : (n : ℕ) (z : ℤ) → (not (int_lt z (pos 0)) && int_lt z (pos n)
 axis_below n (pos k) test = grind (arith, nat_tests)
 axis_below n (negsuc k) test = absurd (false≢true (and_left false (int_lt (negsuc k) (pos n)) test))
 
-AreAxes-counted : (n : ℕ) (named : List ℤ) → list_all (is_axis n) named ≡ true → are_distinct (map (λ axis. natural (from_front n axis)) named) ≡ true → AreAxes n (map (λ axis. natural (from_front n axis)) named)
+AreAxes-counted : (n : ℕ) (named : List ℤ) → list_all (is_place n) named ≡ true → are_distinct (map (λ axis. natural (from_front n axis)) named) ≡ true → AreAxes n (map (λ axis. natural (from_front n axis)) named)
 AreAxes-counted n [] within once = tt
 AreAxes-counted n (axis ∷ named) within once =
     let rest = map (λ z. natural (from_front n z)) named in
     let a = natural (from_front n axis) in (
-      axis_below n (from_front n axis) (and_left (is_axis n axis) (list_all (is_axis n) named) within),
+      axis_below n (from_front n axis) (and_left (is_place n axis) (list_all (is_place n) named) within),
       not_true (list_any (λ other. other == a) rest) (and_left (not (list_any (λ other. other == a) rest)) (are_distinct rest) once),
-      AreAxes-counted n named (and_right (is_axis n axis) (list_all (is_axis n) named) within) (and_right (not (list_any (λ other. other == a) rest)) (are_distinct rest) once),
+      AreAxes-counted n named (and_right (is_place n axis) (list_all (is_place n) named) within) (and_right (not (list_any (λ other. other == a) rest)) (are_distinct rest) once),
     )
 
 not_later : (n a m j : ℕ) → a + m ≤ n → n - a ≤ j → list_any (λ other. other == j) (map (λ k. n - 1 - k) (range_with_len a m)) ≡ false
@@ -94,7 +94,7 @@ all_axes n (Some named) axes is =
     let counted = map (λ axis. natural (from_front n axis)) named in
     elim (cases_eq (length named) n) [
       | inr other ↦ absurd (no_axes axes BadAxis (axes_of n (Some named)) (axes_of-count n named other) is)
-      | inl size ↦ elim (cases_Bool (list_all (is_axis n) named)) [
+      | inl size ↦ elim (cases_Bool (list_all (is_place n) named)) [
         | inr out ↦ absurd (no_axes axes BadAxis (axes_of n (Some named)) (axes_of-range n named size out) is)
         | inl within ↦ elim (cases_Bool (are_distinct counted)) [
           | inr again ↦ absurd (no_axes axes BadAxis (axes_of n (Some named)) (axes_of-repeated n named size within again) is)

@@ -40,11 +40,11 @@ abs_pos (negsuc n) other = omega arith
 
 -- ---- a product with the step's sign
 
-product_back : (step : ℤ) (k : ℕ) → step <ℤ pos 0 → step *ℤ pos k ≡ neg_ℤ (pos (k * unsigned_abs step))
+pub product_back : (step : ℤ) (k : ℕ) → step <ℤ pos 0 → step *ℤ pos k ≡ neg_ℤ (pos (k * unsigned_abs step))
 product_back (pos n) k below = absurd (omega (arith, ints))
 product_back (negsuc n) k below = let e = negsuc-*ℤ-pos n k in omega (arith, ints, mul_comm k (suc n))
 
-product_forth : (step : ℤ) (k : ℕ) → pos 0 ≤ℤ step → step *ℤ pos k ≡ pos (k * unsigned_abs step)
+pub product_forth : (step : ℤ) (k : ℕ) → pos 0 ≤ℤ step → step *ℤ pos k ≡ pos (k * unsigned_abs step)
 product_forth (pos n) k above = ap pos (mul_comm n k)
 product_forth (negsuc n) k above = absurd (omega (arith, ints))
 

@@ -14,9 +14,9 @@ use Rattle.shape_strides.specs.Layouts.{dot, address, offsets}
 use Rattle.shape_strides.proofs.IndexLaws.{rank-lt}
 use Rattle.shape_strides.proofs.ShapeAnswers.{shape_of-ok}
 use Rattle.view_ops.specs.Transposes.{AreAxes, AreAllAxes, axes_of, transposed, transposed_shape, transposed_index, put_at}
-use Rattle.view_ops.specs.Views.{view_through, View, IsViewOf, GivesView}
+use Rattle.view_ops.specs.Views.{view_through, IsViewOf, GivesView}
 use Rattle.view_ops.proofs.TransposeLaws.{dot-put_at, IsIndex-transposed, transposed-one, count-transposed}
-use Rattle.view_ops.proofs.ViewLaws.{IsView, offsets-view, Fits-view, IsNested-view}
+use Rattle.view_ops.proofs.ViewLaws.{IsView, inside-view, offsets-view, Fits-view, IsNested-view, gives_refusal}
 
 -- ---- the shape
 
@@ -60,6 +60,8 @@ turned-is old new axes turned =
     let view = turned-view old new axes turned in
     record {
       shape = turned.shape;
+      leads = λ index in'. view.leads index (rw turned.shape in');
+      inside = inside-view old new (transposed_index axes) (transposed_shape axes old.shape) view turned.shape;
       places = offsets-view old new (transposed_index axes) view ∙ ap (λ s. view_through (offsets old) old.shape s (transposed_index axes)) turned.shape;
       fits = λ len item fits. Fits-view old new (transposed_index axes) len item view fits;
       nested = λ item nested. IsNested-view old new (transposed_index axes) item view (λ i j in-i in-j same. transposed-one axes old.shape i j turned.all.size turned.all.are (rw (← turned.shape) in-i) (rw (← turned.shape) in-j) same) nested;
@@ -92,10 +94,6 @@ transposed-ok shape named axes is = rw is
 pub transposed-err : (shape : List ℕ) (named : Option (List ℤ)) (e : Refusal) → axes_of (length shape) named ≡ Err e → transposed shape named ≡ Err e
 unfolding transposed
 transposed-err shape named e is = rw is
-
-pub gives_refusal : (old : Layout) (there : Result View Refusal) (e : Refusal) → (e ≡ OutOfMemory) ⊎ (there ≡ Err e) → GivesView old (Err e) there
-gives_refusal old (Ok view) e given = given
-gives_refusal old (Err e') e given = given
 
 pub gives_transposed : (old : Layout) (named : Option (List ℤ)) (axes : List ℕ) (result : Result Layout Refusal) → axes_of (length old.shape) named ≡ Ok axes → IfOk result (λ view. IsViewOf old view (record { shape = transposed_shape axes old.shape; leads = transposed_index axes })) → IfErr result (λ e. e ≡ OutOfMemory) → GivesView old result (transposed old.shape named)
 gives_transposed old named axes (Ok view) is good bad = rw (transposed-ok old.shape named axes is) good

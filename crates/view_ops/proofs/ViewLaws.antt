@@ -1,13 +1,15 @@
 -- Laws of views.
-use Rattle.std.proofs.Common.{◌≡◌, ℕ, ◌<◌, ◌≤◌, List, [], map, length, get_or, inl, inr, sym, ap, ◌∙◌, arith}
+use Rattle.std.proofs.Common.{◌≡◌, ℕ, ◌<◌, ◌≤◌, ◌⊎◌, Result, Ok, Err, List, [], All, map, length, get_or, inl, inr, sym, ap, subst, ◌∙◌, arith}
 use Rattle.std.proofs.lemmas.Bool.{cases_lt}
 use Rattle.std.proofs.lemmas.List.{length-map, get_or-map, same_lists}
+use Rattle.elem_descr.specs.declared.refusal.Refusal.{Refusal}
+use Rattle.elem_descr.specs.declared.refusal.Refusal.TheVariants.{OutOfMemory}
 use Rattle.shape_strides.specs.declared.layout.Layout.{Layout}
 use Rattle.shape_strides.specs.Indexes.{count, indexes, rank, IsIndex}
 use Rattle.shape_strides.specs.Layouts.{address, natural, offsets, Fits, distance, IsNested}
 use Rattle.shape_strides.proofs.IndexLaws.{length-indexes, rank-lt, get_or-indexes, index_at}
 use Rattle.shape_strides.proofs.LayoutLaws.{length-offsets, get_or-offsets}
-use Rattle.view_ops.specs.Views.{view_through}
+use Rattle.view_ops.specs.Views.{view_through, View, GivesView}
 
 -- a layout shows the items of another one through m
 pub record IsView (old new : Layout) (m : List ℕ → List ℕ) : Type 0 where
@@ -29,6 +31,16 @@ unfolding offsets
 offsets-view old new m view =
     same_on_indexes new.shape (λ index. natural (address new index)) (λ index. get_or (offsets old) (rank old.shape (m index)) 0)
     (λ index in'. ap natural (view.same index in') ∙ sym (get_or-offsets old (m index) 0 (view.leads index in')))
+
+-- each index leads to an item
+inside : (old new : Layout) (m : List ℕ → List ℕ) → IsView old new m → All (λ index. rank old.shape (m index) < length (offsets old)) (indexes new.shape)
+inside old new m view k d below =
+    let found = index_at new.shape k (omega (arith, length-indexes new.shape)) in
+    let here : get_or (indexes new.shape) k d ≡ found.0 = ap (λ r. get_or (indexes new.shape) r d) (sym found.2) ∙ get_or-indexes new.shape found.0 d found.1 in
+    rw here (omega (arith, length-offsets old, rank-lt old.shape (m found.0) (view.leads found.0 found.1)))
+
+pub inside-view : (old new : Layout) (m : List ℕ → List ℕ) (shape : List ℕ) → IsView old new m → new.shape ≡ shape → All (λ index. rank old.shape (m index) < length (offsets old)) (indexes shape)
+inside-view old new m shape view same = subst (λ (s : List ℕ). All (λ index. rank old.shape (m index) < length (offsets old)) (indexes s)) same (inside old new m view)
 
 pub Fits-view : (old new : Layout) (m : List ℕ → List ℕ) (len item : ℕ) → IsView old new m → Fits old len item → Fits new len item
 Fits-view old new m len item view fits = record {
@@ -70,3 +82,7 @@ IsNested-view old new m item view one nested = record {
         | inr more ↦ apart_either (get_or (offsets old) q 0) (get_or (offsets old) p 0) item (nested.apart q p (strictly p q other more) low-p)
       ]);
 }
+
+pub gives_refusal : (old : Layout) (there : Result View Refusal) (e : Refusal) → (e ≡ OutOfMemory) ⊎ (there ≡ Err e) → GivesView old (Err e) there
+gives_refusal old (Ok view) e given = given
+gives_refusal old (Err e') e given = given

@@ -1,3 +1,6 @@
 pub mod Slices
 pub mod Views
 pub mod Transposes
+pub mod Basics
+pub mod Picks
+pub mod FieldViews

@@ -1,5 +1,5 @@
 -- Python's slices: `slice(start, stop, step).indices(n)`, and the `range` that it means.
-use Rattle.std.specs.Prelude.{◌≢◌, ℕ, ◌<◌, ◌≤◌, Bool, not, if◌then◌else◌, ℤ, pos, negsuc, ◌+ℤ◌, ◌*ℤ◌, ◌≤ℤ◌, int_lt, Option, Some, None, unwrap_or, List, map, filter, Result, Ok}
+use Rattle.std.specs.Prelude.{◌≢◌, ℕ, ◌<◌, ◌≤◌, Bool, not, ◌&&◌, if◌then◌else◌, ℤ, pos, negsuc, ◌+ℤ◌, ◌*ℤ◌, ◌≤ℤ◌, int_lt, Option, Some, None, unwrap_or, List, map, filter, Result, Ok}
 use Rattle.std.specs.Int.{int_min, int_max}
 use Rattle.std.specs.Ordering.{int_eq}
 use Rattle.std.specs.List.{range_with_len}
@@ -19,6 +19,10 @@ highest n step = lowest step +ℤ pos n
 -- a negative bound counts from the end
 abbrev pub from_front : ℕ → ℤ → ℤ
 from_front n at = if int_lt at (pos 0) then at +ℤ pos n else at
+
+-- a number names one of n places: from 0 up, or from -1 down for the last ones
+abbrev pub is_place : ℕ → ℤ → Bool
+is_place n at = not (int_lt (from_front n at) (pos 0)) && int_lt (from_front n at) (pos n)
 
 abbrev pub clamped : ℕ → ℤ → ℤ → ℤ
 clamped n step at = int_min (int_max (from_front n at) (lowest step)) (highest n step)

@@ -1,16 +1,12 @@
 -- Transposes, as NumPy has them: axis k of the result is the axis that is named at place k.
-use Rattle.std.specs.Prelude.{◌≡◌, ℕ, ◌-◌, ◌<◌, ◌==◌, Bool, true, false, not, ◌&&◌, ℤ, pos, int_lt, Option, Some, None, List, [], ◌∷◌, map, length, replicate, slice_index, slice_set, Result, Ok}
+use Rattle.std.specs.Prelude.{◌≡◌, ℕ, ◌-◌, ◌<◌, ◌==◌, Bool, true, false, not, ◌&&◌, ℤ, Option, Some, None, List, [], ◌∷◌, map, length, replicate, slice_index, slice_set, Result, Ok}
 use Rattle.std.specs.List.{list_any, list_all, range_with_len}
 use Rattle.elem_descr.specs.declared.refusal.Refusal.{Refusal}
 use Rattle.elem_descr.specs.declared.refusal.Refusal.TheVariants.{BadAxis}
 use Rattle.elem_descr.specs.Refusals.{◌>>=◌, check}
 use Rattle.shape_strides.specs.Layouts.{natural}
-use Rattle.view_ops.specs.Slices.{from_front}
+use Rattle.view_ops.specs.Slices.{from_front, is_place}
 use Rattle.view_ops.specs.Views.{View}
-
--- a number names one of the axes: from 0 up, or from -1 down for the last ones
-abbrev pub is_axis : ℕ → ℤ → Bool
-is_axis rank axis = not (int_lt (from_front rank axis) (pos 0)) && int_lt (from_front rank axis) (pos rank)
 
 -- no number is repeated
 abbrev pub are_distinct : List ℕ → Bool
@@ -33,7 +29,7 @@ axes_of rank None = Ok (map (λ k. rank - 1 - k) (range_with_len 0 rank))
 axes_of rank (Some named) = do
   let axes = map (λ axis. natural (from_front rank axis)) named
   _ ← check (length named == rank) BadAxis
-  _ ← check (list_all (is_axis rank) named) BadAxis
+  _ ← check (list_all (is_place rank) named) BadAxis
   _ ← check (are_distinct axes) BadAxis
   Ok axes
 

@@ -1,9 +1,9 @@
 -- Views: the same items under another shape.
-use Rattle.std.specs.Prelude.{◌≡◌, ℕ, ◌⊎◌, pos, List, map, slice_index, Result, Ok, Err}
+use Rattle.std.specs.Prelude.{◌≡◌, ◌<◌, ℕ, ◌⊎◌, pos, List, map, length, slice_index, All, Result, Ok, Err}
 use Rattle.elem_descr.specs.declared.refusal.Refusal.{Refusal}
 use Rattle.elem_descr.specs.declared.refusal.Refusal.TheVariants.{OutOfMemory}
 use Rattle.shape_strides.specs.declared.layout.Layout.{Layout}
-use Rattle.shape_strides.specs.Indexes.{count, indexes, rank}
+use Rattle.shape_strides.specs.Indexes.{count, indexes, rank, IsIndex}
 use Rattle.shape_strides.specs.Layouts.{offsets, Fits, IsNested}
 
 -- The list of a view of an array that has this list and shape: at each index of the new shape stands
@@ -19,6 +19,8 @@ pub record View : Type 0 where
 -- a layout is this view of an older one
 pub record IsViewOf (old new : Layout) (view : View) : Type 0 where
   pub shape : new.shape ≡ view.shape
+  pub leads : (index : List ℕ) → IsIndex view.shape index → IsIndex old.shape (view.leads index)
+  pub inside : All (λ index. rank old.shape (view.leads index) < length (offsets old)) (indexes view.shape)
   pub places : offsets new ≡ view_through (offsets old) old.shape view.shape view.leads
   pub fits : (len item : ℕ) → Fits old len item → Fits new len item
   pub nested : (item : ℕ) → IsNested (offsets old) item → IsNested (offsets new) item

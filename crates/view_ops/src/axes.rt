@@ -3,25 +3,18 @@ ghost use Rattle.std.specs.Prelude.{◌≡◌, ℕ, ◌-◌, ◌<◌, ◌≤◌,
 ghost use Rattle.std.specs.List.{list_all, range_with_len};
 ghost use Rattle.elem_descr.specs.Refusals.{Gives};
 ghost use Rattle.shape_strides.specs.Layouts.{natural};
-ghost use Rattle.view_ops.specs.Slices.{from_front};
-ghost use Rattle.view_ops.specs.Transposes.{is_axis, are_distinct, axes_of};
+ghost use Rattle.view_ops.specs.Slices.{from_front, is_place};
+ghost use Rattle.view_ops.specs.Transposes.{are_distinct, axes_of};
 
-use crate::slice::from_front;
+use crate::slice::{from_front, is_place};
 use elem_descr::Refusal;
 use smallvec::SmallVec;
 use std::alloc::{AllocError, Global};
 
-fn is_axis(rank: usize, axis: i128) -> bool
-    ensures { result ≡ is_axis rank axis }
-{
-    let at = from_front(rank, axis);
-    !(at < 0) && at < rank as i128
-}
-
 fn are_in_range(rank: usize, named: &[i128]) -> bool
-    ensures { result ≡ list_all (is_axis rank) named.now }
+    ensures { result ≡ list_all (is_place rank) named.now }
 {
-    named.iter().all(|axis| is_axis(rank, *axis))
+    named.iter().all(|axis| is_place(rank, *axis))
 }
 
 fn are_distinct(axes: &[usize]) -> bool
@@ -52,7 +45,7 @@ fn counted_axes(
     rank: usize,
     named: &[i128],
 ) -> Result<SmallVec<usize, 8>, AllocError>
-    requires { list_all (is_axis rank) named.now ≡ true }
+    requires { list_all (is_place rank) named.now ≡ true }
     ensures { IfOk result (λ v. v.items ≡ map (λ axis. natural (from_front rank axis)) named.now) }
 {
     let mut axes = SmallVec::new(alloc);

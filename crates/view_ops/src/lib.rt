@@ -2,9 +2,17 @@
 #![tactic(auto)]
 
 mod axes;
+pub mod basic_index;
+pub mod fields;
+pub mod index;
+mod pick;
+mod picked;
 pub mod slice;
 pub mod transposition;
 
+pub use basic_index::basic;
+pub use fields::field;
+pub use index::{IndexItem, are_basic};
 pub use slice::{Run, slice_of};
 pub use transposition::transpose;
 

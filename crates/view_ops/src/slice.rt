@@ -1,7 +1,7 @@
 //! Slices of an axis, as Python's `slice.indices` has them.
 ghost use Rattle.std.specs.Prelude.{◌≡◌, ℕ, ◌+◌, ◌-◌, ◌*◌, ◌^◌, unsigned_abs, ◌<◌, ◌≤◌, ◌≢◌, ◌↔◌, pos, ◌+ℤ◌, ◌-ℤ◌, ◌*ℤ◌, ◌<ℤ◌, ◌≤ℤ◌, MatchResult, IfOk, All, IsTrue, Ok, Err};
 ghost use Rattle.std.specs.Int.{int_max};
-ghost use Rattle.view_ops.specs.Slices.{lowest, highest, from_front, clamped, start_of, stop_of, is_before, slice_indices, run_number, run_numbers, IsRunWithin};
+ghost use Rattle.view_ops.specs.Slices.{lowest, highest, from_front, is_place, clamped, start_of, stop_of, is_before, slice_indices, run_number, run_numbers, IsRunWithin};
 
 use elem_descr::Refusal;
 
@@ -32,6 +32,14 @@ pub(crate) fn from_front(n: usize, at: i128) -> i128
     ensures { result ≡ from_front n at }
 {
     if at < 0 { at + n as i128 } else { at }
+}
+
+/// Whether a number names one of `n` places.
+pub(crate) fn is_place(n: usize, at: i128) -> bool
+    ensures { result ≡ is_place n at }
+{
+    let at = from_front(n, at);
+    !(at < 0) && at < n as i128
 }
 
 /// A bound of an axis of `n` items, put where Python has it.

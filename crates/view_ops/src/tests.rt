@@ -6,6 +6,9 @@ use std::alloc::Global;
 use std::process::Abort;
 use std::test::Fail;
 
+mod basic_indexes;
+mod fields;
+
 #[test]
 fn slices(rt: HostRuntime) -> Result<(), Fail> {
     let far = 999_999_999_999_999_999_999_999_999_999;

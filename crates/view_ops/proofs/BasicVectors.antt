@@ -1,0 +1,119 @@
+-- What NumPy's basic indexes give: the shape of the result, and where one of its indexes leads.
+use Rattle.std.proofs.Common.{◌≡◌, ℕ, ◌^◌, pos, negsuc, Some, None, List, [], ◌∷◌, replicate, Result, Ok, Err, refl}
+use Rattle.elem_descr.specs.declared.refusal.Refusal.{Refusal}
+use Rattle.elem_descr.specs.declared.refusal.Refusal.TheVariants.{TooManyAxes, TooManyIndices, IndexOutOfRange, ZeroStep}
+use Rattle.elem_descr.specs.Refusals.{◌>>=◌}
+use Rattle.view_ops.specs.declared.index.IndexItem.{IndexItem}
+use Rattle.view_ops.specs.declared.index.IndexItem.TheVariants.{Integer, Slice, Ellipsis, NewAxis}
+use Rattle.view_ops.specs.Slices.{slice_indices, stepped}
+use Rattle.view_ops.specs.Basics.{picked_view, basic}
+
+record Seen : Type 0 where
+  shape : List ℕ
+  lead : List ℕ
+
+abbrev seen : List ℕ → List IndexItem → List ℕ → Result Seen Refusal
+seen shape items index = basic shape items >>= λ view. Ok (record { shape = view.shape; lead = view.leads index })
+
+abbrev whole : IndexItem
+whole = Slice None None None
+
+-- `a[1, :]` of shape (2, 3)
+row : seen (2 ∷ 3 ∷ []) (Integer (pos 1) ∷ whole ∷ []) (2 ∷ []) ≡ Ok (record { shape = 3 ∷ []; lead = 1 ∷ 2 ∷ [] })
+unfolding basic picked_view slice_indices stepped
+row = refl
+
+-- `a[1]`
+row_alone : seen (2 ∷ 3 ∷ []) (Integer (pos 1) ∷ []) (2 ∷ []) ≡ Ok (record { shape = 3 ∷ []; lead = 1 ∷ 2 ∷ [] })
+unfolding basic picked_view
+row_alone = refl
+
+-- `a[..., 0, None]` of shape (2, 2, 2)
+new_last : seen (2 ∷ 2 ∷ 2 ∷ []) (Ellipsis ∷ Integer (pos 0) ∷ NewAxis ∷ []) (1 ∷ 0 ∷ 0 ∷ []) ≡ Ok (record { shape = 2 ∷ 2 ∷ 1 ∷ []; lead = 1 ∷ 0 ∷ 0 ∷ [] })
+unfolding basic picked_view
+new_last = refl
+
+-- `a[None, -1, ..., 1:]` of shape (2, 3, 4, 5)
+around : seen (2 ∷ 3 ∷ 4 ∷ 5 ∷ []) (NewAxis ∷ Integer (negsuc 0) ∷ Ellipsis ∷ Slice (Some (pos 1)) None None ∷ []) (0 ∷ 2 ∷ 3 ∷ 0 ∷ []) ≡ Ok (record { shape = 1 ∷ 3 ∷ 4 ∷ 4 ∷ []; lead = 1 ∷ 2 ∷ 3 ∷ 1 ∷ [] })
+unfolding basic picked_view slice_indices stepped
+around = refl
+
+-- `a[1, ..., 2]` of shape (2, 3), where `...` stands for no axis
+no_axis_between : seen (2 ∷ 3 ∷ []) (Integer (pos 1) ∷ Ellipsis ∷ Integer (pos 2) ∷ []) [] ≡ Ok (record { shape = []; lead = 1 ∷ 2 ∷ [] })
+unfolding basic picked_view
+no_axis_between = refl
+
+-- `a[5:]` of shape (5,)
+nothing : seen (5 ∷ []) (Slice (Some (pos 5)) None None ∷ []) (0 ∷ []) ≡ Ok (record { shape = 0 ∷ []; lead = 0 ∷ [] })
+unfolding basic picked_view slice_indices stepped
+nothing = refl
+
+-- `a[::-2]` of shape (5,)
+backwards : seen (5 ∷ []) (Slice None None (Some (negsuc 1)) ∷ []) (0 ∷ []) ≡ Ok (record { shape = 3 ∷ []; lead = 4 ∷ [] })
+unfolding basic picked_view slice_indices stepped
+backwards = refl
+
+backwards_last : seen (5 ∷ []) (Slice None None (Some (negsuc 1)) ∷ []) (2 ∷ []) ≡ Ok (record { shape = 3 ∷ []; lead = 0 ∷ [] })
+unfolding basic picked_view slice_indices stepped
+backwards_last = refl
+
+-- `a[-10 ** 29:10 ** 29:10 ** 29]` of shape (5,)
+far : seen (5 ∷ []) (Slice (Some (negsuc (10 ^ 29))) (Some (pos (10 ^ 29))) (Some (pos (10 ^ 29))) ∷ []) (0 ∷ []) ≡ Ok (record { shape = 1 ∷ []; lead = 0 ∷ [] })
+unfolding basic picked_view slice_indices stepped
+far = refl
+
+-- `a[-1]` of shape (3,)
+last_item : seen (3 ∷ []) (Integer (negsuc 0) ∷ []) [] ≡ Ok (record { shape = []; lead = 2 ∷ [] })
+unfolding basic picked_view
+last_item = refl
+
+-- `a[()]` and `a[...]` of shape ()
+no_axes : seen [] [] [] ≡ Ok (record { shape = []; lead = [] })
+unfolding basic picked_view
+no_axes = refl
+
+no_axes_either : seen [] (Ellipsis ∷ []) [] ≡ Ok (record { shape = []; lead = [] })
+unfolding basic picked_view
+no_axes_either = refl
+
+-- `a[0, 0]` of shape (5,)
+many : basic (5 ∷ []) (Integer (pos 0) ∷ Integer (pos 0) ∷ []) ≡ Err TooManyIndices
+unfolding basic
+many = refl
+
+-- `a[0:3:0]` of shape (5,)
+no_step : basic (5 ∷ []) (Slice (Some (pos 0)) (Some (pos 3)) (Some (pos 0)) ∷ []) ≡ Err ZeroStep
+unfolding basic
+no_step = refl
+
+-- `a[5]` and `a[-6]` of shape (5,), and `a[..., 3]` of shape (5, 3)
+high : basic (5 ∷ []) (Integer (pos 5) ∷ []) ≡ Err IndexOutOfRange
+unfolding basic
+high = refl
+
+low : basic (5 ∷ []) (Integer (negsuc 5) ∷ []) ≡ Err IndexOutOfRange
+unfolding basic
+low = refl
+
+high_last : basic (5 ∷ 3 ∷ []) (Ellipsis ∷ Integer (pos 3) ∷ []) ≡ Err IndexOutOfRange
+unfolding basic
+high_last = refl
+
+-- `a[9, ::0]` of shape (3, 3): the step is looked at before the integer
+no_step_first : basic (3 ∷ 3 ∷ []) (Integer (pos 9) ∷ Slice None None (Some (pos 0)) ∷ []) ≡ Err ZeroStep
+unfolding basic
+no_step_first = refl
+
+-- `a[9, ::0]` of shape (3,): the axes are counted before
+many_first : basic (3 ∷ []) (Integer (pos 9) ∷ Slice None None (Some (pos 0)) ∷ []) ≡ Err TooManyIndices
+unfolding basic
+many_first = refl
+
+-- 64 axes and one more, and an integer that is out of range beside it
+one_axis_more : basic (replicate 64 1) (NewAxis ∷ []) ≡ Err TooManyAxes
+unfolding basic picked_view
+one_axis_more = refl
+
+out_of_range_first : basic (replicate 64 1) (NewAxis ∷ NewAxis ∷ Integer (pos 1) ∷ []) ≡ Err IndexOutOfRange
+unfolding basic picked_view
+out_of_range_first = refl

@@ -1,0 +1,167 @@
+-- Laws of what the items of an index take and pick.
+use Rattle.std.proofs.Common.{◌≡◌, ℕ, zero, suc, ◌+◌, ◌-◌, ◌<◌, ◌≤◌, Bool, true, ◌&&◌, ℤ, pos, ◌+ℤ◌, ◌*ℤ◌, List, [], ◌∷◌, ◌++◌, map, length, get_or, take, drop, slice_range, refl, sym, ap, ◌∙◌, arith, length-drop, length-take-le, append_assoc, Option}
+use Rattle.std.proofs.lemmas.Int.{ints}
+use Rattle.std.proofs.lemmas.List.{drop-drop, drop_more, append-nil, map-append}
+use Rattle.std.proofs.lemmas.Bool.{false≢true}
+use Rattle.std.specs.Result.{is_ok}
+use Rattle.std.proofs.lemmas.List.Folds.{drop_split}
+use Rattle.std.specs.List.{list_all, flat_map, range_with_len}
+use Rattle.shape_strides.specs.Layouts.{natural}
+use Rattle.view_ops.specs.declared.index.IndexItem.{IndexItem}
+use Rattle.view_ops.specs.declared.index.IndexItem.TheVariants.{Integer, Slice, Ellipsis, NewAxis as NewItem, Array}
+use Rattle.view_ops.specs.declared.pick.AxisPick.{AxisPick}
+use Rattle.view_ops.specs.declared.pick.AxisPick.TheVariants.{At as AtAxis, Along as AlongAxis, New as NewAxis}
+use Rattle.view_ops.specs.declared.slice.Run.{Run}
+use Rattle.view_ops.specs.Slices.{slice_indices, IsRunWithin}
+use Rattle.view_ops.specs.Basics.{Placed, is_basic, takes_axis, taken, width, placed, has_step, is_in_range, are_in_range, Pick, whole, picks_of, picks}
+use Rattle.view_ops.specs.Picks.{shown, ArePicks, AddsPicks}
+
+-- ---- items over axes
+
+drop_on : (shape : List ℕ) (a end n : ℕ) → a ≤ end → end ≡ a + n → drop n (drop a shape) ≡ drop end shape
+drop_on shape a end n later is = drop-drop n a shape ∙ ap (λ m. drop m shape) (sym is)
+
+-- one item further on
+pub placed_more : (shape : List ℕ) (items : List IndexItem) (k a end : ℕ) → k < length items → a ≤ end → end ≡ a + width (length shape - a) (get_or items k (Integer (pos 0))) (drop (k + 1) items) → placed (drop a shape) (drop k items) ≡ record { item = get_or items k (Integer (pos 0)); axes = slice_range shape a end } ∷ placed (drop end shape) (drop (k + 1) items)
+placed_more shape items k a end low later is =
+    let x = get_or items k (Integer (pos 0)) in
+    let rest = drop (k + 1) items in
+    let size : width (length (drop a shape)) x rest ≡ end - a = ap (λ n. width n x rest) (length-drop a shape) ∙ omega (arith, is) in
+    let here : end ≡ a + (end - a) = omega arith in
+    ap (placed (drop a shape)) (drop_more items k (Integer (pos 0)) low) ∙ ap (λ n. record { item = x; axes = take n (drop a shape) } ∷ placed (drop n (drop a shape)) rest) size ∙ ap (λ s. record { item = x; axes = slice_range shape a end } ∷ placed s rest) (drop_on shape a end (end - a) later here)
+
+-- ---- picks
+
+pub ArePicks-append : (shape shape' : List ℕ) (picks picks' : List AxisPick) → ArePicks shape picks → ArePicks shape' picks' → ArePicks (shape ++ shape') (picks ++ picks')
+ArePicks-append shape shape' (NewAxis ∷ picks) picks' are later = ArePicks-append shape shape' picks picks' are later
+ArePicks-append [] shape' [] picks' are later = later
+ArePicks-append [] shape' (AtAxis number ∷ picks) picks' are later = absurd are
+ArePicks-append [] shape' (AlongAxis run ∷ picks) picks' are later = absurd are
+ArePicks-append (n ∷ shape) shape' [] picks' are later = absurd are
+ArePicks-append (n ∷ shape) shape' (AtAxis number ∷ picks) picks' are later = (are.0, ArePicks-append shape shape' picks picks' are.1 later)
+ArePicks-append (n ∷ shape) shape' (AlongAxis run ∷ picks) picks' are later = (are.0, ArePicks-append shape shape' picks picks' are.1 later)
+
+-- ---- a whole axis
+
+one_by_one : (k : ℕ) → natural (pos 0 +ℤ pos 1 *ℤ pos k) ≡ k
+one_by_one k = omega arith
+
+numbers-whole : (a n : ℕ) → map (λ k. natural (pos 0 +ℤ pos 1 *ℤ pos k)) (range_with_len a n) ≡ range_with_len a n
+numbers-whole a zero = refl
+numbers-whole a (suc n) = rw (one_by_one a) (ap (λ xs. a ∷ xs) (numbers-whole (a + 1) n))
+
+abbrev pub whole_run : ℕ → Run
+whole_run n = record { first = 0; step = pos 1; count = n }
+
+pub shown-whole : (n : ℕ) → shown (AlongAxis (whole_run n)) ≡ whole n
+shown-whole n = ap Rattle.view_ops.specs.Basics.Along (numbers-whole 0 n)
+
+not_zero : pos 1 ≡ pos 0 → ⊥
+not_zero same = omega (arith, ints)
+
+pub within-whole : (n : ℕ) → IsRunWithin (whole_run n) n
+within-whole n = record {
+  moves = not_zero;
+  count_within = omega arith;
+  from_zero = λ k low. omega (arith, ints);
+  below = λ k low. rw (one_by_one k) low;
+}
+
+-- one more whole axis
+pub whole_more : (old new : List AxisPick) (axes : List ℕ) (n : ℕ) → AddsPicks old new axes (map whole axes) → AddsPicks old (new ++ AlongAxis (whole_run n) ∷ []) (axes ++ n ∷ []) (map whole (axes ++ n ∷ []))
+whole_more old new axes n adds = record {
+  added = adds.added ++ AlongAxis (whole_run n) ∷ [];
+  after = ap (λ l. l ++ AlongAxis (whole_run n) ∷ []) adds.after ∙ append_assoc old adds.added (AlongAxis (whole_run n) ∷ []);
+  are = ArePicks-append axes (n ∷ []) adds.added (AlongAxis (whole_run n) ∷ []) adds.are (within-whole n, tt);
+  show = map-append shown adds.added (AlongAxis (whole_run n) ∷ []) ∙ ap (λ l. l ++ shown (AlongAxis (whole_run n)) ∷ []) adds.show ∙ ap (λ p. map whole axes ++ p ∷ []) (shown-whole n) ∙ sym (map-append whole axes (n ∷ []));
+}
+
+pub adds_new : (old new : List AxisPick) (axes : List ℕ) (item : IndexItem) → item ≡ NewItem → axes ≡ [] → new ≡ old ++ NewAxis ∷ [] → AddsPicks old new axes (picks_of axes item)
+adds_new old new axes item is none after = rw (is, none) (record { added = NewAxis ∷ []; after = after; are = tt; show = refl })
+
+pub adds_none : (old : List AxisPick) → AddsPicks old old [] []
+adds_none old = record { added = []; after = sym (append-nil old); are = tt; show = refl }
+
+-- ---- a slice with a step is not refused
+
+pub has_step-ok : (n : ℕ) (start stop step : Option ℤ) → has_step (Slice start stop step) ≡ true → is_ok (slice_indices n start stop step) ≡ true
+unfolding slice_indices
+has_step-ok n start stop step has = rw has refl
+
+-- ---- a loop that picks, before item k
+
+pub record HavePicked (shape : List ℕ) (items : List IndexItem) (done : List AxisPick) (k axis : ℕ) : Type 0 where
+  pub within : axis ≤ length shape
+  pub enough : taken (drop k items) ≤ length shape - axis
+  pub basic : list_all is_basic (drop k items) ≡ true
+  pub steps : list_all has_step (drop k items) ≡ true
+  pub in_range : are_in_range (drop axis shape) (drop k items) ≡ true
+  pub are : (more : List AxisPick) → ArePicks (drop axis shape) more → ArePicks shape (done ++ more)
+  pub show : map shown done ++ picks (drop axis shape) (drop k items) ≡ picks shape items
+
+-- the item at k may be picked
+pub record CanPick (shape : List ℕ) (items : List IndexItem) (k axis end : ℕ) : Type 0 where
+  pub basic : is_basic (get_or items k (Integer (pos 0))) ≡ true
+  pub step : has_step (get_or items k (Integer (pos 0))) ≡ true
+  pub in_range : is_in_range (slice_range shape axis end) (get_or items k (Integer (pos 0))) ≡ true
+  pub one : takes_axis (get_or items k (Integer (pos 0))) ≡ true → length (slice_range shape axis end) ≡ 1
+  pub none : get_or items k (Integer (pos 0)) ≡ NewItem → slice_range shape axis end ≡ []
+
+both_left : (a b : Bool) → (a && b) ≡ true → a ≡ true
+both_left a b both = grind arith
+
+both_right : (a b : Bool) → (a && b) ≡ true → b ≡ true
+both_right a b both = grind arith
+
+-- what holds of all that is left holds of the next, and of all after it
+next_holds : {X : Type 0} (p : X → Bool) (xs : List X) (k : ℕ) (d : X) → k < length xs → list_all p (drop k xs) ≡ true → p (get_or xs k d) ≡ true
+next_holds p xs k d low all = both_left (p (get_or xs k d)) (list_all p (drop (k + 1) xs)) (sym (ap (list_all p) (drop_more xs k d low)) ∙ all)
+
+rest_hold : {X : Type 0} (p : X → Bool) (xs : List X) (k : ℕ) (d : X) → k < length xs → list_all p (drop k xs) ≡ true → list_all p (drop (k + 1) xs) ≡ true
+rest_hold p xs k d low all = both_right (p (get_or xs k d)) (list_all p (drop (k + 1) xs)) (sym (ap (list_all p) (drop_more xs k d low)) ∙ all)
+
+width_one : (left : ℕ) (item : IndexItem) (later : List IndexItem) → takes_axis item ≡ true → width left item later ≡ 1
+width_one left (Integer at) later takes = refl
+width_one left (Slice start stop step) later takes = refl
+width_one left Ellipsis later takes = absurd (false≢true takes)
+width_one left NewItem later takes = absurd (false≢true takes)
+width_one left (Array number) later takes = refl
+
+length-slice_range : (shape : List ℕ) (axis end : ℕ) → end ≤ length shape → length (slice_range shape axis end) ≡ end - axis
+length-slice_range shape axis end within = omega (arith, length-take-le (end - axis) (drop axis shape) (omega (arith, length-drop axis shape)))
+
+none_taken : (axis end left : ℕ) (item : IndexItem) (later : List IndexItem) → end ≡ axis + width left item later → item ≡ NewItem → end - axis ≡ 0
+none_taken axis end left item later is new =
+    let none : width left item later ≡ 0 = rw new refl in
+    omega arith
+
+pub can_pick : (shape : List ℕ) (items : List IndexItem) (done : List AxisPick) (k axis end : ℕ) → k < length items → axis ≤ end → end ≤ length shape → end ≡ axis + width (length shape - axis) (get_or items k (Integer (pos 0))) (drop (k + 1) items) → HavePicked shape items done k axis → CanPick shape items k axis end
+can_pick shape items done k axis end low later within is have =
+    let x = get_or items k (Integer (pos 0)) in
+    let range : (is_in_range (slice_range shape axis end) x && are_in_range (drop end shape) (drop (k + 1) items)) ≡ true = sym (ap (list_all (λ p. is_in_range p.axes p.item)) (placed_more shape items k axis end low later is)) ∙ have.in_range in
+    record {
+      basic = next_holds is_basic items k (Integer (pos 0)) low have.basic;
+      step = next_holds has_step items k (Integer (pos 0)) low have.steps;
+      in_range = both_left (is_in_range (slice_range shape axis end) x) (are_in_range (drop end shape) (drop (k + 1) items)) range;
+      none = λ new. ap (λ n. take n (drop axis shape)) (none_taken axis end (length shape - axis) (get_or items k (Integer (pos 0))) (drop (k + 1) items) is new);
+      one = λ takes. omega (arith, length-slice_range shape axis end within, width_one (length shape - axis) x (drop (k + 1) items) takes);
+    }
+
+pub picked_more : (shape : List ℕ) (items : List IndexItem) (done new : List AxisPick) (k axis end : ℕ) → k < length items → axis ≤ end → end ≤ length shape → taken (drop (k + 1) items) ≤ length shape - end → end ≡ axis + width (length shape - axis) (get_or items k (Integer (pos 0))) (drop (k + 1) items) → HavePicked shape items done k axis → AddsPicks done new (slice_range shape axis end) (picks_of (slice_range shape axis end) (get_or items k (Integer (pos 0)))) → HavePicked shape items new (k + 1) end
+picked_more shape items done new k axis end low later within enough is have adds =
+    let x = get_or items k (Integer (pos 0)) in
+    let axes = slice_range shape axis end in
+    let next = placed_more shape items k axis end low later is in
+    let range : (is_in_range axes x && are_in_range (drop end shape) (drop (k + 1) items)) ≡ true = sym (ap (list_all (λ p. is_in_range p.axes p.item)) next) ∙ have.in_range in
+    let left = picks (drop end shape) (drop (k + 1) items) in
+    record {
+      within = within;
+      enough = enough;
+      basic = rest_hold is_basic items k (Integer (pos 0)) low have.basic;
+      steps = rest_hold has_step items k (Integer (pos 0)) low have.steps;
+      in_range = both_right (is_in_range axes x) (are_in_range (drop end shape) (drop (k + 1) items)) range;
+      are = λ more are-more.
+          let these : ArePicks (drop axis shape) (adds.added ++ more) = rw (drop_split shape axis end later) (ArePicks-append axes (drop end shape) adds.added more adds.are are-more) in
+          rw (adds.after, append_assoc done adds.added more) (have.are (adds.added ++ more) these);
+      show = ap (λ l. map shown l ++ left) adds.after ∙ ap (λ l. l ++ left) (map-append shown done adds.added) ∙ ap (λ l. (map shown done ++ l) ++ left) adds.show ∙ append_assoc (map shown done) (picks_of axes x) left ∙ ap (λ l. map shown done ++ flat_map (λ p. picks_of p.axes p.item) l) (sym next) ∙ have.show;
+    }

@@ -1,0 +1,77 @@
+-- Laws of strides and steps.
+use Rattle.std.proofs.Common.{◌≡◌, ℕ, zero, suc, ◌+◌, ◌*◌, ◌<◌, ◌≤◌, ℤ, pos, negsuc, neg_ℤ, unsigned_abs, ◌+ℤ◌, ◌*ℤ◌, inl, inr, sym, ap, ◌∙◌, arith, add-mul, zero-mul}
+use Rattle.std.proofs.Math.Nat.{mul-le-mul_right}
+use Rattle.std.proofs.lemmas.Bool.{cases_lt}
+use Rattle.std.proofs.lemmas.Int.{ints, by_lt_z}
+use lib.IntN.{negsuc-*ℤ-pos, pos-*ℤ-negsuc, negsuc-*ℤ-negsuc}
+use Rattle.shape_strides.proofs.LayoutLaws.{pos-natural}
+use Rattle.view_ops.specs.declared.slice.Run.{Run}
+use Rattle.view_ops.specs.Slices.{run_number, IsRunWithin}
+use Rattle.view_ops.proofs.SliceLaws.{product_back, product_forth, abs_pos}
+
+-- ---- a stride along a run
+
+neg_times : (m k : ℕ) → neg_ℤ (pos m) *ℤ pos k ≡ neg_ℤ (pos (m * k))
+neg_times zero k = ap pos (zero-mul k) ∙ sym (ap (λ n. neg_ℤ (pos n)) (zero-mul k))
+neg_times (suc m) k = negsuc-*ℤ-pos m k
+
+sum_forth : (a x f b k : ℕ) → x ≡ f + b * k → a * x ≡ a * f + a * b * k
+sum_forth a x f b k is = ap (λ y. a * y) is ∙ grind arith
+
+forth_number : (x f b k : ℕ) → pos x ≡ pos f +ℤ pos b *ℤ pos k → x ≡ f + b * k
+forth_number x f b k is = omega (arith, ints)
+
+back_number : (x f b k : ℕ) → pos x ≡ pos f +ℤ negsuc b *ℤ pos k → f ≡ x + suc b * k
+back_number x f b k is =
+    let p = negsuc-*ℤ-pos b k in
+    omega (arith, ints)
+
+-- the stride of a run's axis is its step times the stride
+pub stride_along : (s t : ℤ) (x f k : ℕ) → pos x ≡ pos f +ℤ t *ℤ pos k → s *ℤ pos f +ℤ (s *ℤ t) *ℤ pos k ≡ s *ℤ pos x
+stride_along (pos a) (pos b) x f k is =
+    let sum = sum_forth a x f b k (forth_number x f b k is) in
+    ap pos (sym sum)
+stride_along (negsuc a) (pos b) x f k is =
+    let sum = sum_forth (suc a) x f b k (forth_number x f b k is) in
+    let p = negsuc-*ℤ-pos a b in
+    let q = ap (λ z. z *ℤ pos k) p ∙ neg_times (suc a * b) k in
+    let r = negsuc-*ℤ-pos a f in
+    let e = negsuc-*ℤ-pos a x in
+    omega (arith, ints)
+stride_along (pos a) (negsuc b) x f k is =
+    let sum = sum_forth a f x (suc b) k (back_number x f b k is) in
+    let p = pos-*ℤ-negsuc a b in
+    let q = ap (λ z. z *ℤ pos k) p ∙ neg_times (a * suc b) k in
+    omega (arith, ints)
+stride_along (negsuc a) (negsuc b) x f k is =
+    let sum = sum_forth (suc a) f x (suc b) k (back_number x f b k is) in
+    let q = ap (λ z. z *ℤ pos k) (negsuc-*ℤ-negsuc a b) in
+    let r = negsuc-*ℤ-pos a f in
+    let e = negsuc-*ℤ-pos a x in
+    omega (arith, ints)
+
+-- ---- the numbers of a run
+
+pub run_number-is : (run : Run) (n k : ℕ) → IsRunWithin run n → k < run.count → pos (run_number run k) ≡ pos run.first +ℤ run.step *ℤ pos k
+run_number-is run n k within low = pos-natural (pos run.first +ℤ run.step *ℤ pos k) (within.from_zero k low)
+
+same_times : (k l s : ℕ) → 0 < s → k * s ≡ l * s → k ≡ l
+same_times k l s some same =
+    elim (cases_lt k l) [
+      | inl less ↦ let more : (k + 1) * s ≤ l * s = mul-le-mul_right s (omega arith) in absurd (omega (arith, add-mul k 1 s))
+      | inr above ↦ elim (cases_lt l k) [
+        | inl less ↦ let more : (l + 1) * s ≤ k * s = mul-le-mul_right s (omega arith) in absurd (omega (arith, add-mul l 1 s))
+        | inr below ↦ omega arith
+      ]
+    ]
+
+same_steps : (x y f p q : ℤ) → x ≡ f +ℤ p → y ≡ f +ℤ q → x ≡ y → p ≡ q
+same_steps x y f p q first second same = omega (arith, ints)
+
+-- no number comes twice
+pub run-one : (run : Run) (n k l : ℕ) → IsRunWithin run n → k < run.count → l < run.count → run_number run k ≡ run_number run l → k ≡ l
+run-one run n k l within low-k low-l same =
+    let steps = same_steps (pos (run_number run k)) (pos (run_number run l)) (pos run.first) (run.step *ℤ pos k) (run.step *ℤ pos l) (run_number-is run n k within low-k) (run_number-is run n l within low-l) (ap pos same) in
+    same_times k l (unsigned_abs run.step) (abs_pos run.step within.moves) (by_lt_z run.step (pos 0)
+    (λ below. let p = product_back run.step k below in let q = product_back run.step l below in omega (arith, ints))
+    (λ above. let p = product_forth run.step k above in let q = product_forth run.step l above in omega (arith, ints)))

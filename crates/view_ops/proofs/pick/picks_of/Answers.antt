@@ -1,0 +1,10 @@
+use Rattle.view_ops.proofs.PickLaws.{picked_more, can_pick}
+use Rattle.view_ops.proofs.pick.picks_of.Goals as goal
+
+pub push_picks-requires-clause-none : goal.push_picks-requires-clause-none
+push_picks-requires-clause-none c =
+    (can_pick c.args.lengths.now c.args.items.now c.loop-k.picks.items c.loop-k.k c.loop-k.axis c.axes_end-end.result c.loop-k-test.true c.axes_end-end.ensures.from c.axes_end-end.ensures.within c.axes_end-end.ensures.value c.loop-k.invariant).none
+
+pub loop-k-preserved : goal.loop-k-preserved
+loop-k-preserved c =
+    picked_more c.args.lengths.now c.args.items.now c.loop-k.picks.items c.push_picks.new.picks.items c.loop-k.k c.loop-k.axis c.axes_end-end.result c.loop-k-test.true c.axes_end-end.ensures.from c.axes_end-end.ensures.within c.axes_end-end.ensures.enough c.axes_end-end.ensures.value c.loop-k.invariant c.in_ok-push_picks.ensures.ok

@@ -1,0 +1,116 @@
+-- Basic indexes, as NumPy has them: integers, slices, `...` and new axes.
+use Rattle.std.specs.Prelude.{ℕ, ◌-◌, nat_le, Bool, true, false, not, pos, unwrap_or, List, [], ◌∷◌, map, take, drop, length, count_by, slice_index, Result, Ok, Err}
+use Rattle.std.specs.Ordering.{int_eq}
+use Rattle.std.specs.List.{list_all, flat_map, range_with_len}
+use Rattle.elem_descr.specs.declared.refusal.Refusal.{Refusal}
+use Rattle.elem_descr.specs.declared.refusal.Refusal.TheVariants.{TooManyAxes, TooManyIndices, IndexOutOfRange, ZeroStep}
+use Rattle.elem_descr.specs.Refusals.{◌>>=◌, check}
+use Rattle.shape_strides.specs.Layouts.{natural}
+use Rattle.view_ops.specs.declared.index.IndexItem.{IndexItem}
+use Rattle.view_ops.specs.declared.index.IndexItem.TheVariants.{Integer, Slice, Ellipsis, NewAxis, Array}
+use Rattle.view_ops.specs.Slices.{from_front, is_place, slice_indices}
+use Rattle.view_ops.specs.Views.{View}
+
+-- any item but an index array
+abbrev pub is_basic : IndexItem → Bool
+is_basic (Array number) = false
+is_basic _ = true
+
+-- ---- which axes an item takes
+
+abbrev pub takes_axis : IndexItem → Bool
+takes_axis Ellipsis = false
+takes_axis NewAxis = false
+takes_axis _ = true
+
+-- how many axes the items take, beside those of `...`
+abbrev pub taken : List IndexItem → ℕ
+taken items = count_by takes_axis items
+
+-- how many of the axes that are left an item takes: `...` takes all but those of the items after it
+abbrev pub width : ℕ → IndexItem → List IndexItem → ℕ
+width left Ellipsis later = left - taken later
+width left NewAxis later = 0
+width left _ later = 1
+
+-- an item, and the lengths of the axes that it takes
+pub record Placed : Type 0 where
+  pub item : IndexItem
+  pub axes : List ℕ
+
+-- the items of an index over the axes of a shape; those after the last item are taken as by `...`
+abbrev pub placed : List ℕ → List IndexItem → List Placed
+placed shape [] = record { item = Ellipsis; axes = shape } ∷ []
+placed shape (item ∷ items) =
+    let n = width (length shape) item items in
+    record { item = item; axes = take n shape } ∷ placed (drop n shape) items
+
+-- ---- what is refused
+
+abbrev pub has_step : IndexItem → Bool
+has_step (Slice start stop step) = not (int_eq (unwrap_or step (pos 1)) (pos 0))
+has_step _ = true
+
+abbrev pub is_in_range : List ℕ → IndexItem → Bool
+is_in_range (n ∷ axes) (Integer at) = is_place n at
+is_in_range _ _ = true
+
+abbrev pub are_in_range : List ℕ → List IndexItem → Bool
+are_in_range shape items = list_all (λ p. is_in_range p.axes p.item) (placed shape items)
+
+-- ---- what is picked
+
+-- one number of an axis, which is gone then; these numbers of an axis, in this order; or a new axis of length 1
+pub data Pick : Type 0 where
+  At : ℕ → Pick
+  Along : List ℕ → Pick
+  New : Pick
+
+abbrev pub whole : ℕ → Pick
+whole n = Along (range_with_len 0 n)
+
+abbrev pub numbers_of : Result (List ℕ) Refusal → List ℕ
+numbers_of (Ok numbers) = numbers
+numbers_of (Err refusal) = []
+
+-- what an item picks of the axes that it takes
+abbrev pub picks_of : List ℕ → IndexItem → List Pick
+picks_of axes Ellipsis = map whole axes
+picks_of axes NewAxis = New ∷ []
+picks_of (n ∷ axes) (Integer at) = At (natural (from_front n at)) ∷ []
+picks_of (n ∷ axes) (Slice start stop step) = Along (numbers_of (slice_indices n start stop step)) ∷ []
+picks_of _ _ = []
+
+abbrev pub picks : List ℕ → List IndexItem → List Pick
+picks shape items = flat_map (λ p. picks_of p.axes p.item) (placed shape items)
+
+-- ---- the view
+
+abbrev pub axis_of : Pick → List ℕ
+axis_of (At number) = []
+axis_of (Along numbers) = length numbers ∷ []
+axis_of New = 1 ∷ []
+
+abbrev pub picked_shape : List Pick → List ℕ
+picked_shape picks = flat_map axis_of picks
+
+-- where an index of the result leads
+abbrev pub picked_index : List Pick → List ℕ → List ℕ
+picked_index (At number ∷ picks) index = number ∷ picked_index picks index
+picked_index (Along numbers ∷ picks) (k ∷ index) = slice_index numbers k ∷ picked_index picks index
+picked_index (New ∷ picks) (k ∷ index) = picked_index picks index
+picked_index _ _ = []
+
+-- the view of what is picked
+unfoldable pub picked_view : List Pick → Result View Refusal
+picked_view picks = do
+  _ ← check (nat_le (length (picked_shape picks)) 64) TooManyAxes
+  Ok (record { shape = picked_shape picks; leads = picked_index picks })
+
+-- the view that a basic index makes, or the first refusal
+unfoldable pub basic : List ℕ → List IndexItem → Result View Refusal
+basic shape items = do
+  _ ← check (nat_le (taken items) (length shape)) TooManyIndices
+  _ ← check (list_all has_step items) ZeroStep
+  _ ← check (are_in_range shape items) IndexOutOfRange
+  picked_view (picks shape items)

@@ -1,0 +1,73 @@
+-- What the items of a basic index pick, with slices as runs.
+use Rattle.std.specs.Prelude.{◌≡◌, ◌<◌, ◌≤◌, ◌^◌, ℕ, nat_lt, if◌then◌else◌, ℤ, pos, neg_ℤ, ◌*ℤ◌, ◌≤ℤ◌, List, [], ◌∷◌, ◌++◌, map}
+use Rattle.view_ops.specs.declared.pick.AxisPick.{AxisPick}
+use Rattle.view_ops.specs.declared.pick.AxisPick.TheVariants.{At as AtAxis, Along as AlongAxis, New as NewAxis}
+use Rattle.view_ops.specs.declared.slice.Run.{Run}
+use Rattle.view_ops.specs.Slices.{run_numbers, IsRunWithin}
+use Rattle.view_ops.specs.Basics.{Pick, At, Along, New}
+
+abbrev pub shown : AxisPick → Pick
+shown (AtAxis number) = At number
+shown (AlongAxis run) = Along (run_numbers run)
+shown NewAxis = New
+
+-- picks of the axes of a shape, each within its axis
+abbrev pub ArePicks : List ℕ → List AxisPick → Type 0
+ArePicks shape (NewAxis ∷ picks) = ArePicks shape picks
+ArePicks [] [] = Unit {0}
+ArePicks (n ∷ shape) (AtAxis number ∷ picks) = (number < n) × ArePicks shape picks
+ArePicks (n ∷ shape) (AlongAxis run ∷ picks) = IsRunWithin run n × ArePicks shape picks
+ArePicks _ _ = ⊥
+
+-- these picks of these axes come after the old ones
+pub record AddsPicks (old new : List AxisPick) (axes : List ℕ) (picks : List Pick) : Type 0 where
+  pub added : List AxisPick
+  pub after : new ≡ old ++ added
+  pub are : ArePicks axes added
+  pub show : map shown added ≡ picks
+
+-- the number of the first item that is picked, on the axis that a pick takes
+abbrev pub first_of : AxisPick → List ℕ
+first_of (AtAxis number) = number ∷ []
+first_of (AlongAxis run) = run.first ∷ []
+first_of NewAxis = []
+
+abbrev pub axes_taken : AxisPick → ℕ
+axes_taken NewAxis = 0
+axes_taken _ = 1
+
+-- ---- strides
+
+-- an axis of less than two items has the stride 0
+abbrev pub run_stride : ℤ → Run → ℤ
+run_stride stride run = if nat_lt run.count 2 then pos 0 else stride *ℤ run.step
+
+-- the stride of the axis that a pick makes of an axis with this stride
+abbrev pub stride_of : ℤ → AxisPick → List ℤ
+stride_of stride (AtAxis number) = []
+stride_of stride (AlongAxis run) = run_stride stride run ∷ []
+stride_of stride NewAxis = pos 0 ∷ []
+
+abbrev pub picked_strides : List ℤ → List AxisPick → List ℤ
+picked_strides strides (NewAxis ∷ picks) = pos 0 ∷ picked_strides strides picks
+picked_strides (stride ∷ strides) (AtAxis number ∷ picks) = picked_strides strides picks
+picked_strides (stride ∷ strides) (AlongAxis run ∷ picks) = run_stride stride run ∷ picked_strides strides picks
+picked_strides _ _ = []
+
+-- a step along an axis with this stride is small, in items and in bytes
+pub record IsSmallStep (stride step : ℤ) : Type 0 where
+  pub step_low : neg_ℤ (pos (2 ^ 28)) ≤ℤ step
+  pub step_high : step ≤ℤ pos (2 ^ 28)
+  pub low : neg_ℤ (pos (2 ^ 28)) ≤ℤ (stride *ℤ step)
+  pub high : (stride *ℤ step) ≤ℤ pos (2 ^ 28)
+
+abbrev pub IsSmallPick : ℤ → AxisPick → Type 0
+IsSmallPick stride (AlongAxis run) = 2 ≤ run.count → IsSmallStep stride run.step
+IsSmallPick stride _ = Unit {0}
+
+-- each pick of axes with these strides takes small steps
+abbrev pub HaveSmallSteps : List ℤ → List AxisPick → Type 0
+HaveSmallSteps strides (NewAxis ∷ picks) = HaveSmallSteps strides picks
+HaveSmallSteps [] [] = Unit {0}
+HaveSmallSteps (stride ∷ strides) (pick ∷ picks) = IsSmallPick stride pick × HaveSmallSteps strides picks
+HaveSmallSteps _ _ = ⊥

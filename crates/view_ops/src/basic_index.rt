@@ -1,0 +1,40 @@
+//! Basic indexes.
+ghost use Rattle.std.specs.Prelude.{◌≡◌, ◌^◌, true};
+ghost use Rattle.std.specs.List.{list_all};
+ghost use Rattle.shape_strides.specs.Layouts.{Fits};
+ghost use Rattle.view_ops.specs.Basics.{is_basic, basic};
+ghost use Rattle.view_ops.specs.Views.{GivesView};
+
+use crate::index::{IndexItem, have_steps, taken};
+use crate::pick::{are_in_range, picks_of};
+use crate::picked::with_picks;
+use elem_descr::Refusal;
+use shape_strides::Layout;
+use std::alloc::Global;
+
+/// The view that integers, slices, `...` and new axes make, as NumPy has it. A negative integer
+/// counts from the end, and the axis of an integer is gone. Without `...` the axes after the last
+/// item are taken whole.
+///
+/// Refused are, each over the whole index before the next: items that take more axes than there
+/// are, as `TooManyIndices`; a slice whose step is 0, as `ZeroStep`; an integer outside its axis,
+/// as `IndexOutOfRange`; a view of more than 64 axes, as `TooManyAxes`. A view without items has
+/// strides and offset 0, and an axis of less than two items has stride 0.
+pub fn basic(alloc: Global, layout: &Layout, items: &[IndexItem]) -> Result<Layout, Refusal>
+    requires fits { Fits layout.now (2 ^ 28) 1 }
+    requires basic { list_all is_basic items.now ≡ true }
+    ensures view { GivesView layout.now result (basic layout.now.shape items.now) }
+{
+    let lengths = layout.shape.as_slice();
+    if taken(items) > lengths.len() {
+        return Err(Refusal::TooManyIndices);
+    }
+    if !have_steps(items) {
+        return Err(Refusal::ZeroStep);
+    }
+    if !are_in_range(lengths, items) {
+        return Err(Refusal::IndexOutOfRange);
+    }
+    let picks = picks_of(alloc, lengths, items)?;
+    with_picks(alloc, layout, picks.as_slice())
+}

@@ -1,0 +1,126 @@
+//! What the items of a basic index pick of the axes.
+ghost use Rattle.std.specs.Prelude.{◌≡◌, ℕ, ◌<◌, ◌≤◌, [], ◌∷◌, ◌++◌, map, length, true, false, IfOk, IfErr, OnOk, IsTrue};
+ghost use Rattle.std.specs.List.{list_all};
+ghost use Rattle.elem_descr.specs.declared.refusal.Refusal.TheVariants.{OutOfMemory};
+ghost use Rattle.view_ops.specs.declared.index.IndexItem.TheVariants.{NewAxis};
+ghost use Rattle.view_ops.specs.Basics.{is_basic, takes_axis, taken, has_step, is_in_range, are_in_range, whole, picks_of, picks};
+ghost use Rattle.view_ops.specs.Picks.{shown, ArePicks, AddsPicks};
+
+use crate::index::{IndexItem, axes_end};
+use crate::slice::{Run, from_front, is_place, slice_of};
+use elem_descr::Refusal;
+use smallvec::SmallVec;
+use std::alloc::{AllocError, Global};
+
+/// What is picked of an axis: one number, or the numbers of a run; or an axis that is new.
+#[derive(Clone, Copy, Debug, PartialEq, Eq, Default)]
+pub(crate) enum AxisPick {
+    At(usize),
+    Along(Run),
+    #[default]
+    New,
+}
+
+fn is_in_range(axes: &[usize], item: IndexItem) -> bool
+    ensures { result ≡ is_in_range axes.now item }
+{
+    match (item, axes) {
+        (IndexItem::Integer(at), [n, ..]) => is_place(*n, at),
+        _ => true,
+    }
+}
+
+/// Whether each integer is within its axis.
+pub(crate) fn are_in_range(lengths: &[usize], items: &[IndexItem]) -> bool
+    requires { taken items.now ≤ length lengths.now }
+    ensures { result ≡ are_in_range lengths.now items.now }
+{
+    let mut axis = 0;
+    for k in 0..items.len() {
+        let end = axes_end(lengths.len(), axis, items, k);
+        if !is_in_range(&lengths[axis..end], items[k]) {
+            return false;
+        }
+        axis = end;
+    }
+    true
+}
+
+/// What an item picks of the axis that it takes.
+fn pick_of(n: usize, item: IndexItem) -> Result<AxisPick, Refusal>
+    requires axis { takes_axis item ≡ true }
+    requires basic { is_basic item ≡ true }
+    requires step { has_step item ≡ true }
+    requires in_range { is_in_range (n ∷ []) item ≡ true }
+    ensures ok { IfOk result (λ pick. ArePicks (n ∷ []) (pick ∷ []) × (picks_of (n ∷ []) item ≡ shown pick ∷ [])) }
+    ensures err { IfErr result (λ _. ⊥) }
+{
+    match item {
+        IndexItem::Integer(at) => Ok(AxisPick::At(from_front(n, at) as usize)),
+        IndexItem::Slice { start, stop, step } => {
+            Ok(AxisPick::Along(slice_of(n, start, stop, step)?))
+        }
+        _ => unreachable!(),
+    }
+}
+
+fn push_whole(picks: &mut SmallVec<AxisPick, 8>, axes: &[usize]) -> Result<(), AllocError>
+    ensures { OnOk result (AddsPicks picks.old.items picks.new.items axes.now (map whole axes.now)) }
+{
+    for n in axes {
+        picks.push(AxisPick::Along(Run {
+            first: 0,
+            step: 1,
+            count: *n,
+        }))?;
+    }
+    Ok(())
+}
+
+fn push_picks(
+    picks: &mut SmallVec<AxisPick, 8>,
+    axes: &[usize],
+    item: IndexItem,
+) -> Result<(), Refusal>
+    requires axis { takes_axis item ≡ true → length axes.now ≡ 1 }
+    requires none { item ≡ NewAxis → axes.now ≡ [] }
+    requires basic { is_basic item ≡ true }
+    requires step { has_step item ≡ true }
+    requires in_range { is_in_range axes.now item ≡ true }
+    ensures ok { OnOk result (AddsPicks picks.old.items picks.new.items axes.now (picks_of axes.now item)) }
+    ensures err { IfErr result (λ refusal. refusal ≡ OutOfMemory) }
+{
+    match item {
+        IndexItem::Ellipsis => Ok(push_whole(picks, axes)?),
+        IndexItem::NewAxis => Ok(picks.push(AxisPick::New)?),
+        _ => {
+            let pick = pick_of(axes[0], item)?;
+            Ok(picks.push(pick)?)
+        }
+    }
+}
+
+/// What the items pick of the axes of a shape.
+pub(crate) fn picks_of(
+    alloc: Global,
+    lengths: &[usize],
+    items: &[IndexItem],
+) -> Result<SmallVec<AxisPick, 8>, Refusal>
+    requires taken { taken items.now ≤ length lengths.now }
+    requires basic { list_all is_basic items.now ≡ true }
+    requires steps { list_all has_step items.now ≡ true }
+    requires in_range { are_in_range lengths.now items.now ≡ true }
+    ensures are { IfOk result (λ v. ArePicks lengths.now v.items) }
+    ensures shown { IfOk result (λ v. map shown v.items ≡ picks lengths.now items.now) }
+    ensures err { IfErr result (λ refusal. refusal ≡ OutOfMemory) }
+{
+    let mut picks = SmallVec::new(alloc);
+    let mut axis = 0;
+    for k in 0..items.len() {
+        let end = axes_end(lengths.len(), axis, items, k);
+        push_picks(&mut picks, &lengths[axis..end], items[k])?;
+        axis = end;
+    }
+    push_whole(&mut picks, &lengths[axis..])?;
+    Ok(picks)
+}

@@ -1,0 +1,138 @@
+//! The view of what was picked of each axis.
+ghost use Rattle.std.specs.Prelude.{◌≡◌, ℕ, ◌^◌, ◌<◌, ◌≤◌, pos, [], ◌++◌, map, length, slice_index_or, IfOk, OnOk};
+ghost use Rattle.std.specs.List.{flat_map};
+ghost use Rattle.shape_strides.specs.Layouts.{Fits};
+ghost use Rattle.view_ops.specs.Basics.{axis_of, picked_shape, picked_view};
+ghost use Rattle.view_ops.specs.Picks.{shown, ArePicks, first_of, axes_taken, run_stride, stride_of, picked_strides, IsSmallStep, IsSmallPick, HaveSmallSteps};
+ghost use Rattle.view_ops.specs.Views.{GivesView};
+
+use crate::pick::AxisPick;
+use crate::slice::Run;
+use elem_descr::Refusal;
+use shape_strides::{Layout, Shape, Strides};
+use smallvec::SmallVec;
+use std::alloc::{AllocError, Global};
+
+fn push_length(lengths: &mut SmallVec<usize, 8>, pick: AxisPick) -> Result<(), AllocError>
+    ensures { OnOk result (lengths.new.items ≡ lengths.old.items ++ axis_of (shown pick)) }
+{
+    match pick {
+        AxisPick::At(_) => Ok(()),
+        AxisPick::Along(run) => Ok(lengths.push(run.count)?),
+        AxisPick::New => Ok(lengths.push(1)?),
+    }
+}
+
+fn picked_lengths(alloc: Global, picks: &[AxisPick]) -> Result<SmallVec<usize, 8>, AllocError>
+    ensures { IfOk result (λ v. v.items ≡ picked_shape (map shown picks.now)) }
+{
+    let mut lengths = SmallVec::new(alloc);
+    for pick in picks {
+        push_length(&mut lengths, *pick)?;
+    }
+    Ok(lengths)
+}
+
+fn push_first(index: &mut SmallVec<usize, 8>, pick: AxisPick) -> Result<(), AllocError>
+    ensures { OnOk result (index.new.items ≡ index.old.items ++ first_of pick) }
+{
+    match pick {
+        AxisPick::At(number) => Ok(index.push(number)?),
+        AxisPick::Along(run) => Ok(index.push(run.first)?),
+        AxisPick::New => Ok(()),
+    }
+}
+
+/// The index of the first item that is picked.
+fn first_index(alloc: Global, picks: &[AxisPick]) -> Result<SmallVec<usize, 8>, AllocError>
+    ensures { IfOk result (λ v. v.items ≡ flat_map first_of picks.now) }
+{
+    let mut index = SmallVec::new(alloc);
+    for pick in picks {
+        push_first(&mut index, *pick)?;
+    }
+    Ok(index)
+}
+
+/// How many axes of the array a pick takes.
+fn axes_taken(pick: AxisPick) -> usize
+    ensures { result ≡ axes_taken pick }
+{
+    match pick {
+        AxisPick::New => 0,
+        _ => 1,
+    }
+}
+
+/// The stride of a run along an axis; 0 where it has less than two numbers.
+fn run_stride(strides: &[isize], axis: usize, run: Run) -> isize
+    requires axis { axis < length strides.now }
+    requires small { 2 ≤ run.count → IsSmallStep (slice_index_or strides.now axis (pos 0)) run.step }
+    ensures { result ≡ run_stride (slice_index_or strides.now axis (pos 0)) run }
+{
+    if run.count < 2 {
+        return 0;
+    }
+    strides[axis] * run.step as isize
+}
+
+fn push_stride(
+    made: &mut Strides,
+    strides: &[isize],
+    axis: usize,
+    pick: AxisPick,
+) -> Result<(), AllocError>
+    requires axis { axes_taken pick ≡ 1 → axis < length strides.now }
+    requires small { IsSmallPick (slice_index_or strides.now axis (pos 0)) pick }
+    ensures { OnOk result (made.new ≡ made.old ++ stride_of (slice_index_or strides.now axis (pos 0)) pick) }
+{
+    match pick {
+        AxisPick::At(_) => Ok(()),
+        AxisPick::Along(run) => made.push(run_stride(strides, axis, run)),
+        AxisPick::New => made.push(0),
+    }
+}
+
+fn picked_strides(
+    alloc: Global,
+    strides: &[isize],
+    picks: &[AxisPick],
+) -> Result<Strides, AllocError>
+    requires small { HaveSmallSteps strides.now picks.now }
+    requires few { length strides.now ≤ 64 }
+    ensures { IfOk result (λ s. s ≡ picked_strides strides.now picks.now) }
+{
+    let mut made = Strides::new(alloc);
+    let mut axis = 0;
+    for pick in picks {
+        push_stride(&mut made, strides, axis, *pick)?;
+        axis += axes_taken(*pick);
+    }
+    Ok(made)
+}
+
+/// The view of what is picked.
+pub(crate) fn with_picks(
+    alloc: Global,
+    layout: &Layout,
+    picks: &[AxisPick],
+) -> Result<Layout, Refusal>
+    requires fits { Fits layout.now (2 ^ 28) 1 }
+    requires picks { ArePicks layout.now.shape picks.now }
+    ensures { GivesView layout.now result (picked_view (map shown picks.now)) }
+{
+    let _lengths = layout.shape.as_slice();
+    let lengths = picked_lengths(alloc, picks)?;
+    let shape = Shape::try_new(alloc, lengths.as_slice())?;
+    if shape.items() == 0 {
+        return Ok(Layout::c_order(alloc, &shape, 1)?);
+    }
+    let first = first_index(alloc, picks)?;
+    let offset = layout.at(first.as_slice());
+    let strides = picked_strides(alloc, layout.strides.as_slice(), picks)?;
+    Ok(Layout {
+        shape,
+        strides,
+        offset,
+    })
+}
