@@ -35,14 +35,14 @@ pub creation-refused : (s : State) (name : List ℕ) (contents : Result Contents
 creation-refused s name contents e room (inl lacks) = inl (lacks, refl)
 creation-refused s name contents e room (inr bad) = inr (λ choice. creation-bad choice s name contents e room bad)
 
-starts : (before reply after : List ℕ) → after ≡ before ++ reply → StartsWith after before
+pub starts : (before reply after : List ℕ) → after ≡ before ++ reply → StartsWith after before
 starts before reply after is = ap (take (length before)) is ∙ take-append_seam before reply
 
 -- the name is bound, or refused for want of memory
 pub creation-answers : (s new : State) (name : List ℕ) (contents : Result Contents Refusal) (o : Owned) (result : Result (Unit {0}) Refusal) (before after : List ℕ) → has_room_for s name ≡ true → contents ≡ Ok (held o) →
     after ≡ before ++ fresh_text name o.descr o.layout.shape → AnswersBind s name (Fresh o) result new → Answers true (λ choice. creation_outcome choice s name contents) s new before after result
 creation-answers s new name contents o (Ok done) before after room good told (_, (number, unused, is)) =
-    (record { fresh = number }, unused, fresh_text name o.descr o.layout.shape, creation-done (record { fresh = number }) s name contents (held o) room good ∙ ap (λ (t : State). Ok (t, fresh_text name o.descr o.layout.shape)) (sym is), told)
+    (record { fresh = number }, unused.unused, fresh_text name o.descr o.layout.shape, creation-done (record { fresh = number }) s name contents (held o) room good ∙ ap (λ (t : State). Ok (t, fresh_text name o.descr o.layout.shape)) (sym is), told)
 creation-answers s new name contents o (Err e) before after room good told (kept, inl full) =
     let no : true ≡ false = sym room ∙ full.0 in cc
 creation-answers s new name contents o (Err e) before after room good told (kept, inr lacks) =

@@ -8,7 +8,8 @@ pub mod Lines
 pub mod Listings
 pub mod Looks
 pub mod Makes
-pub mod Singles
+pub mod Outcomes
 pub mod Steps
+pub mod Views
 pub mod Whole
 pub mod Zeros

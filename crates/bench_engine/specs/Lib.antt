@@ -1,6 +1,7 @@
 pub mod Contents
 pub mod Contract
 pub mod Held
+pub mod Indices
 pub mod Lines
 pub mod Machine
 pub mod Replies

@@ -1,26 +1,30 @@
 -- The machine: one step of it, for each command and each choice that it is free to make.
-use Rattle.std.specs.Prelude.{◌≡◌, ℕ, suc, ◌-◌, ℤ, pos, negsuc, Bool, true, false, List, [], ◌∷◌, ◌++◌, length, map, replicate, codes, decimal, Result, Ok, Err, slice_index, nat_lt, nat_le, if◌then◌else◌}
+use Rattle.std.specs.Prelude.{◌≡◌, ℕ, ℤ, Bool, true, false, ◌&&◌, List, ◌++◌, replicate, codes, decimal, Option, Some, None, Result, Ok, Err}
 use Rattle.std.specs.Option.{ok_or}
-use Rattle.std.specs.List.{list_all}
 use Rattle.elem_descr.specs.declared.refusal.Refusal.{Refusal}
-use Rattle.elem_descr.specs.declared.refusal.Refusal.TheVariants.{Syntax, UnknownName, TooManyNames, TooManyIndices, IndexOutOfRange, ReadOnly}
+use Rattle.elem_descr.specs.declared.refusal.Refusal.TheVariants.{Syntax, UnknownName, TooManyNames, ReadOnly}
 use Rattle.elem_descr.specs.declared.descr.Descr.{Descr}
 use Rattle.elem_descr.specs.Refusals.{◌>>=◌, check}
-use Rattle.shape_strides.specs.Indexes.{rank}
+use Rattle.elem_descr.specs.Items.{item_size}
+use Rattle.shape_strides.specs.Indexes.{count}
+use Rattle.view_ops.specs.Views.{View, view_through}
+use Rattle.view_ops.specs.Basics.{basic}
+use Rattle.view_ops.specs.Transposes.{transposed}
 use Rattle.script_lang.specs.declared.index.IndexItem.{IndexItem}
-use Rattle.script_lang.specs.declared.index.IndexItem.TheVariants.{Integer}
 use Rattle.script_lang.specs.declared.literal.Literal.{Literal}
 use Rattle.script_lang.specs.declared.command.Argument.TheVariants as argument
 use Rattle.script_lang.specs.declared.command.Command.{Command}
-use Rattle.script_lang.specs.declared.command.Command.TheVariants.{Zeros, Full, Arange, Array, Set, Delete, Print, Format, Names}
+use Rattle.script_lang.specs.declared.command.Command.TheVariants as command
 use Rattle.literal_items.specs.LiteralItems.{item_value}
 use Rattle.array_print.specs.Printed.{array_text}
 use Rattle.name_store.specs.States.{State}
 use Rattle.name_store.specs.States as states
-use Rattle.name_store.specs.Arrays.{find_array, is_bound, has_room_for, bound_to, unbound, fresh_array, buffer_of, read, written}
+use Rattle.name_store.specs.Arrays.{find_array, is_bound, has_room_for, bound_to, bound_view, unbound, fresh_array, buffer_of, read, written, share_cells}
+use Rattle.name_store.specs.Places.{offsets_of}
 use Rattle.name_store.specs.Calls.{IsUnused}
 use Rattle.bench_engine.specs.Contents.{Contents, contents_of}
-use Rattle.bench_engine.specs.Replies.{Reply, refusal, fresh_text, format_text, names_text}
+use Rattle.bench_engine.specs.Indices.{basic_items}
+use Rattle.bench_engine.specs.Replies.{Reply, refusal, fresh_text, view_text, info_text, format_text, names_text, shares_text}
 
 -- what the machine is free to choose: the number of a fresh buffer
 pub record Choice : Type 0 where
@@ -44,42 +48,13 @@ array_of s name = ok_or (find_array s.names name) UnknownName
 abbrev pub descr_of : State → states.Array → Descr
 descr_of s array = (buffer_of s array).descr
 
--- Indices
+-- the address of each item of an array, in bytes from the start of its buffer
+abbrev pub addresses : State → states.Array → List ℕ
+addresses s array = offsets_of (item_size (buffer_of s array).descr) array.places
 
--- the place of an integer on an axis: a negative one counts from the end
-abbrev pub axis_index : ℕ → ℤ → Result ℕ Refusal
-axis_index n (pos k) = if nat_lt k n then Ok k else Err IndexOutOfRange
-axis_index n (negsuc k) = if nat_lt k n then Ok (n - suc k) else Err IndexOutOfRange
-
--- an integer for each axis
-abbrev pub axis_indices : List ℕ → List ℤ → Result (List ℕ) Refusal
-axis_indices (n ∷ shape) (i ∷ index) = do
-  k ← axis_index n i
-  others ← axis_indices shape index
-  Ok (k ∷ others)
-axis_indices shape index = Ok []
-
--- the index that integers name in a shape: so far one for each axis
-unfoldable pub whole_index : List ℕ → List ℤ → Result (List ℕ) Refusal
-whole_index shape index = do
-  _ ← check (nat_le (length index) (length shape)) TooManyIndices
-  _ ← check (nat_le (length shape) (length index)) Syntax
-  axis_indices shape index
-
--- an integer among the items of an index list, which are all that is carried out so far
-abbrev pub is_integer : IndexItem → Bool
-is_integer (Integer i) = true
-is_integer _ = false
-
-abbrev pub integer_of : IndexItem → ℤ
-integer_of (Integer i) = i
-integer_of _ = pos 0
-
--- the places that an index names: so far a single one
-unfoldable pub indexed_places : states.Array → List IndexItem → Result (List ℕ) Refusal
-indexed_places array index = do
-  indices ← whole_index array.shape (map integer_of index)
-  Ok (slice_index array.places (rank array.shape indices) ∷ [])
+-- the array that is this view of another
+abbrev pub viewed : states.Array → View → states.Array
+viewed array view = record array { shape = view.shape; places = view_through array.places array.shape view.shape view.leads }
 
 -- Commands
 
@@ -90,15 +65,45 @@ creation_outcome choice s name contents = do
   new ← contents
   Ok (bound_to s name (fresh_array choice.fresh new.shape) new.buffer, fresh_text name new.buffer.descr new.shape)
 
--- set X[ix] = L, so far with integers alone in ix
+-- X = Y
+unfoldable pub alias_outcome : State → List ℕ → List ℕ → Outcome
+alias_outcome s name source = do
+  array ← array_of s source
+  _ ← check (has_room_for s name) TooManyNames
+  Ok (bound_view s name array, view_text name (descr_of s array) array.shape)
+
+-- X = Y[ix]
+unfoldable pub index_outcome : State → List ℕ → List ℕ → List IndexItem → Outcome
+index_outcome s name source index = do
+  items ← basic_items index
+  array ← array_of s source
+  _ ← check (has_room_for s name) TooManyNames
+  view ← basic array.shape items
+  Ok (bound_view s name (viewed array view), view_text name (descr_of s array) view.shape)
+
+-- X = Y or X = Y[ix]
+abbrev pub view_outcome : State → List ℕ → List ℕ → Option (List IndexItem) → Outcome
+view_outcome s name source None = alias_outcome s name source
+view_outcome s name source (Some index) = index_outcome s name source index
+
+-- X = transpose Y [(axes)]
+unfoldable pub transpose_outcome : State → List ℕ → List ℕ → Option (List ℤ) → Outcome
+transpose_outcome s name source axes = do
+  array ← array_of s source
+  _ ← check (has_room_for s name) TooManyNames
+  view ← transposed array.shape axes
+  Ok (bound_view s name (viewed array view), view_text name (descr_of s array) view.shape)
+
+-- set X[ix] = L
 unfoldable pub set_outcome : State → List ℕ → List IndexItem → Literal → Outcome
 set_outcome s name index literal = do
-  _ ← check (list_all is_integer index) Syntax
+  items ← basic_items index
   array ← array_of s name
-  places ← indexed_places array index
+  view ← basic array.shape items
   _ ← check array.writable ReadOnly
   item ← item_value (descr_of s array) literal
-  Ok (written s array places (replicate (length places) item), codes "ok set " ++ decimal (length places))
+  let items = count view.shape
+  Ok (written s array (viewed array view).places (replicate items item), codes "ok set " ++ decimal items)
 
 -- del X
 unfoldable pub delete_outcome : State → List ℕ → Outcome
@@ -118,17 +123,34 @@ format_outcome s name = do
   array ← array_of s name
   Ok (s, format_text (descr_of s array))
 
+-- info X
+unfoldable pub info_outcome : State → List ℕ → Outcome
+info_outcome s name = do
+  array ← array_of s name
+  Ok (s, info_text name (descr_of s array) array.shape (addresses s array) array.writable)
+
+-- shares X Y
+unfoldable pub shares_outcome : State → List ℕ → List ℕ → Outcome
+shares_outcome s left right = do
+  a ← array_of s left
+  b ← array_of s right
+  Ok (s, shares_text (share_cells a b))
+
 -- a command that is not carried out so far is refused before all other checks
 abbrev pub outcome : Choice → State → Command → Outcome
-outcome choice s (Zeros name descr shape) = creation_outcome choice s name (contents_of (Zeros name descr shape))
-outcome choice s (Full name descr shape value) = creation_outcome choice s name (contents_of (Full name descr shape value))
-outcome choice s (Arange name descr start stop step) = creation_outcome choice s name (contents_of (Arange name descr start stop step))
-outcome choice s (Array name descr shape values) = creation_outcome choice s name (contents_of (Array name descr shape values))
-outcome choice s (Set name index (argument.Literal literal)) = set_outcome s name index literal
-outcome choice s (Delete name) = delete_outcome s name
-outcome choice s (Print name) = print_outcome s name
-outcome choice s (Format name) = format_outcome s name
-outcome choice s Names = Ok (s, names_text s)
+outcome choice s (command.Zeros name descr shape) = creation_outcome choice s name (contents_of (command.Zeros name descr shape))
+outcome choice s (command.Full name descr shape value) = creation_outcome choice s name (contents_of (command.Full name descr shape value))
+outcome choice s (command.Arange name descr start stop step) = creation_outcome choice s name (contents_of (command.Arange name descr start stop step))
+outcome choice s (command.Array name descr shape values) = creation_outcome choice s name (contents_of (command.Array name descr shape values))
+outcome choice s (command.View name operand) = view_outcome s name operand.name operand.index
+outcome choice s (command.Transpose name source axes) = transpose_outcome s name source axes
+outcome choice s (command.Set name index (argument.Literal literal)) = set_outcome s name index literal
+outcome choice s (command.Delete name) = delete_outcome s name
+outcome choice s (command.Print name) = print_outcome s name
+outcome choice s (command.Info name) = info_outcome s name
+outcome choice s (command.Format name) = format_outcome s name
+outcome choice s (command.Shares left right) = shares_outcome s left right
+outcome choice s command.Names = Ok (s, names_text s)
 outcome choice s _ = Err Syntax
 
 -- a refused command changes nothing
@@ -144,12 +166,16 @@ Step old command new reply =
 -- whether carrying out a command may ask for memory: not where a name that must be bound is not,
 -- nor to unbind a name, nor for a command that is not carried out so far
 abbrev pub may_lack_memory : State → Command → Bool
-may_lack_memory s (Zeros name descr shape) = true
-may_lack_memory s (Full name descr shape value) = true
-may_lack_memory s (Arange name descr start stop step) = true
-may_lack_memory s (Array name descr shape values) = true
-may_lack_memory s (Set name index (argument.Literal literal)) = is_bound s name
-may_lack_memory s (Print name) = is_bound s name
-may_lack_memory s (Format name) = is_bound s name
-may_lack_memory s Names = true
+may_lack_memory s (command.Zeros name descr shape) = true
+may_lack_memory s (command.Full name descr shape value) = true
+may_lack_memory s (command.Arange name descr start stop step) = true
+may_lack_memory s (command.Array name descr shape values) = true
+may_lack_memory s (command.View name source) = is_bound s source.name
+may_lack_memory s (command.Transpose name source axes) = is_bound s source
+may_lack_memory s (command.Set name index (argument.Literal literal)) = is_bound s name
+may_lack_memory s (command.Print name) = is_bound s name
+may_lack_memory s (command.Info name) = is_bound s name
+may_lack_memory s (command.Format name) = is_bound s name
+may_lack_memory s (command.Shares left right) = is_bound s left && is_bound s right
+may_lack_memory s command.Names = true
 may_lack_memory s _ = false

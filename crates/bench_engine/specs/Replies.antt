@@ -1,12 +1,14 @@
 -- The texts of replies.
-use Rattle.std.specs.Prelude.{ℕ, Bool, false, List, ◌++◌, codes}
+use Rattle.std.specs.Prelude.{ℕ, Bool, false, if◌then◌else◌, List, ◌++◌, codes, decimal}
 use Rattle.std.specs.List.{flat_map}
 use Rattle.elem_descr.specs.declared.refusal.Refusal.{Refusal}
 use Rattle.elem_descr.specs.declared.descr.Descr.{Descr}
 use Rattle.elem_descr.specs.declared.descr.Descr.TheVariants.{Scalar as ScalarDescr, Record as RecordDescr}
 use Rattle.elem_descr.specs.TypeStrings.{spelling}
 use Rattle.elem_descr.specs.WrittenFormats as formats
+use Rattle.elem_descr.specs.Items.{item_size}
 use Rattle.shape_strides.specs.Shapes.{shape_text}
+use Rattle.shape_strides.specs.Contiguity.{first_address, printed_strides, is_c_contiguous, is_f_contiguous, strides_text}
 use Rattle.script_lang.specs.Refusals.{text_of}
 use Rattle.name_store.specs.States.{State}
 
@@ -24,9 +26,41 @@ abbrev pub descr_text : Descr → List ℕ
 descr_text (ScalarDescr scalar) = spelling scalar
 descr_text (RecordDescr structure) = formats.written (RecordDescr structure)
 
+-- X DESCR SHAPE
+abbrev pub array_words : List ℕ → Descr → List ℕ → List ℕ
+array_words name descr shape = name ++ codes " " ++ descr_text descr ++ codes " " ++ shape_text shape
+
 -- ok X DESCR SHAPE new
 abbrev pub fresh_text : List ℕ → Descr → List ℕ → List ℕ
-fresh_text name descr shape = codes "ok " ++ name ++ codes " " ++ descr_text descr ++ codes " " ++ shape_text shape ++ codes " new"
+fresh_text name descr shape = codes "ok " ++ array_words name descr shape ++ codes " new"
+
+-- ok X DESCR SHAPE view
+abbrev pub view_text : List ℕ → Descr → List ℕ → List ℕ
+view_text name descr shape = codes "ok " ++ array_words name descr shape ++ codes " view"
+
+abbrev pub yes_or_no : Bool → List ℕ
+yes_or_no is = if is then codes "yes" else codes "no"
+
+-- the orders in which the items lie one after another, at these addresses
+abbrev pub order_text : ℕ → List ℕ → List ℕ → List ℕ
+order_text item shape addresses =
+    if is_c_contiguous item addresses then (if is_f_contiguous item shape addresses then codes "CF" else codes "C")
+    else if is_f_contiguous item shape addresses then codes "F" else codes "-"
+
+-- strides SHAPE at N order O write W, of the addresses of the items
+abbrev pub layout_words : ℕ → List ℕ → List ℕ → Bool → List ℕ
+layout_words item shape addresses writable =
+    codes "strides " ++ strides_text (printed_strides shape addresses) ++ codes " at " ++ decimal (first_address addresses)
+    ++ codes " order " ++ order_text item shape addresses ++ codes " write " ++ yes_or_no writable
+
+-- info X DESCR SHAPE strides SHAPE at N order O write W
+abbrev pub info_text : List ℕ → Descr → List ℕ → List ℕ → Bool → List ℕ
+info_text name descr shape addresses writable =
+    codes "info " ++ array_words name descr shape ++ codes " " ++ layout_words (item_size descr) shape addresses writable
+
+-- shares yes or shares no
+abbrev pub shares_text : Bool → List ℕ
+shares_text is = codes "shares " ++ yes_or_no is
 
 -- names, and each name that is bound behind a blank
 abbrev pub names_text : State → List ℕ

@@ -9,9 +9,12 @@ ghost use Rattle.bench_engine.specs.Sessions.{said, SaysHeld, Tells};
 use crate::create::create;
 use crate::delete::delete;
 use crate::format::format;
+use crate::info::info;
 use crate::names::names;
 use crate::print::print;
 use crate::set::set;
+use crate::shares::shares;
+use crate::view::{alias, indexed, transpose};
 use elem_descr::Refusal;
 use name_store::Bench;
 use script_lang::{Argument, Command, parse, word};
@@ -41,14 +44,24 @@ fn perform(
         | Command::Full { name, .. }
         | Command::Arange { name, .. }
         | Command::Array { name, .. } => create(alloc, bench, name, command, out),
+        Command::View { name, source } => match &source.index {
+            None => alias(alloc, bench, name, &source.name, out),
+            Some(index) => indexed(alloc, bench, name, &source.name, index, out),
+        },
+        Command::Transpose { name, source, axes } => match axes {
+            None => transpose(alloc, bench, name, source, None, out),
+            Some(axes) => transpose(alloc, bench, name, source, Some(axes.as_slice()), out),
+        },
         Command::Set { name, index, value } => match value {
             Argument::Literal(literal) => set(alloc, bench, name, index, literal, out),
             Argument::Operand(_) => Err(Refusal::Syntax),
         },
         Command::Delete { name } => delete(bench, name, out),
         Command::Print { name } => print(alloc, bench, name, out),
+        Command::Info { name } => info(alloc, bench, name, out),
         Command::Format { name } => format(alloc, bench, name, out),
         Command::Names => names(bench, out),
+        Command::Shares { left, right } => shares(alloc, bench, left, right, out),
         _ => Err(Refusal::Syntax),
     }
 }

@@ -7,14 +7,19 @@ mod create;
 mod delete;
 pub mod engine;
 mod format;
+mod index;
+mod info;
 mod names;
 mod print;
+mod replies;
 pub mod runner;
 mod send;
 mod session;
 mod set;
+mod shares;
 #[cfg(test)]
 mod tests;
+mod view;
 
 pub use engine::execute;
 pub use runner::{RunFault, run};

@@ -1,6 +1,9 @@
 //! Whole runs: scripts with their replies, readers and writers that fail, and memory that runs out.
+mod rows;
+
 use crate::runner::{RunFault, run, run_within};
 use crate::session::Summary;
+use rows::{ROWS, Row};
 use std::alloc::{AllocError, Global};
 use std::io;
 use std::io::{Read, Write};
@@ -80,152 +83,9 @@ fn bytes_in(room: &Room) -> &[u8] {
     &room.bytes[..room.len.min(256)]
 }
 
-/// A script with its replies, and how many commands were accepted and how many refused.
-struct Row {
-    script: &'static [u8],
-    replies: &'static [u8],
-    accepted: u64,
-    refused: u64,
-}
-
 const FIRST_RUN: &[u8] = b"a = zeros <i4 (2,3)\nset a[1,0] = 7\nprint a\n";
 
 const FIRST_REPLIES: &[u8] = b"ok a <i4 (2, 3) new\nok set 1\n[[0 0 0]\n [7 0 0]]\n";
-
-const ROWS: [Row; 20] = [
-    Row {
-        script: FIRST_RUN,
-        replies: FIRST_REPLIES,
-        accepted: 3,
-        refused: 0,
-    },
-    Row {
-        script: b"",
-        replies: b"",
-        accepted: 0,
-        refused: 0,
-    },
-    Row {
-        script: b"a = zeros <f4 (2)\na = zeros <i3 (2)\na = zeros <i4 (16777217)\na = zeros <i4 (1,1,1,1,1,1,1,1,1,1,1,1,1,1,1,1,1,1,1,1,1,1,1,1,1,1,1,1,1,1,1,1,1,1,1,1,1,1,1,1,1,1,1,1,1,1,1,1,1,1,1,1,1,1,1,1,1,1,1,1,1,1,1,1,1)\nprint q\na zeros\nnames \x80\n# note\n",
-        replies: b"no E05 descriptor left out\nno E04 bad descriptor\nno E09 too large\nno E08 too many axes\nno E06 unknown name\nno E03 syntax\nno E02 byte not allowed\n",
-        accepted: 0,
-        refused: 7,
-    },
-    // Carriage returns, blank lines, comments, blanks at both ends; the last line without a newline.
-    Row {
-        script: b"a = zeros <i8 ()\r\n\r\n \t\n  # \x80 is no matter here\n \tset a[ ] = 1\n  print\ta \nprint a",
-        replies: b"ok a <i8 () new\nno E03 syntax\n0\n0\n",
-        accepted: 3,
-        refused: 1,
-    },
-    // A bound name is bound anew, and keeps nothing of the old array.
-    Row {
-        script: b"a = zeros <i4 (2)\nset a[-1] = -5\nprint a\na = zeros <i8 (1)\nprint a\n",
-        replies: b"ok a <i4 (2,) new\nok set 1\n[ 0 -5]\nok a <i8 (1,) new\n[0]\n",
-        accepted: 5,
-        refused: 0,
-    },
-    // Integers at the ends of their range, and one past each end.
-    Row {
-        script: b"a = zeros <i4 (2)\nset a[0] = -2147483648\nset a[1] = 2147483647\nset a[0] = 2147483648\nset a[1] = -2147483649\nprint a\n",
-        replies: b"ok a <i4 (2,) new\nok set 1\nok set 1\nno E23 literal out of range\nno E23 literal out of range\n[-2147483648  2147483647]\n",
-        accepted: 4,
-        refused: 2,
-    },
-    Row {
-        script: b"a = zeros <i8 (1)\nset a[0] = -9223372036854775808\nprint a\nset a[0] = 9223372036854775808\nset a[0] = 9223372036854775807\nprint a\n",
-        replies: b"ok a <i8 (1,) new\nok set 1\n[-9223372036854775808]\nno E23 literal out of range\nok set 1\n[9223372036854775807]\n",
-        accepted: 5,
-        refused: 1,
-    },
-    // The order of checks: the number of indices, then the place, then the literal.
-    Row {
-        script: b"a = zeros <i4 (2,3)\nset a[0,0,9] = 9999999999\nset a[9] = 9999999999\nset a[2,0] = 9999999999\nset a[-3,0] = 1\nset a[0,3] = 1\nset a[0,-4] = 1\nset a[999999999999999999999999999999,0] = 1\nset b[0] = 9999999999\nset a[1,-1] = 9999999999\n",
-        replies: b"ok a <i4 (2, 3) new\nno E10 too many indices\nno E03 syntax\nno E11 index out of range\nno E11 index out of range\nno E11 index out of range\nno E11 index out of range\nno E11 index out of range\nno E06 unknown name\nno E23 literal out of range\n",
-        accepted: 1,
-        refused: 9,
-    },
-    // Sizes at their limits: the exact product counts, and a buffer has at most 2^28 bytes.
-    Row {
-        script: b"a = zeros <i4 (0,16777216,16777216)\nprint a\nb = zeros <i4 (16777216,2)\nc = zeros <i8 (4097,8192)\nd = zeros <i4 (999999999999999999999999999999)\ne = zeros <f4 (16777217)\nf = zeros |S65536 (4097)\n",
-        replies: b"ok a <i4 (0, 16777216, 16777216) new\n[]\nno E09 too large\nno E09 too large\nno E09 too large\nno E05 descriptor left out\nno E09 too large\n",
-        accepted: 2,
-        refused: 5,
-    },
-    Row {
-        script: b"a = zeros <i4 (2,2,2)\nset a[1,1,1] = -12\nprint a\n",
-        replies: b"ok a <i4 (2, 2, 2) new\nok set 1\n[[[  0   0]\n  [  0   0]]\n\n [[  0   0]\n  [  0 -12]]]\n",
-        accepted: 3,
-        refused: 0,
-    },
-    // Two names, each with its own array.
-    Row {
-        script: b"a = zeros <i4 (1)\nb = zeros <i4 (1)\nset b[0] = 1\nprint a\nprint b\na = zeros <i4 (1)\nprint b\n",
-        replies: b"ok a <i4 (1,) new\nok b <i4 (1,) new\nok set 1\n[0]\n[1]\nok a <i4 (1,) new\n[1]\n",
-        accepted: 7,
-        refused: 0,
-    },
-    // Commands that are not carried out yet.
-    Row {
-        script: b"a = zeros <i4 (1)\nundo\ninfo a\nb = a\nset a[:] = 1\nset a[0] = a\nupd a[0] add 1\nc = add a 1\nd = sum a\nsave a \"a.npy\"\nset q[:] = 1\n",
-        replies: b"ok a <i4 (1,) new\nno E03 syntax\nno E03 syntax\nno E03 syntax\nno E03 syntax\nno E03 syntax\nno E03 syntax\nno E03 syntax\nno E03 syntax\nno E03 syntax\nno E03 syntax\n",
-        accepted: 1,
-        refused: 10,
-    },
-    Row {
-        script: b"a = arange <i4 0 5 1\nprint a\na = array ? (3) True False True\nprint a\n",
-        replies: b"ok a <i4 (5,) new\n[0 1 2 3 4]\nok a |b1 (3,) new\n[ True False  True]\n",
-        accepted: 4,
-        refused: 0,
-    },
-    // Byte strings are cut to their length, and lose the NULs at their end.
-    Row {
-        script: b"s = array |S3 (2) b'ab' b'a\\x00c'\nprint s\nset s[0] = b'abcd'\nprint s\nformat s\nset s[0] = 1\n",
-        replies: b"ok s |S3 (2,) new\n[b'ab' b'a\\x00c']\nok set 1\n[b'abc' b'a\\x00c']\nformat <3s\nno E33 no such cast\n",
-        accepted: 5,
-        refused: 1,
-    },
-    // Records: a record literal goes by position, a scalar to every field.
-    Row {
-        script: b"r = zeros T{b:x:i:y:} (2)\nformat r\nset r[1] = (5,-1)\nprint r\nset r[0] = 7\nprint r\nset r[0] = (1,2,3)\nset r[0] = (300,b'a')\nset r[0] = (300,1)\nz = zeros T{b:x:T{i:y:}:s:} (1)\n",
-        replies: b"ok r T{<b:x:3x<i:y:} (2,) new\nformat T{<b:x:3x<i:y:}\nok set 1\n[(0,  0) (5, -1)]\nok set 1\n[(7,  7) (5, -1)]\nno E33 no such cast\nno E33 no such cast\nno E23 literal out of range\nno E05 descriptor left out\n",
-        accepted: 6,
-        refused: 4,
-    },
-    // The number of values, then their kinds, then their ranges.
-    Row {
-        script: b"e = array <i4 (2) 1\ne = array <i4 (2) 1 2 3\ne = array |u1 (2) 300 b'a'\ne = array |u1 (2) 300 1\ne = array <i4 () 5\nprint e\ne = array <i4 (0)\nprint e\n",
-        replies: b"no E32 number of values\nno E32 number of values\nno E33 no such cast\nno E23 literal out of range\nok e <i4 () new\n5\nok e <i4 (0,) new\n[]\n",
-        accepted: 4,
-        refused: 4,
-    },
-    Row {
-        script: b"a = arange |i1 0 201 100\na = arange |i1 0 200 100\nprint a\na = arange |b1 0 2 1\na = arange <i4 0 1 0\na = arange <i8 0 999999999999999999999999999999 1\na = arange >i2 3 -4 -3\nprint a\na = arange <u8 0 18446744073709551615 9223372036854775807\nprint a\na = arange T{i:x:} 0 1 0\n",
-        replies: b"no E23 literal out of range\nok a |i1 (2,) new\n[  0 100]\nno E22 not for this kind\nno E12 zero step\nno E09 too large\nok a >i2 (3,) new\n[ 3  0 -3]\nok a <u8 (3,) new\n[                   0  9223372036854775807 18446744073709551614]\nno E22 not for this kind\n",
-        accepted: 6,
-        refused: 5,
-    },
-    Row {
-        script: b"f = full |u1 (2,2) 200\nprint f\nf = full |u1 (1) 256\nf = full |S2 (2) b'abc'\nprint f\nf = full |S2 (1) 1\nf = full ? () 7\nprint f\nset f[0] = 1\n",
-        replies: b"ok f |u1 (2, 2) new\n[[200 200]\n [200 200]]\nno E23 literal out of range\nok f |S2 (2,) new\n[b'ab' b'ab']\nno E33 no such cast\nok f |b1 () new\nTrue\nno E10 too many indices\n",
-        accepted: 6,
-        refused: 3,
-    },
-    // A name that is bound again comes last; one that is bound keeps its place.
-    Row {
-        script: b"a = zeros <i4 (1)\nb = zeros <i4 (1)\nc = zeros <i4 (1)\ndel b\nb = zeros <i4 (1)\nnames\na = zeros <i4 (2)\nnames\ndel q\ndel a\nprint a\nset b[0] = 3\nprint c\ndel b\ndel c\nnames\n",
-        replies: b"ok a <i4 (1,) new\nok b <i4 (1,) new\nok c <i4 (1,) new\nok del b\nok b <i4 (1,) new\nnames a c b\nok a <i4 (2,) new\nnames a c b\nno E06 unknown name\nok del a\nno E06 unknown name\nok set 1\n[0]\nok del b\nok del c\nnames\n",
-        accepted: 14,
-        refused: 2,
-    },
-    // Every integer type at its ends, in both byte orders.
-    Row {
-        script: b"a = array |i1 (2) -128 127\nprint a\na = array |u1 (2) 0 255\nprint a\na = array >i2 (2) -32768 32767\nprint a\na = array >u4 (2) 0 4294967295\nprint a\na = array >i8 (2) -9223372036854775808 9223372036854775807\nprint a\na = array <u8 (1) 18446744073709551616\na = array <u2 (1) -1\nformat a\n",
-        replies: b"ok a |i1 (2,) new\n[-128  127]\nok a |u1 (2,) new\n[  0 255]\nok a >i2 (2,) new\n[-32768  32767]\nok a >u4 (2,) new\n[         0 4294967295]\nok a >i8 (2,) new\n[-9223372036854775808  9223372036854775807]\nno E23 literal out of range\nno E23 literal out of range\nformat >q\n",
-        accepted: 11,
-        refused: 2,
-    },
-];
 
 fn check_row(rt: &impl Abort, summary: &Summary, row: &Row) {
     assert_eq!(rt; summary.accepted, row.accepted, "accepted");
@@ -366,47 +226,92 @@ fn a_run_makes_few_reads(rt: HostRuntime) -> Result<(), Fail> {
     Ok(())
 }
 
-/// What the first run may reply where memory runs out once.
-const SHORT_OF_MEMORY: [&[u8]; 4] = [
-    FIRST_REPLIES,
-    b"no E40 out of memory\nno E06 unknown name\nno E06 unknown name\n",
-    b"ok a <i4 (2, 3) new\nno E40 out of memory\n[[0 0 0]\n [0 0 0]]\n",
-    b"ok a <i4 (2, 3) new\nok set 1\nno E40 out of memory\n",
-];
-
-const RECORD_RUN: &[u8] = b"r = array T{b:x:i:y:} (2) (5,-1) 7\nprint r\ndel r\nnames\n";
-
-/// What the second run may reply where memory runs out once: never for `del`.
-const SHORT_OF_MEMORY_FOR_RECORDS: [&[u8]; 4] = [
-    b"ok r T{<b:x:3x<i:y:} (2,) new\n[(5, -1) (7,  7)]\nok del r\nnames\n",
-    b"no E40 out of memory\nno E06 unknown name\nno E06 unknown name\nnames\n",
-    b"ok r T{<b:x:3x<i:y:} (2,) new\nno E40 out of memory\nok del r\nnames\n",
-    b"ok r T{<b:x:3x<i:y:} (2,) new\n[(5, -1) (7,  7)]\nok del r\nno E40 out of memory\n",
-];
-
-#[test]
-fn a_run_outlives_want_of_memory(rt: HostRuntime) -> Result<(), Fail> {
-    let mut reader = FIRST_RUN;
-    let mut writer = room_for(256);
-    match run(rt.alloc(), &mut reader, &mut writer) {
-        Ok(_) => assert!(rt; SHORT_OF_MEMORY.contains(&bytes_in(&writer))),
-        Err(fault) => {
-            assert_eq!(rt; fault, RunFault::Memory);
-            assert_eq!(rt; bytes_in(&writer), b"".as_slice());
-        }
-    }
-    Ok(())
+/// A script, and what it may reply where memory runs out once.
+struct ShortRun {
+    script: &'static [u8],
+    replies: &'static [&'static [u8]],
 }
 
+const SHORT_RUNS: [ShortRun; 6] = [
+    ShortRun {
+        script: FIRST_RUN,
+        replies: &[
+            FIRST_REPLIES,
+            b"no E40 out of memory\nno E06 unknown name\nno E06 unknown name\n",
+            b"ok a <i4 (2, 3) new\nno E40 out of memory\n[[0 0 0]\n [0 0 0]]\n",
+            b"ok a <i4 (2, 3) new\nok set 1\nno E40 out of memory\n",
+        ],
+    },
+    // Never for `del`.
+    ShortRun {
+        script: b"r = array T{b:x:i:y:} (2) (5,-1) 7\nprint r\ndel r\nnames\n",
+        replies: &[
+            b"ok r T{<b:x:3x<i:y:} (2,) new\n[(5, -1) (7,  7)]\nok del r\nnames\n",
+            b"no E40 out of memory\nno E06 unknown name\nno E06 unknown name\nnames\n",
+            b"ok r T{<b:x:3x<i:y:} (2,) new\nno E40 out of memory\nok del r\nnames\n",
+            b"ok r T{<b:x:3x<i:y:} (2,) new\n[(5, -1) (7,  7)]\nok del r\nno E40 out of memory\n",
+        ],
+    },
+    ShortRun {
+        script: b"s = full |S3 (2) b'ab'\nset s[1] = b'xyz'\nprint s\nformat s\n",
+        replies: &[
+            b"ok s |S3 (2,) new\nok set 1\n[b'ab' b'xyz']\nformat <3s\n",
+            b"no E40 out of memory\nno E06 unknown name\nno E06 unknown name\nno E06 unknown name\n",
+            b"ok s |S3 (2,) new\nno E40 out of memory\n[b'ab' b'ab']\nformat <3s\n",
+            b"ok s |S3 (2,) new\nok set 1\nno E40 out of memory\nformat <3s\n",
+            b"ok s |S3 (2,) new\nok set 1\n[b'ab' b'xyz']\nno E40 out of memory\n",
+        ],
+    },
+    ShortRun {
+        script: b"n = arange >i2 3 -4 -3\nset n[-1] = 8\nprint n\nformat n\n",
+        replies: &[
+            b"ok n >i2 (3,) new\nok set 1\n[3 0 8]\nformat >h\n",
+            b"no E40 out of memory\nno E06 unknown name\nno E06 unknown name\nno E06 unknown name\n",
+            b"ok n >i2 (3,) new\nno E40 out of memory\n[ 3  0 -3]\nformat >h\n",
+            b"ok n >i2 (3,) new\nok set 1\nno E40 out of memory\nformat >h\n",
+            b"ok n >i2 (3,) new\nok set 1\n[3 0 8]\nno E40 out of memory\n",
+        ],
+    },
+    // Names and contents are as before where binding lacks memory.
+    ShortRun {
+        script: b"a = zeros |u1 (1)\nb = zeros |u1 (1)\nc = zeros |u1 (1)\ndel b\nb = zeros |u1 (1)\na = zeros |u1 (2)\nnames\n",
+        replies: &[
+            b"ok a |u1 (1,) new\nok b |u1 (1,) new\nok c |u1 (1,) new\nok del b\nok b |u1 (1,) new\nok a |u1 (2,) new\nnames a c b\n",
+            b"no E40 out of memory\nok b |u1 (1,) new\nok c |u1 (1,) new\nok del b\nok b |u1 (1,) new\nok a |u1 (2,) new\nnames c b a\n",
+            b"ok a |u1 (1,) new\nno E40 out of memory\nok c |u1 (1,) new\nno E06 unknown name\nok b |u1 (1,) new\nok a |u1 (2,) new\nnames a c b\n",
+            b"ok a |u1 (1,) new\nok b |u1 (1,) new\nno E40 out of memory\nok del b\nok b |u1 (1,) new\nok a |u1 (2,) new\nnames a b\n",
+            b"ok a |u1 (1,) new\nok b |u1 (1,) new\nok c |u1 (1,) new\nok del b\nno E40 out of memory\nok a |u1 (2,) new\nnames a c\n",
+            b"ok a |u1 (1,) new\nok b |u1 (1,) new\nok c |u1 (1,) new\nok del b\nok b |u1 (1,) new\nno E40 out of memory\nnames a c b\n",
+            b"ok a |u1 (1,) new\nok b |u1 (1,) new\nok c |u1 (1,) new\nok del b\nok b |u1 (1,) new\nok a |u1 (2,) new\nno E40 out of memory\n",
+        ],
+    },
+    // Views: the array is not touched by a view that is not bound.
+    ShortRun {
+        script: b"a = arange |u1 0 4 1\nb = a[::-1]\nt = transpose b\nset t[:2] = 9\nprint a\ninfo t\nshares a t\n",
+        replies: &[
+            b"ok a |u1 (4,) new\nok b |u1 (4,) view\nok t |u1 (4,) view\nok set 2\n[0 1 9 9]\ninfo t |u1 (4,) strides (-1,) at 3 order - write yes\nshares yes\n",
+            b"no E40 out of memory\nno E06 unknown name\nno E06 unknown name\nno E06 unknown name\nno E06 unknown name\nno E06 unknown name\nno E06 unknown name\n",
+            b"ok a |u1 (4,) new\nno E40 out of memory\nno E06 unknown name\nno E06 unknown name\n[0 1 2 3]\nno E06 unknown name\nno E06 unknown name\n",
+            b"ok a |u1 (4,) new\nok b |u1 (4,) view\nno E40 out of memory\nno E06 unknown name\n[0 1 2 3]\nno E06 unknown name\nno E06 unknown name\n",
+            b"ok a |u1 (4,) new\nok b |u1 (4,) view\nok t |u1 (4,) view\nno E40 out of memory\n[0 1 2 3]\ninfo t |u1 (4,) strides (-1,) at 3 order - write yes\nshares yes\n",
+            b"ok a |u1 (4,) new\nok b |u1 (4,) view\nok t |u1 (4,) view\nok set 2\nno E40 out of memory\ninfo t |u1 (4,) strides (-1,) at 3 order - write yes\nshares yes\n",
+            b"ok a |u1 (4,) new\nok b |u1 (4,) view\nok t |u1 (4,) view\nok set 2\n[0 1 9 9]\nno E40 out of memory\nshares yes\n",
+            b"ok a |u1 (4,) new\nok b |u1 (4,) view\nok t |u1 (4,) view\nok set 2\n[0 1 9 9]\ninfo t |u1 (4,) strides (-1,) at 3 order - write yes\nno E40 out of memory\n",
+        ],
+    },
+];
+
 #[test]
-fn a_run_of_records_outlives_want_of_memory(rt: HostRuntime) -> Result<(), Fail> {
-    let mut reader = RECORD_RUN;
-    let mut writer = room_for(256);
-    match run(rt.alloc(), &mut reader, &mut writer) {
-        Ok(_) => assert!(rt; SHORT_OF_MEMORY_FOR_RECORDS.contains(&bytes_in(&writer))),
-        Err(fault) => {
-            assert_eq!(rt; fault, RunFault::Memory);
-            assert_eq!(rt; bytes_in(&writer), b"".as_slice());
+fn runs_outlive_want_of_memory(rt: HostRuntime) -> Result<(), Fail> {
+    for short in &SHORT_RUNS {
+        let mut reader = short.script;
+        let mut writer = room_for(256);
+        match run(rt.alloc(), &mut reader, &mut writer) {
+            Ok(_) => assert!(rt; short.replies.contains(&bytes_in(&writer))),
+            Err(fault) => {
+                assert_eq!(rt; fault, RunFault::Memory);
+                assert_eq!(rt; bytes_in(&writer), b"".as_slice());
+            }
         }
     }
     Ok(())

@@ -6,3 +6,7 @@ pub mod FreshLaws
 pub mod BindLaws
 pub mod ShowLaws
 pub mod WriteLaws
+pub mod ViewLaws
+pub mod ShareLaws
+pub mod ShownViewLaws
+mod Vectors

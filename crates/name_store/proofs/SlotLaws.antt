@@ -1,12 +1,12 @@
 -- Slots by their numbers, and the buffers in them.
-use Rattle.std.proofs.Common.{◌≡◌, ◌≢◌, ◌+◌, ◌<◌, ◌≤◌, ℕ, zero, suc, Bool, true, false, List, [], ◌∷◌, ◌++◌, length, refl, sym, ap, ◌∙◌, cond, Option, Some, None, nat_eq, slice_set, get_or, arith, unwrap_or, position, nat_lt}
+use Rattle.std.proofs.Common.{◌≡◌, ◌≢◌, ◌+◌, ◌<◌, ◌≤◌, ℕ, zero, suc, Bool, true, false, List, [], ◌∷◌, ◌++◌, length, refl, sym, ap, ◌∙◌, cond, Option, Some, None, is_some, nat_eq, slice_set, get_or, arith, unwrap_or, position, nat_lt}
 use Rattle.std.specs.List.{position_or_len}
 use Rattle.std.specs.Option.{option_map, is_none}
 use Rattle.std.specs.Ordering.{nat_cmp, eq_by_cmp, is_eq}
 use Rattle.std.specs.Cmp.{nat_cmp_total, eq_by_cmp_equiv, nat_eq_equiv}
 use Rattle.std.specs.declared.cmp.Ordering.TheVariants.{Less, Equal, Greater}
 use Rattle.std.specs.FinMap.{get, find, get-from_entries, nat_cmp-IsAntisymmetric}
-use Rattle.std.proofs.lemmas.Bool.{eqb-true, eqb-false, ne_eqb}
+use Rattle.std.proofs.lemmas.Bool.{eqb-true, eqb-false, ne_eqb, ltb-false}
 use Rattle.name_store.specs.View.{slot_at, numbered, buffer_in, state_of}
 use Rattle.name_store.specs.declared.entry.Entry.{Entry}
 use Rattle.name_store.specs.declared.entry.Key.{Key}
@@ -61,6 +61,20 @@ slot_at-first slots =
       | true ↦ slot_at-free slots
       | false ↦ slot_at-past slots (length slots) (omega arith)
     ]
+
+-- each slot before the first that is free is occupied
+before-first : (slots : List (Option Slot)) (q : ℕ) → q < position_or_len is_none slots → is_some (slot_at slots q) ≡ true
+before-first [] q h = absurd (omega arith)
+before-first (None ∷ slots) q h = absurd (omega arith)
+before-first (Some s ∷ slots) zero h = refl
+before-first (Some s ∷ slots) (suc q) h = before-first slots q (omega arith)
+
+pub slot_at-before : (slots : List (Option Slot)) (q : ℕ) → q < unwrap_or (position is_none slots) (length slots) → is_some (slot_at slots q) ≡ true
+slot_at-before slots q h =
+    elim (nat_lt (position_or_len is_none slots) (length slots)) as (λ t. nat_lt (position_or_len is_none slots) (length slots) ≡ t → q < unwrap_or (cond t (Some (position_or_len is_none slots)) None) (length slots) → is_some (slot_at slots q) ≡ true) [
+      | true ↦ λ _ less. before-first slots q less
+      | false ↦ λ past less. before-first slots q (omega (arith, ltb-false (position_or_len is_none slots) (length slots) past, less))
+    ] refl h
 
 pub slot_at-within : (slots : List (Option Slot)) (q : ℕ) (s : Slot) → slot_at slots q ≡ Some s → q < length slots
 slot_at-within [] q s h = let no : ⊥ = cc in absurd no

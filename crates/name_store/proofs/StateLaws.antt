@@ -10,7 +10,7 @@ use Rattle.std.proofs.lemmas.Bool.{eqb-true, ltb-true}
 use Rattle.std.proofs.lemmas.List.{length-map}
 use Rattle.indexmap.specs.IndexMap.{insert_entry, shift_remove_entry}
 use Rattle.name_store.specs.States.{Array, Buffer}
-use Rattle.name_store.specs.Arrays.{find_array, put_array, without, is_in_use, bound_to, unbound, has_room_for}
+use Rattle.name_store.specs.Arrays.{find_array, put_array, without, is_in_use, unbound, has_room_for}
 use Rattle.name_store.specs.Invariants.{Holds, LiesAt, LiesIn}
 use Rattle.name_store.specs.View.{array_at, named_array, buffer_in, slot_at, state_of}
 use Rattle.name_store.specs.declared.entry.Entry.{Entry}
@@ -106,40 +106,73 @@ swept-buffers es names m before after swept is = same_map nat_cmp_total nat_cmp-
     ∙ ap (λ o. cond (is_in_use names q) o None) (sym (is q))
     ∙ sym (get-retain_keys m (is_in_use names) q (λ x e. ap (is_in_use names) (sym (nat_cmp-IsAntisymmetric q x e)))))
 
--- A name is bound: a buffer stands in a slot that was free, and the table has the new entry.
-module _ (es : List (Key × Entry)) (slots before : Slots) (h : Holds es slots) (eq : Key → Key → Bool) (k : Key) (v : Entry) (is : TestsName (eq k) k.bytes.items) (slot : Slot)
-    (free : slot_at slots v.number ≡ None) (put : (q : ℕ) → slot_at before q ≡ cond (nat_eq q v.number) (Some slot) (slot_at slots q)) (lies : LiesIn slot v) where
+-- The slots in which an entry's array lies: those that were occupied are as they were, and no other is but the entry's own.
+pub record Ready (slots before : Slots) (v : Entry) : Type 0 where
+  pub kept : (q : ℕ) (s : Slot) → slot_at slots q ≡ Some s → slot_at before q ≡ Some s
+  pub came : (q : ℕ) → is_some (slot_at before q) ≡ true → (q ≡ v.number) ⊎ (is_some (slot_at slots q) ≡ true)
+  pub lies : LiesAt (slot_at before v.number) v
+
+-- a buffer is put in a slot that was free
+pub ready-fresh : (slots before : Slots) (v : Entry) (slot : Slot) → slot_at slots v.number ≡ None → ((q : ℕ) → slot_at before q ≡ cond (nat_eq q v.number) (Some slot) (slot_at slots q)) → LiesIn slot v → Ready slots before v
+ready-fresh slots before v slot free put lies = record {
+  kept = kept;
+  came = came;
+  lies = subst (λ o. LiesAt o v) (sym here) lies;
+}
+  where
+    here : slot_at before v.number ≡ Some slot
+    here = put v.number ∙ ap (λ t. cond t (Some slot) (slot_at slots v.number)) (itself v.number)
+
+    kept : (q : ℕ) (s : Slot) → slot_at slots q ≡ Some s → slot_at before q ≡ Some s
+    kept q s there =
+        elim (nat_eq q v.number) as (λ t. nat_eq q v.number ≡ t → slot_at before q ≡ cond t (Some slot) (slot_at slots q) → slot_at before q ≡ Some s) [
+          | true ↦ λ same _. let no : None ≡ Some s = sym (ap (slot_at slots) (eqb-true q v.number same) ∙ free) ∙ there in cc
+          | false ↦ λ _ there-is. there-is ∙ there
+        ] refl (put q)
+
+    came : (q : ℕ) → is_some (slot_at before q) ≡ true → (q ≡ v.number) ⊎ (is_some (slot_at slots q) ≡ true)
+    came q there =
+        elim (nat_eq q v.number) as (λ t. nat_eq q v.number ≡ t → slot_at before q ≡ cond t (Some slot) (slot_at slots q) → (q ≡ v.number) ⊎ (is_some (slot_at slots q) ≡ true)) [
+          | true ↦ λ same _. inl (eqb-true q v.number same)
+          | false ↦ λ _ there-is. inr (ap is_some (sym there-is) ∙ there)
+        ] refl (put q)
+
+-- no slot changes
+pub ready-view : (slots : Slots) (v : Entry) → LiesAt (slot_at slots v.number) v → Ready slots slots v
+ready-view slots v lies = record { kept = λ q s there. there; came = λ q there. inr there; lies = lies }
+
+-- A name is bound: its array's slot is ready, and the table has the new entry.
+module _ (es : List (Key × Entry)) (slots before : Slots) (h : Holds es slots) (eq : Key → Key → Bool) (k : Key) (v : Entry) (is : TestsName (eq k) k.bytes.items) (ready : Ready slots before v) where
   abbrev names : Names
   names = put_array (map named_array es) k.bytes.items (array_at v)
 
-  here : slot_at before v.number ≡ Some slot
-  here = put v.number ∙ ap (λ t. cond t (Some slot) (slot_at slots v.number)) (itself v.number)
+  still : (e : Entry) → LiesAt (slot_at slots e.number) e → LiesAt (slot_at before e.number) e
+  still e there = occupied (slot_at slots e.number) refl there
+    where
+      occupied : (o : Option Slot) → slot_at slots e.number ≡ o → LiesAt o e → LiesAt (slot_at before e.number) e
+      occupied None was nothing = absurd nothing
+      occupied (Some s) was lies = subst (λ o. LiesAt o e) (sym (ready.kept e.number s was)) lies
 
-  pub still : (e : Entry) → LiesAt (slot_at slots e.number) e → LiesAt (slot_at before e.number) e
-  still e there =
-      elim (nat_eq e.number v.number) as (λ t. nat_eq e.number v.number ≡ t → slot_at before e.number ≡ cond t (Some slot) (slot_at slots e.number) → LiesAt (slot_at before e.number) e) [
-        | true ↦ λ same _. let no : LiesAt None e = subst (λ o. LiesAt o e) (ap (slot_at slots) (eqb-true e.number v.number same) ∙ free) there in absurd no
-        | false ↦ λ _ there-is. subst (λ o. LiesAt o e) (sym there-is) there
-      ] refl (put e.number)
+  pub still-lie : AllByRecursion (λ entry. LiesAt (slot_at before entry.1.number) entry.1) es
+  still-lie = all-both (λ e. LiesAt (slot_at slots e.number) e) (λ e. LiesAt (slot_at slots e.number) e) (λ e. LiesAt (slot_at before e.number) e) (λ e there _. still e there) es h.lie h.lie
 
   pub bound-lie : AllByRecursion (λ entry. LiesAt (slot_at before entry.1.number) entry.1) (insert_entry eq es k v)
-  bound-lie = all-insert (λ e. LiesAt (slot_at before e.number) e) eq k v es (subst (λ o. LiesAt o v) (sym here) lies)
-      (all-both (λ e. LiesAt (slot_at slots e.number) e) (λ e. LiesAt (slot_at slots e.number) e) (λ e. LiesAt (slot_at before e.number) e) (λ e there _. still e there) es h.lie h.lie)
+  bound-lie = all-insert (λ e. LiesAt (slot_at before e.number) e) eq k v es ready.lies still-lie
 
   bound-used : (q : ℕ) → is_some (slot_at before q) ≡ true → (is_in_use names q ≡ true) ⊎ ((old : Array) × (find_array (map named_array es) k.bytes.items ≡ Some old) × (old.buffer ≡ q))
   bound-used q there =
-      elim (nat_eq q v.number) as (λ t. nat_eq q v.number ≡ t → slot_at before q ≡ cond t (Some slot) (slot_at slots q) → (is_in_use names q ≡ true) ⊎ ((old : Array) × (find_array (map named_array es) k.bytes.items ≡ Some old) × (old.buffer ≡ q))) [
-        | true ↦ λ same _. inl (ap (is_in_use names) (eqb-true q v.number same) ∙ used-put (map named_array es) k.bytes.items (array_at v))
-        | false ↦ λ _ there-is. kept-put (map named_array es) k.bytes.items (array_at v) q (h.used q (ap is_some (sym there-is) ∙ there))
-      ] refl (put q)
+      elim (ready.came q there) [
+        | inl same ↦ inl (ap (is_in_use names) same ∙ used-put (map named_array es) k.bytes.items (array_at v))
+        | inr was ↦ kept-put (map named_array es) k.bytes.items (array_at v) q (h.used q was)
+      ]
 
-  entries : map named_array (insert_entry eq es k v) ≡ names
-  entries = put-insert eq k v is es
+  pub bound-entries : map named_array (insert_entry eq es k v) ≡ names
+  bound-entries = put-insert eq k v is es
 
   pub bound-replaced : (old : Entry) → lookup (eq k) es ≡ Some old → UsedBut (map named_array (insert_entry eq es k v)) old.number before
   bound-replaced old was q there =
       elim (bound-used q there) [
-        | inl used ↦ inl (ap (λ (ns : Names). is_in_use ns q) entries ∙ used)
+        | inl used ↦ inl (ap (λ (ns : Names). is_in_use ns q) bound-entries ∙ used)
         | inr other ↦ inr (sym other.2 ∙ number other.0 other.1)
       ]
     where
@@ -149,27 +182,33 @@ module _ (es : List (Key × Entry)) (slots before : Slots) (h : Holds es slots) 
   pub bound-new : lookup (eq k) es ≡ None → (q : ℕ) → is_some (slot_at before q) ≡ true → is_in_use (map named_array (insert_entry eq es k v)) q ≡ true
   bound-new none q there =
       elim (bound-used q there) [
-        | inl used ↦ ap (λ (ns : Names). is_in_use ns q) entries ∙ used
+        | inl used ↦ ap (λ (ns : Names). is_in_use ns q) bound-entries ∙ used
         | inr other ↦ let found : Some other.0 ≡ None = sym other.1 ∙ find-lookup (eq k) k.bytes.items is es ∙ ap (option_map array_at) none in let no : ⊥ = cc in absurd no
       ]
 
-  pub bound-state : (after : Slots) → Swept (map named_array (insert_entry eq es k v)) before after →
-      state_of (insert_entry eq es k v) after ≡ bound_to (state_of es slots) k.bytes.items (array_at v) (buffer_in slot)
-  bound-state after swept = λ i. record { names = entries i; buffers = buffers i; kept = [] }
+  -- the state, if the buffers were so before the slots that no name uses were freed
+  pub bound-state : (m : FinMap nat_cmp Buffer) → ((q : ℕ) → get m q ≡ option_map buffer_in (slot_at before q)) → (after : Slots) → Swept (map named_array (insert_entry eq es k v)) before after →
+      state_of (insert_entry eq es k v) after ≡ record { names = names; buffers = retain_keys m (is_in_use names); kept = [] }
+  bound-state m there after swept = λ i. record { names = bound-entries i; buffers = buffers i; kept = [] }
     where
-      with_one : (t : Bool) (o : Option Slot) → cond t (Some (buffer_in slot)) (option_map buffer_in o) ≡ option_map buffer_in (cond t (Some slot) o)
-      with_one true o = refl
-      with_one false o = refl
-
-      buffers : (state_of (insert_entry eq es k v) after).buffers ≡ retain_keys (insert (state_of es slots).buffers v.number (buffer_in slot)) (is_in_use names)
+      buffers : (state_of (insert_entry eq es k v) after).buffers ≡ retain_keys m (is_in_use names)
       buffers =
-          swept-buffers (insert_entry eq es k v) (map named_array (insert_entry eq es k v)) (insert (state_of es slots).buffers v.number (buffer_in slot)) before after swept (λ q.
-          get-insert nat_cmp_total (state_of es slots).buffers v.number (buffer_in slot) q
-          ∙ ap (λ t. cond t (Some (buffer_in slot)) (get (state_of es slots).buffers q)) (tests_agree q v.number)
-          ∙ ap (cond (nat_eq q v.number) (Some (buffer_in slot))) (get-buffers es slots q)
-          ∙ with_one (nat_eq q v.number) (slot_at slots q)
-          ∙ ap (option_map buffer_in) (sym (put q)))
-          ∙ ap (λ (ns : Names). retain_keys (insert (state_of es slots).buffers v.number (buffer_in slot)) (is_in_use ns)) entries
+          swept-buffers (insert_entry eq es k v) (map named_array (insert_entry eq es k v)) m before after swept there
+          ∙ ap (λ (ns : Names). retain_keys m (is_in_use ns)) bound-entries
+
+-- the buffers with that of a slot that is put
+pub buffers-put : (es : List (Key × Entry)) (slots before : Slots) (n : ℕ) (slot : Slot) → ((q : ℕ) → slot_at before q ≡ cond (nat_eq q n) (Some slot) (slot_at slots q)) →
+    (q : ℕ) → get (insert (state_of es slots).buffers n (buffer_in slot)) q ≡ option_map buffer_in (slot_at before q)
+buffers-put es slots before n slot put q =
+    get-insert nat_cmp_total (state_of es slots).buffers n (buffer_in slot) q
+    ∙ ap (λ t. cond t (Some (buffer_in slot)) (get (state_of es slots).buffers q)) (tests_agree q n)
+    ∙ ap (cond (nat_eq q n) (Some (buffer_in slot))) (get-buffers es slots q)
+    ∙ with_one (nat_eq q n) (slot_at slots q)
+    ∙ ap (option_map buffer_in) (sym (put q))
+  where
+    with_one : (t : Bool) (o : Option Slot) → cond t (Some (buffer_in slot)) (option_map buffer_in o) ≡ option_map buffer_in (cond t (Some slot) o)
+    with_one true o = refl
+    with_one false o = refl
 
 -- how many names there are then
 pub few-bound : (es : List (Key × Entry)) (slots : Slots) (test : Key → Bool) (name : List ℕ) → TestsName test name → has_room_for (state_of es slots) name ≡ true → lookup test es ≡ None → length es + 1 ≤ 1024

@@ -31,7 +31,7 @@ use Rattle.name_store.proofs.StateLaws.{Slots, bound-found, none-found, found-li
 use Rattle.name_store.proofs.ShowLaws.{buffer-found}
 
 -- what holds of all elements holds of some of them
-all-among : (P : ℕ → Type 0) (xs ys : List ℕ) → AllByRecursion P xs → All (Contains xs) ys → AllByRecursion P ys
+pub all-among : (P : ℕ → Type 0) (xs ys : List ℕ) → AllByRecursion P xs → All (Contains xs) ys → AllByRecursion P ys
 all-among P xs [] all among = tt
 all-among P xs (y ∷ ys) all among =
     (All-contains P xs y (All-from_recursion P xs all) (All-head (Contains xs) y ys among), all-among P xs ys all (All-tail (Contains xs) y ys among))

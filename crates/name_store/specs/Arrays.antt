@@ -1,5 +1,5 @@
 -- Names, arrays and buffers of a state: looked up, bound, removed, read and written.
-use Rattle.std.specs.Prelude.{ℕ, Bool, true, List, [], ◌∷◌, length, map, Option, Some, None, slice_get, slice_set, is_some, nat_eq, nat_lt, if◌then◌else◌, unwrap_or, ◌||◌}
+use Rattle.std.specs.Prelude.{ℕ, Bool, true, List, [], ◌∷◌, length, map, Option, Some, None, slice_get, slice_set, is_some, nat_eq, nat_lt, if◌then◌else◌, unwrap_or, ◌||◌, ◌&&◌}
 use Rattle.std.specs.List.{list_any, range_with_len}
 use Rattle.std.specs.Str.{bytes_eq}
 use Rattle.std.specs.FinMap.{get, insert, retain_keys}
@@ -44,6 +44,12 @@ bound_to s name array buffer =
     let names = put_array s.names name array in
     record s { names = names; buffers = retain_keys (insert s.buffers array.buffer buffer) (is_in_use names) }
 
+-- A name is bound to an array that lies in a buffer that is there. A buffer that no name uses any more is gone.
+abbrev pub bound_view : State → List ℕ → Array → State
+bound_view s name array =
+    let names = put_array s.names name array in
+    record s { names = names; buffers = retain_keys s.buffers (is_in_use names) }
+
 -- A name is bound no longer. A buffer that no name uses any more is gone.
 abbrev pub unbound : State → List ℕ → State
 unbound s name =
@@ -76,3 +82,16 @@ write places new items = items
 abbrev pub written : State → Array → List ℕ → List (List LeafValue) → State
 written s array places new =
     record s { buffers = insert s.buffers array.buffer (record (buffer_of s array) { items = write places new (buffer_of s array).items }) }
+
+-- Shared cells
+
+-- two paths in one item lead to something in common where one goes on from the other
+abbrev pub paths_meet : List ℕ → List ℕ → Bool
+paths_meet [] others = true
+paths_meet (k ∷ path) [] = true
+paths_meet (k ∷ path) (other ∷ others) = nat_eq k other && paths_meet path others
+
+-- whether two arrays lie in one buffer, and some place is in both
+abbrev pub share_cells : Array → Array → Bool
+share_cells a b =
+    nat_eq a.buffer b.buffer && paths_meet a.path b.path && list_any (λ place. list_any (nat_eq place) b.places) a.places

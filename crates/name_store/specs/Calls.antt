@@ -1,18 +1,19 @@
 -- What a call that changes a bench answers.
-use Rattle.std.specs.Prelude.{◌≡◌, ◌⊎◌, ℕ, true, false, List, Result, Ok, Err, None, All}
+use Rattle.std.specs.Prelude.{◌≡◌, ◌<◌, ◌⊎◌, ◌&&◌, ℕ, Bool, true, false, List, Result, Ok, Err, Some, None, All}
 use Rattle.std.specs.FinMap.{get}
 use Rattle.elem_descr.specs.declared.refusal.Refusal.{Refusal}
 use Rattle.elem_descr.specs.declared.refusal.Refusal.TheVariants.{OutOfMemory, TooManyNames, UnknownName}
 use Rattle.overlap_copy.specs.declared.owned.Owned.{Owned}
 use Rattle.shape_strides.specs.Indexes.{count}
 use Rattle.name_store.specs.States.{State, Array, Buffer}
-use Rattle.name_store.specs.Arrays.{is_bound, has_room_for, fresh_array, bound_to, unbound, buffer_of, written}
+use Rattle.name_store.specs.Arrays.{is_bound, has_room_for, fresh_array, bound_to, bound_view, unbound, buffer_of, written, find_array, share_cells}
 use Rattle.elem_descr.specs.Blocks.{items_in}
 use Rattle.name_store.specs.Targets.{layout_of, new_items, LeadsTo}
 use Rattle.name_store.specs.declared.target.Source.{Source}
 use Rattle.name_store.specs.declared.target.Target.{Target}
 use Rattle.name_store.specs.declared.bound.Bound.{Bound}
-use Rattle.name_store.specs.declared.bound.Bound.TheVariants.{Fresh}
+use Rattle.name_store.specs.declared.bound.Bound.TheVariants.{Fresh, View}
+use Rattle.name_store.specs.Views.{IsViewIn}
 
 -- the buffer of an array that has a block of its own
 abbrev pub own_buffer : Owned → Buffer
@@ -23,10 +24,17 @@ pub record IsUnused (s : State) (number : ℕ) : Type 0 where
   pub unused : get s.buffers number ≡ None
   pub unkept : All (λ state. get state.1 number ≡ None) s.kept
 
--- the state once a name is bound; the number of a fresh buffer is any that is not in use
+-- the least number that neither the state nor a kept state uses
+pub record IsLeastUnused (s : State) (number : ℕ) : Type 0 where
+  pub unused : IsUnused s number
+  pub least : (m : ℕ) → m < number → IsUnused s m → ⊥
+
+-- the state once a name is bound; a fresh buffer takes the least number that is in no use
 abbrev pub Binds : State → List ℕ → Bound → State → Type 0
 Binds old name (Fresh o) new =
-    (number : ℕ) × IsUnused old number × (new ≡ bound_to old name (fresh_array number o.layout.shape) (own_buffer o))
+    (number : ℕ) × IsLeastUnused old number × (new ≡ bound_to old name (fresh_array number o.layout.shape) (own_buffer o))
+Binds old name (View number layout writable) new =
+    (array : Array) → IsViewIn old number layout writable array → new ≡ bound_view old name array
 
 -- A name is bound where there is room for it. Else it is refused, or for want of memory, and nothing has changed.
 abbrev pub AnswersBind : State → List ℕ → Bound → Result (Unit {0}) Refusal → State → Type 0
@@ -45,3 +53,10 @@ AnswersWrite old name target source (Ok n) new =
     (n ≡ count (layout_of target).shape)
     × ((array : Array) (places : List ℕ) → LeadsTo old name target array places → new ≡ written old array places (new_items (buffer_of old array).descr n source))
 AnswersWrite old name target source (Err refusal) new = (new ≡ old) × (refusal ≡ OutOfMemory)
+
+-- Whether the arrays of two names share cells. Only a name that is not bound and want of memory refuse it.
+abbrev pub AnswersShares : State → List ℕ → List ℕ → Result Bool Refusal → Type 0
+AnswersShares s left right (Ok answer) =
+    (a : Array) × (b : Array) × (find_array s.names left ≡ Some a) × (find_array s.names right ≡ Some b) × (answer ≡ share_cells a b)
+AnswersShares s left right (Err refusal) =
+    (((is_bound s left && is_bound s right) ≡ false) × (refusal ≡ UnknownName)) ⊎ (((is_bound s left && is_bound s right) ≡ true) × (refusal ≡ OutOfMemory))

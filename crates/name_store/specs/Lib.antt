@@ -7,3 +7,4 @@ pub mod Shown
 pub mod States
 pub mod Targets
 pub mod View
+pub mod Views

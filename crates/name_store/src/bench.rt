@@ -7,6 +7,8 @@ use crate::bind::{bind_in, has_room};
 use crate::bound::Bound;
 use crate::entry::{Entry, Key};
 use crate::look::look_in;
+use crate::names::Names;
+use crate::shares::shares_in;
 use crate::slot::Slot;
 use crate::target::{Source, Target};
 use crate::unbind::unbind_in;
@@ -45,9 +47,10 @@ impl Model for Bench {
 impl Bench {
     ghost use Rattle.name_store.specs.States.{start};
     ghost use Rattle.name_store.specs.Arrays.{find_array, has_room_for};
-    ghost use Rattle.name_store.specs.Calls.{AnswersBind, AnswersUnbind, AnswersWrite};
+    ghost use Rattle.name_store.specs.Calls.{AnswersBind, AnswersUnbind, AnswersWrite, AnswersShares};
     ghost use Rattle.name_store.specs.Shown.{Finds};
     ghost use Rattle.name_store.specs.Targets.{IsAim};
+    ghost use Rattle.name_store.specs.Views.{MayBind};
 
     /// A bench on which no name is bound, and that keeps no earlier state.
     pub fn try_new(alloc: Global, depth: usize) -> Result<Bench, AllocError>
@@ -83,8 +86,10 @@ impl Bench {
         )
     }
 
-    /// Binds a name. One that is bound keeps its place among the names.
+    /// Binds a name. One that is bound keeps its place among the names. A view may be one of the
+    /// array that the name itself was bound to.
     pub fn bind(&mut self, alloc: Global, name: &Name, bound: Bound) -> Result<(), Refusal>
+        requires { MayBind self.old bound }
         ensures { AnswersBind self.old name.now bound result self.new }
     {
         bind_in(
@@ -117,12 +122,35 @@ impl Bench {
         unbind_in(&mut self.names, &mut self.slots, &Key::of(self.alloc, name))
     }
 
+    /// Whether the arrays of two names share cells. A name that is not bound is refused before any
+    /// memory is asked for.
+    pub fn shares(&self, alloc: Global, left: &Name, right: &Name) -> Result<bool, Refusal>
+        ensures { AnswersShares self.now left.now right.now result }
+    {
+        shares_in(
+            alloc,
+            &self.names,
+            self.slots.as_slice(),
+            &Key::of(alloc, left),
+            &Key::of(alloc, right),
+        )
+    }
+
     /// How many names are bound.
     pub fn len(&self) -> usize
         ensures len { result ≡ length self.now.names }
         ensures few { result ≤ 1024 }
     {
         self.names.len()
+    }
+
+    /// The names, in the order in which they were first bound. No memory is taken.
+    pub fn names(&self) -> Names<'_>
+        ensures { result ≡ map (λ entry. entry.0) self.now.names }
+    {
+        Names {
+            keys: self.names.keys(),
+        }
     }
 
     /// The name that was bound as the k-th, counted from 0.

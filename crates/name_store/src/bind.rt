@@ -1,18 +1,21 @@
 //! A name is bound.
-ghost use Rattle.std.specs.Prelude.{◌≡◌};
+ghost use Rattle.std.specs.Prelude.{◌≡◌, true};
 ghost use Rattle.name_store.specs.Arrays.{has_room_for};
 ghost use Rattle.name_store.specs.Calls.{AnswersBind};
 ghost use Rattle.name_store.specs.Invariants.{Holds};
 ghost use Rattle.name_store.specs.View.{state_of};
-ghost use Rattle.name_store.specs.declared.bound.Bound.TheVariants.{Fresh};
+ghost use Rattle.name_store.specs.declared.bound.Bound.TheVariants.{Fresh, View};
+ghost use Rattle.name_store.specs.States.{Array};
+ghost use Rattle.name_store.specs.Views.{IsViewIn, MayBind};
 
 use crate::bound::Bound;
 use crate::entry::{Entry, Key};
 use crate::slot::Slot;
-use crate::slots::{free_number, put_slot, release};
+use crate::slots::{free_number, put_slot, release_replaced, slot_of};
 use elem_descr::Refusal;
 use indexmap::IndexMap;
 use overlap_copy::Owned;
+use shape_strides::Layout;
 use std::alloc::Global;
 
 /// The most names that are bound at one time.
@@ -34,13 +37,11 @@ fn bind_fresh(
     owned: Owned,
 ) -> Result<(), Refusal>
     requires holds { Holds names.old.entries slots.old.items }
+    requires room { has_room_for (state_of names.old.entries slots.old.items) key.bytes.items ≡ true }
     ensures holds { Holds names.new.entries slots.new.items }
     ensures answers { AnswersBind (state_of names.old.entries slots.old.items) key.bytes.items (Fresh owned) result
         (state_of names.new.entries slots.new.items) }
 {
-    if !has_room(names, slots.as_slice(), &key) {
-        return Err(Refusal::TooManyNames);
-    }
     slots.reserve(1)?;
     let number = free_number(slots.as_slice());
     let Owned {
@@ -65,9 +66,36 @@ fn bind_fresh(
             block,
         },
     );
-    if let Some(replaced) = replaced {
-        release(names, slots, replaced.number);
-    }
+    release_replaced(names, slots, replaced);
+    Ok(())
+}
+
+/// Binds a name to a view. Only the table of names takes memory, and before the first change.
+fn bind_view(
+    names: &mut IndexMap<Key, Entry>,
+    slots: &mut Vec<Option<Slot>>,
+    key: Key,
+    number: u64,
+    layout: Layout,
+    writable: bool,
+) -> Result<(), Refusal>
+    requires holds { Holds names.old.entries slots.old.items }
+    requires room { has_room_for (state_of names.old.entries slots.old.items) key.bytes.items ≡ true }
+    requires view { (array : Array) × IsViewIn (state_of names.old.entries slots.old.items) number layout writable array }
+    ensures holds { Holds names.new.entries slots.new.items }
+    ensures answers { AnswersBind (state_of names.old.entries slots.old.items) key.bytes.items (View number layout writable) result
+        (state_of names.new.entries slots.new.items) }
+{
+    let number = number as usize;
+    let item = slot_of(slots.as_slice(), number).descr.size();
+    let view = Entry {
+        number,
+        layout,
+        item,
+        writable,
+    };
+    let replaced = names.insert(key, view)?;
+    release_replaced(names, slots, replaced);
     Ok(())
 }
 
@@ -79,11 +107,20 @@ pub(crate) fn bind_in(
     bound: Bound,
 ) -> Result<(), Refusal>
     requires holds { Holds names.old.entries slots.old.items }
+    requires may { MayBind (state_of names.old.entries slots.old.items) bound }
     ensures holds { Holds names.new.entries slots.new.items }
     ensures answers { AnswersBind (state_of names.old.entries slots.old.items) key.bytes.items bound result
         (state_of names.new.entries slots.new.items) }
 {
+    if !has_room(names, slots.as_slice(), &key) {
+        return Err(Refusal::TooManyNames);
+    }
     match bound {
         Bound::Fresh(owned) => bind_fresh(names, slots, key, owned),
+        Bound::View {
+            number,
+            layout,
+            writable,
+        } => bind_view(names, slots, key, number, layout, writable),
     }
 }

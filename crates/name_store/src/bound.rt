@@ -1,8 +1,15 @@
 //! What a name is bound to.
 use overlap_copy::Owned;
+use shape_strides::Layout;
 
-/// What a name is bound to: so far an array with a block of its own.
+/// What a name is bound to: an array with a block of its own, or a view of an array that is bound,
+/// by the number of its buffer and a layout whose offsets are bytes in the buffer's block.
 #[derive(Drop)]
 pub enum Bound {
     Fresh(Owned),
+    View {
+        number: u64,
+        layout: Layout,
+        writable: bool,
+    },
 }

@@ -8,6 +8,8 @@ mod bind;
 mod bound;
 mod entry;
 mod look;
+mod names;
+mod shares;
 mod slot;
 mod slots;
 mod target;
@@ -17,6 +19,7 @@ mod write;
 pub use array_ref::ArrayRef;
 pub use bench::Bench;
 pub use bound::Bound;
+pub use names::Names;
 pub use target::{Source, Target};
 
 // A crate can name a bench in a contract only if the types of its fields are exported.

@@ -1,8 +1,9 @@
 //! The slots, in which buffers stand by their numbers.
-ghost use Rattle.std.specs.Prelude.{◌≡◌, ◌≤◌, ◌<◌, ◌&&◌, ℕ, nat_eq, not, true, is_some, length, map, position, Some, None, if◌then◌else◌, vec_len, vec_capacity};
+ghost use Rattle.std.specs.Prelude.{◌≡◌, ◌≤◌, ◌<◌, ◌&&◌, ℕ, nat_eq, not, true, is_some, length, map, position, Some, None, IfSome, if◌then◌else◌, vec_len, vec_capacity};
 ghost use Rattle.std.specs.Option.{is_none};
 ghost use Rattle.name_store.specs.Arrays.{is_in_use};
 ghost use Rattle.name_store.specs.View.{named_array, slot_at};
+ghost use Rattle.name_store.specs.declared.entry.Entry.{Entry};
 
 use crate::entry::{Entry, Key};
 use crate::slot::Slot;
@@ -18,6 +19,7 @@ fn first_free(slots: &[Option<Slot>]) -> Option<usize>
 pub(crate) fn free_number(slots: &[Option<Slot>]) -> usize
     ensures free { slot_at slots.now result ≡ None }
     ensures within { result ≤ length slots.now }
+    ensures least { (lower : ℕ) → lower < result → is_some (slot_at slots.now lower) ≡ true }
 {
     first_free(slots).unwrap_or(slots.len())
 }
@@ -65,5 +67,21 @@ pub(crate) fn release(names: &IndexMap<Key, Entry>, slots: &mut Vec<Option<Slot>
 {
     if !is_in_use(names, number) {
         slots[number] = None;
+    }
+}
+
+/// Frees the slot of the array that a name was bound to before, if no name's array lies in it.
+pub(crate) fn release_replaced(
+    names: &IndexMap<Key, Entry>,
+    slots: &mut Vec<Option<Slot>>,
+    replaced: Option<Entry>,
+)
+    requires { IfSome replaced (λ old. old.number < vec_len slots.old) }
+    ensures none { replaced ≡ None → slots.new ≡ slots.old }
+    ensures some { (old : Entry) → replaced ≡ Some old → (other : ℕ) → slot_at slots.new.items other
+        ≡ (if nat_eq other old.number && not (is_in_use (map named_array names.now.entries) old.number) then None else slot_at slots.old.items other) }
+{
+    if let Some(replaced) = replaced {
+        release(names, slots, replaced.number);
     }
 }

@@ -1,0 +1,28 @@
+use Rattle.std.proofs.Common.{◌≡◌, ap, sym, refl, ◌∙◌, inr, Ok}
+use Rattle.elem_descr.specs.declared.descr.Descr.{Descr}
+use Rattle.elem_descr.specs.Items.{item_size}
+use Rattle.shape_strides.specs.Layouts.{offsets}
+use Rattle.name_store.specs.Places.{offsets_of}
+use Rattle.bench_engine.specs.Machine.{addresses}
+use Rattle.bench_engine.specs.Replies.{info_text}
+use Rattle.bench_engine.proofs.Looks.{unchanged, not_found, found}
+use Rattle.bench_engine.proofs.Outcomes.{info-unknown, info-done}
+use Rattle.bench_engine.proofs.Steps.{spare}
+use Rattle.bench_engine.proofs.info.info.Goals as goal
+
+pub returns-in_default-clause-answers : goal.returns-in_default-clause-answers
+returns-in_default-clause-answers c = (refl, unchanged _, inr (λ choice. info-unknown _ _ (not_found _ _ c.in_default.ensures)))
+
+pub returns-clause-answers : goal.returns-clause-answers
+returns-clause-answers c =
+    let s = c.args.bench.now in
+    let it = found s _ c.in-Some.array c.in-Some.ensures in
+    let any = spare s in
+    let r = c.in-Some.array in
+    let at : addresses s it.0 ≡ offsets r.layout.now = ap (λ (d : Descr). offsets_of (item_size d) it.0.places) it.2.descr ∙ sym it.2.places in (
+      any.0,
+      any.1,
+      info_text c.args.name.now r.descr.now r.layout.now.shape (offsets r.layout.now) r.writable,
+      info-done s c.args.name.now it.0 it.1 ∙ (λ i. Ok (s, info_text c.args.name.now (it.2.descr i) (sym it.2.shape i) (at i) (sym it.2.writable i))),
+      c.in_ok-push_info_text.ensures.ok,
+    )

@@ -1,0 +1,96 @@
+//! `info X`: where the items of an array lie.
+ghost use Rattle.std.specs.Prelude.{◌≡◌, ◌≤◌, ◌^◌, ◌++◌, OnOk, vec_capacity};
+ghost use Rattle.std.specs.Io.{StartsWith};
+ghost use Rattle.shape_strides.specs.Layouts.{offsets, Fits};
+ghost use Rattle.name_store.specs.Arrays.{is_bound};
+ghost use Rattle.bench_engine.specs.Contract.{Answers};
+ghost use Rattle.bench_engine.specs.Machine.{info_outcome};
+ghost use Rattle.bench_engine.specs.Replies.{info_text, layout_words, order_text, yes_or_no};
+
+use crate::replies::push_array_words;
+use elem_descr::{Descr, Refusal};
+use name_store::Bench;
+use script_lang::Name;
+use shape_strides::Layout;
+use std::alloc::{AllocError, Global};
+
+/// The orders in which items of so many bytes lie one after another.
+fn order_text(layout: &Layout, item: usize) -> &'static [u8]
+    requires { Fits layout.now (2 ^ 28) 1 }
+    ensures { result.now ≡ order_text item layout.now.shape (offsets layout.now) }
+{
+    match (layout.is_c(item), layout.is_f(item)) {
+        (true, true) => b"CF",
+        (true, false) => b"C",
+        (false, true) => b"F",
+        (false, false) => b"-",
+    }
+}
+
+/// `yes` or `no`.
+pub fn yes_or_no(is: bool) -> &'static [u8]
+    ensures { result.now ≡ yes_or_no is }
+{
+    if is { b"yes" } else { b"no" }
+}
+
+/// Appends `strides SHAPE at N order O write W`. Where memory runs out, some of it may stand past the
+/// old end.
+fn push_layout_words(
+    alloc: Global,
+    out: &mut Vec<u8>,
+    layout: &Layout,
+    item: usize,
+    writable: bool,
+) -> Result<(), AllocError>
+    requires { Fits layout.now (2 ^ 28) 1 }
+    ensures ok { OnOk result (out.new.items ≡ out.old.items ++ layout_words item layout.now.shape (offsets layout.now) writable) }
+    ensures kept { StartsWith out.new.items out.old.items }
+    ensures room { vec_capacity out.old ≤ vec_capacity out.new }
+{
+    let strides = Layout::printed_strides(alloc, layout)?;
+    let strides = format!(in alloc; "{strides}")?;
+    let at = layout.first_address();
+    let at = format!(in alloc; "{at}")?;
+    out.extend_from_slice(b"strides ")?;
+    out.extend_from_slice(strides.as_bytes())?;
+    out.extend_from_slice(b" at ")?;
+    out.extend_from_slice(at.as_bytes())?;
+    out.extend_from_slice(b" order ")?;
+    out.extend_from_slice(order_text(layout, item))?;
+    out.extend_from_slice(b" write ")?;
+    out.extend_from_slice(yes_or_no(writable))
+}
+
+/// Appends the whole reply. Where memory runs out, some of it may stand past the old end.
+fn push_info_text(
+    alloc: Global,
+    out: &mut Vec<u8>,
+    name: &Name,
+    descr: &Descr,
+    layout: &Layout,
+    writable: bool,
+) -> Result<(), AllocError>
+    requires { Fits layout.now (2 ^ 28) 1 }
+    ensures ok { OnOk result (out.new.items ≡ out.old.items ++ info_text name.now descr.now layout.now.shape (offsets layout.now) writable) }
+    ensures kept { StartsWith out.new.items out.old.items }
+    ensures room { vec_capacity out.old ≤ vec_capacity out.new }
+{
+    out.extend_from_slice(b"info ")?;
+    push_array_words(alloc, out, name, descr, &layout.shape)?;
+    out.push(b' ')?;
+    push_layout_words(alloc, out, layout, descr.size(), writable)
+}
+
+/// Tells where the items of a name's array lie in its buffer, in bytes.
+pub fn info(alloc: Global, bench: &Bench, name: &Name, out: &mut Vec<u8>) -> Result<(), Refusal>
+    ensures room { vec_capacity out.old ≤ vec_capacity out.new }
+    ensures answers { Answers (is_bound bench.now name.now) (λ choice. info_outcome bench.now name.now)
+        bench.now bench.now out.old.items out.new.items result }
+{
+    let Some(array) = bench.get(name) else {
+        return Err(Refusal::UnknownName);
+    };
+    push_info_text(alloc, out, name, array.descr, array.layout, array.writable)?;
+    Ok(())
+}

@@ -1,0 +1,74 @@
+//! Texts that several replies share.
+ghost use Rattle.std.specs.Prelude.{◌≡◌, ◌≤◌, ◌++◌, OnOk, IfOk, vec_capacity};
+ghost use Rattle.std.specs.Io.{StartsWith};
+ghost use Rattle.bench_engine.specs.Replies.{descr_text, array_words, fresh_text, view_text};
+
+use elem_descr::{Descr, format_write, typestr_write};
+use script_lang::Name;
+use shape_strides::Shape;
+use std::alloc::{AllocError, Global};
+
+/// An element type as replies show it.
+fn descr_text(alloc: Global, descr: &Descr) -> Result<Vec<u8>, AllocError>
+    ensures { IfOk result (λ text. text.items ≡ descr_text descr.now) }
+{
+    match descr {
+        Descr::Scalar(scalar) => typestr_write(alloc, *scalar),
+        Descr::Record(_) => format_write(alloc, descr),
+    }
+}
+
+/// Appends `X DESCR SHAPE`. Where memory runs out, some of it may stand past the old end.
+pub fn push_array_words(
+    alloc: Global,
+    out: &mut Vec<u8>,
+    name: &Name,
+    descr: &Descr,
+    shape: &Shape,
+) -> Result<(), AllocError>
+    ensures ok { OnOk result (out.new.items ≡ out.old.items ++ array_words name.now descr.now shape.now) }
+    ensures kept { StartsWith out.new.items out.old.items }
+    ensures room { vec_capacity out.old ≤ vec_capacity out.new }
+{
+    let descr = descr_text(alloc, descr)?;
+    let shape = format!(in alloc; "{shape}")?;
+    out.extend_from_slice(name.as_slice())?;
+    out.push(b' ')?;
+    out.extend_from_slice(descr.as_slice())?;
+    out.push(b' ')?;
+    out.extend_from_slice(shape.as_bytes())
+}
+
+/// Appends `ok X DESCR SHAPE new`. Where memory runs out, some of it may stand past the old end.
+pub fn push_fresh_text(
+    alloc: Global,
+    out: &mut Vec<u8>,
+    name: &Name,
+    descr: &Descr,
+    shape: &Shape,
+) -> Result<(), AllocError>
+    ensures ok { OnOk result (out.new.items ≡ out.old.items ++ fresh_text name.now descr.now shape.now) }
+    ensures kept { StartsWith out.new.items out.old.items }
+    ensures room { vec_capacity out.old ≤ vec_capacity out.new }
+{
+    out.extend_from_slice(b"ok ")?;
+    push_array_words(alloc, out, name, descr, shape)?;
+    out.extend_from_slice(b" new")
+}
+
+/// Appends `ok X DESCR SHAPE view`. Where memory runs out, some of it may stand past the old end.
+pub fn push_view_text(
+    alloc: Global,
+    out: &mut Vec<u8>,
+    name: &Name,
+    descr: &Descr,
+    shape: &Shape,
+) -> Result<(), AllocError>
+    ensures ok { OnOk result (out.new.items ≡ out.old.items ++ view_text name.now descr.now shape.now) }
+    ensures kept { StartsWith out.new.items out.old.items }
+    ensures room { vec_capacity out.old ≤ vec_capacity out.new }
+{
+    out.extend_from_slice(b"ok ")?;
+    push_array_words(alloc, out, name, descr, shape)?;
+    out.extend_from_slice(b" view")
+}

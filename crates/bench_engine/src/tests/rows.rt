@@ -1,0 +1,187 @@
+//! Scripts with their replies.
+use super::{FIRST_REPLIES, FIRST_RUN};
+
+/// A script with its replies, and how many commands were accepted and how many refused.
+pub struct Row {
+    pub script: &'static [u8],
+    pub replies: &'static [u8],
+    pub accepted: u64,
+    pub refused: u64,
+}
+
+pub const ROWS: [Row; 26] = [
+    Row {
+        script: FIRST_RUN,
+        replies: FIRST_REPLIES,
+        accepted: 3,
+        refused: 0,
+    },
+    Row {
+        script: b"",
+        replies: b"",
+        accepted: 0,
+        refused: 0,
+    },
+    Row {
+        script: b"a = zeros <f4 (2)\na = zeros <i3 (2)\na = zeros <i4 (16777217)\na = zeros <i4 (1,1,1,1,1,1,1,1,1,1,1,1,1,1,1,1,1,1,1,1,1,1,1,1,1,1,1,1,1,1,1,1,1,1,1,1,1,1,1,1,1,1,1,1,1,1,1,1,1,1,1,1,1,1,1,1,1,1,1,1,1,1,1,1,1)\nprint q\na zeros\nnames \x80\n# note\n",
+        replies: b"no E05 descriptor left out\nno E04 bad descriptor\nno E09 too large\nno E08 too many axes\nno E06 unknown name\nno E03 syntax\nno E02 byte not allowed\n",
+        accepted: 0,
+        refused: 7,
+    },
+    // Carriage returns, blank lines, comments, blanks at both ends; the last line without a newline.
+    Row {
+        script: b"a = zeros <i8 ()\r\n\r\n \t\n  # \x80 is no matter here\n \tset a[ ] = 1\n  print\ta \nprint a",
+        replies: b"ok a <i8 () new\nno E03 syntax\n0\n0\n",
+        accepted: 3,
+        refused: 1,
+    },
+    // A bound name is bound anew, and keeps nothing of the old array.
+    Row {
+        script: b"a = zeros <i4 (2)\nset a[-1] = -5\nprint a\na = zeros <i8 (1)\nprint a\n",
+        replies: b"ok a <i4 (2,) new\nok set 1\n[ 0 -5]\nok a <i8 (1,) new\n[0]\n",
+        accepted: 5,
+        refused: 0,
+    },
+    // Integers at the ends of their range, and one past each end.
+    Row {
+        script: b"a = zeros <i4 (2)\nset a[0] = -2147483648\nset a[1] = 2147483647\nset a[0] = 2147483648\nset a[1] = -2147483649\nprint a\n",
+        replies: b"ok a <i4 (2,) new\nok set 1\nok set 1\nno E23 literal out of range\nno E23 literal out of range\n[-2147483648  2147483647]\n",
+        accepted: 4,
+        refused: 2,
+    },
+    Row {
+        script: b"a = zeros <i8 (1)\nset a[0] = -9223372036854775808\nprint a\nset a[0] = 9223372036854775808\nset a[0] = 9223372036854775807\nprint a\n",
+        replies: b"ok a <i8 (1,) new\nok set 1\n[-9223372036854775808]\nno E23 literal out of range\nok set 1\n[9223372036854775807]\n",
+        accepted: 5,
+        refused: 1,
+    },
+    // The order of checks: the number of indices, then the place, then the literal.
+    Row {
+        script: b"a = zeros <i4 (2,3)\nset a[0,0,9] = 9999999999\nset a[9] = 9999999999\nset a[2,0] = 9999999999\nset a[-3,0] = 1\nset a[0,3] = 1\nset a[0,-4] = 1\nset a[999999999999999999999999999999,0] = 1\nset b[0] = 9999999999\nset a[1,-1] = 9999999999\n",
+        replies: b"ok a <i4 (2, 3) new\nno E10 too many indices\nno E11 index out of range\nno E11 index out of range\nno E11 index out of range\nno E11 index out of range\nno E11 index out of range\nno E11 index out of range\nno E06 unknown name\nno E23 literal out of range\n",
+        accepted: 1,
+        refused: 9,
+    },
+    // Sizes at their limits: the exact product counts, and a buffer has at most 2^28 bytes.
+    Row {
+        script: b"a = zeros <i4 (0,16777216,16777216)\nprint a\nb = zeros <i4 (16777216,2)\nc = zeros <i8 (4097,8192)\nd = zeros <i4 (999999999999999999999999999999)\ne = zeros <f4 (16777217)\nf = zeros |S65536 (4097)\n",
+        replies: b"ok a <i4 (0, 16777216, 16777216) new\n[]\nno E09 too large\nno E09 too large\nno E09 too large\nno E05 descriptor left out\nno E09 too large\n",
+        accepted: 2,
+        refused: 5,
+    },
+    Row {
+        script: b"a = zeros <i4 (2,2,2)\nset a[1,1,1] = -12\nprint a\n",
+        replies: b"ok a <i4 (2, 2, 2) new\nok set 1\n[[[  0   0]\n  [  0   0]]\n\n [[  0   0]\n  [  0 -12]]]\n",
+        accepted: 3,
+        refused: 0,
+    },
+    // Two names, each with its own array.
+    Row {
+        script: b"a = zeros <i4 (1)\nb = zeros <i4 (1)\nset b[0] = 1\nprint a\nprint b\na = zeros <i4 (1)\nprint b\n",
+        replies: b"ok a <i4 (1,) new\nok b <i4 (1,) new\nok set 1\n[0]\n[1]\nok a <i4 (1,) new\n[1]\n",
+        accepted: 7,
+        refused: 0,
+    },
+    // Commands that are not carried out yet.
+    Row {
+        script: b"a = zeros <i4 (1)\nundo\nb = a[i]\nset a[0] = a\nupd a[0] add 1\nc = add a 1\nd = sum a\nsave a \"a.npy\"\nset q[i] = 1\nset a[i,0] = 1\n",
+        replies: b"ok a <i4 (1,) new\nno E03 syntax\nno E03 syntax\nno E03 syntax\nno E03 syntax\nno E03 syntax\nno E03 syntax\nno E03 syntax\nno E03 syntax\nno E03 syntax\n",
+        accepted: 1,
+        refused: 9,
+    },
+    // A write through a view is seen by the array, and by each of its views.
+    Row {
+        script: b"a = zeros <i4 (2,3)\nb = a[1,:]\nset b[0] = 7\nprint a\nt = transpose a\nset t[2,0] = -1\nprint a\nprint b\nset a[:,1] = 5\nprint t\n",
+        replies: b"ok a <i4 (2, 3) new\nok b <i4 (3,) view\nok set 1\n[[0 0 0]\n [7 0 0]]\nok t <i4 (3, 2) view\nok set 1\n[[ 0  0 -1]\n [ 7  0  0]]\n[7 0 0]\nok set 2\n[[ 0  7]\n [ 5  5]\n [-1  0]]\n",
+        accepted: 10,
+        refused: 0,
+    },
+    // Slices as Python has them, and the order of checks of an index list.
+    Row {
+        script: b"a = arange <i4 0 5 1\nb = a[::-2]\nprint b\ninfo b\nc = a[-7:99]\nprint c\nd = a[0:3:0]\nd = a[5]\nd = a[0,0]\nd = a[0:3:0,0]\nd = a[9,...,::0]\nd = q[::0]\ne = a[-2:-9:-999999999999999999999999999999]\nprint e\n",
+        replies: b"ok a <i4 (5,) new\nok b <i4 (3,) view\n[4 2 0]\ninfo b <i4 (3,) strides (-8,) at 16 order - write yes\nok c <i4 (5,) view\n[0 1 2 3 4]\nno E12 zero step\nno E11 index out of range\nno E10 too many indices\nno E10 too many indices\nno E10 too many indices\nno E06 unknown name\nok e <i4 (1,) view\n[3]\n",
+        accepted: 8,
+        refused: 6,
+    },
+    // Which axes are one after another: the stride of an axis of length 1 is no matter.
+    Row {
+        script: b"a = zeros <i4 (2,3,4)\ninfo a\nb = a[:,:,:2]\ninfo b\nc = a[1,...]\ninfo c\nd = a[0,0,None,:]\ninfo d\nt = transpose a\ninfo t\ne = a[2:]\ninfo e\nf = a[1:,2,3]\ninfo f\ng = a[1,2,3]\ninfo g\nt = transpose t\ninfo t\nu = transpose a (0,-1,1)\ninfo u\nu = transpose a (0,1)\n",
+        replies: b"ok a <i4 (2, 3, 4) new\ninfo a <i4 (2, 3, 4) strides (48, 16, 4) at 0 order C write yes\nok b <i4 (2, 3, 2) view\ninfo b <i4 (2, 3, 2) strides (48, 16, 4) at 0 order - write yes\nok c <i4 (3, 4) view\ninfo c <i4 (3, 4) strides (16, 4) at 48 order C write yes\nok d <i4 (1, 4) view\ninfo d <i4 (1, 4) strides (0, 4) at 0 order CF write yes\nok t <i4 (4, 3, 2) view\ninfo t <i4 (4, 3, 2) strides (4, 16, 48) at 0 order F write yes\nok e <i4 (0, 3, 4) view\ninfo e <i4 (0, 3, 4) strides (0, 0, 0) at 0 order CF write yes\nok f <i4 (1,) view\ninfo f <i4 (1,) strides (0,) at 92 order CF write yes\nok g <i4 () view\ninfo g <i4 () strides () at 92 order CF write yes\nok t <i4 (2, 3, 4) view\ninfo t <i4 (2, 3, 4) strides (48, 16, 4) at 0 order C write yes\nok u <i4 (2, 4, 3) view\ninfo u <i4 (2, 4, 3) strides (48, 4, 16) at 0 order - write yes\nno E17 bad axis\n",
+        accepted: 20,
+        refused: 1,
+    },
+    // Interleaved views have no cell in common, though the ranges of their bytes meet.
+    Row {
+        script: b"a = arange <i4 0 6 1\np = a[::2]\nq = a[1::2]\nr = a[1:]\nshares p q\nshares p r\nshares a a\ne = a[6:]\nshares a e\nb = arange <i4 0 6 1\nshares a b\nshares a z\nshares z a\n",
+        replies: b"ok a <i4 (6,) new\nok p <i4 (3,) view\nok q <i4 (3,) view\nok r <i4 (5,) view\nshares no\nshares yes\nshares yes\nok e <i4 (0,) view\nshares no\nok b <i4 (6,) new\nshares no\nno E06 unknown name\nno E06 unknown name\n",
+        accepted: 11,
+        refused: 2,
+    },
+    // An array outlives the name that it was bound to first.
+    Row {
+        script: b"a = arange >i2 0 4 1\nb = a\nc = b[1:3]\ndel a\nset c[...] = -3\nprint b\na = zeros |u1 (1)\nshares a c\nb = b[::-1]\nset b[0] = 9\nprint b\nprint c\nset b[::-1] = 1\nprint c\nset b[4:] = 300\nset b[4:] = 99999\nnames\n",
+        replies: b"ok a >i2 (4,) new\nok b >i2 (4,) view\nok c >i2 (2,) view\nok del a\nok set 2\n[ 0 -3 -3  3]\nok a |u1 (1,) new\nshares no\nok b >i2 (4,) view\nok set 1\n[ 9 -3 -3  0]\n[-3 -3]\nok set 4\n[1 1]\nok set 0\nno E23 literal out of range\nnames b c a\n",
+        accepted: 16,
+        refused: 1,
+    },
+    // Records and byte strings through views.
+    Row {
+        script: b"r = zeros T{b:x:i:y:} (2)\nset r[...] = 7\nprint r\ns = r[::-1]\nset s[0] = (1,2)\nprint r\ninfo s\nt = full |S2 (2,2) b'a'\nu = t[:,0]\nset u[None,:] = b'bcd'\nprint t\n",
+        replies: b"ok r T{<b:x:3x<i:y:} (2,) new\nok set 2\n[(7, 7) (7, 7)]\nok s T{<b:x:3x<i:y:} (2,) view\nok set 1\n[(7, 7) (1, 2)]\ninfo s T{<b:x:3x<i:y:} (2,) strides (-8,) at 8 order - write yes\nok t |S2 (2, 2) new\nok u |S2 (2,) view\nok set 2\n[[b'bc' b'a']\n [b'bc' b'a']]\n",
+        accepted: 11,
+        refused: 0,
+    },
+    Row {
+        script: b"a = arange <i4 0 5 1\nprint a\na = array ? (3) True False True\nprint a\n",
+        replies: b"ok a <i4 (5,) new\n[0 1 2 3 4]\nok a |b1 (3,) new\n[ True False  True]\n",
+        accepted: 4,
+        refused: 0,
+    },
+    // Byte strings are cut to their length, and lose the NULs at their end.
+    Row {
+        script: b"s = array |S3 (2) b'ab' b'a\\x00c'\nprint s\nset s[0] = b'abcd'\nprint s\nformat s\nset s[0] = 1\n",
+        replies: b"ok s |S3 (2,) new\n[b'ab' b'a\\x00c']\nok set 1\n[b'abc' b'a\\x00c']\nformat <3s\nno E33 no such cast\n",
+        accepted: 5,
+        refused: 1,
+    },
+    // Records: a record literal goes by position, a scalar to every field.
+    Row {
+        script: b"r = zeros T{b:x:i:y:} (2)\nformat r\nset r[1] = (5,-1)\nprint r\nset r[0] = 7\nprint r\nset r[0] = (1,2,3)\nset r[0] = (300,b'a')\nset r[0] = (300,1)\nz = zeros T{b:x:T{i:y:}:s:} (1)\n",
+        replies: b"ok r T{<b:x:3x<i:y:} (2,) new\nformat T{<b:x:3x<i:y:}\nok set 1\n[(0,  0) (5, -1)]\nok set 1\n[(7,  7) (5, -1)]\nno E33 no such cast\nno E33 no such cast\nno E23 literal out of range\nno E05 descriptor left out\n",
+        accepted: 6,
+        refused: 4,
+    },
+    // The number of values, then their kinds, then their ranges.
+    Row {
+        script: b"e = array <i4 (2) 1\ne = array <i4 (2) 1 2 3\ne = array |u1 (2) 300 b'a'\ne = array |u1 (2) 300 1\ne = array <i4 () 5\nprint e\ne = array <i4 (0)\nprint e\n",
+        replies: b"no E32 number of values\nno E32 number of values\nno E33 no such cast\nno E23 literal out of range\nok e <i4 () new\n5\nok e <i4 (0,) new\n[]\n",
+        accepted: 4,
+        refused: 4,
+    },
+    Row {
+        script: b"a = arange |i1 0 201 100\na = arange |i1 0 200 100\nprint a\na = arange |b1 0 2 1\na = arange <i4 0 1 0\na = arange <i8 0 999999999999999999999999999999 1\na = arange >i2 3 -4 -3\nprint a\na = arange <u8 0 18446744073709551615 9223372036854775807\nprint a\na = arange T{i:x:} 0 1 0\n",
+        replies: b"no E23 literal out of range\nok a |i1 (2,) new\n[  0 100]\nno E22 not for this kind\nno E12 zero step\nno E09 too large\nok a >i2 (3,) new\n[ 3  0 -3]\nok a <u8 (3,) new\n[                   0  9223372036854775807 18446744073709551614]\nno E22 not for this kind\n",
+        accepted: 6,
+        refused: 5,
+    },
+    Row {
+        script: b"f = full |u1 (2,2) 200\nprint f\nf = full |u1 (1) 256\nf = full |S2 (2) b'abc'\nprint f\nf = full |S2 (1) 1\nf = full ? () 7\nprint f\nset f[0] = 1\n",
+        replies: b"ok f |u1 (2, 2) new\n[[200 200]\n [200 200]]\nno E23 literal out of range\nok f |S2 (2,) new\n[b'ab' b'ab']\nno E33 no such cast\nok f |b1 () new\nTrue\nno E10 too many indices\n",
+        accepted: 6,
+        refused: 3,
+    },
+    // A name that is bound again comes last; one that is bound keeps its place.
+    Row {
+        script: b"a = zeros <i4 (1)\nb = zeros <i4 (1)\nc = zeros <i4 (1)\ndel b\nb = zeros <i4 (1)\nnames\na = zeros <i4 (2)\nnames\ndel q\ndel a\nprint a\nset b[0] = 3\nprint c\ndel b\ndel c\nnames\n",
+        replies: b"ok a <i4 (1,) new\nok b <i4 (1,) new\nok c <i4 (1,) new\nok del b\nok b <i4 (1,) new\nnames a c b\nok a <i4 (2,) new\nnames a c b\nno E06 unknown name\nok del a\nno E06 unknown name\nok set 1\n[0]\nok del b\nok del c\nnames\n",
+        accepted: 14,
+        refused: 2,
+    },
+    // Every integer type at its ends, in both byte orders.
+    Row {
+        script: b"a = array |i1 (2) -128 127\nprint a\na = array |u1 (2) 0 255\nprint a\na = array >i2 (2) -32768 32767\nprint a\na = array >u4 (2) 0 4294967295\nprint a\na = array >i8 (2) -9223372036854775808 9223372036854775807\nprint a\na = array <u8 (1) 18446744073709551616\na = array <u2 (1) -1\nformat a\n",
+        replies: b"ok a |i1 (2,) new\n[-128  127]\nok a |u1 (2,) new\n[  0 255]\nok a >i2 (2,) new\n[-32768  32767]\nok a >u4 (2,) new\n[         0 4294967295]\nok a >i8 (2,) new\n[-9223372036854775808  9223372036854775807]\nno E23 literal out of range\nno E23 literal out of range\nformat >q\n",
+        accepted: 11,
+        refused: 2,
+    },
+];
