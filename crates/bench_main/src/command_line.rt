@@ -13,10 +13,15 @@ const COMMANDS: &str = "Commands, one a line:
   X = full D S L        of one literal, as a = full |u1 (4) 255
   X = arange D a b s    of the integers a, a+s, .. before b
   X = array D S L..     of literals, as r = array T{<h:x:?:on:} (2) (5,True) 0
-  set X[ix] = L         writes a literal to one item, as set a[1,-1] = 7
+  X = Y                 binds X to the same items: a write through one is seen by both
+  X = Y[ix]             to those that ix names, as b = a[1,:], c = a[::-1], d = a[...,0,None]
+  X = transpose Y (..)  to the same items with the axes in this order, or reversed
+  set X[ix] = L         writes a literal to the items that ix names, as set a[1,-1] = 7
   del X                 unbinds X
   names                 lists the names in the order in which they were first bound
   print X, format X     shows the array, or the format text of its type
+  info X                tells strides and start in bytes, order, and whether it may be written
+  shares X Y            tells whether X and Y have an item in common
   # ..                  is a comment
 
 D is a type string (<i4, >u2, |b1, |S5) or a format text of PEP 3118 (T{<i:x:>h:y:}).
