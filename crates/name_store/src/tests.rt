@@ -108,29 +108,6 @@ fn view_item(
 }
 
 #[test]
-fn names_stand_in_the_order_of_first_binding(rt: HostRuntime) -> Result<(), Fail> {
-    let alloc = rt.alloc();
-    let mut bench = Bench::try_new(alloc, 0)?;
-    assert_eq!(rt; bench.len(), 0);
-    for text in [b"a", b"b", b"c"] {
-        bind_zeros(alloc, &mut bench, &name(alloc, text), 2)?;
-    }
-    assert_eq!(rt; listed(alloc, &bench)?.as_slice(), b"a b c ".as_slice());
-    bench.unbind(&name(alloc, b"b"))?;
-    assert!(rt; bench.get(&name(alloc, b"b")).is_none());
-    bind_zeros(alloc, &mut bench, &name(alloc, b"b"), 3)?;
-    assert_eq!(rt; listed(alloc, &bench)?.as_slice(), b"a c b ".as_slice());
-    bind_zeros(alloc, &mut bench, &name(alloc, b"a"), 4)?;
-    assert_eq!(rt; listed(alloc, &bench)?.as_slice(), b"a c b ".as_slice());
-    let array = bench.get(&name(alloc, b"a")).expect(&rt, "a is bound");
-    assert_eq!(rt; array.block.len(), 16);
-    assert!(rt; array.writable);
-    assert!(rt; bench.unbind(&name(alloc, b"d")) == Err(Refusal::UnknownName));
-    assert_eq!(rt; bench.len(), 3);
-    Ok(())
-}
-
-#[test]
 fn items_are_written_to_one_array_alone(rt: HostRuntime) -> Result<(), Fail> {
     let alloc = rt.alloc();
     let mut bench = Bench::try_new(alloc, 0)?;
@@ -174,23 +151,6 @@ fn at_most_1024_names(rt: HostRuntime) -> Result<(), Fail> {
     Ok(())
 }
 
-#[test]
-fn numbers_are_used_again(rt: HostRuntime) -> Result<(), Fail> {
-    let alloc = rt.alloc();
-    let mut bench = Bench::try_new(alloc, 0)?;
-    let (a, b) = (name(alloc, b"a"), name(alloc, b"b"));
-    for round in 0..1000u32 {
-        bind_zeros(alloc, &mut bench, &a, 1)?;
-        bind_zeros(alloc, &mut bench, &b, 1)?;
-        bind_zeros(alloc, &mut bench, &a, 1)?;
-        let number = bench.get(&a).expect(&rt, "a is bound").number;
-        assert!(rt; number < 3);
-        bench.unbind(if round % 2 == 0 { &a } else { &b })?;
-    }
-    assert_eq!(rt; bench.len(), 1);
-    Ok(())
-}
-
 /// Binds a name, and answers whether what was refused changed nothing.
 fn binds_or_keeps(alloc: Global, bench: &mut Bench, key: &Name) -> bool {
     let before = bench.len();
@@ -210,20 +170,34 @@ fn begins_with(bench: &Bench, key: &Name, byte: u8) -> bool {
     }
 }
 
+/// Binds a name of one byte and writes to its array, and answers whether the array is as it should be.
+fn writes_or_keeps(alloc: Global, bench: &mut Bench, key: u8) -> bool {
+    let key_name = name(alloc, &[key]);
+    if !binds_or_keeps(alloc, bench, &key_name) {
+        return false;
+    }
+    let byte = match fill(alloc, bench, &key_name, &[key, 0, 0, 0]) {
+        Ok(_) => key,
+        Err(_) => 0,
+    };
+    begins_with(bench, &key_name, byte) == bench.get(&key_name).is_some()
+}
+
+/// Binds a name of two bytes to the first item of the array of the name of one, and answers whether
+/// it is bound where it was not refused.
+fn views_or_keeps(alloc: Global, bench: &mut Bench, key: u8) -> bool {
+    let view = name(alloc, &[key, 0]);
+    let is_viewed = view_item(alloc, bench, &view, &name(alloc, &[key]), 0).is_ok();
+    bench.get(&view).is_some() == is_viewed
+}
+
 #[test]
 fn what_is_refused_changes_nothing(rt: HostRuntime) -> Result<(), Fail> {
     let alloc = rt.alloc();
     let mut bench = Bench::try_new(alloc, 0)?;
-    for k in 0..40u8 {
-        let key = name(alloc, &[k]);
-        assert!(rt; binds_or_keeps(alloc, &mut bench, &key));
-        let written = fill(alloc, &mut bench, &key, &[k, 0, 0, 0]);
-        let byte = if written.is_ok() { k } else { 0 };
-        let is_bound = bench.get(&key).is_some();
-        assert!(rt; begins_with(&bench, &key, byte) == is_bound);
-        let view = name(alloc, &[k, 0]);
-        let is_viewed = view_item(alloc, &mut bench, &view, &key, 0).is_ok();
-        assert!(rt; begins_with(&bench, &view, byte) == is_viewed);
+    for key in 0..40u8 {
+        assert!(rt; writes_or_keeps(alloc, &mut bench, key));
+        assert!(rt; views_or_keeps(alloc, &mut bench, key));
     }
     Ok(())
 }
@@ -261,6 +235,28 @@ fn number_of(alloc: Global, bench: &Bench, key: u8) -> Option<u64> {
 }
 
 #[test]
+fn names_stand_in_the_order_of_first_binding(rt: HostRuntime) -> Result<(), Fail> {
+    let alloc = rt.alloc();
+    let mut bench = Bench::try_new(alloc, 0)?;
+    for (change, want) in [
+        (Change::Fresh(b'a', 2), &b"a "[..]),
+        (Change::Fresh(b'b', 2), &b"a b "[..]),
+        (Change::Fresh(b'c', 2), &b"a b c "[..]),
+        (Change::Gone(b'b'), &b"a c "[..]),
+        (Change::Fresh(b'b', 3), &b"a c b "[..]),
+        (Change::Fresh(b'a', 4), &b"a c b "[..]),
+        (Change::All(b'c', b'a', true), &b"a c b "[..]),
+    ] {
+        make(alloc, &mut bench, &change)?;
+        let names = listed(alloc, &bench)?;
+        assert!(rt; names.as_slice() == want);
+    }
+    assert!(rt; make(alloc, &mut bench, &Change::Gone(b'd')) == Err(Refusal::UnknownName));
+    assert_eq!(rt; bench.len(), 3);
+    Ok(())
+}
+
+#[test]
 fn a_buffer_has_its_number_as_long_as_a_name_sees_it(rt: HostRuntime) -> Result<(), Fail> {
     let alloc = rt.alloc();
     let mut bench = Bench::try_new(alloc, 0)?;
@@ -284,6 +280,22 @@ fn a_buffer_has_its_number_as_long_as_a_name_sees_it(rt: HostRuntime) -> Result<
         make(alloc, &mut bench, &change)?;
         assert!(rt; number_of(alloc, &bench, key) == Some(number));
     }
+    Ok(())
+}
+
+#[test]
+fn numbers_are_used_again(rt: HostRuntime) -> Result<(), Fail> {
+    let alloc = rt.alloc();
+    let mut bench = Bench::try_new(alloc, 0)?;
+    for round in 0..1000u32 {
+        for key in [b'a', b'b', b'a'] {
+            make(alloc, &mut bench, &Change::Fresh(key, 1))?;
+        }
+        assert!(rt; number_of(alloc, &bench, b'a') < Some(3));
+        let gone = if round % 2 == 0 { b'a' } else { b'b' };
+        make(alloc, &mut bench, &Change::Gone(gone))?;
+    }
+    assert_eq!(rt; bench.len(), 1);
     Ok(())
 }
 
@@ -370,8 +382,10 @@ fn a_buffer_under_1024_names(rt: HostRuntime) -> Result<(), Fail> {
     let alloc = rt.alloc();
     let mut bench = Bench::try_new(alloc, 0)?;
     bind_zeros(alloc, &mut bench, &name(alloc, b"@@"), 1)?;
-    for k in 0..1024u16 {
-        view_first(alloc, &mut bench, 64 + (k / 32) as u8, 64 + (k % 32) as u8)?;
+    for high in 64..96u8 {
+        for low in 64..96u8 {
+            view_first(alloc, &mut bench, high, low)?;
+        }
     }
     assert_eq!(rt; bench.len(), 1024);
     assert!(rt; view_first(alloc, &mut bench, 0, 0) == Err(Refusal::TooManyNames));

@@ -1,5 +1,4 @@
-use Rattle.std.proofs.Common.{◌≡◌, true, refl, sym, ap, ◌∙◌, length, Ok, Result, List, ℕ, []}
-use Rattle.elem_descr.specs.declared.refusal.Refusal.{Refusal}
+use Rattle.std.proofs.Common.{◌≡◌, sym, ap, ◌∙◌, length, Ok, Result, List, ℕ, []}
 use Rattle.shape_strides.specs.Shapes.{shape_of}
 use Rattle.name_store.proofs.ShowLaws.{shown-array}
 use Rattle.name_store.proofs.ShownViewLaws.{may-view_item}
