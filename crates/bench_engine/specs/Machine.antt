@@ -102,8 +102,8 @@ set_outcome s name index literal = do
   view ← basic array.shape items
   _ ← check array.writable ReadOnly
   item ← item_value (descr_of s array) literal
-  let items = count view.shape
-  Ok (written s array (viewed array view).places (replicate items item), codes "ok set " ++ decimal items)
+  let n = count view.shape
+  Ok (written s array (viewed array view).places (replicate n item), codes "ok set " ++ decimal n)
 
 -- del X
 unfoldable pub delete_outcome : State → List ℕ → Outcome
