@@ -1,5 +1,5 @@
 -- What the commands that make an array put into it, by the ways in which they end.
-use Rattle.std.proofs.Common.{◌≡◌, ◌≢◌, ◌≤◌, ◌<◌, ◌*◌, ◌^◌, ℕ, zero, suc, ℤ, List, [], ◌∷◌, ◌++◌, length, take, drop, map, replicate, refl, sym, ap, ◌∙◌, Result, Ok, Err, ◌⊎◌, inl, inr, arith}
+use Rattle.std.proofs.Common.{◌≡◌, ◌≢◌, ◌≤◌, ◌<◌, ◌*◌, ◌^◌, ℕ, zero, suc, ℤ, List, [], ◌∷◌, ◌++◌, length, take, drop, map, replicate, refl, sym, ap, ◌∙◌, Result, Ok, Err, IfOk, IfErr, nat_le, if◌then◌else◌, ◌⊎◌, inl, inr, arith}
 use Rattle.std.proofs.lemmas.Bool.{le-leb, lt-leb, ne_eqb, eq-eqb}
 use Rattle.std.proofs.lemmas.List.{length-map}
 use Rattle.std.proofs.Math.Seq.{take-append_seam}
@@ -8,6 +8,7 @@ use Rattle.elem_descr.specs.declared.refusal.Refusal.TheVariants.{OutOfMemory, T
 use Rattle.elem_descr.specs.declared.scalar.Scalar.{Scalar}
 use Rattle.elem_descr.specs.declared.descr.Descr.{Descr}
 use Rattle.elem_descr.specs.declared.descr.Descr.TheVariants.{Scalar as ScalarDescr}
+use Rattle.elem_descr.specs.Refusals.{Gives}
 use Rattle.elem_descr.specs.DescrTexts.{descriptor}
 use Rattle.elem_descr.specs.Encoding.{size}
 use Rattle.elem_descr.specs.Items.{item_size, decode_item}
@@ -58,11 +59,18 @@ pub zeros-type : (text lengths : List ℕ) (e : Refusal) → array_type text len
 unfolding zeros_contents
 zeros-type text lengths e bad = rw bad refl
 
-pub zeros-done : (text lengths : List ℕ) (descr : Descr) (shape : List ℕ) (o : Owned) → array_type text lengths ≡ Ok (descr, shape) → o.descr ≡ descr → o.layout.shape ≡ shape → o.block ≡ replicate (count shape * item_size descr) 0 →
+zeros-done : (text lengths : List ℕ) (descr : Descr) (shape : List ℕ) (o : Owned) → array_type text lengths ≡ Ok (descr, shape) → o.descr ≡ descr → o.layout.shape ≡ shape → o.block ≡ replicate (count shape * item_size descr) 0 →
     zeros_contents text lengths ≡ Ok (held o)
 unfolding zeros_contents
 zeros-done text lengths descr shape o good typed shaped filled =
     rw good (ap Ok (held-is o descr shape (replicate (count shape * item_size descr) 0) _ typed shaped filled (sym (items_in-zeros descr (count shape) (count shape * item_size descr)))))
+
+pub zeros-made : (text lengths : List ℕ) (descr : Descr) (shape : List ℕ) (owned : Result Owned Refusal) → array_type text lengths ≡ Ok (descr, shape) → count shape * item_size descr ≤ 2 ^ 28 → IfOk owned (λ o. o.descr ≡ descr) →
+    IfOk owned (λ o. o.layout.shape ≡ shape) → IfOk owned (λ o. o.block ≡ replicate (count shape * item_size descr) 0) →
+    IfErr owned (λ e. e ≡ (if nat_le (count shape * item_size descr) (2 ^ 28) then OutOfMemory else TooLarge)) → Gives held owned (zeros_contents text lengths)
+zeros-made text lengths descr shape (Ok o) good small typed shaped filled refused = zeros-done text lengths descr shape o good typed shaped filled
+zeros-made text lengths descr shape (Err e) good small typed shaped filled refused =
+    inl (refused ∙ ap (λ yes. if yes then OutOfMemory else TooLarge) (le-leb (count shape * item_size descr) (2 ^ 28) small))
 
 -- full
 pub full-type : (text lengths : List ℕ) (literal : Literal) (e : Refusal) → array_type text lengths ≡ Err e → full_contents text lengths literal ≡ Err e

@@ -1,5 +1,5 @@
 //! What the commands that make an array put into it.
-ghost use Rattle.std.specs.Prelude.{◌≡◌, ◌≤◌, ◌+◌, ◌-◌, ◌*◌, ◌^◌, map, min, replicate, length, IfOk};
+ghost use Rattle.std.specs.Prelude.{◌≡◌, ◌≤◌, ◌-◌, ◌*◌, ◌^◌, map, min, IfOk};
 ghost use Rattle.elem_descr.specs.Refusals.{Gives, Answers};
 ghost use Rattle.elem_descr.specs.Encoding.{IsNumber};
 ghost use Rattle.elem_descr.specs.Items.{item_size};
@@ -10,6 +10,7 @@ ghost use Rattle.bench_engine.specs.Contents.{array_type, zeros_contents, full_c
 use elem_descr::{Descr, Refusal, Scalar, descr_read};
 use literal_items::{fill, range_len, write_item, write_items, write_range};
 use overlap_copy::{MAX_BYTES, Owned};
+use raw_block::RawBlock;
 use script_lang::{Command, DescrText, Lengths, Literal, Literals};
 use shape_strides::Shape;
 use smallvec::SmallVec;
@@ -50,37 +51,12 @@ fn array_type(
     Ok((descr, shape))
 }
 
-/// An array of zero bytes.
-fn blank(alloc: Global, descr: Descr, shape: &Shape) -> Result<Owned, AllocError>
-    ensures descr { IfOk result (λ o. o.descr ≡ descr) }
-    ensures shape { IfOk result (λ o. o.layout.shape ≡ shape.now) }
-    ensures zeros { IfOk result (λ o. o.block ≡ replicate (count shape.now * item_size descr) 0) }
-{
-    match Owned::zeroed(alloc, descr, shape) {
-        Ok(owned) => Ok(owned),
-        Err(_) => Err(AllocError),
-    }
-}
-
-/// An array of these bytes.
-fn filled(alloc: Global, descr: Descr, shape: &Shape, bytes: &[u8]) -> Result<Owned, AllocError>
-    requires { length bytes.now ≡ count shape.now * item_size descr }
-    ensures descr { IfOk result (λ o. o.descr ≡ descr) }
-    ensures shape { IfOk result (λ o. o.layout.shape ≡ shape.now) }
-    ensures bytes { IfOk result (λ o. o.block ≡ bytes.now) }
-{
-    let mut owned = blank(alloc, descr, shape)?;
-    owned.put(0, bytes);
-    Ok(owned)
-}
-
 /// `zeros D S`
 fn zeros(alloc: Global, descr: &DescrText, lengths: &Lengths) -> Result<Owned, Refusal>
     ensures { Gives held result (zeros_contents descr.now lengths.now) }
 {
     let (descr, shape) = array_type(alloc, descr, lengths)?;
-    let owned = blank(alloc, descr, &shape)?;
-    Ok(owned)
+    Owned::zeroed(alloc, descr, &shape)
 }
 
 /// `full D S L`
@@ -95,9 +71,9 @@ fn full(
     let (descr, shape) = array_type(alloc, descr, lengths)?;
     let mut item = vec![in alloc; 0u8; descr.size()]?;
     write_item(&descr, literal, item.as_mut_slice())?;
-    let mut bytes = vec![in alloc; 0u8; shape.items() * descr.size()]?;
-    fill(item.as_slice(), bytes.as_mut_slice(), shape.items());
-    let owned = filled(alloc, descr, &shape, bytes.as_slice())?;
+    let mut block = RawBlock::try_zeroed(alloc, shape.items() * descr.size())?;
+    fill(item.as_slice(), block.bytes_mut(), shape.items());
+    let owned = Owned::over(alloc, descr, &shape, block)?;
     Ok(owned)
 }
 
@@ -115,9 +91,9 @@ fn array(
     if literals.len() != shape.items() {
         return Err(Refusal::NumberOfValues);
     }
-    let mut bytes = vec![in alloc; 0u8; shape.items() * descr.size()]?;
-    write_items(&descr, literals, bytes.as_mut_slice())?;
-    let owned = filled(alloc, descr, &shape, bytes.as_slice())?;
+    let mut block = RawBlock::try_zeroed(alloc, shape.items() * descr.size())?;
+    write_items(&descr, literals, block.bytes_mut())?;
+    let owned = Owned::over(alloc, descr, &shape, block)?;
     Ok(owned)
 }
 
@@ -149,9 +125,9 @@ fn arange(
     let scalar = integer_scalar(&descr)?;
     let len = range_len(start, stop, step)?;
     let shape = Shape::try_new(alloc, &[len])?;
-    let mut bytes = vec![in alloc; 0u8; len * scalar.size()]?;
-    write_range(&scalar, start, stop, step, bytes.as_mut_slice())?;
-    let owned = filled(alloc, Descr::Scalar(scalar), &shape, bytes.as_slice())?;
+    let mut block = RawBlock::try_zeroed(alloc, len * scalar.size())?;
+    write_range(&scalar, start, stop, step, block.bytes_mut())?;
+    let owned = Owned::over(alloc, Descr::Scalar(scalar), &shape, block)?;
     Ok(owned)
 }
 

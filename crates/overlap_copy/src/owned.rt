@@ -1,15 +1,14 @@
 //! Arrays over a block of their own.
-ghost use Rattle.std.specs.Prelude.{◌≡◌, ◌+◌, ◌*◌, ◌^◌, ◌≤◌, length, nat_le, replicate, if◌then◌else◌, IfOk, IfErr};
+ghost use Rattle.std.specs.Prelude.{◌≡◌, ◌*◌, ◌^◌, ◌≤◌, length, nat_le, replicate, if◌then◌else◌, IfOk, IfErr};
 ghost use Rattle.elem_descr.specs.declared.refusal.Refusal.TheVariants.{OutOfMemory, TooLarge};
 ghost use Rattle.elem_descr.specs.Items.{item_size};
-ghost use Rattle.raw_block.specs.Bytes.{put};
 ghost use Rattle.shape_strides.specs.Indexes.{count};
 ghost use Rattle.overlap_copy.specs.Blocks.{FillsBlock};
 
 use elem_descr::{Descr, Refusal};
 use raw_block::RawBlock;
 use shape_strides::{Layout, Shape};
-use std::alloc::Global;
+use std::alloc::{AllocError, Global};
 
 /// The most bytes of a block.
 pub const MAX_BYTES: usize = 1 << 28;
@@ -33,28 +32,33 @@ impl Owned {
         ensures refused { IfErr result (λ refusal. refusal
             ≡ (if nat_le (count shape.now * item_size descr) (2 ^ 28) then OutOfMemory else TooLarge)) }
     {
-        let item = descr.size();
-        let len = shape.items() * item;
+        let len = shape.items() * descr.size();
         if len > MAX_BYTES {
             return Err(Refusal::TooLarge);
         }
-        let layout = Layout::c_order(alloc, shape, item)?;
         let block = RawBlock::try_zeroed(alloc, len)?;
+        let owned = Owned::over(alloc, descr, shape, block)?;
+        Ok(owned)
+    }
+
+    /// An array in C order over a block that its items just fill.
+    pub fn over(
+        alloc: Global,
+        descr: Descr,
+        shape: &Shape,
+        block: RawBlock,
+    ) -> Result<Owned, AllocError>
+        requires whole { length block ≡ count shape.now * item_size descr }
+        requires small { length block ≤ 2 ^ 28 }
+        ensures descr { IfOk result (λ o. o.descr ≡ descr) }
+        ensures shape { IfOk result (λ o. o.layout.shape ≡ shape.now) }
+        ensures block { IfOk result (λ o. o.block ≡ block) }
+    {
+        let layout = Layout::c_order(alloc, shape, descr.size())?;
         Ok(Owned {
             block,
             descr,
             layout,
         })
-    }
-
-    /// Writes bytes to those of the block from `at` on.
-    pub fn put(&mut self, at: usize, bytes: &[u8])
-        requires { at + length bytes.now ≤ length self.old.block }
-        ensures descr { self.new.descr ≡ self.old.descr }
-        ensures layout { self.new.layout ≡ self.old.layout }
-        ensures block { self.new.block ≡ put at bytes.now self.old.block }
-        ensures len { length self.new.block ≡ length self.old.block }
-    {
-        self.block.fill_strided(at, 0, bytes, 1);
     }
 }

@@ -1,6 +1,7 @@
-//! Arrays that are made and written to, and views that share bytes as NumPy's `shares_memory` says.
+//! Arrays that are made, and views that share bytes as NumPy's `shares_memory` says.
 use crate::{MAX_BYTES, Owned, may_overlap, share_cell};
 use elem_descr::{BytesLen, Descr, Refusal, Scalar};
+use raw_block::RawBlock;
 use shape_strides::{Layout, Shape, Strides};
 use std::alloc::Global;
 use std::process::Abort;
@@ -16,18 +17,26 @@ fn strings(alloc: Global, len: usize, lengths: &[usize]) -> Result<Owned, Refusa
 }
 
 #[test]
-fn zeros_until_bytes_are_put(rt: HostRuntime) -> Result<(), Fail> {
-    let mut array = strings(rt.alloc(), 2, &[2, 3])?;
+fn an_array_of_zeros(rt: HostRuntime) -> Result<(), Fail> {
+    let array = strings(rt.alloc(), 2, &[2, 3])?;
     assert_eq!(rt; array.block.bytes(), [0; 12].as_slice());
     assert_eq!(rt; array.layout.shape.as_slice(), [2, 3].as_slice());
     assert_eq!(rt; array.layout.strides.as_slice(), [6, 2].as_slice());
-    if array.block.len() == 12 {
-        array.put(3, &[7, 8]);
-    }
-    assert_eq!(rt;
-        array.block.bytes(),
-        [0, 0, 0, 7, 8, 0, 0, 0, 0, 0, 0, 0].as_slice()
-    );
+    Ok(())
+}
+
+#[test]
+fn an_array_over_a_block(rt: HostRuntime) -> Result<(), Fail> {
+    let alloc = rt.alloc();
+    let descr = Descr::Scalar(Scalar::Byte { signed: false });
+    let shape = Shape::try_new(alloc, &[2, 2])?;
+    let mut block = RawBlock::try_zeroed(alloc, 4)?;
+    block.bytes_mut().copy_from_slice(&[5, 6, 7, 8]);
+    assert!(rt; shape.items() * descr.size() == block.len());
+    let array = Owned::over(alloc, descr, &shape, block)?;
+    assert_eq!(rt; array.block.bytes(), [5, 6, 7, 8].as_slice());
+    assert_eq!(rt; array.layout.shape.as_slice(), [2, 2].as_slice());
+    assert_eq!(rt; array.layout.strides.as_slice(), [2, 1].as_slice());
     Ok(())
 }
 

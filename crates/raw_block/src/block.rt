@@ -85,7 +85,7 @@ impl RawBlock {
     }
 
     /// All bytes, to write to.
-    pub(crate) fn bytes_mut(&mut self) -> &mut [u8]
+    pub fn bytes_mut(&mut self) -> &mut [u8]
         ensures* writes_back { sem 𝓛 (lends_block self.entry result) }
         ensures value { result.now ≡ self.old }
         ensures same_len { (ws : List ℕ) → length ws ≡ length self.old → refill (length self.old) self.old ws ≡ ws }

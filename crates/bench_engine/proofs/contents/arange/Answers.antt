@@ -1,13 +1,15 @@
 use Rattle.std.proofs.Common.{◌≡◌, ◌≤◌, ◌*◌, ◌^◌, ◌∙◌, sym, length, map, Ok, arith, inl, inr, ap}
+use Rattle.std.proofs.lemmas.List.{length-replicate}
 use Rattle.std.proofs.lemmas.Result.{err_from_is_err_and}
 use Rattle.std.proofs.Math.Nat.{mul-le-mul}
+use Rattle.std.specs.List.{refill}
 use Rattle.elem_descr.specs.DescrTexts.{descriptor}
 use Rattle.elem_descr.specs.declared.descr.Descr.TheVariants.{Scalar as ScalarDescr}
 use Rattle.elem_descr.specs.Encoding.{size}
 use Rattle.elem_descr.specs.Items.{decode_item}
 use Rattle.elem_descr.specs.Blocks.{blocks}
 use Rattle.shape_strides.specs.Indexes.{count}
-use Rattle.bench_engine.proofs.Makes.{passed, refilled, range-shape, range-shape-refused, arange-descr, arange-kind, arange-length, arange-range, arange-done}
+use Rattle.bench_engine.proofs.Makes.{passed, range-shape, range-shape-refused, arange-descr, arange-kind, arange-length, arange-range, arange-done}
 use Rattle.bench_engine.proofs.contents.arange.Goals as goal
 
 pub returns-in_err-descr : goal.returns-in_err-descr
@@ -38,14 +40,16 @@ returns-in_err-write_range c =
     let p = err_from_is_err_and c.from_residual-in_err-write_range.result c.from_residual-in_err-write_range.ensures.1 in
     rw (p.1, p.2) (inr (arange-range _ _ _ _ _ _ _ (rw c.as_slice.ensures at c.in_ok-descr.ensures) c.in_ok-scalar.ensures.value c.in_err-write_range.ensures))
 
-pub filled-requires : goal.filled-requires
-filled-requires c =
-    let whole : length c.as_slice-2.result.now ≡ c.in_ok-len.len * c.size.result = omega (arith, c.as_slice-2.ensures.len, c.write_range.auto.block, c.in_ok-bytes.ensures.len, c.as_mut_slice.ensures.len) in
+pub over-requires-clause-whole : goal.over-requires-clause-whole
+over-requires-clause-whole c =
+    let back : refill (length c.in_ok-block.block) c.in_ok-block.block c.write_range.new.block ≡ c.write_range.new.block = c.bytes_mut.ensures.same_len c.write_range.new.block (c.write_range.auto.block ∙ ap length c.bytes_mut.ensures.value) in
+    let whole : length (refill (length c.in_ok-block.block) c.in_ok-block.block c.write_range.new.block) ≡ c.in_ok-len.len * c.size.result =
+    ap length back ∙ c.write_range.auto.block ∙ ap length (c.bytes_mut.ensures.value ∙ c.in_ok-block.ensures) ∙ length-replicate (c.in_ok-len.len * c.size.result) 0 in
     let once : c.in_ok-len.len ≡ c.in_ok-len.len * 1 = omega arith in
     whole ∙ λ i. (once ∙ sym (ap count (range-shape c.in_ok-len.len c.in_ok-shape.shape c.in_ok-len.ensures.few c.in_ok-shape.ensures))) i * c.size.ensures.value i
 
 pub returns : goal.returns
 returns c =
-    let back : c.as_slice-2.result.now ≡ c.write_range.new.block = c.as_slice-2.ensures.value ∙ refilled c.write_range.new.block c.in_ok-bytes.bytes.items c.in_ok-bytes.bytes.len (omega (arith, c.write_range.auto.block, c.as_mut_slice.ensures.len)) in
+    let back : refill (length c.in_ok-block.block) c.in_ok-block.block c.write_range.new.block ≡ c.write_range.new.block = c.bytes_mut.ensures.same_len c.write_range.new.block (c.write_range.auto.block ∙ ap length c.bytes_mut.ensures.value) in
     arange-done _ _ _ _ _ _ c.in_ok-len.len c.write_range.new.block c.in_ok-owned.owned (rw c.as_slice.ensures at c.in_ok-descr.ensures) c.in_ok-scalar.ensures.value
-    (c.in_ok-write_range.ensures ∙ ap (λ n. Ok (map (decode_item (ScalarDescr c.in_ok-scalar.scalar)) (blocks (size c.in_ok-scalar.scalar) n c.write_range.new.block))) (sym c.in_ok-len.ensures.count)) c.in_ok-owned.ensures.descr (c.in_ok-owned.ensures.shape ∙ range-shape c.in_ok-len.len _ c.in_ok-len.ensures.few c.in_ok-shape.ensures) (c.in_ok-owned.ensures.bytes ∙ back)
+    (c.in_ok-write_range.ensures ∙ ap (λ n. Ok (map (decode_item (ScalarDescr c.in_ok-scalar.scalar)) (blocks (size c.in_ok-scalar.scalar) n c.write_range.new.block))) (sym c.in_ok-len.ensures.count)) c.in_ok-owned.ensures.descr (c.in_ok-owned.ensures.shape ∙ range-shape c.in_ok-len.len _ c.in_ok-len.ensures.few c.in_ok-shape.ensures) (c.in_ok-owned.ensures.block ∙ back)

@@ -1,8 +1,9 @@
 use Rattle.std.proofs.Common.{◌∙◌, length, arith, inr, ap, ◌≡◌}
 use Rattle.std.proofs.lemmas.Result.{err_from_is_err_and}
+use Rattle.std.specs.List.{refill}
 use Rattle.shape_strides.specs.Indexes.{count}
 use Rattle.bench_engine.specs.Contents.{array_type}
-use Rattle.bench_engine.proofs.Makes.{passed, refilled, array-type, array-number, array-values, array-done}
+use Rattle.bench_engine.proofs.Makes.{passed, array-type, array-number, array-values, array-done}
 use Rattle.bench_engine.proofs.contents.array.Goals as goal
 
 pub returns-in_err-descr : goal.returns-in_err-descr
@@ -23,6 +24,6 @@ returns-in_err-write_items c =
 pub returns : goal.returns
 returns c =
     let many : length c.args.literals.now ≡ count c.in_ok-descr.shape = omega (arith, ap length c.as_slice-literals.ensures, c.items.ensures.value) in
-    let back : c.as_slice.result.now ≡ c.write_items.new.block = c.as_slice.ensures.value ∙ refilled c.write_items.new.block c.in_ok-bytes.bytes.items c.in_ok-bytes.bytes.len (omega (arith, c.write_items.auto.block, c.as_mut_slice.ensures.len)) in
+    let back : refill (length c.in_ok-block.block) c.in_ok-block.block c.write_items.new.block ≡ c.write_items.new.block = c.bytes_mut.ensures.same_len c.write_items.new.block (c.write_items.auto.block ∙ ap length c.bytes_mut.ensures.value) in
     array-done _ _ c.args.literals.now _ _ c.write_items.new.block c.in_ok-owned.owned c.in_ok-descr.ensures.value many (rw c.as_slice-literals.ensures at c.in_ok-write_items.ensures.value)
-    c.in_ok-owned.ensures.descr c.in_ok-owned.ensures.shape (c.in_ok-owned.ensures.bytes ∙ back)
+    c.in_ok-owned.ensures.descr c.in_ok-owned.ensures.shape (c.in_ok-owned.ensures.block ∙ back)

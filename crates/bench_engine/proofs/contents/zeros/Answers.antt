@@ -1,6 +1,6 @@
 use Rattle.std.proofs.lemmas.Result.{err_from_is_err_and}
 use Rattle.bench_engine.specs.Contents.{array_type}
-use Rattle.bench_engine.proofs.Makes.{passed, zeros-type, zeros-done}
+use Rattle.bench_engine.proofs.Makes.{passed, zeros-type, zeros-made}
 use Rattle.bench_engine.proofs.contents.zeros.Goals as goal
 
 pub returns-in_err-descr : goal.returns-in_err-descr
@@ -9,4 +9,4 @@ returns-in_err-descr c =
     rw (p.1, p.2) (passed (array_type c.args.descr.now c.args.lengths.now) _ _ (zeros-type _ _ _) c.in_err-descr.ensures.value)
 
 pub returns : goal.returns
-returns c = zeros-done _ _ _ _ c.in_ok-owned.owned c.in_ok-descr.ensures.value c.in_ok-owned.ensures.descr c.in_ok-owned.ensures.shape c.in_ok-owned.ensures.zeros
+returns c = zeros-made _ _ _ _ c.zeroed.result c.in_ok-descr.ensures.value c.in_ok-descr.ensures.bytes c.zeroed.ensures.descr c.zeroed.ensures.shape c.zeroed.ensures.zeros c.zeroed.ensures.refused
