@@ -9,6 +9,7 @@ pub mod Listings
 pub mod Looks
 pub mod Makes
 pub mod Outcomes
+pub mod Parts
 pub mod Steps
 pub mod Views
 pub mod Whole

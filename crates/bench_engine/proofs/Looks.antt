@@ -1,30 +1,16 @@
 -- Names that are looked up, and what is answered of their arrays.
-use Rattle.std.proofs.Common.{◌≡◌, ◌<◌, ◌*◌, ◌^◌, ℕ, zero, suc, true, false, List, [], ◌∷◌, ◌++◌, length, map, codes, decimal, refl, sym, ap, ◌∙◌, subst, take_all, Option, Some, None, Ok, Err, slice_index, is_some, arith}
-use Rattle.std.specs.List.{list_all, Contains}
-use Rattle.std.proofs.lemmas.List.Elements.{All-from_recursion, Contains-get_or}
+use Rattle.std.proofs.Common.{◌≡◌, ℕ, true, List, length, refl, sym, ap, ◌∙◌, subst, take_all, Option, Some, None, Ok, Err, is_some, arith}
 use Rattle.std.specs.Io.{StartsWith}
-use Rattle.std.proofs.lemmas.Fmt.{decimal_digit}
-use Rattle.elem_descr.specs.declared.refusal.Refusal.{Refusal}
-use Rattle.elem_descr.specs.declared.refusal.Refusal.TheVariants.{Syntax, UnknownName, ReadOnly}
+use Rattle.elem_descr.specs.declared.refusal.Refusal.TheVariants.{UnknownName}
 use Rattle.elem_descr.specs.declared.descr.Descr.{Descr}
-use Rattle.elem_descr.specs.Items.{item_size}
-use Rattle.elem_descr.specs.Values.{LeafValue}
-use Rattle.shape_strides.specs.Indexes.{rank}
-use Rattle.shape_strides.specs.declared.layout.Layout.{Layout}
-use Rattle.shape_strides.specs.Layouts.{offsets, Fits}
-use Rattle.script_lang.specs.declared.index.IndexItem.{IndexItem}
-use Rattle.script_lang.specs.declared.literal.Literal.{Literal}
-use Rattle.literal_items.specs.LiteralItems.{item_value}
+use Rattle.shape_strides.specs.Layouts.{offsets}
 use Rattle.array_print.specs.Printed.{array_text, items_at}
 use Rattle.name_store.specs.States.{State, Array}
-use Rattle.name_store.specs.Arrays.{find_array, is_bound, read, written}
-use Rattle.name_store.specs.Places.{offsets_of}
+use Rattle.name_store.specs.Arrays.{find_array, is_bound, descr_of, read}
 use Rattle.name_store.specs.Shown.{Finds, Shows}
-use Rattle.name_store.specs.Targets.{LeadsTo}
-use Rattle.name_store.specs.declared.target.Target.TheVariants.{View}
 use Rattle.name_store.specs.declared.array_ref.ArrayRef.{ArrayRef}
 use Rattle.bench_engine.specs.Replies.{format_text}
-use Rattle.bench_engine.specs.Machine.{descr_of, print_outcome, format_outcome}
+use Rattle.bench_engine.specs.Machine.{print_outcome, format_outcome}
 
 -- what has not changed
 pub unchanged : (xs : List ℕ) → StartsWith xs xs

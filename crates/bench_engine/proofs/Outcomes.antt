@@ -1,7 +1,8 @@
 -- What the commands over views come to.
-use Rattle.std.proofs.Common.{◌≡◌, ℕ, ℤ, true, false, ◌&&◌, is_some, inl, inr, List, ◌++◌, refl, sym, ap, ◌∙◌, codes, decimal, replicate, Option, Some, None, Result, Ok, Err}
+use Rattle.std.proofs.Common.{◌≡◌, ℕ, ℤ, true, false, ◌&&◌, is_some, inl, inr, List, [], ◌∷◌, ◌++◌, refl, sym, ap, ◌∙◌, codes, decimal, replicate, Option, Some, None, Ok, Err}
 use Rattle.elem_descr.specs.declared.refusal.Refusal.{Refusal}
-use Rattle.elem_descr.specs.declared.refusal.Refusal.TheVariants.{Syntax, UnknownName, TooManyNames, ReadOnly}
+use Rattle.elem_descr.specs.declared.refusal.Refusal.TheVariants.{Syntax, UnknownName, TooManyNames, NoSuchField, ReadOnly}
+use Rattle.elem_descr.specs.Items.{field_of}
 use Rattle.elem_descr.specs.Values.{LeafValue}
 use Rattle.shape_strides.specs.Indexes.{count}
 use Rattle.view_ops.specs.Views.{View}
@@ -12,11 +13,11 @@ use Rattle.script_lang.specs.declared.index.IndexItem.{IndexItem}
 use Rattle.script_lang.specs.declared.literal.Literal.{Literal}
 use Rattle.literal_items.specs.LiteralItems.{item_value}
 use Rattle.name_store.specs.States.{State, Array}
-use Rattle.name_store.specs.Arrays.{find_array, is_bound, has_room_for, bound_view, written, share_cells}
+use Rattle.name_store.specs.Arrays.{find_array, is_bound, has_room_for, bound_view, descr_of, addresses, written, share_cells}
 use Rattle.name_store.specs.Calls.{AnswersShares}
 use Rattle.bench_engine.specs.Contract.{IsRefused}
 use Rattle.bench_engine.specs.Indices.{basic_items}
-use Rattle.bench_engine.specs.Machine.{descr_of, addresses, viewed, alias_outcome, index_outcome, transpose_outcome, set_outcome, info_outcome, shares_outcome}
+use Rattle.bench_engine.specs.Machine.{viewed, alias_outcome, index_outcome, transpose_outcome, field_outcome, set_outcome, info_outcome, shares_outcome}
 use Rattle.bench_engine.specs.Replies.{view_text, info_text, shares_text}
 
 -- X = Y
@@ -71,6 +72,27 @@ pub transpose-done : (s : State) (name source : List ℕ) (axes : Option (List �
     transpose_outcome s name source axes ≡ Ok (bound_view s name (viewed a view), view_text name (descr_of s a) view.shape)
 unfolding transpose_outcome
 transpose-done s name source axes a view is room good = rw (is, room, good) refl
+
+-- X = field Y "f"
+abbrev pub part_of : Array → ℕ → Array
+part_of a k = record a { path = a.path ++ k ∷ [] }
+
+pub field-unknown : (s : State) (name source field : List ℕ) → find_array s.names source ≡ None → field_outcome s name source field ≡ Err UnknownName
+unfolding field_outcome
+field-unknown s name source field none = rw none refl
+
+pub field-many : (s : State) (name source field : List ℕ) (a : Array) → find_array s.names source ≡ Some a → has_room_for s name ≡ false → field_outcome s name source field ≡ Err TooManyNames
+unfolding field_outcome
+field-many s name source field a is full = rw (is, full) refl
+
+pub field-none : (s : State) (name source field : List ℕ) (a : Array) → find_array s.names source ≡ Some a → has_room_for s name ≡ true → field_of (descr_of s a) field ≡ None → field_outcome s name source field ≡ Err NoSuchField
+unfolding field_outcome
+field-none s name source field a is room none = rw (is, room, none) refl
+
+pub field-done : (s : State) (name source field : List ℕ) (a : Array) (k : ℕ) → find_array s.names source ≡ Some a → has_room_for s name ≡ true → field_of (descr_of s a) field ≡ Some k →
+    field_outcome s name source field ≡ Ok (bound_view s name (part_of a k), view_text name (descr_of s (part_of a k)) a.shape)
+unfolding field_outcome
+field-done s name source field a k is room there = rw (is, room, there) refl
 
 -- set X[ix] = L
 pub set-syntax : (s : State) (name : List ℕ) (index : List IndexItem) (literal : Literal) → basic_items index ≡ Err Syntax → set_outcome s name index literal ≡ Err Syntax

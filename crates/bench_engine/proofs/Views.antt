@@ -1,5 +1,5 @@
 -- Views of arrays: places for offsets, and names that are bound to them.
-use Rattle.std.proofs.Common.{◌≡◌, ◌⊎◌, ◌<◌, ◌*◌, ◌^◌, ◌&&◌, ℕ, ℤ, zero, suc, Bool, true, false, List, [], ◌∷◌, ◌++◌, length, map, refl, sym, ap, ◌∙◌, subst, get_or, Some, Result, Ok, Err, inl, inr, slice_index, IsTrue, All, arith}
+use Rattle.std.proofs.Common.{◌≡◌, ◌⊎◌, ◌<◌, ◌+◌, ◌*◌, ◌^◌, ℕ, zero, suc, Bool, true, false, List, [], ◌∷◌, ◌++◌, length, map, refl, sym, ap, ◌∙◌, subst, get_or, Option, Some, Result, Ok, Err, inl, inr, slice_index, All, arith}
 use Rattle.std.specs.List.{Contains}
 use Rattle.std.proofs.lemmas.List.{length-map}
 use Rattle.std.proofs.lemmas.List.Elements.{All-map, Contains-get_or}
@@ -12,12 +12,14 @@ use Rattle.shape_strides.specs.Indexes.{indexes, rank}
 use Rattle.shape_strides.specs.Layouts.{offsets, Fits, IsNested}
 use Rattle.view_ops.specs.Views.{View, view_through, IsViewOf, GivesView}
 use Rattle.name_store.specs.States.{State, Array}
-use Rattle.name_store.specs.Arrays.{find_array, has_room_for, bound_view, buffer_of}
+use Rattle.name_store.specs.Arrays.{find_array, has_room_for, bound_view, buffer_of, descr_of, addresses}
 use Rattle.name_store.specs.Calls.{AnswersBind}
-use Rattle.name_store.specs.Views.{IsViewIn}
+use Rattle.name_store.specs.Views.{IsViewIn, MayBind}
+use Rattle.name_store.specs.Parts.{start_at}
 use Rattle.name_store.specs.Places.{offsets_of}
 use Rattle.name_store.specs.Shown.{Shows}
 use Rattle.name_store.specs.Targets.{LeadsTo}
+use Rattle.name_store.specs.declared.bound.Bound.{Bound}
 use Rattle.name_store.specs.declared.bound.Bound.TheVariants as bound
 use Rattle.name_store.specs.declared.target.Target.TheVariants as target
 use Rattle.name_store.specs.declared.array_ref.ArrayRef.{ArrayRef}
@@ -27,43 +29,57 @@ use Rattle.bench_engine.proofs.Creates.{starts}
 use Rattle.bench_engine.proofs.Steps.{spare}
 
 -- the offset of a place
-at-offsets : (item : ℕ) (places : List ℕ) (k : ℕ) → slice_index (offsets_of item places) k ≡ item * slice_index places k
-at-offsets item [] k = omega arith
-at-offsets item (p ∷ places) zero = refl
-at-offsets item (p ∷ places) (suc k) = at-offsets item places k
+at-offsets : (item start : ℕ) (places : List ℕ) (k : ℕ) → k < length places → slice_index (offsets_of item start places) k ≡ item * slice_index places k + start
+at-offsets item start [] k below = absurd (omega (arith, below))
+at-offsets item start (p ∷ places) zero below = refl
+at-offsets item start (p ∷ places) (suc k) below = at-offsets item start places k (omega (arith, below))
 
-offsets-at : (item : ℕ) (places shape : List ℕ) (leads : List ℕ → List ℕ) (is : List (List ℕ)) →
-    map (λ i. slice_index (offsets_of item places) (rank shape (leads i))) is ≡ offsets_of item (map (λ i. slice_index places (rank shape (leads i))) is)
-offsets-at item places shape leads [] = refl
-offsets-at item places shape leads (i ∷ is) = λ j. at-offsets item places (rank shape (leads i)) j ∷ offsets-at item places shape leads is j
+offsets-at : (item start : ℕ) (places shape : List ℕ) (leads : List ℕ → List ℕ) (is : List (List ℕ)) → All (λ i. rank shape (leads i) < length places) is →
+    map (λ i. slice_index (offsets_of item start places) (rank shape (leads i))) is ≡ offsets_of item start (map (λ i. slice_index places (rank shape (leads i))) is)
+offsets-at item start places shape leads [] inside = refl
+offsets-at item start places shape leads (i ∷ is) inside = λ j.
+    at-offsets item start places (rank shape (leads i)) (inside zero i (omega arith)) j
+    ∷ offsets-at item start places shape leads is (λ k d below. inside (suc k) d (omega (arith, below))) j
 
 -- a view of the offsets of some places has the offsets of the view of the places
-pub offsets-view : (item : ℕ) (places shape new : List ℕ) (leads : List ℕ → List ℕ) → view_through (offsets_of item places) shape new leads ≡ offsets_of item (view_through places shape new leads)
-offsets-view item places shape new leads = offsets-at item places shape leads (indexes new)
+pub offsets-view : (item start : ℕ) (places shape new : List ℕ) (leads : List ℕ → List ℕ) → All (λ i. rank shape (leads i) < length places) (indexes new) →
+    view_through (offsets_of item start places) shape new leads ≡ offsets_of item start (view_through places shape new leads)
+offsets-view item start places shape new leads inside = offsets-at item start places shape leads (indexes new) inside
 
-places-view : (s : State) (base : Array) (r : ArrayRef) (view : View) (new : Layout) → Shows s base r → IsViewOf r.layout.now new view →
-    offsets new ≡ offsets_of (item_size (buffer_of s base).descr) (viewed base view).places
+-- each index of a view leads to a place of the array
+inside-view : (s : State) (base : Array) (r : ArrayRef) (view : View) (new : Layout) → Shows s base r → IsViewOf r.layout.now new view → All (λ index. rank base.shape (view.leads index) < length base.places) (indexes view.shape)
+inside-view s base r view new shows is = λ k d below.
+    let index : List ℕ = get_or (indexes view.shape) k d in
+    let here : rank r.layout.now.shape (view.leads index) < length (offsets r.layout.now) = is.inside k d below in
+    let there : rank base.shape (view.leads index) < length (offsets r.layout.now) = subst (λ (l : List ℕ). rank l (view.leads index) < length (offsets r.layout.now)) shows.shape here in
+    subst (λ (n : ℕ). rank base.shape (view.leads index) < n) counted there
+  where
+    counted : length (offsets r.layout.now) ≡ length base.places
+    counted = ap length shows.places ∙ length-map base.places (λ place. item_size (buffer_of s base).descr * place + start_at (buffer_of s base).descr base.path)
+
+places-view : (s : State) (base : Array) (r : ArrayRef) (view : View) (new : Layout) → Shows s base r → IsViewOf r.layout.now new view → offsets new ≡ addresses s (viewed base view)
 places-view s base r view new shows is =
     is.places
     ∙ (λ j. view_through (shows.places j) (shows.shape j) view.shape view.leads)
-    ∙ offsets-view (item_size r.descr.now) base.places base.shape view.shape view.leads
-    ∙ ap (λ (d : Descr). offsets_of (item_size d) (viewed base view).places) (sym shows.descr)
+    ∙ offsets-view (item_size (buffer_of s base).descr) (start_at (buffer_of s base).descr base.path) base.places base.shape view.shape view.leads (inside-view s base r view new shows is)
 
 -- the places of a view are places of the array
 among-view : (s : State) (base : Array) (r : ArrayRef) (view : View) (new : Layout) → Shows s base r → IsViewOf r.layout.now new view → All (Contains base.places) (viewed base view).places
 among-view s base r view new shows is =
-    All-map (Contains base.places) (λ index. slice_index base.places (rank base.shape (view.leads index))) (indexes view.shape) (λ k d below.
-    let index : List ℕ = get_or (indexes view.shape) k d in
-    let here : rank r.layout.now.shape (view.leads index) < length (offsets r.layout.now) = is.inside k d below in
-    let there : rank base.shape (view.leads index) < length (offsets r.layout.now) = subst (λ (l : List ℕ). rank l (view.leads index) < length (offsets r.layout.now)) shows.shape here in
-    Contains-get_or base.places (rank base.shape (view.leads index)) 0 (subst (λ (n : ℕ). rank base.shape (view.leads index) < n) counted there))
-  where
-    counted : length (offsets r.layout.now) ≡ length base.places
-    counted = ap length shows.places ∙ length-map base.places (λ place. item_size r.descr.now * place)
+    All-map (Contains base.places) (λ index. slice_index base.places (rank base.shape (view.leads index))) (indexes view.shape)
+    (λ k d below. Contains-get_or base.places (rank base.shape (view.leads (get_or (indexes view.shape) k d))) 0 (inside-view s base r view new shows is k d below))
+
+-- what fits the bytes of a block fits those of the items in it, and so with what is apart
+fits-items : (new : Layout) (len len' : ℕ) (descr descr' : Descr) → len ≡ len' → descr' ≡ descr → Fits new len (item_size descr) → Fits new len' (item_size descr')
+fits-items new len len' descr descr' whole same fits =
+    subst (λ (n : ℕ). Fits new n (item_size descr')) whole (subst (λ (d : Descr). Fits new len (item_size d)) (sym same) fits)
+
+nested-items : (new : Layout) (descr descr' : Descr) → descr' ≡ descr → IsNested (offsets new) (item_size descr) → IsNested (offsets new) (item_size descr')
+nested-items new descr descr' same nested = subst (λ (d : Descr). IsNested (offsets new) (item_size d)) (sym same) nested
 
 -- the view lies in the array's buffer
 pub seen : (s : State) (source : List ℕ) (base : Array) (r : ArrayRef) (view : View) (new : Layout) → find_array s.names source ≡ Some base → Shows s base r → IsViewOf r.layout.now new view →
-    IsViewIn s r.number new r.writable (viewed base view)
+    IsViewIn s r.number r.leaf new r.writable (viewed base view)
 seen s source base r view new found shows is = record {
   source = source;
   base = base;
@@ -72,17 +88,18 @@ seen s source base r view new found shows is = record {
   among = among-view s base r view new shows is;
   number_is = shows.number;
   path = shows.path;
+  part = shows.part;
   shape = is.shape;
   places = places-view s base r view new shows is;
   writable_is = shows.writable;
-  fits = rw (shows.descr, sym shows.whole) (is.fits (length r.block.now) (item_size r.descr.now) shows.fits);
+  fits = fits-items new _ _ r.descr.now (descr_of s base) shows.whole shows.descr (is.fits (length r.block.now) (item_size r.descr.now) shows.fits);
   fits_limit = is.fits (2 ^ 28) 1 shows.fits_limit;
-  nested = λ free. rw shows.descr (is.nested (item_size r.descr.now) (shows.nested free));
+  nested = λ free. nested-items new r.descr.now (descr_of s base) shows.descr (is.nested (item_size r.descr.now) (shows.nested free));
 }
 
 -- all of the array does
-pub seen-whole : (s : State) (source : List ℕ) (base : Array) (r : ArrayRef) (new : Layout) → find_array s.names source ≡ Some base → Shows s base r → new ≡ r.layout.now → IsViewIn s r.number new r.writable base
-seen-whole s source base r new found shows same = subst (λ (l : Layout). IsViewIn s r.number l r.writable base) (sym same) (record {
+pub seen-whole : (s : State) (source : List ℕ) (base : Array) (r : ArrayRef) (new : Layout) → find_array s.names source ≡ Some base → Shows s base r → new ≡ r.layout.now → IsViewIn s r.number r.leaf new r.writable base
+seen-whole s source base r new found shows same = subst (λ (l : Layout). IsViewIn s r.number r.leaf l r.writable base) (sym same) (record {
   source = source;
   base = base;
   found = found;
@@ -90,12 +107,13 @@ seen-whole s source base r new found shows same = subst (λ (l : Layout). IsView
   among = λ k d below. Contains-get_or base.places k d below;
   number_is = shows.number;
   path = shows.path;
+  part = shows.part;
   shape = shows.shape;
-  places = shows.places ∙ ap (λ (d : Descr). offsets_of (item_size d) base.places) (sym shows.descr);
+  places = shows.places;
   writable_is = shows.writable;
-  fits = rw (shows.descr, sym shows.whole) shows.fits;
+  fits = fits-items r.layout.now _ _ r.descr.now (descr_of s base) shows.whole shows.descr shows.fits;
   fits_limit = shows.fits_limit;
-  nested = λ free. rw shows.descr (shows.nested free);
+  nested = λ free. nested-items r.layout.now r.descr.now (descr_of s base) shows.descr (shows.nested free);
 })
 
 -- items of an array, to be written
@@ -109,17 +127,27 @@ leads s name base r view new found shows free is = record {
   fits_limit = is.fits (2 ^ 28) 1 shows.fits_limit;
 }
 
--- the name is bound to the view, or refused for want of memory
-pub view-answers : (s new : State) (name : List ℕ) (may : Bool) (outcome : Choice → Outcome) (number : ℕ) (layout : Layout) (writable : Bool) (array : Array) (result : Result (Unit {0}) Refusal) (text before after : List ℕ) → may ≡ true → has_room_for s name ≡ true →
-    ((choice : Choice) → outcome choice ≡ Ok (bound_view s name array, text)) → after ≡ before ++ text → IsViewIn s number layout writable array → AnswersBind s name (bound.View number layout writable) result new →
-    Answers may outcome s new before after result
-view-answers s new name may outcome number layout writable array (Ok done) text before after can room is told in' (_, binds) =
+-- what is bound is a view
+pub may-bind : (s : State) (what : Bound) (number : ℕ) (leaf : Option ℕ) (layout : Layout) (writable : Bool) (array : Array) → what ≡ bound.View number leaf layout writable → IsViewIn s number leaf layout writable array → MayBind s what
+may-bind s what number leaf layout writable array is in' = subst (MayBind s) (sym is) (array, in')
+
+bound-answers : (s new : State) (name : List ℕ) (may : Bool) (outcome : Choice → Outcome) (number : ℕ) (leaf : Option ℕ) (layout : Layout) (writable : Bool) (array : Array) (result : Result (Unit {0}) Refusal) (text before after : List ℕ) → may ≡ true →
+    has_room_for s name ≡ true → ((choice : Choice) → outcome choice ≡ Ok (bound_view s name array, text)) → after ≡ before ++ text → IsViewIn s number leaf layout writable array →
+    AnswersBind s name (bound.View number leaf layout writable) result new → Answers may outcome s new before after result
+bound-answers s new name may outcome number leaf layout writable array (Ok done) text before after can room is told in' (_, binds) =
     let any = spare s in
     (any.0, any.1, text, is any.0 ∙ ap (λ (t : State). Ok (t, text)) (sym (binds array in')), told)
-view-answers s new name may outcome number layout writable array (Err e) text before after can room is told in' (kept, inl full) =
+bound-answers s new name may outcome number leaf layout writable array (Err e) text before after can room is told in' (kept, inl full) =
     let no : true ≡ false = sym room ∙ full.0 in cc
-view-answers s new name may outcome number layout writable array (Err e) text before after can room is told in' (kept, inr lacks) =
+bound-answers s new name may outcome number leaf layout writable array (Err e) text before after can room is told in' (kept, inr lacks) =
     (kept, starts before text after told, inl (lacks.1, can))
+
+-- the name is bound to the view, or refused for want of memory
+pub view-answers : (s new : State) (name : List ℕ) (may : Bool) (outcome : Choice → Outcome) (what : Bound) (number : ℕ) (leaf : Option ℕ) (layout : Layout) (writable : Bool) (array : Array) (result : Result (Unit {0}) Refusal) (text before after : List ℕ) →
+    may ≡ true → has_room_for s name ≡ true → ((choice : Choice) → outcome choice ≡ Ok (bound_view s name array, text)) → after ≡ before ++ text → what ≡ bound.View number leaf layout writable → IsViewIn s number leaf layout writable array →
+    AnswersBind s name what result new → Answers may outcome s new before after result
+view-answers s new name may outcome what number leaf layout writable array result text before after can room is told view in' binds =
+    bound-answers s new name may outcome number leaf layout writable array result text before after can room is told in' (subst (λ (b : Bound). AnswersBind s name b result new) view binds)
 
 -- what a call that gives a view answers
 pub given-view : (old new : Layout) (there : Result View Refusal) → GivesView old (Ok new) there → (view : View) × (there ≡ Ok view) × IsViewOf old new view

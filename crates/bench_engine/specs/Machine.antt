@@ -1,11 +1,10 @@
 -- The machine: one step of it, for each command and each choice that it is free to make.
-use Rattle.std.specs.Prelude.{◌≡◌, ℕ, ℤ, Bool, true, false, ◌&&◌, List, ◌++◌, replicate, codes, decimal, Option, Some, None, Result, Ok, Err}
+use Rattle.std.specs.Prelude.{◌≡◌, ℕ, ℤ, Bool, true, false, ◌&&◌, List, [], ◌∷◌, ◌++◌, replicate, codes, decimal, Option, Some, None, Result, Ok, Err}
 use Rattle.std.specs.Option.{ok_or}
 use Rattle.elem_descr.specs.declared.refusal.Refusal.{Refusal}
-use Rattle.elem_descr.specs.declared.refusal.Refusal.TheVariants.{Syntax, UnknownName, TooManyNames, ReadOnly}
-use Rattle.elem_descr.specs.declared.descr.Descr.{Descr}
+use Rattle.elem_descr.specs.declared.refusal.Refusal.TheVariants.{Syntax, UnknownName, TooManyNames, NoSuchField, ReadOnly}
 use Rattle.elem_descr.specs.Refusals.{◌>>=◌, check}
-use Rattle.elem_descr.specs.Items.{item_size}
+use Rattle.elem_descr.specs.Items.{field_of}
 use Rattle.shape_strides.specs.Indexes.{count}
 use Rattle.view_ops.specs.Views.{View, view_through}
 use Rattle.view_ops.specs.Basics.{basic}
@@ -19,8 +18,7 @@ use Rattle.literal_items.specs.LiteralItems.{item_value}
 use Rattle.array_print.specs.Printed.{array_text}
 use Rattle.name_store.specs.States.{State}
 use Rattle.name_store.specs.States as states
-use Rattle.name_store.specs.Arrays.{find_array, is_bound, has_room_for, bound_to, bound_view, unbound, fresh_array, buffer_of, read, written, share_cells}
-use Rattle.name_store.specs.Places.{offsets_of}
+use Rattle.name_store.specs.Arrays.{find_array, is_bound, has_room_for, bound_to, bound_view, unbound, fresh_array, descr_of, addresses, read, written, share_cells}
 use Rattle.name_store.specs.Calls.{IsUnused}
 use Rattle.bench_engine.specs.Contents.{Contents, contents_of}
 use Rattle.bench_engine.specs.Indices.{basic_items}
@@ -43,14 +41,6 @@ Outcome = Result (State × List ℕ) Refusal
 -- the array of a name that must be bound
 abbrev pub array_of : State → List ℕ → Result states.Array Refusal
 array_of s name = ok_or (find_array s.names name) UnknownName
-
--- the element type of an array
-abbrev pub descr_of : State → states.Array → Descr
-descr_of s array = (buffer_of s array).descr
-
--- the address of each item of an array, in bytes from the start of its buffer
-abbrev pub addresses : State → states.Array → List ℕ
-addresses s array = offsets_of (item_size (buffer_of s array).descr) array.places
 
 -- the array that is this view of another
 abbrev pub viewed : states.Array → View → states.Array
@@ -93,6 +83,15 @@ transpose_outcome s name source axes = do
   _ ← check (has_room_for s name) TooManyNames
   view ← transposed array.shape axes
   Ok (bound_view s name (viewed array view), view_text name (descr_of s array) view.shape)
+
+-- X = field Y "f"
+unfoldable pub field_outcome : State → List ℕ → List ℕ → List ℕ → Outcome
+field_outcome s name source field = do
+  array ← array_of s source
+  _ ← check (has_room_for s name) TooManyNames
+  k ← ok_or (field_of (descr_of s array) field) NoSuchField
+  let part = record array { path = array.path ++ k ∷ [] }
+  Ok (bound_view s name part, view_text name (descr_of s part) part.shape)
 
 -- set X[ix] = L
 unfoldable pub set_outcome : State → List ℕ → List IndexItem → Literal → Outcome
@@ -144,6 +143,7 @@ outcome choice s (command.Arange name descr start stop step) = creation_outcome 
 outcome choice s (command.Array name descr shape values) = creation_outcome choice s name (contents_of (command.Array name descr shape values))
 outcome choice s (command.View name operand) = view_outcome s name operand.name operand.index
 outcome choice s (command.Transpose name source axes) = transpose_outcome s name source axes
+outcome choice s (command.Field name source field) = field_outcome s name source field
 outcome choice s (command.Set name index (argument.Literal literal)) = set_outcome s name index literal
 outcome choice s (command.Delete name) = delete_outcome s name
 outcome choice s (command.Print name) = print_outcome s name
@@ -172,6 +172,7 @@ may_lack_memory s (command.Arange name descr start stop step) = true
 may_lack_memory s (command.Array name descr shape values) = true
 may_lack_memory s (command.View name source) = is_bound s source.name
 may_lack_memory s (command.Transpose name source axes) = is_bound s source
+may_lack_memory s (command.Field name source field) = is_bound s source
 may_lack_memory s (command.Set name index (argument.Literal literal)) = is_bound s name
 may_lack_memory s (command.Print name) = is_bound s name
 may_lack_memory s (command.Info name) = is_bound s name

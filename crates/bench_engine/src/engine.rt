@@ -14,7 +14,7 @@ use crate::names::names;
 use crate::print::print;
 use crate::set::set;
 use crate::shares::shares;
-use crate::view::{alias, indexed, transpose};
+use crate::view::{alias, field, indexed, transpose};
 use elem_descr::Refusal;
 use name_store::Bench;
 use script_lang::{Argument, Command, parse, word};
@@ -52,6 +52,11 @@ fn perform(
             None => transpose(alloc, bench, name, source, None, out),
             Some(axes) => transpose(alloc, bench, name, source, Some(axes.as_slice()), out),
         },
+        Command::Field {
+            name,
+            source,
+            field: part,
+        } => field(alloc, bench, name, source, part, out),
         Command::Set { name, index, value } => match value {
             Argument::Literal(literal) => set(alloc, bench, name, index, literal, out),
             Argument::Operand(_) => Err(Refusal::Syntax),

@@ -151,13 +151,15 @@ fn long_lines_are_refused(rt: HostRuntime) -> Result<(), Fail> {
     Ok(())
 }
 
-/// Binds `n0`, `n1`, .., 1,024 names, then one more, and then one that is bound.
+/// Binds `n0`, `n1`, .., 1,024 names, then one more, and then one that is bound. A field of an unknown
+/// name is told before the names that are too many, and these before a field that is none.
 fn names_script(alloc: Global) -> Result<String, AllocError> {
     let mut script = String::new(alloc);
     for n in 0..1024u32 {
         write!(script, "n{n} = zeros <i4 (1)\n")?;
     }
     script.push_str("more = zeros <i4 (1)\nn5 = zeros <i4 (2)\n")?;
+    script.push_str("more = field q \"x\"\nmore = field n5 \"x\"\nn5 = field n5 \"x\"\n")?;
     Ok(script)
 }
 
@@ -167,6 +169,7 @@ fn names_replies(alloc: Global) -> Result<String, AllocError> {
         write!(replies, "ok n{n} <i4 (1,) new\n")?;
     }
     replies.push_str("no E07 too many names\nok n5 <i4 (2,) new\n")?;
+    replies.push_str("no E06 unknown name\nno E07 too many names\nno E19 no such field\n")?;
     Ok(replies)
 }
 
@@ -232,7 +235,7 @@ struct ShortRun {
     replies: &'static [&'static [u8]],
 }
 
-const SHORT_RUNS: [ShortRun; 6] = [
+const SHORT_RUNS: [ShortRun; 7] = [
     ShortRun {
         script: FIRST_RUN,
         replies: &[
@@ -297,6 +300,17 @@ const SHORT_RUNS: [ShortRun; 6] = [
             b"ok a |u1 (4,) new\nok b |u1 (4,) view\nok t |u1 (4,) view\nok set 2\nno E40 out of memory\ninfo t |u1 (4,) strides (-1,) at 3 order - write yes\nshares yes\n",
             b"ok a |u1 (4,) new\nok b |u1 (4,) view\nok t |u1 (4,) view\nok set 2\n[0 1 9 9]\nno E40 out of memory\nshares yes\n",
             b"ok a |u1 (4,) new\nok b |u1 (4,) view\nok t |u1 (4,) view\nok set 2\n[0 1 9 9]\ninfo t |u1 (4,) strides (-1,) at 3 order - write yes\nno E40 out of memory\n",
+        ],
+    },
+    // A field: the records are not touched by one that is not bound.
+    ShortRun {
+        script: b"r = zeros T{b:x:h:y:} (2)\ny = field r \"y\"\nset y[0] = 3\nprint r\n",
+        replies: &[
+            b"ok r T{<b:x:1x<h:y:} (2,) new\nok y <i2 (2,) view\nok set 1\n[(0, 3) (0, 0)]\n",
+            b"no E40 out of memory\nno E06 unknown name\nno E06 unknown name\nno E06 unknown name\n",
+            b"ok r T{<b:x:1x<h:y:} (2,) new\nno E40 out of memory\nno E06 unknown name\n[(0, 0) (0, 0)]\n",
+            b"ok r T{<b:x:1x<h:y:} (2,) new\nok y <i2 (2,) view\nno E40 out of memory\n[(0, 0) (0, 0)]\n",
+            b"ok r T{<b:x:1x<h:y:} (2,) new\nok y <i2 (2,) view\nok set 1\nno E40 out of memory\n",
         ],
     },
 ];

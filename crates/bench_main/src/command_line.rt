@@ -15,6 +15,7 @@ const COMMANDS: &str = "Commands, one a line:
   X = array D S L..     of literals, as r = array T{<h:x:?:on:} (2) (5,True) 0
   X = Y                 binds X to the same items: a write through one is seen by both
   X = Y[ix]             to those that ix names, as b = a[1,:], c = a[::-1], d = a[...,0,None]
+  X = field Y \"f\"       to the field f of each record, as y = field r \"y\"
   X = transpose Y (..)  to the same items with the axes in this order, or reversed
   set X[ix] = L         writes a literal to the items that ix names, as set a[1,-1] = 7
   del X                 unbinds X

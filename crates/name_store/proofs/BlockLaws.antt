@@ -19,7 +19,7 @@ take_front width front back is = ap (λ n. take n (front ++ back)) (sym is) ∙ 
 drop_front : (width : ℕ) (front back : List ℕ) → length front ≡ width → drop width (front ++ back) ≡ back
 drop_front width front back is = ap (λ n. drop n (front ++ back)) (sym is) ∙ drop-append_seam front back
 
-drop-drop : (n m : ℕ) (xs : List ℕ) → drop (n + m) xs ≡ drop m (drop n xs)
+pub drop-drop : (n m : ℕ) (xs : List ℕ) → drop (n + m) xs ≡ drop m (drop n xs)
 drop-drop zero m xs = ap (λ k. drop k xs) (omega arith)
 drop-drop (suc n) m [] = ap (λ k. drop k none) same ∙ empty m
   where
@@ -37,7 +37,7 @@ drop-drop (suc n) m (x ∷ xs) = ap (λ k. drop k (x ∷ xs)) same ∙ drop-drop
     same : suc n + m ≡ suc (n + m)
     same = omega arith
 
-put-add : (width at : ℕ) (item bytes : List ℕ) → put (width + at) item bytes ≡ take width bytes ++ put at item (drop width bytes)
+pub put-add : (width at : ℕ) (item bytes : List ℕ) → put (width + at) item bytes ≡ take width bytes ++ put at item (drop width bytes)
 put-add width at item bytes =
     ap (λ front. front ++ item ++ drop ((width + at) + length item) bytes) (take-add width at bytes)
     ∙ ap (λ back. (take width bytes ++ take at (drop width bytes)) ++ item ++ back) later
@@ -92,17 +92,8 @@ item-inside width n place h =
     let most : width * suc place ≤ width * n = mul-le-mul_left width h in
     omega (arith, mul-suc width place)
 
-put-item : (descr : Descr) (n place : ℕ) (item bytes : List ℕ) → place < n → length item ≡ item_size descr → n * item_size descr ≤ length bytes →
+pub put-item : (descr : Descr) (n place : ℕ) (item bytes : List ℕ) → place < n → length item ≡ item_size descr → n * item_size descr ≤ length bytes →
     items_in descr n (put (item_size descr * place) item bytes) ≡ slice_set (items_in descr n bytes) place (decode_item descr item)
 put-item descr n place item bytes within whole fits =
     ap (map (decode_item descr)) (blocks-put (item_size descr) n place (item_size descr * place) item bytes within refl whole fits)
     ∙ map-set (decode_item descr) (blocks (item_size descr) n bytes) place item
-
--- an item put at each of some places, one after the other
-pub put_each-items : (descr : Descr) (n : ℕ) (places : List ℕ) (item bytes : List ℕ) → AllByRecursion (λ place. place < n) places → length item ≡ item_size descr → n * item_size descr ≤ length bytes →
-    items_in descr n (put_each (offsets_of (item_size descr) places) item bytes) ≡ write places (replicate (length places) (decode_item descr item)) (items_in descr n bytes)
-put_each-items descr n [] item bytes within whole fits = refl
-put_each-items descr n (place ∷ places) item bytes within whole fits =
-    let long : length (put (item_size descr * place) item bytes) ≡ length bytes = length-put (item_size descr * place) item bytes (omega (arith, item-inside (item_size descr) n place within.0)) in
-    put_each-items descr n places item (put (item_size descr * place) item bytes) within.1 whole (omega arith)
-    ∙ ap (write places (replicate (length places) (decode_item descr item))) (put-item descr n place item bytes within.0 whole fits)

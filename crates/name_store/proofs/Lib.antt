@@ -1,4 +1,6 @@
 pub mod BlockLaws
+pub mod PartLaws
+pub mod PutLaws
 pub mod NameLaws
 pub mod SlotLaws
 pub mod StateLaws

@@ -10,7 +10,8 @@ use Rattle.shape_strides.specs.declared.layout.Layout.{Layout}
 use Rattle.shape_strides.specs.Indexes.{indexes}
 use Rattle.shape_strides.specs.Layouts.{address, dot, natural, offsets, Fits, IsNested}
 use Rattle.name_store.specs.States.{State, Array}
-use Rattle.name_store.specs.Arrays.{find_array, buffer_of}
+use Rattle.name_store.specs.Arrays.{find_array, buffer_of, descr_of}
+use Rattle.name_store.specs.Parts.{start_at}
 use Rattle.name_store.specs.Places.{offsets_of}
 use Rattle.name_store.specs.Shown.{Shows}
 use Rattle.name_store.specs.Views.{MayBind}
@@ -21,12 +22,12 @@ contains-at : (xs : List ℕ) (k x : ℕ) → slice_get xs k ≡ Some x → Cont
 contains-at xs k x h = (k, slice_get_within xs k x h, get_or_from_slice_get xs k x x h)
 
 -- the place of the k-th item
-place-at : (item : ℕ) (places : List ℕ) (k offset : ℕ) → slice_get (offsets_of item places) k ≡ Some offset → (place : ℕ) × (slice_get places k ≡ Some place) × (item * place ≡ offset)
-place-at item places k offset h = by_case (slice_get places k) refl
+place-at : (item start : ℕ) (places : List ℕ) (k offset : ℕ) → slice_get (offsets_of item start places) k ≡ Some offset → (place : ℕ) × (slice_get places k ≡ Some place) × (item * place + start ≡ offset)
+place-at item start places k offset h = by_case (slice_get places k) refl
   where
-    by_case : (found : Option ℕ) → slice_get places k ≡ found → (place : ℕ) × (slice_get places k ≡ Some place) × (item * place ≡ offset)
-    by_case None e = let no : None ≡ Some offset = ap (option_map (λ place. item * place)) (sym e) ∙ sym (slice_get-map (λ place. item * place) places k) ∙ h in cc
-    by_case (Some place) e = let same : Some (item * place) ≡ Some offset = ap (option_map (λ place. item * place)) (sym e) ∙ sym (slice_get-map (λ place. item * place) places k) ∙ h in (place, e, cc)
+    by_case : (found : Option ℕ) → slice_get places k ≡ found → (place : ℕ) × (slice_get places k ≡ Some place) × (item * place + start ≡ offset)
+    by_case None e = let no : None ≡ Some offset = ap (option_map (λ place. item * place + start)) (sym e) ∙ sym (slice_get-map (λ place. item * place + start) places k) ∙ h in cc
+    by_case (Some place) e = let same : Some (item * place + start) ≡ Some offset = ap (option_map (λ place. item * place + start)) (sym e) ∙ sym (slice_get-map (λ place. item * place + start) places k) ∙ h in (place, e, cc)
 
 -- a layout with no axes
 module _ (l : Layout) (shape-is : l.shape ≡ []) (strides-are : l.strides ≡ []) where
@@ -49,13 +50,10 @@ module _ (l : Layout) (shape-is : l.shape ≡ []) (strides-are : l.strides ≡ [
   alone-nested item = record { apart = λ j k before within. absurd (omega (arith, before, within, ap length alone-offsets)) }
 
 module _ (s : State) (name : List ℕ) (array : Array) (r : ArrayRef) (found : find_array s.names name ≡ Some array) (shows : Shows s array r) where
-  size : item_size r.descr.now ≡ item_size (buffer_of s array).descr
+  size : item_size r.descr.now ≡ item_size (descr_of s array)
   size = ap item_size (sym shows.descr)
 
-  len : length r.block.now ≡ length (buffer_of s array).items * item_size (buffer_of s array).descr
-  len = shows.whole ∙ ap (λ n. length (buffer_of s array).items * n) size
-
-  pub may-view_all : (l : Layout) (writable : Bool) → l ≡ r.layout.now → (IsTrue writable → IsTrue r.writable) → MayBind s (View r.number l writable)
+  pub may-view_all : (l : Layout) (writable : Bool) → l ≡ r.layout.now → (IsTrue writable → IsTrue r.writable) → MayBind s (View r.number r.leaf l writable)
   may-view_all l writable layout-is may = (
     record array { writable = writable },
     record {
@@ -66,19 +64,20 @@ module _ (s : State) (name : List ℕ) (array : Array) (r : ArrayRef) (found : f
       among = All-contains_itself array.places;
       number_is = shows.number;
       path = shows.path;
+      part = shows.part;
       shape = ap (λ (l : Layout). l.shape) layout-is ∙ shows.shape;
-      places = ap offsets layout-is ∙ shows.places ∙ ap (λ n. offsets_of n array.places) size;
+      places = ap offsets layout-is ∙ shows.places;
       writable_is = refl;
-      fits = subst (λ (l : Layout). Fits l (length (buffer_of s array).items * item_size (buffer_of s array).descr) (item_size (buffer_of s array).descr)) (sym layout-is)
-          (subst (λ n. Fits r.layout.now n (item_size (buffer_of s array).descr)) len (subst (Fits r.layout.now (length r.block.now)) size shows.fits));
+      fits = subst (λ (l : Layout). Fits l (length (buffer_of s array).items * item_size (buffer_of s array).descr) (item_size (descr_of s array))) (sym layout-is)
+          (subst (λ n. Fits r.layout.now n (item_size (descr_of s array))) shows.whole (subst (Fits r.layout.now (length r.block.now)) size shows.fits));
       fits_limit = subst (λ (l : Layout). Fits l (2 ^ 28) 1) (sym layout-is) shows.fits_limit;
-      nested = λ yes. subst (λ (l : Layout). IsNested (offsets l) (item_size (buffer_of s array).descr)) (sym layout-is) (subst (IsNested (offsets r.layout.now)) size (shows.nested (may yes)));
+      nested = λ yes. subst (λ (l : Layout). IsNested (offsets l) (item_size (descr_of s array))) (sym layout-is) (subst (IsNested (offsets r.layout.now)) size (shows.nested (may yes)));
     },
   )
 
-  pub may-view_item : (l : Layout) (k : ℕ) → l.shape ≡ [] → l.strides ≡ [] → slice_get (offsets r.layout.now) k ≡ Some l.offset → l.offset + 1 ≤ 2 ^ 28 → MayBind s (View r.number l r.writable)
+  pub may-view_item : (l : Layout) (k : ℕ) → l.shape ≡ [] → l.strides ≡ [] → slice_get (offsets r.layout.now) k ≡ Some l.offset → l.offset + 1 ≤ 2 ^ 28 → MayBind s (View r.number r.leaf l r.writable)
   may-view_item l k shape-is strides-are at limit = (
-    record { buffer = array.buffer; path = []; shape = []; places = place.0 ∷ []; writable = array.writable },
+    record { buffer = array.buffer; path = array.path; shape = []; places = place.0 ∷ []; writable = array.writable },
     record {
       source = name;
       base = array;
@@ -86,23 +85,24 @@ module _ (s : State) (name : List ℕ) (array : Array) (r : ArrayRef) (found : f
       same_buffer = refl;
       among = All-from_recursion (Contains array.places) (place.0 ∷ []) (contains-at array.places k place.0 place.1, tt);
       number_is = shows.number;
-      path = refl;
+      path = shows.path;
+      part = shows.part;
       shape = shape-is;
       places = alone-offsets l shape-is strides-are ∙ ap (λ offset. offset ∷ []) (sym place.2);
       writable_is = shows.writable;
       fits = alone-fits l shape-is strides-are _ _ inside;
       fits_limit = alone-fits l shape-is strides-are (2 ^ 28) 1 limit;
-      nested = λ _. alone-nested l shape-is strides-are (item_size (buffer_of s array).descr);
+      nested = λ _. alone-nested l shape-is strides-are (item_size (descr_of s array));
     },
   )
     where
-      place : (place : ℕ) × (slice_get array.places k ≡ Some place) × (item_size (buffer_of s array).descr * place ≡ l.offset)
-      place = place-at (item_size (buffer_of s array).descr) array.places k l.offset (ap (λ xs. slice_get xs k) (ap (λ n. offsets_of n array.places) (sym size) ∙ sym shows.places) ∙ at)
+      place : (place : ℕ) × (slice_get array.places k ≡ Some place) × (item_size (buffer_of s array).descr * place + start_at (buffer_of s array).descr array.path ≡ l.offset)
+      place = place-at (item_size (buffer_of s array).descr) (start_at (buffer_of s array).descr array.path) array.places k l.offset (ap (λ xs. slice_get xs k) (sym shows.places) ∙ at)
 
-      inside : l.offset + item_size (buffer_of s array).descr ≤ length (buffer_of s array).items * item_size (buffer_of s array).descr
+      inside : l.offset + item_size (descr_of s array) ≤ length (buffer_of s array).items * item_size (buffer_of s array).descr
       inside =
           let end = All-contains (λ offset. offset + item_size r.descr.now ≤ length r.block.now) (offsets r.layout.now) l.offset shows.inside (contains-at (offsets r.layout.now) k l.offset at) in
-          omega (arith, end, size, len)
+          omega (arith, end, size, shows.whole)
 
 -- an item that an iterator over a list gives is the one at its place
 pub if-item : (xs : List ℕ) (k : ℕ) (found : Option ℕ) (refusal : Refusal) → option_map (λ x. x) found ≡ slice_get xs k → IfOk (ok_or found refusal) (λ x. slice_get xs k ≡ Some x)

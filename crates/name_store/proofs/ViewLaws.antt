@@ -1,16 +1,18 @@
 -- A view: places of an array that is bound, in its buffer.
-use Rattle.std.proofs.Common.{◌≡◌, ◌*◌, ◌<◌, ◌^◌, ℕ, Bool, List, [], ◌∷◌, length, map, refl, sym, ap, subst, ◌∙◌, cond, Option, Some, None, is_some, All, Contains, IsTrue, true, false, arith}
+use Rattle.std.proofs.Common.{◌≡◌, ◌*◌, ◌<◌, ◌^◌, ℕ, Bool, List, [], ◌∷◌, length, map, refl, sym, ap, subst, ◌∙◌, cond, Option, Some, None, is_some, unwrap_or, All, Contains, IsTrue, true, false, arith}
 use Rattle.std.specs.List.{AllByRecursion}
+use Rattle.std.specs.Option.{option_map}
 use Rattle.std.specs.Str.{bytes_eq}
 use Rattle.elem_descr.specs.Items.{item_size}
 use Rattle.indexmap.specs.IndexMap.{insert_entry}
 use Rattle.shape_strides.specs.declared.layout.Layout.{Layout}
 use Rattle.shape_strides.specs.Layouts.{offsets, Fits, IsNested}
 use Rattle.name_store.specs.States.{Array, Buffer}
-use Rattle.name_store.specs.Arrays.{find_array, buffer_of, bound_view}
-use Rattle.name_store.specs.Invariants.{Holds, LiesAt, LiesIn}
+use Rattle.name_store.specs.Arrays.{find_array, buffer_of, bound_view, descr_of, no_buffer}
+use Rattle.name_store.specs.Invariants.{Holds, IsFieldIn, LiesAt, LiesIn}
+use Rattle.name_store.specs.Parts.{descr_at, start_at, path_of, IsPartOf}
 use Rattle.name_store.specs.Places.{offsets_of, places_of}
-use Rattle.name_store.specs.View.{array_at, named_array, buffer_in, slot_at, state_of}
+use Rattle.name_store.specs.View.{array_at, named_array, buffer_in, path_in, slot_at, state_of}
 use Rattle.name_store.specs.Views.{IsViewIn}
 use Rattle.name_store.specs.declared.entry.Entry.{Entry}
 use Rattle.name_store.specs.declared.entry.Key.{Key}
@@ -18,7 +20,7 @@ use Rattle.name_store.specs.declared.slot.Slot.{Slot}
 use Rattle.name_store.proofs.BlockLaws.{length-items_in}
 use Rattle.name_store.proofs.FreshLaws.{places-offsets}
 use Rattle.name_store.proofs.NameLaws.{TestsName}
-use Rattle.name_store.proofs.ShowLaws.{buffer-found}
+use Rattle.name_store.proofs.PartLaws.{part-some, part-within}
 use Rattle.name_store.proofs.SlotLaws.{get-buffers, slot_at-within}
 use Rattle.name_store.proofs.StateLaws.{Slots, Swept, Ready, ready-view, bound-state}
 use Rattle.name_store.proofs.WriteLaws.{all-among, some-same}
@@ -33,7 +35,7 @@ entry-of P (e ∷ es) name array all found =
       | false ↦ λ later. entry-of P es name array all.1 later
     ] found
 
-module _ (es : List (Key × Entry)) (slots : Slots) (h : Holds es slots) (number : ℕ) (layout : Layout) (writable : Bool) (array : Array) (view : IsViewIn (state_of es slots) number layout writable array) where
+module _ (es : List (Key × Entry)) (slots : Slots) (h : Holds es slots) (number : ℕ) (leaf : Option ℕ) (layout : Layout) (writable : Bool) (array : Array) (view : IsViewIn (state_of es slots) number leaf layout writable array) where
   base : (e : Entry) × LiesAt (slot_at slots e.number) e × (array_at e ≡ view.base)
   base = entry-of (λ e. LiesAt (slot_at slots e.number) e) es view.source view.base h.lie view.found
 
@@ -53,21 +55,42 @@ module _ (es : List (Key × Entry)) (slots : Slots) (h : Holds es slots) (number
   pub view-occupied : is_some (slot_at slots number) ≡ true
   view-occupied = ap is_some view-slot.1
 
-  module _ (v : Entry) (s : Slot) (there : slot_at slots number ≡ Some s) (v-number : v.number ≡ number) (layout-is : v.layout ≡ layout) (item-is : v.item ≡ item_size s.descr) (writable-is : v.writable ≡ writable) where
+  slot-buffer : (s : Slot) → slot_at slots number ≡ Some s → buffer_of (state_of es slots) array ≡ buffer_in s
+  slot-buffer s there = ap (λ n. buffer_of (state_of es slots) (record array { buffer = n })) (sym view.number_is) ∙ ap (λ o. unwrap_or o no_buffer) (get-buffers es slots number ∙ ap (option_map buffer_in) there)
+
+  pub view-part : (s : Slot) → slot_at slots number ≡ Some s → IsPartOf s.descr leaf
+  view-part s there = subst (λ (b : Buffer). IsPartOf b.descr leaf) (slot-buffer s there) view.part
+
+  module _ (v : Entry) (s : Slot) (there : slot_at slots number ≡ Some s) (v-number : v.number ≡ number) (layout-is : v.layout ≡ layout) (item-is : v.item ≡ item_size s.descr) (writable-is : v.writable ≡ writable)
+      (leaf-is : option_map (λ field. field.number) v.field ≡ leaf) (field-is : IsFieldIn s.descr v.field) where
     base-lies : LiesIn s base.0
     base-lies = subst (λ o. LiesAt o base.0) (ap (slot_at slots) number-is ∙ there) base.1
 
     buffer : buffer_of (state_of es slots) array ≡ buffer_in s
-    buffer = ap (λ n. buffer_of (state_of es slots) (record array { buffer = n })) (sym view.number_is ∙ sym v-number) ∙ buffer-found es slots v s (ap (slot_at slots) v-number ∙ there)
+    buffer = slot-buffer s there
 
-    item : item_size (buffer_of (state_of es slots) array).descr ≡ v.item
-    item = ap (λ (b : Buffer). item_size b.descr) buffer ∙ sym item-is
+    type-is : (buffer_of (state_of es slots) array).descr ≡ s.descr
+    type-is = ap (λ (b : Buffer). b.descr) buffer
 
-    spread : offsets v.layout ≡ offsets_of v.item array.places
-    spread = ap offsets layout-is ∙ view.places ∙ ap (λ n. offsets_of n array.places) item
+    path-is : path_in v ≡ array.path
+    path-is = ap path_of leaf-is ∙ sym view.path
+
+    own-is : descr_of (state_of es slots) array ≡ descr_at s.descr (path_in v)
+    own-is = λ i. descr_at (type-is i) (sym path-is i)
+
+    part : IsPartOf s.descr leaf
+    part = view-part s there
+
+    spread : offsets v.layout ≡ offsets_of v.item (start_at s.descr (path_in v)) array.places
+    spread = ap offsets layout-is ∙ view.places ∙ λ i. offsets_of ((ap item_size type-is ∙ sym item-is) i) (start_at (type-is i) (sym path-is i)) array.places
+
+    starts-within : start_at s.descr (path_in v) < v.item
+    starts-within =
+        let here : start_at s.descr (path_in v) ≡ start_at s.descr (path_of leaf) = ap (λ l. start_at s.descr (path_of l)) leaf-is in
+        omega (arith, here, item-is, part-within s.descr s.is_whole.apart leaf part, part-some s.descr s.is_whole.apart s.is_whole.some leaf part)
 
     places : places_of v.item (offsets v.layout) ≡ array.places
-    places = ap (places_of v.item) spread ∙ places-offsets v.item array.places (omega (arith, s.is_whole.some, item-is))
+    places = ap (places_of v.item) spread ∙ places-offsets v.item (start_at s.descr (path_in v)) array.places starts-within
 
     long : length (buffer_of (state_of es slots) array).items * item_size (buffer_of (state_of es slots) array).descr ≡ length s.block
     long =
@@ -75,23 +98,27 @@ module _ (es : List (Key × Entry)) (slots : Slots) (h : Holds es slots) (number
         ∙ ap (λ n. n * item_size s.descr) (length-items_in s.descr s.items s.block)
         ∙ sym s.is_whole.whole
 
+    abbrev own-bytes : ℕ
+    own-bytes = item_size (descr_at s.descr (path_in v))
+
     view-lies : LiesIn s v
     view-lies = record {
       item = item-is;
-      offsets_are = spread ∙ ap (offsets_of v.item) (sym places);
+      field = field-is;
+      offsets_are = spread ∙ ap (offsets_of v.item (start_at s.descr (path_in v))) (sym places);
       within = subst (AllByRecursion (λ place. place < s.items)) (sym places)
           (all-among (λ place. place < s.items) (places_of base.0.item (offsets base.0.layout)) array.places base-lies.within
           (subst (λ (a : Array). All (Contains a.places) array.places) (sym base.2) view.among));
-      fits = subst (λ (l : Layout). Fits l (length s.block) v.item) (sym layout-is) (subst (λ n. Fits layout (length s.block) n) item (subst (λ n. Fits layout n (item_size (buffer_of (state_of es slots) array).descr)) long view.fits));
+      fits = subst (λ (l : Layout). Fits l (length s.block) own-bytes) (sym layout-is) (subst (λ n. Fits layout (length s.block) n) (ap item_size own-is) (subst (λ n. Fits layout n (item_size (descr_of (state_of es slots) array))) long view.fits));
       fits_limit = subst (λ (l : Layout). Fits l (2 ^ 28) 1) (sym layout-is) view.fits_limit;
-      nested = λ yes. subst (λ (l : Layout). IsNested (offsets l) v.item) (sym layout-is) (subst (λ n. IsNested (offsets layout) n) item (view.nested (subst IsTrue writable-is yes)));
+      nested = λ yes. subst (λ (l : Layout). IsNested (offsets l) own-bytes) (sym layout-is) (subst (λ n. IsNested (offsets layout) n) (ap item_size own-is) (view.nested (subst IsTrue writable-is yes)));
     }
 
     pub view-ready : Ready slots slots v
     view-ready = ready-view slots v (subst (λ o. LiesAt o v) (sym (ap (slot_at slots) v-number ∙ there)) view-lies)
 
     pub view-array : array_at v ≡ array
-    view-array = λ i. record { buffer = (v-number ∙ view.number_is) i; path = sym view.path i; shape = (ap (λ (l : Layout). l.shape) layout-is ∙ view.shape) i; places = places i; writable = (writable-is ∙ view.writable_is) i }
+    view-array = λ i. record { buffer = (v-number ∙ view.number_is) i; path = path-is i; shape = (ap (λ (l : Layout). l.shape) layout-is ∙ view.shape) i; places = places i; writable = (writable-is ∙ view.writable_is) i }
 
     pub view-state : (names : List (Key × Entry)) (eq : Key → Key → Bool) (k : Key) → names ≡ insert_entry eq es k v → TestsName (eq k) k.bytes.items → (after : Slots) →
         Swept (map named_array (insert_entry eq es k v)) slots after → state_of names after ≡ bound_view (state_of es slots) k.bytes.items array

@@ -11,34 +11,32 @@ use Rattle.std.proofs.lemmas.List.Elements.{All-contains, All-head, All-tail, Al
 use Rattle.elem_descr.specs.Items.{item_size, decode_item}
 use Rattle.shape_strides.specs.declared.layout.Layout.{Layout}
 use Rattle.shape_strides.specs.Indexes.{count}
-use Rattle.shape_strides.specs.Layouts.{offsets, Fits}
+use Rattle.shape_strides.specs.Layouts.{offsets, Fits, IsNested}
 use Rattle.name_store.specs.States.{Array, Buffer}
-use Rattle.name_store.specs.Arrays.{find_array, buffer_of, write, written, is_in_use}
+use Rattle.name_store.specs.Arrays.{find_array, buffer_of, descr_of, write, written, is_in_use}
 use Rattle.elem_descr.specs.Blocks.{items_in}
-use Rattle.name_store.specs.Invariants.{Holds, LiesAt, LiesIn}
+use Rattle.name_store.specs.Invariants.{Holds, IsFieldIn, LiesAt, LiesIn}
+use Rattle.name_store.specs.Parts.{descr_at, start_at}
 use Rattle.name_store.specs.Places.{offsets_of, places_of}
 use Rattle.name_store.specs.Targets.{LeadsTo, new_items, put_each}
-use Rattle.name_store.specs.View.{array_at, named_array, buffer_in, slot_at, state_of}
+use Rattle.name_store.specs.View.{array_at, named_array, buffer_in, leaf_in, path_in, slot_at, state_of}
 use Rattle.name_store.specs.declared.entry.Entry.{Entry}
 use Rattle.name_store.specs.declared.entry.Key.{Key}
 use Rattle.name_store.specs.declared.slot.Slot.{Slot}
 use Rattle.name_store.specs.declared.target.Source.TheVariants.{One}
 use Rattle.name_store.specs.declared.target.Target.TheVariants.{View}
-use Rattle.name_store.proofs.BlockLaws.{put_each-items, item-inside}
+use Rattle.name_store.proofs.PartLaws.{part-of, part-within}
+use Rattle.name_store.proofs.PutLaws.{put_each-items}
 use Rattle.name_store.proofs.NameLaws.{TestsName, all-both}
 use Rattle.name_store.proofs.SlotLaws.{get-buffers, tests_agree}
 use Rattle.name_store.proofs.StateLaws.{Slots, bound-found, none-found, found-lies}
-use Rattle.name_store.proofs.ShowLaws.{buffer-found}
+use Rattle.name_store.proofs.ShowLaws.{buffer-found, inside-places}
 
 -- what holds of all elements holds of some of them
 pub all-among : (P : ℕ → Type 0) (xs ys : List ℕ) → AllByRecursion P xs → All (Contains xs) ys → AllByRecursion P ys
 all-among P xs [] all among = tt
 all-among P xs (y ∷ ys) all among =
     (All-contains P xs y (All-from_recursion P xs all) (All-head (Contains xs) y ys among), all-among P xs ys all (All-tail (Contains xs) y ys among))
-
-offsets-inside : (width n : ℕ) (places : List ℕ) → AllByRecursion (λ place. place < n) places → AllByRecursion (λ offset. offset + width ≤ n * width) (offsets_of width places)
-offsets-inside width n [] within = tt
-offsets-inside width n (place ∷ places) within = (item-inside width n place within.0, offsets-inside width n places within.1)
 
 pub some-same : {A : Type 0} (x y : A) → Some x ≡ Some y → x ≡ y
 some-same x y h = cc
@@ -53,15 +51,24 @@ entry-found es slots h test name is array found =
 
 module _ (es : List (Key × Entry)) (slots : Slots) (h : Holds es slots) (test : Key → Bool) (name : List ℕ) (is : TestsName test name) (layout : Layout) (item : Bor (List ℕ)) (e : Entry) (s : Slot)
     (was : lookup test es ≡ Some e) (there : slot_at slots e.number ≡ Some s) (array : Array) (places : List ℕ) (leads : LeadsTo (state_of es slots) name (View layout) array places)
-    (long : length item.now ≡ item_size (buffer_of (state_of es slots) array).descr) where
+    (long : length item.now ≡ item_size (descr_of (state_of es slots) array)) where
   same : array ≡ array_at e
   same = some-same array (array_at e) (sym leads.found ∙ bound-found es slots h test name is e was)
 
   buffer : buffer_of (state_of es slots) array ≡ buffer_in s
   buffer = ap (buffer_of (state_of es slots)) same ∙ buffer-found es slots e s there
 
-  whole : length item.now ≡ item_size s.descr
-  whole = long ∙ ap (λ (b : Buffer). item_size b.descr) buffer
+  type-is : (buffer_of (state_of es slots) array).descr ≡ s.descr
+  type-is = ap (λ (b : Buffer). b.descr) buffer
+
+  path-is : array.path ≡ path_in e
+  path-is = ap (λ (a : Array). a.path) same
+
+  own-is : descr_of (state_of es slots) array ≡ descr_at s.descr (path_in e)
+  own-is = λ i. descr_at (type-is i) (path-is i)
+
+  whole : length item.now ≡ item_size (descr_at s.descr (path_in e))
+  whole = long ∙ ap item_size own-is
 
   lies : LiesIn s e
   lies = found-lies es slots h test name is e s was there
@@ -69,15 +76,14 @@ module _ (es : List (Key × Entry)) (slots : Slots) (h : Holds es slots) (test :
   within : AllByRecursion (λ place. place < s.items) places
   within = all-among (λ place. place < s.items) (places_of e.item (offsets e.layout)) places lies.within (subst (λ (a : Array). All (Contains a.places) places) same leads.among)
 
-  spread : offsets layout ≡ offsets_of (item_size s.descr) places
-  spread = leads.offsets_are ∙ ap (λ (b : Buffer). offsets_of (item_size b.descr) places) buffer
+  spread : offsets layout ≡ offsets_of (item_size s.descr) (start_at s.descr (path_in e)) places
+  spread = leads.offsets_are ∙ λ i. offsets_of (item_size (type-is i)) (start_at (type-is i) (path-is i)) places
 
   pub inside : All (λ offset. offset + length item.now ≤ length s.block) (offsets layout)
   inside =
-      subst (λ width. All (λ offset. offset + width ≤ length s.block) (offsets layout)) (sym whole)
-      (subst (λ len. All (λ offset. offset + item_size s.descr ≤ len) (offsets layout)) (sym s.is_whole.whole)
-      (subst (All (λ offset. offset + item_size s.descr ≤ s.items * item_size s.descr)) (sym spread)
-      (All-from_recursion (λ offset. offset + item_size s.descr ≤ s.items * item_size s.descr) (offsets_of (item_size s.descr) places) (offsets-inside (item_size s.descr) s.items places within))))
+      subst (All (λ offset. offset + length item.now ≤ length s.block)) (sym spread)
+      (All-from_recursion _ _ (inside-places (item_size s.descr) (start_at s.descr (path_in e)) (length item.now) s.items (length s.block) places within (sym s.is_whole.whole)
+      (omega (arith, whole, part-within s.descr s.is_whole.apart (leaf_in e) (part-of s e lies)))))
 
   module _ (after : Slots) (s' : Slot) (counted : length (offsets layout) ≡ count layout.shape) (descr-is : s'.descr ≡ s.descr) (items-are : s'.items ≡ s.items) (block-is : s'.block ≡ put_each (offsets layout) item.now s.block)
       (set : (q : ℕ) → slot_at after q ≡ cond (nat_eq q e.number) (Some s') (slot_at slots q)) where
@@ -96,11 +102,12 @@ module _ (es : List (Key × Entry)) (slots : Slots) (h : Holds es slots) (test :
         moved : (x : Entry) → LiesIn s x → LiesIn s' x
         moved x l = record {
           item = l.item ∙ ap item_size (sym descr-is);
-          offsets_are = l.offsets_are;
+          field = subst (λ d. IsFieldIn d x.field) (sym descr-is) l.field;
+          offsets_are = l.offsets_are ∙ ap (λ d. offsets_of x.item (start_at d (path_in x)) (places_of x.item (offsets x.layout))) (sym descr-is);
           within = subst (λ n. AllByRecursion (λ place. place < n) (places_of x.item (offsets x.layout))) (sym items-are) l.within;
-          fits = subst (λ n. Fits x.layout n x.item) (sym len) l.fits;
+          fits = subst (λ d. Fits x.layout (length s'.block) (item_size (descr_at d (path_in x)))) (sym descr-is) (subst (λ n. Fits x.layout n (item_size (descr_at s.descr (path_in x)))) (sym len) l.fits);
           fits_limit = l.fits_limit;
-          nested = l.nested;
+          nested = λ yes. subst (λ d. IsNested (offsets x.layout) (item_size (descr_at d (path_in x)))) (sym descr-is) (l.nested yes);
         }
 
     pub written-holds : Holds es after
@@ -118,23 +125,23 @@ module _ (es : List (Key × Entry)) (slots : Slots) (h : Holds es slots) (test :
             ] refl (set q)
 
     places-counted : length places ≡ count layout.shape
-    places-counted = sym (length-map places (λ place. item_size s.descr * place)) ∙ ap length (sym spread) ∙ counted
+    places-counted = sym (length-map places (λ place. item_size s.descr * place + start_at s.descr (path_in e))) ∙ ap length (sym spread) ∙ counted
 
     abbrev new-buffer : Buffer
-    new-buffer = record (buffer_of (state_of es slots) array) { items = write places (new_items (buffer_of (state_of es slots) array).descr (count layout.shape) (One item)) (buffer_of (state_of es slots) array).items }
+    new-buffer = record (buffer_of (state_of es slots) array) { items = write array.path places (new_items (descr_of (state_of es slots) array) (count layout.shape) (One item)) (buffer_of (state_of es slots) array).items }
 
-    items-written : write places (new_items (buffer_of (state_of es slots) array).descr (count layout.shape) (One item)) (buffer_of (state_of es slots) array).items ≡ items_in s'.descr s'.items s'.block
+    items-written : write array.path places (new_items (descr_of (state_of es slots) array) (count layout.shape) (One item)) (buffer_of (state_of es slots) array).items ≡ items_in s'.descr s'.items s'.block
     items-written =
-        ap (λ (b : Buffer). write places (replicate (count layout.shape) (decode_item b.descr item.now)) b.items) buffer
-        ∙ ap (λ n. write places (replicate n (decode_item s.descr item.now)) (items_in s.descr s.items s.block)) (sym places-counted)
-        ∙ sym (put_each-items s.descr s.items places item.now s.block within whole (omega (arith, s.is_whole.whole)))
+        (λ i. write (path-is i) places (replicate (count layout.shape) (decode_item (own-is i) item.now)) (ap (λ (b : Buffer). b.items) buffer i))
+        ∙ ap (λ n. write (path_in e) places (replicate n (decode_item (descr_at s.descr (path_in e)) item.now)) (items_in s.descr s.items s.block)) (sym places-counted)
+        ∙ sym (put_each-items s.descr s.is_whole.apart (leaf_in e) (part-of s e lies) s.items places item.now s.block within whole (omega (arith, s.is_whole.whole)))
         ∙ ap (items_in s.descr s.items) (ap (λ os. put_each os item.now s.block) (sym spread) ∙ sym block-is)
         ∙ λ i. items_in (sym descr-is i) (sym items-are i) s'.block
 
     new-is : new-buffer ≡ buffer_in s'
     new-is = λ i. record { descr = (ap (λ (b : Buffer). b.descr) buffer ∙ sym descr-is) i; items = items-written i }
 
-    pub written-state : state_of es after ≡ written (state_of es slots) array places (new_items (buffer_of (state_of es slots) array).descr (count layout.shape) (One item))
+    pub written-state : state_of es after ≡ written (state_of es slots) array places (new_items (descr_of (state_of es slots) array) (count layout.shape) (One item))
     written-state = λ i. record { names = map named_array es; buffers = buffers i; kept = [] }
       where
         with_one : (t : Bool) (o : Option Slot) → option_map buffer_in (cond t (Some s') o) ≡ cond t (Some (buffer_in s')) (option_map buffer_in o)

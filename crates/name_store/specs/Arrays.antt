@@ -3,12 +3,16 @@ use Rattle.std.specs.Prelude.{ℕ, Bool, true, List, [], ◌∷◌, length, map,
 use Rattle.std.specs.List.{list_any, range_with_len}
 use Rattle.std.specs.Str.{bytes_eq}
 use Rattle.std.specs.FinMap.{get, insert, retain_keys}
+use Rattle.elem_descr.specs.declared.descr.Descr.{Descr}
 use Rattle.elem_descr.specs.declared.descr.Descr.TheVariants.{Scalar as ScalarDescr}
 use Rattle.elem_descr.specs.declared.scalar.Scalar.TheVariants.{Int}
 use Rattle.elem_descr.specs.declared.scalar.Width.TheVariants.{Four}
 use Rattle.elem_descr.specs.declared.scalar.Order.TheVariants.{Little}
+use Rattle.elem_descr.specs.Items.{item_size}
 use Rattle.elem_descr.specs.Values.{LeafValue}
 use Rattle.shape_strides.specs.Indexes.{count}
+use Rattle.name_store.specs.Parts.{descr_at, start_at, part_at, with_part}
+use Rattle.name_store.specs.Places.{offsets_of}
 use Rattle.name_store.specs.States.{Buffer, Array, State}
 
 -- Names
@@ -69,19 +73,30 @@ no_buffer = record { descr = ScalarDescr (Int true Four Little); items = [] }
 abbrev pub buffer_of : State → Array → Buffer
 buffer_of s array = unwrap_or (get s.buffers array.buffer) no_buffer
 
+-- the element type of an array: that of its buffer, or of one field
+abbrev pub descr_of : State → Array → Descr
+descr_of s array = descr_at (buffer_of s array).descr array.path
+
+-- the address of each item of an array, in bytes from the start of its buffer
+abbrev pub addresses : State → Array → List ℕ
+addresses s array = offsets_of (item_size (buffer_of s array).descr) (start_at (buffer_of s array).descr array.path) array.places
+
+abbrev pub item_at : List (List LeafValue) → ℕ → List LeafValue
+item_at items place = unwrap_or (slice_get items place) []
+
 -- the items of an array, place by place
 abbrev pub read : State → Array → List (List LeafValue)
-read s array = map (λ place. unwrap_or (slice_get (buffer_of s array).items place) []) array.places
+read s array = map (λ place. part_at array.path (item_at (buffer_of s array).items place)) array.places
 
--- items put at places, one after the other
-abbrev pub write : List ℕ → List (List LeafValue) → List (List LeafValue) → List (List LeafValue)
-write (place ∷ places) (item ∷ new) items = write places new (slice_set items place item)
-write places new items = items
+-- values put in a part of the items at places, one after the other
+abbrev pub write : List ℕ → List ℕ → List (List LeafValue) → List (List LeafValue) → List (List LeafValue)
+write path (place ∷ places) (part ∷ new) items = write path places new (slice_set items place (with_part path part (item_at items place)))
+write path places new items = items
 
--- the state in which the places of an array's buffer have new items
+-- the state in which an array's items at some of its places are new
 abbrev pub written : State → Array → List ℕ → List (List LeafValue) → State
 written s array places new =
-    record s { buffers = insert s.buffers array.buffer (record (buffer_of s array) { items = write places new (buffer_of s array).items }) }
+    record s { buffers = insert s.buffers array.buffer (record (buffer_of s array) { items = write array.path places new (buffer_of s array).items }) }
 
 -- Shared cells
 

@@ -6,7 +6,7 @@ use Rattle.elem_descr.specs.declared.refusal.Refusal.TheVariants.{OutOfMemory, T
 use Rattle.overlap_copy.specs.declared.owned.Owned.{Owned}
 use Rattle.shape_strides.specs.Indexes.{count}
 use Rattle.name_store.specs.States.{State, Array, Buffer}
-use Rattle.name_store.specs.Arrays.{is_bound, has_room_for, fresh_array, bound_to, bound_view, unbound, buffer_of, written, find_array, share_cells}
+use Rattle.name_store.specs.Arrays.{is_bound, has_room_for, fresh_array, bound_to, bound_view, unbound, descr_of, written, find_array, share_cells}
 use Rattle.elem_descr.specs.Blocks.{items_in}
 use Rattle.name_store.specs.Targets.{layout_of, new_items, LeadsTo}
 use Rattle.name_store.specs.declared.target.Source.{Source}
@@ -33,8 +33,8 @@ pub record IsLeastUnused (s : State) (number : ℕ) : Type 0 where
 abbrev pub Binds : State → List ℕ → Bound → State → Type 0
 Binds old name (Fresh o) new =
     (number : ℕ) × IsLeastUnused old number × (new ≡ bound_to old name (fresh_array number o.layout.shape) (own_buffer o))
-Binds old name (View number layout writable) new =
-    (array : Array) → IsViewIn old number layout writable array → new ≡ bound_view old name array
+Binds old name (View number leaf layout writable) new =
+    (array : Array) → IsViewIn old number leaf layout writable array → new ≡ bound_view old name array
 
 -- A name is bound where there is room for it. Else it is refused, or for want of memory, and nothing has changed.
 abbrev pub AnswersBind : State → List ℕ → Bound → Result (Unit {0}) Refusal → State → Type 0
@@ -51,7 +51,7 @@ AnswersUnbind old name (Err refusal) new = (is_bound old name ≡ false) × (ref
 abbrev pub AnswersWrite : State → List ℕ → Target → Source → Result ℕ Refusal → State → Type 0
 AnswersWrite old name target source (Ok n) new =
     (n ≡ count (layout_of target).shape)
-    × ((array : Array) (places : List ℕ) → LeadsTo old name target array places → new ≡ written old array places (new_items (buffer_of old array).descr n source))
+    × ((array : Array) (places : List ℕ) → LeadsTo old name target array places → new ≡ written old array places (new_items (descr_of old array) n source))
 AnswersWrite old name target source (Err refusal) new = (new ≡ old) × (refusal ≡ OutOfMemory)
 
 -- Whether the arrays of two names share cells. Only a name that is not bound and want of memory refuse it.

@@ -2,6 +2,7 @@ pub mod Arrays
 pub mod Calls
 pub mod Codes
 pub mod Invariants
+pub mod Parts
 pub mod Places
 pub mod Shown
 pub mod States

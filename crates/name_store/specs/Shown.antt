@@ -1,23 +1,24 @@
 -- What a look-up shows of an array.
-use Rattle.std.specs.Prelude.{◌≡◌, ◌*◌, ◌^◌, [], map, length, Option, Some, None, IsTrue, All, ◌+◌, ◌≤◌}
+use Rattle.std.specs.Prelude.{◌≡◌, ◌*◌, ◌^◌, map, length, Option, Some, None, IsTrue, All, ◌+◌, ◌≤◌}
 use Rattle.elem_descr.specs.Items.{item_size}
 use Rattle.shape_strides.specs.Layouts.{offsets, Fits, IsNested}
 use Rattle.name_store.specs.States.{State, Array}
-use Rattle.name_store.specs.Arrays.{buffer_of, read}
-use Rattle.elem_descr.specs.Blocks.{items_in, item_from}
-use Rattle.name_store.specs.Places.{offsets_of}
+use Rattle.name_store.specs.Arrays.{buffer_of, descr_of, addresses, read}
+use Rattle.elem_descr.specs.Blocks.{item_from}
+use Rattle.name_store.specs.Parts.{path_of, IsPartOf}
 use Rattle.name_store.specs.declared.array_ref.ArrayRef.{ArrayRef}
 
 -- the array of a state, by its buffer's block and by a layout of offsets in it
 pub record Shows (s : State) (array : Array) (r : ArrayRef) : Type 0 where
   pub number : r.number ≡ array.buffer
-  pub path : array.path ≡ []
+  pub path : array.path ≡ path_of r.leaf
+  pub part : IsPartOf (buffer_of s array).descr r.leaf
   pub shape : r.layout.now.shape ≡ array.shape
-  pub places : offsets r.layout.now ≡ offsets_of (item_size r.descr.now) array.places
+  pub places : offsets r.layout.now ≡ addresses s array
   pub writable : r.writable ≡ array.writable
-  pub descr : (buffer_of s array).descr ≡ r.descr.now
-  pub items : (buffer_of s array).items ≡ items_in r.descr.now (length (buffer_of s array).items) r.block.now
-  pub whole : length r.block.now ≡ length (buffer_of s array).items * item_size r.descr.now
+  pub descr : descr_of s array ≡ r.descr.now
+  pub whole : length r.block.now ≡ length (buffer_of s array).items * item_size (buffer_of s array).descr
+  pub small : length r.block.now ≤ 2 ^ 28
   pub reads : read s array ≡ map (item_from r.descr.now r.block.now) (offsets r.layout.now)
   pub inside : All (λ offset. offset + item_size r.descr.now ≤ length r.block.now) (offsets r.layout.now)
   pub fits : Fits r.layout.now (length r.block.now) (item_size r.descr.now)

@@ -8,8 +8,7 @@ use Rattle.raw_block.specs.Bytes.{put}
 use Rattle.shape_strides.specs.declared.layout.Layout.{Layout}
 use Rattle.shape_strides.specs.Layouts.{offsets, Fits}
 use Rattle.name_store.specs.States.{State, Array}
-use Rattle.name_store.specs.Arrays.{find_array, buffer_of}
-use Rattle.name_store.specs.Places.{offsets_of}
+use Rattle.name_store.specs.Arrays.{find_array, descr_of, addresses}
 use Rattle.name_store.specs.declared.target.Source.{Source}
 use Rattle.name_store.specs.declared.target.Source.TheVariants.{One}
 use Rattle.name_store.specs.declared.target.Target.{Target}
@@ -30,7 +29,7 @@ new_items descr n (One bytes) = replicate n (decode_item descr bytes.now)
 pub record LeadsTo (s : State) (name : List ℕ) (target : Target) (array : Array) (places : List ℕ) : Type 0 where
   pub found : find_array s.names name ≡ Some array
   pub writable : array.writable ≡ true
-  pub offsets_are : offsets (layout_of target) ≡ offsets_of (item_size (buffer_of s array).descr) places
+  pub offsets_are : offsets (layout_of target) ≡ addresses s (record array { places = places })
   pub among : All (Contains array.places) places
   pub fits_limit : Fits (layout_of target) (2 ^ 28) 1
 
@@ -39,7 +38,7 @@ pub record IsAim (s : State) (name : List ℕ) (target : Target) (source : Sourc
   pub array : Array
   pub places : List ℕ
   pub leads : LeadsTo s name target array places
-  pub source_for : IsFor (buffer_of s array).descr source
+  pub source_for : IsFor (descr_of s array) source
 
 -- the bytes of an item put at each of some offsets, one after the other
 abbrev pub put_each : List ℕ → List ℕ → List ℕ → List ℕ

@@ -1,18 +1,20 @@
 //! A name is bound.
 ghost use Rattle.std.specs.Prelude.{◌≡◌, true};
+ghost use Rattle.std.specs.Option.{option_map};
 ghost use Rattle.name_store.specs.Arrays.{has_room_for};
 ghost use Rattle.name_store.specs.Calls.{AnswersBind};
-ghost use Rattle.name_store.specs.Invariants.{Holds};
+ghost use Rattle.name_store.specs.Invariants.{Holds, IsFieldIn};
+ghost use Rattle.name_store.specs.Parts.{IsPartOf};
 ghost use Rattle.name_store.specs.View.{state_of};
 ghost use Rattle.name_store.specs.declared.bound.Bound.TheVariants.{Fresh, View};
 ghost use Rattle.name_store.specs.States.{Array};
 ghost use Rattle.name_store.specs.Views.{IsViewIn, MayBind};
 
 use crate::bound::Bound;
-use crate::entry::{Entry, Key};
+use crate::entry::{Entry, Field, Key};
 use crate::slot::Slot;
 use crate::slots::{free_number, put_slot, release_replaced, slot_of};
-use elem_descr::Refusal;
+use elem_descr::{Descr, Refusal};
 use indexmap::IndexMap;
 use overlap_copy::Owned;
 use shape_strides::Layout;
@@ -52,22 +54,29 @@ fn bind_fresh(
     let items = layout.shape.items();
     let entry = Entry {
         number,
+        field: None,
         layout,
         item: descr.size(),
         writable: true,
     };
     let replaced = names.insert(key, entry)?;
-    put_slot(
-        slots,
-        number,
-        Slot {
-            descr,
-            items,
-            block,
-        },
-    );
+    put_slot(slots, number, Slot::new(descr, items, block));
     release_replaced(names, slots, replaced);
     Ok(())
+}
+
+/// The field with this number among those of an item.
+fn field_of(descr: &Descr, leaf: Option<usize>) -> Option<Field>
+    requires { IsPartOf descr.now leaf }
+    ensures number { option_map (λ field. field.number) result ≡ leaf }
+    ensures descr { IsFieldIn descr.now result }
+{
+    let number = leaf?;
+    let (scalar, _) = descr.leaf_at(number);
+    Some(Field {
+        number,
+        descr: Descr::Scalar(scalar),
+    })
 }
 
 /// Binds a name to a view. Only the table of names takes memory, and before the first change.
@@ -76,22 +85,24 @@ fn bind_view(
     slots: &mut Vec<Option<Slot>>,
     key: Key,
     number: u64,
+    leaf: Option<usize>,
     layout: Layout,
     writable: bool,
 ) -> Result<(), Refusal>
     requires holds { Holds names.old.entries slots.old.items }
     requires room { has_room_for (state_of names.old.entries slots.old.items) key.bytes.items ≡ true }
-    requires view { (array : Array) × IsViewIn (state_of names.old.entries slots.old.items) number layout writable array }
+    requires view { (array : Array) × IsViewIn (state_of names.old.entries slots.old.items) number leaf layout writable array }
     ensures holds { Holds names.new.entries slots.new.items }
-    ensures answers { AnswersBind (state_of names.old.entries slots.old.items) key.bytes.items (View number layout writable) result
+    ensures answers { AnswersBind (state_of names.old.entries slots.old.items) key.bytes.items (View number leaf layout writable) result
         (state_of names.new.entries slots.new.items) }
 {
     let number = number as usize;
-    let item = slot_of(slots.as_slice(), number).descr.size();
+    let whole = &slot_of(slots.as_slice(), number).descr;
     let view = Entry {
         number,
+        field: field_of(whole, leaf),
         layout,
-        item,
+        item: whole.size(),
         writable,
     };
     let replaced = names.insert(key, view)?;
@@ -119,8 +130,9 @@ pub(crate) fn bind_in(
         Bound::Fresh(owned) => bind_fresh(names, slots, key, owned),
         Bound::View {
             number,
+            leaf,
             layout,
             writable,
-        } => bind_view(names, slots, key, number, layout, writable),
+        } => bind_view(names, slots, key, number, leaf, layout, writable),
     }
 }

@@ -24,7 +24,7 @@ pub use target::{Source, Target};
 
 // A crate can name a bench in a contract only if the types of its fields are exported.
 #[doc(hidden)]
-pub use entry::{Entry, Key};
+pub use entry::{Entry, Field, Key};
 #[doc(hidden)]
 pub use slot::Slot;
 

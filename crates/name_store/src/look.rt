@@ -24,9 +24,10 @@ pub(crate) fn look_in<'a>(
     let slot = slot_of(slots, entry.number);
     Some(ArrayRef {
         block: &slot.block,
-        descr: &slot.descr,
+        descr: entry.descr(&slot.descr),
         layout: &entry.layout,
         number: entry.number as u64,
+        leaf: entry.leaf(),
         writable: entry.writable,
     })
 }

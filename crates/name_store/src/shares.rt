@@ -34,9 +34,9 @@ pub(crate) fn shares_in(
     let has_common = share_cell(
         alloc,
         &first.layout,
-        first.item,
+        first.size(),
         &second.layout,
-        second.item,
+        second.size(),
     )?;
     Ok(has_common)
 }

@@ -62,10 +62,11 @@ fn view_all(
     let Some(array) = bench.get(source) else {
         return Err(Refusal::UnknownName);
     };
-    let (number, writable) = (array.number, array.writable && writable);
+    let (number, leaf, writable) = (array.number, array.leaf, array.writable && writable);
     let layout = Layout::try_copy(alloc, array.layout)?;
     let view = Bound::View {
         number,
+        leaf,
         layout,
         writable,
     };
@@ -92,7 +93,7 @@ fn view_item(
     let Some(array) = bench.get(source) else {
         return Err(Refusal::UnknownName);
     };
-    let (number, writable) = (array.number, array.writable);
+    let (number, leaf, writable) = (array.number, array.leaf, array.writable);
     let offset = offset_of(alloc, array.layout, k)?;
     let layout = Layout {
         shape: Shape::try_new(alloc, &[])?,
@@ -101,6 +102,7 @@ fn view_item(
     };
     let view = Bound::View {
         number,
+        leaf,
         layout,
         writable,
     };

@@ -9,7 +9,7 @@ pub struct Row {
     pub refused: u64,
 }
 
-pub const ROWS: [Row; 26] = [
+pub const ROWS: [Row; 31] = [
     Row {
         script: FIRST_RUN,
         replies: FIRST_REPLIES,
@@ -130,6 +130,41 @@ pub const ROWS: [Row; 26] = [
         replies: b"ok r T{<b:x:3x<i:y:} (2,) new\nok set 2\n[(7, 7) (7, 7)]\nok s T{<b:x:3x<i:y:} (2,) view\nok set 1\n[(7, 7) (1, 2)]\ninfo s T{<b:x:3x<i:y:} (2,) strides (-8,) at 8 order - write yes\nok t |S2 (2, 2) new\nok u |S2 (2,) view\nok set 2\n[[b'bc' b'a']\n [b'bc' b'a']]\n",
         accepted: 11,
         refused: 0,
+    },
+    // A field of records is a view of them: a write through it is seen by the records. Only records have fields.
+    Row {
+        script: b"a = zeros T{<i:x:>h:y:} (1)\ny = field a \"y\"\ninfo y\nset y[0] = 258\nprint a\nz = field y \"y\"\nz = field a \"z\"\nz = field a \"\"\nz = field q \"y\"\nprint z\n",
+        replies: b"ok a T{<i:x:>h:y:} (1,) new\nok y >i2 (1,) view\ninfo y >i2 (1,) strides (0,) at 4 order CF write yes\nok set 1\n[(0, 258)]\nno E19 no such field\nno E19 no such field\nno E19 no such field\nno E06 unknown name\nno E06 unknown name\n",
+        accepted: 5,
+        refused: 5,
+    },
+    // Each field has an element type of its own.
+    Row {
+        script: b"r = zeros T{b:x:i:y:} (2)\nset r[1] = (5,-1)\nx = field r \"x\"\nprint x\ninfo x\nformat x\nz = field r \"z\"\ny = field r \"y\"\ninfo y\nformat y\nprint y\nset y[0] = 2147483648\nset r[...] = 7\nprint y\n",
+        replies: b"ok r T{<b:x:3x<i:y:} (2,) new\nok set 1\nok x |i1 (2,) view\n[0 5]\ninfo x |i1 (2,) strides (8,) at 0 order - write yes\nformat <b\nno E19 no such field\nok y <i4 (2,) view\ninfo y <i4 (2,) strides (8,) at 4 order - write yes\nformat <i\n[ 0 -1]\nno E23 literal out of range\nok set 2\n[7 7]\n",
+        accepted: 12,
+        refused: 2,
+    },
+    // Fields of views of records, and views of these.
+    Row {
+        script: b"a = zeros T{<h:x:>i:y:3s:t:} (2,3)\nb = a[:,::-2]\ny = field b \"y\"\ninfo y\nv = y[1,:]\ninfo v\nset v[...] = -7\nt = transpose y\ninfo t\nn = t[None,...,0]\ninfo n\nset n[0,1] = 5\nprint y\ns = field b \"t\"\nset s[0] = b'xyzw'\nprint s\nprint a\n",
+        replies: b"ok a T{<h:x:>i:y:<3s:t:} (2, 3) new\nok b T{<h:x:>i:y:<3s:t:} (2, 2) view\nok y >i4 (2, 2) view\ninfo y >i4 (2, 2) strides (27, -18) at 20 order - write yes\nok v >i4 (2,) view\ninfo v >i4 (2,) strides (-18,) at 47 order - write yes\nok set 2\nok t >i4 (2, 2) view\ninfo t >i4 (2, 2) strides (-18, 27) at 20 order - write yes\nok n >i4 (1, 2) view\ninfo n >i4 (1, 2) strides (0, -18) at 20 order - write yes\nok set 1\n[[ 0  5]\n [-7 -7]]\nok s |S3 (2, 2) view\nok set 2\n[[b'xyz' b'xyz']\n [b'' b'']]\n[[(0,  5, b'xyz') (0,  0, b'') (0,  0, b'xyz')]\n [(0, -7, b'') (0,  0, b'') (0, -7, b'')]]\n",
+        accepted: 17,
+        refused: 0,
+    },
+    // Two fields of a record have no cell in common, and each has some with the record.
+    Row {
+        script: b"r = zeros T{b:x:i:y:} (3)\nx = field r \"x\"\ny = field r \"y\"\nshares x y\nshares x r\nshares r y\nw = x[::2]\nv = x[1:2]\nshares w v\nshares w x\nq = field r \"x\"\nshares q x\nshares v y\nset r[1] = (3,-4)\nprint x\nprint y\nset r[...] = 9\nprint w\ndel r\nset y[::-1] = 2\nprint y\nprint x\nz = x\nshares z y\nshares z w\nnames\n",
+        replies: b"ok r T{<b:x:3x<i:y:} (3,) new\nok x |i1 (3,) view\nok y <i4 (3,) view\nshares no\nshares yes\nshares yes\nok w |i1 (2,) view\nok v |i1 (1,) view\nshares no\nshares yes\nok q |i1 (3,) view\nshares yes\nshares no\nok set 1\n[0 3 0]\n[ 0 -4  0]\nok set 3\n[9 9]\nok del r\nok set 3\n[2 2 2]\n[9 9 9]\nok z |i1 (3,) view\nshares no\nshares yes\nnames x y w v q z\n",
+        accepted: 26,
+        refused: 0,
+    },
+    // A field of no items, of one item, and of the array that the name itself was bound to.
+    Row {
+        script: b"r = zeros T{b:x:i:y:} (3)\ne = r[3:]\nf = field e \"y\"\ninfo f\nprint f\no = r[1]\np = field o \"y\"\ninfo p\nset p[...] = 8\nprint p\nu = field r \"y\"\nu = u[None,:]\ninfo u\nprint u\nr = field r \"y\"\ninfo r\nprint r\nformat r\nz = field r \"y\"\nnames\n",
+        replies: b"ok r T{<b:x:3x<i:y:} (3,) new\nok e T{<b:x:3x<i:y:} (0,) view\nok f <i4 (0,) view\ninfo f <i4 (0,) strides (0,) at 0 order CF write yes\n[]\nok o T{<b:x:3x<i:y:} () view\nok p <i4 () view\ninfo p <i4 () strides () at 12 order CF write yes\nok set 1\n8\nok u <i4 (3,) view\nok u <i4 (1, 3) view\ninfo u <i4 (1, 3) strides (0, 8) at 4 order - write yes\n[[0 8 0]]\nok r <i4 (3,) view\ninfo r <i4 (3,) strides (8,) at 4 order - write yes\n[0 8 0]\nformat <i\nno E19 no such field\nnames r e f o p u\n",
+        accepted: 19,
+        refused: 1,
     },
     Row {
         script: b"a = arange <i4 0 5 1\nprint a\na = array ? (3) True False True\nprint a\n",

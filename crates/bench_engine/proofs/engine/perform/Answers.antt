@@ -36,3 +36,6 @@ returns-in-None-axes-clause-answers c = rw (c.in-Transpose.is, c.in-None-axes.is
 
 pub returns-in-Some-axes-clause-answers : goal.returns-in-Some-axes-clause-answers
 returns-in-Some-axes-clause-answers c = rw (c.in-Transpose.is, c.in-Some-axes.is) (rw c.as_slice.ensures at c.transpose-in-Some-axes.ensures.answers)
+
+pub returns-in-Field-clause-answers : goal.returns-in-Field-clause-answers
+returns-in-Field-clause-answers c = rw c.in-Field.is c.field.ensures.answers

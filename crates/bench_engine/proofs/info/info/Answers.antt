@@ -1,9 +1,6 @@
-use Rattle.std.proofs.Common.{◌≡◌, ap, sym, refl, ◌∙◌, inr, Ok}
-use Rattle.elem_descr.specs.declared.descr.Descr.{Descr}
-use Rattle.elem_descr.specs.Items.{item_size}
+use Rattle.std.proofs.Common.{◌≡◌, sym, refl, ◌∙◌, inr, Ok}
 use Rattle.shape_strides.specs.Layouts.{offsets}
-use Rattle.name_store.specs.Places.{offsets_of}
-use Rattle.bench_engine.specs.Machine.{addresses}
+use Rattle.name_store.specs.Arrays.{addresses}
 use Rattle.bench_engine.specs.Replies.{info_text}
 use Rattle.bench_engine.proofs.Looks.{unchanged, not_found, found}
 use Rattle.bench_engine.proofs.Outcomes.{info-unknown, info-done}
@@ -19,7 +16,7 @@ returns-clause-answers c =
     let it = found s _ c.in-Some.array c.in-Some.ensures in
     let any = spare s in
     let r = c.in-Some.array in
-    let at : addresses s it.0 ≡ offsets r.layout.now = ap (λ (d : Descr). offsets_of (item_size d) it.0.places) it.2.descr ∙ sym it.2.places in (
+    let at : addresses s it.0 ≡ offsets r.layout.now = sym it.2.places in (
       any.0,
       any.1,
       info_text c.args.name.now r.descr.now r.layout.now.shape (offsets r.layout.now) r.writable,

@@ -1,15 +1,14 @@
-use Rattle.std.proofs.Common.{◌≡◌, true, ap, sym, refl, ◌∙◌, ◌++◌, inl, inr, arith, codes, decimal, length, map, replicate, Ok, Err}
+use Rattle.std.proofs.Common.{◌≡◌, ap, sym, refl, ◌∙◌, ◌++◌, inl, inr, arith, codes, decimal, length, map, replicate, Ok}
 use Rattle.std.specs.List.{list_all}
 use Rattle.std.proofs.lemmas.Result.{err_from_is_err_and}
-use Rattle.std.proofs.lemmas.Grind.{common_steps}
 use Rattle.elem_descr.specs.declared.descr.Descr.{Descr}
 use Rattle.elem_descr.specs.Items.{item_size, decode_item}
 use Rattle.shape_strides.specs.Indexes.{count}
 use Rattle.view_ops.specs.Basics.{is_basic, basic}
 use Rattle.literal_items.specs.LiteralItems.{item_value}
-use Rattle.name_store.specs.Arrays.{written}
-use Rattle.bench_engine.specs.Indices.{is_plain, basic_item}
-use Rattle.bench_engine.specs.Machine.{descr_of, viewed}
+use Rattle.name_store.specs.Arrays.{descr_of, written}
+use Rattle.bench_engine.specs.Indices.{basic_item}
+use Rattle.bench_engine.specs.Machine.{viewed}
 use Rattle.bench_engine.proofs.Indices.{plain-items, not-plain, all-basic}
 use Rattle.bench_engine.proofs.Looks.{unchanged, not_found, found, bound}
 use Rattle.bench_engine.proofs.Makes.{refilled}

@@ -1,6 +1,8 @@
-use Rattle.std.proofs.Common.{◌≡◌, ◌&&◌, Bool, true, false, refl, sym, ap, ◌∙◌, is_some, inl, inr}
+use Rattle.std.proofs.Common.{◌≡◌, ◌^◌, ◌&&◌, Bool, true, false, refl, sym, ap, subst, ◌∙◌, is_some, inl, inr, arith}
 use Rattle.std.proofs.lemmas.Result.{err_from_is_err_and}
 use Rattle.std.specs.Option.{option_copied}
+use Rattle.shape_strides.specs.Layouts.{offsets, Fits}
+use Rattle.overlap_copy.specs.Overlaps.{have_common_byte}
 use Rattle.name_store.specs.View.{array_at}
 use Rattle.name_store.proofs.StateLaws.{bound-found, none-found}
 use Rattle.name_store.proofs.ShareLaws.{entry-fits, entry-some, shares-apart, shares-one}
@@ -34,19 +36,21 @@ returns-then-first-second c = (
 
 pub share_cell-requires-clause-a_fits : goal.share_cell-requires-clause-a_fits
 share_cell-requires-clause-a_fits c =
-    entry-fits _ c.args.slots.now c.requires.holds _ c.args.left.now.bytes.items (λ _. refl) c.in-Some.first.now (sym c.get.ensures.value ∙ ap option_copied c.in-Some.is)
+    subst (Fits c.in-Some.first.now.layout (2 ^ 28)) (sym c.size.ensures)
+    (entry-fits _ c.args.slots.now c.requires.holds _ c.args.left.now.bytes.items (λ _. refl) c.in-Some.first.now (sym c.get.ensures.value ∙ ap option_copied c.in-Some.is))
 
 pub share_cell-requires-clause-b_fits : goal.share_cell-requires-clause-b_fits
 share_cell-requires-clause-b_fits c =
-    entry-fits _ c.args.slots.now c.requires.holds _ c.args.right.now.bytes.items (λ _. refl) c.in-Some-get.second.now (sym c.get-2.ensures.value ∙ ap option_copied c.in-Some-get.is)
+    subst (Fits c.in-Some-get.second.now.layout (2 ^ 28)) (sym c.size-2.ensures)
+    (entry-fits _ c.args.slots.now c.requires.holds _ c.args.right.now.bytes.items (λ _. refl) c.in-Some-get.second.now (sym c.get-2.ensures.value ∙ ap option_copied c.in-Some-get.is))
 
 pub share_cell-requires-clause-a_some : goal.share_cell-requires-clause-a_some
 share_cell-requires-clause-a_some c =
-    entry-some _ c.args.slots.now c.requires.holds _ c.args.left.now.bytes.items (λ _. refl) c.in-Some.first.now (sym c.get.ensures.value ∙ ap option_copied c.in-Some.is)
+    omega (arith, c.size.ensures, entry-some _ c.args.slots.now c.requires.holds _ c.args.left.now.bytes.items (λ _. refl) c.in-Some.first.now (sym c.get.ensures.value ∙ ap option_copied c.in-Some.is))
 
 pub share_cell-requires-clause-b_some : goal.share_cell-requires-clause-b_some
 share_cell-requires-clause-b_some c =
-    entry-some _ c.args.slots.now c.requires.holds _ c.args.right.now.bytes.items (λ _. refl) c.in-Some-get.second.now (sym c.get-2.ensures.value ∙ ap option_copied c.in-Some-get.is)
+    omega (arith, c.size-2.ensures, entry-some _ c.args.slots.now c.requires.holds _ c.args.right.now.bytes.items (λ _. refl) c.in-Some-get.second.now (sym c.get-2.ensures.value ∙ ap option_copied c.in-Some-get.is))
 
 pub returns-in_err-has_common : goal.returns-in_err-has_common
 returns-in_err-has_common c =
@@ -61,6 +65,6 @@ returns c = (
   array_at c.in-Some-get.second.now,
   bound-found _ c.args.slots.now c.requires.holds _ c.args.left.now.bytes.items (λ _. refl) c.in-Some.first.now (sym c.get.ensures.value ∙ ap option_copied c.in-Some.is),
   bound-found _ c.args.slots.now c.requires.holds _ c.args.right.now.bytes.items (λ _. refl) c.in-Some-get.second.now (sym c.get-2.ensures.value ∙ ap option_copied c.in-Some-get.is),
-  c.in_ok-has_common.ensures ∙ shares-one _ c.args.slots.now c.requires.holds _ c.args.left.now.bytes.items (λ _. refl) c.in-Some.first.now (sym c.get.ensures.value ∙ ap option_copied c.in-Some.is)
+  c.in_ok-has_common.ensures ∙ (λ i. have_common_byte (offsets c.in-Some.first.now.layout) (c.size.ensures i) (offsets c.in-Some-get.second.now.layout) (c.size-2.ensures i)) ∙ shares-one _ c.args.slots.now c.requires.holds _ c.args.left.now.bytes.items (λ _. refl) c.in-Some.first.now (sym c.get.ensures.value ∙ ap option_copied c.in-Some.is)
       _ c.args.right.now.bytes.items (λ _. refl) c.in-Some-get.second.now (sym c.get-2.ensures.value ∙ ap option_copied c.in-Some-get.is) c.if-first-second.false,
 )

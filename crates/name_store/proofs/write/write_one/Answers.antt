@@ -2,7 +2,7 @@ use Rattle.std.proofs.Common.{◌≡◌, ◌+◌, ◌≤◌, ap, sym, subst, ◌
 use Rattle.std.specs.Option.{option_copied}
 use Rattle.elem_descr.specs.Items.{item_size}
 use Rattle.name_store.specs.States.{Array}
-use Rattle.name_store.specs.Arrays.{buffer_of, written}
+use Rattle.name_store.specs.Arrays.{descr_of, written}
 use Rattle.name_store.specs.Targets.{new_items, put_each}
 use Rattle.name_store.specs.View.{state_of}
 use Rattle.name_store.specs.declared.slot.Slot.{Slot}
@@ -52,7 +52,7 @@ returns-clause-answers c = (
       let done = c.fill_at.ensures there.0 there.1 in
       let same : c.requires.aim.array ≡ array = some-same _ _ (sym c.requires.aim.leads.found ∙ leads.found) in
       written-state c.args.names.now.entries c.args.slots.now.items c.requires.holds _ c.args.key.now.bytes.items (λ _. refl) c.args.layout.now c.args.item c.unwrap.result.now there.0 was there.1 array places leads
-      (c.requires.aim.source_for ∙ ap (λ (a : Array). item_size (buffer_of (state_of c.args.names.now.entries c.args.slots.now.items) a).descr) same)
+      (c.requires.aim.source_for ∙ ap (λ (a : Array). item_size (descr_of (state_of c.args.names.now.entries c.args.slots.now.items) a)) same)
       c.fill_at.new.slots.items done.0 c.in_ok-offsets.ensures.count done.1 done.2 (done.3 ∙ ap (λ os. put_each os c.args.item.now there.0.block) c.in_ok-offsets.ensures.items) done.4
-      ∙ ap (λ n. written (state_of c.args.names.now.entries c.args.slots.now.items) array places (new_items (buffer_of (state_of c.args.names.now.entries c.args.slots.now.items) array).descr n (One c.args.item))) (sym c.items.ensures.value),
+      ∙ ap (λ n. written (state_of c.args.names.now.entries c.args.slots.now.items) array places (new_items (descr_of (state_of c.args.names.now.entries c.args.slots.now.items) array) n (One c.args.item))) (sym c.items.ensures.value),
 )
