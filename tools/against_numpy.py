@@ -15,7 +15,16 @@ import sys
 import numpy as np
 
 PROGRAM = pathlib.Path(__file__).resolve().parent.parent / "crates/bench_main/out/bench_main"
-TYPES = ["<i4", ">i2", "|u1", "|i1", "<u8", ">i8", "|b1", "<i8", ">u4", "<u2"]
+SCALARS = ["<i4", ">i2", "|u1", "|i1", "<u8", ">i8", "|b1", "<i8", ">u4", "<u2"]
+RECORDS = {
+    "T{<h:x:>i:y:}": np.dtype([("x", "<i2"), ("y", ">i4")]),
+    "T{?:on:2xB:n:<q:big:x}": np.dtype(
+        {"names": ["on", "n", "big"], "formats": ["|b1", "|u1", "<i8"], "offsets": [0, 3, 4], "itemsize": 13}
+    ),
+    "T{3x>H:x:}": np.dtype({"names": ["x"], "formats": [">u2"], "offsets": [3], "itemsize": 5}),
+}
+TYPES = {**{text: np.dtype(text) for text in SCALARS}, **RECORDS}
+TEXTS = {dtype: text for text, dtype in TYPES.items()}
 NAMES = "abcdefg"
 FAR = 10**29
 
@@ -32,6 +41,11 @@ UNKNOWN = Refused("E06 unknown name")
 def tuple_text(numbers):
     inside = ", ".join(map(str, numbers))
     return f"({inside},)" if len(numbers) == 1 else f"({inside})"
+
+
+def leaves(dtype):
+    """The types of an item's values: its own, or those of its fields."""
+    return [dtype] if dtype.names is None else [dtype[name] for name in dtype.names]
 
 
 def address(array):
@@ -53,7 +67,7 @@ class Bench:
     def bind(self, name, array, start, kind):
         self.arrays[name] = array
         self.starts[name] = start
-        return f"ok {name} {array.dtype.str} {tuple_text(array.shape)} {kind}"
+        return f"ok {name} {TEXTS[array.dtype]} {tuple_text(array.shape)} {kind}"
 
     def bind_view(self, name, source, array):
         return self.bind(name, array, self.starts[source], "view")
@@ -75,7 +89,7 @@ class Bench:
         at = 0 if array.size == 0 else address(array) - self.starts[name]
         order = "C" * array.flags.c_contiguous + "F" * array.flags.f_contiguous
         return (
-            f"info {name} {array.dtype.str} {tuple_text(array.shape)} strides {tuple_text(steps)}"
+            f"info {name} {TEXTS[array.dtype]} {tuple_text(array.shape)} strides {tuple_text(steps)}"
             f" at {at} order {order or '-'} write yes"
         )
 
@@ -91,6 +105,10 @@ def view_of(array, items):
         return array[tuple(items) + (() if Ellipsis in items else (Ellipsis,))]
     except IndexError:
         raise Refused("E11 index out of range") from None
+
+
+def literal_text(value):
+    return f"({','.join(map(str, value))})" if isinstance(value, tuple) else str(value)
 
 
 def item_text(item):
@@ -113,6 +131,7 @@ class Script:
         kinds = [
             (self.make, 14), (self.index, 28), (self.alias, 5), (self.transpose, 9), (self.set, 16),
             (self.print, 12), (self.info, 8), (self.shares, 5), (self.delete, 2), (self.names, 1),
+            (self.field, 10),
         ]
         for command in rng.choices(*zip(*kinds), k=commands):
             line, reply = (command if self.bench.arrays else self.make)()
@@ -159,13 +178,16 @@ class Script:
         return items
 
     def make(self):
-        name, dtype = self.rng.choice(NAMES), self.rng.choice(TYPES)
+        name = self.rng.choice(NAMES)
+        text, dtype = self.rng.choice(list((RECORDS if self.rng.random() < 0.3 else TYPES).items()))
         shape = [self.rng.choice([0, 1, 2, 3, 4]) for _ in range(self.rng.choice([0, 1, 1, 2, 2, 3, 4]))]
-        top = 1 if dtype == "|b1" else 99
-        values = [self.rng.randint(0, top) for _ in range(int(np.prod(shape)))]
-        lengths, literals = ",".join(map(str, shape)), " ".join(map(str, values))
+        tops = [1 if leaf == "|b1" else 99 for leaf in leaves(dtype)]
+        values = [tuple(self.rng.randint(0, top) for top in tops) for _ in range(int(np.prod(shape)))]
+        if dtype.names is None:
+            values = [value for value, in values]
+        lengths, literals = ",".join(map(str, shape)), " ".join(map(literal_text, values))
         array = np.array(values, dtype=dtype).reshape(shape)
-        line = f"{name} = array {dtype} ({lengths}) {literals}"
+        line = f"{name} = array {text} ({lengths}) {literals}"
         return line, lambda: self.bench.bind(name, array, address(array), "new")
 
     def index(self):
@@ -199,16 +221,39 @@ class Script:
 
         return line, reply
 
+    def field(self):
+        name, source = self.rng.choice(NAMES), self.source()
+        dtype = self.bench.arrays[source].dtype if source in self.bench.arrays else np.dtype("<i4")
+        known = dtype.names is not None and self.rng.random() < 0.9
+        field = self.rng.choice(dtype.names if known else ["z", "X"])
+
+        def reply():
+            array = self.bench.array(source)
+            if array.dtype.names is None or field not in array.dtype.names:
+                raise Refused("E19 no such field")
+            return self.bench.bind_view(name, source, array[field])
+
+        return f'{name} = field {source} "{field}"', reply
+
+    def value(self, source):
+        """A value for an array's items: a number, or for a record often one a field."""
+        fields = self.bench.arrays[source].dtype.names if source in self.bench.arrays else None
+        if fields is None or self.rng.random() < 0.3:
+            return self.rng.randint(-3, 120)
+        return tuple(self.rng.randint(-3, 120) for _ in fields)
+
     def set(self):
-        source, value = self.source(), self.rng.randint(-3, 120)
+        source = self.source()
+        value = self.value(source)
         items = self.items(self.shape_of(source))
-        line = f"set {source}[{','.join(map(item_text, items))}] = {value}"
+        line = f"set {source}[{','.join(map(item_text, items))}] = {literal_text(value)}"
 
         def reply():
             target = view_of(self.bench.array(source), items)
-            if target.dtype.kind != "b":
-                limits = np.iinfo(target.dtype)
-                if not limits.min <= value <= limits.max:
+            types = leaves(target.dtype)
+            values = value if isinstance(value, tuple) else (value,) * len(types)
+            for leaf, number in zip(types, values):
+                if leaf.kind != "b" and not np.iinfo(leaf).min <= number <= np.iinfo(leaf).max:
                     raise Refused("E23 literal out of range")
             target[...] = value
             return f"ok set {target.size}"
