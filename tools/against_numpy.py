@@ -18,13 +18,13 @@ PROGRAM = pathlib.Path(__file__).resolve().parent.parent / "crates/bench_main/ou
 SCALARS = ["<i4", ">i2", "|u1", "|i1", "<u8", ">i8", "|b1", "<i8", ">u4", "<u2"]
 RECORDS = {
     "T{<h:x:>i:y:}": np.dtype([("x", "<i2"), ("y", ">i4")]),
-    "T{?:on:2xB:n:<q:big:x}": np.dtype(
+    "T{<?:on:2x<B:n:<q:big:1x}": np.dtype(
         {"names": ["on", "n", "big"], "formats": ["|b1", "|u1", "<i8"], "offsets": [0, 3, 4], "itemsize": 13}
     ),
     "T{3x>H:x:}": np.dtype({"names": ["x"], "formats": [">u2"], "offsets": [3], "itemsize": 5}),
 }
 TYPES = {**{text: np.dtype(text) for text in SCALARS}, **RECORDS}
-TEXTS = {dtype: text for text, dtype in TYPES.items()}
+TEXTS = {dtype: text for text, dtype in RECORDS.items()}
 NAMES = "abcdefg"
 FAR = 10**29
 
@@ -48,6 +48,10 @@ def leaves(dtype):
     return [dtype] if dtype.names is None else [dtype[name] for name in dtype.names]
 
 
+def type_text(dtype):
+    return dtype.str if dtype.names is None else TEXTS[dtype]
+
+
 def address(array):
     return array.__array_interface__["data"][0]
 
@@ -67,7 +71,7 @@ class Bench:
     def bind(self, name, array, start, kind):
         self.arrays[name] = array
         self.starts[name] = start
-        return f"ok {name} {TEXTS[array.dtype]} {tuple_text(array.shape)} {kind}"
+        return f"ok {name} {type_text(array.dtype)} {tuple_text(array.shape)} {kind}"
 
     def bind_view(self, name, source, array):
         return self.bind(name, array, self.starts[source], "view")
@@ -89,7 +93,7 @@ class Bench:
         at = 0 if array.size == 0 else address(array) - self.starts[name]
         order = "C" * array.flags.c_contiguous + "F" * array.flags.f_contiguous
         return (
-            f"info {name} {TEXTS[array.dtype]} {tuple_text(array.shape)} strides {tuple_text(steps)}"
+            f"info {name} {type_text(array.dtype)} {tuple_text(array.shape)} strides {tuple_text(steps)}"
             f" at {at} order {order or '-'} write yes"
         )
 
