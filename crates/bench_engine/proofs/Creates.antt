@@ -1,18 +1,23 @@
 -- A name bound to a new array.
-use Rattle.std.proofs.Common.{◌≡◌, ℕ, ℤ, true, false, List, ◌++◌, length, refl, sym, ap, ◌∙◌, Result, Ok, Err, ◌⊎◌, inl, inr, take}
+use Rattle.std.proofs.Common.{◌≡◌, ◌*◌, ◌<◌, ℕ, ℤ, true, false, List, [], ◌∷◌, ◌++◌, length, map, refl, sym, ap, ◌∙◌, Result, Ok, Err, ◌⊎◌, inl, inr, take, arith}
+use Rattle.std.specs.List.{range_with_len}
+use Rattle.std.proofs.Math.Nat.{mul-div_cancel_left}
 use Rattle.std.specs.Io.{StartsWith}
 use Rattle.std.proofs.Math.Seq.{take-append_seam}
 use Rattle.elem_descr.specs.declared.refusal.Refusal.{Refusal}
 use Rattle.elem_descr.specs.declared.refusal.Refusal.TheVariants.{OutOfMemory, TooManyNames}
+use Rattle.elem_descr.specs.Items.{item_size}
+use Rattle.shape_strides.specs.Indexes.{count}
 use Rattle.overlap_copy.specs.declared.owned.Owned.{Owned}
-use Rattle.name_store.specs.States.{State}
+use Rattle.name_store.specs.States.{State, Array}
+use Rattle.name_store.specs.Places.{places_of}
 use Rattle.name_store.specs.Arrays.{has_room_for, bound_to, fresh_array}
-use Rattle.name_store.specs.Calls.{AnswersBind}
+use Rattle.name_store.specs.Calls.{AnswersBind, own_array, own_buffer}
 use Rattle.name_store.specs.declared.bound.Bound.TheVariants.{Fresh}
 use Rattle.script_lang.specs.declared.literal.Literal.{Literal}
 use Rattle.script_lang.specs.declared.command.Command.{Command}
-use Rattle.script_lang.specs.declared.command.Command.TheVariants.{Zeros, Full, Arange, Array}
-use Rattle.bench_engine.specs.Contents.{Contents, held, contents_of}
+use Rattle.script_lang.specs.declared.command.Command.TheVariants.{Zeros, Full, Arange, Array as ArrayCommand}
+use Rattle.bench_engine.specs.Contents.{Contents, held, contents_of, IsInCOrder}
 use Rattle.bench_engine.specs.Contract.{IsRefused, Answers}
 use Rattle.bench_engine.specs.Machine.{Choice, creation_outcome, outcome, may_lack_memory}
 use Rattle.bench_engine.specs.Replies.{fresh_text}
@@ -38,14 +43,24 @@ creation-refused s name contents e room (inr bad) = inr (λ choice. creation-bad
 pub starts : (before reply after : List ℕ) → after ≡ before ++ reply → StartsWith after before
 starts before reply after is = ap (take (length before)) is ∙ take-append_seam before reply
 
+divided : (item : ℕ) (places : List ℕ) → 0 < item → places_of item (map (λ k. item * k) places) ≡ places
+divided item [] some = refl
+divided item (place ∷ places) some = λ i. mul-div_cancel_left place some i ∷ divided item places some i
+
+-- an array in C order has its places in their order
+in-c_order : (number : ℕ) (o : Owned) → IsInCOrder o → own_array number o ≡ fresh_array number o.layout.shape
+in-c_order number o order =
+    ap (λ (places : List ℕ). record { buffer = number; path = []; shape = o.layout.shape; places = places; writable = true })
+    (ap (places_of (item_size o.descr)) order ∙ divided (item_size o.descr) (range_with_len 0 (count o.layout.shape)) (omega (arith, o.fills_block.some)))
+
 -- the name is bound, or refused for want of memory
-pub creation-answers : (s new : State) (name : List ℕ) (contents : Result Contents Refusal) (o : Owned) (result : Result (Unit {0}) Refusal) (before after : List ℕ) → has_room_for s name ≡ true → contents ≡ Ok (held o) →
+pub creation-answers : (s new : State) (name : List ℕ) (contents : Result Contents Refusal) (o : Owned) (result : Result (Unit {0}) Refusal) (before after : List ℕ) → has_room_for s name ≡ true → contents ≡ Ok (held o) → IsInCOrder o →
     after ≡ before ++ fresh_text name o.descr o.layout.shape → AnswersBind s name (Fresh o) result new → Answers true (λ choice. creation_outcome choice s name contents) s new before after result
-creation-answers s new name contents o (Ok done) before after room good told (_, (number, unused, is)) =
-    (record { fresh = number }, unused.unused, fresh_text name o.descr o.layout.shape, creation-done (record { fresh = number }) s name contents (held o) room good ∙ ap (λ (t : State). Ok (t, fresh_text name o.descr o.layout.shape)) (sym is), told)
-creation-answers s new name contents o (Err e) before after room good told (kept, inl full) =
+creation-answers s new name contents o (Ok done) before after room good order told (_, (number, unused, is)) =
+    (record { fresh = number }, unused.unused, fresh_text name o.descr o.layout.shape, creation-done (record { fresh = number }) s name contents (held o) room good ∙ ap (λ (t : State). Ok (t, fresh_text name o.descr o.layout.shape)) (ap (λ (a : Array). bound_to s name a (own_buffer o)) (sym (in-c_order number o order)) ∙ sym is), told)
+creation-answers s new name contents o (Err e) before after room good order told (kept, inl full) =
     let no : true ≡ false = sym room ∙ full.0 in cc
-creation-answers s new name contents o (Err e) before after room good told (kept, inr lacks) =
+creation-answers s new name contents o (Err e) before after room good order told (kept, inr lacks) =
     (kept, starts before (fresh_text name o.descr o.layout.shape) after told, inl (lacks.1, refl))
 
 -- each command that makes an array
@@ -53,7 +68,7 @@ pub created : (s new : State) (command : Command) (name before after : List ℕ)
     ((d : List ℕ) × (l : List ℕ) × (command ≡ Zeros name d l)) ⊎
     (((d : List ℕ) × (l : List ℕ) × (v : Literal) × (command ≡ Full name d l v)) ⊎
     (((d : List ℕ) × (start : ℤ) × (stop : ℤ) × (step : ℤ) × (command ≡ Arange name d start stop step)) ⊎
-    ((d : List ℕ) × (l : List ℕ) × (vs : List Literal) × (command ≡ Array name d l vs)))) →
+    ((d : List ℕ) × (l : List ℕ) × (vs : List Literal) × (command ≡ ArrayCommand name d l vs)))) →
     Answers true (λ choice. creation_outcome choice s name (contents_of command)) s new before after result → Answers (may_lack_memory s command) (λ choice. outcome choice s command) s new before after result
 created s new command name before after result (inl is) h = rw is.2 (rw is.2 at h)
 created s new command name before after result (inr (inl is)) h = rw is.3 (rw is.3 at h)

@@ -1,5 +1,5 @@
 -- What the commands that make an array put into it.
-use Rattle.std.specs.Prelude.{ℕ, ◌*◌, ◌^◌, ℤ, pos, List, [], ◌∷◌, length, map, replicate, Result, Ok, Err, nat_eq, nat_le}
+use Rattle.std.specs.Prelude.{◌≡◌, ℕ, ◌*◌, ◌^◌, ℤ, pos, List, [], ◌∷◌, length, map, replicate, Result, Ok, Err, nat_eq, nat_le}
 use Rattle.elem_descr.specs.declared.refusal.Refusal.{Refusal}
 use Rattle.elem_descr.specs.declared.refusal.Refusal.TheVariants.{Syntax, TooLarge, NotForThisKind, NumberOfValues}
 use Rattle.elem_descr.specs.declared.scalar.Scalar.{Scalar}
@@ -11,11 +11,14 @@ use Rattle.elem_descr.specs.DescrTexts.{descriptor}
 use Rattle.elem_descr.specs.Items.{item_size, leaves_of}
 use Rattle.elem_descr.specs.Values.{LeafValue, number, text}
 use Rattle.shape_strides.specs.Indexes.{count}
+use Rattle.shape_strides.specs.Layouts.{offsets}
 use Rattle.shape_strides.specs.Shapes.{shape_of}
 use Rattle.script_lang.specs.declared.literal.Literal.{Literal}
 use Rattle.script_lang.specs.declared.command.Command.{Command}
 use Rattle.script_lang.specs.declared.command.Command.TheVariants.{Zeros, Full, Arange, Array}
 use Rattle.overlap_copy.specs.declared.owned.Owned.{Owned}
+use Rattle.overlap_copy.specs.declared.owned.MemoryOrder.TheVariants.{C}
+use Rattle.overlap_copy.specs.Blocks.{offsets_in}
 use Rattle.name_store.specs.States.{Buffer}
 use Rattle.name_store.specs.Calls.{own_buffer}
 use Rattle.literal_items.specs.LiteralItems.{item_value, item_values}
@@ -28,6 +31,10 @@ pub record Contents : Type 0 where
 
 abbrev pub made : Descr → List ℕ → List (List LeafValue) → Contents
 made descr shape items = record { shape = shape; buffer = record { descr = descr; items = items } }
+
+-- an array stands in its block in C order
+abbrev pub IsInCOrder : Owned → Type 0
+IsInCOrder o = offsets o.layout ≡ offsets_in C (item_size o.descr) o.layout.shape
 
 -- the contents of a block
 abbrev pub held : Owned → Contents

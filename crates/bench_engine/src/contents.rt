@@ -5,11 +5,11 @@ ghost use Rattle.elem_descr.specs.Encoding.{IsNumber};
 ghost use Rattle.elem_descr.specs.Items.{item_size};
 ghost use Rattle.shape_strides.specs.Indexes.{count};
 ghost use Rattle.shape_strides.specs.Shapes.{shape_of};
-ghost use Rattle.bench_engine.specs.Contents.{array_type, zeros_contents, full_contents, array_contents, arange_contents, integer_scalar, contents_of, held};
+ghost use Rattle.bench_engine.specs.Contents.{array_type, zeros_contents, full_contents, array_contents, arange_contents, integer_scalar, contents_of, held, IsInCOrder};
 
 use elem_descr::{Descr, Refusal, Scalar, descr_read};
 use literal_items::{fill, range_len, write_item, write_items, write_range};
-use overlap_copy::{MAX_BYTES, Owned};
+use overlap_copy::{MAX_BYTES, MemoryOrder, Owned};
 use raw_block::RawBlock;
 use script_lang::{Command, DescrText, Lengths, Literal, Literals};
 use shape_strides::Shape;
@@ -53,7 +53,8 @@ fn array_type(
 
 /// `zeros D S`
 fn zeros(alloc: Global, descr: &DescrText, lengths: &Lengths) -> Result<Owned, Refusal>
-    ensures { Gives held result (zeros_contents descr.now lengths.now) }
+    ensures value { Gives held result (zeros_contents descr.now lengths.now) }
+    ensures order { IfOk result IsInCOrder }
 {
     let (descr, shape) = array_type(alloc, descr, lengths)?;
     Owned::zeroed(alloc, descr, &shape)
@@ -66,14 +67,15 @@ fn full(
     lengths: &Lengths,
     literal: &Literal,
 ) -> Result<Owned, Refusal>
-    ensures { Gives held result (full_contents descr.now lengths.now literal.now) }
+    ensures value { Gives held result (full_contents descr.now lengths.now literal.now) }
+    ensures order { IfOk result IsInCOrder }
 {
     let (descr, shape) = array_type(alloc, descr, lengths)?;
     let mut item = vec![in alloc; 0u8; descr.size()]?;
     write_item(&descr, literal, item.as_mut_slice())?;
     let mut block = RawBlock::try_zeroed(alloc, shape.items() * descr.size())?;
     fill(item.as_slice(), block.bytes_mut(), shape.items());
-    let owned = Owned::over(alloc, descr, &shape, block)?;
+    let owned = Owned::over(alloc, descr, &shape, MemoryOrder::C, block)?;
     Ok(owned)
 }
 
@@ -84,7 +86,8 @@ fn array(
     lengths: &Lengths,
     literals: &Literals,
 ) -> Result<Owned, Refusal>
-    ensures { Gives held result (array_contents descr.now lengths.now literals.now) }
+    ensures value { Gives held result (array_contents descr.now lengths.now literals.now) }
+    ensures order { IfOk result IsInCOrder }
 {
     let (descr, shape) = array_type(alloc, descr, lengths)?;
     let literals = literals.as_slice();
@@ -93,7 +96,7 @@ fn array(
     }
     let mut block = RawBlock::try_zeroed(alloc, shape.items() * descr.size())?;
     write_items(&descr, literals, block.bytes_mut())?;
-    let owned = Owned::over(alloc, descr, &shape, block)?;
+    let owned = Owned::over(alloc, descr, &shape, MemoryOrder::C, block)?;
     Ok(owned)
 }
 
@@ -119,7 +122,8 @@ fn arange(
     stop: &i128,
     step: &i128,
 ) -> Result<Owned, Refusal>
-    ensures { Gives held result (arange_contents descr.now start.now stop.now step.now) }
+    ensures value { Gives held result (arange_contents descr.now start.now stop.now step.now) }
+    ensures order { IfOk result IsInCOrder }
 {
     let descr = descr_read(alloc, descr.as_slice())?;
     let scalar = integer_scalar(&descr)?;
@@ -127,13 +131,14 @@ fn arange(
     let shape = Shape::try_new(alloc, &[len])?;
     let mut block = RawBlock::try_zeroed(alloc, len * scalar.size())?;
     write_range(&scalar, start, stop, step, block.bytes_mut())?;
-    let owned = Owned::over(alloc, Descr::Scalar(scalar), &shape, block)?;
+    let owned = Owned::over(alloc, Descr::Scalar(scalar), &shape, MemoryOrder::C, block)?;
     Ok(owned)
 }
 
 /// What a command that makes an array puts into it.
 pub fn contents_of(alloc: Global, command: &Command) -> Result<Owned, Refusal>
-    ensures { Gives held result (contents_of command.now) }
+    ensures value { Gives held result (contents_of command.now) }
+    ensures order { IfOk result IsInCOrder }
 {
     match command {
         Command::Zeros { descr, shape, .. } => zeros(alloc, descr, shape),

@@ -1,12 +1,15 @@
 -- What a call that changes a bench answers.
-use Rattle.std.specs.Prelude.{◌≡◌, ◌<◌, ◌⊎◌, ◌&&◌, ℕ, Bool, true, false, List, Result, Ok, Err, Some, None, All}
+use Rattle.std.specs.Prelude.{◌≡◌, ◌<◌, ◌⊎◌, ◌&&◌, ℕ, Bool, true, false, List, [], Result, Ok, Err, Some, None, All}
 use Rattle.std.specs.FinMap.{get}
 use Rattle.elem_descr.specs.declared.refusal.Refusal.{Refusal}
 use Rattle.elem_descr.specs.declared.refusal.Refusal.TheVariants.{OutOfMemory, TooManyNames, UnknownName}
 use Rattle.overlap_copy.specs.declared.owned.Owned.{Owned}
+use Rattle.elem_descr.specs.Items.{item_size}
 use Rattle.shape_strides.specs.Indexes.{count}
+use Rattle.shape_strides.specs.Layouts.{offsets}
+use Rattle.name_store.specs.Places.{places_of}
 use Rattle.name_store.specs.States.{State, Array, Buffer}
-use Rattle.name_store.specs.Arrays.{is_bound, has_room_for, fresh_array, bound_to, bound_view, unbound, descr_of, written, find_array, share_cells}
+use Rattle.name_store.specs.Arrays.{is_bound, has_room_for, bound_to, bound_view, unbound, descr_of, written, find_array, share_cells}
 use Rattle.elem_descr.specs.Blocks.{items_in}
 use Rattle.name_store.specs.Targets.{layout_of, new_items, LeadsTo}
 use Rattle.name_store.specs.declared.target.Source.{Source}
@@ -18,6 +21,11 @@ use Rattle.name_store.specs.Views.{IsViewIn}
 -- the buffer of an array that has a block of its own
 abbrev pub own_buffer : Owned → Buffer
 own_buffer o = record { descr = o.descr; items = items_in o.descr (count o.layout.shape) o.block }
+
+-- the array itself, in the buffer with this number
+abbrev pub own_array : ℕ → Owned → Array
+own_array number o =
+    record { buffer = number; path = []; shape = o.layout.shape; places = places_of (item_size o.descr) (offsets o.layout); writable = true }
 
 -- a number that neither the state nor a kept state uses
 pub record IsUnused (s : State) (number : ℕ) : Type 0 where
@@ -32,7 +40,7 @@ pub record IsLeastUnused (s : State) (number : ℕ) : Type 0 where
 -- the state once a name is bound; a fresh buffer takes the least number that is in no use
 abbrev pub Binds : State → List ℕ → Bound → State → Type 0
 Binds old name (Fresh o) new =
-    (number : ℕ) × IsLeastUnused old number × (new ≡ bound_to old name (fresh_array number o.layout.shape) (own_buffer o))
+    (number : ℕ) × IsLeastUnused old number × (new ≡ bound_to old name (own_array number o) (own_buffer o))
 Binds old name (View number leaf layout writable) new =
     (array : Array) → IsViewIn old number leaf layout writable array → new ≡ bound_view old name array
 

@@ -1,4 +1,5 @@
 pub mod MarkLaws
+pub mod OwnedLaws
 pub mod OverlapLaws
 pub mod ShareLaws
 mod Vectors

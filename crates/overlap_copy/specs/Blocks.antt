@@ -1,16 +1,29 @@
 -- Blocks that a layout just fills.
-use Rattle.std.specs.Prelude.{◌≡◌, ◌≤◌, ◌*◌, ◌^◌, ℕ, List, length}
+use Rattle.std.specs.Prelude.{◌≡◌, ◌≤◌, ◌*◌, ◌/◌, ◌^◌, ◌||◌, ℕ, List, length, map, IsTrue}
+use Rattle.overlap_copy.specs.declared.owned.MemoryOrder.{MemoryOrder}
+use Rattle.overlap_copy.specs.declared.owned.MemoryOrder.TheVariants.{C, Fortran}
 use Rattle.elem_descr.specs.declared.descr.Descr.{Descr}
 use Rattle.elem_descr.specs.Items.{item_size}
 use Rattle.shape_strides.specs.declared.layout.Layout.{Layout}
 use Rattle.shape_strides.specs.Indexes.{count}
-use Rattle.shape_strides.specs.Layouts.{offsets, multiples, Fits, IsNested}
+use Rattle.shape_strides.specs.Contiguity.{is_c_contiguous, is_f_contiguous}
+use Rattle.shape_strides.specs.Layouts.{offsets, multiples, f_multiples, Fits, IsNested}
 
--- the items lie one after another in C order, from the block's start to its end
+-- the offsets of items of so many bytes, one after another in this order
+abbrev pub offsets_in : MemoryOrder → ℕ → List ℕ → List ℕ
+offsets_in C item shape = multiples item (count shape)
+offsets_in Fortran item shape = f_multiples item shape
+
+-- the places of items of so many bytes that have these offsets
+abbrev pub places_at : ℕ → List ℕ → List ℕ
+places_at item offsets = map (λ offset. offset / item) offsets
+
+-- the items lie one after another in C order or in Fortran order, from the block's start to its end
 pub record FillsBlock (descr : Descr) (layout : Layout) (block : List ℕ) : Type 0 where
   pub some : 1 ≤ item_size descr
   pub few : item_size descr ≤ 65536
-  pub offsets_are : offsets layout ≡ multiples (item_size descr) (count layout.shape)
+  pub in_order : IsTrue (is_c_contiguous (item_size descr) (offsets layout) || is_f_contiguous (item_size descr) layout.shape (offsets layout))
+  pub whole : offsets layout ≡ map (λ place. item_size descr * place) (places_at (item_size descr) (offsets layout))
   pub fills : length block ≡ count layout.shape * item_size descr
   pub small : length block ≤ 2 ^ 28
   pub fits : Fits layout (length block) (item_size descr)

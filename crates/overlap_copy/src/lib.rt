@@ -1,4 +1,4 @@
-//! Blocks of items in C order, made anew, and whether arrays in one block share bytes.
+//! Arrays over a block of their own, in C or Fortran order, and whether arrays in one block share bytes.
 #![tactic(auto)]
 
 mod overlap;
@@ -6,7 +6,7 @@ mod owned;
 mod share;
 
 pub use overlap::may_overlap;
-pub use owned::{MAX_BYTES, Owned};
+pub use owned::{MAX_BYTES, MemoryOrder, Owned};
 pub use share::share_cell;
 
 #[cfg(test)]

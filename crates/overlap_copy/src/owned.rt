@@ -1,9 +1,12 @@
 //! Arrays over a block of their own.
-ghost use Rattle.std.specs.Prelude.{◌≡◌, ◌*◌, ◌^◌, ◌≤◌, length, nat_le, replicate, if◌then◌else◌, IfOk, IfErr};
+ghost use Rattle.std.specs.Prelude.{◌≡◌, ◌*◌, ◌^◌, ◌≤◌, ◌||◌, length, map, nat_le, replicate, if◌then◌else◌, IfOk, IfErr, IsTrue};
 ghost use Rattle.elem_descr.specs.declared.refusal.Refusal.TheVariants.{OutOfMemory, TooLarge};
 ghost use Rattle.elem_descr.specs.Items.{item_size};
 ghost use Rattle.shape_strides.specs.Indexes.{count};
-ghost use Rattle.overlap_copy.specs.Blocks.{FillsBlock};
+ghost use Rattle.shape_strides.specs.Contiguity.{is_c_contiguous, is_f_contiguous};
+ghost use Rattle.shape_strides.specs.Layouts.{offsets, Fits, IsNested};
+ghost use Rattle.overlap_copy.specs.Blocks.{FillsBlock, offsets_in, places_at};
+ghost use Rattle.overlap_copy.specs.declared.owned.MemoryOrder.TheVariants.{C};
 
 use elem_descr::{Descr, Refusal};
 use raw_block::RawBlock;
@@ -13,7 +16,16 @@ use std::alloc::{AllocError, Global};
 /// The most bytes of a block.
 pub const MAX_BYTES: usize = 1 << 28;
 
-/// A block with the items that lie in it: of one descriptor, in C order, from its start to its end.
+/// The order in which the items of an array lie one after another: the last axis running fastest, or
+/// the first.
+#[derive(Clone, Copy, Debug, PartialEq, Eq, Drop)]
+pub enum MemoryOrder {
+    C,
+    Fortran,
+}
+
+/// A block with the items that lie in it: of one descriptor, in C order or in Fortran order, from its
+/// start to its end.
 #[derive(Drop)]
 pub struct Owned {
     pub block: RawBlock,
@@ -22,11 +34,36 @@ pub struct Owned {
     ghost fills_block: { FillsBlock descr layout block },
 }
 
+/// The layout of items of `item` bytes, one after another in this order.
+fn in_order(
+    alloc: Global,
+    shape: &Shape,
+    item: usize,
+    order: MemoryOrder,
+) -> Result<Layout, AllocError>
+    requires item_low { 1 ≤ item }
+    requires item_high { item ≤ 65536 }
+    requires bytes { count shape.now * item ≤ 2 ^ 28 }
+    ensures shape { IfOk result (λ l. l.shape ≡ shape.now) }
+    ensures offsets { IfOk result (λ l. offsets l ≡ offsets_in order item shape.now) }
+    ensures whole { IfOk result (λ l. offsets l ≡ map (λ place. item * place) (places_at item (offsets l))) }
+    ensures in_order { IfOk result (λ l. IsTrue (is_c_contiguous item (offsets l) || is_f_contiguous item l.shape (offsets l))) }
+    ensures nested { IfOk result (λ l. IsNested (offsets l) item) }
+    ensures fits { IfOk result (λ l. Fits l (count shape.now * item) item) }
+    ensures fits_limit { IfOk result (λ l. Fits l (2 ^ 28) 1) }
+{
+    match order {
+        MemoryOrder::C => Layout::c_order(alloc, shape, item),
+        MemoryOrder::Fortran => Layout::f_order(alloc, shape, item),
+    }
+}
+
 impl Owned {
-    /// An array of zero bytes. More than 2^28 of them are too many.
+    /// An array of zero bytes, in C order. More than 2^28 of them are too many.
     pub fn zeroed(alloc: Global, descr: Descr, shape: &Shape) -> Result<Owned, Refusal>
         ensures descr { IfOk result (λ o. o.descr ≡ descr) }
         ensures shape { IfOk result (λ o. o.layout.shape ≡ shape.now) }
+        ensures order { IfOk result (λ o. offsets o.layout ≡ offsets_in C (item_size descr) shape.now) }
         ensures zeros { IfOk result (λ o. o.block ≡ replicate (count shape.now * item_size descr) 0) }
         ensures within { IfOk result (λ _. count shape.now * item_size descr ≤ 2 ^ 28) }
         ensures refused { IfErr result (λ refusal. refusal
@@ -37,24 +74,26 @@ impl Owned {
             return Err(Refusal::TooLarge);
         }
         let block = RawBlock::try_zeroed(alloc, len)?;
-        let owned = Owned::over(alloc, descr, shape, block)?;
+        let owned = Owned::over(alloc, descr, shape, MemoryOrder::C, block)?;
         Ok(owned)
     }
 
-    /// An array in C order over a block that its items just fill.
+    /// An array over a block that its items just fill.
     pub fn over(
         alloc: Global,
         descr: Descr,
         shape: &Shape,
+        order: MemoryOrder,
         block: RawBlock,
     ) -> Result<Owned, AllocError>
         requires whole { length block ≡ count shape.now * item_size descr }
         requires small { length block ≤ 2 ^ 28 }
         ensures descr { IfOk result (λ o. o.descr ≡ descr) }
         ensures shape { IfOk result (λ o. o.layout.shape ≡ shape.now) }
+        ensures order { IfOk result (λ o. offsets o.layout ≡ offsets_in order (item_size descr) shape.now) }
         ensures block { IfOk result (λ o. o.block ≡ block) }
     {
-        let layout = Layout::c_order(alloc, shape, descr.size())?;
+        let layout = in_order(alloc, shape, descr.size(), order)?;
         Ok(Owned {
             block,
             descr,

@@ -1,5 +1,5 @@
 //! Arrays that are made, and views that share bytes as NumPy's `shares_memory` says.
-use crate::{MAX_BYTES, Owned, may_overlap, share_cell};
+use crate::{MAX_BYTES, MemoryOrder, Owned, may_overlap, share_cell};
 use elem_descr::{BytesLen, Descr, Refusal, Scalar};
 use raw_block::RawBlock;
 use shape_strides::{Layout, Shape, Strides};
@@ -33,10 +33,10 @@ fn an_array_over_a_block(rt: HostRuntime) -> Result<(), Fail> {
     let mut block = RawBlock::try_zeroed(alloc, 4)?;
     block.bytes_mut().copy_from_slice(&[5, 6, 7, 8]);
     assert!(rt; shape.items() * descr.size() == block.len());
-    let array = Owned::over(alloc, descr, &shape, block)?;
+    let array = Owned::over(alloc, descr, &shape, MemoryOrder::Fortran, block)?;
     assert_eq!(rt; array.block.bytes(), [5, 6, 7, 8].as_slice());
     assert_eq!(rt; array.layout.shape.as_slice(), [2, 2].as_slice());
-    assert_eq!(rt; array.layout.strides.as_slice(), [2, 1].as_slice());
+    assert_eq!(rt; array.layout.strides.as_slice(), [1, 2].as_slice());
     Ok(())
 }
 

@@ -8,18 +8,18 @@ use Rattle.bench_engine.specs.Contents.{array_type}
 use Rattle.bench_engine.proofs.Makes.{passed, refilled, full-type, full-literal, full-done}
 use Rattle.bench_engine.proofs.contents.full.Goals as goal
 
-pub returns-in_err-descr : goal.returns-in_err-descr
-returns-in_err-descr c =
+pub returns-in_err-descr-clause-value : goal.returns-in_err-descr-clause-value
+returns-in_err-descr-clause-value c =
     let p = err_from_is_err_and c.from_residual.result c.from_residual.ensures.1 in
     rw (p.1, p.2) (passed (array_type c.args.descr.now c.args.lengths.now) _ _ (full-type _ _ _ _) c.in_err-descr.ensures.value)
 
-pub returns-in_err-write_item : goal.returns-in_err-write_item
-returns-in_err-write_item c =
+pub returns-in_err-write_item-clause-value : goal.returns-in_err-write_item-clause-value
+returns-in_err-write_item-clause-value c =
     let p = err_from_is_err_and c.from_residual-in_err-write_item.result c.from_residual-in_err-write_item.ensures.1 in
     rw (p.1, p.2) (inr (full-literal _ _ _ _ _ _ c.in_ok-descr.ensures.value c.in_err-write_item.ensures.value))
 
-pub returns : goal.returns
-returns c =
+pub returns-clause-value : goal.returns-clause-value
+returns-clause-value c =
     let back : c.as_slice.result.now ≡ c.write_item.new.item = c.as_slice.ensures.value ∙ refilled c.write_item.new.item c.in_ok-item.item.items c.in_ok-item.item.len (omega (arith, c.write_item.auto.item, c.as_mut_slice.ensures.len)) in
     let back-2 : refill (length c.in_ok-block.block) c.in_ok-block.block c.fill.new.block ≡ c.fill.new.block = c.bytes_mut.ensures.same_len c.fill.new.block (c.fill.auto.block ∙ ap length c.bytes_mut.ensures.value) in
     let whole : length c.as_slice.result.now ≡ item_size c.in_ok-descr.descr = omega (arith, ap length back, c.write_item.auto.item, c.as_mut_slice.ensures.len, c.in_ok-item.ensures.len, c.size.ensures.value) in
