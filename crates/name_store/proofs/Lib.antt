@@ -2,6 +2,7 @@ pub mod BlockLaws
 pub mod PartLaws
 pub mod PutLaws
 pub mod NameLaws
+pub mod OnceLaws
 pub mod SlotLaws
 pub mod StateLaws
 pub mod FreshLaws
