@@ -10,7 +10,7 @@ use Rattle.elem_descr.specs.Items.{item_size}
 use Rattle.shape_strides.specs.Indexes.{count}
 use Rattle.overlap_copy.specs.declared.owned.Owned.{Owned}
 use Rattle.name_store.specs.States.{State, Array}
-use Rattle.name_store.specs.Places.{places_of}
+use Rattle.overlap_copy.specs.Blocks.{places_of}
 use Rattle.name_store.specs.Arrays.{has_room_for, bound_to, fresh_array}
 use Rattle.name_store.specs.Calls.{AnswersBind, own_array, own_buffer}
 use Rattle.name_store.specs.declared.bound.Bound.TheVariants.{Fresh}

@@ -15,7 +15,8 @@ use Rattle.name_store.specs.Calls.{own_array, own_buffer}
 use Rattle.elem_descr.specs.Blocks.{items_in}
 use Rattle.name_store.specs.Invariants.{LiesIn, IsFieldIn}
 use Rattle.name_store.specs.Parts.{descr_at, start_at, path_of}
-use Rattle.name_store.specs.Places.{offsets_of, places_of}
+use Rattle.name_store.specs.Places.{offsets_of}
+use Rattle.overlap_copy.specs.Blocks.{places_of}
 use Rattle.name_store.specs.View.{array_at, buffer_in, path_in}
 use Rattle.name_store.specs.declared.entry.Entry.{Entry}
 use Rattle.name_store.specs.declared.slot.Slot.{Slot}

@@ -5,7 +5,8 @@ use Rattle.elem_descr.specs.Items.{item_size}
 use Rattle.shape_strides.specs.Layouts.{offsets, distance}
 use Rattle.name_store.specs.Invariants.{LiesIn}
 use Rattle.name_store.specs.Parts.{descr_at, start_at}
-use Rattle.name_store.specs.Places.{offsets_of, places_of}
+use Rattle.name_store.specs.Places.{offsets_of}
+use Rattle.overlap_copy.specs.Blocks.{places_of}
 use Rattle.name_store.specs.View.{array_at, leaf_in, path_in}
 use Rattle.name_store.specs.declared.entry.Entry.{Entry}
 use Rattle.name_store.specs.declared.slot.Slot.{Slot}

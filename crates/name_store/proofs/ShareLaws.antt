@@ -14,7 +14,8 @@ use Rattle.overlap_copy.specs.Overlaps.{have_common_byte}
 use Rattle.name_store.specs.Arrays.{paths_meet, share_cells}
 use Rattle.name_store.specs.Invariants.{Holds, LiesIn}
 use Rattle.name_store.specs.Parts.{AreApart, descr_at, start_at, path_of, IsPartOf}
-use Rattle.name_store.specs.Places.{offsets_of, places_of}
+use Rattle.name_store.specs.Places.{offsets_of}
+use Rattle.overlap_copy.specs.Blocks.{places_of}
 use Rattle.name_store.specs.View.{array_at, leaf_in, own_size, path_in, slot_at}
 use Rattle.name_store.specs.declared.entry.Entry.{Entry}
 use Rattle.name_store.specs.declared.entry.Key.{Key}

@@ -9,7 +9,7 @@ use Rattle.shape_strides.specs.declared.layout.Layout.{Layout}
 use Rattle.shape_strides.specs.Layouts.{offsets, Fits, IsNested}
 use Rattle.name_store.specs.States.{State, Array, Buffer}
 use Rattle.name_store.specs.Arrays.{addresses, buffer_of, descr_of, find_array, item_at, no_buffer, read}
-use Rattle.elem_descr.specs.Blocks.{item_from}
+use Rattle.elem_descr.specs.Blocks.{items_in, item_from}
 use Rattle.name_store.specs.Parts.{descr_at, start_at, part_at, path_of, IsPartOf}
 use Rattle.name_store.specs.Invariants.{LiesIn}
 use Rattle.name_store.specs.Places.{offsets_of}
@@ -23,6 +23,7 @@ use Rattle.name_store.specs.declared.slot.Slot.{Slot}
 use Rattle.name_store.specs.declared.target.Source.TheVariants.{One}
 use Rattle.name_store.specs.declared.target.Target.TheVariants.{View}
 use Rattle.name_store.proofs.BlockLaws.{length-items_in}
+use Rattle.name_store.proofs.OnceLaws.{no_place_twice}
 use Rattle.name_store.proofs.PartLaws.{part-of, part-within}
 use Rattle.name_store.proofs.PutLaws.{items-read}
 use Rattle.name_store.proofs.SlotLaws.{get-buffers}
@@ -93,11 +94,13 @@ module _ (es : List (Key × Entry)) (slots : Slots) (e : Entry) (s : Slot) (r : 
     descr = own-is;
     whole = ap length block-is ∙ s.is_whole.whole ∙ λ i. sym counted i * item_size (sym type-is i);
     small = subst (λ (b : List ℕ). length b ≤ 2 ^ 28) (sym block-is) s.is_whole.small;
+    items = ap (λ (b : Buffer). b.items) found ∙ λ i. items_in (sym type-is i) (sym counted i) (sym block-is i);
     reads = shown-reads;
     inside = shown-inside;
     fits = subst (λ (l : Layout). Fits l (length r.block.now) (item_size r.descr.now)) (sym layout-is)
         (subst (λ n. Fits e.layout n (item_size r.descr.now)) (ap length (sym block-is)) (subst (λ n. Fits e.layout (length s.block) n) size-is lies.fits));
     fits_limit = subst (λ (l : Layout). Fits l (2 ^ 28) 1) (sym layout-is) lies.fits_limit;
+    once = no_place_twice s e lies;
     nested = λ yes. subst (λ (l : Layout). IsNested (offsets l) (item_size r.descr.now)) (sym layout-is)
         (subst (λ n. IsNested (offsets e.layout) n) size-is (lies.nested (subst IsTrue writable-is yes)));
   }

@@ -11,7 +11,8 @@ use Rattle.name_store.specs.States.{Array, Buffer}
 use Rattle.name_store.specs.Arrays.{find_array, buffer_of, bound_view, descr_of, no_buffer}
 use Rattle.name_store.specs.Invariants.{Holds, IsFieldIn, LiesAt, LiesIn}
 use Rattle.name_store.specs.Parts.{descr_at, start_at, path_of, IsPartOf}
-use Rattle.name_store.specs.Places.{offsets_of, places_of}
+use Rattle.name_store.specs.Places.{offsets_of}
+use Rattle.overlap_copy.specs.Blocks.{places_of}
 use Rattle.name_store.specs.View.{array_at, named_array, buffer_in, path_in, slot_at, state_of}
 use Rattle.name_store.specs.Views.{IsViewIn}
 use Rattle.name_store.specs.declared.entry.Entry.{Entry}

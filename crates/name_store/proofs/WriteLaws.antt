@@ -17,7 +17,8 @@ use Rattle.name_store.specs.Arrays.{find_array, buffer_of, descr_of, write, writ
 use Rattle.elem_descr.specs.Blocks.{items_in}
 use Rattle.name_store.specs.Invariants.{Holds, IsFieldIn, LiesAt, LiesIn}
 use Rattle.name_store.specs.Parts.{descr_at, start_at}
-use Rattle.name_store.specs.Places.{offsets_of, places_of}
+use Rattle.name_store.specs.Places.{offsets_of}
+use Rattle.overlap_copy.specs.Blocks.{places_of}
 use Rattle.name_store.specs.Targets.{LeadsTo, new_items, put_each}
 use Rattle.name_store.specs.View.{array_at, named_array, buffer_in, leaf_in, path_in, slot_at, state_of}
 use Rattle.name_store.specs.declared.entry.Entry.{Entry}

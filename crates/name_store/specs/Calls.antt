@@ -7,7 +7,7 @@ use Rattle.overlap_copy.specs.declared.owned.Owned.{Owned}
 use Rattle.elem_descr.specs.Items.{item_size}
 use Rattle.shape_strides.specs.Indexes.{count}
 use Rattle.shape_strides.specs.Layouts.{offsets}
-use Rattle.name_store.specs.Places.{places_of}
+use Rattle.overlap_copy.specs.Blocks.{places_of}
 use Rattle.name_store.specs.States.{State, Array, Buffer}
 use Rattle.name_store.specs.Arrays.{is_bound, has_room_for, bound_to, bound_view, unbound, descr_of, written, find_array, share_cells}
 use Rattle.elem_descr.specs.Blocks.{items_in}

@@ -6,7 +6,8 @@ use Rattle.elem_descr.specs.Items.{item_size, leaves_of}
 use Rattle.shape_strides.specs.Layouts.{offsets, Fits, IsNested}
 use Rattle.name_store.specs.Arrays.{is_in_use}
 use Rattle.name_store.specs.Parts.{descr_at, start_at}
-use Rattle.name_store.specs.Places.{offsets_of, places_of}
+use Rattle.name_store.specs.Places.{offsets_of}
+use Rattle.overlap_copy.specs.Blocks.{places_of}
 use Rattle.name_store.specs.View.{named_array, path_in, slot_at}
 use Rattle.name_store.specs.declared.entry.Entry.{Entry}
 use Rattle.name_store.specs.declared.entry.Field.{Field}

@@ -1,5 +1,5 @@
 -- Places in a buffer, and the offsets of their items in its block.
-use Rattle.std.specs.Prelude.{◌≡◌, ◌≤◌, ℕ, ◌+◌, ◌*◌, ◌/◌, ◌^◌, List, map, length}
+use Rattle.std.specs.Prelude.{◌≡◌, ◌≤◌, ℕ, ◌+◌, ◌*◌, ◌^◌, List, map, length}
 use Rattle.elem_descr.specs.declared.descr.Descr.{Descr}
 use Rattle.elem_descr.specs.Items.{item_size}
 use Rattle.name_store.specs.Parts.{AreApart}
@@ -7,10 +7,6 @@ use Rattle.name_store.specs.Parts.{AreApart}
 -- where a part of the items at these places begins, if each has so many bytes, and the part so many before it
 abbrev pub offsets_of : ℕ → ℕ → List ℕ → List ℕ
 offsets_of item start places = map (λ place. item * place + start) places
-
--- the places of the items that have these offsets
-abbrev pub places_of : ℕ → List ℕ → List ℕ
-places_of item offsets = map (λ offset. offset / item) offsets
 
 -- the block has so many items and no other byte, and the fields of an item are apart
 pub record IsWhole (descr : Descr) (items : ℕ) (block : List ℕ) : Type 0 where

@@ -8,7 +8,7 @@ use Rattle.shape_strides.specs.Layouts.{offsets}
 use Rattle.name_store.specs.States.{Array, Buffer, State}
 use Rattle.elem_descr.specs.Blocks.{items_in}
 use Rattle.name_store.specs.Parts.{path_of}
-use Rattle.name_store.specs.Places.{places_of}
+use Rattle.overlap_copy.specs.Blocks.{places_of}
 use Rattle.name_store.specs.declared.entry.Entry.{Entry}
 use Rattle.name_store.specs.declared.entry.Field.{Field}
 use Rattle.name_store.specs.declared.entry.Key.{Key}

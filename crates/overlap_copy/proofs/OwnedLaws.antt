@@ -7,21 +7,21 @@ use Rattle.std.proofs.lemmas.Bool.{eq-eqb}
 use Rattle.shape_strides.specs.Indexes.{count, indexes, rank}
 use Rattle.shape_strides.specs.Contiguity.{is_c_contiguous, is_f_contiguous, fortran_order}
 use Rattle.shape_strides.specs.Layouts.{multiples, f_multiples}
-use Rattle.overlap_copy.specs.Blocks.{places_at}
+use Rattle.overlap_copy.specs.Blocks.{places_of}
 
 some-bytes : {item : ℕ} → 1 ≤ item → 0 < item
 some-bytes some = omega (arith, some)
 
 -- offsets that are multiples of the bytes of an item
-whole-map : {X : Type 0} (item : ℕ) (f : X → ℕ) (xs : List X) → 1 ≤ item → map (λ x. item * f x) xs ≡ map (λ place. item * place) (places_at item (map (λ x. item * f x) xs))
+whole-map : {X : Type 0} (item : ℕ) (f : X → ℕ) (xs : List X) → 1 ≤ item → map (λ x. item * f x) xs ≡ map (λ place. item * place) (places_of item (map (λ x. item * f x) xs))
 whole-map item f [] some = refl
 whole-map item f (x ∷ xs) some = λ i. item * sym (mul-div_cancel_left (f x) (some-bytes some)) i ∷ whole-map item f xs some i
 
-pub multiples-whole : (item n : ℕ) (offsets : List ℕ) → 1 ≤ item → offsets ≡ multiples item n → offsets ≡ map (λ place. item * place) (places_at item offsets)
-multiples-whole item n offsets some is = subst (λ (os : List ℕ). os ≡ map (λ place. item * place) (places_at item os)) (sym is) (whole-map item (λ k. k) (range_with_len 0 n) some)
+pub multiples-whole : (item n : ℕ) (offsets : List ℕ) → 1 ≤ item → offsets ≡ multiples item n → offsets ≡ map (λ place. item * place) (places_of item offsets)
+multiples-whole item n offsets some is = subst (λ (os : List ℕ). os ≡ map (λ place. item * place) (places_of item os)) (sym is) (whole-map item (λ k. k) (range_with_len 0 n) some)
 
-pub f_multiples-whole : (item : ℕ) (shape offsets : List ℕ) → 1 ≤ item → offsets ≡ f_multiples item shape → offsets ≡ map (λ place. item * place) (places_at item offsets)
-f_multiples-whole item shape offsets some is = subst (λ (os : List ℕ). os ≡ map (λ place. item * place) (places_at item os)) (sym is) (whole-map item (λ index. rank (reverse shape) (reverse index)) (indexes shape) some)
+pub f_multiples-whole : (item : ℕ) (shape offsets : List ℕ) → 1 ≤ item → offsets ≡ f_multiples item shape → offsets ≡ map (λ place. item * place) (places_of item offsets)
+f_multiples-whole item shape offsets some is = subst (λ (os : List ℕ). os ≡ map (λ place. item * place) (places_of item os)) (sym is) (whole-map item (λ index. rank (reverse shape) (reverse index)) (indexes shape) some)
 
 goes-up : (item a n : ℕ) → is_c_contiguous item (map (λ k. item * k) (range_with_len a n)) ≡ true
 goes-up item a zero = refl

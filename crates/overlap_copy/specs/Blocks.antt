@@ -15,15 +15,15 @@ offsets_in C item shape = multiples item (count shape)
 offsets_in Fortran item shape = f_multiples item shape
 
 -- the places of items of so many bytes that have these offsets
-abbrev pub places_at : ℕ → List ℕ → List ℕ
-places_at item offsets = map (λ offset. offset / item) offsets
+abbrev pub places_of : ℕ → List ℕ → List ℕ
+places_of item offsets = map (λ offset. offset / item) offsets
 
 -- the items lie one after another in C order or in Fortran order, from the block's start to its end
 pub record FillsBlock (descr : Descr) (layout : Layout) (block : List ℕ) : Type 0 where
   pub some : 1 ≤ item_size descr
   pub few : item_size descr ≤ 65536
   pub in_order : IsTrue (is_c_contiguous (item_size descr) (offsets layout) || is_f_contiguous (item_size descr) layout.shape (offsets layout))
-  pub whole : offsets layout ≡ map (λ place. item_size descr * place) (places_at (item_size descr) (offsets layout))
+  pub whole : offsets layout ≡ map (λ place. item_size descr * place) (places_of (item_size descr) (offsets layout))
   pub fills : length block ≡ count layout.shape * item_size descr
   pub small : length block ≤ 2 ^ 28
   pub fits : Fits layout (length block) (item_size descr)

@@ -5,7 +5,7 @@ ghost use Rattle.elem_descr.specs.Items.{item_size};
 ghost use Rattle.shape_strides.specs.Indexes.{count};
 ghost use Rattle.shape_strides.specs.Contiguity.{is_c_contiguous, is_f_contiguous};
 ghost use Rattle.shape_strides.specs.Layouts.{offsets, Fits, IsNested};
-ghost use Rattle.overlap_copy.specs.Blocks.{FillsBlock, offsets_in, places_at};
+ghost use Rattle.overlap_copy.specs.Blocks.{FillsBlock, offsets_in, places_of};
 ghost use Rattle.overlap_copy.specs.declared.owned.MemoryOrder.TheVariants.{C};
 
 use elem_descr::{Descr, Refusal};
@@ -46,7 +46,7 @@ fn in_order(
     requires bytes { count shape.now * item ≤ 2 ^ 28 }
     ensures shape { IfOk result (λ l. l.shape ≡ shape.now) }
     ensures offsets { IfOk result (λ l. offsets l ≡ offsets_in order item shape.now) }
-    ensures whole { IfOk result (λ l. offsets l ≡ map (λ place. item * place) (places_at item (offsets l))) }
+    ensures whole { IfOk result (λ l. offsets l ≡ map (λ place. item * place) (places_of item (offsets l))) }
     ensures in_order { IfOk result (λ l. IsTrue (is_c_contiguous item (offsets l) || is_f_contiguous item l.shape (offsets l))) }
     ensures nested { IfOk result (λ l. IsNested (offsets l) item) }
     ensures fits { IfOk result (λ l. Fits l (count shape.now * item) item) }
