@@ -1,0 +1,180 @@
+#!/usr/bin/env python3
+"""Lists the definitions that the contract of `bench_engine::run` reaches: what a reader has to believe.
+
+    tools/believed.py            the definitions, by crate and file
+    tools/believed.py --check    says which of them docs/DEFINITIONS.md does not name, and which names there are none
+    tools/believed.py --inside   the definitions of specs/ that no public contract reaches: those that only provers use
+
+It reads the texts alone: the clauses of `run`, what the definitions that they cite cite in turn, and for a type that
+contracts see as a value (`impl Model`) what its view cites.
+"""
+import collections
+import pathlib
+import re
+import sys
+
+TOP = pathlib.Path(__file__).resolve().parent.parent
+WORD = re.compile(r"[^\s(){}\[\],;]+")
+HEAD = re.compile(r"^(?:(?:abbrev|unfoldable|opaque|pub|record|data)\s+)+(\S+)|^(\S+) : ")
+
+
+def uses(text):
+    """What a file imports: the crate's module and the name there, by the name in this file; and modules by their alias."""
+    names, modules = {}, {}
+    for path, group in re.findall(r"use Rattle\.([\w.«»]+)\.\{([^}]*)\}", text):
+        for item in group.split(","):
+            there, _, here = item.strip().partition(" as ")
+            names[here.strip() or there] = (path, there)
+    for path, alias in re.findall(r"use Rattle\.([\w.«»]+) as (\w+)", text):
+        modules[alias] = path
+    return names, modules
+
+
+def definitions(text):
+    """The definitions of a file of specs/, each with its whole text."""
+    found, name = collections.OrderedDict(), None
+    for line in text.split("\n"):
+        head = HEAD.match(line)
+        if line.startswith(("use ", "pub use ", "pub mod ", "open ", "infix", "--")):
+            name = None
+        elif head:
+            name = head[1] or head[2]
+            found[name] = [line]
+        elif name:
+            found[name].append(line)
+    return {it: "\n".join(lines) for it, lines in found.items()}
+
+
+class Repository:
+    def __init__(self):
+        self.files, self.models = {}, {}
+        for crate in (TOP / "crates").iterdir():
+            for file in sorted(crate.glob("specs/**/*.antt")):
+                text = file.read_text()
+                module = f"{crate.name}.specs.{'.'.join(file.relative_to(crate / 'specs').with_suffix('').parts)}"
+                self.files[module] = (file, definitions(text), *uses(text))
+            for file in sorted(crate.glob("src/**/*.rt")):
+                text = file.read_text()
+                for name, body in re.findall(r"impl(?:<[^>]*>)? Model for (\w+)[^{]*\{(.*?)\n\}", text, re.S):
+                    view = re.findall(r"ghost view = \{(.*?)\};", body, re.S)
+                    self.models[crate.name, name] = (" ".join(view), *uses(text))
+
+    def cited(self, text, local, names, modules):
+        """The definitions, and the types with a view, that a text cites."""
+        here = set()
+        for word in WORD.findall(re.sub(r"--.*", "", text)):
+            parts = word.split(".")
+            if word in local:
+                here.add((None, word))
+            for start in {word, parts[0]}:
+                if start in names:
+                    here.add(names[start])
+            if parts[0] in modules and len(parts) > 1:
+                here.add((modules[parts[0]], parts[1]))
+        for name, target in names.items():
+            symbol = name.replace("◌", "")
+            if "◌" in name and (symbol in text or (symbol == ">>=" and re.search(r"\bdo\b", text))):
+                here.add(target)
+        return here
+
+    def reached(self, todo):
+        done = set()
+        while todo:
+            module, name = todo.pop()
+            if (module, name) in done:
+                continue
+            declared = re.match(r"(\w+)\.specs\.declared\.", module)
+            if declared:
+                done.add((module, name))
+                if (declared[1], name) in self.models:
+                    text, names, modules = self.models[declared[1], name]
+                    todo |= {it for it in self.cited(text, {}, names, modules) if it[0]}
+            elif module in self.files and name in self.files[module][1]:
+                done.add((module, name))
+                _, local, names, modules = self.files[module]
+                todo |= {(it[0] or module, it[1]) for it in self.cited(local[name], local, names, modules)}
+        return {it for it in done if ".declared." not in it[0]}
+
+
+def exported(crate):
+    """The names that a crate's lib.rt makes public."""
+    root = crate / "src/lib.rt"
+    if not root.is_file():
+        return set()
+    return {it.strip().split(" as ")[-1] for group in re.findall(r"pub use [\w:]+::(?:\{([^}]*)\}|(\w+));", root.read_text()) for it in ",".join(group).split(",") if it.strip()}
+
+
+def public_clauses(crate):
+    """The clauses of the public functions and types of a crate, each with the file that they stand in."""
+    names = exported(crate)
+    for file in sorted(crate.glob("src/**/*.rt")):
+        text = file.read_text()
+        for header in re.findall(r"(?m)^pub fn (?:.|\n)*?\n?\{$", text):
+            if re.match(r"pub fn (\w+)", header)[1] in names:
+                yield text, header
+        for of_trait, owner, body in re.findall(r"(?ms)^impl(?:<[^>]*>)? (?:([\w<>', ]+) for )?(\w+)[^{\n]*\{(.*?)^\}", text):
+            if owner in names:
+                for header in re.findall(r"(?m)^    (?:pub |final )*fn (?:.|\n)*?\n?    \{$|^    ghost [^\n]*;$", body):
+                    if of_trait or header.lstrip().startswith("pub"):
+                        yield text, header
+        for owner, body in re.findall(r"(?ms)^pub (?:struct|enum|trait) (\w+)(.*?)^\}", text):
+            if owner in names:
+                yield text, " ".join(re.findall(r"(?m)^ *pub ghost .*$", body)) + (body if " fn " in body else "")
+
+
+def inside():
+    """The definitions that no public contract of any crate reaches, by file."""
+    repository = Repository()
+    roots = set()
+    for crate in sorted((TOP / "crates").iterdir()):
+        for text, clauses in public_clauses(crate):
+            names, modules = uses(text)
+            roots |= {it for it in repository.cited(clauses, {}, names, modules) if it[0]}
+    reached = repository.reached(roots)
+    for module, (file, local, _, _) in sorted(repository.files.items()):
+        lacking = [name for name in local if (module, name) not in reached]
+        if lacking:
+            print(f"{file.relative_to(TOP / 'crates')}: {'all' if len(lacking) == len(local) else ' '.join(lacking)}")
+
+
+def believed():
+    repository = Repository()
+    file = TOP / "crates/bench_engine/src/runner.rt"
+    text = file.read_text()
+    contract = re.search(r"pub fn run<.*?\n\{", text, re.S)[0]
+    names, modules = uses(text)
+    roots = {it for it in repository.cited(contract, {}, names, modules) if it[0]}
+    by_file = collections.defaultdict(list)
+    for module, name in repository.reached(roots):
+        by_file[repository.files[module][0].relative_to(TOP / "crates")].append((module, name))
+    order = {module: list(found[1]) for module, found in repository.files.items()}
+    return {file: [name for _, name in sorted(names, key=lambda it: order[it[0]].index(it[1]))] for file, names in sorted(by_file.items())}
+
+
+def main():
+    if sys.argv[1:] == ["--inside"]:
+        inside()
+        return 0
+    found = believed()
+    if sys.argv[1:] != ["--check"]:
+        for file, names in found.items():
+            print(f"| `{file}` | {', '.join(f'`{name}`' for name in names)} |")
+        print(f"\n{sum(map(len, found.values()))} definitions")
+        return 0
+    told = {}
+    for file, names in re.findall(r"(?m)^\| `([\w/]+\.antt)` \| (.*?) \|$", (TOP / "docs/DEFINITIONS.md").read_text()):
+        told[file] = re.findall(r"`([^`]+)`", names)
+    faults = 0
+    for file in sorted({str(it) for it in found} | set(told)):
+        here, there = found.get(pathlib.Path(file), []), told.get(file, [])
+        for name in [it for it in here if it not in there]:
+            faults += 1
+            print(f"{file}: {name} is reached, and DEFINITIONS.md does not name it")
+        for name in [it for it in there if it not in here]:
+            faults += 1
+            print(f"{file}: DEFINITIONS.md names {name}, which is not reached")
+    return 1 if faults else 0
+
+
+if __name__ == "__main__":
+    sys.exit(main())
