@@ -144,20 +144,17 @@ module _ {A : Type 0} (entry_at : List ℕ → Option (A × List ℕ)) (ending :
       let turns : len - turn ≡ 0 = omega arith in
       is ∙ rw turns refl
 
-abbrev nothing : List ℕ
-nothing = []
+ends_if : (bytes : List ℕ) (o : Option (Unit {0})) → is_some o ≡ true → option_map (λ (x : Unit {0}). bytes) o ≡ Some bytes
+ends_if bytes None ends = cc
+ends_if bytes (Some x) ends = refl
 
-ends_if : (o : Option (Unit {0})) → is_some o ≡ true → option_map (λ (x : Unit {0}). nothing) o ≡ Some nothing
-ends_if None ends = cc
-ends_if (Some x) ends = refl
-
-none_if : (o : Option (Unit {0})) → is_some o ≡ false → option_map (λ (x : Unit {0}). nothing) o ≡ None
-none_if None goes = refl
-none_if (Some x) goes = cc
+none_if : (bytes : List ℕ) (o : Option (Unit {0})) → is_some o ≡ false → option_map (λ (x : Unit {0}). bytes) o ≡ None
+none_if bytes None goes = refl
+none_if bytes (Some x) goes = cc
 
 -- whether nothing but blanks is left
-pub ends_here : (bytes : List ℕ) (test : Bool) → test ≡ is_some (at_end bytes) → test ≡ true → line_end_at bytes ≡ Some []
-ends_here bytes test is ends = ends_if (at_end bytes) (sym is ∙ ends)
+pub ends_here : (bytes : List ℕ) (test : Bool) → test ≡ is_some (at_end bytes) → test ≡ true → line_end_at bytes ≡ Some bytes
+ends_here bytes test is ends = ends_if bytes (at_end bytes) (sym is ∙ ends)
 
 pub goes_on_here : (bytes : List ℕ) (test : Bool) → test ≡ is_some (at_end bytes) → test ≡ false → line_end_at bytes ≡ None
-goes_on_here bytes test is goes = none_if (at_end bytes) (sym is ∙ goes)
+goes_on_here bytes test is goes = none_if bytes (at_end bytes) (sym is ∙ goes)

@@ -80,8 +80,9 @@ scalar_of found = (Scalar found.0, found.1)
 unfoldable pub literal_at : List ℕ → Option (Literal × List ℕ)
 literal_at bytes = if_found (symbol_at 40 bytes) record_at (option_map scalar_of (scalar_at bytes))
 
+-- the end of a line: blanks at most
 abbrev pub line_end_at : List ℕ → Option (List ℕ)
-line_end_at bytes = option_map (λ _. []) (at_end bytes)
+line_end_at bytes = option_map (λ _. bytes) (at_end bytes)
 
 -- L..: literals up to the line's end, none or more
 unfoldable pub literals_at : List ℕ → Option (List Literal × List ℕ)

@@ -1,7 +1,7 @@
 //! What a line of the script says: the grammar of the commands.
 ghost use Rattle.std.specs.Prelude.{◌≡◌, ◌≤◌, length};
 ghost use Rattle.std.specs.List.{list_all};
-ghost use Rattle.script_lang.specs.Commands.{bound_at, binding_at, question_at, command_at};
+ghost use Rattle.script_lang.specs.Commands.{bound_at, binding_at, question_at, form_at, command_at};
 ghost use Rattle.script_lang.specs.Lines.{is_allowed, is_silent, line_of};
 ghost use Rattle.script_lang.specs.Reading.{Reads, Says, needs_room};
 
@@ -21,9 +21,9 @@ mod views;
 
 use crate::command::Command;
 use crate::grammar::creations::created;
-use crate::grammar::names::{is_reserved, name, only_name};
-use crate::grammar::statements::{alone, save, set, shares, update};
-use crate::grammar::tokens::{symbol, unspaced, word};
+use crate::grammar::names::{is_reserved, name, owned_name};
+use crate::grammar::statements::{save, set, shares, update};
+use crate::grammar::tokens::{is_at_end, symbol, unspaced, word};
 use crate::grammar::views::view;
 use elem_descr::Refusal;
 use std::alloc::Global;
@@ -52,9 +52,9 @@ fn is_silent(line: &[u8]) -> bool
 
 /// What follows `X =`.
 #[tactic(auto, unfolding(crate::specs::Commands::bound_at))]
-fn bound(alloc: Global, target: &[u8], bytes: &[u8]) -> Result<Command, Refusal>
+fn bound<'a>(alloc: Global, target: &[u8], bytes: &'a [u8]) -> Result<(Command, &'a [u8]), Refusal>
     requires { length target.now ≤ 32 }
-    ensures { Reads (λ c. c) needs_room result (bound_at target.now bytes.now) }
+    ensures { Reads (λ r. (r.0, r.1.now)) (λ r. needs_room r.0) result (bound_at target.now bytes.now) }
 {
     let (verb, rest) = word(bytes).ok_or(Refusal::Syntax)?;
     if is_reserved(verb) {
@@ -65,8 +65,8 @@ fn bound(alloc: Global, target: &[u8], bytes: &[u8]) -> Result<Command, Refusal>
 
 /// `X = ..`
 #[tactic(auto, unfolding(crate::specs::Commands::binding_at))]
-fn binding(alloc: Global, bytes: &[u8]) -> Result<Command, Refusal>
-    ensures { Reads (λ c. c) needs_room result (binding_at bytes.now) }
+fn binding(alloc: Global, bytes: &[u8]) -> Result<(Command, &[u8]), Refusal>
+    ensures { Reads (λ r. (r.0, r.1.now)) (λ r. needs_room r.0) result (binding_at bytes.now) }
 {
     let (target, rest) = name(bytes).ok_or(Refusal::Syntax)?;
     let rest = symbol(b'=', rest).ok_or(Refusal::Syntax)?;
@@ -74,24 +74,29 @@ fn binding(alloc: Global, bytes: &[u8]) -> Result<Command, Refusal>
 }
 
 /// The commands that ask, or `X = ..`.
-#[tactic(auto, unfolding(crate::specs::Commands::question_at))]
-fn question(alloc: Global, line: &[u8], verb: &[u8], rest: &[u8]) -> Result<Command, Refusal>
-    ensures { Reads (λ c. c) needs_room result (question_at line.now verb.now rest.now) }
+#[tactic(auto, unfolding(crate::specs::Commands::question_at, crate::specs::Commands::named_at))]
+fn question<'a>(
+    alloc: Global,
+    line: &'a [u8],
+    verb: &[u8],
+    rest: &'a [u8],
+) -> Result<(Command, &'a [u8]), Refusal>
+    ensures { Reads (λ r. (r.0, r.1.now)) (λ r. needs_room r.0) result (question_at line.now verb.now rest.now) }
 {
     if verb == b"print".as_slice() {
-        let name = only_name(alloc, rest).ok_or(Refusal::Syntax)?;
-        return Ok(Command::Print { name });
+        let (name, rest) = owned_name(alloc, rest).ok_or(Refusal::Syntax)?;
+        return Ok((Command::Print { name }, rest));
     }
     if verb == b"info".as_slice() {
-        let name = only_name(alloc, rest).ok_or(Refusal::Syntax)?;
-        return Ok(Command::Info { name });
+        let (name, rest) = owned_name(alloc, rest).ok_or(Refusal::Syntax)?;
+        return Ok((Command::Info { name }, rest));
     }
     if verb == b"format".as_slice() {
-        let name = only_name(alloc, rest).ok_or(Refusal::Syntax)?;
-        return Ok(Command::Format { name });
+        let (name, rest) = owned_name(alloc, rest).ok_or(Refusal::Syntax)?;
+        return Ok((Command::Format { name }, rest));
     }
     if verb == b"names".as_slice() {
-        return alone(Command::Names, rest).ok_or(Refusal::Syntax);
+        return Ok((Command::Names, rest));
     }
     if verb == b"shares".as_slice() {
         return shares(alloc, rest).ok_or(Refusal::Syntax);
@@ -99,10 +104,10 @@ fn question(alloc: Global, line: &[u8], verb: &[u8], rest: &[u8]) -> Result<Comm
     binding(alloc, line)
 }
 
-/// The command that the whole line spells.
-#[tactic(auto, unfolding(crate::specs::Commands::command_at))]
-fn command(alloc: Global, line: &[u8]) -> Result<Command, Refusal>
-    ensures { Reads (λ c. c) needs_room result (command_at line.now) }
+/// The command that comes first, and what follows it.
+#[tactic(auto, unfolding(crate::specs::Commands::form_at, crate::specs::Commands::named_at))]
+fn form(alloc: Global, line: &[u8]) -> Result<(Command, &[u8]), Refusal>
+    ensures { Reads (λ r. (r.0, r.1.now)) (λ r. needs_room r.0) result (form_at line.now) }
 {
     let (verb, rest) = word(line).ok_or(Refusal::Syntax)?;
     if verb == b"set".as_slice() {
@@ -112,16 +117,29 @@ fn command(alloc: Global, line: &[u8]) -> Result<Command, Refusal>
         return update(alloc, rest);
     }
     if verb == b"del".as_slice() {
-        let name = only_name(alloc, rest).ok_or(Refusal::Syntax)?;
-        return Ok(Command::Delete { name });
+        let (name, rest) = owned_name(alloc, rest).ok_or(Refusal::Syntax)?;
+        return Ok((Command::Delete { name }, rest));
     }
     if verb == b"undo".as_slice() {
-        return alone(Command::Undo, rest).ok_or(Refusal::Syntax);
+        return Ok((Command::Undo, rest));
     }
     if verb == b"save".as_slice() {
         return save(alloc, rest).ok_or(Refusal::Syntax);
     }
     question(alloc, line, verb, rest)
+}
+
+/// The command that the whole line spells.
+#[tactic(auto, unfolding(crate::specs::Commands::command_at), using(crate::proofs::Commands::whole_line_room))]
+fn command(alloc: Global, line: &[u8]) -> Result<Command, Refusal>
+    ensures { Reads (λ c. c) needs_room result (command_at line.now) }
+{
+    let (command, rest) = form(alloc, line)?;
+    if !is_at_end(rest) {
+        drop(command);
+        return Err(Refusal::Syntax);
+    }
+    Ok(command)
 }
 
 /// What a line asks for: a command, or nothing for a blank line or a comment. A byte that is

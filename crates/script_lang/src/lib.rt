@@ -20,6 +20,3 @@ pub use operation::{BinaryOperation, Comparison, Operation, Reduction, UnaryOper
 pub use refusal_text::word;
 pub use shape::{Integers, Lengths};
 pub use text::{DescrText, FieldName, FileName};
-
-#[cfg(test)]
-mod tests;

@@ -9,7 +9,6 @@ use crate::grammar::lists::shape;
 use crate::grammar::literals::{literal, literals};
 use crate::grammar::numbers::integer;
 use crate::grammar::quotes::file_name;
-use crate::grammar::tokens::is_at_end;
 use crate::grammar::views::derived;
 use crate::name::Name;
 use crate::text::{DescrText, FileName};
@@ -18,106 +17,111 @@ use std::alloc::Global;
 
 /// `D S`, behind `X = zeros`.
 #[tactic(auto, unfolding(crate::specs::Commands::zeros_at), using(crate::proofs::Commands::zeros_room))]
-fn zeros(alloc: Global, name: &[u8], bytes: &[u8]) -> Result<Command, Refusal>
+fn zeros<'a>(alloc: Global, name: &[u8], bytes: &'a [u8]) -> Result<(Command, &'a [u8]), Refusal>
     requires { length name.now ≤ 32 }
-    ensures { Reads (λ c. c) needs_room result (zeros_at name.now bytes.now) }
+    ensures { Reads (λ r. (r.0, r.1.now)) (λ r. needs_room r.0) result (zeros_at name.now bytes.now) }
 {
     let (descr, rest) = descr(bytes).ok_or(Refusal::Syntax)?;
     let (shape, rest) = shape(alloc, rest)?;
-    if !is_at_end(rest) {
-        return Err(Refusal::Syntax);
-    }
     let descr = DescrText::from_slice(alloc, descr)?;
     let name = Name::from_slice(alloc, name);
-    Ok(Command::Zeros { name, descr, shape })
+    Ok((Command::Zeros { name, descr, shape }, rest))
 }
 
 /// `D S L`, behind `X = full`.
 #[tactic(auto, unfolding(crate::specs::Commands::full_at), using(crate::proofs::Commands::full_room))]
-fn full(alloc: Global, name: &[u8], bytes: &[u8]) -> Result<Command, Refusal>
+fn full<'a>(alloc: Global, name: &[u8], bytes: &'a [u8]) -> Result<(Command, &'a [u8]), Refusal>
     requires { length name.now ≤ 32 }
-    ensures { Reads (λ c. c) needs_room result (full_at name.now bytes.now) }
+    ensures { Reads (λ r. (r.0, r.1.now)) (λ r. needs_room r.0) result (full_at name.now bytes.now) }
 {
     let (descr, rest) = descr(bytes).ok_or(Refusal::Syntax)?;
     let (shape, rest) = shape(alloc, rest)?;
     let (value, rest) = literal(alloc, rest)?;
-    if !is_at_end(rest) {
-        return Err(Refusal::Syntax);
-    }
     let descr = DescrText::from_slice(alloc, descr)?;
     let name = Name::from_slice(alloc, name);
-    Ok(Command::Full {
-        name,
-        descr,
-        shape,
-        value,
-    })
+    Ok((
+        Command::Full {
+            name,
+            descr,
+            shape,
+            value,
+        },
+        rest,
+    ))
 }
 
 /// `D a b s`, behind `X = arange`.
 #[tactic(auto, unfolding(crate::specs::Commands::arange_at), using(crate::proofs::Commands::arange_room))]
-fn arange(alloc: Global, name: &[u8], bytes: &[u8]) -> Result<Command, Refusal>
+fn arange<'a>(alloc: Global, name: &[u8], bytes: &'a [u8]) -> Result<(Command, &'a [u8]), Refusal>
     requires { length name.now ≤ 32 }
-    ensures { Reads (λ c. c) needs_room result (arange_at name.now bytes.now) }
+    ensures { Reads (λ r. (r.0, r.1.now)) (λ r. needs_room r.0) result (arange_at name.now bytes.now) }
 {
     let (descr, rest) = descr(bytes).ok_or(Refusal::Syntax)?;
     let (start, rest) = integer(rest).ok_or(Refusal::Syntax)?;
     let (stop, rest) = integer(rest).ok_or(Refusal::Syntax)?;
     let (step, rest) = integer(rest).ok_or(Refusal::Syntax)?;
-    if !is_at_end(rest) {
-        return Err(Refusal::Syntax);
-    }
     let descr = DescrText::from_slice(alloc, descr)?;
     let name = Name::from_slice(alloc, name);
-    Ok(Command::Arange {
-        name,
-        descr,
-        start,
-        stop,
-        step,
-    })
+    Ok((
+        Command::Arange {
+            name,
+            descr,
+            start,
+            stop,
+            step,
+        },
+        rest,
+    ))
 }
 
 /// `D S L..`, behind `X = array`.
 #[tactic(auto, unfolding(crate::specs::Commands::array_at, crate::specs::Literals::literals_at), using(crate::proofs::Commands::array_room))]
-fn array(alloc: Global, name: &[u8], bytes: &[u8]) -> Result<Command, Refusal>
+fn array<'a>(alloc: Global, name: &[u8], bytes: &'a [u8]) -> Result<(Command, &'a [u8]), Refusal>
     requires { length name.now ≤ 32 }
-    ensures { Reads (λ c. c) needs_room result (array_at name.now bytes.now) }
+    ensures { Reads (λ r. (r.0, r.1.now)) (λ r. needs_room r.0) result (array_at name.now bytes.now) }
 {
     let (descr, rest) = descr(bytes).ok_or(Refusal::Syntax)?;
     let (shape, rest) = shape(alloc, rest)?;
-    let values = literals(alloc, rest)?;
+    let (values, rest) = literals(alloc, rest)?;
     let descr = DescrText::from_slice(alloc, descr)?;
     let name = Name::from_slice(alloc, name);
-    Ok(Command::Array {
-        name,
-        descr,
-        shape,
-        values,
-    })
+    Ok((
+        Command::Array {
+            name,
+            descr,
+            shape,
+            values,
+        },
+        rest,
+    ))
 }
 
 /// `"f"`, behind `X = load`.
 #[tactic(auto, unfolding(crate::specs::Commands::load_at))]
-fn load(alloc: Global, name: &[u8], bytes: &[u8]) -> Option<Command>
+fn load<'a>(alloc: Global, name: &[u8], bytes: &'a [u8]) -> Option<(Command, &'a [u8])>
     requires { length name.now ≤ 32 }
-    ensures { Finds (λ c. c) result (load_at name.now bytes.now) }
+    ensures { Finds (λ r. (r.0, r.1.now)) result (load_at name.now bytes.now) }
 {
     let (file, rest) = file_name(bytes)?;
-    if !is_at_end(rest) {
-        return None;
-    }
-    Some(Command::Load {
-        name: Name::from_slice(alloc, name),
-        file: FileName::from_slice(alloc, file),
-    })
+    Some((
+        Command::Load {
+            name: Name::from_slice(alloc, name),
+            file: FileName::from_slice(alloc, file),
+        },
+        rest,
+    ))
 }
 
 /// What follows the reserved word `verb`, behind `X =`.
 #[tactic(auto, unfolding(crate::specs::Commands::created_at))]
-pub fn created(alloc: Global, name: &[u8], verb: &[u8], rest: &[u8]) -> Result<Command, Refusal>
+pub fn created<'a>(
+    alloc: Global,
+    name: &[u8],
+    verb: &[u8],
+    rest: &'a [u8],
+) -> Result<(Command, &'a [u8]), Refusal>
     requires { length name.now ≤ 32 }
-    ensures { Reads (λ c. c) needs_room result (created_at name.now verb.now rest.now) }
+    ensures { Reads (λ r. (r.0, r.1.now)) (λ r. needs_room r.0) result (created_at name.now verb.now rest.now) }
 {
     if verb == b"zeros".as_slice() {
         return zeros(alloc, name, rest);

@@ -1,5 +1,5 @@
 //! Literals.
-ghost use Rattle.std.specs.Prelude.{◌≡◌, ◌<◌, ◌+◌, [], length, true, IfSome};
+ghost use Rattle.std.specs.Prelude.{◌≡◌, ◌<◌, ◌+◌, length, true, IfSome};
 ghost use Rattle.script_lang.specs.Tokens.{byte_at};
 ghost use Rattle.script_lang.specs.Lists.{entries_at, row_at};
 ghost use Rattle.script_lang.specs.Literals.{hex_value, hex_digit_at, escape_at, plain_byte_at, text_byte_at, byte_text_at, boolean_at, bytes_at, scalar_at, record_at, literal_at, line_end_at};
@@ -172,15 +172,15 @@ pub fn literal(alloc: Global, bytes: &[u8]) -> Result<(Literal, &[u8]), Refusal>
     Ok((Literal::Scalar(value), rest))
 }
 
-/// The literals up to the line's end.
-pub fn literals(alloc: Global, bytes: &[u8]) -> Result<Literals, Refusal>
-    ensures { Reads (λ r. (r, [])) (λ _. true) result (row_at literal_at line_end_at (length bytes.now + 1) bytes.now) }
+/// The literals up to the line's end, and the blanks that are left there.
+pub fn literals(alloc: Global, bytes: &[u8]) -> Result<(Literals, &[u8]), Refusal>
+    ensures { Reads (λ r. (r.0, r.1.now)) (λ _. true) result (row_at literal_at line_end_at (length bytes.now + 1) bytes.now) }
 {
     let mut literals = Literals::new(alloc);
     let mut rest = bytes;
     for _turn in 0..bytes.len() + 1 {
         if is_at_end(rest) {
-            return Ok(literals);
+            return Ok((literals, rest));
         }
         let (entry, after) = literal(alloc, rest)?;
         literals.push(entry)?;

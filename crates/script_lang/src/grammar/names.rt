@@ -3,10 +3,9 @@ ghost use Rattle.std.specs.Prelude.{◌≡◌, ◌≤◌, length, IfSome};
 ghost use Rattle.std.specs.List.{list_any};
 ghost use Rattle.std.specs.Str.{bytes_eq};
 ghost use Rattle.script_lang.specs.Tokens.{words, is_reserved, starts_name, is_name, name_at};
-ghost use Rattle.script_lang.specs.Commands.{only_name_at};
 ghost use Rattle.script_lang.specs.Reading.{Finds};
 
-use crate::grammar::tokens::{is_at_end, is_name_start, word};
+use crate::grammar::tokens::{is_name_start, word};
 use crate::name::{MAX_NAME_LEN, Name};
 use std::alloc::Global;
 
@@ -58,14 +57,10 @@ pub fn name(bytes: &[u8]) -> Option<(&[u8], &[u8])>
     Some((name, rest))
 }
 
-/// The name that is all of the rest of the line.
-#[tactic(auto, unfolding(crate::specs::Commands::only_name_at))]
-pub fn only_name(alloc: Global, bytes: &[u8]) -> Option<Name>
-    ensures { Finds (λ n. n) result (only_name_at bytes.now) }
+/// The same, with a copy of the name.
+pub fn owned_name(alloc: Global, bytes: &[u8]) -> Option<(Name, &[u8])>
+    ensures { Finds (λ r. (r.0, r.1.now)) result (name_at bytes.now) }
 {
     let (name, rest) = name(bytes)?;
-    if !is_at_end(rest) {
-        return None;
-    }
-    Some(Name::from_slice(alloc, name))
+    Some((Name::from_slice(alloc, name), rest))
 }

@@ -1,6 +1,6 @@
 //! The commands that bind no name.
 ghost use Rattle.std.specs.Prelude.{◌≡◌};
-ghost use Rattle.script_lang.specs.Commands.{set_at, update_at, shares_at, save_at, alone};
+ghost use Rattle.script_lang.specs.Commands.{set_at, update_at, shares_at, save_at};
 ghost use Rattle.script_lang.specs.Reading.{Finds, Reads, needs_room};
 
 use crate::command::Command;
@@ -8,7 +8,7 @@ use crate::grammar::indexes::{argument, bracket};
 use crate::grammar::names::name;
 use crate::grammar::operations::operation;
 use crate::grammar::quotes::file_name;
-use crate::grammar::tokens::{is_at_end, symbol, word};
+use crate::grammar::tokens::{symbol, word};
 use crate::name::Name;
 use crate::text::FileName;
 use elem_descr::Refusal;
@@ -16,80 +16,67 @@ use std::alloc::Global;
 
 /// `X[ix] = Z`, behind `set`.
 #[tactic(auto, unfolding(crate::specs::Commands::set_at), using(crate::proofs::Commands::set_index_room, crate::proofs::Commands::set_value_room))]
-pub fn set(alloc: Global, bytes: &[u8]) -> Result<Command, Refusal>
-    ensures { Reads (λ c. c) needs_room result (set_at bytes.now) }
+pub fn set(alloc: Global, bytes: &[u8]) -> Result<(Command, &[u8]), Refusal>
+    ensures { Reads (λ r. (r.0, r.1.now)) (λ r. needs_room r.0) result (set_at bytes.now) }
 {
     let (name, rest) = name(bytes).ok_or(Refusal::Syntax)?;
     let (index, rest) = bracket(alloc, rest)?;
     let rest = symbol(b'=', rest).ok_or(Refusal::Syntax)?;
     let (value, rest) = argument(alloc, rest)?;
-    if !is_at_end(rest) {
-        return Err(Refusal::Syntax);
-    }
     let name = Name::from_slice(alloc, name);
-    Ok(Command::Set { name, index, value })
+    Ok((Command::Set { name, index, value }, rest))
 }
 
 /// `X[ix] OP Z`, behind `upd`.
 #[tactic(auto, unfolding(crate::specs::Commands::update_at), using(crate::proofs::Commands::update_index_room, crate::proofs::Commands::update_value_room))]
-pub fn update(alloc: Global, bytes: &[u8]) -> Result<Command, Refusal>
-    ensures { Reads (λ c. c) needs_room result (update_at bytes.now) }
+pub fn update(alloc: Global, bytes: &[u8]) -> Result<(Command, &[u8]), Refusal>
+    ensures { Reads (λ r. (r.0, r.1.now)) (λ r. needs_room r.0) result (update_at bytes.now) }
 {
     let (name, rest) = name(bytes).ok_or(Refusal::Syntax)?;
     let (index, rest) = bracket(alloc, rest)?;
     let (word, rest) = word(rest).ok_or(Refusal::Syntax)?;
     let operation = operation(word).ok_or(Refusal::Syntax)?;
     let (value, rest) = argument(alloc, rest)?;
-    if !is_at_end(rest) {
-        return Err(Refusal::Syntax);
-    }
     let name = Name::from_slice(alloc, name);
-    Ok(Command::Update {
-        name,
-        index,
-        operation,
-        value,
-    })
+    Ok((
+        Command::Update {
+            name,
+            index,
+            operation,
+            value,
+        },
+        rest,
+    ))
 }
 
 /// `X Y`, behind `shares`.
 #[tactic(auto, unfolding(crate::specs::Commands::shares_at))]
-pub fn shares(alloc: Global, bytes: &[u8]) -> Option<Command>
-    ensures { Finds (λ c. c) result (shares_at bytes.now) }
+pub fn shares(alloc: Global, bytes: &[u8]) -> Option<(Command, &[u8])>
+    ensures { Finds (λ r. (r.0, r.1.now)) result (shares_at bytes.now) }
 {
     let (left, rest) = name(bytes)?;
     let (right, rest) = name(rest)?;
-    if !is_at_end(rest) {
-        return None;
-    }
-    Some(Command::Shares {
-        left: Name::from_slice(alloc, left),
-        right: Name::from_slice(alloc, right),
-    })
+    Some((
+        Command::Shares {
+            left: Name::from_slice(alloc, left),
+            right: Name::from_slice(alloc, right),
+        },
+        rest,
+    ))
 }
 
 /// `X "f"`, behind `save`.
 #[tactic(auto, unfolding(crate::specs::Commands::save_at))]
-pub fn save(alloc: Global, bytes: &[u8]) -> Option<Command>
-    ensures { Finds (λ c. c) result (save_at bytes.now) }
+pub fn save(alloc: Global, bytes: &[u8]) -> Option<(Command, &[u8])>
+    ensures { Finds (λ r. (r.0, r.1.now)) result (save_at bytes.now) }
 {
     let (name, rest) = name(bytes)?;
     let (file, rest) = file_name(rest)?;
-    if !is_at_end(rest) {
-        return None;
-    }
-    Some(Command::Save {
-        name: Name::from_slice(alloc, name),
-        file: FileName::from_slice(alloc, file),
-    })
-}
-
-/// The command, if nothing is left.
-pub fn alone(command: Command, bytes: &[u8]) -> Option<Command>
-    ensures { Finds (λ c. c) result (alone command bytes.now) }
-{
-    if !is_at_end(bytes) {
-        return None;
-    }
-    Some(command)
+    Some((
+        Command::Save {
+            name: Name::from_slice(alloc, name),
+            file: FileName::from_slice(alloc, file),
+        },
+        rest,
+    ))
 }

@@ -20,37 +20,38 @@ use std::alloc::Global;
 
 /// `Y` or `Y[ix]`, behind `X =`.
 #[tactic(auto, unfolding(crate::specs::Commands::view_at), using(crate::proofs::Commands::view_room))]
-pub fn view(alloc: Global, target: &[u8], bytes: &[u8]) -> Result<Command, Refusal>
+pub fn view<'a>(
+    alloc: Global,
+    target: &[u8],
+    bytes: &'a [u8],
+) -> Result<(Command, &'a [u8]), Refusal>
     requires { length target.now ≤ 32 }
-    ensures { Reads (λ c. c) needs_room result (view_at target.now bytes.now) }
+    ensures { Reads (λ r. (r.0, r.1.now)) (λ r. needs_room r.0) result (view_at target.now bytes.now) }
 {
     let (source, rest) = operand(alloc, bytes)?;
-    if !is_at_end(rest) {
-        return Err(Refusal::Syntax);
-    }
     let name = Name::from_slice(alloc, target);
-    Ok(Command::View { name, source })
+    Ok((Command::View { name, source }, rest))
 }
 
 /// `Y "f"`, behind `X = field`.
 #[tactic(auto, unfolding(crate::specs::Commands::field_at), using(crate::proofs::Commands::field_room))]
-fn field(alloc: Global, target: &[u8], bytes: &[u8]) -> Result<Command, Refusal>
+fn field<'a>(alloc: Global, target: &[u8], bytes: &'a [u8]) -> Result<(Command, &'a [u8]), Refusal>
     requires { length target.now ≤ 32 }
-    ensures { Reads (λ c. c) needs_room result (field_at target.now bytes.now) }
+    ensures { Reads (λ r. (r.0, r.1.now)) (λ r. needs_room r.0) result (field_at target.now bytes.now) }
 {
     let (source, rest) = name(bytes).ok_or(Refusal::Syntax)?;
     let (field, rest) = quoted(rest).ok_or(Refusal::Syntax)?;
-    if !is_at_end(rest) {
-        return Err(Refusal::Syntax);
-    }
     let field = FieldName::from_slice(alloc, field)?;
     let name = Name::from_slice(alloc, target);
     let source = Name::from_slice(alloc, source);
-    Ok(Command::Field {
-        name,
-        source,
-        field,
-    })
+    Ok((
+        Command::Field {
+            name,
+            source,
+            field,
+        },
+        rest,
+    ))
 }
 
 /// The axes that come next, or none where nothing is left.
@@ -67,105 +68,119 @@ fn axes(alloc: Global, bytes: &[u8]) -> Result<(Option<Integers>, &[u8]), Refusa
 
 /// `Y` or `Y (axes)`, behind `X = transpose`.
 #[tactic(auto, unfolding(crate::specs::Commands::transpose_at), using(crate::proofs::Commands::transpose_room))]
-fn transpose(alloc: Global, target: &[u8], bytes: &[u8]) -> Result<Command, Refusal>
+fn transpose<'a>(
+    alloc: Global,
+    target: &[u8],
+    bytes: &'a [u8],
+) -> Result<(Command, &'a [u8]), Refusal>
     requires { length target.now ≤ 32 }
-    ensures { Reads (λ c. c) needs_room result (transpose_at target.now bytes.now) }
+    ensures { Reads (λ r. (r.0, r.1.now)) (λ r. needs_room r.0) result (transpose_at target.now bytes.now) }
 {
     let (source, rest) = name(bytes).ok_or(Refusal::Syntax)?;
     let (axes, rest) = axes(alloc, rest)?;
-    if !is_at_end(rest) {
-        return Err(Refusal::Syntax);
-    }
     let name = Name::from_slice(alloc, target);
     let source = Name::from_slice(alloc, source);
-    Ok(Command::Transpose { name, source, axes })
+    Ok((Command::Transpose { name, source, axes }, rest))
 }
 
 /// `Y S`, behind `X = reshape`.
 #[tactic(auto, unfolding(crate::specs::Commands::reshape_at), using(crate::proofs::Commands::reshape_room))]
-fn reshape(alloc: Global, target: &[u8], bytes: &[u8]) -> Result<Command, Refusal>
+fn reshape<'a>(
+    alloc: Global,
+    target: &[u8],
+    bytes: &'a [u8],
+) -> Result<(Command, &'a [u8]), Refusal>
     requires { length target.now ≤ 32 }
-    ensures { Reads (λ c. c) needs_room result (reshape_at target.now bytes.now) }
+    ensures { Reads (λ r. (r.0, r.1.now)) (λ r. needs_room r.0) result (reshape_at target.now bytes.now) }
 {
     let (source, rest) = name(bytes).ok_or(Refusal::Syntax)?;
     let (shape, rest) = signed_shape(alloc, rest)?;
-    if !is_at_end(rest) {
-        return Err(Refusal::Syntax);
-    }
     let name = Name::from_slice(alloc, target);
     let source = Name::from_slice(alloc, source);
-    Ok(Command::Reshape {
-        name,
-        source,
-        shape,
-    })
+    Ok((
+        Command::Reshape {
+            name,
+            source,
+            shape,
+        },
+        rest,
+    ))
 }
 
 /// `Y S`, behind `X = broadcast`.
 #[tactic(auto, unfolding(crate::specs::Commands::broadcast_at), using(crate::proofs::Commands::broadcast_room))]
-fn broadcast(alloc: Global, target: &[u8], bytes: &[u8]) -> Result<Command, Refusal>
+fn broadcast<'a>(
+    alloc: Global,
+    target: &[u8],
+    bytes: &'a [u8],
+) -> Result<(Command, &'a [u8]), Refusal>
     requires { length target.now ≤ 32 }
-    ensures { Reads (λ c. c) needs_room result (broadcast_at target.now bytes.now) }
+    ensures { Reads (λ r. (r.0, r.1.now)) (λ r. needs_room r.0) result (broadcast_at target.now bytes.now) }
 {
     let (source, rest) = name(bytes).ok_or(Refusal::Syntax)?;
     let (shape, rest) = shape(alloc, rest)?;
-    if !is_at_end(rest) {
-        return Err(Refusal::Syntax);
-    }
     let name = Name::from_slice(alloc, target);
     let source = Name::from_slice(alloc, source);
-    Ok(Command::Broadcast {
-        name,
-        source,
-        shape,
-    })
+    Ok((
+        Command::Broadcast {
+            name,
+            source,
+            shape,
+        },
+        rest,
+    ))
 }
 
 /// `Y C` or `Y F`, behind `X = copy`.
 #[tactic(auto, unfolding(crate::specs::Commands::copy_at))]
-fn copy(alloc: Global, target: &[u8], bytes: &[u8]) -> Option<Command>
+fn copy<'a>(alloc: Global, target: &[u8], bytes: &'a [u8]) -> Option<(Command, &'a [u8])>
     requires { length target.now ≤ 32 }
-    ensures { Finds (λ c. c) result (copy_at target.now bytes.now) }
+    ensures { Finds (λ r. (r.0, r.1.now)) result (copy_at target.now bytes.now) }
 {
     let (source, rest) = name(bytes)?;
     let (word, rest) = word(rest)?;
     let order = order(word)?;
-    if !is_at_end(rest) {
-        return None;
-    }
-    Some(Command::Duplicate {
-        name: Name::from_slice(alloc, target),
-        source: Name::from_slice(alloc, source),
-        order,
-    })
+    Some((
+        Command::Duplicate {
+            name: Name::from_slice(alloc, target),
+            source: Name::from_slice(alloc, source),
+            order,
+        },
+        rest,
+    ))
 }
 
 /// `Y D`, behind `X = cast`.
 #[tactic(auto, unfolding(crate::specs::Commands::cast_at), using(crate::proofs::Commands::cast_room))]
-fn cast(alloc: Global, target: &[u8], bytes: &[u8]) -> Result<Command, Refusal>
+fn cast<'a>(alloc: Global, target: &[u8], bytes: &'a [u8]) -> Result<(Command, &'a [u8]), Refusal>
     requires { length target.now ≤ 32 }
-    ensures { Reads (λ c. c) needs_room result (cast_at target.now bytes.now) }
+    ensures { Reads (λ r. (r.0, r.1.now)) (λ r. needs_room r.0) result (cast_at target.now bytes.now) }
 {
     let (source, rest) = name(bytes).ok_or(Refusal::Syntax)?;
     let (descr, rest) = descr(rest).ok_or(Refusal::Syntax)?;
-    if !is_at_end(rest) {
-        return Err(Refusal::Syntax);
-    }
     let descr = DescrText::from_slice(alloc, descr)?;
     let name = Name::from_slice(alloc, target);
     let source = Name::from_slice(alloc, source);
-    Ok(Command::Cast {
-        name,
-        source,
-        descr,
-    })
+    Ok((
+        Command::Cast {
+            name,
+            source,
+            descr,
+        },
+        rest,
+    ))
 }
 
 /// What follows the reserved word `verb`, behind `X =`, where it makes no array of its own.
 #[tactic(auto, unfolding(crate::specs::Commands::derived_at))]
-pub fn derived(alloc: Global, target: &[u8], verb: &[u8], rest: &[u8]) -> Result<Command, Refusal>
+pub fn derived<'a>(
+    alloc: Global,
+    target: &[u8],
+    verb: &[u8],
+    rest: &'a [u8],
+) -> Result<(Command, &'a [u8]), Refusal>
     requires { length target.now ≤ 32 }
-    ensures { Reads (λ c. c) needs_room result (derived_at target.now verb.now rest.now) }
+    ensures { Reads (λ r. (r.0, r.1.now)) (λ r. needs_room r.0) result (derived_at target.now verb.now rest.now) }
 {
     if verb == b"field".as_slice() {
         return field(alloc, target, rest);

@@ -1,12 +1,12 @@
 -- What a turn reads is what `row_at` reads there.
-use Rattle.std.proofs.Common.{[], refl, inl, arith}
+use Rattle.std.proofs.Common.{refl, inl, arith}
 use Rattle.script_lang.specs.Literals.{literal_at, line_end_at}
 use Rattle.script_lang.proofs.Lists.{row_ends, row_no_entry, row_next, row_no_turn, ends_here, goes_on_here, failed_entry}
 use Rattle.std.proofs.lemmas.Result.{err_from_is_err_and}
 use Rattle.script_lang.proofs.grammar.literals.literals.Goals as goal
 
 pub returns-then-is_at_end : goal.returns-then-is_at_end
-returns-then-is_at_end c = row_ends literal_at line_end_at _ _ _ _ _ c.loop-turn.invariant [] (omega arith) (ends_here c.loop-turn.rest.now c.is_at_end.result c.is_at_end.ensures c.if-is_at_end.true)
+returns-then-is_at_end c = row_ends literal_at line_end_at _ _ _ _ _ c.loop-turn.invariant _ (omega arith) (ends_here c.loop-turn.rest.now c.is_at_end.result c.is_at_end.ensures c.if-is_at_end.true)
 
 pub returns-in_err-entry : goal.returns-in_err-entry
 returns-in_err-entry c =

@@ -1,9 +1,9 @@
 //! What was read, as text for the tables.
-use crate::{
+use elem_descr::Refusal;
+use script_lang::{
     Argument, Command, DescrText, Index, IndexItem, Integers, Lengths, Literal, MemoryOrder, Name,
     Operand, ScalarLiteral,
 };
-use elem_descr::Refusal;
 use std::alloc::{AllocError, Global};
 
 type Written = Result<(), AllocError>;
@@ -353,17 +353,26 @@ fn put_name(out: &mut Vec<u8>, command: &Command) -> Written {
 }
 
 /// The command, `-` for none, or the code of the refusal.
-pub(super) fn shown(
+fn put_parsed(
+    alloc: Global,
+    out: &mut Vec<u8>,
+    parsed: &Result<Option<Command>, Refusal>,
+) -> Written {
+    match parsed {
+        Ok(Some(command)) => put_creation(alloc, out, command),
+        Ok(None) => put(out, b"-"),
+        Err(Refusal::ByteNotAllowed) => put(out, b"E02"),
+        Err(Refusal::Syntax) => put(out, b"E03"),
+        Err(_) => put(out, b"E40"),
+    }
+}
+
+/// What a line asks for, as text.
+pub fn shown(
     alloc: Global,
     parsed: &Result<Option<Command>, Refusal>,
 ) -> Result<Vec<u8>, AllocError> {
     let mut out = Vec::new(alloc);
-    match parsed {
-        Ok(Some(command)) => put_creation(alloc, &mut out, command)?,
-        Ok(None) => put(&mut out, b"-")?,
-        Err(Refusal::ByteNotAllowed) => put(&mut out, b"E02")?,
-        Err(Refusal::Syntax) => put(&mut out, b"E03")?,
-        Err(_) => put(&mut out, b"E40")?,
-    }
+    put_parsed(alloc, &mut out, parsed)?;
     Ok(out)
 }

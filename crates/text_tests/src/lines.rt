@@ -1,29 +1,47 @@
-use crate::{parse, word};
+//! Lines of the script, and what each asks for.
+ghost use Rattle.std.specs.Prelude.{◌≤◌, length};
+
 use elem_descr::Refusal;
-use std::alloc::Global;
+use script_lang::{Command, parse, word};
+use std::alloc::{AllocError, Global};
 use std::process::Abort;
 use std::test::Fail;
 
-mod lines;
+mod rows;
 mod show;
 
-use lines::{
+use rows::{
     ARRAYS, COMPUTATIONS, DESCRIPTORS, INDEXES, LITERALS, NAMES, SILENT, STATEMENTS, VIEWS,
 };
 use show::shown;
 
-/// Reads each line of a table, and compares what it asks for with what the table says. A line for
-/// which memory ran out is read again: it then says the same.
+/// What the line asks for. A line for which memory ran out is read again.
+fn read(alloc: Global, line: &[u8]) -> Result<Option<Command>, Refusal>
+    requires { length line.now ≤ 65536 }
+{
+    match parse(alloc, line) {
+        Err(Refusal::OutOfMemory) => parse(alloc, line),
+        parsed => parsed,
+    }
+}
+
+/// The same, as text.
+fn line_shown(alloc: Global, line: &[u8]) -> Result<Vec<u8>, AllocError>
+    requires { length line.now ≤ 65536 }
+{
+    let parsed = read(alloc, line);
+    let shown = shown(alloc, &parsed);
+    drop(parsed);
+    shown
+}
+
+/// Reads each line of a table, and compares what it asks for with what the table says.
 fn reads_table(alloc: Global, rt: &impl Abort, table: &[(&str, &str)]) -> Result<(), Fail> {
     for (line, expected) in table {
         assert!(rt; line.len() <= 65536);
-        let mut parsed = parse(alloc, line.as_bytes());
-        if matches!(parsed, Err(Refusal::OutOfMemory)) {
-            parsed = parse(alloc, line.as_bytes());
-        }
-        let shown = match shown(alloc, &parsed) {
+        let shown = match line_shown(alloc, line.as_bytes()) {
             Ok(shown) => shown,
-            Err(_) => show::shown(alloc, &parsed)?,
+            Err(_) => line_shown(alloc, line.as_bytes())?,
         };
         assert!(rt; shown.as_slice() == expected.as_bytes(), "{line}");
     }
