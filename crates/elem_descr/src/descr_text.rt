@@ -43,6 +43,3 @@ pub fn descr_read(alloc: Global, text: &[u8]) -> Result<Descr, Refusal>
         Err(refusal) => Err(refusal),
     }
 }
-
-#[cfg(test)]
-mod tests;

@@ -4,6 +4,4 @@ mod field;
 pub mod mark;
 mod member;
 pub mod read;
-#[cfg(test)]
-mod tests;
 pub mod write;

@@ -79,6 +79,3 @@ pub fn num_write(scalar: Scalar, value: i128, bytes: &mut [u8])
 {
     wrapped_write(scalar, value, bytes);
 }
-
-#[cfg(test)]
-mod tests;

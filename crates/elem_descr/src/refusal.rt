@@ -2,85 +2,101 @@ ghost use Rattle.std.specs.Prelude.{◌≡◌};
 ghost use Rattle.elem_descr.specs.declared.refusal.Refusal.TheVariants.{OutOfMemory};
 
 use std::alloc::{AllocError, AllocFailed};
-use thiserror::Error;
+use std::error::Error;
+use std::fmt;
 
-/// Why a command is refused, in the order of the codes. The message of a refusal is its code and
-/// its text, as a reply shows them.
-#[derive(Clone, Copy, Debug, PartialEq, Eq, Error)]
+/// Why a command is refused, in the order of the codes.
+#[derive(Clone, Copy, Debug, PartialEq, Eq)]
 pub enum Refusal {
-    #[error("E01 line too long")]
     LineTooLong,
-    #[error("E02 byte not allowed")]
     ByteNotAllowed,
-    #[error("E03 syntax")]
     Syntax,
-    #[error("E04 bad descriptor")]
     BadDescriptor,
-    #[error("E05 descriptor left out")]
     DescriptorLeftOut,
-    #[error("E06 unknown name")]
     UnknownName,
-    #[error("E07 too many names")]
     TooManyNames,
-    #[error("E08 too many axes")]
     TooManyAxes,
-    #[error("E09 too large")]
     TooLarge,
-    #[error("E10 too many indices")]
     TooManyIndices,
-    #[error("E11 index out of range")]
     IndexOutOfRange,
-    #[error("E12 zero step")]
     ZeroStep,
-    #[error("E13 mask lengths")]
     MaskLengths,
-    #[error("E14 not an index type")]
     NotAnIndexType,
-    #[error("E15 index shapes")]
     IndexShapes,
-    #[error("E16 shapes do not broadcast")]
     ShapesDoNotBroadcast,
-    #[error("E17 bad axis")]
     BadAxis,
-    #[error("E18 bad reshape")]
     BadReshape,
-    #[error("E19 no such field")]
     NoSuchField,
-    #[error("E20 read-only")]
     ReadOnly,
-    #[error("E21 needs floats")]
     NeedsFloats,
-    #[error("E22 not for this kind")]
     NotForThisKind,
-    #[error("E23 literal out of range")]
     LiteralOutOfRange,
-    #[error("E24 not same kind")]
     NotSameKind,
-    #[error("E25 empty reduction")]
     EmptyReduction,
-    #[error("E26 nothing to undo")]
     NothingToUndo,
-    #[error("E27 store fault")]
     StoreFault,
-    #[error("E28 bad magic")]
     BadMagic,
-    #[error("E29 bad version")]
     BadVersion,
-    #[error("E30 bad header")]
     BadHeader,
-    #[error("E31 truncated")]
     Truncated,
-    #[error("E32 number of values")]
     NumberOfValues,
-    #[error("E33 no such cast")]
     NoSuchCast,
-    #[error("E34 no such file")]
     NoSuchFile,
-    #[error("E35 file too long")]
     FileTooLong,
-    #[error("E40 out of memory")]
     OutOfMemory,
 }
+
+impl Refusal {
+    /// The code and the text of a refusal, as a reply shows them.
+    fn text(self) -> &'static str {
+        match self {
+            Refusal::LineTooLong => "E01 line too long",
+            Refusal::ByteNotAllowed => "E02 byte not allowed",
+            Refusal::Syntax => "E03 syntax",
+            Refusal::BadDescriptor => "E04 bad descriptor",
+            Refusal::DescriptorLeftOut => "E05 descriptor left out",
+            Refusal::UnknownName => "E06 unknown name",
+            Refusal::TooManyNames => "E07 too many names",
+            Refusal::TooManyAxes => "E08 too many axes",
+            Refusal::TooLarge => "E09 too large",
+            Refusal::TooManyIndices => "E10 too many indices",
+            Refusal::IndexOutOfRange => "E11 index out of range",
+            Refusal::ZeroStep => "E12 zero step",
+            Refusal::MaskLengths => "E13 mask lengths",
+            Refusal::NotAnIndexType => "E14 not an index type",
+            Refusal::IndexShapes => "E15 index shapes",
+            Refusal::ShapesDoNotBroadcast => "E16 shapes do not broadcast",
+            Refusal::BadAxis => "E17 bad axis",
+            Refusal::BadReshape => "E18 bad reshape",
+            Refusal::NoSuchField => "E19 no such field",
+            Refusal::ReadOnly => "E20 read-only",
+            Refusal::NeedsFloats => "E21 needs floats",
+            Refusal::NotForThisKind => "E22 not for this kind",
+            Refusal::LiteralOutOfRange => "E23 literal out of range",
+            Refusal::NotSameKind => "E24 not same kind",
+            Refusal::EmptyReduction => "E25 empty reduction",
+            Refusal::NothingToUndo => "E26 nothing to undo",
+            Refusal::StoreFault => "E27 store fault",
+            Refusal::BadMagic => "E28 bad magic",
+            Refusal::BadVersion => "E29 bad version",
+            Refusal::BadHeader => "E30 bad header",
+            Refusal::Truncated => "E31 truncated",
+            Refusal::NumberOfValues => "E32 number of values",
+            Refusal::NoSuchCast => "E33 no such cast",
+            Refusal::NoSuchFile => "E34 no such file",
+            Refusal::FileTooLong => "E35 file too long",
+            Refusal::OutOfMemory => "E40 out of memory",
+        }
+    }
+}
+
+impl fmt::Display for Refusal {
+    fn fmt<W: fmt::Write>(&self, f: &mut fmt::Formatter<W>) -> fmt::Result {
+        f.write_str(self.text())
+    }
+}
+
+impl Error for Refusal {}
 
 impl From<AllocError> for Refusal {
     ghost from_gives = { λ _ e. e ≡ OutOfMemory };
@@ -97,6 +113,3 @@ impl<T: Drop> From<AllocFailed<T>> for Refusal {
         Refusal::OutOfMemory
     }
 }
-
-#[cfg(test)]
-mod tests;

@@ -137,6 +137,3 @@ pub fn typestr_write(alloc: Global, scalar: Scalar) -> Result<Vec<u8>, AllocErro
     text.extend_from_slice(buffer.format(size).as_bytes())?;
     Ok(text)
 }
-
-#[cfg(test)]
-mod tests;

@@ -1,5 +1,15 @@
-//! Tests of the crates that read and write text.
+//! Tests of what the crates of texts read, write and print: rows with values from outside.
 #![tactic(auto)]
 
 #[cfg(test)]
+mod descriptors;
+#[cfg(test)]
+mod formats;
+#[cfg(test)]
 mod lines;
+#[cfg(test)]
+mod numbers;
+#[cfg(test)]
+mod refusals;
+#[cfg(test)]
+mod type_strings;

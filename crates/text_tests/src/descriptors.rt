@@ -1,5 +1,5 @@
-use super::*;
-use crate::format_text::write::format_write;
+//! Descriptors of scripts: type strings and format texts.
+use elem_descr::{Refusal, descr_read, format_write};
 use std::test::Fail;
 
 /// Each text with the format text of what it means.

@@ -1,8 +1,8 @@
+//! Numbers as bytes, in either byte order.
 ghost use Rattle.std.specs.Prelude.{◌≡◌, ◌≤◌, length};
 ghost use Rattle.elem_descr.specs.Encoding.{IsNumber, size};
 
-use super::*;
-use crate::scalar::Width;
+use elem_descr::{Order, Scalar, Width, num_read, num_write};
 use std::process::Abort;
 
 fn integer(signed: bool, width: Width, order: Order) -> Scalar
