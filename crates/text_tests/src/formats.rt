@@ -1,6 +1,6 @@
 //! Format texts of PEP 3118, read and written.
 use elem_descr::{Descr, Leaf, Refusal, Scalar, format_read, format_write, typestr_write};
-use std::alloc::Global;
+use std::alloc::{AllocError, Global};
 use std::process::Abort;
 use std::test::Fail;
 
@@ -117,6 +117,8 @@ const REFUSED: &[(&str, Refusal)] = &[
     ("T{65535x}", Refusal::DescriptorLeftOut),
 ];
 
+const FIELDS: &[(&str, Option<usize>)] = &[("x", Some(0)), ("y", Some(1)), ("z", None)];
+
 const WRITTEN: &[(&str, &str)] = &[
     ("i", "<i"),
     ("s", "<1s"),
@@ -129,36 +131,37 @@ const WRITTEN: &[(&str, &str)] = &[
     ("T{q:a:?:b:}", "T{<q:a:<?:b:7x}"),
 ];
 
-fn push_scalar(alloc: Global, shown: &mut Vec<u8>, scalar: &Scalar) -> Result<(), Fail> {
+fn push_scalar(alloc: Global, shown: &mut Vec<u8>, scalar: &Scalar) -> Result<(), AllocError> {
     let text = typestr_write(alloc, *scalar)?;
-    shown.extend_from_slice(text.as_slice())?;
-    Ok(())
+    shown.extend_from_slice(text.as_slice())
 }
 
-fn push_leaf(alloc: Global, shown: &mut Vec<u8>, leaf: &Leaf) -> Result<(), Fail> {
+fn push_number(alloc: Global, shown: &mut Vec<u8>, number: usize) -> Result<(), AllocError> {
+    let text = format!(in alloc; " {number}")?;
+    shown.extend_from_slice(text.as_bytes())
+}
+
+fn push_leaf(alloc: Global, shown: &mut Vec<u8>, leaf: &Leaf) -> Result<(), AllocError> {
     if !shown.is_empty() {
         shown.push(b' ')?;
     }
     shown.extend_from_slice(leaf.name.as_slice())?;
     shown.push(b' ')?;
     push_scalar(alloc, shown, &leaf.scalar)?;
-    let at = format!(in alloc; " {}", leaf.at)?;
-    shown.extend_from_slice(at.as_bytes())?;
-    Ok(())
+    push_number(alloc, shown, leaf.at)
 }
 
-/// The name, the type string and the offset of each field, or the type string of a scalar.
-fn shown(alloc: Global, descr: &Descr) -> Result<Vec<u8>, Fail> {
-    let mut shown = Vec::new(alloc);
+/// Appends the name, the type string and the offset of each field, or the type string of a scalar.
+fn push_fields(alloc: Global, shown: &mut Vec<u8>, descr: &Descr) -> Result<(), AllocError> {
     match descr {
-        Descr::Scalar(scalar) => push_scalar(alloc, &mut shown, scalar)?,
+        Descr::Scalar(scalar) => push_scalar(alloc, shown, scalar)?,
         Descr::Record(fields) => {
             for leaf in fields.leaves() {
-                push_leaf(alloc, &mut shown, leaf)?;
+                push_leaf(alloc, shown, leaf)?;
             }
         }
     }
-    Ok(shown)
+    Ok(())
 }
 
 /// The descriptor has items of this size, and these fields.
@@ -168,29 +171,45 @@ fn is_as_told(
     descr: &Descr,
     size: usize,
     fields: &str,
-) -> Result<(), Fail> {
-    assert_eq!(rt; descr.size(), size, "at {fields}");
-    let shown = shown(alloc, descr)?;
-    assert_eq!(rt; shown.as_slice(), fields.as_bytes(), "at {fields}");
+) -> Result<(), AllocError> {
+    let mut shown = Vec::new(alloc);
+    push_fields(alloc, &mut shown, descr)?;
+    assert!(rt; descr.size() == size, "at {fields}");
+    assert!(rt; shown.as_slice() == fields.as_bytes(), "at {fields}");
     Ok(())
 }
 
 /// What is written of a descriptor, read again.
-fn read_again(alloc: Global, descr: &Descr) -> Result<Descr, Fail> {
+fn read_again(alloc: Global, descr: &Descr) -> Result<Descr, Refusal> {
     let written = format_write(alloc, descr)?;
-    let again = format_read(alloc, written.as_slice())?;
-    Ok(again)
+    format_read(alloc, written.as_slice())
+}
+
+/// A copy of what is written of a descriptor and read again.
+fn copied(alloc: Global, descr: &Descr) -> Result<Descr, Refusal> {
+    let again = read_again(alloc, descr)?;
+    let copy = Descr::try_copy(alloc, &again)?;
+    Ok(copy)
+}
+
+fn reads(
+    rt: &impl Abort,
+    alloc: Global,
+    text: &str,
+    size: usize,
+    fields: &str,
+) -> Result<(), Refusal> {
+    let descr = format_read(alloc, text.as_bytes())?;
+    is_as_told(rt, alloc, &descr, size, fields)?;
+    let copy = copied(alloc, &descr)?;
+    is_as_told(rt, alloc, &copy, size, fields)?;
+    Ok(())
 }
 
 #[test]
 fn formats_as_numpy_reads_them(rt: HostRuntime) -> Result<(), Fail> {
-    let alloc = rt.alloc();
     for (text, size, fields) in READ {
-        let descr = format_read(alloc, text.as_bytes())?;
-        is_as_told(&rt, alloc, &descr, *size, fields)?;
-        let again = read_again(alloc, &descr)?;
-        let copy = Descr::try_copy(alloc, &again)?;
-        is_as_told(&rt, alloc, &copy, *size, fields)?;
+        reads(&rt, rt.alloc(), text, *size, fields)?;
     }
     Ok(())
 }
@@ -199,30 +218,40 @@ fn formats_as_numpy_reads_them(rt: HostRuntime) -> Result<(), Fail> {
 fn refused_formats(rt: HostRuntime) {
     for (text, refusal) in REFUSED {
         let found = format_read(rt.alloc(), text.as_bytes()).err();
-        assert_eq!(rt; found, Some(*refusal), "at {text}");
+        assert!(rt; found == Some(*refusal), "at {text}");
     }
+}
+
+fn written(alloc: Global, text: &str) -> Result<Vec<u8>, Refusal> {
+    let descr = format_read(alloc, text.as_bytes())?;
+    let written = format_write(alloc, &descr)?;
+    Ok(written)
 }
 
 #[test]
 fn written_formats(rt: HostRuntime) -> Result<(), Fail> {
     for (text, want) in WRITTEN {
-        let descr = format_read(rt.alloc(), text.as_bytes())?;
-        let written = format_write(rt.alloc(), &descr)?;
-        assert_eq!(rt; written.as_slice(), want.as_bytes(), "at {text}");
+        let written = written(rt.alloc(), text)?;
+        assert!(rt; written.as_slice() == want.as_bytes(), "at {text}");
     }
     Ok(())
+}
+
+/// The fields of `T{i:x:2xh:y:}` by name and by place.
+fn finds_fields(rt: &impl Abort, descr: &Descr) {
+    for (name, place) in FIELDS {
+        assert!(rt; descr.leaf_of(name.as_bytes()) == *place, "at {name}");
+    }
+    assert!(rt; descr.leaf_count() == 2);
+    let (scalar, at) = descr.leaf_at(1);
+    assert!(rt; (scalar.size(), at) == (2, 6));
 }
 
 #[test]
 fn fields_by_name(rt: HostRuntime) -> Result<(), Fail> {
     let descr = format_read(rt.alloc(), b"T{i:x:2xh:y:}")?;
-    assert_eq!(rt; descr.leaf_of(b"x"), Some(0));
-    assert_eq!(rt; descr.leaf_of(b"y"), Some(1));
-    assert_eq!(rt; descr.leaf_of(b"z"), None);
-    assert_eq!(rt; descr.leaf_count(), 2);
-    let (scalar, at) = descr.leaf_at(1);
-    assert_eq!(rt; scalar.size(), 2);
-    assert_eq!(rt; at, 6);
-    assert_eq!(rt; format_read(rt.alloc(), b"i")?.leaf_of(b""), None);
+    finds_fields(&rt, &descr);
+    let scalar = format_read(rt.alloc(), b"i")?;
+    assert!(rt; scalar.leaf_of(b"").is_none());
     Ok(())
 }

@@ -2,7 +2,7 @@
 use elem_descr::Refusal;
 use std::test::Fail;
 
-const TEXTS: [(Refusal, &str); 36] = [
+const TEXTS: &[(Refusal, &str)] = &[
     (Refusal::LineTooLong, "E01 line too long"),
     (Refusal::ByteNotAllowed, "E02 byte not allowed"),
     (Refusal::Syntax, "E03 syntax"),
@@ -45,7 +45,7 @@ const TEXTS: [(Refusal, &str); 36] = [
 fn texts(rt: HostRuntime) -> Result<(), Fail> {
     for (refusal, text) in TEXTS {
         let shown = format!(in rt.alloc(); "{refusal}")?;
-        assert_eq!(rt; shown.as_str(), text);
+        assert!(rt; shown.as_str() == *text, "for {text}");
     }
     Ok(())
 }
