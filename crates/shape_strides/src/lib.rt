@@ -15,6 +15,3 @@ pub use layout::Layout;
 pub use shape::{MAX_AXES, MAX_ITEMS, Shape};
 pub use strides::Strides;
 pub use walk::Walk;
-
-#[cfg(test)]
-mod tests;

@@ -15,6 +15,3 @@ pub use fields::field;
 pub use index::{IndexItem, are_basic};
 pub use slice::{Run, slice_of};
 pub use transposition::transpose;
-
-#[cfg(test)]
-mod tests;

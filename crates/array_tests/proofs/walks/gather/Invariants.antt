@@ -1,6 +1,6 @@
 use Rattle.std.proofs.Common.{◌≡◌, ◌<◌, ◌++◌, map, length, slice_index, All}
 use Rattle.shape_strides.specs.Layouts.{offsets}
-use Rattle.shape_strides.proofs.tests.gather.Given as goal
+use Rattle.array_tests.proofs.walks.gather.Given as goal
 
 abbrev pub invariant-loop-offset : goal.invariant-loop-offset
 invariant-loop-offset l =

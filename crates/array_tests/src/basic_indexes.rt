@@ -1,12 +1,13 @@
 //! Basic indexes of arrays of 4-byte items, as plain Python computes them with `slice.indices`: a
 //! shape, an index (or two, the second of the first one's view), and the shape, the strides and the
 //! offset of the view.
-use crate::{IndexItem, are_basic, basic};
+use crate::arrays::c_order;
 use elem_descr::Refusal;
-use shape_strides::{Layout, Shape};
+use shape_strides::Layout;
 use std::alloc::Global;
 use std::process::Abort;
 use std::test::Fail;
+use view_ops::{IndexItem, are_basic, basic};
 
 fn number(word: &str) -> Result<i128, Fail> {
     let Ok(number) = word.parse::<i128>() else {
@@ -60,15 +61,18 @@ fn items(alloc: Global, text: &str) -> Result<Vec<IndexItem>, Fail> {
     Ok(items)
 }
 
-fn array(rt: &impl Abort, alloc: Global, lengths: &str) -> Result<Layout, Fail> {
+fn axes(rt: &impl Abort, alloc: Global, text: &str) -> Result<Vec<usize>, Fail> {
     let mut axes = Vec::new(alloc);
-    for len in numbers(alloc, lengths)?.iter() {
-        assert!(rt; 0 <= *len && *len < 100);
-        axes.push(*len as usize)?;
+    for word in text.split_whitespace() {
+        let len = number(word)?;
+        assert!(rt; 0 <= len && len < 100);
+        axes.push(len as usize)?;
     }
-    let shape = Shape::try_new(alloc, axes.as_slice())?;
-    assert!(rt; shape.items() <= 1000);
-    Ok(Layout::c_order(alloc, &shape, 4)?)
+    Ok(axes)
+}
+
+fn array(rt: &impl Abort, alloc: Global, lengths: &str) -> Result<Layout, Fail> {
+    Ok(c_order(rt, alloc, axes(rt, alloc, lengths)?.as_slice(), 4)?)
 }
 
 fn view(
@@ -92,23 +96,28 @@ fn viewed(rt: &impl Abort, alloc: Global, lengths: &str, index: &str) -> Result<
     Ok(view(rt, alloc, &layout, items(alloc, second)?.as_slice())?)
 }
 
-/// Whether the lengths and the strides are these.
-fn is_laid_out(alloc: Global, layout: &Layout, lengths: &str, strides: &str) -> Result<bool, Fail> {
-    let lengths = numbers(alloc, lengths)?;
-    let strides = numbers(alloc, strides)?;
-    let same_lengths = layout
-        .shape
-        .as_slice()
-        .iter()
-        .map(|len| *len as i128)
-        .eq(lengths.iter().copied());
-    let same_strides = layout
-        .strides
-        .as_slice()
-        .iter()
-        .map(|step| *step as i128)
-        .eq(strides.iter().copied());
-    Ok(same_lengths && same_strides)
+fn has_lengths(alloc: Global, layout: &Layout, text: &str) -> Result<bool, Fail> {
+    let lengths = numbers(alloc, text)?;
+    Ok(
+        layout
+            .shape
+            .as_slice()
+            .iter()
+            .map(|len| *len as i128)
+            .eq(lengths.iter().copied()),
+    )
+}
+
+fn has_strides(alloc: Global, layout: &Layout, text: &str) -> Result<bool, Fail> {
+    let strides = numbers(alloc, text)?;
+    Ok(
+        layout
+            .strides
+            .as_slice()
+            .iter()
+            .map(|step| *step as i128)
+            .eq(strides.iter().copied()),
+    )
 }
 
 const VIEWS: &[(&str, &str, &str, &str, usize)] = &[
@@ -284,7 +293,8 @@ fn views(rt: HostRuntime) -> Result<(), Fail> {
     for row in VIEWS {
         let (shape, index, lengths, strides, offset) = *row;
         let layout = viewed(&rt, alloc, shape, index)?;
-        assert!(rt; is_laid_out(alloc, &layout, lengths, strides)?);
+        assert!(rt; has_lengths(alloc, &layout, lengths)?);
+        assert!(rt; has_strides(alloc, &layout, strides)?);
         assert_eq!(rt; layout.offset, offset);
     }
     Ok(())
@@ -320,37 +330,45 @@ const REFUSALS: &[(&str, &str, Refusal)] = &[
     ("5 3", "9: 3", Refusal::IndexOutOfRange),
 ];
 
-#[test]
-fn refusals(rt: HostRuntime) -> Result<(), Fail> {
-    let alloc = rt.alloc();
-    for row in REFUSALS {
-        let (shape, index, refusal) = *row;
-        let layout = array(&rt, alloc, shape)?;
-        let Err(given) = view(&rt, alloc, &layout, items(alloc, index)?.as_slice()) else {
-            return Err("accepted".into());
-        };
-        assert_eq!(rt; given, refusal);
-    }
+fn is_refused(
+    rt: &impl Abort,
+    alloc: Global,
+    layout: &Layout,
+    index: &[IndexItem],
+    want: Refusal,
+) -> Result<(), Fail> {
+    let Err(refusal) = view(rt, alloc, layout, index) else {
+        return Err("accepted".into());
+    };
+    assert_eq!(rt; refusal, want);
     Ok(())
 }
 
 #[test]
+fn refusals(rt: HostRuntime) -> Result<(), Fail> {
+    let alloc = rt.alloc();
+    for row in REFUSALS {
+        let (shape, index, want) = *row;
+        let layout = array(&rt, alloc, shape)?;
+        is_refused(&rt, alloc, &layout, items(alloc, index)?.as_slice(), want)?;
+    }
+    Ok(())
+}
+
+const ONES: &[usize] = &[1; 64];
+
+const ALL: &[IndexItem] = &[IndexItem::Ellipsis];
+
+const NEW_FOR_FIRST: &[IndexItem] = &[IndexItem::Integer(-1), IndexItem::NewAxis];
+
+const NEW: &[IndexItem] = &[IndexItem::NewAxis];
+
+#[test]
 fn sixty_four_axes(rt: HostRuntime) -> Result<(), Fail> {
     let alloc = rt.alloc();
-    let shape = Shape::try_new(alloc, &[1; 64])?;
-    let layout = Layout::c_order(alloc, &shape, 4)?;
-    let whole = view(&rt, alloc, &layout, &[IndexItem::Ellipsis])?;
-    assert_eq!(rt; whole.shape.rank(), 64);
-    let moved = view(
-        &rt,
-        alloc,
-        &layout,
-        &[IndexItem::Integer(-1), IndexItem::NewAxis],
-    )?;
-    assert_eq!(rt; moved.shape.rank(), 64);
-    let Err(refusal) = view(&rt, alloc, &layout, &[IndexItem::NewAxis]) else {
-        return Err("accepted".into());
-    };
-    assert_eq!(rt; refusal, Refusal::TooManyAxes);
-    Ok(())
+    let layout = c_order(&rt, alloc, ONES, 4)?;
+    for index in [ALL, NEW_FOR_FIRST] {
+        assert_eq!(rt; view(&rt, alloc, &layout, index)?.shape.rank(), 64);
+    }
+    is_refused(&rt, alloc, &layout, NEW, Refusal::TooManyAxes)
 }

@@ -1,0 +1,41 @@
+//! Slices as Python's `slice.indices` and `range` have them.
+use elem_descr::Refusal;
+use std::process::Abort;
+use std::test::Fail;
+use view_ops::slice_of;
+
+const FAR: i128 = 999_999_999_999_999_999_999_999_999_999;
+
+/// The bounds and the step of a slice of 10 items; its first number, and how many there are.
+type Row = (Option<i128>, Option<i128>, Option<i128>, usize, usize);
+
+const SLICES: &[Row] = &[
+    (None, None, None, 0, 10),
+    (None, None, Some(-1), 9, 10),
+    (Some(-3), None, None, 7, 3),
+    (Some(8), Some(1), Some(-3), 8, 3),
+    (Some(-FAR), Some(FAR), Some(4), 0, 3),
+    (Some(FAR), Some(-FAR), Some(-FAR), 9, 1),
+];
+
+#[test]
+fn slices(rt: HostRuntime) -> Result<(), Fail> {
+    for (start, stop, step, first, count) in SLICES {
+        let run = slice_of(10, *start, *stop, *step)?;
+        assert_eq!(rt; run.first, *first);
+        assert_eq!(rt; run.step, step.unwrap_or(1));
+        assert_eq!(rt; run.count, *count);
+    }
+    Ok(())
+}
+
+#[test]
+fn a_step_of_0(rt: HostRuntime) -> Result<(), Fail> {
+    for n in [0, 5] {
+        let Err(refusal) = slice_of(n, None, None, Some(0)) else {
+            return Err("accepted".into());
+        };
+        assert_eq!(rt; refusal, Refusal::ZeroStep);
+    }
+    Ok(())
+}
