@@ -3,8 +3,6 @@
 
 mod padding;
 mod printer;
-#[cfg(test)]
-mod tests;
 mod values;
 mod widths;
 

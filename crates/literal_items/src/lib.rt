@@ -8,6 +8,3 @@ pub mod range;
 
 pub use item::{can_be_item, fill, write_item, write_items};
 pub use range::{range_len, write_range};
-
-#[cfg(test)]
-mod tests;

@@ -8,7 +8,13 @@ mod formats;
 #[cfg(test)]
 mod lines;
 #[cfg(test)]
+mod literals;
+#[cfg(test)]
 mod numbers;
+#[cfg(test)]
+mod printed;
+#[cfg(test)]
+mod ranges;
 #[cfg(test)]
 mod refusals;
 #[cfg(test)]

@@ -1,0 +1,163 @@
+//! Items as NumPy's `numpy.array` makes them of literals, where it takes the same.
+use elem_descr::{Descr, Refusal, descr_read};
+use literal_items::{can_be_item, fill, write_item, write_items};
+use script_lang::{Command, Literal, parse};
+use std::alloc::{AllocError, Global};
+use std::process::Abort;
+
+/// The bytes that a command makes, or why it is refused.
+pub type Made = Result<&'static [u8], Refusal>;
+
+const LINES: &[(&str, Made)] = &[
+    ("a = array |S3 (1) b'abcd'", Ok(&[97, 98, 99])),
+    ("a = array |S4 (1) b'a\\x00b\\x00c'", Ok(&[97, 0, 98, 0])),
+    ("a = array |S3 (1) b'a'", Ok(&[97, 0, 0])),
+    ("a = array |S2 (1) b''", Ok(&[0, 0])),
+    (
+        "a = array T{<b:x:3x<i:y:} (1) (5,-1)",
+        Ok(&[5, 0, 0, 0, 255, 255, 255, 255]),
+    ),
+    (
+        "a = array T{<b:x:3x<i:y:} (1) 7",
+        Ok(&[7, 0, 0, 0, 7, 0, 0, 0]),
+    ),
+    (
+        "a = array T{>h:x:2x?:y:3x} (1) -2",
+        Ok(&[255, 254, 0, 0, 1, 0, 0, 0]),
+    ),
+    (
+        "a = array T{<B:x:2s:t:} (1) (255,b'xyz')",
+        Ok(&[255, 120, 121]),
+    ),
+    ("a = array |u1 (1) 255", Ok(&[255])),
+    ("a = array |u1 (1) 300", Err(Refusal::LiteralOutOfRange)),
+    ("a = array |u1 (1) -1", Err(Refusal::LiteralOutOfRange)),
+    ("a = array |i1 (1) -128", Ok(&[128])),
+    ("a = array |i1 (1) 128", Err(Refusal::LiteralOutOfRange)),
+    ("a = array >u2 (1) 258", Ok(&[1, 2])),
+    (
+        "a = array <u8 (1) 18446744073709551615",
+        Ok(&[255, 255, 255, 255, 255, 255, 255, 255]),
+    ),
+    (
+        "a = array <u8 (1) 18446744073709551616",
+        Err(Refusal::LiteralOutOfRange),
+    ),
+    (
+        "a = array <i8 (1) -9223372036854775808",
+        Ok(&[0, 0, 0, 0, 0, 0, 0, 128]),
+    ),
+    (
+        "a = array <i8 (1) 9223372036854775808",
+        Err(Refusal::LiteralOutOfRange),
+    ),
+    ("a = array ? (1) 7", Ok(&[1])),
+    ("a = array ? (1) -999999999999999999999999999999", Ok(&[1])),
+    ("a = array ? (1) 0", Ok(&[0])),
+    ("a = array ? (1) True", Ok(&[1])),
+    ("a = array <i4 (1) True", Ok(&[1, 0, 0, 0])),
+    ("a = array |i1 (1) False", Ok(&[0])),
+    ("a = array <i4 (1) b'a'", Err(Refusal::NoSuchCast)),
+    ("a = array ? (1) b'a'", Err(Refusal::NoSuchCast)),
+    ("a = array |S2 (1) 1", Err(Refusal::NoSuchCast)),
+    ("a = array |S2 (1) True", Err(Refusal::NoSuchCast)),
+    ("a = array <i4 (1) (5,-1)", Err(Refusal::NoSuchCast)),
+    (
+        "a = array T{<b:x:3x<i:y:} (1) (5,6,7)",
+        Err(Refusal::NoSuchCast),
+    ),
+    (
+        "a = array T{b:x:b:y:b:z:} (1) (5,6)",
+        Err(Refusal::NoSuchCast),
+    ),
+    (
+        "a = array T{<B:x:2s:t:} (1) (300,1)",
+        Err(Refusal::NoSuchCast),
+    ),
+    (
+        "a = array T{<B:x:2s:t:} (1) (300,b'a')",
+        Err(Refusal::LiteralOutOfRange),
+    ),
+    ("a = array T{<B:x:2s:t:} (1) 7", Err(Refusal::NoSuchCast)),
+    ("a = array |u1 (3) 3 True 255", Ok(&[3, 1, 255])),
+    ("a = array >i2 (2) -2 515", Ok(&[255, 254, 2, 3])),
+    ("a = array T{<b:x:x} (2) 1 -1", Ok(&[1, 0, 255, 0])),
+    ("a = array |u1 (2) 3 -1", Err(Refusal::LiteralOutOfRange)),
+    ("a = array |u1 (2) 300 b'a'", Err(Refusal::NoSuchCast)),
+];
+
+/// Bytes or a refusal, as a row has them.
+pub fn is_as_told(made: &Result<Vec<u8>, Refusal>, told: &Made) -> bool {
+    match (made, told) {
+        (Ok(bytes), Ok(told)) => bytes.as_slice() == *told,
+        (Err(refusal), Err(told)) => refusal == told,
+        _ => false,
+    }
+}
+
+/// One literal is the same as an item and as items.
+fn is_alone(
+    rt: &impl Abort,
+    alloc: Global,
+    descr: &Descr,
+    literal: &Literal,
+    written: Result<(), Refusal>,
+    block: &[u8],
+) -> Result<(), AllocError> {
+    assert!(rt; can_be_item(descr, literal) == (written != Err(Refusal::NoSuchCast)));
+    let mut item = vec![in alloc; 0x55; descr.size()]?;
+    assert!(rt; write_item(descr, literal, item.as_mut_slice()) == written);
+    assert!(rt; written.is_err() || item.as_slice() == block);
+    Ok(())
+}
+
+/// The literals as items over bytes that are not zero.
+fn items(
+    rt: &impl Abort,
+    alloc: Global,
+    descr: &Descr,
+    literals: &[Literal],
+) -> Result<Vec<u8>, Refusal> {
+    assert!(rt; literals.len() <= 8);
+    let mut block = vec![in alloc; 0xaa; literals.len() * descr.size()]?;
+    let written = write_items(descr, literals, block.as_mut_slice());
+    if let [literal] = literals {
+        is_alone(rt, alloc, descr, literal, written, block.as_slice())?;
+    }
+    written?;
+    Ok(block)
+}
+
+fn items_of(rt: &impl Abort, alloc: Global, command: &Command) -> Result<Vec<u8>, Refusal> {
+    let Command::Array { descr, values, .. } = command else {
+        return Err(Refusal::Syntax);
+    };
+    let descr = descr_read(alloc, descr.as_slice())?;
+    items(rt, alloc, &descr, values.as_slice())
+}
+
+/// What a line of the table makes.
+fn made(rt: &impl Abort, alloc: Global, line: &str) -> Result<Vec<u8>, Refusal> {
+    assert!(rt; line.len() <= 65536);
+    let Some(command) = parse(alloc, line.as_bytes())? else {
+        return Err(Refusal::Syntax);
+    };
+    let made = items_of(rt, alloc, &command);
+    drop(command);
+    made
+}
+
+#[test]
+fn literals_as_bytes(rt: HostRuntime) {
+    for (line, told) in LINES {
+        let made = made(&rt, rt.alloc(), line);
+        assert!(rt; is_as_told(&made, told), "{line}");
+    }
+}
+
+#[test]
+fn copies_of_an_item(rt: HostRuntime) {
+    let mut block = [9; 6];
+    fill(&[1, 2], &mut block, 3);
+    assert!(rt; block == [1, 2, 1, 2, 1, 2]);
+}
