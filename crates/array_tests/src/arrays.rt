@@ -1,41 +1,132 @@
-//! Layouts for tests.
-ghost use Rattle.std.specs.Prelude.{◌≡◌, ◌*◌, ◌^◌, ◌≤◌, IfOk};
-ghost use Rattle.shape_strides.specs.Indexes.{count};
+//! Arrays over blocks of their own, and views that share bytes as NumPy's `shares_memory` says.
+ghost use Rattle.std.specs.Prelude.{◌^◌, ◌≤◌};
 ghost use Rattle.shape_strides.specs.Layouts.{Fits};
 
-use elem_descr::Refusal;
+use elem_descr::{BytesLen, Descr, Refusal, Scalar};
+use overlap_copy::{MAX_BYTES, MemoryOrder, Owned, may_overlap, share_cell};
+use raw_block::RawBlock;
 use shape_strides::{Layout, Shape, Strides};
 use std::alloc::Global;
 use std::process::Abort;
 
-/// A layout with the shape, the strides and the offset that NumPy gives.
-pub fn layout_of(
-    rt: &impl Abort,
-    alloc: Global,
-    lengths: &[usize],
-    steps: &[isize],
-    offset: usize,
-) -> Result<Layout, Refusal> {
+/// An array of byte strings.
+fn strings(alloc: Global, len: usize, lengths: &[usize]) -> Result<Owned, Refusal> {
+    let Some(len) = BytesLen::try_new(len) else {
+        return Err(Refusal::BadDescriptor);
+    };
     let shape = Shape::try_new(alloc, lengths)?;
-    let strides = Strides::from_slice(alloc, steps)?;
-    assert_eq!(rt; strides.as_slice().len(), shape.as_slice().len());
-    Ok(Layout {
+    Owned::zeroed(alloc, Descr::Scalar(Scalar::Bytes(len)), &shape)
+}
+
+/// The array has these bytes, lengths and strides.
+fn has(rt: &impl Abort, array: &Owned, bytes: &[u8], lengths: &[usize], strides: &[isize]) {
+    assert_eq!(rt; array.block.bytes(), bytes);
+    assert_eq!(rt; array.layout.shape.as_slice(), lengths);
+    assert_eq!(rt; array.layout.strides.as_slice(), strides);
+}
+
+#[test]
+fn an_array_of_zeros(rt: HostRuntime) {
+    let array = strings(rt.alloc(), 2, &[2, 3]).expect(&rt, "no array");
+    has(&rt, &array, &[0; 12], &[2, 3], &[6, 2]);
+}
+
+/// An array over a block of four bytes, in Fortran order.
+fn over(rt: &impl Abort, alloc: Global, block: RawBlock) -> Owned {
+    let descr = Descr::Scalar(Scalar::Byte { signed: false });
+    let shape = Shape::try_new(alloc, &[2, 2]).expect(rt, "no shape");
+    assert!(rt; shape.items() * descr.size() == block.len() && block.len() <= MAX_BYTES);
+    Owned::over(alloc, descr, &shape, MemoryOrder::Fortran, block).expect(rt, "no memory")
+}
+
+#[test]
+fn an_array_over_a_block(rt: HostRuntime) {
+    let mut block = RawBlock::try_zeroed(rt.alloc(), 4).expect(&rt, "no memory");
+    block.bytes_mut().copy_from_slice(&[5, 6, 7, 8]);
+    let array = over(&rt, rt.alloc(), block);
+    has(&rt, &array, &[5, 6, 7, 8], &[2, 2], &[1, 2]);
+}
+
+#[test]
+fn at_most_2_28_bytes(rt: HostRuntime) {
+    assert!(rt; MAX_BYTES == 65_536 * 4_096);
+    let more = strings(rt.alloc(), 65_536, &[4_097]);
+    assert!(rt; matches!(more, Err(Refusal::TooLarge)));
+    let empty = strings(rt.alloc(), 65_536, &[4_097, 0]).expect(&rt, "no array");
+    has(
+        &rt,
+        &empty,
+        &[],
+        &[4_097, 0],
+        empty.layout.strides.as_slice(),
+    );
+}
+
+/// Items along one axis: how many, the step, the offset and the bytes of one.
+type Axis = (usize, isize, usize, usize);
+
+/// A view: a layout of items of so many bytes.
+#[derive(Drop)]
+struct View {
+    layout: Layout,
+    item: usize,
+    ghost fits: { Fits layout (2 ^ 28) item },
+    ghost some: { 1 ≤ item },
+}
+
+fn view_of(rt: &impl Abort, alloc: Global, axis: Axis) -> View {
+    let (len, step, offset, item) = axis;
+    let shape = Shape::try_new(alloc, &[len]).expect(rt, "no shape");
+    let strides = Strides::from_slice(alloc, &[step]).expect(rt, "no memory");
+    assert!(rt; strides.as_slice().len() == shape.as_slice().len());
+    let layout = Layout {
         shape,
         strides,
         offset,
-    })
+    };
+    assert!(rt; item >= 1 && layout.fits(1 << 28, item));
+    View { layout, item }
 }
 
-/// The layout of a new array in C order.
-pub fn c_order(
-    rt: &impl Abort,
-    alloc: Global,
-    lengths: &[usize],
-    item: usize,
-) -> Result<Layout, Refusal>
-    ensures { IfOk result (λ l. Fits l (2 ^ 28) 1) }
-{
-    let shape = Shape::try_new(alloc, lengths)?;
-    assert!(rt; 1 <= item && item <= 65_536 && shape.items() <= 1000);
-    Ok(Layout::c_order(alloc, &shape, item)?)
+/// Whether the ranges of two views meet, and whether they share bytes.
+fn share(rt: &impl Abort, alloc: Global, a: &View, b: &View, wanted: (bool, bool)) {
+    let may = may_overlap(&a.layout, a.item, &b.layout, b.item);
+    let shares = share_cell(alloc, &a.layout, a.item, &b.layout, b.item).expect(rt, "no memory");
+    assert_eq!(rt; (may, shares), wanted);
+}
+
+/// The same of a view and another, and of the other and the view.
+fn share_both(rt: &impl Abort, alloc: Global, first: Axis, second: Axis, wanted: (bool, bool)) {
+    let a = view_of(rt, alloc, first);
+    let b = view_of(rt, alloc, second);
+    share(rt, alloc, &a, &b, wanted);
+    share(rt, alloc, &b, &a, wanted);
+}
+
+/// Two views; whether their ranges meet; whether they share bytes.
+const ROWS: [(Axis, Axis, bool, bool); 17] = [
+    ((3, 8, 0, 4), (3, 8, 4, 4), true, false),
+    ((3, 8, 0, 4), (5, 4, 4, 4), true, true),
+    ((6, 4, 0, 4), (6, 4, 0, 4), true, true),
+    ((3, 4, 0, 4), (3, 4, 12, 4), false, false),
+    ((3, 8, 0, 4), (3, -8, 20, 4), true, false),
+    ((3, 8, 4, 4), (3, -8, 20, 4), true, true),
+    ((3, -4, 8, 4), (1, 4, 0, 4), true, true),
+    ((3, -4, 8, 4), (3, 4, 12, 4), false, false),
+    ((0, 4, 12, 4), (6, 4, 0, 4), false, false),
+    ((6, 4, 0, 4), (0, 4, 12, 4), false, false),
+    ((0, 4, 0, 4), (0, 4, 0, 4), false, false),
+    ((8, 2, 0, 1), (8, 2, 1, 1), true, false),
+    ((4, 4, 0, 2), (4, 4, 2, 2), true, false),
+    ((4, 4, 0, 2), (4, 4, 1, 2), true, true),
+    ((4, 4, 0, 4), (4, 4, 3, 1), true, true),
+    ((3, 0, 4, 4), (2, 4, 4, 4), true, true),
+    ((3, 0, 4, 4), (2, 8, 0, 4), true, false),
+];
+
+#[test]
+fn views_that_share_bytes(rt: HostRuntime) {
+    for (a, b, may, share) in ROWS {
+        share_both(&rt, rt.alloc(), a, b, (may, share));
+    }
 }

@@ -1,7 +1,7 @@
 //! Basic indexes of arrays of 4-byte items, as plain Python computes them with `slice.indices`: a
 //! shape, an index (or two, the second of the first one's view), and the shape, the strides and the
 //! offset of the view.
-use crate::arrays::c_order;
+use crate::fixtures::c_order;
 use elem_descr::Refusal;
 use shape_strides::Layout;
 use std::alloc::Global;

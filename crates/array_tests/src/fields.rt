@@ -1,5 +1,5 @@
 //! Fields of arrays in C order: the offset and the strides that NumPy has for `a["b"]`.
-use crate::arrays::c_order;
+use crate::fixtures::c_order;
 use elem_descr::{Refusal, descr_read};
 use shape_strides::Layout;
 use std::alloc::Global;

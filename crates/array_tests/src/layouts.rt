@@ -1,5 +1,5 @@
 //! Strides, flags and bounds of arrays, as NumPy and Python's `memoryview` have them.
-use crate::arrays::layout_of;
+use crate::fixtures::layout_of;
 use elem_descr::Refusal;
 use shape_strides::{Layout, Shape, Strides, Walk};
 use std::alloc::Global;

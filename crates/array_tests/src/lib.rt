@@ -1,4 +1,5 @@
-//! Tests of arrays: values that NumPy and Python give.
+//! Tests of blocks, layouts, views and named arrays, through the public calls of their crates: values that NumPy and
+//! Python give.
 #![tactic(auto)]
 
 #[cfg(test)]
@@ -6,13 +7,21 @@ mod arrays;
 #[cfg(test)]
 mod basic_indexes;
 #[cfg(test)]
+mod blocks;
+#[cfg(test)]
 mod fields;
 #[cfg(test)]
+mod fixtures;
+#[cfg(test)]
 mod layouts;
+#[cfg(test)]
+mod names;
 #[cfg(test)]
 mod shapes;
 #[cfg(test)]
 mod slices;
+#[cfg(test)]
+mod table;
 #[cfg(test)]
 mod transposes;
 #[cfg(test)]

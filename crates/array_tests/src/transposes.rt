@@ -1,5 +1,5 @@
 //! Transposes as NumPy has them.
-use crate::arrays::c_order;
+use crate::fixtures::c_order;
 use elem_descr::Refusal;
 use shape_strides::Layout;
 use std::alloc::Global;

@@ -2,7 +2,7 @@
 ghost use Rattle.std.specs.Prelude.{◌≡◌, ◌^◌, ◌≤◌, map, length, slice_index, IfOk};
 ghost use Rattle.shape_strides.specs.Layouts.{offsets, Fits};
 
-use crate::arrays::layout_of;
+use crate::fixtures::layout_of;
 use shape_strides::{Layout, Walk};
 use std::alloc::{AllocError, Global};
 use std::process::Abort;

@@ -1,16 +1,12 @@
 -- Items in a block of bytes, one after another.
-use Rattle.std.proofs.Common.{◌≡◌, ◌≤◌, ◌<◌, ◌+◌, ◌*◌, ℕ, zero, suc, List, [], ◌∷◌, ◌++◌, length, take, drop, map, replicate, refl, sym, ap, ◌∙◌, Some, slice_get, slice_set, append_assoc, arith, length-take, length-drop, length-append}
-use Rattle.std.specs.List.{AllByRecursion}
+use Rattle.std.proofs.Common.{◌≡◌, ◌≤◌, ◌<◌, ◌+◌, ◌*◌, ℕ, zero, suc, List, [], ◌∷◌, ◌++◌, length, take, drop, map, refl, sym, ap, ◌∙◌, Some, slice_get, slice_set, append_assoc, arith, length-take, length-drop, length-append}
 use Rattle.std.proofs.Math.Nat.{mul-suc, suc-mul, mul-le-mul_left}
 use Rattle.std.proofs.Math.Seq.{take-add, take-append_seam, drop-append_seam}
 use Rattle.std.proofs.lemmas.List.{map-set}
 use Rattle.elem_descr.specs.declared.descr.Descr.{Descr}
 use Rattle.elem_descr.specs.Items.{item_size, decode_item}
 use Rattle.raw_block.specs.Bytes.{put}
-use Rattle.name_store.specs.Arrays.{write}
 use Rattle.elem_descr.specs.Blocks.{blocks, items_in, item_from}
-use Rattle.name_store.specs.Places.{offsets_of}
-use Rattle.name_store.specs.Targets.{put_each}
 
 -- the front of so many bytes, and what follows it
 take_front : (width : ℕ) (front back : List ℕ) → length front ≡ width → take width (front ++ back) ≡ front

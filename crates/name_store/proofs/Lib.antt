@@ -11,5 +11,4 @@ pub mod ShowLaws
 pub mod WriteLaws
 pub mod ViewLaws
 pub mod ShareLaws
-pub mod ShownViewLaws
 mod Vectors

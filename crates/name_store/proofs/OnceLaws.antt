@@ -1,10 +1,9 @@
 -- A writable array has no place twice.
-use Rattle.std.proofs.Common.{◌≡◌, ◌≢◌, ◌+◌, ◌*◌, ◌/◌, ◌<◌, ◌≤◌, ℕ, zero, suc, List, [], ◌∷◌, length, IsTrue, refl, sym, ap, ◌∙◌, slice_index, arith}
+use Rattle.std.proofs.Common.{◌≡◌, ◌≢◌, ◌+◌, ◌*◌, ◌/◌, ◌<◌, ℕ, zero, suc, List, [], ◌∷◌, length, IsTrue, refl, sym, ap, ◌∙◌, slice_index, arith}
 use Rattle.std.proofs.lemmas.List.{length-map}
-use Rattle.elem_descr.specs.Items.{item_size}
 use Rattle.shape_strides.specs.Layouts.{offsets, distance}
 use Rattle.name_store.specs.Invariants.{LiesIn}
-use Rattle.name_store.specs.Parts.{descr_at, start_at}
+use Rattle.name_store.specs.Parts.{start_at}
 use Rattle.name_store.specs.Places.{offsets_of}
 use Rattle.overlap_copy.specs.Blocks.{places_of}
 use Rattle.name_store.specs.View.{array_at, leaf_in, path_in}

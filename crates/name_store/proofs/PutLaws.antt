@@ -1,10 +1,9 @@
 -- Parts of items in a block: read, and put.
-use Rattle.std.proofs.Common.{◌≡◌, ◌+◌, ◌*◌, ◌<◌, ◌≤◌, ℕ, suc, List, [], ◌∷◌, ◌++◌, length, take, drop, map, replicate, refl, sym, ap, ◌∙◌, Option, unwrap_or, slice_set, append_assoc, arith, length-take, length-drop}
+use Rattle.std.proofs.Common.{◌≡◌, ◌+◌, ◌*◌, ◌<◌, ◌≤◌, ℕ, List, [], ◌∷◌, ◌++◌, length, take, drop, map, replicate, refl, sym, ap, ◌∙◌, Option, unwrap_or, slice_set, append_assoc, arith, length-take, length-drop}
 use Rattle.std.specs.List.{AllByRecursion}
 use Rattle.elem_descr.specs.declared.descr.Descr.{Descr}
 use Rattle.elem_descr.specs.Blocks.{items_in, item_from}
 use Rattle.elem_descr.specs.Items.{item_size, decode_item}
-use Rattle.elem_descr.specs.Values.{LeafValue}
 use Rattle.raw_block.specs.Bytes.{put}
 use Rattle.name_store.specs.Arrays.{item_at, write}
 use Rattle.name_store.specs.Parts.{AreApart, descr_at, start_at, part_at, with_part, path_of, IsPartOf}

@@ -1,27 +1,24 @@
 -- What a look-up shows.
-use Rattle.std.proofs.Common.{◌≡◌, ◌≤◌, ◌<◌, ◌+◌, ◌*◌, ◌^◌, ℕ, suc, All, arith, List, [], ◌∷◌, length, map, refl, sym, ap, subst, ◌∙◌, true, Bor, Option, Some, None, unwrap_or, IsTrue}
+use Rattle.std.proofs.Common.{◌≡◌, ◌≤◌, ◌<◌, ◌+◌, ◌*◌, ◌^◌, ℕ, suc, All, arith, List, [], ◌∷◌, length, map, sym, ap, subst, ◌∙◌, Option, Some, unwrap_or, IsTrue}
 use Rattle.std.specs.List.{AllByRecursion}
 use Rattle.std.specs.Option.{option_map}
-use Rattle.std.proofs.lemmas.List.Elements.{All-contains_itself, All-from_recursion}
+use Rattle.std.proofs.lemmas.List.Elements.{All-from_recursion}
 use Rattle.std.proofs.Math.Nat.{mul-suc, mul-le-mul_left}
 use Rattle.elem_descr.specs.Items.{item_size}
 use Rattle.shape_strides.specs.declared.layout.Layout.{Layout}
 use Rattle.shape_strides.specs.Layouts.{offsets, Fits, IsNested}
 use Rattle.name_store.specs.States.{State, Array, Buffer}
-use Rattle.name_store.specs.Arrays.{addresses, buffer_of, descr_of, find_array, item_at, no_buffer, read}
+use Rattle.name_store.specs.Arrays.{addresses, buffer_of, descr_of, item_at, no_buffer, read}
 use Rattle.elem_descr.specs.Blocks.{items_in, item_from}
 use Rattle.name_store.specs.Parts.{descr_at, start_at, part_at, path_of, IsPartOf}
 use Rattle.name_store.specs.Invariants.{LiesIn}
 use Rattle.name_store.specs.Places.{offsets_of}
 use Rattle.name_store.specs.Shown.{Shows, Finds}
-use Rattle.name_store.specs.Targets.{IsAim}
 use Rattle.name_store.specs.View.{array_at, buffer_in, leaf_in, path_in, slot_at, state_of}
 use Rattle.name_store.specs.declared.array_ref.ArrayRef.{ArrayRef}
 use Rattle.name_store.specs.declared.entry.Entry.{Entry}
 use Rattle.name_store.specs.declared.entry.Key.{Key}
 use Rattle.name_store.specs.declared.slot.Slot.{Slot}
-use Rattle.name_store.specs.declared.target.Source.TheVariants.{One}
-use Rattle.name_store.specs.declared.target.Target.TheVariants.{View}
 use Rattle.name_store.proofs.BlockLaws.{length-items_in}
 use Rattle.name_store.proofs.OnceLaws.{no_place_twice}
 use Rattle.name_store.proofs.PartLaws.{part-of, part-within}
@@ -107,23 +104,3 @@ module _ (es : List (Key × Entry)) (slots : Slots) (e : Entry) (s : Slot) (r : 
 
 pub finds : (s : State) (found : Option Array) (array : Array) (r : ArrayRef) → found ≡ Some array → Shows s array r → Finds s found (Some r)
 finds s found array r is shows = subst (λ f. Finds s f (Some r)) (sym is) shows
-
-pub shown-array : (s : State) (found : Option Array) (r : ArrayRef) → Finds s found (Some r) → (array : Array) × (found ≡ Some array) × Shows s array r
-shown-array s None r nothing = absurd nothing
-shown-array s (Some array) r shows = (array, refl, shows)
-
--- every place of an array that is shown may be written
-pub aim-whole : (s : State) (name : List ℕ) (layout : Layout) (item : Bor (List ℕ)) (array : Array) (r : ArrayRef) → find_array s.names name ≡ Some array → Shows s array r → r.writable ≡ true → layout ≡ r.layout.now →
-    length item.now ≡ item_size r.descr.now → IsAim s name (View layout) (One item)
-aim-whole s name layout item array r found shows writable-is layout-is long = record {
-  array = array;
-  places = array.places;
-  leads = record {
-    found = found;
-    writable = sym shows.writable ∙ writable-is;
-    offsets_are = ap offsets layout-is ∙ shows.places;
-    among = All-contains_itself array.places;
-    fits_limit = subst (λ (l : Layout). Fits l (2 ^ 28) 1) (sym layout-is) shows.fits_limit;
-  };
-  source_for = long ∙ ap item_size (sym shows.descr);
-}

@@ -6,7 +6,7 @@ use Rattle.elem_descr.specs.declared.descr.Descr.TheVariants.{Scalar as ScalarDe
 use Rattle.elem_descr.specs.declared.scalar.Scalar.TheVariants.{Int}
 use Rattle.elem_descr.specs.declared.scalar.Width.TheVariants.{Two, Four}
 use Rattle.elem_descr.specs.declared.scalar.Order.TheVariants.{Little, Big}
-use Rattle.elem_descr.specs.Values.{LeafValue, number}
+use Rattle.elem_descr.specs.Values.{number}
 use Rattle.name_store.specs.States.{Array, State}
 use Rattle.name_store.specs.Arrays.{no_buffer, is_in_use, paths_meet, share_cells, bound_view, write}
 use Rattle.name_store.specs.Parts.{descr_at, start_at, part_at, with_part}

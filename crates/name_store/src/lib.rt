@@ -27,6 +27,3 @@ pub use target::{Source, Target};
 pub use entry::{Entry, Field, Key};
 #[doc(hidden)]
 pub use slot::Slot;
-
-#[cfg(test)]
-mod tests;

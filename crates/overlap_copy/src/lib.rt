@@ -8,6 +8,3 @@ mod share;
 pub use overlap::may_overlap;
 pub use owned::{MAX_BYTES, MemoryOrder, Owned};
 pub use share::share_cell;
-
-#[cfg(test)]
-mod tests;

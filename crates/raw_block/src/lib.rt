@@ -5,8 +5,6 @@ mod base;
 mod block;
 mod item;
 mod strided;
-#[cfg(test)]
-mod tests;
 
 // A crate can name a block in a contract only if the types of its fields are exported.
 #[doc(hidden)]
