@@ -120,7 +120,11 @@ pub fn answer(
 {
     match read_line(alloc, line, is_long) {
         Ok(None) => None,
-        Ok(Some(command)) => Some(execute(alloc, bench, &command, out)),
+        Ok(Some(command)) => {
+            let accepted = execute(alloc, bench, &command, out);
+            drop(command);
+            Some(accepted)
+        }
         Err(refusal) => {
             out.extend_from_slice(word(refusal)).unwrap();
             Some(false)

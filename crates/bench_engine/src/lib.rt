@@ -17,8 +17,6 @@ mod send;
 mod session;
 mod set;
 mod shares;
-#[cfg(test)]
-mod tests;
 mod view;
 
 pub use engine::execute;

@@ -35,7 +35,7 @@ fn read_some<R: Read>(reader: &mut R, chunk: &mut [u8]) -> Option<usize>
 }
 
 /// A run of at most so many reads, each of which asks for so many bytes.
-pub(crate) fn run_within<R: Read, W: Write>(
+pub fn run_within<R: Read, W: Write>(
     alloc: Global,
     reader: &mut R,
     writer: &mut W,

@@ -10,7 +10,7 @@ returns-in-Ok-None-clause-answered c = ([], (refl, c.requires.empty), silent_lin
 
 pub returns-in-Ok-Some-clause-answered : goal.returns-in-Ok-Some-clause-answered
 returns-in-Ok-Some-clause-answered c =
-    let done = c.execute.ensures.case in
+    let done = c.execute-accepted.ensures.case in
     (done.0 ∷ [], (done.0, refl, done.2, done.1 ∙ ap (λ before. before ++ done.0.text) c.requires.empty), answered _ _ _ _ _ (rw c.in-Ok-Some.field-0-is at c.in-Ok-Some.ensures) done.3)
 
 pub returns-in-Err-clause-answered : goal.returns-in-Err-clause-answered

@@ -1,5 +1,8 @@
 //! Scripts with their replies.
-use super::{FIRST_REPLIES, FIRST_RUN};
+
+pub const FIRST_RUN: &[u8] = b"a = zeros <i4 (2,3)\nset a[1,0] = 7\nprint a\n";
+
+pub const FIRST_REPLIES: &[u8] = b"ok a <i4 (2, 3) new\nok set 1\n[[0 0 0]\n [7 0 0]]\n";
 
 /// A script with its replies, and how many commands were accepted and how many refused.
 pub struct Row {

@@ -1,0 +1,15 @@
+//! Tests of whole runs.
+#![tactic(auto)]
+
+#[cfg(test)]
+mod fakes;
+#[cfg(test)]
+mod faults;
+#[cfg(test)]
+mod memory;
+#[cfg(test)]
+mod replies;
+#[cfg(test)]
+mod rows;
+#[cfg(test)]
+mod scripts;
