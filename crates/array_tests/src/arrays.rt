@@ -2,6 +2,7 @@
 ghost use Rattle.std.specs.Prelude.{◌^◌, ◌≤◌};
 ghost use Rattle.shape_strides.specs.Layouts.{Fits};
 
+use crate::check::{check, check_bytes};
 use elem_descr::{BytesLen, Descr, Refusal, Scalar};
 use overlap_copy::{MAX_BYTES, MemoryOrder, Owned, may_overlap, share_cell};
 use raw_block::RawBlock;
@@ -20,9 +21,9 @@ fn strings(alloc: Global, len: usize, lengths: &[usize]) -> Result<Owned, Refusa
 
 /// The array has these bytes, lengths and strides.
 fn has(rt: &impl Abort, array: &Owned, bytes: &[u8], lengths: &[usize], strides: &[isize]) {
-    assert_eq!(rt; array.block.bytes(), bytes);
-    assert_eq!(rt; array.layout.shape.as_slice(), lengths);
-    assert_eq!(rt; array.layout.strides.as_slice(), strides);
+    check_bytes(rt, array.block.bytes(), bytes);
+    check(rt, array.layout.shape.as_slice() == lengths, "lengths");
+    check(rt, array.layout.strides.as_slice() == strides, "strides");
 }
 
 #[test]
@@ -35,7 +36,8 @@ fn an_array_of_zeros(rt: HostRuntime) {
 fn over(rt: &impl Abort, alloc: Global, block: RawBlock) -> Owned {
     let descr = Descr::Scalar(Scalar::Byte { signed: false });
     let shape = Shape::try_new(alloc, &[2, 2]).expect(rt, "no shape");
-    assert!(rt; shape.items() * descr.size() == block.len() && block.len() <= MAX_BYTES);
+    let is_whole = shape.items() * descr.size() == block.len() && block.len() <= MAX_BYTES;
+    check(rt, is_whole, "a block that the items fill");
     Owned::over(alloc, descr, &shape, MemoryOrder::Fortran, block).expect(rt, "no memory")
 }
 
@@ -49,9 +51,9 @@ fn an_array_over_a_block(rt: HostRuntime) {
 
 #[test]
 fn at_most_2_28_bytes(rt: HostRuntime) {
-    assert!(rt; MAX_BYTES == 65_536 * 4_096);
+    check(&rt, MAX_BYTES == 65_536 * 4_096, "the most bytes");
     let more = strings(rt.alloc(), 65_536, &[4_097]);
-    assert!(rt; matches!(more, Err(Refusal::TooLarge)));
+    check(&rt, matches!(more, Err(Refusal::TooLarge)), "too large");
     let empty = strings(rt.alloc(), 65_536, &[4_097, 0]).expect(&rt, "no array");
     has(
         &rt,
@@ -78,13 +80,18 @@ fn view_of(rt: &impl Abort, alloc: Global, axis: Axis) -> View {
     let (len, step, offset, item) = axis;
     let shape = Shape::try_new(alloc, &[len]).expect(rt, "no shape");
     let strides = Strides::from_slice(alloc, &[step]).expect(rt, "no memory");
-    assert!(rt; strides.as_slice().len() == shape.as_slice().len());
+    let count = strides.as_slice().len();
+    check(rt, count == shape.as_slice().len(), "a stride an axis");
     let layout = Layout {
         shape,
         strides,
         offset,
     };
-    assert!(rt; item >= 1 && layout.fits(1 << 28, item));
+    check(
+        rt,
+        item >= 1 && layout.fits(1 << 28, item),
+        "items that fit",
+    );
     View { layout, item }
 }
 
@@ -92,7 +99,7 @@ fn view_of(rt: &impl Abort, alloc: Global, axis: Axis) -> View {
 fn share(rt: &impl Abort, alloc: Global, a: &View, b: &View, wanted: (bool, bool)) {
     let may = may_overlap(&a.layout, a.item, &b.layout, b.item);
     let shares = share_cell(alloc, &a.layout, a.item, &b.layout, b.item).expect(rt, "no memory");
-    assert_eq!(rt; (may, shares), wanted);
+    check(rt, (may, shares) == wanted, "bytes in common");
 }
 
 /// The same of a view and another, and of the other and the view.
@@ -104,7 +111,7 @@ fn share_both(rt: &impl Abort, alloc: Global, first: Axis, second: Axis, wanted:
 }
 
 /// Two views; whether their ranges meet; whether they share bytes.
-const ROWS: [(Axis, Axis, bool, bool); 17] = [
+const ROWS: &[(Axis, Axis, bool, bool)] = &[
     ((3, 8, 0, 4), (3, 8, 4, 4), true, false),
     ((3, 8, 0, 4), (5, 4, 4, 4), true, true),
     ((6, 4, 0, 4), (6, 4, 0, 4), true, true),
@@ -127,6 +134,6 @@ const ROWS: [(Axis, Axis, bool, bool); 17] = [
 #[test]
 fn views_that_share_bytes(rt: HostRuntime) {
     for (a, b, may, share) in ROWS {
-        share_both(&rt, rt.alloc(), a, b, (may, share));
+        share_both(&rt, rt.alloc(), *a, *b, (*may, *share));
     }
 }

@@ -1,6 +1,7 @@
 //! Blocks: the expected bytes are those of Python's `bytearray` under the same assignments of slices, or of plain code over an array.
 ghost use Rattle.std.specs.Prelude.{◌≡◌, ◌+◌, ◌≤◌, length};
 
+use crate::check::{check, check_bytes};
 use raw_block::RawBlock;
 use std::alloc::Global;
 use std::process::Abort;
@@ -24,8 +25,8 @@ fn counted(rt: &impl Abort, alloc: Global) -> RawBlock
 
 /// The block has these bytes.
 fn has(rt: &impl Abort, block: &RawBlock, bytes: &[u8]) {
-    assert_eq!(rt; block.bytes(), bytes);
-    assert_eq!(rt; block.len(), bytes.len());
+    check_bytes(rt, block.bytes(), bytes);
+    check(rt, block.len() == bytes.len(), "the length");
 }
 
 #[test]
@@ -37,7 +38,8 @@ fn zeroed(rt: HostRuntime) {
 #[test]
 fn too_long(rt: HostRuntime) {
     for len in [usize::MAX, isize::MAX as usize] {
-        assert!(rt; RawBlock::try_zeroed(rt.alloc(), len).is_err());
+        let is_refused = RawBlock::try_zeroed(rt.alloc(), len).is_err();
+        check(&rt, is_refused, "too long");
     }
 }
 
@@ -46,7 +48,7 @@ fn loads(rt: &impl Abort, block: &RawBlock, width: usize, number: u64)
     requires width { (1 ≤ width) × (width ≤ 8) }
     requires len { length block.now ≡ 12 }
 {
-    assert_eq!(rt; block.load(3, width), number);
+    check(rt, block.load(3, width) == number, "a number");
 }
 
 #[test]

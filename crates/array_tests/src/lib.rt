@@ -9,6 +9,8 @@ mod basic_indexes;
 #[cfg(test)]
 mod blocks;
 #[cfg(test)]
+mod check;
+#[cfg(test)]
 mod fields;
 #[cfg(test)]
 mod fixtures;

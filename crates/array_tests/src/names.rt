@@ -1,6 +1,7 @@
 //! Names that are bound and unbound over and over, views, and memory that runs out.
 ghost use Rattle.std.specs.Prelude.{◌≤◌, length};
 
+use crate::check::{check, check_bytes};
 use crate::table::{
     Change, bench_of, bind_zeros, fill, has_bytes, has_names, make, name, try_change, view_all,
     view_item, writes,
@@ -32,13 +33,18 @@ fn bind(rt: &impl Abort, alloc: Global, bench: &mut Bench, text: &[u8], len: usi
 
 /// The name that was bound as the k-th.
 fn is_kth(rt: &impl Abort, bench: &Bench, k: usize, text: &[u8]) {
-    assert!(rt; k < bench.len() && bench.name_at(k) == text);
+    check(
+        rt,
+        k < bench.len() && bench.name_at(k) == text,
+        "the k-th name",
+    );
 }
 
 /// One name more than the bench has room for.
 fn is_full(rt: &impl Abort, alloc: Global, bench: &mut Bench) {
     let more = bind_zeros(alloc, bench, &name(alloc, b"more"), 1);
-    assert!(rt; more == Err(Refusal::TooManyNames) && bench.len() == 1024);
+    check(rt, more == Err(Refusal::TooManyNames), "1,025 names");
+    has_names(rt, bench, 1024);
 }
 
 #[test]
@@ -124,11 +130,11 @@ fn lists(rt: &impl Abort, alloc: Global, bench: &Bench, wanted: &[u8]) {
         text.extend_from_slice(name).expect(rt, "no memory");
         text.push(b' ').expect(rt, "no memory");
     }
-    assert_eq!(rt; text.as_slice(), wanted);
+    check_bytes(rt, text.as_slice(), wanted);
 }
 
 /// Changes, each with the names that are bound then.
-const ORDERS: [(Change, &[u8]); 7] = [
+const ORDERS: &[(Change, &[u8])] = &[
     (Change::Fresh(b'a', 2), b"a "),
     (Change::Fresh(b'b', 2), b"a b "),
     (Change::Fresh(b'c', 2), b"a b c "),
@@ -143,21 +149,21 @@ fn names_stand_in_the_order_of_first_binding(rt: HostRuntime) {
     let alloc = rt.alloc();
     let mut bench = bench_of(&rt, alloc, &[]);
     for (change, wanted) in ORDERS {
-        make(&rt, alloc, &mut bench, change);
+        make(&rt, alloc, &mut bench, *change);
         lists(&rt, alloc, &bench, wanted);
     }
     let gone = try_change(alloc, &mut bench, Change::Gone(b'd'));
-    assert!(rt; gone == Err(Refusal::UnknownName) && bench.len() == 3);
+    check(&rt, gone == Err(Refusal::UnknownName), "an unknown name");
+    has_names(&rt, &bench, 3);
 }
 
 /// The number of the buffer of a name's array.
-fn number_of(rt: &impl Abort, alloc: Global, bench: &Bench, key: u8) -> u64 {
-    let array = bench.get(&name(alloc, &[key])).expect(rt, "not bound");
-    array.number
+fn number_of(alloc: Global, bench: &Bench, key: u8) -> Option<u64> {
+    Some(bench.get(&name(alloc, &[key]))?.number)
 }
 
 /// Changes, and of each a name and the number of its array's buffer then.
-const NUMBERS: [(Change, u8, u64); 15] = [
+const NUMBERS: &[(Change, u8, u64)] = &[
     (Change::Fresh(b'a', 3), b'a', 0),
     (Change::All(b'b', b'a', true), b'b', 0),
     (Change::Item(b'c', b'a', 1), b'c', 0),
@@ -180,8 +186,12 @@ fn a_buffer_has_its_number_as_long_as_a_name_sees_it(rt: HostRuntime) {
     let alloc = rt.alloc();
     let mut bench = bench_of(&rt, alloc, &[]);
     for (change, key, number) in NUMBERS {
-        make(&rt, alloc, &mut bench, change);
-        assert!(rt; number_of(&rt, alloc, &bench, key) == number);
+        make(&rt, alloc, &mut bench, *change);
+        check(
+            &rt,
+            number_of(alloc, &bench, *key) == Some(*number),
+            "a number",
+        );
     }
 }
 
@@ -193,7 +203,7 @@ fn numbers_are_used_again(rt: HostRuntime) {
         for key in [b'a', b'b', b'a'] {
             make(&rt, alloc, &mut bench, Change::Fresh(key, 1));
         }
-        assert!(rt; number_of(&rt, alloc, &bench, b'a') < 3);
+        check(&rt, number_of(alloc, &bench, b'a') < Some(3), "a number");
         let gone = if round % 2 == 0 { b'a' } else { b'b' };
         make(&rt, alloc, &mut bench, Change::Gone(gone));
     }
@@ -224,7 +234,7 @@ fn shares(alloc: Global, bench: &Bench, left: u8, right: u8) -> Result<bool, Ref
     bench.shares(alloc, &name(alloc, &[left]), &right)
 }
 
-const SHARING: [Change; 7] = [
+const SHARING: &[Change] = &[
     Change::Fresh(b'a', 3),
     Change::All(b'b', b'a', true),
     Change::Item(b'c', b'a', 0),
@@ -235,7 +245,7 @@ const SHARING: [Change; 7] = [
 ];
 
 /// Two names, and whether their arrays share cells then.
-const SHARES: [(u8, u8, Result<bool, Refusal>); 8] = [
+const SHARES: &[(u8, u8, Result<bool, Refusal>)] = &[
     (b'a', b'b', Ok(true)),
     (b'd', b'b', Ok(true)),
     (b'c', b'd', Ok(false)),
@@ -249,9 +259,13 @@ const SHARES: [(u8, u8, Result<bool, Refusal>); 8] = [
 #[test]
 fn names_that_share_cells(rt: HostRuntime) {
     let alloc = rt.alloc();
-    let bench = bench_of(&rt, alloc, &SHARING);
+    let bench = bench_of(&rt, alloc, SHARING);
     for (left, right, wanted) in SHARES {
-        assert!(rt; shares(alloc, &bench, left, right) == wanted);
+        check(
+            &rt,
+            shares(alloc, &bench, *left, *right) == *wanted,
+            "cells",
+        );
     }
 }
 
@@ -273,8 +287,8 @@ fn a_buffer_under_1024_names(rt: HostRuntime) {
     }
     has_names(&rt, &bench, 1024);
     let more = view_first(alloc, &mut bench, 0, 0);
-    assert!(rt; more == Err(Refusal::TooManyNames));
+    check(&rt, more == Err(Refusal::TooManyNames), "1,025 names");
     fill(alloc, &mut bench, &name(alloc, b"__"), &[1, 2, 3, 4]).expect(&rt, "refused");
     unbind(&rt, alloc, &mut bench, b"@@");
-    assert!(rt; begins_with(&bench, &name(alloc, b"@A"), 1));
+    check(&rt, begins_with(&bench, &name(alloc, b"@A"), 1), "written");
 }

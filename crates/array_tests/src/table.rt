@@ -2,6 +2,7 @@
 ghost use Rattle.std.specs.Prelude.{◌≡◌, ◌+◌, ◌≤◌, ◌^◌, length, slice_get, Some, IfOk};
 ghost use Rattle.shape_strides.specs.Layouts.{offsets, Fits};
 
+use crate::check::{check, check_bytes};
 use elem_descr::{Descr, Order, Refusal, Scalar, Width};
 use name_store::{Bench, Bound, Source, Target};
 use overlap_copy::Owned;
@@ -158,16 +159,17 @@ pub(crate) fn writes(
     item: &[u8],
     wanted: Result<usize, Refusal>,
 ) {
-    assert!(rt; fill(alloc, bench, &name(alloc, &[key]), item) == wanted);
+    let written = fill(alloc, bench, &name(alloc, &[key]), item);
+    check(rt, written == wanted, "written");
 }
 
 /// The block that a name's array lies in has these bytes.
 pub(crate) fn has_bytes(rt: &impl Abort, alloc: Global, bench: &Bench, key: u8, bytes: &[u8]) {
     let array = bench.get(&name(alloc, &[key])).expect(rt, "not bound");
-    assert_eq!(rt; array.block.bytes(), bytes);
+    check_bytes(rt, array.block.bytes(), bytes);
 }
 
 /// So many names are bound.
 pub(crate) fn has_names(rt: &impl Abort, bench: &Bench, count: usize) {
-    assert_eq!(rt; bench.len(), count);
+    check(rt, bench.len() == count, "so many names");
 }

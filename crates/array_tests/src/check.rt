@@ -1,0 +1,14 @@
+//! Assertions. A call of these is cheaper to prove than the macro where it stands.
+ghost use Rattle.std.specs.Prelude.{IsTrue};
+
+use std::process::Abort;
+
+pub(crate) fn check(rt: &impl Abort, holds: bool, what: &str)
+    ensures { IsTrue holds }
+{
+    assert!(rt; holds, "{what}");
+}
+
+pub(crate) fn check_bytes(rt: &impl Abort, found: &[u8], wanted: &[u8]) {
+    assert_eq!(rt; found, wanted);
+}
