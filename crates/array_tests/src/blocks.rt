@@ -69,6 +69,13 @@ fn loads_and_stores(rt: HostRuntime) {
 }
 
 #[test]
+fn puts(rt: HostRuntime) {
+    let mut block = counted(&rt, rt.alloc());
+    block.put(4, &[170, 187, 204]);
+    has(&rt, &block, &[0, 1, 2, 3, 170, 187, 204, 7, 8, 9, 10, 11]);
+}
+
+#[test]
 fn moves(rt: HostRuntime) {
     let mut up = counted(&rt, rt.alloc());
     up.move_within(2, 0, 6);

@@ -40,9 +40,8 @@ fn is_kth(rt: &impl Abort, bench: &Bench, k: usize, text: &[u8]) {
     );
 }
 
-/// One name more than the bench has room for.
-fn is_full(rt: &impl Abort, alloc: Global, bench: &mut Bench) {
-    let more = bind_zeros(alloc, bench, &name(alloc, b"more"), 1);
+/// One name more is refused, and 1,024 are bound.
+fn is_full(rt: &impl Abort, bench: &Bench, more: Result<(), Refusal>) {
     check(rt, more == Err(Refusal::TooManyNames), "1,025 names");
     has_names(rt, bench, 1024);
 }
@@ -57,7 +56,8 @@ fn at_most_1024_names(rt: HostRuntime) {
         }
     }
     has_names(&rt, &bench, 1024);
-    is_full(&rt, alloc, &mut bench);
+    let more = bind_zeros(alloc, &mut bench, &name(alloc, b"more"), 1);
+    is_full(&rt, &bench, more);
     bind(&rt, alloc, &mut bench, b"AB", 9);
     unbind(&rt, alloc, &mut bench, b"AB");
     bind(&rt, alloc, &mut bench, b"more", 1);
@@ -117,9 +117,8 @@ fn what_is_refused_changes_nothing(rt: HostRuntime) {
     let alloc = rt.alloc();
     let mut bench = bench_of(&rt, alloc, &[]);
     for key in 0..40u8 {
-        assert!(rt;
-            writes_or_keeps(alloc, &mut bench, key) && views_or_keeps(alloc, &mut bench, key)
-        );
+        check(&rt, writes_or_keeps(alloc, &mut bench, key), "written");
+        check(&rt, views_or_keeps(alloc, &mut bench, key), "viewed");
     }
 }
 
@@ -275,6 +274,15 @@ fn view_first(alloc: Global, bench: &mut Bench, high: u8, low: u8) -> Result<(),
     view_all(alloc, bench, &name(alloc, &[high, low]), &first, true)
 }
 
+/// What is written by the last of these names is read by the second, when the array's own name is gone.
+fn last_writes(rt: &impl Abort, alloc: Global, bench: &mut Bench) {
+    let last = name(alloc, b"__");
+    fill(alloc, bench, &last, &[1, 2, 3, 4]).expect(rt, "refused");
+    unbind(rt, alloc, bench, b"@@");
+    let second = name(alloc, b"@A");
+    check(rt, begins_with(bench, &second, 1), "written");
+}
+
 #[test]
 fn a_buffer_under_1024_names(rt: HostRuntime) {
     let alloc = rt.alloc();
@@ -287,8 +295,6 @@ fn a_buffer_under_1024_names(rt: HostRuntime) {
     }
     has_names(&rt, &bench, 1024);
     let more = view_first(alloc, &mut bench, 0, 0);
-    check(&rt, more == Err(Refusal::TooManyNames), "1,025 names");
-    fill(alloc, &mut bench, &name(alloc, b"__"), &[1, 2, 3, 4]).expect(&rt, "refused");
-    unbind(&rt, alloc, &mut bench, b"@@");
-    check(&rt, begins_with(&bench, &name(alloc, b"@A"), 1), "written");
+    is_full(&rt, &bench, more);
+    last_writes(&rt, alloc, &mut bench);
 }
