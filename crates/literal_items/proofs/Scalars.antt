@@ -1,12 +1,14 @@
 -- Items of one scalar.
-use Rattle.std.proofs.Common.{◌≡◌, ◌-◌, ◌+◌, ℕ, true, Some, List, [], ◌∷◌, ◌++◌, length, replicate, ℤ, sym, ap, ◌∙◌, arith}
+use Rattle.std.proofs.Common.{◌≡◌, ◌-◌, ◌+◌, ◌≤◌, ℕ, true, Some, List, [], ◌∷◌, ◌++◌, length, replicate, ℤ, sym, ap, ◌∙◌, arith}
 use Rattle.std.specs.Prelude.{slice_get}
 use Rattle.std.proofs.lemmas.List.{append-nil, take_all}
 use Rattle.std.proofs.lemmas.Bool.Decides.{Decides-int_eq}
 use Rattle.elem_descr.specs.declared.scalar.Scalar.{Scalar}
+use Rattle.elem_descr.specs.declared.scalar.Scalar.TheVariants.{Bool as BoolScalar, Byte, Int, Bytes as BytesScalar}
+use Rattle.elem_descr.specs.declared.scalar.Width.TheVariants.{Two, Four, Eight}
 use Rattle.elem_descr.specs.declared.descr.Descr.TheVariants.{Scalar as ScalarDescr}
 use Rattle.elem_descr.specs.Values.{LeafValue, number}
-use Rattle.elem_descr.specs.Encoding.{size, wrap, encode, decode}
+use Rattle.elem_descr.specs.Encoding.{IsNumber, size, wrap, encode, decode}
 use Rattle.elem_descr.specs.Items.{encode_item, decode_item}
 use Rattle.script_lang.specs.declared.literal.ScalarLiteral.{ScalarLiteral}
 use Rattle.script_lang.specs.declared.literal.Literal.{Literal}
@@ -30,3 +32,12 @@ scalar_read scalar item value whole is = ap (λ bytes. decode scalar bytes ∷ [
 
 pub value_is : (scalar : Scalar) (z : ℤ) → is_value scalar z ≡ true → number (wrap scalar z) ≡ number z
 value_is scalar z held = ap number ((Decides-int_eq (wrap scalar z) z).0 held)
+
+-- a number has 8 bytes at most
+pub number_size : (scalar : Scalar) → IsNumber scalar → size scalar ≤ 8
+number_size BoolScalar is = omega arith
+number_size (Byte signed) is = omega arith
+number_size (Int signed Two order) is = omega arith
+number_size (Int signed Four order) is = omega arith
+number_size (Int signed Eight order) is = omega arith
+number_size (BytesScalar n) is = absurd is

@@ -19,7 +19,7 @@ use Rattle.std.specs.Int.{w128, int_max, int_wrap, div_ceil, cast_signed, cast_u
 use Rattle.std.proofs.lemmas.Grind.{div_ceil_times}
 use lib.IntN.{negsuc-*ℤ-pos}
 use Rattle.literal_items.proofs.Decided.{decided_first, decided_second, decided_ok}
-use Rattle.literal_items.specs.RangeItems.{is_before, natural, distance, range_count, range_numbers, range_length, range_items}
+use Rattle.literal_items.specs.RangeItems.{is_before, natural, distance, range_count, numbers_from, range_numbers, range_length, range_items}
 
 -- k steps end below a gap where k is below their number
 pub steps_end_below : (gap s k : ℕ) → 0 < s → (k < div_ceil gap s) ↔ (k * s < gap)
@@ -185,11 +185,11 @@ range_items-ok scalar start stop step n items is so are = λ i. ranged (is i) (s
 
 -- ---- the numbers place by place
 
-pub length-range_numbers : (start stop step : ℤ) → length (range_numbers start stop step) ≡ range_count start stop step
-length-range_numbers start stop step = length-map (range_with_len 0 (range_count start stop step)) (λ k. start +ℤ step *ℤ pos k) ∙ length-range_with_len 0 (range_count start stop step)
+pub length-numbers_from : (start step : ℤ) (n : ℕ) → length (numbers_from start step n) ≡ n
+length-numbers_from start step n = length-map (range_with_len 0 n) (λ k. start +ℤ step *ℤ pos k) ∙ length-range_with_len 0 n
 
-pub number_at : (start stop step z : ℤ) (k : ℕ) → k < range_count start stop step → z ≡ start +ℤ step *ℤ pos k → get_or (range_numbers start stop step) k z ≡ z
-number_at start stop step z k low is = get_or-map-range_with_len (λ k. start +ℤ step *ℤ pos k) 0 (range_count start stop step) k k z low (omega arith) ∙ sym is
+pub number_at : (start step z : ℤ) (n k : ℕ) → k < n → z ≡ start +ℤ step *ℤ pos k → get_or (numbers_from start step n) k z ≡ z
+number_at start step z n k low is = get_or-map-range_with_len (λ k. start +ℤ step *ℤ pos k) 0 n k k z low (omega arith) ∙ sym is
 
 -- the number after one, as a sum of 128 bits
 pub next_sum : (start step : ℤ) (k bits : ℕ) → bits < 2 ^ 128 → FitsSigned w128 step → cast_signed w128 bits ≡ start +ℤ step *ℤ pos k → FitsSigned w128 (start +ℤ step *ℤ pos (k + 1)) → cast_signed w128 ((bits + cast_unsigned w128 step) % 2 ^ 128) ≡ start +ℤ step *ℤ pos (k + 1)

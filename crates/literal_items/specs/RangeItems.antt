@@ -27,9 +27,13 @@ distance start stop step = natural (if int_lt step (pos 0) then start -ℤ stop 
 abbrev pub range_count : ℤ → ℤ → ℤ → ℕ
 range_count start stop step = div_ceil (distance start stop step) (unsigned_abs step)
 
+-- the first n of the numbers start, start + step, ..
+abbrev pub numbers_from : ℤ → ℤ → ℕ → List ℤ
+numbers_from start step n = map (λ k. start +ℤ step *ℤ pos k) (range_with_len 0 n)
+
 -- the numbers
 abbrev pub range_numbers : ℤ → ℤ → ℤ → List ℤ
-range_numbers start stop step = map (λ k. start +ℤ step *ℤ pos k) (range_with_len 0 (range_count start stop step))
+range_numbers start stop step = numbers_from start step (range_count start stop step)
 
 -- how many numbers there are, of at most 2 ^ 24
 unfoldable pub range_length : ℤ → ℤ → ℤ → Result ℕ Refusal

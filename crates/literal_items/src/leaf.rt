@@ -1,11 +1,10 @@
 // Literals as the bytes of one leaf.
-ghost use Rattle.std.specs.Prelude.{◌≡◌, true, pos, length, take};
-ghost use Rattle.elem_descr.specs.Values.{number};
-ghost use Rattle.elem_descr.specs.Encoding.{IsNumber, size, decode, encode, wrap, padded, without_nuls};
+ghost use Rattle.std.specs.Prelude.{◌≡◌, true, length, take};
+ghost use Rattle.elem_descr.specs.Encoding.{IsNumber, size, decode, encode, padded, without_nuls};
 ghost use Rattle.literal_items.specs.LiteralItems.{takes_number, is_castable, is_in_range, leaf_value};
 
-use crate::number::write_number;
-use elem_descr::Scalar;
+use crate::number::is_value;
+use elem_descr::{Scalar, num_write};
 use script_lang::ScalarLiteral;
 
 /// Whether the literal can be a value of the scalar.
@@ -29,35 +28,39 @@ fn write_bytes(bytes: &[u8], item: &mut [u8])
     item[..kept].copy_from_slice(&bytes[..kept]);
 }
 
-/// Writes a number as a value of the scalar, and answers whether it is in range.
-fn write_in_range(scalar: &Scalar, value: &i128, item: &mut [u8]) -> bool
-    requires number { IsNumber scalar.now }
-    requires whole { length item.old ≡ size scalar.now }
-    ensures held { result ≡ takes_number scalar.now value.now }
-    ensures encoded { item.new ≡ encode scalar.now (number (wrap scalar.now value.now)) }
-    ensures reads_back { decode scalar.now item.new ≡ number (wrap scalar.now value.now) }
+/// Whether a number can be a value of the scalar.
+fn takes_number(scalar: &Scalar, value: &i128) -> bool
+    requires { IsNumber scalar.now }
+    ensures { result ≡ takes_number scalar.now value.now }
 {
-    let is_held = write_number(scalar, value, item);
     match scalar {
         Scalar::Bool => true,
-        _ => is_held,
+        _ => is_value(scalar, value),
     }
 }
 
-/// Writes a literal as a value of the scalar, and answers whether it is in range.
-pub(crate) fn write_leaf(scalar: &Scalar, literal: &ScalarLiteral, item: &mut [u8]) -> bool
+/// Whether the value of a literal is one of the scalar.
+pub(crate) fn is_in_range(scalar: &Scalar, literal: &ScalarLiteral) -> bool
+    requires { is_castable scalar.now literal.now ≡ true }
+    ensures { result ≡ is_in_range scalar.now literal.now }
+{
+    match literal {
+        ScalarLiteral::Integer(value) => takes_number(scalar, value),
+        ScalarLiteral::Boolean(value) => takes_number(scalar, &i128::from(*value)),
+        ScalarLiteral::Bytes(_) => true,
+    }
+}
+
+/// Writes a literal as a value of the scalar; a number that is none wraps.
+pub(crate) fn write_leaf(scalar: &Scalar, literal: &ScalarLiteral, item: &mut [u8])
     requires castable { is_castable scalar.now literal.now ≡ true }
     requires whole { length item.old ≡ size scalar.now }
-    ensures held { result ≡ is_in_range scalar.now literal.now }
     ensures encoded { item.new ≡ encode scalar.now (leaf_value scalar.now literal.now) }
     ensures reads_back { decode scalar.now item.new ≡ leaf_value scalar.now literal.now }
 {
     match literal {
-        ScalarLiteral::Integer(value) => write_in_range(scalar, value, item),
-        ScalarLiteral::Boolean(value) => write_in_range(scalar, &i128::from(*value), item),
-        ScalarLiteral::Bytes(text) => {
-            write_bytes(text.as_slice(), item);
-            true
-        }
+        ScalarLiteral::Integer(value) => num_write(*scalar, *value, item),
+        ScalarLiteral::Boolean(value) => num_write(*scalar, i128::from(*value), item),
+        ScalarLiteral::Bytes(text) => write_bytes(text.as_slice(), item),
     }
 }

@@ -1,14 +1,17 @@
 //! The numbers of a range as items.
-ghost use Rattle.std.specs.Prelude.{◌≡◌, ◌<◌, ◌≤◌, ◌^◌, ◌↔◌, ◌*◌, ℕ, ℤ, pos, ◌+ℤ◌, ◌*ℤ◌, FitsSigned, IsTrue, length, map, Ok, Err, IfOk, MatchResult};
+ghost use Rattle.std.specs.Prelude.{◌≡◌, ◌<◌, ◌≤◌, ◌^◌, ◌↔◌, ◌*◌, ℕ, ℤ, pos, ◌+ℤ◌, ◌*ℤ◌, FitsSigned, IsTrue, length, map, Ok, Err, ◌∷◌, [], true, IfOk, OnErr, MatchResult};
+ghost use Rattle.std.specs.List.{list_all};
 ghost use Rattle.std.specs.Int.{w128};
 ghost use Rattle.elem_descr.specs.declared.descr.Descr.TheVariants.{Scalar as ScalarDescr};
 ghost use Rattle.elem_descr.specs.Encoding.{IsNumber, size};
 ghost use Rattle.elem_descr.specs.Items.{decode_item};
 ghost use Rattle.elem_descr.specs.Blocks.{blocks};
-ghost use Rattle.literal_items.specs.RangeItems.{is_before, distance, range_count, range_length, range_items};
+ghost use Rattle.elem_descr.specs.Values.{number};
+ghost use Rattle.literal_items.specs.Numbers.{is_value};
+ghost use Rattle.literal_items.specs.RangeItems.{is_before, distance, range_count, range_length, numbers_from, range_items};
 
-use crate::number::write_number;
-use elem_descr::{Refusal, Scalar};
+use crate::number::is_value;
+use elem_descr::{Refusal, Scalar, num_write};
 
 /// The most numbers that a range may have.
 const MAX_NUMBERS: u128 = 1 << 24;
@@ -46,9 +49,41 @@ pub fn range_len(start: &i128, stop: &i128, step: &i128) -> Result<usize, Refusa
     Ok(count as usize)
 }
 
+/// Whether the first `count` of the numbers start, start + step, .. are values of the scalar.
+fn are_values(scalar: &Scalar, start: &i128, step: &i128, count: usize) -> bool
+    requires number { IsNumber scalar.now }
+    requires fits { (k : ℕ) → k < count → FitsSigned w128 (start.now +ℤ step.now *ℤ pos k) }
+    ensures { result ≡ list_all (is_value scalar.now) (numbers_from start.now step.now count) }
+{
+    let mut number = *start;
+    for _i in 0..count {
+        if !is_value(scalar, &number) {
+            return false;
+        }
+        number = number.wrapping_add(*step);
+    }
+    true
+}
+
+/// Writes the first `count` of the numbers start, start + step, .. as items one after another.
+fn write_numbers(scalar: &Scalar, start: &i128, step: &i128, count: usize, block: &mut [u8])
+    requires number { IsNumber scalar.now }
+    requires whole { length block.old ≡ count * size scalar.now }
+    requires fits { (k : ℕ) → k < count → FitsSigned w128 (start.now +ℤ step.now *ℤ pos k) }
+    requires values { list_all (is_value scalar.now) (numbers_from start.now step.now count) ≡ true }
+    ensures { map (decode_item (ScalarDescr scalar.now)) (blocks (size scalar.now) count block.new) ≡ map (λ value. number value ∷ []) (numbers_from start.now step.now count) }
+{
+    let size = scalar.size();
+    let mut number = *start;
+    for k in 0..count {
+        num_write(*scalar, number, &mut block[k * size..(k + 1) * size]);
+        number = number.wrapping_add(*step);
+    }
+}
+
 /// Writes the numbers start, start + step, .. before the stop as items one after another. A step of 0
 /// is refused as `ZeroStep`, more than 2^24 numbers as `TooLarge`, and then a number that is no value
-/// of the scalar as `LiteralOutOfRange`.
+/// of the scalar as `LiteralOutOfRange`; then the bytes are as before.
 pub fn write_range(
     scalar: &Scalar,
     start: &i128,
@@ -58,18 +93,15 @@ pub fn write_range(
 ) -> Result<(), Refusal>
     requires number { IsNumber scalar.now }
     requires whole { length block.old ≡ range_count start.now stop.now step.now * size scalar.now }
-    ensures { MatchResult result
+    ensures value { MatchResult result
         (λ _. range_items scalar.now start.now stop.now step.now ≡ Ok (map (decode_item (ScalarDescr scalar.now)) (blocks (size scalar.now) (range_count start.now stop.now step.now) block.new)))
         (λ refusal. range_items scalar.now start.now stop.now step.now ≡ Err refusal) }
+    ensures kept { OnErr result (block.new ≡ block.old) }
 {
     let count = range_len(start, stop, step)?;
-    let size = scalar.size();
-    let mut number = *start;
-    for k in 0..count {
-        if !write_number(scalar, &number, &mut block[k * size..(k + 1) * size]) {
-            return Err(Refusal::LiteralOutOfRange);
-        }
-        number = number.wrapping_add(*step);
+    if !are_values(scalar, start, step, count) {
+        return Err(Refusal::LiteralOutOfRange);
     }
+    write_numbers(scalar, start, step, count, block);
     Ok(())
 }

@@ -2,8 +2,8 @@ use Rattle.std.proofs.Common.{◌≡◌, ◌+◌, ◌-◌, ◌*◌, ◌<◌, ◌
 use Rattle.std.proofs.lemmas.List.{map-append}
 use Rattle.std.proofs.Math.Nat.{mul-le-mul_right}
 use Rattle.elem_descr.specs.Items.{item_size, encode_item, decode_item}
-use Rattle.literal_items.specs.LiteralItems.{is_item_in_range, values_of}
-use Rattle.literal_items.proofs.Lists.{all_more, map_more}
+use Rattle.literal_items.specs.LiteralItems.{values_of}
+use Rattle.literal_items.proofs.Lists.{map_more}
 use Rattle.literal_items.proofs.Blocked.{blocks-put, map-blocks-put}
 use Rattle.literal_items.proofs.item.write_casts.Goals as goal
 
@@ -24,12 +24,10 @@ loop-k-preserved c =
     let at : c.loop-k.k * c.size-size.result ≡ c.loop-k.k * item_size c.args.descr.now = ap (λ n. c.loop-k.k * n) c.size-size.ensures.value in
     let part : length c.write_cast.new.item ≡ c.size-size.result = c.write_cast.auto.item ∙ length-take ((c.loop-k.k + 1) * c.size-size.result - c.loop-k.k * c.size-size.result) (drop (c.loop-k.k * c.size-size.result) c.loop-k.block) ∙ omega (arith, length-drop (c.loop-k.k * c.size-size.result) c.loop-k.block) in
     let whole = part ∙ c.size-size.ensures.value in
-    let held = sym c.write_cast.ensures.held ∙ c.if-not-write_cast.false in
-    let encoded = c.write_cast.ensures.encoded c.if-not-write_cast.false in
-    let reads_back = c.write_cast.ensures.reads_back c.if-not-write_cast.false in
+    let encoded = c.write_cast.ensures.encoded in
+    let reads_back = c.write_cast.ensures.reads_back in
     let values = map_more (values_of descr) literals c.loop-k.k literal near is in
     record {
-      held = all_more (is_item_in_range descr) literals c.loop-k.k literal near is c.loop-k.invariant.held held;
       encoded = blocks-put (item_size descr) c.loop-k.k (c.loop-k.k * width) c.loop-k.block item rest at within whole
           ∙ (λ i. c.loop-k.invariant.encoded i ++ encoded i ∷ [])
           ∙ sym (map-append (encode_item descr) (map (values_of descr) (take c.loop-k.k literals)) (values_of descr literal ∷ []))

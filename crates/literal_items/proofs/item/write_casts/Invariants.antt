@@ -1,14 +1,12 @@
-use Rattle.std.proofs.Common.{◌≡◌, true, map, take}
-use Rattle.std.specs.List.{list_all}
+use Rattle.std.proofs.Common.{◌≡◌, map, take}
 use Rattle.elem_descr.specs.Items.{item_size, encode_item, decode_item}
 use Rattle.elem_descr.specs.Blocks.{blocks}
-use Rattle.literal_items.specs.LiteralItems.{is_item_in_range, values_of}
+use Rattle.literal_items.specs.LiteralItems.{values_of}
 use Rattle.literal_items.proofs.item.write_casts.Given as goal
 
 -- the block begins with the items so far
 abbrev pub invariant-loop-k : goal.invariant-loop-k
 invariant-loop-k l = record {
-  held : list_all (is_item_in_range l.descr) (take l.k l.literals) ≡ true;
   encoded : blocks (item_size l.descr) l.k l.block ≡ map (encode_item l.descr) (map (values_of l.descr) (take l.k l.literals));
   reads_back : map (decode_item l.descr) (blocks (item_size l.descr) l.k l.block) ≡ map (values_of l.descr) (take l.k l.literals);
 }

@@ -13,13 +13,13 @@ returns-then-not-can_be_items-clause-value c =
     decided_first (list_all (can_be_item descr) literals) (list_all (is_item_in_range descr) literals) NoSuchCast LiteralOutOfRange (map (values_of descr) literals)
     (sym c.can_be_items.ensures ∙ c.if-not-can_be_items.true)
 
-pub returns-then-not-write_casts-clause-value : goal.returns-then-not-write_casts-clause-value
+pub returns-then-not-are_items_in_range-clause-value : goal.returns-then-not-are_items_in_range-clause-value
 unfolding item_values
-returns-then-not-write_casts-clause-value c =
+returns-then-not-are_items_in_range-clause-value c =
     let descr = c.args.descr.now in
     let literals = c.args.literals.now in
     decided_second (list_all (can_be_item descr) literals) (list_all (is_item_in_range descr) literals) NoSuchCast LiteralOutOfRange (map (values_of descr) literals)
-    (sym c.can_be_items.ensures ∙ c.if-not-can_be_items.false) (sym c.write_casts.ensures.held ∙ c.if-not-write_casts.true)
+    (sym c.can_be_items.ensures ∙ c.if-not-can_be_items.false) (sym c.are_items_in_range.ensures ∙ c.if-not-are_items_in_range.true)
 
 pub returns-clause-value : goal.returns-clause-value
 unfolding item_values
@@ -27,4 +27,4 @@ returns-clause-value c =
     let descr = c.args.descr.now in
     let literals = c.args.literals.now in
     decided_ok (list_all (can_be_item descr) literals) (list_all (is_item_in_range descr) literals) NoSuchCast LiteralOutOfRange (map (values_of descr) literals) _
-    (sym c.can_be_items.ensures ∙ c.if-not-can_be_items.false) (sym c.write_casts.ensures.held ∙ c.if-not-write_casts.false) (sym (c.write_casts.ensures.reads_back c.if-not-write_casts.false))
+    (sym c.can_be_items.ensures ∙ c.if-not-can_be_items.false) (sym c.are_items_in_range.ensures ∙ c.if-not-are_items_in_range.false) (sym c.write_casts.ensures.reads_back)

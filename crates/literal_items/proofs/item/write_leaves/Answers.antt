@@ -2,28 +2,18 @@ use Rattle.std.proofs.Common.{◌≡◌, Bool, ◌<◌, ◌+◌, ◌-◌, length
 use Rattle.elem_descr.specs.declared.leaf.Leaf.{Leaf}
 use Rattle.elem_descr.specs.Encoding.{size, decode}
 use Rattle.script_lang.specs.declared.literal.ScalarLiteral.{ScalarLiteral}
-use Rattle.literal_items.specs.LiteralItems.{with_literals, is_castable, is_in_range}
-use Rattle.literal_items.proofs.Leaves.{IsTurn, put, turn_passes, turn_fails, turn_passed, turn_written, turn_sound, whole_written, whole_read, length-with_literals, field_within}
-use Rattle.literal_items.proofs.Lists.{all_passed}
+use Rattle.literal_items.specs.LiteralItems.{is_castable}
+use Rattle.literal_items.proofs.Leaves.{IsTurn, put, turn_passed, turn_written, turn_sound, whole_written, whole_read, field_within}
 use Rattle.literal_items.proofs.item.write_leaves.Goals as goal
 
 abbrev can : Leaf × ScalarLiteral → Bool
 can given = is_castable given.0.scalar given.1
-
-abbrev fits : Leaf × ScalarLiteral → Bool
-fits given = is_in_range given.0.scalar given.1
 
 pub write_leaf-requires-clause-castable : goal.write_leaf-requires-clause-castable
 write_leaf-requires-clause-castable c =
     let low : c.loop-k.k < length c.args.leaves.now = omega arith in
     let turn : IsTurn c.args.leaves.now c.args.literal.now c.loop-k.k c.index-leaves-k.result c.literal_at.result.now = record { covered = c.requires.covered; low = low; is = c.index-leaves-k.is; there = c.literal_at.ensures (length c.args.leaves.now) low } in
     turn_passed can c.args.leaves.now c.args.literal.now c.loop-k.k c.index-leaves-k.result c.literal_at.result.now turn c.requires.castable
-
-pub returns-then-not-write_leaf-clause-held : goal.returns-then-not-write_leaf-clause-held
-returns-then-not-write_leaf-clause-held c =
-    let low : c.loop-k.k < length c.args.leaves.now = omega arith in
-    let turn : IsTurn c.args.leaves.now c.args.literal.now c.loop-k.k c.index-leaves-k.result c.literal_at.result.now = record { covered = c.requires.covered; low = low; is = c.index-leaves-k.is; there = c.literal_at.ensures (length c.args.leaves.now) low } in
-    sym (turn_fails fits c.args.leaves.now c.args.literal.now c.loop-k.k c.index-leaves-k.result c.literal_at.result.now turn (cc))
 
 pub loop-k-preserved : goal.loop-k-preserved
 loop-k-preserved c =
@@ -34,19 +24,13 @@ loop-k-preserved c =
     let long : length c.loop-k.item ≡ length c.args.item.now = c.loop-k.auto.item ∙ c.fill.ensures.len in
     let whole : length c.write_leaf.new.item ≡ size c.index-leaves-k.result.scalar = c.write_leaf.auto.item ∙ length-take (c.index-leaves-k.result.at + c.size.result - c.index-leaves-k.result.at) (drop c.index-leaves-k.result.at c.loop-k.item) ∙ omega (arith, long, length-drop c.index-leaves-k.result.at c.loop-k.item) in
     record {
-      held = turn_passes fits c.args.leaves.now c.args.literal.now c.loop-k.k c.index-leaves-k.result c.literal_at.result.now turn c.loop-k.invariant.held (cc);
       encoded = ap (λ bytes. put c.index-leaves-k.result.at (c.index-leaves-k.result.at + c.size.result - c.index-leaves-k.result.at) bytes c.loop-k.item) c.write_leaf.ensures.encoded
           ∙ turn_written c.args.leaves.now c.args.literal.now c.loop-k.k c.index-leaves-k.result c.literal_at.result.now (length c.args.item.now) (c.index-leaves-k.result.at + c.size.result - c.index-leaves-k.result.at) c.loop-k.item turn c.requires.order c.loop-k.invariant.reads_back c.loop-k.invariant.encoded width;
       reads_back = turn_sound c.args.leaves.now c.args.literal.now c.loop-k.k c.index-leaves-k.result c.literal_at.result.now turn c.loop-k.invariant.reads_back (record { whole = ap length (sym c.write_leaf.ensures.encoded) ∙ whole; same = ap (decode c.index-leaves-k.result.scalar) (sym c.write_leaf.ensures.encoded) ∙ c.write_leaf.ensures.reads_back });
     }
 
-pub returns-clause-held : goal.returns-clause-held
-returns-clause-held c =
-    let long = length-with_literals c.args.leaves.now c.args.literal.now c.requires.covered in
-    sym (all_passed fits (with_literals c.args.leaves.now c.args.literal.now) c.loop-k.k (omega arith) c.loop-k.invariant.held)
-
 pub returns-clause-encoded : goal.returns-clause-encoded
-returns-clause-encoded c = λ _. whole_written c.args.leaves.now c.args.literal.now c.loop-k.k (length c.args.item.now) c.loop-k.item c.requires.covered (omega arith) c.loop-k.invariant.encoded
+returns-clause-encoded c = whole_written c.args.leaves.now c.args.literal.now c.loop-k.k (length c.args.item.now) c.loop-k.item c.requires.covered (omega arith) c.loop-k.invariant.encoded
 
 pub returns-clause-reads_back : goal.returns-clause-reads_back
-returns-clause-reads_back c = λ _. whole_read c.args.leaves.now c.args.literal.now c.loop-k.k (length c.args.item.now) c.loop-k.item c.requires.covered (omega arith) c.requires.order c.loop-k.invariant.reads_back c.loop-k.invariant.encoded
+returns-clause-reads_back c = whole_read c.args.leaves.now c.args.literal.now c.loop-k.k (length c.args.item.now) c.loop-k.item c.requires.covered (omega arith) c.requires.order c.loop-k.invariant.reads_back c.loop-k.invariant.encoded

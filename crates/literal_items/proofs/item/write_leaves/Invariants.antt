@@ -1,7 +1,7 @@
-use Rattle.std.proofs.Common.{◌≡◌, true, length, map, take}
-use Rattle.std.specs.List.{All, list_all}
+use Rattle.std.proofs.Common.{◌≡◌, length, map, take}
+use Rattle.std.specs.List.{All}
 use Rattle.elem_descr.specs.Items.{encode_from}
-use Rattle.literal_items.specs.LiteralItems.{with_literals, is_in_range, leaf_value}
+use Rattle.literal_items.specs.LiteralItems.{with_literals, leaf_value}
 use Rattle.literal_items.proofs.Leaves.{ReadsBack}
 use Rattle.literal_items.proofs.item.write_leaves.Given as goal
 
@@ -10,7 +10,6 @@ abbrev pub invariant-loop-k : goal.invariant-loop-k
 invariant-loop-k l =
     let so_far = take l.k (with_literals l.leaves l.literal) in
     record {
-      held : list_all (λ given. is_in_range given.0.scalar given.1) so_far ≡ true;
       encoded : l.item ≡ encode_from 0 (map (λ given. given.0) so_far) (map (λ given. leaf_value given.0.scalar given.1) so_far) (length l.fn.item);
       reads_back : All (λ given. ReadsBack given.0.scalar (leaf_value given.0.scalar given.1)) so_far;
     }
