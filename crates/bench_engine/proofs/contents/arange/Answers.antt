@@ -38,7 +38,7 @@ overflow_mul-len c = let most : c.in_ok-len.len * c.size.result ≤ 2 ^ 24 * 655
 pub returns-in_err-write_range-clause-value : goal.returns-in_err-write_range-clause-value
 returns-in_err-write_range-clause-value c =
     let p = err_from_is_err_and c.from_residual-in_err-write_range.result c.from_residual-in_err-write_range.ensures.1 in
-    rw (p.1, p.2) (inr (arange-range _ _ _ _ _ _ _ (rw c.as_slice.ensures at c.in_ok-descr.ensures) c.in_ok-scalar.ensures.value c.in_err-write_range.ensures))
+    rw (p.1, p.2) (inr (arange-range _ _ _ _ _ _ _ (rw c.as_slice.ensures at c.in_ok-descr.ensures) c.in_ok-scalar.ensures.value c.in_err-write_range.ensures.value))
 
 pub over-requires-clause-whole : goal.over-requires-clause-whole
 over-requires-clause-whole c =
@@ -52,4 +52,4 @@ pub returns-clause-value : goal.returns-clause-value
 returns-clause-value c =
     let back : refill (length c.in_ok-block.block) c.in_ok-block.block c.write_range.new.block ≡ c.write_range.new.block = c.bytes_mut.ensures.same_len c.write_range.new.block (c.write_range.auto.block ∙ ap length c.bytes_mut.ensures.value) in
     arange-done _ _ _ _ _ _ c.in_ok-len.len c.write_range.new.block c.in_ok-owned.owned (rw c.as_slice.ensures at c.in_ok-descr.ensures) c.in_ok-scalar.ensures.value
-    (c.in_ok-write_range.ensures ∙ ap (λ n. Ok (map (decode_item (ScalarDescr c.in_ok-scalar.scalar)) (blocks (size c.in_ok-scalar.scalar) n c.write_range.new.block))) (sym c.in_ok-len.ensures.count)) c.in_ok-owned.ensures.descr (c.in_ok-owned.ensures.shape ∙ range-shape c.in_ok-len.len _ c.in_ok-len.ensures.few c.in_ok-shape.ensures) (c.in_ok-owned.ensures.block ∙ back)
+    (c.in_ok-write_range.ensures.value ∙ ap (λ n. Ok (map (decode_item (ScalarDescr c.in_ok-scalar.scalar)) (blocks (size c.in_ok-scalar.scalar) n c.write_range.new.block))) (sym c.in_ok-len.ensures.count)) c.in_ok-owned.ensures.descr (c.in_ok-owned.ensures.shape ∙ range-shape c.in_ok-len.len _ c.in_ok-len.ensures.few c.in_ok-shape.ensures) (c.in_ok-owned.ensures.block ∙ back)
