@@ -1,7 +1,6 @@
 //! Items of a name's array are written.
 ghost use Rattle.std.specs.Prelude.{◌≡◌, ◌+◌, ◌≤◌, ◌<◌, ℕ, length, All, IfSome, None, Some, nat_eq, if◌then◌else◌, vec_len};
 ghost use Rattle.name_store.specs.declared.slot.Slot.{Slot};
-ghost use Rattle.raw_block.specs.Bytes.{put};
 ghost use Rattle.name_store.specs.Calls.{AnswersWrite};
 ghost use Rattle.name_store.specs.Invariants.{Holds};
 ghost use Rattle.name_store.specs.Targets.{IsAim, put_each};
@@ -18,15 +17,6 @@ use raw_block::RawBlock;
 use shape_strides::{Layout, Walk};
 use std::alloc::Global;
 
-/// Writes the bytes of an item at an offset.
-fn put_at(block: &mut RawBlock, offset: usize, item: &[u8])
-    requires { offset + length item.now ≤ length block.old }
-    ensures bytes { block.new ≡ put offset item.now block.old }
-    ensures len { length block.new ≡ length block.old }
-{
-    block.fill_strided(offset, 0, item, 1);
-}
-
 /// Writes the bytes of an item at each of the offsets.
 fn fill(block: &mut RawBlock, offsets: Walk<'_>, item: &[u8])
     requires { All (λ offset. offset + length item.now ≤ length block.old) offsets }
@@ -34,7 +24,7 @@ fn fill(block: &mut RawBlock, offsets: Walk<'_>, item: &[u8])
     ensures len { length block.new ≡ length block.old }
 {
     for offset in offsets {
-        put_at(block, offset, item);
+        block.put(offset, item);
     }
 }
 

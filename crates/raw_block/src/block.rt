@@ -113,6 +113,15 @@ impl RawBlock {
         put_number(self.bytes_mut(), at, width, bits);
     }
 
+    /// Writes the item to the bytes from `at` on.
+    pub fn put(&mut self, at: usize, item: &[u8])
+        requires { at + length item.now ≤ length self.old }
+        ensures written { self.new ≡ put at item.now self.old }
+        ensures len { length self.new ≡ length self.old }
+    {
+        put_item(self.bytes_mut(), at, item);
+    }
+
     /// Copies the `n` bytes from `src` on to those from `dst` on, as if they were read first.
     pub fn move_within(&mut self, dst: usize, src: usize, n: usize)
         requires dst { dst + n ≤ length self.old }

@@ -19,13 +19,13 @@ loop-offset-init c = record {
   inside = subst (All (λ offset. offset + length c.args.item.now ≤ length c.args.block.now)) (sym c.into_iter-offset-iterator.ensures.into_iter_gives) c.requires;
 }
 
-pub put_at-requires : goal.put_at-requires
-put_at-requires c = subst (λ n. c.in-Some.offset + length c.args.item.now ≤ n) (sym c.loop-offset.invariant.len) (first-inside _ _ _ _ _ c.in-Some.ensures.steps c.loop-offset.invariant.inside)
+pub put-requires : goal.put-requires
+put-requires c = subst (λ n. c.in-Some.offset + length c.args.item.now ≤ n) (sym c.loop-offset.invariant.len) (first-inside _ _ _ _ _ c.in-Some.ensures.steps c.loop-offset.invariant.inside)
 
 pub loop-offset-preserved : goal.loop-offset-preserved
 loop-offset-preserved c = record {
-  rest = put_more _ _ _ _ _ _ _ c.in-Some.ensures.steps c.put_at.ensures.bytes c.loop-offset.invariant.rest;
-  len = c.put_at.ensures.len ∙ c.loop-offset.invariant.len;
+  rest = put_more _ _ _ _ _ _ _ c.in-Some.ensures.steps c.put.ensures.written c.loop-offset.invariant.rest;
+  len = c.put.ensures.len ∙ c.loop-offset.invariant.len;
   inside = All-rest (λ offset. offset + length c.args.item.now ≤ length c.args.block.now) _ _ _ c.in-Some.ensures.steps c.loop-offset.invariant.inside;
 }
 
