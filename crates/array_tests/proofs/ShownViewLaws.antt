@@ -2,7 +2,7 @@
 use Rattle.std.proofs.Common.{◌≡◌, ◌+◌, ◌*◌, ◌≤◌, ◌^◌, ℕ, Bool, List, [], ◌∷◌, length, map, refl, sym, ap, subst, ◌∙◌, Option, Some, None, slice_get, All, Contains, IsTrue, IfOk, arith, pos, ◌+ℤ◌, Bor, true}
 use Rattle.std.specs.Option.{option_map, ok_or}
 use Rattle.std.proofs.lemmas.Int.{ints}
-use Rattle.std.proofs.lemmas.List.Elements.{All-contains, All-contains_itself, All-from_recursion}
+use Rattle.std.proofs.lemmas.List.Elements.{All-contains, All-contains_itself}
 use Rattle.std.proofs.lemmas.Option.{slice_get_within, get_or_from_slice_get, slice_get-map}
 use Rattle.elem_descr.specs.Items.{item_size}
 use Rattle.elem_descr.specs.declared.refusal.Refusal.{Refusal}
@@ -15,7 +15,7 @@ use Rattle.name_store.specs.Parts.{start_at}
 use Rattle.name_store.specs.Places.{offsets_of}
 use Rattle.name_store.specs.Shown.{Shows, Finds}
 use Rattle.name_store.specs.Targets.{IsAim}
-use Rattle.name_store.specs.Views.{MayBind}
+use Rattle.name_store.specs.Views.{IsLaidOut, IsViewIn, MayBind}
 use Rattle.name_store.specs.declared.array_ref.ArrayRef.{ArrayRef}
 use Rattle.name_store.specs.declared.bound.Bound.TheVariants.{View}
 use Rattle.name_store.specs.declared.target.Source.TheVariants.{One}
@@ -56,51 +56,51 @@ module _ (s : State) (name : List ℕ) (array : Array) (r : ArrayRef) (found : f
   size : item_size r.descr.now ≡ item_size (descr_of s array)
   size = ap item_size (sym shows.descr)
 
-  pub may-view_all : (l : Layout) (writable : Bool) → l ≡ r.layout.now → (IsTrue writable → IsTrue r.writable) → MayBind s (View r.number r.leaf l writable)
-  may-view_all l writable layout-is may = (
-    record array { writable = writable },
-    record {
-      source = name;
-      base = array;
-      found = found;
-      same_buffer = refl;
-      among = All-contains_itself array.places;
-      number_is = shows.number;
-      path = shows.path;
-      part = shows.part;
-      shape = ap (λ (l : Layout). l.shape) layout-is ∙ shows.shape;
-      places = ap offsets layout-is ∙ shows.places;
+  shown : IsLaidOut (buffer_of s array).descr (length (buffer_of s array).items) array r.leaf r.layout.now r.writable
+  shown = shows.view.laid
+
+  -- all of it, to be written where the array may be, or only to be read
+  view-all : (writable : Bool) → (IsTrue writable → IsTrue r.writable) → IsViewIn s r.number r.leaf r.layout.now writable (record array { writable = writable })
+  view-all writable may = record {
+    number_is = shows.view.number_is;
+    there = shows.view.there;
+    laid = record {
+      path = shown.path;
+      part = shown.part;
+      shape = shown.shape;
+      places = shown.places;
       writable_is = refl;
-      fits = subst (λ (l : Layout). Fits l (length (buffer_of s array).items * item_size (buffer_of s array).descr) (item_size (descr_of s array))) (sym layout-is)
-          (subst (λ n. Fits r.layout.now n (item_size (descr_of s array))) shows.whole (subst (Fits r.layout.now (length r.block.now)) size shows.fits));
-      fits_limit = subst (λ (l : Layout). Fits l (2 ^ 28) 1) (sym layout-is) shows.fits_limit;
-      nested = λ yes. subst (λ (l : Layout). IsNested (offsets l) (item_size (descr_of s array))) (sym layout-is) (subst (IsNested (offsets r.layout.now)) size (shows.nested (may yes)));
-    },
-  )
+      fits = shown.fits;
+      fits_limit = shown.fits_limit;
+      nested = λ yes. shown.nested (may yes);
+    };
+  }
+
+  pub may-view_all : (l : Layout) (writable : Bool) → l ≡ r.layout.now → (IsTrue writable → IsTrue r.writable) → MayBind s (View r.number r.leaf l writable)
+  may-view_all l writable layout-is may =
+      (record array { writable = writable }, subst (λ (l : Layout). IsViewIn s r.number r.leaf l writable (record array { writable = writable })) (sym layout-is) (view-all writable may))
 
   pub may-view_item : (l : Layout) (k : ℕ) → l.shape ≡ [] → l.strides ≡ [] → slice_get (offsets r.layout.now) k ≡ Some l.offset → l.offset + 1 ≤ 2 ^ 28 → MayBind s (View r.number r.leaf l r.writable)
   may-view_item l k shape-is strides-are at limit = (
     record { buffer = array.buffer; path = array.path; shape = []; places = place.0 ∷ []; writable = array.writable },
     record {
-      source = name;
-      base = array;
-      found = found;
-      same_buffer = refl;
-      among = All-from_recursion (Contains array.places) (place.0 ∷ []) (contains-at array.places k place.0 place.1, tt);
-      number_is = shows.number;
-      path = shows.path;
-      part = shows.part;
-      shape = shape-is;
-      places = alone-offsets l shape-is strides-are ∙ ap (λ offset. offset ∷ []) (sym place.2);
-      writable_is = shows.writable;
-      fits = alone-fits l shape-is strides-are _ _ inside;
-      fits_limit = alone-fits l shape-is strides-are (2 ^ 28) 1 limit;
-      nested = λ _. alone-nested l shape-is strides-are (item_size (descr_of s array));
+      number_is = shows.view.number_is;
+      there = shows.view.there;
+      laid = record {
+        path = shown.path;
+        part = shown.part;
+        shape = shape-is;
+        places = alone-offsets l shape-is strides-are ∙ ap (λ offset. offset ∷ []) (sym place.2);
+        writable_is = shown.writable_is;
+        fits = alone-fits l shape-is strides-are _ _ inside;
+        fits_limit = alone-fits l shape-is strides-are (2 ^ 28) 1 limit;
+        nested = λ _. alone-nested l shape-is strides-are (item_size (descr_of s array));
+      };
     },
   )
     where
       place : (place : ℕ) × (slice_get array.places k ≡ Some place) × (item_size (buffer_of s array).descr * place + start_at (buffer_of s array).descr array.path ≡ l.offset)
-      place = place-at (item_size (buffer_of s array).descr) (start_at (buffer_of s array).descr array.path) array.places k l.offset (ap (λ xs. slice_get xs k) (sym shows.places) ∙ at)
+      place = place-at (item_size (buffer_of s array).descr) (start_at (buffer_of s array).descr array.path) array.places k l.offset (ap (λ xs. slice_get xs k) (sym shown.places) ∙ at)
 
       inside : l.offset + item_size (descr_of s array) ≤ length (buffer_of s array).items * item_size (buffer_of s array).descr
       inside =
@@ -128,10 +128,10 @@ aim-whole s name layout item array r found shows writable-is layout-is long = re
   places = array.places;
   leads = record {
     found = found;
-    writable = sym shows.writable ∙ writable-is;
-    offsets_are = ap offsets layout-is ∙ shows.places;
+    writable = sym shows.view.laid.writable_is ∙ writable-is;
+    offsets_are = ap offsets layout-is ∙ shows.view.laid.places;
     among = All-contains_itself array.places;
-    fits_limit = subst (λ (l : Layout). Fits l (2 ^ 28) 1) (sym layout-is) shows.fits_limit;
+    fits_limit = subst (λ (l : Layout). Fits l (2 ^ 28) 1) (sym layout-is) shows.view.laid.fits_limit;
   };
   source_for = long ∙ ap item_size (sym shows.descr);
 }

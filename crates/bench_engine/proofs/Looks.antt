@@ -44,7 +44,7 @@ pub print-found : (s : State) (name : List ℕ) (a : Array) (r : ArrayRef) → f
     print_outcome s name ≡ Ok (s, array_text r.descr.now r.layout.now.shape (items_at r.descr.now r.block.now (offsets r.layout.now)))
 print-found s name a r is shows =
     print-done s name a is
-    ∙ λ i. Ok (s, array_text (shows.descr i) (sym shows.shape i) (shows.reads i))
+    ∙ λ i. Ok (s, array_text (shows.descr i) (sym shows.view.laid.shape i) (shows.reads i))
 
 -- format
 pub format-unknown : (s : State) (name : List ℕ) → find_array s.names name ≡ None → format_outcome s name ≡ Err UnknownName

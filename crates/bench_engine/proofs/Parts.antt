@@ -1,8 +1,7 @@
 -- Fields of arrays: the offsets of a part, and names that are bound to them.
-use Rattle.std.proofs.Common.{◌≡◌, ◌<◌, ◌≤◌, ◌+◌, ◌*◌, ◌^◌, ◌+ℤ◌, ◌≤ℤ◌, pos, ℕ, List, [], ◌∷◌, ◌++◌, length, map, refl, sym, ap, ◌∙◌, subst, get_or, Option, Some, None, Result, Ok, Err, IsTrue, arith}
+use Rattle.std.proofs.Common.{◌≡◌, ◌<◌, ◌≤◌, ◌+◌, ◌*◌, ◌^◌, ◌+ℤ◌, ◌≤ℤ◌, pos, ℕ, List, [], ◌∷◌, ◌++◌, length, map, refl, sym, ap, ◌∙◌, subst, get_or, Option, Some, None, Ok, arith}
 use Rattle.std.specs.Prelude.{IfSome, IsSomeAnd, slice_get}
 use Rattle.std.proofs.lemmas.Int.{ints}
-use Rattle.std.proofs.lemmas.List.Elements.{Contains-get_or}
 use Rattle.std.proofs.lemmas.List.Quantifiers.{position-Some}
 use Rattle.std.specs.Str.{bytes_eq}
 use Rattle.std.proofs.lemmas.Option.{slice_get-get_or}
@@ -16,8 +15,8 @@ use Rattle.shape_strides.specs.declared.layout.Layout.{Layout}
 use Rattle.shape_strides.specs.Layouts.{address, offsets, Fits, IsNested}
 use Rattle.view_ops.specs.FieldViews.{IsFieldOf, GivesField}
 use Rattle.name_store.specs.States.{State, Array}
-use Rattle.name_store.specs.Arrays.{find_array, buffer_of, descr_of, addresses}
-use Rattle.name_store.specs.Parts.{leaf_at, no_leaf, descr_at, start_at, path_of, IsPartOf}
+use Rattle.name_store.specs.Arrays.{buffer_of, descr_of}
+use Rattle.name_store.specs.Parts.{leaf_at, no_leaf, descr_at, start_at, path_of}
 use Rattle.name_store.specs.Places.{offsets_of}
 use Rattle.name_store.specs.Shown.{Shows}
 use Rattle.name_store.specs.Views.{IsViewIn}
@@ -63,32 +62,35 @@ given-part old new descr leaves k low given = subst (λ (o : Option Leaf). IsSom
 given-scalar : (leaves : List Leaf) (k at : ℕ) (scalar : Scalar) → k < length leaves → IfSome (slice_get leaves k) (λ leaf. (scalar ≡ leaf.scalar) × (at ≡ leaf.at)) → scalar ≡ (get_or leaves k no_leaf).scalar
 given-scalar leaves k at scalar low given = (subst (λ (o : Option Leaf). IfSome o (λ leaf. (scalar ≡ leaf.scalar) × (at ≡ leaf.at))) (slice_get-get_or leaves k no_leaf low) given).0
 
-seen-leaf : (s : State) (source : List ℕ) (base : Array) (r : ArrayRef) (name : List ℕ) (k : ℕ) (new : Layout) → find_array s.names source ≡ Some base → Shows s base r → field_of r.descr.now name ≡ Some k →
+seen-leaf : (s : State) (base : Array) (r : ArrayRef) (name : List ℕ) (k : ℕ) (new : Layout) → Shows s base r → field_of r.descr.now name ≡ Some k →
     1 ≤ size (leaf_at r.descr.now k).scalar → IsFieldOf r.layout.now new (item_size r.descr.now) (leaf_at r.descr.now k) → IsViewIn s r.number (Some k) new r.writable (part_of base k)
-seen-leaf s source base r name k new found shows there some is = record {
-  source = source;
-  base = base;
-  found = found;
-  same_buffer = refl;
-  among = λ k d below. Contains-get_or base.places k d below;
-  number_is = shows.number;
-  path = ap (λ p. p ++ k ∷ []) empty;
-  part = subst (λ (d : Descr). k < length (leaves_of d)) (sym same) (field-within r.descr.now name k there);
-  shape = is.shape ∙ shows.shape;
-  places = is.places ∙ ap (map (λ offset. offset + (leaf_at r.descr.now k).at)) shows.places
-      ∙ further (item_size descr) (start_at descr base.path) (leaf_at r.descr.now k).at base.places ∙ ap (λ n. offsets_of (item_size descr) n base.places) begins;
-  writable_is = shows.writable;
-  fits = subst (λ (n : ℕ). Fits new n (item_size (descr_of s (part_of base k)))) shows.whole
-      (subst (λ (n : ℕ). Fits new (length r.block.now) n) (sym sized) (is.fits (length r.block.now) shows.fits));
-  fits_limit = fits-more new (length r.block.now) (2 ^ 28) (size (leaf_at r.descr.now k).scalar) 1 shows.small some (is.fits (length r.block.now) shows.fits);
-  nested = λ free. subst (λ (n : ℕ). IsNested (offsets new) n) (sym sized) (is.nested (shows.nested free));
+seen-leaf s base r name k new shows there some is = record {
+  number_is = shows.view.number_is;
+  there = shows.view.there;
+  laid = record {
+    path = ap (λ p. p ++ k ∷ []) empty;
+    part = subst (λ (d : Descr). k < length (leaves_of d)) (sym same) (field-within r.descr.now name k there);
+    shape = is.shape ∙ shows.view.laid.shape;
+    places = is.places ∙ ap (map (λ offset. offset + (leaf_at r.descr.now k).at)) shows.view.laid.places
+        ∙ further (item_size descr) (start_at descr base.path) (leaf_at r.descr.now k).at base.places ∙ ap (λ n. offsets_of (item_size descr) n base.places) begins;
+    writable_is = shows.view.laid.writable_is;
+    fits = subst (λ (n : ℕ). Fits new bytes n) (sym sized) (is.fits bytes fits);
+    fits_limit = fits-more new bytes (2 ^ 28) (size (leaf_at r.descr.now k).scalar) 1 (omega (arith, shows.whole, shows.small)) some (is.fits bytes fits);
+    nested = λ free. subst (λ (n : ℕ). IsNested (offsets new) n) (sym sized) (is.nested (subst (λ (d : Descr). IsNested (offsets r.layout.now) (item_size d)) shows.descr (shows.view.laid.nested free)));
+  };
 }
   where
     descr : Descr
     descr = (buffer_of s base).descr
 
+    bytes : ℕ
+    bytes = length (buffer_of s base).items * item_size descr
+
+    fits : Fits r.layout.now bytes (item_size r.descr.now)
+    fits = subst (λ (d : Descr). Fits r.layout.now bytes (item_size d)) shows.descr shows.view.laid.fits
+
     empty : base.path ≡ []
-    empty = whole-path (buffer_of s base).descr r.descr.now r.leaf base.path name k shows.path shows.descr there
+    empty = whole-path (buffer_of s base).descr r.descr.now r.leaf base.path name k shows.view.laid.path shows.descr there
 
     same : (buffer_of s base).descr ≡ r.descr.now
     same = (λ i. descr_at (buffer_of s base).descr (sym empty i)) ∙ shows.descr
@@ -104,19 +106,19 @@ seen-leaf s source base r name k new found shows there some is = record {
     sized = (λ i. item_size (descr_at (buffer_of s base).descr (empty i ++ k ∷ []))) ∙ ap (λ (d : Descr). size (leaf_at d k).scalar) same
 
 -- the field lies in the array's buffer
-pub seen-field : (s : State) (source : List ℕ) (base : Array) (r : ArrayRef) (name : List ℕ) (k at : ℕ) (scalar : Scalar) (new : Layout) → find_array s.names source ≡ Some base → Shows s base r → field_of r.descr.now name ≡ Some k →
+pub seen-field : (s : State) (base : Array) (r : ArrayRef) (name : List ℕ) (k at : ℕ) (scalar : Scalar) (new : Layout) → Shows s base r → field_of r.descr.now name ≡ Some k →
     IfSome (slice_get (leaves_of r.descr.now) k) (λ leaf. (scalar ≡ leaf.scalar) × (at ≡ leaf.at)) → 1 ≤ size scalar → GivesField r.layout.now r.descr.now (field_of r.descr.now name) (Ok new) → IsViewIn s r.number (Some k) new r.writable (part_of base k)
-seen-field s source base r name k at scalar new found shows there leaf some given =
+seen-field s base r name k at scalar new shows there leaf some given =
     let low = field-within r.descr.now name k there in
     let is : scalar ≡ (leaf_at r.descr.now k).scalar = given-scalar (leaves_of r.descr.now) k at scalar low leaf in
     let gives : GivesField r.layout.now r.descr.now (Some k) (Ok new) = subst (λ (o : Option ℕ). GivesField r.layout.now r.descr.now o (Ok new)) there given in
-    seen-leaf s source base r name k new found shows there (subst (λ (one : Scalar). 1 ≤ size one) is some) (given-part r.layout.now new r.descr.now (leaves_of r.descr.now) k low gives)
+    seen-leaf s base r name k new shows there (subst (λ (one : Scalar). 1 ≤ size one) is some) (given-part r.layout.now new r.descr.now (leaves_of r.descr.now) k low gives)
 
 -- its element type is the leaf's scalar
 pub part-descr : (s : State) (base : Array) (r : ArrayRef) (name : List ℕ) (k at : ℕ) (scalar : Scalar) → Shows s base r → field_of r.descr.now name ≡ Some k → IfSome (slice_get (leaves_of r.descr.now) k) (λ leaf. (scalar ≡ leaf.scalar) × (at ≡ leaf.at)) →
     descr_of s (part_of base k) ≡ ScalarDescr scalar
 part-descr s base r name k at scalar shows there leaf =
-    let empty = whole-path (buffer_of s base).descr r.descr.now r.leaf base.path name k shows.path shows.descr there in
+    let empty = whole-path (buffer_of s base).descr r.descr.now r.leaf base.path name k shows.view.laid.path shows.descr there in
     (λ i. descr_at (buffer_of s base).descr (empty i ++ k ∷ []))
     ∙ (λ i. ScalarDescr (leaf_at (descr_at (buffer_of s base).descr (sym empty i)) k).scalar)
     ∙ ap (λ (d : Descr). ScalarDescr (leaf_at d k).scalar) shows.descr

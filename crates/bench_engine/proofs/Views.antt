@@ -5,14 +5,13 @@ use Rattle.std.proofs.lemmas.List.{length-map}
 use Rattle.std.proofs.lemmas.List.Elements.{All-map, Contains-get_or}
 use Rattle.elem_descr.specs.declared.refusal.Refusal.{Refusal}
 use Rattle.elem_descr.specs.declared.refusal.Refusal.TheVariants.{OutOfMemory}
-use Rattle.elem_descr.specs.declared.descr.Descr.{Descr}
 use Rattle.elem_descr.specs.Items.{item_size}
 use Rattle.shape_strides.specs.declared.layout.Layout.{Layout}
 use Rattle.shape_strides.specs.Indexes.{indexes, rank}
-use Rattle.shape_strides.specs.Layouts.{offsets, Fits, IsNested}
+use Rattle.shape_strides.specs.Layouts.{offsets}
 use Rattle.view_ops.specs.Views.{View, view_through, IsViewOf, GivesView}
 use Rattle.name_store.specs.States.{State, Array}
-use Rattle.name_store.specs.Arrays.{find_array, has_room_for, bound_view, buffer_of, descr_of, addresses}
+use Rattle.name_store.specs.Arrays.{find_array, has_room_for, bound_view, buffer_of, addresses}
 use Rattle.name_store.specs.Calls.{AnswersBind}
 use Rattle.name_store.specs.Views.{IsViewIn, MayBind}
 use Rattle.name_store.specs.Parts.{start_at}
@@ -51,16 +50,16 @@ inside-view : (s : State) (base : Array) (r : ArrayRef) (view : View) (new : Lay
 inside-view s base r view new shows is = λ k d below.
     let index : List ℕ = get_or (indexes view.shape) k d in
     let here : rank r.layout.now.shape (view.leads index) < length (offsets r.layout.now) = is.inside k d below in
-    let there : rank base.shape (view.leads index) < length (offsets r.layout.now) = subst (λ (l : List ℕ). rank l (view.leads index) < length (offsets r.layout.now)) shows.shape here in
+    let there : rank base.shape (view.leads index) < length (offsets r.layout.now) = subst (λ (l : List ℕ). rank l (view.leads index) < length (offsets r.layout.now)) shows.view.laid.shape here in
     subst (λ (n : ℕ). rank base.shape (view.leads index) < n) counted there
   where
     counted : length (offsets r.layout.now) ≡ length base.places
-    counted = ap length shows.places ∙ length-map base.places (λ place. item_size (buffer_of s base).descr * place + start_at (buffer_of s base).descr base.path)
+    counted = ap length shows.view.laid.places ∙ length-map base.places (λ place. item_size (buffer_of s base).descr * place + start_at (buffer_of s base).descr base.path)
 
 places-view : (s : State) (base : Array) (r : ArrayRef) (view : View) (new : Layout) → Shows s base r → IsViewOf r.layout.now new view → offsets new ≡ addresses s (viewed base view)
 places-view s base r view new shows is =
     is.places
-    ∙ (λ j. view_through (shows.places j) (shows.shape j) view.shape view.leads)
+    ∙ (λ j. view_through (shows.view.laid.places j) (shows.view.laid.shape j) view.shape view.leads)
     ∙ offsets-view (item_size (buffer_of s base).descr) (start_at (buffer_of s base).descr base.path) base.places base.shape view.shape view.leads (inside-view s base r view new shows is)
 
 -- the places of a view are places of the array
@@ -69,62 +68,36 @@ among-view s base r view new shows is =
     All-map (Contains base.places) (λ index. slice_index base.places (rank base.shape (view.leads index))) (indexes view.shape)
     (λ k d below. Contains-get_or base.places (rank base.shape (view.leads (get_or (indexes view.shape) k d))) 0 (inside-view s base r view new shows is k d below))
 
--- what fits the bytes of a block fits those of the items in it, and so with what is apart
-fits-items : (new : Layout) (len len' : ℕ) (descr descr' : Descr) → len ≡ len' → descr' ≡ descr → Fits new len (item_size descr) → Fits new len' (item_size descr')
-fits-items new len len' descr descr' whole same fits =
-    subst (λ (n : ℕ). Fits new n (item_size descr')) whole (subst (λ (d : Descr). Fits new len (item_size d)) (sym same) fits)
-
-nested-items : (new : Layout) (descr descr' : Descr) → descr' ≡ descr → IsNested (offsets new) (item_size descr) → IsNested (offsets new) (item_size descr')
-nested-items new descr descr' same nested = subst (λ (d : Descr). IsNested (offsets new) (item_size d)) (sym same) nested
-
 -- the view lies in the array's buffer
-pub seen : (s : State) (source : List ℕ) (base : Array) (r : ArrayRef) (view : View) (new : Layout) → find_array s.names source ≡ Some base → Shows s base r → IsViewOf r.layout.now new view →
-    IsViewIn s r.number r.leaf new r.writable (viewed base view)
-seen s source base r view new found shows is = record {
-  source = source;
-  base = base;
-  found = found;
-  same_buffer = refl;
-  among = among-view s base r view new shows is;
-  number_is = shows.number;
-  path = shows.path;
-  part = shows.part;
-  shape = is.shape;
-  places = places-view s base r view new shows is;
-  writable_is = shows.writable;
-  fits = fits-items new _ _ r.descr.now (descr_of s base) shows.whole shows.descr (is.fits (length r.block.now) (item_size r.descr.now) shows.fits);
-  fits_limit = is.fits (2 ^ 28) 1 shows.fits_limit;
-  nested = λ free. nested-items new r.descr.now (descr_of s base) shows.descr (is.nested (item_size r.descr.now) (shows.nested free));
+pub seen : (s : State) (base : Array) (r : ArrayRef) (view : View) (new : Layout) → Shows s base r → IsViewOf r.layout.now new view → IsViewIn s r.number r.leaf new r.writable (viewed base view)
+seen s base r view new shows is = record {
+  number_is = shows.view.number_is;
+  there = shows.view.there;
+  laid = record {
+    path = shows.view.laid.path;
+    part = shows.view.laid.part;
+    shape = is.shape;
+    places = places-view s base r view new shows is;
+    writable_is = shows.view.laid.writable_is;
+    fits = is.fits _ _ shows.view.laid.fits;
+    fits_limit = is.fits (2 ^ 28) 1 shows.view.laid.fits_limit;
+    nested = λ free. is.nested _ (shows.view.laid.nested free);
+  };
 }
 
 -- all of the array does
-pub seen-whole : (s : State) (source : List ℕ) (base : Array) (r : ArrayRef) (new : Layout) → find_array s.names source ≡ Some base → Shows s base r → new ≡ r.layout.now → IsViewIn s r.number r.leaf new r.writable base
-seen-whole s source base r new found shows same = subst (λ (l : Layout). IsViewIn s r.number r.leaf l r.writable base) (sym same) (record {
-  source = source;
-  base = base;
-  found = found;
-  same_buffer = refl;
-  among = λ k d below. Contains-get_or base.places k d below;
-  number_is = shows.number;
-  path = shows.path;
-  part = shows.part;
-  shape = shows.shape;
-  places = shows.places;
-  writable_is = shows.writable;
-  fits = fits-items r.layout.now _ _ r.descr.now (descr_of s base) shows.whole shows.descr shows.fits;
-  fits_limit = shows.fits_limit;
-  nested = λ free. nested-items r.layout.now r.descr.now (descr_of s base) shows.descr (shows.nested free);
-})
+pub seen-whole : (s : State) (base : Array) (r : ArrayRef) (new : Layout) → Shows s base r → new ≡ r.layout.now → IsViewIn s r.number r.leaf new r.writable base
+seen-whole s base r new shows same = subst (λ (l : Layout). IsViewIn s r.number r.leaf l r.writable base) (sym same) shows.view
 
 -- items of an array, to be written
 pub leads : (s : State) (name : List ℕ) (base : Array) (r : ArrayRef) (view : View) (new : Layout) → find_array s.names name ≡ Some base → Shows s base r → r.writable ≡ true → IsViewOf r.layout.now new view →
     LeadsTo s name (target.View new) base (viewed base view).places
 leads s name base r view new found shows free is = record {
   found = found;
-  writable = sym shows.writable ∙ free;
+  writable = sym shows.view.laid.writable_is ∙ free;
   offsets_are = places-view s base r view new shows is;
   among = among-view s base r view new shows is;
-  fits_limit = is.fits (2 ^ 28) 1 shows.fits_limit;
+  fits_limit = is.fits (2 ^ 28) 1 shows.view.laid.fits_limit;
 }
 
 -- what is bound is a view

@@ -3,6 +3,7 @@ pub mod PartLaws
 pub mod PutLaws
 pub mod NameLaws
 pub mod OnceLaws
+pub mod LaidLaws
 pub mod SlotLaws
 pub mod StateLaws
 pub mod FreshLaws

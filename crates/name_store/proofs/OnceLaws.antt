@@ -1,6 +1,7 @@
 -- A writable array has no place twice.
 use Rattle.std.proofs.Common.{◌≡◌, ◌≢◌, ◌+◌, ◌*◌, ◌/◌, ◌<◌, ℕ, zero, suc, List, [], ◌∷◌, length, IsTrue, refl, sym, ap, ◌∙◌, slice_index, arith}
 use Rattle.std.proofs.lemmas.List.{length-map}
+use Rattle.elem_descr.specs.Items.{item_size}
 use Rattle.shape_strides.specs.Layouts.{offsets, distance}
 use Rattle.name_store.specs.Invariants.{LiesIn}
 use Rattle.name_store.specs.Parts.{start_at}
@@ -9,7 +10,7 @@ use Rattle.overlap_copy.specs.Blocks.{places_of}
 use Rattle.name_store.specs.View.{array_at, leaf_in, path_in}
 use Rattle.name_store.specs.declared.entry.Entry.{Entry}
 use Rattle.name_store.specs.declared.slot.Slot.{Slot}
-use Rattle.name_store.proofs.PartLaws.{part-of, part-some}
+use Rattle.name_store.proofs.PartLaws.{part-some}
 
 -- the offset of a place
 offset-at : (item start : ℕ) (places : List ℕ) (k : ℕ) → k < length places → slice_index (offsets_of item start places) k ≡ item * slice_index places k + start
@@ -22,12 +23,13 @@ no-distance a b same = omega (arith, same)
 
 pub no_place_twice : (s : Slot) (e : Entry) → LiesIn s e → IsTrue e.writable → (j k : ℕ) → j < k → k < length (array_at e).places → slice_index (array_at e).places j ≢ slice_index (array_at e).places k
 no_place_twice s e lies free j k before within same =
+    let item : ℕ = item_size s.descr in
     let start : ℕ = start_at s.descr (path_in e) in
     let places : List ℕ = places_of e.item (offsets e.layout) in
-    let first : slice_index (offsets e.layout) j ≡ e.item * slice_index places j + start = ap (λ (os : List ℕ). slice_index os j) lies.offsets_are ∙ offset-at e.item start places j (omega (arith, before, within)) in
-    let second : slice_index (offsets e.layout) k ≡ e.item * slice_index places k + start = ap (λ (os : List ℕ). slice_index os k) lies.offsets_are ∙ offset-at e.item start places k within in
-    let alike : slice_index (offsets e.layout) j ≡ slice_index (offsets e.layout) k = first ∙ ap (λ place. e.item * place + start) same ∙ sym second in
+    let first : slice_index (offsets e.layout) j ≡ item * slice_index places j + start = ap (λ (os : List ℕ). slice_index os j) lies.laid.places ∙ offset-at item start places j (omega (arith, before, within)) in
+    let second : slice_index (offsets e.layout) k ≡ item * slice_index places k + start = ap (λ (os : List ℕ). slice_index os k) lies.laid.places ∙ offset-at item start places k within in
+    let alike : slice_index (offsets e.layout) j ≡ slice_index (offsets e.layout) k = first ∙ ap (λ place. item * place + start) same ∙ sym second in
     let counted : length places ≡ length (offsets e.layout) = length-map (offsets e.layout) (λ offset. offset / e.item) in
     let inside : k < length places = within in
-    let far = (lies.nested free).apart j k before (omega (arith, inside, counted)) in
-    omega (arith, far, no-distance (slice_index (offsets e.layout) j) (slice_index (offsets e.layout) k) alike, part-some s.descr s.is_whole.apart s.is_whole.some (leaf_in e) (part-of s e lies))
+    let far = (lies.laid.nested free).apart j k before (omega (arith, inside, counted)) in
+    omega (arith, far, no-distance (slice_index (offsets e.layout) j) (slice_index (offsets e.layout) k) alike, part-some s.descr s.is_whole.apart s.is_whole.some (leaf_in e) lies.laid.part)

@@ -15,7 +15,7 @@ use Rattle.elem_descr.specs.Values.{LeafValue}
 use Rattle.raw_block.specs.Bytes.{put}
 use Rattle.name_store.specs.Parts.{no_leaf, leaf_at, AreApart, descr_at, start_at, part_at, with_part, path_of, IsPartOf}
 use Rattle.name_store.specs.Invariants.{IsFieldIn, LiesIn}
-use Rattle.name_store.specs.View.{descr_in, descr_of_field, leaf_in, own_size, path_in, size_of_field}
+use Rattle.name_store.specs.View.{descr_in, descr_of_field, own_size, path_in, size_of_field}
 use Rattle.name_store.specs.declared.entry.Entry.{Entry}
 use Rattle.name_store.specs.declared.entry.Field.{Field}
 use Rattle.name_store.specs.declared.slot.Slot.{Slot}
@@ -207,13 +207,6 @@ module _ (descr : Descr) (apart : AreApart descr) where
 -- ---- an entry's field
 
 module _ (slot : Slot) (e : Entry) (lies : LiesIn slot e) where
-  pub part-of : IsPartOf slot.descr (leaf_in e)
-  part-of = by_case e.field lies.field
-    where
-      by_case : (field : Option Field) → IsFieldIn slot.descr field → IsPartOf slot.descr (option_map (λ f. f.number) field)
-      by_case None there = tt
-      by_case (Some f) there = there.0
-
   pub own-descr : descr_in e slot.descr ≡ descr_at slot.descr (path_in e)
   own-descr = by_case e.field lies.field
     where

@@ -1,5 +1,5 @@
 -- Arrays in one buffer share cells where their items have a byte in common.
-use Rattle.std.proofs.Common.{◌≡◌, ◌+◌, ◌*◌, ◌<◌, ◌≤◌, ◌^◌, ◌&&◌, ◌||◌, ◌⊎◌, inl, inr, ℕ, suc, Bool, true, false, List, [], ◌∷◌, length, refl, sym, ap, subst, ◌∙◌, Option, Some, None, nat_eq, nat_lt, arith, pos, ◌+ℤ◌, ◌≤ℤ◌}
+use Rattle.std.proofs.Common.{◌≡◌, ◌+◌, ◌*◌, ◌<◌, ◌≤◌, ◌^◌, ◌&&◌, ◌||◌, ◌⊎◌, inl, inr, ℕ, suc, Bool, true, false, List, [], ◌∷◌, refl, sym, ap, subst, ◌∙◌, Option, Some, None, nat_eq, nat_lt, arith, pos, ◌+ℤ◌, ◌≤ℤ◌}
 use Rattle.std.specs.List.{list_any}
 use Rattle.std.specs.Map.{lookup}
 use Rattle.std.proofs.lemmas.Int.{ints}
@@ -21,7 +21,7 @@ use Rattle.name_store.specs.declared.entry.Entry.{Entry}
 use Rattle.name_store.specs.declared.entry.Key.{Key}
 use Rattle.name_store.specs.declared.slot.Slot.{Slot}
 use Rattle.name_store.proofs.NameLaws.{TestsName}
-use Rattle.name_store.proofs.PartLaws.{own-size, part-of, part-some, part-within}
+use Rattle.name_store.proofs.PartLaws.{own-size, part-some, part-within}
 use Rattle.name_store.proofs.SlotLaws.{itself}
 use Rattle.name_store.proofs.StateLaws.{Slots, found-slot, found-lies}
 
@@ -140,21 +140,22 @@ module _ (es : List (Key × Entry)) (slots : Slots) (h : Holds es slots) (test :
   pub entry-some : 1 ≤ own_size e
   entry-some =
       let there = found-slot es slots h test name is e was in
-      omega (arith, own-size there.0 e there.2, part-some there.0.descr there.0.is_whole.apart there.0.is_whole.some (leaf_in e) (part-of there.0 e there.2))
+      omega (arith, own-size there.0 e there.2, part-some there.0.descr there.0.is_whole.apart there.0.is_whole.some (leaf_in e) there.2.laid.part)
 
   pub entry-fits : Fits e.layout (2 ^ 28) (own_size e)
   entry-fits =
       let there = found-slot es slots h test name is e was in
-      Fits-longer e.layout (length there.0.block) (2 ^ 28) (own_size e) there.0.is_whole.small (subst (Fits e.layout (length there.0.block)) (sym (own-size there.0 e there.2)) there.2.fits)
+      let small : there.0.items * item_size there.0.descr ≤ 2 ^ 28 = omega (arith, there.0.is_whole.whole, there.0.is_whole.small) in
+      Fits-longer e.layout (there.0.items * item_size there.0.descr) (2 ^ 28) (own_size e) small (subst (Fits e.layout (there.0.items * item_size there.0.descr)) (sym (own-size there.0 e there.2)) there.2.laid.fits)
 
   -- two arrays in one buffer
   pub shares-one : (test' : Key → Bool) (name' : List ℕ) → TestsName test' name' → (e' : Entry) → lookup test' es ≡ Some e' → e.number ≡ e'.number →
       have_common_byte (offsets e.layout) (own_size e) (offsets e'.layout) (own_size e') ≡ share_cells (array_at e) (array_at e')
   shares-one test' name' is' e' was' same =
-      (λ i. have_common_byte (spread slot e lies i) (own-size slot e lies i) (spread slot e' lies' i) (own-size slot e' lies' i))
+      (λ i. have_common_byte (lies.laid.places i) (own-size slot e lies i) (lies'.laid.places i) (own-size slot e' lies' i))
       ∙ common-parts (item_size slot.descr) (start_in e) (width_in e) (start_in e') (width_in e') (paths_meet (path_in e) (path_in e'))
-      (part-within slot.descr slot.is_whole.apart (leaf_in e) (part-of slot e lies)) (part-within slot.descr slot.is_whole.apart (leaf_in e') (part-of slot e' lies'))
-      (parts-meet slot.descr slot.is_whole.apart slot.is_whole.some (leaf_in e) (leaf_in e') (part-of slot e lies) (part-of slot e' lies'))
+      (part-within slot.descr slot.is_whole.apart (leaf_in e) lies.laid.part) (part-within slot.descr slot.is_whole.apart (leaf_in e') lies'.laid.part)
+      (parts-meet slot.descr slot.is_whole.apart slot.is_whole.some (leaf_in e) (leaf_in e') lies.laid.part lies'.laid.part)
       (places_of e.item (offsets e.layout)) (places_of e'.item (offsets e'.layout))
       ∙ beside (paths_meet (path_in e) (path_in e')) (places_of e.item (offsets e.layout)) (places_of e'.item (offsets e'.layout))
       ∙ sym (ap (λ t. t && paths_meet (path_in e) (path_in e') && list_any (λ place. list_any (nat_eq place) (places_of e'.item (offsets e'.layout))) (places_of e.item (offsets e.layout))) (ap (nat_eq e.number) (sym same) ∙ itself e.number))
@@ -176,6 +177,3 @@ module _ (es : List (Key × Entry)) (slots : Slots) (h : Holds es slots) (test :
 
       width_in : Entry → ℕ
       width_in x = item_size (descr_at slot.descr (path_in x))
-
-      spread : (s : Slot) (x : Entry) → LiesIn s x → offsets x.layout ≡ offsets_of (item_size s.descr) (start_at s.descr (path_in x)) (places_of x.item (offsets x.layout))
-      spread s x in' = in'.offsets_are ∙ ap (λ item. offsets_of item (start_at s.descr (path_in x)) (places_of x.item (offsets x.layout))) in'.item

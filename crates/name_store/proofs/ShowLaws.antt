@@ -1,16 +1,16 @@
--- What a look-up shows.
-use Rattle.std.proofs.Common.{◌≡◌, ◌≤◌, ◌<◌, ◌+◌, ◌*◌, ◌^◌, ℕ, suc, All, arith, List, [], ◌∷◌, length, map, sym, ap, subst, ◌∙◌, Option, Some, unwrap_or, IsTrue}
+-- What a look-up shows: an entry, and the slot that its array lies in.
+use Rattle.std.proofs.Common.{◌≡◌, ◌≤◌, ◌<◌, ◌+◌, ◌*◌, ◌^◌, ℕ, suc, All, arith, List, [], ◌∷◌, length, map, true, refl, sym, ap, subst, ◌∙◌, Option, Some, is_some, unwrap_or}
+use Rattle.std.specs.FinMap.{get}
 use Rattle.std.specs.List.{AllByRecursion}
 use Rattle.std.specs.Option.{option_map}
 use Rattle.std.proofs.lemmas.List.Elements.{All-from_recursion}
 use Rattle.std.proofs.Math.Nat.{mul-suc, mul-le-mul_left}
 use Rattle.elem_descr.specs.Items.{item_size}
-use Rattle.shape_strides.specs.declared.layout.Layout.{Layout}
-use Rattle.shape_strides.specs.Layouts.{offsets, Fits, IsNested}
+use Rattle.shape_strides.specs.Layouts.{offsets}
 use Rattle.name_store.specs.States.{State, Array, Buffer}
-use Rattle.name_store.specs.Arrays.{addresses, buffer_of, descr_of, item_at, no_buffer, read}
+use Rattle.name_store.specs.Arrays.{buffer_of, descr_of, item_at, no_buffer, read}
 use Rattle.elem_descr.specs.Blocks.{items_in, item_from}
-use Rattle.name_store.specs.Parts.{descr_at, start_at, part_at, path_of, IsPartOf}
+use Rattle.name_store.specs.Parts.{descr_at, start_at, part_at}
 use Rattle.name_store.specs.Invariants.{LiesIn}
 use Rattle.name_store.specs.Places.{offsets_of}
 use Rattle.name_store.specs.Shown.{Shows, Finds}
@@ -20,8 +20,9 @@ use Rattle.name_store.specs.declared.entry.Entry.{Entry}
 use Rattle.name_store.specs.declared.entry.Key.{Key}
 use Rattle.name_store.specs.declared.slot.Slot.{Slot}
 use Rattle.name_store.proofs.BlockLaws.{length-items_in}
+use Rattle.name_store.proofs.LaidLaws.{laid-same, places-within}
 use Rattle.name_store.proofs.OnceLaws.{no_place_twice}
-use Rattle.name_store.proofs.PartLaws.{part-of, part-within}
+use Rattle.name_store.proofs.PartLaws.{part-some, part-within}
 use Rattle.name_store.proofs.PutLaws.{items-read}
 use Rattle.name_store.proofs.SlotLaws.{get-buffers}
 use Rattle.name_store.proofs.StateLaws.{Slots}
@@ -58,10 +59,10 @@ module _ (es : List (Key × Entry)) (slots : Slots) (e : Entry) (s : Slot) (r : 
   counted = ap (λ (b : Buffer). length b.items) found ∙ length-items_in s.descr s.items s.block
 
   spread : offsets r.layout.now ≡ offsets_of (item_size s.descr) (start_at s.descr (path_in e)) array.places
-  spread = ap offsets layout-is ∙ lies.offsets_are ∙ ap (λ item. offsets_of item (start_at s.descr (path_in e)) array.places) lies.item
+  spread = ap offsets layout-is ∙ lies.laid.places
 
-  at-places : offsets r.layout.now ≡ addresses (state_of es slots) array
-  at-places = spread ∙ ap (λ d. offsets_of (item_size d) (start_at d (path_in e)) array.places) (sym type-is)
+  within : AllByRecursion (λ place. place < s.items) array.places
+  within = places-within s.descr s.items array (leaf_in e) e.layout e.writable lies.laid (part-some s.descr s.is_whole.apart s.is_whole.some (leaf_in e) lies.laid.part)
 
   size-is : item_size (descr_at s.descr (path_in e)) ≡ item_size r.descr.now
   size-is = ap item_size (sym descr-is)
@@ -69,37 +70,35 @@ module _ (es : List (Key × Entry)) (slots : Slots) (e : Entry) (s : Slot) (r : 
   shown-reads : read (state_of es slots) array ≡ map (item_from r.descr.now r.block.now) (offsets r.layout.now)
   shown-reads =
       ap (λ (b : Buffer). map (λ place. part_at (path_in e) (item_at b.items place)) array.places) found
-      ∙ items-read s.descr s.is_whole.apart (leaf_in e) (part-of s e lies) s.items s.block array.places lies.within
+      ∙ items-read s.descr s.is_whole.apart (leaf_in e) lies.laid.part s.items s.block array.places within
       ∙ ap (map (item_from (descr_at s.descr (path_in e)) s.block)) (sym spread)
       ∙ λ i. map (item_from (sym descr-is i) (sym block-is i)) (offsets r.layout.now)
 
   shown-inside : All (λ offset. offset + item_size r.descr.now ≤ length r.block.now) (offsets r.layout.now)
   shown-inside =
       subst (All (λ offset. offset + item_size r.descr.now ≤ length r.block.now)) (sym spread)
-      (All-from_recursion _ _ (inside-places (item_size s.descr) (start_at s.descr (path_in e)) (item_size r.descr.now) s.items (length r.block.now) array.places lies.within
+      (All-from_recursion _ _ (inside-places (item_size s.descr) (start_at s.descr (path_in e)) (item_size r.descr.now) s.items (length r.block.now) array.places within
       (sym s.is_whole.whole ∙ ap length (sym block-is))
-      (omega (arith, size-is, part-within s.descr s.is_whole.apart (leaf_in e) (part-of s e lies)))))
+      (omega (arith, size-is, part-within s.descr s.is_whole.apart (leaf_in e) lies.laid.part))))
+
+  occupied : is_some (get (state_of es slots).buffers r.number) ≡ true
+  occupied = ap (λ n. is_some (get (state_of es slots).buffers n)) number-is ∙ ap is_some (get-buffers es slots e.number ∙ ap (option_map buffer_in) there)
 
   pub shown : Shows (state_of es slots) array r
   shown = record {
-    number = number-is;
-    path = ap path_of (sym leaf-is);
-    part = subst (IsPartOf buffer.descr) (sym leaf-is) (subst (λ d. IsPartOf d (leaf_in e)) (sym type-is) (part-of s e lies));
-    shape = ap (λ (l : Layout). l.shape) layout-is;
-    places = at-places;
-    writable = writable-is;
+    view = record {
+      number_is = number-is;
+      there = occupied;
+      laid = laid-same s.descr buffer.descr s.items (length buffer.items) array array (leaf_in e) r.leaf e.layout r.layout.now e.writable r.writable
+          (sym type-is) (sym counted) refl (sym leaf-is) (sym layout-is) (sym writable-is) lies.laid;
+    };
     descr = own-is;
     whole = ap length block-is ∙ s.is_whole.whole ∙ λ i. sym counted i * item_size (sym type-is i);
     small = subst (λ (b : List ℕ). length b ≤ 2 ^ 28) (sym block-is) s.is_whole.small;
     items = ap (λ (b : Buffer). b.items) found ∙ λ i. items_in (sym type-is i) (sym counted i) (sym block-is i);
     reads = shown-reads;
     inside = shown-inside;
-    fits = subst (λ (l : Layout). Fits l (length r.block.now) (item_size r.descr.now)) (sym layout-is)
-        (subst (λ n. Fits e.layout n (item_size r.descr.now)) (ap length (sym block-is)) (subst (λ n. Fits e.layout (length s.block) n) size-is lies.fits));
-    fits_limit = subst (λ (l : Layout). Fits l (2 ^ 28) 1) (sym layout-is) lies.fits_limit;
     once = no_place_twice s e lies;
-    nested = λ yes. subst (λ (l : Layout). IsNested (offsets l) (item_size r.descr.now)) (sym layout-is)
-        (subst (λ n. IsNested (offsets e.layout) n) size-is (lies.nested (subst IsTrue writable-is yes)));
   }
 
 pub finds : (s : State) (found : Option Array) (array : Array) (r : ArrayRef) → found ≡ Some array → Shows s array r → Finds s found (Some r)

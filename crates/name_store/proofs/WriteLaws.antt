@@ -11,7 +11,7 @@ use Rattle.std.proofs.lemmas.List.Elements.{All-contains, All-head, All-tail, Al
 use Rattle.elem_descr.specs.Items.{item_size, decode_item}
 use Rattle.shape_strides.specs.declared.layout.Layout.{Layout}
 use Rattle.shape_strides.specs.Indexes.{count}
-use Rattle.shape_strides.specs.Layouts.{offsets, Fits, IsNested}
+use Rattle.shape_strides.specs.Layouts.{offsets}
 use Rattle.name_store.specs.States.{Array, Buffer}
 use Rattle.name_store.specs.Arrays.{find_array, buffer_of, descr_of, write, written, is_in_use}
 use Rattle.elem_descr.specs.Blocks.{items_in}
@@ -26,7 +26,8 @@ use Rattle.name_store.specs.declared.entry.Key.{Key}
 use Rattle.name_store.specs.declared.slot.Slot.{Slot}
 use Rattle.name_store.specs.declared.target.Source.TheVariants.{One}
 use Rattle.name_store.specs.declared.target.Target.TheVariants.{View}
-use Rattle.name_store.proofs.PartLaws.{part-of, part-within}
+use Rattle.name_store.proofs.PartLaws.{part-some, part-within}
+use Rattle.name_store.proofs.LaidLaws.{laid-same, places-within}
 use Rattle.name_store.proofs.PutLaws.{put_each-items}
 use Rattle.name_store.proofs.NameLaws.{TestsName, all-both}
 use Rattle.name_store.proofs.SlotLaws.{get-buffers, tests_agree}
@@ -75,7 +76,7 @@ module _ (es : List (Key × Entry)) (slots : Slots) (h : Holds es slots) (test :
   lies = found-lies es slots h test name is e s was there
 
   within : AllByRecursion (λ place. place < s.items) places
-  within = all-among (λ place. place < s.items) (places_of e.item (offsets e.layout)) places lies.within (subst (λ (a : Array). All (Contains a.places) places) same leads.among)
+  within = all-among (λ place. place < s.items) (places_of e.item (offsets e.layout)) places (places-within s.descr s.items (array_at e) (leaf_in e) e.layout e.writable lies.laid (part-some s.descr s.is_whole.apart s.is_whole.some (leaf_in e) lies.laid.part)) (subst (λ (a : Array). All (Contains a.places) places) same leads.among)
 
   spread : offsets layout ≡ offsets_of (item_size s.descr) (start_at s.descr (path_in e)) places
   spread = leads.offsets_are ∙ λ i. offsets_of (item_size (type-is i)) (start_at (type-is i) (path-is i)) places
@@ -84,13 +85,10 @@ module _ (es : List (Key × Entry)) (slots : Slots) (h : Holds es slots) (test :
   inside =
       subst (All (λ offset. offset + length item.now ≤ length s.block)) (sym spread)
       (All-from_recursion _ _ (inside-places (item_size s.descr) (start_at s.descr (path_in e)) (length item.now) s.items (length s.block) places within (sym s.is_whole.whole)
-      (omega (arith, whole, part-within s.descr s.is_whole.apart (leaf_in e) (part-of s e lies)))))
+      (omega (arith, whole, part-within s.descr s.is_whole.apart (leaf_in e) lies.laid.part))))
 
   module _ (after : Slots) (s' : Slot) (counted : length (offsets layout) ≡ count layout.shape) (descr-is : s'.descr ≡ s.descr) (items-are : s'.items ≡ s.items) (block-is : s'.block ≡ put_each (offsets layout) item.now s.block)
       (set : (q : ℕ) → slot_at after q ≡ cond (nat_eq q e.number) (Some s') (slot_at slots q)) where
-    len : length s'.block ≡ length s.block
-    len = s'.is_whole.whole ∙ (λ i. items-are i * item_size (descr-is i)) ∙ sym s.is_whole.whole
-
     still : (x : Entry) → LiesAt (slot_at slots x.number) x → LiesAt (slot_at after x.number) x
     still x here =
         elim (nat_eq x.number e.number) as (λ t. nat_eq x.number e.number ≡ t → slot_at after x.number ≡ cond t (Some s') (slot_at slots x.number) → LiesAt (slot_at after x.number) x) [
@@ -104,11 +102,7 @@ module _ (es : List (Key × Entry)) (slots : Slots) (h : Holds es slots) (test :
         moved x l = record {
           item = l.item ∙ ap item_size (sym descr-is);
           field = subst (λ d. IsFieldIn d x.field) (sym descr-is) l.field;
-          offsets_are = l.offsets_are ∙ ap (λ d. offsets_of x.item (start_at d (path_in x)) (places_of x.item (offsets x.layout))) (sym descr-is);
-          within = subst (λ n. AllByRecursion (λ place. place < n) (places_of x.item (offsets x.layout))) (sym items-are) l.within;
-          fits = subst (λ d. Fits x.layout (length s'.block) (item_size (descr_at d (path_in x)))) (sym descr-is) (subst (λ n. Fits x.layout n (item_size (descr_at s.descr (path_in x)))) (sym len) l.fits);
-          fits_limit = l.fits_limit;
-          nested = λ yes. subst (λ d. IsNested (offsets x.layout) (item_size (descr_at d (path_in x)))) (sym descr-is) (l.nested yes);
+          laid = laid-same s.descr s'.descr s.items s'.items (array_at x) (array_at x) (leaf_in x) (leaf_in x) x.layout x.layout x.writable x.writable (sym descr-is) (sym items-are) refl refl refl refl l.laid;
         }
 
     pub written-holds : Holds es after
@@ -135,7 +129,7 @@ module _ (es : List (Key × Entry)) (slots : Slots) (h : Holds es slots) (test :
     items-written =
         (λ i. write (path-is i) places (replicate (count layout.shape) (decode_item (own-is i) item.now)) (ap (λ (b : Buffer). b.items) buffer i))
         ∙ ap (λ n. write (path_in e) places (replicate n (decode_item (descr_at s.descr (path_in e)) item.now)) (items_in s.descr s.items s.block)) (sym places-counted)
-        ∙ sym (put_each-items s.descr s.is_whole.apart (leaf_in e) (part-of s e lies) s.items places item.now s.block within whole (omega (arith, s.is_whole.whole)))
+        ∙ sym (put_each-items s.descr s.is_whole.apart (leaf_in e) lies.laid.part s.items places item.now s.block within whole (omega (arith, s.is_whole.whole)))
         ∙ ap (items_in s.descr s.items) (ap (λ os. put_each os item.now s.block) (sym spread) ∙ sym block-is)
         ∙ λ i. items_in (sym descr-is i) (sym items-are i) s'.block
 

@@ -1,31 +1,23 @@
 -- What a look-up shows of an array.
 use Rattle.std.specs.Prelude.{◌≡◌, ◌≢◌, ◌<◌, ℕ, ◌*◌, ◌^◌, slice_index, map, length, Option, Some, None, IsTrue, All, ◌+◌, ◌≤◌}
 use Rattle.elem_descr.specs.Items.{item_size}
-use Rattle.shape_strides.specs.Layouts.{offsets, Fits, IsNested}
+use Rattle.shape_strides.specs.Layouts.{offsets}
 use Rattle.name_store.specs.States.{State, Array}
-use Rattle.name_store.specs.Arrays.{buffer_of, descr_of, addresses, read}
+use Rattle.name_store.specs.Arrays.{buffer_of, descr_of, read}
 use Rattle.elem_descr.specs.Blocks.{items_in, item_from}
-use Rattle.name_store.specs.Parts.{path_of, IsPartOf}
+use Rattle.name_store.specs.Views.{IsViewIn}
 use Rattle.name_store.specs.declared.array_ref.ArrayRef.{ArrayRef}
 
--- the array of a state, by its buffer's block and by a layout of offsets in it
+-- the array of a state, as a view in its buffer, and by its buffer's block
 pub record Shows (s : State) (array : Array) (r : ArrayRef) : Type 0 where
-  pub number : r.number ≡ array.buffer
-  pub path : array.path ≡ path_of r.leaf
-  pub part : IsPartOf (buffer_of s array).descr r.leaf
-  pub shape : r.layout.now.shape ≡ array.shape
-  pub places : offsets r.layout.now ≡ addresses s array
-  pub writable : r.writable ≡ array.writable
+  pub view : IsViewIn s r.number r.leaf r.layout.now r.writable array
   pub descr : descr_of s array ≡ r.descr.now
   pub whole : length r.block.now ≡ length (buffer_of s array).items * item_size (buffer_of s array).descr
   pub small : length r.block.now ≤ 2 ^ 28
   pub items : (buffer_of s array).items ≡ items_in (buffer_of s array).descr (length (buffer_of s array).items) r.block.now
   pub reads : read s array ≡ map (item_from r.descr.now r.block.now) (offsets r.layout.now)
   pub inside : All (λ offset. offset + item_size r.descr.now ≤ length r.block.now) (offsets r.layout.now)
-  pub fits : Fits r.layout.now (length r.block.now) (item_size r.descr.now)
-  pub fits_limit : Fits r.layout.now (2 ^ 28) 1
   pub once : IsTrue array.writable → (j k : ℕ) → j < k → k < length array.places → slice_index array.places j ≢ slice_index array.places k
-  pub nested : IsTrue r.writable → IsNested (offsets r.layout.now) (item_size r.descr.now)
 
 -- what is found shows the array that is there, and nothing is found where none is
 abbrev pub Finds : State → Option Array → Option ArrayRef → Type 0

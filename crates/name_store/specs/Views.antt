@@ -1,33 +1,36 @@
--- Views: arrays in the buffer of another.
-use Rattle.std.specs.Prelude.{◌≡◌, ℕ, ◌*◌, ◌^◌, Bool, List, length, Option, Some, All, IsTrue}
-use Rattle.std.specs.List.{Contains}
+-- Views: layouts whose items are those of an array, in the block of its buffer.
+use Rattle.std.specs.Prelude.{◌≡◌, ℕ, ◌*◌, ◌^◌, true, Bool, length, Option, is_some, IsTrue}
+use Rattle.std.specs.FinMap.{get}
+use Rattle.elem_descr.specs.declared.descr.Descr.{Descr}
 use Rattle.elem_descr.specs.Items.{item_size}
 use Rattle.shape_strides.specs.declared.layout.Layout.{Layout}
 use Rattle.shape_strides.specs.Layouts.{offsets, Fits, IsNested}
 use Rattle.name_store.specs.States.{State, Array}
-use Rattle.name_store.specs.Arrays.{find_array, buffer_of, descr_of, addresses}
-use Rattle.name_store.specs.Parts.{path_of, IsPartOf}
+use Rattle.name_store.specs.Arrays.{buffer_of}
+use Rattle.name_store.specs.Parts.{descr_at, start_at, path_of, IsPartOf}
+use Rattle.name_store.specs.Places.{offsets_of}
 use Rattle.name_store.specs.declared.bound.Bound.{Bound}
 use Rattle.name_store.specs.declared.bound.Bound.TheVariants.{Fresh, View}
 
--- some places of an array that is bound, as a layout in the buffer with this number: of the items there, or of one field
-pub record IsViewIn (s : State) (number : ℕ) (leaf : Option ℕ) (layout : Layout) (writable : Bool) (array : Array) : Type 0 where
-  pub source : List ℕ
-  pub base : Array
-  pub found : find_array s.names source ≡ Some base
-  pub same_buffer : array.buffer ≡ base.buffer
-  pub among : All (Contains base.places) array.places
-  pub number_is : number ≡ array.buffer
+-- A layout has the items of an array over n items of an element type: these items, or one field of each. Their offsets
+-- are the addresses of the places, the last of them ends within the n items, and those that may be written lie apart.
+pub record IsLaidOut (descr : Descr) (n : ℕ) (array : Array) (leaf : Option ℕ) (layout : Layout) (writable : Bool) : Type 0 where
   pub path : array.path ≡ path_of leaf
-  pub part : IsPartOf (buffer_of s array).descr leaf
+  pub part : IsPartOf descr leaf
   pub shape : layout.shape ≡ array.shape
-  pub places : offsets layout ≡ addresses s array
+  pub places : offsets layout ≡ offsets_of (item_size descr) (start_at descr array.path) array.places
   pub writable_is : writable ≡ array.writable
-  pub fits : Fits layout (length (buffer_of s array).items * item_size (buffer_of s array).descr) (item_size (descr_of s array))
+  pub fits : Fits layout (n * item_size descr) (item_size (descr_at descr array.path))
   pub fits_limit : Fits layout (2 ^ 28) 1
-  pub nested : IsTrue writable → IsNested (offsets layout) (item_size (descr_of s array))
+  pub nested : IsTrue writable → IsNested (offsets layout) (item_size (descr_at descr array.path))
 
--- a view is of an array that is bound
+-- so has one those of an array of the state, in the buffer with this number, which is there
+pub record IsViewIn (s : State) (number : ℕ) (leaf : Option ℕ) (layout : Layout) (writable : Bool) (array : Array) : Type 0 where
+  pub number_is : number ≡ array.buffer
+  pub there : is_some (get s.buffers number) ≡ true
+  pub laid : IsLaidOut (buffer_of s array).descr (length (buffer_of s array).items) array leaf layout writable
+
+-- what a name is bound to has a block of its own, or lies in a buffer that is there
 abbrev pub MayBind : State → Bound → Type 0
 MayBind s (Fresh o) = Unit {0}
 MayBind s (View number leaf layout writable) = (array : Array) × IsViewIn s number leaf layout writable array

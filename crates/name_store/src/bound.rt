@@ -2,8 +2,8 @@
 use overlap_copy::Owned;
 use shape_strides::Layout;
 
-/// What a name is bound to: an array with a block of its own, or a view of an array that is bound,
-/// by the number of its buffer, the number of the field that it has of each item where it has not the
+/// What a name is bound to: an array with a block of its own, or a view in a buffer that is there, by
+/// the number of the buffer, the number of the field that it has of each item where it has not the
 /// whole, and a layout whose offsets are bytes in the buffer's block.
 #[derive(Drop)]
 pub enum Bound {

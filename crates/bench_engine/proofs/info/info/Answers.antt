@@ -16,10 +16,10 @@ returns-clause-answers c =
     let it = found s _ c.in-Some.array c.in-Some.ensures in
     let any = spare s in
     let r = c.in-Some.array in
-    let at : addresses s it.0 ≡ offsets r.layout.now = sym it.2.places in (
+    let at : addresses s it.0 ≡ offsets r.layout.now = sym it.2.view.laid.places in (
       any.0,
       any.1,
       info_text c.args.name.now r.descr.now r.layout.now.shape (offsets r.layout.now) r.writable,
-      info-done s c.args.name.now it.0 it.1 ∙ (λ i. Ok (s, info_text c.args.name.now (it.2.descr i) (sym it.2.shape i) (at i) (sym it.2.writable i))),
+      info-done s c.args.name.now it.0 it.1 ∙ (λ i. Ok (s, info_text c.args.name.now (it.2.descr i) (sym it.2.view.laid.shape i) (at i) (sym it.2.view.laid.writable_is i))),
       c.in_ok-push_info_text.ensures.ok,
     )

@@ -39,7 +39,7 @@ returns-in_err-target-clause-answers c =
       refl,
       unchanged _,
       view-refused _ _ c.in-Some.array.layout.now _ _ (bound c.args.bench.now c.args.name.now it.0 it.1) c.in_err-target.ensures.view
-          (λ bad choice. set-index _ _ _ _ _ it.0 _ plain it.1 ((λ i. basic (sym it.2.shape i) (items i)) ∙ bad)),
+          (λ bad choice. set-index _ _ _ _ _ it.0 _ plain it.1 ((λ i. basic (sym it.2.view.laid.shape i) (items i)) ∙ bad)),
     )
 
 pub returns-then-not-array-clause-answers : goal.returns-then-not-array-clause-answers
@@ -48,8 +48,8 @@ returns-then-not-array-clause-answers c =
     let it = found c.args.bench.now _ c.in-Some.array c.in-Some.ensures in
     let view = given-view c.in-Some.array.layout.now c.in_ok-target.target _ c.in_ok-target.ensures.view in
     let items = ap (map basic_item) (sym c.as_slice-2.ensures) ∙ sym (c.as_slice-3.ensures ∙ c.in_ok-items.ensures) in
-    let there = (λ i. basic (sym it.2.shape i) (items i)) ∙ view.1 in
-    (refl, unchanged _, inr (λ choice. set-read_only _ _ _ _ _ it.0 view.0 plain it.1 there (sym it.2.writable ∙ c.if-not-array.true)))
+    let there = (λ i. basic (sym it.2.view.laid.shape i) (items i)) ∙ view.1 in
+    (refl, unchanged _, inr (λ choice. set-read_only _ _ _ _ _ it.0 view.0 plain it.1 there (sym it.2.view.laid.writable_is ∙ c.if-not-array.true)))
 
 pub returns-in_err-item-clause-answers : goal.returns-in_err-item-clause-answers
 returns-in_err-item-clause-answers c =
@@ -64,9 +64,9 @@ returns-in_err-write_item-clause-answers c =
     let it = found c.args.bench.now _ c.in-Some.array c.in-Some.ensures in
     let view = given-view c.in-Some.array.layout.now c.in_ok-target.target _ c.in_ok-target.ensures.view in
     let items = ap (map basic_item) (sym c.as_slice-2.ensures) ∙ sym (c.as_slice-3.ensures ∙ c.in_ok-items.ensures) in
-    let there = (λ i. basic (sym it.2.shape i) (items i)) ∙ view.1 in
+    let there = (λ i. basic (sym it.2.view.laid.shape i) (items i)) ∙ view.1 in
     let bad = ap (λ (d : Descr). item_value d c.args.literal.now) it.2.descr ∙ c.in_err-write_item.ensures.value in
-    rw (p.1, p.2) (refl, unchanged _, inr (λ choice. set-literal _ _ _ _ _ it.0 view.0 _ plain it.1 there (sym it.2.writable ∙ c.if-not-array.false) bad))
+    rw (p.1, p.2) (refl, unchanged _, inr (λ choice. set-literal _ _ _ _ _ it.0 view.0 _ plain it.1 there (sym it.2.view.laid.writable_is ∙ c.if-not-array.false) bad))
 
 pub write_items-requires : goal.write_items-requires
 write_items-requires c =
@@ -96,7 +96,7 @@ returns-clause-answers c =
     let it = found s _ c.in-Some.array c.in-Some.ensures in
     let view = given-view c.in-Some.array.layout.now c.in_ok-target.target _ c.in_ok-target.ensures.view in
     let items = ap (map basic_item) (sym c.as_slice-2.ensures) ∙ sym (c.as_slice-3.ensures ∙ c.in_ok-items.ensures) in
-    let there = (λ i. basic (sym it.2.shape i) (items i)) ∙ view.1 in
+    let there = (λ i. basic (sym it.2.view.laid.shape i) (items i)) ∙ view.1 in
     let places = (viewed it.0 view.0).places in
     let aim = leads _ _ it.0 c.in-Some.array view.0 c.in_ok-target.target it.1 it.2 c.if-not-array.false view.2 in
     let n = c.in_ok-count.ensures.0 ∙ ap count view.2.shape in
@@ -108,6 +108,6 @@ returns-clause-answers c =
       any.0,
       any.1,
       codes "ok set " ++ decimal (count view.0.shape),
-      set-done s _ _ _ _ it.0 view.0 item plain it.1 there (sym it.2.writable ∙ c.if-not-array.false) value ∙ (λ i. Ok (sym done i, codes "ok set " ++ decimal (count view.0.shape))),
+      set-done s _ _ _ _ it.0 view.0 item plain it.1 there (sym it.2.view.laid.writable_is ∙ c.if-not-array.false) value ∙ (λ i. Ok (sym done i, codes "ok set " ++ decimal (count view.0.shape))),
       c.push_count.ensures.told ∙ ap (λ n. c.args.out.now.items ++ (codes "ok set " ++ decimal n)) n,
     )

@@ -30,7 +30,7 @@ bind-requires c =
     let there = ap (field_of c.in-Some.array.descr.now) (c.as_slice-2.ensures ∙ sym c.as_slice.ensures) ∙ sym c.in-Some-leaf_of.ensures in
     let some : 1 ≤ size c.leaf_at-scalar.result.0 = subst (λ (n : ℕ). 1 ≤ n) c.size-size.ensures.value c.size-size.ensures.not_empty in
     may-bind _ _ _ _ _ _ (part_of it.0 c.in-Some-leaf_of.leaf) c.view_of-view.ensures
-    (seen-field _ c.args.source.now it.0 c.in-Some.array c.as_slice-2.result.now c.in-Some-leaf_of.leaf c.leaf_at-scalar.result.1 c.leaf_at-scalar.result.0 c.in_ok-layout.layout it.1 it.2 there c.leaf_at-scalar.ensures.leaf some c.in_ok-layout.ensures.field)
+    (seen-field _ it.0 c.in-Some.array c.as_slice-2.result.now c.in-Some-leaf_of.leaf c.leaf_at-scalar.result.1 c.leaf_at-scalar.result.0 c.in_ok-layout.layout it.2 there c.leaf_at-scalar.ensures.leaf some c.in_ok-layout.ensures.field)
 
 pub returns-clause-answers : goal.returns-clause-answers
 returns-clause-answers c =
@@ -39,10 +39,10 @@ returns-clause-answers c =
     let scalar = c.leaf_at-scalar.result.0 in
     let there = ap (field_of c.in-Some.array.descr.now) (c.as_slice-2.ensures ∙ sym c.as_slice.ensures) ∙ sym c.in-Some-leaf_of.ensures in
     let some : 1 ≤ size scalar = subst (λ (n : ℕ). 1 ≤ n) c.size-size.ensures.value c.size-size.ensures.not_empty in
-    let seen = seen-field _ c.args.source.now it.0 c.in-Some.array c.as_slice-2.result.now c.in-Some-leaf_of.leaf c.leaf_at-scalar.result.1 scalar c.in_ok-layout.layout it.1 it.2 there c.leaf_at-scalar.ensures.leaf some c.in_ok-layout.ensures.field in
+    let seen = seen-field _ it.0 c.in-Some.array c.as_slice-2.result.now c.in-Some-leaf_of.leaf c.leaf_at-scalar.result.1 scalar c.in_ok-layout.layout it.2 there c.leaf_at-scalar.ensures.leaf some c.in_ok-layout.ensures.field in
     let descr = part-descr _ it.0 c.in-Some.array c.as_slice-2.result.now c.in-Some-leaf_of.leaf c.leaf_at-scalar.result.1 scalar it.2 there c.leaf_at-scalar.ensures.leaf in
     let named = (λ i. field_of (it.2.descr i) (sym c.as_slice.ensures i)) ∙ sym c.in-Some-leaf_of.ensures in
     view-answers c.args.bench.now c.bind.new.self c.args.name.now _ _ c.view_of-view.result c.in-Some.array.number (Some c.in-Some-leaf_of.leaf) c.in_ok-layout.layout c.in-Some.array.writable part c.bind.result (view_text c.args.name.now (ScalarDescr scalar) c.in_ok-layout.layout.shape)
     c.args.out.now.items c.push_view_text.new.out.items (bound c.args.bench.now c.args.source.now it.0 it.1) (sym c.if-not-has_room_for.ensures)
-    (λ choice. field-done c.args.bench.now c.args.name.now c.args.source.now c.args.field.now it.0 c.in-Some-leaf_of.leaf it.1 (sym c.if-not-has_room_for.ensures) named ∙ λ i. Ok (bound_view c.args.bench.now c.args.name.now part, view_text c.args.name.now (descr i) (sym seen.shape i)))
+    (λ choice. field-done c.args.bench.now c.args.name.now c.args.source.now c.args.field.now it.0 c.in-Some-leaf_of.leaf it.1 (sym c.if-not-has_room_for.ensures) named ∙ λ i. Ok (bound_view c.args.bench.now c.args.name.now part, view_text c.args.name.now (descr i) (sym seen.laid.shape i)))
     c.in_ok-push_view_text.ensures.ok c.view_of-view.ensures seen c.bind.ensures

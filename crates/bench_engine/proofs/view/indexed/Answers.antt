@@ -40,14 +40,14 @@ returns-in_err-layout-clause-answers c =
       refl,
       unchanged _,
       view-refused _ _ c.in-Some.array.layout.now _ _ (bound c.args.bench.now c.args.source.now it.0 it.1) c.in_err-layout.ensures.view
-          (λ bad choice. index-bad _ _ _ _ _ it.0 _ plain it.1 (sym c.if-not-has_room_for.ensures) ((λ i. basic (sym it.2.shape i) (items i)) ∙ bad)),
+          (λ bad choice. index-bad _ _ _ _ _ it.0 _ plain it.1 (sym c.if-not-has_room_for.ensures) ((λ i. basic (sym it.2.view.laid.shape i) (items i)) ∙ bad)),
     )
 
 pub bind-requires : goal.bind-requires
 bind-requires c =
     let it = found c.args.bench.now _ c.in-Some.array c.in-Some.ensures in
     let view = given-view c.in-Some.array.layout.now c.in_ok-layout.layout _ c.in_ok-layout.ensures.view in
-    may-bind _ _ _ _ _ _ (viewed it.0 view.0) c.view_of-view.ensures (seen _ c.args.source.now it.0 c.in-Some.array view.0 c.in_ok-layout.layout it.1 it.2 view.2)
+    may-bind _ _ _ _ _ _ (viewed it.0 view.0) c.view_of-view.ensures (seen _ it.0 c.in-Some.array view.0 c.in_ok-layout.layout it.2 view.2)
 
 pub returns-clause-answers : goal.returns-clause-answers
 returns-clause-answers c =
@@ -55,8 +55,8 @@ returns-clause-answers c =
     let it = found c.args.bench.now _ c.in-Some.array c.in-Some.ensures in
     let view = given-view c.in-Some.array.layout.now c.in_ok-layout.layout _ c.in_ok-layout.ensures.view in
     let items = ap (map basic_item) (sym c.as_slice-2.ensures) ∙ sym (c.as_slice-3.ensures ∙ c.in_ok-items.ensures) in
-    let there = (λ i. basic (sym it.2.shape i) (items i)) ∙ view.1 in
+    let there = (λ i. basic (sym it.2.view.laid.shape i) (items i)) ∙ view.1 in
     view-answers c.args.bench.now c.bind.new.self c.args.name.now _ _ c.view_of-view.result c.in-Some.array.number c.in-Some.array.leaf c.in_ok-layout.layout c.in-Some.array.writable (viewed it.0 view.0) c.bind.result (view_text c.args.name.now c.in-Some.array.descr.now c.in_ok-layout.layout.shape)
     c.args.out.now.items c.push_view_text.new.out.items (bound c.args.bench.now c.args.source.now it.0 it.1) (sym c.if-not-has_room_for.ensures)
     (λ choice. index-done c.args.bench.now c.args.name.now c.args.source.now _ _ it.0 view.0 plain it.1 (sym c.if-not-has_room_for.ensures) there ∙ λ i. Ok (bound_view c.args.bench.now c.args.name.now (viewed it.0 view.0), view_text c.args.name.now (it.2.descr i) (sym view.2.shape i)))
-    c.in_ok-push_view_text.ensures.ok c.view_of-view.ensures (seen _ c.args.source.now it.0 c.in-Some.array view.0 c.in_ok-layout.layout it.1 it.2 view.2) c.bind.ensures
+    c.in_ok-push_view_text.ensures.ok c.view_of-view.ensures (seen _ it.0 c.in-Some.array view.0 c.in_ok-layout.layout it.2 view.2) c.bind.ensures
