@@ -9,6 +9,7 @@ pub mod DefaultNames
 pub mod Turns
 pub mod Binds
 pub mod Fields
+pub mod Steps
 pub mod WrittenMembers
 pub mod RoundTrip
 pub mod Vectors

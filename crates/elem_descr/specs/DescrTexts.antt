@@ -1,5 +1,5 @@
 -- A descriptor as a script gives it: a type string or a format text.
-use Rattle.std.specs.Prelude.{ℕ, Bool, true, false, List, [], ◌∷◌, codes, ◌&&◌, ◌||◌, if◌then◌else◌, Result, Ok}
+use Rattle.std.specs.Prelude.{ℕ, Bool, false, List, [], ◌∷◌, codes, ◌&&◌, ◌||◌, if◌then◌else◌, Result, Ok}
 use Rattle.std.specs.Char.{is_ascii_digit}
 use Rattle.elem_descr.specs.declared.refusal.Refusal.{Refusal}
 use Rattle.elem_descr.specs.declared.descr.Descr.{Descr}

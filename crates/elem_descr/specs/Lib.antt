@@ -6,6 +6,7 @@ pub mod Names
 pub mod Descriptors
 pub mod Items
 pub mod Blocks
+pub mod Steps
 pub mod FormatTexts
 pub mod Partials
 pub mod WrittenFormats

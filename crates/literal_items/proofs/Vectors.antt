@@ -1,5 +1,11 @@
 -- Literals and ranges as items, worked out by hand and by NumPy.
-use Rattle.std.proofs.Common.{◌≡◌, true, false, pos, negsuc, [], ◌∷◌, Ok, Err, codes, refl}
+use Rattle.std.proofs.Common.{◌≡◌, ◌≢◌, ◌<◌, ℕ, true, false, pos, negsuc, ◌-ℤ◌, [], ◌∷◌, length, map, Ok, Err, codes, refl, sym, ap, arith}
+use Rattle.std.specs.Int.{int_max}
+use Rattle.std.specs.List.{list_all}
+use Rattle.std.proofs.lemmas.Int.{ints}
+use Rattle.elem_descr.specs.Steps.{stepped, IsGap}
+use Rattle.literal_items.specs.Numbers.{is_value}
+use Rattle.literal_items.proofs.Stepping.{numbers-divided, count-divided, range_length-large, range_length-ok, range_items-refused, range_items-ok}
 use Rattle.elem_descr.specs.declared.refusal.Refusal.TheVariants.{LiteralOutOfRange, NoSuchCast, TooLarge, ZeroStep}
 use Rattle.elem_descr.specs.declared.scalar.Order.TheVariants.{Little, Big}
 use Rattle.elem_descr.specs.declared.scalar.Width.TheVariants.{Four, Eight}
@@ -114,45 +120,58 @@ many = refl
 
 -- numpy.arange
 signed_byte_passed : range_items (Byte true) (pos 0) (pos 201) (pos 100) ≡ Err LiteralOutOfRange
-unfolding range_items range_length
+unfolding range_items range_length stepped
 signed_byte_passed = refl
 
 signed_byte : range_items (Byte true) (pos 0) (pos 200) (pos 100) ≡ Ok ((number (pos 0) ∷ []) ∷ (number (pos 100) ∷ []) ∷ [])
-unfolding range_items range_length
+unfolding range_items range_length stepped
 signed_byte = refl
 
 five : range_items (Int true Four Little) (pos 0) (pos 5) (pos 1) ≡ Ok ((number (pos 0) ∷ []) ∷ (number (pos 1) ∷ []) ∷ (number (pos 2) ∷ []) ∷ (number (pos 3) ∷ []) ∷ (number (pos 4) ∷ []) ∷ [])
-unfolding range_items range_length
+unfolding range_items range_length stepped
 five = refl
 
 backwards : range_items (Int true Four Little) (pos 5) (pos 0) (negsuc 1) ≡ Ok ((number (pos 5) ∷ []) ∷ (number (pos 3) ∷ []) ∷ (number (pos 1) ∷ []) ∷ [])
-unfolding range_items range_length
+unfolding range_items range_length stepped
 backwards = refl
 
 none : range_items (Int true Four Little) (pos 3) (pos 3) (pos 1) ≡ Ok []
-unfolding range_items range_length
+unfolding range_items range_length stepped
 none = refl
 
 away : range_items (Int true Four Little) (pos 0) (pos 5) (negsuc 0) ≡ Ok []
-unfolding range_items range_length
+unfolding range_items range_length stepped
 away = refl
 
-three : range_items (Int false Eight Little) (pos 0) (pos 18446744073709551615) (pos 9223372036854775807) ≡ Ok ((number (pos 0) ∷ []) ∷ (number (pos 9223372036854775807) ∷ []) ∷ (number (pos 18446744073709551614) ∷ []) ∷ [])
-unfolding range_items range_length
-three = refl
+no_step : range_items (Int true Four Little) (pos 0) (pos 5) (pos 0) ≡ Err ZeroStep
+unfolding range_items range_length stepped
+no_step = refl
 
-too_many : range_items (Int true Eight Little) (pos 0) (pos 999999999999999999999999999999) (pos 1) ≡ Err TooLarge
-unfolding range_items range_length
-too_many = refl
+-- ranges whose numbers are too many to list, by the quotient
+
+forth : (gap start stop step : ℕ) → pos gap ≡ int_max (pos stop -ℤ pos start) (pos 0) → IsGap gap (pos start) (pos stop) (pos step)
+forth gap start stop step is = record { back = λ below. absurd (omega (arith, ints)); forth = λ _. is }
+
+moves : (step : ℕ) → 0 < step → pos step ≢ pos 0
+moves step some none = absurd (omega (arith, ints))
+
+three : range_items (Int false Eight Little) (pos 0) (pos 18446744073709551615) (pos 9223372036854775807) ≡ Ok ((number (pos 0) ∷ []) ∷ (number (pos 9223372036854775807) ∷ []) ∷ (number (pos 18446744073709551614) ∷ []) ∷ [])
+three =
+    let step = moves 9223372036854775807 (omega arith) in
+    let gap = forth 18446744073709551615 0 18446744073709551615 9223372036854775807 refl in
+    let numbers = numbers-divided 18446744073709551615 (pos 0) (pos 18446744073709551615) (pos 9223372036854775807) step gap in
+    range_items-ok (Int false Eight Little) (pos 0) (pos 18446744073709551615) (pos 9223372036854775807) 3 _ (range_length-ok (pos 0) (pos 18446744073709551615) (pos 9223372036854775807) 3 step (sym (ap length numbers)) (omega arith))
+    (ap (list_all (is_value (Int false Eight Little))) numbers) (ap (map (λ value. number value ∷ [])) numbers)
 
 one_too_many : range_length (pos 0) (pos 16777217) (pos 1) ≡ Err TooLarge
-unfolding range_length
-one_too_many = refl
+one_too_many = range_length-large (pos 0) (pos 16777217) (pos 1) 16777217 (moves 1 (omega arith)) (sym (count-divided 16777217 (pos 0) (pos 16777217) (pos 1) (moves 1 (omega arith)) (forth 16777217 0 16777217 1 refl))) (omega arith)
 
 as_many_as_may_be : range_length (pos 0) (pos 16777216) (pos 1) ≡ Ok 16777216
-unfolding range_length
-as_many_as_may_be = refl
+as_many_as_may_be = range_length-ok (pos 0) (pos 16777216) (pos 1) 16777216 (moves 1 (omega arith)) (sym (count-divided 16777216 (pos 0) (pos 16777216) (pos 1) (moves 1 (omega arith)) (forth 16777216 0 16777216 1 refl))) (omega arith)
 
-no_step : range_items (Int true Four Little) (pos 0) (pos 5) (pos 0) ≡ Err ZeroStep
-unfolding range_items range_length
-no_step = refl
+too_many : range_items (Int true Eight Little) (pos 0) (pos 999999999999999999999999999999) (pos 1) ≡ Err TooLarge
+too_many =
+    let step = moves 1 (omega arith) in
+    let gap = forth 999999999999999999999999999999 0 999999999999999999999999999999 1 refl in
+    range_items-refused (Int true Eight Little) (pos 0) (pos 999999999999999999999999999999) (pos 1) TooLarge
+    (range_length-large (pos 0) (pos 999999999999999999999999999999) (pos 1) 999999999999999999999999999999 step (sym (count-divided 999999999999999999999999999999 (pos 0) (pos 999999999999999999999999999999) (pos 1) step gap)) (omega arith))

@@ -6,9 +6,10 @@ ghost use Rattle.elem_descr.specs.declared.descr.Descr.TheVariants.{Scalar as Sc
 ghost use Rattle.elem_descr.specs.Encoding.{IsNumber, size};
 ghost use Rattle.elem_descr.specs.Items.{decode_item};
 ghost use Rattle.elem_descr.specs.Blocks.{blocks};
+ghost use Rattle.elem_descr.specs.Steps.{is_before, numbers_from, IsGap};
 ghost use Rattle.elem_descr.specs.Values.{number};
 ghost use Rattle.literal_items.specs.Numbers.{is_value};
-ghost use Rattle.literal_items.specs.RangeItems.{is_before, distance, range_count, range_length, numbers_from, range_items};
+ghost use Rattle.literal_items.specs.RangeItems.{range_numbers, range_count, range_length, range_items};
 
 use crate::number::is_value;
 use elem_descr::{Refusal, Scalar, num_write};
@@ -18,7 +19,7 @@ const MAX_NUMBERS: u128 = 1 << 24;
 
 /// How far the stop is from the start, as the step goes.
 fn distance(start: &i128, stop: &i128, step: &i128) -> u128
-    ensures value { result ≡ distance start.now stop.now step.now }
+    ensures gap { IsGap result start.now stop.now step.now }
     ensures start_fits { FitsSigned w128 start.now }
     ensures stop_fits { FitsSigned w128 stop.now }
 {
@@ -35,6 +36,7 @@ fn distance(start: &i128, stop: &i128, step: &i128) -> u128
 pub fn range_len(start: &i128, stop: &i128, step: &i128) -> Result<usize, Refusal>
     ensures value { result ≡ range_length start.now stop.now step.now }
     ensures count { IfOk result (λ n. n ≡ range_count start.now stop.now step.now) }
+    ensures numbers { IfOk result (λ n. range_numbers start.now stop.now step.now ≡ numbers_from start.now step.now n) }
     ensures few { IfOk result (λ n. n ≤ 2 ^ 24) }
     ensures before { IfOk result (λ n. (k : ℕ) → (k < n) ↔ IsTrue (is_before step.now stop.now (start.now +ℤ step.now *ℤ pos k))) }
     ensures fits { IfOk result (λ n. (k : ℕ) → k < n → FitsSigned w128 (start.now +ℤ step.now *ℤ pos k)) }

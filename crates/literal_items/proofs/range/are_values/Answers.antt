@@ -2,9 +2,10 @@ use Rattle.std.proofs.Common.{◌≡◌, ◌+◌, pos, ◌+ℤ◌, ◌*ℤ◌, s
 use Rattle.std.specs.Prelude.{FitsSigned}
 use Rattle.std.specs.Int.{w128, cast_signed}
 use Rattle.literal_items.specs.Numbers.{is_value}
-use Rattle.literal_items.specs.RangeItems.{numbers_from}
+use Rattle.elem_descr.specs.Steps.{numbers_from}
 use Rattle.literal_items.proofs.Lists.{all_more, all_fails, all_passed}
-use Rattle.literal_items.proofs.Stepping.{length-numbers_from, number_at, next_sum}
+use Rattle.elem_descr.proofs.Steps.{length-numbers_from, number_at}
+use Rattle.literal_items.proofs.Stepping.{next_sum}
 use Rattle.literal_items.proofs.range.are_values.Goals as goal
 
 pub returns-then-not-is_value : goal.returns-then-not-is_value

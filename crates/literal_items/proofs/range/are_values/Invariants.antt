@@ -1,7 +1,7 @@
 use Rattle.std.proofs.Common.{◌≡◌, ◌<◌, pos, ◌+ℤ◌, ◌*ℤ◌, true, take}
 use Rattle.std.specs.List.{list_all}
 use Rattle.literal_items.specs.Numbers.{is_value}
-use Rattle.literal_items.specs.RangeItems.{numbers_from}
+use Rattle.elem_descr.specs.Steps.{numbers_from}
 use Rattle.literal_items.proofs.range.are_values.Given as goal
 
 -- the numbers so far are values, and the next one is at hand

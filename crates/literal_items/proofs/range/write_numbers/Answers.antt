@@ -9,11 +9,12 @@ use Rattle.elem_descr.specs.Encoding.{size}
 use Rattle.elem_descr.specs.Items.{decode_item}
 use Rattle.elem_descr.specs.Blocks.{blocks}
 use Rattle.literal_items.specs.Numbers.{is_value}
-use Rattle.literal_items.specs.RangeItems.{numbers_from}
+use Rattle.elem_descr.specs.Steps.{numbers_from}
 use Rattle.literal_items.proofs.Lists.{all_at, map_more}
 use Rattle.literal_items.proofs.Blocked.{map-blocks-put}
 use Rattle.literal_items.proofs.Scalars.{scalar_read, value_is}
-use Rattle.literal_items.proofs.Stepping.{length-numbers_from, number_at, next_sum}
+use Rattle.elem_descr.proofs.Steps.{length-numbers_from, number_at}
+use Rattle.literal_items.proofs.Stepping.{next_sum}
 use Rattle.literal_items.proofs.range.write_numbers.Goals as goal
 
 pub loop-k-preserved : goal.loop-k-preserved

@@ -4,7 +4,7 @@ use Rattle.elem_descr.specs.Values.{number}
 use Rattle.elem_descr.specs.Encoding.{size}
 use Rattle.elem_descr.specs.Items.{decode_item}
 use Rattle.elem_descr.specs.Blocks.{blocks}
-use Rattle.literal_items.specs.RangeItems.{numbers_from}
+use Rattle.elem_descr.specs.Steps.{numbers_from}
 use Rattle.literal_items.proofs.range.write_numbers.Given as goal
 
 -- the block begins with the numbers so far, and the next one is at hand

@@ -6,7 +6,6 @@ use Rattle.elem_descr.specs.Encoding.{size}
 use Rattle.elem_descr.specs.Items.{decode_item}
 use Rattle.elem_descr.specs.Blocks.{blocks}
 use Rattle.literal_items.specs.Numbers.{is_value}
-use Rattle.literal_items.specs.RangeItems.{numbers_from}
 use Rattle.literal_items.proofs.Stepping.{range_items-refused, range_items-beyond, range_items-ok}
 use Rattle.std.specs.List.{list_all}
 use Rattle.literal_items.proofs.range.write_range.Goals as goal
@@ -14,15 +13,15 @@ use Rattle.literal_items.proofs.range.write_range.Goals as goal
 pub returns-then-not-are_values-clause-value : goal.returns-then-not-are_values-clause-value
 returns-then-not-are_values-clause-value c =
     range_items-beyond c.args.scalar.now c.args.start.now c.args.stop.now c.args.step.now c.in_ok-count.count (sym c.in_ok-count.ensures.value)
-    (ap (λ n. list_all (is_value c.args.scalar.now) (numbers_from c.args.start.now c.args.step.now n)) (sym c.in_ok-count.ensures.count) ∙ sym c.are_values.ensures ∙ c.if-not-are_values.true)
+    (ap (list_all (is_value c.args.scalar.now)) c.in_ok-count.ensures.numbers ∙ sym c.are_values.ensures ∙ c.if-not-are_values.true)
 
 pub returns-clause-value : goal.returns-clause-value
 returns-clause-value c =
     let scalar = c.args.scalar.now in
     let count = c.in_ok-count.ensures.count in
     range_items-ok scalar c.args.start.now c.args.stop.now c.args.step.now c.in_ok-count.count _ (sym c.in_ok-count.ensures.value)
-    (ap (λ n. list_all (is_value scalar) (numbers_from c.args.start.now c.args.step.now n)) (sym count) ∙ sym c.are_values.ensures ∙ c.if-not-are_values.false)
-    (ap (λ n. map (λ value. number value ∷ []) (numbers_from c.args.start.now c.args.step.now n)) (sym count) ∙ sym c.write_numbers.ensures ∙ ap (λ n. map (decode_item (ScalarDescr scalar)) (blocks (size scalar) n c.write_numbers.new.block)) count)
+    (ap (list_all (is_value scalar)) c.in_ok-count.ensures.numbers ∙ sym c.are_values.ensures ∙ c.if-not-are_values.false)
+    (ap (map (λ value. number value ∷ [])) c.in_ok-count.ensures.numbers ∙ sym c.write_numbers.ensures ∙ ap (λ n. map (decode_item (ScalarDescr scalar)) (blocks (size scalar) n c.write_numbers.new.block)) count)
 
 pub returns-in_err-count-clause-value : goal.returns-in_err-count-clause-value
 returns-in_err-count-clause-value c =
