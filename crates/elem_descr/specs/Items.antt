@@ -1,9 +1,10 @@
 -- The items of a descriptor: one value per leaf.
-use Rattle.std.specs.Prelude.{◌+◌, ◌-◌, ℕ, List, [], ◌∷◌, ◌++◌, map, position, take, drop, replicate, Option, None}
+use Rattle.std.specs.Prelude.{◌+◌, ◌-◌, ◌<◌, ◌≤◌, ℕ, List, [], ◌∷◌, ◌++◌, length, get_or, map, position, take, drop, replicate, Option, None}
 use Rattle.std.specs.Str.{bytes_eq}
 use Rattle.elem_descr.specs.declared.descr.Descr.{Descr}
 use Rattle.elem_descr.specs.declared.descr.Descr.TheVariants.{Scalar as ScalarDescr, Record as RecordDescr}
 use Rattle.elem_descr.specs.declared.leaf.Leaf.{Leaf}
+use Rattle.elem_descr.specs.declared.scalar.Scalar.TheVariants.{Bool as BoolScalar}
 use Rattle.elem_descr.specs.Values.{LeafValue}
 use Rattle.elem_descr.specs.Encoding.{size, decode, encode}
 
@@ -16,6 +17,19 @@ item_size (RecordDescr structure) = structure.size
 abbrev pub leaves_of : Descr → List Leaf
 leaves_of (ScalarDescr scalar) = record { name = []; scalar = scalar; at = 0 } ∷ []
 leaves_of (RecordDescr structure) = structure.leaves
+
+abbrev pub no_leaf : Leaf
+no_leaf = record { name = []; scalar = BoolScalar; at = 0 }
+
+-- the leaf with a number
+abbrev pub leaf_at : Descr → ℕ → Leaf
+leaf_at descr k = get_or (leaves_of descr) k no_leaf
+
+-- each leaf has a byte or more, ends within the item, and begins where those before it end, or later
+pub record AreApart (descr : Descr) : Type 0 where
+  pub some : (k : ℕ) → k < length (leaves_of descr) → 1 ≤ size (leaf_at descr k).scalar
+  pub within : (k : ℕ) → k < length (leaves_of descr) → (leaf_at descr k).at + size (leaf_at descr k).scalar ≤ item_size descr
+  pub apart : (j k : ℕ) → j < k → k < length (leaves_of descr) → (leaf_at descr j).at + size (leaf_at descr j).scalar ≤ (leaf_at descr k).at
 
 -- the place of the leaf with this name
 abbrev pub leaf_named : List Leaf → List ℕ → Option ℕ

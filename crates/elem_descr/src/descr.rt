@@ -2,7 +2,7 @@
 ghost use Rattle.std.specs.Prelude.{◌≡◌, ◌≤◌, ◌<◌, ◌+◌, length, slice_get, IfOk, IfSome};
 ghost use Rattle.elem_descr.specs.Encoding.{size};
 ghost use Rattle.elem_descr.specs.Descriptors.{IsLegal};
-ghost use Rattle.elem_descr.specs.Items.{item_size, leaves_of, leaf_named, field_of};
+ghost use Rattle.elem_descr.specs.Items.{item_size, leaves_of, leaf_named, field_of, AreApart};
 
 use crate::leaf::Leaf;
 use crate::scalar::Scalar;
@@ -42,7 +42,8 @@ fn copied(alloc: Global, leaves: &[Leaf]) -> Result<Vec<Leaf>, AllocError>
 }
 
 fn leaf_in(leaves: &[Leaf], name: &[u8]) -> Option<usize>
-    ensures { result ≡ leaf_named leaves.now name.now }
+    ensures value { result ≡ leaf_named leaves.now name.now }
+    ensures below { IfSome result (λ k. k < length leaves.now) }
 {
     leaves.iter().position(|leaf| leaf.name.as_slice() == name)
 }
@@ -61,6 +62,7 @@ impl Record {
         ensures value { result ≡ self.now.size }
         ensures not_empty { 1 ≤ result }
         ensures within { result ≤ 65536 }
+        ensures legal { IsLegal self.now }
     {
         self.size
     }
@@ -79,6 +81,7 @@ impl Record {
         requires { k < length self.now.leaves }
         ensures leaf { IfSome (slice_get self.now.leaves k) (λ leaf. (result.0 ≡ leaf.scalar) × (result.1 ≡ leaf.at)) }
         ensures within { result.1 + size result.0 ≤ self.now.size }
+        ensures small { result.1 < 65536 }
     {
         let leaf = &self.leaves[k];
         (leaf.scalar, leaf.at)
@@ -104,10 +107,12 @@ pub enum Descr {
 
 impl Descr {
     /// The bytes of one item.
+    #[tactic(auto, using(crate::proofs::Fields::scalar_apart, crate::proofs::Fields::record_apart))]
     pub fn size(&self) -> usize
         ensures value { result ≡ item_size self.now }
         ensures not_empty { 1 ≤ result }
         ensures within { result ≤ 65536 }
+        ensures apart { AreApart self.now }
     {
         match self {
             Descr::Scalar(scalar) => scalar.size(),
@@ -132,6 +137,7 @@ impl Descr {
         requires { k < length (leaves_of self.now) }
         ensures leaf { IfSome (slice_get (leaves_of self.now) k) (λ leaf. (result.0 ≡ leaf.scalar) × (result.1 ≡ leaf.at)) }
         ensures within { result.1 + size result.0 ≤ item_size self.now }
+        ensures small { result.1 < 65536 }
     {
         match self {
             Descr::Scalar(scalar) => (*scalar, 0),
@@ -140,8 +146,10 @@ impl Descr {
     }
 
     /// The place of the field with this name among the fields. A scalar has none.
+    #[tactic(auto, using(crate::proofs::Fields::leaf_below))]
     pub fn leaf_of(&self, name: &[u8]) -> Option<usize>
-        ensures { result ≡ field_of self.now name.now }
+        ensures value { result ≡ field_of self.now name.now }
+        ensures below { IfSome result (λ k. k < length (leaves_of self.now)) }
     {
         match self {
             Descr::Scalar(_) => None,

@@ -1,5 +1,5 @@
 -- The leaves of an item, each with its literal.
-use Rattle.std.proofs.Common.{◌≡◌, ◌+◌, ◌-◌, ◌≤◌, ◌<◌, ℕ, zero, suc, Bool, true, false, Some, List, [], ◌∷◌, ◌++◌, length, get_or, take, drop, map, replicate, sym, ap, ◌∙◌, refl, arith, append_assoc, length-append}
+use Rattle.std.proofs.Common.{◌≡◌, ◌+◌, ◌-◌, ◌≤◌, ◌<◌, ℕ, suc, Bool, true, false, Some, List, [], ◌∷◌, ◌++◌, length, get_or, take, drop, map, replicate, sym, ap, ◌∙◌, refl, arith, append_assoc, length-append}
 use Rattle.std.specs.Prelude.{slice_get}
 use Rattle.std.specs.List.{All, list_all}
 use Rattle.std.proofs.lemmas.List.{length-replicate, get_or_read, take_all, take_at, drop_at, take-replicate, drop-replicate, take_more, drop_more, take-append-drop}
@@ -12,6 +12,7 @@ use Rattle.elem_descr.specs.Values.{LeafValue}
 use Rattle.elem_descr.specs.Encoding.{size, encode, decode}
 use Rattle.elem_descr.specs.Descriptors.{InOrder}
 use Rattle.elem_descr.specs.Items.{encode_from}
+use Rattle.elem_descr.proofs.Fields.{InOrder-within}
 use Rattle.script_lang.specs.declared.literal.ScalarLiteral.{ScalarLiteral}
 use Rattle.script_lang.specs.declared.literal.Literal.{Literal}
 use Rattle.literal_items.proofs.Lists.{all_more, all_fails, all_at}
@@ -26,21 +27,6 @@ pub given_at : (leaves : List Leaf) (literal : Literal) (k : ℕ) (leaf : Leaf) 
 given_at leaves literal k leaf value d covered low is there =
     get_or-zip leaves (literals_for (length leaves) literal) k d low (omega arith)
     ∙ (λ i. (sym (get_or_read leaves k leaf low is d.0) i, get_or_from_slice_get (literals_for (length leaves) literal) k value d.1 there i))
-
--- ---- fields in order
-
-pub InOrder-within : (from : ℕ) (leaves : List Leaf) (bytes : ℕ) → InOrder from leaves bytes → from ≤ bytes
-InOrder-within from [] bytes h = h
-InOrder-within from (leaf ∷ leaves) bytes h = omega (arith, h.0, InOrder-within (leaf.at + size leaf.scalar) leaves bytes h.2)
-
-entry_within : (from : ℕ) (leaves : List Leaf) (bytes k : ℕ) (d : Leaf) → InOrder from leaves bytes → k < length leaves → (get_or leaves k d).at + size (get_or leaves k d).scalar ≤ bytes
-entry_within from [] bytes k d order low = absurd (omega arith)
-entry_within from (leaf ∷ leaves) bytes zero d order low = InOrder-within (leaf.at + size leaf.scalar) leaves bytes order.2
-entry_within from (leaf ∷ leaves) bytes (suc k) d order low = entry_within (leaf.at + size leaf.scalar) leaves bytes k d order.2 (omega arith)
-
--- each field lies within the bytes
-pub field_within : (from : ℕ) (leaves : List Leaf) (bytes k : ℕ) (leaf : Leaf) → InOrder from leaves bytes → k < length leaves → leaf ≡ get_or leaves k leaf → leaf.at + size leaf.scalar ≤ bytes
-field_within from leaves bytes k leaf order low is = rw (← is) at (entry_within from leaves bytes k leaf order low)
 
 -- ---- bytes put over others
 

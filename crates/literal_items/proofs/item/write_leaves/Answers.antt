@@ -3,7 +3,8 @@ use Rattle.elem_descr.specs.declared.leaf.Leaf.{Leaf}
 use Rattle.elem_descr.specs.Encoding.{size, decode}
 use Rattle.script_lang.specs.declared.literal.ScalarLiteral.{ScalarLiteral}
 use Rattle.literal_items.specs.LiteralItems.{is_castable}
-use Rattle.literal_items.proofs.Leaves.{IsTurn, put, turn_passed, turn_written, turn_sound, whole_written, whole_read, field_within}
+use Rattle.elem_descr.proofs.Fields.{leaf_within}
+use Rattle.literal_items.proofs.Leaves.{IsTurn, put, turn_passed, turn_written, turn_sound, whole_written, whole_read}
 use Rattle.literal_items.proofs.item.write_leaves.Goals as goal
 
 abbrev can : Leaf × ScalarLiteral → Bool
@@ -20,7 +21,7 @@ loop-k-preserved c =
     let low : c.loop-k.k < length c.args.leaves.now = omega arith in
     let turn : IsTurn c.args.leaves.now c.args.literal.now c.loop-k.k c.index-leaves-k.result c.literal_at.result.now = record { covered = c.requires.covered; low = low; is = c.index-leaves-k.is; there = c.literal_at.ensures (length c.args.leaves.now) low } in
     let width : c.index-leaves-k.result.at + c.size.result - c.index-leaves-k.result.at ≡ size c.index-leaves-k.result.scalar = omega arith in
-    let within = field_within 0 c.args.leaves.now (length c.args.item.now) c.loop-k.k c.index-leaves-k.result c.requires.order low c.index-leaves-k.is in
+    let within = leaf_within 0 c.args.leaves.now (length c.args.item.now) c.loop-k.k c.index-leaves-k.result c.requires.order low c.index-leaves-k.is in
     let long : length c.loop-k.item ≡ length c.args.item.now = c.loop-k.auto.item ∙ c.fill.ensures.len in
     let whole : length c.write_leaf.new.item ≡ size c.index-leaves-k.result.scalar = c.write_leaf.auto.item ∙ length-take (c.index-leaves-k.result.at + c.size.result - c.index-leaves-k.result.at) (drop c.index-leaves-k.result.at c.loop-k.item) ∙ omega (arith, long, length-drop c.index-leaves-k.result.at c.loop-k.item) in
     record {
