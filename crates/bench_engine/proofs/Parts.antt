@@ -10,13 +10,13 @@ use Rattle.elem_descr.specs.declared.descr.Descr.TheVariants.{Scalar as ScalarDe
 use Rattle.elem_descr.specs.declared.leaf.Leaf.{Leaf}
 use Rattle.elem_descr.specs.declared.scalar.Scalar.{Scalar}
 use Rattle.elem_descr.specs.Encoding.{size}
-use Rattle.elem_descr.specs.Items.{item_size, leaves_of, leaf_named, field_of}
+use Rattle.elem_descr.specs.Items.{item_size, leaves_of, no_leaf, leaf_at, leaf_named, field_of}
 use Rattle.shape_strides.specs.declared.layout.Layout.{Layout}
 use Rattle.shape_strides.specs.Layouts.{address, offsets, Fits, IsNested}
 use Rattle.view_ops.specs.FieldViews.{IsFieldOf, GivesField}
 use Rattle.name_store.specs.States.{State, Array}
 use Rattle.name_store.specs.Arrays.{buffer_of, descr_of}
-use Rattle.name_store.specs.Parts.{leaf_at, no_leaf, descr_at, start_at, path_of}
+use Rattle.name_store.specs.Parts.{descr_at, start_at, path_of}
 use Rattle.name_store.specs.Places.{offsets_of}
 use Rattle.name_store.specs.Shown.{Shows}
 use Rattle.name_store.specs.Views.{IsViewIn}

@@ -7,48 +7,17 @@ use Rattle.elem_descr.specs.declared.descr.Descr.{Descr}
 use Rattle.elem_descr.specs.declared.leaf.Leaf.{Leaf}
 use Rattle.elem_descr.specs.declared.scalar.Scalar.{Scalar}
 use Rattle.elem_descr.specs.Blocks.{item_from}
-use Rattle.elem_descr.specs.declared.descr.Descr.TheVariants.{Scalar as ScalarDescr, Record as RecordDescr}
-use Rattle.elem_descr.specs.Descriptors.{InOrder, IsLegal, Structure}
 use Rattle.elem_descr.specs.Encoding.{size, decode}
-use Rattle.elem_descr.specs.Items.{item_size, leaves_of, decode_item}
+use Rattle.elem_descr.specs.Items.{item_size, leaves_of, no_leaf, leaf_at, AreApart, decode_item}
 use Rattle.elem_descr.specs.Values.{LeafValue}
 use Rattle.raw_block.specs.Bytes.{put}
-use Rattle.name_store.specs.Parts.{no_leaf, leaf_at, AreApart, descr_at, start_at, part_at, with_part, path_of, IsPartOf}
+use Rattle.name_store.specs.Parts.{descr_at, start_at, part_at, with_part, path_of, IsPartOf}
 use Rattle.name_store.specs.Invariants.{IsFieldIn, LiesIn}
 use Rattle.name_store.specs.View.{descr_in, descr_of_field, own_size, path_in, size_of_field}
 use Rattle.name_store.specs.declared.entry.Entry.{Entry}
 use Rattle.name_store.specs.declared.entry.Field.{Field}
 use Rattle.name_store.specs.declared.slot.Slot.{Slot}
 use Rattle.name_store.proofs.BlockLaws.{drop-drop}
-
--- ---- fields in order
-
-last-within : (from : ℕ) (leaves : List Leaf) (bytes : ℕ) → InOrder from leaves bytes → from ≤ bytes
-last-within from [] bytes order = order
-last-within from (leaf ∷ leaves) bytes order = omega (arith, order.0, last-within (leaf.at + size leaf.scalar) leaves bytes order.2)
-
--- a field begins no earlier than where those before it end
-begins-after : (from : ℕ) (leaves : List Leaf) (bytes k : ℕ) → InOrder from leaves bytes → k < length leaves → from ≤ (get_or leaves k no_leaf).at
-begins-after from [] bytes k order low = absurd (omega arith)
-begins-after from (leaf ∷ leaves) bytes zero order low = order.0
-begins-after from (leaf ∷ leaves) bytes (suc k) order low = omega (arith, order.0, begins-after (leaf.at + size leaf.scalar) leaves bytes k order.2 (omega arith))
-
-ends-within : (from : ℕ) (leaves : List Leaf) (bytes k : ℕ) → InOrder from leaves bytes → k < length leaves → (get_or leaves k no_leaf).at + size (get_or leaves k no_leaf).scalar ≤ bytes
-ends-within from [] bytes k order low = absurd (omega arith)
-ends-within from (leaf ∷ leaves) bytes zero order low = last-within (leaf.at + size leaf.scalar) leaves bytes order.2
-ends-within from (leaf ∷ leaves) bytes (suc k) order low = ends-within (leaf.at + size leaf.scalar) leaves bytes k order.2 (omega arith)
-
-some-bytes : (from : ℕ) (leaves : List Leaf) (bytes k : ℕ) → InOrder from leaves bytes → k < length leaves → 1 ≤ size (get_or leaves k no_leaf).scalar
-some-bytes from [] bytes k order low = absurd (omega arith)
-some-bytes from (leaf ∷ leaves) bytes zero order low = order.1
-some-bytes from (leaf ∷ leaves) bytes (suc k) order low = some-bytes (leaf.at + size leaf.scalar) leaves bytes k order.2 (omega arith)
-
--- of two fields, the one ends before the other begins
-one-before : (from : ℕ) (leaves : List Leaf) (bytes j k : ℕ) → InOrder from leaves bytes → j < k → k < length leaves → (get_or leaves j no_leaf).at + size (get_or leaves j no_leaf).scalar ≤ (get_or leaves k no_leaf).at
-one-before from [] bytes j k order less low = absurd (omega arith)
-one-before from (leaf ∷ leaves) bytes j zero order less low = absurd (omega arith)
-one-before from (leaf ∷ leaves) bytes zero (suc k) order less low = begins-after (leaf.at + size leaf.scalar) leaves bytes k order.2 (omega arith)
-one-before from (leaf ∷ leaves) bytes (suc j) (suc k) order less low = one-before (leaf.at + size leaf.scalar) leaves bytes j k order.2 (omega arith) (omega arith)
 
 -- ---- bytes of a part
 
@@ -142,20 +111,6 @@ one-put to (suc k) item xs (leaf ∷ leaves) low is whole within before after =
     more = omega arith
 
 -- ---- a part of an item
-
--- so it is in a record that is legal
-apart-in_order : (descr : Descr) → InOrder 0 (leaves_of descr) (item_size descr) → AreApart descr
-apart-in_order descr order = record {
-  some = λ k low. some-bytes 0 (leaves_of descr) (item_size descr) k order low;
-  within = λ k low. ends-within 0 (leaves_of descr) (item_size descr) k order low;
-  apart = λ j k less low. one-before 0 (leaves_of descr) (item_size descr) j k order less low;
-}
-
-pub apart-scalar : (descr : Descr) (scalar : Scalar) → descr ≡ ScalarDescr scalar → 1 ≤ item_size descr → AreApart descr
-apart-scalar descr scalar is some = rw is (apart-in_order (ScalarDescr scalar) (omega arith, omega (arith, some, ap item_size is), omega arith))
-
-pub apart-record : (descr : Descr) (structure : Structure) → descr ≡ RecordDescr structure → IsLegal structure → AreApart descr
-apart-record descr structure is legal = rw is (apart-in_order (RecordDescr structure) legal.in_order)
 
 module _ (descr : Descr) (apart : AreApart descr) where
   pub part-within : (leaf : Option ℕ) → IsPartOf descr leaf → start_at descr (path_of leaf) + item_size (descr_at descr (path_of leaf)) ≤ item_size descr

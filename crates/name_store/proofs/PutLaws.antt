@@ -3,10 +3,10 @@ use Rattle.std.proofs.Common.{◌≡◌, ◌+◌, ◌*◌, ◌<◌, ◌≤◌, �
 use Rattle.std.specs.List.{AllByRecursion}
 use Rattle.elem_descr.specs.declared.descr.Descr.{Descr}
 use Rattle.elem_descr.specs.Blocks.{items_in, item_from}
-use Rattle.elem_descr.specs.Items.{item_size, decode_item}
+use Rattle.elem_descr.specs.Items.{item_size, decode_item, AreApart}
 use Rattle.raw_block.specs.Bytes.{put}
 use Rattle.name_store.specs.Arrays.{item_at, write}
-use Rattle.name_store.specs.Parts.{AreApart, descr_at, start_at, part_at, with_part, path_of, IsPartOf}
+use Rattle.name_store.specs.Parts.{descr_at, start_at, part_at, with_part, path_of, IsPartOf}
 use Rattle.name_store.specs.Places.{offsets_of}
 use Rattle.name_store.specs.Targets.{put_each}
 use Rattle.name_store.proofs.BlockLaws.{drop-drop, put-add, put-item, item-at, item-inside, length-put}

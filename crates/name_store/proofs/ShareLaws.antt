@@ -7,13 +7,13 @@ use Rattle.std.proofs.lemmas.Bool.{eqb-true, eqb-false, ltb-true, ltb-false, lt-
 use Rattle.std.proofs.Math.Bool.{and-false, and-true}
 use Rattle.std.proofs.Math.Nat.{mul-suc, mul-le-mul_left}
 use Rattle.elem_descr.specs.declared.descr.Descr.{Descr}
-use Rattle.elem_descr.specs.Items.{item_size}
+use Rattle.elem_descr.specs.Items.{item_size, AreApart}
 use Rattle.shape_strides.specs.declared.layout.Layout.{Layout}
 use Rattle.shape_strides.specs.Layouts.{address, offsets, Fits}
 use Rattle.overlap_copy.specs.Overlaps.{have_common_byte}
 use Rattle.name_store.specs.Arrays.{paths_meet, share_cells}
 use Rattle.name_store.specs.Invariants.{Holds, LiesIn}
-use Rattle.name_store.specs.Parts.{AreApart, descr_at, start_at, path_of, IsPartOf}
+use Rattle.name_store.specs.Parts.{descr_at, start_at, path_of, IsPartOf}
 use Rattle.name_store.specs.Places.{offsets_of}
 use Rattle.overlap_copy.specs.Blocks.{places_of}
 use Rattle.name_store.specs.View.{array_at, leaf_in, own_size, path_in, slot_at}

@@ -1,25 +1,9 @@
 -- Parts of an item: the whole of it, or the field that a path of field numbers leads to.
-use Rattle.std.specs.Prelude.{◌<◌, ◌≤◌, ℕ, ◌+◌, List, [], ◌∷◌, ◌++◌, length, take, drop, get_or, Option, Some, None}
+use Rattle.std.specs.Prelude.{◌<◌, ℕ, ◌+◌, List, [], ◌∷◌, ◌++◌, length, take, drop, Option, Some, None}
 use Rattle.elem_descr.specs.declared.descr.Descr.{Descr}
 use Rattle.elem_descr.specs.declared.descr.Descr.TheVariants.{Scalar as ScalarDescr}
-use Rattle.elem_descr.specs.declared.leaf.Leaf.{Leaf}
-use Rattle.elem_descr.specs.declared.scalar.Scalar.TheVariants.{Bool as BoolScalar}
-use Rattle.elem_descr.specs.Encoding.{size}
-use Rattle.elem_descr.specs.Items.{item_size, leaves_of}
+use Rattle.elem_descr.specs.Items.{leaves_of, leaf_at}
 use Rattle.elem_descr.specs.Values.{LeafValue}
-
-abbrev pub no_leaf : Leaf
-no_leaf = record { name = []; scalar = BoolScalar; at = 0 }
-
--- the field with a number
-abbrev pub leaf_at : Descr → ℕ → Leaf
-leaf_at descr k = get_or (leaves_of descr) k no_leaf
-
--- each field has a byte or more, ends within the item, and begins where those before it end, or later
-pub record AreApart (descr : Descr) : Type 0 where
-  pub some : (k : ℕ) → k < length (leaves_of descr) → 1 ≤ size (leaf_at descr k).scalar
-  pub within : (k : ℕ) → k < length (leaves_of descr) → (leaf_at descr k).at + size (leaf_at descr k).scalar ≤ item_size descr
-  pub apart : (j k : ℕ) → j < k → k < length (leaves_of descr) → (leaf_at descr j).at + size (leaf_at descr j).scalar ≤ (leaf_at descr k).at
 
 -- the element type of a part
 abbrev pub descr_at : Descr → List ℕ → Descr

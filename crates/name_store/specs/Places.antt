@@ -1,8 +1,7 @@
 -- Places in a buffer, and the offsets of their items in its block.
 use Rattle.std.specs.Prelude.{◌≡◌, ◌≤◌, ℕ, ◌+◌, ◌*◌, ◌^◌, List, map, length}
 use Rattle.elem_descr.specs.declared.descr.Descr.{Descr}
-use Rattle.elem_descr.specs.Items.{item_size}
-use Rattle.name_store.specs.Parts.{AreApart}
+use Rattle.elem_descr.specs.Items.{item_size, AreApart}
 
 -- where a part of the items at these places begins, if each has so many bytes, and the part so many before it
 abbrev pub offsets_of : ℕ → ℕ → List ℕ → List ℕ

@@ -24,14 +24,8 @@ impl Slot {
         ensures items { result.items ≡ items }
         ensures block { result.block ≡ block }
     {
-        // What is known of the sizes and offsets of the fields comes with these calls.
+        // What is known of the sizes and offsets of the fields comes with this call.
         let _size = descr.size();
-        match &descr {
-            Descr::Scalar(_) => {}
-            Descr::Record(record) => {
-                let _leaves = record.leaves();
-            }
-        }
         Slot {
             descr,
             items,

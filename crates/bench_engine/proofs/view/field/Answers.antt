@@ -21,13 +21,13 @@ returns-then-not-has_room_for-clause-answers c =
 pub returns-in_default-leaf_of-clause-answers : goal.returns-in_default-leaf_of-clause-answers
 returns-in_default-leaf_of-clause-answers c =
     let it = found c.args.bench.now _ c.in-Some.array c.in-Some.ensures in
-    let none = (λ i. field_of (it.2.descr i) (sym c.as_slice.ensures i)) ∙ sym c.in_default-leaf_of.ensures in
+    let none = (λ i. field_of (it.2.descr i) (sym c.as_slice.ensures i)) ∙ sym c.in_default-leaf_of.ensures.value in
     (refl, unchanged _, inr (λ choice. field-none _ _ _ _ it.0 it.1 (sym c.if-not-has_room_for.ensures) none))
 
 pub bind-requires : goal.bind-requires
 bind-requires c =
     let it = found c.args.bench.now _ c.in-Some.array c.in-Some.ensures in
-    let there = ap (field_of c.in-Some.array.descr.now) (c.as_slice-2.ensures ∙ sym c.as_slice.ensures) ∙ sym c.in-Some-leaf_of.ensures in
+    let there = ap (field_of c.in-Some.array.descr.now) (c.as_slice-2.ensures ∙ sym c.as_slice.ensures) ∙ sym c.in-Some-leaf_of.ensures.value in
     let some : 1 ≤ size c.leaf_at-scalar.result.0 = subst (λ (n : ℕ). 1 ≤ n) c.size-size.ensures.value c.size-size.ensures.not_empty in
     may-bind _ _ _ _ _ _ (part_of it.0 c.in-Some-leaf_of.leaf) c.view_of-view.ensures
     (seen-field _ it.0 c.in-Some.array c.as_slice-2.result.now c.in-Some-leaf_of.leaf c.leaf_at-scalar.result.1 c.leaf_at-scalar.result.0 c.in_ok-layout.layout it.2 there c.leaf_at-scalar.ensures.leaf some c.in_ok-layout.ensures.field)
@@ -37,11 +37,11 @@ returns-clause-answers c =
     let it = found c.args.bench.now _ c.in-Some.array c.in-Some.ensures in
     let part = part_of it.0 c.in-Some-leaf_of.leaf in
     let scalar = c.leaf_at-scalar.result.0 in
-    let there = ap (field_of c.in-Some.array.descr.now) (c.as_slice-2.ensures ∙ sym c.as_slice.ensures) ∙ sym c.in-Some-leaf_of.ensures in
+    let there = ap (field_of c.in-Some.array.descr.now) (c.as_slice-2.ensures ∙ sym c.as_slice.ensures) ∙ sym c.in-Some-leaf_of.ensures.value in
     let some : 1 ≤ size scalar = subst (λ (n : ℕ). 1 ≤ n) c.size-size.ensures.value c.size-size.ensures.not_empty in
     let seen = seen-field _ it.0 c.in-Some.array c.as_slice-2.result.now c.in-Some-leaf_of.leaf c.leaf_at-scalar.result.1 scalar c.in_ok-layout.layout it.2 there c.leaf_at-scalar.ensures.leaf some c.in_ok-layout.ensures.field in
     let descr = part-descr _ it.0 c.in-Some.array c.as_slice-2.result.now c.in-Some-leaf_of.leaf c.leaf_at-scalar.result.1 scalar it.2 there c.leaf_at-scalar.ensures.leaf in
-    let named = (λ i. field_of (it.2.descr i) (sym c.as_slice.ensures i)) ∙ sym c.in-Some-leaf_of.ensures in
+    let named = (λ i. field_of (it.2.descr i) (sym c.as_slice.ensures i)) ∙ sym c.in-Some-leaf_of.ensures.value in
     view-answers c.args.bench.now c.bind.new.self c.args.name.now _ _ c.view_of-view.result c.in-Some.array.number (Some c.in-Some-leaf_of.leaf) c.in_ok-layout.layout c.in-Some.array.writable part c.bind.result (view_text c.args.name.now (ScalarDescr scalar) c.in_ok-layout.layout.shape)
     c.args.out.now.items c.push_view_text.new.out.items (bound c.args.bench.now c.args.source.now it.0 it.1) (sym c.if-not-has_room_for.ensures)
     (λ choice. field-done c.args.bench.now c.args.name.now c.args.source.now c.args.field.now it.0 c.in-Some-leaf_of.leaf it.1 (sym c.if-not-has_room_for.ensures) named ∙ λ i. Ok (bound_view c.args.bench.now c.args.name.now part, view_text c.args.name.now (descr i) (sym seen.laid.shape i)))
