@@ -137,7 +137,6 @@ fn push_array(
     layout: &Layout,
     descr: &Descr,
 ) -> Result<(), AllocError>
-    requires fits { Fits layout.now (2 ^ 28) 1 }
     requires inside { All (λ offset. offset + item_size descr.now ≤ length block.now) (offsets layout.now) }
     ensures ok { OnOk result (out.new.items ≡ out.old.items
         ++ array_text descr.now layout.now.shape (items_at descr.now block.now (offsets layout.now))) }
@@ -166,7 +165,6 @@ pub fn print_into(
     layout: &Layout,
     descr: &Descr,
 ) -> Result<(), AllocError>
-    requires fits { Fits layout.now (2 ^ 28) 1 }
     requires inside { All (λ offset. offset + item_size descr.now ≤ length block.now) (offsets layout.now) }
     ensures ok { OnOk result (out.new.items ≡ out.old.items
         ++ array_text descr.now layout.now.shape (items_at descr.now block.now (offsets layout.now))) }

@@ -47,7 +47,6 @@ fn leaf_width(
     descr: &Descr,
 ) -> Result<usize, AllocError>
     requires leaf { k < length (leaves_of descr.now) }
-    requires fits { Fits layout.now (2 ^ 28) 1 }
     requires inside { All (λ offset. offset + item_size descr.now ≤ length block.now) (offsets layout.now) }
     ensures { IfOk result (λ width. width
         ≡ get_or (widths descr.now layout.now.shape (items_at descr.now block.now (offsets layout.now))) k 0) }
@@ -71,7 +70,6 @@ pub fn widths_of(
     layout: &Layout,
     descr: &Descr,
 ) -> Result<SmallVec<usize, 8>, AllocError>
-    requires fits { Fits layout.now (2 ^ 28) 1 }
     requires inside { All (λ offset. offset + item_size descr.now ≤ length block.now) (offsets layout.now) }
     ensures { IfOk result (λ v. v.items
         ≡ widths descr.now layout.now.shape (items_at descr.now block.now (offsets layout.now))) }

@@ -1,5 +1,5 @@
 -- Views of an array that is looked up: all of it, and one of its items.
-use Rattle.std.proofs.Common.{◌≡◌, ◌+◌, ◌*◌, ◌≤◌, ◌^◌, ℕ, Bool, List, [], ◌∷◌, length, map, refl, sym, ap, subst, ◌∙◌, Option, Some, None, slice_get, All, Contains, IsTrue, IfOk, arith, pos, ◌+ℤ◌, Bor, true}
+use Rattle.std.proofs.Common.{◌≡◌, ◌+◌, ◌*◌, ◌≤◌, ◌^◌, ℕ, Bool, List, [], ◌∷◌, length, map, refl, sym, ap, subst, ◌∙◌, Option, Some, None, slice_get, All, Contains, IsTrue, IfOk, arith, pos, ℤ, ◌<◌, ◌+ℤ◌, Bor, true}
 use Rattle.std.specs.Option.{option_map, ok_or}
 use Rattle.std.proofs.lemmas.Int.{ints}
 use Rattle.std.proofs.lemmas.List.Elements.{All-contains, All-contains_itself}
@@ -8,7 +8,8 @@ use Rattle.elem_descr.specs.Items.{item_size}
 use Rattle.elem_descr.specs.declared.refusal.Refusal.{Refusal}
 use Rattle.shape_strides.specs.declared.layout.Layout.{Layout}
 use Rattle.shape_strides.specs.Indexes.{indexes}
-use Rattle.shape_strides.specs.Layouts.{address, dot, natural, offsets, Fits, IsNested}
+use Rattle.shape_strides.specs.Addresses.{address_at, dot, natural, LieWithin}
+use Rattle.shape_strides.specs.Layouts.{address, offsets, Fits, IsNested}
 use Rattle.name_store.specs.States.{State, Array}
 use Rattle.name_store.specs.Arrays.{find_array, buffer_of, descr_of}
 use Rattle.name_store.specs.Parts.{start_at}
@@ -32,6 +33,16 @@ place-at item start places k offset h = by_case (slice_get places k) refl
     by_case None e = let no : None ≡ Some offset = ap (option_map (λ place. item * place + start)) (sym e) ∙ sym (slice_get-map (λ place. item * place + start) places k) ∙ h in cc
     by_case (Some place) e = let same : Some (item * place + start) ≡ Some offset = ap (option_map (λ place. item * place + start)) (sym e) ∙ sym (slice_get-map (λ place. item * place + start) places k) ∙ h in (place, e, cc)
 
+-- an array with no axes
+pub alone-lies : (shape : List ℕ) (strides : List ℤ) (offset len item : ℕ) → strides ≡ [] → offset + item ≤ len → LieWithin shape strides offset len item
+alone-lies shape strides offset len item strides-are h = record {
+  from_zero = λ index _. let at : address_at strides offset index ≡ pos offset = alone index in omega (arith, ints);
+  within = λ index _. let at : address_at strides offset index ≡ pos offset = alone index in omega (arith, ints);
+}
+  where
+    alone : (index : List ℕ) → address_at strides offset index ≡ pos offset
+    alone index = ap (λ s. pos offset +ℤ dot s index) strides-are ∙ ap pos (omega arith)
+
 -- a layout with no axes
 module _ (l : Layout) (shape-is : l.shape ≡ []) (strides-are : l.strides ≡ []) where
   alone-address : (index : List ℕ) → address l index ≡ pos l.offset
@@ -42,12 +53,7 @@ module _ (l : Layout) (shape-is : l.shape ≡ []) (strides-are : l.strides ≡ [
   alone-offsets = ap (λ shape. map (λ index. natural (address l index)) (indexes shape)) shape-is ∙ ap (λ z. natural z ∷ []) (alone-address [])
 
   alone-fits : (len item : ℕ) → l.offset + item ≤ len → Fits l len item
-  alone-fits len item h = record {
-    from_zero = λ index _. let at : address l index ≡ pos l.offset = alone-address index in omega (arith, ints);
-    within = λ index _.
-        let at : address l index ≡ pos l.offset = alone-address index in
-        omega (arith, ints);
-  }
+  alone-fits len item h = alone-lies l.shape l.strides l.offset len item strides-are h
 
   alone-nested : (item : ℕ) → IsNested (offsets l) item
   alone-nested item = record { apart = λ j k before within. absurd (omega (arith, before, within, ap length alone-offsets)) }
@@ -71,7 +77,6 @@ module _ (s : State) (name : List ℕ) (array : Array) (r : ArrayRef) (found : f
       places = shown.places;
       writable_is = refl;
       fits = shown.fits;
-      fits_limit = shown.fits_limit;
       nested = λ yes. shown.nested (may yes);
     };
   }
@@ -80,8 +85,8 @@ module _ (s : State) (name : List ℕ) (array : Array) (r : ArrayRef) (found : f
   may-view_all l writable layout-is may =
       (record array { writable = writable }, subst (λ (l : Layout). IsViewIn s r.number r.leaf l writable (record array { writable = writable })) (sym layout-is) (view-all writable may))
 
-  pub may-view_item : (l : Layout) (k : ℕ) → l.shape ≡ [] → l.strides ≡ [] → slice_get (offsets r.layout.now) k ≡ Some l.offset → l.offset + 1 ≤ 2 ^ 28 → MayBind s (View r.number r.leaf l r.writable)
-  may-view_item l k shape-is strides-are at limit = (
+  pub may-view_item : (l : Layout) (k : ℕ) → l.shape ≡ [] → l.strides ≡ [] → slice_get (offsets r.layout.now) k ≡ Some l.offset → MayBind s (View r.number r.leaf l r.writable)
+  may-view_item l k shape-is strides-are at = (
     record { buffer = array.buffer; path = array.path; shape = []; places = place.0 ∷ []; writable = array.writable },
     record {
       number_is = shows.view.number_is;
@@ -93,7 +98,6 @@ module _ (s : State) (name : List ℕ) (array : Array) (r : ArrayRef) (found : f
         places = alone-offsets l shape-is strides-are ∙ ap (λ offset. offset ∷ []) (sym place.2);
         writable_is = shown.writable_is;
         fits = alone-fits l shape-is strides-are _ _ inside;
-        fits_limit = alone-fits l shape-is strides-are (2 ^ 28) 1 limit;
         nested = λ _. alone-nested l shape-is strides-are (item_size (descr_of s array));
       };
     },
@@ -112,9 +116,9 @@ pub if-item : (xs : List ℕ) (k : ℕ) (found : Option ℕ) (refusal : Refusal)
 if-item xs k None refusal h = tt
 if-item xs k (Some x) refusal h = sym h
 
-pub if-within : (xs : List ℕ) (k limit : ℕ) (found : Option ℕ) (refusal : Refusal) → option_map (λ x. x) found ≡ slice_get xs k → All (λ x. x + 1 ≤ limit) xs → IfOk (ok_or found refusal) (λ x. x + 1 ≤ limit)
+pub if-within : (xs : List ℕ) (k limit : ℕ) (found : Option ℕ) (refusal : Refusal) → option_map (λ x. x) found ≡ slice_get xs k → All (λ x. x + 1 ≤ limit) xs → IfOk (ok_or found refusal) (λ x. x < limit)
 if-within xs k limit None refusal h all = tt
-if-within xs k limit (Some x) refusal h all = All-contains (λ x. x + 1 ≤ limit) xs x all (contains-at xs k x (sym h))
+if-within xs k limit (Some x) refusal h all = let low : x + 1 ≤ limit = All-contains (λ x. x + 1 ≤ limit) xs x all (contains-at xs k x (sym h)) in omega arith
 
 pub shown-array : (s : State) (found : Option Array) (r : ArrayRef) → Finds s found (Some r) → (array : Array) × (found ≡ Some array) × Shows s array r
 shown-array s None r nothing = absurd nothing
@@ -131,7 +135,6 @@ aim-whole s name layout item array r found shows writable-is layout-is long = re
     writable = sym shows.view.laid.writable_is ∙ writable-is;
     offsets_are = ap offsets layout-is ∙ shows.view.laid.places;
     among = All-contains_itself array.places;
-    fits_limit = subst (λ (l : Layout). Fits l (2 ^ 28) 1) (sym layout-is) shows.view.laid.fits_limit;
   };
   source_for = long ∙ ap item_size (sym shows.descr);
 }

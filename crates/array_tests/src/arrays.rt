@@ -1,5 +1,6 @@
 //! Arrays over blocks of their own, and views that share bytes as NumPy's `shares_memory` says.
-ghost use Rattle.std.specs.Prelude.{◌^◌, ◌≤◌};
+ghost use Rattle.std.specs.Prelude.{◌≤◌};
+ghost use Rattle.shape_strides.specs.Limits.{max_bytes};
 ghost use Rattle.shape_strides.specs.Layouts.{Fits};
 
 use crate::check::{check, check_bytes};
@@ -71,7 +72,7 @@ type Axis = (usize, isize, usize, usize);
 struct View {
     layout: Layout,
     item: usize,
-    ghost fits: { Fits layout (2 ^ 28) item },
+    ghost fits: { Fits layout max_bytes item },
     ghost some: { 1 ≤ item },
 }
 
@@ -81,11 +82,7 @@ fn view_of(rt: &impl Abort, alloc: Global, axis: Axis) -> View {
     let strides = Strides::from_slice(alloc, &[step]).expect(rt, "no memory");
     let count = strides.as_slice().len();
     check(rt, count == shape.as_slice().len(), "a stride an axis");
-    let layout = Layout {
-        shape,
-        strides,
-        offset,
-    };
+    let layout = Layout::new(shape, strides, offset).expect(rt, "no layout");
     check(
         rt,
         item >= 1 && layout.fits(1 << 28, item),

@@ -1,78 +1,75 @@
 //! Basic indexes of arrays of 4-byte items, as plain Python computes them with `slice.indices`: a
 //! shape, an index (or two, the second of the first one's view), and the shape, the strides and the
 //! offset of the view.
-use crate::fixtures::c_order;
+use crate::check::check;
+use crate::made::c_order;
 use elem_descr::Refusal;
 use shape_strides::Layout;
 use std::alloc::Global;
 use std::process::Abort;
-use std::test::Fail;
 use view_ops::{IndexItem, are_basic, basic};
 
-fn number(word: &str) -> Result<i128, Fail> {
-    let Ok(number) = word.parse::<i128>() else {
-        return Err("not a number".into());
-    };
-    Ok(number)
+fn number(rt: &impl Abort, word: &str) -> i128 {
+    word.parse::<i128>().expect(rt, "not a number")
 }
 
-fn numbers(alloc: Global, text: &str) -> Result<Vec<i128>, Fail> {
+fn numbers(rt: &impl Abort, alloc: Global, text: &str) -> Vec<i128> {
     let mut numbers = Vec::new(alloc);
     for word in text.split_whitespace() {
-        numbers.push(number(word)?)?;
+        numbers.push(number(rt, word)).expect(rt, "no memory");
     }
-    Ok(numbers)
+    numbers
 }
 
-fn bound(word: &str) -> Result<Option<i128>, Fail> {
+fn bound(rt: &impl Abort, word: &str) -> Option<i128> {
     if word.is_empty() {
-        return Ok(None);
+        return None;
     }
-    Ok(Some(number(word)?))
+    Some(number(rt, word))
 }
 
-fn slice(start: &str, rest: &str) -> Result<IndexItem, Fail> {
+fn slice(rt: &impl Abort, start: &str, rest: &str) -> IndexItem {
     let (stop, step) = rest.split_once(':').unwrap_or((rest, ""));
-    Ok(IndexItem::Slice {
-        start: bound(start)?,
-        stop: bound(stop)?,
-        step: bound(step)?,
-    })
+    IndexItem::Slice {
+        start: bound(rt, start),
+        stop: bound(rt, stop),
+        step: bound(rt, step),
+    }
 }
 
-fn item(word: &str) -> Result<IndexItem, Fail> {
+fn item(rt: &impl Abort, word: &str) -> IndexItem {
     if word == "..." {
-        return Ok(IndexItem::Ellipsis);
+        return IndexItem::Ellipsis;
     }
     if word == "None" {
-        return Ok(IndexItem::NewAxis);
+        return IndexItem::NewAxis;
     }
     match word.split_once(':') {
-        Some((start, rest)) => slice(start, rest),
-        None => Ok(IndexItem::Integer(number(word)?)),
+        Some((start, rest)) => slice(rt, start, rest),
+        None => IndexItem::Integer(number(rt, word)),
     }
 }
 
-fn items(alloc: Global, text: &str) -> Result<Vec<IndexItem>, Fail> {
+fn items(rt: &impl Abort, alloc: Global, text: &str) -> Vec<IndexItem> {
     let mut items = Vec::new(alloc);
     for word in text.split_whitespace() {
-        items.push(item(word)?)?;
+        items.push(item(rt, word)).expect(rt, "no memory");
     }
-    Ok(items)
+    items
 }
 
-fn axes(rt: &impl Abort, alloc: Global, text: &str) -> Result<Vec<usize>, Fail> {
+fn axes(rt: &impl Abort, alloc: Global, text: &str) -> Vec<usize> {
     let mut axes = Vec::new(alloc);
     for word in text.split_whitespace() {
-        let len = number(word)?;
-        assert!(rt; 0 <= len && len < 100);
-        axes.push(len as usize)?;
+        let len = number(rt, word);
+        check(rt, 0 <= len && len < 100, "a length");
+        axes.push(len as usize).expect(rt, "no memory");
     }
-    Ok(axes)
+    axes
 }
 
-fn array(rt: &impl Abort, alloc: Global, lengths: &str) -> Result<Layout, Fail> {
-    Ok(c_order(rt, alloc, axes(rt, alloc, lengths)?.as_slice(), 4)?)
+fn array(rt: &impl Abort, alloc: Global, lengths: &str) -> Layout {
+    c_order(rt, alloc, axes(rt, alloc, lengths).as_slice(), 4)
 }
 
 fn view(
@@ -81,43 +78,43 @@ fn view(
     layout: &Layout,
     index: &[IndexItem],
 ) -> Result<Layout, Refusal> {
-    assert!(rt; layout.fits(4000, 4));
-    assert!(rt; layout.fits(1 << 28, 1));
-    assert!(rt; are_basic(index));
+    check(rt, layout.fits(4000, 4), "fits");
+    check(rt, are_basic(index), "no index array");
     basic(alloc, layout, index)
 }
 
-fn viewed(rt: &impl Abort, alloc: Global, lengths: &str, index: &str) -> Result<Layout, Fail> {
-    let layout = array(rt, alloc, lengths)?;
-    let Some((first, second)) = index.split_once(" > ") else {
-        return Ok(view(rt, alloc, &layout, items(alloc, index)?.as_slice())?);
-    };
-    let layout = view(rt, alloc, &layout, items(alloc, first)?.as_slice())?;
-    Ok(view(rt, alloc, &layout, items(alloc, second)?.as_slice())?)
+fn view_at(rt: &impl Abort, alloc: Global, layout: &Layout, index: &str) -> Layout {
+    view(rt, alloc, layout, items(rt, alloc, index).as_slice()).expect(rt, "refused")
 }
 
-fn has_lengths(alloc: Global, layout: &Layout, text: &str) -> Result<bool, Fail> {
-    let lengths = numbers(alloc, text)?;
-    Ok(
-        layout
-            .shape
-            .as_slice()
-            .iter()
-            .map(|len| *len as i128)
-            .eq(lengths.iter().copied()),
-    )
+fn viewed(rt: &impl Abort, alloc: Global, layout: &Layout, index: &str) -> Layout {
+    match index.split_once(" > ") {
+        None => view_at(rt, alloc, layout, index),
+        Some((first, second)) => {
+            let between = view_at(rt, alloc, layout, first);
+            view_at(rt, alloc, &between, second)
+        }
+    }
 }
 
-fn has_strides(alloc: Global, layout: &Layout, text: &str) -> Result<bool, Fail> {
-    let strides = numbers(alloc, text)?;
-    Ok(
-        layout
-            .strides
-            .as_slice()
-            .iter()
-            .map(|step| *step as i128)
-            .eq(strides.iter().copied()),
-    )
+fn has_lengths(rt: &impl Abort, alloc: Global, layout: &Layout, text: &str) -> bool {
+    let lengths = numbers(rt, alloc, text);
+    layout
+        .shape
+        .as_slice()
+        .iter()
+        .map(|len| *len as i128)
+        .eq(lengths.iter().copied())
+}
+
+fn has_strides(rt: &impl Abort, alloc: Global, layout: &Layout, text: &str) -> bool {
+    let strides = numbers(rt, alloc, text);
+    layout
+        .strides
+        .as_slice()
+        .iter()
+        .map(|step| *step as i128)
+        .eq(strides.iter().copied())
 }
 
 const VIEWS: &[(&str, &str, &str, &str, usize)] = &[
@@ -288,16 +285,22 @@ const VIEWS: &[(&str, &str, &str, &str, usize)] = &[
 ];
 
 #[test]
-fn views(rt: HostRuntime) -> Result<(), Fail> {
-    let alloc = rt.alloc();
-    for row in VIEWS {
-        let (shape, index, lengths, strides, offset) = *row;
-        let layout = viewed(&rt, alloc, shape, index)?;
-        assert!(rt; has_lengths(alloc, &layout, lengths)?);
-        assert!(rt; has_strides(alloc, &layout, strides)?);
-        assert_eq!(rt; layout.offset, offset);
+fn views(rt: HostRuntime) {
+    for (shape, index, lengths, strides, offset) in VIEWS {
+        let layout = array(&rt, rt.alloc(), *shape);
+        let layout = viewed(&rt, rt.alloc(), &layout, *index);
+        check(
+            &rt,
+            has_lengths(&rt, rt.alloc(), &layout, *lengths),
+            "lengths",
+        );
+        check(
+            &rt,
+            has_strides(&rt, rt.alloc(), &layout, *strides),
+            "strides",
+        );
+        check(&rt, layout.offset == *offset, "offset");
     }
-    Ok(())
 }
 
 const REFUSALS: &[(&str, &str, Refusal)] = &[
@@ -330,45 +333,29 @@ const REFUSALS: &[(&str, &str, Refusal)] = &[
     ("5 3", "9: 3", Refusal::IndexOutOfRange),
 ];
 
-fn is_refused(
-    rt: &impl Abort,
-    alloc: Global,
-    layout: &Layout,
-    index: &[IndexItem],
-    want: Refusal,
-) -> Result<(), Fail> {
-    let Err(refusal) = view(rt, alloc, layout, index) else {
-        return Err("accepted".into());
-    };
-    assert_eq!(rt; refusal, want);
-    Ok(())
+/// The refusal of an index, if it is refused.
+fn refusal(rt: &impl Abort, alloc: Global, layout: &Layout, index: &str) -> Option<Refusal> {
+    view(rt, alloc, layout, items(rt, alloc, index).as_slice()).err()
 }
 
 #[test]
-fn refusals(rt: HostRuntime) -> Result<(), Fail> {
-    let alloc = rt.alloc();
-    for row in REFUSALS {
-        let (shape, index, want) = *row;
-        let layout = array(&rt, alloc, shape)?;
-        is_refused(&rt, alloc, &layout, items(alloc, index)?.as_slice(), want)?;
+fn refusals(rt: HostRuntime) {
+    for (shape, index, want) in REFUSALS {
+        let layout = array(&rt, rt.alloc(), *shape);
+        let given = refusal(&rt, rt.alloc(), &layout, *index);
+        check(&rt, given == Some(*want), "refusal");
     }
-    Ok(())
 }
 
 const ONES: &[usize] = &[1; 64];
 
-const ALL: &[IndexItem] = &[IndexItem::Ellipsis];
-
-const NEW_FOR_FIRST: &[IndexItem] = &[IndexItem::Integer(-1), IndexItem::NewAxis];
-
-const NEW: &[IndexItem] = &[IndexItem::NewAxis];
-
 #[test]
-fn sixty_four_axes(rt: HostRuntime) -> Result<(), Fail> {
-    let alloc = rt.alloc();
-    let layout = c_order(&rt, alloc, ONES, 4)?;
-    for index in [ALL, NEW_FOR_FIRST] {
-        assert_eq!(rt; view(&rt, alloc, &layout, index)?.shape.rank(), 64);
+fn sixty_four_axes(rt: HostRuntime) {
+    let layout = c_order(&rt, rt.alloc(), ONES, 4);
+    for index in ["...", "-1 None"] {
+        let view = view_at(&rt, rt.alloc(), &layout, index);
+        check(&rt, view.shape.rank() == 64, "64 axes");
     }
-    is_refused(&rt, alloc, &layout, NEW, Refusal::TooManyAxes)
+    let given = refusal(&rt, rt.alloc(), &layout, "None");
+    check(&rt, given == Some(Refusal::TooManyAxes), "a 65th axis");
 }

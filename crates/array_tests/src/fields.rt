@@ -1,22 +1,26 @@
 //! Fields of arrays in C order: the offset and the strides that NumPy has for `a["b"]`.
-use crate::fixtures::c_order;
-use elem_descr::{Refusal, descr_read};
+use crate::check::check;
+use crate::made::{c_order, has};
+use elem_descr::{Descr, Refusal, descr_read};
 use shape_strides::Layout;
 use std::alloc::Global;
 use std::process::Abort;
-use std::test::Fail;
 use view_ops::field;
+
+fn descr_of(rt: &impl Abort, alloc: Global, format: &str) -> Descr {
+    descr_read(alloc, format.as_bytes()).expect(rt, "no descriptor")
+}
 
 fn field_of(
     rt: &impl Abort,
     alloc: Global,
     lengths: &[usize],
-    format: &str,
+    descr: &Descr,
     name: &str,
 ) -> Result<Layout, Refusal> {
-    let descr = descr_read(alloc, format.as_bytes())?;
-    let layout = c_order(rt, alloc, lengths, descr.size())?;
-    field(alloc, &layout, &descr, name.as_bytes())
+    let layout = c_order(rt, alloc, lengths, descr.size());
+    check(rt, layout.fits(1 << 28, descr.size()), "within the limit");
+    field(alloc, &layout, descr, name.as_bytes())
 }
 
 /// Lengths, the type of the items, the field, and the strides and the offset of its view.
@@ -38,14 +42,12 @@ const FIELDS: &[Row] = &[
 ];
 
 #[test]
-fn fields(rt: HostRuntime) -> Result<(), Fail> {
+fn fields(rt: HostRuntime) {
     for (lengths, format, name, strides, offset) in FIELDS {
-        let layout = field_of(&rt, rt.alloc(), *lengths, *format, *name)?;
-        assert!(rt; layout.shape.as_slice() == *lengths);
-        assert!(rt; layout.strides.as_slice() == *strides);
-        assert_eq!(rt; layout.offset, *offset);
+        let descr = descr_of(&rt, rt.alloc(), *format);
+        let layout = field_of(&rt, rt.alloc(), *lengths, &descr, *name).expect(&rt, "refused");
+        has(&rt, &layout, *lengths, *strides, *offset);
     }
-    Ok(())
 }
 
 const MISSING: &[(&str, &str)] = &[
@@ -57,12 +59,10 @@ const MISSING: &[(&str, &str)] = &[
 ];
 
 #[test]
-fn no_such_field(rt: HostRuntime) -> Result<(), Fail> {
+fn no_such_field(rt: HostRuntime) {
     for (format, name) in MISSING {
-        let Err(refusal) = field_of(&rt, rt.alloc(), &[2], *format, *name) else {
-            return Err("accepted".into());
-        };
-        assert_eq!(rt; refusal, Refusal::NoSuchField);
+        let descr = descr_of(&rt, rt.alloc(), *format);
+        let refusal = field_of(&rt, rt.alloc(), &[2], &descr, *name).err();
+        check(&rt, refusal == Some(Refusal::NoSuchField), "no such field");
     }
-    Ok(())
 }

@@ -1,10 +1,12 @@
 //! Strides, flags and bounds of arrays, as NumPy and Python's `memoryview` have them.
-use crate::fixtures::layout_of;
-use elem_descr::Refusal;
+ghost use Rattle.std.specs.Prelude.{◌≤◌};
+ghost use Rattle.shape_strides.specs.Indexes.{count};
+
+use crate::check::check;
+use crate::made::{Numbers, has, layout_if, layout_of};
 use shape_strides::{Layout, Shape, Strides, Walk};
 use std::alloc::Global;
 use std::process::Abort;
-use std::test::Fail;
 
 /// Lengths, the size of an item, and the strides.
 const C_ORDERS: &[(&[usize], usize, &[isize])] = &[
@@ -20,44 +22,37 @@ const C_ORDERS: &[(&[usize], usize, &[isize])] = &[
     ),
 ];
 
-fn c_order(
-    rt: &impl Abort,
-    alloc: Global,
-    lengths: &[usize],
-    item: usize,
-) -> Result<Layout, Refusal> {
-    let shape = Shape::try_new(alloc, lengths)?;
-    assert!(rt; 1 <= item && item <= 8 && shape.items() <= 24);
-    let layout = Layout::c_order(alloc, &shape, item)?;
-    assert!(rt; layout.fits(shape.items() * item, item));
-    Ok(layout)
+/// A shape of few items.
+fn small_shape(rt: &impl Abort, alloc: Global, lengths: &[usize]) -> Shape
+    ensures { count result ≤ 24 }
+{
+    let shape = Shape::try_new(alloc, lengths).expect(rt, "no shape");
+    check(rt, shape.items() <= 24, "few items");
+    shape
 }
 
-fn is_laid_out(rt: &impl Abort, layout: &Layout, lengths: &[usize], strides: &[isize]) {
-    assert!(rt; layout.shape.as_slice() == lengths);
-    assert!(rt; layout.strides.as_slice() == strides);
-    assert_eq!(rt; layout.offset, 0);
-}
-
-fn is_c_order(
-    rt: &impl Abort,
-    alloc: Global,
-    lengths: &[usize],
-    item: usize,
-    strides: &[isize],
-) -> Result<(), Fail> {
-    let layout = c_order(rt, alloc, lengths, item)?;
-    is_laid_out(rt, &layout, lengths, strides);
-    is_laid_out(rt, &Layout::try_copy(alloc, &layout)?, lengths, strides);
-    Ok(())
+fn c_order(rt: &impl Abort, alloc: Global, shape: &Shape, item: usize) -> Layout
+    requires { count shape.now ≤ 24 }
+{
+    check(rt, 1 <= item && item <= 8, "the size of an item");
+    let layout = Layout::c_order(alloc, shape, item).expect(rt, "no memory");
+    check(
+        rt,
+        layout.fits(shape.items() * item, item),
+        "fits its bytes",
+    );
+    layout
 }
 
 #[test]
-fn c_orders(rt: HostRuntime) -> Result<(), Fail> {
+fn c_orders(rt: HostRuntime) {
     for (lengths, item, strides) in C_ORDERS {
-        is_c_order(&rt, rt.alloc(), *lengths, *item, *strides)?;
+        let shape = small_shape(&rt, rt.alloc(), *lengths);
+        let layout = c_order(&rt, rt.alloc(), &shape, *item);
+        has(&rt, &layout, *lengths, *strides, 0);
+        let copy = Layout::try_copy(rt.alloc(), &layout).expect(&rt, "no memory");
+        has(&rt, &copy, *lengths, *strides, 0);
     }
-    Ok(())
 }
 
 /// Lengths, the size of an item, the strides, and the first offsets.
@@ -68,57 +63,30 @@ const F_ORDERS: &[(&[usize], usize, &[isize], &[usize])] = &[
     (&[2, 0, 3], 8, &[0, 0, 0], &[]),
 ];
 
-fn f_order(
-    rt: &impl Abort,
-    alloc: Global,
-    lengths: &[usize],
-    item: usize,
-) -> Result<Layout, Refusal> {
-    let shape = Shape::try_new(alloc, lengths)?;
-    assert!(rt; 1 <= item && item <= 8 && shape.items() <= 24);
-    Ok(Layout::f_order(alloc, &shape, item)?)
+fn f_order(rt: &impl Abort, alloc: Global, lengths: &[usize], item: usize) -> Layout {
+    let shape = small_shape(rt, alloc, lengths);
+    check(rt, 1 <= item && item <= 8, "the size of an item");
+    Layout::f_order(alloc, &shape, item).expect(rt, "no memory")
 }
 
-/// Whether a walk begins with these offsets.
-fn begins_with(
-    rt: &impl Abort,
-    alloc: Global,
-    layout: &Layout,
-    first: &[usize],
-) -> Result<(), Fail> {
-    assert!(rt; layout.fits(1 << 28, 1));
-    let mut offsets = Walk::new(alloc, layout)?;
+/// A walk begins with these offsets.
+fn begins_with(rt: &impl Abort, walk: Walk, first: &[usize]) {
+    let mut walk = walk;
     for offset in first {
-        assert!(rt; offsets.next() == Some(*offset));
+        check(rt, walk.next() == Some(*offset), "an offset");
     }
-    Ok(())
-}
-
-fn is_f_order(
-    rt: &impl Abort,
-    alloc: Global,
-    lengths: &[usize],
-    item: usize,
-    strides: &[isize],
-    first: &[usize],
-) -> Result<(), Fail> {
-    let layout = f_order(rt, alloc, lengths, item)?;
-    is_laid_out(rt, &layout, lengths, strides);
-    assert!(rt; layout.fits(1 << 28, 1));
-    assert!(rt; layout.is_f(item));
-    begins_with(rt, alloc, &layout, first)
 }
 
 #[test]
-fn f_orders(rt: HostRuntime) -> Result<(), Fail> {
+fn f_orders(rt: HostRuntime) {
     for (lengths, item, strides, first) in F_ORDERS {
-        is_f_order(&rt, rt.alloc(), *lengths, *item, *strides, *first)?;
+        let layout = f_order(&rt, rt.alloc(), *lengths, *item);
+        has(&rt, &layout, *lengths, *strides, 0);
+        check(&rt, layout.is_f(*item), "Fortran order");
+        let walk = Walk::new(rt.alloc(), &layout).expect(&rt, "no memory");
+        begins_with(&rt, walk, *first);
     }
-    Ok(())
 }
-
-/// An array: its lengths, strides and offset.
-type Numbers = (&'static [usize], &'static [isize], usize);
 
 /// An array of 4-byte items; its strides as NumPy prints them, the address of its first item, and
 /// whether it is in C and in Fortran order.
@@ -136,34 +104,21 @@ const FLAGS: &[(Numbers, &str, usize, bool, bool)] = &[
     ((&[], &[], 8), "()", 8, true, true),
 ];
 
-fn is_printed(rt: &impl Abort, alloc: Global, layout: &Layout, want: &str) -> Result<(), Fail> {
-    assert!(rt; layout.fits(1 << 28, 1));
-    let strides = Layout::printed_strides(alloc, layout)?;
-    let text = format!(in alloc; "{strides}")?;
-    assert_eq!(rt; text.as_str(), want);
-    Ok(())
-}
-
-fn is_flagged(
-    rt: &impl Abort,
-    alloc: Global,
-    row: &(Numbers, &str, usize, bool, bool),
-) -> Result<(), Fail> {
-    let ((lengths, steps, offset), printed, first, is_c, is_f) = *row;
-    let layout = layout_of(rt, alloc, lengths, steps, offset)?;
-    assert!(rt; layout.fits(1 << 28, 1));
-    assert_eq!(rt; layout.first_address(), first);
-    assert_eq!(rt; layout.is_c(4), is_c);
-    assert_eq!(rt; layout.is_f(4), is_f);
-    is_printed(rt, alloc, &layout, printed)
+fn is_printed(rt: &impl Abort, alloc: Global, layout: &Layout, want: &str) {
+    let strides = Layout::printed_strides(alloc, layout).expect(rt, "no memory");
+    let text = format!(in alloc; "{strides}").expect(rt, "no memory");
+    check(rt, text.as_str() == want, "strides");
 }
 
 #[test]
-fn strides_and_flags_as_numpy_prints_them(rt: HostRuntime) -> Result<(), Fail> {
-    for row in FLAGS {
-        is_flagged(&rt, rt.alloc(), row)?;
+fn strides_and_flags_as_numpy_prints_them(rt: HostRuntime) {
+    for (numbers, printed, first, is_c, is_f) in FLAGS {
+        let layout = layout_of(&rt, rt.alloc(), *numbers);
+        is_printed(&rt, rt.alloc(), &layout, *printed);
+        check(&rt, layout.first_address() == *first, "first address");
+        check(&rt, layout.is_c(4) == *is_c, "C order");
+        check(&rt, layout.is_f(4) == *is_f, "Fortran order");
     }
-    Ok(())
 }
 
 /// An array of 4-byte items, and whether its axes can be stacked.
@@ -181,20 +136,12 @@ const STACKS: &[(Numbers, bool)] = &[
     ((&[], &[], 8), true),
 ];
 
-fn is_stacked(rt: &impl Abort, alloc: Global, row: &(Numbers, bool)) -> Result<(), Fail> {
-    let ((lengths, steps, offset), want) = *row;
-    let layout = layout_of(rt, alloc, lengths, steps, offset)?;
-    assert!(rt; layout.fits(1 << 28, 1));
-    assert_eq!(rt; layout.is_stacked(4), want);
-    Ok(())
-}
-
 #[test]
-fn stacked_layouts(rt: HostRuntime) -> Result<(), Fail> {
-    for row in STACKS {
-        is_stacked(&rt, rt.alloc(), row)?;
+fn stacked_layouts(rt: HostRuntime) {
+    for (numbers, want) in STACKS {
+        let layout = layout_of(&rt, rt.alloc(), *numbers);
+        check(&rt, layout.is_stacked(4) == *want, "stacked");
     }
-    Ok(())
 }
 
 /// An array, the size of an item, and the least number of bytes that it fits in.
@@ -204,62 +151,61 @@ const LEAST: &[(Numbers, usize, usize)] = &[
     ((&[], &[], 7), 2, 9),
 ];
 
-/// An array, the size of an item, a number of bytes, and whether it fits in them.
-const BOUNDS: &[(Numbers, usize, usize, bool)] = &[
-    ((&[3], &[-8], 15), 1, 100, false),
-    ((&[0], &[-8], 99), 4, 0, true),
-    (
-        (&[2, 2], &[isize::MAX, isize::MAX], usize::MAX),
-        1,
-        usize::MAX,
-        false,
-    ),
-];
-
-fn fits(
-    rt: &impl Abort,
-    alloc: Global,
-    numbers: Numbers,
-    item: usize,
-    len: usize,
-) -> Result<bool, Refusal> {
-    let (lengths, steps, offset) = numbers;
-    let layout = layout_of(rt, alloc, lengths, steps, offset)?;
-    Ok(layout.fits(len, item))
+#[test]
+fn fits_to_the_byte(rt: HostRuntime) {
+    for (numbers, item, len) in LEAST {
+        let layout = layout_of(&rt, rt.alloc(), *numbers);
+        check(&rt, layout.fits(*len, *item), "fits");
+        check(
+            &rt,
+            *len > 0 && !layout.fits(*len - 1, *item),
+            "fits to the byte",
+        );
+    }
+    let empty = layout_of(&rt, rt.alloc(), (&[0], &[-8], 99));
+    check(&rt, empty.fits(0, 4), "no item fits no byte");
 }
 
+/// Arrays with an item that begins below 0, or beyond the limit of a buffer.
+const BEYOND: &[Numbers] = &[
+    (&[3], &[-8], 15),
+    (&[2], &[4], (1 << 28) - 4),
+    (&[], &[], 1 << 28),
+    (&[2, 2], &[isize::MAX, isize::MAX], usize::MAX),
+];
+
 #[test]
-fn fits_to_the_byte(rt: HostRuntime) -> Result<(), Fail> {
-    for (numbers, item, len) in LEAST {
-        assert!(rt; fits(&rt, rt.alloc(), *numbers, *item, *len)?);
-        assert!(rt; 0 < *len && !fits(&rt, rt.alloc(), *numbers, *item, *len - 1)?);
+fn beyond_a_buffer(rt: HostRuntime) {
+    for numbers in BEYOND {
+        check(
+            &rt,
+            layout_if(&rt, rt.alloc(), *numbers).is_none(),
+            "no layout",
+        );
     }
-    for (numbers, item, len, want) in BOUNDS {
-        assert_eq!(rt; fits(&rt, rt.alloc(), *numbers, *item, *len)?, *want);
-    }
-    Ok(())
+    let last = layout_of(&rt, rt.alloc(), (&[2], &[4], (1 << 28) - 5));
+    has(&rt, &last, &[2], &[4], (1 << 28) - 5);
+    let empty = layout_of(&rt, rt.alloc(), (&[2, 0], &[16, 4], 1 << 40));
+    has(&rt, &empty, &[2, 0], &[0, 0], 0);
 }
 
 const AT: &[([usize; 2], usize)] = &[([0, 0], 12), ([0, 2], 20), ([1, 0], 0), ([1, 2], 8)];
 
 #[test]
-fn at_an_index(rt: HostRuntime) -> Result<(), Fail> {
-    let layout = layout_of(&rt, rt.alloc(), &[2, 3], &[-12, 4], 12)?;
-    assert!(rt; layout.fits(1 << 28, 1));
+fn at_an_index(rt: HostRuntime) {
+    let layout = layout_of(&rt, rt.alloc(), (&[2, 3], &[-12, 4], 12));
     assert!(rt; layout.shape.as_slice() == [2, 3].as_slice());
     for (index, want) in AT {
         assert!(rt; index[0] < 2 && index[1] < 3);
-        assert_eq!(rt; layout.at(index), *want);
+        check(&rt, layout.at(index) == *want, "an offset");
     }
-    Ok(())
 }
 
 #[test]
-fn a_pushed_stride(rt: HostRuntime) -> Result<(), Fail> {
+fn a_pushed_stride(rt: HostRuntime) {
     let mut strides = Strides::new(rt.alloc());
-    strides.push(-2)?;
-    assert!(rt; strides.as_slice() == [-2].as_slice());
-    Ok(())
+    strides.push(-2).expect(&rt, "no memory");
+    check(&rt, strides.as_slice() == [-2].as_slice(), "a stride");
 }
 
 /// An array, the size of an item, and the range of its bytes.
@@ -272,24 +218,12 @@ const SPANS: &[(Numbers, usize, usize, usize)] = &[
     ((&[2, 0], &[4, 4], 12), 4, 0, 0),
 ];
 
-fn has_span(
-    rt: &impl Abort,
-    alloc: Global,
-    row: &(Numbers, usize, usize, usize),
-) -> Result<(), Fail> {
-    let ((lengths, steps, offset), item, start, end) = *row;
-    let layout = layout_of(rt, alloc, lengths, steps, offset)?;
-    assert!(rt; layout.fits(1 << 28, item));
-    let bytes = layout.span(item);
-    assert_eq!(rt; bytes.start, start);
-    assert_eq!(rt; bytes.end, end);
-    Ok(())
-}
-
 #[test]
-fn spans_of_bytes(rt: HostRuntime) -> Result<(), Fail> {
-    for row in SPANS {
-        has_span(&rt, rt.alloc(), row)?;
+fn spans_of_bytes(rt: HostRuntime) {
+    for (numbers, item, start, end) in SPANS {
+        let layout = layout_of(&rt, rt.alloc(), *numbers);
+        check(&rt, layout.fits(1 << 28, *item), "within the limit");
+        let bytes = layout.span(*item);
+        check(&rt, bytes.start == *start && bytes.end == *end, "a range");
     }
-    Ok(())
 }

@@ -13,9 +13,9 @@ mod check;
 #[cfg(test)]
 mod fields;
 #[cfg(test)]
-mod fixtures;
-#[cfg(test)]
 mod layouts;
+#[cfg(test)]
+mod made;
 #[cfg(test)]
 mod names;
 #[cfg(test)]

@@ -1,9 +1,9 @@
 //! Shapes within the limits, beyond them, and as Python writes them.
+use crate::check::check;
 use elem_descr::Refusal;
 use shape_strides::Shape;
 use std::alloc::Global;
 use std::process::Abort;
-use std::test::Fail;
 
 /// Lengths, and how many items there are.
 const WITHIN: &[(&[usize], usize)] = &[
@@ -13,27 +13,20 @@ const WITHIN: &[(&[usize], usize)] = &[
     (&[16_777_216, 16_777_216, 0], 0),
 ];
 
-fn is_within(
-    rt: &impl Abort,
-    alloc: Global,
-    lengths: &[usize],
-    items: usize,
-) -> Result<(), Refusal> {
-    let shape = Shape::try_new(alloc, lengths)?;
-    assert!(rt; shape.as_slice() == lengths);
-    assert_eq!(rt; shape.rank(), lengths.len());
-    assert_eq!(rt; shape.items(), items);
-    let copy = Shape::try_copy(alloc, &shape)?;
-    assert!(rt; copy.as_slice() == lengths);
-    Ok(())
+fn is_within(rt: &impl Abort, shape: &Shape, lengths: &[usize], items: usize) {
+    check(rt, shape.as_slice() == lengths, "lengths");
+    check(rt, shape.rank() == lengths.len(), "axes");
+    check(rt, shape.items() == items, "items");
 }
 
 #[test]
-fn within_the_limits(rt: HostRuntime) -> Result<(), Fail> {
+fn within_the_limits(rt: HostRuntime) {
     for (lengths, items) in WITHIN {
-        is_within(&rt, rt.alloc(), *lengths, *items)?;
+        let shape = Shape::try_new(rt.alloc(), *lengths).expect(&rt, "no shape");
+        is_within(&rt, &shape, *lengths, *items);
+        let copy = Shape::try_copy(rt.alloc(), &shape).expect(&rt, "no memory");
+        is_within(&rt, &copy, *lengths, *items);
     }
-    Ok(())
 }
 
 const ONES: &[usize] = &[1; 65];
@@ -44,26 +37,16 @@ const BEYOND: &[(&[usize], Refusal)] = &[
     (&[4096, 4097], Refusal::TooLarge),
 ];
 
-fn is_refused(
-    rt: &impl Abort,
-    alloc: Global,
-    lengths: &[usize],
-    want: Refusal,
-) -> Result<(), Fail> {
-    let Err(refusal) = Shape::try_new(alloc, lengths) else {
-        return Err("accepted".into());
-    };
-    assert_eq!(rt; refusal, want);
-    Ok(())
+fn refusal(alloc: Global, lengths: &[usize]) -> Option<Refusal> {
+    Shape::try_new(alloc, lengths).err()
 }
 
 #[test]
-fn beyond_the_limits(rt: HostRuntime) -> Result<(), Fail> {
-    assert_eq!(rt; Shape::try_new(rt.alloc(), &ONES[..64])?.rank(), 64);
+fn beyond_the_limits(rt: HostRuntime) {
+    check(&rt, refusal(rt.alloc(), &ONES[..64]).is_none(), "64 axes");
     for (lengths, want) in BEYOND {
-        is_refused(&rt, rt.alloc(), *lengths, *want)?;
+        check(&rt, refusal(rt.alloc(), *lengths) == Some(*want), "refusal");
     }
-    Ok(())
 }
 
 const TEXTS: &[(&[usize], &str)] = &[
@@ -73,17 +56,15 @@ const TEXTS: &[(&[usize], &str)] = &[
     (&[16_777_216, 1, 0], "(16777216, 1, 0)"),
 ];
 
-fn is_written(rt: &impl Abort, alloc: Global, lengths: &[usize], want: &str) -> Result<(), Fail> {
-    let shape = Shape::try_new(alloc, lengths)?;
-    let text = format!(in alloc; "{shape}")?;
-    assert_eq!(rt; text.as_str(), want);
-    Ok(())
+fn is_written(rt: &impl Abort, alloc: Global, shape: &Shape, want: &str) {
+    let text = format!(in alloc; "{shape}").expect(rt, "no memory");
+    check(rt, text.as_str() == want, "text");
 }
 
 #[test]
-fn as_python_writes_them(rt: HostRuntime) -> Result<(), Fail> {
+fn as_python_writes_them(rt: HostRuntime) {
     for (lengths, want) in TEXTS {
-        is_written(&rt, rt.alloc(), *lengths, *want)?;
+        let shape = Shape::try_new(rt.alloc(), *lengths).expect(&rt, "no shape");
+        is_written(&rt, rt.alloc(), &shape, *want);
     }
-    Ok(())
 }

@@ -1,6 +1,7 @@
 //! A bench on which names are bound to arrays of zeros and to views of them, and unbound.
-ghost use Rattle.std.specs.Prelude.{◌≡◌, ◌+◌, ◌≤◌, ◌^◌, length, slice_get, Some, IfOk};
-ghost use Rattle.shape_strides.specs.Layouts.{offsets, Fits};
+ghost use Rattle.std.specs.Prelude.{◌≡◌, ◌<◌, ◌≤◌, length, slice_get, Some, IfOk};
+ghost use Rattle.shape_strides.specs.Limits.{max_bytes};
+ghost use Rattle.shape_strides.specs.Layouts.{offsets};
 
 use crate::check::{check, check_bytes};
 use elem_descr::{Descr, Order, Refusal, Scalar, Width};
@@ -76,9 +77,8 @@ pub(crate) fn view_all(
 
 /// The offset of the k-th item in C order.
 fn offset_of(alloc: Global, layout: &Layout, k: usize) -> Result<usize, Refusal>
-    requires { Fits layout.now (2 ^ 28) 1 }
     ensures entry { IfOk result (λ offset. slice_get (offsets layout.now) k ≡ Some offset) }
-    ensures limit { IfOk result (λ offset. offset + 1 ≤ 2 ^ 28) }
+    ensures limit { IfOk result (λ offset. offset < max_bytes) }
 {
     Walk::new(alloc, layout)?.nth(k).ok_or(Refusal::OutOfMemory)
 }

@@ -1,10 +1,10 @@
 //! Transposes as NumPy has them.
-use crate::fixtures::c_order;
+use crate::check::check;
+use crate::made::{c_order, has};
 use elem_descr::Refusal;
 use shape_strides::Layout;
 use std::alloc::Global;
 use std::process::Abort;
-use std::test::Fail;
 use view_ops::transpose;
 
 /// An array of 4-byte items in C order, with its axes in another order.
@@ -14,7 +14,7 @@ fn transposed(
     lengths: &[usize],
     axes: Option<&[i128]>,
 ) -> Result<Layout, Refusal> {
-    let layout = c_order(rt, alloc, lengths, 4)?;
+    let layout = c_order(rt, alloc, lengths, 4);
     transpose(alloc, &layout, axes)
 }
 
@@ -48,25 +48,19 @@ const TRANSPOSES: &[Row] = &[
 ];
 
 #[test]
-fn transposes(rt: HostRuntime) -> Result<(), Fail> {
+fn transposes(rt: HostRuntime) {
     for (lengths, axes, shape, strides) in TRANSPOSES {
-        let layout = transposed(&rt, rt.alloc(), *lengths, *axes)?;
-        assert!(rt; layout.shape.as_slice() == *shape);
-        assert!(rt; layout.strides.as_slice() == *strides);
-        assert_eq!(rt; layout.offset, 0);
+        let layout = transposed(&rt, rt.alloc(), *lengths, *axes).expect(&rt, "refused");
+        has(&rt, &layout, *shape, *strides, 0);
     }
-    Ok(())
 }
 
 const BAD_AXES: &[&[i128]] = &[&[], &[0], &[0, 1, 2], &[0, 2], &[-3, 0], &[1, 1], &[0, -2]];
 
 #[test]
-fn bad_axes(rt: HostRuntime) -> Result<(), Fail> {
+fn bad_axes(rt: HostRuntime) {
     for axes in BAD_AXES {
-        let Err(refusal) = transposed(&rt, rt.alloc(), &[2, 3], Some(*axes)) else {
-            return Err("accepted".into());
-        };
-        assert_eq!(rt; refusal, Refusal::BadAxis);
+        let refusal = transposed(&rt, rt.alloc(), &[2, 3], Some(*axes)).err();
+        check(&rt, refusal == Some(Refusal::BadAxis), "a bad axis");
     }
-    Ok(())
 }

@@ -1,12 +1,11 @@
 //! The items of arrays in C order, as NumPy and Python's `memoryview` have them.
-ghost use Rattle.std.specs.Prelude.{◌≡◌, ◌^◌, ◌≤◌, map, length, slice_index, IfOk};
+ghost use Rattle.std.specs.Prelude.{◌≡◌, map, length, slice_index, IfOk};
 ghost use Rattle.shape_strides.specs.Layouts.{offsets, Fits};
 
-use crate::fixtures::layout_of;
+use crate::check::check;
+use crate::made::{Numbers, layout_of};
 use shape_strides::{Layout, Walk};
 use std::alloc::{AllocError, Global};
-use std::process::Abort;
-use std::test::Fail;
 
 /// Byte k is k.
 const COUNTING: [u8; 32] = [
@@ -16,8 +15,7 @@ const COUNTING: [u8; 32] = [
 
 /// The first byte of each item, in C order.
 fn gather(alloc: Global, bytes: &[u8], layout: &Layout) -> Result<Vec<u8>, AllocError>
-    requires fits { Fits layout.now (length bytes.now) 1 }
-    requires limit { length bytes.now ≤ 2 ^ 28 }
+    requires { Fits layout.now (length bytes.now) 1 }
     ensures { IfOk result (λ v. v.items ≡ map (λ o. slice_index bytes.now o) (offsets layout.now)) }
 {
     let mut gathered = Vec::new(alloc);
@@ -27,36 +25,30 @@ fn gather(alloc: Global, bytes: &[u8], layout: &Layout) -> Result<Vec<u8>, Alloc
     Ok(gathered)
 }
 
-/// Lengths, strides, the offset, and the offsets of the items.
-type Row = (&'static [usize], &'static [isize], usize, &'static [u8]);
-
-const WALKS: &[Row] = &[
-    (&[3, 2], &[4, 12], 0, &[0, 12, 4, 16, 8, 20]),
-    (&[3], &[-8], 16, &[16, 8, 0]),
-    (&[2, 2], &[-6, 2], 8, &[8, 10, 2, 4]),
-    (&[2, 3], &[0, 1], 5, &[5, 6, 7, 5, 6, 7]),
-    (&[], &[], 7, &[7]),
-    (&[2, 0], &[0, 0], 0, &[]),
+/// An array, and the offsets of its items.
+const WALKS: &[(Numbers, &[u8])] = &[
+    ((&[3, 2], &[4, 12], 0), &[0, 12, 4, 16, 8, 20]),
+    ((&[3], &[-8], 16), &[16, 8, 0]),
+    ((&[2, 2], &[-6, 2], 8), &[8, 10, 2, 4]),
+    ((&[2, 3], &[0, 1], 5), &[5, 6, 7, 5, 6, 7]),
+    ((&[], &[], 7), &[7]),
+    ((&[2, 0], &[0, 0], 0), &[]),
     (
-        &[1, 1, 1, 1, 1, 1, 1, 1, 2],
-        &[0, 0, 0, 0, 0, 0, 0, 0, 3],
-        1,
+        (
+            &[1, 1, 1, 1, 1, 1, 1, 1, 2],
+            &[0, 0, 0, 0, 0, 0, 0, 0, 3],
+            1,
+        ),
         &[1, 4],
     ),
 ];
 
-fn gathers(rt: &impl Abort, alloc: Global, layout: &Layout, want: &[u8]) -> Result<(), Fail> {
-    assert!(rt; layout.fits(32, 1));
-    let gathered = gather(alloc, &COUNTING, layout)?;
-    assert!(rt; gathered.as_slice() == want);
-    Ok(())
-}
-
 #[test]
-fn walks(rt: HostRuntime) -> Result<(), Fail> {
-    for (lengths, steps, offset, want) in WALKS {
-        let layout = layout_of(&rt, rt.alloc(), *lengths, *steps, *offset)?;
-        gathers(&rt, rt.alloc(), &layout, *want)?;
+fn walks(rt: HostRuntime) {
+    for (numbers, want) in WALKS {
+        let layout = layout_of(&rt, rt.alloc(), *numbers);
+        check(&rt, layout.fits(32, 1), "within the bytes");
+        let gathered = gather(rt.alloc(), &COUNTING, &layout).expect(&rt, "no memory");
+        check(&rt, gathered.as_slice() == *want, "offsets");
     }
-    Ok(())
 }

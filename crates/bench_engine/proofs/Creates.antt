@@ -1,5 +1,5 @@
 -- A name bound to a new array.
-use Rattle.std.proofs.Common.{◌≡◌, ◌*◌, ◌<◌, ℕ, ℤ, true, false, List, [], ◌∷◌, ◌++◌, length, map, refl, sym, ap, ◌∙◌, Result, Ok, Err, ◌⊎◌, inl, inr, take, arith}
+use Rattle.std.proofs.Common.{◌≡◌, ◌*◌, ◌<◌, ℕ, true, false, List, [], ◌∷◌, ◌++◌, length, map, refl, sym, ap, ◌∙◌, Result, Ok, Err, ◌⊎◌, inl, inr, take, arith}
 use Rattle.std.specs.List.{range_with_len}
 use Rattle.std.proofs.Math.Nat.{mul-div_cancel_left}
 use Rattle.std.specs.Io.{StartsWith}
@@ -14,12 +14,9 @@ use Rattle.overlap_copy.specs.Blocks.{places_of}
 use Rattle.name_store.specs.Arrays.{has_room_for, bound_to, fresh_array}
 use Rattle.name_store.specs.Calls.{AnswersBind, own_array, own_buffer}
 use Rattle.name_store.specs.declared.bound.Bound.TheVariants.{Fresh}
-use Rattle.script_lang.specs.declared.literal.Literal.{Literal}
-use Rattle.script_lang.specs.declared.command.Command.{Command}
-use Rattle.script_lang.specs.declared.command.Command.TheVariants.{Zeros, Full, Arange, Array as ArrayCommand}
-use Rattle.bench_engine.specs.Contents.{Contents, held, contents_of, IsInCOrder}
+use Rattle.bench_engine.specs.Contents.{Contents, held, IsInCOrder}
 use Rattle.bench_engine.specs.Contract.{IsRefused, Answers}
-use Rattle.bench_engine.specs.Machine.{Choice, creation_outcome, outcome, may_lack_memory}
+use Rattle.bench_engine.specs.Machine.{Choice, creation_outcome, comes_to}
 use Rattle.bench_engine.specs.Replies.{fresh_text}
 
 pub creation-many : (choice : Choice) (s : State) (name : List ℕ) (contents : Result Contents Refusal) → has_room_for s name ≡ false → creation_outcome choice s name contents ≡ Err TooManyNames
@@ -31,7 +28,7 @@ unfolding creation_outcome
 creation-bad choice s name contents e room bad = rw (room, bad) refl
 
 creation-done : (choice : Choice) (s : State) (name : List ℕ) (contents : Result Contents Refusal) (new : Contents) → has_room_for s name ≡ true → contents ≡ Ok new →
-    creation_outcome choice s name contents ≡ Ok (bound_to s name (fresh_array choice.fresh new.shape) new.buffer, fresh_text name new.buffer.descr new.shape)
+    creation_outcome choice s name contents ≡ comes_to (bound_to s name (fresh_array choice.fresh new.shape) new.buffer) (fresh_text name new.buffer.descr new.shape)
 unfolding creation_outcome
 creation-done choice s name contents new room good = rw (room, good) refl
 
@@ -54,23 +51,16 @@ in-c_order number o order =
     (ap (places_of (item_size o.descr)) order ∙ divided (item_size o.descr) (range_with_len 0 (count o.layout.shape)) (omega (arith, o.fills_block.some)))
 
 -- the name is bound, or refused for want of memory
-pub creation-answers : (s new : State) (name : List ℕ) (contents : Result Contents Refusal) (o : Owned) (result : Result (Unit {0}) Refusal) (before after : List ℕ) → has_room_for s name ≡ true → contents ≡ Ok (held o) → IsInCOrder o →
-    after ≡ before ++ fresh_text name o.descr o.layout.shape → AnswersBind s name (Fresh o) result new → Answers true (λ choice. creation_outcome choice s name contents) s new before after result
-creation-answers s new name contents o (Ok done) before after room good order told (_, (number, unused, is)) =
-    (record { fresh = number }, unused.unused, fresh_text name o.descr o.layout.shape, creation-done (record { fresh = number }) s name contents (held o) room good ∙ ap (λ (t : State). Ok (t, fresh_text name o.descr o.layout.shape)) (ap (λ (a : Array). bound_to s name a (own_buffer o)) (sym (in-c_order number o order)) ∙ sym is), told)
-creation-answers s new name contents o (Err e) before after room good order told (kept, inl full) =
+pub creation-answers : (s new : State) (name : List ℕ) (o : Owned) (result : Result (Unit {0}) Refusal) (before after : List ℕ) → has_room_for s name ≡ true → IsInCOrder o →
+    after ≡ before ++ fresh_text name o.descr o.layout.shape → AnswersBind s name (Fresh o) result new → Answers true (λ choice. creation_outcome choice s name (Ok (held o))) s new before after result
+creation-answers s new name o (Ok done) before after room order told (_, (number, unused, is)) =
+    (record { fresh = number }, unused.unused, fresh_text name o.descr o.layout.shape, creation-done (record { fresh = number }) s name (Ok (held o)) (held o) room refl ∙ ap (λ (t : State). comes_to t (fresh_text name o.descr o.layout.shape)) (ap (λ (a : Array). bound_to s name a (own_buffer o)) (sym (in-c_order number o order)) ∙ sym is), told)
+creation-answers s new name o (Err e) before after room order told (kept, inl full) =
     let no : true ≡ false = sym room ∙ full.0 in cc
-creation-answers s new name contents o (Err e) before after room good order told (kept, inr lacks) =
+creation-answers s new name o (Err e) before after room order told (kept, inr lacks) =
     (kept, starts before (fresh_text name o.descr o.layout.shape) after told, inl (lacks.1, refl))
 
--- each command that makes an array
-pub created : (s new : State) (command : Command) (name before after : List ℕ) (result : Result (Unit {0}) Refusal) →
-    ((d : List ℕ) × (l : List ℕ) × (command ≡ Zeros name d l)) ⊎
-    (((d : List ℕ) × (l : List ℕ) × (v : Literal) × (command ≡ Full name d l v)) ⊎
-    (((d : List ℕ) × (start : ℤ) × (stop : ℤ) × (step : ℤ) × (command ≡ Arange name d start stop step)) ⊎
-    ((d : List ℕ) × (l : List ℕ) × (vs : List Literal) × (command ≡ ArrayCommand name d l vs)))) →
-    Answers true (λ choice. creation_outcome choice s name (contents_of command)) s new before after result → Answers (may_lack_memory s command) (λ choice. outcome choice s command) s new before after result
-created s new command name before after result (inl is) h = rw is.2 (rw is.2 at h)
-created s new command name before after result (inr (inl is)) h = rw is.3 (rw is.3 at h)
-created s new command name before after result (inr (inr (inl is))) h = rw is.4 (rw is.4 at h)
-created s new command name before after result (inr (inr (inr is))) h = rw is.3 (rw is.3 at h)
+-- what is bound is what the command makes
+pub made-answers : (s new : State) (name : List ℕ) (contents : Result Contents Refusal) (o : Owned) (result : Result (Unit {0}) Refusal) (before after : List ℕ) → contents ≡ Ok (held o) →
+    Answers true (λ choice. creation_outcome choice s name (Ok (held o))) s new before after result → Answers true (λ choice. creation_outcome choice s name contents) s new before after result
+made-answers s new name contents o result before after good h = rw good h

@@ -1,143 +1,129 @@
--- A session, one byte more.
-use Rattle.std.proofs.Common.{◌≡◌, ◌<◌, ◌+◌, ℕ, Bool, true, false, List, [], ◌∷◌, ◌++◌, length, map, Option, refl, sym, ap, ◌∙◌, subst, arith, append_assoc, nat_eq, take, drop, get_or, not, cond, add-one, drop-cons}
+-- A session, some bytes more.
+use Rattle.std.proofs.Common.{◌≡◌, ◌<◌, ◌+◌, ℕ, Bool, true, false, List, [], ◌∷◌, ◌++◌, length, Option, Some, None, is_some, refl, sym, ap, ◌∙◌, subst, arith, append_assoc, not, cond, ◌&&◌, nat_eq}
 use Rattle.std.specs.List.{count_by}
 use Rattle.std.proofs.lemmas.List.Sums.{sum_by-append}
-use Rattle.std.proofs.lemmas.List.{append-nil, map-append, take-append-drop}
+use Rattle.std.proofs.lemmas.List.{append-nil}
 use Rattle.std.proofs.lemmas.Grind.{flat_map-append}
 use Rattle.bench_engine.specs.declared.session.Session.{Session}
-use Rattle.name_store.specs.States.{State, start}
+use Rattle.std.specs.Io.KnownBytes.{Appends}
+use Rattle.bench_engine.specs.Meanings.{AnswersLine}
 use Rattle.bench_engine.specs.Replies.{Reply}
-use Rattle.bench_engine.specs.Lines.{lines, ended, unended, trimmed, if_any, meaning_of}
-use Rattle.bench_engine.specs.Runs.{Answered, output, reply_line}
-use Rattle.bench_engine.specs.Held.{Cut, accepted_count, refused_count}
-use Rattle.bench_engine.specs.Sessions.{Holds, said, Fed, Told, ToldInPart, KeepsAnswers, IsNew, Ended}
+use Rattle.bench_engine.specs.Lines.{ended, unended, trimmed, whole_lines, lines}
+use Rattle.bench_engine.specs.Runs.{Run, Cut, output, reply_line, accepted_count, refused_count}
+use Rattle.bench_engine.specs.Sessions.{Holds, HoldsBytes, Fed, HasTold, Told, ToldInPart, AnswersHeld}
 use Rattle.bench_engine.proofs.Known.{appends_then, appends_none}
-use Rattle.bench_engine.proofs.Lines.{run_more, ended-newline, unended-newline, ended-other, unended-other, said-holds, ended-split}
-
--- a byte that is held
-pub fed-other : (before written : Option (List ℕ)) (read : List ℕ) (old new : Session) (byte : ℕ) → nat_eq byte 10 ≡ false → KeepsAnswers old new →
-    (let holds : List ℕ → Type 0 = Holds old.line.items old.is_long in (piece : List ℕ) → holds piece → Holds new.line.items new.is_long (piece ++ byte ∷ [])) →
-    Fed before written read old → Fed before written (read ++ byte ∷ []) new
-fed-other before written read old new byte other kept held fed = record {
-  replies = fed.replies;
-  run = rw (ended-other read byte other, kept.bench) fed.run;
-  told = fed.told;
-  held = rw (unended-other read byte other) (held (unended read) fed.held);
-  accepted = kept.accepted ∙ fed.accepted;
-  refused = kept.refused ∙ fed.refused;
-}
-
-line-answered : (read : List ℕ) (line : List ℕ) (is_long : Bool) (from to : State) (replies : List Reply) → Holds line is_long (unended read) → Answered from (said (trimmed line) is_long) to replies → Answered from (meaning_of (trimmed (unended read))) to replies
-line-answered read line is_long from to replies held answered = subst (λ s. Answered from s to replies) (said-holds line is_long (unended read) held) answered
-
-lines-newline : (read : List ℕ) → map trimmed (ended (read ++ 10 ∷ [])) ≡ map trimmed (ended read) ++ trimmed (unended read) ∷ []
-lines-newline read = ap (map trimmed) (ended-newline read) ∙ map-append trimmed (ended read) (unended read ∷ [])
-
-regrouped : (E M T : List (List ℕ)) (u : List ℕ) → (E ++ u ∷ M) ++ T ≡ (E ++ u ∷ []) ++ (M ++ T)
-regrouped E M T u = simp append_assoc
-
-lines-split : (read more : List ℕ) → lines (read ++ 10 ∷ more) ≡ (map trimmed (ended read) ++ trimmed (unended read) ∷ []) ++ map trimmed (ended more ++ if_any (unended (read ++ 10 ∷ more)))
-lines-split read more =
-    ap (λ e. map trimmed (e ++ if_any (unended (read ++ 10 ∷ more)))) (ended-split read more)
-    ∙ ap (map trimmed) (regrouped (ended read) (ended more) (if_any (unended (read ++ 10 ∷ more))) (unended read))
-    ∙ map-append trimmed (ended read ++ unended read ∷ []) _
-    ∙ ap (λ front. front ++ map trimmed (ended more ++ if_any (unended (read ++ 10 ∷ more)))) (map-append trimmed (ended read) (unended read ∷ []))
+use Rattle.bench_engine.proofs.Lines.{whole_lines-piece, whole_lines-split, unended-newline, unended-piece, lines-last}
 
 count_by-append : (p : Reply → Bool) (xs ys : List Reply) → count_by p (xs ++ ys) ≡ count_by p xs + count_by p ys
 count_by-append p xs ys = sum_by-append (λ r. cond (p r) 1 0) xs ys
 
--- the bytes before a byte, it, and those after it
-pub parts : (read bytes : List ℕ) (i : ℕ) → i < length bytes → (read ++ take i bytes) ++ get_or bytes i 0 ∷ drop (i + 1) bytes ≡ read ++ bytes
-parts read bytes i here = append_assoc read (take i bytes) _ ∙ ap (λ t. read ++ t) (ap (λ d. take i bytes ++ d) (rw add-one (sym (drop-cons bytes i 0 here))) ∙ take-append-drop i bytes)
-
--- a newline, its line answered
-pub fed-newline : (before written written' : Option (List ℕ)) (read : List ℕ) (old new : Session) → Told written written' old new → new.line.items ≡ [] → new.is_long ≡ false →
-    Fed before written read old → Fed before written' (read ++ 10 ∷ []) new
-fed-newline before written written' read old new told empty whole fed = record {
-  replies = fed.replies ++ told.replies;
-  run = rw (lines-newline read) (run_more start old.bench new.bench _ _ fed.replies told.replies fed.run (line-answered read _ _ _ _ _ fed.held told.answered));
-  told = rw (flat_map-append reply_line fed.replies told.replies) (appends_then before written written' (output fed.replies) (output told.replies) fed.told told.told);
-  held = rw (unended-newline read, whole) empty;
-  accepted = told.accepted ∙ ap (λ n. n + accepted_count told.replies) fed.accepted ∙ sym (count_by-append (λ r. r.accepted) fed.replies told.replies);
-  refused = told.refused ∙ ap (λ n. n + refused_count told.replies) fed.refused ∙ sym (count_by-append (λ r. not r.accepted) fed.replies told.replies);
-}
-
--- a newline, its reply cut
-pub cut-newline : (before written written' : Option (List ℕ)) (read : List ℕ) (old new : Session) (more : List ℕ) → ToldInPart written written' old new →
-    Fed before written read old → Cut before written' (read ++ 10 ∷ more)
-cut-newline before written written' read old new more part fed = record {
-  answered = map trimmed (ended read) ++ trimmed (unended read) ∷ [];
-  later = map trimmed (ended more ++ if_any (unended (read ++ 10 ∷ more)));
-  replies = fed.replies;
-  last = part.reply;
-  gone = part.gone;
-  missing = part.missing;
-  state = new.bench;
-  front = lines-split read more;
-  run = run_more start old.bench new.bench _ _ fed.replies (part.reply ∷ []) fed.run (line-answered read _ _ _ _ _ fed.held part.answered);
-  cut = part.cut;
-  short = part.short;
-  told = appends_then before written written' (output fed.replies) part.gone fed.told part.told;
-}
-
-if_any-some : (piece : List ℕ) → 0 < length piece → if_any piece ≡ piece ∷ []
-if_any-some [] h = absurd (omega arith)
-if_any-some (b ∷ piece) h = refl
-
-lines-last : (read : List ℕ) → 0 < length (unended read) → lines read ≡ map trimmed (ended read) ++ trimmed (unended read) ∷ []
-lines-last read some = ap (λ last. map trimmed (ended read ++ last)) (if_any-some (unended read) some) ∙ map-append trimmed (ended read) (unended read ∷ [])
-
--- a last line, answered
-pub ended-last : (before written written' : Option (List ℕ)) (read : List ℕ) (old new : Session) → Told written written' old new → 0 < length (unended read) →
-    Fed before written read old → Ended before written' read new
-ended-last before written written' read old new told some fed = record {
-  replies = fed.replies ++ told.replies;
-  run = rw (lines-last read some) (run_more start old.bench new.bench _ _ fed.replies told.replies fed.run (line-answered read _ _ _ _ _ fed.held told.answered));
-  told = rw (flat_map-append reply_line fed.replies told.replies) (appends_then before written written' (output fed.replies) (output told.replies) fed.told told.told);
-  accepted = told.accepted ∙ ap (λ n. n + accepted_count told.replies) fed.accepted ∙ sym (count_by-append (λ r. r.accepted) fed.replies told.replies);
-  refused = told.refused ∙ ap (λ n. n + refused_count told.replies) fed.refused ∙ sym (count_by-append (λ r. not r.accepted) fed.replies told.replies);
-}
-
--- a last line, its reply cut
-pub cut-last : (before written written' : Option (List ℕ)) (read : List ℕ) (old new : Session) → ToldInPart written written' old new → 0 < length (unended read) →
-    Fed before written read old → Cut before written' read
-cut-last before written written' read old new part some fed = record {
-  answered = map trimmed (ended read) ++ trimmed (unended read) ∷ [];
-  later = [];
-  replies = fed.replies;
-  last = part.reply;
-  gone = part.gone;
-  missing = part.missing;
-  state = new.bench;
-  front = lines-last read some ∙ sym (append-nil _);
-  run = run_more start old.bench new.bench _ _ fed.replies (part.reply ∷ []) fed.run (line-answered read _ _ _ _ _ fed.held part.answered);
-  cut = part.cut;
-  short = part.short;
-  told = appends_then before written written' (output fed.replies) part.gone fed.told part.told;
-}
-
 -- a piece of which something is held
-pub held-some : (line : List ℕ) (is_long : Bool) (piece : List ℕ) → Holds line is_long piece → 0 < length line → 0 < length piece
-held-some line true piece holds some = omega arith
-held-some line false piece holds some = omega (arith, ap length holds)
+pub held-some : (bytes : List ℕ) (is_long : Bool) (piece : List ℕ) → (nat_eq (length bytes) 0 && not is_long) ≡ false → HoldsBytes bytes is_long piece → 0 < length piece
+held-some bytes true piece some holds = omega arith
+held-some [] false piece some holds = cc
+held-some (b ∷ bytes) false piece some holds = omega (arith, ap length holds)
 
-pub held-long : (line : List ℕ) (is_long : Bool) (piece : List ℕ) → Holds line is_long piece → is_long ≡ true → 0 < length piece
-held-long line true piece holds long = omega arith
-held-long line false piece holds long = cc
-
--- no byte has come
-pub fed-new : (before : Option (List ℕ)) (s : Session) → IsNew s → Fed before before [] s
-fed-new before s fresh = record {
-  replies = [];
-  run = (refl, fresh.bench);
-  told = appends_none before;
-  held = rw fresh.whole fresh.line;
-  accepted = fresh.accepted;
-  refused = fresh.refused;
+-- a reply that stands in out, and a part of it that has gone out
+pub told-in-part : (old new : Session) (answered : Option Bool) (written written' : Option (List ℕ)) → true ≡ is_some answered → AnswersHeld old new answered →
+    ((gone missing : List ℕ) × (new.out.items ++ 10 ∷ [] ≡ gone ++ missing) × (0 < length missing) × Appends written written' gone) → ToldInPart AnswersLine old.bench new.bench written written' old
+told-in-part old new None written written' some held part = cc
+told-in-part old new (Some accepted) written written' some held part = record {
+  reply = held.tells.0;
+  answers = λ piece holds. subst (λ (replies : List Reply). AnswersLine old.bench (trimmed piece) new.bench replies) held.tells.1 (held.answers piece holds);
+  gone = part.0;
+  missing = part.1;
+  cut = ap (λ text. text ++ 10 ∷ []) (sym held.tells.3) ∙ part.2;
+  short = part.3;
+  told = part.4;
 }
 
-pub fed_along : (before written : Option (List ℕ)) (input xs ys : List ℕ) (s : Session) → xs ≡ ys → Fed before written (input ++ xs) s → Fed before written (input ++ ys) s
-fed_along before written input xs ys s same fed = subst (λ t. Fed before written (input ++ t) s) same fed
+module _ {World : Type 0} (Answer : World → List ℕ → World → List Reply → Type 0) where
+  -- one more line in a run
+  run_more : (old mid new : World) (ls : List (List ℕ)) (line : List ℕ) (replies more : List Reply) → Run Answer old ls replies mid → Answer mid line new more → Run Answer old (ls ++ line ∷ []) (replies ++ more) new
+  run_more old mid new [] line replies more run answered =
+      (new, more, [], ap (λ r. r ++ more) run.0 ∙ sym (append-nil more), subst (λ (s : World). Answer s line new more) run.1 answered, (refl, refl))
+  run_more old mid new (l ∷ ls) line replies more run answered =
+      (run.0, run.1, run.2 ++ more, ap (λ r. r ++ more) run.3 ∙ append_assoc run.1 run.2 more, run.4, run_more run.0 mid new ls line run.2 more run.5 answered)
 
-pub cut_along : (before written : Option (List ℕ)) (input xs ys : List ℕ) → xs ≡ ys → Cut before written (input ++ xs) → Cut before written (input ++ ys)
-cut_along before written input xs ys same cut = subst (λ t. Cut before written (input ++ t)) same cut
+  module _ (start : World) (before : Option (List ℕ)) where
+    -- no byte has come
+    pub fed-new : (to : World) (s : Session) → to ≡ start → Holds s.line [] → s.accepted ≡ 0 → s.refused ≡ 0 → Fed Answer start to before before [] s
+    fed-new to s at_start empty accepted refused = record {
+      told = record { replies = []; run = (refl, at_start); told = appends_none before; accepted = accepted; refused = refused };
+      held = empty;
+    }
+
+    -- a piece in which no newline stands is held
+    pub fed-piece : (to : World) (written : Option (List ℕ)) (read piece : List ℕ) (old new : Session) → ended piece ≡ [] → new.accepted ≡ old.accepted → new.refused ≡ old.refused →
+        ((held : List ℕ) → Holds old.line held → Holds new.line (held ++ piece)) → Fed Answer start to before written read old → Fed Answer start to before written (read ++ piece) new
+    fed-piece to written read piece old new one same-accepted same-refused holds fed = record {
+      told = record {
+        replies = fed.told.replies;
+        run = rw (whole_lines-piece read piece one) fed.told.run;
+        told = fed.told.told;
+        accepted = same-accepted ∙ fed.told.accepted;
+        refused = same-refused ∙ fed.told.refused;
+      };
+      held = rw (unended-piece read piece one) (holds (unended read) fed.held);
+    }
+
+    -- one line more is answered
+    told-line : (mid to : World) (written written' : Option (List ℕ)) (all : List (List ℕ)) (piece : List ℕ) (old new : Session) → Holds old.line piece → Told Answer mid to written written' old new →
+        HasTold Answer start mid before written all old → HasTold Answer start to before written' (all ++ trimmed piece ∷ []) new
+    told-line mid to written written' all piece old new holds line told = record {
+      replies = told.replies ++ line.replies;
+      run = run_more start mid to all (trimmed piece) told.replies line.replies told.run (line.answers piece holds);
+      told = rw (flat_map-append reply_line told.replies line.replies) (appends_then before written written' (output told.replies) (output line.replies) told.told line.told);
+      accepted = line.accepted ∙ ap (λ n. n + accepted_count line.replies) told.accepted ∙ sym (count_by-append (λ r. r.accepted) told.replies line.replies);
+      refused = line.refused ∙ ap (λ n. n + refused_count line.replies) told.refused ∙ sym (count_by-append (λ r. not r.accepted) told.replies line.replies);
+    }
+
+    -- one line more, its reply cut
+    cut-line : (mid to : World) (written written' : Option (List ℕ)) (all later : List (List ℕ)) (piece : List ℕ) (old : Session) → Holds old.line piece → ToldInPart Answer mid to written written' old →
+        HasTold Answer start mid before written all old → Cut Answer start before written' ((all ++ trimmed piece ∷ []) ++ later)
+    cut-line mid to written written' all later piece old holds part told = record {
+      answered = all ++ trimmed piece ∷ [];
+      later = later;
+      replies = told.replies;
+      last = part.reply;
+      gone = part.gone;
+      missing = part.missing;
+      state = to;
+      front = refl;
+      run = run_more start mid to all (trimmed piece) told.replies (part.reply ∷ []) told.run (part.answers piece holds);
+      cut = part.cut;
+      short = part.short;
+      told = appends_then before written written' (output told.replies) part.gone told.told part.told;
+    }
+
+    -- a newline, its line answered
+    pub fed-newline : (mid to : World) (written written' : Option (List ℕ)) (read : List ℕ) (old new : Session) → Holds new.line [] → Told Answer mid to written written' old new →
+        Fed Answer start mid before written read old → Fed Answer start to before written' (read ++ 10 ∷ []) new
+    fed-newline mid to written written' read old new empty line fed = record {
+      told = rw (whole_lines-split read []) (told-line mid to written written' (whole_lines read) (unended read) old new fed.held line fed.told);
+      held = rw (unended-newline read) empty;
+    }
+
+    -- a newline, its reply cut
+    pub cut-newline : (mid to : World) (written written' : Option (List ℕ)) (read more : List ℕ) (old : Session) → ToldInPart Answer mid to written written' old →
+        Fed Answer start mid before written read old → Cut Answer start before written' (whole_lines (read ++ 10 ∷ more))
+    cut-newline mid to written written' read more old part fed =
+        rw (whole_lines-split read more, sym (append_assoc (whole_lines read) (trimmed (unended read) ∷ []) (whole_lines more)))
+        (cut-line mid to written written' (whole_lines read) (whole_lines more) (unended read) old fed.held part fed.told)
+
+    -- a last line, answered
+    pub told-last : (mid to : World) (written written' : Option (List ℕ)) (read : List ℕ) (old new : Session) → 0 < length (unended read) → Told Answer mid to written written' old new →
+        Fed Answer start mid before written read old → HasTold Answer start to before written' (lines read) new
+    told-last mid to written written' read old new some line fed = rw (lines-last read some) (told-line mid to written written' (whole_lines read) (unended read) old new fed.held line fed.told)
+
+    -- a last line, its reply cut
+    pub cut-last : (mid to : World) (written written' : Option (List ℕ)) (read : List ℕ) (old : Session) → 0 < length (unended read) → ToldInPart Answer mid to written written' old →
+        Fed Answer start mid before written read old → Cut Answer start before written' (lines read)
+    cut-last mid to written written' read old some part fed =
+        rw (lines-last read some, sym (append-nil (whole_lines read ++ trimmed (unended read) ∷ []))) (cut-line mid to written written' (whole_lines read) [] (unended read) old fed.held part fed.told)
+
+    pub fed_along : (to : World) (written : Option (List ℕ)) (xs ys : List ℕ) (s : Session) → xs ≡ ys → Fed Answer start to before written xs s → Fed Answer start to before written ys s
+    fed_along to written xs ys s same fed = subst (λ bytes. Fed Answer start to before written bytes s) same fed
+
+    pub cut_along : (written : Option (List ℕ)) (xs ys : List ℕ) → xs ≡ ys → Cut Answer start before written (whole_lines xs) → Cut Answer start before written (whole_lines ys)
+    cut_along written xs ys same cut = subst (λ bytes. Cut Answer start before written (whole_lines bytes)) same cut

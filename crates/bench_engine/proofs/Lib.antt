@@ -8,6 +8,7 @@ pub mod Lines
 pub mod Listings
 pub mod Looks
 pub mod Makes
+pub mod Meanings
 pub mod Outcomes
 pub mod Parts
 pub mod Steps

@@ -1,49 +1,17 @@
--- One byte, one line more.
-use Rattle.std.proofs.Common.{◌≡◌, ◌<◌, ◌≤◌, ◌+◌, ℕ, Bool, true, false, List, [], ◌∷◌, ◌++◌, length, refl, sym, ap, ◌∙◌, cond, arith, append_assoc, nat_eq, subst, take, ◌-◌, length-take}
-use Rattle.std.specs.List.{ends_with}
-use Rattle.std.proofs.lemmas.List.{append-nil}
-use Rattle.std.proofs.lemmas.Bool.{lt-ltb, le-ltb}
-use Rattle.name_store.specs.States.{State}
-use Rattle.bench_engine.specs.Replies.{Reply}
-use Rattle.bench_engine.specs.Lines.{ended, unended, onto_first_piece, before_rest, trimmed, meaning_of, limit, too_long, says}
-use Rattle.script_lang.specs.Lines.{line_of}
-use Rattle.bench_engine.specs.Runs.{Answered, Run}
-use Rattle.bench_engine.specs.Sessions.{Holds, said}
-
--- one more line in a run
-pub run_more : (old mid new : State) (ls : List (List ℕ)) (line : List ℕ) (replies more : List Reply) → Run old ls replies mid → Answered mid (meaning_of line) new more → Run old (ls ++ line ∷ []) (replies ++ more) new
-run_more old mid new [] line replies more run answered =
-    (new, more, [], ap (λ r. r ++ more) run.0 ∙ sym (append-nil more), subst (λ (s : State). Answered s (meaning_of line) new more) run.1 answered, (refl, refl))
-run_more old mid new (l ∷ ls) line replies more run answered =
-    (run.0, run.1, run.2 ++ more, ap (λ r. r ++ more) run.3 ∙ append_assoc run.1 run.2 more, run.4, run_more run.0 mid new ls line run.2 more run.5 answered)
-
-onto_first_piece-push : (b : ℕ) (pieces : List (List ℕ)) (last : List ℕ) → onto_first_piece b (pieces ++ last ∷ []) ≡ onto_first_piece b pieces ++ before_rest b pieces last ∷ []
-onto_first_piece-push b [] last = refl
-onto_first_piece-push b (piece ∷ pieces) last = refl
-
--- a newline
-pub ended-newline : (bytes : List ℕ) → ended (bytes ++ 10 ∷ []) ≡ ended bytes ++ unended bytes ∷ []
-ended-newline [] = refl
-ended-newline (b ∷ bytes) =
-    elim (nat_eq b 10) as (λ t. cond t ([] ∷ ended (bytes ++ 10 ∷ [])) (onto_first_piece b (ended (bytes ++ 10 ∷ []))) ≡ cond t ([] ∷ ended bytes) (onto_first_piece b (ended bytes)) ++ cond t (unended bytes) (before_rest b (ended bytes) (unended bytes)) ∷ []) [
-      | true ↦ ap (λ p. [] ∷ p) (ended-newline bytes)
-      | false ↦ ap (onto_first_piece b) (ended-newline bytes) ∙ onto_first_piece-push b (ended bytes) (unended bytes)
-    ]
-
-before_last : (b : ℕ) (pieces : List (List ℕ)) (last rest : List ℕ) → before_rest b (pieces ++ last ∷ []) rest ≡ rest
-before_last b [] last rest = refl
-before_last b (piece ∷ pieces) last rest = refl
-
-before_rest-push : (b x : ℕ) (pieces : List (List ℕ)) (rest : List ℕ) → before_rest b pieces (rest ++ x ∷ []) ≡ before_rest b pieces rest ++ x ∷ []
-before_rest-push b x [] rest = refl
-before_rest-push b x (piece ∷ pieces) rest = refl
+-- One piece, one line more.
+use Rattle.std.proofs.Common.{◌≡◌, ◌<◌, ◌≤◌, ◌+◌, ℕ, true, false, List, [], ◌∷◌, ◌++◌, length, map, refl, sym, ap, ◌∙◌, cond, arith, nat_eq, take, get_or, Some, None, nat_lt, one-add, subst, take_all, not, drop, append_assoc, add-one, drop-cons, suc}
+use Rattle.std.specs.List.{position, position_or_len}
+use Rattle.std.proofs.lemmas.Bool.{eqb-true, ltb-false}
+use Rattle.std.proofs.lemmas.List.{map-append, take-append-drop}
+use Rattle.std.proofs.lemmas.List.Quantifiers.{position-Some}
+use Rattle.bench_engine.specs.Lines.{ended, unended, onto_first_piece, before_rest, trimmed, whole_lines, lines, if_any}
 
 onto_first_piece-split : (b : ℕ) (pieces : List (List ℕ)) (last : List ℕ) (later : List (List ℕ)) → onto_first_piece b (pieces ++ last ∷ later) ≡ onto_first_piece b pieces ++ before_rest b pieces last ∷ later
 onto_first_piece-split b [] last later = refl
 onto_first_piece-split b (piece ∷ pieces) last later = refl
 
 -- a newline, and more after it
-pub ended-split : (bytes more : List ℕ) → ended (bytes ++ 10 ∷ more) ≡ ended bytes ++ unended bytes ∷ ended more
+ended-split : (bytes more : List ℕ) → ended (bytes ++ 10 ∷ more) ≡ ended bytes ++ unended bytes ∷ ended more
 ended-split [] more = refl
 ended-split (b ∷ bytes) more =
     elim (nat_eq b 10) as (λ t. cond t ([] ∷ ended (bytes ++ 10 ∷ more)) (onto_first_piece b (ended (bytes ++ 10 ∷ more))) ≡ cond t ([] ∷ ended bytes) (onto_first_piece b (ended bytes)) ++ cond t (unended bytes) (before_rest b (ended bytes) (unended bytes)) ∷ ended more) [
@@ -51,40 +19,119 @@ ended-split (b ∷ bytes) more =
       | false ↦ ap (onto_first_piece b) (ended-split bytes more) ∙ onto_first_piece-split b (ended bytes) (unended bytes) (ended more)
     ]
 
+before_last : (b : ℕ) (pieces : List (List ℕ)) (last rest : List ℕ) → before_rest b (pieces ++ last ∷ []) rest ≡ rest
+before_last b [] last rest = refl
+before_last b (piece ∷ pieces) last rest = refl
+
 pub unended-newline : (bytes : List ℕ) → unended (bytes ++ 10 ∷ []) ≡ []
 unended-newline [] = refl
 unended-newline (b ∷ bytes) =
     elim (nat_eq b 10) as (λ t. cond t (unended (bytes ++ 10 ∷ [])) (before_rest b (ended (bytes ++ 10 ∷ [])) (unended (bytes ++ 10 ∷ []))) ≡ []) [
       | true ↦ unended-newline bytes
-      | false ↦ rw (ended-newline bytes, unended-newline bytes) (before_last b (ended bytes) (unended bytes) [])
+      | false ↦ rw (ended-split bytes [], unended-newline bytes) (before_last b (ended bytes) (unended bytes) [])
     ]
 
--- any other byte
-pub ended-other : (bytes : List ℕ) (x : ℕ) → nat_eq x 10 ≡ false → ended (bytes ++ x ∷ []) ≡ ended bytes
-ended-other [] x ne = rw ne refl
-ended-other (b ∷ bytes) x ne = rw (ended-other bytes x ne) refl
+-- a piece in which no newline stands
+pub ended-piece : (bytes piece : List ℕ) → ended piece ≡ [] → ended (bytes ++ piece) ≡ ended bytes
+ended-piece [] piece none = none
+ended-piece (b ∷ bytes) piece none = rw (ended-piece bytes piece none) refl
 
-pub unended-other : (bytes : List ℕ) (x : ℕ) → nat_eq x 10 ≡ false → unended (bytes ++ x ∷ []) ≡ unended bytes ++ x ∷ []
-unended-other [] x ne = rw ne refl
-unended-other (b ∷ bytes) x ne =
-    elim (nat_eq b 10) as (λ t. cond t (unended (bytes ++ x ∷ [])) (before_rest b (ended (bytes ++ x ∷ [])) (unended (bytes ++ x ∷ []))) ≡ cond t (unended bytes) (before_rest b (ended bytes) (unended bytes)) ++ x ∷ []) [
-      | true ↦ unended-other bytes x ne
-      | false ↦ rw (ended-other bytes x ne, unended-other bytes x ne) (before_rest-push b x (ended bytes) (unended bytes))
+before_rest-append : (b : ℕ) (pieces : List (List ℕ)) (rest more : List ℕ) → before_rest b pieces (rest ++ more) ≡ before_rest b pieces rest ++ more
+before_rest-append b [] rest more = refl
+before_rest-append b (piece ∷ pieces) rest more = refl
+
+onto_none : (b : ℕ) (pieces : List (List ℕ)) → onto_first_piece b pieces ≡ [] → pieces ≡ []
+onto_none b [] none = refl
+onto_none b (piece ∷ pieces) none = cc
+
+unended-whole : (piece : List ℕ) → ended piece ≡ [] → unended piece ≡ piece
+unended-whole [] none = refl
+unended-whole (b ∷ piece) none =
+    elim (nat_eq b 10) as (λ t. cond t ([] ∷ ended piece) (onto_first_piece b (ended piece)) ≡ [] → cond t (unended piece) (before_rest b (ended piece) (unended piece)) ≡ b ∷ piece) [
+      | true ↦ λ h. cc
+      | false ↦ λ h. let rest = onto_none b (ended piece) h in rw (rest, unended-whole piece rest) refl
+    ] none
+
+pub unended-piece : (bytes piece : List ℕ) → ended piece ≡ [] → unended (bytes ++ piece) ≡ unended bytes ++ piece
+unended-piece [] piece none = unended-whole piece none
+unended-piece (b ∷ bytes) piece none =
+    elim (nat_eq b 10) as (λ t. cond t (unended (bytes ++ piece)) (before_rest b (ended (bytes ++ piece)) (unended (bytes ++ piece))) ≡ cond t (unended bytes) (before_rest b (ended bytes) (unended bytes)) ++ piece) [
+      | true ↦ unended-piece bytes piece none
+      | false ↦ rw (ended-piece bytes piece none, unended-piece bytes piece none) (before_rest-append b (ended bytes) (unended bytes) piece)
     ]
 
-length-trimmed : (piece : List ℕ) → length piece ≤ length (trimmed piece) + 1
-length-trimmed piece = elim (ends_with nat_eq piece (13 ∷ [])) as (λ t. length piece ≤ length (cond t (take (length piece - 1) piece) piece) + 1) [ true ↦ omega (arith, length-take (length piece - 1) piece) | false ↦ omega arith ]
+pub whole_lines-piece : (bytes piece : List ℕ) → ended piece ≡ [] → whole_lines (bytes ++ piece) ≡ whole_lines bytes
+whole_lines-piece bytes piece none = ap (map trimmed) (ended-piece bytes piece none)
 
--- what is held says what the piece says
-pub said-holds : (line : List ℕ) (is_long : Bool) (piece : List ℕ) → Holds line is_long piece → said (trimmed line) is_long ≡ meaning_of (trimmed piece)
-unfolding meaning_of
-said-holds line true piece holds = let long : limit < length (trimmed piece) = omega (arith, length-trimmed piece) in rw (lt-ltb limit (length (trimmed piece)) long) refl
-said-holds line false piece holds = ap (λ l. meaning_of (trimmed l)) holds
+pub whole_lines-split : (bytes more : List ℕ) → whole_lines (bytes ++ 10 ∷ more) ≡ whole_lines bytes ++ trimmed (unended bytes) ∷ whole_lines more
+whole_lines-split bytes more = ap (map trimmed) (ended-split bytes more) ∙ map-append trimmed (ended bytes) (unended bytes ∷ ended more)
 
-pub meaning_of-long : (line : List ℕ) → limit < length line → meaning_of line ≡ too_long
-unfolding meaning_of
-meaning_of-long line long = rw (lt-ltb limit (length line) long) refl
+if_any-some : (piece : List ℕ) → 0 < length piece → if_any piece ≡ piece ∷ []
+if_any-some [] h = absurd (omega arith)
+if_any-some (b ∷ piece) h = refl
 
-pub meaning_of-short : (line : List ℕ) → length line ≤ limit → meaning_of line ≡ says (line_of line)
-unfolding meaning_of
-meaning_of-short line short = rw (le-ltb limit (length line) short) refl
+-- a last line that no newline ends
+pub lines-last : (bytes : List ℕ) → 0 < length (unended bytes) → lines bytes ≡ whole_lines bytes ++ trimmed (unended bytes) ∷ []
+lines-last bytes some = ap (λ last. whole_lines bytes ++ map trimmed last) (if_any-some (unended bytes) some)
+
+-- the bytes before the first newline
+ended-before : (bytes : List ℕ) → ended (take (position_or_len (λ b. nat_eq b 10) bytes) bytes) ≡ []
+ended-before [] = refl
+ended-before (b ∷ bytes) =
+    elim (nat_eq b 10) as (λ t. nat_eq b 10 ≡ t → ended (take (cond (not t) (1 + position_or_len (λ x. nat_eq x 10) bytes) 0) (b ∷ bytes)) ≡ []) [
+      | true ↦ λ _. refl
+      | false ↦ λ other. rw (one-add, other, ended-before bytes) refl
+    ] refl
+
+place : (q n end : ℕ) → cond (nat_lt q n) (Some q) None ≡ Some end → q ≡ end
+place q n end is =
+    elim (nat_lt q n) as (λ t. cond t (Some q) None ≡ Some end → q ≡ end) [
+      | true ↦ λ e. cc
+      | false ↦ λ e. cc
+    ] is
+
+-- the first newline, after bytes without one
+pub first_newline : (bytes : List ℕ) (end : ℕ) → position (λ b. nat_eq b 10) bytes ≡ Some end → (end < length bytes) × (ended (take end bytes) ≡ []) × (get_or bytes end 10 ≡ 10)
+first_newline bytes end is =
+    let at = position-Some (λ b. nat_eq b 10) bytes end 10 is in
+    (at.0, subst (λ n. ended (take n bytes) ≡ []) (place (position_or_len (λ b. nat_eq b 10) bytes) (length bytes) end is) (ended-before bytes), eqb-true _ _ at.1)
+
+nowhere : (q n : ℕ) → cond (nat_lt q n) (Some q) None ≡ None → n ≤ q
+nowhere q n is =
+    elim (nat_lt q n) as (λ t. nat_lt q n ≡ t → cond t (Some q) None ≡ None → n ≤ q) [
+      | true ↦ λ _ e. cc
+      | false ↦ λ no e. ltb-false q n no
+    ] refl is
+
+-- no newline at all
+pub no_newline : (bytes : List ℕ) → position (λ b. nat_eq b 10) bytes ≡ None → ended bytes ≡ []
+no_newline bytes none =
+    subst (λ piece. ended piece ≡ []) (take_all _ bytes (nowhere (position_or_len (λ b. nat_eq b 10) bytes) (length bytes) none)) (ended-before bytes)
+
+-- the bytes before a newline, it, and those after it
+at_newline : (bytes : List ℕ) (end : ℕ) → end < length bytes → get_or bytes end 10 ≡ 10 → bytes ≡ take end bytes ++ 10 ∷ drop (end + 1) bytes
+at_newline bytes end here is = sym (take-append-drop end bytes) ∙ ap (λ d. take end bytes ++ d) (rw add-one (drop-cons bytes end 10 here ∙ ap (λ b. b ∷ drop (suc end) bytes) is))
+
+-- a newline in the last part of some bytes
+pub newline_in_rest : (bytes taken rest : List ℕ) (end : ℕ) → bytes ≡ taken ++ rest → end < length rest → get_or rest end 10 ≡ 10 → bytes ≡ (taken ++ take end rest) ++ 10 ∷ drop (end + 1) rest
+newline_in_rest bytes taken rest end is here newline = is ∙ ap (λ r. taken ++ r) (at_newline rest end here newline) ∙ sym (append_assoc taken (take end rest) (10 ∷ drop (end + 1) rest))
+
+-- more bytes leave the lines that stand
+onto_first_piece-front : (b : ℕ) (pieces more : List (List ℕ)) → (later : List (List ℕ)) × (onto_first_piece b (pieces ++ more) ≡ onto_first_piece b pieces ++ later)
+onto_first_piece-front b [] more = (onto_first_piece b more, refl)
+onto_first_piece-front b (piece ∷ pieces) more = (more, refl)
+
+ended-front : (bytes more : List ℕ) → (later : List (List ℕ)) × (ended (bytes ++ more) ≡ ended bytes ++ later)
+ended-front [] more = (ended more, refl)
+ended-front (b ∷ bytes) more =
+    let rest = ended-front bytes more in
+    elim (nat_eq b 10) as (λ t. (later : List (List ℕ)) × (cond t ([] ∷ ended (bytes ++ more)) (onto_first_piece b (ended (bytes ++ more))) ≡ cond t ([] ∷ ended bytes) (onto_first_piece b (ended bytes)) ++ later)) [
+      | true ↦ (rest.0, ap (λ p. [] ∷ p) rest.1)
+      | false ↦ let onto = onto_first_piece-front b (ended bytes) rest.0 in (onto.0, ap (onto_first_piece b) rest.1 ∙ onto.1)
+    ]
+
+pub lines-front : (bytes more : List ℕ) → (later : List (List ℕ)) × (lines (bytes ++ more) ≡ whole_lines bytes ++ later)
+lines-front bytes more =
+    let front = ended-front bytes more in
+    let last = map trimmed (if_any (unended (bytes ++ more))) in
+    (map trimmed front.0 ++ last, ap (λ pieces. map trimmed pieces ++ last) front.1 ∙ ap (λ l. l ++ last) (map-append trimmed (ended bytes) front.0) ∙ append_assoc (whole_lines bytes) (map trimmed front.0) last)

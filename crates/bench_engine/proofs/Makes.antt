@@ -8,7 +8,7 @@ use Rattle.elem_descr.specs.declared.refusal.Refusal.TheVariants.{OutOfMemory, T
 use Rattle.elem_descr.specs.declared.scalar.Scalar.{Scalar}
 use Rattle.elem_descr.specs.declared.descr.Descr.{Descr}
 use Rattle.elem_descr.specs.declared.descr.Descr.TheVariants.{Scalar as ScalarDescr}
-use Rattle.elem_descr.specs.Refusals.{Gives}
+use Rattle.elem_descr.specs.Refusals.{Gives, Answers}
 use Rattle.elem_descr.specs.DescrTexts.{descriptor}
 use Rattle.elem_descr.specs.Encoding.{size}
 use Rattle.elem_descr.specs.Items.{item_size, decode_item}
@@ -20,7 +20,7 @@ use Rattle.script_lang.specs.declared.literal.Literal.{Literal}
 use Rattle.overlap_copy.specs.declared.owned.Owned.{Owned}
 use Rattle.literal_items.specs.LiteralItems.{item_value, item_values}
 use Rattle.literal_items.specs.RangeItems.{range_length, range_items}
-use Rattle.bench_engine.specs.Contents.{made, held, array_type, zeros_contents, full_contents, array_contents, arange_contents, integer_scalar}
+use Rattle.bench_engine.specs.Contents.{made, held, array_type, zeros_contents, full_contents, array_contents, arange_contents, integer_scalar, integer_type}
 use Rattle.bench_engine.proofs.Zeros.{items_in-zeros}
 
 -- a slice that was written to, back in its place
@@ -114,22 +114,29 @@ array-done text lengths literals descr shape bytes o good many values typed shap
     rw (good, eq-eqb (length literals) (count shape) many, values) (ap Ok (held-is o descr shape bytes _ typed shaped filled (ap (λ n. items_in descr n bytes) many)))
 
 -- arange
-pub arange-descr : (text : List ℕ) (start stop step : ℤ) (e : Refusal) → descriptor text ≡ Err e → arange_contents text start stop step ≡ Err e
-unfolding arange_contents
-arange-descr text start stop step e bad = rw bad refl
+pub integer-descr : (text : List ℕ) (e : Refusal) → descriptor text ≡ Err e → integer_type text ≡ Err e
+unfolding integer_type
+integer-descr text e bad = rw bad refl
 
-pub arange-kind : (text : List ℕ) (start stop step : ℤ) (descr : Descr) (e : Refusal) → descriptor text ≡ Ok descr → integer_scalar descr ≡ Err e → arange_contents text start stop step ≡ Err e
-unfolding arange_contents
-arange-kind text start stop step descr e good bad = rw (good, bad) refl
+integer-is : (text : List ℕ) (descr : Descr) (scalar : Result Scalar Refusal) → descriptor text ≡ Ok descr → integer_scalar descr ≡ scalar → integer_type text ≡ scalar
+unfolding integer_type
+integer-is text descr scalar good kind = rw good kind
 
-pub arange-length : (text : List ℕ) (start stop step : ℤ) (descr : Descr) (scalar : Scalar) (e : Refusal) → descriptor text ≡ Ok descr → integer_scalar descr ≡ Ok scalar → range_length start stop step ≡ Err e → arange_contents text start stop step ≡ Err e
+pub integer-given : (text : List ℕ) (descr : Descr) (scalar : Result Scalar Refusal) → descriptor text ≡ Ok descr → Answers (λ s. s) scalar (integer_scalar descr) → Gives (λ s. s) scalar (integer_type text)
+integer-given text descr (Ok scalar) good is = integer-is text descr (Ok scalar) good is
+integer-given text descr (Err e) good is = inr (integer-is text descr (Err e) good is)
+
+pub arange-type : (text : List ℕ) (start stop step : ℤ) (e : Refusal) → integer_type text ≡ Err e → arange_contents text start stop step ≡ Err e
+unfolding arange_contents
+arange-type text start stop step e bad = rw bad refl
+
+pub arange-length : (text : List ℕ) (start stop step : ℤ) (scalar : Scalar) (e : Refusal) → integer_type text ≡ Ok scalar → range_length start stop step ≡ Err e → arange_contents text start stop step ≡ Err e
 unfolding arange_contents range_items
-arange-length text start stop step descr scalar e good kind bad = rw (good, kind, bad) refl
+arange-length text start stop step scalar e kind bad = rw (kind, bad) refl
 
-pub arange-range : (text : List ℕ) (start stop step : ℤ) (descr : Descr) (scalar : Scalar) (e : Refusal) → descriptor text ≡ Ok descr → integer_scalar descr ≡ Ok scalar → range_items scalar start stop step ≡ Err e →
-    arange_contents text start stop step ≡ Err e
+pub arange-range : (text : List ℕ) (start stop step : ℤ) (scalar : Scalar) (e : Refusal) → integer_type text ≡ Ok scalar → range_items scalar start stop step ≡ Err e → arange_contents text start stop step ≡ Err e
 unfolding arange_contents
-arange-range text start stop step descr scalar e good kind bad = rw (good, kind, bad) refl
+arange-range text start stop step scalar e kind bad = rw (kind, bad) refl
 
 -- a shape of one axis
 one_axis : (n : ℕ) → n ≤ 2 ^ 24 → shape_of (n ∷ []) ≡ Ok (n ∷ [])
@@ -147,12 +154,12 @@ length-blocks : {A : Type 0} (width n : ℕ) (xs : List A) → length (blocks wi
 length-blocks width zero xs = refl
 length-blocks width (suc n) xs = ap suc (length-blocks width n (drop width xs))
 
-pub arange-done : (text : List ℕ) (start stop step : ℤ) (descr : Descr) (scalar : Scalar) (n : ℕ) (bytes : List ℕ) (o : Owned) → descriptor text ≡ Ok descr → integer_scalar descr ≡ Ok scalar →
+pub arange-done : (text : List ℕ) (start stop step : ℤ) (scalar : Scalar) (n : ℕ) (bytes : List ℕ) (o : Owned) → integer_type text ≡ Ok scalar →
     range_items scalar start stop step ≡ Ok (map (decode_item (ScalarDescr scalar)) (blocks (size scalar) n bytes)) →
     o.descr ≡ ScalarDescr scalar → o.layout.shape ≡ n ∷ [] → o.block ≡ bytes → arange_contents text start stop step ≡ Ok (held o)
 unfolding arange_contents
-arange-done text start stop step descr scalar n bytes o good kind numbers typed shaped filled =
-    rw (good, kind, numbers) (ap Ok (held-is o (ScalarDescr scalar) (length items ∷ []) bytes items typed (shaped ∙ ap (λ m. m ∷ []) (sym many)) filled is))
+arange-done text start stop step scalar n bytes o kind numbers typed shaped filled =
+    rw (kind, numbers) (ap Ok (held-is o (ScalarDescr scalar) (length items ∷ []) bytes items typed (shaped ∙ ap (λ m. m ∷ []) (sym many)) filled is))
   where
     items : List (List LeafValue)
     items = map (decode_item (ScalarDescr scalar)) (blocks (size scalar) n bytes)

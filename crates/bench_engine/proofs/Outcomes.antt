@@ -17,7 +17,7 @@ use Rattle.name_store.specs.Arrays.{find_array, is_bound, has_room_for, bound_vi
 use Rattle.name_store.specs.Calls.{AnswersShares}
 use Rattle.bench_engine.specs.Contract.{IsRefused}
 use Rattle.bench_engine.specs.Indices.{basic_items}
-use Rattle.bench_engine.specs.Machine.{viewed, alias_outcome, index_outcome, transpose_outcome, field_outcome, set_outcome, info_outcome, shares_outcome}
+use Rattle.bench_engine.specs.Machine.{viewed, alias_outcome, index_outcome, transpose_outcome, field_outcome, set_outcome, info_outcome, shares_outcome, comes_to}
 use Rattle.bench_engine.specs.Replies.{view_text, info_text, shares_text}
 
 -- X = Y
@@ -29,7 +29,7 @@ pub alias-many : (s : State) (name source : List ℕ) (a : Array) → find_array
 unfolding alias_outcome
 alias-many s name source a is full = rw (is, full) refl
 
-pub alias-done : (s : State) (name source : List ℕ) (a : Array) → find_array s.names source ≡ Some a → has_room_for s name ≡ true → alias_outcome s name source ≡ Ok (bound_view s name a, view_text name (descr_of s a) a.shape)
+pub alias-done : (s : State) (name source : List ℕ) (a : Array) → find_array s.names source ≡ Some a → has_room_for s name ≡ true → alias_outcome s name source ≡ comes_to (bound_view s name a) (view_text name (descr_of s a) a.shape)
 unfolding alias_outcome
 alias-done s name source a is room = rw (is, room) refl
 
@@ -51,7 +51,7 @@ unfolding index_outcome
 index-bad s name source index items a e plain is room bad = rw (plain, is, room, bad) refl
 
 pub index-done : (s : State) (name source : List ℕ) (index : List IndexItem) (items : List views.IndexItem) (a : Array) (view : View) → basic_items index ≡ Ok items → find_array s.names source ≡ Some a → has_room_for s name ≡ true → basic a.shape items ≡ Ok view →
-    index_outcome s name source index ≡ Ok (bound_view s name (viewed a view), view_text name (descr_of s a) view.shape)
+    index_outcome s name source index ≡ comes_to (bound_view s name (viewed a view)) (view_text name (descr_of s a) view.shape)
 unfolding index_outcome
 index-done s name source index items a view plain is room good = rw (plain, is, room, good) refl
 
@@ -69,7 +69,7 @@ unfolding transpose_outcome
 transpose-bad s name source axes a e is room bad = rw (is, room, bad) refl
 
 pub transpose-done : (s : State) (name source : List ℕ) (axes : Option (List ℤ)) (a : Array) (view : View) → find_array s.names source ≡ Some a → has_room_for s name ≡ true → transposed a.shape axes ≡ Ok view →
-    transpose_outcome s name source axes ≡ Ok (bound_view s name (viewed a view), view_text name (descr_of s a) view.shape)
+    transpose_outcome s name source axes ≡ comes_to (bound_view s name (viewed a view)) (view_text name (descr_of s a) view.shape)
 unfolding transpose_outcome
 transpose-done s name source axes a view is room good = rw (is, room, good) refl
 
@@ -90,7 +90,7 @@ unfolding field_outcome
 field-none s name source field a is room none = rw (is, room, none) refl
 
 pub field-done : (s : State) (name source field : List ℕ) (a : Array) (k : ℕ) → find_array s.names source ≡ Some a → has_room_for s name ≡ true → field_of (descr_of s a) field ≡ Some k →
-    field_outcome s name source field ≡ Ok (bound_view s name (part_of a k), view_text name (descr_of s (part_of a k)) a.shape)
+    field_outcome s name source field ≡ comes_to (bound_view s name (part_of a k)) (view_text name (descr_of s (part_of a k)) a.shape)
 unfolding field_outcome
 field-done s name source field a k is room there = rw (is, room, there) refl
 
@@ -119,7 +119,7 @@ set-literal s name index literal items a view e plain is good free bad = rw (pla
 
 pub set-done : (s : State) (name : List ℕ) (index : List IndexItem) (literal : Literal) (items : List views.IndexItem) (a : Array) (view : View) (item : List LeafValue) → basic_items index ≡ Ok items → find_array s.names name ≡ Some a → basic a.shape items ≡ Ok view →
     a.writable ≡ true → item_value (descr_of s a) literal ≡ Ok item →
-    set_outcome s name index literal ≡ Ok (written s a (viewed a view).places (replicate (count view.shape) item), codes "ok set " ++ decimal (count view.shape))
+    set_outcome s name index literal ≡ comes_to (written s a (viewed a view).places (replicate (count view.shape) item)) (codes "ok set " ++ decimal (count view.shape))
 unfolding set_outcome
 set-done s name index literal items a view item plain is good free value = rw (plain, is, good, free, value) refl
 
@@ -128,12 +128,12 @@ pub info-unknown : (s : State) (name : List ℕ) → find_array s.names name ≡
 unfolding info_outcome
 info-unknown s name none = rw none refl
 
-pub info-done : (s : State) (name : List ℕ) (a : Array) → find_array s.names name ≡ Some a → info_outcome s name ≡ Ok (s, info_text name (descr_of s a) a.shape (addresses s a) a.writable)
+pub info-done : (s : State) (name : List ℕ) (a : Array) → find_array s.names name ≡ Some a → info_outcome s name ≡ comes_to s (info_text name (descr_of s a) a.shape (addresses s a) a.writable)
 unfolding info_outcome
 info-done s name a is = rw is refl
 
 -- shares
-pub shares-done : (s : State) (left right : List ℕ) (a b : Array) → find_array s.names left ≡ Some a → find_array s.names right ≡ Some b → shares_outcome s left right ≡ Ok (s, shares_text (share_cells a b))
+pub shares-done : (s : State) (left right : List ℕ) (a b : Array) → find_array s.names left ≡ Some a → find_array s.names right ≡ Some b → shares_outcome s left right ≡ comes_to s (shares_text (share_cells a b))
 unfolding shares_outcome
 shares-done s left right a b is-a is-b = rw (is-a, is-b) refl
 

@@ -12,6 +12,7 @@ use Rattle.elem_descr.specs.declared.scalar.Scalar.{Scalar}
 use Rattle.elem_descr.specs.Encoding.{size}
 use Rattle.elem_descr.specs.Items.{item_size, leaves_of, no_leaf, leaf_at, leaf_named, field_of}
 use Rattle.shape_strides.specs.declared.layout.Layout.{Layout}
+use Rattle.shape_strides.specs.Limits.{max_bytes}
 use Rattle.shape_strides.specs.Layouts.{address, offsets, Fits, IsNested}
 use Rattle.view_ops.specs.FieldViews.{IsFieldOf, GivesField}
 use Rattle.name_store.specs.States.{State, Array}
@@ -32,14 +33,17 @@ field-within : (descr : Descr) (name : List ℕ) (k : ℕ) → field_of descr na
 field-within (ScalarDescr scalar) name k is = let no : None ≡ Some k = is in absurd cc
 field-within (RecordDescr structure) name k is = named-within structure.leaves name k is
 
--- what fits so many bytes fits more, and so do shorter items
-fits-more : (l : Layout) (len limit item less : ℕ) → len ≤ limit → less ≤ item → Fits l len item → Fits l limit less
-fits-more l len limit item less more short fits = record {
-  from_zero = fits.from_zero;
-  within = λ index is.
-      let end : (address l index +ℤ pos item) ≤ℤ pos len = fits.within index is in
-      omega (arith, ints);
-}
+-- the items of an array that is shown lie within the limit of a buffer
+pub shown-fits : (s : State) (base : Array) (r : ArrayRef) → Shows s base r → Fits r.layout.now max_bytes (item_size r.descr.now)
+shown-fits s base r shows =
+    let fits : Fits r.layout.now (length r.block.now) (item_size r.descr.now) = subst (λ (n : ℕ). Fits r.layout.now n (item_size r.descr.now)) (sym shows.whole)
+    (subst (λ (d : Descr). Fits r.layout.now (length (buffer_of s base).items * item_size (buffer_of s base).descr) (item_size d)) shows.descr shows.view.laid.fits) in
+    record {
+      from_zero = fits.from_zero;
+      within = λ index is.
+          let end : (address r.layout.now index +ℤ pos (item_size r.descr.now)) ≤ℤ pos (length r.block.now) = fits.within index is in
+          omega (arith, ints, shows.small);
+    }
 
 -- only the whole of an item has fields: a field is a scalar
 pub whole-path : (descr shown : Descr) (leaf : Option ℕ) (path : List ℕ) (name : List ℕ) (k : ℕ) → path ≡ path_of leaf → descr_at descr path ≡ shown → field_of shown name ≡ Some k → path ≡ []
@@ -63,8 +67,8 @@ given-scalar : (leaves : List Leaf) (k at : ℕ) (scalar : Scalar) → k < lengt
 given-scalar leaves k at scalar low given = (subst (λ (o : Option Leaf). IfSome o (λ leaf. (scalar ≡ leaf.scalar) × (at ≡ leaf.at))) (slice_get-get_or leaves k no_leaf low) given).0
 
 seen-leaf : (s : State) (base : Array) (r : ArrayRef) (name : List ℕ) (k : ℕ) (new : Layout) → Shows s base r → field_of r.descr.now name ≡ Some k →
-    1 ≤ size (leaf_at r.descr.now k).scalar → IsFieldOf r.layout.now new (item_size r.descr.now) (leaf_at r.descr.now k) → IsViewIn s r.number (Some k) new r.writable (part_of base k)
-seen-leaf s base r name k new shows there some is = record {
+    IsFieldOf r.layout.now new (item_size r.descr.now) (leaf_at r.descr.now k) → IsViewIn s r.number (Some k) new r.writable (part_of base k)
+seen-leaf s base r name k new shows there is = record {
   number_is = shows.view.number_is;
   there = shows.view.there;
   laid = record {
@@ -75,7 +79,6 @@ seen-leaf s base r name k new shows there some is = record {
         ∙ further (item_size descr) (start_at descr base.path) (leaf_at r.descr.now k).at base.places ∙ ap (λ n. offsets_of (item_size descr) n base.places) begins;
     writable_is = shows.view.laid.writable_is;
     fits = subst (λ (n : ℕ). Fits new bytes n) (sym sized) (is.fits bytes fits);
-    fits_limit = fits-more new bytes (2 ^ 28) (size (leaf_at r.descr.now k).scalar) 1 (omega (arith, shows.whole, shows.small)) some (is.fits bytes fits);
     nested = λ free. subst (λ (n : ℕ). IsNested (offsets new) n) (sym sized) (is.nested (subst (λ (d : Descr). IsNested (offsets r.layout.now) (item_size d)) shows.descr (shows.view.laid.nested free)));
   };
 }
@@ -107,12 +110,11 @@ seen-leaf s base r name k new shows there some is = record {
 
 -- the field lies in the array's buffer
 pub seen-field : (s : State) (base : Array) (r : ArrayRef) (name : List ℕ) (k at : ℕ) (scalar : Scalar) (new : Layout) → Shows s base r → field_of r.descr.now name ≡ Some k →
-    IfSome (slice_get (leaves_of r.descr.now) k) (λ leaf. (scalar ≡ leaf.scalar) × (at ≡ leaf.at)) → 1 ≤ size scalar → GivesField r.layout.now r.descr.now (field_of r.descr.now name) (Ok new) → IsViewIn s r.number (Some k) new r.writable (part_of base k)
-seen-field s base r name k at scalar new shows there leaf some given =
+    IfSome (slice_get (leaves_of r.descr.now) k) (λ leaf. (scalar ≡ leaf.scalar) × (at ≡ leaf.at)) → GivesField r.layout.now r.descr.now (field_of r.descr.now name) (Ok new) → IsViewIn s r.number (Some k) new r.writable (part_of base k)
+seen-field s base r name k at scalar new shows there leaf given =
     let low = field-within r.descr.now name k there in
-    let is : scalar ≡ (leaf_at r.descr.now k).scalar = given-scalar (leaves_of r.descr.now) k at scalar low leaf in
     let gives : GivesField r.layout.now r.descr.now (Some k) (Ok new) = subst (λ (o : Option ℕ). GivesField r.layout.now r.descr.now o (Ok new)) there given in
-    seen-leaf s base r name k new shows there (subst (λ (one : Scalar). 1 ≤ size one) is some) (given-part r.layout.now new r.descr.now (leaves_of r.descr.now) k low gives)
+    seen-leaf s base r name k new shows there (given-part r.layout.now new r.descr.now (leaves_of r.descr.now) k low gives)
 
 -- its element type is the leaf's scalar
 pub part-descr : (s : State) (base : Array) (r : ArrayRef) (name : List ℕ) (k at : ℕ) (scalar : Scalar) → Shows s base r → field_of r.descr.now name ≡ Some k → IfSome (slice_get (leaves_of r.descr.now) k) (λ leaf. (scalar ≡ leaf.scalar) × (at ≡ leaf.at)) →

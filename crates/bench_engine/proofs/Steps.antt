@@ -14,9 +14,7 @@ use Rattle.name_store.specs.States.{State, Array, Buffer}
 use Rattle.bench_engine.specs.Replies.{Reply, refusal}
 use Rattle.bench_engine.specs.Machine.{Choice, IsAllowed, outcome, settled, may_lack_memory}
 use Rattle.bench_engine.specs.Contract.{IsRefused}
-use Rattle.bench_engine.specs.Lines.{Meaning, too_long, says}
-use Rattle.bench_engine.specs.Sessions.{SaysHeld}
-use Rattle.bench_engine.specs.Runs.{Case, Answered}
+use Rattle.bench_engine.specs.Meanings.{Meaning, too_long, says, ReadsAs, Case, Answered}
 
 apart : (q k : ℕ) → k ≢ q → eq_by_cmp nat_cmp q k ≡ false
 apart q k ne =
@@ -79,7 +77,7 @@ asked old new line command reply is (inl step) = subst (λ (l : Line). Answered 
 asked old new line command reply is (inr lacks) =
     subst (λ (l : Line). Answered old (says l) new (reply ∷ [])) (sym is) (reply, refl, inr (either (may_lack_memory old command) (needs_room command) lacks.0, lacks.1))
 
-pub answered : (old new : State) (meaning : Meaning) (command : Command) (reply : Reply) → SaysHeld (Ok (Some command)) meaning → Case old command new reply → Answered old meaning new (reply ∷ [])
+pub answered : (old new : State) (meaning : Meaning) (command : Command) (reply : Reply) → ReadsAs (Ok (Some command)) meaning → Case old command new reply → Answered old meaning new (reply ∷ [])
 answered old new too_long command reply is done = cc
 answered old new (says line) command reply is done = asked old new line command reply is done
 
@@ -95,7 +93,7 @@ misread old line r (inl p) = subst (λ (l : Line). Answered old (says l) old (re
 misread old line r (inr (inl p)) = subst (λ (l : Line). Answered old (says l) old (refusal r ∷ [])) (sym p.1) (refl, ap (λ e. refusal e ∷ []) p.0)
 misread old line r (inr (inr p)) = subst (λ (e : Refusal). Answered old (says line) old (refusal e ∷ [])) (sym p.0) (lacking old line p.1)
 
-pub refused_line : (old : State) (meaning : Meaning) (r : Refusal) → SaysHeld (Err r) meaning → Answered old meaning old (refusal r ∷ [])
+pub refused_line : (old : State) (meaning : Meaning) (r : Refusal) → ReadsAs (Err r) meaning → Answered old meaning old (refusal r ∷ [])
 refused_line old too_long r is = let which : r ≡ LineTooLong = cc in (refl, ap (λ e. refusal e ∷ []) which)
 refused_line old (says line) r is = misread old line r is
 
@@ -103,6 +101,6 @@ refused_line old (says line) r is = misread old line r is
 nothing_asked : (old : State) (line : Line) → line ≡ silent → Answered old (says line) old []
 nothing_asked old line is = subst (λ (l : Line). Answered old (says l) old []) (sym is) (refl, refl)
 
-pub silent_line : (old : State) (meaning : Meaning) → SaysHeld (Ok None) meaning → Answered old meaning old []
+pub silent_line : (old : State) (meaning : Meaning) → ReadsAs (Ok None) meaning → Answered old meaning old []
 silent_line old too_long is = cc
 silent_line old (says line) is = nothing_asked old line is

@@ -9,7 +9,7 @@ use Rattle.elem_descr.specs.Items.{item_size}
 use Rattle.shape_strides.specs.declared.layout.Layout.{Layout}
 use Rattle.shape_strides.specs.Indexes.{indexes, rank}
 use Rattle.shape_strides.specs.Layouts.{offsets}
-use Rattle.view_ops.specs.Views.{View, view_through, IsViewOf, GivesView}
+use Rattle.view_ops.specs.Views.{View, view_through, IsViewOf, GivesView, KeepsNested}
 use Rattle.name_store.specs.States.{State, Array}
 use Rattle.name_store.specs.Arrays.{find_array, has_room_for, bound_view, buffer_of, addresses}
 use Rattle.name_store.specs.Calls.{AnswersBind}
@@ -23,7 +23,7 @@ use Rattle.name_store.specs.declared.bound.Bound.TheVariants as bound
 use Rattle.name_store.specs.declared.target.Target.TheVariants as target
 use Rattle.name_store.specs.declared.array_ref.ArrayRef.{ArrayRef}
 use Rattle.bench_engine.specs.Contract.{Answers, IsRefused}
-use Rattle.bench_engine.specs.Machine.{Choice, Outcome, viewed}
+use Rattle.bench_engine.specs.Machine.{Choice, Outcome, viewed, comes_to}
 use Rattle.bench_engine.proofs.Creates.{starts}
 use Rattle.bench_engine.proofs.Steps.{spare}
 
@@ -69,8 +69,8 @@ among-view s base r view new shows is =
     (λ k d below. Contains-get_or base.places (rank base.shape (view.leads (get_or (indexes view.shape) k d))) 0 (inside-view s base r view new shows is k d below))
 
 -- the view lies in the array's buffer
-pub seen : (s : State) (base : Array) (r : ArrayRef) (view : View) (new : Layout) → Shows s base r → IsViewOf r.layout.now new view → IsViewIn s r.number r.leaf new r.writable (viewed base view)
-seen s base r view new shows is = record {
+pub seen : (s : State) (base : Array) (r : ArrayRef) (view : View) (new : Layout) → Shows s base r → IsViewOf r.layout.now new view → KeepsNested r.layout.now new → IsViewIn s r.number r.leaf new r.writable (viewed base view)
+seen s base r view new shows is keeps = record {
   number_is = shows.view.number_is;
   there = shows.view.there;
   laid = record {
@@ -80,8 +80,7 @@ seen s base r view new shows is = record {
     places = places-view s base r view new shows is;
     writable_is = shows.view.laid.writable_is;
     fits = is.fits _ _ shows.view.laid.fits;
-    fits_limit = is.fits (2 ^ 28) 1 shows.view.laid.fits_limit;
-    nested = λ free. is.nested _ (shows.view.laid.nested free);
+    nested = λ free. keeps _ (shows.view.laid.nested free);
   };
 }
 
@@ -97,7 +96,6 @@ leads s name base r view new found shows free is = record {
   writable = sym shows.view.laid.writable_is ∙ free;
   offsets_are = places-view s base r view new shows is;
   among = among-view s base r view new shows is;
-  fits_limit = is.fits (2 ^ 28) 1 shows.view.laid.fits_limit;
 }
 
 -- what is bound is a view
@@ -105,11 +103,11 @@ pub may-bind : (s : State) (what : Bound) (number : ℕ) (leaf : Option ℕ) (la
 may-bind s what number leaf layout writable array is in' = subst (MayBind s) (sym is) (array, in')
 
 bound-answers : (s new : State) (name : List ℕ) (may : Bool) (outcome : Choice → Outcome) (number : ℕ) (leaf : Option ℕ) (layout : Layout) (writable : Bool) (array : Array) (result : Result (Unit {0}) Refusal) (text before after : List ℕ) → may ≡ true →
-    has_room_for s name ≡ true → ((choice : Choice) → outcome choice ≡ Ok (bound_view s name array, text)) → after ≡ before ++ text → IsViewIn s number leaf layout writable array →
+    has_room_for s name ≡ true → ((choice : Choice) → outcome choice ≡ comes_to (bound_view s name array) text) → after ≡ before ++ text → IsViewIn s number leaf layout writable array →
     AnswersBind s name (bound.View number leaf layout writable) result new → Answers may outcome s new before after result
 bound-answers s new name may outcome number leaf layout writable array (Ok done) text before after can room is told in' (_, binds) =
     let any = spare s in
-    (any.0, any.1, text, is any.0 ∙ ap (λ (t : State). Ok (t, text)) (sym (binds array in')), told)
+    (any.0, any.1, text, is any.0 ∙ ap (λ (t : State). comes_to t text) (sym (binds array in')), told)
 bound-answers s new name may outcome number leaf layout writable array (Err e) text before after can room is told in' (kept, inl full) =
     let no : true ≡ false = sym room ∙ full.0 in cc
 bound-answers s new name may outcome number leaf layout writable array (Err e) text before after can room is told in' (kept, inr lacks) =
@@ -117,7 +115,7 @@ bound-answers s new name may outcome number leaf layout writable array (Err e) t
 
 -- the name is bound to the view, or refused for want of memory
 pub view-answers : (s new : State) (name : List ℕ) (may : Bool) (outcome : Choice → Outcome) (what : Bound) (number : ℕ) (leaf : Option ℕ) (layout : Layout) (writable : Bool) (array : Array) (result : Result (Unit {0}) Refusal) (text before after : List ℕ) →
-    may ≡ true → has_room_for s name ≡ true → ((choice : Choice) → outcome choice ≡ Ok (bound_view s name array, text)) → after ≡ before ++ text → what ≡ bound.View number leaf layout writable → IsViewIn s number leaf layout writable array →
+    may ≡ true → has_room_for s name ≡ true → ((choice : Choice) → outcome choice ≡ comes_to (bound_view s name array) text) → after ≡ before ++ text → what ≡ bound.View number leaf layout writable → IsViewIn s number leaf layout writable array →
     AnswersBind s name what result new → Answers may outcome s new before after result
 view-answers s new name may outcome what number leaf layout writable array result text before after can room is told view in' binds =
     bound-answers s new name may outcome number leaf layout writable array result text before after can room is told in' (subst (λ (b : Bound). AnswersBind s name b result new) view binds)
@@ -131,11 +129,12 @@ pub given-refusal : (old : Layout) (e : Refusal) (there : Result View Refusal) �
 given-refusal old e (Ok view) is = is
 given-refusal old e (Err e') is = is
 
+-- what lacks memory, or is refused
+pub refused-or : {X : Type 0} (may : Bool) (outcome : Choice → Outcome) (e : Refusal) (there : Result X Refusal) → may ≡ true → (e ≡ OutOfMemory) ⊎ (there ≡ Err e) → (there ≡ Err e → (choice : Choice) → outcome choice ≡ Err e) → IsRefused may outcome e
+refused-or may outcome e there can (inl lacks) bad = inl (lacks, can)
+refused-or may outcome e there can (inr is) bad = inr (bad is)
+
 -- a view that is refused
 pub view-refused : (may : Bool) (outcome : Choice → Outcome) (old : Layout) (e : Refusal) (there : Result View Refusal) → may ≡ true → GivesView old (Err e) there →
     (there ≡ Err e → (choice : Choice) → outcome choice ≡ Err e) → IsRefused may outcome e
-view-refused may outcome old e there can given bad =
-    elim (given-refusal old e there given) [
-      | inl lacks ↦ inl (lacks, can)
-      | inr is ↦ inr (bad is)
-    ]
+view-refused may outcome old e there can given bad = refused-or may outcome e there can (given-refusal old e there given) bad

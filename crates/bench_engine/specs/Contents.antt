@@ -1,7 +1,7 @@
 -- What the commands that make an array put into it.
 use Rattle.std.specs.Prelude.{◌≡◌, ℕ, ◌*◌, ◌^◌, ℤ, pos, List, [], ◌∷◌, length, map, replicate, Result, Ok, Err, nat_eq, nat_le}
 use Rattle.elem_descr.specs.declared.refusal.Refusal.{Refusal}
-use Rattle.elem_descr.specs.declared.refusal.Refusal.TheVariants.{Syntax, TooLarge, NotForThisKind, NumberOfValues}
+use Rattle.elem_descr.specs.declared.refusal.Refusal.TheVariants.{TooLarge, NotForThisKind, NumberOfValues}
 use Rattle.elem_descr.specs.declared.scalar.Scalar.{Scalar}
 use Rattle.elem_descr.specs.declared.scalar.Scalar.TheVariants.{Byte, Int, Bytes}
 use Rattle.elem_descr.specs.declared.descr.Descr.{Descr}
@@ -14,8 +14,8 @@ use Rattle.shape_strides.specs.Indexes.{count}
 use Rattle.shape_strides.specs.Layouts.{offsets}
 use Rattle.shape_strides.specs.Shapes.{shape_of}
 use Rattle.script_lang.specs.declared.literal.Literal.{Literal}
-use Rattle.script_lang.specs.declared.command.Command.{Command}
-use Rattle.script_lang.specs.declared.command.Command.TheVariants.{Zeros, Full, Arange, Array}
+use Rattle.script_lang.specs.declared.command.NewItems.{NewItems}
+use Rattle.script_lang.specs.declared.command.NewItems.TheVariants.{Zeros, Full, Arange, Array}
 use Rattle.overlap_copy.specs.declared.owned.Owned.{Owned}
 use Rattle.overlap_copy.specs.declared.owned.MemoryOrder.TheVariants.{C}
 use Rattle.overlap_copy.specs.Blocks.{offsets_in}
@@ -83,18 +83,22 @@ integer_scalar (ScalarDescr (Byte signed)) = Ok (Byte signed)
 integer_scalar (ScalarDescr (Int signed width order)) = Ok (Int signed width order)
 integer_scalar _ = Err NotForThisKind
 
+-- the scalar of a descriptor whose values are integers
+unfoldable pub integer_type : List ℕ → Result Scalar Refusal
+integer_type descr = do
+  descr ← descriptor descr
+  integer_scalar descr
+
 -- arange D a b s
 unfoldable pub arange_contents : List ℕ → ℤ → ℤ → ℤ → Result Contents Refusal
 arange_contents descr start stop step = do
-  descr ← descriptor descr
-  scalar ← integer_scalar descr
+  scalar ← integer_type descr
   items ← range_items scalar start stop step
   Ok (made (ScalarDescr scalar) (length items ∷ []) items)
 
 -- what a command that makes an array puts into it
-abbrev pub contents_of : Command → Result Contents Refusal
-contents_of (Zeros name descr shape) = zeros_contents descr shape
-contents_of (Full name descr shape value) = full_contents descr shape value
-contents_of (Arange name descr start stop step) = arange_contents descr start stop step
-contents_of (Array name descr shape values) = array_contents descr shape values
-contents_of _ = Err Syntax
+abbrev pub contents_of : List ℕ → NewItems → Result Contents Refusal
+contents_of descr (Zeros shape) = zeros_contents descr shape
+contents_of descr (Full shape value) = full_contents descr shape value
+contents_of descr (Arange start stop step) = arange_contents descr start stop step
+contents_of descr (Array shape values) = array_contents descr shape values

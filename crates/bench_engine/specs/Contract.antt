@@ -4,7 +4,7 @@ use Rattle.std.specs.Io.{StartsWith}
 use Rattle.elem_descr.specs.declared.refusal.Refusal.{Refusal}
 use Rattle.elem_descr.specs.declared.refusal.Refusal.TheVariants.{OutOfMemory}
 use Rattle.name_store.specs.States.{State}
-use Rattle.bench_engine.specs.Machine.{Choice, Outcome, IsAllowed}
+use Rattle.bench_engine.specs.Machine.{Choice, Outcome, IsAllowed, comes_to}
 
 -- a refusal is that of the machine, whatever it chooses, or want of memory, where that may be
 abbrev pub IsRefused : Bool → (Choice → Outcome) → Refusal → Type 0
@@ -14,6 +14,6 @@ IsRefused may_lack outcome refusal =
 -- Done as the machine does it for some choice, with the reply at the end of out; or refused, with nothing changed.
 abbrev pub Answers : Bool → (Choice → Outcome) → State → State → List ℕ → List ℕ → Result (Unit {0}) Refusal → Type 0
 Answers may_lack outcome old new before after (Ok _) =
-    (choice : Choice) × IsAllowed old choice × (reply : List ℕ) × (outcome choice ≡ Ok (new, reply)) × (after ≡ before ++ reply)
+    (choice : Choice) × IsAllowed old choice × (reply : List ℕ) × (outcome choice ≡ comes_to new reply) × (after ≡ before ++ reply)
 Answers may_lack outcome old new before after (Err refusal) =
     (new ≡ old) × StartsWith after before × IsRefused may_lack outcome refusal

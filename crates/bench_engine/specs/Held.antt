@@ -1,23 +1,18 @@
 -- What a run stands for: at its end, and where a read or a write failed.
-use Rattle.std.specs.Prelude.{◌≡◌, ◌<◌, ℕ, List, [], ◌∷◌, ◌++◌, length, map, Option, count_by, not}
+use Rattle.std.specs.Prelude.{◌≡◌, ◌⊎◌, ℕ, List, Option}
 use Rattle.std.specs.Io.KnownBytes.{Appends, Consumes, IsAtEnd}
 use Rattle.bench_engine.specs.declared.session.Summary.{Summary}
 use Rattle.name_store.specs.States.{State, start}
 use Rattle.bench_engine.specs.Replies.{Reply}
-use Rattle.bench_engine.specs.Lines.{lines, ended, trimmed}
-use Rattle.bench_engine.specs.Runs.{Run, output, reply_line}
-
-abbrev pub accepted_count : List Reply → ℕ
-accepted_count replies = count_by (λ r. r.accepted) replies
-
-abbrev pub refused_count : List Reply → ℕ
-refused_count replies = count_by (λ r. not r.accepted) replies
+use Rattle.bench_engine.specs.Lines.{lines, whole_lines}
+use Rattle.bench_engine.specs.Meanings.{AnswersLine}
+use Rattle.bench_engine.specs.Runs.{Run, Cut, output, accepted_count, refused_count}
 
 -- The script is known: its lines are answered by a run of the machine from the empty state to the
 -- summary's bench, all replies and nothing else have gone out, and the summary counts them.
 pub record Answers (script : List ℕ) (written written' : Option (List ℕ)) (summary : Summary) : Type 0 where
   pub replies : List Reply
-  pub run : Run start (lines script) replies summary.bench
+  pub run : Run AnswersLine start (lines script) replies summary.bench
   pub told : Appends written written' (output replies)
   pub accepted : summary.accepted ≡ accepted_count replies
   pub refused : summary.refused ≡ refused_count replies
@@ -35,26 +30,16 @@ pub record StoppedReading (unread unread' written written' : Option (List ℕ)) 
   pub replies : List Reply
   pub state : State
   pub consumes : Consumes unread unread' input
-  pub run : Run start (map trimmed (ended input)) replies state
+  pub run : Run AnswersLine start (whole_lines input) replies state
   pub told : Appends written written' (output replies)
 
--- Some first lines of these bytes are answered, and of the last reply a last part, not empty, is missing.
-pub record Cut (written written' : Option (List ℕ)) (bytes : List ℕ) : Type 0 where
-  pub answered : List (List ℕ)
-  pub later : List (List ℕ)
-  pub replies : List Reply
-  pub last : Reply
-  pub gone : List ℕ
-  pub missing : List ℕ
-  pub state : State
-  pub front : lines bytes ≡ answered ++ later
-  pub run : Run start answered (replies ++ last ∷ []) state
-  pub cut : reply_line last ≡ gone ++ missing
-  pub short : 0 < length missing
-  pub told : Appends written written' (output replies ++ gone)
+-- Some first ones of these lines are answered, but a last part, not empty, of the last reply has not gone out.
+abbrev pub AnswersInPart : List (List ℕ) → Option (List ℕ) → Option (List ℕ) → Type 0
+AnswersInPart all written written' = Cut AnswersLine start written written' all
 
--- Some first lines are answered, and their replies have gone out but for a last part of the last one.
+-- Some first lines are answered, but for a last part of the last reply: of the bytes that were read the
+-- lines that newlines end, and all lines only where the reader is at its end.
 pub record StoppedWriting (unread unread' written written' : Option (List ℕ)) : Type 0 where
   pub input : List ℕ
   pub consumes : Consumes unread unread' input
-  pub cut : Cut written written' input
+  pub cut : AnswersInPart (whole_lines input) written written' ⊎ (IsAtEnd unread' × AnswersInPart (lines input) written written')

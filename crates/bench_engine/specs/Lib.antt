@@ -4,6 +4,7 @@ pub mod Held
 pub mod Indices
 pub mod Lines
 pub mod Machine
+pub mod Meanings
 pub mod Replies
 pub mod Runs
 pub mod Sessions

@@ -1,7 +1,6 @@
 -- The lines of a script.
-use Rattle.std.specs.Prelude.{ℕ, ◌-◌, List, [], ◌∷◌, ◌++◌, length, map, take, nat_eq, nat_lt, if◌then◌else◌}
+use Rattle.std.specs.Prelude.{ℕ, ◌-◌, List, [], ◌∷◌, ◌++◌, length, map, take, nat_eq, if◌then◌else◌}
 use Rattle.std.specs.List.{ends_with}
-use Rattle.script_lang.specs.Lines.{Line, line_of}
 
 -- a byte at the front of the first piece, if there is one
 abbrev pub onto_first_piece : ℕ → List (List ℕ) → List (List ℕ)
@@ -27,23 +26,15 @@ unended (b ∷ bytes) = if nat_eq b 10 then unended bytes else before_rest b (en
 abbrev pub trimmed : List ℕ → List ℕ
 trimmed piece = if ends_with nat_eq piece (13 ∷ []) then take (length piece - 1) piece else piece
 
+-- the lines that newlines end
+abbrev pub whole_lines : List ℕ → List (List ℕ)
+whole_lines bytes = map trimmed (ended bytes)
+
 -- one piece, or none where it is empty
 abbrev pub if_any : List ℕ → List (List ℕ)
 if_any [] = []
 if_any (b ∷ bytes) = (b ∷ bytes) ∷ []
 
--- the pieces that newlines end, and the last without one where it isn't empty
+-- the lines that newlines end, and the last without one where it isn't empty
 abbrev pub lines : List ℕ → List (List ℕ)
-lines bytes = map trimmed (ended bytes ++ if_any (unended bytes))
-
--- the most bytes of a line
-abbrev pub limit : ℕ
-limit = 65536
-
--- what a line means: it is too long, or it says what the grammar reads in it
-pub data Meaning : Type 0 where
-  too_long : Meaning
-  says : Line → Meaning
-
-unfoldable pub meaning_of : List ℕ → Meaning
-meaning_of line = if nat_lt limit (length line) then too_long else says (line_of line)
+lines bytes = whole_lines bytes ++ map trimmed (if_any (unended bytes))

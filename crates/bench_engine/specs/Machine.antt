@@ -1,5 +1,6 @@
 -- The machine: one step of it, for each command and each choice that it is free to make.
 use Rattle.std.specs.Prelude.{◌≡◌, ℕ, ℤ, Bool, true, false, ◌&&◌, List, [], ◌∷◌, ◌++◌, replicate, codes, decimal, Option, Some, None, Result, Ok, Err}
+use Rattle.std.specs.List.{list_all}
 use Rattle.std.specs.Option.{ok_or}
 use Rattle.elem_descr.specs.declared.refusal.Refusal.{Refusal}
 use Rattle.elem_descr.specs.declared.refusal.Refusal.TheVariants.{Syntax, UnknownName, TooManyNames, NoSuchField, ReadOnly}
@@ -12,6 +13,12 @@ use Rattle.view_ops.specs.Transposes.{transposed}
 use Rattle.script_lang.specs.declared.index.IndexItem.{IndexItem}
 use Rattle.script_lang.specs.declared.literal.Literal.{Literal}
 use Rattle.script_lang.specs.declared.command.Argument.TheVariants as argument
+use Rattle.script_lang.specs.declared.command.Viewing.{Viewing}
+use Rattle.script_lang.specs.declared.command.Viewing.TheVariants as viewing
+use Rattle.script_lang.specs.declared.command.Value.{Value}
+use Rattle.script_lang.specs.declared.command.Value.TheVariants as value
+use Rattle.script_lang.specs.declared.command.Question.{Question}
+use Rattle.script_lang.specs.declared.command.Question.TheVariants as question
 use Rattle.script_lang.specs.declared.command.Command.{Command}
 use Rattle.script_lang.specs.declared.command.Command.TheVariants as command
 use Rattle.literal_items.specs.LiteralItems.{item_value}
@@ -32,9 +39,16 @@ pub record Choice : Type 0 where
 abbrev pub IsAllowed : State → Choice → Type 0
 IsAllowed s choice = IsUnused s choice.fresh
 
--- what a command asks for, once nothing refuses it: a state and a reply
+-- what a command that nothing refuses comes to
+pub record Effect : Type 0 where
+  pub state : State
+  pub reply : List ℕ
+
 abbrev pub Outcome : Type 0
-Outcome = Result (State × List ℕ) Refusal
+Outcome = Result Effect Refusal
+
+abbrev pub comes_to : State → List ℕ → Outcome
+comes_to state reply = Ok (record { state = state; reply = reply })
 
 -- Names and arrays
 
@@ -53,14 +67,14 @@ unfoldable pub creation_outcome : Choice → State → List ℕ → Result Conte
 creation_outcome choice s name contents = do
   _ ← check (has_room_for s name) TooManyNames
   new ← contents
-  Ok (bound_to s name (fresh_array choice.fresh new.shape) new.buffer, fresh_text name new.buffer.descr new.shape)
+  comes_to (bound_to s name (fresh_array choice.fresh new.shape) new.buffer) (fresh_text name new.buffer.descr new.shape)
 
 -- X = Y
 unfoldable pub alias_outcome : State → List ℕ → List ℕ → Outcome
 alias_outcome s name source = do
   array ← array_of s source
   _ ← check (has_room_for s name) TooManyNames
-  Ok (bound_view s name array, view_text name (descr_of s array) array.shape)
+  comes_to (bound_view s name array) (view_text name (descr_of s array) array.shape)
 
 -- X = Y[ix]
 unfoldable pub index_outcome : State → List ℕ → List ℕ → List IndexItem → Outcome
@@ -69,12 +83,7 @@ index_outcome s name source index = do
   array ← array_of s source
   _ ← check (has_room_for s name) TooManyNames
   view ← basic array.shape items
-  Ok (bound_view s name (viewed array view), view_text name (descr_of s array) view.shape)
-
--- X = Y or X = Y[ix]
-abbrev pub view_outcome : State → List ℕ → List ℕ → Option (List IndexItem) → Outcome
-view_outcome s name source None = alias_outcome s name source
-view_outcome s name source (Some index) = index_outcome s name source index
+  comes_to (bound_view s name (viewed array view)) (view_text name (descr_of s array) view.shape)
 
 -- X = transpose Y [(axes)]
 unfoldable pub transpose_outcome : State → List ℕ → List ℕ → Option (List ℤ) → Outcome
@@ -82,7 +91,7 @@ transpose_outcome s name source axes = do
   array ← array_of s source
   _ ← check (has_room_for s name) TooManyNames
   view ← transposed array.shape axes
-  Ok (bound_view s name (viewed array view), view_text name (descr_of s array) view.shape)
+  comes_to (bound_view s name (viewed array view)) (view_text name (descr_of s array) view.shape)
 
 -- X = field Y "f"
 unfoldable pub field_outcome : State → List ℕ → List ℕ → List ℕ → Outcome
@@ -91,7 +100,7 @@ field_outcome s name source field = do
   _ ← check (has_room_for s name) TooManyNames
   k ← ok_or (field_of (descr_of s array) field) NoSuchField
   let part = record array { path = array.path ++ k ∷ [] }
-  Ok (bound_view s name part, view_text name (descr_of s part) part.shape)
+  comes_to (bound_view s name part) (view_text name (descr_of s part) part.shape)
 
 -- set X[ix] = L
 unfoldable pub set_outcome : State → List ℕ → List IndexItem → Literal → Outcome
@@ -102,60 +111,72 @@ set_outcome s name index literal = do
   _ ← check array.writable ReadOnly
   item ← item_value (descr_of s array) literal
   let n = count view.shape
-  Ok (written s array (viewed array view).places (replicate n item), codes "ok set " ++ decimal n)
+  comes_to (written s array (viewed array view).places (replicate n item)) (codes "ok set " ++ decimal n)
 
 -- del X
 unfoldable pub delete_outcome : State → List ℕ → Outcome
 delete_outcome s name = do
   _ ← check (is_bound s name) UnknownName
-  Ok (unbound s name, codes "ok del " ++ name)
+  comes_to (unbound s name) (codes "ok del " ++ name)
 
 -- print X
 unfoldable pub print_outcome : State → List ℕ → Outcome
 print_outcome s name = do
   array ← array_of s name
-  Ok (s, array_text (descr_of s array) array.shape (read s array))
+  comes_to s (array_text (descr_of s array) array.shape (read s array))
 
 -- format X
 unfoldable pub format_outcome : State → List ℕ → Outcome
 format_outcome s name = do
   array ← array_of s name
-  Ok (s, format_text (descr_of s array))
+  comes_to s (format_text (descr_of s array))
 
 -- info X
 unfoldable pub info_outcome : State → List ℕ → Outcome
 info_outcome s name = do
   array ← array_of s name
-  Ok (s, info_text name (descr_of s array) array.shape (addresses s array) array.writable)
+  comes_to s (info_text name (descr_of s array) array.shape (addresses s array) array.writable)
 
 -- shares X Y
 unfoldable pub shares_outcome : State → List ℕ → List ℕ → Outcome
 shares_outcome s left right = do
   a ← array_of s left
   b ← array_of s right
-  Ok (s, shares_text (share_cells a b))
+  comes_to s (shares_text (share_cells a b))
 
--- a command that is not carried out so far is refused before all other checks
+-- What is not carried out so far is refused before all other checks.
+
+-- X = a view of the array of this name
+abbrev pub view_outcome : State → List ℕ → List ℕ → Viewing → Outcome
+view_outcome s name source viewing.Whole = alias_outcome s name source
+view_outcome s name source (viewing.Indexed index) = index_outcome s name source index
+view_outcome s name source (viewing.Field field) = field_outcome s name source field
+view_outcome s name source (viewing.Transposed axes) = transpose_outcome s name source axes
+view_outcome s name source _ = Err Syntax
+
+-- X = ..
+abbrev pub bind_outcome : Choice → State → List ℕ → Value → Outcome
+bind_outcome choice s name (value.Make descr items) = creation_outcome choice s name (contents_of descr items)
+bind_outcome choice s name (value.View source how) = view_outcome s name source how
+bind_outcome choice s name _ = Err Syntax
+
+abbrev pub question_outcome : State → Question → Outcome
+question_outcome s (question.Print name) = print_outcome s name
+question_outcome s (question.Info name) = info_outcome s name
+question_outcome s (question.Format name) = format_outcome s name
+question_outcome s question.Names = comes_to s (names_text s)
+question_outcome s (question.Shares left right) = shares_outcome s left right
+
 abbrev pub outcome : Choice → State → Command → Outcome
-outcome choice s (command.Zeros name descr shape) = creation_outcome choice s name (contents_of (command.Zeros name descr shape))
-outcome choice s (command.Full name descr shape value) = creation_outcome choice s name (contents_of (command.Full name descr shape value))
-outcome choice s (command.Arange name descr start stop step) = creation_outcome choice s name (contents_of (command.Arange name descr start stop step))
-outcome choice s (command.Array name descr shape values) = creation_outcome choice s name (contents_of (command.Array name descr shape values))
-outcome choice s (command.View name operand) = view_outcome s name operand.name operand.index
-outcome choice s (command.Transpose name source axes) = transpose_outcome s name source axes
-outcome choice s (command.Field name source field) = field_outcome s name source field
+outcome choice s (command.Bind name value) = bind_outcome choice s name value
 outcome choice s (command.Set name index (argument.Literal literal)) = set_outcome s name index literal
 outcome choice s (command.Delete name) = delete_outcome s name
-outcome choice s (command.Print name) = print_outcome s name
-outcome choice s (command.Info name) = info_outcome s name
-outcome choice s (command.Format name) = format_outcome s name
-outcome choice s (command.Shares left right) = shares_outcome s left right
-outcome choice s command.Names = Ok (s, names_text s)
+outcome choice s (command.Ask question) = question_outcome s question
 outcome choice s _ = Err Syntax
 
 -- a refused command changes nothing
 abbrev pub settled : State → Outcome → State × Reply
-settled s (Ok done) = (done.0, record { text = done.1; accepted = true })
+settled s (Ok effect) = (effect.state, record { text = effect.reply; accepted = true })
 settled s (Err r) = (s, refusal r)
 
 -- the machine may go from old to new with this reply
@@ -163,20 +184,44 @@ abbrev pub Step : State → Command → State → Reply → Type 0
 Step old command new reply =
     (choice : Choice) × IsAllowed old choice × (settled old (outcome choice old command) ≡ (new, reply))
 
--- whether carrying out a command may ask for memory: not where a name that must be bound is not,
--- nor to unbind a name, nor for a command that is not carried out so far
+-- The names that must be bound, from the left.
+
+abbrev pub bound_in_value : Value → List (List ℕ)
+bound_in_value (value.View source how) = source ∷ []
+bound_in_value _ = []
+
+abbrev pub bound_in_question : Question → List (List ℕ)
+bound_in_question (question.Print name) = name ∷ []
+bound_in_question (question.Info name) = name ∷ []
+bound_in_question (question.Format name) = name ∷ []
+bound_in_question question.Names = []
+bound_in_question (question.Shares left right) = left ∷ right ∷ []
+
+abbrev pub must_be_bound : Command → List (List ℕ)
+must_be_bound (command.Bind name value) = bound_in_value value
+must_be_bound (command.Set name index value) = name ∷ []
+must_be_bound (command.Delete name) = name ∷ []
+must_be_bound (command.Ask question) = bound_in_question question
+must_be_bound _ = []
+
+-- Whether carrying out a command takes memory: unbinding a name does not, nor does what is not carried out so far.
+
+abbrev pub view_takes_memory : Viewing → Bool
+view_takes_memory (viewing.Reshaped shape) = false
+view_takes_memory (viewing.Broadcast shape) = false
+view_takes_memory _ = true
+
+abbrev pub value_takes_memory : Value → Bool
+value_takes_memory (value.Make descr items) = true
+value_takes_memory (value.View source how) = view_takes_memory how
+value_takes_memory _ = false
+
+abbrev pub takes_memory : Command → Bool
+takes_memory (command.Bind name value) = value_takes_memory value
+takes_memory (command.Set name index (argument.Literal literal)) = true
+takes_memory (command.Ask question) = true
+takes_memory _ = false
+
+-- whether a command may be refused for want of memory: never where a name that must be bound is not
 abbrev pub may_lack_memory : State → Command → Bool
-may_lack_memory s (command.Zeros name descr shape) = true
-may_lack_memory s (command.Full name descr shape value) = true
-may_lack_memory s (command.Arange name descr start stop step) = true
-may_lack_memory s (command.Array name descr shape values) = true
-may_lack_memory s (command.View name source) = is_bound s source.name
-may_lack_memory s (command.Transpose name source axes) = is_bound s source
-may_lack_memory s (command.Field name source field) = is_bound s source
-may_lack_memory s (command.Set name index (argument.Literal literal)) = is_bound s name
-may_lack_memory s (command.Print name) = is_bound s name
-may_lack_memory s (command.Info name) = is_bound s name
-may_lack_memory s (command.Format name) = is_bound s name
-may_lack_memory s (command.Shares left right) = is_bound s left && is_bound s right
-may_lack_memory s command.Names = true
-may_lack_memory s _ = false
+may_lack_memory s command = takes_memory command && list_all (is_bound s) (must_be_bound command)

@@ -1,17 +1,22 @@
 //! What the commands that make an array put into it.
-ghost use Rattle.std.specs.Prelude.{◌≡◌, ◌≤◌, ◌-◌, ◌*◌, ◌^◌, map, min, IfOk};
+ghost use Rattle.std.specs.Prelude.{◌≡◌, ◌≤◌, ◌-◌, ◌*◌, ◌^◌, length, map, min, replicate, IfOk};
 ghost use Rattle.elem_descr.specs.Refusals.{Gives, Answers};
-ghost use Rattle.elem_descr.specs.Encoding.{IsNumber};
-ghost use Rattle.elem_descr.specs.Items.{item_size};
+ghost use Rattle.elem_descr.specs.Blocks.{blocks};
+ghost use Rattle.elem_descr.specs.Encoding.{IsNumber, size};
+ghost use Rattle.elem_descr.specs.Items.{item_size, decode_item};
+ghost use Rattle.elem_descr.specs.declared.descr.Descr.TheVariants.{Scalar as ScalarDescr};
 ghost use Rattle.shape_strides.specs.Indexes.{count};
 ghost use Rattle.shape_strides.specs.Shapes.{shape_of};
-ghost use Rattle.bench_engine.specs.Contents.{array_type, zeros_contents, full_contents, array_contents, arange_contents, integer_scalar, contents_of, held, IsInCOrder};
+ghost use Rattle.literal_items.specs.LiteralItems.{item_values};
+ghost use Rattle.literal_items.specs.RangeItems.{range_count, range_items};
+ghost use Rattle.bench_engine.specs.Contents.{array_type, zeros_contents, full_contents, array_contents, arange_contents, integer_scalar, integer_type, held, IsInCOrder};
 
+use crate::item::item_of;
 use elem_descr::{Descr, Refusal, Scalar, descr_read};
-use literal_items::{fill, range_len, write_item, write_items, write_range};
+use literal_items::{fill, range_len, write_items, write_range};
 use overlap_copy::{MAX_BYTES, MemoryOrder, Owned};
 use raw_block::RawBlock;
-use script_lang::{Command, DescrText, Lengths, Literal, Literals};
+use script_lang::{DescrText, Lengths, Literal, Literals};
 use shape_strides::Shape;
 use smallvec::SmallVec;
 use std::alloc::{AllocError, Global};
@@ -52,7 +57,7 @@ fn array_type(
 }
 
 /// `zeros D S`
-fn zeros(alloc: Global, descr: &DescrText, lengths: &Lengths) -> Result<Owned, Refusal>
+pub fn zeros(alloc: Global, descr: &DescrText, lengths: &Lengths) -> Result<Owned, Refusal>
     ensures value { Gives held result (zeros_contents descr.now lengths.now) }
     ensures order { IfOk result IsInCOrder }
 {
@@ -60,8 +65,19 @@ fn zeros(alloc: Global, descr: &DescrText, lengths: &Lengths) -> Result<Owned, R
     Owned::zeroed(alloc, descr, &shape)
 }
 
+/// A block of so many items, each with these bytes.
+fn filled(alloc: Global, item: &[u8], items: usize) -> Result<RawBlock, AllocError>
+    requires bytes { items * length item.now ≤ 2 ^ 28 }
+    ensures whole { IfOk result (λ block. length block ≡ items * length item.now) }
+    ensures items { IfOk result (λ block. blocks (length item.now) items block ≡ replicate items item.now) }
+{
+    let mut block = RawBlock::try_zeroed(alloc, items * item.len())?;
+    fill(item, block.bytes_mut(), items);
+    Ok(block)
+}
+
 /// `full D S L`
-fn full(
+pub fn full(
     alloc: Global,
     descr: &DescrText,
     lengths: &Lengths,
@@ -71,16 +87,26 @@ fn full(
     ensures order { IfOk result IsInCOrder }
 {
     let (descr, shape) = array_type(alloc, descr, lengths)?;
-    let mut item = vec![in alloc; 0u8; descr.size()]?;
-    write_item(&descr, literal, item.as_mut_slice())?;
-    let mut block = RawBlock::try_zeroed(alloc, shape.items() * descr.size())?;
-    fill(item.as_slice(), block.bytes_mut(), shape.items());
+    let item = item_of(alloc, &descr, literal)?;
+    let block = filled(alloc, item.as_slice(), shape.items())?;
+    drop(item);
     let owned = Owned::over(alloc, descr, &shape, MemoryOrder::C, block)?;
     Ok(owned)
 }
 
+/// A block of the items that these literals are, one after another.
+fn listed(alloc: Global, descr: &Descr, literals: &[Literal]) -> Result<RawBlock, Refusal>
+    requires bytes { length literals.now * item_size descr.now ≤ 2 ^ 28 }
+    ensures whole { IfOk result (λ block. length block ≡ length literals.now * item_size descr.now) }
+    ensures items { Gives (λ block. map (decode_item descr.now) (blocks (item_size descr.now) (length literals.now) block)) result (item_values descr.now literals.now) }
+{
+    let mut block = RawBlock::try_zeroed(alloc, literals.len() * descr.size())?;
+    write_items(descr, literals, block.bytes_mut())?;
+    Ok(block)
+}
+
 /// `array D S L..`
-fn array(
+pub fn array(
     alloc: Global,
     descr: &DescrText,
     lengths: &Lengths,
@@ -94,8 +120,7 @@ fn array(
     if literals.len() != shape.items() {
         return Err(Refusal::NumberOfValues);
     }
-    let mut block = RawBlock::try_zeroed(alloc, shape.items() * descr.size())?;
-    write_items(&descr, literals, block.bytes_mut())?;
+    let block = listed(alloc, &descr, literals)?;
     let owned = Owned::over(alloc, descr, &shape, MemoryOrder::C, block)?;
     Ok(owned)
 }
@@ -114,8 +139,37 @@ fn integer_scalar(descr: &Descr) -> Result<Scalar, Refusal>
     }
 }
 
+/// The scalar of a descriptor whose values are integers.
+fn integer_type(alloc: Global, descr: &DescrText) -> Result<Scalar, Refusal>
+    ensures value { Gives (λ scalar. scalar) result (integer_type descr.now) }
+    ensures number { IfOk result IsNumber }
+{
+    let descr = descr_read(alloc, descr.as_slice())?;
+    integer_scalar(&descr)
+}
+
+/// A block of the numbers of a range.
+fn numbered(
+    alloc: Global,
+    scalar: &Scalar,
+    start: &i128,
+    stop: &i128,
+    step: &i128,
+    len: usize,
+) -> Result<RawBlock, Refusal>
+    requires number { IsNumber scalar.now }
+    requires len { len ≡ range_count start.now stop.now step.now }
+    requires few { len ≤ 2 ^ 24 }
+    ensures whole { IfOk result (λ block. length block ≡ len * size scalar.now) }
+    ensures items { Gives (λ block. map (decode_item (ScalarDescr scalar.now)) (blocks (size scalar.now) len block)) result (range_items scalar.now start.now stop.now step.now) }
+{
+    let mut block = RawBlock::try_zeroed(alloc, len * scalar.size())?;
+    write_range(scalar, start, stop, step, block.bytes_mut())?;
+    Ok(block)
+}
+
 /// `arange D a b s`
-fn arange(
+pub fn arange(
     alloc: Global,
     descr: &DescrText,
     start: &i128,
@@ -125,42 +179,10 @@ fn arange(
     ensures value { Gives held result (arange_contents descr.now start.now stop.now step.now) }
     ensures order { IfOk result IsInCOrder }
 {
-    let descr = descr_read(alloc, descr.as_slice())?;
-    let scalar = integer_scalar(&descr)?;
+    let scalar = integer_type(alloc, descr)?;
     let len = range_len(start, stop, step)?;
     let shape = Shape::try_new(alloc, &[len])?;
-    let mut block = RawBlock::try_zeroed(alloc, len * scalar.size())?;
-    write_range(&scalar, start, stop, step, block.bytes_mut())?;
+    let block = numbered(alloc, &scalar, start, stop, step, len)?;
     let owned = Owned::over(alloc, Descr::Scalar(scalar), &shape, MemoryOrder::C, block)?;
     Ok(owned)
-}
-
-/// What a command that makes an array puts into it.
-pub fn contents_of(alloc: Global, command: &Command) -> Result<Owned, Refusal>
-    ensures value { Gives held result (contents_of command.now) }
-    ensures order { IfOk result IsInCOrder }
-{
-    match command {
-        Command::Zeros { descr, shape, .. } => zeros(alloc, descr, shape),
-        Command::Full {
-            descr,
-            shape,
-            value,
-            ..
-        } => full(alloc, descr, shape, value),
-        Command::Arange {
-            descr,
-            start,
-            stop,
-            step,
-            ..
-        } => arange(alloc, descr, start, stop, step),
-        Command::Array {
-            descr,
-            shape,
-            values,
-            ..
-        } => array(alloc, descr, shape, values),
-        _ => Err(Refusal::Syntax),
-    }
 }

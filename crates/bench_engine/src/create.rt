@@ -1,33 +1,140 @@
-//! `X = ..`: a name is bound to a new array.
-ghost use Rattle.std.specs.Prelude.{◌≡◌, ◌≤◌, true, vec_capacity};
-ghost use Rattle.bench_engine.specs.Contents.{contents_of};
+//! `X = zeros ..`, `full`, `arange`, `array`: a name is bound to a new array.
+ghost use Rattle.std.specs.Prelude.{◌≡◌, ◌≤◌, true, Ok, vec_capacity};
+ghost use Rattle.name_store.specs.Arrays.{has_room_for};
+ghost use Rattle.bench_engine.specs.Contents.{zeros_contents, full_contents, arange_contents, array_contents, contents_of, held, IsInCOrder};
 ghost use Rattle.bench_engine.specs.Contract.{Answers};
 ghost use Rattle.bench_engine.specs.Machine.{creation_outcome};
 
-use crate::contents::contents_of;
+use crate::contents;
 use crate::replies::push_fresh_text;
 use elem_descr::Refusal;
 use name_store::{Bench, Bound};
-use script_lang::{Command, Name};
+use overlap_copy::Owned;
+use script_lang::{DescrText, Lengths, Literal, Literals, Name, NewItems};
 use std::alloc::Global;
 
-/// Binds a name to the array that a command makes. The reply is appended before the change, which is
-/// the last step that may lack memory.
-pub fn create(
+/// Binds a name, for which there is room, to a new array. The reply is appended before the change,
+/// which is the last step that may lack memory.
+fn create(
     alloc: Global,
     bench: &mut Bench,
     name: &Name,
-    command: &Command,
+    owned: Owned,
+    out: &mut Vec<u8>,
+) -> Result<(), Refusal>
+    requires room { has_room_for bench.old name.now ≡ true }
+    requires order { IsInCOrder owned }
+    ensures room { vec_capacity out.old ≤ vec_capacity out.new }
+    ensures answers { Answers true (λ choice. creation_outcome choice bench.old name.now (Ok (held owned)))
+        bench.old bench.new out.old.items out.new.items result }
+{
+    push_fresh_text(alloc, out, name, &owned.descr, &owned.layout.shape)?;
+    bench.bind(alloc, name, Bound::Fresh(owned))
+}
+
+/// `X = zeros D S`
+fn zeros(
+    alloc: Global,
+    bench: &mut Bench,
+    name: &Name,
+    descr: &DescrText,
+    shape: &Lengths,
     out: &mut Vec<u8>,
 ) -> Result<(), Refusal>
     ensures room { vec_capacity out.old ≤ vec_capacity out.new }
-    ensures answers { Answers true (λ choice. creation_outcome choice bench.old name.now (contents_of command.now))
+    ensures answers { Answers true (λ choice. creation_outcome choice bench.old name.now (zeros_contents descr.now shape.now))
         bench.old bench.new out.old.items out.new.items result }
 {
     if !bench.has_room_for(name) {
         return Err(Refusal::TooManyNames);
     }
-    let owned = contents_of(alloc, command)?;
-    push_fresh_text(alloc, out, name, &owned.descr, &owned.layout.shape)?;
-    bench.bind(alloc, name, Bound::Fresh(owned))
+    let owned = contents::zeros(alloc, descr, shape)?;
+    create(alloc, bench, name, owned, out)
+}
+
+/// `X = full D S L`
+fn full(
+    alloc: Global,
+    bench: &mut Bench,
+    name: &Name,
+    descr: &DescrText,
+    shape: &Lengths,
+    value: &Literal,
+    out: &mut Vec<u8>,
+) -> Result<(), Refusal>
+    ensures room { vec_capacity out.old ≤ vec_capacity out.new }
+    ensures answers { Answers true (λ choice. creation_outcome choice bench.old name.now (full_contents descr.now shape.now value.now))
+        bench.old bench.new out.old.items out.new.items result }
+{
+    if !bench.has_room_for(name) {
+        return Err(Refusal::TooManyNames);
+    }
+    let owned = contents::full(alloc, descr, shape, value)?;
+    create(alloc, bench, name, owned, out)
+}
+
+/// `X = arange D a b s`
+fn arange(
+    alloc: Global,
+    bench: &mut Bench,
+    name: &Name,
+    descr: &DescrText,
+    start: &i128,
+    stop: &i128,
+    step: &i128,
+    out: &mut Vec<u8>,
+) -> Result<(), Refusal>
+    ensures room { vec_capacity out.old ≤ vec_capacity out.new }
+    ensures answers { Answers true (λ choice. creation_outcome choice bench.old name.now (arange_contents descr.now start.now stop.now step.now))
+        bench.old bench.new out.old.items out.new.items result }
+{
+    if !bench.has_room_for(name) {
+        return Err(Refusal::TooManyNames);
+    }
+    let owned = contents::arange(alloc, descr, start, stop, step)?;
+    create(alloc, bench, name, owned, out)
+}
+
+/// `X = array D S L..`
+fn array(
+    alloc: Global,
+    bench: &mut Bench,
+    name: &Name,
+    descr: &DescrText,
+    shape: &Lengths,
+    values: &Literals,
+    out: &mut Vec<u8>,
+) -> Result<(), Refusal>
+    ensures room { vec_capacity out.old ≤ vec_capacity out.new }
+    ensures answers { Answers true (λ choice. creation_outcome choice bench.old name.now (array_contents descr.now shape.now values.now))
+        bench.old bench.new out.old.items out.new.items result }
+{
+    if !bench.has_room_for(name) {
+        return Err(Refusal::TooManyNames);
+    }
+    let owned = contents::array(alloc, descr, shape, values)?;
+    create(alloc, bench, name, owned, out)
+}
+
+/// Binds a name to a new array.
+pub fn make(
+    alloc: Global,
+    bench: &mut Bench,
+    name: &Name,
+    descr: &DescrText,
+    items: &NewItems,
+    out: &mut Vec<u8>,
+) -> Result<(), Refusal>
+    ensures room { vec_capacity out.old ≤ vec_capacity out.new }
+    ensures answers { Answers true (λ choice. creation_outcome choice bench.old name.now (contents_of descr.now items.now))
+        bench.old bench.new out.old.items out.new.items result }
+{
+    match items {
+        NewItems::Zeros { shape } => zeros(alloc, bench, name, descr, shape, out),
+        NewItems::Full { shape, value } => full(alloc, bench, name, descr, shape, value, out),
+        NewItems::Arange { start, stop, step } => {
+            arange(alloc, bench, name, descr, start, stop, step, out)
+        }
+        NewItems::Array { shape, values } => array(alloc, bench, name, descr, shape, values, out),
+    }
 }

@@ -1,30 +1,69 @@
 //! One line: what it says, carried out, with the reply at the end of `out`.
-ghost use Rattle.std.specs.Prelude.{◌≡◌, ◌≤◌, ◌+◌, ◌++◌, ◌⊎◌, [], List, ℕ, length, IsTrue, false, vec_len, vec_capacity};
+ghost use Rattle.std.specs.Prelude.{◌≡◌, ◌≤◌, ◌+◌, ◌++◌, ◌&&◌, [], List, vec_len, vec_capacity};
+ghost use Rattle.std.specs.List.{list_all};
+ghost use Rattle.name_store.specs.Arrays.{is_bound};
 ghost use Rattle.bench_engine.specs.Contract.{Answers};
-ghost use Rattle.bench_engine.specs.Machine.{outcome, may_lack_memory};
+ghost use Rattle.bench_engine.specs.Machine.{outcome, bind_outcome, question_outcome, value_takes_memory, bound_in_value, bound_in_question, may_lack_memory};
 ghost use Rattle.bench_engine.specs.Replies.{Reply};
-ghost use Rattle.bench_engine.specs.Runs.{Case, Answered};
-ghost use Rattle.bench_engine.specs.Sessions.{said, SaysHeld, Tells};
+ghost use Rattle.bench_engine.specs.Meanings.{Case, Answered, ReadsAs, Tells, meaning_of_read};
 
-use crate::create::create;
+use crate::create::make;
 use crate::delete::delete;
 use crate::format::format;
 use crate::info::info;
+use crate::line::{Line, MAX_LINE_LEN};
 use crate::names::names;
 use crate::print::print;
 use crate::set::set;
 use crate::shares::shares;
-use crate::view::{alias, field, indexed, transpose};
+use crate::view::view;
 use elem_descr::Refusal;
 use name_store::Bench;
-use script_lang::{Argument, Command, parse, word};
+use script_lang::{Argument, Command, Name, Question, Value, parse, word};
 use std::alloc::Global;
-
-/// The most bytes of a line.
-pub const MAX_LINE_LEN: usize = 65_536;
 
 /// The most bytes of a refusal's text.
 pub const MAX_REFUSAL_LEN: usize = 64;
+
+/// Binds a name, and appends the reply.
+fn bind(
+    alloc: Global,
+    bench: &mut Bench,
+    name: &Name,
+    value: &Value,
+    out: &mut Vec<u8>,
+) -> Result<(), Refusal>
+    ensures answers { Answers (value_takes_memory value.now && list_all (is_bound bench.old) (bound_in_value value.now))
+        (λ choice. bind_outcome choice bench.old name.now value.now) bench.old bench.new out.old.items out.new.items result }
+    ensures room { vec_capacity out.old ≤ vec_capacity out.new }
+{
+    match value {
+        Value::Make { descr, items } => make(alloc, bench, name, descr, items, out),
+        Value::View { source, how } => view(alloc, bench, name, source, how, out),
+        Value::Compute(_) | Value::Load { .. } => Err(Refusal::Syntax),
+    }
+}
+
+/// Appends what is asked.
+fn reply(
+    alloc: Global,
+    bench: &Bench,
+    question: &Question,
+    out: &mut Vec<u8>,
+) -> Result<(), Refusal>
+    requires room { vec_len out.old + 64 ≤ vec_capacity out.old }
+    ensures answers { Answers (list_all (is_bound bench.now) (bound_in_question question.now))
+        (λ choice. question_outcome bench.now question.now) bench.now bench.now out.old.items out.new.items result }
+    ensures room { vec_capacity out.old ≤ vec_capacity out.new }
+{
+    match question {
+        Question::Print { name } => print(alloc, bench, name, out),
+        Question::Info { name } => info(alloc, bench, name, out),
+        Question::Format { name } => format(alloc, bench, name, out),
+        Question::Names => names(bench, out),
+        Question::Shares { left, right } => shares(alloc, bench, left, right, out),
+    }
+}
 
 /// Carries out a command and appends its reply. A refusal changes nothing, but for what stands past
 /// the old end of `out`.
@@ -40,34 +79,14 @@ fn perform(
     ensures room { vec_capacity out.old ≤ vec_capacity out.new }
 {
     match command {
-        Command::Zeros { name, .. }
-        | Command::Full { name, .. }
-        | Command::Arange { name, .. }
-        | Command::Array { name, .. } => create(alloc, bench, name, command, out),
-        Command::View { name, source } => match &source.index {
-            None => alias(alloc, bench, name, &source.name, out),
-            Some(index) => indexed(alloc, bench, name, &source.name, index, out),
-        },
-        Command::Transpose { name, source, axes } => match axes {
-            None => transpose(alloc, bench, name, source, None, out),
-            Some(axes) => transpose(alloc, bench, name, source, Some(axes.as_slice()), out),
-        },
-        Command::Field {
-            name,
-            source,
-            field: part,
-        } => field(alloc, bench, name, source, part, out),
+        Command::Bind { name, value } => bind(alloc, bench, name, value, out),
         Command::Set { name, index, value } => match value {
             Argument::Literal(literal) => set(alloc, bench, name, index, literal, out),
             Argument::Operand(_) => Err(Refusal::Syntax),
         },
         Command::Delete { name } => delete(bench, name, out),
-        Command::Print { name } => print(alloc, bench, name, out),
-        Command::Info { name } => info(alloc, bench, name, out),
-        Command::Format { name } => format(alloc, bench, name, out),
-        Command::Names => names(bench, out),
-        Command::Shares { left, right } => shares(alloc, bench, left, right, out),
-        _ => Err(Refusal::Syntax),
+        Command::Ask(question) => reply(alloc, bench, question, out),
+        Command::Update { .. } | Command::Undo | Command::Save { .. } => Err(Refusal::Syntax),
     }
 }
 
@@ -91,34 +110,28 @@ pub fn execute(alloc: Global, bench: &mut Bench, command: &Command, out: &mut Ve
     }
 }
 
-/// What the line that is held says.
-fn read_line(alloc: Global, line: &[u8], is_long: bool) -> Result<Option<Command>, Refusal>
-    ensures { SaysHeld result (said line.now is_long) }
+/// What a line says.
+fn read_line(alloc: Global, line: Line<'_>) -> Result<Option<Command>, Refusal>
+    ensures { ReadsAs result (meaning_of_read line.entry) }
 {
-    if is_long {
+    let Line::Held(bytes) = line else {
+        return Err(Refusal::LineTooLong);
+    };
+    if bytes.len() > MAX_LINE_LEN {
         return Err(Refusal::LineTooLong);
     }
-    if line.len() > MAX_LINE_LEN {
-        return Err(Refusal::LineTooLong);
-    }
-    parse(alloc, line)
+    parse(alloc, bytes)
 }
 
 /// Answers a line: whether its command was accepted, or nothing where it asks for nothing.
-pub fn answer(
-    alloc: Global,
-    bench: &mut Bench,
-    line: &[u8],
-    is_long: bool,
-    out: &mut Vec<u8>,
-) -> Option<bool>
+pub fn answer(alloc: Global, bench: &mut Bench, line: Line<'_>, out: &mut Vec<u8>) -> Option<bool>
     requires empty { out.old.items ≡ [] }
     requires room { 64 ≤ vec_capacity out.old }
     ensures answered { (replies : List Reply) × Tells replies result out.new.items
-        × Answered bench.old (said line.now is_long) bench.new replies }
+        × Answered bench.old (meaning_of_read line.entry) bench.new replies }
     ensures room { vec_capacity out.old ≤ vec_capacity out.new }
 {
-    match read_line(alloc, line, is_long) {
+    match read_line(alloc, line) {
         Ok(None) => None,
         Ok(Some(command)) => {
             let accepted = execute(alloc, bench, &command, out);

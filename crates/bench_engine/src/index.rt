@@ -1,8 +1,12 @@
 //! Index lists that name no array.
 ghost use Rattle.std.specs.Prelude.{◌≡◌, true, map, IfOk};
 ghost use Rattle.std.specs.List.{list_all};
+ghost use Rattle.view_ops.specs.Basics.{basic};
+ghost use Rattle.view_ops.specs.Views.{GivesView, KeepsNested};
 ghost use Rattle.bench_engine.specs.Indices.{is_plain, basic_item};
 
+use elem_descr::Refusal;
+use shape_strides::Layout;
 use smallvec::SmallVec;
 use std::alloc::{AllocError, Global};
 
@@ -37,7 +41,7 @@ fn basic_item(item: &script_lang::IndexItem) -> view_ops::IndexItem
 }
 
 /// The items of an index list as those of a view.
-pub fn basic_items(
+fn basic_items(
     alloc: Global,
     index: &[script_lang::IndexItem],
 ) -> Result<SmallVec<view_ops::IndexItem, 8>, AllocError>
@@ -49,4 +53,18 @@ pub fn basic_items(
         items.push(basic_item(item))?;
     }
     Ok(items)
+}
+
+/// The view of a layout that an index list names.
+pub fn named_items(
+    alloc: Global,
+    layout: &Layout,
+    index: &[script_lang::IndexItem],
+) -> Result<Layout, Refusal>
+    requires { list_all is_plain index.now ≡ true }
+    ensures view { GivesView layout.now result (basic layout.now.shape (map basic_item index.now)) }
+    ensures nested { IfOk result (KeepsNested layout.now) }
+{
+    let items = basic_items(alloc, index)?;
+    view_ops::basic(alloc, layout, items.as_slice())
 }

@@ -1,7 +1,8 @@
 //! `info X`: where the items of an array lie.
-ghost use Rattle.std.specs.Prelude.{◌≡◌, ◌≤◌, ◌^◌, ◌++◌, OnOk, vec_capacity};
+ghost use Rattle.std.specs.Prelude.{◌≡◌, ◌≤◌, ◌++◌, codes, decimal, IfOk, OnOk, string_bytes, vec_capacity};
 ghost use Rattle.std.specs.Io.{StartsWith};
-ghost use Rattle.shape_strides.specs.Layouts.{offsets, Fits};
+ghost use Rattle.shape_strides.specs.Contiguity.{printed_strides, strides_text};
+ghost use Rattle.shape_strides.specs.Layouts.{offsets};
 ghost use Rattle.name_store.specs.Arrays.{is_bound};
 ghost use Rattle.bench_engine.specs.Contract.{Answers};
 ghost use Rattle.bench_engine.specs.Machine.{info_outcome};
@@ -9,6 +10,7 @@ ghost use Rattle.bench_engine.specs.Replies.{info_text, layout_words, order_text
 
 use crate::replies::push_array_words;
 use elem_descr::{Descr, Refusal};
+use itoa::Buffer;
 use name_store::Bench;
 use script_lang::Name;
 use shape_strides::Layout;
@@ -16,7 +18,6 @@ use std::alloc::{AllocError, Global};
 
 /// The orders in which items of so many bytes lie one after another.
 fn order_text(layout: &Layout, item: usize) -> &'static [u8]
-    requires { Fits layout.now (2 ^ 28) 1 }
     ensures { result.now ≡ order_text item layout.now.shape (offsets layout.now) }
 {
     match (layout.is_c(item), layout.is_f(item)) {
@@ -34,6 +35,35 @@ pub fn yes_or_no(is: bool) -> &'static [u8]
     if is { b"yes" } else { b"no" }
 }
 
+/// The strides as they are told.
+fn strides_text(alloc: Global, layout: &Layout) -> Result<String, AllocError>
+    ensures { IfOk result (λ text. string_bytes text ≡ strides_text (printed_strides layout.now.shape (offsets layout.now))) }
+{
+    let strides = Layout::printed_strides(alloc, layout)?;
+    format!(in alloc; "{strides}")
+}
+
+/// Appends `strides SHAPE`. Where memory runs out, some of it may stand past the old end.
+fn push_strides(alloc: Global, out: &mut Vec<u8>, layout: &Layout) -> Result<(), AllocError>
+    ensures ok { OnOk result (out.new.items ≡ out.old.items ++ (codes "strides " ++ strides_text (printed_strides layout.now.shape (offsets layout.now)))) }
+    ensures kept { StartsWith out.new.items out.old.items }
+    ensures room { vec_capacity out.old ≤ vec_capacity out.new }
+{
+    let text = strides_text(alloc, layout)?;
+    out.extend_from_slice(b"strides ")?;
+    out.extend_from_slice(text.as_bytes())
+}
+
+/// Appends a number. Where memory runs out, some of it may stand past the old end.
+fn push_number(out: &mut Vec<u8>, number: usize) -> Result<(), AllocError>
+    ensures ok { OnOk result (out.new.items ≡ out.old.items ++ decimal number) }
+    ensures kept { StartsWith out.new.items out.old.items }
+    ensures room { vec_capacity out.old ≤ vec_capacity out.new }
+{
+    let mut buffer = Buffer::new();
+    out.extend_from_slice(buffer.format(number).as_bytes())
+}
+
 /// Appends `strides SHAPE at N order O write W`. Where memory runs out, some of it may stand past the
 /// old end.
 fn push_layout_words(
@@ -43,19 +73,13 @@ fn push_layout_words(
     item: usize,
     writable: bool,
 ) -> Result<(), AllocError>
-    requires { Fits layout.now (2 ^ 28) 1 }
     ensures ok { OnOk result (out.new.items ≡ out.old.items ++ layout_words item layout.now.shape (offsets layout.now) writable) }
     ensures kept { StartsWith out.new.items out.old.items }
     ensures room { vec_capacity out.old ≤ vec_capacity out.new }
 {
-    let strides = Layout::printed_strides(alloc, layout)?;
-    let strides = format!(in alloc; "{strides}")?;
-    let at = layout.first_address();
-    let at = format!(in alloc; "{at}")?;
-    out.extend_from_slice(b"strides ")?;
-    out.extend_from_slice(strides.as_bytes())?;
+    push_strides(alloc, out, layout)?;
     out.extend_from_slice(b" at ")?;
-    out.extend_from_slice(at.as_bytes())?;
+    push_number(out, layout.first_address())?;
     out.extend_from_slice(b" order ")?;
     out.extend_from_slice(order_text(layout, item))?;
     out.extend_from_slice(b" write ")?;
@@ -71,7 +95,6 @@ fn push_info_text(
     layout: &Layout,
     writable: bool,
 ) -> Result<(), AllocError>
-    requires { Fits layout.now (2 ^ 28) 1 }
     ensures ok { OnOk result (out.new.items ≡ out.old.items ++ info_text name.now descr.now layout.now.shape (offsets layout.now) writable) }
     ensures kept { StartsWith out.new.items out.old.items }
     ensures room { vec_capacity out.old ≤ vec_capacity out.new }

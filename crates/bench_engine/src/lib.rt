@@ -5,10 +5,12 @@
 mod contents;
 mod create;
 mod delete;
-pub mod engine;
+mod engine;
 mod format;
 mod index;
 mod info;
+mod item;
+mod line;
 mod names;
 mod print;
 mod replies;
@@ -17,8 +19,10 @@ mod send;
 mod session;
 mod set;
 mod shares;
+mod source;
 mod view;
 
 pub use engine::execute;
 pub use runner::{RunFault, run};
 pub use session::Summary;
+pub use source::Source;

@@ -1,11 +1,15 @@
 //! A whole run: from what is read to what is written.
-ghost use Rattle.std.specs.Prelude.{◌≡◌, ◌≤◌, ◌<◌, ◌+◌, ◌*◌, ◌^◌, List, ℕ, length, take, IfOk, IfSome, IsErrOf, MatchOption, vec_len};
-ghost use Rattle.std.specs.Io.KnownBytes.{Consumes, Keeps, IsAtEnd};
-ghost use Rattle.bench_engine.specs.Held.{Finished, Answers, StoppedReading, StoppedWriting};
+ghost use Rattle.std.specs.Prelude.{◌≡◌, ◌≤◌, ◌<◌, ◌+◌, ◌^◌, List, ℕ, Option, length, IfOk, IfSome, IsErrOf};
+ghost use Rattle.bench_engine.specs.Held.{Finished, Answers, AnswersInPart, StoppedReading, StoppedWriting};
+ghost use Rattle.bench_engine.specs.Lines.{lines};
+ghost use Rattle.bench_engine.specs.Sessions.{HasRoom, Reading, Turned};
+ghost use Rattle.bench_engine.specs.declared.runner.RunFault.TheVariants.{Write, Memory};
 
+use crate::send::WriteFault;
 use crate::session::{Session, Summary};
-use std::alloc::Global;
-use std::io::{Read, Write};
+use crate::source::Source;
+use std::alloc::{AllocError, Global};
+use std::io::Write;
 
 /// Why a run stops before the end.
 #[derive(Clone, Copy, Debug, PartialEq, Eq)]
@@ -18,26 +22,66 @@ pub enum RunFault {
     Memory,
 }
 
+impl From<AllocError> for RunFault {
+    ghost from_gives = { λ _ fault. fault ≡ Memory };
+
+    fn from(_error: AllocError) -> RunFault {
+        RunFault::Memory
+    }
+}
+
+impl From<WriteFault> for RunFault {
+    ghost from_gives = { λ _ fault. fault ≡ Write };
+
+    fn from(_fault: WriteFault) -> RunFault {
+        RunFault::Write
+    }
+}
+
 /// How many bytes a read asks for: a longest line, with a carriage return and a newline.
 const READ_SIZE: usize = 65_538;
 
 /// The most reads of one run.
 const MAX_READS: u64 = 1 << 32;
 
-/// One read: how many bytes came, 0 at the end, or nothing where it failed.
-fn read_some<R: Read>(reader: &mut R, chunk: &mut [u8]) -> Option<usize>
-    requires { 0 < length chunk.old }
-    ensures { MatchOption result (Keeps (R.remaining reader.old) (R.remaining reader.new))
-        (λ n. (n ≤ length chunk.new) × Consumes (R.remaining reader.old) (R.remaining reader.new) (take n chunk.new)
-        × (n ≡ 0 → IsAtEnd (R.remaining reader.new))) }
+/// Takes what one read gives, and answers whether that is the end.
+fn take_turn<S: Source, W: Write>(
+    alloc: Global,
+    source: &mut S,
+    writer: &mut W,
+    session: &mut Session,
+    chunk: &mut [u8],
+) -> Result<bool, RunFault>
+    requires some { 0 < length chunk.old }
+    requires room { HasRoom session.old }
+    requires few { session.old.accepted + session.old.refused + length chunk.old < 2 ^ 50 }
+    ensures room { HasRoom session.new }
+    ensures few { session.new.accepted + session.new.refused ≤ session.old.accepted + session.old.refused + length chunk.old }
+    ensures counted { S.reads source.new ≤ S.reads source.old + 1 }
+    ensures ok { IfOk result (λ ended. (unread written : Option (List ℕ)) →
+        Reading unread (S.remaining source.old) written (W.contents writer.old) session.old →
+        Turned ended unread (S.remaining source.new) written (W.contents writer.new) session.new) }
+    ensures read { IsErrOf result RunFault.Read → (unread written : Option (List ℕ)) →
+        Reading unread (S.remaining source.old) written (W.contents writer.old) session.old →
+        StoppedReading unread (S.remaining source.new) written (W.contents writer.new) }
+    ensures write { IsErrOf result RunFault.Write → (unread written : Option (List ℕ)) →
+        Reading unread (S.remaining source.old) written (W.contents writer.old) session.old →
+        StoppedWriting unread (S.remaining source.new) written (W.contents writer.new) }
+    ensures memory { ¬ IsErrOf result RunFault.Memory }
 {
-    reader.read(chunk).ok()
+    let count = source.read_some(chunk).ok_or(RunFault::Read)?;
+    if count == 0 {
+        session.end(alloc, writer)?;
+        return Ok(true);
+    }
+    session.feed(alloc, writer, &chunk[..count])?;
+    Ok(false)
 }
 
 /// A run of at most so many reads, each of which asks for so many bytes.
-pub fn run_within<R: Read, W: Write>(
+pub fn run_within<S: Source, W: Write>(
     alloc: Global,
-    reader: &mut R,
+    source: &mut S,
     writer: &mut W,
     reads: u64,
     size: usize,
@@ -45,30 +89,18 @@ pub fn run_within<R: Read, W: Write>(
     requires reads { reads ≤ 2 ^ 32 }
     requires some { 1 ≤ size }
     requires size { size ≤ 65538 }
-    ensures ok { IfOk result (Finished (R.remaining reader.old) (R.remaining reader.new) (W.contents writer.old) (W.contents writer.new)) }
-    ensures read { IsErrOf result RunFault.Read → StoppedReading (R.remaining reader.old) (R.remaining reader.new) (W.contents writer.old) (W.contents writer.new) }
-    ensures write { IsErrOf result RunFault.Write → StoppedWriting (R.remaining reader.old) (R.remaining reader.new) (W.contents writer.old) (W.contents writer.new) }
-    ensures memory { IsErrOf result RunFault.Memory → (reader.new ≡ reader.old) × (writer.new ≡ writer.old) }
+    ensures ok { IfOk result (Finished (S.remaining source.old) (S.remaining source.new) (W.contents writer.old) (W.contents writer.new)) }
+    ensures read { IsErrOf result RunFault.Read → StoppedReading (S.remaining source.old) (S.remaining source.new) (W.contents writer.old) (W.contents writer.new) }
+    ensures write { IsErrOf result RunFault.Write → StoppedWriting (S.remaining source.old) (S.remaining source.new) (W.contents writer.old) (W.contents writer.new) }
+    ensures memory { IsErrOf result RunFault.Memory → (source.new ≡ source.old) × (writer.new ≡ writer.old) }
+    ensures reads { S.reads source.new ≤ S.reads source.old + reads }
 {
-    let Ok(mut session) = Session::new(alloc) else {
-        return Err(RunFault::Memory);
-    };
-    let Ok(mut chunk) = vec![in alloc; 0u8; size] else {
-        return Err(RunFault::Memory);
-    };
+    let mut session = Session::new(alloc)?;
+    let mut chunk = vec![in alloc; 0u8; size]?;
     for turn in 0..reads {
-        let Some(count) = read_some(reader, chunk.as_mut_slice()) else {
-            return Err(RunFault::Read);
-        };
-        if count == 0 {
-            let Ok(()) = session.end(alloc, writer) else {
-                return Err(RunFault::Write);
-            };
+        if take_turn(alloc, source, writer, &mut session, chunk.as_mut_slice())? {
             return Ok(session.into_summary());
         }
-        let Ok(()) = session.feed(alloc, writer, &chunk[..count]) else {
-            return Err(RunFault::Write);
-        };
     }
     Err(RunFault::Read)
 }
@@ -79,18 +111,21 @@ pub fn run_within<R: Read, W: Write>(
 ///
 /// A script ends where a read gives no byte. Each reply is written whole before the next line is
 /// looked at. `RunFault::Memory` comes before the first read.
-pub fn run<R: Read, W: Write>(
+pub fn run<S: Source, W: Write>(
     alloc: Global,
-    reader: &mut R,
+    source: &mut S,
     writer: &mut W,
 ) -> Result<Summary, RunFault>
     // The whole script is known before it is read.
-    ensures script { IfOk result (λ summary. IfSome (R.remaining reader.old) (λ script.
+    ensures script { IfOk result (λ summary. IfSome (S.remaining source.old) (λ script.
         Answers script (W.contents writer.old) (W.contents writer.new) summary)) }
-    ensures ok { IfOk result (Finished (R.remaining reader.old) (R.remaining reader.new) (W.contents writer.old) (W.contents writer.new)) }
-    ensures read { IsErrOf result RunFault.Read → StoppedReading (R.remaining reader.old) (R.remaining reader.new) (W.contents writer.old) (W.contents writer.new) }
-    ensures write { IsErrOf result RunFault.Write → StoppedWriting (R.remaining reader.old) (R.remaining reader.new) (W.contents writer.old) (W.contents writer.new) }
-    ensures memory { IsErrOf result RunFault.Memory → (reader.new ≡ reader.old) × (writer.new ≡ writer.old) }
+    ensures part { IsErrOf result RunFault.Write → IfSome (S.remaining source.old) (λ script.
+        AnswersInPart (lines script) (W.contents writer.old) (W.contents writer.new)) }
+    ensures ok { IfOk result (Finished (S.remaining source.old) (S.remaining source.new) (W.contents writer.old) (W.contents writer.new)) }
+    ensures read { IsErrOf result RunFault.Read → StoppedReading (S.remaining source.old) (S.remaining source.new) (W.contents writer.old) (W.contents writer.new) }
+    ensures write { IsErrOf result RunFault.Write → StoppedWriting (S.remaining source.old) (S.remaining source.new) (W.contents writer.old) (W.contents writer.new) }
+    ensures memory { IsErrOf result RunFault.Memory → (source.new ≡ source.old) × (writer.new ≡ writer.old) }
+    ensures reads { S.reads source.new ≤ S.reads source.old + 2 ^ 32 }
 {
-    run_within(alloc, reader, writer, MAX_READS, READ_SIZE)
+    run_within(alloc, source, writer, MAX_READS, READ_SIZE)
 }

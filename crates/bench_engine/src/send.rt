@@ -1,5 +1,5 @@
 //! Writes bytes to a writer, all of them or some first ones.
-ghost use Rattle.std.specs.Prelude.{◌≡◌, ◌<◌, ◌++◌, ◌∷◌, [], List, ℕ, length, OnOk, OnErr};
+ghost use Rattle.std.specs.Prelude.{◌≡◌, ◌≤◌, ◌<◌, ◌++◌, ◌∷◌, [], List, ℕ, length, OnOk, OnErr, vec_capacity};
 ghost use Rattle.std.specs.Io.KnownBytes.{Appends};
 
 use std::io::Write;
@@ -24,12 +24,17 @@ pub fn send<W: Write>(writer: &mut W, bytes: &[u8]) -> Result<(), WriteFault>
     Ok(())
 }
 
-/// Writes the bytes and a newline.
-pub fn send_line<W: Write>(writer: &mut W, bytes: &[u8]) -> Result<(), WriteFault>
-    ensures ok { OnOk result (Appends (W.contents writer.old) (W.contents writer.new) (bytes.now ++ 10 ∷ [])) }
-    ensures err { OnErr result ((gone missing : List ℕ) × (bytes.now ++ 10 ∷ [] ≡ gone ++ missing)
+/// Writes a text and a newline: in one piece where the room of the text has a byte left.
+pub fn send_line<W: Write>(writer: &mut W, text: &mut Vec<u8>) -> Result<(), WriteFault>
+    ensures ok { OnOk result (Appends (W.contents writer.old) (W.contents writer.new) (text.old.items ++ 10 ∷ [])) }
+    ensures err { OnErr result ((gone missing : List ℕ) × (text.old.items ++ 10 ∷ [] ≡ gone ++ missing)
         × (0 < length missing) × Appends (W.contents writer.old) (W.contents writer.new) gone) }
+    ensures room { vec_capacity text.old ≤ vec_capacity text.new }
 {
-    send(writer, bytes)?;
+    if text.len() < text.capacity() {
+        text.push(b'\n').unwrap();
+        return send(writer, text.as_slice());
+    }
+    send(writer, text.as_slice())?;
     send(writer, b"\n")
 }

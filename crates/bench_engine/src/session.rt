@@ -1,10 +1,14 @@
 //! What a run holds between one read and the next.
-ghost use Rattle.std.specs.Prelude.{◌≡◌, ◌≤◌, ◌<◌, ◌+◌, ◌*◌, ◌^◌, ◌++◌, [], ◌∷◌, List, ℕ, Option, Bool, length, OnOk, OnErr, IfOk, IsErrOf, vec_len, vec_capacity, false};
-ghost use Rattle.bench_engine.specs.Held.{Cut};
-ghost use Rattle.bench_engine.specs.Sessions.{Holds, HasRoom, Fed, Told, ToldInPart, KeepsAnswers, AnswersLine, IsNew, Ended};
-ghost use Rattle.bench_engine.specs.Lines.{trimmed};
+ghost use Rattle.std.specs.Prelude.{◌≡◌, ◌≤◌, ◌<◌, ◌+◌, ◌^◌, ◌++◌, [], ◌∷◌, List, ℕ, Option, length, OnOk, OnErr, IfOk, nat_eq, false};
+ghost use Rattle.std.specs.List.{position};
+ghost use Rattle.bench_engine.specs.Held.{AnswersInPart};
+ghost use Rattle.bench_engine.specs.Lines.{ended, lines, whole_lines};
+ghost use Rattle.bench_engine.specs.Meanings.{AnswersLine};
+ghost use Rattle.bench_engine.specs.Sessions.{Holds, HasRoom, FedMachine, Told, ToldInPart, AnswersHeld, HasTold, IsNew};
+ghost use Rattle.name_store.specs.States.{start};
 
-use crate::engine::{MAX_LINE_LEN, MAX_REFUSAL_LEN, answer};
+use crate::engine::{MAX_REFUSAL_LEN, answer};
+use crate::line::HeldLine;
 use crate::send::{WriteFault, send_line};
 use name_store::Bench;
 use std::alloc::{AllocError, Global};
@@ -23,44 +27,25 @@ pub struct Summary {
 #[derive(Drop)]
 pub struct Session {
     bench: Bench,
-    line: Vec<u8>,
-    is_long: bool,
+    line: HeldLine,
     out: Vec<u8>,
     accepted: u64,
     refused: u64,
 }
 
 impl Session {
-    /// Adds a byte to the line. Of a line that is too long only that is held.
-    pub fn hold(&mut self, byte: u8)
-        requires room { HasRoom self.old }
-        ensures room { HasRoom self.new }
-        ensures kept { KeepsAnswers self.old self.new }
-        ensures held { (piece : List ℕ) → Holds self.old.line.items self.old.is_long piece
-            → Holds self.new.line.items self.new.is_long (piece ++ byte ∷ []) }
-    {
-        if self.line.len() > MAX_LINE_LEN {
-            self.is_long = true;
-        } else {
-            self.line.push(byte).unwrap();
-        }
-    }
-
     /// Answers the line, and begins the next one. What is answered stands in `out`.
     fn answer_line(&mut self, alloc: Global) -> Option<bool>
         requires room { HasRoom self.old }
         requires few { self.old.accepted + self.old.refused < 2 ^ 50 }
         ensures room { HasRoom self.new }
-        ensures next { (self.new.line.items ≡ []) × (self.new.is_long ≡ false) }
+        ensures next { Holds self.new.line [] }
         ensures few { self.new.accepted + self.new.refused ≤ self.old.accepted + self.old.refused + 1 }
-        ensures answered { AnswersLine self.old self.new result }
+        ensures answered { AnswersHeld self.old self.new result }
     {
         self.out.clear();
-        trim(&mut self.line);
-        let line = self.line.as_slice();
-        let answered = answer(alloc, &mut self.bench, line, self.is_long, &mut self.out);
+        let answered = answer(alloc, &mut self.bench, self.line.line(), &mut self.out);
         self.line.clear();
-        self.is_long = false;
         match answered {
             Some(true) => self.accepted += 1,
             Some(false) => self.refused += 1,
@@ -70,47 +55,42 @@ impl Session {
     }
 
     /// Answers the line, begins the next one, and sends the reply.
-    pub fn finish_line<W: Write>(&mut self, alloc: Global, writer: &mut W) -> Result<(), WriteFault>
+    fn finish_line<W: Write>(&mut self, alloc: Global, writer: &mut W) -> Result<(), WriteFault>
         requires room { HasRoom self.old }
         requires few { self.old.accepted + self.old.refused < 2 ^ 50 }
         ensures room { HasRoom self.new }
-        ensures next { (self.new.line.items ≡ []) × (self.new.is_long ≡ false) }
+        ensures next { Holds self.new.line [] }
         ensures few { self.new.accepted + self.new.refused ≤ self.old.accepted + self.old.refused + 1 }
-        ensures ok { OnOk result (Told (W.contents writer.old) (W.contents writer.new) self.old self.new) }
-        ensures err { OnErr result (ToldInPart (W.contents writer.old) (W.contents writer.new) self.old self.new) }
+        ensures ok { OnOk result (Told AnswersLine self.old.bench self.new.bench (W.contents writer.old) (W.contents writer.new) self.old self.new) }
+        ensures err { OnErr result (ToldInPart AnswersLine self.old.bench self.new.bench (W.contents writer.old) (W.contents writer.new) self.old) }
     {
         if self.answer_line(alloc).is_none() {
             return Ok(());
         }
-        send_line(writer, self.out.as_slice())
+        send_line(writer, &mut self.out)
     }
-}
 
-impl Session {
-    /// Takes the next byte that was read.
-    fn take_byte<W: Write>(
+    /// Takes the last piece of a line, which a newline ends.
+    fn take_line<W: Write>(
         &mut self,
         alloc: Global,
         writer: &mut W,
-        byte: u8,
+        piece: &[u8],
     ) -> Result<(), WriteFault>
         requires room { HasRoom self.old }
         requires few { self.old.accepted + self.old.refused < 2 ^ 50 }
+        requires one { ended piece.now ≡ [] }
         ensures room { HasRoom self.new }
         ensures few { self.new.accepted + self.new.refused ≤ self.old.accepted + self.old.refused + 1 }
         ensures ok { OnOk result ((before : Option (List ℕ)) (read : List ℕ) →
-            Fed before (W.contents writer.old) read self.old →
-            Fed before (W.contents writer.new) (read ++ byte ∷ []) self.new) }
+            FedMachine before (W.contents writer.old) read self.old →
+            FedMachine before (W.contents writer.new) (read ++ piece.now ++ 10 ∷ []) self.new) }
         ensures err { OnErr result ((before : Option (List ℕ)) (read more : List ℕ) →
-            Fed before (W.contents writer.old) read self.old →
-            Cut before (W.contents writer.new) (read ++ byte ∷ more)) }
+            FedMachine before (W.contents writer.old) read self.old →
+            AnswersInPart (whole_lines (read ++ piece.now ++ 10 ∷ more)) before (W.contents writer.new)) }
     {
-        if byte == b'\n' {
-            self.finish_line(alloc, writer)
-        } else {
-            self.hold(byte);
-            Ok(())
-        }
+        self.line.hold(piece);
+        self.finish_line(alloc, writer)
     }
 
     /// Takes the next bytes that were read.
@@ -125,15 +105,18 @@ impl Session {
         ensures room { HasRoom self.new }
         ensures few { self.new.accepted + self.new.refused ≤ self.old.accepted + self.old.refused + length bytes.now }
         ensures ok { OnOk result ((before : Option (List ℕ)) (read : List ℕ) →
-            Fed before (W.contents writer.old) read self.old →
-            Fed before (W.contents writer.new) (read ++ bytes.now) self.new) }
+            FedMachine before (W.contents writer.old) read self.old →
+            FedMachine before (W.contents writer.new) (read ++ bytes.now) self.new) }
         ensures err { OnErr result ((before : Option (List ℕ)) (read : List ℕ) →
-            Fed before (W.contents writer.old) read self.old →
-            Cut before (W.contents writer.new) (read ++ bytes.now)) }
+            FedMachine before (W.contents writer.old) read self.old →
+            AnswersInPart (whole_lines (read ++ bytes.now)) before (W.contents writer.new)) }
     {
-        for &byte in bytes {
-            self.take_byte(alloc, writer, byte)?;
+        let mut rest = bytes;
+        while let Some(end) = newline(rest) {
+            self.take_line(alloc, writer, &rest[..end])?;
+            rest = &rest[end + 1..];
         }
+        self.line.hold(rest);
         Ok(())
     }
 }
@@ -143,12 +126,11 @@ impl Session {
     pub fn new(alloc: Global) -> Result<Session, AllocError>
         ensures { IfOk result IsNew }
     {
-        let line = Vec::with_capacity(alloc, MAX_LINE_LEN + 1)?;
+        let line = HeldLine::new(alloc)?;
         let out = Vec::with_capacity(alloc, MAX_REFUSAL_LEN)?;
         Ok(Session {
             bench: Bench::try_new(alloc, 0)?,
             line,
-            is_long: false,
             out,
             accepted: 0,
             refused: 0,
@@ -159,14 +141,16 @@ impl Session {
     pub fn end<W: Write>(&mut self, alloc: Global, writer: &mut W) -> Result<(), WriteFault>
         requires room { HasRoom self.old }
         requires few { self.old.accepted + self.old.refused < 2 ^ 50 }
+        ensures room { HasRoom self.new }
+        ensures few { self.new.accepted + self.new.refused ≤ self.old.accepted + self.old.refused + 1 }
         ensures ok { OnOk result ((before : Option (List ℕ)) (read : List ℕ) →
-            Fed before (W.contents writer.old) read self.old →
-            Ended before (W.contents writer.new) read self.new) }
+            FedMachine before (W.contents writer.old) read self.old →
+            HasTold AnswersLine start self.new.bench before (W.contents writer.new) (lines read) self.new) }
         ensures err { OnErr result ((before : Option (List ℕ)) (read : List ℕ) →
-            Fed before (W.contents writer.old) read self.old →
-            Cut before (W.contents writer.new) read) }
+            FedMachine before (W.contents writer.old) read self.old →
+            AnswersInPart (lines read) before (W.contents writer.new)) }
     {
-        if self.line.is_empty() && !self.is_long {
+        if self.line.is_empty() {
             return Ok(());
         }
         self.finish_line(alloc, writer)
@@ -186,12 +170,9 @@ impl Session {
     }
 }
 
-/// Drops one carriage return at the line's end.
-fn trim(line: &mut Vec<u8>)
-    ensures trimmed { line.new.items ≡ trimmed line.old.items }
-    ensures room { vec_capacity line.new ≡ vec_capacity line.old }
+/// Where the first newline stands.
+fn newline(bytes: &[u8]) -> Option<usize>
+    ensures { result ≡ position (λ b. nat_eq b 10) bytes.now }
 {
-    if line.as_slice().ends_with(b"\r") {
-        line.pop();
-    }
+    bytes.iter().position(|byte| *byte == b'\n')
 }

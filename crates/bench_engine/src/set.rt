@@ -4,14 +4,13 @@ ghost use Rattle.name_store.specs.Arrays.{is_bound};
 ghost use Rattle.bench_engine.specs.Contract.{Answers};
 ghost use Rattle.bench_engine.specs.Machine.{set_outcome};
 
-use crate::index::{are_plain, basic_items};
+use crate::index::{are_plain, named_items};
+use crate::item::item_of;
 use elem_descr::Refusal;
 use itoa::Buffer;
-use literal_items::write_item;
 use name_store::{Bench, Source, Target};
 use script_lang::{Index, Literal, Name};
 use std::alloc::Global;
-use view_ops::basic;
 
 /// Appends `ok set N`. It takes no memory.
 fn push_count(out: &mut Vec<u8>, count: usize)
@@ -46,13 +45,11 @@ pub fn set(
     let Some(array) = bench.get(name) else {
         return Err(Refusal::UnknownName);
     };
-    let items = basic_items(alloc, index.as_slice())?;
-    let target = basic(alloc, array.layout, items.as_slice())?;
+    let target = named_items(alloc, array.layout, index.as_slice())?;
     if !array.writable {
         return Err(Refusal::ReadOnly);
     }
-    let mut item = vec![in alloc; 0u8; array.descr.size()]?;
-    write_item(array.descr, literal, item.as_mut_slice())?;
+    let item = item_of(alloc, array.descr, literal)?;
     let count = bench.write_items(
         alloc,
         name,

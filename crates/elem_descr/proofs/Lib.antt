@@ -8,8 +8,8 @@ pub mod Drafts
 pub mod DefaultNames
 pub mod Turns
 pub mod Binds
-pub mod Fields
-pub mod Steps
+pub mod FieldLaws
+pub mod StepLaws
 pub mod WrittenMembers
 pub mod RoundTrip
 pub mod Vectors

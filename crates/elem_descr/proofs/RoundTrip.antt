@@ -26,7 +26,7 @@ use Rattle.elem_descr.specs.FormatTexts.{Partial, alignment, is_taken, is_named,
 use Rattle.elem_descr.specs.WrittenFormats.{written_mark, written_count, written_letter, written_scalar, written_pad, written_field, written_fields, written}
 use Rattle.elem_descr.proofs.Binds.{after_ok}
 use Rattle.elem_descr.proofs.Decimals.{digits-decimal}
-use Rattle.elem_descr.proofs.Fields.{InOrder-within}
+use Rattle.elem_descr.proofs.FieldLaws.{InOrder-within}
 use Rattle.elem_descr.proofs.WrittenMembers.{both, mark_of, marked_digits, after_letter, reads_scalar, reads_pad, reads_name}
 
 -- a record as far as it is read, where nothing aligns

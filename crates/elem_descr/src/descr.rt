@@ -76,7 +76,7 @@ impl Record {
     }
 
     /// The scalar of the k-th field, and its offset.
-    #[tactic(auto, using(crate::proofs::Fields::leaf_within))]
+    #[tactic(auto, using(crate::proofs::FieldLaws::leaf_within))]
     fn leaf_at(&self, k: usize) -> (Scalar, usize)
         requires { k < length self.now.leaves }
         ensures leaf { IfSome (slice_get self.now.leaves k) (λ leaf. (result.0 ≡ leaf.scalar) × (result.1 ≡ leaf.at)) }
@@ -107,7 +107,7 @@ pub enum Descr {
 
 impl Descr {
     /// The bytes of one item.
-    #[tactic(auto, using(crate::proofs::Fields::scalar_apart, crate::proofs::Fields::record_apart))]
+    #[tactic(auto, using(crate::proofs::FieldLaws::scalar_apart, crate::proofs::FieldLaws::record_apart))]
     pub fn size(&self) -> usize
         ensures value { result ≡ item_size self.now }
         ensures not_empty { 1 ≤ result }
@@ -146,7 +146,7 @@ impl Descr {
     }
 
     /// The place of the field with this name among the fields. A scalar has none.
-    #[tactic(auto, using(crate::proofs::Fields::leaf_below))]
+    #[tactic(auto, using(crate::proofs::FieldLaws::leaf_below))]
     pub fn leaf_of(&self, name: &[u8]) -> Option<usize>
         ensures value { result ≡ field_of self.now name.now }
         ensures below { IfSome result (λ k. k < length (leaves_of self.now)) }

@@ -1,4 +1,7 @@
-//! Readers that give little or fail, and writers that take little.
+//! Readers that give little or fail, one that counts its reads, and writers that take little.
+ghost use Rattle.std.specs.Prelude.{Some};
+
+use bench_engine::Source;
 use std::io;
 use std::io::{Read, Write};
 
@@ -38,6 +41,37 @@ pub fn failing(script: &[u8], most: usize, reads: usize) -> Pieces<'_> {
         rest: script,
         most,
         left: Some(reads),
+    }
+}
+
+/// Gives a script, and counts the reads.
+#[derive(Drop)]
+pub struct Counted<'a> {
+    rest: &'a [u8],
+    reads: u64,
+}
+
+impl<'a> Counted<'a> {
+    pub fn new(script: &'a [u8]) -> Counted<'a> {
+        Counted {
+            rest: script,
+            reads: 0,
+        }
+    }
+
+    pub fn reads(&self) -> u64 {
+        self.reads
+    }
+}
+
+impl<'a> Source for Counted<'a> {
+    ghost remaining = { λ counted. Some counted.rest.now };
+
+    ghost reads = { λ counted. counted.reads };
+
+    fn read_some(&mut self, chunk: &mut [u8]) -> Option<usize> {
+        self.reads = self.reads.checked_add(1)?;
+        self.rest.read(chunk).ok()
     }
 }
 

@@ -1,28 +1,27 @@
-//! Reads and writes that fail in mid-stream.
-use crate::fakes::{bytes_in, failing, in_pieces, room_for};
+//! Reads and writes that fail in mid-stream, and a run that may make few reads.
+use crate::fakes::{Counted, bytes_in, failing, in_pieces, room_for};
 use crate::rows::{FIRST_REPLIES, FIRST_RUN};
+use crate::runs::{check_fault, counts};
+use bench_engine::RunFault;
 use bench_engine::runner::run_within;
-use bench_engine::{RunFault, run};
-use std::test::Fail;
 
 #[test]
-fn a_full_writer_stops_the_run(rt: HostRuntime) -> Result<(), Fail> {
+fn a_full_writer_stops_the_run(rt: HostRuntime) {
     for most in 0..FIRST_REPLIES.len() {
         let mut reader = FIRST_RUN;
         let mut writer = room_for(most);
-        let fault = run(rt.alloc(), &mut reader, &mut writer).err();
-        assert_eq!(rt; fault, Some(RunFault::Write), "at {most}");
+        let told = counts(rt.alloc(), &mut reader, &mut writer);
+        assert_eq!(rt; told, Err(RunFault::Write), "at {most}");
         assert_eq!(rt; Some(bytes_in(&writer)), FIRST_REPLIES.get(..most));
     }
     let mut reader = FIRST_RUN;
     let mut writer = room_for(FIRST_REPLIES.len());
-    let fault = run(rt.alloc(), &mut reader, &mut writer).err();
-    assert_eq!(rt; fault, None);
-    Ok(())
+    let told = counts(rt.alloc(), &mut reader, &mut writer);
+    assert_eq!(rt; told, Ok((3, 0)));
 }
 
 #[test]
-fn a_failed_read_stops_the_run(rt: HostRuntime) -> Result<(), Fail> {
+fn a_failed_read_stops_the_run(rt: HostRuntime) {
     // A read a line; the replies to the lines that were read.
     let lines: [(usize, &[u8]); 4] = [
         (0, b""),
@@ -32,21 +31,25 @@ fn a_failed_read_stops_the_run(rt: HostRuntime) -> Result<(), Fail> {
     ];
     for (reads, expected) in lines {
         let mut reader = failing(FIRST_RUN, 20, reads);
-        let mut writer = Vec::new(rt.alloc());
-        let fault = run(rt.alloc(), &mut reader, &mut writer).err();
-        assert_eq!(rt; fault, Some(RunFault::Read), "at {reads}");
-        assert_eq!(rt; writer.as_slice(), expected, "at {reads}");
+        check_fault(&rt, rt.alloc(), &mut reader, (expected, RunFault::Read));
     }
-    Ok(())
 }
 
 #[test]
-fn a_run_makes_few_reads(rt: HostRuntime) -> Result<(), Fail> {
+fn a_run_makes_few_reads(rt: HostRuntime) {
     let script: &[u8] = b"print q\nprint q\n";
     let mut reader = in_pieces(script, 1);
     let mut writer = Vec::new(rt.alloc());
     let fault = run_within(rt.alloc(), &mut reader, &mut writer, 10, 1).err();
     assert_eq!(rt; fault, Some(RunFault::Read));
     assert_eq!(rt; writer.as_slice(), b"no E06 unknown name\n".as_slice());
-    Ok(())
+}
+
+#[test]
+fn reads_are_counted(rt: HostRuntime) {
+    let mut reader = Counted::new(FIRST_RUN);
+    let mut writer = room_for(FIRST_REPLIES.len());
+    let told = counts(rt.alloc(), &mut reader, &mut writer);
+    assert_eq!(rt; told, Ok((3, 0)));
+    assert_eq!(rt; reader.reads(), 2);
 }

@@ -12,4 +12,6 @@ mod replies;
 #[cfg(test)]
 mod rows;
 #[cfg(test)]
+mod runs;
+#[cfg(test)]
 mod scripts;

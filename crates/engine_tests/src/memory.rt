@@ -1,8 +1,8 @@
 //! Runs where memory runs out once.
 use crate::fakes::{bytes_in, room_for};
 use crate::rows::{FIRST_REPLIES, FIRST_RUN};
-use bench_engine::{RunFault, run};
-use std::test::Fail;
+use crate::runs::counts;
+use bench_engine::RunFault;
 
 /// A script, and what it may reply where memory runs out once.
 struct ShortRun {
@@ -91,11 +91,11 @@ const SHORT_RUNS: [ShortRun; 7] = [
 ];
 
 #[test]
-fn runs_outlive_want_of_memory(rt: HostRuntime) -> Result<(), Fail> {
+fn runs_outlive_want_of_memory(rt: HostRuntime) {
     for short in &SHORT_RUNS {
         let mut reader = short.script;
         let mut writer = room_for(256);
-        match run(rt.alloc(), &mut reader, &mut writer) {
+        match counts(rt.alloc(), &mut reader, &mut writer) {
             Ok(_) => assert!(rt; short.replies.contains(&bytes_in(&writer))),
             Err(fault) => {
                 assert_eq!(rt; fault, RunFault::Memory);
@@ -103,5 +103,4 @@ fn runs_outlive_want_of_memory(rt: HostRuntime) -> Result<(), Fail> {
             }
         }
     }
-    Ok(())
 }

@@ -1,5 +1,5 @@
 //! Long lines, and many names.
-use bench_engine::run;
+use crate::runs::counts;
 use std::alloc::{AllocError, Global};
 use std::test::Fail;
 
@@ -7,7 +7,7 @@ use std::test::Fail;
 fn replies(alloc: Global, script: &[u8]) -> Result<Vec<u8>, Fail> {
     let mut reader = script;
     let mut writer = Vec::new(alloc);
-    run(alloc, &mut reader, &mut writer).map_err(|_| "fault")?;
+    counts(alloc, &mut reader, &mut writer)?;
     Ok(writer)
 }
 

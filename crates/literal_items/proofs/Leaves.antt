@@ -12,7 +12,7 @@ use Rattle.elem_descr.specs.Values.{LeafValue}
 use Rattle.elem_descr.specs.Encoding.{size, encode, decode}
 use Rattle.elem_descr.specs.Descriptors.{InOrder}
 use Rattle.elem_descr.specs.Items.{encode_from}
-use Rattle.elem_descr.proofs.Fields.{InOrder-within}
+use Rattle.elem_descr.proofs.FieldLaws.{InOrder-within}
 use Rattle.script_lang.specs.declared.literal.ScalarLiteral.{ScalarLiteral}
 use Rattle.script_lang.specs.declared.literal.Literal.{Literal}
 use Rattle.literal_items.proofs.Lists.{all_more, all_fails, all_at}

@@ -10,7 +10,7 @@ use Rattle.elem_descr.specs.declared.scalar.Scalar.{Scalar}
 use Rattle.elem_descr.specs.Refusals.{◌>>=◌, check}
 use Rattle.elem_descr.specs.Steps.{is_before, numbers_from, IsGap}
 use Rattle.elem_descr.specs.Values.{LeafValue, number}
-use Rattle.elem_descr.proofs.Steps.{Counts, steps_end_below, abs_pos, next_number, between_back, between_forth, near_before, far_after, counted_within, stepped_first, length-numbers_from}
+use Rattle.elem_descr.proofs.StepLaws.{Counts, steps_end_below, abs_pos, next_number, between_back, between_forth, near_before, far_after, counted_within, stepped_first, length-numbers_from}
 use Rattle.std.specs.Ordering.{int_eq}
 use Rattle.std.proofs.lemmas.Int.{ints, clamps, by_lt_z, wrapping_add_onto, int_wrap_fits}
 use Rattle.std.specs.Int.{w128, int_wrap, div_ceil, cast_signed, cast_unsigned}

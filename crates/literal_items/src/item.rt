@@ -86,7 +86,7 @@ fn is_item_in_range(descr: &Descr, literal: &Literal) -> bool
 }
 
 /// Writes to each leaf its literal, and zeros elsewhere.
-#[tactic(auto, using(elem_descr::proofs::Fields::leaf_within))]
+#[tactic(auto, using(elem_descr::proofs::FieldLaws::leaf_within))]
 fn write_leaves(leaves: &[Leaf], literal: &Literal, item: &mut [u8])
     requires covered { length (literals_for (length leaves.now) literal.now) ≡ length leaves.now }
     requires castable { are_castable leaves.now literal.now ≡ true }

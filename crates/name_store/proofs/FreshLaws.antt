@@ -42,7 +42,6 @@ module _ (o : Owned) (slot : Slot) (e : Entry) (descr-is : slot.descr ≡ o.desc
     places = o.fills_block.whole ∙ from_start (item_size o.descr) (places_of (item_size o.descr) (offsets o.layout));
     writable_is = refl;
     fits = subst (λ len. Fits o.layout len (item_size o.descr)) o.fills_block.fills o.fills_block.fits;
-    fits_limit = o.fills_block.fits_limit;
     nested = λ _. o.fills_block.nested;
   }
 

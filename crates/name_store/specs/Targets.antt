@@ -31,7 +31,6 @@ pub record LeadsTo (s : State) (name : List ℕ) (target : Target) (array : Arra
   pub writable : array.writable ≡ true
   pub offsets_are : offsets (layout_of target) ≡ addresses s (record array { places = places })
   pub among : All (Contains array.places) places
-  pub fits_limit : Fits (layout_of target) (2 ^ 28) 1
 
 -- a target in a name's array, and a source for its items
 pub record IsAim (s : State) (name : List ℕ) (target : Target) (source : Source) : Type 0 where

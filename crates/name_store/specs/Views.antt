@@ -21,7 +21,6 @@ pub record IsLaidOut (descr : Descr) (n : ℕ) (array : Array) (leaf : Option �
   pub places : offsets layout ≡ offsets_of (item_size descr) (start_at descr array.path) array.places
   pub writable_is : writable ≡ array.writable
   pub fits : Fits layout (n * item_size descr) (item_size (descr_at descr array.path))
-  pub fits_limit : Fits layout (2 ^ 28) 1
   pub nested : IsTrue writable → IsNested (offsets layout) (item_size (descr_at descr array.path))
 
 -- so has one those of an array of the state, in the buffer with this number, which is there

@@ -27,5 +27,4 @@ pub record FillsBlock (descr : Descr) (layout : Layout) (block : List ℕ) : Typ
   pub fills : length block ≡ count layout.shape * item_size descr
   pub small : length block ≤ 2 ^ 28
   pub fits : Fits layout (length block) (item_size descr)
-  pub fits_limit : Fits layout (2 ^ 28) 1
   pub nested : IsNested (offsets layout) (item_size descr)

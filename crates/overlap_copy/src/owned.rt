@@ -50,7 +50,6 @@ fn in_order(
     ensures in_order { IfOk result (λ l. IsTrue (is_c_contiguous item (offsets l) || is_f_contiguous item l.shape (offsets l))) }
     ensures nested { IfOk result (λ l. IsNested (offsets l) item) }
     ensures fits { IfOk result (λ l. Fits l (count shape.now * item) item) }
-    ensures fits_limit { IfOk result (λ l. Fits l (2 ^ 28) 1) }
 {
     match order {
         MemoryOrder::C => Layout::c_order(alloc, shape, item),

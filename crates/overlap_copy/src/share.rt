@@ -46,7 +46,6 @@ fn held_bytes(
     start: usize,
     len: usize,
 ) -> Result<Vec<bool>, AllocError>
-    requires fits { Fits layout.now (2 ^ 28) 1 }
     requires width { 1 ≤ width }
     requires low { All (λ offset. start ≤ offset) (offsets layout.now) }
     requires high { All (λ offset. offset < start + len) (offsets layout.now) }

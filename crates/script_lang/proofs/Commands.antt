@@ -4,83 +4,94 @@ use Rattle.std.specs.Prelude.{IsTrue, IfSome}
 use Rattle.std.specs.Option.{option_map}
 use Rattle.script_lang.specs.declared.index.IndexItem.{IndexItem}
 use Rattle.script_lang.specs.declared.command.Operand.{Operand}
+use Rattle.script_lang.specs.declared.command.Viewing.{Viewing}
+use Rattle.script_lang.specs.declared.command.Computation.{Computation}
+use Rattle.script_lang.specs.declared.command.Value.{Value}
 use Rattle.script_lang.specs.declared.command.Command.{Command}
 use Rattle.script_lang.specs.declared.operation.Operation.{Operation}
 use Rattle.script_lang.specs.declared.operation.UnaryOperation.{UnaryOperation}
-use Rattle.script_lang.specs.Tokens.{symbol_at, at_end, word_at, name_at, integer_at, quoted_at}
+use Rattle.script_lang.specs.declared.verb.MakeVerb.{MakeVerb}
+use Rattle.script_lang.specs.declared.verb.ViewVerb.{ViewVerb}
+use Rattle.script_lang.specs.declared.verb.ComputeVerb.{ComputeVerb}
+use Rattle.script_lang.specs.Verbs.{operation_of}
+use Rattle.script_lang.specs.Tokens.{symbol_at, at_end, word_at, name_at, quoted_at}
 use Rattle.script_lang.specs.Descriptors.{descr_at}
-use Rattle.script_lang.specs.Literals.{literal_at, literals_at}
 use Rattle.script_lang.specs.Indexes.{shape_at, signed_shape_at, bracket_at, operand_at, argument_at}
-use Rattle.script_lang.specs.Operations.{operation_of}
-use Rattle.script_lang.specs.Commands.{zeros_at, full_at, arange_at, array_at, view_at, field_at, some_axes, axes_at, transpose_at, reshape_at, broadcast_at, cast_at, combine_at, transform_at, set_at, update_at, form_at, command_at}
-use Rattle.script_lang.specs.Reading.{index_room, operand_room, argument_room, needs_room}
+use Rattle.script_lang.specs.Commands.{new_items_at, make_at, viewing_of, plain_view_at, field_at, transposed, transpose_at, reshape_at, broadcast_at, viewing_at, view_at, cast_at, combine_at, transform_at, computation_at, compute_at, value_at, bind_at, set_at, update_at, form_at, command_at}
+use Rattle.script_lang.specs.Reading.{optional_index_room, index_room, operand_room, argument_room, viewing_room, computation_room, value_room, needs_room}
 use Rattle.script_lang.proofs.Rooms.{after_step, after_known, or_left, or_right, HasIndexRoom, HasOperandRoom, HasArgumentRoom}
+
+abbrev HasViewingRoom : Viewing × List ℕ → Type 0
+HasViewingRoom r = IsTrue (viewing_room r.0)
+
+abbrev HasComputationRoom : Computation × List ℕ → Type 0
+HasComputationRoom r = IsTrue (computation_room r.0)
+
+abbrev HasValueRoom : Value × List ℕ → Type 0
+HasValueRoom r = IsTrue (value_room r.0)
 
 abbrev NeedsRoom : Command × List ℕ → Type 0
 NeedsRoom r = IsTrue (needs_room r.0)
 
-pub zeros_room : (name bytes : List ℕ) → IfSome (zeros_at name bytes) (λ r. IsTrue (needs_room r.0))
-unfolding zeros_at
-zeros_room name bytes = after_step NeedsRoom (descr_at bytes) _ (λ descr. after_step NeedsRoom (shape_at descr.1) _ (λ shape. refl))
+pub make_room : (making : MakeVerb) (bytes : List ℕ) → IfSome (make_at making bytes) (λ r. IsTrue (value_room r.0))
+unfolding make_at
+make_room making bytes = after_step HasValueRoom (descr_at bytes) _ (λ descr. after_step HasValueRoom (new_items_at making descr.1) _ (λ items. refl))
 
-pub full_room : (name bytes : List ℕ) → IfSome (full_at name bytes) (λ r. IsTrue (needs_room r.0))
-unfolding full_at
-full_room name bytes = after_step NeedsRoom (descr_at bytes) _ (λ descr. after_step NeedsRoom (shape_at descr.1) _ (λ shape. after_step NeedsRoom (literal_at shape.1) _ (λ value. refl)))
+seen_room : (index : Option (List IndexItem)) → IsTrue (optional_index_room index) → IsTrue (viewing_room (viewing_of index))
+seen_room None room = room
+seen_room (Some index) room = room
 
-pub arange_room : (name bytes : List ℕ) → IfSome (arange_at name bytes) (λ r. IsTrue (needs_room r.0))
-unfolding arange_at
-arange_room name bytes = after_step NeedsRoom (descr_at bytes) _ (λ descr. after_step NeedsRoom (integer_at descr.1) _ (λ start. after_step NeedsRoom (integer_at start.1) _ (λ stop. after_step NeedsRoom (integer_at stop.1) _ (λ step. refl))))
+pub plain_view_room : (bytes : List ℕ) → IfSome (operand_at bytes) (λ r. IsTrue (operand_room r.0)) → IfSome (plain_view_at bytes) (λ r. IsTrue (value_room r.0))
+unfolding plain_view_at
+plain_view_room bytes known = after_known HasOperandRoom HasValueRoom (operand_at bytes) _ known (λ source more. seen_room source.0.index more)
 
-pub array_room : (name bytes : List ℕ) → IfSome (array_at name bytes) (λ r. IsTrue (needs_room r.0))
-unfolding array_at
-array_room name bytes = after_step NeedsRoom (descr_at bytes) _ (λ descr. after_step NeedsRoom (shape_at descr.1) _ (λ shape. after_step NeedsRoom (literals_at shape.1) _ (λ values. refl)))
-
-pub field_room : (name bytes : List ℕ) → IfSome (field_at name bytes) (λ r. IsTrue (needs_room r.0))
+pub field_room : (bytes : List ℕ) → IfSome (field_at bytes) (λ r. IsTrue (viewing_room r.0))
 unfolding field_at
-field_room name bytes = after_step NeedsRoom (name_at bytes) _ (λ source. after_step NeedsRoom (quoted_at source.1) _ (λ field. refl))
+field_room bytes = after_step HasViewingRoom (quoted_at bytes) _ (λ field. refl)
 
-pub reshape_room : (name bytes : List ℕ) → IfSome (reshape_at name bytes) (λ r. IsTrue (needs_room r.0))
-unfolding reshape_at
-reshape_room name bytes = after_step NeedsRoom (name_at bytes) _ (λ source. after_step NeedsRoom (signed_shape_at source.1) _ (λ shape. refl))
+axes_room : (o : Option (List ℤ × List ℕ)) → IfSome (option_map transposed o) HasViewingRoom
+axes_room None = tt
+axes_room (Some axes) = refl
 
-pub broadcast_room : (name bytes : List ℕ) → IfSome (broadcast_at name bytes) (λ r. IsTrue (needs_room r.0))
-unfolding broadcast_at
-broadcast_room name bytes = after_step NeedsRoom (name_at bytes) _ (λ source. after_step NeedsRoom (shape_at source.1) _ (λ shape. refl))
-
-pub cast_room : (name bytes : List ℕ) → IfSome (cast_at name bytes) (λ r. IsTrue (needs_room r.0))
-unfolding cast_at
-cast_room name bytes = after_step NeedsRoom (name_at bytes) _ (λ source. after_step NeedsRoom (descr_at source.1) _ (λ descr. refl))
-
-pub view_room : (name bytes : List ℕ) → IfSome (operand_at bytes) (λ r. IsTrue (operand_room r.0)) → IfSome (view_at name bytes) (λ r. IsTrue (needs_room r.0))
-unfolding view_at
-view_room name bytes known = after_known HasOperandRoom NeedsRoom (operand_at bytes) _ known (λ source more. more)
-
-abbrev HasAxes : Option (List ℤ) × List ℕ → Type 0
-HasAxes r = IsTrue (is_some r.0)
-
-some_axes_room : (o : Option (List ℤ × List ℕ)) → IfSome (option_map some_axes o) HasAxes
-some_axes_room None = tt
-some_axes_room (Some axes) = refl
-
-pub axes_room : (bytes : List ℕ) → is_some (at_end bytes) ≡ false → IfSome (axes_at bytes) (λ r. IsTrue (is_some r.0))
-unfolding axes_at
-axes_room bytes more = rw more (some_axes_room (signed_shape_at bytes))
-
-pub transpose_room : (name bytes : List ℕ) (source : List ℕ × List ℕ) → name_at bytes ≡ Some source → IfSome (axes_at source.1) (λ r. IsTrue (is_some r.0)) → IfSome (transpose_at name bytes) (λ r. IsTrue (needs_room r.0))
+pub transpose_room : (bytes : List ℕ) → is_some (at_end bytes) ≡ false → IfSome (transpose_at bytes) (λ r. IsTrue (viewing_room r.0))
 unfolding transpose_at
-transpose_room name bytes source named known = rw named (after_known HasAxes NeedsRoom (axes_at source.1) _ known (λ axes more. more))
+transpose_room bytes more = rw more (axes_room (signed_shape_at bytes))
 
-pub left_room : (name : List ℕ) (operation : Operation) (bytes : List ℕ) → IfSome (operand_at bytes) (λ r. IsTrue (operand_room r.0)) → IfSome (combine_at name operation bytes) (λ r. IsTrue (needs_room r.0))
+pub reshape_room : (bytes : List ℕ) → IfSome (reshape_at bytes) (λ r. IsTrue (viewing_room r.0))
+unfolding reshape_at
+reshape_room bytes = after_step HasViewingRoom (signed_shape_at bytes) _ (λ shape. refl)
+
+pub broadcast_room : (bytes : List ℕ) → IfSome (broadcast_at bytes) (λ r. IsTrue (viewing_room r.0))
+unfolding broadcast_at
+broadcast_room bytes = after_step HasViewingRoom (shape_at bytes) _ (λ shape. refl)
+
+pub view_room : (viewing : ViewVerb) (bytes : List ℕ) (source : List ℕ × List ℕ) → name_at bytes ≡ Some source → IfSome (viewing_at viewing source.1) (λ r. IsTrue (viewing_room r.0)) → IfSome (view_at viewing bytes) (λ r. IsTrue (value_room r.0))
+unfolding view_at
+view_room viewing bytes source named known = rw named (after_known HasViewingRoom HasValueRoom (viewing_at viewing source.1) _ known (λ how more. more))
+
+pub cast_room : (bytes : List ℕ) → IfSome (cast_at bytes) (λ r. IsTrue (computation_room r.0))
+unfolding cast_at
+cast_room bytes = after_step HasComputationRoom (name_at bytes) _ (λ source. after_step HasComputationRoom (descr_at source.1) _ (λ descr. refl))
+
+pub left_room : (operation : Operation) (bytes : List ℕ) → IfSome (operand_at bytes) (λ r. IsTrue (operand_room r.0)) → IfSome (combine_at operation bytes) (λ r. IsTrue (computation_room r.0))
 unfolding combine_at
-left_room name operation bytes known = after_known HasOperandRoom NeedsRoom (operand_at bytes) _ known (λ left more. after_step NeedsRoom (argument_at left.1) _ (λ right. or_left (operand_room left.0) (argument_room right.0) more))
+left_room operation bytes known = after_known HasOperandRoom HasComputationRoom (operand_at bytes) _ known (λ left more. after_step HasComputationRoom (argument_at left.1) _ (λ right. or_left (operand_room left.0) (argument_room right.0) more))
 
-pub right_room : (name : List ℕ) (operation : Operation) (bytes : List ℕ) (left : Operand × List ℕ) → operand_at bytes ≡ Some left → IfSome (argument_at left.1) (λ r. IsTrue (argument_room r.0)) → IfSome (combine_at name operation bytes) (λ r. IsTrue (needs_room r.0))
+pub right_room : (operation : Operation) (bytes : List ℕ) (left : Operand × List ℕ) → operand_at bytes ≡ Some left → IfSome (argument_at left.1) (λ r. IsTrue (argument_room r.0)) → IfSome (combine_at operation bytes) (λ r. IsTrue (computation_room r.0))
 unfolding combine_at
-right_room name operation bytes left found known = rw found (after_known HasArgumentRoom NeedsRoom (argument_at left.1) _ known (λ right more. or_right (operand_room left.0) (argument_room right.0) more))
+right_room operation bytes left found known = rw found (after_known HasArgumentRoom HasComputationRoom (argument_at left.1) _ known (λ right more. or_right (operand_room left.0) (argument_room right.0) more))
 
-pub transform_room : (name : List ℕ) (operation : UnaryOperation) (bytes : List ℕ) → IfSome (operand_at bytes) (λ r. IsTrue (operand_room r.0)) → IfSome (transform_at name operation bytes) (λ r. IsTrue (needs_room r.0))
+pub transform_room : (operation : UnaryOperation) (bytes : List ℕ) → IfSome (operand_at bytes) (λ r. IsTrue (operand_room r.0)) → IfSome (transform_at operation bytes) (λ r. IsTrue (computation_room r.0))
 unfolding transform_at
-transform_room name operation bytes known = after_known HasOperandRoom NeedsRoom (operand_at bytes) _ known (λ operand more. more)
+transform_room operation bytes known = after_known HasOperandRoom HasComputationRoom (operand_at bytes) _ known (λ operand more. more)
+
+pub compute_room : (computing : ComputeVerb) (bytes : List ℕ) → IfSome (computation_at computing bytes) (λ r. IsTrue (computation_room r.0)) → IfSome (compute_at computing bytes) (λ r. IsTrue (value_room r.0))
+unfolding compute_at
+compute_room computing bytes known = after_known HasComputationRoom HasValueRoom (computation_at computing bytes) _ known (λ computation more. more)
+
+pub bind_room : (bytes : List ℕ) (name : List ℕ × List ℕ) (rest : List ℕ) → name_at bytes ≡ Some name → symbol_at 61 name.1 ≡ Some rest → IfSome (value_at rest) (λ r. IsTrue (value_room r.0)) → IfSome (bind_at bytes) (λ r. IsTrue (needs_room r.0))
+unfolding bind_at
+bind_room bytes name rest named equals known = rw (named, equals) (after_known HasValueRoom NeedsRoom (value_at rest) _ known (λ value more. more))
 
 pub set_index_room : (bytes : List ℕ) (name : List ℕ × List ℕ) → name_at bytes ≡ Some name → IfSome (bracket_at name.1) (λ r. IsTrue (index_room r.0)) → IfSome (set_at bytes) (λ r. IsTrue (needs_room r.0))
 unfolding set_at

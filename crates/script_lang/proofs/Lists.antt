@@ -32,8 +32,8 @@ pub full_from_failed : {A : Type 0} (read : List A) → (length read < 8 → fal
 full_from_failed read room =
     elim (cases_lt (length read) 8) [ inl few ↦ absurd (false≢true (room few)) | inr many ↦ many ]
 
--- a list that takes memory whatever it is
-any_list : {A : Type 0} (o : Option A) → IfSome o (λ x. IsTrue true)
+-- what may take memory whatever it is
+pub any_list : {A : Type 0} (o : Option A) → IfSome o (λ x. IsTrue true)
 any_list None = tt
 any_list (Some x) = refl
 

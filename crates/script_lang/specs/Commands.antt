@@ -1,144 +1,215 @@
--- The commands, one production each. Those of `X = ..` are given the bytes of X and what stands
--- behind the word; the others what stands behind the word. Each answers the command with the bytes
--- behind it.
+-- The commands and the values, one production each. A production is given what stands behind its
+-- word, and answers what it reads with the bytes behind it.
 use Rattle.std.specs.Prelude.{ℕ, ℤ, List, codes, Option, Some, None, is_some, if◌then◌else◌}
 use Rattle.std.specs.Option.{option_map}
-use Rattle.std.specs.Str.{bytes_eq}
-use Rattle.script_lang.specs.declared.command.MemoryOrder.{MemoryOrder}
-use Rattle.script_lang.specs.declared.command.MemoryOrder.TheVariants.{C, F}
+use Rattle.script_lang.specs.declared.index.IndexItem.{IndexItem}
 use Rattle.script_lang.specs.declared.operation.Operation.{Operation}
 use Rattle.script_lang.specs.declared.operation.UnaryOperation.{UnaryOperation}
 use Rattle.script_lang.specs.declared.operation.Reduction.{Reduction}
+use Rattle.script_lang.specs.declared.verb.Verb.{Verb}
+use Rattle.script_lang.specs.declared.verb.Verb.TheVariants as verb
+use Rattle.script_lang.specs.declared.verb.MakeVerb.{MakeVerb}
+use Rattle.script_lang.specs.declared.verb.MakeVerb.TheVariants as make
+use Rattle.script_lang.specs.declared.verb.ViewVerb.{ViewVerb}
+use Rattle.script_lang.specs.declared.verb.ViewVerb.TheVariants as view
+use Rattle.script_lang.specs.declared.verb.ComputeVerb.{ComputeVerb}
+use Rattle.script_lang.specs.declared.verb.ComputeVerb.TheVariants as compute
+use Rattle.script_lang.specs.declared.verb.AskVerb.{AskVerb}
+use Rattle.script_lang.specs.declared.verb.AskVerb.TheVariants as ask
+use Rattle.script_lang.specs.declared.command.NewItems.{NewItems}
+use Rattle.script_lang.specs.declared.command.NewItems.TheVariants.{Zeros, Full, Arange, Array}
+use Rattle.script_lang.specs.declared.command.Viewing.{Viewing}
+use Rattle.script_lang.specs.declared.command.Viewing.TheVariants.{Whole, Indexed, Field, Transposed, Reshaped, Broadcast}
+use Rattle.script_lang.specs.declared.command.Computation.{Computation}
+use Rattle.script_lang.specs.declared.command.Computation.TheVariants.{Duplicate, Cast, Combine, Transform, Reduce}
+use Rattle.script_lang.specs.declared.command.Value.{Value}
+use Rattle.script_lang.specs.declared.command.Value.TheVariants.{Make, View, Compute, Load}
+use Rattle.script_lang.specs.declared.command.Question.{Question}
+use Rattle.script_lang.specs.declared.command.Question.TheVariants.{Print, Info, Format, Names, Shares}
 use Rattle.script_lang.specs.declared.command.Command.{Command}
-use Rattle.script_lang.specs.declared.command.Command.TheVariants.{Zeros, Full, Arange, Array, View, Field, Transpose, Reshape, Broadcast, Duplicate, Cast, Combine, Transform, Reduce, Load, Set, Update, Delete, Undo, Print, Info, Format, Names, Shares, Save}
-use Rattle.script_lang.specs.Tokens.{◌>>=◌, if_found, symbol_at, at_end, word_at, name_at, is_reserved, integer_at, optional_integer_at, flag_at, quoted_at, file_name_at}
+use Rattle.script_lang.specs.declared.command.Command.TheVariants.{Bind, Set, Update, Delete, Undo, Save, Ask}
+use Rattle.script_lang.specs.Verbs.{verb_of, operation_of, order_of}
+use Rattle.script_lang.specs.Tokens.{◌>>=◌, if_found, symbol_at, at_end, word_at, name_at, integer_at, optional_integer_at, flag_at, quoted_at, file_name_at}
 use Rattle.script_lang.specs.Descriptors.{descr_at}
 use Rattle.script_lang.specs.Literals.{literal_at, literals_at}
 use Rattle.script_lang.specs.Indexes.{shape_at, signed_shape_at, bracket_at, operand_at, argument_at}
-use Rattle.script_lang.specs.Operations.{operation_of, unary_of, reduction_of}
 
--- X = zeros D S
-unfoldable pub zeros_at : List ℕ → List ℕ → Option (Command × List ℕ)
-zeros_at name bytes = do
-  descr ← descr_at bytes
-  shape ← shape_at descr.1
-  Some (Zeros name descr.0 shape.0, shape.1)
+-- New arrays
 
--- X = full D S L
-unfoldable pub full_at : List ℕ → List ℕ → Option (Command × List ℕ)
-full_at name bytes = do
-  descr ← descr_at bytes
-  shape ← shape_at descr.1
+-- S, behind `zeros D`
+unfoldable pub zeros_at : List ℕ → Option (NewItems × List ℕ)
+zeros_at bytes = do
+  shape ← shape_at bytes
+  Some (Zeros shape.0, shape.1)
+
+-- S L, behind `full D`
+unfoldable pub full_at : List ℕ → Option (NewItems × List ℕ)
+full_at bytes = do
+  shape ← shape_at bytes
   value ← literal_at shape.1
-  Some (Full name descr.0 shape.0 value.0, value.1)
+  Some (Full shape.0 value.0, value.1)
 
--- X = arange D a b s
-unfoldable pub arange_at : List ℕ → List ℕ → Option (Command × List ℕ)
-arange_at name bytes = do
-  descr ← descr_at bytes
-  start ← integer_at descr.1
+-- a b s, behind `arange D`
+unfoldable pub arange_at : List ℕ → Option (NewItems × List ℕ)
+arange_at bytes = do
+  start ← integer_at bytes
   stop ← integer_at start.1
   step ← integer_at stop.1
-  Some (Arange name descr.0 start.0 stop.0 step.0, step.1)
+  Some (Arange start.0 stop.0 step.0, step.1)
 
--- X = array D S L..
-unfoldable pub array_at : List ℕ → List ℕ → Option (Command × List ℕ)
-array_at name bytes = do
-  descr ← descr_at bytes
-  shape ← shape_at descr.1
+-- S L.., behind `array D`
+unfoldable pub array_at : List ℕ → Option (NewItems × List ℕ)
+array_at bytes = do
+  shape ← shape_at bytes
   values ← literals_at shape.1
-  Some (Array name descr.0 shape.0 values.0, values.1)
+  Some (Array shape.0 values.0, values.1)
 
--- X = Y, X = Y[ix]
-unfoldable pub view_at : List ℕ → List ℕ → Option (Command × List ℕ)
-view_at name bytes = do
+abbrev pub new_items_at : MakeVerb → List ℕ → Option (NewItems × List ℕ)
+new_items_at make.Zeros bytes = zeros_at bytes
+new_items_at make.Full bytes = full_at bytes
+new_items_at make.Arange bytes = arange_at bytes
+new_items_at make.Array bytes = array_at bytes
+
+-- a descriptor, and what the items are
+unfoldable pub make_at : MakeVerb → List ℕ → Option (Value × List ℕ)
+make_at making bytes = do
+  descr ← descr_at bytes
+  items ← new_items_at making descr.1
+  Some (Make descr.0 items.0, items.1)
+
+-- Views
+
+abbrev pub viewing_of : Option (List IndexItem) → Viewing
+viewing_of None = Whole
+viewing_of (Some index) = Indexed index
+
+-- Y or Y[ix]
+unfoldable pub plain_view_at : List ℕ → Option (Value × List ℕ)
+plain_view_at bytes = do
   source ← operand_at bytes
-  Some (View name source.0, source.1)
+  Some (View source.0.name (viewing_of source.0.index), source.1)
 
--- X = field Y "f"
-unfoldable pub field_at : List ℕ → List ℕ → Option (Command × List ℕ)
-field_at name bytes = do
+-- "f", behind `field Y`
+unfoldable pub field_at : List ℕ → Option (Viewing × List ℕ)
+field_at bytes = do
+  field ← quoted_at bytes
+  Some (Field field.0, field.1)
+
+abbrev pub transposed : List ℤ × List ℕ → Viewing × List ℕ
+transposed axes = (Transposed (Some axes.0), axes.1)
+
+-- the axes or nothing, behind `transpose Y`
+unfoldable pub transpose_at : List ℕ → Option (Viewing × List ℕ)
+transpose_at bytes = if is_some (at_end bytes) then Some (Transposed None, bytes) else option_map transposed (signed_shape_at bytes)
+
+-- S with signs, behind `reshape Y`
+unfoldable pub reshape_at : List ℕ → Option (Viewing × List ℕ)
+reshape_at bytes = do
+  shape ← signed_shape_at bytes
+  Some (Reshaped shape.0, shape.1)
+
+-- S, behind `broadcast Y`
+unfoldable pub broadcast_at : List ℕ → Option (Viewing × List ℕ)
+broadcast_at bytes = do
+  shape ← shape_at bytes
+  Some (Broadcast shape.0, shape.1)
+
+abbrev pub viewing_at : ViewVerb → List ℕ → Option (Viewing × List ℕ)
+viewing_at view.Field bytes = field_at bytes
+viewing_at view.Transpose bytes = transpose_at bytes
+viewing_at view.Reshape bytes = reshape_at bytes
+viewing_at view.Broadcast bytes = broadcast_at bytes
+
+-- Y, and how it is seen
+unfoldable pub view_at : ViewVerb → List ℕ → Option (Value × List ℕ)
+view_at viewing bytes = do
   source ← name_at bytes
-  field ← quoted_at source.1
-  Some (Field name source.0 field.0, field.1)
+  how ← viewing_at viewing source.1
+  Some (View source.0 how.0, how.1)
 
-abbrev pub some_axes : List ℤ × List ℕ → Option (List ℤ) × List ℕ
-some_axes found = (Some found.0, found.1)
+-- Computations
 
--- the axes, or none where nothing is left
-unfoldable pub axes_at : List ℕ → Option (Option (List ℤ) × List ℕ)
-axes_at bytes = if is_some (at_end bytes) then Some (None, bytes) else option_map some_axes (signed_shape_at bytes)
-
--- X = transpose Y, X = transpose Y (axes)
-unfoldable pub transpose_at : List ℕ → List ℕ → Option (Command × List ℕ)
-transpose_at name bytes = do
-  source ← name_at bytes
-  axes ← axes_at source.1
-  Some (Transpose name source.0 axes.0, axes.1)
-
--- X = reshape Y S
-unfoldable pub reshape_at : List ℕ → List ℕ → Option (Command × List ℕ)
-reshape_at name bytes = do
-  source ← name_at bytes
-  shape ← signed_shape_at source.1
-  Some (Reshape name source.0 shape.0, shape.1)
-
--- X = broadcast Y S
-unfoldable pub broadcast_at : List ℕ → List ℕ → Option (Command × List ℕ)
-broadcast_at name bytes = do
-  source ← name_at bytes
-  shape ← shape_at source.1
-  Some (Broadcast name source.0 shape.0, shape.1)
-
-unfoldable pub order_of : List ℕ → Option MemoryOrder
-order_of word =
-    if bytes_eq word (codes "C") then Some C
-    else if bytes_eq word (codes "F") then Some F
-    else None
-
--- X = copy Y C, X = copy Y F
-unfoldable pub copy_at : List ℕ → List ℕ → Option (Command × List ℕ)
-copy_at name bytes = do
+-- Y C or Y F, behind `copy`
+unfoldable pub copy_at : List ℕ → Option (Computation × List ℕ)
+copy_at bytes = do
   source ← name_at bytes
   word ← word_at source.1
   order ← order_of word.0
-  Some (Duplicate name source.0 order, word.1)
+  Some (Duplicate source.0 order, word.1)
 
--- X = cast Y D
-unfoldable pub cast_at : List ℕ → List ℕ → Option (Command × List ℕ)
-cast_at name bytes = do
+-- Y D, behind `cast`
+unfoldable pub cast_at : List ℕ → Option (Computation × List ℕ)
+cast_at bytes = do
   source ← name_at bytes
   descr ← descr_at source.1
-  Some (Cast name source.0 descr.0, descr.1)
+  Some (Cast source.0 descr.0, descr.1)
 
--- X = OP operand Z
-unfoldable pub combine_at : List ℕ → Operation → List ℕ → Option (Command × List ℕ)
-combine_at name operation bytes = do
+-- operand Z, behind OP
+unfoldable pub combine_at : Operation → List ℕ → Option (Computation × List ℕ)
+combine_at operation bytes = do
   left ← operand_at bytes
   right ← argument_at left.1
-  Some (Combine name operation left.0 right.0, right.1)
+  Some (Combine operation left.0 right.0, right.1)
 
--- X = neg operand, X = not operand
-unfoldable pub transform_at : List ℕ → UnaryOperation → List ℕ → Option (Command × List ℕ)
-transform_at name operation bytes = do
+-- operand, behind `neg` or `not`
+unfoldable pub transform_at : UnaryOperation → List ℕ → Option (Computation × List ℕ)
+transform_at operation bytes = do
   operand ← operand_at bytes
-  Some (Transform name operation operand.0, operand.1)
+  Some (Transform operation operand.0, operand.1)
 
--- X = RED Y [axis] [keep]
-unfoldable pub reduce_at : List ℕ → Reduction → List ℕ → Option (Command × List ℕ)
-reduce_at name reduction bytes = do
+-- Y [axis] [keep], behind RED
+unfoldable pub reduce_at : Reduction → List ℕ → Option (Computation × List ℕ)
+reduce_at reduction bytes = do
   source ← name_at bytes
   let axis = optional_integer_at source.1
   let keep = flag_at (codes "keep") axis.1
-  Some (Reduce name reduction source.0 axis.0 keep.0, keep.1)
+  Some (Reduce reduction source.0 axis.0 keep.0, keep.1)
 
--- X = load "f"
-unfoldable pub load_at : List ℕ → List ℕ → Option (Command × List ℕ)
-load_at name bytes = do
+abbrev pub computation_at : ComputeVerb → List ℕ → Option (Computation × List ℕ)
+computation_at compute.Duplicate bytes = copy_at bytes
+computation_at compute.Cast bytes = cast_at bytes
+computation_at (compute.Combine operation) bytes = combine_at operation bytes
+computation_at (compute.Transform operation) bytes = transform_at operation bytes
+computation_at (compute.Reduce reduction) bytes = reduce_at reduction bytes
+
+unfoldable pub compute_at : ComputeVerb → List ℕ → Option (Value × List ℕ)
+compute_at computing bytes = do
+  computation ← computation_at computing bytes
+  Some (Compute computation.0, computation.1)
+
+-- Values
+
+-- "f", behind `load`
+unfoldable pub load_at : List ℕ → Option (Value × List ℕ)
+load_at bytes = do
   file ← file_name_at bytes
-  Some (Load name file.0, file.1)
+  Some (Load file.0, file.1)
 
--- set X[ix] = Z
+-- what the word makes of the bytes behind it
+abbrev pub verb_value_at : Verb → List ℕ → Option (Value × List ℕ)
+verb_value_at (verb.Make making) bytes = make_at making bytes
+verb_value_at (verb.View viewing) bytes = view_at viewing bytes
+verb_value_at (verb.Compute computing) bytes = compute_at computing bytes
+verb_value_at verb.Load bytes = load_at bytes
+verb_value_at _ bytes = None
+
+-- what stands behind `X =`: a word that is no verb is the name Y
+unfoldable pub value_at : List ℕ → Option (Value × List ℕ)
+value_at bytes = do
+  word ← word_at bytes
+  if_found (verb_of word.0) (λ known. verb_value_at known word.1) (plain_view_at bytes)
+
+-- Commands
+
+-- X = ..
+unfoldable pub bind_at : List ℕ → Option (Command × List ℕ)
+bind_at bytes = do
+  name ← name_at bytes
+  rest ← symbol_at 61 name.1
+  value ← value_at rest
+  Some (Bind name.0 value.0, value.1)
+
+-- X[ix] = Z, behind `set`
 unfoldable pub set_at : List ℕ → Option (Command × List ℕ)
 set_at bytes = do
   name ← name_at bytes
@@ -147,7 +218,7 @@ set_at bytes = do
   value ← argument_at rest
   Some (Set name.0 index.0 value.0, value.1)
 
--- upd X[ix] OP Z
+-- X[ix] OP Z, behind `upd`
 unfoldable pub update_at : List ℕ → Option (Command × List ℕ)
 update_at bytes = do
   name ← name_at bytes
@@ -157,87 +228,59 @@ update_at bytes = do
   value ← argument_at word.1
   Some (Update name.0 index.0 operation value.0, value.1)
 
--- X, behind `del`, `print`, `info` and `format`, each of which makes a command of its own of it
-unfoldable pub named_at : (List ℕ → Command) → List ℕ → Option (Command × List ℕ)
-named_at form bytes = do
+-- X, behind `del`
+unfoldable pub delete_at : List ℕ → Option (Command × List ℕ)
+delete_at bytes = do
   name ← name_at bytes
-  Some (form name.0, name.1)
+  Some (Delete name.0, name.1)
 
--- shares X Y
-unfoldable pub shares_at : List ℕ → Option (Command × List ℕ)
-shares_at bytes = do
-  left ← name_at bytes
-  right ← name_at left.1
-  Some (Shares left.0 right.0, right.1)
-
--- save X "f"
+-- X "f", behind `save`
 unfoldable pub save_at : List ℕ → Option (Command × List ℕ)
 save_at bytes = do
   name ← name_at bytes
   file ← file_name_at name.1
   Some (Save name.0 file.0, file.1)
 
--- X = .., the word being an operation or a reduction
-unfoldable pub computed_at : List ℕ → List ℕ → List ℕ → Option (Command × List ℕ)
-computed_at name word rest =
-    if_found (operation_of word) (λ operation. combine_at name operation rest)
-    (if_found (unary_of word) (λ operation. transform_at name operation rest)
-    (if_found (reduction_of word) (λ reduction. reduce_at name reduction rest) None))
+-- X Y, behind `shares`
+unfoldable pub shares_at : List ℕ → Option (Question × List ℕ)
+shares_at bytes = do
+  left ← name_at bytes
+  right ← name_at left.1
+  Some (Shares left.0 right.0, right.1)
 
--- X = .., the word being one that takes the items of another array, or one of those
-unfoldable pub derived_at : List ℕ → List ℕ → List ℕ → Option (Command × List ℕ)
-derived_at name word rest =
-    if bytes_eq word (codes "field") then field_at name rest
-    else if bytes_eq word (codes "transpose") then transpose_at name rest
-    else if bytes_eq word (codes "reshape") then reshape_at name rest
-    else if bytes_eq word (codes "broadcast") then broadcast_at name rest
-    else if bytes_eq word (codes "copy") then copy_at name rest
-    else if bytes_eq word (codes "cast") then cast_at name rest
-    else computed_at name word rest
-
--- X = .., the word being one that makes an array, or one of those
-unfoldable pub created_at : List ℕ → List ℕ → List ℕ → Option (Command × List ℕ)
-created_at name word rest =
-    if bytes_eq word (codes "zeros") then zeros_at name rest
-    else if bytes_eq word (codes "full") then full_at name rest
-    else if bytes_eq word (codes "arange") then arange_at name rest
-    else if bytes_eq word (codes "array") then array_at name rest
-    else if bytes_eq word (codes "load") then load_at name rest
-    else derived_at name word rest
-
--- behind `X =`: a reserved word begins a command of its own, any other is the name Y
-unfoldable pub bound_at : List ℕ → List ℕ → Option (Command × List ℕ)
-bound_at name bytes = do
-  word ← word_at bytes
-  if is_reserved word.0 then created_at name word.0 word.1 else view_at name bytes
-
--- X = ..
-unfoldable pub binding_at : List ℕ → Option (Command × List ℕ)
-binding_at bytes = do
+-- X, behind a word that asks of one array
+unfoldable pub asked_at : (List ℕ → Question) → List ℕ → Option (Question × List ℕ)
+asked_at question bytes = do
   name ← name_at bytes
-  rest ← symbol_at 61 name.1
-  bound_at name.0 rest
+  Some (question name.0, name.1)
 
--- the commands that ask, or X = ..
-unfoldable pub question_at : List ℕ → List ℕ → List ℕ → Option (Command × List ℕ)
-question_at line word rest =
-    if bytes_eq word (codes "print") then named_at Print rest
-    else if bytes_eq word (codes "info") then named_at Info rest
-    else if bytes_eq word (codes "format") then named_at Format rest
-    else if bytes_eq word (codes "names") then Some (Names, rest)
-    else if bytes_eq word (codes "shares") then shares_at rest
-    else binding_at line
+unfoldable pub question_at : AskVerb → List ℕ → Option (Question × List ℕ)
+question_at ask.Print bytes = asked_at Print bytes
+question_at ask.Info bytes = asked_at Info bytes
+question_at ask.Format bytes = asked_at Format bytes
+question_at ask.Names bytes = Some (Names, bytes)
+question_at ask.Shares bytes = shares_at bytes
 
--- the command that comes first
+unfoldable pub ask_at : AskVerb → List ℕ → Option (Command × List ℕ)
+ask_at asking bytes = do
+  question ← question_at asking bytes
+  Some (Ask question.0, question.1)
+
+-- what the word asks for with the bytes behind it
+abbrev pub verb_command_at : Verb → List ℕ → Option (Command × List ℕ)
+verb_command_at verb.Set bytes = set_at bytes
+verb_command_at verb.Update bytes = update_at bytes
+verb_command_at verb.Delete bytes = delete_at bytes
+verb_command_at verb.Undo bytes = Some (Undo, bytes)
+verb_command_at verb.Save bytes = save_at bytes
+verb_command_at (verb.Ask asking) bytes = ask_at asking bytes
+verb_command_at _ bytes = None
+
+-- the command that comes first: a word that is no verb is the name X
 unfoldable pub form_at : List ℕ → Option (Command × List ℕ)
 form_at line = do
   word ← word_at line
-  if bytes_eq word.0 (codes "set") then set_at word.1
-      else if bytes_eq word.0 (codes "upd") then update_at word.1
-      else if bytes_eq word.0 (codes "del") then named_at Delete word.1
-      else if bytes_eq word.0 (codes "undo") then Some (Undo, word.1)
-      else if bytes_eq word.0 (codes "save") then save_at word.1
-      else question_at line word.0 word.1
+  if_found (verb_of word.0) (λ known. verb_command_at known word.1) (bind_at line)
 
 -- the command that a line spells: nothing but blanks stands behind it
 unfoldable pub command_at : List ℕ → Option Command

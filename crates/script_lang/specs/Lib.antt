@@ -1,3 +1,4 @@
+pub mod Classes
 pub mod Commands
 pub mod Descriptors
 pub mod Ellipses
@@ -5,7 +6,7 @@ pub mod Indexes
 pub mod Lines
 pub mod Lists
 pub mod Literals
-pub mod Operations
 pub mod Reading
 pub mod Refusals
 pub mod Tokens
+pub mod Verbs

@@ -11,7 +11,13 @@ use Rattle.script_lang.specs.declared.command.Operand.{Operand}
 use Rattle.script_lang.specs.declared.command.Argument.{Argument}
 use Rattle.script_lang.specs.declared.command.Argument.TheVariants as argument
 use Rattle.script_lang.specs.declared.command.Command.{Command}
-use Rattle.script_lang.specs.declared.command.Command.TheVariants.{View, Transpose, Duplicate, Combine, Transform, Reduce, Load, Set, Update, Delete, Undo, Print, Info, Format, Names, Shares, Save}
+use Rattle.script_lang.specs.declared.command.Viewing.{Viewing}
+use Rattle.script_lang.specs.declared.command.Viewing.TheVariants.{Whole, Indexed, Field, Transposed, Reshaped, Broadcast}
+use Rattle.script_lang.specs.declared.command.Computation.{Computation}
+use Rattle.script_lang.specs.declared.command.Computation.TheVariants.{Duplicate, Cast, Combine, Transform, Reduce}
+use Rattle.script_lang.specs.declared.command.Value.{Value}
+use Rattle.script_lang.specs.declared.command.Value.TheVariants.{Make, View, Compute, Load}
+use Rattle.script_lang.specs.declared.command.Command.TheVariants.{Bind, Set, Update}
 use Rattle.script_lang.specs.Lines.{Line, silent, bad_byte, misspelt, asks}
 
 -- What is held in memory of its own: bytes and record literals, an index of more than 8 items.
@@ -37,27 +43,35 @@ abbrev pub argument_room : Argument → Bool
 argument_room (argument.Operand operand) = operand_room operand
 argument_room (argument.Literal literal) = literal_room literal
 
+-- with axes, a shape, the name of a field, or an index of more than 8 items
+abbrev pub viewing_room : Viewing → Bool
+viewing_room Whole = false
+viewing_room (Indexed index) = index_room index
+viewing_room (Field field) = true
+viewing_room (Transposed axes) = is_some axes
+viewing_room (Reshaped shape) = true
+viewing_room (Broadcast shape) = true
+
+abbrev pub computation_room : Computation → Bool
+computation_room (Duplicate source order) = false
+computation_room (Cast source descr) = true
+computation_room (Combine operation left right) = operand_room left || argument_room right
+computation_room (Transform operation operand) = operand_room operand
+computation_room (Reduce reduction source axis keep) = false
+
+abbrev pub value_room : Value → Bool
+value_room (Make descr items) = true
+value_room (View source how) = viewing_room how
+value_room (Compute computation) = computation_room computation
+value_room (Load file) = false
+
 -- A command that is held in memory of its own: one with a part that is, or with a descriptor, a
 -- shape, axes, or the name of a field.
 abbrev pub needs_room : Command → Bool
-needs_room (View name source) = operand_room source
-needs_room (Transpose name source axes) = is_some axes
-needs_room (Duplicate name source order) = false
-needs_room (Combine name operation left right) = operand_room left || argument_room right
-needs_room (Transform name operation operand) = operand_room operand
-needs_room (Reduce name reduction source axis keep) = false
-needs_room (Load name file) = false
+needs_room (Bind name value) = value_room value
 needs_room (Set name index value) = index_room index || argument_room value
 needs_room (Update name index operation value) = index_room index || argument_room value
-needs_room (Delete name) = false
-needs_room Undo = false
-needs_room (Print name) = false
-needs_room (Info name) = false
-needs_room (Format name) = false
-needs_room Names = false
-needs_room (Shares left right) = false
-needs_room (Save name file) = false
-needs_room _ = true
+needs_room _ = false
 
 -- Memory is asked for only on the way to such a command.
 abbrev pub MayLackRoom : Line → Type 0

@@ -1,9 +1,10 @@
 -- The tokens of a line. A reading word takes the bytes that are left, and answers what it reads
 -- with the bytes behind it. Blanks may stand before each token but where it says 'at once'.
-use Rattle.std.specs.Prelude.{ℕ, ◌+◌, ◌-◌, ◌*◌, ℤ, pos, neg_ℤ, Bool, true, false, List, [], ◌∷◌, length, codes, Option, Some, None, is_some, nat_eq, nat_le, if◌then◌else◌, take, drop, fold, not, ◌||◌, ◌&&◌}
-use Rattle.std.specs.List.{prefix_len, list_all, list_any, slice_split}
+use Rattle.std.specs.Prelude.{ℕ, ◌+◌, ◌-◌, ◌*◌, ℤ, pos, neg_ℤ, Bool, true, false, List, [], ◌∷◌, length, Option, Some, None, is_some, nat_eq, nat_le, if◌then◌else◌, take, drop, fold, not, ◌||◌, ◌&&◌}
+use Rattle.std.specs.List.{prefix_len, list_all}
 use Rattle.std.specs.Option.{option_and_then, option_map}
 use Rattle.std.specs.Str.{bytes_eq}
+use Rattle.script_lang.specs.Verbs.{is_reserved}
 
 infixl 10 ◌>>=◌
 abbrev pub ◌>>=◌ : {A B : Type 0} → Option A → (A → Option B) → Option B
@@ -90,18 +91,6 @@ keyword_at keyword bytes = do
   word ← word_at bytes
   _ ← where_true (bytes_eq word.0 keyword)
   Some word.1
-
--- words that name no array
-abbrev pub reserved_words : List ℕ
-reserved_words =
-    codes "zeros full arange array field transpose reshape broadcast copy cast load set upd del undo print info format names shares save add sub mul fdiv mod and or xor shl shr div eq ne lt le gt ge neg not sum prod min max any all argmin argmax True False None"
-
--- the words of a text, which single spaces part
-abbrev pub words : List ℕ → List (List ℕ)
-words text = slice_split (λ b. nat_eq b 32) text
-
-unfoldable pub is_reserved : List ℕ → Bool
-is_reserved word = list_any (bytes_eq word) (words reserved_words)
 
 abbrev pub starts_name : List ℕ → Bool
 starts_name [] = false

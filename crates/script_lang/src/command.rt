@@ -22,110 +22,109 @@ pub enum Argument {
 }
 
 /// The order of a copy's items.
-#[derive(Clone, Copy, Debug, PartialEq, Eq)]
+#[derive(Clone, Copy)]
 pub enum MemoryOrder {
     C,
     F,
 }
 
-/// A command of the script, one variant a form. Descriptors stay texts until the command is
-/// carried out. `name` is the name that is bound or changed.
+/// What the items of a new array are, behind its descriptor.
 #[derive(Drop)]
-pub enum Command {
-    /// `X = zeros D S`
-    Zeros {
-        name: Name,
-        descr: DescrText,
-        shape: Lengths,
-    },
-    /// `X = full D S L`
-    Full {
-        name: Name,
-        descr: DescrText,
-        shape: Lengths,
-        value: Literal,
-    },
-    /// `X = arange D a b s`
-    Arange {
-        name: Name,
-        descr: DescrText,
-        start: i128,
-        stop: i128,
-        step: i128,
-    },
-    /// `X = array D S L..`
-    Array {
-        name: Name,
-        descr: DescrText,
-        shape: Lengths,
-        values: Literals,
-    },
-    /// `X = Y` or `X = Y[ix]`
-    View {
-        name: Name,
-        source: Operand,
-    },
-    /// `X = field Y "f"`
-    Field {
-        name: Name,
-        source: Name,
-        field: FieldName,
-    },
-    /// `X = transpose Y [(axes)]`
-    Transpose {
-        name: Name,
-        source: Name,
-        axes: Option<Integers>,
-    },
-    /// `X = reshape Y S`
-    Reshape {
-        name: Name,
-        source: Name,
-        shape: Integers,
-    },
-    /// `X = broadcast Y S`
-    Broadcast {
-        name: Name,
-        source: Name,
-        shape: Lengths,
-    },
-    /// `X = copy Y C` or `F`
+pub enum NewItems {
+    /// `zeros D S`
+    Zeros { shape: Lengths },
+    /// `full D S L`
+    Full { shape: Lengths, value: Literal },
+    /// `arange D a b s`
+    Arange { start: i128, stop: i128, step: i128 },
+    /// `array D S L..`
+    Array { shape: Lengths, values: Literals },
+}
+
+/// How the items of another array are seen.
+#[derive(Drop)]
+pub enum Viewing {
+    /// `Y`
+    Whole,
+    /// `Y[ix]`
+    Indexed(Index),
+    /// `field Y "f"`
+    Field(FieldName),
+    /// `transpose Y [(axes)]`
+    Transposed(Option<Integers>),
+    /// `reshape Y S`
+    Reshaped(Integers),
+    /// `broadcast Y S`
+    Broadcast(Lengths),
+}
+
+/// What is computed from other arrays.
+#[derive(Drop)]
+pub enum Computation {
+    /// `copy Y C` or `F`
     Duplicate {
-        name: Name,
         source: Name,
         order: MemoryOrder,
     },
-    /// `X = cast Y D`
+    /// `cast Y D`
     Cast {
-        name: Name,
         source: Name,
         descr: DescrText,
     },
-    /// `X = OP operand Z`
+    /// `OP operand Z`
     Combine {
-        name: Name,
         operation: Operation,
         left: Operand,
         right: Argument,
     },
-    /// `X = neg operand` or `not`
+    /// `neg operand` or `not`
     Transform {
-        name: Name,
         operation: UnaryOperation,
         operand: Operand,
     },
-    /// `X = RED Y [axis] [keep]`
+    /// `RED Y [axis] [keep]`
     Reduce {
-        name: Name,
         reduction: Reduction,
         source: Name,
         axis: Option<i128>,
         keep: bool,
     },
-    /// `X = load "f"`
-    Load {
+}
+
+/// What stands behind `X =`.
+#[derive(Drop)]
+pub enum Value {
+    /// a new array
+    Make { descr: DescrText, items: NewItems },
+    /// the items of another array
+    View { source: Name, how: Viewing },
+    Compute(Computation),
+    /// `load "f"`
+    Load { file: FileName },
+}
+
+/// What a command that changes nothing asks.
+#[derive(Drop)]
+pub enum Question {
+    /// `print X`
+    Print { name: Name },
+    /// `info X`
+    Info { name: Name },
+    /// `format X`
+    Format { name: Name },
+    /// `names`
+    Names,
+    /// `shares X Y`
+    Shares { left: Name, right: Name },
+}
+
+/// A command of the script. Descriptors stay texts until the command is carried out.
+#[derive(Drop)]
+pub enum Command {
+    /// `X = ..`
+    Bind {
         name: Name,
-        file: FileName,
+        value: Value,
     },
     /// `set X[ix] = Z`
     Set {
@@ -146,28 +145,10 @@ pub enum Command {
     },
     /// `undo`
     Undo,
-    /// `print X`
-    Print {
-        name: Name,
-    },
-    /// `info X`
-    Info {
-        name: Name,
-    },
-    /// `format X`
-    Format {
-        name: Name,
-    },
-    /// `names`
-    Names,
-    /// `shares X Y`
-    Shares {
-        left: Name,
-        right: Name,
-    },
     /// `save X "f"`
     Save {
         name: Name,
         file: FileName,
     },
+    Ask(Question),
 }

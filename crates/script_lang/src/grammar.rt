@@ -1,10 +1,10 @@
 //! What a line of the script says: the grammar of the commands.
 ghost use Rattle.std.specs.Prelude.{◌≡◌, ◌≤◌, length};
-ghost use Rattle.std.specs.List.{list_all};
-ghost use Rattle.script_lang.specs.Commands.{bound_at, binding_at, question_at, form_at, command_at};
-ghost use Rattle.script_lang.specs.Lines.{is_allowed, is_silent, line_of};
-ghost use Rattle.script_lang.specs.Reading.{Reads, Says, needs_room};
+ghost use Rattle.script_lang.specs.Commands.{load_at, verb_value_at, value_at, bind_at, ask_at, verb_command_at, form_at, command_at};
+ghost use Rattle.script_lang.specs.Lines.{is_silent, line_of};
+ghost use Rattle.script_lang.specs.Reading.{Finds, Reads, Says, value_room, needs_room};
 
+mod classes;
 mod computations;
 mod creations;
 mod descriptors;
@@ -13,32 +13,29 @@ mod lists;
 mod literals;
 mod names;
 mod numbers;
-mod operations;
+mod questions;
 mod quotes;
 mod statements;
 mod tokens;
+mod verbs;
 mod views;
 
-use crate::command::Command;
-use crate::grammar::creations::created;
-use crate::grammar::names::{is_reserved, name, owned_name};
-use crate::grammar::statements::{save, set, shares, update};
+use crate::command::{Command, Value};
+use crate::grammar::classes::{Class, are_in};
+use crate::grammar::computations::compute;
+use crate::grammar::creations::make;
+use crate::grammar::names::name;
+use crate::grammar::questions::question;
+use crate::grammar::quotes::file_name;
+use crate::grammar::statements::{delete, save, set, update};
 use crate::grammar::tokens::{is_at_end, symbol, unspaced, word};
-use crate::grammar::views::view;
+use crate::grammar::verbs::verb;
+use crate::grammar::views::{plain_view, view};
+use crate::name::Name;
+use crate::text::FileName;
+use crate::verb::Verb;
 use elem_descr::Refusal;
 use std::alloc::Global;
-
-fn is_allowed(byte: u8) -> bool
-    ensures { result ≡ is_allowed byte }
-{
-    matches!(byte, b'\t' | b' '..=b'~')
-}
-
-fn are_allowed(line: &[u8]) -> bool
-    ensures { result ≡ list_all is_allowed line.now }
-{
-    line.iter().all(|b| is_allowed(*b))
-}
 
 /// Whether the line is blank or a comment.
 fn is_silent(line: &[u8]) -> bool
@@ -50,83 +47,82 @@ fn is_silent(line: &[u8]) -> bool
     }
 }
 
-/// What follows `X =`.
-#[tactic(auto, unfolding(crate::specs::Commands::bound_at))]
-fn bound<'a>(alloc: Global, target: &[u8], bytes: &'a [u8]) -> Result<(Command, &'a [u8]), Refusal>
-    requires { length target.now ≤ 32 }
-    ensures { Reads (λ r. (r.0, r.1.now)) (λ r. needs_room r.0) result (bound_at target.now bytes.now) }
+/// `"f"`, behind `load`.
+#[tactic(auto, unfolding(crate::specs::Commands::load_at))]
+fn load(alloc: Global, bytes: &[u8]) -> Option<(Value, &[u8])>
+    ensures { Finds (λ r. (r.0, r.1.now)) result (load_at bytes.now) }
 {
-    let (verb, rest) = word(bytes).ok_or(Refusal::Syntax)?;
-    if is_reserved(verb) {
-        return created(alloc, target, verb, rest);
+    let (file, rest) = file_name(bytes)?;
+    let file = FileName::from_slice(alloc, file);
+    Some((Value::Load { file }, rest))
+}
+
+/// The value that the verb begins.
+fn verb_value(alloc: Global, verb: Verb, bytes: &[u8]) -> Result<(Value, &[u8]), Refusal>
+    ensures { Reads (λ r. (r.0, r.1.now)) (λ r. value_room r.0) result (verb_value_at verb bytes.now) }
+{
+    match verb {
+        Verb::Make(verb) => make(alloc, verb, bytes),
+        Verb::View(verb) => view(alloc, verb, bytes),
+        Verb::Compute(verb) => compute(alloc, verb, bytes),
+        Verb::Load => load(alloc, bytes).ok_or(Refusal::Syntax),
+        _ => Err(Refusal::Syntax),
     }
-    view(alloc, target, bytes)
+}
+
+/// What stands behind `X =`.
+#[tactic(auto, unfolding(crate::specs::Commands::value_at))]
+fn value(alloc: Global, bytes: &[u8]) -> Result<(Value, &[u8]), Refusal>
+    ensures { Reads (λ r. (r.0, r.1.now)) (λ r. value_room r.0) result (value_at bytes.now) }
+{
+    let (word, rest) = word(bytes).ok_or(Refusal::Syntax)?;
+    match verb(word) {
+        Some(verb) => verb_value(alloc, verb, rest),
+        None => plain_view(alloc, bytes),
+    }
 }
 
 /// `X = ..`
-#[tactic(auto, unfolding(crate::specs::Commands::binding_at))]
-fn binding(alloc: Global, bytes: &[u8]) -> Result<(Command, &[u8]), Refusal>
-    ensures { Reads (λ r. (r.0, r.1.now)) (λ r. needs_room r.0) result (binding_at bytes.now) }
+#[tactic(auto, unfolding(crate::specs::Commands::bind_at), using(crate::proofs::Commands::bind_room))]
+fn bind(alloc: Global, bytes: &[u8]) -> Result<(Command, &[u8]), Refusal>
+    ensures { Reads (λ r. (r.0, r.1.now)) (λ r. needs_room r.0) result (bind_at bytes.now) }
 {
-    let (target, rest) = name(bytes).ok_or(Refusal::Syntax)?;
+    let (name, rest) = name(bytes).ok_or(Refusal::Syntax)?;
     let rest = symbol(b'=', rest).ok_or(Refusal::Syntax)?;
-    bound(alloc, target, rest)
+    let (value, rest) = value(alloc, rest)?;
+    let name = Name::from_slice(alloc, name);
+    Ok((Command::Bind { name, value }, rest))
 }
 
-/// The commands that ask, or `X = ..`.
-#[tactic(auto, unfolding(crate::specs::Commands::question_at, crate::specs::Commands::named_at))]
-fn question<'a>(
-    alloc: Global,
-    line: &'a [u8],
-    verb: &[u8],
-    rest: &'a [u8],
-) -> Result<(Command, &'a [u8]), Refusal>
-    ensures { Reads (λ r. (r.0, r.1.now)) (λ r. needs_room r.0) result (question_at line.now verb.now rest.now) }
+/// The command that the verb begins.
+#[tactic(auto, unfolding(crate::specs::Commands::ask_at))]
+fn verb_command(alloc: Global, verb: Verb, bytes: &[u8]) -> Result<(Command, &[u8]), Refusal>
+    ensures { Reads (λ r. (r.0, r.1.now)) (λ r. needs_room r.0) result (verb_command_at verb bytes.now) }
 {
-    if verb == b"print".as_slice() {
-        let (name, rest) = owned_name(alloc, rest).ok_or(Refusal::Syntax)?;
-        return Ok((Command::Print { name }, rest));
+    match verb {
+        Verb::Set => set(alloc, bytes),
+        Verb::Update => update(alloc, bytes),
+        Verb::Delete => delete(alloc, bytes).ok_or(Refusal::Syntax),
+        Verb::Undo => Ok((Command::Undo, bytes)),
+        Verb::Save => save(alloc, bytes).ok_or(Refusal::Syntax),
+        Verb::Ask(verb) => {
+            let (question, rest) = question(alloc, verb, bytes).ok_or(Refusal::Syntax)?;
+            Ok((Command::Ask(question), rest))
+        }
+        _ => Err(Refusal::Syntax),
     }
-    if verb == b"info".as_slice() {
-        let (name, rest) = owned_name(alloc, rest).ok_or(Refusal::Syntax)?;
-        return Ok((Command::Info { name }, rest));
-    }
-    if verb == b"format".as_slice() {
-        let (name, rest) = owned_name(alloc, rest).ok_or(Refusal::Syntax)?;
-        return Ok((Command::Format { name }, rest));
-    }
-    if verb == b"names".as_slice() {
-        return Ok((Command::Names, rest));
-    }
-    if verb == b"shares".as_slice() {
-        return shares(alloc, rest).ok_or(Refusal::Syntax);
-    }
-    binding(alloc, line)
 }
 
 /// The command that comes first, and what follows it.
-#[tactic(auto, unfolding(crate::specs::Commands::form_at, crate::specs::Commands::named_at))]
+#[tactic(auto, unfolding(crate::specs::Commands::form_at))]
 fn form(alloc: Global, line: &[u8]) -> Result<(Command, &[u8]), Refusal>
     ensures { Reads (λ r. (r.0, r.1.now)) (λ r. needs_room r.0) result (form_at line.now) }
 {
-    let (verb, rest) = word(line).ok_or(Refusal::Syntax)?;
-    if verb == b"set".as_slice() {
-        return set(alloc, rest);
+    let (word, rest) = word(line).ok_or(Refusal::Syntax)?;
+    match verb(word) {
+        Some(verb) => verb_command(alloc, verb, rest),
+        None => bind(alloc, line),
     }
-    if verb == b"upd".as_slice() {
-        return update(alloc, rest);
-    }
-    if verb == b"del".as_slice() {
-        let (name, rest) = owned_name(alloc, rest).ok_or(Refusal::Syntax)?;
-        return Ok((Command::Delete { name }, rest));
-    }
-    if verb == b"undo".as_slice() {
-        return Ok((Command::Undo, rest));
-    }
-    if verb == b"save".as_slice() {
-        return save(alloc, rest).ok_or(Refusal::Syntax);
-    }
-    question(alloc, line, verb, rest)
 }
 
 /// The command that the whole line spells.
@@ -154,7 +150,7 @@ pub fn parse(alloc: Global, line: &[u8]) -> Result<Option<Command>, Refusal>
     if is_silent(line) {
         return Ok(None);
     }
-    if !are_allowed(line) {
+    if !are_in(Class::Allowed, line) {
         return Err(Refusal::ByteNotAllowed);
     }
     let command = command(alloc, line)?;

@@ -10,8 +10,11 @@ mod operation;
 mod refusal_text;
 mod shape;
 mod text;
+mod verb;
 
-pub use command::{Argument, Command, MemoryOrder, Operand};
+pub use command::{
+    Argument, Command, Computation, MemoryOrder, NewItems, Operand, Question, Value, Viewing,
+};
 pub use grammar::parse;
 pub use index::{Index, IndexItem};
 pub use literal::{ByteText, Literal, Literals, RecordLiteral, ScalarLiteral};

@@ -1,7 +1,7 @@
 //! Operations, comparisons and reductions.
 
 /// The words with two operands but the comparisons.
-#[derive(Clone, Copy, Debug, PartialEq, Eq)]
+#[derive(Clone, Copy, Debug)]
 pub enum BinaryOperation {
     Add,
     Subtract,
@@ -17,7 +17,7 @@ pub enum BinaryOperation {
     Divide,
 }
 
-#[derive(Clone, Copy, Debug, PartialEq, Eq)]
+#[derive(Clone, Copy, Debug)]
 pub enum Comparison {
     Equal,
     NotEqual,
@@ -28,19 +28,19 @@ pub enum Comparison {
 }
 
 /// A word with two operands.
-#[derive(Clone, Copy, Debug, PartialEq, Eq)]
+#[derive(Clone, Copy, Debug)]
 pub enum Operation {
     Binary(BinaryOperation),
     Compare(Comparison),
 }
 
-#[derive(Clone, Copy, Debug, PartialEq, Eq)]
+#[derive(Clone, Copy, Debug)]
 pub enum UnaryOperation {
     Negate,
     Invert,
 }
 
-#[derive(Clone, Copy, Debug, PartialEq, Eq)]
+#[derive(Clone, Copy, Debug)]
 pub enum Reduction {
     Sum,
     Product,

@@ -1,11 +1,13 @@
 -- One turn of the loop that goes on to the next index in C order.
-use Rattle.std.proofs.Common.{◌≡◌, ℕ, zero, suc, ◌+◌, ◌-◌, ◌*◌, ◌^◌, ◌<◌, ◌≤◌, ℤ, pos, negsuc, ◌+ℤ◌, ◌-ℤ◌, ◌*ℤ◌, ◌≤ℤ◌, List, [], ◌∷◌, ◌++◌, length, get_or, set, take, drop, replicate, refl, sym, ◌∙◌, ap, arith, length-take-le, length-append, take_all}
+use Rattle.std.proofs.Common.{◌≡◌, ℕ, zero, suc, ◌+◌, ◌-◌, ◌*◌, ◌<◌, ◌≤◌, ℤ, pos, negsuc, ◌+ℤ◌, ◌-ℤ◌, ◌*ℤ◌, ◌≤ℤ◌, List, [], ◌∷◌, ◌++◌, length, get_or, set, take, drop, replicate, refl, sym, ◌∙◌, ap, arith, length-take-le, length-append, take_all}
 use Rattle.std.proofs.lemmas.Int.{ints}
 use Rattle.std.proofs.lemmas.List.{drop_more, drop_all}
 use lib.IntN.{neg_ℤ, neg_ℤ-+ℤ}
 use Rattle.shape_strides.specs.declared.layout.Layout.{Layout}
 use Rattle.shape_strides.specs.Indexes.{count, rank, IsIndex}
-use Rattle.shape_strides.specs.Layouts.{dot, address, offsets, Fits}
+use Rattle.shape_strides.specs.Limits.{max_bytes}
+use Rattle.shape_strides.specs.Addresses.{dot}
+use Rattle.shape_strides.specs.Layouts.{address, offsets}
 use Rattle.shape_strides.specs.Walks.{IsOnWalk}
 use Rattle.shape_strides.proofs.LayoutLaws.{length-offsets, pos-offset}
 use Rattle.shape_strides.proofs.ReachLaws.{factors_pos}
@@ -59,31 +61,29 @@ starts_at l index a offset whole in' is =
     }
 
 -- The loop before axis j: the axes after it were at their last numbers and are at 0 now.
-pub record Turns (l : Layout) (old index : List ℕ) (j offset len : ℕ) : Type 0 where
-  pub one_each : length l.strides ≡ length l.shape
-  pub fits : Fits l len 1
+pub record Turns (l : Layout) (old index : List ℕ) (j offset : ℕ) : Type 0 where
   pub in_shape : IsIndex l.shape old
   pub below : j < length l.shape
   pub index_is : index ≡ padded l.shape (take (suc j) old)
   pub offset_is : pos offset ≡ pos l.offset +ℤ dot l.strides (take (suc j) old)
   pub last : rank (drop (suc j) l.shape) (drop (suc j) old) + 1 ≡ count (drop (suc j) l.shape)
 
-pub turns_at : (l : Layout) (old index : List ℕ) (a offset len : ℕ) → length l.strides ≡ length l.shape → Fits l len 1 → IsIndex l.shape old → 0 < a → StandsAt l old index a offset → Turns l old index (a - 1) offset len
-turns_at l old index zero offset len one fits in' some at = absurd (omega arith)
-turns_at l old index (suc j) offset len one fits in' some at =
+pub turns_at : (l : Layout) (old index : List ℕ) (a offset : ℕ) → IsIndex l.shape old → 0 < a → StandsAt l old index a offset → Turns l old index (a - 1) offset
+turns_at l old index zero offset in' some at = absurd (omega arith)
+turns_at l old index (suc j) offset in' some at =
     let before : suc j - 1 ≡ j = omega arith in
-    rw before (record { one_each = one; fits = fits; in_shape = in'; below = omega (arith, at.within); index_is = at.index_is; offset_is = at.offset_is; last = at.last })
+    rw before (record { in_shape = in'; below = omega (arith, at.within); index_is = at.index_is; offset_is = at.offset_is; last = at.last })
 
 -- what holds at axis j in any case
-pub number_is : (l : Layout) (old index : List ℕ) (j offset len : ℕ) → Turns l old index j offset len → get_or index j 0 ≡ get_or old j 0
-number_is l old index j offset len t = ap (λ i. get_or i j 0) t.index_is ∙ get_or-padded_take l.shape old j t.in_shape t.below
+pub number_is : (l : Layout) (old index : List ℕ) (j offset : ℕ) → Turns l old index j offset → get_or index j 0 ≡ get_or old j 0
+number_is l old index j offset t = ap (λ i. get_or i j 0) t.index_is ∙ get_or-padded_take l.shape old j t.in_shape t.below
 
-pub length_is : (l : Layout) (old index : List ℕ) (j offset len : ℕ) → Turns l old index j offset len → length index ≡ length l.shape
-length_is l old index j offset len t = ap length t.index_is ∙ length-padded l.shape (take (suc j) old)
+pub length_is : (l : Layout) (old index : List ℕ) (j offset : ℕ) → Turns l old index j offset → length index ≡ length l.shape
+length_is l old index j offset t = ap length t.index_is ∙ length-padded l.shape (take (suc j) old)
 
-pub offset-lt : (l : Layout) (old index : List ℕ) (j offset len : ℕ) → Turns l old index j offset len → offset < len
-offset-lt l old index j offset len t =
-    sum_start offset len (pos l.offset +ℤ dot l.strides (take (suc j) old)) t.offset_is (part_high l len 1 t.fits old (suc j) t.in_shape)
+pub offset-lt : (l : Layout) (old index : List ℕ) (j offset : ℕ) → Turns l old index j offset → offset < max_bytes
+offset-lt l old index j offset t =
+    sum_start offset max_bytes (pos l.offset +ℤ dot l.strides (take (suc j) old)) t.offset_is (part_high l old (suc j) t.in_shape)
 
 -- ---- one step on at axis j
 
@@ -101,68 +101,68 @@ pub *ℤ-more : (s : ℤ) (k : ℕ) → s *ℤ pos (k + 1) ≡ s *ℤ pos k +ℤ
     let sum : suc a * (k + 1) ≡ suc a * k + suc a * 1 = omega arith in
     ap (λ n. neg_ℤ (pos n)) sum ∙ neg_ℤ-+ℤ (pos (suc a * k)) (pos (suc a * 1))
 
-pub step-address : (l : Layout) (old index : List ℕ) (j offset len : ℕ) → Turns l old index j offset len → pos offset +ℤ get_or l.strides j (pos 0) *ℤ pos 1 ≡ address l (stepped l old j)
-step-address l old index j offset len t =
+pub step-address : (l : Layout) (old index : List ℕ) (j offset : ℕ) → Turns l old index j offset → pos offset +ℤ get_or l.strides j (pos 0) *ℤ pos 1 ≡ address l (stepped l old j)
+step-address l old index j offset t =
     let k = get_or old j 0 in
     let s = get_or l.strides j (pos 0) in
     let size = length-index l.shape old t.in_shape in
     let inside : j < length old = omega (arith, t.below) in
-    let axis : j < length l.strides = omega (arith, t.below, t.one_each) in
+    let axis : j < length l.strides = omega (arith, t.below, l.one_stride_an_axis) in
     let front : length (take j old) ≡ j = length-take-le j old (omega arith) in
     let short : length (take j old ++ (k + 1) ∷ []) ≤ length l.shape = omega (arith, length-append (take j old) ((k + 1) ∷ []), t.below) in
     let new = dot-padded l.strides l.shape (take j old ++ (k + 1) ∷ []) short ∙ dot-push l.strides (take j old) (k + 1) j front axis in
     step_on (pos l.offset) (dot l.strides (take j old)) (dot l.strides (take (suc j) old)) (dot l.strides (padded l.shape (take j old ++ (k + 1) ∷ []))) (pos offset) (s *ℤ pos 1) (s *ℤ pos k) (s *ℤ pos (k + 1)) t.offset_is (dot-take_more l.strides old j inside axis) new (*ℤ-more s k)
 
-pub IsIndex-stepped : (l : Layout) (old index : List ℕ) (j offset len : ℕ) → Turns l old index j offset len → get_or old j 0 + 1 < get_or l.shape j 0 → IsIndex l.shape (stepped l old j)
-IsIndex-stepped l old index j offset len t below = IsIndex-padded_push l.shape old j (get_or old j 0 + 1) t.in_shape t.below below
+pub IsIndex-stepped : (l : Layout) (old index : List ℕ) (j offset : ℕ) → Turns l old index j offset → get_or old j 0 + 1 < get_or l.shape j 0 → IsIndex l.shape (stepped l old j)
+IsIndex-stepped l old index j offset t below = IsIndex-padded_push l.shape old j (get_or old j 0 + 1) t.in_shape t.below below
 
-pub set-stepped : (l : Layout) (old index : List ℕ) (j offset len : ℕ) → Turns l old index j offset len → set index j (get_or old j 0 + 1) ≡ stepped l old j
-set-stepped l old index j offset len t = ap (λ i. set i j (get_or old j 0 + 1)) t.index_is ∙ set-padded_take l.shape old j (get_or old j 0 + 1) t.in_shape t.below
+pub set-stepped : (l : Layout) (old index : List ℕ) (j offset : ℕ) → Turns l old index j offset → set index j (get_or old j 0 + 1) ≡ stepped l old j
+set-stepped l old index j offset t = ap (λ i. set i j (get_or old j 0 + 1)) t.index_is ∙ set-padded_take l.shape old j (get_or old j 0 + 1) t.in_shape t.below
 
-pub rank-next : (l : Layout) (old index : List ℕ) (j offset len : ℕ) → Turns l old index j offset len → rank l.shape (stepped l old j) ≡ rank l.shape old + 1
-rank-next l old index j offset len t = rank-stepped l.shape old j t.in_shape t.below t.last
+pub rank-next : (l : Layout) (old index : List ℕ) (j offset : ℕ) → Turns l old index j offset → rank l.shape (stepped l old j) ≡ rank l.shape old + 1
+rank-next l old index j offset t = rank-stepped l.shape old j t.in_shape t.below t.last
 
 -- ---- back to 0 at axis j
 
 back_by : (off d d' at p : ℤ) → at ≡ off +ℤ d' → d' ≡ d +ℤ p → at -ℤ p ≡ off +ℤ d
 back_by off d d' at p is one = omega (arith, ints)
 
-pub back-address : (l : Layout) (old index : List ℕ) (j offset len : ℕ) → Turns l old index j offset len → pos offset -ℤ get_or l.strides j (pos 0) *ℤ pos (get_or old j 0) ≡ pos l.offset +ℤ dot l.strides (take j old)
-back-address l old index j offset len t =
+pub back-address : (l : Layout) (old index : List ℕ) (j offset : ℕ) → Turns l old index j offset → pos offset -ℤ get_or l.strides j (pos 0) *ℤ pos (get_or old j 0) ≡ pos l.offset +ℤ dot l.strides (take j old)
+back-address l old index j offset t =
     let size = length-index l.shape old t.in_shape in
     let inside : j < length old = omega (arith, t.below) in
-    let axis : j < length l.strides = omega (arith, t.below, t.one_each) in
+    let axis : j < length l.strides = omega (arith, t.below, l.one_stride_an_axis) in
     back_by (pos l.offset) (dot l.strides (take j old)) (dot l.strides (take (suc j) old)) (pos offset) (get_or l.strides j (pos 0) *ℤ pos (get_or old j 0)) t.offset_is (dot-take_more l.strides old j inside axis)
 
-pub step-bounds : (l : Layout) (old index : List ℕ) (j offset len : ℕ) → Turns l old index j offset len → get_or old j 0 + 1 < get_or l.shape j 0 → (pos 0 ≤ℤ (pos offset +ℤ get_or l.strides j (pos 0) *ℤ pos 1)) × ((pos offset +ℤ get_or l.strides j (pos 0) *ℤ pos 1) ≤ℤ pos len)
-step-bounds l old index j offset len t below =
-    let in' = IsIndex-stepped l old index j offset len t below in
-    sum_bounds (address l (stepped l old j)) (pos offset +ℤ get_or l.strides j (pos 0) *ℤ pos 1) len (step-address l old index j offset len t) (t.fits.from_zero (stepped l old j) in') (t.fits.within (stepped l old j) in')
+pub step-bounds : (l : Layout) (old index : List ℕ) (j offset : ℕ) → Turns l old index j offset → get_or old j 0 + 1 < get_or l.shape j 0 → (pos 0 ≤ℤ (pos offset +ℤ get_or l.strides j (pos 0) *ℤ pos 1)) × ((pos offset +ℤ get_or l.strides j (pos 0) *ℤ pos 1) ≤ℤ pos max_bytes)
+step-bounds l old index j offset t below =
+    let in' = IsIndex-stepped l old index j offset t below in
+    sum_bounds (address l (stepped l old j)) (pos offset +ℤ get_or l.strides j (pos 0) *ℤ pos 1) max_bytes (step-address l old index j offset t) (l.within_limit.from_zero (stepped l old j) in') (l.within_limit.within (stepped l old j) in')
 
-pub back-bounds : (l : Layout) (old index : List ℕ) (j offset len : ℕ) → Turns l old index j offset len → (pos 0 ≤ℤ (pos offset -ℤ get_or l.strides j (pos 0) *ℤ pos (get_or old j 0))) × ((pos offset -ℤ get_or l.strides j (pos 0) *ℤ pos (get_or old j 0)) ≤ℤ pos len)
-back-bounds l old index j offset len t =
-    sum_bounds (pos l.offset +ℤ dot l.strides (take j old)) (pos offset -ℤ get_or l.strides j (pos 0) *ℤ pos (get_or old j 0)) len (back-address l old index j offset len t) (part_low l len 1 t.fits old j t.in_shape) (part_high l len 1 t.fits old j t.in_shape)
+pub back-bounds : (l : Layout) (old index : List ℕ) (j offset : ℕ) → Turns l old index j offset → (pos 0 ≤ℤ (pos offset -ℤ get_or l.strides j (pos 0) *ℤ pos (get_or old j 0))) × ((pos offset -ℤ get_or l.strides j (pos 0) *ℤ pos (get_or old j 0)) ≤ℤ pos max_bytes)
+back-bounds l old index j offset t =
+    sum_bounds (pos l.offset +ℤ dot l.strides (take j old)) (pos offset -ℤ get_or l.strides j (pos 0) *ℤ pos (get_or old j 0)) max_bytes (back-address l old index j offset t) (part_low l old j t.in_shape) (part_high l old j t.in_shape)
 
-pub set-back : (l : Layout) (old index : List ℕ) (j offset len : ℕ) → Turns l old index j offset len → set index j 0 ≡ padded l.shape (take j old)
-set-back l old index j offset len t = ap (λ i. set i j 0) t.index_is ∙ set-padded_zero l.shape old j t.in_shape t.below
+pub set-back : (l : Layout) (old index : List ℕ) (j offset : ℕ) → Turns l old index j offset → set index j 0 ≡ padded l.shape (take j old)
+set-back l old index j offset t = ap (λ i. set i j 0) t.index_is ∙ set-padded_zero l.shape old j t.in_shape t.below
 
 -- the axis before is at its last number too
-pub stands_before : (l : Layout) (old index : List ℕ) (j offset len back : ℕ) → Turns l old index j offset len → get_or l.shape j 0 ≤ get_or index j 0 + 1 → pos back ≡ pos offset -ℤ get_or l.strides j (pos 0) *ℤ pos (get_or index j 0) → StandsAt l old (set index j 0) j back
-stands_before l old index j offset len back t top is =
-    let number = number_is l old index j offset len t in
+pub stands_before : (l : Layout) (old index : List ℕ) (j offset back : ℕ) → Turns l old index j offset → get_or l.shape j 0 ≤ get_or index j 0 + 1 → pos back ≡ pos offset -ℤ get_or l.strides j (pos 0) *ℤ pos (get_or index j 0) → StandsAt l old (set index j 0) j back
+stands_before l old index j offset back t top is =
+    let number = number_is l old index j offset t in
     record {
       within = omega (arith, t.below);
-      index_is = set-back l old index j offset len t;
-      offset_is = is ∙ ap (λ k. pos offset -ℤ get_or l.strides j (pos 0) *ℤ pos k) number ∙ back-address l old index j offset len t;
+      index_is = set-back l old index j offset t;
+      offset_is = is ∙ ap (λ k. pos offset -ℤ get_or l.strides j (pos 0) *ℤ pos k) number ∙ back-address l old index j offset t;
       last = last-more l.shape old j t.in_shape t.below (omega arith) t.last;
     }
 
-pub back-range : (l : Layout) (old index : List ℕ) (j offset len : ℕ) → Turns l old index j offset len → (pos 0 ≤ℤ (pos offset -ℤ get_or l.strides j (pos 0) *ℤ pos (get_or index j 0))) × ((pos offset -ℤ get_or l.strides j (pos 0) *ℤ pos (get_or index j 0)) ≤ℤ pos len)
-back-range l old index j offset len t = rw (number_is l old index j offset len t) (back-bounds l old index j offset len t)
+pub back-range : (l : Layout) (old index : List ℕ) (j offset : ℕ) → Turns l old index j offset → (pos 0 ≤ℤ (pos offset -ℤ get_or l.strides j (pos 0) *ℤ pos (get_or index j 0))) × ((pos offset -ℤ get_or l.strides j (pos 0) *ℤ pos (get_or index j 0)) ≤ℤ pos max_bytes)
+back-range l old index j offset t = rw (number_is l old index j offset t) (back-bounds l old index j offset t)
 
 -- the index that is written is the next one
-pub set-next : (l : Layout) (old index : List ℕ) (j offset len : ℕ) → Turns l old index j offset len → set index j (get_or index j 0 + 1) ≡ stepped l old j
-set-next l old index j offset len t = ap (λ k. set index j (k + 1)) (number_is l old index j offset len t) ∙ set-stepped l old index j offset len t
+pub set-next : (l : Layout) (old index : List ℕ) (j offset : ℕ) → Turns l old index j offset → set index j (get_or index j 0 + 1) ≡ stepped l old j
+set-next l old index j offset t = ap (λ k. set index j (k + 1)) (number_is l old index j offset t) ∙ set-stepped l old index j offset t
 
 -- no axis is left: the index is the first one again
 pub over : (l : Layout) (old index : List ℕ) (a offset : ℕ) → a ≤ 0 → IsIndex l.shape old → StandsAt l old index a offset → IsIndex l.shape index × (rank l.shape old + 1 ≡ count l.shape) × (pos offset ≡ address l index)
@@ -189,6 +189,6 @@ walk_step l index offset left on some =
     let place : count l.shape - left ≡ rank l.shape index = omega (arith, next.place) in
     let later : rank l.shape index + 1 ≡ count l.shape - (left - 1) = omega (arith, next.place) in
     let inside : rank l.shape index < length (offsets l) = omega (arith, next.place) in
-    let entry = pos-offset l (2 ^ 28) 1 on.fits_limit index 0 next.in_shape ∙ sym next.address_is in
+    let entry = pos-offset l index 0 next.in_shape ∙ sym next.address_is in
     let is : get_or (offsets l) (rank l.shape index) 0 ≡ offset = omega (arith, ints, entry) in
     ap (λ k. drop k (offsets l)) place ∙ drop_more (offsets l) (rank l.shape index) 0 inside ∙ ap (λ x. x ∷ drop (rank l.shape index + 1) (offsets l)) is ∙ ap (λ k. offset ∷ drop k (offsets l)) later

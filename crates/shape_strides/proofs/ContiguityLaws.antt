@@ -3,11 +3,13 @@ use Rattle.std.proofs.Common.{◌≡◌, ℕ, zero, suc, ◌+◌, ◌*◌, ◌^�
 use Rattle.std.proofs.lemmas.Bool.{cases_lt, cases_Bool, cond-true, cond-false, eqb-true, eq-eqb, and_parts, and_from, false_from_ne_true}
 use Rattle.std.proofs.lemmas.Bool.Decides.{nat_tests}
 use Rattle.std.proofs.lemmas.Int.{ints}
-use Rattle.std.proofs.lemmas.List.{drop_more, nil_from_length}
+use Rattle.std.proofs.lemmas.List.{drop_more, nil_from_length, get_or-map}
 use lib.IntN.{one, *ℤ-zero, *ℤ-one, +ℤ_idl, +ℤ_idr}
 use Rattle.shape_strides.specs.declared.layout.Layout.{Layout}
 use Rattle.shape_strides.specs.Indexes.{count, rank, IsIndex}
-use Rattle.shape_strides.specs.Layouts.{dot, natural, offsets, Fits}
+use Rattle.shape_strides.specs.Limits.{max_items, max_bytes}
+use Rattle.shape_strides.specs.Addresses.{dot, natural}
+use Rattle.shape_strides.specs.Layouts.{offsets}
 use Rattle.shape_strides.specs.Contiguity.{first_address, printed_stride, printed_strides, is_c_contiguous}
 use Rattle.shape_strides.proofs.IndexLaws.{rank-lt, index_at}
 use Rattle.shape_strides.proofs.ReachLaws.{factors_pos}
@@ -88,16 +90,16 @@ pub first_address-entry : (addresses : List ℕ) → first_address addresses ≡
 first_address-entry [] = refl
 first_address-entry (a ∷ addresses) = refl
 
-pub entry-steps : (l : Layout) (item k : ℕ) → length l.strides ≡ length l.shape → StepsOver item l.strides l.shape → k < count l.shape → get_or (offsets l) k 0 ≡ l.offset + item * k
-entry-steps l item k same steps below =
+pub entry-steps : (l : Layout) (item k : ℕ) → StepsOver item l.strides l.shape → k < count l.shape → get_or (offsets l) k 0 ≡ l.offset + item * k
+entry-steps l item k steps below =
     let found = index_at l.shape k below in
-    ap (λ r. get_or (offsets l) r 0) (sym found.2) ∙ get_or-offsets l found.0 0 found.1 ∙ ap (λ z. natural (pos l.offset +ℤ z)) (dot-steps item l.strides l.shape found.0 same steps found.1) ∙ ap (λ r. l.offset + item * r) found.2
+    ap (λ r. get_or (offsets l) r 0) (sym found.2) ∙ get_or-offsets l found.0 0 found.1 ∙ ap (λ z. natural (pos l.offset +ℤ z)) (dot-steps item l.strides l.shape found.0 l.one_stride_an_axis steps found.1) ∙ ap (λ r. l.offset + item * r) found.2
 
-pub GoesUp-steps : (l : Layout) (item : ℕ) → length l.strides ≡ length l.shape → StepsOver item l.strides l.shape → GoesUp item (offsets l)
-GoesUp-steps l item same steps = record {
+pub GoesUp-steps : (l : Layout) (item : ℕ) → StepsOver item l.strides l.shape → GoesUp item (offsets l)
+GoesUp-steps l item steps = record {
   next = λ k below.
       let size = length-offsets l in
-      omega (arith, entry-steps l item k same steps (omega arith), entry-steps l item (suc k) same steps (omega arith), mul-suc item k);
+      omega (arith, entry-steps l item k steps (omega arith), entry-steps l item (suc k) steps (omega arith), mul-suc item k);
 }
 
 -- ---- the index that is 1 along an axis and 0 along the others
@@ -130,19 +132,19 @@ dot-unit (s ∷ strides) (n ∷ shape) zero same below = ap (λ z. s *ℤ pos 1 
 dot-unit (s ∷ strides) (n ∷ shape) (suc axis) same below = rw (*ℤ-zero s, +ℤ_idl (dot strides (unit shape axis))) (dot-unit strides shape axis (omega arith) (omega arith))
 
 -- the address there
-pub entry-unit : (l : Layout) (len item axis : ℕ) → Fits l len item → length l.strides ≡ length l.shape → 0 < count l.shape → axis < length l.shape → 2 ≤ get_or l.shape axis 0 → pos (get_or (offsets l) (count (drop (suc axis) l.shape)) 0) ≡ pos l.offset +ℤ get_or l.strides axis (pos 0)
-entry-unit l len item axis fits same some below long =
-    ap (λ r. pos (get_or (offsets l) r 0)) (sym (rank-unit l.shape axis below)) ∙ pos-offset l len item fits (unit l.shape axis) 0 (IsIndex-unit l.shape axis some below long) ∙ ap (λ z. pos l.offset +ℤ z) (dot-unit l.strides l.shape axis same below)
+pub entry-unit : (l : Layout) (axis : ℕ) → 0 < count l.shape → axis < length l.shape → 2 ≤ get_or l.shape axis 0 → pos (get_or (offsets l) (count (drop (suc axis) l.shape)) 0) ≡ pos l.offset +ℤ get_or l.strides axis (pos 0)
+entry-unit l axis some below long =
+    ap (λ r. pos (get_or (offsets l) r 0)) (sym (rank-unit l.shape axis below)) ∙ pos-offset l (unit l.shape axis) 0 (IsIndex-unit l.shape axis some below long) ∙ ap (λ z. pos l.offset +ℤ z) (dot-unit l.strides l.shape axis l.one_stride_an_axis below)
 
 unit-lt : (l : Layout) (axis : ℕ) → 0 < count l.shape → axis < length l.shape → 2 ≤ get_or l.shape axis 0 → count (drop (suc axis) l.shape) < length (offsets l)
 unit-lt l axis some below long =
     omega (arith, length-offsets l, rank-unit l.shape axis below, rank-lt l.shape (unit l.shape axis) (IsIndex-unit l.shape axis some below long))
 
 -- where the addresses go up by an item, so do the strides
-pub steps_from_GoesUp : (l : Layout) (len item axis : ℕ) → Fits l len 1 → length l.strides ≡ length l.shape → 0 < count l.shape → axis < length l.shape → 2 ≤ get_or l.shape axis 0 → GoesUp item (offsets l) → get_or l.strides axis (pos 0) ≡ pos (count (drop (suc axis) l.shape) * item)
-steps_from_GoesUp l len item axis fits same some below long up =
+pub steps_from_GoesUp : (l : Layout) (item axis : ℕ) → 0 < count l.shape → axis < length l.shape → 2 ≤ get_or l.shape axis 0 → GoesUp item (offsets l) → get_or l.strides axis (pos 0) ≡ pos (count (drop (suc axis) l.shape) * item)
+steps_from_GoesUp l item axis some below long up =
     let c = count (drop (suc axis) l.shape) in
-    let there = entry-unit l len 1 axis fits same some below long in
+    let there = entry-unit l axis some below long in
     let place = address_of_place item (offsets l) c up (unit-lt l axis some below long) in
     let first = entry-first l some in
     let turned : item * c ≡ c * item = mul_comm item c in
@@ -159,15 +161,15 @@ pub is_c-empty : (l : Layout) (item : ℕ) → count l.shape ≡ 0 → is_c_cont
 is_c-empty l item none =
     test_from_GoesUp item (offsets l) (record { next = λ k below. absurd (omega (arith, length-offsets l)) })
 
-pub is_c-true : (l : Layout) (item : ℕ) → length l.strides ≡ length l.shape → StepsOver item l.strides l.shape → is_c_contiguous item (offsets l) ≡ true
-is_c-true l item same steps = test_from_GoesUp item (offsets l) (GoesUp-steps l item same steps)
+pub is_c-true : (l : Layout) (item : ℕ) → StepsOver item l.strides l.shape → is_c_contiguous item (offsets l) ≡ true
+is_c-true l item steps = test_from_GoesUp item (offsets l) (GoesUp-steps l item steps)
 
 -- one axis that steps over other bytes
-pub is_c-false : (l : Layout) (len item axis bytes : ℕ) → Fits l len 1 → length l.strides ≡ length l.shape → 0 < count l.shape → axis < length l.shape → bytes ≡ count (drop (axis + 1) l.shape) * item → get_or l.shape axis 0 ≢ 1 → get_or l.strides axis (pos 0) ≢ pos bytes → is_c_contiguous item (offsets l) ≡ false
-is_c-false l len item axis bytes fits same some below is long other =
+pub is_c-false : (l : Layout) (item axis bytes : ℕ) → 0 < count l.shape → axis < length l.shape → bytes ≡ count (drop (axis + 1) l.shape) * item → get_or l.shape axis 0 ≢ 1 → get_or l.strides axis (pos 0) ≢ pos bytes → is_c_contiguous item (offsets l) ≡ false
+is_c-false l item axis bytes some below is long other =
     let some_there = lengths-pos l.shape axis some below in
     false_from_ne_true (is_c_contiguous item (offsets l)) (λ test.
-    other (steps_from_GoesUp l len item axis fits same some below (omega (arith, long)) (GoesUp-from_test item (offsets l) test) ∙ ap pos (sym (is ∙ ap (λ k. count (drop k l.shape) * item) (add-one axis)))))
+    other (steps_from_GoesUp l item axis some below (omega (arith, long)) (GoesUp-from_test item (offsets l) test) ∙ ap pos (sym (is ∙ ap (λ k. count (drop k l.shape) * item) (add-one axis)))))
 
 -- ---- the bytes of the axes from one on
 
@@ -180,9 +182,9 @@ count-drop-le (n ∷ shape) (suc k) some =
     let grown : 1 * count shape ≤ n * count shape = mul-le-mul_right (count shape) both.0 in
     omega (arith, count-drop-le shape k both.1, one-mul (count shape))
 
-pub bytes-bound : (shape : List ℕ) (k bytes item : ℕ) → 0 < count shape → count shape ≤ 2 ^ 24 → item < 2 ^ 64 → bytes ≡ count (drop k shape) * item → bytes ≤ 2 ^ 88
+pub bytes-bound : (shape : List ℕ) (k bytes item : ℕ) → 0 < count shape → count shape ≤ max_items → item < 2 ^ 64 → bytes ≡ count (drop k shape) * item → bytes ≤ 2 ^ 88
 bytes-bound shape k bytes item some few small is =
-    let factor : count (drop k shape) ≤ 2 ^ 24 = omega (arith, count-drop-le shape k some) in
+    let factor : count (drop k shape) ≤ max_items = omega (arith, count-drop-le shape k some) in
     let most : item ≤ 2 ^ 64 = omega arith in
     omega (arith, mul-le-mul factor most)
 
@@ -209,34 +211,12 @@ printed-short shape addresses axis below short =
     let test : nat_le 2 (get_or shape axis 0) ≡ false = grind (arith, nat_tests) in
     printed-at shape addresses axis below ∙ cond-false (nat_le 2 (get_or shape axis 0)) _ _ test
 
-pub printed-long : (l : Layout) (len axis : ℕ) → Fits l len 1 → length l.strides ≡ length l.shape → 0 < count l.shape → axis < length l.shape → 2 ≤ get_or l.shape axis 0 → get_or (printed_strides l.shape (offsets l)) axis (pos 0) ≡ get_or l.strides axis (pos 0)
-printed-long l len axis fits same some below long =
+pub printed-long : (l : Layout) (axis : ℕ) → 0 < count l.shape → axis < length l.shape → 2 ≤ get_or l.shape axis 0 → get_or (printed_strides l.shape (offsets l)) axis (pos 0) ≡ get_or l.strides axis (pos 0)
+printed-long l axis some below long =
     let test : nat_le 2 (get_or l.shape axis 0) ≡ true = grind (arith, nat_tests) in
-    let there = entry-unit l len 1 axis fits same some below long in
+    let there = entry-unit l axis some below long in
     let first = entry-first l some in
     printed-at l.shape (offsets l) axis below ∙ cond-true (nat_le 2 (get_or l.shape axis 0)) _ _ test ∙ omega (arith, ints)
-
-pub printed-entry : (l : Layout) (len axis : ℕ) (stride : ℤ) → Fits l len 1 → length l.strides ≡ length l.shape → 0 < count l.shape → axis < length l.shape → (get_or l.shape axis 0 < 2 → stride ≡ pos 0) → (2 ≤ get_or l.shape axis 0 → stride ≡ get_or l.strides axis (pos 0)) → stride ≡ get_or (printed_strides l.shape (offsets l)) axis (pos 0)
-printed-entry l len axis stride fits same some below short long = elim (cases_lt (get_or l.shape axis 0) 2) [
-  | inl is ↦ short is ∙ sym (printed-short l.shape (offsets l) axis below is)
-  | inr is ↦ long is ∙ sym (printed-long l len axis fits same some below is)
-]
-
--- none is longer than the buffer
-gap-small : (s : ℤ) (a b n : ℕ) → pos a ≡ pos b +ℤ s → a ≤ n → b ≤ n → unsigned_abs s ≤ n
-gap-small (pos x) a b n is low low' = omega (arith, ints)
-gap-small (negsuc x) a b n is low low' = omega (arith, ints)
-
-pub printed-small : (l : Layout) (len axis : ℕ) → Fits l len 1 → length l.strides ≡ length l.shape → 0 < count l.shape → axis < length l.shape → unsigned_abs (get_or (printed_strides l.shape (offsets l)) axis (pos 0)) ≤ len
-printed-small l len axis fits same some below = elim (cases_lt (get_or l.shape axis 0) 2) [
-  | inl is ↦ rw (printed-short l.shape (offsets l) axis below is) (omega arith)
-  | inr is ↦
-      let c = count (drop (suc axis) l.shape) in
-      let first = entry-first l some in
-      let near = offsets_within l len 1 fits 0 0 (omega (arith, length-offsets l)) in
-      let far = offsets_within l len 1 fits c 0 (unit-lt l axis some below is) in
-      rw (printed-long l len axis fits same some below is) (gap-small (get_or l.strides axis (pos 0)) (get_or (offsets l) c 0) l.offset len (entry-unit l len 1 axis fits same some below is) (omega arith) (omega arith))
-]
 
 -- without items each is 0
 pub printed-empty : (shape : List ℕ) → printed_strides shape [] ≡ map (λ _. pos 0) shape
@@ -248,3 +228,44 @@ printed-empty (n ∷ shape) = elim (cases_Bool (nat_le 2 n)) [
 
 pub no_offsets : (l : Layout) → count l.shape ≡ 0 → offsets l ≡ []
 no_offsets l none = nil_from_length (offsets l) (length-offsets l ∙ none)
+
+stride-none : (l : Layout) (axis : ℕ) → count l.shape ≡ 0 → axis < length l.shape → get_or l.strides axis (pos 0) ≡ pos 0
+stride-none l axis none below = ap (λ s. get_or s axis (pos 0)) (l.zero_if_empty none).1 ∙ get_or-map (λ _. pos 0) l.shape axis 0 (pos 0) below
+
+printed-none : (l : Layout) (axis : ℕ) → count l.shape ≡ 0 → axis < length l.shape → get_or (printed_strides l.shape (offsets l)) axis (pos 0) ≡ pos 0
+printed-none l axis none below =
+    ap (λ a. get_or (printed_strides l.shape a) axis (pos 0)) (no_offsets l none) ∙ ap (λ s. get_or s axis (pos 0)) (printed-empty l.shape) ∙ get_or-map (λ _. pos 0) l.shape axis 0 (pos 0) below
+
+pub printed-entry : (l : Layout) (axis : ℕ) (stride : ℤ) → axis < length l.shape → (get_or l.shape axis 0 < 2 → stride ≡ pos 0) → (2 ≤ get_or l.shape axis 0 → stride ≡ get_or l.strides axis (pos 0)) → stride ≡ get_or (printed_strides l.shape (offsets l)) axis (pos 0)
+printed-entry l axis stride below short long = elim (cases_lt (get_or l.shape axis 0) 2) [
+  | inl is ↦ short is ∙ sym (printed-short l.shape (offsets l) axis below is)
+  | inr is ↦ elim (cases_lt 0 (count l.shape)) [
+    | inl some ↦ long is ∙ sym (printed-long l axis some below is)
+    | inr none ↦ long is ∙ stride-none l axis (omega arith) below ∙ sym (printed-none l axis (omega arith) below)
+  ]
+]
+
+-- none is longer than the buffer
+gap-small : (s : ℤ) (a b n : ℕ) → pos a ≡ pos b +ℤ s → a ≤ n → b ≤ n → unsigned_abs s ≤ n
+gap-small (pos x) a b n is low low' = omega (arith, ints)
+gap-small (negsuc x) a b n is low low' = omega (arith, ints)
+
+pub printed-small : (l : Layout) (axis : ℕ) → axis < length l.shape → unsigned_abs (get_or (printed_strides l.shape (offsets l)) axis (pos 0)) ≤ max_bytes
+printed-small l axis below = elim (cases_lt (get_or l.shape axis 0) 2) [
+  | inl is ↦ rw (printed-short l.shape (offsets l) axis below is) (omega arith)
+  | inr is ↦ elim (cases_lt 0 (count l.shape)) [
+    | inl some ↦
+        let c = count (drop (suc axis) l.shape) in
+        let first = entry-first l some in
+        let near = offsets_within l max_bytes 1 l.within_limit 0 0 (omega (arith, length-offsets l)) in
+        let far = offsets_within l max_bytes 1 l.within_limit c 0 (unit-lt l axis some below is) in
+        rw (printed-long l axis some below is) (gap-small (get_or l.strides axis (pos 0)) (get_or (offsets l) c 0) l.offset max_bytes (entry-unit l axis some below is) (omega arith) (omega arith))
+    | inr none ↦ rw (printed-none l axis (omega arith) below) (omega arith)
+  ]
+]
+
+pub first_address-is : (l : Layout) → l.offset ≡ first_address (offsets l)
+first_address-is l = elim (cases_lt 0 (count l.shape)) [
+  | inl some ↦ sym (first_address-entry (offsets l) ∙ entry-first l some)
+  | inr none ↦ (l.zero_if_empty (omega arith)).0 ∙ sym (ap first_address (no_offsets l (omega arith)))
+]

@@ -2,13 +2,15 @@
 use Rattle.std.proofs.Common.{◌≡◌, ℕ, zero, suc, ◌+◌, ◌*◌, ◌^◌, ◌-◌, ◌<◌, ◌≤◌, ◌≢◌, true, false, ℤ, pos, ◌+ℤ◌, ◌*ℤ◌, List, [], ◌∷◌, ◌++◌, map, reverse, length, get_or, take, drop, refl, sym, ◌∙◌, ap, arith, mul_comm, mul_assoc, mul-one, one-mul, mul-le-mul, mul-le-mul_left, length-drop, take_all, inl, inr}
 use Rattle.std.proofs.lemmas.Bool.{cases_lt, cases_order}
 use Rattle.std.proofs.lemmas.Int.{ints}
-use Rattle.std.proofs.lemmas.List.{drop_more, length-map, length-reverse, reverse-reverse, reverse-append, take_more, get_or-reverse, take-append-drop}
+use Rattle.std.proofs.lemmas.List.{drop_more, length-map, length-reverse, reverse-reverse, reverse-append, take_more, get_or-reverse, take-append-drop, map-append}
 use Rattle.std.proofs.Math.Seq.{drop-append_seam}
 use Rattle.std.proofs.lemmas.Grind.{reverse_onto}
 use lib.IntN.{+ℤ_idl, +ℤ_assoc}
 use Rattle.shape_strides.specs.declared.layout.Layout.{Layout}
 use Rattle.shape_strides.specs.Indexes.{count, rank, IsIndex}
-use Rattle.shape_strides.specs.Layouts.{dot, address, natural, offsets, Fits, IsNested, distance, multiples, c_strides, f_strides, f_multiples}
+use Rattle.shape_strides.specs.Limits.{max_items, max_bytes}
+use Rattle.shape_strides.specs.Addresses.{dot, address_at, natural, LieWithin}
+use Rattle.shape_strides.specs.Layouts.{address, offsets, IsNested, distance, multiples, c_strides, f_strides, f_multiples}
 use Rattle.shape_strides.specs.Contiguity.{fortran_order, is_c_contiguous, is_f_contiguous}
 use Rattle.shape_strides.proofs.IndexLaws.{same_on_indexes, rank-same, index_at, rank-lt, length-index, IsIndex-append}
 use Rattle.shape_strides.proofs.LayoutLaws.{length-offsets, get_or-offsets, dot-c_strides, StandsInCOrder, offsets-c_order, mul-step}
@@ -61,20 +63,36 @@ dot-reverse (s ∷ strides) (k ∷ index) same =
 
 -- ---- a layout with its axes in reverse
 
+address_reversed : (shape : List ℕ) (strides : List ℤ) (offset : ℕ) (index : List ℕ) → length strides ≡ length shape → IsIndex (reverse shape) index → address_at (reverse strides) offset index ≡ address_at strides offset (reverse index)
+address_reversed shape strides offset index one in' =
+    let size = length-index (reverse shape) index in' in
+    let same : length strides ≡ length (reverse index) = omega (arith, length-reverse shape, length-reverse index) in
+    let turned : dot (reverse strides) (reverse (reverse index)) ≡ dot strides (reverse index) = dot-reverse strides (reverse index) same in
+    ap (λ i. pos offset +ℤ dot (reverse strides) i) (sym (reverse-reverse index)) ∙ ap (λ z. pos offset +ℤ z) turned
+
+pub lie_reversed : (shape : List ℕ) (strides : List ℤ) (offset len item : ℕ) → length strides ≡ length shape → LieWithin shape strides offset len item → LieWithin (reverse shape) (reverse strides) offset len item
+lie_reversed shape strides offset len item one lie = record {
+  from_zero = λ index in'. rw (address_reversed shape strides offset index one in') (lie.from_zero (reverse index) (IsIndex-from_reverse shape index in'));
+  within = λ index in'. rw (address_reversed shape strides offset index one in') (lie.within (reverse index) (IsIndex-from_reverse shape index in'));
+}
+
+pub zeros_reversed : (shape : List ℕ) → reverse (map (λ _. pos 0) shape) ≡ map (λ _. pos 0) (reverse shape)
+zeros_reversed [] = refl
+zeros_reversed (n ∷ shape) =
+    reverse-cons (pos 0) (map (λ _. pos 0) shape) ∙ ap (λ s. s ++ pos 0 ∷ []) (zeros_reversed shape) ∙ sym (ap (map (λ _. pos 0)) (reverse-cons n shape) ∙ map-append (λ _. pos 0) (reverse shape) (n ∷ []))
+
 abbrev pub reversed : Layout → Layout
 reversed l = record {
   shape = reverse l.shape;
   strides = reverse l.strides;
   offset = l.offset;
   one_stride_an_axis = length-reverse l.strides ∙ l.one_stride_an_axis ∙ sym (length-reverse l.shape);
+  within_limit = lie_reversed l.shape l.strides l.offset max_bytes 1 l.one_stride_an_axis l.within_limit;
+  zero_if_empty = λ none. let zero = l.zero_if_empty (sym (count-reverse l.shape) ∙ none) in (zero.0, ap reverse zero.1 ∙ zeros_reversed l.shape);
 }
 
 pub address-reversed : (l : Layout) (index : List ℕ) → IsIndex (reverse l.shape) index → address (reversed l) index ≡ address l (reverse index)
-address-reversed l index in' =
-    let size = length-index (reverse l.shape) index in' in
-    let same : length l.strides ≡ length (reverse index) = omega (arith, l.one_stride_an_axis, length-reverse l.shape, length-reverse index) in
-    let turned : dot (reverse l.strides) (reverse (reverse index)) ≡ dot l.strides (reverse index) = dot-reverse l.strides (reverse index) same in
-    ap (λ i. pos l.offset +ℤ dot (reverse l.strides) i) (sym (reverse-reverse index)) ∙ ap (λ z. pos l.offset +ℤ z) turned
+address-reversed l index in' = address_reversed l.shape l.strides l.offset index l.one_stride_an_axis in'
 
 -- its items in C order are those of the layout in Fortran order
 pub fortran_order-offsets : (l : Layout) → fortran_order l.shape (offsets l) ≡ offsets (reversed l)
@@ -82,12 +100,6 @@ unfolding offsets
 fortran_order-offsets l =
     same_on_indexes (reverse l.shape) (λ index. get_or (offsets l) (rank l.shape (reverse index)) 0) (λ index. natural (address (reversed l) index))
     (λ index in'. get_or-offsets l (reverse index) 0 (IsIndex-from_reverse l.shape index in') ∙ ap natural (sym (address-reversed l index in')))
-
-pub Fits-reversed : (l : Layout) (len item : ℕ) → Fits l len item → Fits (reversed l) len item
-Fits-reversed l len item fits = record {
-  from_zero = λ index in'. rw (address-reversed l index in') (fits.from_zero (reverse index) (IsIndex-from_reverse l.shape index in'));
-  within = λ index in'. rw (address-reversed l index in') (fits.within (reverse index) (IsIndex-from_reverse l.shape index in'));
-}
 
 -- ---- the test of a layout
 
@@ -105,9 +117,9 @@ count-take-le [] (suc k) some = omega arith
 count-take-le (n ∷ shape) zero some = omega arith
 count-take-le (n ∷ shape) (suc k) some = mul-le-mul_left n (count-take-le shape k (factors_pos n (count shape) some).1)
 
-pub f_bytes-bound : (shape : List ℕ) (k bytes item : ℕ) → 0 < count shape → count shape ≤ 2 ^ 24 → item < 2 ^ 64 → bytes ≡ count (reverse (take k shape)) * item → bytes ≤ 2 ^ 88
+pub f_bytes-bound : (shape : List ℕ) (k bytes item : ℕ) → 0 < count shape → count shape ≤ max_items → item < 2 ^ 64 → bytes ≡ count (reverse (take k shape)) * item → bytes ≤ 2 ^ 88
 f_bytes-bound shape k bytes item some few small is =
-    let factor : count (take k shape) ≤ 2 ^ 24 = omega (arith, count-take-le shape k some) in
+    let factor : count (take k shape) ≤ max_items = omega (arith, count-take-le shape k some) in
     let most : item ≤ 2 ^ 64 = omega arith in
     let is' : bytes ≡ count (take k shape) * item = is ∙ ap (λ c. c * item) (count-reverse (take k shape)) in
     omega (arith, mul-le-mul factor most)
@@ -128,7 +140,7 @@ is_f-true l item k all steps =
     let lengths : take k l.shape ≡ l.shape = take_all k l.shape all in
     let strides : take k l.strides ≡ l.strides = take_all k l.strides (omega (arith, l.one_stride_an_axis)) in
     let whole = rw (lengths, strides) at steps in
-    ap (is_c_contiguous item) (fortran_order-offsets l) ∙ is_c-true (reversed l) item (reversed l).one_stride_an_axis whole
+    ap (is_c_contiguous item) (fortran_order-offsets l) ∙ is_c-true (reversed l) item whole
 
 -- the axes after one, in reverse, stand before it
 drop-reverse : {X : Type 0} (xs : List X) (k : ℕ) → k < length xs → drop (length xs - 1 - k + 1) (reverse xs) ≡ reverse (take k xs)
@@ -143,8 +155,8 @@ get_or-reverse_back xs k d below =
     let back : length xs - 1 - (length xs - 1 - k) ≡ k = omega arith in
     get_or-reverse xs (length xs - 1 - k) d (omega arith) ∙ ap (λ j. get_or xs j d) back
 
-pub is_f-false : (l : Layout) (len item axis bytes : ℕ) → Fits l len 1 → 0 < count l.shape → axis < length l.shape → bytes ≡ count (reverse (take axis l.shape)) * item → get_or l.shape axis 0 ≢ 1 → get_or l.strides axis (pos 0) ≢ pos bytes → is_f_contiguous item l.shape (offsets l) ≡ false
-is_f-false l len item axis bytes fits some below is long other =
+pub is_f-false : (l : Layout) (item axis bytes : ℕ) → 0 < count l.shape → axis < length l.shape → bytes ≡ count (reverse (take axis l.shape)) * item → get_or l.shape axis 0 ≢ 1 → get_or l.strides axis (pos 0) ≢ pos bytes → is_f_contiguous item l.shape (offsets l) ≡ false
+is_f-false l item axis bytes some below is long other =
     let k = length l.shape - 1 - axis in
     let before : bytes ≡ count (drop (k + 1) (reverse l.shape)) * item = is ∙ ap (λ s. count s * item) (sym (drop-reverse l.shape axis below)) in
     let one = l.one_stride_an_axis in
@@ -153,7 +165,7 @@ is_f-false l len item axis bytes fits some below is long other =
     let number : get_or (reverse l.shape) k 0 ≡ get_or l.shape axis 0 = get_or-reverse_back l.shape axis 0 below in
     let some' : 0 < count (reverse l.shape) = omega (arith, count-reverse l.shape) in
     let within : k < length (reverse l.shape) = omega (arith, length-reverse l.shape) in
-    ap (is_c_contiguous item) (fortran_order-offsets l) ∙ is_c-false (reversed l) len item k bytes (Fits-reversed l len 1 fits) (reversed l).one_stride_an_axis some' within before (λ e. long (sym number ∙ e)) (λ e. other (sym stride ∙ e))
+    ap (is_c_contiguous item) (fortran_order-offsets l) ∙ is_c-false (reversed l) item k bytes some' within before (λ e. long (sym number ∙ e)) (λ e. other (sym stride ∙ e))
 
 -- ---- the strides of Fortran order
 
@@ -183,42 +195,42 @@ dot-f_strides item shape index in' =
     ap (λ s. dot s index) (f_strides-reverse item shape) ∙ ap (dot (reverse steps)) (sym (reverse-reverse index)) ∙ dot-reverse steps (reverse index) same ∙ dot-c_strides item (reverse shape) (reverse index) (IsIndex-reverse shape index in')
 
 -- each address is the item's size times the rank where the first axis runs fastest
-pub record StandsInFOrder (l : Layout) (item : ℕ) : Type 0 where
-  pub addresses : (index : List ℕ) → IsIndex l.shape index → address l index ≡ pos (item * rank (reverse l.shape) (reverse index))
+pub record StandsInFOrder (shape : List ℕ) (strides : List ℤ) (offset item : ℕ) : Type 0 where
+  pub addresses : (index : List ℕ) → IsIndex shape index → address_at strides offset index ≡ pos (item * rank (reverse shape) (reverse index))
 
-pub f_order_stands : (l : Layout) (shape : List ℕ) (item : ℕ) → l.shape ≡ shape → l.offset ≡ 0 → (0 < count shape → l.strides ≡ f_strides item shape) → StandsInFOrder l item
-f_order_stands l shape item same first some = record {
+pub f_order_stands : (made : List ℕ) (strides : List ℤ) (shape : List ℕ) (item : ℕ) → made ≡ shape → (0 < count shape → strides ≡ f_strides item shape) → StandsInFOrder made strides 0 item
+f_order_stands made strides shape item same some = record {
   addresses = λ index in'.
-      let above : 0 < count shape = omega (arith, ap count same, rank-lt l.shape index in') in
-      let strides : l.strides ≡ f_strides item l.shape = some above ∙ ap (f_strides item) (sym same) in
-      ap (λ z. pos z +ℤ dot l.strides index) first ∙ +ℤ_idl (dot l.strides index) ∙ ap (λ s. dot s index) strides ∙ dot-f_strides item l.shape index in';
+      let above : 0 < count shape = omega (arith, ap count same, rank-lt made index in') in
+      let is : strides ≡ f_strides item made = some above ∙ ap (f_strides item) (sym same) in
+      +ℤ_idl (dot strides index) ∙ ap (λ s. dot s index) is ∙ dot-f_strides item made index in';
 }
 
-pub f_order_offsets : (l : Layout) (shape : List ℕ) (item : ℕ) → l.shape ≡ shape → StandsInFOrder l item → offsets l ≡ f_multiples item shape
+pub f_order_offsets : (l : Layout) (shape : List ℕ) (item : ℕ) → l.shape ≡ shape → StandsInFOrder l.shape l.strides l.offset item → offsets l ≡ f_multiples item shape
 unfolding offsets
 f_order_offsets l shape item same stands =
     same_on_indexes l.shape (λ index. natural (address l index)) (λ index. item * rank (reverse l.shape) (reverse index)) (λ index in'. ap natural (stands.addresses index in')) ∙ ap (f_multiples item) same
 
 -- with its axes in reverse it stands in C order
-reversed_stands : (l : Layout) (item : ℕ) → StandsInFOrder l item → StandsInCOrder (reversed l) item
+reversed_stands : (l : Layout) (item : ℕ) → StandsInFOrder l.shape l.strides l.offset item → StandsInCOrder (reverse l.shape) (reverse l.strides) l.offset item
 reversed_stands l item stands = record {
   addresses = λ index in'.
       address-reversed l index in' ∙ stands.addresses (reverse index) (IsIndex-from_reverse l.shape index in') ∙ ap (λ i. pos (item * rank (reverse l.shape) i)) (reverse-reverse index);
 }
 
-pub f_order_order : (l : Layout) (shape : List ℕ) (item : ℕ) → l.shape ≡ shape → StandsInFOrder l item → fortran_order shape (offsets l) ≡ multiples item (count shape)
+pub f_order_order : (l : Layout) (shape : List ℕ) (item : ℕ) → l.shape ≡ shape → StandsInFOrder l.shape l.strides l.offset item → fortran_order shape (offsets l) ≡ multiples item (count shape)
 f_order_order l shape item same stands =
     ap (λ s. fortran_order s (offsets l)) (sym same) ∙ fortran_order-offsets l ∙ offsets-c_order (reversed l) item (reversed_stands l item stands) ∙ ap (multiples item) (count-reverse l.shape ∙ ap count same)
 
-pub f_order_fits : (l : Layout) (shape : List ℕ) (item : ℕ) → l.shape ≡ shape → StandsInFOrder l item → Fits l (count shape * item) item
-f_order_fits l shape item same stands = record {
+pub f_order_lies : (made : List ℕ) (strides : List ℤ) (shape : List ℕ) (item : ℕ) → made ≡ shape → StandsInFOrder made strides 0 item → LieWithin made strides 0 (count shape * item) item
+f_order_lies made strides shape item same stands = record {
   from_zero = λ index in'.
       let here = stands.addresses index in' in
       omega (arith, ints);
   within = λ index in'.
       let here = stands.addresses index in' in
-      let below : rank (reverse l.shape) (reverse index) < count shape = omega (arith, rank-lt (reverse l.shape) (reverse index) (IsIndex-reverse l.shape index in'), count-reverse l.shape, ap count same) in
-      let step = mul-step item (rank (reverse l.shape) (reverse index)) (count shape) below in
+      let below : rank (reverse made) (reverse index) < count shape = omega (arith, rank-lt (reverse made) (reverse index) (IsIndex-reverse made index in'), count-reverse made, ap count same) in
+      let step = mul-step item (rank (reverse made) (reverse index)) (count shape) below in
       let turned : count shape * item ≡ item * count shape = mul_comm (count shape) item in
       omega (arith, ints);
 }
@@ -247,7 +259,7 @@ multiples_apart item a b other = elim (cases_order a b) [
   | inr (inr above) ↦ omega (arith, mul-step item b a above)
 ]
 
-pub f_order_nested : (l : Layout) (item : ℕ) → StandsInFOrder l item → IsNested (offsets l) item
+pub f_order_nested : (l : Layout) (item : ℕ) → StandsInFOrder l.shape l.strides l.offset item → IsNested (offsets l) item
 f_order_nested l item stands = record {
   apart = λ j k before inside.
       let size = length-offsets l in

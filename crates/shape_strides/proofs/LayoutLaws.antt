@@ -6,7 +6,8 @@ use Rattle.std.proofs.lemmas.List.FromFn.{length-map-range_with_len, get_or-map-
 use lib.IntN.{+ℤ_idl}
 use Rattle.shape_strides.specs.declared.layout.Layout.{Layout}
 use Rattle.shape_strides.specs.Indexes.{count, indexes, rank, IsIndex}
-use Rattle.shape_strides.specs.Layouts.{dot, address, natural, offsets, Fits, IsNested, multiples, c_strides}
+use Rattle.shape_strides.specs.Addresses.{dot, address_at, natural, LieWithin}
+use Rattle.shape_strides.specs.Layouts.{address, offsets, Fits, IsNested, multiples, c_strides}
 use Rattle.shape_strides.proofs.IndexLaws.{length-indexes, rank-lt, get_or-indexes, index_at}
 
 pub pos-natural : (z : ℤ) → pos 0 ≤ℤ z → pos (natural z) ≡ z
@@ -28,23 +29,24 @@ get_or-offsets l index d in' =
 
 -- ---- layouts that fit
 
-pub pos-offset : (l : Layout) (len item : ℕ) → Fits l len item → (index : List ℕ) (d : ℕ) → IsIndex l.shape index → pos (get_or (offsets l) (rank l.shape index) d) ≡ address l index
-pos-offset l len item fits index d in' = ap pos (get_or-offsets l index d in') ∙ pos-natural (address l index) (fits.from_zero index in')
+-- an address is none below 0, and so it is the offset
+pub pos-offset : (l : Layout) (index : List ℕ) (d : ℕ) → IsIndex l.shape index → pos (get_or (offsets l) (rank l.shape index) d) ≡ address l index
+pos-offset l index d in' = ap pos (get_or-offsets l index d in') ∙ pos-natural (address l index) (l.within_limit.from_zero index in')
 
 -- every offset ends, with its item, within the bytes that a layout fits
 pub offsets_within : (l : Layout) (len item : ℕ) → Fits l len item → All (λ offset. offset + item ≤ len) (offsets l)
 offsets_within l len item fits = λ k d below.
     let found = index_at l.shape k (omega (arith, length-offsets l)) in
     let here : get_or (offsets l) k d ≡ get_or (offsets l) (rank l.shape found.0) d = ap (λ r. get_or (offsets l) r d) (sym found.2) in
-    let is : pos (get_or (offsets l) (rank l.shape found.0) d) ≡ address l found.0 = pos-offset l len item fits found.0 d found.1 in
+    let is : pos (get_or (offsets l) (rank l.shape found.0) d) ≡ address l found.0 = pos-offset l found.0 d found.1 in
     let high : (address l found.0 +ℤ pos item) ≤ℤ pos len = fits.within found.0 found.1 in
     omega (arith, ints)
 
-pub Fits-weaker : (l : Layout) (len len' item item' : ℕ) → len ≤ len' → item' ≤ item → Fits l len item → Fits l len' item'
-Fits-weaker l len len' item item' more less fits = record {
-  from_zero = fits.from_zero;
+pub LieWithin-weaker : (shape : List ℕ) (strides : List ℤ) (offset len len' item item' : ℕ) → len ≤ len' → item' ≤ item → LieWithin shape strides offset len item → LieWithin shape strides offset len' item'
+LieWithin-weaker shape strides offset len len' item item' more less lie = record {
+  from_zero = lie.from_zero;
   within = λ index in'.
-      let high : (address l index +ℤ pos item) ≤ℤ pos len = fits.within index in' in
+      let high : (address_at strides offset index +ℤ pos item) ≤ℤ pos len = lie.within index in' in
       omega (arith, ints);
 }
 
@@ -60,8 +62,8 @@ dot-c_strides item (n ∷ shape) (k ∷ index) in' =
     ap (λ z. pos (count shape * item * k) +ℤ z) later ∙ ap pos total
 
 -- each address is the rank times the item size
-pub record StandsInCOrder (l : Layout) (item : ℕ) : Type 0 where
-  pub addresses : (index : List ℕ) → IsIndex l.shape index → address l index ≡ pos (item * rank l.shape index)
+pub record StandsInCOrder (shape : List ℕ) (strides : List ℤ) (offset item : ℕ) : Type 0 where
+  pub addresses : (index : List ℕ) → IsIndex shape index → address_at strides offset index ≡ pos (item * rank shape index)
 
 pub length-multiples : (item n : ℕ) → length (multiples item n) ≡ n
 length-multiples item n = length-map-range_with_len (λ k. item * k) 0 n
@@ -71,7 +73,7 @@ get_or-multiples item n k d below =
     let from_zero : 0 + k ≡ k = omega arith in
     get_or-map-range_with_len (λ i. item * i) 0 n k k d below from_zero
 
-pub offsets-c_order : (l : Layout) (item : ℕ) → StandsInCOrder l item → offsets l ≡ multiples item (count l.shape)
+pub offsets-c_order : (l : Layout) (item : ℕ) → StandsInCOrder l.shape l.strides l.offset item → offsets l ≡ multiples item (count l.shape)
 offsets-c_order l item stands =
     same_lists (offsets l) (multiples item (count l.shape)) (length-offsets l ∙ sym (length-multiples item (count l.shape))) (λ k d below.
     let low : k < count l.shape = omega (arith, length-offsets l) in
@@ -83,15 +85,15 @@ offsets-c_order l item stands =
 pub mul-step : (a j n : ℕ) → j < n → a * j + a ≤ a * n
 mul-step a j n below = omega (arith, mul-le-mul_left a below, mul-suc a j)
 
-pub Fits-c_order : (l : Layout) (item : ℕ) → StandsInCOrder l item → Fits l (count l.shape * item) item
-Fits-c_order l item stands = record {
+pub LieWithin-c_order : (shape : List ℕ) (strides : List ℤ) (offset item : ℕ) → StandsInCOrder shape strides offset item → LieWithin shape strides offset (count shape * item) item
+LieWithin-c_order shape strides offset item stands = record {
   from_zero = λ index in'.
       let here = stands.addresses index in' in
       omega (arith, ints);
   within = λ index in'.
       let here = stands.addresses index in' in
-      let step = mul-step item (rank l.shape index) (count l.shape) (rank-lt l.shape index in') in
-      let turned : count l.shape * item ≡ item * count l.shape = mul_comm (count l.shape) item in
+      let step = mul-step item (rank shape index) (count shape) (rank-lt shape index in') in
+      let turned : count shape * item ≡ item * count shape = mul_comm (count shape) item in
       omega (arith, ints);
 }
 
@@ -104,21 +106,21 @@ IsNested-multiples item n = record {
       omega (arith, mul-step item j k before);
 }
 
--- what is said of a layout that was made in C order
-pub c_order_stands : (l : Layout) (shape : List ℕ) (item : ℕ) → l.shape ≡ shape → l.offset ≡ 0 → (0 < count shape → l.strides ≡ c_strides item shape) → StandsInCOrder l item
-c_order_stands l shape item same first some = record {
+-- what is said of numbers that were made in C order
+pub c_order_stands : (made : List ℕ) (strides : List ℤ) (shape : List ℕ) (item : ℕ) → made ≡ shape → (0 < count shape → strides ≡ c_strides item shape) → StandsInCOrder made strides 0 item
+c_order_stands made strides shape item same some = record {
   addresses = λ index in'.
-      let above : 0 < count shape = omega (arith, ap count same, rank-lt l.shape index in') in
-      let strides : l.strides ≡ c_strides item l.shape = some above ∙ ap (c_strides item) (sym same) in
-      ap (λ z. pos z +ℤ dot l.strides index) first ∙ +ℤ_idl (dot l.strides index) ∙ ap (λ s. dot s index) strides ∙ dot-c_strides item l.shape index in';
+      let above : 0 < count shape = omega (arith, ap count same, rank-lt made index in') in
+      let is : strides ≡ c_strides item made = some above ∙ ap (c_strides item) (sym same) in
+      +ℤ_idl (dot strides index) ∙ ap (λ s. dot s index) is ∙ dot-c_strides item made index in';
 }
 
-pub c_order_offsets : (l : Layout) (shape : List ℕ) (item : ℕ) → l.shape ≡ shape → StandsInCOrder l item → offsets l ≡ multiples item (count shape)
+pub c_order_offsets : (l : Layout) (shape : List ℕ) (item : ℕ) → l.shape ≡ shape → StandsInCOrder l.shape l.strides l.offset item → offsets l ≡ multiples item (count shape)
 c_order_offsets l shape item same stands = offsets-c_order l item stands ∙ ap (λ s. multiples item (count s)) same
 
-pub c_order_nested : (l : Layout) (item : ℕ) → StandsInCOrder l item → IsNested (offsets l) item
+pub c_order_nested : (l : Layout) (item : ℕ) → StandsInCOrder l.shape l.strides l.offset item → IsNested (offsets l) item
 c_order_nested l item stands = rw (offsets-c_order l item stands) (IsNested-multiples item (count l.shape))
 
-pub c_order_fits : (l : Layout) (shape : List ℕ) (item : ℕ) → l.shape ≡ shape → StandsInCOrder l item → Fits l (count shape * item) item
-c_order_fits l shape item same stands =
-    Fits-weaker l (count l.shape * item) (count shape * item) item item (omega (arith, ap (λ s. count s * item) same)) (omega arith) (Fits-c_order l item stands)
+pub c_order_lies : (made : List ℕ) (strides : List ℤ) (shape : List ℕ) (item : ℕ) → made ≡ shape → StandsInCOrder made strides 0 item → LieWithin made strides 0 (count shape * item) item
+c_order_lies made strides shape item same stands =
+    LieWithin-weaker made strides 0 (count made * item) (count shape * item) item item (omega (arith, ap (λ s. count s * item) same)) (omega arith) (LieWithin-c_order made strides 0 item stands)

@@ -7,6 +7,7 @@ pub mod CountLaws
 pub mod ShapeAnswers
 pub mod AdvanceLaws
 pub mod WalkLaws
+pub mod ZeroLaws
 pub mod ContiguityLaws
 pub mod FortranLaws
 pub mod StackLaws

@@ -3,9 +3,8 @@ use Rattle.std.proofs.Common.{◌≡◌, ℕ, zero, suc, ◌+◌, ◌-◌, ◌*�
 use Rattle.std.proofs.lemmas.Int.{ints}
 use Rattle.std.proofs.lemmas.Bool.Decides.{nat_tests}
 use lib.IntN.{*ℤ-zero, negsuc-*ℤ-pos}
-use Rattle.shape_strides.specs.declared.layout.Layout.{Layout}
 use Rattle.shape_strides.specs.Indexes.{count, IsIndex}
-use Rattle.shape_strides.specs.Layouts.{dot, natural, Fits}
+use Rattle.shape_strides.specs.Addresses.{dot, natural, LieWithin}
 use Rattle.shape_strides.specs.Reach.{reach_above, reach_below}
 use Rattle.shape_strides.proofs.IndexLaws.{rank-lt}
 
@@ -88,31 +87,31 @@ bottom_of (negsuc a ∷ strides) (n ∷ shape) same some =
     let is = rest.2 in
     ((n - 1) ∷ rest.0, (omega arith, rest.1), omega (arith, ints))
 
-pub Fits-from_reach : (l : Layout) (len item : ℕ) → reach_below l.strides l.shape ≤ l.offset → l.offset + reach_above l.strides l.shape + item ≤ len → Fits l len item
-Fits-from_reach l len item low high = record {
+pub LieWithin-from_reach : (shape : List ℕ) (strides : List ℤ) (offset len item : ℕ) → reach_below strides shape ≤ offset → offset + reach_above strides shape + item ≤ len → LieWithin shape strides offset len item
+LieWithin-from_reach shape strides offset len item low high = record {
   from_zero = λ index in'.
-      let is = dot_low l.strides l.shape index in' in
+      let is = dot_low strides shape index in' in
       omega (arith, ints);
   within = λ index in'.
-      let is = dot_high l.strides l.shape index in' in
+      let is = dot_high strides shape index in' in
       omega (arith, ints);
 }
 
-pub reach_from_Fits : (l : Layout) (len item : ℕ) → length l.strides ≡ length l.shape → 0 < count l.shape → Fits l len item → (reach_below l.strides l.shape ≤ l.offset) × (l.offset + reach_above l.strides l.shape + item ≤ len)
-reach_from_Fits l len item same some fits =
-    let top = top_of l.strides l.shape same some in
+pub reach_from_LieWithin : (shape : List ℕ) (strides : List ℤ) (offset len item : ℕ) → length strides ≡ length shape → 0 < count shape → LieWithin shape strides offset len item → (reach_below strides shape ≤ offset) × (offset + reach_above strides shape + item ≤ len)
+reach_from_LieWithin shape strides offset len item same some lie =
+    let top = top_of strides shape same some in
     let top_is = top.2 in
-    let high = fits.within top.0 top.1 in
-    let bottom = bottom_of l.strides l.shape same some in
+    let high = lie.within top.0 top.1 in
+    let bottom = bottom_of strides shape same some in
     let bottom_is = bottom.2 in
-    let low = fits.from_zero bottom.0 bottom.1 in
+    let low = lie.from_zero bottom.0 bottom.1 in
     (omega (arith, ints), omega (arith, ints))
 
 -- without items
-pub Fits-empty : (l : Layout) (len item : ℕ) → count l.shape ≡ 0 → Fits l len item
-Fits-empty l len item none = record {
-  from_zero = λ index in'. absurd (omega (arith, rank-lt l.shape index in'));
-  within = λ index in'. absurd (omega (arith, rank-lt l.shape index in'));
+pub LieWithin-empty : (shape : List ℕ) (strides : List ℤ) (offset len item : ℕ) → count shape ≡ 0 → LieWithin shape strides offset len item
+LieWithin-empty shape strides offset len item none = record {
+  from_zero = λ index in'. absurd (omega (arith, rank-lt shape index in'));
+  within = λ index in'. absurd (omega (arith, rank-lt shape index in'));
 }
 
 -- ---- tests of numbers

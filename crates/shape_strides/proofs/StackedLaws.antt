@@ -7,7 +7,8 @@ use Rattle.std.proofs.lemmas.List.Sums.{sum_by-cons}
 use lib.IntN.{negsuc-*ℤ-pos}
 use Rattle.shape_strides.specs.declared.layout.Layout.{Layout}
 use Rattle.shape_strides.specs.Indexes.{rank, IsIndex}
-use Rattle.shape_strides.specs.Layouts.{dot, offsets, Fits, IsNested, distance}
+use Rattle.shape_strides.specs.Addresses.{dot}
+use Rattle.shape_strides.specs.Layouts.{offsets, IsNested, distance}
 use Rattle.shape_strides.specs.Stacks.{Axis, reach, axes, IsStacked}
 use Rattle.shape_strides.proofs.IndexLaws.{index_at}
 use Rattle.shape_strides.proofs.LayoutLaws.{length-offsets, pos-offset, mul-step}
@@ -158,8 +159,8 @@ distance_low x y off a b item first second low = omega (arith, ints)
 distance_high : (x y : ℤ) (off a b item : ℕ) → pos a ≡ pos off +ℤ x → pos b ≡ pos off +ℤ y → (y +ℤ pos item) ≤ℤ x → item ≤ distance a b
 distance_high x y off a b item first second low = omega (arith, ints)
 
-pub IsNested-stacked : (l : Layout) (len item : ℕ) → length l.strides ≡ length l.shape → Fits l len 1 → 0 < item → IsStacked l item → IsNested (offsets l) item
-IsNested-stacked l len item same fits some stacked = record {
+pub IsNested-stacked : (l : Layout) (item : ℕ) → 0 < item → IsStacked l item → IsNested (offsets l) item
+IsNested-stacked l item some stacked = record {
   apart = λ j k before inside.
       let size = length-offsets l in
       let all = axes l.strides l.shape in
@@ -169,9 +170,9 @@ IsNested-stacked l len item same fits some stacked = record {
       let high = index_at l.shape k (omega arith) in
       let x = dot l.strides low.0 in
       let y = dot l.strides high.0 in
-      let first : pos (get_or (offsets l) j 0) ≡ pos l.offset +ℤ x = ap (λ r. pos (get_or (offsets l) r 0)) (sym low.2) ∙ pos-offset l len 1 fits low.0 0 low.1 in
-      let second : pos (get_or (offsets l) k 0) ≡ pos l.offset +ℤ y = ap (λ r. pos (get_or (offsets l) r 0)) (sym high.2) ∙ pos-offset l len 1 fits high.0 0 high.1 in
-      elim (same_or_differ P l.strides l.shape low.0 high.0 same each low.1 high.1) [
+      let first : pos (get_or (offsets l) j 0) ≡ pos l.offset +ℤ x = ap (λ r. pos (get_or (offsets l) r 0)) (sym low.2) ∙ pos-offset l low.0 0 low.1 in
+      let second : pos (get_or (offsets l) k 0) ≡ pos l.offset +ℤ y = ap (λ r. pos (get_or (offsets l) r 0)) (sym high.2) ∙ pos-offset l high.0 0 high.1 in
+      elim (same_or_differ P l.strides l.shape low.0 high.0 l.one_stride_an_axis each low.1 high.1) [
         | inl whole ↦ absurd (omega (arith, ap (rank l.shape) whole, low.2, high.2))
         | inr d ↦
             let total = sum_by (within d.axis.step) all in

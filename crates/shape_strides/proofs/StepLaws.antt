@@ -6,7 +6,9 @@ use lib.IntN.{*ℤ-zero, +ℤ_assoc, +ℤ_idl, +ℤ_idr}
 use Rattle.shape_strides.specs.declared.layout.Layout.{Layout}
 use Rattle.shape_strides.proofs.IndexLaws.{length-index}
 use Rattle.shape_strides.specs.Indexes.{count, rank, IsIndex}
-use Rattle.shape_strides.specs.Layouts.{dot, address, Fits}
+use Rattle.shape_strides.specs.Limits.{max_bytes}
+use Rattle.shape_strides.specs.Addresses.{dot}
+use Rattle.shape_strides.specs.Layouts.{address}
 
 -- the index that begins with these numbers and goes on with zeros
 abbrev pub padded : List ℕ → List ℕ → List ℕ
@@ -99,27 +101,25 @@ part-address l index j in' =
     let short : length (take j index) ≤ length l.shape = omega (arith, length-take j index, length-index l.shape index in') in
     ap (λ z. pos l.offset +ℤ z) (dot-padded l.strides l.shape (take j index) short)
 
-pub part_low : (l : Layout) (len item : ℕ) → Fits l len item → (index : List ℕ) (j : ℕ) → IsIndex l.shape index → pos 0 ≤ℤ (pos l.offset +ℤ dot l.strides (take j index))
-part_low l len item fits index j in' =
-    rw (← part-address l index j in') (fits.from_zero (padded l.shape (take j index)) (IsIndex-padded_take l.shape index j in'))
+pub part_low : (l : Layout) (index : List ℕ) (j : ℕ) → IsIndex l.shape index → pos 0 ≤ℤ (pos l.offset +ℤ dot l.strides (take j index))
+part_low l index j in' =
+    rw (← part-address l index j in') (l.within_limit.from_zero (padded l.shape (take j index)) (IsIndex-padded_take l.shape index j in'))
 
-pub part_high : (l : Layout) (len item : ℕ) → Fits l len item → (index : List ℕ) (j : ℕ) → IsIndex l.shape index → (pos l.offset +ℤ dot l.strides (take j index) +ℤ pos item) ≤ℤ pos len
-part_high l len item fits index j in' =
-    rw (← part-address l index j in') (fits.within (padded l.shape (take j index)) (IsIndex-padded_take l.shape index j in'))
+pub part_high : (l : Layout) (index : List ℕ) (j : ℕ) → IsIndex l.shape index → (pos l.offset +ℤ dot l.strides (take j index) +ℤ pos 1) ≤ℤ pos max_bytes
+part_high l index j in' =
+    rw (← part-address l index j in') (l.within_limit.within (padded l.shape (take j index)) (IsIndex-padded_take l.shape index j in'))
 
 -- `at` before axis j: the sum so far is at
-pub record ComesTo (l : Layout) (index : List ℕ) (j at len : ℕ) : Type 0 where
-  pub one_each : length l.strides ≡ length l.shape
-  pub fits : Fits l len 1
+pub record ComesTo (l : Layout) (index : List ℕ) (j at : ℕ) : Type 0 where
   pub in_shape : IsIndex l.shape index
   pub below : j < length index
   pub so_far : pos at ≡ pos l.offset +ℤ dot l.strides (take j index)
 
-pub record GoesOn (l : Layout) (index : List ℕ) (j at len : ℕ) : Type 0 where
+pub record GoesOn (l : Layout) (index : List ℕ) (j at : ℕ) : Type 0 where
   pub axis : j < length l.strides
-  pub start : at < len
+  pub start : at < max_bytes
   pub low : pos 0 ≤ℤ (pos at +ℤ get_or l.strides j (pos 0) *ℤ pos (get_or index j 0))
-  pub high : (pos at +ℤ get_or l.strides j (pos 0) *ℤ pos (get_or index j 0)) ≤ℤ pos len
+  pub high : (pos at +ℤ get_or l.strides j (pos 0) *ℤ pos (get_or index j 0)) ≤ℤ pos max_bytes
   pub more : pos at +ℤ get_or l.strides j (pos 0) *ℤ pos (get_or index j 0) ≡ pos l.offset +ℤ dot l.strides (take (suc j) index)
 
 -- the plain sums behind it
@@ -132,17 +132,17 @@ sum_bounds z w len is low high = (omega (arith, ints), omega (arith, ints))
 pub sum_start : (at len : ℕ) (z : ℤ) → pos at ≡ z → (z +ℤ pos 1) ≤ℤ pos len → at < len
 sum_start at len z is high = omega (arith, ints)
 
-pub goes_on : (l : Layout) (index : List ℕ) (j at len : ℕ) → ComesTo l index j at len → GoesOn l index j at len
-goes_on l index j at len c =
+pub goes_on : (l : Layout) (index : List ℕ) (j at : ℕ) → ComesTo l index j at → GoesOn l index j at
+goes_on l index j at c =
     let size = length-index l.shape index c.in_shape in
-    let axis : j < length l.strides = omega (arith, c.one_each, c.below) in
+    let axis : j < length l.strides = omega (arith, l.one_stride_an_axis, c.below) in
     let p = get_or l.strides j (pos 0) *ℤ pos (get_or index j 0) in
     let sum = pos l.offset +ℤ dot l.strides (take (suc j) index) in
     let more : pos at +ℤ p ≡ sum = sum_more (pos at) (pos l.offset) (dot l.strides (take j index)) (dot l.strides (take (suc j) index)) p c.so_far (dot-take_more l.strides index j c.below axis) in
-    let bounds = sum_bounds sum (pos at +ℤ p) len more (part_low l len 1 c.fits index (suc j) c.in_shape) (part_high l len 1 c.fits index (suc j) c.in_shape) in
+    let bounds = sum_bounds sum (pos at +ℤ p) max_bytes more (part_low l index (suc j) c.in_shape) (part_high l index (suc j) c.in_shape) in
     record {
       axis = axis;
-      start = sum_start at len (pos l.offset +ℤ dot l.strides (take j index)) c.so_far (part_high l len 1 c.fits index j c.in_shape);
+      start = sum_start at max_bytes (pos l.offset +ℤ dot l.strides (take j index)) c.so_far (part_high l index j c.in_shape);
       low = bounds.0;
       high = bounds.1;
       more = more;

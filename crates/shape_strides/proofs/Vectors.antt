@@ -1,11 +1,12 @@
 -- The definitions at arrays whose shapes, strides and indexes NumPy and Python give.
-use Rattle.std.proofs.Common.{◌≡◌, pos, negsuc, [], ◌∷◌, Ok, Err, replicate, codes, refl}
+use Rattle.std.proofs.Common.{◌≡◌, pos, negsuc, [], ◌∷◌, Ok, Err, replicate, codes, refl, arith, lit≤}
 use Rattle.std.specs.Fmt.{digits}
 use Rattle.elem_descr.specs.declared.refusal.Refusal.TheVariants.{TooManyAxes, TooLarge}
 use Rattle.shape_strides.specs.declared.layout.Layout.{Layout}
 use Rattle.shape_strides.specs.Indexes.{count, indexes, rank}
 use Rattle.shape_strides.specs.Layouts.{c_strides, offsets}
 use Rattle.shape_strides.specs.Shapes.{shape_of, shape_text}
+use Rattle.shape_strides.proofs.ReachLaws.{LieWithin-from_reach}
 
 -- `numpy.zeros(()).size`, `numpy.zeros((2, 3, 4)).size`, `numpy.zeros((2, 0, 4)).size`
 scalar_size : count [] ≡ 1
@@ -31,7 +32,7 @@ int_strides = refl
 
 -- `numpy.zeros((2, 3), "<i4").T`
 transposed : Layout
-transposed = record { shape = 3 ∷ 2 ∷ []; strides = pos 4 ∷ pos 12 ∷ []; offset = 0; one_stride_an_axis = refl }
+transposed = record { shape = 3 ∷ 2 ∷ []; strides = pos 4 ∷ pos 12 ∷ []; offset = 0; one_stride_an_axis = refl; within_limit = LieWithin-from_reach _ _ _ _ _ (lit≤ tt) (lit≤ tt); zero_if_empty = λ none. absurd (omega arith) }
 
 transposed_offsets : offsets transposed ≡ 0 ∷ 12 ∷ 4 ∷ 16 ∷ 8 ∷ 20 ∷ []
 unfolding transposed offsets
@@ -39,7 +40,7 @@ transposed_offsets = refl
 
 -- `numpy.zeros(5, "<i4")[::-2]`
 backwards : Layout
-backwards = record { shape = 3 ∷ []; strides = negsuc 7 ∷ []; offset = 16; one_stride_an_axis = refl }
+backwards = record { shape = 3 ∷ []; strides = negsuc 7 ∷ []; offset = 16; one_stride_an_axis = refl; within_limit = LieWithin-from_reach _ _ _ _ _ (lit≤ tt) (lit≤ tt); zero_if_empty = λ none. absurd (omega arith) }
 
 backwards_offsets : offsets backwards ≡ 16 ∷ 8 ∷ 0 ∷ []
 unfolding backwards offsets

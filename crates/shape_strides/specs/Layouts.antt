@@ -1,31 +1,22 @@
 -- The addresses of a layout's items, in bytes.
-use Rattle.std.specs.Prelude.{ℕ, ◌+◌, ◌-◌, ◌*◌, ◌<◌, ◌≤◌, ℤ, pos, negsuc, ◌+ℤ◌, ◌*ℤ◌, ◌≤ℤ◌, List, [], ◌∷◌, length, map, reverse, slice_index}
+use Rattle.std.specs.Prelude.{ℕ, ◌+◌, ◌-◌, ◌*◌, ◌<◌, ◌≤◌, ℤ, pos, List, [], ◌∷◌, length, map, reverse, slice_index}
 use Rattle.std.specs.List.{range_with_len}
 use Rattle.shape_strides.specs.declared.layout.Layout.{Layout}
-use Rattle.shape_strides.specs.Indexes.{count, indexes, rank, IsIndex}
+use Rattle.shape_strides.specs.Indexes.{count, indexes, rank}
+pub use Rattle.shape_strides.specs.Addresses.{dot, natural}
+use Rattle.shape_strides.specs.Addresses.{address_at, LieWithin}
 
--- what an index adds to the offset: each of its numbers times the stride of its axis, in one sum
-abbrev pub dot : List ℤ → List ℕ → ℤ
-dot (stride ∷ strides) (k ∷ index) = stride *ℤ pos k +ℤ dot strides index
-dot _ _ = pos 0
-
--- the address of the item at an index, which may lie below 0
+-- the address of the item at an index
 abbrev pub address : Layout → List ℕ → ℤ
-address l index = pos l.offset +ℤ dot l.strides index
+address l index = address_at l.strides l.offset index
 
--- an address as a number, if it is not below 0
-abbrev pub natural : ℤ → ℕ
-natural (pos n) = n
-natural (negsuc n) = 0
-
--- The addresses of all items in C order. They are these where none lies below 0, as in a layout that fits.
+-- the addresses of all items in C order
 unfoldable pub offsets : Layout → List ℕ
 offsets l = map (λ index. natural (address l index)) (indexes l.shape)
 
 -- every item, of so many bytes, lies in the first `len` bytes: so too where there is no item
-pub record Fits (l : Layout) (len item : ℕ) : Type 0 where
-  pub from_zero : (index : List ℕ) → IsIndex l.shape index → pos 0 ≤ℤ address l index
-  pub within : (index : List ℕ) → IsIndex l.shape index → (address l index +ℤ pos item) ≤ℤ pos len
+abbrev pub Fits : Layout → ℕ → ℕ → Type 0
+Fits l len item = LieWithin l.shape l.strides l.offset len item
 
 -- how far apart two numbers are
 abbrev pub distance : ℕ → ℕ → ℕ

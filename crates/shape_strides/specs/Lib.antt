@@ -1,5 +1,7 @@
+pub mod Limits
 pub mod Indexes
 pub mod Shapes
+pub mod Addresses
 pub mod Layouts
 pub mod Reach
 pub mod Walks

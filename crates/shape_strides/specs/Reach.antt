@@ -1,6 +1,6 @@
 -- How far a layout's addresses reach to either side of its offset, where it has items.
 use Rattle.std.specs.Prelude.{ℕ, ◌+◌, ◌-◌, ◌*◌, nat_le, if◌then◌else◌, ℤ, neg_ℤ, unsigned_abs, List, ◌∷◌}
-use Rattle.shape_strides.specs.Layouts.{natural}
+use Rattle.shape_strides.specs.Addresses.{natural}
 
 -- above: the axes with a positive stride, each at its last number
 abbrev pub reach_above : List ℤ → List ℕ → ℕ

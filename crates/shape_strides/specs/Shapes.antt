@@ -1,24 +1,25 @@
 -- Which lists of lengths are shapes, and how they are written.
-use Rattle.std.specs.Prelude.{ℕ, ◌^◌, ◌≤◌, nat_le, List, [], ◌∷◌, ◌++◌, codes, length, All, Result, Ok}
+use Rattle.std.specs.Prelude.{ℕ, ◌≤◌, nat_le, List, [], ◌∷◌, ◌++◌, codes, length, All, Result, Ok}
 use Rattle.std.specs.List.{list_all, flat_map}
 use Rattle.std.specs.Fmt.{decimal}
 use Rattle.elem_descr.specs.declared.refusal.Refusal.{Refusal}
 use Rattle.elem_descr.specs.declared.refusal.Refusal.TheVariants.{TooManyAxes, TooLarge}
 use Rattle.elem_descr.specs.Refusals.{◌>>=◌, check}
+use Rattle.shape_strides.specs.Limits.{max_axes, max_items}
 use Rattle.shape_strides.specs.Indexes.{count}
 
 -- within the limits of an array
 pub record IsShape (shape : List ℕ) : Type 0 where
-  pub axes : length shape ≤ 64
-  pub lengths : All (λ n. n ≤ 2 ^ 24) shape
-  pub items : count shape ≤ 2 ^ 24
+  pub axes : length shape ≤ max_axes
+  pub lengths : All (λ n. n ≤ max_items) shape
+  pub items : count shape ≤ max_items
 
 -- the shape with these lengths, or the first refusal
 unfoldable pub shape_of : List ℕ → Result (List ℕ) Refusal
 shape_of lengths = do
-  _ ← check (nat_le (length lengths) 64) TooManyAxes
-  _ ← check (list_all (λ n. nat_le n (2 ^ 24)) lengths) TooLarge
-  _ ← check (nat_le (count lengths) (2 ^ 24)) TooLarge
+  _ ← check (nat_le (length lengths) max_axes) TooManyAxes
+  _ ← check (list_all (λ n. nat_le n max_items) lengths) TooLarge
+  _ ← check (nat_le (count lengths) max_items) TooLarge
   Ok lengths
 
 -- a shape as Python writes a tuple: `()`, `(3,)`, `(2, 3)`

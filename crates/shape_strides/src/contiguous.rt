@@ -1,12 +1,13 @@
 //! Fortran order, and what NumPy says of a layout's strides and of the order of its items.
 ghost use Rattle.std.specs.Prelude.{◌≡◌, ◌≢◌, ◌*◌, ◌^◌, ◌<◌, ◌≤◌, pos, length, map, slice_index_or, IfOk, IsTrue, IsFalse};
+ghost use Rattle.shape_strides.specs.Limits.{max_bytes};
 ghost use Rattle.shape_strides.specs.Indexes.{count};
 ghost use Rattle.shape_strides.specs.Layouts.{offsets, Fits, IsNested, multiples, f_multiples, f_strides};
 ghost use Rattle.shape_strides.specs.Contiguity.{fortran_order, first_address, printed_strides, is_c_contiguous, is_f_contiguous};
 
 use crate::layout::Layout;
 use crate::shape::Shape;
-use crate::steps::{f_order_strides, zero_strides};
+use crate::steps::f_order_strides;
 use crate::strides::Strides;
 use std::alloc::{AllocError, Global};
 
@@ -38,17 +39,15 @@ impl Layout {
     pub fn f_order(alloc: Global, shape: &Shape, item: usize) -> Result<Layout, AllocError>
         requires item_low { 1 ≤ item }
         requires item_high { item ≤ 65536 }
-        requires bytes { count shape.now * item ≤ 2 ^ 28 }
+        requires bytes { count shape.now * item ≤ max_bytes }
         ensures shape { IfOk result (λ l. l.shape ≡ shape.now) }
         ensures offset { IfOk result (λ l. l.offset ≡ 0) }
         ensures strides { IfOk result (λ l. 0 < count shape.now → l.strides ≡ f_strides item shape.now) }
-        ensures empty { IfOk result (λ l. count shape.now ≡ 0 → l.strides ≡ map (λ _. pos 0) shape.now) }
         ensures offsets { IfOk result (λ l. offsets l ≡ f_multiples item shape.now) }
         ensures order { IfOk result (λ l. fortran_order shape.now (offsets l) ≡ multiples item (count shape.now)) }
         ensures count { IfOk result (λ l. length (offsets l) ≡ count shape.now) }
         ensures nested { IfOk result (λ l. IsNested (offsets l) item) }
         ensures fits { IfOk result (λ l. Fits l (count shape.now * item) item) }
-        ensures fits_limit { IfOk result (λ l. Fits l (2 ^ 28) 1) }
     {
         let strides = f_order_strides(alloc, shape, item)?;
         let shape = Shape::try_copy(alloc, shape)?;
@@ -63,25 +62,17 @@ impl Layout {
     pub fn first_address(&self) -> usize
         ensures { result ≡ first_address (offsets self.now) }
     {
-        if self.shape.items() == 0 {
-            return 0;
-        }
         self.offset
     }
 
     /// The strides as NumPy prints them. That of an axis of length 1 is 0 here, and so is each
     /// where there is no item.
     pub fn printed_strides(alloc: Global, layout: &Layout) -> Result<Strides, AllocError>
-        requires fits { Fits layout.now (2 ^ 28) 1 }
         ensures { IfOk result (λ s. s ≡ printed_strides layout.now.shape (offsets layout.now)) }
     {
-        let lengths = layout.shape.as_slice();
-        if layout.shape.items() == 0 {
-            return zero_strides(alloc, lengths);
-        }
         let strides = layout.strides.as_slice();
         let mut printed = Strides::new(alloc);
-        for (axis, len) in lengths.iter().enumerate() {
+        for (axis, len) in layout.shape.as_slice().iter().enumerate() {
             printed.push(printed_stride(strides, axis, *len))?;
         }
         Ok(printed)
@@ -90,7 +81,6 @@ impl Layout {
     /// Whether the items, of `item` bytes, lie one right after another in C order. A layout of at
     /// most one item is in that order, whatever its strides.
     pub fn is_c(&self, item: usize) -> bool
-        requires fits { Fits self.now (2 ^ 28) 1 }
         ensures { result ≡ is_c_contiguous item (offsets self.now) }
     {
         if self.shape.items() == 0 {
@@ -112,7 +102,6 @@ impl Layout {
 
     /// Whether they lie so in Fortran order.
     pub fn is_f(&self, item: usize) -> bool
-        requires fits { Fits self.now (2 ^ 28) 1 }
         ensures { result ≡ is_f_contiguous item self.now.shape (offsets self.now) }
     {
         if self.shape.items() == 0 {

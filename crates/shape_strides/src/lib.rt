@@ -11,7 +11,7 @@ mod steps;
 pub mod strides;
 pub mod walk;
 
-pub use layout::Layout;
+pub use layout::{Layout, MAX_BYTES};
 pub use shape::{MAX_AXES, MAX_ITEMS, Shape};
 pub use strides::Strides;
 pub use walk::Walk;

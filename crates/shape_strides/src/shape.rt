@@ -1,6 +1,7 @@
-ghost use Rattle.std.specs.Prelude.{◌≡◌, ◌+◌, ◌^◌, ◌≤◌, min, length, nat_le, IsTrue, All, IfOk, Some};
+ghost use Rattle.std.specs.Prelude.{◌≡◌, ◌+◌, ◌≤◌, min, length, nat_le, IsTrue, All, IfOk, Some};
 ghost use Rattle.std.specs.List.{list_all};
 ghost use Rattle.elem_descr.specs.Refusals.{Gives};
+ghost use Rattle.shape_strides.specs.Limits.{max_axes, max_items};
 ghost use Rattle.shape_strides.specs.Indexes.{count};
 ghost use Rattle.shape_strides.specs.Shapes.{shape_of, shape_text};
 
@@ -37,16 +38,16 @@ impl Model for Shape {
 
 /// Whether each length is within the limit.
 fn are_within_limit(lengths: &[usize]) -> bool
-    ensures value { result ≡ list_all (λ n. nat_le n (2 ^ 24)) lengths.now }
-    ensures all { IsTrue result → All (λ n. n ≤ 2 ^ 24) lengths.now }
+    ensures value { result ≡ list_all (λ n. nat_le n max_items) lengths.now }
+    ensures all { IsTrue result → All (λ n. n ≤ max_items) lengths.now }
 {
     lengths.iter().all(|len| *len <= MAX_ITEMS)
 }
 
 /// The product of the lengths, or one more than `MAX_ITEMS` if it is greater than that.
 fn capped_count(lengths: &[usize]) -> usize
-    requires { All (λ n. n ≤ 2 ^ 24) lengths.now }
-    ensures { result ≡ min (count lengths.now) (2 ^ 24 + 1) }
+    requires { All (λ n. n ≤ max_items) lengths.now }
+    ensures { result ≡ min (count lengths.now) (max_items + 1) }
 {
     let mut items = 1;
     for len in lengths {
@@ -79,9 +80,9 @@ impl Shape {
     /// The lengths of the axes.
     pub fn as_slice(&self) -> &[usize]
         ensures value { result.now ≡ self.now }
-        ensures rank { length self.now ≤ 64 }
-        ensures lengths { All (λ n. n ≤ 2 ^ 24) self.now }
-        ensures items { count self.now ≤ 2 ^ 24 }
+        ensures rank { length self.now ≤ max_axes }
+        ensures lengths { All (λ n. n ≤ max_items) self.now }
+        ensures items { count self.now ≤ max_items }
     {
         self.axes.as_slice()
     }
@@ -89,7 +90,7 @@ impl Shape {
     /// The number of axes.
     pub fn rank(&self) -> usize
         ensures value { result ≡ length self.now }
-        ensures limit { result ≤ 64 }
+        ensures limit { result ≤ max_axes }
     {
         self.axes.len()
     }
@@ -97,7 +98,7 @@ impl Shape {
     /// The number of items.
     pub fn items(&self) -> usize
         ensures value { result ≡ count self.now }
-        ensures limit { result ≤ 2 ^ 24 }
+        ensures limit { result ≤ max_items }
     {
         self.items
     }

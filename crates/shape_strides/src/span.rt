@@ -1,22 +1,23 @@
-ghost use Rattle.std.specs.Prelude.{◌≡◌, ◌+◌, ◌^◌, ◌<◌, ◌≤◌, [], length, All, Any, Contains};
+ghost use Rattle.std.specs.Prelude.{◌≡◌, ◌+◌, ◌<◌, ◌≤◌, [], length, All, Any, Contains};
 
 use crate::layout::Layout;
 use crate::steps::{reach_above, reach_below};
 use std::ops::Range;
 
 impl Layout {
+    ghost use Rattle.shape_strides.specs.Limits.{max_bytes};
     ghost use Rattle.shape_strides.specs.Layouts.{offsets, Fits};
 
     /// The bytes from the lowest one of any item to the highest, where an item has `item` bytes:
     /// `0..0` where there is no item.
     pub fn span(&self, item: usize) -> Range<usize>
-        requires { Fits self.now (2 ^ 28) item }
+        requires { Fits self.now max_bytes item }
         ensures empty { offsets self.now ≡ [] → (result.start ≡ 0) × (result.end ≡ 0) }
         ensures low { All (λ offset. result.start ≤ offset) (offsets self.now) }
         ensures high { All (λ offset. offset + item ≤ result.end) (offsets self.now) }
         ensures first { 0 < length (offsets self.now) → Contains (offsets self.now) result.start }
         ensures last { 0 < length (offsets self.now) → Any (λ offset. offset + item ≡ result.end) (offsets self.now) }
-        ensures limit { result.end ≤ 2 ^ 28 }
+        ensures limit { result.end ≤ max_bytes }
     {
         if self.shape.items() == 0 {
             return 0..0;

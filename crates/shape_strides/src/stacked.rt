@@ -1,6 +1,7 @@
 //! Layouts whose axes step clear of one another.
 ghost use Rattle.std.specs.Prelude.{◌≡◌, ◌↔◌, ◌+◌, ◌-◌, ◌*◌, ◌^◌, ◌<◌, ◌≤◌, pos, nat_le, unsigned_abs, if◌then◌else◌, length, slice_index, slice_index_or, All, IsTrue};
-ghost use Rattle.shape_strides.specs.Layouts.{offsets, Fits, IsNested};
+ghost use Rattle.shape_strides.specs.Limits.{max_axes, max_items};
+ghost use Rattle.shape_strides.specs.Layouts.{offsets, IsNested};
 ghost use Rattle.shape_strides.specs.Reach.{reach_within};
 ghost use Rattle.shape_strides.specs.Stacks.{IsStacked};
 
@@ -9,7 +10,7 @@ use crate::layout::Layout;
 /// How far an axis reaches from its first item to its last, if it steps over so many bytes at most.
 fn axis_within(strides: &[isize], axis: usize, len: usize, step: usize) -> u128
     requires axis { axis < length strides.now }
-    requires len { len ≤ 2 ^ 24 }
+    requires len { len ≤ max_items }
     ensures value { let own = unsigned_abs (slice_index_or strides.now axis (pos 0)) in
         result ≡ (if nat_le own step then own * (len - 1) else 0) }
     ensures bound { result ≤ 2 ^ 88 }
@@ -24,8 +25,8 @@ fn axis_within(strides: &[isize], axis: usize, len: usize, step: usize) -> u128
 /// How far the axes reach that step over so many bytes at most.
 fn reach_within(lengths: &[usize], strides: &[isize], step: usize) -> u128
     requires one_each { length strides.now ≡ length lengths.now }
-    requires axes { length lengths.now ≤ 64 }
-    requires lengths { All (λ n. n ≤ 2 ^ 24) lengths.now }
+    requires axes { length lengths.now ≤ max_axes }
+    requires lengths { All (λ n. n ≤ max_items) lengths.now }
     ensures value { result ≡ reach_within step strides.now lengths.now }
     ensures bound { result ≤ 64 * 2 ^ 88 }
 {
@@ -40,8 +41,8 @@ fn reach_within(lengths: &[usize], strides: &[isize], step: usize) -> u128
 /// further. One of length 1 does.
 fn steps_clear(lengths: &[usize], strides: &[isize], axis: usize, item: usize) -> bool
     requires one_each { length strides.now ≡ length lengths.now }
-    requires axes { length lengths.now ≤ 64 }
-    requires lengths { All (λ n. n ≤ 2 ^ 24) lengths.now }
+    requires axes { length lengths.now ≤ max_axes }
+    requires lengths { All (λ n. n ≤ max_items) lengths.now }
     requires axis { axis < length lengths.now }
     ensures { let step = unsigned_abs (slice_index_or strides.now axis (pos 0)) in
         IsTrue result ↔ (2 ≤ slice_index lengths.now axis → item + reach_within step strides.now lengths.now ≤ step * slice_index lengths.now axis) }
@@ -58,8 +59,7 @@ impl Layout {
     /// Whether the axes can be put in an order in which each of 2 items or more steps over an item
     /// of `item` bytes and all that the axes before it reach. So it is for a layout without items.
     pub fn is_stacked(&self, item: usize) -> bool
-        requires fits { Fits self.now (2 ^ 28) 1 }
-        requires item { 1 ≤ item }
+        requires { 1 ≤ item }
         ensures value { IsTrue result ↔ IsStacked self.now item }
         ensures nested { IsStacked self.now item → IsNested (offsets self.now) item }
     {

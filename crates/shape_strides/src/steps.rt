@@ -1,7 +1,9 @@
 //! Sums of strides. A stride is read from its slice, and an offset is never below 0.
 ghost use Rattle.std.specs.Prelude.{◌≡◌, ◌-◌, ◌*◌, ◌^◌, ◌<◌, ◌≤◌, pos, neg_ℤ, ◌+ℤ◌, ◌-ℤ◌, ◌*ℤ◌, ◌≤ℤ◌, length, map, slice_index_or, All, IfOk};
+ghost use Rattle.shape_strides.specs.Limits.{max_axes, max_items, max_bytes};
 ghost use Rattle.shape_strides.specs.Indexes.{count};
-ghost use Rattle.shape_strides.specs.Layouts.{natural, c_strides, f_strides};
+ghost use Rattle.shape_strides.specs.Addresses.{natural};
+ghost use Rattle.shape_strides.specs.Layouts.{c_strides, f_strides};
 ghost use Rattle.shape_strides.specs.Reach.{reach_above, reach_below};
 
 use crate::shape::Shape;
@@ -11,10 +13,10 @@ use std::alloc::{AllocError, Global};
 /// The offset that is so many steps further along an axis.
 pub(crate) fn forward(from: usize, strides: &[isize], axis: usize, steps: usize) -> usize
     requires axis { axis < length strides.now }
-    requires start { from ≤ 2 ^ 28 }
-    requires steps { steps ≤ 2 ^ 24 }
+    requires start { from ≤ max_bytes }
+    requires steps { steps ≤ max_items }
     requires low { pos 0 ≤ℤ (pos from +ℤ slice_index_or strides.now axis (pos 0) *ℤ pos steps) }
-    requires high { (pos from +ℤ slice_index_or strides.now axis (pos 0) *ℤ pos steps) ≤ℤ pos (2 ^ 28) }
+    requires high { (pos from +ℤ slice_index_or strides.now axis (pos 0) *ℤ pos steps) ≤ℤ pos max_bytes }
     ensures { pos result ≡ pos from +ℤ slice_index_or strides.now axis (pos 0) *ℤ pos steps }
 {
     (from as isize + strides[axis] * steps as isize) as usize
@@ -23,10 +25,10 @@ pub(crate) fn forward(from: usize, strides: &[isize], axis: usize, steps: usize)
 /// The offset that is so many steps back along an axis.
 pub(crate) fn back(from: usize, strides: &[isize], axis: usize, steps: usize) -> usize
     requires axis { axis < length strides.now }
-    requires start { from ≤ 2 ^ 28 }
-    requires steps { steps ≤ 2 ^ 24 }
+    requires start { from ≤ max_bytes }
+    requires steps { steps ≤ max_items }
     requires low { pos 0 ≤ℤ (pos from -ℤ slice_index_or strides.now axis (pos 0) *ℤ pos steps) }
-    requires high { (pos from -ℤ slice_index_or strides.now axis (pos 0) *ℤ pos steps) ≤ℤ pos (2 ^ 28) }
+    requires high { (pos from -ℤ slice_index_or strides.now axis (pos 0) *ℤ pos steps) ≤ℤ pos max_bytes }
     ensures { pos result ≡ pos from -ℤ slice_index_or strides.now axis (pos 0) *ℤ pos steps }
 {
     (from as isize - strides[axis] * steps as isize) as usize
@@ -35,7 +37,7 @@ pub(crate) fn back(from: usize, strides: &[isize], axis: usize, steps: usize) ->
 /// How far the last number of an axis lies above its first.
 fn axis_above(strides: &[isize], axis: usize, len: usize) -> u128
     requires axis { axis < length strides.now }
-    requires len { len ≤ 2 ^ 24 }
+    requires len { len ≤ max_items }
     ensures value { result ≡ natural (slice_index_or strides.now axis (pos 0)) * (len - 1) }
     ensures bound { result ≤ 2 ^ 88 }
 {
@@ -48,7 +50,7 @@ fn axis_above(strides: &[isize], axis: usize, len: usize) -> u128
 /// How far the last number of an axis lies below its first.
 fn axis_below(strides: &[isize], axis: usize, len: usize) -> u128
     requires axis { axis < length strides.now }
-    requires len { len ≤ 2 ^ 24 }
+    requires len { len ≤ max_items }
     ensures value { result ≡ natural (neg_ℤ (slice_index_or strides.now axis (pos 0))) * (len - 1) }
     ensures bound { result ≤ 2 ^ 88 }
 {
@@ -61,8 +63,8 @@ fn axis_below(strides: &[isize], axis: usize, len: usize) -> u128
 /// How far the addresses reach above the offset.
 pub(crate) fn reach_above(lengths: &[usize], strides: &[isize]) -> u128
     requires one_each { length strides.now ≡ length lengths.now }
-    requires axes { length lengths.now ≤ 64 }
-    requires lengths { All (λ n. n ≤ 2 ^ 24) lengths.now }
+    requires axes { length lengths.now ≤ max_axes }
+    requires lengths { All (λ n. n ≤ max_items) lengths.now }
     ensures value { result ≡ reach_above strides.now lengths.now }
     ensures bound { result ≤ 64 * 2 ^ 88 }
 {
@@ -76,8 +78,8 @@ pub(crate) fn reach_above(lengths: &[usize], strides: &[isize]) -> u128
 /// How far the addresses reach below the offset.
 pub(crate) fn reach_below(lengths: &[usize], strides: &[isize]) -> u128
     requires one_each { length strides.now ≡ length lengths.now }
-    requires axes { length lengths.now ≤ 64 }
-    requires lengths { All (λ n. n ≤ 2 ^ 24) lengths.now }
+    requires axes { length lengths.now ≤ max_axes }
+    requires lengths { All (λ n. n ≤ max_items) lengths.now }
     ensures value { result ≡ reach_below strides.now lengths.now }
     ensures bound { result ≤ 64 * 2 ^ 88 }
 {
@@ -109,7 +111,7 @@ fn divided_strides(
     requires items { items ≡ count lengths.now }
     requires some { 0 < items }
     requires item { 0 < item }
-    requires bytes { items * item ≤ 2 ^ 28 }
+    requires bytes { items * item ≤ max_bytes }
     ensures { IfOk result (λ s. s ≡ c_strides item lengths.now) }
 {
     let mut strides = Strides::new(alloc);
@@ -128,7 +130,7 @@ pub(crate) fn c_order_strides(
     item: usize,
 ) -> Result<Strides, AllocError>
     requires item { 0 < item }
-    requires bytes { count shape.now * item ≤ 2 ^ 28 }
+    requires bytes { count shape.now * item ≤ max_bytes }
     ensures some { IfOk result (λ s. 0 < count shape.now → s ≡ c_strides item shape.now) }
     ensures none { IfOk result (λ s. count shape.now ≡ 0 → s ≡ map (λ _. pos 0) shape.now) }
 {
@@ -142,7 +144,7 @@ pub(crate) fn c_order_strides(
 /// The strides of Fortran order, of which the first axis steps over one item.
 fn multiplied_strides(alloc: Global, lengths: &[usize], item: usize) -> Result<Strides, AllocError>
     requires some { 0 < count lengths.now }
-    requires bytes { count lengths.now * item ≤ 2 ^ 28 }
+    requires bytes { count lengths.now * item ≤ max_bytes }
     ensures { IfOk result (λ s. s ≡ f_strides item lengths.now) }
 {
     let mut strides = Strides::new(alloc);
@@ -160,7 +162,7 @@ pub(crate) fn f_order_strides(
     shape: &Shape,
     item: usize,
 ) -> Result<Strides, AllocError>
-    requires bytes { count shape.now * item ≤ 2 ^ 28 }
+    requires bytes { count shape.now * item ≤ max_bytes }
     ensures some { IfOk result (λ s. 0 < count shape.now → s ≡ f_strides item shape.now) }
     ensures none { IfOk result (λ s. count shape.now ≡ 0 → s ≡ map (λ _. pos 0) shape.now) }
 {

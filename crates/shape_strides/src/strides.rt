@@ -1,4 +1,4 @@
-ghost use Rattle.std.specs.Prelude.{◌≡◌, [], ◌∷◌, ◌++◌, IfOk, OnOk, OnErr, Some};
+ghost use Rattle.std.specs.Prelude.{◌≡◌, [], ◌∷◌, ◌++◌, pos, map, IfOk, OnOk, OnErr, Some};
 ghost use Rattle.shape_strides.specs.Contiguity.{strides_text};
 
 use smallvec::SmallVec;
@@ -41,6 +41,17 @@ impl Strides {
         ensures { result.now ≡ self.now }
     {
         self.steps.as_slice()
+    }
+
+    /// As many strides, all of them 0.
+    pub fn zeroed(self) -> Strides
+        ensures { result ≡ map (λ _. pos 0) self }
+    {
+        let mut strides = self;
+        for step in strides.steps.as_mut_slice() {
+            *step = 0;
+        }
+        strides
     }
 
     pub fn push(&mut self, step: isize) -> Result<(), AllocError>

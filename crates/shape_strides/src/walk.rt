@@ -1,4 +1,4 @@
-ghost use Rattle.std.specs.Prelude.{◌≡◌, ℕ, ◌+◌, ◌^◌, ◌<◌, ◌≤◌, pos, length, All, IfOk};
+ghost use Rattle.std.specs.Prelude.{◌≡◌, ℕ, ◌+◌, ◌<◌, ◌≤◌, pos, length, All, IfOk};
 
 use crate::layout::Layout;
 use crate::steps::{back, forward};
@@ -36,7 +36,6 @@ impl<'a> Walk<'a> {
 
     /// A walk over all items of a layout.
     pub fn new(alloc: Global, layout: &'a Layout) -> Result<Walk<'a>, AllocError>
-        requires { Fits layout.now (2 ^ 28) 1 }
         ensures items { IfOk result (λ w. w ≡ offsets layout.now) }
         ensures count { length (offsets layout.now) ≡ count layout.now.shape }
         ensures within { (len item : ℕ) → Fits layout.now len item → All (λ offset. offset + item ≤ len) (offsets layout.now) }
@@ -53,7 +52,6 @@ impl<'a> Walk<'a> {
     /// Goes on to the next index in C order, and from the last one back to the first. The result is
     /// the offset there.
     fn advance(layout: &Layout, index: &mut [usize], offset: usize) -> usize
-        requires fits { Fits layout.now (2 ^ 28) 1 }
         requires index { IsIndex layout.now.shape index.old }
         requires offset { pos offset ≡ address layout.now index.old }
         ensures index { IsIndex layout.now.shape index.new }

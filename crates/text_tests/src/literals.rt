@@ -1,7 +1,7 @@
 //! Items as NumPy's `numpy.array` makes them of literals, where it takes the same.
 use elem_descr::{Descr, Refusal, descr_read};
 use literal_items::{can_be_item, fill, write_item, write_items};
-use script_lang::{Command, Literal, parse};
+use script_lang::{Command, Literal, NewItems, Value, parse};
 use std::alloc::{AllocError, Global};
 use std::process::Abort;
 
@@ -129,7 +129,14 @@ fn items(
 }
 
 fn items_of(rt: &impl Abort, alloc: Global, command: &Command) -> Result<Vec<u8>, Refusal> {
-    let Command::Array { descr, values, .. } = command else {
+    let Command::Bind {
+        value: Value::Make {
+            descr,
+            items: NewItems::Array { values, .. },
+        },
+        ..
+    } = command
+    else {
         return Err(Refusal::Syntax);
     };
     let descr = descr_read(alloc, descr.as_slice())?;

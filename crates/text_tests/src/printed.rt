@@ -247,11 +247,7 @@ fn layout_of(
     let shape = Shape::try_new(alloc, lengths)?;
     let strides = Strides::from_slice(alloc, steps)?;
     assert!(rt; strides.as_slice().len() == shape.as_slice().len());
-    Ok(Layout {
-        shape,
-        strides,
-        offset,
-    })
+    Ok(Layout::new(shape, strides, offset).expect(rt, "no layout"))
 }
 
 fn prints_view(rt: &impl Abort, alloc: Global, view: &View) -> Result<(), Refusal> {

@@ -2,7 +2,7 @@
 use crate::literals::{Made, is_as_told};
 use elem_descr::{Refusal, Scalar, typestr_read};
 use literal_items::{range_len, write_range};
-use script_lang::{Command, parse};
+use script_lang::{Command, NewItems, Value, parse};
 use std::alloc::Global;
 use std::process::Abort;
 
@@ -49,11 +49,11 @@ fn range(
 }
 
 fn range_of(alloc: Global, command: &Command) -> Result<Vec<u8>, Refusal> {
-    let Command::Arange {
-        descr,
-        start,
-        stop,
-        step,
+    let Command::Bind {
+        value: Value::Make {
+            descr,
+            items: NewItems::Arange { start, stop, step },
+        },
         ..
     } = command
     else {

@@ -6,7 +6,7 @@ use Rattle.elem_descr.specs.Refusals.{◌>>=◌}
 use Rattle.view_ops.specs.declared.index.IndexItem.{IndexItem}
 use Rattle.view_ops.specs.declared.index.IndexItem.TheVariants.{Integer, Slice, Ellipsis, NewAxis}
 use Rattle.view_ops.specs.Slices.{slice_indices, stepped}
-use Rattle.view_ops.specs.Basics.{picked_view, basic}
+use Rattle.view_ops.specs.Basics.{shape_picked, picked_view, basic}
 
 record Seen : Type 0 where
   shape : List ℕ
@@ -20,60 +20,60 @@ whole = Slice None None None
 
 -- `a[1, :]` of shape (2, 3)
 row : seen (2 ∷ 3 ∷ []) (Integer (pos 1) ∷ whole ∷ []) (2 ∷ []) ≡ Ok (record { shape = 3 ∷ []; lead = 1 ∷ 2 ∷ [] })
-unfolding basic picked_view slice_indices stepped
+unfolding basic picked_view shape_picked slice_indices stepped
 row = refl
 
 -- `a[1]`
 row_alone : seen (2 ∷ 3 ∷ []) (Integer (pos 1) ∷ []) (2 ∷ []) ≡ Ok (record { shape = 3 ∷ []; lead = 1 ∷ 2 ∷ [] })
-unfolding basic picked_view
+unfolding basic picked_view shape_picked
 row_alone = refl
 
 -- `a[..., 0, None]` of shape (2, 2, 2)
 new_last : seen (2 ∷ 2 ∷ 2 ∷ []) (Ellipsis ∷ Integer (pos 0) ∷ NewAxis ∷ []) (1 ∷ 0 ∷ 0 ∷ []) ≡ Ok (record { shape = 2 ∷ 2 ∷ 1 ∷ []; lead = 1 ∷ 0 ∷ 0 ∷ [] })
-unfolding basic picked_view
+unfolding basic picked_view shape_picked
 new_last = refl
 
 -- `a[None, -1, ..., 1:]` of shape (2, 3, 4, 5)
 around : seen (2 ∷ 3 ∷ 4 ∷ 5 ∷ []) (NewAxis ∷ Integer (negsuc 0) ∷ Ellipsis ∷ Slice (Some (pos 1)) None None ∷ []) (0 ∷ 2 ∷ 3 ∷ 0 ∷ []) ≡ Ok (record { shape = 1 ∷ 3 ∷ 4 ∷ 4 ∷ []; lead = 1 ∷ 2 ∷ 3 ∷ 1 ∷ [] })
-unfolding basic picked_view slice_indices stepped
+unfolding basic picked_view shape_picked slice_indices stepped
 around = refl
 
 -- `a[1, ..., 2]` of shape (2, 3), where `...` stands for no axis
 no_axis_between : seen (2 ∷ 3 ∷ []) (Integer (pos 1) ∷ Ellipsis ∷ Integer (pos 2) ∷ []) [] ≡ Ok (record { shape = []; lead = 1 ∷ 2 ∷ [] })
-unfolding basic picked_view
+unfolding basic picked_view shape_picked
 no_axis_between = refl
 
 -- `a[5:]` of shape (5,)
 nothing : seen (5 ∷ []) (Slice (Some (pos 5)) None None ∷ []) (0 ∷ []) ≡ Ok (record { shape = 0 ∷ []; lead = 0 ∷ [] })
-unfolding basic picked_view slice_indices stepped
+unfolding basic picked_view shape_picked slice_indices stepped
 nothing = refl
 
 -- `a[::-2]` of shape (5,)
 backwards : seen (5 ∷ []) (Slice None None (Some (negsuc 1)) ∷ []) (0 ∷ []) ≡ Ok (record { shape = 3 ∷ []; lead = 4 ∷ [] })
-unfolding basic picked_view slice_indices stepped
+unfolding basic picked_view shape_picked slice_indices stepped
 backwards = refl
 
 backwards_last : seen (5 ∷ []) (Slice None None (Some (negsuc 1)) ∷ []) (2 ∷ []) ≡ Ok (record { shape = 3 ∷ []; lead = 0 ∷ [] })
-unfolding basic picked_view slice_indices stepped
+unfolding basic picked_view shape_picked slice_indices stepped
 backwards_last = refl
 
 -- `a[-10 ** 29:10 ** 29:10 ** 29]` of shape (5,)
 far : seen (5 ∷ []) (Slice (Some (negsuc (10 ^ 29))) (Some (pos (10 ^ 29))) (Some (pos (10 ^ 29))) ∷ []) (0 ∷ []) ≡ Ok (record { shape = 1 ∷ []; lead = 0 ∷ [] })
-unfolding basic picked_view slice_indices stepped
+unfolding basic picked_view shape_picked slice_indices stepped
 far = refl
 
 -- `a[-1]` of shape (3,)
 last_item : seen (3 ∷ []) (Integer (negsuc 0) ∷ []) [] ≡ Ok (record { shape = []; lead = 2 ∷ [] })
-unfolding basic picked_view
+unfolding basic picked_view shape_picked
 last_item = refl
 
 -- `a[()]` and `a[...]` of shape ()
 no_axes : seen [] [] [] ≡ Ok (record { shape = []; lead = [] })
-unfolding basic picked_view
+unfolding basic picked_view shape_picked
 no_axes = refl
 
 no_axes_either : seen [] (Ellipsis ∷ []) [] ≡ Ok (record { shape = []; lead = [] })
-unfolding basic picked_view
+unfolding basic picked_view shape_picked
 no_axes_either = refl
 
 -- `a[0, 0]` of shape (5,)
@@ -111,9 +111,9 @@ many_first = refl
 
 -- 64 axes and one more, and an integer that is out of range beside it
 one_axis_more : basic (replicate 64 1) (NewAxis ∷ []) ≡ Err TooManyAxes
-unfolding basic picked_view
+unfolding basic picked_view shape_picked
 one_axis_more = refl
 
 out_of_range_first : basic (replicate 64 1) (NewAxis ∷ NewAxis ∷ Integer (pos 1) ∷ []) ≡ Err IndexOutOfRange
-unfolding basic picked_view
+unfolding basic picked_view shape_picked
 out_of_range_first = refl

@@ -1,5 +1,5 @@
 -- Laws of fields.
-use Rattle.std.proofs.Common.{◌≡◌, ℕ, ◌+◌, ◌^◌, ◌<◌, ◌≤◌, ℤ, pos, negsuc, ◌+ℤ◌, ◌≤ℤ◌, Option, Some, None, List, [], ◌∷◌, map, length, get_or, Ok, refl, sym, ap, ◌∙◌, arith}
+use Rattle.std.proofs.Common.{◌≡◌, ℕ, ◌+◌, ◌<◌, ◌≤◌, ℤ, pos, negsuc, ◌+ℤ◌, ◌≤ℤ◌, Option, Some, None, List, [], ◌∷◌, map, length, get_or, Ok, refl, sym, ap, ◌∙◌, arith}
 use Rattle.std.specs.Prelude.{IfSome, IsSomeAnd, slice_get}
 use Rattle.std.specs.Str.{bytes_eq}
 use Rattle.std.proofs.lemmas.Int.{ints}
@@ -15,7 +15,8 @@ use Rattle.elem_descr.specs.Encoding.{size}
 use Rattle.elem_descr.specs.Items.{item_size, leaves_of, leaf_named, field_of}
 use Rattle.shape_strides.specs.declared.layout.Layout.{Layout}
 use Rattle.shape_strides.specs.Indexes.{count, rank, IsIndex}
-use Rattle.shape_strides.specs.Layouts.{address, natural, offsets, Fits, distance, IsNested}
+use Rattle.shape_strides.specs.Addresses.{natural, LieWithin}
+use Rattle.shape_strides.specs.Layouts.{address, offsets, Fits, distance, IsNested}
 use Rattle.shape_strides.proofs.IndexLaws.{index_at}
 use Rattle.shape_strides.proofs.LayoutLaws.{length-offsets, get_or-offsets}
 use Rattle.shape_strides.proofs.AdvanceLaws.{IsIndex-first}
@@ -23,8 +24,8 @@ use Rattle.shape_strides.proofs.StepLaws.{padded, dot-zeros}
 use Rattle.view_ops.specs.FieldViews.{IsFieldOf, GivesField}
 
 -- the first item stands at the offset
-pub offset-lt : (l : Layout) (len : ℕ) → Fits l len 1 → 0 < count l.shape → l.offset < len
-offset-lt l len fits some =
+pub offset-within : (l : Layout) (len item : ℕ) → Fits l len item → 0 < count l.shape → l.offset + item ≤ len
+offset-within l len item fits some =
     let first = fits.within (padded l.shape []) (IsIndex-first l.shape some) in
     let is : address l (padded l.shape []) ≡ pos l.offset = ap (λ z. pos l.offset +ℤ z) (dot-zeros l.strides l.shape) ∙ +ℤ_idr (pos l.offset) in
     omega (arith, ints, is, first)
@@ -38,28 +39,35 @@ natural_further : (z : ℤ) (by : ℕ) → pos 0 ≤ℤ z → natural (z +ℤ po
 natural_further (pos n) by low = refl
 natural_further (negsuc n) by low = absurd (omega (arith, ints))
 
-offset_at : (old new : Layout) (by k d : ℕ) → IsMoved old new by → Fits old (2 ^ 28) 1 → k < count old.shape → get_or (offsets new) k d ≡ get_or (offsets old) k 0 + by
-offset_at old new by k d moved fits low =
+offset_at : (old new : Layout) (by k d : ℕ) → IsMoved old new by → k < count old.shape → get_or (offsets new) k d ≡ get_or (offsets old) k 0 + by
+offset_at old new by k d moved low =
     let found = index_at old.shape k low in
     let in' : IsIndex new.shape found.0 = rw moved.shape found.1 in
     let place : rank new.shape found.0 ≡ k = ap (λ s. rank s found.0) moved.shape ∙ found.2 in
     let there : get_or (offsets new) k d ≡ natural (address new found.0) = ap (λ r. get_or (offsets new) r d) (sym place) ∙ get_or-offsets new found.0 d in' in
     let here : get_or (offsets old) k 0 ≡ natural (address old found.0) = ap (λ r. get_or (offsets old) r 0) (sym found.2) ∙ get_or-offsets old found.0 0 found.1 in
-    there ∙ ap natural (moved.addresses found.0 found.1) ∙ natural_further (address old found.0) by (fits.from_zero found.0 found.1) ∙ ap (λ n. n + by) (sym here)
+    there ∙ ap natural (moved.addresses found.0 found.1) ∙ natural_further (address old found.0) by (old.within_limit.from_zero found.0 found.1) ∙ ap (λ n. n + by) (sym here)
 
-moved-places : (old new : Layout) (by : ℕ) → IsMoved old new by → Fits old (2 ^ 28) 1 → offsets new ≡ map (λ offset. offset + by) (offsets old)
-moved-places old new by moved fits =
+moved-places : (old new : Layout) (by : ℕ) → IsMoved old new by → offsets new ≡ map (λ offset. offset + by) (offsets old)
+moved-places old new by moved =
     let size : length (offsets new) ≡ length (offsets old) = length-offsets new ∙ ap count moved.shape ∙ sym (length-offsets old) in
     same_lists (offsets new) (map (λ offset. offset + by) (offsets old)) (size ∙ sym (length-map (offsets old) (λ offset. offset + by))) (λ k d below.
     let low : k < count old.shape = omega (arith, size, length-offsets old) in
     let inside : k < length (offsets old) = omega (arith, size) in
-    offset_at old new by k d moved fits low ∙ sym (get_or-map (λ offset. offset + by) (offsets old) k 0 d inside))
+    offset_at old new by k d moved low ∙ sym (get_or-map (λ offset. offset + by) (offsets old) k 0 d inside))
 
 further_within : (z : ℤ) (len item by size : ℕ) → by + size ≤ item → (z +ℤ pos item) ≤ℤ pos len → (z +ℤ pos by +ℤ pos size) ≤ℤ pos len
 further_within z len item by size few high = omega (arith, ints)
 
 further_low : (z : ℤ) (by : ℕ) → pos 0 ≤ℤ z → pos 0 ≤ℤ (z +ℤ pos by)
 further_low z by low = omega (arith, ints)
+
+-- the numbers that are moved lie within what held by and a part of each item
+pub lie_moved : (old : Layout) (by len item size : ℕ) → by + size ≤ item → Fits old len item → LieWithin old.shape old.strides (old.offset + by) len size
+lie_moved old by len item size few fits = record {
+  from_zero = λ index in'. let low = fits.from_zero index in' in omega (arith, ints);
+  within = λ index in'. let high = fits.within index in' in omega (arith, ints);
+}
 
 moved-fits : (old new : Layout) (by len item size : ℕ) → IsMoved old new by → by + size ≤ item → Fits old len item → Fits new len size
 moved-fits old new by len item size moved few fits = record {
@@ -74,21 +82,20 @@ moved-fits old new by len item size moved few fits = record {
 further_apart : (a b c d by item size : ℕ) → a ≡ c + by → b ≡ d + by → size ≤ item → item ≤ distance c d → size ≤ distance a b
 further_apart a b c d by item size first second few far = omega arith
 
-moved-nested : (old new : Layout) (by item size : ℕ) → IsMoved old new by → Fits old (2 ^ 28) 1 → size ≤ item → IsNested (offsets old) item → IsNested (offsets new) size
-moved-nested old new by item size moved fits few nested = record {
+moved-nested : (old new : Layout) (by item size : ℕ) → IsMoved old new by → size ≤ item → IsNested (offsets old) item → IsNested (offsets new) size
+moved-nested old new by item size moved few nested = record {
   apart = λ j k before inside.
       let same : length (offsets new) ≡ count old.shape = length-offsets new ∙ ap count moved.shape in
       let high : k < length (offsets old) = omega (arith, same, length-offsets old) in
-      further_apart (get_or (offsets new) j 0) (get_or (offsets new) k 0) (get_or (offsets old) j 0) (get_or (offsets old) k 0) by item size (offset_at old new by j 0 moved fits (omega (arith, same))) (offset_at old new by k 0 moved fits (omega (arith, same))) few (nested.apart j k before high);
+      further_apart (get_or (offsets new) j 0) (get_or (offsets new) k 0) (get_or (offsets old) j 0) (get_or (offsets old) k 0) by item size (offset_at old new by j 0 moved (omega (arith, same))) (offset_at old new by k 0 moved (omega (arith, same))) few (nested.apart j k before high);
 }
 
-field-is : (old new : Layout) (item : ℕ) (leaf : Leaf) → IsMoved old new leaf.at → Fits old (2 ^ 28) 1 → leaf.at + size leaf.scalar ≤ item → (count old.shape ≡ 0 → (new.offset ≡ 0) × (new.strides ≡ map (λ _. pos 0) old.shape)) → IsFieldOf old new item leaf
-field-is old new item leaf moved fits few empty = record {
+field-is : (old new : Layout) (item : ℕ) (leaf : Leaf) → IsMoved old new leaf.at → leaf.at + size leaf.scalar ≤ item → IsFieldOf old new item leaf
+field-is old new item leaf moved few = record {
   shape = moved.shape;
-  places = moved-places old new leaf.at moved fits;
+  places = moved-places old new leaf.at moved;
   fits = λ len old-fits. moved-fits old new leaf.at len item (size leaf.scalar) moved few old-fits;
-  nested = λ nested. moved-nested old new leaf.at item (size leaf.scalar) moved fits (omega arith) nested;
-  empty = empty;
+  nested = λ nested. moved-nested old new leaf.at item (size leaf.scalar) moved (omega arith) nested;
 }
 
 -- ---- the leaf
@@ -104,10 +111,10 @@ pub field-within : (descr : Descr) (name : List ℕ) (k : ℕ) → field_of desc
 field-within (ScalarDescr scalar) name k is = absurd (none_some k is)
 field-within (RecordDescr structure) name k is = named-within structure.leaves name k is
 
-gives_leaf : (old new : Layout) (descr : Descr) (there : Option Leaf) (scalar : Scalar) (at : ℕ) → (there ≡ None → ⊥) → IfSome there (λ leaf. (scalar ≡ leaf.scalar) × (at ≡ leaf.at)) → at + size scalar ≤ item_size descr → IsMoved old new at → Fits old (2 ^ 28) 1 → (count old.shape ≡ 0 → (new.offset ≡ 0) × (new.strides ≡ map (λ _. pos 0) old.shape)) → IsSomeAnd there (IsFieldOf old new (item_size descr))
-gives_leaf old new descr None scalar at some is few moved fits empty = absurd (some refl)
-gives_leaf old new descr (Some leaf) scalar at some is few moved fits empty =
-    field-is old new (item_size descr) leaf (rw (is.1) at moved) fits (rw (is.0, is.1) at few) empty
+gives_leaf : (old new : Layout) (descr : Descr) (there : Option Leaf) (scalar : Scalar) (at : ℕ) → (there ≡ None → ⊥) → IfSome there (λ leaf. (scalar ≡ leaf.scalar) × (at ≡ leaf.at)) → at + size scalar ≤ item_size descr → IsMoved old new at → IsSomeAnd there (IsFieldOf old new (item_size descr))
+gives_leaf old new descr None scalar at some is few moved = absurd (some refl)
+gives_leaf old new descr (Some leaf) scalar at some is few moved =
+    field-is old new (item_size descr) leaf (rw (is.1) at moved) (rw (is.0, is.1) at few)
 
 get_some : (leaves : List Leaf) (k : ℕ) → k < length leaves → slice_get leaves k ≡ None → ⊥
 get_some [] k low none = omega arith
@@ -115,6 +122,6 @@ get_some (leaf ∷ leaves) k low none =
     let some = slice_get-get_or (leaf ∷ leaves) k leaf low in
     cc
 
-pub gives_field : (old new : Layout) (descr : Descr) (there : Option ℕ) (k : ℕ) (scalar : Scalar) (at : ℕ) → there ≡ Some k → k < length (leaves_of descr) → IfSome (slice_get (leaves_of descr) k) (λ leaf. (scalar ≡ leaf.scalar) × (at ≡ leaf.at)) → at + size scalar ≤ item_size descr → IsMoved old new at → Fits old (2 ^ 28) 1 → (count old.shape ≡ 0 → (new.offset ≡ 0) × (new.strides ≡ map (λ _. pos 0) old.shape)) → GivesField old descr there (Ok new)
-gives_field old new descr there k scalar at is low leaf few moved fits empty =
-    rw is (gives_leaf old new descr (slice_get (leaves_of descr) k) scalar at (get_some (leaves_of descr) k low) leaf few moved fits empty)
+pub gives_field : (old new : Layout) (descr : Descr) (there : Option ℕ) (k : ℕ) (scalar : Scalar) (at : ℕ) → there ≡ Some k → k < length (leaves_of descr) → IfSome (slice_get (leaves_of descr) k) (λ leaf. (scalar ≡ leaf.scalar) × (at ≡ leaf.at)) → at + size scalar ≤ item_size descr → IsMoved old new at → GivesField old descr there (Ok new)
+gives_field old new descr there k scalar at is low leaf few moved =
+    rw is (gives_leaf old new descr (slice_get (leaves_of descr) k) scalar at (get_some (leaves_of descr) k low) leaf few moved)

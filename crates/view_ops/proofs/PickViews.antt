@@ -1,5 +1,5 @@
 -- The layout of what is picked is a view.
-use Rattle.std.proofs.Common.{◌≡◌, inl, inr, Ok, ℕ, suc, ◌+◌, ◌*◌, ◌^◌, ◌<◌, ◌≤◌, nat_lt, nat_le, true, ℤ, pos, neg_ℤ, ◌+ℤ◌, ◌*ℤ◌, ◌≤ℤ◌, List, [], ◌∷◌, ◌++◌, All, map, length, get_or, take, drop, refl, sym, ap, ◌∙◌, arith, mul-le-mul_left, append_assoc}
+use Rattle.std.proofs.Common.{◌≡◌, inl, inr, Ok, ℕ, suc, ◌+◌, ◌*◌, ◌<◌, ◌≤◌, nat_lt, nat_le, true, ℤ, pos, neg_ℤ, ◌+ℤ◌, ◌*ℤ◌, ◌≤ℤ◌, List, [], ◌∷◌, ◌++◌, All, map, length, get_or, take, drop, refl, sym, ap, ◌∙◌, arith, mul-le-mul_left, append_assoc}
 use Rattle.std.specs.List.{list_all, flat_map}
 use Rattle.std.proofs.Math.Nat.{mul-le-mul_right}
 use Rattle.std.proofs.lemmas.Bool.{cases_Bool, cases_lt}
@@ -12,7 +12,9 @@ use lib.IntN.{*ℤ-zero, zero-*ℤ, *ℤ-one, +ℤ_assoc, +ℤ_idl, +ℤ_idr}
 use Rattle.shape_strides.specs.declared.layout.Layout.{Layout}
 use Rattle.shape_strides.specs.Indexes.{count, IsIndex}
 use Rattle.shape_strides.specs.Shapes.{shape_of}
-use Rattle.shape_strides.specs.Layouts.{dot, address, offsets, natural, Fits}
+use Rattle.shape_strides.specs.Limits.{max_axes, max_items, max_bytes}
+use Rattle.shape_strides.specs.Addresses.{dot, address_at, natural, LieWithin}
+use Rattle.shape_strides.specs.Layouts.{address, offsets}
 use Rattle.shape_strides.proofs.IndexLaws.{rank-lt}
 use Rattle.shape_strides.proofs.ReachLaws.{factors_pos}
 use Rattle.shape_strides.proofs.ShapeAnswers.{shape_of-ok}
@@ -23,8 +25,8 @@ use Rattle.view_ops.specs.declared.slice.Run.{Run}
 use Rattle.view_ops.specs.Slices.{run_number, run_numbers, IsRunWithin}
 use Rattle.view_ops.specs.Basics.{axis_of, picked_shape, picked_index}
 use Rattle.view_ops.specs.Picks.{shown, ArePicks, first_of, axes_taken, run_stride, stride_of, picked_strides, IsSmallStep, IsSmallPick, HaveSmallSteps}
-use Rattle.view_ops.specs.Views.{view_through, IsViewOf}
-use Rattle.view_ops.proofs.ViewLaws.{IsView, inside-view, offsets-view, Fits-view, IsNested-view}
+use Rattle.view_ops.specs.Views.{view_through, IsViewOf, KeepsNested}
+use Rattle.view_ops.proofs.ViewLaws.{Shows, LieWithin-view, inside-view, offsets-view, IsNested-view}
 use Rattle.view_ops.proofs.StrideLaws.{stride_along, run_number-is, run-one}
 
 -- the lengths and the leads of what is picked
@@ -63,7 +65,7 @@ count-picks (n ∷ shape) (AtAxis number ∷ picks) are =
 count-picks (n ∷ shape) (AlongAxis run ∷ picks) are =
     shorter (length (run_numbers run)) n (count (shape_of_picks picks)) (count shape) (omega (arith, length-run run, are.0.count_within)) (count-picks shape picks are.1)
 
-pub short-picks : (shape : List ℕ) (picks : List AxisPick) → ArePicks shape picks → All (λ m. m ≤ 2 ^ 24) shape → list_all (λ m. nat_le m (2 ^ 24)) (shape_of_picks picks) ≡ true
+pub short-picks : (shape : List ℕ) (picks : List AxisPick) → ArePicks shape picks → All (λ m. m ≤ max_items) shape → list_all (λ m. nat_le m max_items) (shape_of_picks picks) ≡ true
 short-picks shape (NewAxis ∷ picks) are low = short-picks shape picks are low
 short-picks [] [] are low = refl
 short-picks [] (AtAxis number ∷ picks) are low = absurd are
@@ -71,11 +73,11 @@ short-picks [] (AlongAxis run ∷ picks) are low = absurd are
 short-picks (n ∷ shape) [] are low = absurd are
 short-picks (n ∷ shape) (AtAxis number ∷ picks) are low = short-picks shape picks are.1 (λ k d below. low (suc k) d (omega arith))
 short-picks (n ∷ shape) (AlongAxis run ∷ picks) are low =
-    let short : length (run_numbers run) ≤ 2 ^ 24 = omega (arith, length-run run, are.0.count_within, low 0 0 (omega arith)) in
-    let test : nat_le (length (run_numbers run)) (2 ^ 24) ≡ true = grind (arith, nat_tests) in
+    let short : length (run_numbers run) ≤ max_items = omega (arith, length-run run, are.0.count_within, low 0 0 (omega arith)) in
+    let test : nat_le (length (run_numbers run)) max_items ≡ true = grind (arith, nat_tests) in
     rw test (short-picks shape picks are.1 (λ k d below. low (suc k) d (omega arith)))
 
-pub shape_of-picks : (shape : List ℕ) (picks : List AxisPick) → ArePicks shape picks → All (λ m. m ≤ 2 ^ 24) shape → count shape ≤ 2 ^ 24 → length (shape_of_picks picks) ≤ 64 → shape_of (shape_of_picks picks) ≡ Ok (shape_of_picks picks)
+pub shape_of-picks : (shape : List ℕ) (picks : List AxisPick) → ArePicks shape picks → All (λ m. m ≤ max_items) shape → count shape ≤ max_items → length (shape_of_picks picks) ≤ max_axes → shape_of (shape_of_picks picks) ≡ Ok (shape_of_picks picks)
 shape_of-picks shape picks are low small few = shape_of-ok (shape_of_picks picks) few (short-picks shape picks are low) (omega (arith, count-picks shape picks are))
 
 -- ---- where indexes lead
@@ -265,7 +267,7 @@ one-picks (n ∷ shape) (AlongAxis run ∷ picks) (k ∷ i) (l ∷ j) are in-i i
 -- the sums from z on stay within the first bytes
 pub record StaysWithin (z : ℤ) (strides : List ℤ) (shape : List ℕ) : Type 0 where
   pub low : (index : List ℕ) → IsIndex shape index → pos 0 ≤ℤ (z +ℤ dot strides index)
-  pub high : (index : List ℕ) → IsIndex shape index → (z +ℤ dot strides index) ≤ℤ pos (2 ^ 28)
+  pub high : (index : List ℕ) → IsIndex shape index → (z +ℤ dot strides index) ≤ℤ pos max_bytes
 
 -- with this number on the first axis
 stays_at : (z s : ℤ) (strides : List ℤ) (n x : ℕ) (shape : List ℕ) → x < n → StaysWithin z (s ∷ strides) (n ∷ shape) → StaysWithin (z +ℤ s *ℤ pos x) strides shape
@@ -284,7 +286,7 @@ times_one : (t : ℤ) → t *ℤ pos 1 ≡ t
 unfolding lib.IntN.one
 times_one t = *ℤ-one t
 
-small_step : (z s : ℤ) (strides : List ℤ) (n : ℕ) (shape : List ℕ) (run : Run) (rest : List ℕ) → IsRunWithin run n → n ≤ 2 ^ 24 → IsIndex shape rest → StaysWithin z (s ∷ strides) (n ∷ shape) → 2 ≤ run.count → IsSmallStep s run.step
+small_step : (z s : ℤ) (strides : List ℤ) (n : ℕ) (shape : List ℕ) (run : Run) (rest : List ℕ) → IsRunWithin run n → n ≤ max_items → IsIndex shape rest → StaysWithin z (s ∷ strides) (n ∷ shape) → 2 ≤ run.count → IsSmallStep s run.step
 small_step z s strides n shape run rest within few in' stays two =
     let d = dot strides rest in
     let x = run_number run 1 in
@@ -295,11 +297,11 @@ small_step z s strides n shape run rest within few in' stays two =
     let moved : s *ℤ pos x ≡ s *ℤ pos run.first +ℤ s *ℤ run.step = sym (stride_along s run.step x run.first 1 (run_number-is run n 1 within (omega arith))) ∙ ap (λ t. s *ℤ pos run.first +ℤ t) (times_one (s *ℤ run.step)) in
     let here = stays_at z s strides n run.first shape low stays in
     let there = stays_at z s strides n x shape low' stays in
-    let near = near_by x run.first n (2 ^ 28) run.step is low' low (omega arith) in
-    let far = far_apart z d (s *ℤ pos run.first) (s *ℤ pos x) (s *ℤ run.step) (2 ^ 28) moved (here.low rest in') (here.high rest in') (there.low rest in') (there.high rest in') in
+    let near = near_by x run.first n max_bytes run.step is low' low (omega arith) in
+    let far = far_apart z d (s *ℤ pos run.first) (s *ℤ pos x) (s *ℤ run.step) max_bytes moved (here.low rest in') (here.high rest in') (there.low rest in') (there.high rest in') in
     record { step_low = near.0; step_high = near.1; low = far.0; high = far.1 }
 
-pub small-picks : (z : ℤ) (strides : List ℤ) (shape : List ℕ) (picks : List AxisPick) → length strides ≡ length shape → All (λ m. m ≤ 2 ^ 24) shape → ArePicks shape picks → 0 < count (shape_of_picks picks) → StaysWithin z strides shape → HaveSmallSteps strides picks
+pub small-picks : (z : ℤ) (strides : List ℤ) (shape : List ℕ) (picks : List AxisPick) → length strides ≡ length shape → All (λ m. m ≤ max_items) shape → ArePicks shape picks → 0 < count (shape_of_picks picks) → StaysWithin z strides shape → HaveSmallSteps strides picks
 small-picks z strides shape (NewAxis ∷ picks) one low are some stays = small-picks z strides shape picks one low are (omega arith) stays
 small-picks z [] [] [] one low are some stays = tt
 small-picks z (s ∷ strides) [] [] one low are some stays = absurd (omega arith)
@@ -319,44 +321,65 @@ small-picks z (s ∷ strides) (n ∷ shape) (AlongAxis run ∷ picks) one low ar
 below_limit : (a : ℤ) (len : ℕ) → (a +ℤ pos 1) ≤ℤ pos len → a ≤ℤ pos len
 below_limit a len low = omega (arith, ints)
 
-pub small-layout : (old : Layout) (picks : List AxisPick) → length old.strides ≡ length old.shape → All (λ m. m ≤ 2 ^ 24) old.shape → Fits old (2 ^ 28) 1 → ArePicks old.shape picks → 0 < count (shape_of_picks picks) → HaveSmallSteps old.strides picks
-small-layout old picks one low fits are some =
-    small-picks (pos old.offset) old.strides old.shape picks one low are some (record {
-      low = λ index in'. fits.from_zero index in';
-      high = λ index in'. below_limit (address old index) (2 ^ 28) (fits.within index in');
+pub small-layout : (old : Layout) (picks : List AxisPick) → All (λ m. m ≤ max_items) old.shape → ArePicks old.shape picks → 0 < count (shape_of_picks picks) → HaveSmallSteps old.strides picks
+small-layout old picks low are some =
+    small-picks (pos old.offset) old.strides old.shape picks old.one_stride_an_axis low are some (record {
+      low = λ index in'. old.within_limit.from_zero index in';
+      high = λ index in'. below_limit (address old index) max_bytes (old.within_limit.within index in');
     })
 
 -- ---- the view
 
--- how the new layout was made
-pub record IsPicked (old new : Layout) (picks : List AxisPick) : Type 0 where
-  pub one_each : length old.strides ≡ length old.shape
+-- how the new numbers were made, where there are items
+pub record IsPicked (old : Layout) (shape : List ℕ) (strides : List ℤ) (offset : ℕ) (picks : List AxisPick) : Type 0 where
   pub are : ArePicks old.shape picks
-  pub shape : new.shape ≡ shape_of_picks picks
-  pub offset : 0 < count new.shape → pos new.offset ≡ address old (firsts picks)
-  pub strides : 0 < count new.shape → new.strides ≡ picked_strides old.strides picks
-  pub empty : count new.shape ≡ 0 → (new.offset ≡ 0) × (new.strides ≡ map (λ _. pos 0) new.shape)
+  pub shape_is : shape ≡ shape_of_picks picks
+  pub offset_is : 0 < count shape → pos offset ≡ address old (firsts picks)
+  pub strides_are : 0 < count shape → strides ≡ picked_strides old.strides picks
 
-picked-address : (old new : Layout) (picks : List AxisPick) (index : List ℕ) → IsPicked old new picks → 0 < count new.shape → IsIndex (shape_of_picks picks) index → address new index ≡ address old (leads_of_picks picks index)
-picked-address old new picks index picked some in' =
-    ap (λ o. o +ℤ dot new.strides index) (picked.offset some) ∙ ap (λ s. address old (firsts picks) +ℤ dot s index) (picked.strides some) ∙ +ℤ_assoc (pos old.offset) (dot old.strides (firsts picks)) (dot (picked_strides old.strides picks) index) ∙ ap (λ z. pos old.offset +ℤ z) (dot-picks old.strides old.shape picks index picked.one_each picked.are in')
-
-pub picked-is_view : (old new : Layout) (picks : List AxisPick) → IsPicked old new picks → IsView old new (leads_of_picks picks)
-picked-is_view old new picks picked = record {
-  leads = λ index in'. leads-picks old.shape picks index picked.are (rw (← picked.shape) in');
-  same = λ index in'. picked-address old new picks index picked (omega (arith, rank-lt new.shape index in')) (rw (← picked.shape) in');
+pub picked_as : (old : Layout) (shape : List ℕ) (strides : List ℤ) (offset : ℕ) (picks : List AxisPick) (first : List ℕ) (seen : List ℤ) → ArePicks old.shape picks → shape ≡ shape_of_picks picks → pos offset ≡ address old first → first ≡ firsts picks → strides ≡ picked_strides seen picks → seen ≡ old.strides → IsPicked old shape strides offset picks
+picked_as old shape strides offset picks first seen are shape_is at first_is made is = record {
+  are = are;
+  shape_is = shape_is;
+  offset_is = λ _. at ∙ ap (address old) first_is;
+  strides_are = λ _. made ∙ ap (λ s. picked_strides s picks) is;
 }
 
-pub picked-is : (old new : Layout) (picks : List AxisPick) → IsPicked old new picks → IsViewOf old new (record { shape = shape_of_picks picks; leads = leads_of_picks picks })
+-- any layout of that shape, where there is no item
+pub picked_empty : (old new : Layout) (shape : List ℕ) (picks : List AxisPick) → ArePicks old.shape picks → new.shape ≡ shape → shape ≡ shape_of_picks picks → count shape ≡ 0 → IsPicked old new.shape new.strides new.offset picks
+picked_empty old new shape picks are same shape_is none = record {
+  are = are;
+  shape_is = same ∙ shape_is;
+  offset_is = λ some. absurd (omega (arith, ap count same));
+  strides_are = λ some. absurd (omega (arith, ap count same));
+}
+
+picked-address : (old : Layout) (shape : List ℕ) (strides : List ℤ) (offset : ℕ) (picks : List AxisPick) (index : List ℕ) → IsPicked old shape strides offset picks → 0 < count shape → IsIndex (shape_of_picks picks) index → address_at strides offset index ≡ address old (leads_of_picks picks index)
+picked-address old shape strides offset picks index picked some in' =
+    ap (λ o. o +ℤ dot strides index) (picked.offset_is some) ∙ ap (λ s. address old (firsts picks) +ℤ dot s index) (picked.strides_are some) ∙ +ℤ_assoc (pos old.offset) (dot old.strides (firsts picks)) (dot (picked_strides old.strides picks) index) ∙ ap (λ z. pos old.offset +ℤ z) (dot-picks old.strides old.shape picks index old.one_stride_an_axis picked.are in')
+
+pub picked-shows : (old : Layout) (shape : List ℕ) (strides : List ℤ) (offset : ℕ) (picks : List AxisPick) → IsPicked old shape strides offset picks → Shows old shape strides offset (leads_of_picks picks)
+picked-shows old shape strides offset picks picked = record {
+  leads = λ index in'. leads-picks old.shape picks index picked.are (rw (← picked.shape_is) in');
+  same = λ index in'. picked-address old shape strides offset picks index picked (omega (arith, rank-lt shape index in')) (rw (← picked.shape_is) in');
+}
+
+pub picked-lies : (old : Layout) (shape : List ℕ) (strides : List ℤ) (offset : ℕ) (picks : List AxisPick) → IsPicked old shape strides offset picks → LieWithin shape strides offset max_bytes 1
+picked-lies old shape strides offset picks picked =
+    LieWithin-view old shape strides offset (leads_of_picks picks) max_bytes 1 (picked-shows old shape strides offset picks picked) old.within_limit
+
+pub picked-is : (old new : Layout) (picks : List AxisPick) → IsPicked old new.shape new.strides new.offset picks → IsViewOf old new (record { shape = shape_of_picks picks; leads = leads_of_picks picks })
 picked-is old new picks picked =
     let leads = leads_of_picks picks in
-    let view = picked-is_view old new picks picked in
+    let view = picked-shows old new.shape new.strides new.offset picks picked in
     record {
-      shape = picked.shape;
-      leads = λ index in'. view.leads index (rw picked.shape in');
-      inside = inside-view old new leads (shape_of_picks picks) view picked.shape;
-      places = offsets-view old new leads view ∙ ap (λ s. view_through (offsets old) old.shape s leads) picked.shape;
-      fits = λ len item fits. Fits-view old new leads len item view fits;
-      nested = λ item nested. IsNested-view old new leads item view (λ i j in-i in-j same. one-picks old.shape picks i j picked.are (rw (← picked.shape) in-i) (rw (← picked.shape) in-j) same) nested;
-      empty = λ none. let is = picked.empty (ap count picked.shape ∙ none) in (is.0, is.1 ∙ ap (map (λ _. pos 0)) picked.shape);
+      shape = picked.shape_is;
+      leads = λ index in'. view.leads index (rw picked.shape_is in');
+      inside = inside-view old new leads (shape_of_picks picks) view picked.shape_is;
+      places = offsets-view old new leads view ∙ ap (λ s. view_through (offsets old) old.shape s leads) picked.shape_is;
+      fits = λ len item fits. LieWithin-view old new.shape new.strides new.offset leads len item view fits;
     }
+
+pub picked-nested : (old new : Layout) (picks : List AxisPick) → IsPicked old new.shape new.strides new.offset picks → KeepsNested old new
+picked-nested old new picks picked item nested =
+    IsNested-view old new (leads_of_picks picks) item (picked-shows old new.shape new.strides new.offset picks picked) (λ i j in-i in-j same. one-picks old.shape picks i j picked.are (rw (← picked.shape_is) in-i) (rw (← picked.shape_is) in-j) same) nested

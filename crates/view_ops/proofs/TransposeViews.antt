@@ -3,70 +3,92 @@ use Rattle.std.specs.Result.{is_ok, IfOk, IfErr}
 use Rattle.std.proofs.lemmas.Bool.{false≢true}
 use Rattle.elem_descr.specs.declared.refusal.Refusal.{Refusal}
 use Rattle.elem_descr.specs.declared.refusal.Refusal.TheVariants.{OutOfMemory}
-use Rattle.std.proofs.Common.{◌≡◌, ◌⊎◌, inl, inr, Option, Result, Err, ℕ, ◌<◌, ◌≤◌, ◌^◌, nat_le, true, ℤ, pos, ◌+ℤ◌, List, [], ◌∷◌, All, map, length, replicate, get_or, Ok, refl, sym, ap, ◌∙◌, arith}
+use Rattle.std.proofs.Common.{◌≡◌, ◌⊎◌, inl, inr, Option, Result, Err, ℕ, ◌<◌, ◌≤◌, nat_le, true, ℤ, pos, ◌+ℤ◌, List, [], ◌∷◌, All, map, length, replicate, get_or, Ok, refl, sym, ap, subst, ◌∙◌, arith}
 use Rattle.std.specs.List.{list_all}
 use Rattle.std.proofs.lemmas.Bool.Decides.{nat_tests}
-use Rattle.std.proofs.lemmas.List.{length-map}
+use Rattle.std.proofs.lemmas.List.{length-map, get_or-map}
 use Rattle.shape_strides.specs.declared.layout.Layout.{Layout}
 use Rattle.shape_strides.specs.Indexes.{count}
 use Rattle.shape_strides.specs.Shapes.{shape_of}
-use Rattle.shape_strides.specs.Layouts.{dot, address, offsets}
-use Rattle.shape_strides.proofs.IndexLaws.{rank-lt}
+use Rattle.shape_strides.specs.Limits.{max_axes, max_items, max_bytes}
+use Rattle.shape_strides.specs.Addresses.{dot, address_at, LieWithin}
+use Rattle.shape_strides.specs.Layouts.{address, offsets}
+use Rattle.shape_strides.proofs.ZeroLaws.{zeros_are}
 use Rattle.shape_strides.proofs.ShapeAnswers.{shape_of-ok}
 use Rattle.view_ops.specs.Transposes.{AreAxes, AreAllAxes, axes_of, transposed, transposed_shape, transposed_index, put_at}
-use Rattle.view_ops.specs.Views.{view_through, IsViewOf, GivesView}
+use Rattle.view_ops.specs.Views.{view_through, IsViewOf, GivesView, KeepsNested}
 use Rattle.view_ops.proofs.TransposeLaws.{dot-put_at, IsIndex-transposed, transposed-one, count-transposed}
-use Rattle.view_ops.proofs.ViewLaws.{IsView, inside-view, offsets-view, Fits-view, IsNested-view, gives_refusal}
+use Rattle.view_ops.proofs.ViewLaws.{Shows, LieWithin-view, IsView, inside-view, offsets-view, IsNested-view, gives_refusal}
+use Rattle.view_ops.proofs.AxesLaws.{axis-lt}
 
 -- ---- the shape
 
-all_short : (n : ℕ) (axes shape : List ℕ) → length shape ≡ n → AreAxes n axes → All (λ m. m ≤ 2 ^ 24) shape → list_all (λ m. nat_le m (2 ^ 24)) (transposed_shape axes shape) ≡ true
+all_short : (n : ℕ) (axes shape : List ℕ) → length shape ≡ n → AreAxes n axes → All (λ m. m ≤ max_items) shape → list_all (λ m. nat_le m max_items) (transposed_shape axes shape) ≡ true
 all_short n [] shape size are low = refl
 all_short n (a ∷ axes) shape size are low =
-    let short : get_or shape a 0 ≤ 2 ^ 24 = low a 0 (omega (arith, are.0)) in
-    let test : nat_le (get_or shape a 0) (2 ^ 24) ≡ true = grind (arith, nat_tests) in
+    let short : get_or shape a 0 ≤ max_items = low a 0 (omega (arith, are.0)) in
+    let test : nat_le (get_or shape a 0) max_items ≡ true = grind (arith, nat_tests) in
     rw test (all_short n axes shape size are.2 low)
 
-pub shape_of-transposed : (axes shape : List ℕ) → AreAllAxes (length shape) axes → length shape ≤ 64 → All (λ m. m ≤ 2 ^ 24) shape → count shape ≤ 2 ^ 24 → shape_of (transposed_shape axes shape) ≡ Ok (transposed_shape axes shape)
+pub shape_of-transposed : (axes shape : List ℕ) → AreAllAxes (length shape) axes → length shape ≤ max_axes → All (λ m. m ≤ max_items) shape → count shape ≤ max_items → shape_of (transposed_shape axes shape) ≡ Ok (transposed_shape axes shape)
 shape_of-transposed axes shape all few low small =
     shape_of-ok (transposed_shape axes shape) (omega (arith, length-map axes (λ a. get_or shape a 0), all.size)) (all_short (length shape) axes shape refl all.are low) (omega (arith, count-transposed axes shape all.size all.are))
 
 -- ---- the view
 
--- how the new layout was made
-pub record IsTurned (old new : Layout) (axes : List ℕ) : Type 0 where
-  pub one_each : length old.strides ≡ length old.shape
+-- how the new numbers were made
+pub record IsTurned (old : Layout) (shape : List ℕ) (strides : List ℤ) (axes : List ℕ) : Type 0 where
   pub all : AreAllAxes (length old.shape) axes
-  pub shape : new.shape ≡ transposed_shape axes old.shape
-  pub offset : 0 < count new.shape → new.offset ≡ old.offset
-  pub strides : 0 < count new.shape → new.strides ≡ map (λ a. get_or old.strides a (pos 0)) axes
-  pub empty : count new.shape ≡ 0 → (new.offset ≡ 0) × (new.strides ≡ map (λ _. pos 0) new.shape)
+  pub shape_is : shape ≡ transposed_shape axes old.shape
+  pub strides_are : strides ≡ map (λ a. get_or old.strides a (pos 0)) axes
 
-turned-address : (old new : Layout) (axes index : List ℕ) → IsTurned old new axes → 0 < count new.shape → address new index ≡ address old (transposed_index axes index)
-turned-address old new axes index turned some =
-    let are : AreAxes (length old.strides) axes = rw (turned.one_each) turned.all.are in
+turned-address : (old : Layout) (shape : List ℕ) (strides : List ℤ) (axes index : List ℕ) → IsTurned old shape strides axes → address_at strides old.offset index ≡ address old (transposed_index axes index)
+turned-address old shape strides axes index turned =
+    let are : AreAxes (length old.strides) axes = rw (old.one_stride_an_axis) turned.all.are in
     let moved = dot-put_at old.strides axes index (length old.strides) refl are in
-    let size : length old.strides ≡ length axes = turned.one_each ∙ sym turned.all.size in
-    ap (λ o. pos o +ℤ dot new.strides index) (turned.offset some) ∙ ap (λ s. pos old.offset +ℤ dot s index) (turned.strides some) ∙ ap (λ z. pos old.offset +ℤ z) moved ∙ ap (λ n. pos old.offset +ℤ dot old.strides (put_at axes index (replicate n 0))) size
+    let size : length old.strides ≡ length axes = old.one_stride_an_axis ∙ sym turned.all.size in
+    ap (λ s. pos old.offset +ℤ dot s index) turned.strides_are ∙ ap (λ z. pos old.offset +ℤ z) moved ∙ ap (λ n. pos old.offset +ℤ dot old.strides (put_at axes index (replicate n 0))) size
 
-pub turned-view : (old new : Layout) (axes : List ℕ) → IsTurned old new axes → IsView old new (transposed_index axes)
-turned-view old new axes turned = record {
-  leads = λ index in'. IsIndex-transposed axes old.shape index turned.all.size turned.all.are (rw (← turned.shape) in');
-  same = λ index in'. turned-address old new axes index turned (omega (arith, rank-lt new.shape index in'));
+pub turned-shows : (old : Layout) (shape : List ℕ) (strides : List ℤ) (axes : List ℕ) → IsTurned old shape strides axes → Shows old shape strides old.offset (transposed_index axes)
+turned-shows old shape strides axes turned = record {
+  leads = λ index in'. IsIndex-transposed axes old.shape index turned.all.size turned.all.are (rw (← turned.shape_is) in');
+  same = λ index in'. turned-address old shape strides axes index turned;
 }
 
-pub turned-is : (old new : Layout) (axes : List ℕ) → IsTurned old new axes → IsViewOf old new (record { shape = transposed_shape axes old.shape; leads = transposed_index axes })
-turned-is old new axes turned =
-    let view = turned-view old new axes turned in
+pub turned-length : (old : Layout) (shape : List ℕ) (strides : List ℤ) (axes : List ℕ) → IsTurned old shape strides axes → length strides ≡ length shape
+turned-length old shape strides axes turned =
+    ap length turned.strides_are ∙ length-map axes (λ a. get_or old.strides a (pos 0)) ∙ sym (ap length turned.shape_is ∙ length-map axes (λ a. get_or old.shape a 0))
+
+pub turned-lies : (old : Layout) (shape : List ℕ) (strides : List ℤ) (axes : List ℕ) → IsTurned old shape strides axes → LieWithin shape strides old.offset max_bytes 1
+turned-lies old shape strides axes turned =
+    LieWithin-view old shape strides old.offset (transposed_index axes) max_bytes 1 (turned-shows old shape strides axes turned) old.within_limit
+
+-- the strides of an array without items are 0 in any order
+pub turned-zeros : (old : Layout) (shape : List ℕ) (strides : List ℤ) (axes : List ℕ) → IsTurned old shape strides axes → count shape ≡ 0 → (old.offset ≡ 0) × (strides ≡ map (λ _. pos 0) shape)
+turned-zeros old shape strides axes turned none =
+    let zero = old.zero_if_empty (sym (count-transposed axes old.shape turned.all.size turned.all.are) ∙ sym (ap count turned.shape_is) ∙ none) in (
+      zero.0,
+      zeros_are strides shape 0 (turned-length old shape strides axes turned) (λ k below.
+          let inside : k < length axes = omega (arith, ap length turned.strides_are, length-map axes (λ a. get_or old.strides a (pos 0))) in
+          let low : get_or axes k 0 < length old.shape = axis-lt (length old.shape) axes k turned.all.are inside in
+          ap (λ s. get_or s k (pos 0)) turned.strides_are ∙ get_or-map (λ a. get_or old.strides a (pos 0)) axes k 0 (pos 0) inside ∙ ap (λ s. get_or s (get_or axes k 0) (pos 0)) zero.1 ∙ get_or-map (λ _. pos 0) old.shape (get_or axes k 0) 0 (pos 0) low),
+    )
+
+pub turned-is : (old new : Layout) (axes : List ℕ) → IsTurned old new.shape new.strides axes → new.offset ≡ old.offset → IsViewOf old new (record { shape = transposed_shape axes old.shape; leads = transposed_index axes })
+turned-is old new axes turned same =
+    let view : IsView old new (transposed_index axes) = subst (λ o. Shows old new.shape new.strides o (transposed_index axes)) (sym same) (turned-shows old new.shape new.strides axes turned) in
     record {
-      shape = turned.shape;
-      leads = λ index in'. view.leads index (rw turned.shape in');
-      inside = inside-view old new (transposed_index axes) (transposed_shape axes old.shape) view turned.shape;
-      places = offsets-view old new (transposed_index axes) view ∙ ap (λ s. view_through (offsets old) old.shape s (transposed_index axes)) turned.shape;
-      fits = λ len item fits. Fits-view old new (transposed_index axes) len item view fits;
-      nested = λ item nested. IsNested-view old new (transposed_index axes) item view (λ i j in-i in-j same. transposed-one axes old.shape i j turned.all.size turned.all.are (rw (← turned.shape) in-i) (rw (← turned.shape) in-j) same) nested;
-      empty = λ none. let is = turned.empty (ap count turned.shape ∙ none) in (is.0, is.1 ∙ ap (map (λ _. pos 0)) turned.shape);
+      shape = turned.shape_is;
+      leads = λ index in'. view.leads index (rw turned.shape_is in');
+      inside = inside-view old new (transposed_index axes) (transposed_shape axes old.shape) view turned.shape_is;
+      places = offsets-view old new (transposed_index axes) view ∙ ap (λ s. view_through (offsets old) old.shape s (transposed_index axes)) turned.shape_is;
+      fits = λ len item fits. LieWithin-view old new.shape new.strides new.offset (transposed_index axes) len item view fits;
     }
+
+pub turned-nested : (old new : Layout) (axes : List ℕ) → IsTurned old new.shape new.strides axes → new.offset ≡ old.offset → KeepsNested old new
+turned-nested old new axes turned same item nested =
+    let view : IsView old new (transposed_index axes) = subst (λ o. Shows old new.shape new.strides o (transposed_index axes)) (sym same) (turned-shows old new.shape new.strides axes turned) in
+    IsNested-view old new (transposed_index axes) item view (λ i j in-i in-j same. transposed-one axes old.shape i j turned.all.size turned.all.are (rw (← turned.shape_is) in-i) (rw (← turned.shape_is) in-j) same) nested
 
 -- ---- exits
 
@@ -77,12 +99,19 @@ list_in (Err refusal) = []
 pub made_lengths : (lengths items l shape axes : List ℕ) → lengths ≡ items → items ≡ transposed_shape axes l → l ≡ shape → lengths ≡ transposed_shape axes shape
 made_lengths lengths items l shape axes first second third = first ∙ second ∙ ap (λ s. transposed_shape axes s) third
 
-pub made_shape : (axes shape lengths made : List ℕ) → lengths ≡ transposed_shape axes shape → AreAllAxes (length shape) axes → length shape ≤ 64 → All (λ m. m ≤ 2 ^ 24) shape → count shape ≤ 2 ^ 24 → shape_of lengths ≡ Ok made → made ≡ transposed_shape axes shape
+pub made_shape : (axes shape lengths made : List ℕ) → lengths ≡ transposed_shape axes shape → AreAllAxes (length shape) axes → length shape ≤ max_axes → All (λ m. m ≤ max_items) shape → count shape ≤ max_items → shape_of lengths ≡ Ok made → made ≡ transposed_shape axes shape
 unfolding list_in
 made_shape axes shape lengths made is all few low small there =
     ap list_in (sym there ∙ ap shape_of is ∙ shape_of-transposed axes shape all few low small)
 
-pub only_memory : (axes shape lengths : List ℕ) (e : Refusal) → lengths ≡ transposed_shape axes shape → AreAllAxes (length shape) axes → length shape ≤ 64 → All (λ m. m ≤ 2 ^ 24) shape → count shape ≤ 2 ^ 24 → (e ≡ OutOfMemory) ⊎ (shape_of lengths ≡ Err e) → e ≡ OutOfMemory
+pub turned_as : (old : Layout) (axes lengths items l made : List ℕ) (seen strides : List ℤ) → lengths ≡ items → items ≡ transposed_shape axes l → l ≡ old.shape → AreAllAxes (length old.shape) axes → length old.shape ≤ max_axes → All (λ m. m ≤ max_items) old.shape → count old.shape ≤ max_items → shape_of lengths ≡ Ok made → strides ≡ map (λ a. get_or seen a (pos 0)) axes → seen ≡ old.strides → IsTurned old made strides axes
+turned_as old axes lengths items l made seen strides first second third all few low small there are is = record {
+  all = all;
+  shape_is = made_shape axes old.shape lengths made (made_lengths lengths items l old.shape axes first second third) all few low small there;
+  strides_are = are ∙ ap (λ s. map (λ a. get_or s a (pos 0)) axes) is;
+}
+
+pub only_memory : (axes shape lengths : List ℕ) (e : Refusal) → lengths ≡ transposed_shape axes shape → AreAllAxes (length shape) axes → length shape ≤ max_axes → All (λ m. m ≤ max_items) shape → count shape ≤ max_items → (e ≡ OutOfMemory) ⊎ (shape_of lengths ≡ Err e) → e ≡ OutOfMemory
 only_memory axes shape lengths e is all few low small (inl memory) = memory
 only_memory axes shape lengths e is all few low small (inr there) =
     absurd (false≢true (ap is_ok (sym there ∙ ap shape_of is ∙ shape_of-transposed axes shape all few low small)))

@@ -1,20 +1,31 @@
 -- Laws of views.
-use Rattle.std.proofs.Common.{◌≡◌, ℕ, ◌<◌, ◌≤◌, ◌⊎◌, Result, Ok, Err, List, [], All, map, length, get_or, inl, inr, sym, ap, subst, ◌∙◌, arith}
+use Rattle.std.proofs.Common.{◌≡◌, ℕ, ℤ, ◌<◌, ◌≤◌, ◌⊎◌, Result, Ok, Err, List, [], All, map, length, get_or, inl, inr, sym, ap, subst, ◌∙◌, arith}
 use Rattle.std.proofs.lemmas.Bool.{cases_lt}
 use Rattle.std.proofs.lemmas.List.{length-map, get_or-map, same_lists}
 use Rattle.elem_descr.specs.declared.refusal.Refusal.{Refusal}
 use Rattle.elem_descr.specs.declared.refusal.Refusal.TheVariants.{OutOfMemory}
 use Rattle.shape_strides.specs.declared.layout.Layout.{Layout}
 use Rattle.shape_strides.specs.Indexes.{count, indexes, rank, IsIndex}
-use Rattle.shape_strides.specs.Layouts.{address, natural, offsets, Fits, distance, IsNested}
+use Rattle.shape_strides.specs.Addresses.{address_at, natural, LieWithin}
+use Rattle.shape_strides.specs.Layouts.{address, offsets, Fits, distance, IsNested}
 use Rattle.shape_strides.proofs.IndexLaws.{length-indexes, rank-lt, get_or-indexes, index_at}
 use Rattle.shape_strides.proofs.LayoutLaws.{length-offsets, get_or-offsets}
 use Rattle.view_ops.specs.Views.{view_through, View, GivesView}
 
--- a layout shows the items of another one through m
-pub record IsView (old new : Layout) (m : List ℕ → List ℕ) : Type 0 where
-  pub leads : (index : List ℕ) → IsIndex new.shape index → IsIndex old.shape (m index)
-  pub same : (index : List ℕ) → IsIndex new.shape index → address new index ≡ address old (m index)
+-- an array with this shape, these strides and this offset shows the items of a layout through m
+pub record Shows (old : Layout) (shape : List ℕ) (strides : List ℤ) (offset : ℕ) (m : List ℕ → List ℕ) : Type 0 where
+  pub leads : (index : List ℕ) → IsIndex shape index → IsIndex old.shape (m index)
+  pub same : (index : List ℕ) → IsIndex shape index → address_at strides offset index ≡ address old (m index)
+
+pub LieWithin-view : (old : Layout) (shape : List ℕ) (strides : List ℤ) (offset : ℕ) (m : List ℕ → List ℕ) (len item : ℕ) → Shows old shape strides offset m → Fits old len item → LieWithin shape strides offset len item
+LieWithin-view old shape strides offset m len item view fits = record {
+  from_zero = λ index in'. rw (view.same index in') (fits.from_zero (m index) (view.leads index in'));
+  within = λ index in'. rw (view.same index in') (fits.within (m index) (view.leads index in'));
+}
+
+-- so a layout does
+abbrev pub IsView : Layout → Layout → (List ℕ → List ℕ) → Type 0
+IsView old new m = Shows old new.shape new.strides new.offset m
 
 -- functions that agree on the indexes of a shape
 pub same_on_indexes : (shape : List ℕ) (f g : List ℕ → ℕ) → ((index : List ℕ) → IsIndex shape index → f index ≡ g index) → map f (indexes shape) ≡ map g (indexes shape)
@@ -41,12 +52,6 @@ inside old new m view k d below =
 
 pub inside-view : (old new : Layout) (m : List ℕ → List ℕ) (shape : List ℕ) → IsView old new m → new.shape ≡ shape → All (λ index. rank old.shape (m index) < length (offsets old)) (indexes shape)
 inside-view old new m shape view same = subst (λ (s : List ℕ). All (λ index. rank old.shape (m index) < length (offsets old)) (indexes s)) same (inside old new m view)
-
-pub Fits-view : (old new : Layout) (m : List ℕ → List ℕ) (len item : ℕ) → IsView old new m → Fits old len item → Fits new len item
-Fits-view old new m len item view fits = record {
-  from_zero = λ index in'. rw (view.same index in') (fits.from_zero (m index) (view.leads index in'));
-  within = λ index in'. rw (view.same index in') (fits.within (m index) (view.leads index in'));
-}
 
 -- indexes with one rank are one index
 pub rank-same : (shape i j : List ℕ) → IsIndex shape i → IsIndex shape j → rank shape i ≡ rank shape j → i ≡ j

@@ -5,7 +5,8 @@ use Rattle.std.specs.List.{list_all, flat_map, range_with_len}
 use Rattle.elem_descr.specs.declared.refusal.Refusal.{Refusal}
 use Rattle.elem_descr.specs.declared.refusal.Refusal.TheVariants.{TooManyAxes, TooManyIndices, IndexOutOfRange, ZeroStep}
 use Rattle.elem_descr.specs.Refusals.{◌>>=◌, check}
-use Rattle.shape_strides.specs.Layouts.{natural}
+use Rattle.shape_strides.specs.Limits.{max_axes}
+use Rattle.shape_strides.specs.Addresses.{natural}
 use Rattle.view_ops.specs.declared.index.IndexItem.{IndexItem}
 use Rattle.view_ops.specs.declared.index.IndexItem.TheVariants.{Integer, Slice, Ellipsis, NewAxis, Array}
 use Rattle.view_ops.specs.Slices.{from_front, is_place, slice_indices}
@@ -101,11 +102,17 @@ picked_index (Along numbers ∷ picks) (k ∷ index) = slice_index numbers k ∷
 picked_index (New ∷ picks) (k ∷ index) = picked_index picks index
 picked_index _ _ = []
 
--- the view of what is picked
+-- the shape of what is picked
+unfoldable pub shape_picked : List Pick → Result (List ℕ) Refusal
+shape_picked picks = do
+  _ ← check (nat_le (length (picked_shape picks)) max_axes) TooManyAxes
+  Ok (picked_shape picks)
+
+-- the view of it
 unfoldable pub picked_view : List Pick → Result View Refusal
 picked_view picks = do
-  _ ← check (nat_le (length (picked_shape picks)) 64) TooManyAxes
-  Ok (record { shape = picked_shape picks; leads = picked_index picks })
+  shape ← shape_picked picks
+  Ok (record { shape = shape; leads = picked_index picks })
 
 -- the view that a basic index makes, or the first refusal
 unfoldable pub basic : List ℕ → List IndexItem → Result View Refusal

@@ -1,5 +1,5 @@
 -- One field of each item.
-use Rattle.std.specs.Prelude.{◌≡◌, ℕ, ◌+◌, pos, map, Option, Some, None, IsSomeAnd, slice_get, Result, Ok, Err}
+use Rattle.std.specs.Prelude.{◌≡◌, ℕ, ◌+◌, map, Option, Some, None, IsSomeAnd, slice_get, Result, Ok, Err}
 use Rattle.elem_descr.specs.declared.refusal.Refusal.{Refusal}
 use Rattle.elem_descr.specs.declared.refusal.Refusal.TheVariants.{NoSuchField, OutOfMemory}
 use Rattle.elem_descr.specs.declared.descr.Descr.{Descr}
@@ -7,7 +7,6 @@ use Rattle.elem_descr.specs.declared.leaf.Leaf.{Leaf}
 use Rattle.elem_descr.specs.Encoding.{size}
 use Rattle.elem_descr.specs.Items.{item_size, leaves_of}
 use Rattle.shape_strides.specs.declared.layout.Layout.{Layout}
-use Rattle.shape_strides.specs.Indexes.{count}
 use Rattle.shape_strides.specs.Layouts.{offsets, Fits, IsNested}
 
 -- a layout has this leaf of each item of an older one, whose items have so many bytes
@@ -16,7 +15,6 @@ pub record IsFieldOf (old new : Layout) (item : ℕ) (leaf : Leaf) : Type 0 wher
   pub places : offsets new ≡ map (λ offset. offset + leaf.at) (offsets old)
   pub fits : (len : ℕ) → Fits old len item → Fits new len (size leaf.scalar)
   pub nested : IsNested (offsets old) item → IsNested (offsets new) (size leaf.scalar)
-  pub empty : count old.shape ≡ 0 → (new.offset ≡ 0) × (new.strides ≡ map (λ _. pos 0) old.shape)
 
 -- the layout has the leaf at this place, and there is a refusal just where there is none, unless memory ran out
 abbrev pub GivesField : Layout → Descr → Option ℕ → Result Layout Refusal → Type 0

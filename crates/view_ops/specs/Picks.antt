@@ -1,5 +1,6 @@
 -- What the items of a basic index pick, with slices as runs.
-use Rattle.std.specs.Prelude.{◌≡◌, ◌<◌, ◌≤◌, ◌^◌, ℕ, nat_lt, if◌then◌else◌, ℤ, pos, neg_ℤ, ◌*ℤ◌, ◌≤ℤ◌, List, [], ◌∷◌, ◌++◌, map}
+use Rattle.std.specs.Prelude.{◌≡◌, ◌<◌, ◌≤◌, ℕ, nat_lt, if◌then◌else◌, ℤ, pos, neg_ℤ, ◌*ℤ◌, ◌≤ℤ◌, List, [], ◌∷◌, ◌++◌, map}
+use Rattle.shape_strides.specs.Limits.{max_bytes}
 use Rattle.view_ops.specs.declared.pick.AxisPick.{AxisPick}
 use Rattle.view_ops.specs.declared.pick.AxisPick.TheVariants.{At as AtAxis, Along as AlongAxis, New as NewAxis}
 use Rattle.view_ops.specs.declared.slice.Run.{Run}
@@ -56,10 +57,10 @@ picked_strides _ _ = []
 
 -- a step along an axis with this stride is small, in items and in bytes
 pub record IsSmallStep (stride step : ℤ) : Type 0 where
-  pub step_low : neg_ℤ (pos (2 ^ 28)) ≤ℤ step
-  pub step_high : step ≤ℤ pos (2 ^ 28)
-  pub low : neg_ℤ (pos (2 ^ 28)) ≤ℤ (stride *ℤ step)
-  pub high : (stride *ℤ step) ≤ℤ pos (2 ^ 28)
+  pub step_low : neg_ℤ (pos max_bytes) ≤ℤ step
+  pub step_high : step ≤ℤ pos max_bytes
+  pub low : neg_ℤ (pos max_bytes) ≤ℤ (stride *ℤ step)
+  pub high : (stride *ℤ step) ≤ℤ pos max_bytes
 
 abbrev pub IsSmallPick : ℤ → AxisPick → Type 0
 IsSmallPick stride (AlongAxis run) = 2 ≤ run.count → IsSmallStep stride run.step

@@ -6,7 +6,7 @@ use Rattle.std.specs.List.{range_with_len}
 use Rattle.elem_descr.specs.declared.refusal.Refusal.{Refusal}
 use Rattle.elem_descr.specs.declared.refusal.Refusal.TheVariants.{ZeroStep}
 use Rattle.elem_descr.specs.Refusals.{◌>>=◌, check}
-use Rattle.shape_strides.specs.Layouts.{natural}
+use Rattle.shape_strides.specs.Addresses.{natural}
 use Rattle.view_ops.specs.declared.slice.Run.{Run}
 
 -- bounds are put between 0 and n for a positive step, and between -1 and n - 1 for a negative one

@@ -4,7 +4,7 @@ use Rattle.std.specs.List.{list_any, list_all, range_with_len}
 use Rattle.elem_descr.specs.declared.refusal.Refusal.{Refusal}
 use Rattle.elem_descr.specs.declared.refusal.Refusal.TheVariants.{BadAxis}
 use Rattle.elem_descr.specs.Refusals.{◌>>=◌, check}
-use Rattle.shape_strides.specs.Layouts.{natural}
+use Rattle.shape_strides.specs.Addresses.{natural}
 use Rattle.view_ops.specs.Slices.{from_front, is_place}
 use Rattle.view_ops.specs.Views.{View}
 

@@ -1,9 +1,9 @@
 -- Views: the same items under another shape.
-use Rattle.std.specs.Prelude.{◌≡◌, ◌<◌, ℕ, ◌⊎◌, pos, List, map, length, slice_index, All, Result, Ok, Err}
+use Rattle.std.specs.Prelude.{◌≡◌, ◌<◌, ℕ, ◌⊎◌, List, map, length, slice_index, All, Result, Ok, Err}
 use Rattle.elem_descr.specs.declared.refusal.Refusal.{Refusal}
 use Rattle.elem_descr.specs.declared.refusal.Refusal.TheVariants.{OutOfMemory}
 use Rattle.shape_strides.specs.declared.layout.Layout.{Layout}
-use Rattle.shape_strides.specs.Indexes.{count, indexes, rank, IsIndex}
+use Rattle.shape_strides.specs.Indexes.{indexes, rank, IsIndex}
 use Rattle.shape_strides.specs.Layouts.{offsets, Fits, IsNested}
 
 -- The list of a view of an array that has this list and shape: at each index of the new shape stands
@@ -23,8 +23,10 @@ pub record IsViewOf (old new : Layout) (view : View) : Type 0 where
   pub inside : All (λ index. rank old.shape (view.leads index) < length (offsets old)) (indexes view.shape)
   pub places : offsets new ≡ view_through (offsets old) old.shape view.shape view.leads
   pub fits : (len item : ℕ) → Fits old len item → Fits new len item
-  pub nested : (item : ℕ) → IsNested (offsets old) item → IsNested (offsets new) item
-  pub empty : count view.shape ≡ 0 → (new.offset ≡ 0) × (new.strides ≡ map (λ _. pos 0) view.shape)
+
+-- no two items of the new layout overlap where none of the old one's do
+abbrev pub KeepsNested : Layout → Layout → Type 0
+KeepsNested old new = (item : ℕ) → IsNested (offsets old) item → IsNested (offsets new) item
 
 -- the layout is the view that is there, and a refusal is the one that is there, unless memory ran out
 abbrev pub GivesView : Layout → Result Layout Refusal → Result View Refusal → Type 0

@@ -1,9 +1,8 @@
 //! Basic indexes.
-ghost use Rattle.std.specs.Prelude.{◌≡◌, ◌^◌, true};
+ghost use Rattle.std.specs.Prelude.{◌≡◌, true, IfOk};
 ghost use Rattle.std.specs.List.{list_all};
-ghost use Rattle.shape_strides.specs.Layouts.{Fits};
 ghost use Rattle.view_ops.specs.Basics.{is_basic, basic};
-ghost use Rattle.view_ops.specs.Views.{GivesView};
+ghost use Rattle.view_ops.specs.Views.{GivesView, KeepsNested};
 
 use crate::index::{IndexItem, have_steps, taken};
 use crate::pick::{are_in_range, picks_of};
@@ -21,9 +20,9 @@ use std::alloc::Global;
 /// as `IndexOutOfRange`; a view of more than 64 axes, as `TooManyAxes`. A view without items has
 /// strides and offset 0, and an axis of less than two items has stride 0.
 pub fn basic(alloc: Global, layout: &Layout, items: &[IndexItem]) -> Result<Layout, Refusal>
-    requires fits { Fits layout.now (2 ^ 28) 1 }
-    requires basic { list_all is_basic items.now ≡ true }
+    requires { list_all is_basic items.now ≡ true }
     ensures view { GivesView layout.now result (basic layout.now.shape items.now) }
+    ensures nested { IfOk result (KeepsNested layout.now) }
 {
     let lengths = layout.shape.as_slice();
     if taken(items) > lengths.len() {

@@ -1,10 +1,11 @@
 //! The view of what was picked of each axis.
-ghost use Rattle.std.specs.Prelude.{◌≡◌, ℕ, ◌^◌, ◌<◌, ◌≤◌, pos, [], ◌++◌, map, length, slice_index_or, IfOk, OnOk};
+ghost use Rattle.std.specs.Prelude.{◌≡◌, ℕ, ◌<◌, ◌≤◌, pos, [], ◌++◌, map, length, slice_index_or, IfOk, OnOk};
 ghost use Rattle.std.specs.List.{flat_map};
-ghost use Rattle.shape_strides.specs.Layouts.{Fits};
-ghost use Rattle.view_ops.specs.Basics.{axis_of, picked_shape, picked_view};
+ghost use Rattle.elem_descr.specs.Refusals.{Gives};
+ghost use Rattle.shape_strides.specs.Limits.{max_axes};
+ghost use Rattle.view_ops.specs.Basics.{axis_of, picked_shape, shape_picked, picked_view};
 ghost use Rattle.view_ops.specs.Picks.{shown, ArePicks, first_of, axes_taken, run_stride, stride_of, picked_strides, IsSmallStep, IsSmallPick, HaveSmallSteps};
-ghost use Rattle.view_ops.specs.Views.{GivesView};
+ghost use Rattle.view_ops.specs.Views.{GivesView, KeepsNested};
 
 use crate::pick::AxisPick;
 use crate::slice::Run;
@@ -99,7 +100,7 @@ fn picked_strides(
     picks: &[AxisPick],
 ) -> Result<Strides, AllocError>
     requires small { HaveSmallSteps strides.now picks.now }
-    requires few { length strides.now ≤ 64 }
+    requires few { length strides.now ≤ max_axes }
     ensures { IfOk result (λ s. s ≡ picked_strides strides.now picks.now) }
 {
     let mut made = Strides::new(alloc);
@@ -111,19 +112,28 @@ fn picked_strides(
     Ok(made)
 }
 
+/// The shape of what is picked of the axes of another one.
+fn shape_picked(alloc: Global, shape: &Shape, picks: &[AxisPick]) -> Result<Shape, Refusal>
+    requires { ArePicks shape.now picks.now }
+    ensures { Gives (λ s. s) result (shape_picked (map shown picks.now)) }
+{
+    let _lengths = shape.as_slice();
+    let lengths = picked_lengths(alloc, picks)?;
+    Shape::try_new(alloc, lengths.as_slice())
+}
+
 /// The view of what is picked.
 pub(crate) fn with_picks(
     alloc: Global,
     layout: &Layout,
     picks: &[AxisPick],
 ) -> Result<Layout, Refusal>
-    requires fits { Fits layout.now (2 ^ 28) 1 }
-    requires picks { ArePicks layout.now.shape picks.now }
-    ensures { GivesView layout.now result (picked_view (map shown picks.now)) }
+    requires { ArePicks layout.now.shape picks.now }
+    ensures view { GivesView layout.now result (picked_view (map shown picks.now)) }
+    ensures nested { IfOk result (KeepsNested layout.now) }
 {
     let _lengths = layout.shape.as_slice();
-    let lengths = picked_lengths(alloc, picks)?;
-    let shape = Shape::try_new(alloc, lengths.as_slice())?;
+    let shape = shape_picked(alloc, &layout.shape, picks)?;
     if shape.items() == 0 {
         return Ok(Layout::c_order(alloc, &shape, 1)?);
     }

@@ -1,9 +1,9 @@
 //! Transposes.
-ghost use Rattle.std.specs.Prelude.{◌≡◌, ℕ, ◌<◌, ◌≤◌, ◌^◌, pos, map, length, slice_index_or, IfOk, IfErr, All, option_copied};
+ghost use Rattle.std.specs.Prelude.{◌≡◌, ℕ, ◌<◌, ◌≤◌, pos, map, length, slice_index_or, IfOk, IfErr, All, option_copied};
 ghost use Rattle.elem_descr.specs.declared.refusal.Refusal.TheVariants.{OutOfMemory};
-ghost use Rattle.shape_strides.specs.Layouts.{offsets, Fits, IsNested};
+ghost use Rattle.shape_strides.specs.Limits.{max_axes};
 ghost use Rattle.view_ops.specs.Transposes.{AreAxes, AreAllAxes, transposed_shape, transposed_index, transposed};
-ghost use Rattle.view_ops.specs.Views.{View, IsViewOf, GivesView};
+ghost use Rattle.view_ops.specs.Views.{View, IsViewOf, GivesView, KeepsNested};
 
 use crate::axes::axes_of;
 use elem_descr::Refusal;
@@ -17,7 +17,7 @@ fn transposed_lengths(
     axes: &[usize],
 ) -> Result<SmallVec<usize, 8>, AllocError>
     requires axes { AreAxes (length lengths.now) axes.now }
-    requires few { length lengths.now ≤ 64 }
+    requires few { length lengths.now ≤ max_axes }
     ensures { IfOk result (λ v. v.items ≡ transposed_shape axes.now lengths.now) }
 {
     let mut transposed = SmallVec::new(alloc);
@@ -33,7 +33,7 @@ fn transposed_strides(
     axes: &[usize],
 ) -> Result<Strides, AllocError>
     requires axes { AreAxes (length strides.now) axes.now }
-    requires few { length strides.now ≤ 64 }
+    requires few { length strides.now ≤ max_axes }
     ensures { IfOk result (λ s. s ≡ map (λ axis. slice_index_or strides.now axis (pos 0)) axes.now) }
 {
     let mut transposed = Strides::new(alloc);
@@ -45,15 +45,13 @@ fn transposed_strides(
 
 /// The layout with these axes.
 fn with_axes(alloc: Global, layout: &Layout, axes: &[usize]) -> Result<Layout, Refusal>
-    requires axes { AreAllAxes (length layout.now.shape) axes.now }
+    requires { AreAllAxes (length layout.now.shape) axes.now }
     ensures ok { IfOk result (λ view. IsViewOf layout.now view (record { shape = transposed_shape axes.now layout.now.shape; leads = transposed_index axes.now })) }
+    ensures nested { IfOk result (KeepsNested layout.now) }
     ensures err { IfErr result (λ refusal. refusal ≡ OutOfMemory) }
 {
     let lengths = transposed_lengths(alloc, layout.shape.as_slice(), axes)?;
     let shape = Shape::try_new(alloc, lengths.as_slice())?;
-    if shape.items() == 0 {
-        return Ok(Layout::c_order(alloc, &shape, 1)?);
-    }
     let strides = transposed_strides(alloc, layout.strides.as_slice(), axes)?;
     Ok(Layout {
         shape,
@@ -66,8 +64,8 @@ fn with_axes(alloc: Global, layout: &Layout, axes: &[usize]) -> Result<Layout, R
 /// counts from the end; without `axes` they are reversed. A wrong number of axes, one out of range
 /// and a repeated one are refused as `BadAxis`. A view without items has strides and offset 0.
 pub fn transpose(alloc: Global, layout: &Layout, axes: Option<&[i128]>) -> Result<Layout, Refusal>
-    requires fits { Fits layout.now (2 ^ 28) 1 }
     ensures view { GivesView layout.now result (transposed layout.now.shape (option_copied axes.entry)) }
+    ensures nested { IfOk result (KeepsNested layout.now) }
 {
     let axes = axes_of(alloc, layout.shape.rank(), axes)?;
     with_axes(alloc, layout, axes.as_slice())

@@ -1,110 +1,116 @@
-//! The commands that compute an array.
-ghost use Rattle.std.specs.Prelude.{◌≡◌, ◌≤◌, length};
-ghost use Rattle.script_lang.specs.Commands.{combine_at, transform_at, reduce_at, computed_at};
-ghost use Rattle.script_lang.specs.Reading.{Finds, Reads, needs_room};
+//! The values that are computed from other arrays.
+ghost use Rattle.std.specs.Prelude.{◌≡◌};
+ghost use Rattle.script_lang.specs.Commands.{copy_at, cast_at, combine_at, transform_at, reduce_at, computation_at, compute_at};
+ghost use Rattle.script_lang.specs.Reading.{Finds, Reads, computation_room, value_room};
 
-use crate::command::Command;
+use crate::command::{Computation, Value};
+use crate::grammar::descriptors::descr;
 use crate::grammar::indexes::{argument, operand};
-use crate::grammar::names::name;
+use crate::grammar::names::{name, owned_name};
 use crate::grammar::numbers::optional_integer;
-use crate::grammar::operations::{operation, reduction, unary};
-use crate::grammar::tokens::flag;
+use crate::grammar::tokens::{flag, word};
+use crate::grammar::verbs::order;
 use crate::name::Name;
 use crate::operation::{Operation, Reduction, UnaryOperation};
+use crate::text::DescrText;
+use crate::verb::ComputeVerb;
 use elem_descr::Refusal;
 use std::alloc::Global;
 
-/// An operand and an operand or literal, behind `X = OP`.
+/// `Y C` or `Y F`, behind `copy`.
+#[tactic(auto, unfolding(crate::specs::Commands::copy_at))]
+fn copy(alloc: Global, bytes: &[u8]) -> Option<(Computation, &[u8])>
+    ensures { Finds (λ r. (r.0, r.1.now)) result (copy_at bytes.now) }
+{
+    let (source, rest) = name(bytes)?;
+    let (word, rest) = word(rest)?;
+    let order = order(word)?;
+    let source = Name::from_slice(alloc, source);
+    Some((Computation::Duplicate { source, order }, rest))
+}
+
+/// `Y D`, behind `cast`.
+#[tactic(auto, unfolding(crate::specs::Commands::cast_at), using(crate::proofs::Commands::cast_room))]
+fn cast(alloc: Global, bytes: &[u8]) -> Result<(Computation, &[u8]), Refusal>
+    ensures { Reads (λ r. (r.0, r.1.now)) (λ r. computation_room r.0) result (cast_at bytes.now) }
+{
+    let (source, rest) = name(bytes).ok_or(Refusal::Syntax)?;
+    let (descr, rest) = descr(rest).ok_or(Refusal::Syntax)?;
+    let descr = DescrText::from_slice(alloc, descr)?;
+    let source = Name::from_slice(alloc, source);
+    Ok((Computation::Cast { source, descr }, rest))
+}
+
+/// An operand and an operand or literal, behind `OP`.
 #[tactic(auto, unfolding(crate::specs::Commands::combine_at), using(crate::proofs::Commands::left_room, crate::proofs::Commands::right_room))]
-fn combine<'a>(
+fn combine(
     alloc: Global,
-    target: &[u8],
     operation: Operation,
-    bytes: &'a [u8],
-) -> Result<(Command, &'a [u8]), Refusal>
-    requires { length target.now ≤ 32 }
-    ensures { Reads (λ r. (r.0, r.1.now)) (λ r. needs_room r.0) result (combine_at target.now operation bytes.now) }
+    bytes: &[u8],
+) -> Result<(Computation, &[u8]), Refusal>
+    ensures { Reads (λ r. (r.0, r.1.now)) (λ r. computation_room r.0) result (combine_at operation bytes.now) }
 {
     let (left, rest) = operand(alloc, bytes)?;
     let (right, rest) = argument(alloc, rest)?;
-    let name = Name::from_slice(alloc, target);
-    Ok((
-        Command::Combine {
-            name,
-            operation,
-            left,
-            right,
-        },
-        rest,
-    ))
+    let combined = Computation::Combine {
+        operation,
+        left,
+        right,
+    };
+    Ok((combined, rest))
 }
 
-/// An operand, behind `X = neg` or `X = not`.
+/// An operand, behind `neg` or `not`.
 #[tactic(auto, unfolding(crate::specs::Commands::transform_at), using(crate::proofs::Commands::transform_room))]
-fn transform<'a>(
+fn transform(
     alloc: Global,
-    target: &[u8],
     operation: UnaryOperation,
-    bytes: &'a [u8],
-) -> Result<(Command, &'a [u8]), Refusal>
-    requires { length target.now ≤ 32 }
-    ensures { Reads (λ r. (r.0, r.1.now)) (λ r. needs_room r.0) result (transform_at target.now operation bytes.now) }
+    bytes: &[u8],
+) -> Result<(Computation, &[u8]), Refusal>
+    ensures { Reads (λ r. (r.0, r.1.now)) (λ r. computation_room r.0) result (transform_at operation bytes.now) }
 {
     let (operand, rest) = operand(alloc, bytes)?;
-    let name = Name::from_slice(alloc, target);
-    Ok((
-        Command::Transform {
-            name,
-            operation,
-            operand,
-        },
-        rest,
-    ))
+    Ok((Computation::Transform { operation, operand }, rest))
 }
 
-/// `Y [axis] [keep]`, behind `X = RED`.
+/// `Y [axis] [keep]`, behind `RED`.
 #[tactic(auto, unfolding(crate::specs::Commands::reduce_at))]
-fn reduce<'a>(
-    alloc: Global,
-    target: &[u8],
-    reduction: Reduction,
-    bytes: &'a [u8],
-) -> Option<(Command, &'a [u8])>
-    requires { length target.now ≤ 32 }
-    ensures { Finds (λ r. (r.0, r.1.now)) result (reduce_at target.now reduction bytes.now) }
+fn reduce(alloc: Global, reduction: Reduction, bytes: &[u8]) -> Option<(Computation, &[u8])>
+    ensures { Finds (λ r. (r.0, r.1.now)) result (reduce_at reduction bytes.now) }
 {
-    let (source, rest) = name(bytes)?;
+    let (source, rest) = owned_name(alloc, bytes)?;
     let (axis, rest) = optional_integer(rest);
     let (keep, rest) = flag(b"keep", rest);
-    Some((
-        Command::Reduce {
-            name: Name::from_slice(alloc, target),
-            reduction,
-            source: Name::from_slice(alloc, source),
-            axis,
-            keep,
-        },
-        rest,
-    ))
+    let reduced = Computation::Reduce {
+        reduction,
+        source,
+        axis,
+        keep,
+    };
+    Some((reduced, rest))
 }
 
-/// What follows the word of an operation or a reduction, behind `X =`.
-#[tactic(auto, unfolding(crate::specs::Commands::computed_at))]
-pub fn computed<'a>(
+fn computation(
     alloc: Global,
-    target: &[u8],
-    verb: &[u8],
-    rest: &'a [u8],
-) -> Result<(Command, &'a [u8]), Refusal>
-    requires { length target.now ≤ 32 }
-    ensures { Reads (λ r. (r.0, r.1.now)) (λ r. needs_room r.0) result (computed_at target.now verb.now rest.now) }
+    verb: ComputeVerb,
+    bytes: &[u8],
+) -> Result<(Computation, &[u8]), Refusal>
+    ensures { Reads (λ r. (r.0, r.1.now)) (λ r. computation_room r.0) result (computation_at verb bytes.now) }
 {
-    if let Some(operation) = operation(verb) {
-        return combine(alloc, target, operation, rest);
+    match verb {
+        ComputeVerb::Duplicate => copy(alloc, bytes).ok_or(Refusal::Syntax),
+        ComputeVerb::Cast => cast(alloc, bytes),
+        ComputeVerb::Combine(operation) => combine(alloc, operation, bytes),
+        ComputeVerb::Transform(operation) => transform(alloc, operation, bytes),
+        ComputeVerb::Reduce(reduction) => reduce(alloc, reduction, bytes).ok_or(Refusal::Syntax),
     }
-    if let Some(operation) = unary(verb) {
-        return transform(alloc, target, operation, rest);
-    }
-    let reduction = reduction(verb).ok_or(Refusal::Syntax)?;
-    reduce(alloc, target, reduction, rest).ok_or(Refusal::Syntax)
+}
+
+/// The computation that the verb begins.
+#[tactic(auto, unfolding(crate::specs::Commands::compute_at), using(crate::proofs::Commands::compute_room))]
+pub fn compute(alloc: Global, verb: ComputeVerb, bytes: &[u8]) -> Result<(Value, &[u8]), Refusal>
+    ensures { Reads (λ r. (r.0, r.1.now)) (λ r. value_room r.0) result (compute_at verb bytes.now) }
+{
+    let (computation, rest) = computation(alloc, verb, bytes)?;
+    Ok((Value::Compute(computation), rest))
 }

@@ -1,30 +1,17 @@
 //! The text of a descriptor.
 ghost use Rattle.std.specs.Prelude.{◌≡◌, ◌≤◌, ◌<◌, ◌+◌, ◌^◌, length, IfSome, false};
-ghost use Rattle.std.specs.List.{prefix_len};
-ghost use Rattle.script_lang.specs.Descriptors.{is_mark, depth_behind, named_behind, record_mark_at, record_len, record_text_at, descr_at};
+ghost use Rattle.script_lang.specs.Descriptors.{depth_behind, named_behind, record_mark_at, record_len, record_text_at, descr_at};
 ghost use Rattle.script_lang.specs.Reading.{Finds};
 
-use crate::grammar::tokens::{blanks, byte, filled, is_parted};
-
-fn is_mark(byte: u8) -> bool
-    ensures { result ≡ is_mark byte }
-{
-    matches!(byte, b'<' | b'>' | b'!' | b'=' | b'@' | b'^')
-}
-
-fn mark_len(bytes: &[u8]) -> usize
-    ensures value { result ≡ prefix_len is_mark bytes.now }
-    ensures within { result ≤ length bytes.now }
-{
-    bytes.iter().take_while(|b| is_mark(**b)).count()
-}
+use crate::grammar::classes::{Class, front_len};
+use crate::grammar::tokens::{byte, front, is_parted};
 
 /// The bytes behind the marks and `T{` that come at once.
 #[tactic(auto, unfolding(crate::specs::Descriptors::record_mark_at))]
 fn record_mark(bytes: &[u8]) -> Option<&[u8]>
     ensures { Finds (λ rest. rest.now) result (record_mark_at bytes.now) }
 {
-    let (_, rest) = bytes.split_at(mark_len(bytes));
+    let (_, rest) = bytes.split_at(front_len(Class::Mark, bytes));
     let rest = byte(b'T', rest)?;
     byte(b'{', rest)
 }
@@ -87,9 +74,9 @@ fn record_text<'a>(bytes: &'a [u8], inside: &'a [u8]) -> Option<(&'a [u8], &'a [
 pub fn descr(bytes: &[u8]) -> Option<(&[u8], &[u8])>
     ensures { Finds (λ w. (w.0.now, w.1.now)) result (descr_at bytes.now) }
 {
-    let (_, text) = blanks(bytes)?;
+    let (_, text) = front(Class::Blank, bytes)?;
     if let Some(inside) = record_mark(text) {
         return record_text(text, inside);
     }
-    filled(text)
+    front(Class::Filled, text)
 }

@@ -1,33 +1,13 @@
 //! Names of arrays, and the words that name none.
 ghost use Rattle.std.specs.Prelude.{◌≡◌, ◌≤◌, length, IfSome};
-ghost use Rattle.std.specs.List.{list_any};
-ghost use Rattle.std.specs.Str.{bytes_eq};
-ghost use Rattle.script_lang.specs.Tokens.{words, is_reserved, starts_name, is_name, name_at};
+ghost use Rattle.script_lang.specs.Tokens.{starts_name, is_name, name_at};
 ghost use Rattle.script_lang.specs.Reading.{Finds};
 
-use crate::grammar::tokens::{is_name_start, word};
+use crate::grammar::classes::is_name_start;
+use crate::grammar::tokens::word;
+use crate::grammar::verbs::is_reserved;
 use crate::name::{MAX_NAME_LEN, Name};
 use std::alloc::Global;
-
-/// The words of the commands, of the operations and reductions, and of literals.
-const RESERVED: &[u8] = b"zeros full arange array field transpose reshape broadcast copy cast load \
-    set upd del undo print info format names shares save \
-    add sub mul fdiv mod and or xor shl shr div eq ne lt le gt ge neg not \
-    sum prod min max any all argmin argmax True False None";
-
-/// Whether the word is one of a text, in which single spaces part the words.
-fn has_word(text: &[u8], word: &[u8]) -> bool
-    ensures { result ≡ list_any (bytes_eq word.now) (words text.now) }
-{
-    text.split(|b| *b == b' ').any(|other| word == other)
-}
-
-#[tactic(auto, unfolding(crate::specs::Tokens::is_reserved))]
-pub fn is_reserved(word: &[u8]) -> bool
-    ensures { result ≡ is_reserved word.now }
-{
-    has_word(RESERVED, word)
-}
 
 fn starts_name(word: &[u8]) -> bool
     ensures { result ≡ starts_name word.now }

@@ -1,18 +1,11 @@
 //! Texts between quotation marks.
 ghost use Rattle.std.specs.Prelude.{◌≡◌, ◌≤◌, length, IfSome};
-ghost use Rattle.std.specs.List.{prefix_len, list_all};
-ghost use Rattle.script_lang.specs.Tokens.{is_unquoted, is_file_byte, starts_file_name, is_file_name, quoted_at, file_name_at};
+ghost use Rattle.script_lang.specs.Tokens.{starts_file_name, is_file_name, quoted_at, file_name_at};
 ghost use Rattle.script_lang.specs.Reading.{Finds};
 
-use crate::grammar::tokens::{byte, is_name_byte, symbol};
+use crate::grammar::classes::{Class, are_in, front_len, is_name_byte};
+use crate::grammar::tokens::{byte, symbol};
 use crate::text::MAX_FILE_NAME_LEN;
-
-fn unquoted_len(bytes: &[u8]) -> usize
-    ensures value { result ≡ prefix_len is_unquoted bytes.now }
-    ensures within { result ≤ length bytes.now }
-{
-    bytes.iter().take_while(|b| **b != b'"').count()
-}
 
 /// The bytes between the two quotation marks that come next, and what follows them.
 #[tactic(auto, unfolding(crate::specs::Tokens::quoted_at))]
@@ -20,21 +13,9 @@ pub fn quoted(bytes: &[u8]) -> Option<(&[u8], &[u8])>
     ensures { Finds (λ w. (w.0.now, w.1.now)) result (quoted_at bytes.now) }
 {
     let inside = symbol(b'"', bytes)?;
-    let (text, rest) = inside.split_at(unquoted_len(inside));
+    let (text, rest) = inside.split_at(front_len(Class::Unquoted, inside));
     let rest = byte(b'"', rest)?;
     Some((text, rest))
-}
-
-fn is_file_byte(byte: u8) -> bool
-    ensures { result ≡ is_file_byte byte }
-{
-    is_name_byte(byte) || byte == b'.' || byte == b'-'
-}
-
-fn are_file_bytes(bytes: &[u8]) -> bool
-    ensures { result ≡ list_all is_file_byte bytes.now }
-{
-    bytes.iter().all(|b| is_file_byte(*b))
 }
 
 fn starts_file_name(bytes: &[u8]) -> bool
@@ -49,7 +30,7 @@ fn starts_file_name(bytes: &[u8]) -> bool
 fn is_file_name(bytes: &[u8]) -> bool
     ensures { result ≡ is_file_name bytes.now }
 {
-    starts_file_name(bytes) && bytes.len() <= MAX_FILE_NAME_LEN && are_file_bytes(bytes)
+    starts_file_name(bytes) && bytes.len() <= MAX_FILE_NAME_LEN && are_in(Class::File, bytes)
 }
 
 /// The name of a file between the two quotation marks that come next, and what follows them.

@@ -1,14 +1,14 @@
-//! The commands that bind no name.
+//! The commands that bind no name and ask nothing.
 ghost use Rattle.std.specs.Prelude.{◌≡◌};
-ghost use Rattle.script_lang.specs.Commands.{set_at, update_at, shares_at, save_at};
+ghost use Rattle.script_lang.specs.Commands.{set_at, update_at, delete_at, save_at};
 ghost use Rattle.script_lang.specs.Reading.{Finds, Reads, needs_room};
 
 use crate::command::Command;
 use crate::grammar::indexes::{argument, bracket};
-use crate::grammar::names::name;
-use crate::grammar::operations::operation;
+use crate::grammar::names::{name, owned_name};
 use crate::grammar::quotes::file_name;
 use crate::grammar::tokens::{symbol, word};
+use crate::grammar::verbs::operation;
 use crate::name::Name;
 use crate::text::FileName;
 use elem_descr::Refusal;
@@ -38,31 +38,22 @@ pub fn update(alloc: Global, bytes: &[u8]) -> Result<(Command, &[u8]), Refusal>
     let operation = operation(word).ok_or(Refusal::Syntax)?;
     let (value, rest) = argument(alloc, rest)?;
     let name = Name::from_slice(alloc, name);
-    Ok((
-        Command::Update {
-            name,
-            index,
-            operation,
-            value,
-        },
-        rest,
-    ))
+    let update = Command::Update {
+        name,
+        index,
+        operation,
+        value,
+    };
+    Ok((update, rest))
 }
 
-/// `X Y`, behind `shares`.
-#[tactic(auto, unfolding(crate::specs::Commands::shares_at))]
-pub fn shares(alloc: Global, bytes: &[u8]) -> Option<(Command, &[u8])>
-    ensures { Finds (λ r. (r.0, r.1.now)) result (shares_at bytes.now) }
+/// `X`, behind `del`.
+#[tactic(auto, unfolding(crate::specs::Commands::delete_at))]
+pub fn delete(alloc: Global, bytes: &[u8]) -> Option<(Command, &[u8])>
+    ensures { Finds (λ r. (r.0, r.1.now)) result (delete_at bytes.now) }
 {
-    let (left, rest) = name(bytes)?;
-    let (right, rest) = name(rest)?;
-    Some((
-        Command::Shares {
-            left: Name::from_slice(alloc, left),
-            right: Name::from_slice(alloc, right),
-        },
-        rest,
-    ))
+    let (name, rest) = owned_name(alloc, bytes)?;
+    Some((Command::Delete { name }, rest))
 }
 
 /// `X "f"`, behind `save`.
@@ -72,11 +63,9 @@ pub fn save(alloc: Global, bytes: &[u8]) -> Option<(Command, &[u8])>
 {
     let (name, rest) = name(bytes)?;
     let (file, rest) = file_name(rest)?;
-    Some((
-        Command::Save {
-            name: Name::from_slice(alloc, name),
-            file: FileName::from_slice(alloc, file),
-        },
-        rest,
-    ))
+    let save = Command::Save {
+        name: Name::from_slice(alloc, name),
+        file: FileName::from_slice(alloc, file),
+    };
+    Some((save, rest))
 }

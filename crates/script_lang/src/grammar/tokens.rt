@@ -1,85 +1,29 @@
 //! Blanks, symbols and words.
-ghost use Rattle.std.specs.Prelude.{◌≡◌, ◌≤◌, length, not, is_some, IfSome, true};
-ghost use Rattle.std.specs.List.{prefix_len, list_all};
+ghost use Rattle.std.specs.Prelude.{◌≡◌, is_some, IfSome, true};
+ghost use Rattle.std.specs.List.{list_all};
 ghost use Rattle.std.specs.Str.{bytes_eq};
-ghost use Rattle.script_lang.specs.Tokens.{is_blank, is_digit, is_sign, is_name_start, is_name_byte, unspaced, byte_at, symbol_at, front_of, front_at, bytes_mark_at, is_parted, word_at, keyword_at, flag_at, at_end};
+ghost use Rattle.script_lang.specs.Classes.{is_in};
+ghost use Rattle.script_lang.specs.Tokens.{is_digit, unspaced, byte_at, symbol_at, front_at, bytes_mark_at, is_parted, word_at, keyword_at, flag_at, at_end};
 ghost use Rattle.script_lang.specs.Reading.{Finds};
 
-fn is_blank(byte: u8) -> bool
-    ensures { result ≡ is_blank byte }
-{
-    byte == b' ' || byte == b'\t'
-}
+use crate::grammar::classes::{Class, front_len, is_name_byte, is_sign};
 
-pub fn is_digit(byte: u8) -> bool
-    ensures { result ≡ is_digit byte }
+/// The longest front of bytes of the class and the rest, unless it is empty.
+pub fn front(class: Class, bytes: &[u8]) -> Option<(&[u8], &[u8])>
+    ensures { Finds (λ w. (w.0.now, w.1.now)) result (front_at (is_in class) bytes.now) }
 {
-    byte.is_ascii_digit()
-}
-
-fn is_sign(byte: u8) -> bool
-    ensures { result ≡ is_sign byte }
-{
-    byte == b'+' || byte == b'-'
-}
-
-/// Whether a name may begin with the byte.
-pub fn is_name_start(byte: u8) -> bool
-    ensures { result ≡ is_name_start byte }
-{
-    byte.is_ascii_alphabetic() || byte == b'_'
-}
-
-pub fn is_name_byte(byte: u8) -> bool
-    ensures { result ≡ is_name_byte byte }
-{
-    is_name_start(byte) || is_digit(byte)
-}
-
-fn blank_len(bytes: &[u8]) -> usize
-    ensures value { result ≡ prefix_len is_blank bytes.now }
-    ensures within { result ≤ length bytes.now }
-{
-    bytes.iter().take_while(|b| is_blank(**b)).count()
-}
-
-fn filled_len(bytes: &[u8]) -> usize
-    ensures value { result ≡ prefix_len (λ b. not (is_blank b)) bytes.now }
-    ensures within { result ≤ length bytes.now }
-{
-    bytes.iter().take_while(|b| !is_blank(**b)).count()
-}
-
-fn word_len(bytes: &[u8]) -> usize
-    ensures value { result ≡ prefix_len is_name_byte bytes.now }
-    ensures within { result ≤ length bytes.now }
-{
-    bytes.iter().take_while(|b| is_name_byte(**b)).count()
-}
-
-fn digit_len(bytes: &[u8]) -> usize
-    ensures value { result ≡ prefix_len is_digit bytes.now }
-    ensures within { result ≤ length bytes.now }
-{
-    bytes.iter().take_while(|b| is_digit(**b)).count()
-}
-
-/// The first `count` bytes and the rest, unless `count` is 0.
-fn front(bytes: &[u8], count: usize) -> Option<(&[u8], &[u8])>
-    requires { count ≤ length bytes.now }
-    ensures { Finds (λ w. (w.0.now, w.1.now)) result (front_of count bytes.now) }
-{
-    if count == 0 {
+    let len = front_len(class, bytes);
+    if len == 0 {
         return None;
     }
-    Some(bytes.split_at(count))
+    Some(bytes.split_at(len))
 }
 
 /// The bytes behind the blanks at the front.
 pub fn unspaced(bytes: &[u8]) -> &[u8]
     ensures { result.now ≡ unspaced bytes.now }
 {
-    bytes.split_at(blank_len(bytes)).1
+    bytes.split_at(front_len(Class::Blank, bytes)).1
 }
 
 /// The bytes behind this byte, which must come at once.
@@ -128,7 +72,7 @@ pub fn word(bytes: &[u8]) -> Option<(&[u8], &[u8])>
     ensures { Finds (λ w. (w.0.now, w.1.now)) result (word_at bytes.now) }
 {
     let bytes = unspaced(bytes);
-    let (word, rest) = front(bytes, word_len(bytes))?;
+    let (word, rest) = front(Class::Name, bytes)?;
     if !is_parted(rest) {
         return None;
     }
@@ -164,21 +108,7 @@ pub fn digits(bytes: &[u8]) -> Option<(&[u8], &[u8])>
     ensures found { Finds (λ w. (w.0.now, w.1.now)) result (front_at is_digit bytes.now) }
     ensures digits { IfSome result (λ w. list_all is_digit w.0.now ≡ true) }
 {
-    front(bytes, digit_len(bytes))
-}
-
-/// The blanks that come next, and what follows them.
-pub fn blanks(bytes: &[u8]) -> Option<(&[u8], &[u8])>
-    ensures { Finds (λ w. (w.0.now, w.1.now)) result (front_at is_blank bytes.now) }
-{
-    front(bytes, blank_len(bytes))
-}
-
-/// The bytes up to the next blank, and what follows them.
-pub fn filled(bytes: &[u8]) -> Option<(&[u8], &[u8])>
-    ensures { Finds (λ w. (w.0.now, w.1.now)) result (front_at (λ b. not (is_blank b)) bytes.now) }
-{
-    front(bytes, filled_len(bytes))
+    front(Class::Digit, bytes)
 }
 
 /// Whether nothing but blanks is left.

@@ -1,10 +1,11 @@
 //! What was read, as text for the tables.
 use elem_descr::Refusal;
 use script_lang::{
-    Argument, Command, DescrText, Index, IndexItem, Integers, Lengths, Literal, MemoryOrder, Name,
-    Operand, ScalarLiteral,
+    Argument, Command, Computation, DescrText, Index, IndexItem, Integers, Lengths, Literal,
+    MemoryOrder, Name, NewItems, Operand, Question, ScalarLiteral, Value, Viewing,
 };
 use std::alloc::{AllocError, Global};
+use std::fmt::Debug;
 
 type Written = Result<(), AllocError>;
 
@@ -130,7 +131,7 @@ fn put_integers(alloc: Global, out: &mut Vec<u8>, integers: &[i128]) -> Written 
     put(out, b")")
 }
 
-/// The word of a command, the name, the descriptor and the shape.
+/// The word of a value, the name, the descriptor and the shape.
 fn put_made(
     alloc: Global,
     out: &mut Vec<u8>,
@@ -144,54 +145,31 @@ fn put_made(
     put_lengths(alloc, out, shape.as_slice())
 }
 
-fn put_creation(alloc: Global, out: &mut Vec<u8>, command: &Command) -> Written {
-    match command {
-        Command::Zeros { name, descr, shape } => {
-            put_made(alloc, out, b"zeros", name, descr, shape)
-        }
-        Command::Full {
-            name,
-            descr,
-            shape,
-            value,
-        } => {
+fn put_new_array(
+    alloc: Global,
+    out: &mut Vec<u8>,
+    name: &Name,
+    descr: &DescrText,
+    items: &NewItems,
+) -> Written {
+    match items {
+        NewItems::Zeros { shape } => put_made(alloc, out, b"zeros", name, descr, shape),
+        NewItems::Full { shape, value } => {
             put_made(alloc, out, b"full", name, descr, shape)?;
             put_literal(alloc, out, value)
         }
-        Command::Array {
-            name,
-            descr,
-            shape,
-            values,
-        } => {
+        NewItems::Arange { start, stop, step } => {
+            put_head(out, b"arange", name)?;
+            put_word(out, descr.as_slice())?;
+            put_integers(alloc, out, &[*start, *stop, *step])
+        }
+        NewItems::Array { shape, values } => {
             put_made(alloc, out, b"array", name, descr, shape)?;
             for value in values.as_slice() {
                 put_literal(alloc, out, value)?;
             }
             Ok(())
         }
-        other => put_range_or_file(alloc, out, other),
-    }
-}
-
-fn put_range_or_file(alloc: Global, out: &mut Vec<u8>, command: &Command) -> Written {
-    match command {
-        Command::Arange {
-            name,
-            descr,
-            start,
-            stop,
-            step,
-        } => {
-            put_head(out, b"arange", name)?;
-            put_word(out, descr.as_slice())?;
-            put_integers(alloc, out, &[*start, *stop, *step])
-        }
-        Command::Load { name, file } => {
-            put_head(out, b"load", name)?;
-            put_word(out, file.as_slice())
-        }
-        other => put_view(alloc, out, other),
     }
 }
 
@@ -202,119 +180,135 @@ fn put_axes(alloc: Global, out: &mut Vec<u8>, axes: &Option<Integers>) -> Writte
     }
 }
 
-fn put_view(alloc: Global, out: &mut Vec<u8>, command: &Command) -> Written {
-    match command {
-        Command::View { name, source } => {
-            put_head(out, b"view", name)?;
-            put_operand(alloc, out, source)
+fn put_view(
+    alloc: Global,
+    out: &mut Vec<u8>,
+    name: &Name,
+    source: &Name,
+    how: &Viewing,
+) -> Written {
+    match how {
+        Viewing::Whole => put_names(out, b"view", name, source),
+        Viewing::Indexed(index) => {
+            put_names(out, b"view", name, source)?;
+            put_index(alloc, out, index)
         }
-        Command::Transpose { name, source, axes } => {
-            put_names(out, b"transpose", name, source)?;
-            put_axes(alloc, out, axes)
-        }
-        Command::Reshape {
-            name,
-            source,
-            shape,
-        } => {
-            put_names(out, b"reshape", name, source)?;
-            put_integers(alloc, out, shape.as_slice())
-        }
-        Command::Broadcast {
-            name,
-            source,
-            shape,
-        } => {
-            put_names(out, b"broadcast", name, source)?;
-            put_lengths(alloc, out, shape.as_slice())
-        }
-        other => put_copy(alloc, out, other),
-    }
-}
-
-fn put_copy(alloc: Global, out: &mut Vec<u8>, command: &Command) -> Written {
-    match command {
-        Command::Field {
-            name,
-            source,
-            field,
-        } => {
+        Viewing::Field(field) => {
             put_names(out, b"field", name, source)?;
             put_word(out, field.as_slice())
         }
-        Command::Duplicate {
-            name,
-            source,
-            order,
-        } => {
-            put_names(out, b"copy", name, source)?;
-            match order {
-                MemoryOrder::C => put(out, b" C"),
-                MemoryOrder::F => put(out, b" F"),
-            }
+        Viewing::Transposed(axes) => {
+            put_names(out, b"transpose", name, source)?;
+            put_axes(alloc, out, axes)
         }
-        Command::Cast {
-            name,
-            source,
-            descr,
-        } => {
-            put_names(out, b"cast", name, source)?;
-            put_word(out, descr.as_slice())
+        Viewing::Reshaped(shape) => {
+            put_names(out, b"reshape", name, source)?;
+            put_integers(alloc, out, shape.as_slice())
         }
-        other => put_computation(alloc, out, other),
+        Viewing::Broadcast(shape) => {
+            put_names(out, b"broadcast", name, source)?;
+            put_lengths(alloc, out, shape.as_slice())
+        }
     }
 }
 
-fn put_computation(alloc: Global, out: &mut Vec<u8>, command: &Command) -> Written {
-    match command {
-        Command::Combine {
-            name,
+fn put_copy(out: &mut Vec<u8>, name: &Name, source: &Name, order: MemoryOrder) -> Written {
+    put_names(out, b"copy", name, source)?;
+    match order {
+        MemoryOrder::C => put(out, b" C"),
+        MemoryOrder::F => put(out, b" F"),
+    }
+}
+
+/// The word as Rust names it, and the name.
+fn put_operation<T: Debug>(
+    alloc: Global,
+    out: &mut Vec<u8>,
+    operation: &T,
+    name: &Name,
+) -> Written {
+    let operation = format!(in alloc; "{operation:?}")?;
+    put_head(out, operation.as_bytes(), name)
+}
+
+fn put_reduction(
+    alloc: Global,
+    out: &mut Vec<u8>,
+    source: &Name,
+    axis: Option<i128>,
+    keep: bool,
+) -> Written {
+    put_word(out, source.as_slice())?;
+    put(out, b" ")?;
+    put_part(alloc, out, axis)?;
+    if keep {
+        return put(out, b" keep");
+    }
+    Ok(())
+}
+
+fn put_computation(
+    alloc: Global,
+    out: &mut Vec<u8>,
+    name: &Name,
+    computation: &Computation,
+) -> Written {
+    match computation {
+        Computation::Duplicate { source, order } => put_copy(out, name, source, *order),
+        Computation::Cast { source, descr } => {
+            put_names(out, b"cast", name, source)?;
+            put_word(out, descr.as_slice())
+        }
+        Computation::Combine {
             operation,
             left,
             right,
         } => {
-            let operation = format!(in alloc; "{operation:?}")?;
-            put_head(out, operation.as_bytes(), name)?;
+            put_operation(alloc, out, operation, name)?;
             put_operand(alloc, out, left)?;
             put_argument(alloc, out, right)
         }
-        Command::Transform {
-            name,
-            operation,
-            operand,
-        } => {
-            let operation = format!(in alloc; "{operation:?}")?;
-            put_head(out, operation.as_bytes(), name)?;
+        Computation::Transform { operation, operand } => {
+            put_operation(alloc, out, operation, name)?;
             put_operand(alloc, out, operand)
         }
-        other => put_reduction(alloc, out, other),
-    }
-}
-
-fn put_reduction(alloc: Global, out: &mut Vec<u8>, command: &Command) -> Written {
-    match command {
-        Command::Reduce {
-            name,
+        Computation::Reduce {
             reduction,
             source,
             axis,
             keep,
         } => {
-            let reduction = format!(in alloc; "{reduction:?}")?;
-            put_names(out, reduction.as_bytes(), name, source)?;
-            put(out, b" ")?;
-            put_part(alloc, out, *axis)?;
-            if *keep {
-                return put(out, b" keep");
-            }
-            Ok(())
+            put_operation(alloc, out, reduction, name)?;
+            put_reduction(alloc, out, source, *axis, *keep)
         }
-        other => put_statement(alloc, out, other),
     }
 }
 
-fn put_statement(alloc: Global, out: &mut Vec<u8>, command: &Command) -> Written {
+fn put_value(alloc: Global, out: &mut Vec<u8>, name: &Name, value: &Value) -> Written {
+    match value {
+        Value::Make { descr, items } => put_new_array(alloc, out, name, descr, items),
+        Value::View { source, how } => put_view(alloc, out, name, source, how),
+        Value::Compute(computation) => put_computation(alloc, out, name, computation),
+        Value::Load { file } => {
+            put_head(out, b"load", name)?;
+            put_word(out, file.as_slice())
+        }
+    }
+}
+
+fn put_question(out: &mut Vec<u8>, question: &Question) -> Written {
+    match question {
+        Question::Print { name } => put_head(out, b"print", name),
+        Question::Info { name } => put_head(out, b"info", name),
+        Question::Format { name } => put_head(out, b"format", name),
+        Question::Names => put(out, b"names"),
+        Question::Shares { left, right } => put_names(out, b"shares", left, right),
+    }
+}
+
+fn put_command(alloc: Global, out: &mut Vec<u8>, command: &Command) -> Written {
     match command {
+        Command::Bind { name, value } => put_value(alloc, out, name, value),
         Command::Set { name, index, value } => {
             put_head(out, b"set", name)?;
             put_index(alloc, out, index)?;
@@ -326,29 +320,18 @@ fn put_statement(alloc: Global, out: &mut Vec<u8>, command: &Command) -> Written
             operation,
             value,
         } => {
-            let operation = format!(in alloc; "upd {operation:?}")?;
-            put_head(out, operation.as_bytes(), name)?;
+            put(out, b"upd ")?;
+            put_operation(alloc, out, operation, name)?;
             put_index(alloc, out, index)?;
             put_argument(alloc, out, value)
         }
+        Command::Delete { name } => put_head(out, b"del", name),
+        Command::Undo => put(out, b"undo"),
         Command::Save { name, file } => {
             put_head(out, b"save", name)?;
             put_word(out, file.as_slice())
         }
-        other => put_name(out, other),
-    }
-}
-
-fn put_name(out: &mut Vec<u8>, command: &Command) -> Written {
-    match command {
-        Command::Undo => put(out, b"undo"),
-        Command::Names => put(out, b"names"),
-        Command::Shares { left, right } => put_names(out, b"shares", left, right),
-        Command::Delete { name } => put_head(out, b"del", name),
-        Command::Print { name } => put_head(out, b"print", name),
-        Command::Info { name } => put_head(out, b"info", name),
-        Command::Format { name } => put_head(out, b"format", name),
-        _ => put(out, b"?"),
+        Command::Ask(question) => put_question(out, question),
     }
 }
 
@@ -359,7 +342,7 @@ fn put_parsed(
     parsed: &Result<Option<Command>, Refusal>,
 ) -> Written {
     match parsed {
-        Ok(Some(command)) => put_creation(alloc, out, command),
+        Ok(Some(command)) => put_command(alloc, out, command),
         Ok(None) => put(out, b"-"),
         Err(Refusal::ByteNotAllowed) => put(out, b"E02"),
         Err(Refusal::Syntax) => put(out, b"E03"),

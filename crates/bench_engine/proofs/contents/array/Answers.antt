@@ -1,7 +1,7 @@
-use Rattle.std.proofs.Common.{◌∙◌, length, arith, inr, ap, ◌≡◌}
+use Rattle.std.proofs.Common.{◌≡◌, length, arith, inr, ap}
 use Rattle.std.proofs.lemmas.Result.{err_from_is_err_and}
-use Rattle.std.specs.List.{refill}
 use Rattle.shape_strides.specs.Indexes.{count}
+use Rattle.literal_items.specs.LiteralItems.{item_values}
 use Rattle.bench_engine.specs.Contents.{array_type}
 use Rattle.bench_engine.proofs.Makes.{passed, array-type, array-number, array-values, array-done}
 use Rattle.bench_engine.proofs.contents.array.Goals as goal
@@ -15,15 +15,14 @@ pub returns-then-literals-items-clause-value : goal.returns-then-literals-items-
 returns-then-literals-items-clause-value c =
     inr (array-number _ _ c.args.literals.now _ _ c.in_ok-descr.ensures.value (λ same. omega (arith, ap length c.as_slice-literals.ensures, c.items.ensures.value)))
 
-pub returns-in_err-write_items-clause-value : goal.returns-in_err-write_items-clause-value
-returns-in_err-write_items-clause-value c =
-    let p = err_from_is_err_and c.from_residual-in_err-write_items.result c.from_residual-in_err-write_items.ensures.1 in
+pub returns-in_err-block-clause-value : goal.returns-in_err-block-clause-value
+returns-in_err-block-clause-value c =
+    let p = err_from_is_err_and c.from_residual-in_err-block.result c.from_residual-in_err-block.ensures.1 in
     let many : length c.args.literals.now ≡ count c.in_ok-descr.shape = omega (arith, ap length c.as_slice-literals.ensures, c.items.ensures.value) in
-    rw (p.1, p.2) (inr (array-values _ _ c.args.literals.now _ _ _ c.in_ok-descr.ensures.value many (rw c.as_slice-literals.ensures at c.in_err-write_items.ensures.value)))
+    rw (p.1, p.2) (passed (item_values c.in_ok-descr.descr c.args.literals.now) _ _ (array-values _ _ c.args.literals.now _ _ _ c.in_ok-descr.ensures.value many) (rw c.as_slice-literals.ensures at c.in_err-block.ensures.items))
 
 pub returns-clause-value : goal.returns-clause-value
 returns-clause-value c =
     let many : length c.args.literals.now ≡ count c.in_ok-descr.shape = omega (arith, ap length c.as_slice-literals.ensures, c.items.ensures.value) in
-    let back : refill (length c.in_ok-block.block) c.in_ok-block.block c.write_items.new.block ≡ c.write_items.new.block = c.bytes_mut.ensures.same_len c.write_items.new.block (c.write_items.auto.block ∙ ap length c.bytes_mut.ensures.value) in
-    array-done _ _ c.args.literals.now _ _ c.write_items.new.block c.in_ok-owned.owned c.in_ok-descr.ensures.value many (rw c.as_slice-literals.ensures at c.in_ok-write_items.ensures.value)
-    c.in_ok-owned.ensures.descr c.in_ok-owned.ensures.shape (c.in_ok-owned.ensures.block ∙ back)
+    array-done _ _ c.args.literals.now _ _ c.in_ok-block.block c.in_ok-owned.owned c.in_ok-descr.ensures.value many (rw c.as_slice-literals.ensures at c.in_ok-block.ensures.items)
+    c.in_ok-owned.ensures.descr c.in_ok-owned.ensures.shape c.in_ok-owned.ensures.block

@@ -1,9 +1,9 @@
 use Rattle.std.proofs.Common.{refl, arith}
-use Rattle.bench_engine.proofs.Lines.{meaning_of-long, meaning_of-short}
+use Rattle.bench_engine.proofs.Meanings.{meaning_of-long, meaning_of-short}
 use Rattle.bench_engine.proofs.engine.read_line.Goals as goal
 
-pub returns-then-line-gt-MAX_LINE_LEN : goal.returns-then-line-gt-MAX_LINE_LEN
-returns-then-line-gt-MAX_LINE_LEN c = rw (c.if-is_long.false, meaning_of-long c.args.line.now (omega arith)) refl
+pub returns-then-bytes-gt-MAX_LINE_LEN : goal.returns-then-bytes-gt-MAX_LINE_LEN
+returns-then-bytes-gt-MAX_LINE_LEN c = rw (c.in-Held.is, meaning_of-long c.in-Held.bytes.now (omega arith)) refl
 
 pub returns : goal.returns
-returns c = rw (c.if-is_long.false, meaning_of-short c.args.line.now (omega arith)) c.parse.ensures
+returns c = rw (c.in-Held.is, meaning_of-short c.in-Held.bytes.now (omega arith)) c.parse.ensures

@@ -1,10 +1,11 @@
-use Rattle.std.proofs.Common.{◌≡◌, sym, refl, ◌∙◌, inr, Ok}
+use Rattle.std.proofs.Common.{◌≡◌, sym, refl, ◌∙◌, inr}
 use Rattle.shape_strides.specs.Layouts.{offsets}
 use Rattle.name_store.specs.Arrays.{addresses}
 use Rattle.bench_engine.specs.Replies.{info_text}
 use Rattle.bench_engine.proofs.Looks.{unchanged, not_found, found}
 use Rattle.bench_engine.proofs.Outcomes.{info-unknown, info-done}
 use Rattle.bench_engine.proofs.Steps.{spare}
+use Rattle.bench_engine.specs.Machine.{comes_to}
 use Rattle.bench_engine.proofs.info.info.Goals as goal
 
 pub returns-in_default-clause-answers : goal.returns-in_default-clause-answers
@@ -20,6 +21,6 @@ returns-clause-answers c =
       any.0,
       any.1,
       info_text c.args.name.now r.descr.now r.layout.now.shape (offsets r.layout.now) r.writable,
-      info-done s c.args.name.now it.0 it.1 ∙ (λ i. Ok (s, info_text c.args.name.now (it.2.descr i) (sym it.2.view.laid.shape i) (at i) (sym it.2.view.laid.writable_is i))),
+      info-done s c.args.name.now it.0 it.1 ∙ (λ i. comes_to s (info_text c.args.name.now (it.2.descr i) (sym it.2.view.laid.shape i) (at i) (sym it.2.view.laid.writable_is i))),
       c.in_ok-push_info_text.ensures.ok,
     )

@@ -1,6 +1,5 @@
-use Rattle.std.proofs.Common.{◌≡◌, ◌≤◌, ◌+◌, ◌*◌, List, ℕ, vec_len}
-use Rattle.std.specs.Io.KnownBytes.{Consumes}
-use Rattle.bench_engine.specs.Sessions.{HasRoom, Fed}
+use Rattle.std.proofs.Common.{◌≡◌, ◌≤◌, ◌+◌, ◌*◌, vec_len}
+use Rattle.bench_engine.specs.Sessions.{HasRoom, Reading}
 use Rattle.bench_engine.proofs.runner.run_within.Given as goal
 
 -- what was read so far is fed to the session
@@ -9,6 +8,6 @@ invariant-loop-turn g l = record {
   room : HasRoom l.session;
   few : l.session.accepted + l.session.refused ≤ 65538 * l.turn;
   chunk : vec_len l.chunk ≡ l.size;
-  fed : (input : List ℕ) × Consumes (g.R.Read.remaining l.fn.reader) (g.R.Read.remaining l.reader) input
-      × Fed (g.W.Write.contents l.fn.writer) (g.W.Write.contents l.writer) input l.session;
+  counted : g.S.Source.reads l.source ≤ g.S.Source.reads l.fn.source + l.turn;
+  fed : Reading (g.S.Source.remaining l.fn.source) (g.S.Source.remaining l.source) (g.W.Write.contents l.fn.writer) (g.W.Write.contents l.writer) l.session;
 }

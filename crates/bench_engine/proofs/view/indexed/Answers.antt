@@ -1,12 +1,11 @@
-use Rattle.std.proofs.Common.{ap, sym, refl, ◌∙◌, inr, map, Ok}
-use Rattle.std.specs.List.{list_all}
+use Rattle.std.proofs.Common.{ap, sym, refl, ◌∙◌, inr, map}
 use Rattle.std.proofs.lemmas.Result.{err_from_is_err_and}
-use Rattle.view_ops.specs.Basics.{is_basic, basic}
+use Rattle.view_ops.specs.Basics.{basic}
 use Rattle.name_store.specs.Arrays.{bound_view}
 use Rattle.bench_engine.specs.Indices.{basic_item}
-use Rattle.bench_engine.specs.Machine.{viewed}
+use Rattle.bench_engine.specs.Machine.{viewed, comes_to}
 use Rattle.bench_engine.specs.Replies.{view_text}
-use Rattle.bench_engine.proofs.Indices.{plain-items, not-plain, all-basic}
+use Rattle.bench_engine.proofs.Indices.{plain-items, not-plain}
 use Rattle.bench_engine.proofs.Looks.{unchanged, not_found, found, bound}
 use Rattle.bench_engine.proofs.Outcomes.{index-syntax, index-unknown, index-many, index-bad, index-done}
 use Rattle.bench_engine.proofs.Views.{seen, given-view, view-refused, may-bind, view-answers}
@@ -27,15 +26,12 @@ returns-then-not-has_room_for-clause-answers c =
     let it = found c.args.bench.now _ c.in-Some.array c.in-Some.ensures in
     (refl, unchanged _, inr (λ choice. index-many _ _ _ _ _ it.0 plain it.1 (sym c.if-not-has_room_for.ensures)))
 
-pub basic-requires-clause-basic : goal.basic-requires-clause-basic
-basic-requires-clause-basic c = ap (list_all is_basic) (c.as_slice-3.ensures ∙ c.in_ok-items.ensures) ∙ all-basic c.as_slice-2.result.now
-
 pub returns-in_err-layout-clause-answers : goal.returns-in_err-layout-clause-answers
 returns-in_err-layout-clause-answers c =
-    let p = err_from_is_err_and c.from_residual-in_err-layout.result c.from_residual-in_err-layout.ensures.1 in
+    let p = err_from_is_err_and c.from_residual.result c.from_residual.ensures.1 in
     let plain = plain-items c.args.index.now (rw c.as_slice.ensures at (sym c.if-not-are_plain.ensures)) in
     let it = found c.args.bench.now _ c.in-Some.array c.in-Some.ensures in
-    let items = ap (map basic_item) (sym c.as_slice-2.ensures) ∙ sym (c.as_slice-3.ensures ∙ c.in_ok-items.ensures) in
+    let items = ap (map basic_item) (sym c.as_slice-2.ensures) in
     rw (p.1, p.2) (
       refl,
       unchanged _,
@@ -47,16 +43,16 @@ pub bind-requires : goal.bind-requires
 bind-requires c =
     let it = found c.args.bench.now _ c.in-Some.array c.in-Some.ensures in
     let view = given-view c.in-Some.array.layout.now c.in_ok-layout.layout _ c.in_ok-layout.ensures.view in
-    may-bind _ _ _ _ _ _ (viewed it.0 view.0) c.view_of-view.ensures (seen _ it.0 c.in-Some.array view.0 c.in_ok-layout.layout it.2 view.2)
+    may-bind _ _ _ _ _ _ (viewed it.0 view.0) c.in_ok-view.ensures.view (seen _ it.0 c.in-Some.array view.0 c.in_ok-layout.layout it.2 view.2 c.in_ok-layout.ensures.nested)
 
 pub returns-clause-answers : goal.returns-clause-answers
 returns-clause-answers c =
     let plain = plain-items c.args.index.now (rw c.as_slice.ensures at (sym c.if-not-are_plain.ensures)) in
     let it = found c.args.bench.now _ c.in-Some.array c.in-Some.ensures in
     let view = given-view c.in-Some.array.layout.now c.in_ok-layout.layout _ c.in_ok-layout.ensures.view in
-    let items = ap (map basic_item) (sym c.as_slice-2.ensures) ∙ sym (c.as_slice-3.ensures ∙ c.in_ok-items.ensures) in
+    let items = ap (map basic_item) (sym c.as_slice-2.ensures) in
     let there = (λ i. basic (sym it.2.view.laid.shape i) (items i)) ∙ view.1 in
-    view-answers c.args.bench.now c.bind.new.self c.args.name.now _ _ c.view_of-view.result c.in-Some.array.number c.in-Some.array.leaf c.in_ok-layout.layout c.in-Some.array.writable (viewed it.0 view.0) c.bind.result (view_text c.args.name.now c.in-Some.array.descr.now c.in_ok-layout.layout.shape)
-    c.args.out.now.items c.push_view_text.new.out.items (bound c.args.bench.now c.args.source.now it.0 it.1) (sym c.if-not-has_room_for.ensures)
-    (λ choice. index-done c.args.bench.now c.args.name.now c.args.source.now _ _ it.0 view.0 plain it.1 (sym c.if-not-has_room_for.ensures) there ∙ λ i. Ok (bound_view c.args.bench.now c.args.name.now (viewed it.0 view.0), view_text c.args.name.now (it.2.descr i) (sym view.2.shape i)))
-    c.in_ok-push_view_text.ensures.ok c.view_of-view.ensures (seen _ it.0 c.in-Some.array view.0 c.in_ok-layout.layout it.2 view.2) c.bind.ensures
+    view-answers c.args.bench.now c.bind.new.self c.args.name.now _ _ c.in_ok-view.view c.in-Some.array.number c.in-Some.array.leaf c.in_ok-layout.layout c.in-Some.array.writable (viewed it.0 view.0) c.bind.result (view_text c.args.name.now c.in-Some.array.descr.now c.in_ok-layout.layout.shape)
+    c.args.out.now.items c.told_view.new.out.items (bound c.args.bench.now c.args.source.now it.0 it.1) (sym c.if-not-has_room_for.ensures)
+    (λ choice. index-done c.args.bench.now c.args.name.now c.args.source.now _ _ it.0 view.0 plain it.1 (sym c.if-not-has_room_for.ensures) there ∙ λ i. comes_to (bound_view c.args.bench.now c.args.name.now (viewed it.0 view.0)) (view_text c.args.name.now (it.2.descr i) (sym view.2.shape i)))
+    c.in_ok-view.ensures.ok c.in_ok-view.ensures.view (seen _ it.0 c.in-Some.array view.0 c.in_ok-layout.layout it.2 view.2 c.in_ok-layout.ensures.nested) c.bind.ensures

@@ -3,7 +3,7 @@ use Rattle.elem_descr.specs.declared.leaf.Leaf.{Leaf}
 use Rattle.elem_descr.specs.Encoding.{size, decode}
 use Rattle.script_lang.specs.declared.literal.ScalarLiteral.{ScalarLiteral}
 use Rattle.literal_items.specs.LiteralItems.{is_castable}
-use Rattle.elem_descr.proofs.Fields.{leaf_within}
+use Rattle.elem_descr.proofs.FieldLaws.{leaf_within}
 use Rattle.literal_items.proofs.Leaves.{IsTurn, put, turn_passed, turn_written, turn_sound, whole_written, whole_read}
 use Rattle.literal_items.proofs.item.write_leaves.Goals as goal
 

@@ -4,7 +4,7 @@ use Rattle.std.specs.Int.{w128, cast_signed}
 use Rattle.literal_items.specs.Numbers.{is_value}
 use Rattle.elem_descr.specs.Steps.{numbers_from}
 use Rattle.literal_items.proofs.Lists.{all_more, all_fails, all_passed}
-use Rattle.elem_descr.proofs.Steps.{length-numbers_from, number_at}
+use Rattle.elem_descr.proofs.StepLaws.{length-numbers_from, number_at}
 use Rattle.literal_items.proofs.Stepping.{next_sum}
 use Rattle.literal_items.proofs.range.are_values.Goals as goal
 

@@ -13,7 +13,7 @@ use Rattle.elem_descr.specs.Steps.{numbers_from}
 use Rattle.literal_items.proofs.Lists.{all_at, map_more}
 use Rattle.literal_items.proofs.Blocked.{map-blocks-put}
 use Rattle.literal_items.proofs.Scalars.{scalar_read, value_is}
-use Rattle.elem_descr.proofs.Steps.{length-numbers_from, number_at}
+use Rattle.elem_descr.proofs.StepLaws.{length-numbers_from, number_at}
 use Rattle.literal_items.proofs.Stepping.{next_sum}
 use Rattle.literal_items.proofs.range.write_numbers.Goals as goal
 

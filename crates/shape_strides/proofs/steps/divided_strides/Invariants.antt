@@ -1,4 +1,5 @@
 use Rattle.std.proofs.Common.{◌≡◌, ◌*◌, ◌^◌, ◌<◌, ◌≤◌, ◌++◌, drop}
+use Rattle.shape_strides.specs.Limits.{max_bytes}
 use Rattle.shape_strides.specs.Indexes.{count}
 use Rattle.shape_strides.specs.Layouts.{c_strides}
 use Rattle.shape_strides.proofs.steps.divided_strides.Given as goal
@@ -6,7 +7,7 @@ use Rattle.shape_strides.proofs.steps.divided_strides.Given as goal
 abbrev pub invariant-loop-len : goal.invariant-loop-len
 invariant-loop-len l = record {
   some : 0 < l.bytes;
-  small : l.bytes ≤ 2 ^ 28;
+  small : l.bytes ≤ max_bytes;
   is : l.bytes ≡ count (drop l.len-index l.lengths) * l.item;
   rest : l.strides ++ c_strides l.item (drop l.len-index l.lengths) ≡ c_strides l.item l.lengths;
 }

@@ -1,4 +1,5 @@
 use Rattle.std.proofs.Common.{◌≡◌, ◌*◌, ◌^◌, ◌<◌, ◌≤◌, ◌++◌, drop}
+use Rattle.shape_strides.specs.Limits.{max_bytes}
 use Rattle.shape_strides.specs.Indexes.{count}
 use Rattle.shape_strides.specs.Layouts.{f_strides}
 use Rattle.shape_strides.proofs.steps.multiplied_strides.Given as goal
@@ -6,6 +7,6 @@ use Rattle.shape_strides.proofs.steps.multiplied_strides.Given as goal
 abbrev pub invariant-loop-len : goal.invariant-loop-len
 invariant-loop-len l = record {
   some : 0 < count (drop l.len-index l.lengths);
-  small : count (drop l.len-index l.lengths) * l.step ≤ 2 ^ 28;
+  small : count (drop l.len-index l.lengths) * l.step ≤ max_bytes;
   rest : l.strides ++ f_strides l.step (drop l.len-index l.lengths) ≡ f_strides l.item l.lengths;
 }

@@ -5,21 +5,21 @@ use Rattle.view_ops.specs.Views.{GivesView}
 use Rattle.view_ops.proofs.BasicLaws.{basic-many, basic-no_step, basic-out, basic-picks}
 use Rattle.view_ops.proofs.basic_index.basic.Goals as goal
 
-pub returns-then-taken-lengths : goal.returns-then-taken-lengths
-returns-then-taken-lengths c =
-    record { view = inr (basic-many c.args.layout.now.shape c.args.items.now (omega (arith, ap length c.as_slice-lengths.ensures.value, c.taken.ensures, c.if-taken-lengths.true))) }
+pub returns-then-taken-lengths-clause-view : goal.returns-then-taken-lengths-clause-view
+returns-then-taken-lengths-clause-view c =
+    inr (basic-many c.args.layout.now.shape c.args.items.now (omega (arith, ap length c.as_slice-lengths.ensures.value, c.taken.ensures, c.if-taken-lengths.true)))
 
-pub returns-then-not-have_steps : goal.returns-then-not-have_steps
-returns-then-not-have_steps c =
-    record { view = inr (basic-no_step c.args.layout.now.shape c.args.items.now (omega (arith, ap length c.as_slice-lengths.ensures.value, c.taken.ensures, c.if-taken-lengths.false)) (sym c.if-not-have_steps.ensures)) }
+pub returns-then-not-have_steps-clause-view : goal.returns-then-not-have_steps-clause-view
+returns-then-not-have_steps-clause-view c =
+    inr (basic-no_step c.args.layout.now.shape c.args.items.now (omega (arith, ap length c.as_slice-lengths.ensures.value, c.taken.ensures, c.if-taken-lengths.false)) (sym c.if-not-have_steps.ensures))
 
-pub returns-then-not-are_in_range : goal.returns-then-not-are_in_range
-returns-then-not-are_in_range c =
-    record { view = inr (basic-out c.args.layout.now.shape c.args.items.now (omega (arith, ap length c.as_slice-lengths.ensures.value, c.taken.ensures, c.if-taken-lengths.false)) (sym c.if-not-have_steps.ensures) (ap (λ l. are_in_range l c.args.items.now) (sym c.as_slice-lengths.ensures.value) ∙ sym c.if-not-are_in_range.ensures)) }
+pub returns-then-not-are_in_range-clause-view : goal.returns-then-not-are_in_range-clause-view
+returns-then-not-are_in_range-clause-view c =
+    inr (basic-out c.args.layout.now.shape c.args.items.now (omega (arith, ap length c.as_slice-lengths.ensures.value, c.taken.ensures, c.if-taken-lengths.false)) (sym c.if-not-have_steps.ensures) (ap (λ l. are_in_range l c.args.items.now) (sym c.as_slice-lengths.ensures.value) ∙ sym c.if-not-are_in_range.ensures))
 
-pub returns : goal.returns
-returns c =
+pub returns-clause-view : goal.returns-clause-view
+returns-clause-view c =
     let few : taken c.args.items.now ≤ length c.args.layout.now.shape = omega (arith, ap length c.as_slice-lengths.ensures.value, c.taken.ensures, c.if-taken-lengths.false) in
     let same = basic-picks c.args.layout.now.shape c.args.items.now few (sym c.if-not-have_steps.ensures) (ap (λ l. are_in_range l c.args.items.now) (sym c.as_slice-lengths.ensures.value) ∙ sym c.if-not-are_in_range.ensures) in
     let shown_is = ap (map shown) c.as_slice.ensures ∙ c.in_ok-picks.ensures.shown ∙ ap (λ l. picks l c.args.items.now) c.as_slice-lengths.ensures.value in
-    record { view = subst (λ there. GivesView c.args.layout.now c.with_picks.result there) (ap picked_view shown_is ∙ sym same) c.with_picks.ensures }
+    subst (λ there. GivesView c.args.layout.now c.with_picks.result there) (ap picked_view shown_is ∙ sym same) c.with_picks.ensures.view

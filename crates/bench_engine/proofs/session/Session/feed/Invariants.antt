@@ -1,12 +1,16 @@
-use Rattle.std.proofs.Common.{◌≤◌, ◌+◌, ◌++◌, List, ℕ, Option, take}
-use Rattle.bench_engine.specs.Sessions.{HasRoom, Fed}
+use Rattle.std.proofs.Common.{◌≡◌, ◌≤◌, ◌+◌, ◌++◌, List, ℕ, Option, length}
+use Rattle.bench_engine.specs.Sessions.{HasRoom, FedMachine}
 use Rattle.bench_engine.proofs.session.Session.feed.Given as goal
 
--- the bytes so far are taken
-abbrev pub invariant-loop-byte : goal.invariant-loop-byte
-invariant-loop-byte g l = record {
+-- some first bytes are taken, up to a newline
+abbrev pub invariant-loop-end : goal.invariant-loop-end
+invariant-loop-end g l = record {
   room : HasRoom l.self;
-  few : l.self.accepted + l.self.refused ≤ l.fn.self.accepted + l.fn.self.refused + l.byte-index;
-  fed : (before : Option (List ℕ)) (read : List ℕ) → Fed before (g.W.Write.contents l.fn.writer) read l.fn.self →
-      Fed before (g.W.Write.contents l.writer) (read ++ take l.byte-index l.bytes) l.self;
+  few : l.self.accepted + l.self.refused + length l.rest ≤ l.fn.self.accepted + l.fn.self.refused + length l.bytes;
+  fed : (taken : List ℕ) × (l.bytes ≡ taken ++ l.rest)
+      × ((before : Option (List ℕ)) (read : List ℕ) → FedMachine before (g.W.Write.contents l.fn.writer) read l.fn.self →
+      FedMachine before (g.W.Write.contents l.writer) (read ++ taken) l.self);
 }
+
+abbrev pub decreases-loop-end : goal.decreases-loop-end
+decreases-loop-end g l = length l.rest

@@ -1,6 +1,6 @@
 use Rattle.std.proofs.Common.{length, ap, arith}
 use Rattle.elem_descr.specs.Descriptors.{Structure}
-use Rattle.elem_descr.proofs.Fields.{leaf_begins}
+use Rattle.elem_descr.proofs.FieldLaws.{leaf_begins}
 use Rattle.elem_descr.proofs.descr.Record.leaf_at.Goals as goal
 
 pub returns-clause-small : goal.returns-clause-small

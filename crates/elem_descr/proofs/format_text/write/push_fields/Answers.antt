@@ -1,6 +1,6 @@
 use Rattle.std.proofs.Common.{◌≡◌, ◌≤◌, ◌<◌, ◌+◌, length, get_or, arith}
 use Rattle.elem_descr.specs.Encoding.{size}
-use Rattle.elem_descr.proofs.Fields.{InOrder-within, in_order_at}
+use Rattle.elem_descr.proofs.FieldLaws.{InOrder-within, in_order_at}
 use Rattle.elem_descr.proofs.format_text.write.push_fields.Goals as goal
 
 pub overflow_add-end : goal.overflow_add-end

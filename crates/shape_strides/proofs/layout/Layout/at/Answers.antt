@@ -1,7 +1,7 @@
-use Rattle.std.proofs.Common.{◌≡◌, ◌^◌, ◌+ℤ◌, pos, length, take, sym, ap, ◌∙◌, arith, add-one, take_all}
+use Rattle.std.proofs.Common.{◌≡◌, ◌+ℤ◌, pos, length, take, sym, ap, ◌∙◌, arith, add-one, take_all}
 use Rattle.std.proofs.lemmas.Int.{ints}
 use lib.IntN.{+ℤ_idr}
-use Rattle.shape_strides.specs.Layouts.{dot}
+use Rattle.shape_strides.specs.Addresses.{dot}
 use Rattle.shape_strides.proofs.StepLaws.{dot-nil, goes_on}
 use Rattle.shape_strides.proofs.IndexLaws.{length-index, number-lt, rank-lt}
 use Rattle.shape_strides.proofs.LayoutLaws.{length-offsets, pos-offset}
@@ -13,34 +13,34 @@ loop-axis-init c = sym (ap (λ z. pos c.args.self.now.offset +ℤ z) (dot-nil c.
 pub forward-at-requires-clause-axis : goal.forward-at-requires-clause-axis
 forward-at-requires-clause-axis c =
     let one = c.args.self.now.one_stride_an_axis in
-    let size = length-index c.args.self.now.shape c.args.index.now c.requires.index in
+    let size = length-index c.args.self.now.shape c.args.index.now c.requires in
     omega (arith, ap length c.as_slice-strides.ensures)
 
 pub forward-at-requires-clause-start : goal.forward-at-requires-clause-start
 forward-at-requires-clause-start c =
-    let on = goes_on c.args.self.now c.args.index.now c.loop-axis.axis c.loop-axis.at (2 ^ 28) (record { one_each = c.args.self.now.one_stride_an_axis; fits = c.requires.fits; in_shape = c.requires.index; below = c.loop-axis-test.true; so_far = c.loop-axis.invariant }) in
+    let on = goes_on c.args.self.now c.args.index.now c.loop-axis.axis c.loop-axis.at (record { in_shape = c.requires; below = c.loop-axis-test.true; so_far = c.loop-axis.invariant }) in
     omega (arith, on.start)
 
 pub forward-at-requires-clause-steps : goal.forward-at-requires-clause-steps
 forward-at-requires-clause-steps c =
-    let size = length-index c.args.self.now.shape c.args.index.now c.requires.index in
-    let below = number-lt c.args.self.now.shape c.args.index.now c.loop-axis.axis c.requires.index (omega arith) in
+    let size = length-index c.args.self.now.shape c.args.index.now c.requires in
+    let below = number-lt c.args.self.now.shape c.args.index.now c.loop-axis.axis c.requires (omega arith) in
     let limit = c.as_slice-lengths.ensures.lengths c.loop-axis.axis 0 (omega arith) in
     omega arith
 
 pub forward-at-requires-clause-low : goal.forward-at-requires-clause-low
 forward-at-requires-clause-low c =
-    let on = goes_on c.args.self.now c.args.index.now c.loop-axis.axis c.loop-axis.at (2 ^ 28) (record { one_each = c.args.self.now.one_stride_an_axis; fits = c.requires.fits; in_shape = c.requires.index; below = c.loop-axis-test.true; so_far = c.loop-axis.invariant }) in
+    let on = goes_on c.args.self.now c.args.index.now c.loop-axis.axis c.loop-axis.at (record { in_shape = c.requires; below = c.loop-axis-test.true; so_far = c.loop-axis.invariant }) in
     rw c.as_slice-strides.ensures on.low
 
 pub forward-at-requires-clause-high : goal.forward-at-requires-clause-high
 forward-at-requires-clause-high c =
-    let on = goes_on c.args.self.now c.args.index.now c.loop-axis.axis c.loop-axis.at (2 ^ 28) (record { one_each = c.args.self.now.one_stride_an_axis; fits = c.requires.fits; in_shape = c.requires.index; below = c.loop-axis-test.true; so_far = c.loop-axis.invariant }) in
+    let on = goes_on c.args.self.now c.args.index.now c.loop-axis.axis c.loop-axis.at (record { in_shape = c.requires; below = c.loop-axis-test.true; so_far = c.loop-axis.invariant }) in
     rw c.as_slice-strides.ensures on.high
 
 pub loop-axis-preserved : goal.loop-axis-preserved
 loop-axis-preserved c =
-    let on = goes_on c.args.self.now c.args.index.now c.loop-axis.axis c.loop-axis.at (2 ^ 28) (record { one_each = c.args.self.now.one_stride_an_axis; fits = c.requires.fits; in_shape = c.requires.index; below = c.loop-axis-test.true; so_far = c.loop-axis.invariant }) in
+    let on = goes_on c.args.self.now c.args.index.now c.loop-axis.axis c.loop-axis.at (record { in_shape = c.requires; below = c.loop-axis-test.true; so_far = c.loop-axis.invariant }) in
     let step = rw c.as_slice-strides.ensures at c.forward-at.ensures in
     rw (add-one c.loop-axis.axis) (step ∙ on.more)
 
@@ -49,10 +49,10 @@ returns-clause-entry c =
     let l = c.args.self.now in
     let whole : take c.loop-axis.axis c.args.index.now ≡ c.args.index.now = take_all c.loop-axis.axis c.args.index.now (omega arith) in
     let is = c.loop-axis.invariant ∙ ap (λ i. pos l.offset +ℤ dot l.strides i) whole in
-    let entry = pos-offset l (2 ^ 28) 1 c.requires.fits c.args.index.now 0 c.requires.index in
+    let entry = pos-offset l c.args.index.now 0 c.requires in
     let same = is ∙ sym entry in
     omega (arith, ints, same)
 
 pub returns-clause-among : goal.returns-clause-among
 returns-clause-among c =
-    omega (arith, length-offsets c.args.self.now, rank-lt c.args.self.now.shape c.args.index.now c.requires.index)
+    omega (arith, length-offsets c.args.self.now, rank-lt c.args.self.now.shape c.args.index.now c.requires)

@@ -1,24 +1,30 @@
-use Rattle.std.proofs.Common.{◌*◌, ◌^◌, length, refl, sym, ap, ◌∙◌}
+use Rattle.std.proofs.Common.{◌*◌, pos, map, length, refl, sym, ap, ◌∙◌}
+use Rattle.shape_strides.specs.Limits.{max_bytes}
 use Rattle.shape_strides.specs.Indexes.{count}
 use Rattle.shape_strides.proofs.CountLaws.{length-c_order}
-use Rattle.shape_strides.proofs.LayoutLaws.{c_order_stands, c_order_offsets, c_order_nested, c_order_fits, length-offsets, Fits-weaker}
+use Rattle.shape_strides.proofs.LayoutLaws.{c_order_stands, c_order_offsets, c_order_nested, c_order_lies, length-offsets, LieWithin-weaker}
 use Rattle.shape_strides.proofs.layout.Layout.c_order.Goals as goal
 
 pub invariant_of-result : goal.invariant_of-result
-invariant_of-result c = record { one_stride_an_axis = length-c_order c.args.item c.args.shape.now c.in_ok-strides.strides c.in_ok-strides.ensures.some c.in_ok-strides.ensures.none ∙ sym (ap length c.in_ok-shape.ensures) }
+invariant_of-result c =
+    let shape = c.in_ok-shape.shape in
+    let strides = c.in_ok-strides.strides in
+    let item = c.args.item in
+    let lies = c_order_lies shape strides c.args.shape.now item c.in_ok-shape.ensures (c_order_stands shape strides c.args.shape.now item c.in_ok-shape.ensures c.in_ok-strides.ensures.some) in
+    record {
+      one_stride_an_axis = length-c_order item c.args.shape.now strides c.in_ok-strides.ensures.some c.in_ok-strides.ensures.none ∙ sym (ap length c.in_ok-shape.ensures);
+      within_limit = LieWithin-weaker shape strides 0 (count c.args.shape.now * item) max_bytes item 1 c.requires.bytes c.requires.item_low lies;
+      zero_if_empty = λ none. (refl, c.in_ok-strides.ensures.none (sym (ap count c.in_ok-shape.ensures) ∙ none) ∙ sym (ap (map (λ _. pos 0)) c.in_ok-shape.ensures));
+    }
 
 pub returns-clause-offsets : goal.returns-clause-offsets
-returns-clause-offsets c = c_order_offsets _ c.args.shape.now c.args.item c.in_ok-shape.ensures (c_order_stands _ c.args.shape.now c.args.item c.in_ok-shape.ensures refl c.in_ok-strides.ensures.some)
+returns-clause-offsets c = c_order_offsets _ c.args.shape.now c.args.item c.in_ok-shape.ensures (c_order_stands c.in_ok-shape.shape c.in_ok-strides.strides c.args.shape.now c.args.item c.in_ok-shape.ensures c.in_ok-strides.ensures.some)
 
 pub returns-clause-count : goal.returns-clause-count
 returns-clause-count c = length-offsets _ ∙ ap count c.in_ok-shape.ensures
 
 pub returns-clause-nested : goal.returns-clause-nested
-returns-clause-nested c = c_order_nested _ c.args.item (c_order_stands _ c.args.shape.now c.args.item c.in_ok-shape.ensures refl c.in_ok-strides.ensures.some)
+returns-clause-nested c = c_order_nested _ c.args.item (c_order_stands c.in_ok-shape.shape c.in_ok-strides.strides c.args.shape.now c.args.item c.in_ok-shape.ensures c.in_ok-strides.ensures.some)
 
 pub returns-clause-fits : goal.returns-clause-fits
-returns-clause-fits c = c_order_fits _ c.args.shape.now c.args.item c.in_ok-shape.ensures (c_order_stands _ c.args.shape.now c.args.item c.in_ok-shape.ensures refl c.in_ok-strides.ensures.some)
-
-pub returns-clause-fits_limit : goal.returns-clause-fits_limit
-returns-clause-fits_limit c =
-    Fits-weaker _ (count c.args.shape.now * c.args.item) (2 ^ 28) c.args.item 1 c.requires.bytes c.requires.item_low (c_order_fits _ c.args.shape.now c.args.item c.in_ok-shape.ensures (c_order_stands _ c.args.shape.now c.args.item c.in_ok-shape.ensures refl c.in_ok-strides.ensures.some))
+returns-clause-fits c = c_order_lies c.in_ok-shape.shape c.in_ok-strides.strides c.args.shape.now c.args.item c.in_ok-shape.ensures (c_order_stands c.in_ok-shape.shape c.in_ok-strides.strides c.args.shape.now c.args.item c.in_ok-shape.ensures c.in_ok-strides.ensures.some)

@@ -1,4 +1,4 @@
-use Rattle.std.proofs.Common.{◌≡◌, ◌+◌, ◌-◌, ◌*◌, ◌^◌, pos, subst, drop, get_or, refl, ap, sym, ◌∙◌, arith}
+use Rattle.std.proofs.Common.{◌≡◌, ◌+◌, ◌-◌, ◌*◌, pos, subst, drop, get_or, refl, ap, sym, ◌∙◌, arith}
 use Rattle.shape_strides.specs.Indexes.{count}
 use Rattle.shape_strides.proofs.ContiguityLaws.{StepsOver, StepsOver-more, bytes-bound, bytes-step, is_c-empty, is_c-true, is_c-false}
 use Rattle.shape_strides.proofs.layout.Layout.is_c.Goals as goal
@@ -17,7 +17,7 @@ returns-then-not-steps_over c =
     let next : c.loop-axis.axis ≡ k + 1 = omega arith in
     let is : c.loop-axis.bytes ≡ count (drop (k + 1) l.shape) * c.args.item = c.loop-axis.invariant.bytes_are ∙ ap (λ j. count (drop j l.shape) * c.args.item) next in
     let no = rw (c.as_slice-lengths.ensures.value, c.as_slice-strides.ensures) at c.if-not-steps_over.ensures.no in
-    sym (is_c-false l (2 ^ 28) c.args.item k c.loop-axis.bytes c.requires.fits l.one_stride_an_axis (omega (arith, c.items.ensures.value)) (omega (arith, c.loop-axis.invariant.within)) is (no refl).0 (no refl).1)
+    sym (is_c-false l c.args.item k c.loop-axis.bytes (omega (arith, c.items.ensures.value)) (omega (arith, c.loop-axis.invariant.within)) is (no refl).0 (no refl).1)
 
 pub overflow_mul-bytes : goal.overflow_mul-bytes
 overflow_mul-bytes c =
@@ -46,4 +46,4 @@ pub returns : goal.returns
 returns c =
     let l = c.args.self.now in
     let none : c.loop-axis.axis ≡ 0 = omega arith in
-    sym (is_c-true l c.args.item l.one_stride_an_axis (subst (λ j. StepsOver c.args.item (drop j l.strides) (drop j l.shape)) none c.loop-axis.invariant.steps))
+    sym (is_c-true l c.args.item (subst (λ j. StepsOver c.args.item (drop j l.strides) (drop j l.shape)) none c.loop-axis.invariant.steps))

@@ -1,4 +1,4 @@
-use Rattle.std.proofs.Common.{◌+◌, ◌*◌, ◌^◌, ◌<◌, pos, length, get_or, refl, ap, sym, ◌∙◌, arith}
+use Rattle.std.proofs.Common.{◌+◌, ◌*◌, ◌<◌, pos, length, get_or, refl, ap, sym, ◌∙◌, arith}
 use Rattle.shape_strides.proofs.FortranLaws.{f_bytes-bound, f_bytes-step, f_steps-more, is_f-empty, is_f-true, is_f-false}
 use Rattle.shape_strides.proofs.layout.Layout.is_f.Goals as goal
 
@@ -14,7 +14,7 @@ returns-then-not-steps_over c =
     let l = c.args.self.now in
     let below : c.loop-axis.axis < length l.shape = omega (arith, ap length c.as_slice-lengths.ensures.value) in
     let no = rw (c.as_slice-lengths.ensures.value, c.as_slice-strides.ensures) at c.if-not-steps_over.ensures.no in
-    sym (is_f-false l (2 ^ 28) c.args.item c.loop-axis.axis c.loop-axis.step c.requires.fits (omega (arith, c.items.ensures.value)) below c.loop-axis.invariant.step_is (no refl).0 (no refl).1)
+    sym (is_f-false l c.args.item c.loop-axis.axis c.loop-axis.step (omega (arith, c.items.ensures.value)) below c.loop-axis.invariant.step_is (no refl).0 (no refl).1)
 
 pub overflow_mul-step : goal.overflow_mul-step
 overflow_mul-step c =

@@ -1,4 +1,4 @@
-use Rattle.std.proofs.Common.{◌^◌, ◌<◌, length, refl, ap, arith}
+use Rattle.std.proofs.Common.{◌<◌, length, refl, ap, arith}
 use Rattle.std.proofs.lemmas.Bool.{false≢true}
 use Rattle.shape_strides.proofs.StackLaws.{CanStack-from_tests, tests_from_CanStack}
 use Rattle.shape_strides.proofs.StackedLaws.{IsNested-stacked}
@@ -14,7 +14,7 @@ returns-then-not-steps_clear-clause-value c =
     let below : k < length l.shape = omega (arith, ap length c.as_slice-lengths.ensures.value) in
     let test = rw (c.as_slice-lengths.ensures.value, c.as_slice-strides.ensures) at c.if-not-steps_clear.ensures in (
       λ t. absurd (false≢true t),
-      λ stacked. test.1 (tests_from_CanStack l.strides l.shape c.args.item k l.one_stride_an_axis c.requires.item (stacked (omega (arith, c.items.ensures.value))) below),
+      λ stacked. test.1 (tests_from_CanStack l.strides l.shape c.args.item k l.one_stride_an_axis c.requires (stacked (omega (arith, c.items.ensures.value))) below),
     )
 
 pub returns-clause-value : goal.returns-clause-value
@@ -23,10 +23,10 @@ returns-clause-value c =
     (λ _ some. CanStack-from_tests l.strides l.shape c.args.item l.one_stride_an_axis (λ k below. c.loop-axis.invariant k (omega (arith, ap length c.as_slice-lengths.ensures.value))), λ _. refl)
 
 pub returns-then-items-eq0-clause-nested : goal.returns-then-items-eq0-clause-nested
-returns-then-items-eq0-clause-nested c = IsNested-stacked c.args.self.now (2 ^ 28) c.args.item c.args.self.now.one_stride_an_axis c.requires.fits c.requires.item
+returns-then-items-eq0-clause-nested c = IsNested-stacked c.args.self.now c.args.item c.requires
 
 pub returns-then-not-steps_clear-clause-nested : goal.returns-then-not-steps_clear-clause-nested
-returns-then-not-steps_clear-clause-nested c = IsNested-stacked c.args.self.now (2 ^ 28) c.args.item c.args.self.now.one_stride_an_axis c.requires.fits c.requires.item
+returns-then-not-steps_clear-clause-nested c = IsNested-stacked c.args.self.now c.args.item c.requires
 
 pub returns-clause-nested : goal.returns-clause-nested
-returns-clause-nested c = IsNested-stacked c.args.self.now (2 ^ 28) c.args.item c.args.self.now.one_stride_an_axis c.requires.fits c.requires.item
+returns-clause-nested c = IsNested-stacked c.args.self.now c.args.item c.requires

@@ -1,4 +1,5 @@
-use Rattle.std.proofs.Common.{◌≡◌, ◌+◌, ◌-◌, ◌^◌, ◌<◌, Contains, length, refl, sym, ap, arith, subst}
+use Rattle.std.proofs.Common.{◌≡◌, ◌+◌, ◌-◌, ◌<◌, Contains, length, refl, sym, ap, arith, subst}
+use Rattle.shape_strides.specs.Limits.{max_bytes}
 use Rattle.shape_strides.specs.Indexes.{count}
 use Rattle.shape_strides.specs.Layouts.{offsets}
 use Rattle.shape_strides.specs.Reach.{reach_above, reach_below}
@@ -20,56 +21,56 @@ overflow_cast-start c =
     let l = c.args.self.now in
     let some : 0 < count l.shape = omega (arith, c.items.ensures.value) in
     let below : c.reach_below.result ≡ reach_below l.strides l.shape = rw (c.as_slice-strides.ensures, c.as_slice-lengths.ensures.value) at c.reach_below.ensures.value in
-    record { fits = omega (arith, below, below_offset l (2 ^ 28) c.args.item l.one_stride_an_axis some c.requires) }
+    record { fits = omega (arith, below, below_offset l some) }
 
 pub overflow_sub-start : goal.overflow_sub-start
 overflow_sub-start c =
     let l = c.args.self.now in
     let some : 0 < count l.shape = omega (arith, c.items.ensures.value) in
     let below : c.reach_below.result ≡ reach_below l.strides l.shape = rw (c.as_slice-strides.ensures, c.as_slice-lengths.ensures.value) at c.reach_below.ensures.value in
-    omega (arith, below, below_offset l (2 ^ 28) c.args.item l.one_stride_an_axis some c.requires)
+    omega (arith, below, below_offset l some)
 
 pub overflow_cast-end : goal.overflow_cast-end
 overflow_cast-end c =
     let l = c.args.self.now in
     let some : 0 < count l.shape = omega (arith, c.items.ensures.value) in
     let above : c.reach_above.result ≡ reach_above l.strides l.shape = rw (c.as_slice-strides.ensures, c.as_slice-lengths.ensures.value) at c.reach_above.ensures.value in
-    record { fits = omega (arith, above, end_within l (2 ^ 28) c.args.item l.one_stride_an_axis some c.requires) }
+    record { fits = omega (arith, above, end_within l some max_bytes c.args.item c.requires) }
 
 pub overflow_add-end : goal.overflow_add-end
 overflow_add-end c =
     let l = c.args.self.now in
     let some : 0 < count l.shape = omega (arith, c.items.ensures.value) in
     let above : c.reach_above.result ≡ reach_above l.strides l.shape = rw (c.as_slice-strides.ensures, c.as_slice-lengths.ensures.value) at c.reach_above.ensures.value in
-    record { fits = omega (arith, above, end_within l (2 ^ 28) c.args.item l.one_stride_an_axis some c.requires) }
+    record { fits = omega (arith, above, end_within l some max_bytes c.args.item c.requires) }
 
 pub overflow_add-end-2 : goal.overflow_add-end-2
 overflow_add-end-2 c =
     let l = c.args.self.now in
     let some : 0 < count l.shape = omega (arith, c.items.ensures.value) in
     let above : c.reach_above.result ≡ reach_above l.strides l.shape = rw (c.as_slice-strides.ensures, c.as_slice-lengths.ensures.value) at c.reach_above.ensures.value in
-    record { fits = omega (arith, above, end_within l (2 ^ 28) c.args.item l.one_stride_an_axis some c.requires) }
+    record { fits = omega (arith, above, end_within l some max_bytes c.args.item c.requires) }
 
 pub returns-clause-low : goal.returns-clause-low
 returns-clause-low c =
     let l = c.args.self.now in
     let some : 0 < count l.shape = omega (arith, c.items.ensures.value) in
     let below : c.reach_below.result ≡ reach_below l.strides l.shape = rw (c.as_slice-strides.ensures, c.as_slice-lengths.ensures.value) at c.reach_below.ensures.value in
-    none_lower l (2 ^ 28) c.args.item l.one_stride_an_axis some c.requires (l.offset - c.reach_below.result) (omega (arith, below, below_offset l (2 ^ 28) c.args.item l.one_stride_an_axis some c.requires))
+    none_lower l some (l.offset - c.reach_below.result) (omega (arith, below, below_offset l some))
 
 pub returns-clause-high : goal.returns-clause-high
 returns-clause-high c =
     let l = c.args.self.now in
     let some : 0 < count l.shape = omega (arith, c.items.ensures.value) in
     let above : c.reach_above.result ≡ reach_above l.strides l.shape = rw (c.as_slice-strides.ensures, c.as_slice-lengths.ensures.value) at c.reach_above.ensures.value in
-    λ k d inside. omega (arith, above, none_higher l (2 ^ 28) c.args.item l.one_stride_an_axis some c.requires k d inside)
+    λ k d inside. omega (arith, above, none_higher l some k d inside)
 
 pub returns-clause-first : goal.returns-clause-first
 returns-clause-first c =
     let l = c.args.self.now in
     let some : 0 < count l.shape = omega (arith, c.items.ensures.value) in
     let below : c.reach_below.result ≡ reach_below l.strides l.shape = rw (c.as_slice-strides.ensures, c.as_slice-lengths.ensures.value) at c.reach_below.ensures.value in
-    λ _. lowest_among l (2 ^ 28) c.args.item l.one_stride_an_axis some c.requires (l.offset - c.reach_below.result) (omega (arith, below, below_offset l (2 ^ 28) c.args.item l.one_stride_an_axis some c.requires))
+    λ _. lowest_among l some (l.offset - c.reach_below.result) (omega (arith, below, below_offset l some))
 
 pub returns-clause-last : goal.returns-clause-last
 returns-clause-last c =
@@ -77,7 +78,7 @@ returns-clause-last c =
     let some : 0 < count l.shape = omega (arith, c.items.ensures.value) in
     let above : c.reach_above.result ≡ reach_above l.strides l.shape = rw (c.as_slice-strides.ensures, c.as_slice-lengths.ensures.value) at c.reach_above.ensures.value in
     λ _.
-    let highest = subst (Contains (offsets l)) (ap (λ r. l.offset + r) (sym above)) (highest_among l (2 ^ 28) c.args.item l.one_stride_an_axis some c.requires) in
+    let highest = subst (Contains (offsets l)) (ap (λ r. l.offset + r) (sym above)) (highest_among l some) in
     (highest.0, l.offset + c.reach_above.result, highest.1, highest.2, refl)
 
 pub returns-clause-limit : goal.returns-clause-limit
@@ -85,7 +86,7 @@ returns-clause-limit c =
     let l = c.args.self.now in
     let some : 0 < count l.shape = omega (arith, c.items.ensures.value) in
     let above : c.reach_above.result ≡ reach_above l.strides l.shape = rw (c.as_slice-strides.ensures, c.as_slice-lengths.ensures.value) at c.reach_above.ensures.value in
-    omega (arith, above, end_within l (2 ^ 28) c.args.item l.one_stride_an_axis some c.requires)
+    omega (arith, above, end_within l some max_bytes c.args.item c.requires)
 
 pub returns-clause-empty : goal.returns-clause-empty
 returns-clause-empty c = λ none. absurd (omega (arith, c.items.ensures.value, length-offsets c.args.self.now, ap length none))

@@ -1,4 +1,4 @@
-use Rattle.std.proofs.Common.{◌+◌, ◌-◌, ◌<◌, ◌^◌, length, get_or, ap, ◌∙◌, arith}
+use Rattle.std.proofs.Common.{◌+◌, ◌-◌, ◌<◌, length, get_or, ap, ◌∙◌, arith}
 use Rattle.shape_strides.proofs.IndexLaws.{number-lt}
 use Rattle.shape_strides.proofs.AdvanceLaws.{starts_at, turns_at, number_is, length_is, offset-lt, step-address, step-bounds, IsIndex-stepped, rank-next, set-next, back-range, stands_before, over}
 use Rattle.shape_strides.proofs.walk.Walk.advance.Goals as goal
@@ -9,96 +9,96 @@ loop-axis-init c =
 
 pub bounds-index-axis : goal.bounds-index-axis
 bounds-index-axis c =
-    let turns = turns_at c.args.layout.now c.args.index.now c.loop-axis.index c.loop-axis.axis c.loop-axis.offset (2 ^ 28) c.args.layout.now.one_stride_an_axis c.requires.fits c.requires.index c.loop-axis-test.true c.loop-axis.invariant in
-    omega (arith, length_is c.args.layout.now c.args.index.now c.loop-axis.index (c.loop-axis.axis - 1) c.loop-axis.offset (2 ^ 28) turns, turns.below)
+    let turns = turns_at c.args.layout.now c.args.index.now c.loop-axis.index c.loop-axis.axis c.loop-axis.offset c.requires.index c.loop-axis-test.true c.loop-axis.invariant in
+    omega (arith, length_is c.args.layout.now c.args.index.now c.loop-axis.index (c.loop-axis.axis - 1) c.loop-axis.offset turns, turns.below)
 
 pub overflow_add-number : goal.overflow_add-number
 overflow_add-number c =
-    let turns = turns_at c.args.layout.now c.args.index.now c.loop-axis.index c.loop-axis.axis c.loop-axis.offset (2 ^ 28) c.args.layout.now.one_stride_an_axis c.requires.fits c.requires.index c.loop-axis-test.true c.loop-axis.invariant in
-    let number = number_is c.args.layout.now c.args.index.now c.loop-axis.index (c.loop-axis.axis - 1) c.loop-axis.offset (2 ^ 28) turns in
+    let turns = turns_at c.args.layout.now c.args.index.now c.loop-axis.index c.loop-axis.axis c.loop-axis.offset c.requires.index c.loop-axis-test.true c.loop-axis.invariant in
+    let number = number_is c.args.layout.now c.args.index.now c.loop-axis.index (c.loop-axis.axis - 1) c.loop-axis.offset turns in
     let before = number-lt c.args.layout.now.shape c.args.index.now (c.loop-axis.axis - 1) c.requires.index turns.below in
     let small = c.as_slice-lengths.ensures.lengths (c.loop-axis.axis - 1) 0 turns.below in
     record { fits = omega arith }
 
 pub bounds-index-axis-then-number-lengths : goal.bounds-index-axis-then-number-lengths
 bounds-index-axis-then-number-lengths c =
-    let turns = turns_at c.args.layout.now c.args.index.now c.loop-axis.index c.loop-axis.axis c.loop-axis.offset (2 ^ 28) c.args.layout.now.one_stride_an_axis c.requires.fits c.requires.index c.loop-axis-test.true c.loop-axis.invariant in
-    omega (arith, length_is c.args.layout.now c.args.index.now c.loop-axis.index (c.loop-axis.axis - 1) c.loop-axis.offset (2 ^ 28) turns, turns.below)
+    let turns = turns_at c.args.layout.now c.args.index.now c.loop-axis.index c.loop-axis.axis c.loop-axis.offset c.requires.index c.loop-axis-test.true c.loop-axis.invariant in
+    omega (arith, length_is c.args.layout.now c.args.index.now c.loop-axis.index (c.loop-axis.axis - 1) c.loop-axis.offset turns, turns.below)
 
 pub bounds-index-axis-in-loop-axis : goal.bounds-index-axis-in-loop-axis
 bounds-index-axis-in-loop-axis c =
-    let turns = turns_at c.args.layout.now c.args.index.now c.loop-axis.index c.loop-axis.axis c.loop-axis.offset (2 ^ 28) c.args.layout.now.one_stride_an_axis c.requires.fits c.requires.index c.loop-axis-test.true c.loop-axis.invariant in
-    omega (arith, length_is c.args.layout.now c.args.index.now c.loop-axis.index (c.loop-axis.axis - 1) c.loop-axis.offset (2 ^ 28) turns, turns.below)
+    let turns = turns_at c.args.layout.now c.args.index.now c.loop-axis.index c.loop-axis.axis c.loop-axis.offset c.requires.index c.loop-axis-test.true c.loop-axis.invariant in
+    omega (arith, length_is c.args.layout.now c.args.index.now c.loop-axis.index (c.loop-axis.axis - 1) c.loop-axis.offset turns, turns.below)
 
 pub forward-requires-clause-start : goal.forward-requires-clause-start
 forward-requires-clause-start c =
-    let turns = turns_at c.args.layout.now c.args.index.now c.loop-axis.index c.loop-axis.axis c.loop-axis.offset (2 ^ 28) c.args.layout.now.one_stride_an_axis c.requires.fits c.requires.index c.loop-axis-test.true c.loop-axis.invariant in
-    omega (arith, offset-lt c.args.layout.now c.args.index.now c.loop-axis.index (c.loop-axis.axis - 1) c.loop-axis.offset (2 ^ 28) turns)
+    let turns = turns_at c.args.layout.now c.args.index.now c.loop-axis.index c.loop-axis.axis c.loop-axis.offset c.requires.index c.loop-axis-test.true c.loop-axis.invariant in
+    omega (arith, offset-lt c.args.layout.now c.args.index.now c.loop-axis.index (c.loop-axis.axis - 1) c.loop-axis.offset turns)
 
 pub forward-requires-clause-low : goal.forward-requires-clause-low
 forward-requires-clause-low c =
-    let turns = turns_at c.args.layout.now c.args.index.now c.loop-axis.index c.loop-axis.axis c.loop-axis.offset (2 ^ 28) c.args.layout.now.one_stride_an_axis c.requires.fits c.requires.index c.loop-axis-test.true c.loop-axis.invariant in
-    let number = number_is c.args.layout.now c.args.index.now c.loop-axis.index (c.loop-axis.axis - 1) c.loop-axis.offset (2 ^ 28) turns in
+    let turns = turns_at c.args.layout.now c.args.index.now c.loop-axis.index c.loop-axis.axis c.loop-axis.offset c.requires.index c.loop-axis-test.true c.loop-axis.invariant in
+    let number = number_is c.args.layout.now c.args.index.now c.loop-axis.index (c.loop-axis.axis - 1) c.loop-axis.offset turns in
     let limit = ap (λ s. get_or s (c.loop-axis.axis - 1) 0) c.as_slice-lengths.ensures.value in
     let below : get_or c.args.index.now (c.loop-axis.axis - 1) 0 + 1 < get_or c.args.layout.now.shape (c.loop-axis.axis - 1) 0 = omega arith in
-    rw c.as_slice-strides.ensures (step-bounds c.args.layout.now c.args.index.now c.loop-axis.index (c.loop-axis.axis - 1) c.loop-axis.offset (2 ^ 28) turns below).0
+    rw c.as_slice-strides.ensures (step-bounds c.args.layout.now c.args.index.now c.loop-axis.index (c.loop-axis.axis - 1) c.loop-axis.offset turns below).0
 
 pub forward-requires-clause-high : goal.forward-requires-clause-high
 forward-requires-clause-high c =
-    let turns = turns_at c.args.layout.now c.args.index.now c.loop-axis.index c.loop-axis.axis c.loop-axis.offset (2 ^ 28) c.args.layout.now.one_stride_an_axis c.requires.fits c.requires.index c.loop-axis-test.true c.loop-axis.invariant in
-    let number = number_is c.args.layout.now c.args.index.now c.loop-axis.index (c.loop-axis.axis - 1) c.loop-axis.offset (2 ^ 28) turns in
+    let turns = turns_at c.args.layout.now c.args.index.now c.loop-axis.index c.loop-axis.axis c.loop-axis.offset c.requires.index c.loop-axis-test.true c.loop-axis.invariant in
+    let number = number_is c.args.layout.now c.args.index.now c.loop-axis.index (c.loop-axis.axis - 1) c.loop-axis.offset turns in
     let limit = ap (λ s. get_or s (c.loop-axis.axis - 1) 0) c.as_slice-lengths.ensures.value in
     let below : get_or c.args.index.now (c.loop-axis.axis - 1) 0 + 1 < get_or c.args.layout.now.shape (c.loop-axis.axis - 1) 0 = omega arith in
-    rw c.as_slice-strides.ensures (step-bounds c.args.layout.now c.args.index.now c.loop-axis.index (c.loop-axis.axis - 1) c.loop-axis.offset (2 ^ 28) turns below).1
+    rw c.as_slice-strides.ensures (step-bounds c.args.layout.now c.args.index.now c.loop-axis.index (c.loop-axis.axis - 1) c.loop-axis.offset turns below).1
 
 pub returns-then-number-lengths-clause-index : goal.returns-then-number-lengths-clause-index
 returns-then-number-lengths-clause-index c =
-    let turns = turns_at c.args.layout.now c.args.index.now c.loop-axis.index c.loop-axis.axis c.loop-axis.offset (2 ^ 28) c.args.layout.now.one_stride_an_axis c.requires.fits c.requires.index c.loop-axis-test.true c.loop-axis.invariant in
-    let number = number_is c.args.layout.now c.args.index.now c.loop-axis.index (c.loop-axis.axis - 1) c.loop-axis.offset (2 ^ 28) turns in
+    let turns = turns_at c.args.layout.now c.args.index.now c.loop-axis.index c.loop-axis.axis c.loop-axis.offset c.requires.index c.loop-axis-test.true c.loop-axis.invariant in
+    let number = number_is c.args.layout.now c.args.index.now c.loop-axis.index (c.loop-axis.axis - 1) c.loop-axis.offset turns in
     let limit = ap (λ s. get_or s (c.loop-axis.axis - 1) 0) c.as_slice-lengths.ensures.value in
     let below : get_or c.args.index.now (c.loop-axis.axis - 1) 0 + 1 < get_or c.args.layout.now.shape (c.loop-axis.axis - 1) 0 = omega arith in
-    rw (set-next c.args.layout.now c.args.index.now c.loop-axis.index (c.loop-axis.axis - 1) c.loop-axis.offset (2 ^ 28) turns) (IsIndex-stepped c.args.layout.now c.args.index.now c.loop-axis.index (c.loop-axis.axis - 1) c.loop-axis.offset (2 ^ 28) turns below)
+    rw (set-next c.args.layout.now c.args.index.now c.loop-axis.index (c.loop-axis.axis - 1) c.loop-axis.offset turns) (IsIndex-stepped c.args.layout.now c.args.index.now c.loop-axis.index (c.loop-axis.axis - 1) c.loop-axis.offset turns below)
 
 pub returns-then-number-lengths-clause-rank : goal.returns-then-number-lengths-clause-rank
 returns-then-number-lengths-clause-rank c =
-    let turns = turns_at c.args.layout.now c.args.index.now c.loop-axis.index c.loop-axis.axis c.loop-axis.offset (2 ^ 28) c.args.layout.now.one_stride_an_axis c.requires.fits c.requires.index c.loop-axis-test.true c.loop-axis.invariant in
-    λ _. rw (set-next c.args.layout.now c.args.index.now c.loop-axis.index (c.loop-axis.axis - 1) c.loop-axis.offset (2 ^ 28) turns) (rank-next c.args.layout.now c.args.index.now c.loop-axis.index (c.loop-axis.axis - 1) c.loop-axis.offset (2 ^ 28) turns)
+    let turns = turns_at c.args.layout.now c.args.index.now c.loop-axis.index c.loop-axis.axis c.loop-axis.offset c.requires.index c.loop-axis-test.true c.loop-axis.invariant in
+    λ _. rw (set-next c.args.layout.now c.args.index.now c.loop-axis.index (c.loop-axis.axis - 1) c.loop-axis.offset turns) (rank-next c.args.layout.now c.args.index.now c.loop-axis.index (c.loop-axis.axis - 1) c.loop-axis.offset turns)
 
 pub returns-then-number-lengths-clause-offset : goal.returns-then-number-lengths-clause-offset
 returns-then-number-lengths-clause-offset c =
-    let turns = turns_at c.args.layout.now c.args.index.now c.loop-axis.index c.loop-axis.axis c.loop-axis.offset (2 ^ 28) c.args.layout.now.one_stride_an_axis c.requires.fits c.requires.index c.loop-axis-test.true c.loop-axis.invariant in
+    let turns = turns_at c.args.layout.now c.args.index.now c.loop-axis.index c.loop-axis.axis c.loop-axis.offset c.requires.index c.loop-axis-test.true c.loop-axis.invariant in
     let step = rw c.as_slice-strides.ensures at c.forward.ensures in
-    rw (set-next c.args.layout.now c.args.index.now c.loop-axis.index (c.loop-axis.axis - 1) c.loop-axis.offset (2 ^ 28) turns) (step ∙ step-address c.args.layout.now c.args.index.now c.loop-axis.index (c.loop-axis.axis - 1) c.loop-axis.offset (2 ^ 28) turns)
+    rw (set-next c.args.layout.now c.args.index.now c.loop-axis.index (c.loop-axis.axis - 1) c.loop-axis.offset turns) (step ∙ step-address c.args.layout.now c.args.index.now c.loop-axis.index (c.loop-axis.axis - 1) c.loop-axis.offset turns)
 
 pub back-offset-requires-clause-start : goal.back-offset-requires-clause-start
 back-offset-requires-clause-start c =
-    let turns = turns_at c.args.layout.now c.args.index.now c.loop-axis.index c.loop-axis.axis c.loop-axis.offset (2 ^ 28) c.args.layout.now.one_stride_an_axis c.requires.fits c.requires.index c.loop-axis-test.true c.loop-axis.invariant in
-    omega (arith, offset-lt c.args.layout.now c.args.index.now c.loop-axis.index (c.loop-axis.axis - 1) c.loop-axis.offset (2 ^ 28) turns)
+    let turns = turns_at c.args.layout.now c.args.index.now c.loop-axis.index c.loop-axis.axis c.loop-axis.offset c.requires.index c.loop-axis-test.true c.loop-axis.invariant in
+    omega (arith, offset-lt c.args.layout.now c.args.index.now c.loop-axis.index (c.loop-axis.axis - 1) c.loop-axis.offset turns)
 
 pub back-offset-requires-clause-steps : goal.back-offset-requires-clause-steps
 back-offset-requires-clause-steps c =
-    let turns = turns_at c.args.layout.now c.args.index.now c.loop-axis.index c.loop-axis.axis c.loop-axis.offset (2 ^ 28) c.args.layout.now.one_stride_an_axis c.requires.fits c.requires.index c.loop-axis-test.true c.loop-axis.invariant in
-    let number = number_is c.args.layout.now c.args.index.now c.loop-axis.index (c.loop-axis.axis - 1) c.loop-axis.offset (2 ^ 28) turns in
+    let turns = turns_at c.args.layout.now c.args.index.now c.loop-axis.index c.loop-axis.axis c.loop-axis.offset c.requires.index c.loop-axis-test.true c.loop-axis.invariant in
+    let number = number_is c.args.layout.now c.args.index.now c.loop-axis.index (c.loop-axis.axis - 1) c.loop-axis.offset turns in
     let before = number-lt c.args.layout.now.shape c.args.index.now (c.loop-axis.axis - 1) c.requires.index turns.below in
     let small = c.as_slice-lengths.ensures.lengths (c.loop-axis.axis - 1) 0 turns.below in
     omega arith
 
 pub back-offset-requires-clause-low : goal.back-offset-requires-clause-low
 back-offset-requires-clause-low c =
-    let turns = turns_at c.args.layout.now c.args.index.now c.loop-axis.index c.loop-axis.axis c.loop-axis.offset (2 ^ 28) c.args.layout.now.one_stride_an_axis c.requires.fits c.requires.index c.loop-axis-test.true c.loop-axis.invariant in
-    rw c.as_slice-strides.ensures (back-range c.args.layout.now c.args.index.now c.loop-axis.index (c.loop-axis.axis - 1) c.loop-axis.offset (2 ^ 28) turns).0
+    let turns = turns_at c.args.layout.now c.args.index.now c.loop-axis.index c.loop-axis.axis c.loop-axis.offset c.requires.index c.loop-axis-test.true c.loop-axis.invariant in
+    rw c.as_slice-strides.ensures (back-range c.args.layout.now c.args.index.now c.loop-axis.index (c.loop-axis.axis - 1) c.loop-axis.offset turns).0
 
 pub back-offset-requires-clause-high : goal.back-offset-requires-clause-high
 back-offset-requires-clause-high c =
-    let turns = turns_at c.args.layout.now c.args.index.now c.loop-axis.index c.loop-axis.axis c.loop-axis.offset (2 ^ 28) c.args.layout.now.one_stride_an_axis c.requires.fits c.requires.index c.loop-axis-test.true c.loop-axis.invariant in
-    rw c.as_slice-strides.ensures (back-range c.args.layout.now c.args.index.now c.loop-axis.index (c.loop-axis.axis - 1) c.loop-axis.offset (2 ^ 28) turns).1
+    let turns = turns_at c.args.layout.now c.args.index.now c.loop-axis.index c.loop-axis.axis c.loop-axis.offset c.requires.index c.loop-axis-test.true c.loop-axis.invariant in
+    rw c.as_slice-strides.ensures (back-range c.args.layout.now c.args.index.now c.loop-axis.index (c.loop-axis.axis - 1) c.loop-axis.offset turns).1
 
 pub loop-axis-preserved : goal.loop-axis-preserved
 loop-axis-preserved c =
-    let turns = turns_at c.args.layout.now c.args.index.now c.loop-axis.index c.loop-axis.axis c.loop-axis.offset (2 ^ 28) c.args.layout.now.one_stride_an_axis c.requires.fits c.requires.index c.loop-axis-test.true c.loop-axis.invariant in
+    let turns = turns_at c.args.layout.now c.args.index.now c.loop-axis.index c.loop-axis.axis c.loop-axis.offset c.requires.index c.loop-axis-test.true c.loop-axis.invariant in
     let limit = ap (λ s. get_or s (c.loop-axis.axis - 1) 0) c.as_slice-lengths.ensures.value in
     let step = rw c.as_slice-strides.ensures at c.back-offset.ensures in
-    stands_before c.args.layout.now c.args.index.now c.loop-axis.index (c.loop-axis.axis - 1) c.loop-axis.offset (2 ^ 28) c.back-offset.result turns (omega arith) step
+    stands_before c.args.layout.now c.args.index.now c.loop-axis.index (c.loop-axis.axis - 1) c.loop-axis.offset c.back-offset.result turns (omega arith) step
 
 pub returns-clause-index : goal.returns-clause-index
 returns-clause-index c =

@@ -1,7 +1,7 @@
 use Rattle.std.proofs.Common.{◌≡◌, ◌+ℤ◌, pos, length, [], replicate, sym, ap, ◌∙◌, arith}
 use lib.IntN.{+ℤ_idr}
 use Rattle.shape_strides.specs.Indexes.{rank}
-use Rattle.shape_strides.specs.Layouts.{dot}
+use Rattle.shape_strides.specs.Addresses.{dot}
 use Rattle.shape_strides.proofs.LayoutLaws.{length-offsets, offsets_within}
 use Rattle.shape_strides.proofs.StepLaws.{padded, length-padded, rank-zeros, dot-zeros}
 use Rattle.shape_strides.proofs.AdvanceLaws.{IsIndex-first, padded-nil}
@@ -12,7 +12,6 @@ invariant_of-result c =
     let l = c.args.layout.now in
     let zeros : c.in_ok-index.index.items ≡ padded l.shape [] = c.in_ok-index.ensures.items_if_clones_equal (λ y same. same) ∙ ap (λ n. replicate n 0) c.rank.ensures.value ∙ padded-nil l.shape in
     record {
-      fits_limit = c.requires;
       most = omega (arith, c.items.ensures.value);
       axes = ap length zeros ∙ length-padded l.shape [];
       next = λ some. record {

@@ -1,0 +1,43 @@
+//! Layouts for tests.
+use crate::check::check;
+use shape_strides::{Layout, Shape, Strides};
+use std::alloc::Global;
+use std::process::Abort;
+
+/// An array: its lengths, its strides and the offset of its first item.
+pub(crate) type Numbers = (&'static [usize], &'static [isize], usize);
+
+/// The layout with these numbers, if there is one.
+pub(crate) fn layout_if(rt: &impl Abort, alloc: Global, numbers: Numbers) -> Option<Layout> {
+    let (lengths, steps, offset) = numbers;
+    let shape = Shape::try_new(alloc, lengths).expect(rt, "no shape");
+    let strides = Strides::from_slice(alloc, steps).expect(rt, "no memory");
+    let count = strides.as_slice().len();
+    check(rt, count == shape.as_slice().len(), "a stride an axis");
+    Layout::new(shape, strides, offset)
+}
+
+pub(crate) fn layout_of(rt: &impl Abort, alloc: Global, numbers: Numbers) -> Layout {
+    layout_if(rt, alloc, numbers).expect(rt, "no layout")
+}
+
+/// The layout of a new array in C order.
+pub(crate) fn c_order(rt: &impl Abort, alloc: Global, lengths: &[usize], item: usize) -> Layout {
+    let shape = Shape::try_new(alloc, lengths).expect(rt, "no shape");
+    check(rt, 1 <= item && item <= 65_536, "the size of an item");
+    check(rt, shape.items() <= 1000, "few items");
+    Layout::c_order(alloc, &shape, item).expect(rt, "no memory")
+}
+
+/// The layout has these lengths, strides and offset.
+pub(crate) fn has(
+    rt: &impl Abort,
+    layout: &Layout,
+    lengths: &[usize],
+    strides: &[isize],
+    offset: usize,
+) {
+    check(rt, layout.shape.as_slice() == lengths, "lengths");
+    check(rt, layout.strides.as_slice() == strides, "strides");
+    check(rt, layout.offset == offset, "offset");
+}

@@ -1,0 +1,17 @@
+use Rattle.std.proofs.Common.{sym, refl, inr}
+use Rattle.std.proofs.lemmas.Result.{err_from_is_err_and}
+use Rattle.bench_engine.specs.Contents.{arange_contents}
+use Rattle.bench_engine.proofs.Creates.{creation-many, creation-refused, made-answers}
+use Rattle.bench_engine.proofs.Looks.{unchanged}
+use Rattle.bench_engine.proofs.create.arange.Goals as goal
+
+pub returns-then-not-has_room_for-clause-answers : goal.returns-then-not-has_room_for-clause-answers
+returns-then-not-has_room_for-clause-answers c = (refl, unchanged _, inr (λ choice. creation-many choice _ _ _ (sym c.if-not-has_room_for.ensures)))
+
+pub returns-in_err-owned-clause-answers : goal.returns-in_err-owned-clause-answers
+returns-in_err-owned-clause-answers c =
+    let p = err_from_is_err_and c.from_residual.result c.from_residual.ensures.1 in
+    rw (p.1, p.2) (refl, unchanged _, creation-refused _ _ (arange_contents c.args.descr.now c.args.start.now c.args.stop.now c.args.step.now) _ (sym c.if-not-has_room_for.ensures) c.in_err-owned.ensures.value)
+
+pub returns-clause-answers : goal.returns-clause-answers
+returns-clause-answers c = made-answers _ _ _ (arange_contents c.args.descr.now c.args.start.now c.args.stop.now c.args.step.now) c.in_ok-owned.owned _ _ _ c.in_ok-owned.ensures.value c.create.ensures.answers

@@ -1,0 +1,8 @@
+use Rattle.std.proofs.Math.Bool.{and-true}
+use Rattle.bench_engine.proofs.engine.bind.Goals as goal
+
+pub returns-in-Make-clause-answers : goal.returns-in-Make-clause-answers
+returns-in-Make-clause-answers c = rw c.in-Make.is c.make.ensures.answers
+
+pub returns-in-View-clause-answers : goal.returns-in-View-clause-answers
+returns-in-View-clause-answers c = rw (c.in-View.is, and-true) c.view.ensures.answers

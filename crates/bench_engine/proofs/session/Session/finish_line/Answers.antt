@@ -1,0 +1,8 @@
+use Rattle.std.proofs.Common.{sym}
+use Rattle.std.proofs.lemmas.Result.{on_err_weaker}
+use Rattle.bench_engine.proofs.Feeding.{told-in-part}
+use Rattle.bench_engine.proofs.session.Session.finish_line.Goals as goal
+
+pub returns-clause-err : goal.returns-clause-err
+returns-clause-err g c =
+    on_err_weaker c.send_line.result (λ part. told-in-part c.args.self.now c.answer_line.new.self c.answer_line.result _ _ (sym c.if-is_none.ensures) c.answer_line.ensures.answered part) c.send_line.ensures.err

@@ -1,0 +1,65 @@
+-- What a line means, and what it may be answered.
+use Rattle.std.specs.Prelude.{◌≡◌, ◌⊎◌, ℕ, Bool, ◌||◌, IsTrue, IsErrOf, Option, Some, None, Result, List, [], ◌∷◌, length, nat_lt, if◌then◌else◌}
+use Rattle.elem_descr.specs.declared.refusal.Refusal.{Refusal}
+use Rattle.elem_descr.specs.declared.refusal.Refusal.TheVariants.{LineTooLong, ByteNotAllowed, Syntax, OutOfMemory}
+use Rattle.script_lang.specs.declared.command.Command.{Command}
+use Rattle.script_lang.specs.Lines.{Line, line_of, silent, bad_byte, misspelt, asks}
+use Rattle.script_lang.specs.Reading.{Says, needs_room}
+use Rattle.name_store.specs.States.{State}
+use Rattle.bench_engine.specs.declared.line.Line.{Line as ReadLine}
+use Rattle.bench_engine.specs.declared.line.Line.TheVariants.{Held, TooLong}
+use Rattle.bench_engine.specs.Replies.{Reply, refusal}
+use Rattle.bench_engine.specs.Machine.{Step, may_lack_memory}
+
+-- the most bytes of a line
+abbrev pub limit : ℕ
+limit = 65536
+
+-- what a line means: it is too long, or it says what the grammar reads in it
+pub data Meaning : Type 0 where
+  too_long : Meaning
+  says : Line → Meaning
+
+unfoldable pub meaning_of : List ℕ → Meaning
+meaning_of line = if nat_lt limit (length line) then too_long else says (line_of line)
+
+-- nothing changed, and this reply
+abbrev pub Refuses : State → State → Reply → Reply → Type 0
+Refuses old new reply with_reply = (new ≡ old) × (reply ≡ with_reply)
+
+-- refused for want of memory, with nothing changed, where that may be
+abbrev pub LacksMemory : Bool → State → State → Reply → Type 0
+LacksMemory may old new reply = IsTrue may × Refuses old new reply (refusal OutOfMemory)
+
+-- A command is a step of the machine, or refused for want of memory, where it may ask for some.
+abbrev pub Case : State → Command → State → Reply → Type 0
+Case old command new reply = Step old command new reply ⊎ LacksMemory (may_lack_memory old command) old new reply
+
+-- what a meaning may be answered, and where it leads
+abbrev pub Answered : State → Meaning → State → List Reply → Type 0
+Answered old too_long new replies = (new ≡ old) × (replies ≡ refusal LineTooLong ∷ [])
+Answered old (says silent) new replies = (new ≡ old) × (replies ≡ [])
+Answered old (says bad_byte) new replies = (new ≡ old) × (replies ≡ refusal ByteNotAllowed ∷ [])
+Answered old (says misspelt) new replies =
+    (reply : Reply) × (replies ≡ reply ∷ []) × (Refuses old new reply (refusal Syntax) ⊎ Refuses old new reply (refusal OutOfMemory))
+Answered old (says (asks command)) new replies =
+    (reply : Reply) × (replies ≡ reply ∷ []) × (Step old command new reply ⊎ LacksMemory (may_lack_memory old command || needs_room command) old new reply)
+
+-- what the machine may answer a line
+abbrev pub AnswersLine : State → List ℕ → State → List Reply → Type 0
+AnswersLine old line new replies = Answered old (meaning_of line) new replies
+
+-- what a line as it was read means
+abbrev pub meaning_of_read : ReadLine → Meaning
+meaning_of_read (Held line) = meaning_of line.now
+meaning_of_read TooLong = too_long
+
+-- what reading a line answers: what the grammar says, or that it is too long
+abbrev pub ReadsAs : Result (Option Command) Refusal → Meaning → Type 0
+ReadsAs result too_long = IsErrOf result LineTooLong
+ReadsAs result (says line) = Says result line
+
+-- at most one reply, which stands in out
+abbrev pub Tells : List Reply → Option Bool → List ℕ → Type 0
+Tells replies None out = (replies ≡ []) × (out ≡ [])
+Tells replies (Some accepted) out = (reply : Reply) × (replies ≡ reply ∷ []) × (reply.accepted ≡ accepted) × (out ≡ reply.text)

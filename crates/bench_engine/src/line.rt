@@ -1,0 +1,82 @@
+//! The line that is being read.
+ghost use Rattle.std.specs.Prelude.{◌≡◌, ◌++◌, [], List, ℕ, IfOk, false, ◌&&◌, nat_eq, not, length, vec_capacity, ◌+◌, ◌≤◌};
+ghost use Rattle.bench_engine.specs.Lines.{trimmed};
+ghost use Rattle.bench_engine.specs.Meanings.{meaning_of, meaning_of_read};
+ghost use Rattle.bench_engine.specs.Sessions.{Holds, HasLineRoom};
+
+use std::alloc::{AllocError, Global};
+
+/// The most bytes of a line.
+pub const MAX_LINE_LEN: usize = 65_536;
+
+/// A line as it was read: whole, or only that it is too long.
+#[derive(Clone, Copy)]
+pub enum Line<'a> {
+    Held(&'a [u8]),
+    TooLong,
+}
+
+/// What has come of a line so far. Of one that is too long only that is held.
+#[derive(Drop)]
+pub struct HeldLine {
+    bytes: Vec<u8>,
+    is_long: bool,
+}
+
+impl HeldLine {
+    /// No byte yet, and room for a line with a carriage return.
+    pub fn new(alloc: Global) -> Result<HeldLine, AllocError>
+        ensures room { IfOk result HasLineRoom }
+        ensures bytes { IfOk result (λ line. line.bytes.items ≡ []) }
+        ensures whole { IfOk result (λ line. line.is_long ≡ false) }
+    {
+        let bytes = Vec::with_capacity(alloc, MAX_LINE_LEN + 1)?;
+        Ok(HeldLine {
+            bytes,
+            is_long: false,
+        })
+    }
+
+    /// Adds bytes to the line.
+    pub fn hold(&mut self, more: &[u8])
+        requires room { HasLineRoom self.old }
+        ensures room { HasLineRoom self.new }
+        ensures held { (piece : List ℕ) → Holds self.old piece → Holds self.new (piece ++ more.now) }
+    {
+        let left = (MAX_LINE_LEN + 1).saturating_sub(self.bytes.len());
+        if more.len() > left {
+            self.is_long = true;
+        } else {
+            self.bytes.extend_from_slice(more).unwrap();
+        }
+    }
+
+    /// Whether nothing has come.
+    pub fn is_empty(&self) -> bool
+        ensures { result ≡ (nat_eq (length self.now.bytes.items) 0 && not self.now.is_long) }
+    {
+        self.bytes.is_empty() && !self.is_long
+    }
+
+    /// The line without one carriage return at its end.
+    pub fn line(&self) -> Line<'_>
+        ensures { (piece : List ℕ) → Holds self.now piece → meaning_of_read result ≡ meaning_of (trimmed piece) }
+    {
+        if self.is_long {
+            return Line::TooLong;
+        }
+        let bytes = self.bytes.as_slice();
+        Line::Held(bytes.strip_suffix(b"\r").unwrap_or(bytes))
+    }
+
+    /// Begins the next line.
+    pub fn clear(&mut self)
+        requires room { HasLineRoom self.old }
+        ensures room { HasLineRoom self.new }
+        ensures bytes { self.new.bytes.items ≡ [] }
+        ensures whole { self.new.is_long ≡ false }
+    {
+        self.bytes.clear();
+        self.is_long = false;
+    }
+}

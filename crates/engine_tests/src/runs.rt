@@ -1,0 +1,37 @@
+//! What a run came to, in a few numbers.
+use crate::rows::Row;
+use bench_engine::{RunFault, Source, run};
+use std::alloc::Global;
+use std::io::Write;
+use std::process::Abort;
+
+/// How many replies accept a command and how many refuse one, or why the run stopped.
+pub fn counts<S: Source, W: Write>(
+    alloc: Global,
+    source: &mut S,
+    writer: &mut W,
+) -> Result<(u64, u64), RunFault> {
+    let summary = run(alloc, source, writer)?;
+    Ok((summary.accepted, summary.refused))
+}
+
+/// Runs a row's script and compares what it replies.
+pub fn check_row<S: Source>(rt: &impl Abort, alloc: Global, source: &mut S, row: &Row) {
+    let mut replies = Vec::new(alloc);
+    let told = counts(alloc, source, &mut replies);
+    assert_eq!(rt; replies.as_slice(), row.replies);
+    assert_eq!(rt; told, Ok((row.accepted, row.refused)));
+}
+
+/// Runs a script and compares what it replies, and why it stops.
+pub fn check_fault<S: Source>(
+    rt: &impl Abort,
+    alloc: Global,
+    source: &mut S,
+    expected: (&[u8], RunFault),
+) {
+    let mut replies = Vec::new(alloc);
+    let told = counts(alloc, source, &mut replies);
+    assert_eq!(rt; replies.as_slice(), expected.0);
+    assert_eq!(rt; told, Err(expected.1));
+}

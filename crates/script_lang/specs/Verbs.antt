@@ -1,0 +1,109 @@
+-- The words that the language knows, and what each is.
+use Rattle.std.specs.Prelude.{ℕ, Bool, List, [], ◌∷◌, codes, Option, Some, None, is_some, ◌||◌, if◌then◌else◌}
+use Rattle.std.specs.Option.{option_and_then}
+use Rattle.std.specs.Str.{bytes_eq}
+use Rattle.script_lang.specs.declared.command.MemoryOrder.{MemoryOrder}
+use Rattle.script_lang.specs.declared.command.MemoryOrder.TheVariants.{C, F}
+use Rattle.script_lang.specs.declared.operation.BinaryOperation.TheVariants.{Add, Subtract, Multiply, FloorDivide, Modulo, And, Or, Xor, ShiftLeft, ShiftRight, Divide}
+use Rattle.script_lang.specs.declared.operation.Comparison.TheVariants.{Equal, NotEqual, Less, LessOrEqual, Greater, GreaterOrEqual}
+use Rattle.script_lang.specs.declared.operation.Operation.{Operation}
+use Rattle.script_lang.specs.declared.operation.Operation.TheVariants.{Binary, Compare}
+use Rattle.script_lang.specs.declared.operation.UnaryOperation.{UnaryOperation}
+use Rattle.script_lang.specs.declared.operation.UnaryOperation.TheVariants.{Negate, Invert}
+use Rattle.script_lang.specs.declared.operation.Reduction.{Reduction}
+use Rattle.script_lang.specs.declared.operation.Reduction.TheVariants.{Sum, Product, Minimum, Maximum, Any, All, ArgMin, ArgMax}
+use Rattle.script_lang.specs.declared.verb.Verb.{Verb}
+use Rattle.script_lang.specs.declared.verb.Verb.TheVariants as verb
+use Rattle.script_lang.specs.declared.verb.MakeVerb.TheVariants as make
+use Rattle.script_lang.specs.declared.verb.ViewVerb.TheVariants as view
+use Rattle.script_lang.specs.declared.verb.ComputeVerb.TheVariants as compute
+use Rattle.script_lang.specs.declared.verb.AskVerb.TheVariants as ask
+
+abbrev pub combined : Operation → Verb
+combined operation = verb.Compute (compute.Combine operation)
+
+abbrev pub transformed : UnaryOperation → Verb
+transformed operation = verb.Compute (compute.Transform operation)
+
+abbrev pub reduced : Reduction → Verb
+reduced reduction = verb.Compute (compute.Reduce reduction)
+
+-- each word that begins a command, or a value behind `X =`
+abbrev pub verbs : List (List ℕ × Verb)
+verbs =
+    (codes "zeros", verb.Make make.Zeros)
+    ∷ (codes "full", verb.Make make.Full)
+    ∷ (codes "arange", verb.Make make.Arange)
+    ∷ (codes "array", verb.Make make.Array)
+    ∷ (codes "field", verb.View view.Field)
+    ∷ (codes "transpose", verb.View view.Transpose)
+    ∷ (codes "reshape", verb.View view.Reshape)
+    ∷ (codes "broadcast", verb.View view.Broadcast)
+    ∷ (codes "copy", verb.Compute compute.Duplicate)
+    ∷ (codes "cast", verb.Compute compute.Cast)
+    ∷ (codes "load", verb.Load)
+    ∷ (codes "set", verb.Set)
+    ∷ (codes "upd", verb.Update)
+    ∷ (codes "del", verb.Delete)
+    ∷ (codes "undo", verb.Undo)
+    ∷ (codes "save", verb.Save)
+    ∷ (codes "print", verb.Ask ask.Print)
+    ∷ (codes "info", verb.Ask ask.Info)
+    ∷ (codes "format", verb.Ask ask.Format)
+    ∷ (codes "names", verb.Ask ask.Names)
+    ∷ (codes "shares", verb.Ask ask.Shares)
+    ∷ (codes "add", combined (Binary Add))
+    ∷ (codes "sub", combined (Binary Subtract))
+    ∷ (codes "mul", combined (Binary Multiply))
+    ∷ (codes "fdiv", combined (Binary FloorDivide))
+    ∷ (codes "mod", combined (Binary Modulo))
+    ∷ (codes "and", combined (Binary And))
+    ∷ (codes "or", combined (Binary Or))
+    ∷ (codes "xor", combined (Binary Xor))
+    ∷ (codes "shl", combined (Binary ShiftLeft))
+    ∷ (codes "shr", combined (Binary ShiftRight))
+    ∷ (codes "div", combined (Binary Divide))
+    ∷ (codes "eq", combined (Compare Equal))
+    ∷ (codes "ne", combined (Compare NotEqual))
+    ∷ (codes "lt", combined (Compare Less))
+    ∷ (codes "le", combined (Compare LessOrEqual))
+    ∷ (codes "gt", combined (Compare Greater))
+    ∷ (codes "ge", combined (Compare GreaterOrEqual))
+    ∷ (codes "neg", transformed Negate)
+    ∷ (codes "not", transformed Invert)
+    ∷ (codes "sum", reduced Sum)
+    ∷ (codes "prod", reduced Product)
+    ∷ (codes "min", reduced Minimum)
+    ∷ (codes "max", reduced Maximum)
+    ∷ (codes "any", reduced Any)
+    ∷ (codes "all", reduced All)
+    ∷ (codes "argmin", reduced ArgMin)
+    ∷ (codes "argmax", reduced ArgMax)
+    ∷ []
+
+-- what stands beside the word in a table
+unfoldable pub beside : List (List ℕ × Verb) → List ℕ → Option Verb
+beside [] word = None
+beside (row ∷ rows) word = if bytes_eq row.0 word then Some row.1 else beside rows word
+
+unfoldable pub verb_of : List ℕ → Option Verb
+verb_of word = beside verbs word
+
+-- words that name no array: the verbs, and the words of literals and index lists
+unfoldable pub is_reserved : List ℕ → Bool
+is_reserved word = is_some (verb_of word) || (bytes_eq word (codes "True") || bytes_eq word (codes "False") || bytes_eq word (codes "None"))
+
+abbrev pub as_operation : Verb → Option Operation
+as_operation (verb.Compute (compute.Combine operation)) = Some operation
+as_operation _ = None
+
+-- OP: an operation with two operands
+unfoldable pub operation_of : List ℕ → Option Operation
+operation_of word = option_and_then as_operation (verb_of word)
+
+-- the order of a copy's items
+unfoldable pub order_of : List ℕ → Option MemoryOrder
+order_of word =
+    if bytes_eq word (codes "C") then Some C
+    else if bytes_eq word (codes "F") then Some F
+    else None

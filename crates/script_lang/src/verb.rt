@@ -1,0 +1,115 @@
+//! The words that begin a command or a value.
+
+use crate::operation::BinaryOperation::{
+    Add, And, Divide, FloorDivide, Modulo, Multiply, Or, ShiftLeft, ShiftRight, Subtract, Xor,
+};
+use crate::operation::Comparison::{Equal, Greater, GreaterOrEqual, Less, LessOrEqual, NotEqual};
+use crate::operation::Operation::{Binary, Compare};
+use crate::operation::{Operation, Reduction, UnaryOperation};
+use crate::verb::ComputeVerb::{Cast, Combine, Duplicate, Reduce, Transform};
+use crate::verb::Verb::Compute;
+
+/// A word that begins a command, or a value behind `X =`.
+#[derive(Clone, Copy)]
+pub enum Verb {
+    Make(MakeVerb),
+    View(ViewVerb),
+    Compute(ComputeVerb),
+    Load,
+    Set,
+    Update,
+    Delete,
+    Undo,
+    Save,
+    Ask(AskVerb),
+}
+
+/// A word that makes an array.
+#[derive(Clone, Copy)]
+pub enum MakeVerb {
+    Zeros,
+    Full,
+    Arange,
+    Array,
+}
+
+/// A word that takes the items of another array.
+#[derive(Clone, Copy)]
+pub enum ViewVerb {
+    Field,
+    Transpose,
+    Reshape,
+    Broadcast,
+}
+
+/// A word that computes.
+#[derive(Clone, Copy)]
+pub enum ComputeVerb {
+    Duplicate,
+    Cast,
+    Combine(Operation),
+    Transform(UnaryOperation),
+    Reduce(Reduction),
+}
+
+/// A word that asks.
+#[derive(Clone, Copy)]
+pub enum AskVerb {
+    Print,
+    Info,
+    Format,
+    Names,
+    Shares,
+}
+
+/// Each word that begins a command or a value.
+pub const VERBS: [(&[u8], Verb); 48] = [
+    (b"zeros", Verb::Make(MakeVerb::Zeros)),
+    (b"full", Verb::Make(MakeVerb::Full)),
+    (b"arange", Verb::Make(MakeVerb::Arange)),
+    (b"array", Verb::Make(MakeVerb::Array)),
+    (b"field", Verb::View(ViewVerb::Field)),
+    (b"transpose", Verb::View(ViewVerb::Transpose)),
+    (b"reshape", Verb::View(ViewVerb::Reshape)),
+    (b"broadcast", Verb::View(ViewVerb::Broadcast)),
+    (b"copy", Compute(Duplicate)),
+    (b"cast", Compute(Cast)),
+    (b"load", Verb::Load),
+    (b"set", Verb::Set),
+    (b"upd", Verb::Update),
+    (b"del", Verb::Delete),
+    (b"undo", Verb::Undo),
+    (b"save", Verb::Save),
+    (b"print", Verb::Ask(AskVerb::Print)),
+    (b"info", Verb::Ask(AskVerb::Info)),
+    (b"format", Verb::Ask(AskVerb::Format)),
+    (b"names", Verb::Ask(AskVerb::Names)),
+    (b"shares", Verb::Ask(AskVerb::Shares)),
+    (b"add", Compute(Combine(Binary(Add)))),
+    (b"sub", Compute(Combine(Binary(Subtract)))),
+    (b"mul", Compute(Combine(Binary(Multiply)))),
+    (b"fdiv", Compute(Combine(Binary(FloorDivide)))),
+    (b"mod", Compute(Combine(Binary(Modulo)))),
+    (b"and", Compute(Combine(Binary(And)))),
+    (b"or", Compute(Combine(Binary(Or)))),
+    (b"xor", Compute(Combine(Binary(Xor)))),
+    (b"shl", Compute(Combine(Binary(ShiftLeft)))),
+    (b"shr", Compute(Combine(Binary(ShiftRight)))),
+    (b"div", Compute(Combine(Binary(Divide)))),
+    (b"eq", Compute(Combine(Compare(Equal)))),
+    (b"ne", Compute(Combine(Compare(NotEqual)))),
+    (b"lt", Compute(Combine(Compare(Less)))),
+    (b"le", Compute(Combine(Compare(LessOrEqual)))),
+    (b"gt", Compute(Combine(Compare(Greater)))),
+    (b"ge", Compute(Combine(Compare(GreaterOrEqual)))),
+    (b"neg", Compute(Transform(UnaryOperation::Negate))),
+    (b"not", Compute(Transform(UnaryOperation::Invert))),
+    (b"sum", Compute(Reduce(Reduction::Sum))),
+    (b"prod", Compute(Reduce(Reduction::Product))),
+    (b"min", Compute(Reduce(Reduction::Minimum))),
+    (b"max", Compute(Reduce(Reduction::Maximum))),
+    (b"any", Compute(Reduce(Reduction::Any))),
+    (b"all", Compute(Reduce(Reduction::All))),
+    (b"argmin", Compute(Reduce(Reduction::ArgMin))),
+    (b"argmax", Compute(Reduce(Reduction::ArgMax))),
+];
