@@ -12,7 +12,7 @@ pub struct Row {
     pub refused: u64,
 }
 
-pub const ROWS: [Row; 31] = [
+pub const ROWS: [Row; 34] = [
     Row {
         script: FIRST_RUN,
         replies: FIRST_REPLIES,
@@ -221,5 +221,26 @@ pub const ROWS: [Row; 31] = [
         replies: b"ok a |i1 (2,) new\n[-128  127]\nok a |u1 (2,) new\n[  0 255]\nok a >i2 (2,) new\n[-32768  32767]\nok a >u4 (2,) new\n[         0 4294967295]\nok a >i8 (2,) new\n[-9223372036854775808  9223372036854775807]\nno E23 literal out of range\nno E23 literal out of range\nformat >q\n",
         accepted: 11,
         refused: 2,
+    },
+    // Samples of a sensor, as `examples/samples.bench` has it.
+    Row {
+        script: b"# Six samples of a sensor: the second, the temperature in hundredths of a degree, and whether it can be trusted.\nsamples = array T{<I:second:<h:temperature:?:good:} (6) (0,2150,True) (10,2155,True) (20,-9999,True) (30,2160,True) (40,-9999,True) (50,2170,True)\ntemperature = field samples \"temperature\"\ngood = field samples \"good\"\nprint temperature\n\n# The third and the fifth reading failed. What is written through a field is seen by the samples.\nset temperature[2:5:2] = 0\nset good[2:5:2] = False\nprint samples\n\n# The latest three, newest first.\nlatest = samples[:-4:-1]\nprint latest\ninfo temperature\nshares temperature good\nshares temperature latest\n",
+        replies: b"ok samples T{<I:second:<h:temperature:<?:good:} (6,) new\nok temperature <i2 (6,) view\nok good |b1 (6,) view\n[ 2150  2155 -9999  2160 -9999  2170]\nok set 2\nok set 2\n[( 0, 2150,  True) (10, 2155,  True) (20,    0, False) (30, 2160,  True) (40,    0, False) (50, 2170,  True)]\nok latest T{<I:second:<h:temperature:<?:good:} (3,) view\n[(50, 2170,  True) (40,    0, False) (30, 2160,  True)]\ninfo temperature <i2 (6,) strides (7,) at 4 order - write yes\nshares no\nshares yes\n",
+        accepted: 12,
+        refused: 0,
+    },
+    // An image's channels, as `examples/channels.bench` has it.
+    Row {
+        script: b"# An image of two rows of three pixels: red, green and blue, a byte each.\nimage = array |u1 (2,3,3) 255 0 0  0 255 0  0 0 255  10 20 30  40 50 60  70 80 90\ngreen = image[...,1]\nprint green\nset green[0,:] = 128\n\n# The channels in the other order, and the image from right to left: the same bytes.\nbgr = image[...,::-1]\ninfo bgr\nmirrored = image[:,::-1]\nprint mirrored\n\n# A plane for each channel.\nplanes = transpose image (2,0,1)\ninfo planes\nred = planes[0]\nprint red\nshares red green\n",
+        replies: b"ok image |u1 (2, 3, 3) new\nok green |u1 (2, 3) view\n[[  0 255   0]\n [ 20  50  80]]\nok set 3\nok bgr |u1 (2, 3, 3) view\ninfo bgr |u1 (2, 3, 3) strides (9, 3, -1) at 2 order - write yes\nok mirrored |u1 (2, 3, 3) view\n[[[  0 128 255]\n  [  0 128   0]\n  [255 128   0]]\n\n [[ 70  80  90]\n  [ 40  50  60]\n  [ 10  20  30]]]\nok planes |u1 (3, 2, 3) view\ninfo planes |u1 (3, 2, 3) strides (1, 9, 3) at 0 order - write yes\nok red |u1 (2, 3) view\n[[255   0   0]\n [ 10  40  70]]\nshares no\n",
+        accepted: 13,
+        refused: 0,
+    },
+    // Packed records, as `examples/packets.bench` has it.
+    Row {
+        script: b"# Packets as they come from a wire: big-endian numbers, two bytes of padding, a tag of four bytes.\npackets = zeros T{>H:kind:2x>I:length:4s:tag:} (3)\nformat packets\nset packets[0] = (1, 512, b'init')\nset packets[1:] = (2, 0, b'data')\n\n# A length of 32 bits holds the first number and not the second.\nlengths = field packets \"length\"\nset lengths[1] = 65536\nset lengths[2] = 4294967296\nprint packets\ninfo lengths\ntags = field packets \"tag\"\nprint tags\n",
+        replies: b"ok packets T{>H:kind:2x>I:length:<4s:tag:} (3,) new\nformat T{>H:kind:2x>I:length:<4s:tag:}\nok set 1\nok set 2\nok lengths >u4 (3,) view\nok set 1\nno E23 literal out of range\n[(1,   512, b'init') (2, 65536, b'data') (2,     0, b'data')]\ninfo lengths >u4 (3,) strides (12,) at 4 order - write yes\nok tags |S4 (3,) view\n[b'init' b'data' b'data']\n",
+        accepted: 10,
+        refused: 1,
     },
 ];
