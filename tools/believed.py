@@ -3,7 +3,8 @@
 
     tools/believed.py            the definitions, by crate and file
     tools/believed.py --check    says which of them docs/DEFINITIONS.md does not name, and which names there are none
-    tools/believed.py --inside   the definitions of specs/ that no public contract reaches: those that only provers use
+    tools/believed.py --inside   the definitions that no public contract reaches, and so only provers use, which do not stand in
+                                 specs/inside/; and those there that one does reach
 
 It reads the texts alone: the clauses of `run`, what the definitions that they cite cite in turn, and for a type that
 contracts see as a value (`impl Model`) what its view cites.
@@ -123,7 +124,7 @@ def public_clauses(crate):
 
 
 def inside():
-    """The definitions that no public contract of any crate reaches, by file."""
+    """By file, the definitions outside specs/inside/ that no public contract of any crate reaches, and those inside that one does."""
     repository = Repository()
     roots = set()
     for crate in sorted((TOP / "crates").iterdir()):
@@ -132,9 +133,10 @@ def inside():
             roots |= {it for it in repository.cited(clauses, {}, names, modules) if it[0]}
     reached = repository.reached(roots)
     for module, (file, local, _, _) in sorted(repository.files.items()):
-        lacking = [name for name in local if (module, name) not in reached]
-        if lacking:
-            print(f"{file.relative_to(TOP / 'crates')}: {'all' if len(lacking) == len(local) else ' '.join(lacking)}")
+        is_inside = ".specs.inside." in module
+        astray = [name for name in local if ((module, name) in reached) == is_inside]
+        if astray:
+            print(f"{file.relative_to(TOP / 'crates')}: {'all' if len(astray) == len(local) else ' '.join(astray)}")
 
 
 def believed():

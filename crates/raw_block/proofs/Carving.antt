@@ -9,7 +9,8 @@ use types.Logic.{Logic, sem}
 use types.Kit.{‵, raw, ◌⊛◌, ◌$◌, ◌∵◌, !, qed, by, move, use1, use2, split, frame, assume, rewrite}
 use denote.RawPtr.Bytes.{bytes, bytes-room}
 use denote.RawPtr.Room.{past, past_bytes, room_cut, room_glue}
-use Rattle.raw_block.specs.Ownership.{unwritten, words, IsSizeFor}
+use Rattle.raw_block.specs.Ownership.{unwritten, words}
+use Rattle.raw_block.specs.inside.Sizes.{IsSizeFor}
 
 abbrev byte : Ty
 byte = ty_int w8

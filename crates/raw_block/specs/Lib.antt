@@ -1,5 +1,5 @@
 pub mod Block
 pub mod BlockLends
 pub mod Bytes
-pub mod Lends
 pub mod Ownership
+pub mod inside

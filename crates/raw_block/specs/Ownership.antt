@@ -1,5 +1,5 @@
 -- What the parts of a block own and lend.
-use Rattle.std.specs.Prelude.{◌≡◌, ℕ, ◌+◌, ◌/◌, ◌%◌, ◌^◌, ◌<◌, ◌≤◌, List, length}
+use Rattle.std.specs.Prelude.{ℕ, ◌+◌, ◌/◌, ◌^◌, List, length}
 use mir.Syntax.{Ty, w8, w128, ty_int, ty_array}
 use base.Fraction.{full_share}
 use base.Fml.{Lft, Fml, ffalse, fsep, flt, fwand, froom}
@@ -22,10 +22,6 @@ bytes_own null_ptr xs n = ffalse
 abbrev pub bytes_lent : Ptr → List ℕ → ℕ → Lft → Fml
 bytes_lent (block_ptr b o) xs n = beside (said (flt (length xs + n) (2 ^ 63))) (elements_shared u8 xs b o)
 bytes_lent null_ptr xs n = said ffalse
-
--- a block of `size` bytes has room for len of them, and is made of words of 16 bytes
-abbrev pub IsSizeFor : ℕ → ℕ → Type 0
-IsSizeFor size len = (len ≤ size) × (size % 16 ≡ 0) × (size < 2 ^ 63)
 
 -- the type that a block of that size is allocated for
 abbrev pub words : ℕ → Ty

@@ -3,7 +3,8 @@ ghost use Rattle.std.specs.Prelude.{◌≡◌, ℕ, ◌+◌, ◌^◌, ◌<◌, �
 ghost use Rattle.std.specs.Borrow.{sem};
 ghost use base.Fml.{ftrue};
 ghost use denote.RawPtr.{Ptr};
-ghost use Rattle.raw_block.specs.Ownership.{IsSizeFor, bytes_own, bytes_lent, deed_owns};
+ghost use Rattle.raw_block.specs.Ownership.{bytes_own, bytes_lent, deed_owns};
+ghost use Rattle.raw_block.specs.inside.Sizes.{IsSizeFor};
 
 use std::alloc::{AllocError, Allocator};
 use std::marker::{Model, PhantomData};
@@ -60,7 +61,7 @@ impl<A: Allocator> Model for Deed<A> {
 }
 
 impl Bytes {
-    ghost use Rattle.raw_block.specs.Lends.{lends_bytes};
+    ghost use Rattle.raw_block.specs.inside.Lends.{lends_bytes};
 
     /// Writes a zero after those that are written.
     pub(crate) fn push_zero(&mut self, base: Base, index: usize)

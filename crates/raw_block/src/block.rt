@@ -3,7 +3,7 @@ ghost use Rattle.std.specs.Prelude.{◌≡◌, ℕ, ◌+◌, ◌*◌, ◌/◌, �
 ghost use Rattle.std.specs.Borrow.{sem};
 ghost use Rattle.std.specs.List.{refill};
 ghost use Rattle.raw_block.specs.Bytes.{item_at, put, little_number, little_bytes, EachWithin, copied, copied_within, filled, swapped};
-ghost use Rattle.raw_block.specs.Ownership.{IsSizeFor};
+ghost use Rattle.raw_block.specs.inside.Sizes.{IsSizeFor};
 
 use crate::base::{Base, Bytes, Deed, WORD, allocate, deallocate};
 use crate::item::{move_item, number_of, put_item, put_number};

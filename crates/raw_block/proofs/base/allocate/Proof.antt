@@ -37,7 +37,8 @@ use Rattle.std.proofs.raw_atomic.Walks.{proved_at}
 use Rattle.std.specs.Prelude.{Ok, Err}
 use Rattle.std_alloc.proofs.RcSteps.{word, word-Good}
 use Rattle.std_alloc.proofs.ResultValues.{ok_of, err_of}
-use Rattle.raw_block.specs.Ownership.{IsSizeFor, words, unwritten}
+use Rattle.raw_block.specs.Ownership.{words, unwritten}
+use Rattle.raw_block.specs.inside.Sizes.{IsSizeFor}
 use Rattle.raw_block.proofs.Carving.{carve}
 use Rattle.raw_block.proofs.Values.{no_fields, mark, three_val, base_made, bytes_made, deed_made, three_of}
 use Rattle.raw_block.specs.contracts.base.Base as B

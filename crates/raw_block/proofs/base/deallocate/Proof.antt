@@ -31,7 +31,8 @@ use Rattle.core.proofs.alloc.Shapes.{after}
 use Rattle.core.proofs.atomic.Steps.{fm}
 use Rattle.std.proofs.raw_atomic.Walks.{proved_at}
 use Rattle.std_alloc.proofs.RcSteps.{word, word-Good}
-use Rattle.raw_block.specs.Ownership.{IsSizeFor, words, unwritten, bytes_own, deed_owns}
+use Rattle.raw_block.specs.Ownership.{words, unwritten, bytes_own, deed_owns}
+use Rattle.raw_block.specs.inside.Sizes.{IsSizeFor}
 use Rattle.raw_block.proofs.Carving.{blank}
 use Rattle.raw_block.proofs.Values.{no_fields, mark}
 use Rattle.raw_block.proofs.base.Base.TheLaws as base_laws

@@ -38,7 +38,7 @@ use Rattle.std.proofs.raw_atomic.Walks.{proved}
 use Rattle.std.specs.List.{refill}
 use Rattle.std_alloc.proofs.RcSteps.{word, word-Good}
 use Rattle.std_alloc.proofs.VecSteps.Shapes.{after}
-use Rattle.raw_block.specs.Lends.{with_items}
+use Rattle.raw_block.specs.inside.Lends.{with_items}
 use Rattle.raw_block.specs.Ownership.{unwritten, bytes_own}
 use Rattle.raw_block.specs.contracts.base.Bytes.{the_row as R, the_type}
 use Rattle.raw_block.specs.contracts.base.Base as B
