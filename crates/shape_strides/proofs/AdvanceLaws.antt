@@ -10,7 +10,7 @@ use Rattle.shape_strides.specs.Addresses.{dot}
 use Rattle.shape_strides.specs.Layouts.{address, offsets}
 use Rattle.shape_strides.specs.Walks.{IsOnWalk}
 use Rattle.shape_strides.proofs.LayoutLaws.{length-offsets, pos-offset}
-use Rattle.shape_strides.proofs.ReachLaws.{factors_pos}
+use Rattle.shape_strides.proofs.CountLaws.{factors_pos}
 use Rattle.shape_strides.proofs.IndexLaws.{length-index}
 use Rattle.shape_strides.proofs.StepLaws.{padded, length-padded, dot-padded, dot-push, dot-take_more, IsIndex-padded_push, rank-stepped, part_low, part_high, sum_start, sum_bounds, IsIndex-zeros, dot-nil, dot-zeros, last-more}
 

@@ -12,8 +12,8 @@ use Rattle.shape_strides.specs.Addresses.{dot, natural}
 use Rattle.shape_strides.specs.Layouts.{offsets}
 use Rattle.shape_strides.specs.Contiguity.{first_address, printed_stride, printed_strides, is_c_contiguous}
 use Rattle.shape_strides.proofs.IndexLaws.{rank-lt, index_at}
-use Rattle.shape_strides.proofs.ReachLaws.{factors_pos}
-use Rattle.shape_strides.proofs.CountLaws.{count-drop}
+use Rattle.shape_strides.specs.inside.Reach.{max_reach}
+use Rattle.shape_strides.proofs.CountLaws.{factors_pos, count-drop}
 use Rattle.shape_strides.proofs.StepLaws.{padded, dot-zeros, rank-zeros}
 use Rattle.shape_strides.proofs.AdvanceLaws.{IsIndex-first}
 use Rattle.shape_strides.proofs.LayoutLaws.{length-offsets, get_or-offsets, pos-offset, offsets_within}
@@ -121,7 +121,7 @@ rank-unit [] axis below = absurd (omega arith)
 rank-unit (n ∷ shape) zero below = omega (arith, rank-zeros shape, one-mul (count shape))
 rank-unit (n ∷ shape) (suc axis) below = omega (arith, rank-unit shape axis (omega arith), zero-mul (count shape))
 
-one-step : (s : ℤ) → s *ℤ pos 1 ≡ s
+pub one-step : (s : ℤ) → s *ℤ pos 1 ≡ s
 unfolding one
 one-step s = *ℤ-one s
 
@@ -182,11 +182,14 @@ count-drop-le (n ∷ shape) (suc k) some =
     let grown : 1 * count shape ≤ n * count shape = mul-le-mul_right (count shape) both.0 in
     omega (arith, count-drop-le shape k both.1, one-mul (count shape))
 
-pub bytes-bound : (shape : List ℕ) (k bytes item : ℕ) → 0 < count shape → count shape ≤ max_items → item < 2 ^ 64 → bytes ≡ count (drop k shape) * item → bytes ≤ 2 ^ 88
-bytes-bound shape k bytes item some few small is =
-    let factor : count (drop k shape) ≤ max_items = omega (arith, count-drop-le shape k some) in
+-- so many items and fewer are no longer than an axis may reach
+pub product-bound : (items bytes item : ℕ) → items ≤ max_items → item < 2 ^ 64 → bytes ≡ items * item → bytes ≤ max_reach
+product-bound items bytes item few small is =
     let most : item ≤ 2 ^ 64 = omega arith in
-    omega (arith, mul-le-mul factor most)
+    omega (arith, mul-le-mul few most)
+
+pub bytes-bound : (shape : List ℕ) (k bytes item : ℕ) → 0 < count shape → count shape ≤ max_items → item < 2 ^ 64 → bytes ≡ count (drop k shape) * item → bytes ≤ max_reach
+bytes-bound shape k bytes item some few small is = product-bound (count (drop k shape)) bytes item (omega (arith, count-drop-le shape k some)) small is
 
 pub bytes-step : (shape : List ℕ) (k bytes item : ℕ) → k < length shape → bytes ≡ count (drop (k + 1) shape) * item → bytes * get_or shape k 0 ≡ count (drop k shape) * item
 bytes-step shape k bytes item below is =

@@ -3,7 +3,7 @@ use Rattle.std.proofs.Common.{◌≡◌, true, false, pos, negsuc, [], ◌∷◌
 use Rattle.std.proofs.lemmas.List.Sorted.{IsPermutation-refl}
 use Rattle.std.specs.Fmt.{digits}
 use Rattle.shape_strides.specs.Layouts.{f_strides, f_multiples}
-use Rattle.shape_strides.specs.Reach.{reach_within}
+use Rattle.shape_strides.specs.inside.Reach.{reach_within}
 use Rattle.shape_strides.specs.Stacks.{axes, StepsClear, CanStack}
 use Rattle.shape_strides.specs.Contiguity.{first_address, printed_strides, is_c_contiguous, is_f_contiguous, fortran_order, strides_text}
 

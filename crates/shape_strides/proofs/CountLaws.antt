@@ -22,9 +22,11 @@ min-mul a (suc c) top =
 pub count-drop : (shape : List ℕ) (k : ℕ) → k < length shape → count (drop k shape) ≡ get_or shape k 0 * count (drop (k + 1) shape)
 count-drop shape k below = ap count (drop_more shape k 0 below)
 
-pos_of_factors : (n m : ℕ) → 0 < n * m → 0 < n
-pos_of_factors zero m some = absurd (omega (arith, zero-mul m))
-pos_of_factors (suc n) m some = omega arith
+-- both factors of a product that is not 0
+pub factors_pos : (n c : ℕ) → 0 < n * c → (0 < n) × (0 < c)
+factors_pos zero c some = absurd (omega (arith, zero-mul c))
+factors_pos (suc n) zero some = absurd (omega (arith, mul-zero (suc n)))
+factors_pos (suc n) (suc c) some = (omega arith, omega arith)
 
 -- one more factor of the capped product
 pub capped-more : (lengths : List ℕ) (k items top : ℕ) → k < length lengths → min (min (items * get_or lengths k 0) top * count (drop (k + 1) lengths)) top ≡ min (items * count (drop k lengths)) top
@@ -39,10 +41,9 @@ bytes-more lengths k bytes item below some is =
     let n = get_or lengths k 0 in
     let c = count (drop (k + 1) lengths) in
     let whole : bytes ≡ n * (c * item) = is ∙ ap (λ x. x * item) (count-drop lengths k below) ∙ mul_assoc n c item in
-    let long : 0 < n = pos_of_factors n (c * item) (omega arith) in
-    let step : bytes / n ≡ c * item = ap (λ x. x / n) (whole ∙ mul_comm n (c * item)) ∙ mul-div_cancel (c * item) long in
-    let some_step : 0 < c * item = pos_of_factors (c * item) n (omega (arith, mul_comm n (c * item))) in
-    (step, omega arith)
+    let both = factors_pos n (c * item) (omega arith) in
+    let step : bytes / n ≡ c * item = ap (λ x. x / n) (whole ∙ mul_comm n (c * item)) ∙ mul-div_cancel (c * item) both.0 in
+    (step, omega (arith, both.1))
 
 pub c_strides-drop : (item : ℕ) (lengths : List ℕ) (k : ℕ) → k < length lengths → c_strides item (drop k lengths) ≡ pos (count (drop (k + 1) lengths) * item) ∷ c_strides item (drop (k + 1) lengths)
 c_strides-drop item lengths k below = ap (c_strides item) (drop_more lengths k 0 below)
@@ -53,9 +54,13 @@ pub length-c_strides : (item : ℕ) (shape : List ℕ) → length (c_strides ite
 length-c_strides item [] = refl
 length-c_strides item (n ∷ shape) = ap suc (length-c_strides item shape)
 
-pub length-c_order : (item : ℕ) (shape : List ℕ) (strides : List ℤ) → (0 < count shape → strides ≡ c_strides item shape) → (count shape ≡ 0 → strides ≡ map (λ _. pos 0) shape) → length strides ≡ length shape
-length-c_order item shape strides some none =
+-- strides of some order, where there is an item, and else of 0
+pub length-ordered : (shape : List ℕ) (ordered strides : List ℤ) → length ordered ≡ length shape → (0 < count shape → strides ≡ ordered) → (count shape ≡ 0 → strides ≡ map (λ _. pos 0) shape) → length strides ≡ length shape
+length-ordered shape ordered strides same some none =
     elim (cases_lt 0 (count shape)) [
-      | inl above ↦ ap length (some above) ∙ length-c_strides item shape
+      | inl above ↦ ap length (some above) ∙ same
       | inr empty ↦ ap length (none (omega arith)) ∙ length-map shape (λ _. pos 0)
     ]
+
+pub length-c_order : (item : ℕ) (shape : List ℕ) (strides : List ℤ) → (0 < count shape → strides ≡ c_strides item shape) → (count shape ≡ 0 → strides ≡ map (λ _. pos 0) shape) → length strides ≡ length shape
+length-c_order item shape strides some none = length-ordered shape (c_strides item shape) strides (length-c_strides item shape) some none

@@ -1,8 +1,8 @@
 -- Laws of Fortran order: the axes in reverse.
-use Rattle.std.proofs.Common.{◌≡◌, ℕ, zero, suc, ◌+◌, ◌*◌, ◌^◌, ◌-◌, ◌<◌, ◌≤◌, ◌≢◌, true, false, ℤ, pos, ◌+ℤ◌, ◌*ℤ◌, List, [], ◌∷◌, ◌++◌, map, reverse, length, get_or, take, drop, refl, sym, ◌∙◌, ap, arith, mul_comm, mul_assoc, mul-one, one-mul, mul-le-mul, mul-le-mul_left, length-drop, take_all, inl, inr}
-use Rattle.std.proofs.lemmas.Bool.{cases_lt, cases_order}
+use Rattle.std.proofs.Common.{◌≡◌, ℕ, zero, suc, ◌+◌, ◌*◌, ◌^◌, ◌-◌, ◌<◌, ◌≤◌, ◌≢◌, true, false, ℤ, pos, ◌+ℤ◌, ◌*ℤ◌, List, [], ◌∷◌, ◌++◌, map, reverse, length, get_or, take, drop, refl, sym, ◌∙◌, ap, arith, mul_comm, mul_assoc, mul-one, one-mul, mul-le-mul_left, length-drop, take_all, inl, inr}
+use Rattle.std.proofs.lemmas.Bool.{cases_order}
 use Rattle.std.proofs.lemmas.Int.{ints}
-use Rattle.std.proofs.lemmas.List.{drop_more, length-map, length-reverse, reverse-reverse, reverse-append, take_more, get_or-reverse, take-append-drop, map-append}
+use Rattle.std.proofs.lemmas.List.{drop_more, length-reverse, reverse-reverse, reverse-append, take_more, get_or-reverse, take-append-drop, map-append}
 use Rattle.std.proofs.Math.Seq.{drop-append_seam}
 use Rattle.std.proofs.lemmas.Grind.{reverse_onto}
 use lib.IntN.{+ℤ_idl, +ℤ_assoc}
@@ -14,9 +14,9 @@ use Rattle.shape_strides.specs.Layouts.{address, offsets, IsNested, distance, mu
 use Rattle.shape_strides.specs.Contiguity.{fortran_order, is_c_contiguous, is_f_contiguous}
 use Rattle.shape_strides.proofs.IndexLaws.{same_on_indexes, rank-same, index_at, rank-lt, length-index, IsIndex-append}
 use Rattle.shape_strides.proofs.LayoutLaws.{length-offsets, get_or-offsets, dot-c_strides, StandsInCOrder, offsets-c_order, mul-step}
-use Rattle.shape_strides.proofs.CountLaws.{count-drop, length-c_strides}
-use Rattle.shape_strides.proofs.ReachLaws.{factors_pos}
-use Rattle.shape_strides.proofs.ContiguityLaws.{StepsOver, is_c-empty, is_c-true, is_c-false}
+use Rattle.shape_strides.specs.inside.Reach.{max_reach}
+use Rattle.shape_strides.proofs.CountLaws.{factors_pos, count-drop, length-c_strides, length-ordered}
+use Rattle.shape_strides.proofs.ContiguityLaws.{StepsOver, product-bound, is_c-empty, is_c-true, is_c-false}
 
 -- ---- lists in reverse
 
@@ -117,12 +117,9 @@ count-take-le [] (suc k) some = omega arith
 count-take-le (n ∷ shape) zero some = omega arith
 count-take-le (n ∷ shape) (suc k) some = mul-le-mul_left n (count-take-le shape k (factors_pos n (count shape) some).1)
 
-pub f_bytes-bound : (shape : List ℕ) (k bytes item : ℕ) → 0 < count shape → count shape ≤ max_items → item < 2 ^ 64 → bytes ≡ count (reverse (take k shape)) * item → bytes ≤ 2 ^ 88
+pub f_bytes-bound : (shape : List ℕ) (k bytes item : ℕ) → 0 < count shape → count shape ≤ max_items → item < 2 ^ 64 → bytes ≡ count (reverse (take k shape)) * item → bytes ≤ max_reach
 f_bytes-bound shape k bytes item some few small is =
-    let factor : count (take k shape) ≤ max_items = omega (arith, count-take-le shape k some) in
-    let most : item ≤ 2 ^ 64 = omega arith in
-    let is' : bytes ≡ count (take k shape) * item = is ∙ ap (λ c. c * item) (count-reverse (take k shape)) in
-    omega (arith, mul-le-mul factor most)
+    product-bound (count (take k shape)) bytes item (omega (arith, count-take-le shape k some)) small (is ∙ ap (λ c. c * item) (count-reverse (take k shape)))
 
 pub f_bytes-step : (shape : List ℕ) (k bytes item : ℕ) → k < length shape → bytes ≡ count (reverse (take k shape)) * item → bytes * get_or shape k 0 ≡ count (reverse (take (k + 1) shape)) * item
 f_bytes-step shape k bytes item below is =
@@ -276,8 +273,4 @@ f_order_nested l item stands = record {
 }
 
 pub length-f_order : (item : ℕ) (shape : List ℕ) (strides : List ℤ) → (0 < count shape → strides ≡ f_strides item shape) → (count shape ≡ 0 → strides ≡ map (λ _. pos 0) shape) → length strides ≡ length shape
-length-f_order item shape strides some none =
-    elim (cases_lt 0 (count shape)) [
-      | inl above ↦ ap length (some above) ∙ length-f_strides item shape
-      | inr empty ↦ ap length (none (omega arith)) ∙ length-map shape (λ _. pos 0)
-    ]
+length-f_order item shape strides some none = length-ordered shape (f_strides item shape) strides (length-f_strides item shape) some none

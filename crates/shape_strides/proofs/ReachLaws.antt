@@ -1,12 +1,13 @@
 -- Laws of the reach of a layout's addresses.
-use Rattle.std.proofs.Common.{◌≡◌, ℕ, zero, suc, ◌+◌, ◌-◌, ◌*◌, ◌<◌, ◌≤◌, IsTrue, nat_le, ℤ, pos, negsuc, ◌+ℤ◌, ◌*ℤ◌, neg_ℤ, ◌≤ℤ◌, List, [], ◌∷◌, length, refl, ap, arith, zero-mul, mul-zero, mul-le-mul_left}
+use Rattle.std.proofs.Common.{◌≡◌, ℕ, zero, suc, ◌+◌, ◌-◌, ◌*◌, ◌<◌, ◌≤◌, IsTrue, nat_le, ℤ, pos, negsuc, ◌+ℤ◌, ◌*ℤ◌, neg_ℤ, ◌≤ℤ◌, List, [], ◌∷◌, length, refl, ap, arith, zero-mul, mul-le-mul_left}
 use Rattle.std.proofs.lemmas.Int.{ints}
 use Rattle.std.proofs.lemmas.Bool.Decides.{nat_tests}
 use lib.IntN.{*ℤ-zero, negsuc-*ℤ-pos}
 use Rattle.shape_strides.specs.Indexes.{count, IsIndex}
 use Rattle.shape_strides.specs.Addresses.{dot, natural, LieWithin}
-use Rattle.shape_strides.specs.Reach.{reach_above, reach_below}
+use Rattle.shape_strides.specs.inside.Reach.{reach_above, reach_below}
 use Rattle.shape_strides.proofs.IndexLaws.{rank-lt}
+use Rattle.shape_strides.proofs.CountLaws.{factors_pos}
 
 -- an axis's part of an address, at a number below its length
 axis_high : (s : ℤ) (k n : ℕ) → k < n → (s *ℤ pos k) ≤ℤ pos (natural s * (n - 1))
@@ -41,12 +42,6 @@ dot_low (s ∷ strides) (n ∷ shape) (k ∷ index) in' =
     let first = axis_low s k n in'.0 in
     let later = dot_low strides shape index in'.1 in
     omega (arith, ints)
-
--- both factors of a product that is not 0
-pub factors_pos : (n c : ℕ) → 0 < n * c → (0 < n) × (0 < c)
-factors_pos zero c some = absurd (omega (arith, zero-mul c))
-factors_pos (suc n) zero some = absurd (omega (arith, mul-zero (suc n)))
-factors_pos (suc n) (suc c) some = (omega arith, omega arith)
 
 -- an index that reaches so far up
 pub top_of : (strides : List ℤ) (shape : List ℕ) → length strides ≡ length shape → 0 < count shape → (index : List ℕ) × IsIndex shape index × (dot strides index ≡ pos (reach_above strides shape))

@@ -1,5 +1,5 @@
 -- Which answer each exit of `Shape::try_new` has to give.
-use Rattle.std.proofs.Common.{◌≡◌, ℕ, ◌^◌, ◌<◌, ◌≤◌, nat_le, true, false, List, length, Ok, Err, arith}
+use Rattle.std.proofs.Common.{◌≡◌, ℕ, ◌<◌, ◌≤◌, nat_le, true, false, List, length, Ok, Err, arith}
 use Rattle.std.specs.List.{list_all}
 use Rattle.std.proofs.lemmas.Bool.Decides.{nat_tests}
 use Rattle.elem_descr.specs.declared.refusal.Refusal.TheVariants.{TooManyAxes, TooLarge}

@@ -3,7 +3,7 @@ pub mod Indexes
 pub mod Shapes
 pub mod Addresses
 pub mod Layouts
-pub mod Reach
 pub mod Walks
 pub mod Contiguity
 pub mod Stacks
+pub mod inside

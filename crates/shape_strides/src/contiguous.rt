@@ -1,9 +1,10 @@
 //! Fortran order, and what NumPy says of a layout's strides and of the order of its items.
-ghost use Rattle.std.specs.Prelude.{◌≡◌, ◌≢◌, ◌*◌, ◌^◌, ◌<◌, ◌≤◌, pos, length, map, slice_index_or, IfOk, IsTrue, IsFalse};
+ghost use Rattle.std.specs.Prelude.{◌≡◌, ◌≢◌, ◌*◌, ◌<◌, ◌≤◌, pos, length, map, slice_index_or, IfOk, IsTrue, IsFalse};
 ghost use Rattle.shape_strides.specs.Limits.{max_bytes};
 ghost use Rattle.shape_strides.specs.Indexes.{count};
 ghost use Rattle.shape_strides.specs.Layouts.{offsets, Fits, IsNested, multiples, f_multiples, f_strides};
 ghost use Rattle.shape_strides.specs.Contiguity.{fortran_order, first_address, printed_strides, is_c_contiguous, is_f_contiguous};
+ghost use Rattle.shape_strides.specs.inside.Reach.{max_reach};
 
 use crate::layout::Layout;
 use crate::shape::Shape;
@@ -14,7 +15,7 @@ use std::alloc::{AllocError, Global};
 /// Whether an axis steps over so many bytes. One of length 1 takes no step.
 fn steps_over(strides: &[isize], axis: usize, len: usize, bytes: u128) -> bool
     requires axis { axis < length strides.now }
-    requires bytes { bytes ≤ 2 ^ 88 }
+    requires bytes { bytes ≤ max_reach }
     ensures yes { IsTrue result → 2 ≤ len → slice_index_or strides.now axis (pos 0) ≡ pos bytes }
     ensures no { IsFalse result → (len ≢ 1) × (slice_index_or strides.now axis (pos 0) ≢ pos bytes) }
 {

@@ -1,3 +1,4 @@
+//! Layouts: where in a buffer the items of an array lie.
 ghost use Rattle.std.specs.Prelude.{◌≡◌, ◌↔◌, ◌+◌, ◌*◌, ◌<◌, ◌≤◌, pos, length, map, slice_index, All, IfOk, IfSome, IsSome, IsTrue};
 ghost use Rattle.shape_strides.specs.Limits.{max_bytes};
 ghost use Rattle.shape_strides.specs.Indexes.{count};

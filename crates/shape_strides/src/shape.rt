@@ -1,3 +1,4 @@
+//! Shapes: the lengths of an array's axes.
 ghost use Rattle.std.specs.Prelude.{◌≡◌, ◌+◌, ◌≤◌, min, length, nat_le, IsTrue, All, IfOk, Some};
 ghost use Rattle.std.specs.List.{list_all};
 ghost use Rattle.elem_descr.specs.Refusals.{Gives};

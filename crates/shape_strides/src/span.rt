@@ -1,3 +1,4 @@
+//! The range of bytes that a layout's items take.
 ghost use Rattle.std.specs.Prelude.{◌≡◌, ◌+◌, ◌<◌, ◌≤◌, [], length, All, Any, Contains};
 
 use crate::layout::Layout;

@@ -1,8 +1,8 @@
 //! Layouts whose axes step clear of one another.
-ghost use Rattle.std.specs.Prelude.{◌≡◌, ◌↔◌, ◌+◌, ◌-◌, ◌*◌, ◌^◌, ◌<◌, ◌≤◌, pos, nat_le, unsigned_abs, if◌then◌else◌, length, slice_index, slice_index_or, All, IsTrue};
+ghost use Rattle.std.specs.Prelude.{◌≡◌, ◌↔◌, ◌+◌, ◌-◌, ◌*◌, ◌<◌, ◌≤◌, pos, nat_le, unsigned_abs, if◌then◌else◌, length, slice_index, slice_index_or, All, IsTrue};
 ghost use Rattle.shape_strides.specs.Limits.{max_axes, max_items};
 ghost use Rattle.shape_strides.specs.Layouts.{offsets, IsNested};
-ghost use Rattle.shape_strides.specs.Reach.{reach_within};
+ghost use Rattle.shape_strides.specs.inside.Reach.{reach_within, max_reach};
 ghost use Rattle.shape_strides.specs.Stacks.{IsStacked};
 
 use crate::layout::Layout;
@@ -13,7 +13,7 @@ fn axis_within(strides: &[isize], axis: usize, len: usize, step: usize) -> u128
     requires len { len ≤ max_items }
     ensures value { let own = unsigned_abs (slice_index_or strides.now axis (pos 0)) in
         result ≡ (if nat_le own step then own * (len - 1) else 0) }
-    ensures bound { result ≤ 2 ^ 88 }
+    ensures bound { result ≤ max_reach }
 {
     let own = strides[axis].unsigned_abs();
     if own > step {
@@ -28,7 +28,7 @@ fn reach_within(lengths: &[usize], strides: &[isize], step: usize) -> u128
     requires axes { length lengths.now ≤ max_axes }
     requires lengths { All (λ n. n ≤ max_items) lengths.now }
     ensures value { result ≡ reach_within step strides.now lengths.now }
-    ensures bound { result ≤ 64 * 2 ^ 88 }
+    ensures bound { result ≤ max_axes * max_reach }
 {
     let mut reach = 0;
     for (axis, len) in lengths.iter().enumerate() {

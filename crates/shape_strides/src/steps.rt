@@ -1,10 +1,10 @@
 //! Sums of strides. A stride is read from its slice, and an offset is never below 0.
-ghost use Rattle.std.specs.Prelude.{◌≡◌, ◌-◌, ◌*◌, ◌^◌, ◌<◌, ◌≤◌, pos, neg_ℤ, ◌+ℤ◌, ◌-ℤ◌, ◌*ℤ◌, ◌≤ℤ◌, length, map, slice_index_or, All, IfOk};
+ghost use Rattle.std.specs.Prelude.{◌≡◌, ◌-◌, ◌*◌, ◌<◌, ◌≤◌, pos, neg_ℤ, ◌+ℤ◌, ◌-ℤ◌, ◌*ℤ◌, ◌≤ℤ◌, length, map, slice_index_or, All, IfOk};
 ghost use Rattle.shape_strides.specs.Limits.{max_axes, max_items, max_bytes};
 ghost use Rattle.shape_strides.specs.Indexes.{count};
 ghost use Rattle.shape_strides.specs.Addresses.{natural};
 ghost use Rattle.shape_strides.specs.Layouts.{c_strides, f_strides};
-ghost use Rattle.shape_strides.specs.Reach.{reach_above, reach_below};
+ghost use Rattle.shape_strides.specs.inside.Reach.{reach_above, reach_below, max_reach};
 
 use crate::shape::Shape;
 use crate::strides::Strides;
@@ -39,7 +39,7 @@ fn axis_above(strides: &[isize], axis: usize, len: usize) -> u128
     requires axis { axis < length strides.now }
     requires len { len ≤ max_items }
     ensures value { result ≡ natural (slice_index_or strides.now axis (pos 0)) * (len - 1) }
-    ensures bound { result ≤ 2 ^ 88 }
+    ensures bound { result ≤ max_reach }
 {
     if strides[axis] <= 0 {
         return 0;
@@ -52,7 +52,7 @@ fn axis_below(strides: &[isize], axis: usize, len: usize) -> u128
     requires axis { axis < length strides.now }
     requires len { len ≤ max_items }
     ensures value { result ≡ natural (neg_ℤ (slice_index_or strides.now axis (pos 0))) * (len - 1) }
-    ensures bound { result ≤ 2 ^ 88 }
+    ensures bound { result ≤ max_reach }
 {
     if strides[axis] >= 0 {
         return 0;
@@ -66,7 +66,7 @@ pub(crate) fn reach_above(lengths: &[usize], strides: &[isize]) -> u128
     requires axes { length lengths.now ≤ max_axes }
     requires lengths { All (λ n. n ≤ max_items) lengths.now }
     ensures value { result ≡ reach_above strides.now lengths.now }
-    ensures bound { result ≤ 64 * 2 ^ 88 }
+    ensures bound { result ≤ max_axes * max_reach }
 {
     let mut reach = 0;
     for (axis, len) in lengths.iter().enumerate() {
@@ -81,7 +81,7 @@ pub(crate) fn reach_below(lengths: &[usize], strides: &[isize]) -> u128
     requires axes { length lengths.now ≤ max_axes }
     requires lengths { All (λ n. n ≤ max_items) lengths.now }
     ensures value { result ≡ reach_below strides.now lengths.now }
-    ensures bound { result ≤ 64 * 2 ^ 88 }
+    ensures bound { result ≤ max_axes * max_reach }
 {
     let mut reach = 0;
     for (axis, len) in lengths.iter().enumerate() {

@@ -1,3 +1,4 @@
+//! Strides: how many bytes each axis steps over.
 ghost use Rattle.std.specs.Prelude.{◌≡◌, [], ◌∷◌, ◌++◌, pos, map, IfOk, OnOk, OnErr, Some};
 ghost use Rattle.shape_strides.specs.Contiguity.{strides_text};
 

@@ -1,3 +1,4 @@
+//! The offsets of a layout's items, one after the other in C order.
 ghost use Rattle.std.specs.Prelude.{◌≡◌, ℕ, ◌+◌, ◌<◌, ◌≤◌, pos, length, All, IfOk};
 
 use crate::layout::Layout;

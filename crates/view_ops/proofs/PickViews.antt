@@ -16,7 +16,7 @@ use Rattle.shape_strides.specs.Limits.{max_axes, max_items, max_bytes}
 use Rattle.shape_strides.specs.Addresses.{dot, address_at, natural, LieWithin}
 use Rattle.shape_strides.specs.Layouts.{address, offsets}
 use Rattle.shape_strides.proofs.IndexLaws.{rank-lt}
-use Rattle.shape_strides.proofs.ReachLaws.{factors_pos}
+use Rattle.shape_strides.proofs.CountLaws.{factors_pos}
 use Rattle.shape_strides.proofs.ShapeAnswers.{shape_of-ok}
 use Rattle.shape_strides.proofs.StepLaws.{dot-nil}
 use Rattle.view_ops.specs.declared.pick.AxisPick.{AxisPick}

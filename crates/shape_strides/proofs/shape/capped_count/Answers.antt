@@ -1,4 +1,4 @@
-use Rattle.std.proofs.Common.{◌+◌, ◌*◌, ◌^◌, min, drop, ap, ◌∙◌, arith}
+use Rattle.std.proofs.Common.{◌+◌, ◌*◌, min, drop, ap, ◌∙◌, arith}
 use Rattle.shape_strides.specs.Limits.{max_items}
 use Rattle.shape_strides.specs.Indexes.{count}
 use Rattle.shape_strides.proofs.CountLaws.{capped-more}

@@ -1,5 +1,5 @@
 -- How far a layout's addresses reach to either side of its offset, where it has items.
-use Rattle.std.specs.Prelude.{ℕ, ◌+◌, ◌-◌, ◌*◌, nat_le, if◌then◌else◌, ℤ, neg_ℤ, unsigned_abs, List, ◌∷◌}
+use Rattle.std.specs.Prelude.{ℕ, ◌+◌, ◌-◌, ◌*◌, ◌^◌, nat_le, if◌then◌else◌, ℤ, neg_ℤ, unsigned_abs, List, ◌∷◌}
 use Rattle.shape_strides.specs.Addresses.{natural}
 
 -- above: the axes with a positive stride, each at its last number
@@ -16,3 +16,7 @@ reach_below _ _ = 0
 abbrev pub reach_within : ℕ → List ℤ → List ℕ → ℕ
 reach_within step (stride ∷ strides) (n ∷ shape) = (if nat_le (unsigned_abs stride) step then unsigned_abs stride * (n - 1) else 0) + reach_within step strides shape
 reach_within step _ _ = 0
+
+-- the most that one axis reaches: a stride has 64 bits, and an axis max_items items
+abbrev pub max_reach : ℕ
+max_reach = 2 ^ 88
