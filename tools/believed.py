@@ -120,7 +120,7 @@ def public_clauses(crate):
                         yield text, header
         for owner, body in re.findall(r"(?ms)^pub (?:struct|enum|trait) (\w+)(.*?)^\}", text):
             if owner in names:
-                yield text, " ".join(re.findall(r"(?m)^ *pub ghost .*$", body)) + (body if " fn " in body else "")
+                yield text, " ".join(re.findall(r"(?m)^ *(?:pub )?ghost .*$", body)) + (body if " fn " in body else "")
 
 
 def inside():

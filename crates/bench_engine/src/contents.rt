@@ -14,10 +14,10 @@ ghost use Rattle.bench_engine.specs.Contents.{array_type, zeros_contents, full_c
 use crate::item::item_of;
 use elem_descr::{Descr, Refusal, Scalar, descr_read};
 use literal_items::{fill, range_len, write_items, write_range};
-use overlap_copy::{MAX_BYTES, MemoryOrder, Owned};
+use overlap_copy::{MemoryOrder, Owned};
 use raw_block::RawBlock;
 use script_lang::{DescrText, Lengths, Literal, Literals};
-use shape_strides::Shape;
+use shape_strides::{MAX_BYTES, Shape};
 use smallvec::SmallVec;
 use std::alloc::{AllocError, Global};
 

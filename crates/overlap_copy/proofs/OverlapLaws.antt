@@ -4,7 +4,8 @@ use Rattle.std.specs.List.{list_any}
 use Rattle.std.proofs.Math.Bool.{and_comm}
 use Rattle.std.proofs.lemmas.Bool.{both_ways, cases_Bool, cases_lt, lt-ltb, le-ltb, ltb-true, le-leb, leb-true, and_parts, and_from, and_left, and_right, false_from_ne_true}
 use Rattle.std.proofs.lemmas.List.Folds.{Any-from_list_any, list_any-from_Any, list_any_none}
-use Rattle.overlap_copy.specs.Overlaps.{have_common_byte, begins_below, do_ranges_meet, holds_byte}
+use Rattle.overlap_copy.specs.Overlaps.{have_common_byte, begins_below, do_ranges_meet}
+use Rattle.overlap_copy.specs.inside.Marks.{holds_byte}
 
 -- what holds of all elements holds of one that was found
 pub all_at : (P : ℕ → Type 0) (xs : List ℕ) (k x : ℕ) → All P xs → k < length xs → get_or xs k x ≡ x → P x

@@ -1,10 +1,10 @@
 -- Items one after another in C order and in Fortran order.
 use Rattle.std.specs.Prelude.{reverse}
-use Rattle.std.proofs.Common.{◌≡◌, ◌+◌, ◌*◌, ◌/◌, ◌<◌, ◌≤◌, ◌&&◌, ◌||◌, ℕ, zero, suc, Bool, true, false, List, [], ◌∷◌, map, IsTrue, IfOk, Result, Ok, Err, refl, sym, ap, subst, ◌∙◌, arith}
+use Rattle.std.proofs.Common.{◌≡◌, ◌+◌, ◌*◌, ◌<◌, ◌≤◌, ◌&&◌, ◌||◌, ℕ, zero, suc, Bool, true, false, List, [], ◌∷◌, map, IsTrue, IfOk, Result, Ok, Err, refl, sym, ap, subst, ◌∙◌, arith}
 use Rattle.std.specs.List.{range_with_len}
 use Rattle.std.proofs.Math.Nat.{mul-div_cancel_left, mul-suc}
 use Rattle.std.proofs.lemmas.Bool.{eq-eqb}
-use Rattle.shape_strides.specs.Indexes.{count, indexes, rank}
+use Rattle.shape_strides.specs.Indexes.{indexes, rank}
 use Rattle.shape_strides.specs.Contiguity.{is_c_contiguous, is_f_contiguous, fortran_order}
 use Rattle.shape_strides.specs.Layouts.{multiples, f_multiples}
 use Rattle.overlap_copy.specs.Blocks.{places_of}

@@ -4,8 +4,7 @@ use Rattle.std.specs.List.{list_any}
 use Rattle.std.proofs.lemmas.Bool.{cases_lt, eq-eqb, eqb-true, le-leb, lt-leb, and_left, false_from_ne_true}
 use Rattle.std.proofs.lemmas.List.{get_or-replicate, get_or_past, length-replicate, take-append-le, take_all}
 use Rattle.std.proofs.lemmas.List.Folds.{Any-from_list_any, list_any-from_Any}
-use Rattle.overlap_copy.specs.Overlaps.{holds_byte}
-use Rattle.overlap_copy.specs.Marks.{IsMarkedUpTo, is_marked, is_end_marked}
+use Rattle.overlap_copy.specs.inside.Marks.{holds_byte, IsMarkedUpTo, is_marked, is_end_marked}
 use Rattle.overlap_copy.proofs.OverlapLaws.{all_at, same_test, held_from_test, test_from_held}
 
 -- a vector that was written through a slice of it

@@ -1,10 +1,11 @@
 -- Blocks that a layout just fills.
-use Rattle.std.specs.Prelude.{◌≡◌, ◌≤◌, ◌*◌, ◌/◌, ◌^◌, ◌||◌, ℕ, List, length, map, IsTrue}
+use Rattle.std.specs.Prelude.{◌≡◌, ◌≤◌, ◌*◌, ◌/◌, ◌||◌, ℕ, List, length, map, IsTrue}
 use Rattle.overlap_copy.specs.declared.owned.MemoryOrder.{MemoryOrder}
 use Rattle.overlap_copy.specs.declared.owned.MemoryOrder.TheVariants.{C, Fortran}
 use Rattle.elem_descr.specs.declared.descr.Descr.{Descr}
 use Rattle.elem_descr.specs.Items.{item_size}
 use Rattle.shape_strides.specs.declared.layout.Layout.{Layout}
+use Rattle.shape_strides.specs.Limits.{max_bytes}
 use Rattle.shape_strides.specs.Indexes.{count}
 use Rattle.shape_strides.specs.Contiguity.{is_c_contiguous, is_f_contiguous}
 use Rattle.shape_strides.specs.Layouts.{offsets, multiples, f_multiples, Fits, IsNested}
@@ -25,6 +26,6 @@ pub record FillsBlock (descr : Descr) (layout : Layout) (block : List ℕ) : Typ
   pub in_order : IsTrue (is_c_contiguous (item_size descr) (offsets layout) || is_f_contiguous (item_size descr) layout.shape (offsets layout))
   pub whole : offsets layout ≡ map (λ place. item_size descr * place) (places_of (item_size descr) (offsets layout))
   pub fills : length block ≡ count layout.shape * item_size descr
-  pub small : length block ≤ 2 ^ 28
+  pub small : length block ≤ max_bytes
   pub fits : Fits layout (length block) (item_size descr)
   pub nested : IsNested (offsets layout) (item_size descr)

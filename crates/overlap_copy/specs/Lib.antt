@@ -1,3 +1,3 @@
 pub mod Blocks
 pub mod Overlaps
-pub mod Marks
+pub mod inside

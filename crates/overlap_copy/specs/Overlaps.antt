@@ -1,5 +1,5 @@
 -- When items of two lists of offsets have a byte in common.
-use Rattle.std.specs.Prelude.{ℕ, ◌+◌, Bool, ◌&&◌, List, nat_le, nat_lt}
+use Rattle.std.specs.Prelude.{ℕ, ◌+◌, Bool, ◌&&◌, List, nat_lt}
 use Rattle.std.specs.List.{list_any}
 
 -- an item of one list holds a byte that an item of the other holds too
@@ -13,7 +13,3 @@ begins_below offsets others other = list_any (λ p. list_any (λ q. nat_lt p (q 
 -- the ranges from the first to the last byte of each list meet: each begins below where the other ends
 abbrev pub do_ranges_meet : List ℕ → ℕ → List ℕ → ℕ → Bool
 do_ranges_meet offsets item others other = begins_below offsets others other && begins_below others offsets item
-
--- an item holds the byte
-unfoldable pub holds_byte : List ℕ → ℕ → ℕ → Bool
-holds_byte offsets item byte = list_any (λ p. nat_le p byte && nat_lt byte (p + item)) offsets

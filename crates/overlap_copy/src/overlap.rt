@@ -1,5 +1,6 @@
 //! Whether the items of two layouts in one block have bytes in common.
-ghost use Rattle.std.specs.Prelude.{◌≡◌, ◌^◌, false};
+ghost use Rattle.std.specs.Prelude.{◌≡◌, false};
+ghost use Rattle.shape_strides.specs.Limits.{max_bytes};
 ghost use Rattle.shape_strides.specs.Layouts.{offsets, Fits};
 ghost use Rattle.overlap_copy.specs.Overlaps.{have_common_byte, do_ranges_meet};
 
@@ -9,8 +10,8 @@ use shape_strides::Layout;
 /// and `b_item` bytes. Only where they do can items share bytes. Takes no memory, and time only for
 /// the axes.
 pub fn may_overlap(a: &Layout, a_item: usize, b: &Layout, b_item: usize) -> bool
-    requires a_fits { Fits a.now (2 ^ 28) a_item }
-    requires b_fits { Fits b.now (2 ^ 28) b_item }
+    requires a_fits { Fits a.now max_bytes a_item }
+    requires b_fits { Fits b.now max_bytes b_item }
     ensures value { result ≡ do_ranges_meet (offsets a.now) a_item (offsets b.now) b_item }
     ensures sound { result ≡ false → have_common_byte (offsets a.now) a_item (offsets b.now) b_item ≡ false }
 {

@@ -1,7 +1,8 @@
 //! Arrays over a block of their own.
-ghost use Rattle.std.specs.Prelude.{◌≡◌, ◌*◌, ◌^◌, ◌≤◌, ◌||◌, length, map, nat_le, replicate, if◌then◌else◌, IfOk, IfErr, IsTrue};
+ghost use Rattle.std.specs.Prelude.{◌≡◌, ◌*◌, ◌≤◌, ◌||◌, length, map, nat_le, replicate, if◌then◌else◌, IfOk, IfErr, IsTrue};
 ghost use Rattle.elem_descr.specs.declared.refusal.Refusal.TheVariants.{OutOfMemory, TooLarge};
 ghost use Rattle.elem_descr.specs.Items.{item_size};
+ghost use Rattle.shape_strides.specs.Limits.{max_bytes};
 ghost use Rattle.shape_strides.specs.Indexes.{count};
 ghost use Rattle.shape_strides.specs.Contiguity.{is_c_contiguous, is_f_contiguous};
 ghost use Rattle.shape_strides.specs.Layouts.{offsets, Fits, IsNested};
@@ -10,11 +11,8 @@ ghost use Rattle.overlap_copy.specs.declared.owned.MemoryOrder.TheVariants.{C};
 
 use elem_descr::{Descr, Refusal};
 use raw_block::RawBlock;
-use shape_strides::{Layout, Shape};
+use shape_strides::{Layout, MAX_BYTES, Shape};
 use std::alloc::{AllocError, Global};
-
-/// The most bytes of a block.
-pub const MAX_BYTES: usize = 1 << 28;
 
 /// The order in which the items of an array lie one after another: the last axis running fastest, or
 /// the first.
@@ -43,7 +41,7 @@ fn in_order(
 ) -> Result<Layout, AllocError>
     requires item_low { 1 ≤ item }
     requires item_high { item ≤ 65536 }
-    requires bytes { count shape.now * item ≤ 2 ^ 28 }
+    requires bytes { count shape.now * item ≤ max_bytes }
     ensures shape { IfOk result (λ l. l.shape ≡ shape.now) }
     ensures offsets { IfOk result (λ l. offsets l ≡ offsets_in order item shape.now) }
     ensures whole { IfOk result (λ l. offsets l ≡ map (λ place. item * place) (places_of item (offsets l))) }
@@ -58,15 +56,15 @@ fn in_order(
 }
 
 impl Owned {
-    /// An array of zero bytes, in C order. More than 2^28 of them are too many.
+    /// An array of zero bytes, in C order. More than `MAX_BYTES` of them are too many.
     pub fn zeroed(alloc: Global, descr: Descr, shape: &Shape) -> Result<Owned, Refusal>
         ensures descr { IfOk result (λ o. o.descr ≡ descr) }
         ensures shape { IfOk result (λ o. o.layout.shape ≡ shape.now) }
         ensures order { IfOk result (λ o. offsets o.layout ≡ offsets_in C (item_size descr) shape.now) }
         ensures zeros { IfOk result (λ o. o.block ≡ replicate (count shape.now * item_size descr) 0) }
-        ensures within { IfOk result (λ _. count shape.now * item_size descr ≤ 2 ^ 28) }
+        ensures within { IfOk result (λ _. count shape.now * item_size descr ≤ max_bytes) }
         ensures refused { IfErr result (λ refusal. refusal
-            ≡ (if nat_le (count shape.now * item_size descr) (2 ^ 28) then OutOfMemory else TooLarge)) }
+            ≡ (if nat_le (count shape.now * item_size descr) max_bytes then OutOfMemory else TooLarge)) }
     {
         let len = shape.items() * descr.size();
         if len > MAX_BYTES {
@@ -86,7 +84,7 @@ impl Owned {
         block: RawBlock,
     ) -> Result<Owned, AllocError>
         requires whole { length block ≡ count shape.now * item_size descr }
-        requires small { length block ≤ 2 ^ 28 }
+        requires small { length block ≤ max_bytes }
         ensures descr { IfOk result (λ o. o.descr ≡ descr) }
         ensures shape { IfOk result (λ o. o.layout.shape ≡ shape.now) }
         ensures order { IfOk result (λ o. offsets o.layout ≡ offsets_in order (item_size descr) shape.now) }

@@ -1,9 +1,10 @@
 //! Whether items of two layouts in one block share bytes, found by a map of the bytes of one of them.
-ghost use Rattle.std.specs.Prelude.{◌≡◌, ◌↔◌, ◌+◌, ◌-◌, ◌^◌, ◌<◌, ◌≤◌, ◌||◌, ℕ, length, slice_index_or, false, nat_eq, IsTrue, All, IfOk};
+ghost use Rattle.std.specs.Prelude.{◌≡◌, ◌↔◌, ◌+◌, ◌-◌, ◌<◌, ◌≤◌, ◌||◌, ℕ, length, slice_index_or, false, nat_eq, IsTrue, All, IfOk};
 ghost use Rattle.std.specs.List.{list_any};
+ghost use Rattle.shape_strides.specs.Limits.{max_bytes};
 ghost use Rattle.shape_strides.specs.Layouts.{offsets, Fits};
-ghost use Rattle.overlap_copy.specs.Overlaps.{have_common_byte, do_ranges_meet, holds_byte};
-ghost use Rattle.overlap_copy.specs.Marks.{IsMarkedUpTo, is_marked, is_end_marked};
+ghost use Rattle.overlap_copy.specs.Overlaps.{have_common_byte, do_ranges_meet};
+ghost use Rattle.overlap_copy.specs.inside.Marks.{holds_byte, IsMarkedUpTo, is_marked, is_end_marked};
 
 use crate::overlap::may_overlap;
 use shape_strides::{Layout, Walk};
@@ -69,7 +70,7 @@ fn is_marked(marks: &[bool], start: usize, byte: usize) -> bool
 /// Whether the last byte of some item is marked in a map of the bytes from `start` on.
 fn is_any_end_marked(marks: &[bool], start: usize, offsets: Walk<'_>, item: usize) -> bool
     requires item { 1 ≤ item }
-    requires limit { All (λ offset. offset + item ≤ 2 ^ 28) offsets }
+    requires limit { All (λ offset. offset + item ≤ max_bytes) offsets }
     ensures { result ≡ list_any (is_end_marked marks.now start item) offsets.entry }
 {
     for offset in offsets {
@@ -88,8 +89,8 @@ fn share_by_map(
     b: &Layout,
     b_item: usize,
 ) -> Result<bool, AllocError>
-    requires a_fits { Fits a.now (2 ^ 28) a_item }
-    requires b_fits { Fits b.now (2 ^ 28) b_item }
+    requires a_fits { Fits a.now max_bytes a_item }
+    requires b_fits { Fits b.now max_bytes b_item }
     requires a_some { 1 ≤ a_item }
     requires b_some { 1 ≤ b_item }
     requires meet { IsTrue (do_ranges_meet (offsets a.now) a_item (offsets b.now) b_item) }
@@ -114,8 +115,8 @@ pub fn share_cell(
     b: &Layout,
     b_item: usize,
 ) -> Result<bool, AllocError>
-    requires a_fits { Fits a.now (2 ^ 28) a_item }
-    requires b_fits { Fits b.now (2 ^ 28) b_item }
+    requires a_fits { Fits a.now max_bytes a_item }
+    requires b_fits { Fits b.now max_bytes b_item }
     requires a_some { 1 ≤ a_item }
     requires b_some { 1 ≤ b_item }
     ensures { IfOk result (λ yes. yes ≡ have_common_byte (offsets a.now) a_item (offsets b.now) b_item) }

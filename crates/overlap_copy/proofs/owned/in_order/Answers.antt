@@ -1,4 +1,4 @@
-use Rattle.std.proofs.Common.{ap, sym, ◌∙◌}
+use Rattle.std.proofs.Common.{ap, ◌∙◌}
 use Rattle.shape_strides.specs.Indexes.{count}
 use Rattle.shape_strides.specs.Contiguity.{fortran_order}
 use Rattle.shape_strides.specs.Layouts.{offsets}

@@ -1,7 +1,8 @@
-use Rattle.std.proofs.Common.{◌+◌, ◌-◌, ◌≤◌, ◌^◌, All, ◌∙◌, arith}
+use Rattle.std.proofs.Common.{◌+◌, ◌-◌, ◌≤◌, All, ◌∙◌, arith}
 use Rattle.std.specs.List.{list_any}
+use Rattle.shape_strides.specs.Limits.{max_bytes}
 use Rattle.shape_strides.specs.Layouts.{offsets}
-use Rattle.overlap_copy.specs.Marks.{is_end_marked}
+use Rattle.overlap_copy.specs.inside.Marks.{is_end_marked}
 use Rattle.overlap_copy.proofs.OverlapLaws.{some_where_meet, common-ends}
 use Rattle.overlap_copy.proofs.ShareLaws.{ends-held}
 use Rattle.overlap_copy.proofs.share.share_by_map.Goals as goal
@@ -9,13 +10,13 @@ use Rattle.overlap_copy.proofs.share.share_by_map.Goals as goal
 pub overflow_add-len : goal.overflow_add-len
 overflow_add-len c =
     let some = some_where_meet (offsets c.args.a.now) c.args.a_item (offsets c.args.b.now) c.args.b_item c.requires.meet in
-    let small = c.in_ok-offsets.ensures.within (2 ^ 28) c.args.b_item c.requires.b_fits 0 0 some.1 in
+    let small = c.in_ok-offsets.ensures.within max_bytes c.args.b_item c.requires.b_fits 0 0 some.1 in
     record { fits = omega (arith, c.span-bytes.ensures.limit, small) }
 
 pub overflow_add-a_item : goal.overflow_add-a_item
 overflow_add-a_item c =
     let some = some_where_meet (offsets c.args.a.now) c.args.a_item (offsets c.args.b.now) c.args.b_item c.requires.meet in
-    let small = c.in_ok-offsets.ensures.within (2 ^ 28) c.args.b_item c.requires.b_fits 0 0 some.1 in
+    let small = c.in_ok-offsets.ensures.within max_bytes c.args.b_item c.requires.b_fits 0 0 some.1 in
     record { fits = omega (arith, c.span-bytes.ensures.limit, c.span-bytes.ensures.high 0 0 some.0, small) }
 
 pub returns : goal.returns

@@ -1,5 +1,10 @@
--- Maps of bytes: which of the bytes from one on are marked.
-use Rattle.std.specs.Prelude.{ℕ, ◌+◌, ◌-◌, ◌≤◌, ◌<◌, Bool, ◌&&◌, false, List, nat_le, slice_index_or, IsTrue}
+-- Which bytes items hold, and maps of bytes: which of the bytes from one on are marked.
+use Rattle.std.specs.Prelude.{ℕ, ◌+◌, ◌-◌, ◌≤◌, ◌<◌, Bool, ◌&&◌, false, List, nat_le, nat_lt, slice_index_or, IsTrue}
+use Rattle.std.specs.List.{list_any}
+
+-- an item holds the byte
+unfoldable pub holds_byte : List ℕ → ℕ → ℕ → Bool
+holds_byte offsets item byte = list_any (λ p. nat_le p byte && nat_lt byte (p + item)) offsets
 
 -- the byte is marked in a map of the bytes from `start` on, which has marks for only some
 abbrev pub is_marked : List Bool → ℕ → ℕ → Bool
