@@ -14,7 +14,7 @@ use Rattle.shape_strides.proofs.ShapeAnswers.{shape_of-many}
 use Rattle.view_ops.specs.declared.index.IndexItem.{IndexItem}
 use Rattle.view_ops.specs.declared.pick.AxisPick.{AxisPick}
 use Rattle.view_ops.specs.Basics.{taken, has_step, are_in_range, picks, shape_picked, picked_view, basic}
-use Rattle.view_ops.specs.Picks.{shown, ArePicks}
+use Rattle.view_ops.specs.inside.Picks.{shown, ArePicks}
 use Rattle.view_ops.specs.Views.{IsViewOf, GivesView}
 use Rattle.view_ops.proofs.PickViews.{shape_of_picks, leads_of_picks, shape_of-picks}
 use Rattle.view_ops.proofs.ViewLaws.{gives_refusal}

@@ -2,7 +2,7 @@
 use Rattle.std.proofs.Common.{◌≡◌, ℕ, zero, suc, ◌+◌, ◌-◌, ◌<◌, ◌≤◌, Bool, true, ◌&&◌, ℤ, pos, ◌+ℤ◌, ◌*ℤ◌, List, [], ◌∷◌, ◌++◌, map, length, get_or, take, drop, slice_range, refl, sym, ap, ◌∙◌, arith, length-drop, length-take-le, append_assoc, Option}
 use Rattle.std.proofs.lemmas.Int.{ints}
 use Rattle.std.proofs.lemmas.List.{drop-drop, drop_more, append-nil, map-append}
-use Rattle.std.proofs.lemmas.Bool.{false≢true}
+use Rattle.std.proofs.lemmas.Bool.{and_parts, false≢true}
 use Rattle.std.specs.Result.{is_ok}
 use Rattle.std.proofs.lemmas.List.Folds.{drop_split}
 use Rattle.std.specs.List.{list_all, flat_map, range_with_len}
@@ -14,7 +14,7 @@ use Rattle.view_ops.specs.declared.pick.AxisPick.TheVariants.{At as AtAxis, Alon
 use Rattle.view_ops.specs.declared.slice.Run.{Run}
 use Rattle.view_ops.specs.Slices.{slice_indices, IsRunWithin}
 use Rattle.view_ops.specs.Basics.{Placed, is_basic, takes_axis, taken, width, placed, has_step, is_in_range, are_in_range, Pick, whole, picks_of, picks}
-use Rattle.view_ops.specs.Picks.{shown, ArePicks, AddsPicks}
+use Rattle.view_ops.specs.inside.Picks.{shown, ArePicks, AddsPicks}
 
 -- ---- items over axes
 
@@ -107,18 +107,12 @@ pub record CanPick (shape : List ℕ) (items : List IndexItem) (k axis end : ℕ
   pub one : takes_axis (get_or items k (Integer (pos 0))) ≡ true → length (slice_range shape axis end) ≡ 1
   pub none : get_or items k (Integer (pos 0)) ≡ NewItem → slice_range shape axis end ≡ []
 
-both_left : (a b : Bool) → (a && b) ≡ true → a ≡ true
-both_left a b both = grind arith
-
-both_right : (a b : Bool) → (a && b) ≡ true → b ≡ true
-both_right a b both = grind arith
-
 -- what holds of all that is left holds of the next, and of all after it
 next_holds : {X : Type 0} (p : X → Bool) (xs : List X) (k : ℕ) (d : X) → k < length xs → list_all p (drop k xs) ≡ true → p (get_or xs k d) ≡ true
-next_holds p xs k d low all = both_left (p (get_or xs k d)) (list_all p (drop (k + 1) xs)) (sym (ap (list_all p) (drop_more xs k d low)) ∙ all)
+next_holds p xs k d low all = (and_parts (p (get_or xs k d)) (list_all p (drop (k + 1) xs)) (sym (ap (list_all p) (drop_more xs k d low)) ∙ all)).0
 
 rest_hold : {X : Type 0} (p : X → Bool) (xs : List X) (k : ℕ) (d : X) → k < length xs → list_all p (drop k xs) ≡ true → list_all p (drop (k + 1) xs) ≡ true
-rest_hold p xs k d low all = both_right (p (get_or xs k d)) (list_all p (drop (k + 1) xs)) (sym (ap (list_all p) (drop_more xs k d low)) ∙ all)
+rest_hold p xs k d low all = (and_parts (p (get_or xs k d)) (list_all p (drop (k + 1) xs)) (sym (ap (list_all p) (drop_more xs k d low)) ∙ all)).1
 
 width_one : (left : ℕ) (item : IndexItem) (later : List IndexItem) → takes_axis item ≡ true → width left item later ≡ 1
 width_one left (Integer at) later takes = refl
@@ -142,7 +136,7 @@ can_pick shape items done k axis end low later within is have =
     record {
       basic = next_holds is_basic items k (Integer (pos 0)) low have.basic;
       step = next_holds has_step items k (Integer (pos 0)) low have.steps;
-      in_range = both_left (is_in_range (slice_range shape axis end) x) (are_in_range (drop end shape) (drop (k + 1) items)) range;
+      in_range = (and_parts (is_in_range (slice_range shape axis end) x) (are_in_range (drop end shape) (drop (k + 1) items)) range).0;
       none = λ new. ap (λ n. take n (drop axis shape)) (none_taken axis end (length shape - axis) (get_or items k (Integer (pos 0))) (drop (k + 1) items) is new);
       one = λ takes. omega (arith, length-slice_range shape axis end within, width_one (length shape - axis) x (drop (k + 1) items) takes);
     }
@@ -159,7 +153,7 @@ picked_more shape items done new k axis end low later within enough is have adds
       enough = enough;
       basic = rest_hold is_basic items k (Integer (pos 0)) low have.basic;
       steps = rest_hold has_step items k (Integer (pos 0)) low have.steps;
-      in_range = both_right (is_in_range axes x) (are_in_range (drop end shape) (drop (k + 1) items)) range;
+      in_range = (and_parts (is_in_range axes x) (are_in_range (drop end shape) (drop (k + 1) items)) range).1;
       are = λ more are-more.
           let these : ArePicks (drop axis shape) (adds.added ++ more) = rw (drop_split shape axis end later) (ArePicks-append axes (drop end shape) adds.added more adds.are are-more) in
           rw (adds.after, append_assoc done adds.added more) (have.are (adds.added ++ more) these);

@@ -8,7 +8,7 @@ use Rattle.std.proofs.lemmas.Int.{ints}
 use Rattle.std.proofs.lemmas.List.{drop_more, drop_all, take_more, append-nil, map-append}
 use Rattle.std.proofs.lemmas.List.Concat.{flat_map-append}
 use Rattle.std.proofs.lemmas.List.FromFn.{length-map-range_with_len, get_or-map-range_with_len}
-use lib.IntN.{*ℤ-zero, zero-*ℤ, *ℤ-one, +ℤ_assoc, +ℤ_idl, +ℤ_idr}
+use lib.IntN.{*ℤ-zero, zero-*ℤ, +ℤ_assoc, +ℤ_idl, +ℤ_idr}
 use Rattle.shape_strides.specs.declared.layout.Layout.{Layout}
 use Rattle.shape_strides.specs.Indexes.{count, IsIndex}
 use Rattle.shape_strides.specs.Shapes.{shape_of}
@@ -19,12 +19,13 @@ use Rattle.shape_strides.proofs.IndexLaws.{rank-lt}
 use Rattle.shape_strides.proofs.CountLaws.{factors_pos}
 use Rattle.shape_strides.proofs.ShapeAnswers.{shape_of-ok}
 use Rattle.shape_strides.proofs.StepLaws.{dot-nil}
+use Rattle.shape_strides.proofs.ContiguityLaws.{one-step}
 use Rattle.view_ops.specs.declared.pick.AxisPick.{AxisPick}
 use Rattle.view_ops.specs.declared.pick.AxisPick.TheVariants.{At as AtAxis, Along as AlongAxis, New as NewAxis}
 use Rattle.view_ops.specs.declared.slice.Run.{Run}
 use Rattle.view_ops.specs.Slices.{run_number, run_numbers, IsRunWithin}
 use Rattle.view_ops.specs.Basics.{axis_of, picked_shape, picked_index}
-use Rattle.view_ops.specs.Picks.{shown, ArePicks, first_of, axes_taken, run_stride, stride_of, picked_strides, IsSmallStep, IsSmallPick, HaveSmallSteps}
+use Rattle.view_ops.specs.inside.Picks.{shown, ArePicks, first_of, axes_taken, run_stride, stride_of, picked_strides, IsSmallStep, IsSmallPick, HaveSmallSteps}
 use Rattle.view_ops.specs.Views.{view_through, IsViewOf, KeepsNested}
 use Rattle.view_ops.proofs.ViewLaws.{Shows, LieWithin-view, inside-view, offsets-view, IsNested-view}
 use Rattle.view_ops.proofs.StrideLaws.{stride_along, run_number-is, run-one}
@@ -282,19 +283,15 @@ far_apart z d a b p len is low high low' high' = (omega (arith, ints), omega (ar
 near_by : (x f n len : ℕ) (p : ℤ) → pos x ≡ pos f +ℤ p → x < n → f < n → n ≤ len → (neg_ℤ (pos len) ≤ℤ p) × (p ≤ℤ pos len)
 near_by x f n len p is low low' few = (omega (arith, ints), omega (arith, ints))
 
-times_one : (t : ℤ) → t *ℤ pos 1 ≡ t
-unfolding lib.IntN.one
-times_one t = *ℤ-one t
-
 small_step : (z s : ℤ) (strides : List ℤ) (n : ℕ) (shape : List ℕ) (run : Run) (rest : List ℕ) → IsRunWithin run n → n ≤ max_items → IsIndex shape rest → StaysWithin z (s ∷ strides) (n ∷ shape) → 2 ≤ run.count → IsSmallStep s run.step
 small_step z s strides n shape run rest within few in' stays two =
     let d = dot strides rest in
     let x = run_number run 1 in
     let low : run.first < n = rw (← first_number run) (within.below 0 (omega arith)) in
     let low' : x < n = within.below 1 (omega arith) in
-    let one : run.step *ℤ pos 1 ≡ run.step = times_one run.step in
+    let one : run.step *ℤ pos 1 ≡ run.step = one-step run.step in
     let is : pos x ≡ pos run.first +ℤ run.step = run_number-is run n 1 within (omega arith) ∙ ap (λ t. pos run.first +ℤ t) one in
-    let moved : s *ℤ pos x ≡ s *ℤ pos run.first +ℤ s *ℤ run.step = sym (stride_along s run.step x run.first 1 (run_number-is run n 1 within (omega arith))) ∙ ap (λ t. s *ℤ pos run.first +ℤ t) (times_one (s *ℤ run.step)) in
+    let moved : s *ℤ pos x ≡ s *ℤ pos run.first +ℤ s *ℤ run.step = sym (stride_along s run.step x run.first 1 (run_number-is run n 1 within (omega arith))) ∙ ap (λ t. s *ℤ pos run.first +ℤ t) (one-step (s *ℤ run.step)) in
     let here = stays_at z s strides n run.first shape low stays in
     let there = stays_at z s strides n x shape low' stays in
     let near = near_by x run.first n max_bytes run.step is low' low (omega arith) in

@@ -10,7 +10,8 @@ use lib.IntN.{*ℤ-zero, +ℤ_assoc}
 use Rattle.shape_strides.specs.Indexes.{count, IsIndex}
 use Rattle.shape_strides.specs.Layouts.{dot}
 use Rattle.shape_strides.proofs.IndexLaws.{length-index, IsIndex-from_numbers}
-use Rattle.view_ops.specs.Transposes.{AreAxes, transposed_shape, transposed_index, put_at}
+use Rattle.view_ops.specs.Transposes.{transposed_shape, transposed_index, put_at}
+use Rattle.view_ops.specs.inside.Axes.{AreAxes}
 
 -- ---- numbers that are put to axes
 
@@ -57,10 +58,6 @@ dot-nothing : (strides : List ℤ) (n : ℕ) → dot strides (replicate n 0) ≡
 dot-nothing [] n = refl
 dot-nothing (s ∷ strides) zero = refl
 dot-nothing (s ∷ strides) (suc n) = rw (*ℤ-zero s, dot-nothing strides n)
-
-dot-empty : (strides : List ℤ) → dot strides [] ≡ pos 0
-dot-empty [] = refl
-dot-empty (s ∷ strides) = refl
 
 turned_sum : (a b : ℤ) → a +ℤ b ≡ b +ℤ a
 turned_sum a b = omega (arith, ints)

@@ -15,7 +15,8 @@ use Rattle.shape_strides.specs.Addresses.{dot, address_at, LieWithin}
 use Rattle.shape_strides.specs.Layouts.{address, offsets}
 use Rattle.shape_strides.proofs.ZeroLaws.{zeros_are}
 use Rattle.shape_strides.proofs.ShapeAnswers.{shape_of-ok}
-use Rattle.view_ops.specs.Transposes.{AreAxes, AreAllAxes, axes_of, transposed, transposed_shape, transposed_index, put_at}
+use Rattle.view_ops.specs.Transposes.{axes_of, transposed, transposed_shape, transposed_index, put_at}
+use Rattle.view_ops.specs.inside.Axes.{AreAxes, AreAllAxes}
 use Rattle.view_ops.specs.Views.{view_through, IsViewOf, GivesView, KeepsNested}
 use Rattle.view_ops.proofs.TransposeLaws.{dot-put_at, IsIndex-transposed, transposed-one, count-transposed}
 use Rattle.view_ops.proofs.ViewLaws.{Shows, LieWithin-view, IsView, inside-view, offsets-view, IsNested-view, gives_refusal}

@@ -1,14 +1,13 @@
 -- Laws of views.
-use Rattle.std.proofs.Common.{◌≡◌, ℕ, ℤ, ◌<◌, ◌≤◌, ◌⊎◌, Result, Ok, Err, List, [], All, map, length, get_or, inl, inr, sym, ap, subst, ◌∙◌, arith}
+use Rattle.std.proofs.Common.{◌≡◌, ℕ, ℤ, ◌<◌, ◌≤◌, ◌⊎◌, Result, Ok, Err, List, All, length, get_or, inl, inr, sym, ap, subst, ◌∙◌, arith}
 use Rattle.std.proofs.lemmas.Bool.{cases_lt}
-use Rattle.std.proofs.lemmas.List.{length-map, get_or-map, same_lists}
 use Rattle.elem_descr.specs.declared.refusal.Refusal.{Refusal}
 use Rattle.elem_descr.specs.declared.refusal.Refusal.TheVariants.{OutOfMemory}
 use Rattle.shape_strides.specs.declared.layout.Layout.{Layout}
 use Rattle.shape_strides.specs.Indexes.{count, indexes, rank, IsIndex}
 use Rattle.shape_strides.specs.Addresses.{address_at, natural, LieWithin}
 use Rattle.shape_strides.specs.Layouts.{address, offsets, Fits, distance, IsNested}
-use Rattle.shape_strides.proofs.IndexLaws.{length-indexes, rank-lt, get_or-indexes, index_at}
+use Rattle.shape_strides.proofs.IndexLaws.{length-indexes, rank-lt, rank-same, get_or-indexes, index_at, same_on_indexes}
 use Rattle.shape_strides.proofs.LayoutLaws.{length-offsets, get_or-offsets}
 use Rattle.view_ops.specs.Views.{view_through, View, GivesView}
 
@@ -27,16 +26,6 @@ LieWithin-view old shape strides offset m len item view fits = record {
 abbrev pub IsView : Layout → Layout → (List ℕ → List ℕ) → Type 0
 IsView old new m = Shows old new.shape new.strides new.offset m
 
--- functions that agree on the indexes of a shape
-pub same_on_indexes : (shape : List ℕ) (f g : List ℕ → ℕ) → ((index : List ℕ) → IsIndex shape index → f index ≡ g index) → map f (indexes shape) ≡ map g (indexes shape)
-same_on_indexes shape f g agree =
-    same_lists (map f (indexes shape)) (map g (indexes shape)) (length-map (indexes shape) f ∙ sym (length-map (indexes shape) g)) (λ k d below.
-    let low : k < count shape = omega (arith, length-map (indexes shape) f, length-indexes shape) in
-    let inside : k < length (indexes shape) = omega (arith, length-indexes shape) in
-    let found = index_at shape k low in
-    let here : get_or (indexes shape) k [] ≡ found.0 = ap (λ r. get_or (indexes shape) r []) (sym found.2) ∙ get_or-indexes shape found.0 [] found.1 in
-    get_or-map f (indexes shape) k [] d inside ∙ ap f here ∙ agree found.0 found.1 ∙ ap g (sym here) ∙ sym (get_or-map g (indexes shape) k [] d inside))
-
 pub offsets-view : (old new : Layout) (m : List ℕ → List ℕ) → IsView old new m → offsets new ≡ view_through (offsets old) old.shape new.shape m
 unfolding offsets
 offsets-view old new m view =
@@ -52,10 +41,6 @@ inside old new m view k d below =
 
 pub inside-view : (old new : Layout) (m : List ℕ → List ℕ) (shape : List ℕ) → IsView old new m → new.shape ≡ shape → All (λ index. rank old.shape (m index) < length (offsets old)) (indexes shape)
 inside-view old new m shape view same = subst (λ (s : List ℕ). All (λ index. rank old.shape (m index) < length (offsets old)) (indexes s)) same (inside old new m view)
-
--- indexes with one rank are one index
-pub rank-same : (shape i j : List ℕ) → IsIndex shape i → IsIndex shape j → rank shape i ≡ rank shape j → i ≡ j
-rank-same shape i j in-i in-j same = sym (get_or-indexes shape i [] in-i) ∙ ap (λ r. get_or (indexes shape) r []) same ∙ get_or-indexes shape j [] in-j
 
 -- the offset of the view at the rank of an index
 offset-view : (old new : Layout) (m : List ℕ → List ℕ) → IsView old new m → (index : List ℕ) → IsIndex new.shape index → get_or (offsets new) (rank new.shape index) 0 ≡ get_or (offsets old) (rank old.shape (m index)) 0

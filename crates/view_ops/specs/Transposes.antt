@@ -1,5 +1,5 @@
 -- Transposes, as NumPy has them: axis k of the result is the axis that is named at place k.
-use Rattle.std.specs.Prelude.{◌≡◌, ℕ, ◌-◌, ◌<◌, ◌==◌, Bool, true, false, not, ◌&&◌, ℤ, Option, Some, None, List, [], ◌∷◌, map, length, replicate, slice_index, slice_set, Result, Ok}
+use Rattle.std.specs.Prelude.{ℕ, ◌-◌, ◌==◌, Bool, true, not, ◌&&◌, ℤ, Option, Some, None, List, [], ◌∷◌, map, length, replicate, slice_index, slice_set, Result, Ok}
 use Rattle.std.specs.List.{list_any, list_all, range_with_len}
 use Rattle.elem_descr.specs.declared.refusal.Refusal.{Refusal}
 use Rattle.elem_descr.specs.declared.refusal.Refusal.TheVariants.{BadAxis}
@@ -12,16 +12,6 @@ use Rattle.view_ops.specs.Views.{View}
 abbrev pub are_distinct : List ℕ → Bool
 are_distinct [] = true
 are_distinct (axis ∷ axes) = not (list_any (λ other. other == axis) axes) && are_distinct axes
-
--- different axes of so many
-abbrev pub AreAxes : ℕ → List ℕ → Type 0
-AreAxes rank [] = Unit {0}
-AreAxes rank (axis ∷ axes) = (axis < rank) × (list_any (λ other. other == axis) axes ≡ false) × AreAxes rank axes
-
--- so many axes, all different
-pub record AreAllAxes (rank : ℕ) (axes : List ℕ) : Type 0 where
-  pub size : length axes ≡ rank
-  pub are : AreAxes rank axes
 
 -- the axes that are named, each once; all of them in reverse order where none is
 unfoldable pub axes_of : ℕ → Option (List ℤ) → Result (List ℕ) Refusal

@@ -4,7 +4,7 @@ ghost use Rattle.std.specs.List.{list_all};
 ghost use Rattle.elem_descr.specs.declared.refusal.Refusal.TheVariants.{OutOfMemory};
 ghost use Rattle.view_ops.specs.declared.index.IndexItem.TheVariants.{NewAxis};
 ghost use Rattle.view_ops.specs.Basics.{is_basic, takes_axis, taken, has_step, is_in_range, are_in_range, whole, picks_of, picks};
-ghost use Rattle.view_ops.specs.Picks.{shown, ArePicks, AddsPicks};
+ghost use Rattle.view_ops.specs.inside.Picks.{shown, ArePicks, AddsPicks};
 
 use crate::index::{IndexItem, axes_end};
 use crate::slice::{Run, from_front, is_place, slice_of};

@@ -1,6 +1,6 @@
 use Rattle.std.proofs.Common.{◌≤◌, inr, sym, ap, ◌∙◌, arith, map, length, subst}
 use Rattle.view_ops.specs.Basics.{taken, are_in_range, picks, picked_view}
-use Rattle.view_ops.specs.Picks.{shown}
+use Rattle.view_ops.specs.inside.Picks.{shown}
 use Rattle.view_ops.specs.Views.{GivesView}
 use Rattle.view_ops.proofs.BasicLaws.{basic-many, basic-no_step, basic-out, basic-picks}
 use Rattle.view_ops.proofs.basic_index.basic.Goals as goal

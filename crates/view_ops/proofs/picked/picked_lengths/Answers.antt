@@ -1,7 +1,7 @@
 use Rattle.std.proofs.Common.{◌++◌, get_or, sym, ap, ◌∙◌}
 use Rattle.view_ops.specs.declared.pick.AxisPick.TheVariants.{At}
 use Rattle.view_ops.specs.Basics.{axis_of}
-use Rattle.view_ops.specs.Picks.{shown}
+use Rattle.view_ops.specs.inside.Picks.{shown}
 use Rattle.view_ops.proofs.PickViews.{lengths_on}
 use Rattle.view_ops.proofs.picked.picked_lengths.Goals as goal
 

@@ -1,6 +1,6 @@
 use Rattle.std.proofs.Common.{◌≡◌, map, take}
 use Rattle.view_ops.specs.Basics.{picked_shape}
-use Rattle.view_ops.specs.Picks.{shown}
+use Rattle.view_ops.specs.inside.Picks.{shown}
 use Rattle.view_ops.proofs.picked.picked_lengths.Given as goal
 
 abbrev pub invariant-loop-pick : goal.invariant-loop-pick
