@@ -5,7 +5,8 @@ use Rattle.elem_descr.specs.declared.refusal.Refusal.TheVariants.{TooManyAxes, T
 use Rattle.elem_descr.specs.Refusals.{◌>>=◌}
 use Rattle.view_ops.specs.declared.index.IndexItem.{IndexItem}
 use Rattle.view_ops.specs.declared.index.IndexItem.TheVariants.{Integer, Slice, Ellipsis, NewAxis}
-use Rattle.view_ops.specs.Slices.{slice_indices, stepped}
+use Rattle.elem_descr.specs.Steps.{stepped}
+use Rattle.view_ops.specs.Slices.{slice_indices}
 use Rattle.view_ops.specs.Basics.{shape_picked, picked_view, basic}
 
 record Seen : Type 0 where

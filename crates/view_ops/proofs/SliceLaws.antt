@@ -1,52 +1,25 @@
 -- Laws of slices.
-use Rattle.std.proofs.Common.{◌≡◌, ◌≢◌, ◌↔◌, ℕ, zero, suc, ◌+◌, ◌*◌, ◌/◌, ◌%◌, ◌<◌, ◌≤◌, min, Bool, true, false, ℤ, pos, negsuc, neg_ℤ, unsigned_abs, ◌+ℤ◌, ◌-ℤ◌, ◌*ℤ◌, ◌<ℤ◌, ◌≤ℤ◌, int_lt, List, ◌∷◌, map, filter, Option, unwrap_or, Ok, Err, inl, inr, refl, sym, ap, ◌∙◌, arith, add-mul, mul_comm, mul-le-mul_left}
-use Rattle.std.proofs.Math.Nat.{mul-le-mul_right}
-use Rattle.std.proofs.lemmas.Bool.{cases_lt, cases_Bool}
+use Rattle.std.proofs.Common.{◌≡◌, ◌≢◌, ◌↔◌, ℕ, zero, suc, ◌+◌, ◌*◌, ◌<◌, ◌≤◌, true, false, ℤ, pos, negsuc, neg_ℤ, unsigned_abs, ◌+ℤ◌, ◌-ℤ◌, ◌*ℤ◌, ◌<ℤ◌, ◌≤ℤ◌, int_lt, List, ◌∷◌, map, Option, unwrap_or, Ok, Err, inl, inr, refl, sym, ap, ◌∙◌, arith}
+use Rattle.std.proofs.lemmas.Bool.{cases_Bool}
 use Rattle.std.proofs.lemmas.Bool.Decides.{Decides-int_eq}
 use Rattle.std.specs.Ordering.{int_eq}
 use Rattle.elem_descr.specs.declared.refusal.Refusal.TheVariants.{ZeroStep}
 use Rattle.std.proofs.lemmas.Int.{ints, clamps, by_lt_z}
-use Rattle.std.specs.Int.{int_min, int_max, div_ceil}
+use Rattle.std.specs.Int.{int_min, int_max}
 use Rattle.std.specs.List.{range_with_len}
-use Rattle.std.proofs.lemmas.Grind.{div_ceil_times}
-use lib.IntN.{negsuc-*ℤ-pos, *ℤ-zero}
+use lib.IntN.{*ℤ-zero}
+use Rattle.elem_descr.specs.Steps.{stepped}
+use Rattle.elem_descr.proofs.StepLaws.{product_back, product_forth, counted_within, stepped_first}
 use Rattle.shape_strides.specs.Layouts.{natural}
 use Rattle.shape_strides.proofs.LayoutLaws.{pos-natural}
 use Rattle.view_ops.specs.declared.slice.Run.{Run}
-use Rattle.view_ops.specs.Slices.{lowest, highest, start_of, stop_of, is_before, slice_indices, stepped, run_number, run_numbers, IsRunWithin}
+use Rattle.view_ops.specs.Slices.{lowest, highest, start_of, stop_of, slice_indices, run_number, run_numbers, IsRunWithin}
 
 pub clamp_low : (x low : ℤ) (n : ℕ) → low ≤ℤ int_min (int_max x low) (low +ℤ pos n)
 clamp_low x low n = omega (arith, ints, clamps)
 
 pub clamp_high : (x low : ℤ) (n : ℕ) → int_min (int_max x low) (low +ℤ pos n) ≤ℤ (low +ℤ pos n)
 clamp_high x low n = omega (arith, ints, clamps)
-
--- k steps end below a gap where k is below their number
-pub steps_end_below : (gap s k : ℕ) → 0 < s → (k < div_ceil gap s) ↔ (k * s < gap)
-steps_end_below gap s k some =
-    let q = gap / s + min 1 (gap % s) in
-    let bounds = div_ceil_times gap s some in (
-      λ low. let more : (k + 1) * s ≤ q * s = mul-le-mul_right s (omega arith) in omega (arith, add-mul k 1 s, bounds.0, bounds.1),
-      λ low. elim (cases_lt k q) [
-        | inl below ↦ below
-        | inr above ↦ let more : q * s ≤ k * s = mul-le-mul_right s above in absurd (omega (arith, bounds.0, bounds.1))
-      ],
-    )
-
-pub abs_pos : (step : ℤ) → step ≢ pos 0 → 0 < unsigned_abs step
-abs_pos (pos zero) other = absurd (other refl)
-abs_pos (pos (suc n)) other = omega arith
-abs_pos (negsuc n) other = omega arith
-
--- ---- a product with the step's sign
-
-pub product_back : (step : ℤ) (k : ℕ) → step <ℤ pos 0 → step *ℤ pos k ≡ neg_ℤ (pos (k * unsigned_abs step))
-product_back (pos n) k below = absurd (omega (arith, ints))
-product_back (negsuc n) k below = let e = negsuc-*ℤ-pos n k in omega (arith, ints, mul_comm k (suc n))
-
-pub product_forth : (step : ℤ) (k : ℕ) → pos 0 ≤ℤ step → step *ℤ pos k ≡ pos (k * unsigned_abs step)
-product_forth (pos n) k above = ap pos (mul_comm n k)
-product_forth (negsuc n) k above = absurd (omega (arith, ints))
 
 -- a slice with its bounds in place, how far they are apart, and how many steps lie between
 pub record IsSpan (n gap count : ℕ) (start stop step : ℤ) : Type 0 where
@@ -64,45 +37,6 @@ lowest_back step below = let test : int_lt step (pos 0) ≡ true = grind (arith,
 
 lowest_forth : (step : ℤ) → pos 0 ≤ℤ step → lowest step ≡ pos 0
 lowest_forth step above = let test : int_lt step (pos 0) ≡ false = grind (arith, ints) in rw test
-
-before_back : (step stop number : ℤ) → step <ℤ pos 0 → is_before step stop number ≡ int_lt stop number
-before_back step stop number below = let test : int_lt step (pos 0) ≡ true = grind (arith, ints) in rw test
-
-before_forth : (step stop number : ℤ) → pos 0 ≤ℤ step → is_before step stop number ≡ int_lt number stop
-before_forth step stop number above = let test : int_lt step (pos 0) ≡ false = grind (arith, ints) in rw test
-
-lt_true : (a b : ℤ) → a <ℤ b → int_lt a b ≡ true
-lt_true a b below = grind (arith, ints)
-
-lt_false : (a b : ℤ) → b ≤ℤ a → int_lt a b ≡ false
-lt_false a b above = grind (arith, ints)
-
-back_in : (start stop d : ℤ) (m gap : ℕ) → d ≡ neg_ℤ (pos m) → pos gap ≡ int_max (start -ℤ stop) (pos 0) → m < gap → stop <ℤ (start +ℤ d)
-back_in start stop d m gap is far low = omega (arith, ints, clamps)
-
-back_out : (start stop d : ℤ) (m gap : ℕ) → d ≡ neg_ℤ (pos m) → pos gap ≡ int_max (start -ℤ stop) (pos 0) → gap ≤ m → (start +ℤ d) ≤ℤ stop
-back_out start stop d m gap is far low = omega (arith, ints, clamps)
-
-forth_in : (start stop d : ℤ) (m gap : ℕ) → d ≡ pos m → pos gap ≡ int_max (stop -ℤ start) (pos 0) → m < gap → (start +ℤ d) <ℤ stop
-forth_in start stop d m gap is far low = omega (arith, ints, clamps)
-
-forth_out : (start stop d : ℤ) (m gap : ℕ) → d ≡ pos m → pos gap ≡ int_max (stop -ℤ start) (pos 0) → gap ≤ m → stop ≤ℤ (start +ℤ d)
-forth_out start stop d m gap is far low = omega (arith, ints, clamps)
-
--- the first `count` numbers are before the stop, and no other
-pub span_before : (n gap count : ℕ) (start stop step : ℤ) → IsSpan n gap count start stop step → (k : ℕ) → k < count → is_before step stop (start +ℤ step *ℤ pos k) ≡ true
-span_before n gap count start stop step s k low =
-    let near = (s.steps k).0 low in
-    by_lt_z step (pos 0)
-    (λ below. before_back step stop (start +ℤ step *ℤ pos k) below ∙ lt_true stop (start +ℤ step *ℤ pos k) (back_in start stop (step *ℤ pos k) (k * unsigned_abs step) gap (product_back step k below) (s.back below) near))
-    (λ above. before_forth step stop (start +ℤ step *ℤ pos k) above ∙ lt_true (start +ℤ step *ℤ pos k) stop (forth_in start stop (step *ℤ pos k) (k * unsigned_abs step) gap (product_forth step k above) (s.forth above) near))
-
-pub span_after : (n gap count : ℕ) (start stop step : ℤ) → IsSpan n gap count start stop step → (k : ℕ) → count ≤ k → is_before step stop (start +ℤ step *ℤ pos k) ≡ false
-span_after n gap count start stop step s k high =
-    let far : gap ≤ k * unsigned_abs step = elim (cases_lt (k * unsigned_abs step) gap) [ inl near ↦ absurd (omega (arith, (s.steps k).1 near)) | inr far ↦ far ] in
-    by_lt_z step (pos 0)
-    (λ below. before_back step stop (start +ℤ step *ℤ pos k) below ∙ lt_false stop (start +ℤ step *ℤ pos k) (back_out start stop (step *ℤ pos k) (k * unsigned_abs step) gap (product_back step k below) (s.back below) far))
-    (λ above. before_forth step stop (start +ℤ step *ℤ pos k) above ∙ lt_false (start +ℤ step *ℤ pos k) stop (forth_out start stop (step *ℤ pos k) (k * unsigned_abs step) gap (product_forth step k above) (s.forth above) far))
 
 -- ---- where the numbers lie
 
@@ -129,31 +63,19 @@ span_gap n gap count start stop step s =
     (λ above. back_gap stop start (lowest step) gap n (s.forth above) s.start_low s.stop_high)
 
 pub span_count : (n gap count : ℕ) (start stop step : ℤ) → IsSpan n gap count start stop step → count ≤ n
-span_count n gap zero start stop step s = omega arith
-span_count n gap (suc c) start stop step s =
-    let near = (s.steps c).0 (omega arith) in
-    let grown : c * 1 ≤ c * unsigned_abs step = mul-le-mul_left c (abs_pos step s.some) in
-    omega (arith, span_gap n gap (suc c) start stop step s)
+span_count n gap count start stop step s = omega (arith, counted_within count gap step s.some s.steps, span_gap n gap count start stop step s)
 
 -- ---- the lists
 
--- a test that holds of the first numbers alone keeps those
-pub filter-front : {X Y : Type 0} (p : X → Bool) (f : ℕ → X) (g : X → Y) (h : ℕ → Y) (a n c : ℕ) → c ≤ n → ((k : ℕ) → a ≤ k → k < a + c → (p (f k) ≡ true) × (g (f k) ≡ h k)) → ((k : ℕ) → a + c ≤ k → p (f k) ≡ false) → map g (filter p (map f (range_with_len a n))) ≡ map h (range_with_len a c)
-filter-front p f g h a zero zero few front back = refl
-filter-front p f g h a zero (suc c) few front back = absurd (omega arith)
-filter-front p f g h a (suc n) zero few front back =
-    rw (back a (omega arith)) (filter-front p f g h (a + 1) n zero (omega arith) (λ k low high. absurd (omega arith)) (λ k low. back k (omega arith)))
-filter-front p f g h a (suc n) (suc c) few front back =
-    let first = front a (omega arith) (omega arith) in
-    let rest = filter-front p f g h (a + 1) n c (omega arith) (λ k low high. front k (omega arith) (omega arith)) (λ k low. back k (omega arith)) in
-    rw (first.0, first.1) (ap (λ xs. h a ∷ xs) rest)
+same_run : (start : ℤ) (run : Run) (a n : ℕ) → (0 < n → pos run.first ≡ start) → map natural (map (λ k. start +ℤ run.step *ℤ pos k) (range_with_len a n)) ≡ map (run_number run) (range_with_len a n)
+same_run start run a zero first = refl
+same_run start run a (suc n) first =
+    let is = first (omega arith) in
+    λ i. natural (sym is i +ℤ run.step *ℤ pos a) ∷ same_run start run (a + 1) n (λ some. is) i
 
-pub stepped-run : (n gap : ℕ) (start stop : ℤ) (run : Run) → IsSpan n gap run.count start stop run.step → (0 < run.count → pos run.first ≡ start) → stepped n start stop run.step ≡ run_numbers run
-unfolding stepped
+pub stepped-run : (n gap : ℕ) (start stop : ℤ) (run : Run) → IsSpan n gap run.count start stop run.step → (0 < run.count → pos run.first ≡ start) → map natural (stepped n start stop run.step) ≡ run_numbers run
 stepped-run n gap start stop run s first =
-    filter-front (is_before run.step stop) (λ k. start +ℤ run.step *ℤ pos k) natural (run_number run) 0 n run.count (span_count n gap run.count start stop run.step s)
-    (λ k low high. (span_before n gap run.count start stop run.step s k (omega arith), ap (λ z. natural (z +ℤ run.step *ℤ pos k)) (sym (first (omega arith)))))
-    (λ k low. span_after n gap run.count start stop run.step s k (omega arith))
+    ap (map natural) (stepped_first n run.count gap start stop run.step (record { back = s.back; forth = s.forth }) s.steps (span_count n gap run.count start stop run.step s)) ∙ same_run start run 0 run.count first
 
 natural_below : (z : ℤ) (n : ℕ) → pos 0 ≤ℤ z → z <ℤ pos n → natural z < n
 natural_below z n low high = let is = pos-natural z low in omega (arith, ints)
@@ -179,7 +101,7 @@ slice_indices-zero n start stop given step is none =
     let test : int_eq (unwrap_or given (pos 1)) (pos 0) ≡ true = (Decides-int_eq (unwrap_or given (pos 1)) (pos 0)).1 (sym is ∙ none) in
     rw test
 
-pub slice_indices-ok : (n : ℕ) (start stop given : Option ℤ) (step : ℤ) → step ≡ unwrap_or given (pos 1) → step ≢ pos 0 → slice_indices n start stop given ≡ Ok (stepped n (start_of n step start) (stop_of n step stop) step)
+pub slice_indices-ok : (n : ℕ) (start stop given : Option ℤ) (step : ℤ) → step ≡ unwrap_or given (pos 1) → step ≢ pos 0 → slice_indices n start stop given ≡ Ok (map natural (stepped n (start_of n step start) (stop_of n step stop) step))
 unfolding slice_indices
 slice_indices-ok n start stop given step is some =
     let test : int_eq (unwrap_or given (pos 1)) (pos 0) ≡ false = not_equal (unwrap_or given (pos 1)) (pos 0) (λ same. some (is ∙ same)) in
@@ -194,6 +116,6 @@ pub span_first : (n gap count : ℕ) (start stop step m : ℤ) → IsSpan n gap 
 span_first n gap count start stop step m s is some =
     abs_of_max m start (step *ℤ pos 0) is (*ℤ-zero step) (span_range n gap count start stop step s 0 some).0
 
-pub slice_indices-list : (n : ℕ) (start stop given : Option ℤ) (a b step : ℤ) (list : List ℕ) → step ≡ unwrap_or given (pos 1) → step ≢ pos 0 → a ≡ start_of n step start → b ≡ stop_of n step stop → stepped n a b step ≡ list → slice_indices n start stop given ≡ Ok list
+pub slice_indices-list : (n : ℕ) (start stop given : Option ℤ) (a b step : ℤ) (list : List ℕ) → step ≡ unwrap_or given (pos 1) → step ≢ pos 0 → a ≡ start_of n step start → b ≡ stop_of n step stop → map natural (stepped n a b step) ≡ list → slice_indices n start stop given ≡ Ok list
 slice_indices-list n start stop given a b step list is some from to are =
-    slice_indices-ok n start stop given step is some ∙ ap (λ x. Ok (stepped n x (stop_of n step stop) step)) (sym from) ∙ ap (λ x. Ok (stepped n a x step)) (sym to) ∙ ap Ok are
+    slice_indices-ok n start stop given step is some ∙ ap (λ x. Ok (map natural (stepped n x (stop_of n step stop) step))) (sym from) ∙ ap (λ x. Ok (map natural (stepped n a x step))) (sym to) ∙ ap Ok are

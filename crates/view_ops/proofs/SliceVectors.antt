@@ -1,7 +1,8 @@
 -- What Python's `list(range(*slice(start, stop, step).indices(n)))` gives.
 use Rattle.std.proofs.Common.{◌≡◌, pos, negsuc, Some, None, [], ◌∷◌, Ok, Err, refl}
 use Rattle.elem_descr.specs.declared.refusal.Refusal.TheVariants.{ZeroStep}
-use Rattle.view_ops.specs.Slices.{slice_indices, stepped}
+use Rattle.elem_descr.specs.Steps.{stepped}
+use Rattle.view_ops.specs.Slices.{slice_indices}
 
 -- n = 5, [-1:-6:3]
 slice_0 : slice_indices 5 (Some (negsuc 0)) (Some (negsuc 5)) (Some (pos 3)) ≡ Ok ([])

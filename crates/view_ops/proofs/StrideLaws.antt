@@ -7,7 +7,7 @@ use lib.IntN.{negsuc-*ℤ-pos, pos-*ℤ-negsuc, negsuc-*ℤ-negsuc}
 use Rattle.shape_strides.proofs.LayoutLaws.{pos-natural}
 use Rattle.view_ops.specs.declared.slice.Run.{Run}
 use Rattle.view_ops.specs.Slices.{run_number, IsRunWithin}
-use Rattle.view_ops.proofs.SliceLaws.{product_back, product_forth, abs_pos}
+use Rattle.elem_descr.proofs.StepLaws.{product_back, product_forth, abs_pos}
 
 -- ---- a stride along a run
 

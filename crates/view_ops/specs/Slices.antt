@@ -1,11 +1,12 @@
 -- Python's slices: `slice(start, stop, step).indices(n)`, and the `range` that it means.
-use Rattle.std.specs.Prelude.{◌≢◌, ℕ, ◌<◌, ◌≤◌, Bool, not, ◌&&◌, if◌then◌else◌, ℤ, pos, negsuc, ◌+ℤ◌, ◌*ℤ◌, ◌≤ℤ◌, int_lt, Option, Some, None, unwrap_or, List, map, filter, Result, Ok}
+use Rattle.std.specs.Prelude.{◌≢◌, ℕ, ◌<◌, ◌≤◌, Bool, not, ◌&&◌, if◌then◌else◌, ℤ, pos, negsuc, ◌+ℤ◌, ◌*ℤ◌, ◌≤ℤ◌, int_lt, Option, Some, None, unwrap_or, List, map, Result, Ok}
 use Rattle.std.specs.Int.{int_min, int_max}
 use Rattle.std.specs.Ordering.{int_eq}
 use Rattle.std.specs.List.{range_with_len}
 use Rattle.elem_descr.specs.declared.refusal.Refusal.{Refusal}
 use Rattle.elem_descr.specs.declared.refusal.Refusal.TheVariants.{ZeroStep}
 use Rattle.elem_descr.specs.Refusals.{◌>>=◌, check}
+use Rattle.elem_descr.specs.Steps.{stepped}
 use Rattle.shape_strides.specs.Addresses.{natural}
 use Rattle.view_ops.specs.declared.slice.Run.{Run}
 
@@ -36,20 +37,12 @@ abbrev pub stop_of : ℕ → ℤ → Option ℤ → ℤ
 stop_of n step None = if int_lt step (pos 0) then lowest step else highest n step
 stop_of n step (Some at) = clamped n step at
 
--- strictly before the stop, as the step goes
-abbrev pub is_before : ℤ → ℤ → ℤ → Bool
-is_before step stop number = if int_lt step (pos 0) then int_lt stop number else int_lt number stop
-
--- start, start + step, start + 2 * step, ..: those before the stop, of which there are n at most
-unfoldable pub stepped : ℕ → ℤ → ℤ → ℤ → List ℕ
-stepped n start stop step = map natural (filter (is_before step stop) (map (λ k. start +ℤ step *ℤ pos k) (range_with_len 0 n)))
-
 -- the numbers that a slice takes of 0, 1, .., n - 1, or its refusal
 unfoldable pub slice_indices : ℕ → Option ℤ → Option ℤ → Option ℤ → Result (List ℕ) Refusal
 slice_indices n start stop given = do
   let step = unwrap_or given (pos 1)
   _ ← check (not (int_eq step (pos 0))) ZeroStep
-  Ok (stepped n (start_of n step start) (stop_of n step stop) step)
+  Ok (map natural (stepped n (start_of n step start) (stop_of n step stop) step))
 
 -- the number at a place of a run
 abbrev pub run_number : Run → ℕ → ℕ
