@@ -50,7 +50,7 @@ in-c_order number o order =
     ap (λ (places : List ℕ). record { buffer = number; path = []; shape = o.layout.shape; places = places; writable = true })
     (ap (places_of (item_size o.descr)) order ∙ divided (item_size o.descr) (range_with_len 0 (count o.layout.shape)) (omega (arith, o.fills_block.some)))
 
--- the name is bound, or refused for want of memory
+-- the name is bound, or refused as out of memory
 pub creation-answers : (s new : State) (name : List ℕ) (o : Owned) (result : Result (Unit {0}) Refusal) (before after : List ℕ) → has_room_for s name ≡ true → IsInCOrder o →
     after ≡ before ++ fresh_text name o.descr o.layout.shape → AnswersBind s name (Fresh o) result new → Answers true (λ choice. creation_outcome choice s name (Ok (held o))) s new before after result
 creation-answers s new name o (Ok done) before after room order told (_, (number, unused, is)) =

@@ -113,7 +113,7 @@ bound-answers s new name may outcome number leaf layout writable array (Err e) t
 bound-answers s new name may outcome number leaf layout writable array (Err e) text before after can room is told in' (kept, inr lacks) =
     (kept, starts before text after told, inl (lacks.1, can))
 
--- the name is bound to the view, or refused for want of memory
+-- the name is bound to the view, or refused as out of memory
 pub view-answers : (s new : State) (name : List ℕ) (may : Bool) (outcome : Choice → Outcome) (what : Bound) (number : ℕ) (leaf : Option ℕ) (layout : Layout) (writable : Bool) (array : Array) (result : Result (Unit {0}) Refusal) (text before after : List ℕ) →
     may ≡ true → has_room_for s name ≡ true → ((choice : Choice) → outcome choice ≡ comes_to (bound_view s name array) text) → after ≡ before ++ text → what ≡ bound.View number leaf layout writable → IsViewIn s number leaf layout writable array →
     AnswersBind s name what result new → Answers may outcome s new before after result

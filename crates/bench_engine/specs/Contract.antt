@@ -6,7 +6,7 @@ use Rattle.elem_descr.specs.declared.refusal.Refusal.TheVariants.{OutOfMemory}
 use Rattle.name_store.specs.States.{State}
 use Rattle.bench_engine.specs.Machine.{Choice, Outcome, IsAllowed, comes_to}
 
--- a refusal is that of the machine, whatever it chooses, or want of memory, where that may be
+-- a refusal is that of the machine, whatever it chooses, or out of memory, where that may be
 abbrev pub IsRefused : Bool → (Choice → Outcome) → Refusal → Type 0
 IsRefused may_lack outcome refusal =
     ((refusal ≡ OutOfMemory) × IsTrue may_lack) ⊎ ((choice : Choice) → outcome choice ≡ Err refusal)

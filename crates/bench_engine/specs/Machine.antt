@@ -222,6 +222,6 @@ takes_memory (command.Set name index (argument.Literal literal)) = true
 takes_memory (command.Ask question) = true
 takes_memory _ = false
 
--- whether a command may be refused for want of memory: never where a name that must be bound is not
+-- whether a command may be refused as out of memory: never where a name that must be bound is not
 abbrev pub may_lack_memory : State → Command → Bool
 may_lack_memory s command = takes_memory command && list_all (is_bound s) (must_be_bound command)

@@ -27,11 +27,11 @@ meaning_of line = if nat_lt limit (length line) then too_long else says (line_of
 abbrev pub Refuses : State → State → Reply → Reply → Type 0
 Refuses old new reply with_reply = (new ≡ old) × (reply ≡ with_reply)
 
--- refused for want of memory, with nothing changed, where that may be
+-- refused as out of memory, with nothing changed, where that may be
 abbrev pub LacksMemory : Bool → State → State → Reply → Type 0
 LacksMemory may old new reply = IsTrue may × Refuses old new reply (refusal OutOfMemory)
 
--- A command is a step of the machine, or refused for want of memory, where it may ask for some.
+-- A command is a step of the machine, or refused as out of memory, where it may ask for some.
 abbrev pub Case : State → Command → State → Reply → Type 0
 Case old command new reply = Step old command new reply ⊎ LacksMemory (may_lack_memory old command) old new reply
 

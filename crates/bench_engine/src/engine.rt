@@ -91,7 +91,7 @@ fn perform(
 }
 
 /// Carries out a command, appends its reply, and answers whether it was accepted. A refused
-/// command changes nothing. Want of memory is never answered where a name is unknown, nor for a
+/// command changes nothing. Out of memory is never the answer where a name is unknown, nor for a
 /// command that is not carried out so far, which is refused as `Syntax`.
 pub fn execute(alloc: Global, bench: &mut Bench, command: &Command, out: &mut Vec<u8>) -> bool
     requires room { vec_len out.old + 64 ≤ vec_capacity out.old }

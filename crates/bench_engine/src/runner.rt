@@ -107,7 +107,7 @@ pub fn run_within<S: Source, W: Write>(
 
 /// Runs the script that is read, and writes the replies: for every script the bytes that are
 /// written and the state that is left are those of the machine, in which each command is the
-/// machine's step or is refused for want of memory with nothing changed.
+/// machine's step or is refused as out of memory with nothing changed.
 ///
 /// A script ends where a read gives no byte. Each reply is written whole before the next line is
 /// looked at. `RunFault::Memory` comes before the first read.

@@ -5,7 +5,7 @@ use Rattle.clap.specs.Words.{kind_of}
 use Rattle.bench_main.specs.declared.words.OptionsFault.{OptionsFault}
 use Rattle.bench_main.specs.declared.words.OptionsFault.TheVariants.{Words, Memory}
 
--- want of memory is told as such, and never as bad words
+-- out of memory is told as such, and never as bad words
 abbrev pub IsToldApart : OptionsFault → Type 0
 IsToldApart (Words error) = kind_of error ≢ OutOfMemory
 IsToldApart Memory = Unit {0}

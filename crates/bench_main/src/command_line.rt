@@ -43,7 +43,7 @@ fn command<'a>(alloc: Global) -> Result<Command<'a>, AllocError> {
         .arg(script)
 }
 
-/// What a fault of `clap` comes to: it may be want of memory.
+/// What a fault of `clap` comes to: it may be that memory ran out.
 fn fault_of(error: Error) -> OptionsFault
     ensures { IsToldApart result }
 {

@@ -44,7 +44,7 @@ Binds old name (Fresh o) new =
 Binds old name (View number leaf layout writable) new =
     (array : Array) → IsViewIn old number leaf layout writable array → new ≡ bound_view old name array
 
--- A name is bound where there is room for it. Else it is refused, or for want of memory, and nothing has changed.
+-- A name is bound where there is room for it. Else it is refused, as it is where memory runs out, and nothing has changed.
 abbrev pub AnswersBind : State → List ℕ → Bound → Result (Unit {0}) Refusal → State → Type 0
 AnswersBind old name bound (Ok _) new = (has_room_for old name ≡ true) × Binds old name bound new
 AnswersBind old name bound (Err refusal) new =
@@ -55,14 +55,14 @@ abbrev pub AnswersUnbind : State → List ℕ → Result (Unit {0}) Refusal → 
 AnswersUnbind old name (Ok _) new = (is_bound old name ≡ true) × (new ≡ unbound old name)
 AnswersUnbind old name (Err refusal) new = (is_bound old name ≡ false) × (refusal ≡ UnknownName) × (new ≡ old)
 
--- The items of the target are written, as many as the answer says; only want of memory refuses it, and then nothing has changed.
+-- The items of the target are written, as many as the answer says. It is refused only as out of memory, and then nothing has changed.
 abbrev pub AnswersWrite : State → List ℕ → Target → Source → Result ℕ Refusal → State → Type 0
 AnswersWrite old name target source (Ok n) new =
     (n ≡ count (layout_of target).shape)
     × ((array : Array) (places : List ℕ) → LeadsTo old name target array places → new ≡ written old array places (new_items (descr_of old array) n source))
 AnswersWrite old name target source (Err refusal) new = (new ≡ old) × (refusal ≡ OutOfMemory)
 
--- Whether the arrays of two names share cells. Only a name that is not bound and want of memory refuse it.
+-- Whether the arrays of two names share cells. It is refused only where a name is not bound, and as out of memory.
 abbrev pub AnswersShares : State → List ℕ → List ℕ → Result Bool Refusal → Type 0
 AnswersShares s left right (Ok answer) =
     (a : Array) × (b : Array) × (find_array s.names left ≡ Some a) × (find_array s.names right ≡ Some b) × (answer ≡ share_cells a b)
