@@ -13,7 +13,7 @@ use Rattle.shape_strides.specs.Addresses.{dot, address_at, natural, LieWithin}
 use Rattle.shape_strides.specs.Layouts.{address, offsets, IsNested, distance, multiples, c_strides, f_strides, f_multiples}
 use Rattle.shape_strides.specs.Contiguity.{fortran_order, is_c_contiguous, is_f_contiguous}
 use Rattle.shape_strides.proofs.IndexLaws.{same_on_indexes, rank-same, index_at, rank-lt, length-index, IsIndex-append}
-use Rattle.shape_strides.proofs.LayoutLaws.{length-offsets, get_or-offsets, dot-c_strides, StandsInCOrder, offsets-c_order, mul-step}
+use Rattle.shape_strides.proofs.LayoutLaws.{length-offsets, get_or-offsets, dot-c_strides, address-made, StandsInCOrder, offsets-c_order, mul-step}
 use Rattle.shape_strides.specs.inside.Reach.{max_reach}
 use Rattle.shape_strides.proofs.CountLaws.{factors_pos, count-drop, length-c_strides, length-ordered}
 use Rattle.shape_strides.proofs.ContiguityLaws.{StepsOver, product-bound, is_c-empty, is_c-true, is_c-false}
@@ -196,12 +196,7 @@ pub record StandsInFOrder (shape : List ℕ) (strides : List ℤ) (offset item :
   pub addresses : (index : List ℕ) → IsIndex shape index → address_at strides offset index ≡ pos (item * rank (reverse shape) (reverse index))
 
 pub f_order_stands : (made : List ℕ) (strides : List ℤ) (shape : List ℕ) (item : ℕ) → made ≡ shape → (0 < count shape → strides ≡ f_strides item shape) → StandsInFOrder made strides 0 item
-f_order_stands made strides shape item same some = record {
-  addresses = λ index in'.
-      let above : 0 < count shape = omega (arith, ap count same, rank-lt made index in') in
-      let is : strides ≡ f_strides item made = some above ∙ ap (f_strides item) (sym same) in
-      +ℤ_idl (dot strides index) ∙ ap (λ s. dot s index) is ∙ dot-f_strides item made index in';
-}
+f_order_stands made strides shape item same some = record { addresses = λ index in'. address-made made strides shape (f_strides item) same some index in' ∙ dot-f_strides item made index in' }
 
 pub f_order_offsets : (l : Layout) (shape : List ℕ) (item : ℕ) → l.shape ≡ shape → StandsInFOrder l.shape l.strides l.offset item → offsets l ≡ f_multiples item shape
 unfolding offsets

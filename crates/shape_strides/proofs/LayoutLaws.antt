@@ -106,14 +106,15 @@ IsNested-multiples item n = record {
       omega (arith, mul-step item j k before);
 }
 
+-- an address from the start, by strides that were made of a shape where it has items
+pub address-made : (made : List ℕ) (strides : List ℤ) (shape : List ℕ) (order : List ℕ → List ℤ) → made ≡ shape → (0 < count shape → strides ≡ order shape) → (index : List ℕ) → IsIndex made index → address_at strides 0 index ≡ dot (order made) index
+address-made made strides shape order same some index in' =
+    let above : 0 < count shape = omega (arith, ap count same, rank-lt made index in') in
+    +ℤ_idl (dot strides index) ∙ ap (λ s. dot s index) (some above ∙ ap order (sym same))
+
 -- what is said of numbers that were made in C order
 pub c_order_stands : (made : List ℕ) (strides : List ℤ) (shape : List ℕ) (item : ℕ) → made ≡ shape → (0 < count shape → strides ≡ c_strides item shape) → StandsInCOrder made strides 0 item
-c_order_stands made strides shape item same some = record {
-  addresses = λ index in'.
-      let above : 0 < count shape = omega (arith, ap count same, rank-lt made index in') in
-      let is : strides ≡ c_strides item made = some above ∙ ap (c_strides item) (sym same) in
-      +ℤ_idl (dot strides index) ∙ ap (λ s. dot s index) is ∙ dot-c_strides item made index in';
-}
+c_order_stands made strides shape item same some = record { addresses = λ index in'. address-made made strides shape (c_strides item) same some index in' ∙ dot-c_strides item made index in' }
 
 pub c_order_offsets : (l : Layout) (shape : List ℕ) (item : ℕ) → l.shape ≡ shape → StandsInCOrder l.shape l.strides l.offset item → offsets l ≡ multiples item (count shape)
 c_order_offsets l shape item same stands = offsets-c_order l item stands ∙ ap (λ s. multiples item (count s)) same

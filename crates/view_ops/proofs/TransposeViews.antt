@@ -20,7 +20,7 @@ use Rattle.view_ops.specs.inside.Axes.{AreAxes, AreAllAxes}
 use Rattle.view_ops.specs.Views.{view_through, IsViewOf, GivesView, KeepsNested}
 use Rattle.view_ops.proofs.TransposeLaws.{dot-put_at, IsIndex-transposed, transposed-one, count-transposed}
 use Rattle.view_ops.proofs.ViewLaws.{Shows, LieWithin-view, IsView, inside-view, offsets-view, IsNested-view, gives_refusal}
-use Rattle.view_ops.proofs.AxesLaws.{axis-lt}
+use Rattle.view_ops.proofs.AxesLaws.{axis-lt, same_list}
 
 -- ---- the shape
 
@@ -93,17 +93,12 @@ turned-nested old new axes turned same item nested =
 
 -- ---- exits
 
-list_in : Result (List ℕ) Refusal → List ℕ
-list_in (Ok list) = list
-list_in (Err refusal) = []
-
 pub made_lengths : (lengths items l shape axes : List ℕ) → lengths ≡ items → items ≡ transposed_shape axes l → l ≡ shape → lengths ≡ transposed_shape axes shape
 made_lengths lengths items l shape axes first second third = first ∙ second ∙ ap (λ s. transposed_shape axes s) third
 
 pub made_shape : (axes shape lengths made : List ℕ) → lengths ≡ transposed_shape axes shape → AreAllAxes (length shape) axes → length shape ≤ max_axes → All (λ m. m ≤ max_items) shape → count shape ≤ max_items → shape_of lengths ≡ Ok made → made ≡ transposed_shape axes shape
-unfolding list_in
 made_shape axes shape lengths made is all few low small there =
-    ap list_in (sym there ∙ ap shape_of is ∙ shape_of-transposed axes shape all few low small)
+    same_list made (transposed_shape axes shape) (sym there ∙ ap shape_of is ∙ shape_of-transposed axes shape all few low small)
 
 pub turned_as : (old : Layout) (axes lengths items l made : List ℕ) (seen strides : List ℤ) → lengths ≡ items → items ≡ transposed_shape axes l → l ≡ old.shape → AreAllAxes (length old.shape) axes → length old.shape ≤ max_axes → All (λ m. m ≤ max_items) old.shape → count old.shape ≤ max_items → shape_of lengths ≡ Ok made → strides ≡ map (λ a. get_or seen a (pos 0)) axes → seen ≡ old.strides → IsTurned old made strides axes
 turned_as old axes lengths items l made seen strides first second third all few low small there are is = record {

@@ -1,4 +1,4 @@
-//! Basic indexes.
+//! Views by basic indexes: integers, slices, `...` and new axes.
 ghost use Rattle.std.specs.Prelude.{◌≡◌, true, IfOk};
 ghost use Rattle.std.specs.List.{list_all};
 ghost use Rattle.view_ops.specs.Basics.{is_basic, basic};

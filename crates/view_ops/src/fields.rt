@@ -1,4 +1,4 @@
-//! Fields of records.
+//! Views of one field of each item.
 ghost use Rattle.std.specs.Prelude.{◌≡◌, ℕ, ◌+◌, pos, ◌+ℤ◌, List, IfOk};
 ghost use Rattle.elem_descr.specs.Items.{item_size, field_of};
 ghost use Rattle.shape_strides.specs.Limits.{max_bytes};

@@ -1,4 +1,4 @@
-//! The items of an index.
+//! The items of an index, and the axes that they take.
 ghost use Rattle.std.specs.Prelude.{◌≡◌, ◌+◌, ◌-◌, ◌<◌, ◌≤◌, length, drop, count_by, slice_index_or, pos};
 ghost use Rattle.std.specs.List.{list_all};
 ghost use Rattle.view_ops.specs.declared.index.IndexItem.TheVariants.{Integer};

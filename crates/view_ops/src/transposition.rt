@@ -1,4 +1,4 @@
-//! Transposes.
+//! Transposes: the axes of a layout in another order.
 ghost use Rattle.std.specs.Prelude.{◌≡◌, ℕ, ◌<◌, ◌≤◌, pos, map, length, slice_index_or, IfOk, IfErr, All, option_copied};
 ghost use Rattle.elem_descr.specs.declared.refusal.Refusal.TheVariants.{OutOfMemory};
 ghost use Rattle.shape_strides.specs.Limits.{max_axes};
