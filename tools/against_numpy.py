@@ -5,26 +5,32 @@
 
 It needs NumPy and the program that `./bench` builds. The gate does not run it. What NumPy leaves
 open is taken as the program tells it: the stride of an axis shorter than 2 is 0, and so is each
-stride of an empty array; an integer for every axis gives an array of no axes.
+stride of an empty array; an integer for every axis gives an array of no axes. A format text that
+sets `@` has it from its start to its end: of a record within that ends under another mark than it
+begins under, NumPy takes the later one for its alignment.
 """
+import math
 import pathlib
 import random
 import subprocess
 import sys
 
 import numpy as np
+from numpy.core._internal import _dtype_from_pep3118
 
 PROGRAM = pathlib.Path(__file__).resolve().parent.parent / "crates/bench_main/out/bench_main"
 SCALARS = ["<i4", ">i2", "|u1", "|i1", "<u8", ">i8", "|b1", "<i8", ">u4", "<u2"]
-RECORDS = {
-    "T{<h:x:>i:y:}": np.dtype([("x", "<i2"), ("y", ">i4")]),
-    "T{<?:on:2x<B:n:<q:big:1x}": np.dtype(
-        {"names": ["on", "n", "big"], "formats": ["|b1", "|u1", "<i8"], "offsets": [0, 3, 4], "itemsize": 13}
-    ),
-    "T{3x>H:x:}": np.dtype({"names": ["x"], "formats": [">u2"], "offsets": [3], "itemsize": 5}),
-}
-TYPES = {**{text: np.dtype(text) for text in SCALARS}, **RECORDS}
-TEXTS = {dtype: text for text, dtype in RECORDS.items()}
+INNER = np.dtype([("y", "<i4")])
+PAIR = np.dtype({"names": ["n", "s"], "formats": [">u2", "|i1"], "offsets": [1, 3], "itemsize": 5})
+RECORDS = [
+    np.dtype([("x", "<i2"), ("y", ">i4")]),
+    np.dtype({"names": ["on", "n", "big"], "formats": ["|b1", "|u1", "<i8"], "offsets": [0, 3, 4], "itemsize": 13}),
+    np.dtype({"names": ["x"], "formats": [">u2"], "offsets": [3], "itemsize": 5}),
+    np.dtype({"names": ["x", "s"], "formats": ["|i1", INNER], "offsets": [0, 4], "itemsize": 8}),
+    np.dtype([("s", INNER)]),
+    np.dtype([("p", PAIR), ("x", "|b1"), ("q", PAIR)]),
+    np.dtype([("x", "|u1"), ("s", [("p", PAIR), ("t", [("u", [("y", ">i8"), ("z", "|b1")]), ("y", "<u2")])])]),
+]
 NAMES = "abcdefg"
 FAR = 10**29
 
@@ -43,13 +49,65 @@ def tuple_text(numbers):
     return f"({inside},)" if len(numbers) == 1 else f"({inside})"
 
 
+def fields(dtype):
+    """The fields of a record: their names, types and offsets, in order of offset."""
+    return sorted(((name, *dtype.fields[name][:2]) for name in dtype.names), key=lambda field: field[2])
+
+
 def leaves(dtype):
     """The types of an item's values: its own, or those of its fields."""
-    return [dtype] if dtype.names is None else [dtype[name] for name in dtype.names]
+    if dtype.names is None:
+        return [dtype]
+    return [leaf for _, inner, _ in fields(dtype) for leaf in leaves(inner)]
+
+
+LETTERS = {"b1": "?", "i1": "b", "u1": "B", "i2": "h", "u2": "H", "i4": "i", "u4": "I", "i8": "q", "u8": "Q"}
+
+
+def scalar_format(dtype):
+    mark = ">" if dtype.str[0] == ">" else "<"
+    return mark + (f"{dtype.itemsize}s" if dtype.kind == "S" else LETTERS[dtype.str[1:]])
+
+
+def format_text(dtype):
+    """The format text of a type, as the program writes it."""
+    if dtype.names is None:
+        return scalar_format(dtype)
+    text, end = "", 0
+    for name, inner, at in fields(dtype):
+        text += f"{at - end}x" * (at > end) + f"{format_text(inner)}:{name}:"
+        end = at + inner.itemsize
+    return "T{" + text + f"{dtype.itemsize - end}x" * (dtype.itemsize > end) + "}"
 
 
 def type_text(dtype):
-    return dtype.str if dtype.names is None else TEXTS[dtype]
+    return dtype.str if dtype.names is None else format_text(dtype)
+
+
+def random_value(rng, dtype, low, top):
+    """A value of a type: a number, or for a record a tuple with one for each field."""
+    if dtype.names is None:
+        return rng.randint(low, 1 if dtype.kind == "b" and low == 0 else top)
+    return tuple(random_value(rng, inner, low, top) for _, inner, _ in fields(dtype))
+
+
+def stands_for(value, dtype):
+    """Whether a tuple has a value for each field of a record, and for no scalar."""
+    if isinstance(value, tuple) != (dtype.names is not None):
+        return False
+    return dtype.names is None or (
+        len(value) == len(dtype.names)
+        and all(stands_for(v, inner) for v, (_, inner, _) in zip(value, fields(dtype)))
+    )
+
+
+def numbers(value):
+    return [n for v in value for n in numbers(v)] if isinstance(value, tuple) else [value]
+
+
+def filled(value, dtype):
+    """A number in the place of each scalar of a record."""
+    return value if dtype.names is None else tuple(filled(value, inner) for _, inner, _ in fields(dtype))
 
 
 def address(array):
@@ -94,7 +152,7 @@ class Bench:
         order = "C" * array.flags.c_contiguous + "F" * array.flags.f_contiguous
         return (
             f"info {name} {type_text(array.dtype)} {tuple_text(array.shape)} strides {tuple_text(steps)}"
-            f" at {at} order {order or '-'} write yes"
+            f" at {at} order {order or '-'} write {'yes' if array.flags.writeable else 'no'}"
         )
 
 
@@ -112,7 +170,7 @@ def view_of(array, items):
 
 
 def literal_text(value):
-    return f"({','.join(map(str, value))})" if isinstance(value, tuple) else str(value)
+    return f"({','.join(map(literal_text, value))})" if isinstance(value, tuple) else str(value)
 
 
 def item_text(item):
@@ -135,7 +193,7 @@ class Script:
         kinds = [
             (self.make, 14), (self.index, 28), (self.alias, 5), (self.transpose, 9), (self.set, 16),
             (self.print, 12), (self.info, 8), (self.shares, 5), (self.delete, 2), (self.names, 1),
-            (self.field, 10),
+            (self.field, 10), (self.broadcast, 9),
         ]
         for command in rng.choices(*zip(*kinds), k=commands):
             line, reply = (command if self.bench.arrays else self.make)()
@@ -183,12 +241,10 @@ class Script:
 
     def make(self):
         name = self.rng.choice(NAMES)
-        text, dtype = self.rng.choice(list((RECORDS if self.rng.random() < 0.3 else TYPES).items()))
+        dtype = self.rng.choice(RECORDS) if self.rng.random() < 0.5 else np.dtype(self.rng.choice(SCALARS))
+        text = type_text(dtype)
         shape = [self.rng.choice([0, 1, 2, 3, 4]) for _ in range(self.rng.choice([0, 1, 1, 2, 2, 3, 4]))]
-        tops = [1 if leaf == "|b1" else 99 for leaf in leaves(dtype)]
-        values = [tuple(self.rng.randint(0, top) for top in tops) for _ in range(int(np.prod(shape)))]
-        if dtype.names is None:
-            values = [value for value, in values]
+        values = [random_value(self.rng, dtype, 0, 99) for _ in range(int(np.prod(shape)))]
         lengths, literals = ",".join(map(str, shape)), " ".join(map(literal_text, values))
         array = np.array(values, dtype=dtype).reshape(shape)
         line = f"{name} = array {text} ({lengths}) {literals}"
@@ -225,6 +281,34 @@ class Script:
 
         return line, reply
 
+    def target(self, shape):
+        """A shape to which one broadcasts, seldom one to which it doesn't, or that is none."""
+        lengths = [self.rng.choice([0, 1, 2, 3, 4]) if length == 1 else length for length in shape]
+        if len(lengths) < 5:
+            lengths = [self.rng.choice([0, 1, 2, 3]) for _ in range(self.rng.choice([0, 0, 0, 1, 1, 2]))] + lengths
+        if lengths and self.rng.random() < 0.15:
+            lengths[self.rng.randrange(len(lengths))] = self.rng.choice([0, 1, 2, 5, 2**24 + 1, FAR])
+        if self.rng.random() < 0.05:
+            lengths = self.rng.choice([lengths[1:], [1] * 65])
+        return lengths
+
+    def broadcast(self):
+        name, source = self.rng.choice(NAMES), self.source()
+        shape = self.target(self.shape_of(source))
+
+        def reply():
+            array = self.bench.array(source)
+            if len(shape) > 64:
+                raise Refused("E08 too many axes")
+            if max([0, *shape]) > 2**24 or math.prod(shape) > 2**24:
+                raise Refused("E09 too large")
+            try:
+                return self.bench.bind_view(name, source, np.broadcast_to(array, shape))
+            except ValueError:
+                raise Refused("E16 shapes do not broadcast") from None
+
+        return f"{name} = broadcast {source} ({','.join(map(str, shape))})", reply
+
     def field(self):
         name, source = self.rng.choice(NAMES), self.source()
         dtype = self.bench.arrays[source].dtype if source in self.bench.arrays else np.dtype("<i4")
@@ -240,11 +324,13 @@ class Script:
         return f'{name} = field {source} "{field}"', reply
 
     def value(self, source):
-        """A value for an array's items: a number, or for a record often one a field."""
-        fields = self.bench.arrays[source].dtype.names if source in self.bench.arrays else None
-        if fields is None or self.rng.random() < 0.3:
+        """A value for an array's items: a number, or for a record often a tuple, seldom one that does not fit."""
+        dtype = self.bench.arrays[source].dtype if source in self.bench.arrays else np.dtype("<i4")
+        if self.rng.random() < 0.05:
+            dtype = self.rng.choice(RECORDS)
+        if dtype.names is None or self.rng.random() < 0.3:
             return self.rng.randint(-3, 120)
-        return tuple(self.rng.randint(-3, 120) for _ in fields)
+        return random_value(self.rng, dtype, -3, 120)
 
     def set(self):
         source = self.source()
@@ -254,12 +340,15 @@ class Script:
 
         def reply():
             target = view_of(self.bench.array(source), items)
-            types = leaves(target.dtype)
-            values = value if isinstance(value, tuple) else (value,) * len(types)
-            for leaf, number in zip(types, values):
+            if not target.flags.writeable:
+                raise Refused("E20 read-only")
+            whole = value if isinstance(value, tuple) else filled(value, target.dtype)
+            if not stands_for(whole, target.dtype):
+                raise Refused("E33 no such cast")
+            for leaf, number in zip(leaves(target.dtype), numbers(whole)):
                 if leaf.kind != "b" and not np.iinfo(leaf).min <= number <= np.iinfo(leaf).max:
                     raise Refused("E23 literal out of range")
-            target[...] = value
+            target[...] = np.array(whole, dtype=target.dtype)
             return f"ok set {target.size}"
 
         return line, reply
@@ -295,10 +384,38 @@ class Script:
         return "names", lambda: " ".join(["names", *self.bench.arrays])
 
 
+class Formats:
+    """A script of random format texts, with what NumPy reads them as."""
+
+    def __init__(self, rng, texts):
+        self.rng = rng
+        self.lines = []
+        self.replies = []
+        for _ in range(texts):
+            mark = rng.choice(["", "@", "^", "<", ">", "=", "!", None])
+            text = (mark or "") + self.record(mark is None, 4)
+            dtype = _dtype_from_pep3118(text)
+            self.lines.append(f"a = zeros {text} ()")
+            self.replies.append(f"ok a {format_text(dtype)} () new")
+
+    def record(self, marks, levels):
+        """The text of a record, where `marks` with marks other than `@` in it."""
+        members = "".join(self.member(marks, levels - 1, k) for k in range(self.rng.randint(1, 4)))
+        return ("^" if marks else "") + "T{" + members + "}"
+
+    def member(self, marks, levels, k):
+        rng = self.rng
+        pad = rng.choice(["", "", "", "x", "3x"])
+        if levels and rng.random() < 0.3:
+            return f"{pad}{self.record(marks, levels)}:n{k}:"
+        letter = rng.choice("?bBhHiIlLqQ") if rng.random() < 0.9 else rng.choice(["s", "5s"])
+        return f"{pad}{rng.choice('^<>=!') if marks else ''}{letter}:n{k}:"
+
+
 def main(seed=1, scripts=1000):
     rng, commands = random.Random(seed), 0
-    for _ in range(scripts):
-        script = Script(rng, rng.randint(5, 40))
+    for number in range(scripts):
+        script = Formats(rng, 20) if number % 5 == 4 else Script(rng, rng.randint(5, 40))
         text = "".join(f"{line}\n" for line in script.lines)
         ran = subprocess.run([PROGRAM], input=text.encode(), stdout=subprocess.PIPE)
         commands += len(script.lines)

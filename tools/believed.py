@@ -105,9 +105,10 @@ def exported(crate):
     return {it.strip().split(" as ")[-1] for group in re.findall(r"pub use [\w:]+::(?:\{([^}]*)\}|(\w+));", root.read_text()) for it in ",".join(group).split(",") if it.strip()}
 
 
-def public_clauses(crate):
+def public_clauses(crate, with_invariants):
     """The clauses of the public functions and types of a crate, each with the file that they stand in."""
     names = exported(crate)
+    wanted = r" *ghost (Value|view|invariant)\b" if with_invariants else r" *ghost (Value|view)\b"
     for file in sorted(crate.glob("src/**/*.rt")):
         text = file.read_text()
         for header in re.findall(r"(?m)^pub fn (?:.|\n)*?\n?\{$", text):
@@ -116,26 +117,33 @@ def public_clauses(crate):
         for of_trait, owner, body in re.findall(r"(?ms)^impl(?:<[^>]*>)? (?:([\w<>', ]+) for )?(\w+)[^{\n]*\{(.*?)^\}", text):
             if owner in names:
                 for header in re.findall(r"(?m)^    (?:pub |final )*fn (?:.|\n)*?\n?    \{$|^    ghost [^\n]*;$", body):
-                    if of_trait or header.lstrip().startswith("pub"):
-                        yield text, header
+                    if of_trait != "Model" or re.match(wanted, header):
+                        if of_trait or header.lstrip().startswith("pub"):
+                            yield text, header
         for owner, body in re.findall(r"(?ms)^pub (?:struct|enum|trait) (\w+)(.*?)^\}", text):
             if owner in names:
                 yield text, " ".join(re.findall(r"(?m)^ *(?:pub )?ghost .*$", body)) + (body if " fn " in body else "")
 
 
 def inside():
-    """By file, the definitions outside specs/inside/ that no public contract of any crate reaches, and those inside that one does."""
+    """By file, the definitions outside specs/inside/ that no public contract of any crate reaches, and those inside that one does.
+
+    Laws that other crates cite stand in specs/ as well, in files whose names end in Laws."""
     repository = Repository()
-    roots = set()
-    for crate in sorted((TOP / "crates").iterdir()):
-        for text, clauses in public_clauses(crate):
-            names, modules = uses(text)
-            roots |= {it for it in repository.cited(clauses, {}, names, modules) if it[0]}
-    reached = repository.reached(roots)
+
+    def reached(with_invariants):
+        roots = set()
+        for crate in sorted((TOP / "crates").iterdir()):
+            for text, clauses in public_clauses(crate, with_invariants):
+                names, modules = uses(text)
+                roots |= {it for it in repository.cited(clauses, {}, names, modules) if it[0]}
+        return repository.reached(roots)
+
+    at_least, at_most = reached(False), reached(True)
     for module, (file, local, _, _) in sorted(repository.files.items()):
         is_inside = ".specs.inside." in module
-        astray = [name for name in local if ((module, name) in reached) == is_inside]
-        if astray:
+        astray = [name for name in local if (is_inside and (module, name) in at_least) or (not is_inside and (module, name) not in at_most)]
+        if astray and not file.stem.endswith("Laws"):
             print(f"{file.relative_to(TOP / 'crates')}: {'all' if len(astray) == len(local) else ' '.join(astray)}")
 
 

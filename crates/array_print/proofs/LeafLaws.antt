@@ -1,5 +1,5 @@
 -- Laws of the texts of an item's values, and of their widths.
-use Rattle.std.proofs.Common.{◌≡◌, ℕ, zero, suc, ◌+◌, ◌<◌, ◌≤◌, List, [], ◌∷◌, ◌++◌, length, map, take, drop, replicate, codes, get_or, refl, sym, ap, subst, ◌∙◌, ◌-◌, arith, append_assoc}
+use Rattle.std.proofs.Common.{◌≡◌, ℕ, zero, suc, ◌+◌, ◌<◌, ◌≤◌, List, [], ◌∷◌, ◌++◌, length, map, take, drop, replicate, get_or, refl, sym, ap, subst, ◌∙◌, ◌-◌, arith, append_assoc}
 use Rattle.std.specs.Prelude.{Bool, IfSome, slice_get}
 use Rattle.std.specs.Fmt.{signed_decimal}
 use Rattle.std.proofs.lemmas.List.{take-take, drop-take, drop-drop, take_more, length-take}
@@ -11,12 +11,15 @@ use Rattle.elem_descr.specs.declared.scalar.Width.{Width}
 use Rattle.elem_descr.specs.declared.leaf.Leaf.{Leaf}
 use Rattle.elem_descr.specs.declared.descr.Descr.{Descr}
 use Rattle.elem_descr.specs.declared.descr.Descr.TheVariants.{Scalar as ScalarDescr, Record as RecordDescr}
-use Rattle.elem_descr.specs.Descriptors.{Structure}
+use Rattle.elem_descr.specs.declared.descr.Field.{Field}
+use Rattle.elem_descr.specs.Fields.{Fields, Structure}
+use Rattle.elem_descr.specs.Descriptors.{before, listed}
+use Rattle.elem_descr.proofs.FieldLaws.{length-leaves_from}
 use Rattle.elem_descr.specs.Values.{LeafValue}
 use Rattle.elem_descr.specs.Encoding.{size, decode, number_of}
 use Rattle.elem_descr.specs.Items.{item_size, leaves_of}
-use Rattle.array_print.specs.Printed.{leaf_text, leaf_texts, first_text, later_texts, leaf_width, leaf_widths, widths, widest, padded, aligned, joined, record_end, in_parentheses, items_at}
-use Rattle.array_print.specs.Shown.{IsWidth, AreWidths, integer_at, lead, texts_at, shown}
+use Rattle.array_print.specs.Printed.{leaf_text, leaf_texts, first_text, later_texts, leaf_width, leaf_widths, widths, widest, padded, aligned, joined, in_parentheses, field_texts, descr_text, items_at}
+use Rattle.array_print.specs.inside.Shown.{IsWidth, AreWidths, integer_at, lead, texts_at, shown}
 
 -- ---- values in a block
 
@@ -84,12 +87,6 @@ length-texts [] [] bytes are = refl
 length-texts [] (w ∷ ws) bytes are = absurd are
 length-texts (leaf ∷ leaves) [] bytes are = absurd are
 length-texts (leaf ∷ leaves) (w ∷ ws) bytes are = ap suc (length-texts leaves ws bytes are.1)
-
--- the one text of a scalar
-pub one-text : (texts : List (List ℕ)) → length texts ≡ 1 → joined [] texts ≡ get_or texts 0 []
-one-text [] one = absurd (omega arith)
-one-text (text ∷ []) one = refl
-one-text (text ∷ (next ∷ texts)) one = absurd (omega arith)
 
 -- one text more, with what leads it
 joined-push : (separator text : List ℕ) (texts : List (List ℕ)) → joined separator (texts ++ text ∷ []) ≡ joined separator texts ++ lead (length texts) separator ++ text
@@ -177,19 +174,33 @@ integer-width descr shape block offsets walk k scalar at width prints fits axes 
     ∙ sym (prints.0 (map (λ offset. leaf_text scalar (decode scalar (take (size scalar) (drop at (take (item_size descr) (drop offset block)))))) offsets))
     ∙ sym (array-width-at descr shape block offsets k scalar at axes below is)
 
+-- ---- the texts of fields
+
+pub first_text-get : (texts : List (List ℕ)) → first_text texts ≡ get_or texts 0 []
+first_text-get [] = refl
+first_text-get (text ∷ texts) = refl
+
+-- the text of one field, and those after it
+pub field_texts-before : (name : List ℕ) (at : ℕ) (descr : Descr) (rest : Fields) (texts : List (List ℕ)) → field_texts (before name at descr rest) texts ≡ descr_text descr texts ∷ field_texts rest (drop (length (leaves_of descr)) texts)
+field_texts-before name at (ScalarDescr scalar) rest texts = refl
+field_texts-before name at (RecordDescr structure) rest texts =
+    ap (λ n. in_parentheses (field_texts structure.fields texts) ∷ field_texts rest (drop n texts)) (sym (length-leaves_from 0 structure.fields))
+
+pub length-field_texts : (fields : List Field) (texts : List (List ℕ)) → length (field_texts (listed fields) texts) ≡ length fields
+length-field_texts [] texts = refl
+length-field_texts (field ∷ fields) texts =
+    ap length (field_texts-before field.name field.at field.descr (listed fields) texts) ∙ ap suc (length-field_texts fields (drop (length (leaves_of field.descr)) texts))
+
 -- ---- the texts of an item in a block
 
 pub length-texts-at : (descr : Descr) (ws block : List ℕ) (offset : ℕ) → AreWidths (leaves_of descr) ws → length (texts_at descr ws block offset) ≡ length (leaves_of descr)
 length-texts-at descr ws block offset are = length-texts (leaves_of descr) ws (take (item_size descr) (drop offset block)) are
 
 -- the one text of a scalar stands alone
-pub shown-scalar : (descr : Descr) (scalar : Scalar) (ws block : List ℕ) (offset : ℕ) → descr ≡ ScalarDescr scalar → AreWidths (leaves_of descr) ws → shown descr ws block offset ≡ get_or (texts_at descr ws block offset) 0 []
-shown-scalar descr scalar ws block offset is are =
-    let one : length (texts_at descr ws block offset) ≡ 1 = length-texts-at descr ws block offset are ∙ ap (λ d. length (leaves_of d)) is in
-    ap (λ d. in_parentheses d (texts_at descr ws block offset)) is
-    ∙ one-text (texts_at descr ws block offset) one
+pub shown-scalar : (descr : Descr) (scalar : Scalar) (ws block : List ℕ) (offset : ℕ) → descr ≡ ScalarDescr scalar → shown descr ws block offset ≡ get_or (texts_at descr ws block offset) 0 []
+shown-scalar descr scalar ws block offset is = ap (λ d. descr_text d (texts_at descr ws block offset)) is ∙ first_text-get (texts_at descr ws block offset)
 
 -- those of a record stand in parentheses
 pub shown-record : (descr : Descr) (structure : Structure) (ws block : List ℕ) (offset : ℕ) → descr ≡ RecordDescr structure →
-    shown descr ws block offset ≡ codes "(" ++ joined (codes ", ") (texts_at descr ws block offset) ++ record_end (length (texts_at descr ws block offset))
-shown-record descr structure ws block offset is = ap (λ d. in_parentheses d (texts_at descr ws block offset)) is
+    shown descr ws block offset ≡ in_parentheses (field_texts structure.fields (texts_at descr ws block offset))
+shown-record descr structure ws block offset is = ap (λ d. descr_text d (texts_at descr ws block offset)) is

@@ -5,7 +5,7 @@ use Rattle.std.specs.Io.{StartsWith}
 use Rattle.shape_strides.specs.Indexes.{count}
 use Rattle.array_print.specs.Printed.{joined, block_text, separator}
 use Rattle.elem_descr.specs.Blocks.{blocks}
-use Rattle.array_print.specs.Shown.{lead}
+use Rattle.array_print.specs.inside.Shown.{lead}
 
 -- ---- a list that begins with another
 

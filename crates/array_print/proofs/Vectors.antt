@@ -6,6 +6,7 @@ use Rattle.elem_descr.specs.declared.scalar.Width.TheVariants.{Two, Four, Eight}
 use Rattle.elem_descr.specs.declared.scalar.Scalar.TheVariants.{Bool as BoolScalar, Byte, Int, Bytes}
 use Rattle.elem_descr.specs.declared.descr.Descr.{Descr}
 use Rattle.elem_descr.specs.declared.descr.Descr.TheVariants.{Scalar as ScalarDescr, Record as RecordDescr}
+use Rattle.elem_descr.specs.Fields.{no_more, scalar_field, record_field}
 use Rattle.array_print.specs.Printed.{array_text, items_at}
 
 -- the items of a block in a shape
@@ -27,17 +28,17 @@ quotes = refl
 
 -- `T{<i:x:>h:y:}`
 both_orders : Descr
-both_orders = RecordDescr (record { size = 6; leaves = record { name = codes "x"; scalar = Int true Four Little; at = 0 } ∷ record { name = codes "y"; scalar = Int true Two Big; at = 4 } ∷ [] })
+both_orders = RecordDescr (record { size = 6; fields = scalar_field (codes "x") 0 (Int true Four Little) (scalar_field (codes "y") 4 (Int true Two Big) no_more) })
 
 -- `T{<b:x:3x<i:y:}`
 padded_record : Descr
-padded_record = RecordDescr (record { size = 8; leaves = record { name = codes "x"; scalar = Byte true; at = 0 } ∷ record { name = codes "y"; scalar = Int true Four Little; at = 4 } ∷ [] })
+padded_record = RecordDescr (record { size = 8; fields = scalar_field (codes "x") 0 (Byte true) (scalar_field (codes "y") 4 (Int true Four Little) no_more) })
 
 one_field : Descr
-one_field = RecordDescr (record { size = 1; leaves = record { name = codes "x"; scalar = Byte true; at = 0 } ∷ [] })
+one_field = RecordDescr (record { size = 1; fields = scalar_field (codes "x") 0 (Byte true) no_more })
 
 bool_and_byte : Descr
-bool_and_byte = RecordDescr (record { size = 2; leaves = record { name = codes "x"; scalar = BoolScalar; at = 0 } ∷ record { name = codes "y"; scalar = Byte true; at = 1 } ∷ [] })
+bool_and_byte = RecordDescr (record { size = 2; fields = scalar_field (codes "x") 0 BoolScalar (scalar_field (codes "y") 1 (Byte true) no_more) })
 
 records : text_of_array both_orders (1 ∷ []) (0 ∷ []) (0 ∷ 0 ∷ 0 ∷ 0 ∷ 1 ∷ 2 ∷ []) ≡ codes "[(0, 258)]"
 unfolding digits both_orders
@@ -80,3 +81,14 @@ least = refl
 three_axes : text_of_array (ScalarDescr (Byte true)) (2 ∷ 2 ∷ 2 ∷ []) (0 ∷ 1 ∷ 2 ∷ 3 ∷ 4 ∷ 5 ∷ 6 ∷ 7 ∷ []) (0 ∷ 1 ∷ 2 ∷ 3 ∷ 4 ∷ 5 ∷ 6 ∷ 249 ∷ []) ≡ codes "[[[ 0  1]\n  [ 2  3]]\n\n [[ 4  5]\n  [ 6 -7]]]"
 unfolding digits
 three_axes = refl
+
+-- `T{<b:x:3xT{<i:y:}:s:T{<b:a:T{<b:b:<b:c:}:d:}:t:}`
+nested : Descr
+nested = RecordDescr (record {
+  size = 11;
+  fields = scalar_field (codes "x") 0 (Byte true) (record_field (codes "s") 4 4 (scalar_field (codes "y") 0 (Int true Four Little) no_more) (record_field (codes "t") 8 3 (scalar_field (codes "a") 0 (Byte true) (record_field (codes "d") 1 2 (scalar_field (codes "b") 0 (Byte true) (scalar_field (codes "c") 1 (Byte true) no_more)) no_more)) no_more));
+})
+
+records_in_records : text_of_array nested (1 ∷ []) (0 ∷ []) (1 ∷ 9 ∷ 9 ∷ 9 ∷ 2 ∷ 0 ∷ 0 ∷ 0 ∷ 3 ∷ 4 ∷ 255 ∷ []) ≡ codes "[(1, (2,), (3, (4, -1)))]"
+unfolding digits nested
+records_in_records = refl

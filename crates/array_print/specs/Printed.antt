@@ -1,5 +1,5 @@
 -- The printed text of an array.
-use Rattle.std.specs.Prelude.{ℕ, zero, suc, ◌+◌, ◌-◌, ◌/◌, ◌%◌, ℤ, pos, Bool, ◌&&◌, not, List, [], ◌∷◌, ◌++◌, length, map, replicate, codes, fold, max, flat_map, slice_index, nat_eq, nat_le, if◌then◌else◌}
+use Rattle.std.specs.Prelude.{ℕ, zero, suc, ◌+◌, ◌-◌, ◌/◌, ◌%◌, ℤ, pos, Bool, ◌&&◌, not, List, [], ◌∷◌, ◌++◌, length, map, replicate, drop, codes, fold, max, flat_map, slice_index, nat_eq, nat_le, if◌then◌else◌}
 use Rattle.std.specs.Fmt.{signed_decimal}
 use Rattle.elem_descr.specs.declared.scalar.Scalar.{Scalar}
 use Rattle.elem_descr.specs.declared.scalar.Scalar.TheVariants.{Bool as BoolScalar, Byte, Int, Bytes}
@@ -10,6 +10,8 @@ use Rattle.elem_descr.specs.Values.{LeafValue}
 use Rattle.elem_descr.specs.Encoding.{number_of, text_of}
 use Rattle.elem_descr.specs.TypeStrings.{is_one_of}
 use Rattle.elem_descr.specs.Items.{leaves_of}
+use Rattle.elem_descr.specs.Fields.{Fields, no_more, scalar_field, record_field}
+use Rattle.elem_descr.specs.Descriptors.{leaf_count}
 use Rattle.elem_descr.specs.Blocks.{blocks, item_from}
 use Rattle.shape_strides.specs.Indexes.{count}
 
@@ -95,14 +97,25 @@ joined separator (first ∷ (next ∷ texts)) = first ++ separator ++ joined sep
 abbrev pub record_end : ℕ → List ℕ
 record_end n = if nat_eq n 1 then codes ",)" else codes ")"
 
--- the texts of a record in parentheses; that of a scalar stands alone
-abbrev pub in_parentheses : Descr → List (List ℕ) → List ℕ
-in_parentheses (ScalarDescr scalar) texts = joined [] texts
-in_parentheses (RecordDescr structure) texts = codes "(" ++ joined (codes ", ") texts ++ record_end (length texts)
+-- the texts of a record in parentheses
+abbrev pub in_parentheses : List (List ℕ) → List ℕ
+in_parentheses texts = codes "(" ++ joined (codes ", ") texts ++ record_end (length texts)
+
+-- the texts of fields, from the texts of their leaves: a record within stands in parentheses of its own
+abbrev pub field_texts : Fields → List (List ℕ) → List (List ℕ)
+field_texts no_more texts = []
+field_texts (scalar_field name at scalar rest) texts = first_text texts ∷ field_texts rest (drop 1 texts)
+field_texts (record_field name at size inner rest) texts =
+    in_parentheses (field_texts inner texts) ∷ field_texts rest (drop (leaf_count inner) texts)
+
+-- the text of an item from the texts of its leaves
+abbrev pub descr_text : Descr → List (List ℕ) → List ℕ
+descr_text (ScalarDescr scalar) texts = first_text texts
+descr_text (RecordDescr structure) texts = in_parentheses (field_texts structure.fields texts)
 
 -- the text of an item, each leaf's text as wide as it is to be
 abbrev pub item_text : Descr → List ℕ → List LeafValue → List ℕ
-item_text descr widths values = in_parentheses descr (aligned widths (leaf_texts (leaves_of descr) values))
+item_text descr widths values = descr_text descr (aligned widths (leaf_texts (leaves_of descr) values))
 
 -- What stands between two blocks, below an axis that has `inner` axes inside it and so many
 -- brackets open before its own: a space between items, and else as many newlines as there are inner axes and

@@ -2,7 +2,7 @@
 ghost use Rattle.std.specs.Prelude.{◌≡◌, ◌+◌, ◌≤◌, ◌++◌, codes, replicate, vec_capacity, OnOk};
 ghost use Rattle.std.specs.Io.{StartsWith};
 ghost use Rattle.array_print.specs.Printed.{separator, padded, record_end};
-ghost use Rattle.array_print.specs.Shown.{lead};
+ghost use Rattle.array_print.specs.inside.Shown.{lead};
 
 use std::alloc::AllocError;
 

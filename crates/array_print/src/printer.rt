@@ -1,16 +1,17 @@
 //! The text of an array: items in nested brackets, each value padded to the width of its leaf.
-ghost use Rattle.std.specs.Prelude.{◌≡◌, ◌+◌, ◌^◌, ◌≤◌, ◌<◌, ◌++◌, [], codes, get_or, length, map, take, drop, slice_index, vec_capacity, All, OnOk, OnErr};
+ghost use Rattle.std.specs.Prelude.{◌≡◌, ◌+◌, ◌^◌, ◌≤◌, ◌<◌, ◌++◌, [], codes, get_or, length, map, take, drop, slice_index, vec_capacity, All, IfOk, OnOk, OnErr};
 ghost use Rattle.std.specs.Io.{StartsWith};
+ghost use Rattle.elem_descr.specs.Descriptors.{listed, leaf_count};
 ghost use Rattle.elem_descr.specs.Items.{item_size, leaves_of};
 ghost use Rattle.shape_strides.specs.Indexes.{count};
 ghost use Rattle.shape_strides.specs.Layouts.{offsets, Fits};
-ghost use Rattle.array_print.specs.Printed.{array_text, block_text, joined, record_end, items_at};
-ghost use Rattle.array_print.specs.Shown.{AreWidths, texts_at, shown};
+ghost use Rattle.array_print.specs.Printed.{array_text, block_text, in_parentheses, field_texts, descr_text, items_at};
+ghost use Rattle.array_print.specs.inside.Shown.{AreWidths, texts_at, shown};
 
 use crate::padding::{push_comma, push_lead, push_record_end};
 use crate::values::push_value;
 use crate::widths::widths_of;
-use elem_descr::Descr;
+use elem_descr::{Descr, Field};
 use shape_strides::{Layout, Walk};
 use std::alloc::{AllocError, Global};
 
@@ -31,7 +32,7 @@ fn push_leaf(
     offset: usize,
 ) -> Result<(), AllocError>
     requires leaf { k < length (leaves_of items.now.descr.now) }
-    requires few { k ≤ 64 }
+    requires few { k ≤ 2048 }
     requires widths { AreWidths (leaves_of items.now.descr.now) items.now.widths.now }
     requires inside { offset + item_size items.now.descr.now ≤ length items.now.block.now }
     ensures ok { OnOk result (out.new.items ≡ out.old.items
@@ -45,24 +46,63 @@ fn push_leaf(
     push_value(out, &scalar, items.widths[k], bytes)
 }
 
-/// Appends the text of a record: its values in parentheses.
-fn push_record(out: &mut Vec<u8>, items: &Items<'_>, offset: usize) -> Result<(), AllocError>
+/// Appends the text of a field whose first leaf is the `k`-th of the item, and answers the number
+/// of the leaf after it.
+#[cycle(fields)]
+fn push_field(
+    out: &mut Vec<u8>,
+    items: &Items<'_>,
+    descr: &Descr,
+    k: usize,
+    offset: usize,
+) -> Result<usize, AllocError>
+    requires leaves { k + length (leaves_of descr.now) ≤ length (leaves_of items.now.descr.now) }
+    requires few { length (leaves_of items.now.descr.now) ≤ 2048 }
     requires widths { AreWidths (leaves_of items.now.descr.now) items.now.widths.now }
     requires inside { offset + item_size items.now.descr.now ≤ length items.now.block.now }
     ensures ok { OnOk result (out.new.items ≡ out.old.items
-        ++ (codes "("
-        ++ joined (codes ", ") (texts_at items.now.descr.now items.now.widths.now items.now.block.now offset)
-        ++ record_end (length (texts_at items.now.descr.now items.now.widths.now items.now.block.now offset)))) }
+        ++ descr_text descr.now (drop k (texts_at items.now.descr.now items.now.widths.now items.now.block.now offset))) }
+    ensures next { IfOk result (λ next. next ≡ k + length (leaves_of descr.now)) }
     ensures kept { StartsWith out.new.items out.old.items }
     ensures room { vec_capacity out.old ≤ vec_capacity out.new }
 {
-    let count = items.descr.leaf_count();
-    out.push(b'(')?;
-    for k in 0..count {
-        push_comma(out, k)?;
-        push_leaf(out, items, k, offset)?;
+    match descr {
+        Descr::Scalar(_) => {
+            push_leaf(out, items, k, offset)?;
+            Ok(k + 1)
+        }
+        Descr::Record(inner) => push_record(out, items, inner.fields(), k, offset),
     }
-    push_record_end(out, count)
+}
+
+/// Appends the text of a record whose first leaf is the `k`-th of the item, its fields in
+/// parentheses, and answers the number of the leaf after it.
+#[cycle(fields)]
+fn push_record(
+    out: &mut Vec<u8>,
+    items: &Items<'_>,
+    fields: &[Field],
+    k: usize,
+    offset: usize,
+) -> Result<usize, AllocError>
+    requires leaves { k + leaf_count (listed fields.now) ≤ length (leaves_of items.now.descr.now) }
+    requires few { length (leaves_of items.now.descr.now) ≤ 2048 }
+    requires widths { AreWidths (leaves_of items.now.descr.now) items.now.widths.now }
+    requires inside { offset + item_size items.now.descr.now ≤ length items.now.block.now }
+    ensures ok { OnOk result (out.new.items ≡ out.old.items
+        ++ in_parentheses (field_texts (listed fields.now) (drop k (texts_at items.now.descr.now items.now.widths.now items.now.block.now offset)))) }
+    ensures next { IfOk result (λ next. next ≡ k + leaf_count (listed fields.now)) }
+    ensures kept { StartsWith out.new.items out.old.items }
+    ensures room { vec_capacity out.old ≤ vec_capacity out.new }
+{
+    let mut leaf = k;
+    out.push(b'(')?;
+    for (i, field) in fields.iter().enumerate() {
+        push_comma(out, i)?;
+        leaf = push_field(out, items, &field.descr, leaf, offset)?;
+    }
+    push_record_end(out, fields.len())?;
+    Ok(leaf)
 }
 
 /// Appends the text of one item.
@@ -74,10 +114,9 @@ fn push_item(out: &mut Vec<u8>, items: &Items<'_>, offset: usize) -> Result<(), 
     ensures kept { StartsWith out.new.items out.old.items }
     ensures room { vec_capacity out.old ≤ vec_capacity out.new }
 {
-    match items.descr {
-        Descr::Scalar(_) => push_leaf(out, items, 0, offset),
-        Descr::Record(_) => push_record(out, items, offset),
-    }
+    let _leaves = items.descr.leaf_count();
+    push_field(out, items, items.descr, 0, offset)?;
+    Ok(())
 }
 
 /// Appends the text of the next item of a walk.

@@ -4,7 +4,7 @@ ghost use Rattle.std.specs.Io.{StartsWith};
 ghost use Rattle.std.specs.Fmt.{signed_decimal};
 ghost use Rattle.elem_descr.specs.Encoding.{IsNumber, size, decode, number_of, without_nuls};
 ghost use Rattle.array_print.specs.Printed.{hex_digit, is_plain, escaped, byte_string_text, bool_text, leaf_text, padded};
-ghost use Rattle.array_print.specs.Shown.{IsWidth};
+ghost use Rattle.array_print.specs.inside.Shown.{IsWidth};
 
 use crate::padding::push_padded;
 use elem_descr::{Scalar, num_read};

@@ -4,7 +4,7 @@ ghost use Rattle.elem_descr.specs.Encoding.{IsNumber, size};
 ghost use Rattle.elem_descr.specs.Items.{item_size, leaves_of};
 ghost use Rattle.shape_strides.specs.Layouts.{offsets, Fits};
 ghost use Rattle.array_print.specs.Printed.{widths, widest, items_at};
-ghost use Rattle.array_print.specs.Shown.{integer_at};
+ghost use Rattle.array_print.specs.inside.Shown.{integer_at};
 
 use elem_descr::{Descr, Scalar, num_read};
 use itoa::Buffer;

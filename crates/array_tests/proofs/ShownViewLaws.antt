@@ -62,16 +62,16 @@ module _ (s : State) (name : List ℕ) (array : Array) (r : ArrayRef) (found : f
   size : item_size r.descr.now ≡ item_size (descr_of s array)
   size = ap item_size (sym shows.descr)
 
-  shown : IsLaidOut (buffer_of s array).descr (length (buffer_of s array).items) array r.leaf r.layout.now r.writable
+  shown : IsLaidOut (buffer_of s array).descr (length (buffer_of s array).items) array r.layout.now r.writable
   shown = shows.view.laid
 
   -- all of it, to be written where the array may be, or only to be read
-  view-all : (writable : Bool) → (IsTrue writable → IsTrue r.writable) → IsViewIn s r.number r.leaf r.layout.now writable (record array { writable = writable })
+  view-all : (writable : Bool) → (IsTrue writable → IsTrue r.writable) → IsViewIn s r.number r.path.now r.layout.now writable (record array { writable = writable })
   view-all writable may = record {
     number_is = shows.view.number_is;
+    path_is = shows.view.path_is;
     there = shows.view.there;
     laid = record {
-      path = shown.path;
       part = shown.part;
       shape = shown.shape;
       places = shown.places;
@@ -81,18 +81,18 @@ module _ (s : State) (name : List ℕ) (array : Array) (r : ArrayRef) (found : f
     };
   }
 
-  pub may-view_all : (l : Layout) (writable : Bool) → l ≡ r.layout.now → (IsTrue writable → IsTrue r.writable) → MayBind s (View r.number r.leaf l writable)
+  pub may-view_all : (l : Layout) (writable : Bool) → l ≡ r.layout.now → (IsTrue writable → IsTrue r.writable) → MayBind s (View r.number r.path.now l writable)
   may-view_all l writable layout-is may =
-      (record array { writable = writable }, subst (λ (l : Layout). IsViewIn s r.number r.leaf l writable (record array { writable = writable })) (sym layout-is) (view-all writable may))
+      (record array { writable = writable }, subst (λ (l : Layout). IsViewIn s r.number r.path.now l writable (record array { writable = writable })) (sym layout-is) (view-all writable may))
 
-  pub may-view_item : (l : Layout) (k : ℕ) → l.shape ≡ [] → l.strides ≡ [] → slice_get (offsets r.layout.now) k ≡ Some l.offset → MayBind s (View r.number r.leaf l r.writable)
+  pub may-view_item : (l : Layout) (k : ℕ) → l.shape ≡ [] → l.strides ≡ [] → slice_get (offsets r.layout.now) k ≡ Some l.offset → MayBind s (View r.number r.path.now l r.writable)
   may-view_item l k shape-is strides-are at = (
     record { buffer = array.buffer; path = array.path; shape = []; places = place.0 ∷ []; writable = array.writable },
     record {
       number_is = shows.view.number_is;
+      path_is = shows.view.path_is;
       there = shows.view.there;
       laid = record {
-        path = shown.path;
         part = shown.part;
         shape = shape-is;
         places = alone-offsets l shape-is strides-are ∙ ap (λ offset. offset ∷ []) (sym place.2);

@@ -5,9 +5,9 @@ ghost use Rattle.shape_strides.specs.Layouts.{Fits};
 
 use crate::check::{check, check_bytes};
 use elem_descr::{BytesLen, Descr, Refusal, Scalar};
-use overlap_copy::{MemoryOrder, Owned, may_overlap, share_cell};
+use overlap_copy::{Owned, may_overlap, share_cell};
 use raw_block::RawBlock;
-use shape_strides::{Layout, MAX_BYTES, Shape, Strides};
+use shape_strides::{Layout, MAX_BYTES, MemoryOrder, Shape, Strides};
 use std::alloc::Global;
 use std::process::Abort;
 

@@ -4,10 +4,10 @@
 use crate::check::check;
 use crate::made::c_order;
 use elem_descr::Refusal;
-use shape_strides::Layout;
+use shape_strides::{IndexItem, Layout};
 use std::alloc::Global;
 use std::process::Abort;
-use view_ops::{IndexItem, are_basic, basic};
+use view_ops::{are_basic, basic};
 
 fn number(rt: &impl Abort, word: &str) -> i128 {
     word.parse::<i128>().expect(rt, "not a number")
@@ -28,7 +28,7 @@ fn bound(rt: &impl Abort, word: &str) -> Option<i128> {
     Some(number(rt, word))
 }
 
-fn slice(rt: &impl Abort, start: &str, rest: &str) -> IndexItem {
+fn slice(rt: &impl Abort, start: &str, rest: &str) -> IndexItem<usize> {
     let (stop, step) = rest.split_once(':').unwrap_or((rest, ""));
     IndexItem::Slice {
         start: bound(rt, start),
@@ -37,7 +37,7 @@ fn slice(rt: &impl Abort, start: &str, rest: &str) -> IndexItem {
     }
 }
 
-fn item(rt: &impl Abort, word: &str) -> IndexItem {
+fn item(rt: &impl Abort, word: &str) -> IndexItem<usize> {
     if word == "..." {
         return IndexItem::Ellipsis;
     }
@@ -50,7 +50,7 @@ fn item(rt: &impl Abort, word: &str) -> IndexItem {
     }
 }
 
-fn items(rt: &impl Abort, alloc: Global, text: &str) -> Vec<IndexItem> {
+fn items(rt: &impl Abort, alloc: Global, text: &str) -> Vec<IndexItem<usize>> {
     let mut items = Vec::new(alloc);
     for word in text.split_whitespace() {
         items.push(item(rt, word)).expect(rt, "no memory");
@@ -76,7 +76,7 @@ fn view(
     rt: &impl Abort,
     alloc: Global,
     layout: &Layout,
-    index: &[IndexItem],
+    index: &[IndexItem<usize>],
 ) -> Result<Layout, Refusal> {
     check(rt, layout.fits(4000, 4), "fits");
     check(rt, are_basic(index), "no index array");

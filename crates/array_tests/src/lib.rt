@@ -9,6 +9,8 @@ mod basic_indexes;
 #[cfg(test)]
 mod blocks;
 #[cfg(test)]
+mod broadcasts;
+#[cfg(test)]
 mod check;
 #[cfg(test)]
 mod fields;
@@ -18,6 +20,8 @@ mod layouts;
 mod made;
 #[cfg(test)]
 mod names;
+#[cfg(test)]
+mod runs;
 #[cfg(test)]
 mod shapes;
 #[cfg(test)]

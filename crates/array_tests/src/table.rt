@@ -64,11 +64,11 @@ pub(crate) fn view_all(
     let Some(array) = bench.get(source) else {
         return Err(Refusal::UnknownName);
     };
-    let (number, leaf, writable) = (array.number, array.leaf, array.writable && writable);
+    let (number, path, writable) = (array.number, *array.path, array.writable && writable);
     let layout = Layout::try_copy(alloc, array.layout)?;
     let view = Bound::View {
         number,
-        leaf,
+        path,
         layout,
         writable,
     };
@@ -94,7 +94,7 @@ pub(crate) fn view_item(
     let Some(array) = bench.get(source) else {
         return Err(Refusal::UnknownName);
     };
-    let (number, leaf, writable) = (array.number, array.leaf, array.writable);
+    let (number, path, writable) = (array.number, *array.path, array.writable);
     let offset = offset_of(alloc, array.layout, k)?;
     let layout = Layout {
         shape: Shape::try_new(alloc, &[])?,
@@ -103,7 +103,7 @@ pub(crate) fn view_item(
     };
     let view = Bound::View {
         number,
-        leaf,
+        path,
         layout,
         writable,
     };

@@ -10,7 +10,7 @@ use Rattle.bench_engine.specs.Meanings.{AnswersLine}
 use Rattle.bench_engine.specs.Replies.{Reply}
 use Rattle.bench_engine.specs.Lines.{ended, unended, trimmed, whole_lines, lines}
 use Rattle.bench_engine.specs.Runs.{Run, Cut, output, reply_line, accepted_count, refused_count}
-use Rattle.bench_engine.specs.Sessions.{Holds, HoldsBytes, Fed, HasTold, Told, ToldInPart, AnswersHeld}
+use Rattle.bench_engine.specs.Sessions.{HoldsPiece, HoldsBytes, Fed, HasTold, Told, ToldInPart, AnswersHeld}
 use Rattle.bench_engine.proofs.Known.{appends_then, appends_none}
 use Rattle.bench_engine.proofs.Lines.{whole_lines-piece, whole_lines-split, unended-newline, unended-piece, lines-last}
 
@@ -47,7 +47,7 @@ module _ {World : Type 0} (Answer : World → List ℕ → World → List Reply 
 
   module _ (start : World) (before : Option (List ℕ)) where
     -- no byte has come
-    pub fed-new : (to : World) (s : Session) → to ≡ start → Holds s.line [] → s.accepted ≡ 0 → s.refused ≡ 0 → Fed Answer start to before before [] s
+    pub fed-new : (to : World) (s : Session) → to ≡ start → HoldsPiece s.line [] → s.accepted ≡ 0 → s.refused ≡ 0 → Fed Answer start to before before [] s
     fed-new to s at_start empty accepted refused = record {
       told = record { replies = []; run = (refl, at_start); told = appends_none before; accepted = accepted; refused = refused };
       held = empty;
@@ -55,7 +55,7 @@ module _ {World : Type 0} (Answer : World → List ℕ → World → List Reply 
 
     -- a piece in which no newline stands is held
     pub fed-piece : (to : World) (written : Option (List ℕ)) (read piece : List ℕ) (old new : Session) → ended piece ≡ [] → new.accepted ≡ old.accepted → new.refused ≡ old.refused →
-        ((held : List ℕ) → Holds old.line held → Holds new.line (held ++ piece)) → Fed Answer start to before written read old → Fed Answer start to before written (read ++ piece) new
+        ((held : List ℕ) → HoldsPiece old.line held → HoldsPiece new.line (held ++ piece)) → Fed Answer start to before written read old → Fed Answer start to before written (read ++ piece) new
     fed-piece to written read piece old new one same-accepted same-refused holds fed = record {
       told = record {
         replies = fed.told.replies;
@@ -68,7 +68,7 @@ module _ {World : Type 0} (Answer : World → List ℕ → World → List Reply 
     }
 
     -- one line more is answered
-    told-line : (mid to : World) (written written' : Option (List ℕ)) (all : List (List ℕ)) (piece : List ℕ) (old new : Session) → Holds old.line piece → Told Answer mid to written written' old new →
+    told-line : (mid to : World) (written written' : Option (List ℕ)) (all : List (List ℕ)) (piece : List ℕ) (old new : Session) → HoldsPiece old.line piece → Told Answer mid to written written' old new →
         HasTold Answer start mid before written all old → HasTold Answer start to before written' (all ++ trimmed piece ∷ []) new
     told-line mid to written written' all piece old new holds line told = record {
       replies = told.replies ++ line.replies;
@@ -79,7 +79,7 @@ module _ {World : Type 0} (Answer : World → List ℕ → World → List Reply 
     }
 
     -- one line more, its reply cut
-    cut-line : (mid to : World) (written written' : Option (List ℕ)) (all later : List (List ℕ)) (piece : List ℕ) (old : Session) → Holds old.line piece → ToldInPart Answer mid to written written' old →
+    cut-line : (mid to : World) (written written' : Option (List ℕ)) (all later : List (List ℕ)) (piece : List ℕ) (old : Session) → HoldsPiece old.line piece → ToldInPart Answer mid to written written' old →
         HasTold Answer start mid before written all old → Cut Answer start before written' ((all ++ trimmed piece ∷ []) ++ later)
     cut-line mid to written written' all later piece old holds part told = record {
       answered = all ++ trimmed piece ∷ [];
@@ -97,7 +97,7 @@ module _ {World : Type 0} (Answer : World → List ℕ → World → List Reply 
     }
 
     -- a newline, its line answered
-    pub fed-newline : (mid to : World) (written written' : Option (List ℕ)) (read : List ℕ) (old new : Session) → Holds new.line [] → Told Answer mid to written written' old new →
+    pub fed-newline : (mid to : World) (written written' : Option (List ℕ)) (read : List ℕ) (old new : Session) → HoldsPiece new.line [] → Told Answer mid to written written' old new →
         Fed Answer start mid before written read old → Fed Answer start to before written' (read ++ 10 ∷ []) new
     fed-newline mid to written written' read old new empty line fed = record {
       told = rw (whole_lines-split read []) (told-line mid to written written' (whole_lines read) (unended read) old new fed.held line fed.told);

@@ -1,10 +1,12 @@
 -- Views of arrays: places for offsets, and names that are bound to them.
-use Rattle.std.proofs.Common.{◌≡◌, ◌⊎◌, ◌<◌, ◌+◌, ◌*◌, ◌^◌, ℕ, zero, suc, Bool, true, false, List, [], ◌∷◌, ◌++◌, length, map, refl, sym, ap, ◌∙◌, subst, get_or, Option, Some, Result, Ok, Err, inl, inr, slice_index, All, arith}
+use Rattle.std.proofs.Common.{◌≡◌, ◌⊎◌, ◌<◌, ◌+◌, ◌*◌, ℕ, zero, suc, Bool, true, false, List, [], ◌∷◌, ◌++◌, length, map, refl, sym, ap, ◌∙◌, subst, get_or, Some, Result, Ok, Err, inl, inr, slice_index, All, Bor, IsTrue, arith}
 use Rattle.std.specs.List.{Contains}
 use Rattle.std.proofs.lemmas.List.{length-map}
 use Rattle.std.proofs.lemmas.List.Elements.{All-map, Contains-get_or}
 use Rattle.elem_descr.specs.declared.refusal.Refusal.{Refusal}
 use Rattle.elem_descr.specs.declared.refusal.Refusal.TheVariants.{OutOfMemory}
+use Rattle.elem_descr.specs.Refusals.{◌>>=◌}
+use Rattle.elem_descr.specs.declared.descr.Descr.{Descr}
 use Rattle.elem_descr.specs.Items.{item_size}
 use Rattle.shape_strides.specs.declared.layout.Layout.{Layout}
 use Rattle.shape_strides.specs.Indexes.{indexes, rank}
@@ -22,6 +24,8 @@ use Rattle.name_store.specs.declared.bound.Bound.{Bound}
 use Rattle.name_store.specs.declared.bound.Bound.TheVariants as bound
 use Rattle.name_store.specs.declared.target.Target.TheVariants as target
 use Rattle.name_store.specs.declared.array_ref.ArrayRef.{ArrayRef}
+use Rattle.bench_engine.specs.declared.part.Part.{Part}
+use Rattle.bench_engine.specs.inside.Parts.{IsPart, GivesPart}
 use Rattle.bench_engine.specs.Contract.{Answers, IsRefused}
 use Rattle.bench_engine.specs.Machine.{Choice, Outcome, viewed, comes_to}
 use Rattle.bench_engine.proofs.Creates.{starts}
@@ -68,25 +72,36 @@ among-view s base r view new shows is =
     All-map (Contains base.places) (λ index. slice_index base.places (rank base.shape (view.leads index))) (indexes view.shape)
     (λ k d below. Contains-get_or base.places (rank base.shape (view.leads (get_or (indexes view.shape) k d))) 0 (inside-view s base r view new shows is k d below))
 
--- the view lies in the array's buffer
-pub seen : (s : State) (base : Array) (r : ArrayRef) (view : View) (new : Layout) → Shows s base r → IsViewOf r.layout.now new view → KeepsNested r.layout.now new → IsViewIn s r.number r.leaf new r.writable (viewed base view)
-seen s base r view new shows is keeps = record {
+-- the view lies in the array's buffer; it may be written where the array may and its items lie apart
+seen : (s : State) (base : Array) (r : ArrayRef) (view : View) (new : Layout) (writable : Bool) → Shows s base r → IsViewOf r.layout.now new view → (IsTrue writable → IsTrue base.writable × KeepsNested r.layout.now new) →
+    IsViewIn s r.number r.path.now new writable (record (viewed base view) { writable = writable })
+seen s base r view new writable shows is free = record {
   number_is = shows.view.number_is;
+  path_is = shows.view.path_is;
   there = shows.view.there;
   laid = record {
-    path = shows.view.laid.path;
     part = shows.view.laid.part;
     shape = is.shape;
     places = places-view s base r view new shows is;
-    writable_is = shows.view.laid.writable_is;
+    writable_is = refl;
     fits = is.fits _ _ shows.view.laid.fits;
-    nested = λ free. keeps _ (shows.view.laid.nested free);
+    nested = λ yes. (free yes).1 _ (shows.view.laid.nested (shows.view.laid.writable_is ∙ (free yes).0));
   };
 }
 
--- all of the array does
-pub seen-whole : (s : State) (base : Array) (r : ArrayRef) (new : Layout) → Shows s base r → new ≡ r.layout.now → IsViewIn s r.number r.leaf new r.writable base
-seen-whole s base r new shows same = subst (λ (l : Layout). IsViewIn s r.number r.leaf l r.writable base) (sym same) shows.view
+-- so do its items that are a view of it
+pub viewed-part : (s : State) (base : Array) (r : ArrayRef) (writable : Bool) (there : Result View Refusal) (part : Part) → Shows s base r → part.path ≡ r.path.now → part.descr ≡ r.descr → part.writable ≡ writable → GivesView r.layout.now (Ok part.layout) there →
+    (IsTrue writable → IsTrue base.writable × KeepsNested r.layout.now part.layout) → GivesPart s r.number (Ok part) (there >>= (λ view. Ok (record (viewed base view) { writable = writable })))
+viewed-part s base r writable (Err e) part shows path descr same is free = absurd is
+viewed-part s base r writable (Ok view) part shows path descr same is free = record {
+  view = rw (path, same) (seen s base r view part.layout writable shows is free);
+  descr = shows.descr ∙ ap (λ (d : Bor Descr). d.now) (sym descr);
+}
+
+-- the part that is given
+pub given-part : (s : State) (number : ℕ) (part : Part) (there : Result Array Refusal) → GivesPart s number (Ok part) there → (array : Array) × (there ≡ Ok array) × IsPart s number part array
+given-part s number part (Ok array) is = (array, refl, is)
+given-part s number part (Err e) is = absurd is
 
 -- items of an array, to be written
 pub leads : (s : State) (name : List ℕ) (base : Array) (r : ArrayRef) (view : View) (new : Layout) → find_array s.names name ≡ Some base → Shows s base r → r.writable ≡ true → IsViewOf r.layout.now new view →
@@ -99,26 +114,26 @@ leads s name base r view new found shows free is = record {
 }
 
 -- what is bound is a view
-pub may-bind : (s : State) (what : Bound) (number : ℕ) (leaf : Option ℕ) (layout : Layout) (writable : Bool) (array : Array) → what ≡ bound.View number leaf layout writable → IsViewIn s number leaf layout writable array → MayBind s what
-may-bind s what number leaf layout writable array is in' = subst (MayBind s) (sym is) (array, in')
+pub may-bind : (s : State) (what : Bound) (number : ℕ) (path : List ℕ) (layout : Layout) (writable : Bool) (array : Array) → what ≡ bound.View number path layout writable → IsViewIn s number path layout writable array → MayBind s what
+may-bind s what number path layout writable array is in' = subst (MayBind s) (sym is) (array, in')
 
-bound-answers : (s new : State) (name : List ℕ) (may : Bool) (outcome : Choice → Outcome) (number : ℕ) (leaf : Option ℕ) (layout : Layout) (writable : Bool) (array : Array) (result : Result (Unit {0}) Refusal) (text before after : List ℕ) → may ≡ true →
-    has_room_for s name ≡ true → ((choice : Choice) → outcome choice ≡ comes_to (bound_view s name array) text) → after ≡ before ++ text → IsViewIn s number leaf layout writable array →
-    AnswersBind s name (bound.View number leaf layout writable) result new → Answers may outcome s new before after result
-bound-answers s new name may outcome number leaf layout writable array (Ok done) text before after can room is told in' (_, binds) =
+bound-answers : (s new : State) (name : List ℕ) (may : Bool) (outcome : Choice → Outcome) (number : ℕ) (path : List ℕ) (layout : Layout) (writable : Bool) (array : Array) (result : Result (Unit {0}) Refusal) (text before after : List ℕ) → may ≡ true →
+    has_room_for s name ≡ true → ((choice : Choice) → outcome choice ≡ comes_to (bound_view s name array) text) → after ≡ before ++ text → IsViewIn s number path layout writable array →
+    AnswersBind s name (bound.View number path layout writable) result new → Answers may outcome s new before after result
+bound-answers s new name may outcome number path layout writable array (Ok done) text before after can room is told in' (_, binds) =
     let any = spare s in
     (any.0, any.1, text, is any.0 ∙ ap (λ (t : State). comes_to t text) (sym (binds array in')), told)
-bound-answers s new name may outcome number leaf layout writable array (Err e) text before after can room is told in' (kept, inl full) =
+bound-answers s new name may outcome number path layout writable array (Err e) text before after can room is told in' (kept, inl full) =
     let no : true ≡ false = sym room ∙ full.0 in cc
-bound-answers s new name may outcome number leaf layout writable array (Err e) text before after can room is told in' (kept, inr lacks) =
+bound-answers s new name may outcome number path layout writable array (Err e) text before after can room is told in' (kept, inr lacks) =
     (kept, starts before text after told, inl (lacks.1, can))
 
 -- the name is bound to the view, or refused as out of memory
-pub view-answers : (s new : State) (name : List ℕ) (may : Bool) (outcome : Choice → Outcome) (what : Bound) (number : ℕ) (leaf : Option ℕ) (layout : Layout) (writable : Bool) (array : Array) (result : Result (Unit {0}) Refusal) (text before after : List ℕ) →
-    may ≡ true → has_room_for s name ≡ true → ((choice : Choice) → outcome choice ≡ comes_to (bound_view s name array) text) → after ≡ before ++ text → what ≡ bound.View number leaf layout writable → IsViewIn s number leaf layout writable array →
+pub view-answers : (s new : State) (name : List ℕ) (may : Bool) (outcome : Choice → Outcome) (what : Bound) (number : ℕ) (path : List ℕ) (layout : Layout) (writable : Bool) (array : Array) (result : Result (Unit {0}) Refusal) (text before after : List ℕ) →
+    may ≡ true → has_room_for s name ≡ true → ((choice : Choice) → outcome choice ≡ comes_to (bound_view s name array) text) → after ≡ before ++ text → what ≡ bound.View number path layout writable → IsViewIn s number path layout writable array →
     AnswersBind s name what result new → Answers may outcome s new before after result
-view-answers s new name may outcome what number leaf layout writable array result text before after can room is told view in' binds =
-    bound-answers s new name may outcome number leaf layout writable array result text before after can room is told in' (subst (λ (b : Bound). AnswersBind s name b result new) view binds)
+view-answers s new name may outcome what number path layout writable array result text before after can room is told view in' binds =
+    bound-answers s new name may outcome number path layout writable array result text before after can room is told in' (subst (λ (b : Bound). AnswersBind s name b result new) view binds)
 
 -- what a call that gives a view answers
 pub given-view : (old new : Layout) (there : Result View Refusal) → GivesView old (Ok new) there → (view : View) × (there ≡ Ok view) × IsViewOf old new view

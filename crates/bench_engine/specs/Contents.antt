@@ -10,6 +10,7 @@ use Rattle.elem_descr.specs.Refusals.{◌>>=◌, check}
 use Rattle.elem_descr.specs.DescrTexts.{descriptor}
 use Rattle.elem_descr.specs.Items.{item_size, leaves_of}
 use Rattle.elem_descr.specs.Values.{LeafValue, number, text}
+use Rattle.shape_strides.specs.declared.memory_order.MemoryOrder.TheVariants.{C}
 use Rattle.shape_strides.specs.Indexes.{count}
 use Rattle.shape_strides.specs.Layouts.{offsets}
 use Rattle.shape_strides.specs.Shapes.{shape_of}
@@ -17,7 +18,6 @@ use Rattle.script_lang.specs.declared.literal.Literal.{Literal}
 use Rattle.script_lang.specs.declared.command.NewItems.{NewItems}
 use Rattle.script_lang.specs.declared.command.NewItems.TheVariants.{Zeros, Full, Arange, Array}
 use Rattle.overlap_copy.specs.declared.owned.Owned.{Owned}
-use Rattle.overlap_copy.specs.declared.owned.MemoryOrder.TheVariants.{C}
 use Rattle.overlap_copy.specs.Blocks.{offsets_in}
 use Rattle.name_store.specs.States.{Buffer}
 use Rattle.name_store.specs.Calls.{own_buffer}

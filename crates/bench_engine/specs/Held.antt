@@ -10,7 +10,7 @@ use Rattle.bench_engine.specs.Runs.{Run, Cut, output, accepted_count, refused_co
 
 -- The script is known: its lines are answered by a run of the machine from the empty state to the
 -- summary's bench, all replies and nothing else have gone out, and the summary counts them.
-pub record Answers (script : List ℕ) (written written' : Option (List ℕ)) (summary : Summary) : Type 0 where
+pub record AnswersAll (script : List ℕ) (written written' : Option (List ℕ)) (summary : Summary) : Type 0 where
   pub replies : List Reply
   pub run : Run AnswersLine start (lines script) replies summary.bench
   pub told : Appends written written' (output replies)
@@ -22,7 +22,7 @@ pub record Finished (unread unread' written written' : Option (List ℕ)) (summa
   pub input : List ℕ
   pub consumes : Consumes unread unread' input
   pub at_end : IsAtEnd unread'
-  pub answers : Answers input written written' summary
+  pub answers : AnswersAll input written written' summary
 
 -- The lines that newlines end, among the bytes that were read, are answered.
 pub record StoppedReading (unread unread' written written' : Option (List ℕ)) : Type 0 where

@@ -8,3 +8,4 @@ pub mod Meanings
 pub mod Replies
 pub mod Runs
 pub mod Sessions
+pub mod inside

@@ -1,16 +1,20 @@
 -- The machine: one step of it, for each command and each choice that it is free to make.
-use Rattle.std.specs.Prelude.{◌≡◌, ℕ, ℤ, Bool, true, false, ◌&&◌, List, [], ◌∷◌, ◌++◌, replicate, codes, decimal, Option, Some, None, Result, Ok, Err}
+use Rattle.std.specs.Prelude.{◌≡◌, ℕ, Bool, true, false, ◌&&◌, List, [], ◌∷◌, ◌++◌, replicate, codes, decimal, Result, Ok, Err}
 use Rattle.std.specs.List.{list_all}
 use Rattle.std.specs.Option.{ok_or}
 use Rattle.elem_descr.specs.declared.refusal.Refusal.{Refusal}
 use Rattle.elem_descr.specs.declared.refusal.Refusal.TheVariants.{Syntax, UnknownName, TooManyNames, NoSuchField, ReadOnly}
+use Rattle.elem_descr.specs.declared.descr.Descr.{Descr}
 use Rattle.elem_descr.specs.Refusals.{◌>>=◌, check}
 use Rattle.elem_descr.specs.Items.{field_of}
+use Rattle.shape_strides.specs.declared.index_item.IndexItem.{IndexItem}
+use Rattle.shape_strides.specs.IndexItems.{is_basic}
 use Rattle.shape_strides.specs.Indexes.{count}
+use Rattle.shape_strides.specs.Shapes.{shape_of}
 use Rattle.view_ops.specs.Views.{View, view_through}
 use Rattle.view_ops.specs.Basics.{basic}
 use Rattle.view_ops.specs.Transposes.{transposed}
-use Rattle.script_lang.specs.declared.index.IndexItem.{IndexItem}
+use Rattle.broadcasting.specs.Broadcasts.{stretched}
 use Rattle.script_lang.specs.declared.literal.Literal.{Literal}
 use Rattle.script_lang.specs.declared.command.Argument.TheVariants as argument
 use Rattle.script_lang.specs.declared.command.Viewing.{Viewing}
@@ -60,6 +64,24 @@ array_of s name = ok_or (find_array s.names name) UnknownName
 abbrev pub viewed : states.Array → View → states.Array
 viewed array view = record array { shape = view.shape; places = view_through array.places array.shape view.shape view.leads }
 
+-- an array of this element type, seen in some way
+abbrev pub seen : Viewing → Descr → states.Array → Result states.Array Refusal
+seen viewing.Whole descr array = Ok array
+seen (viewing.Indexed index) descr array = basic array.shape index >>= (λ view. Ok (viewed array view))
+seen (viewing.Transposed axes) descr array = transposed array.shape axes >>= (λ view. Ok (viewed array view))
+seen (viewing.Field field) descr array = ok_or (field_of descr field) NoSuchField >>= (λ k. Ok (record array { path = array.path ++ k ∷ [] }))
+seen (viewing.Broadcast lengths) descr array = do
+  shape ← shape_of lengths
+  view ← stretched array.shape shape
+  Ok (record (viewed array view) { writable = false })
+seen _ descr array = Err Syntax
+
+-- the ways that are carried out so far
+abbrev pub is_carried_out : Viewing → Bool
+is_carried_out (viewing.Indexed index) = list_all is_basic index
+is_carried_out (viewing.Reshaped shape) = false
+is_carried_out _ = true
+
 -- Commands
 
 -- X = what is made
@@ -69,41 +91,17 @@ creation_outcome choice s name contents = do
   new ← contents
   comes_to (bound_to s name (fresh_array choice.fresh new.shape) new.buffer) (fresh_text name new.buffer.descr new.shape)
 
--- X = Y
-unfoldable pub alias_outcome : State → List ℕ → List ℕ → Outcome
-alias_outcome s name source = do
+-- X = a view of the array of this name
+unfoldable pub view_outcome : State → List ℕ → List ℕ → Viewing → Outcome
+view_outcome s name source how = do
+  _ ← check (is_carried_out how) Syntax
   array ← array_of s source
   _ ← check (has_room_for s name) TooManyNames
-  comes_to (bound_view s name array) (view_text name (descr_of s array) array.shape)
-
--- X = Y[ix]
-unfoldable pub index_outcome : State → List ℕ → List ℕ → List IndexItem → Outcome
-index_outcome s name source index = do
-  items ← basic_items index
-  array ← array_of s source
-  _ ← check (has_room_for s name) TooManyNames
-  view ← basic array.shape items
-  comes_to (bound_view s name (viewed array view)) (view_text name (descr_of s array) view.shape)
-
--- X = transpose Y [(axes)]
-unfoldable pub transpose_outcome : State → List ℕ → List ℕ → Option (List ℤ) → Outcome
-transpose_outcome s name source axes = do
-  array ← array_of s source
-  _ ← check (has_room_for s name) TooManyNames
-  view ← transposed array.shape axes
-  comes_to (bound_view s name (viewed array view)) (view_text name (descr_of s array) view.shape)
-
--- X = field Y "f"
-unfoldable pub field_outcome : State → List ℕ → List ℕ → List ℕ → Outcome
-field_outcome s name source field = do
-  array ← array_of s source
-  _ ← check (has_room_for s name) TooManyNames
-  k ← ok_or (field_of (descr_of s array) field) NoSuchField
-  let part = record array { path = array.path ++ k ∷ [] }
+  part ← seen how (descr_of s array) array
   comes_to (bound_view s name part) (view_text name (descr_of s part) part.shape)
 
 -- set X[ix] = L
-unfoldable pub set_outcome : State → List ℕ → List IndexItem → Literal → Outcome
+unfoldable pub set_outcome : State → List ℕ → List (IndexItem (List ℕ)) → Literal → Outcome
 set_outcome s name index literal = do
   items ← basic_items index
   array ← array_of s name
@@ -142,17 +140,9 @@ unfoldable pub shares_outcome : State → List ℕ → List ℕ → Outcome
 shares_outcome s left right = do
   a ← array_of s left
   b ← array_of s right
-  comes_to s (shares_text (share_cells a b))
+  comes_to s (shares_text (share_cells s a b))
 
 -- What is not carried out so far is refused before all other checks.
-
--- X = a view of the array of this name
-abbrev pub view_outcome : State → List ℕ → List ℕ → Viewing → Outcome
-view_outcome s name source viewing.Whole = alias_outcome s name source
-view_outcome s name source (viewing.Indexed index) = index_outcome s name source index
-view_outcome s name source (viewing.Field field) = field_outcome s name source field
-view_outcome s name source (viewing.Transposed axes) = transpose_outcome s name source axes
-view_outcome s name source _ = Err Syntax
 
 -- X = ..
 abbrev pub bind_outcome : Choice → State → List ℕ → Value → Outcome
@@ -208,7 +198,6 @@ must_be_bound _ = []
 
 abbrev pub view_takes_memory : Viewing → Bool
 view_takes_memory (viewing.Reshaped shape) = false
-view_takes_memory (viewing.Broadcast shape) = false
 view_takes_memory _ = true
 
 abbrev pub value_takes_memory : Value → Bool

@@ -14,8 +14,8 @@ abbrev pub HoldsBytes : List ℕ → Bool → List ℕ → Type 0
 HoldsBytes bytes true piece = limit + 1 < length piece
 HoldsBytes bytes false piece = bytes ≡ piece
 
-abbrev pub Holds : HeldLine → List ℕ → Type 0
-Holds line piece = HoldsBytes line.bytes.items line.is_long piece
+abbrev pub HoldsPiece : HeldLine → List ℕ → Type 0
+HoldsPiece line piece = HoldsBytes line.bytes.items line.is_long piece
 
 -- room for a line
 abbrev pub HasLineRoom : HeldLine → Type 0
@@ -30,14 +30,14 @@ pub record HasRoom (s : Session) : Type 0 where
 pub record AnswersHeld (old new : Session) (answered : Option Bool) : Type 0 where
   pub replies : List Reply
   pub tells : Tells replies answered new.out.items
-  pub answers : (piece : List ℕ) → Holds old.line piece → AnswersLine old.bench (trimmed piece) new.bench replies
+  pub answers : (piece : List ℕ) → HoldsPiece old.line piece → AnswersLine old.bench (trimmed piece) new.bench replies
   pub accepted : new.accepted ≡ old.accepted + accepted_count replies
   pub refused : new.refused ≡ old.refused + refused_count replies
 
 -- The line that is held is answered, and the reply has gone out.
 pub record Told {World : Type 0} (Answer : World → List ℕ → World → List Reply → Type 0) (from to : World) (written written' : Option (List ℕ)) (old new : Session) : Type 0 where
   pub replies : List Reply
-  pub answers : (piece : List ℕ) → Holds old.line piece → Answer from (trimmed piece) to replies
+  pub answers : (piece : List ℕ) → HoldsPiece old.line piece → Answer from (trimmed piece) to replies
   pub told : Appends written written' (output replies)
   pub accepted : new.accepted ≡ old.accepted + accepted_count replies
   pub refused : new.refused ≡ old.refused + refused_count replies
@@ -45,7 +45,7 @@ pub record Told {World : Type 0} (Answer : World → List ℕ → World → List
 -- The line that is held is answered, and only a part of the reply has gone out.
 pub record ToldInPart {World : Type 0} (Answer : World → List ℕ → World → List Reply → Type 0) (from to : World) (written written' : Option (List ℕ)) (old : Session) : Type 0 where
   pub reply : Reply
-  pub answers : (piece : List ℕ) → Holds old.line piece → Answer from (trimmed piece) to (reply ∷ [])
+  pub answers : (piece : List ℕ) → HoldsPiece old.line piece → Answer from (trimmed piece) to (reply ∷ [])
   pub gone : List ℕ
   pub missing : List ℕ
   pub cut : reply_line reply ≡ gone ++ missing
@@ -63,7 +63,7 @@ pub record HasTold {World : Type 0} (Answer : World → List ℕ → World → L
 -- These bytes have come: the lines that newlines end are answered, and the rest is held.
 pub record Fed {World : Type 0} (Answer : World → List ℕ → World → List Reply → Type 0) (from to : World) (written written' : Option (List ℕ)) (bytes : List ℕ) (s : Session) : Type 0 where
   pub told : HasTold Answer from to written written' (whole_lines bytes) s
-  pub held : Holds s.line (unended bytes)
+  pub held : HoldsPiece s.line (unended bytes)
 
 -- The same of the machine, from the empty state.
 abbrev pub FedMachine : Option (List ℕ) → Option (List ℕ) → List ℕ → Session → Type 0

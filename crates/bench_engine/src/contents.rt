@@ -14,10 +14,10 @@ ghost use Rattle.bench_engine.specs.Contents.{array_type, zeros_contents, full_c
 use crate::item::item_of;
 use elem_descr::{Descr, Refusal, Scalar, descr_read};
 use literal_items::{fill, range_len, write_items, write_range};
-use overlap_copy::{MemoryOrder, Owned};
+use overlap_copy::Owned;
 use raw_block::RawBlock;
 use script_lang::{DescrText, Lengths, Literal, Literals};
-use shape_strides::{MAX_BYTES, Shape};
+use shape_strides::{MAX_BYTES, MemoryOrder, Shape};
 use smallvec::SmallVec;
 use std::alloc::{AllocError, Global};
 
@@ -32,7 +32,8 @@ fn capped(alloc: Global, lengths: &[u128]) -> Result<SmallVec<usize, 8>, AllocEr
     Ok(axes)
 }
 
-fn shape_of(alloc: Global, lengths: &Lengths) -> Result<Shape, Refusal>
+/// The shape with the lengths that a script gives.
+pub fn shape_of(alloc: Global, lengths: &Lengths) -> Result<Shape, Refusal>
     ensures { Gives (λ s. s) result (shape_of lengths.now) }
 {
     let axes = capped(alloc, lengths.as_slice())?;

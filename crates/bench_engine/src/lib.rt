@@ -12,6 +12,7 @@ mod info;
 mod item;
 mod line;
 mod names;
+mod part;
 mod print;
 mod replies;
 pub mod runner;

@@ -2,7 +2,7 @@
 ghost use Rattle.std.specs.Prelude.{◌≡◌, ◌++◌, [], List, ℕ, IfOk, false, ◌&&◌, nat_eq, not, length, vec_capacity, ◌+◌, ◌≤◌};
 ghost use Rattle.bench_engine.specs.Lines.{trimmed};
 ghost use Rattle.bench_engine.specs.Meanings.{meaning_of, meaning_of_read};
-ghost use Rattle.bench_engine.specs.Sessions.{Holds, HasLineRoom};
+ghost use Rattle.bench_engine.specs.Sessions.{HoldsPiece, HasLineRoom};
 
 use std::alloc::{AllocError, Global};
 
@@ -41,7 +41,7 @@ impl HeldLine {
     pub fn hold(&mut self, more: &[u8])
         requires room { HasLineRoom self.old }
         ensures room { HasLineRoom self.new }
-        ensures held { (piece : List ℕ) → Holds self.old piece → Holds self.new (piece ++ more.now) }
+        ensures held { (piece : List ℕ) → HoldsPiece self.old piece → HoldsPiece self.new (piece ++ more.now) }
     {
         let left = (MAX_LINE_LEN + 1).saturating_sub(self.bytes.len());
         if more.len() > left {
@@ -60,7 +60,7 @@ impl HeldLine {
 
     /// The line without one carriage return at its end.
     pub fn line(&self) -> Line<'_>
-        ensures { (piece : List ℕ) → Holds self.now piece → meaning_of_read result ≡ meaning_of (trimmed piece) }
+        ensures { (piece : List ℕ) → HoldsPiece self.now piece → meaning_of_read result ≡ meaning_of (trimmed piece) }
     {
         if self.is_long {
             return Line::TooLong;

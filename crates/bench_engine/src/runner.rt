@@ -1,6 +1,6 @@
 //! A whole run: from what is read to what is written.
 ghost use Rattle.std.specs.Prelude.{◌≡◌, ◌≤◌, ◌<◌, ◌+◌, ◌^◌, List, ℕ, Option, length, IfOk, IfSome, IsErrOf};
-ghost use Rattle.bench_engine.specs.Held.{Finished, Answers, AnswersInPart, StoppedReading, StoppedWriting};
+ghost use Rattle.bench_engine.specs.Held.{Finished, AnswersAll, AnswersInPart, StoppedReading, StoppedWriting};
 ghost use Rattle.bench_engine.specs.Lines.{lines};
 ghost use Rattle.bench_engine.specs.Sessions.{HasRoom, Reading, Turned};
 ghost use Rattle.bench_engine.specs.declared.runner.RunFault.TheVariants.{Write, Memory};
@@ -118,7 +118,7 @@ pub fn run<S: Source, W: Write>(
 ) -> Result<Summary, RunFault>
     // The whole script is known before it is read.
     ensures script { IfOk result (λ summary. IfSome (S.remaining source.old) (λ script.
-        Answers script (W.contents writer.old) (W.contents writer.new) summary)) }
+        AnswersAll script (W.contents writer.old) (W.contents writer.new) summary)) }
     ensures part { IsErrOf result RunFault.Write → IfSome (S.remaining source.old) (λ script.
         AnswersInPart (lines script) (W.contents writer.old) (W.contents writer.new)) }
     ensures ok { IfOk result (Finished (S.remaining source.old) (S.remaining source.new) (W.contents writer.old) (W.contents writer.new)) }

@@ -4,7 +4,7 @@ ghost use Rattle.std.specs.List.{position};
 ghost use Rattle.bench_engine.specs.Held.{AnswersInPart};
 ghost use Rattle.bench_engine.specs.Lines.{ended, lines, whole_lines};
 ghost use Rattle.bench_engine.specs.Meanings.{AnswersLine};
-ghost use Rattle.bench_engine.specs.Sessions.{Holds, HasRoom, FedMachine, Told, ToldInPart, AnswersHeld, HasTold, IsNew};
+ghost use Rattle.bench_engine.specs.Sessions.{HoldsPiece, HasRoom, FedMachine, Told, ToldInPart, AnswersHeld, HasTold, IsNew};
 ghost use Rattle.name_store.specs.States.{start};
 
 use crate::engine::{MAX_REFUSAL_LEN, answer};
@@ -39,7 +39,7 @@ impl Session {
         requires room { HasRoom self.old }
         requires few { self.old.accepted + self.old.refused < 2 ^ 50 }
         ensures room { HasRoom self.new }
-        ensures next { Holds self.new.line [] }
+        ensures next { HoldsPiece self.new.line [] }
         ensures few { self.new.accepted + self.new.refused ≤ self.old.accepted + self.old.refused + 1 }
         ensures answered { AnswersHeld self.old self.new result }
     {
@@ -59,7 +59,7 @@ impl Session {
         requires room { HasRoom self.old }
         requires few { self.old.accepted + self.old.refused < 2 ^ 50 }
         ensures room { HasRoom self.new }
-        ensures next { Holds self.new.line [] }
+        ensures next { HoldsPiece self.new.line [] }
         ensures few { self.new.accepted + self.new.refused ≤ self.old.accepted + self.old.refused + 1 }
         ensures ok { OnOk result (Told AnswersLine self.old.bench self.new.bench (W.contents writer.old) (W.contents writer.new) self.old self.new) }
         ensures err { OnErr result (ToldInPart AnswersLine self.old.bench self.new.bench (W.contents writer.old) (W.contents writer.new) self.old) }

@@ -1,6 +1,6 @@
 //! How the program ends.
 ghost use Rattle.std.specs.Prelude.{◌≡◌};
-ghost use Rattle.bench_main.specs.Outcomes.{outcome_of};
+ghost use Rattle.bench_main.specs.inside.Outcomes.{outcome_of};
 
 use bench_engine::{RunFault, Summary};
 

@@ -1,66 +1,115 @@
 -- What stays so of a record as fields and padding are added to it.
-use Rattle.std.proofs.Common.{◌≡◌, ◌≤◌, ◌<◌, ◌+◌, ℕ, Bool, true, false, List, [], ◌∷◌, ◌++◌, length, refl, ap, IsTrue, arith, length-append, ◌||◌}
+use Rattle.std.proofs.Common.{◌≡◌, ◌≤◌, ◌<◌, ◌+◌, ℕ, Bool, true, false, List, [], ◌∷◌, ◌++◌, length, map, refl, ap, IsTrue, arith, length-append, ◌||◌}
 use Rattle.std.specs.List.{IsDistinct, list_all, AllByRecursion}
 use Rattle.std.specs.Str.{bytes_eq}
 use Rattle.std.proofs.lemmas.List.Folds.{list_all-append}
-use Rattle.elem_descr.specs.declared.leaf.Leaf.{Leaf}
-use Rattle.elem_descr.specs.Encoding.{size}
+use Rattle.elem_descr.specs.declared.descr.Field.{Field}
 use Rattle.elem_descr.specs.Names.{is_legal_name}
-use Rattle.elem_descr.specs.Descriptors.{IsLegal, InOrder, names_of}
+use Rattle.elem_descr.specs.Descriptors.{IsLegal, listed, fields_of}
+use Rattle.elem_descr.specs.Items.{item_size, leaves_of}
 use Rattle.elem_descr.specs.FormatTexts.{Partial, empty, is_taken}
-use Rattle.elem_descr.specs.Partials.{IsPartial}
+use Rattle.elem_descr.specs.inside.Partials.{IsPartial, IsShallow}
+use Rattle.elem_descr.proofs.FieldLaws.{fields_of-listed}
+use Rattle.elem_descr.proofs.FieldLists.{in_order_push, InOrder-ends, within_push, depth_push, leaf_count-push}
 
-pub empty_partial : IsPartial empty
+abbrev names : List Field → List (List ℕ)
+names fields = map (λ field. field.name) fields
+
+pub empty_partial : (levels leaves : ℕ) → levels < 4 → leaves ≤ 2048 → IsPartial (empty levels leaves)
 unfolding IsDistinct
-empty_partial = record { few = omega arith; small = omega arith; aligned = (omega arith, omega arith); in_order = omega arith; named = refl; distinct = tt }
+empty_partial levels leaves few small =
+    record {
+      few = omega arith;
+      small = omega arith;
+      aligned = (omega arith, omega arith);
+      in_order = omega arith;
+      named = refl;
+      distinct = tt;
+      within = tt;
+      deep = omega arith;
+      shallow = omega arith;
+      counted = omega arith;
+      few_leaves = small;
+    }
 
--- a later end
-InOrder-later : (from : ℕ) (leaves : List Leaf) (bytes more : ℕ) → InOrder from leaves bytes → bytes ≤ more → InOrder from leaves more
-InOrder-later from [] bytes more h l = omega arith
-InOrder-later from (leaf ∷ leaves) bytes more h l = (h.0, h.1, InOrder-later (leaf.at + size leaf.scalar) leaves bytes more h.2 l)
+names-push : (fields : List Field) (field : Field) → names (fields ++ field ∷ []) ≡ names fields ++ field.name ∷ []
+names-push [] field = refl
+names-push (first ∷ fields) field = ap (λ (names : List (List ℕ)). first.name ∷ names) (names-push fields field)
 
--- a further field
-InOrder-push : (from : ℕ) (leaves : List Leaf) (bytes : ℕ) (leaf : Leaf) → InOrder from leaves bytes → bytes ≤ leaf.at → 1 ≤ size leaf.scalar → InOrder from (leaves ++ leaf ∷ []) (leaf.at + size leaf.scalar)
-InOrder-push from [] bytes leaf h l some = (omega arith, some, omega arith)
-InOrder-push from (first ∷ leaves) bytes leaf h l some = (h.0, h.1, InOrder-push (first.at + size first.scalar) leaves bytes leaf h.2 l some)
+named_push : (fields : List Field) (field : Field) → IsTrue (list_all is_legal_name (names fields)) → IsTrue (is_legal_name field.name) → IsTrue (list_all is_legal_name (names (fields ++ field ∷ [])))
+named_push fields field all one = rw (names-push fields field, list_all-append is_legal_name (names fields) (field.name ∷ []), all, one) refl
 
-names_of-push : (leaves : List Leaf) (leaf : Leaf) → names_of (leaves ++ leaf ∷ []) ≡ names_of leaves ++ leaf.name ∷ []
-names_of-push [] leaf = refl
-names_of-push (first ∷ leaves) leaf = ap (λ (names : List (List ℕ)). first.name ∷ names) (names_of-push leaves leaf)
+apart_push : (name : List ℕ) (fields : List Field) (field : Field) → AllByRecursion (λ other. bytes_eq name other ≡ false) (names fields) → bytes_eq name field.name ≡ false → AllByRecursion (λ other. bytes_eq name other ≡ false) (names (fields ++ field ∷ []))
+apart_push name [] field all one = (one, tt)
+apart_push name (first ∷ fields) field all one = (all.0, apart_push name fields field all.1 one)
 
-named_push : (leaves : List Leaf) (leaf : Leaf) → IsTrue (list_all is_legal_name (names_of leaves)) → IsTrue (is_legal_name leaf.name) → IsTrue (list_all is_legal_name (names_of (leaves ++ leaf ∷ [])))
-named_push leaves leaf all one = rw (names_of-push leaves leaf, list_all-append is_legal_name (names_of leaves) (leaf.name ∷ []), all, one) refl
-
-apart_push : (name : List ℕ) (leaves : List Leaf) (leaf : Leaf) → AllByRecursion (λ other. bytes_eq name other ≡ false) (names_of leaves) → bytes_eq name leaf.name ≡ false → AllByRecursion (λ other. bytes_eq name other ≡ false) (names_of (leaves ++ leaf ∷ []))
-apart_push name [] leaf all one = (one, tt)
-apart_push name (first ∷ leaves) leaf all one = (all.0, apart_push name leaves leaf all.1 one)
-
-distinct_push : (leaves : List Leaf) (leaf : Leaf) → IsDistinct bytes_eq (names_of leaves) → is_taken leaves leaf.name ≡ false → IsDistinct bytes_eq (names_of (leaves ++ leaf ∷ []))
+distinct_push : (fields : List Field) (field : Field) → IsDistinct bytes_eq (names fields) → is_taken fields field.name ≡ false → IsDistinct bytes_eq (names (fields ++ field ∷ []))
 unfolding IsDistinct
-distinct_push [] leaf h free = (tt, tt)
-distinct_push (first ∷ leaves) leaf h free =
-    let both = or_false (bytes_eq first.name leaf.name) (is_taken leaves leaf.name) free in
-    (apart_push first.name leaves leaf h.0 both.0, distinct_push leaves leaf h.1 both.1)
+distinct_push [] field h free = (tt, tt)
+distinct_push (first ∷ fields) field h free =
+    let both = or_false (bytes_eq first.name field.name) (is_taken fields field.name) free in
+    (apart_push first.name fields field h.0 both.0, distinct_push fields field h.1 both.1)
   where
     or_false : (a b : Bool) → (a || b) ≡ false → (a ≡ false) × (b ≡ false)
     or_false true b e = let no : ⊥ = cc in absurd no
     or_false false b e = (refl, e)
 
-pub widened_partial : (p : Partial) (n : ℕ) → IsPartial p → p.size + n ≤ 65536 → IsPartial (record { size = p.size + n; alignment = p.alignment; leaves = p.leaves })
+-- so many bytes of padding more
+pub widened_partial : (p : Partial) (n : ℕ) → IsPartial p → p.size + n ≤ 65536 → IsPartial (record { size = p.size + n; alignment = p.alignment; leaves = p.leaves; levels = p.levels; fields = p.fields })
 widened_partial p n h small =
-    record { few = h.few; small = small; aligned = h.aligned; in_order = InOrder-later 0 p.leaves p.size (p.size + n) h.in_order (omega arith); named = h.named; distinct = h.distinct }
-
-pub partial_push : (p : Partial) (leaf : Leaf) (aligned : ℕ) → IsPartial p → IsTrue (is_legal_name leaf.name) → is_taken p.leaves leaf.name ≡ false → length p.leaves < 64 → p.size ≤ leaf.at → 1 ≤ size leaf.scalar → leaf.at + size leaf.scalar ≤ 65536 → (1 ≤ aligned) × (aligned ≤ 8) → IsPartial (record { size = leaf.at + size leaf.scalar; alignment = aligned; leaves = p.leaves ++ leaf ∷ [] })
-partial_push p leaf aligned h legal free few later some small a =
     record {
-      few = omega (arith, length-append p.leaves (leaf ∷ []));
+      few = h.few;
       small = small;
-      aligned = a;
-      in_order = InOrder-push 0 p.leaves p.size leaf h.in_order later some;
-      named = named_push p.leaves leaf h.named legal;
-      distinct = distinct_push p.leaves leaf h.distinct free;
+      aligned = h.aligned;
+      in_order = InOrder-ends 0 p.fields p.size (p.size + n) h.in_order (omega arith);
+      named = h.named;
+      distinct = h.distinct;
+      within = h.within;
+      deep = h.deep;
+      shallow = h.shallow;
+      counted = h.counted;
+      few_leaves = h.few_leaves;
     }
 
-pub closed_legal : (p : Partial) (bytes : ℕ) → IsPartial p → 1 ≤ length p.leaves → p.size ≤ bytes → bytes ≤ 65536 → IsLegal (record { size = bytes; leaves = p.leaves })
+-- a field that may be added
+pub record MayFollow (p : Partial) (field : Field) : Type 0 where
+  pub legal : IsTrue (is_legal_name field.name)
+  pub free : is_taken p.fields field.name ≡ false
+  pub room : length p.fields < 64
+  pub shallow : IsShallow p.levels field.descr
+  pub later : p.size ≤ field.at
+  pub some : 1 ≤ item_size field.descr
+  pub within : field.at + item_size field.descr ≤ 65536
+  pub few_leaves : p.leaves + length (leaves_of field.descr) ≤ 2048
+
+pub partial_push : (p : Partial) (field : Field) (aligned : ℕ) → IsPartial p → MayFollow p field → (1 ≤ aligned) × (aligned ≤ 8) → IsPartial (record { size = field.at + item_size field.descr; alignment = aligned; leaves = p.leaves + length (leaves_of field.descr); levels = p.levels; fields = p.fields ++ field ∷ [] })
+partial_push p field aligned h may a =
+    record {
+      few = omega (arith, may.room, length-append p.fields (field ∷ []));
+      small = may.within;
+      aligned = a;
+      in_order = in_order_push p.levels p.fields p.size field h.in_order may.shallow may.later may.some;
+      named = named_push p.fields field h.named may.legal;
+      distinct = distinct_push p.fields field h.distinct may.free;
+      within = within_push p.levels p.fields field h.within may.shallow;
+      deep = h.deep;
+      shallow = depth_push p.levels p.fields field h.shallow may.shallow;
+      counted = omega (arith, h.counted, leaf_count-push p.fields field);
+      few_leaves = may.few_leaves;
+    }
+
+named_all : (fields back : List Field) → back ≡ fields → 1 ≤ length fields → length fields ≤ 64 → IsTrue (list_all is_legal_name (names fields)) → IsDistinct bytes_eq (names fields) → (1 ≤ length back) × (length back ≤ 64) × IsTrue (list_all is_legal_name (names back)) × IsDistinct bytes_eq (names back)
+named_all fields back e some few named distinct = rw e (some, few, named, distinct)
+
+-- a record that is read
+pub closed_legal : (p : Partial) (bytes : ℕ) → IsPartial p → 1 ≤ length p.fields → p.size ≤ bytes → bytes ≤ 65536 → IsLegal (record { size = bytes; fields = listed p.fields })
 closed_legal p bytes h some within small =
-    record { some = some; few = h.few; small = small; in_order = InOrder-later 0 p.leaves p.size bytes h.in_order within; named = h.named; distinct = h.distinct }
+    let all = named_all p.fields (fields_of (listed p.fields)) (fields_of-listed p.fields) some h.few h.named h.distinct in
+    record {
+      small = small;
+      shallow = omega (arith, h.shallow, h.deep);
+      few = omega (arith, h.counted, h.few_leaves);
+      in_order = InOrder-ends 0 p.fields p.size bytes h.in_order within;
+      named = record { some = all.0; few = all.1; named = all.2; distinct = all.3 };
+      within = h.within;
+    }

@@ -1,9 +1,9 @@
 -- What is written as a format text reads as the same descriptor.
-use Rattle.std.proofs.Common.{◌≡◌, ◌≤◌, ◌<◌, ◌+◌, ◌-◌, ℕ, zero, suc, true, false, List, [], ◌∷◌, ◌++◌, length, Option, Some, None, Result, Ok, refl, ap, ◌∙◌, codes, arith, append_assoc, length-append, add-zero, nat_eq, if◌then◌else◌, drop}
+use Rattle.std.proofs.Common.{◌≡◌, ◌≤◌, ◌<◌, ◌+◌, ◌-◌, ℕ, zero, suc, true, false, List, [], ◌∷◌, ◌++◌, length, map, None, Result, Ok, refl, ap, subst, sym, ◌∙◌, arith, append_assoc, length-append, add-zero}
 use Rattle.std.specs.Char.{is_ascii_digit}
 use Rattle.std.specs.Fmt.{decimal}
 use Rattle.std.specs.Int.{next_multiple_of}
-use Rattle.std.specs.List.{IsDistinct, list_all, AllByRecursion, starts_with}
+use Rattle.std.specs.List.{IsDistinct, list_all, AllByRecursion}
 use Rattle.std.specs.Str.{bytes_eq}
 use Rattle.std.proofs.lemmas.Bool.{le-leb, lt-ltb}
 use Rattle.std.proofs.lemmas.Bool.Decides.{nat_tests}
@@ -14,29 +14,34 @@ use Rattle.elem_descr.specs.declared.scalar.Order.TheVariants.{Little, Big}
 use Rattle.elem_descr.specs.declared.scalar.Width.TheVariants.{Two, Four, Eight}
 use Rattle.elem_descr.specs.declared.scalar.Scalar.{Scalar}
 use Rattle.elem_descr.specs.declared.scalar.Scalar.TheVariants.{Bool as BoolScalar, Byte, Int, Bytes}
-use Rattle.elem_descr.specs.declared.leaf.Leaf.{Leaf}
+use Rattle.elem_descr.specs.declared.descr.Field.{Field}
 use Rattle.elem_descr.specs.declared.descr.Descr.{Descr}
 use Rattle.elem_descr.specs.declared.descr.Descr.TheVariants.{Scalar as ScalarDescr, Record as RecordDescr}
+use Rattle.elem_descr.specs.declared.format_text.draft.Body.{Body}
 use Rattle.elem_descr.specs.declared.format_text.mark.Mark.{Mark}
 use Rattle.elem_descr.specs.declared.format_text.mark.Mark.TheVariants.{Aligned, Native, Little as LittleMark, Big as BigMark}
+use Rattle.elem_descr.specs.Refusals.{◌>>=◌}
 use Rattle.elem_descr.specs.Encoding.{size}
+use Rattle.elem_descr.specs.Fields.{Fields, no_more, scalar_field, record_field, Structure}
 use Rattle.elem_descr.specs.Names.{is_legal_name}
-use Rattle.elem_descr.specs.Descriptors.{Structure, IsLegal, InOrder, names_of}
-use Rattle.elem_descr.specs.FormatTexts.{Partial, alignment, is_taken, is_named, marked, closing, with_field, added, widened, taken_in, field_at, closed_size, closed, turn, members, ended, alone, scalar_at, record_at, format}
-use Rattle.elem_descr.specs.WrittenFormats.{written_mark, written_count, written_letter, written_scalar, written_pad, written_field, written_fields, written}
+use Rattle.elem_descr.specs.Descriptors.{IsLegal, AreNamedWithin, InOrder, fields_of, listed, names_of, depth, leaf_count}
+use Rattle.elem_descr.specs.Items.{item_size, leaves_of, leaves_from}
+use Rattle.elem_descr.specs.FormatTexts.{Partial, member_at, Reader, own_alignment, aligned, is_taken, is_named, marked, closing, checked_name, added, widened, scalar_in, pad_in, body_in, field_at, closed_size, closed, turn, members, record_within, ended, scalar_alone, record_alone, alone, format}
+use Rattle.elem_descr.specs.WrittenFormats.{written_mark, written_count, written_letter, written_scalar, written_pad, written_name, braced, written_fields, written}
 use Rattle.elem_descr.proofs.Binds.{after_ok}
 use Rattle.elem_descr.proofs.Decimals.{digits-decimal}
-use Rattle.elem_descr.proofs.FieldLaws.{InOrder-within}
+use Rattle.elem_descr.proofs.FieldLaws.{listed-fields_of, length-leaves_from}
+use Rattle.elem_descr.proofs.FieldLists.{InOrder-within}
 use Rattle.elem_descr.proofs.WrittenMembers.{both, mark_of, marked_digits, after_letter, reads_scalar, reads_pad, reads_name}
 
 -- a record as far as it is read, where nothing aligns
-abbrev packed : ℕ → List Leaf → Partial
-packed bytes leaves = record { size = bytes; alignment = 1; leaves = leaves }
+abbrev packed : ℕ → ℕ → ℕ → List Field → Partial
+packed levels leaves bytes done = record { size = bytes; alignment = 1; leaves = leaves; levels = levels; fields = done }
 
 multiple_of_one : (n : ℕ) → next_multiple_of n 1 ≡ n
 multiple_of_one n = omega arith
 
-unaligned : (scalar : Scalar) → alignment (mark_of scalar) scalar ≡ 1
+unaligned : (scalar : Scalar) → aligned (mark_of scalar) (own_alignment scalar) ≡ 1
 unfolding mark_of
 unaligned BoolScalar = refl
 unaligned (Byte signed) = refl
@@ -44,63 +49,83 @@ unaligned (Int signed width Little) = refl
 unaligned (Int signed width Big) = refl
 unaligned (Bytes n) = refl
 
--- a field after the bytes so far
-abbrev leaf_at : ℕ → Scalar → List ℕ → Leaf
-leaf_at at scalar name = record { name = name; scalar = scalar; at = at }
+packed_body : (mark : Mark) → aligned mark 1 ≡ 1
+packed_body Aligned = refl
+packed_body Native = refl
+packed_body LittleMark = refl
+packed_body BigMark = refl
 
-packed_field : (scalar : Scalar) (from : ℕ) (done : List Leaf) (name : List ℕ) → with_field (mark_of scalar) (packed from done) name scalar ≡ packed (from + size scalar) (done ++ leaf_at from scalar name ∷ [])
-packed_field scalar from done name = rw (unaligned scalar, multiple_of_one from) refl
+abbrev field_of : List ℕ → ℕ → Descr → Field
+field_of name at descr = record { name = name; at = at; descr = descr }
 
-added_ok : (mark : Mark) (p : Partial) (name : List ℕ) (scalar : Scalar) → is_taken p.leaves name ≡ false → length p.leaves < 64 → (with_field mark p name scalar).size ≤ 65536 → added mark p name (Some scalar) ≡ Ok (with_field mark p name scalar)
+-- the record with a field after the bytes so far
+abbrev grown : ℕ → ℕ → ℕ → List Field → List ℕ → Descr → Partial
+grown levels leaves from done name descr = packed levels (leaves + length (leaves_of descr)) (from + item_size descr) (done ++ field_of name from descr ∷ [])
+
+name_ok : (p : Partial) (name : List ℕ) → is_taken p.fields name ≡ false → length p.fields < 64 → checked_name p name ≡ Ok tt
+unfolding checked_name
+name_ok p name new few = rw (new, lt-ltb (length p.fields) 64 few) refl
+
+added_ok : (levels leaves from : ℕ) (done : List Field) (name : List ℕ) (alignment : ℕ) (descr : Descr) → alignment ≡ 1 → leaves + length (leaves_of descr) ≤ 2048 → from + item_size descr ≤ 65536 → added (packed levels leaves from done) name alignment descr ≡ Ok (grown levels leaves from done name descr)
 unfolding added
-added_ok mark p name scalar free few small =
-    rw (free, lt-ltb (length p.leaves) 64 few, le-leb (with_field mark p name scalar).size 65536 small) refl
+added_ok levels leaves from done name alignment descr one few small =
+    rw (one, le-leb (leaves + length (leaves_of descr)) 2048 few, multiple_of_one from, le-leb (from + item_size descr) 65536 small) refl
 
--- what follows the mark of a field
-abbrev unmarked : Leaf → List ℕ → List ℕ
-unmarked leaf rest = written_count leaf.scalar ++ (written_letter leaf.scalar ++ (58 ∷ (leaf.name ++ 58 ∷ rest)))
+-- what may follow the fields so far
+record MayGrow (leaves from : ℕ) (done : List Field) (name : List ℕ) (descr : Descr) : Type 0 where
+  some : 1 ≤ item_size descr
+  small : from + item_size descr ≤ 65536
+  legal : is_legal_name name ≡ true
+  new : is_taken done name ≡ false
+  few : length done < 64
+  counted : leaves + length (leaves_of descr) ≤ 2048
 
-field_text : (leaf : Leaf) (rest : List ℕ) → written_field leaf ++ rest ≡ written_mark leaf.scalar ++ unmarked leaf rest
-field_text leaf rest = simp append_assoc
+-- one scalar is one turn
+reads_field : (within : Reader) (levels leaves from : ℕ) (done : List Field) (name : List ℕ) (scalar : Scalar) (rest : List ℕ) → MayGrow leaves from done name (ScalarDescr scalar) → field_at within (mark_of scalar) (packed levels leaves from done) (written_count scalar ++ (written_letter scalar ++ (58 ∷ (name ++ 58 ∷ rest)))) ≡ Ok (grown levels leaves from done name (ScalarDescr scalar), mark_of scalar, rest)
+unfolding field_at scalar_in
+reads_field within levels leaves from done name scalar rest may =
+    let member = reads_scalar scalar (58 ∷ (name ++ 58 ∷ rest)) may.some (omega (arith, may.small)) in
+    let called = reads_name (length done) name rest may.legal in
+    let allowed = name_ok (packed levels leaves from done) name may.new may.few in
+    let added = added_ok levels leaves from done name (aligned (mark_of scalar) (own_alignment scalar)) (ScalarDescr scalar) (unaligned scalar) may.counted may.small in
+    after_ok _ _ _ member ∙ after_ok _ _ _ called ∙ after_ok _ _ _ allowed ∙ after_ok _ _ _ added
 
--- one field is one turn
-reads_field : (leaf : Leaf) (rest : List ℕ) (done : List Leaf) → 1 ≤ size leaf.scalar → leaf.at + size leaf.scalar ≤ 65536 → is_legal_name leaf.name ≡ true → is_taken done leaf.name ≡ false → length done < 64 → field_at (mark_of leaf.scalar) (packed leaf.at done) (unmarked leaf rest) ≡ Ok (packed (leaf.at + size leaf.scalar) (done ++ leaf ∷ []), rest)
-unfolding field_at taken_in
-reads_field leaf rest done some small legal free few =
-    let member = reads_scalar leaf.scalar (58 ∷ (leaf.name ++ 58 ∷ rest)) some (omega arith) in
-    let name = reads_name (length done) leaf.name rest legal in
-    let field = packed_field leaf.scalar leaf.at done leaf.name in
-    let bytes : (with_field (mark_of leaf.scalar) (packed leaf.at done) leaf.name leaf.scalar).size ≤ 65536 = omega (arith, ap (λ (q : Partial). q.size) field) in
-    let added = added_ok (mark_of leaf.scalar) (packed leaf.at done) leaf.name leaf.scalar free few bytes in
-    after_ok _ _ _ member ∙ after_ok _ _ _ name ∙ after_ok _ _ _ added ∙ ap (λ (q : Partial). Ok (q, rest)) field
+-- so is a record
+reads_body : (within : Reader) (mark later : Mark) (levels leaves from : ℕ) (done : List Field) (name : List ℕ) (structure : Structure) (text rest : List ℕ) → MayGrow leaves from done name (RecordDescr structure) → within mark leaves text ≡ Ok (record { whole = structure; alignment = 1; mark = later }, 58 ∷ (name ++ 58 ∷ rest)) → field_at within mark (packed levels leaves from done) (84 ∷ (123 ∷ text)) ≡ Ok (grown levels leaves from done name (RecordDescr structure), later, rest)
+unfolding field_at body_in
+reads_body within mark later levels leaves from done name structure text rest may body =
+    let called = reads_name (length done) name rest may.legal in
+    let allowed = name_ok (packed levels leaves from done) name may.new may.few in
+    let added = added_ok levels leaves from done name (aligned mark 1) (RecordDescr structure) (packed_body mark) may.counted may.small in
+    after_ok _ _ _ body ∙ after_ok _ _ _ called ∙ after_ok _ _ _ allowed ∙ after_ok _ _ _ added
 
--- a gap is one turn
-reads_gap : (mark : Mark) (n from : ℕ) (done : List Leaf) (rest : List ℕ) → from + n ≤ 65536 → is_named rest ≡ false → field_at mark (packed from done) (decimal n ++ 120 ∷ rest) ≡ Ok (packed (from + n) done, rest)
-unfolding field_at taken_in widened
-reads_gap mark n from done rest small free =
-    after_ok _ _ _ (reads_pad mark n rest (omega arith)) ∙ rw (le-leb (from + n) 65536 small, free) refl
+-- and a gap
+reads_gap : (within : Reader) (mark : Mark) (n levels leaves from : ℕ) (done : List Field) (rest : List ℕ) → from + n ≤ 65536 → is_named rest ≡ false → field_at within mark (packed levels leaves from done) (decimal n ++ 120 ∷ rest) ≡ Ok (packed levels leaves (from + n) done, mark, rest)
+unfolding field_at pad_in widened
+reads_gap within mark n levels leaves from done rest small unnamed =
+    after_ok _ _ _ (reads_pad mark n rest (omega arith)) ∙ rw (le-leb (from + n) 65536 small, unnamed) refl
 
 -- what the members of a text read as, in turns enough for its bytes
-abbrev Reads : Mark → Partial → List ℕ → Structure × List ℕ → Type 0
-Reads mark p text r = (turns : ℕ) → length text ≤ turns → members turns mark p text ≡ Ok r
+abbrev Reads : Reader → Mark → Partial → List ℕ → Body × List ℕ → Type 0
+Reads within mark p text r = (turns : ℕ) → length text ≤ turns → members within turns mark p text ≡ Ok r
 
 -- a member and those after it
-reads_more : (mark later : Mark) (p next : Partial) (text unread rest : List ℕ) (r : Structure × List ℕ) → marked mark text ≡ (later, unread) → closing unread ≡ None → field_at later p unread ≡ Ok (next, rest) → length rest < length text → Reads later next rest r → Reads mark p text r
-reads_more mark later p next text unread rest r marks no_brace field shorter more zero l = absurd (omega arith)
-reads_more mark later p next text unread rest r marks no_brace field shorter more (suc turns) l =
-    ap (λ (m : Mark × List ℕ). turn m.0 p (closing m.1) m.1 (λ q. members turns m.0 q.0 q.1)) marks
-    ∙ ap (λ (found : Option (List ℕ)). turn later p found unread (λ q. members turns later q.0 q.1)) no_brace
+reads_more : (within : Reader) (mark now later : Mark) (p next : Partial) (text unread rest : List ℕ) (r : Body × List ℕ) → marked mark text ≡ (now, unread) → closing unread ≡ None → field_at within now p unread ≡ Ok (next, later, rest) → length rest < length text → Reads within later next rest r → Reads within mark p text r
+reads_more within mark now later p next text unread rest r marks no_brace field shorter more zero l = absurd (omega arith)
+reads_more within mark now later p next text unread rest r marks no_brace field shorter more (suc turns) l =
+    ap (λ (m : Mark × List ℕ). turn within m.0 p (closing m.1) m.1 (λ q. members within turns q.1 q.0 q.2)) marks
+    ∙ ap (λ found. turn within now p found unread (λ q. members within turns q.1 q.0 q.2)) no_brace
     ∙ after_ok _ _ _ field ∙ more turns (omega arith)
 
 -- the closing brace
-reads_end : (mark : Mark) (bytes : ℕ) (done : List Leaf) (rest : List ℕ) → 1 ≤ length done → bytes ≤ 65536 → Reads mark (packed bytes done) (125 ∷ rest) (record { size = bytes; leaves = done }, rest)
+reads_end : (within : Reader) (mark : Mark) (levels leaves bytes : ℕ) (done : List Field) (rest : List ℕ) → 1 ≤ length done → bytes ≤ 65536 → Reads within mark (packed levels leaves bytes done) (125 ∷ rest) (record { whole = record { size = bytes; fields = listed done }; alignment = 1; mark = mark }, rest)
 unfolding closed
-reads_end mark bytes done rest some small zero l = absurd (omega arith)
-reads_end mark bytes done rest some small (suc turns) l =
+reads_end within mark levels leaves bytes done rest some small zero l = absurd (omega arith)
+reads_end within mark levels leaves bytes done rest some small (suc turns) l =
     let whole = closed_packed mark bytes done in
     rw (le-leb 1 (length done) some, whole, le-leb bytes 65536 small) refl
   where
-    closed_packed : (mark : Mark) (bytes : ℕ) (done : List Leaf) → closed_size mark (packed bytes done) ≡ bytes
+    closed_packed : (mark : Mark) (bytes : ℕ) (done : List Field) → closed_size mark (packed levels leaves bytes done) ≡ bytes
     closed_packed Aligned bytes done = multiple_of_one bytes
     closed_packed Native bytes done = refl
     closed_packed LittleMark bytes done = refl
@@ -126,98 +151,228 @@ no_brace_scalar (Int false Eight order) rest some small = refl
 no_brace_scalar (Bytes n) rest some small = no_brace_digits (decimal n) (115 ∷ rest) (digits-decimal n small) (decimal_nonempty n (omega arith))
 
 -- padding, where there is some
-reads_padding : (gap from : ℕ) (mark : Mark) (done : List Leaf) (rest : List ℕ) (r : Structure × List ℕ) → from + gap ≤ 65536 → is_named rest ≡ false → Reads mark (packed (from + gap) done) rest r → Reads mark (packed from done) (written_pad gap ++ rest) r
-reads_padding zero from mark done rest r small free more = rw (add-zero from) at more
-reads_padding (suc n) from mark done rest r small free more =
+reads_padding : (within : Reader) (gap levels leaves from : ℕ) (mark : Mark) (done : List Field) (rest : List ℕ) (r : Body × List ℕ) → from + gap ≤ 65536 → is_named rest ≡ false → Reads within mark (packed levels leaves (from + gap) done) rest r → Reads within mark (packed levels leaves from done) (written_pad gap ++ rest) r
+reads_padding within zero levels leaves from mark done rest r small unnamed more = rw (add-zero from) at more
+reads_padding within (suc n) levels leaves from mark done rest r small unnamed more =
     let digits = digits-decimal (suc n) (omega arith) in
     let some = decimal_nonempty (suc n) (omega arith) in
     let text : written_pad (suc n) ++ rest ≡ decimal (suc n) ++ 120 ∷ rest = append_assoc (decimal (suc n)) (120 ∷ []) rest in
     rw text
-    (reads_more mark mark (packed from done) (packed (from + suc n) done) (decimal (suc n) ++ 120 ∷ rest) (decimal (suc n) ++ 120 ∷ rest) rest r (marked_digits mark (decimal (suc n)) (120 ∷ rest) digits some)
-    (no_brace_digits (decimal (suc n)) (120 ∷ rest) digits some) (reads_gap mark (suc n) from done rest small free) (omega (arith, length-append (decimal (suc n)) (120 ∷ rest))) more)
+    (reads_more within mark mark mark (packed levels leaves from done) (packed levels leaves (from + suc n) done) (decimal (suc n) ++ 120 ∷ rest) (decimal (suc n) ++ 120 ∷ rest) rest r (marked_digits mark (decimal (suc n)) (120 ∷ rest) digits some)
+    (no_brace_digits (decimal (suc n)) (120 ∷ rest) digits some) (reads_gap within mark (suc n) levels leaves from done rest small unnamed) (omega (arith, length-append (decimal (suc n)) (120 ∷ rest))) more)
 
 shorter : (a b c name rest : List ℕ) → length rest < length (a ++ (b ++ (c ++ (58 ∷ (name ++ 58 ∷ rest)))))
 shorter a b c name rest = simp length-append (omega arith)
 
--- a field and what follows it
-reads_one : (mark : Mark) (leaf : Leaf) (done : List Leaf) (rest : List ℕ) (r : Structure × List ℕ) → 1 ≤ size leaf.scalar → leaf.at + size leaf.scalar ≤ 65536 → is_legal_name leaf.name ≡ true → is_taken done leaf.name ≡ false → length done < 64 → Reads (mark_of leaf.scalar) (packed (leaf.at + size leaf.scalar) (done ++ leaf ∷ [])) rest r → Reads mark (packed leaf.at done) (written_field leaf ++ rest) r
-reads_one mark leaf done rest r some small legal free few more =
-    let s = leaf.scalar in
-    let tail = 58 ∷ (leaf.name ++ 58 ∷ rest) in
-    rw (field_text leaf rest)
-    (reads_more mark (mark_of s) (packed leaf.at done) (packed (leaf.at + size s) (done ++ leaf ∷ [])) (written_mark s ++ unmarked leaf rest) (unmarked leaf rest) rest r (after_letter mark s tail some (omega arith))
-    (no_brace_scalar s tail some (omega arith)) (reads_field leaf rest done some small legal free few) (shorter (written_mark s) (written_count s) (written_letter s) leaf.name rest) more)
+-- a scalar and what follows it
+reads_one : (within : Reader) (mark : Mark) (levels leaves from : ℕ) (done : List Field) (name : List ℕ) (scalar : Scalar) (rest : List ℕ) (r : Body × List ℕ) → MayGrow leaves from done name (ScalarDescr scalar) → Reads within (mark_of scalar) (grown levels leaves from done name (ScalarDescr scalar)) rest r → Reads within mark (packed levels leaves from done) (written_scalar scalar ++ (written_name name ++ rest)) r
+reads_one within mark levels leaves from done name scalar rest r may more =
+    let tail = 58 ∷ (name ++ 58 ∷ rest) in
+    let text : written_scalar scalar ++ (written_name name ++ rest) ≡ written_mark scalar ++ (written_count scalar ++ (written_letter scalar ++ tail)) = simp append_assoc in
+    rw text
+    (reads_more within mark (mark_of scalar) (mark_of scalar) (packed levels leaves from done) (grown levels leaves from done name (ScalarDescr scalar)) (written_mark scalar ++ (written_count scalar ++ (written_letter scalar ++ tail))) (written_count scalar ++ (written_letter scalar ++ tail)) rest r (after_letter mark scalar tail may.some (omega (arith, may.small)))
+    (no_brace_scalar scalar tail may.some (omega (arith, may.small))) (reads_field within levels leaves from done name scalar rest may) (shorter (written_mark scalar) (written_count scalar) (written_letter scalar) name rest) more)
+
+name_text : (name rest : List ℕ) → written_name name ++ rest ≡ 58 ∷ (name ++ 58 ∷ rest)
+name_text name rest = ap (λ (t : List ℕ). 58 ∷ t) (append_assoc name (58 ∷ []) rest)
+
+-- a record and what follows it
+reads_within : (within : Reader) (mark later : Mark) (levels leaves from : ℕ) (done : List Field) (name : List ℕ) (structure : Structure) (text rest : List ℕ) (r : Body × List ℕ) → MayGrow leaves from done name (RecordDescr structure) → within mark leaves (text ++ 125 ∷ (58 ∷ (name ++ 58 ∷ rest))) ≡ Ok (record { whole = structure; alignment = 1; mark = later }, 58 ∷ (name ++ 58 ∷ rest)) → Reads within later (grown levels leaves from done name (RecordDescr structure)) rest r → Reads within mark (packed levels leaves from done) (braced text ++ (written_name name ++ rest)) r
+reads_within within mark later levels leaves from done name structure text rest r may body more =
+    let inner = text ++ 125 ∷ (58 ∷ (name ++ 58 ∷ rest)) in
+    let joined : braced text ++ (written_name name ++ rest) ≡ 84 ∷ (123 ∷ inner) = ap (λ (t : List ℕ). 84 ∷ (123 ∷ t)) (append_assoc text (125 ∷ []) (written_name name ++ rest) ∙ ap (λ (t : List ℕ). text ++ 125 ∷ t) (name_text name rest)) in
+    let Goal : List ℕ → Type 0 = λ t. Reads within mark (packed levels leaves from done) t r in
+    subst Goal (sym joined)
+    (reads_more within mark mark later (packed levels leaves from done) (grown levels leaves from done name (RecordDescr structure)) (84 ∷ (123 ∷ inner)) (84 ∷ (123 ∷ inner)) rest r refl refl (reads_body within mark later levels leaves from done name structure inner rest may body) (longer text name rest) more)
+  where
+    longer : (text name rest : List ℕ) → length rest < length (84 ∷ (123 ∷ (text ++ 125 ∷ (58 ∷ (name ++ 58 ∷ rest)))))
+    longer text name rest = simp length-append (omega arith)
 
 -- the name of a field that follows is not taken
-not_taken : (done leaves : List Leaf) (leaf : Leaf) → IsDistinct bytes_eq (names_of (done ++ leaf ∷ leaves)) → is_taken done leaf.name ≡ false
-unfolding IsDistinct
-not_taken [] leaves leaf h = refl
-not_taken (first ∷ done) leaves leaf h = rw (apart first.name done leaves leaf h.0) (not_taken done leaves leaf h.1)
-  where
-    apart : (name : List ℕ) (done leaves : List Leaf) (leaf : Leaf) → AllByRecursion (λ other. bytes_eq name other ≡ false) (names_of (done ++ leaf ∷ leaves)) → bytes_eq name leaf.name ≡ false
-    apart name [] leaves leaf h = h.0
-    apart name (first ∷ done) leaves leaf h = apart name done leaves leaf h.1
+abbrev names : List Field → List (List ℕ)
+names fields = map (λ field. field.name) fields
 
-unnamed : (leaf : Leaf) (rest : List ℕ) → is_named (written_field leaf ++ rest) ≡ false
-unnamed leaf rest = ap is_named (field_text leaf rest) ∙ marks_first leaf.scalar (unmarked leaf rest)
+not_taken : (done later : List Field) (field : Field) → IsDistinct bytes_eq (names (done ++ field ∷ later)) → is_taken done field.name ≡ false
+unfolding IsDistinct
+not_taken [] later field h = refl
+not_taken (first ∷ done) later field h = rw (apart first.name done later field h.0) (not_taken done later field h.1)
   where
-    marks_first : (scalar : Scalar) (rest : List ℕ) → is_named (written_mark scalar ++ rest) ≡ false
-    marks_first BoolScalar rest = refl
-    marks_first (Byte signed) rest = refl
-    marks_first (Int signed width Little) rest = refl
-    marks_first (Int signed width Big) rest = refl
-    marks_first (Bytes n) rest = refl
+    apart : (name : List ℕ) (done later : List Field) (field : Field) → AllByRecursion (λ other. bytes_eq name other ≡ false) (names (done ++ field ∷ later)) → bytes_eq name field.name ≡ false
+    apart name [] later field h = h.0
+    apart name (first ∷ done) later field h = apart name done later field h.1
+
+unnamed_scalar : (scalar : Scalar) (rest : List ℕ) → is_named (written_scalar scalar ++ rest) ≡ false
+unnamed_scalar BoolScalar rest = refl
+unnamed_scalar (Byte signed) rest = refl
+unnamed_scalar (Int signed width Little) rest = refl
+unnamed_scalar (Int signed width Big) rest = refl
+unnamed_scalar (Bytes n) rest = refl
+
+-- the mark in force behind fields
+abbrev mark_behind : Mark → Fields → Mark
+mark_behind mark no_more = mark
+mark_behind mark (scalar_field name at scalar rest) = mark_behind (mark_of scalar) rest
+mark_behind mark (record_field name at size inner rest) = mark_behind (mark_behind mark inner) rest
+
+-- the fields that are left, after those that are done
+record MayRead (levels leaves from bytes : ℕ) (done : List Field) (fields : Fields) : Type 0 where
+  order : InOrder from fields bytes
+  small : bytes ≤ 65536
+  some : 1 ≤ length done + length (fields_of fields)
+  few : length done + length (fields_of fields) ≤ 64
+  legal : list_all is_legal_name (names_of fields) ≡ true
+  distinct : IsDistinct bytes_eq (names (done ++ fields_of fields))
+  within : AreNamedWithin fields
+  shallow : depth fields ≤ 1 + levels
+  counted : leaves + leaf_count fields ≤ 2048
+
+four : (a b c d e : List ℕ) → (a ++ (b ++ (c ++ d))) ++ e ≡ a ++ (b ++ (c ++ (d ++ e)))
+four a b c d e = simp append_assoc
+
+-- a field that comes next may follow
+next_grows : (levels leaves from bytes at : ℕ) (done : List Field) (name : List ℕ) (descr : Descr) (rest : List Field) → 1 ≤ item_size descr → at + item_size descr ≤ 65536 → is_legal_name name ≡ true → length done + (1 + length rest) ≤ 64 → IsDistinct bytes_eq (names (done ++ field_of name at descr ∷ rest)) → leaves + length (leaves_of descr) ≤ 2048 → MayGrow leaves at done name descr
+next_grows levels leaves from bytes at done name descr rest some small legal few distinct counted =
+    record { some = some; small = small; legal = legal; new = not_taken done rest (field_of name at descr) distinct; few = omega arith; counted = counted }
+
+behind_scalar : (levels leaves from bytes at : ℕ) (done : List Field) (name : List ℕ) (scalar : Scalar) (rest : Fields) → MayRead levels leaves from bytes done (scalar_field name at scalar rest) → MayRead levels (leaves + 1) (at + size scalar) bytes (done ++ field_of name at (ScalarDescr scalar) ∷ []) rest
+behind_scalar levels leaves from bytes at done name scalar rest may =
+    let field = field_of name at (ScalarDescr scalar) in
+    let many = length-append done (field ∷ []) in
+    let join = append_assoc done (field ∷ []) (fields_of rest) in
+    record {
+      order = may.order.2;
+      small = may.small;
+      some = omega (arith, many);
+      few = omega (arith, many, may.few);
+      legal = (both (is_legal_name name) (list_all is_legal_name (names_of rest)) may.legal).1;
+      distinct = rw join may.distinct;
+      within = may.within;
+      shallow = may.shallow;
+      counted = omega (arith, may.counted);
+    }
+
+behind_record : (levels leaves from bytes at : ℕ) (done : List Field) (name : List ℕ) (size : ℕ) (inner rest : Fields) → MayRead levels leaves from bytes done (record_field name at size inner rest) → MayRead levels (leaves + length (leaves_from 0 inner)) (at + size) bytes (done ++ field_of name at (RecordDescr (record { size = size; fields = inner })) ∷ []) rest
+behind_record levels leaves from bytes at done name size inner rest may =
+    let field = field_of name at (RecordDescr (record { size = size; fields = inner })) in
+    let many = length-append done (field ∷ []) in
+    let join = append_assoc done (field ∷ []) (fields_of rest) in
+    record {
+      order = may.order.3;
+      small = may.small;
+      some = omega (arith, many);
+      few = omega (arith, many, may.few);
+      legal = (both (is_legal_name name) (list_all is_legal_name (names_of rest)) may.legal).1;
+      distinct = rw join may.distinct;
+      within = may.within.2;
+      shallow = omega (arith, may.shallow);
+      counted = omega (arith, may.counted, length-leaves_from 0 inner);
+    }
+
+-- a record within
+inside_record : (levels leaves from bytes at : ℕ) (done : List Field) (name : List ℕ) (size : ℕ) (inner rest : Fields) → MayRead (suc levels) leaves from bytes done (record_field name at size inner rest) → MayRead levels leaves 0 size [] inner
+inside_record levels leaves from bytes at done name size inner rest may =
+    let ends = InOrder-within (at + size) rest bytes may.order.3 in
+    record {
+      order = may.order.2;
+      small = omega (arith, may.small, ends);
+      some = omega (arith, may.within.0.some);
+      few = omega (arith, may.within.0.few);
+      legal = may.within.0.named;
+      distinct = may.within.0.distinct;
+      within = may.within.1;
+      shallow = omega (arith, may.shallow);
+      counted = omega (arith, may.counted);
+    }
+
+some_depth : (fields : Fields) → 1 ≤ depth fields
+some_depth no_more = omega arith
+some_depth (scalar_field name at scalar rest) = some_depth rest
+some_depth (record_field name at size inner rest) = omega (arith, some_depth rest)
+
+-- a record that is read from its first member on
+reads_inner : (levels : ℕ) (mark later : Mark) (leaves : ℕ) (text rest : List ℕ) (structure : Structure) → Reads (record_within levels) mark (packed levels leaves 0 []) text (record { whole = structure; alignment = 1; mark = later }, rest) → record_within (suc levels) mark leaves text ≡ Ok (record { whole = structure; alignment = 1; mark = later }, rest)
+unfolding record_within
+reads_inner levels mark later leaves text rest structure reads = reads (length text) (omega arith)
+
+abbrev body_of : ℕ → List Field → Mark → Body
+body_of bytes fields mark = record { whole = record { size = bytes; fields = listed fields }; alignment = 1; mark = mark }
 
 -- the fields that are left, one after the other
-reads_fields : (leaves : List Leaf) (mark : Mark) (from bytes : ℕ) (done : List Leaf) (rest : List ℕ) → InOrder from leaves bytes → bytes ≤ 65536 → length done + length leaves ≤ 64 → 1 ≤ length done + length leaves → list_all is_legal_name (names_of leaves) ≡ true → IsDistinct bytes_eq (names_of (done ++ leaves)) → Reads mark (packed from done) (written_fields from leaves bytes ++ 125 ∷ rest) (record { size = bytes; leaves = done ++ leaves }, rest)
-reads_fields [] mark from bytes done rest order small few some legal distinct =
-    let whole : from + (bytes - from) ≡ bytes = omega arith in
+reads_fields : (fields : Fields) (levels : ℕ) (mark : Mark) (leaves from bytes : ℕ) (done : List Field) (rest : List ℕ) → MayRead levels leaves from bytes done fields → Reads (record_within levels) mark (packed levels leaves from done) (written_fields from fields bytes ++ 125 ∷ rest) (body_of bytes (done ++ fields_of fields) (mark_behind mark fields), rest)
+reads_fields no_more levels mark leaves from bytes done rest may =
+    let whole : from + (bytes - from) ≡ bytes = omega (arith, may.order) in
     let none = append-nil done in
-    let end = reads_end mark bytes done rest (omega arith) small in
-    rw none (reads_padding (bytes - from) from mark done (125 ∷ rest) (record { size = bytes; leaves = done }, rest) (omega arith) refl (rw whole end))
-reads_fields (leaf ∷ leaves) mark from bytes done rest order small few some legal distinct =
-    let ends = InOrder-within (leaf.at + size leaf.scalar) leaves bytes order.2 in
-    let gap : from + (leaf.at - from) ≡ leaf.at = omega (arith, order.0) in
-    let names = both (is_legal_name leaf.name) (list_all is_legal_name (names_of leaves)) legal in
-    let tail = written_fields (leaf.at + size leaf.scalar) leaves bytes ++ 125 ∷ rest in
-    let join = append_assoc done (leaf ∷ []) leaves in
-    let later = reads_fields leaves (mark_of leaf.scalar) (leaf.at + size leaf.scalar) bytes (done ++ leaf ∷ []) rest order.2 small (omega (arith, length-append done (leaf ∷ []))) (omega (arith, length-append done (leaf ∷ []))) names.1 (rw join distinct) in
-    let one = reads_one mark leaf done tail (record { size = bytes; leaves = done ++ leaf ∷ leaves }, rest) order.1 (omega arith) names.0 (not_taken done leaves leaf distinct) (omega arith) (rw join at later) in
-    let text : written_fields from (leaf ∷ leaves) bytes ++ 125 ∷ rest ≡ written_pad (leaf.at - from) ++ (written_field leaf ++ tail) = simp append_assoc in
-    rw text (reads_padding (leaf.at - from) from mark done (written_field leaf ++ tail) (record { size = bytes; leaves = done ++ leaf ∷ leaves }, rest) (omega arith) (unnamed leaf tail) (rw gap one))
+    let end = reads_end (record_within levels) mark levels leaves bytes done rest (omega (arith, may.some)) may.small in
+    rw none (reads_padding (record_within levels) (bytes - from) levels leaves from mark done (125 ∷ rest) (body_of bytes done mark, rest) (omega (arith, may.small)) refl (rw whole end))
+reads_fields (scalar_field name at scalar more) levels mark leaves from bytes done rest may =
+    let descr = ScalarDescr scalar in
+    let ends = InOrder-within (at + size scalar) more bytes may.order.2 in
+    let gap : from + (at - from) ≡ at = omega (arith, may.order.0) in
+    let legal = both (is_legal_name name) (list_all is_legal_name (names_of more)) may.legal in
+    let grows = next_grows levels leaves from bytes at done name descr (fields_of more) may.order.1 (omega (arith, may.small)) legal.0 (omega (arith, may.few)) may.distinct (omega (arith, may.counted)) in
+    let tail = written_fields (at + size scalar) more bytes ++ 125 ∷ rest in
+    let result : Body × List ℕ = (body_of bytes (done ++ field_of name at descr ∷ fields_of more) (mark_behind (mark_of scalar) more), rest) in
+    let join = append_assoc done (field_of name at descr ∷ []) (fields_of more) in
+    let later = reads_fields more levels (mark_of scalar) (leaves + 1) (at + size scalar) bytes (done ++ field_of name at descr ∷ []) rest (behind_scalar levels leaves from bytes at done name scalar more may) in
+    let one = reads_one (record_within levels) mark levels leaves at done name scalar tail result grows (rw join at later) in
+    let text : written_fields from (scalar_field name at scalar more) bytes ++ 125 ∷ rest ≡ written_pad (at - from) ++ (written_scalar scalar ++ (written_name name ++ tail)) = four (written_pad (at - from)) (written_scalar scalar) (written_name name) (written_fields (at + size scalar) more bytes) (125 ∷ rest) in
+    let Goal : List ℕ → Type 0 = λ t. Reads (record_within levels) mark (packed levels leaves from done) t result in
+    subst Goal (sym text) (reads_padding (record_within levels) (at - from) levels leaves from mark done (written_scalar scalar ++ (written_name name ++ tail)) result (omega (arith, may.small)) (unnamed_scalar scalar (written_name name ++ tail)) (rw gap one))
+reads_fields (record_field name at size inner more) zero mark leaves from bytes done rest may = absurd (omega (arith, may.shallow, some_depth inner))
+reads_fields (record_field name at size inner more) (suc levels) mark leaves from bytes done rest may =
+    let structure : Structure = record { size = size; fields = inner } in
+    let descr = RecordDescr structure in
+    let ends = InOrder-within (at + size) more bytes may.order.3 in
+    let gap : from + (at - from) ≡ at = omega (arith, may.order.0) in
+    let legal = both (is_legal_name name) (list_all is_legal_name (names_of more)) may.legal in
+    let grows = next_grows (suc levels) leaves from bytes at done name descr (fields_of more) may.order.1 (omega (arith, may.small)) legal.0 (omega (arith, may.few)) may.distinct (omega (arith, may.counted, length-leaves_from 0 inner)) in
+    let tail = written_fields (at + size) more bytes ++ 125 ∷ rest in
+    let behind = mark_behind mark inner in
+    let result : Body × List ℕ = (body_of bytes (done ++ field_of name at descr ∷ fields_of more) (mark_behind behind more), rest) in
+    let join = append_assoc done (field_of name at descr ∷ []) (fields_of more) in
+    let later = reads_fields more (suc levels) behind (leaves + length (leaves_from 0 inner)) (at + size) bytes (done ++ field_of name at descr ∷ []) rest (behind_record (suc levels) leaves from bytes at done name size inner more may) in
+    let members = reads_fields inner levels mark leaves 0 size [] (58 ∷ (name ++ 58 ∷ tail)) (inside_record levels leaves from bytes at done name size inner more may) in
+    let same = listed-fields_of inner in
+    let body = reads_inner levels mark behind leaves (written_fields 0 inner size ++ 125 ∷ (58 ∷ (name ++ 58 ∷ tail))) (58 ∷ (name ++ 58 ∷ tail)) structure (rw same at members) in
+    let one = reads_within (record_within (suc levels)) mark behind (suc levels) leaves at done name structure (written_fields 0 inner size) tail result grows body (rw join at later) in
+    let text : written_fields from (record_field name at size inner more) bytes ++ 125 ∷ rest ≡ written_pad (at - from) ++ (braced (written_fields 0 inner size) ++ (written_name name ++ tail)) = four (written_pad (at - from)) (braced (written_fields 0 inner size)) (written_name name) (written_fields (at + size) more bytes) (125 ∷ rest) in
+    let Goal : List ℕ → Type 0 = λ t. Reads (record_within (suc levels)) mark (packed (suc levels) leaves from done) t result in
+    subst Goal (sym text) (reads_padding (record_within (suc levels)) (at - from) (suc levels) leaves from mark done (braced (written_fields 0 inner size) ++ (written_name name ++ tail)) result (omega (arith, may.small)) refl (rw gap one))
 
-pub reads_record : (s : Structure) → IsLegal s → format (written (RecordDescr s)) ≡ Ok (RecordDescr s)
-unfolding record_at ended
+-- a record alone
+reads_record : (s : Structure) → IsLegal s → format (written (RecordDescr s)) ≡ Ok (RecordDescr s)
+unfolding record_alone ended
 reads_record s h =
-    let text = written_fields 0 s.leaves s.size ++ 125 ∷ [] in
-    after_ok _ _ _ (reads_fields s.leaves Aligned 0 s.size [] [] h.in_order h.small (omega (arith, h.few)) (omega (arith, h.some)) h.named h.distinct (length text) (omega arith))
-
-no_record_digits : (digits rest : List ℕ) → list_all is_ascii_digit digits ≡ true → 0 < length digits → starts_with nat_eq (digits ++ rest) (codes "T{") ≡ false
-no_record_digits [] rest all some = absurd (omega arith)
-no_record_digits (d ∷ digits) rest all some = no_record_digit d (digits ++ rest) (both (is_ascii_digit d) (list_all is_ascii_digit digits) all).0
-  where
-    no_record_digit : (d : ℕ) (rest : List ℕ) → is_ascii_digit d ≡ true → starts_with nat_eq (d ∷ rest) (codes "T{") ≡ false
-    no_record_digit d rest e = grind (arith, nat_tests)
-
-no_record : (scalar : Scalar) (rest : List ℕ) → 1 ≤ size scalar → size scalar ≤ 65536 → starts_with nat_eq (written_count scalar ++ (written_letter scalar ++ rest)) (codes "T{") ≡ false
-no_record BoolScalar rest some small = refl
-no_record (Byte true) rest some small = refl
-no_record (Byte false) rest some small = refl
-no_record (Int true Two order) rest some small = refl
-no_record (Int true Four order) rest some small = refl
-no_record (Int true Eight order) rest some small = refl
-no_record (Int false Two order) rest some small = refl
-no_record (Int false Four order) rest some small = refl
-no_record (Int false Eight order) rest some small = refl
-no_record (Bytes n) rest some small = no_record_digits (decimal n) (115 ∷ rest) (digits-decimal n small) (decimal_nonempty n (omega arith))
+    let text = written_fields 0 s.fields s.size ++ 125 ∷ [] in
+    let may : MayRead 3 0 0 s.size [] s.fields =
+    record {
+      order = h.in_order;
+      small = h.small;
+      some = omega (arith, h.named.some);
+      few = omega (arith, h.named.few);
+      legal = h.named.named;
+      distinct = h.named.distinct;
+      within = h.within;
+      shallow = omega (arith, h.shallow);
+      counted = omega (arith, h.few);
+    } in
+    let same = listed-fields_of s.fields in
+    let body = reads_inner 3 Aligned (mark_behind Aligned s.fields) 0 text [] s (rw same at (reads_fields s.fields 3 Aligned 0 0 s.size [] [] may)) in
+    after_ok _ _ _ body
 
 -- the descriptor after its marks
 abbrev unmarked_format : Mark × List ℕ → Result Descr Refusal
-unmarked_format m = if starts_with nat_eq m.1 (codes "T{") then record_at m.0 (drop 2 m.1) else scalar_at m.0 m.1
+unmarked_format m = member_at m.0 m.1 >>= λ member. alone m.0 member.0 member.1
 
-pub reads_scalar_alone : (scalar : Scalar) → 1 ≤ size scalar → size scalar ≤ 65536 → format (written (ScalarDescr scalar)) ≡ Ok (ScalarDescr scalar)
-unfolding scalar_at alone ended
+reads_scalar_alone : (scalar : Scalar) → 1 ≤ size scalar → size scalar ≤ 65536 → format (written (ScalarDescr scalar)) ≡ Ok (ScalarDescr scalar)
+unfolding scalar_alone ended
 reads_scalar_alone scalar some small =
     let text : written_scalar scalar ≡ written_mark scalar ++ (written_count scalar ++ (written_letter scalar ++ [])) = simp (append_assoc, append-nil) in
-    ap format text ∙ ap unmarked_format (after_letter Aligned scalar [] some small)
-    ∙ rw (no_record scalar [] some small) (after_ok _ _ _ (reads_scalar scalar [] some small))
+    ap format text ∙ ap unmarked_format (after_letter Aligned scalar [] some small) ∙ after_ok _ _ _ (reads_scalar scalar [] some small)
+
+-- a descriptor
+pub reads_scalar_back : (descr : Descr) (scalar : Scalar) → descr ≡ ScalarDescr scalar → 1 ≤ size scalar → size scalar ≤ 65536 → format (written descr) ≡ Ok descr
+reads_scalar_back descr scalar is some small = rw is (reads_scalar_alone scalar some small)
+
+pub reads_record_back : (descr : Descr) (structure : Structure) → descr ≡ RecordDescr structure → IsLegal structure → format (written descr) ≡ Ok descr
+reads_record_back descr structure is legal = rw is (reads_record structure legal)

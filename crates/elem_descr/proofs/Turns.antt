@@ -1,22 +1,37 @@
 -- The members of a record, one turn after the other.
-use Rattle.std.proofs.Common.{◌≡◌, ◌<◌, ◌+◌, ◌-◌, ℕ, suc, List, Option, Some, None, Ok, sym, ap, ◌∙◌, arith}
+use Rattle.std.proofs.Common.{◌≡◌, ◌<◌, ◌+◌, ◌-◌, ℕ, suc, List, length, Option, Some, None, Ok, Err, refl, sym, ap, ◌∙◌, arith}
 use Rattle.elem_descr.specs.declared.format_text.mark.Mark.{Mark}
+use Rattle.elem_descr.specs.declared.refusal.Refusal.TheVariants.{DescriptorLeftOut}
 use Rattle.elem_descr.specs.Refusals.{◌>>=◌}
-use Rattle.elem_descr.specs.FormatTexts.{Partial, marked, closing, closed, field_at, turn, members}
+use Rattle.elem_descr.specs.FormatTexts.{Partial, Reader, empty, marked, closing, closed, field_at, turn, members, record_within}
+
+-- no record may lie here
+pub no_levels : (levels : ℕ) (mark : Mark) (leaves : ℕ) (text : List ℕ) → levels ≡ 0 → record_within levels mark leaves text ≡ Err DescriptorLeftOut
+unfolding record_within
+no_levels levels mark leaves text none = rw none refl
+
+-- a record before its first turn
+pub members_begin : (levels : ℕ) (mark : Mark) (leaves : ℕ) (text : List ℕ) → 0 < levels → record_within levels mark leaves text ≡ members (record_within (levels - 1)) (length text - 0) mark (empty (levels - 1) leaves) text
+unfolding record_within
+members_begin levels mark leaves text some =
+    let one : levels ≡ suc (levels - 1) = omega arith in
+    let all : length text ≡ length text - 0 = omega arith in
+    ap (λ (n : ℕ). record_within n mark leaves text) one ∙ ap (λ (turns : ℕ). members (record_within (levels - 1)) turns mark (empty (levels - 1) leaves) text) all
 
 -- one turn of those that are left, once its marks are read
-members_turn : (n i : ℕ) (mark later : Mark) (p : Partial) (text unread : List ℕ) → i < n → (later, unread) ≡ marked mark text → members (n - i) mark p text ≡ turn later p (closing unread) unread (λ next. members (n - (i + 1)) later next.0 next.1)
-members_turn n i mark later p text unread l e =
+members_turn : (within : Reader) (n i : ℕ) (mark later : Mark) (p : Partial) (text unread : List ℕ) → i < n → (later, unread) ≡ marked mark text → members within (n - i) mark p text ≡ turn within later p (closing unread) unread (λ next. members within (n - (i + 1)) next.1 next.0 next.2)
+members_turn within n i mark later p text unread l e =
     let one : n - i ≡ suc (n - (i + 1)) = omega arith in
-    ap (λ (turns : ℕ). members turns mark p text) one
-    ∙ ap (λ (m : Mark × List ℕ). turn m.0 p (closing m.1) m.1 (λ next. members (n - (i + 1)) m.0 next.0 next.1)) (sym e)
+    ap (λ (turns : ℕ). members within turns mark p text) one
+    ∙ ap (λ (m : Mark × List ℕ). turn within m.0 p (closing m.1) m.1 (λ next. members within (n - (i + 1)) next.1 next.0 next.2)) (sym e)
 
-pub members_closed : (n i : ℕ) (mark later : Mark) (p : Partial) (text unread rest : List ℕ) → i < n → (later, unread) ≡ marked mark text → Some rest ≡ closing unread → members (n - i) mark p text ≡ (closed later p >>= λ structure. Ok (structure, rest))
-members_closed n i mark later p text unread rest l e brace =
-    members_turn n i mark later p text unread l e
-    ∙ ap (λ (found : Option (List ℕ)). turn later p found unread (λ next. members (n - (i + 1)) later next.0 next.1)) (sym brace)
+pub members_closed : (within : Reader) (n i : ℕ) (mark later : Mark) (p : Partial) (text unread rest : List ℕ) → i < n → (later, unread) ≡ marked mark text → Some rest ≡ closing unread → members within (n - i) mark p text ≡ (closed later p >>= λ body. Ok (body, rest))
+members_closed within n i mark later p text unread rest l e brace =
+    members_turn within n i mark later p text unread l e
+    ∙ ap (λ (found : Option (List ℕ)). turn within later p found unread (λ next. members within (n - (i + 1)) next.1 next.0 next.2)) (sym brace)
 
-pub members_field : (n i : ℕ) (mark later : Mark) (p : Partial) (text unread : List ℕ) → i < n → (later, unread) ≡ marked mark text → None ≡ closing unread → members (n - i) mark p text ≡ (field_at later p unread >>= λ next. members (n - (i + 1)) later next.0 next.1)
-members_field n i mark later p text unread l e no_brace =
-    members_turn n i mark later p text unread l e
-    ∙ ap (λ (found : Option (List ℕ)). turn later p found unread (λ next. members (n - (i + 1)) later next.0 next.1)) (sym no_brace)
+pub members_field : (levels n i : ℕ) (mark later : Mark) (p : Partial) (text unread : List ℕ) → p.levels ≡ levels → i < n → (later, unread) ≡ marked mark text → None ≡ closing unread → members (record_within levels) (n - i) mark p text ≡ (field_at (record_within p.levels) later p unread >>= λ next. members (record_within levels) (n - (i + 1)) next.1 next.0 next.2)
+members_field levels n i mark later p text unread same l e no_brace =
+    members_turn (record_within levels) n i mark later p text unread l e
+    ∙ ap (λ (found : Option (List ℕ)). turn (record_within levels) later p found unread (λ next. members (record_within levels) (n - (i + 1)) next.1 next.0 next.2)) (sym no_brace)
+    ∙ ap (λ (k : ℕ). field_at (record_within k) later p unread >>= λ next. members (record_within levels) (n - (i + 1)) next.1 next.0 next.2) (sym same)

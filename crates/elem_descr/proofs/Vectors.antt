@@ -1,20 +1,27 @@
--- An item of NumPy's, decoded and encoded.
-use Rattle.std.proofs.Common.{◌≡◌, true, List, [], ◌∷◌, codes, refl}
+-- An item of NumPy's, decoded and encoded, and format texts, read.
+use Rattle.std.proofs.Common.{◌≡◌, ℕ, true, List, [], ◌∷◌, Ok, Err, codes, refl, lit<}
+use Rattle.std.specs.Fmt.{decimal}
+use Rattle.std.proofs.lemmas.Fmt.{decimal_digit}
 use Rattle.std.specs.Prelude.{pos, negsuc}
+use Rattle.elem_descr.specs.declared.refusal.Refusal.TheVariants.{BadDescriptor, DescriptorLeftOut}
 use Rattle.elem_descr.specs.declared.scalar.Order.TheVariants.{Little, Big}
 use Rattle.elem_descr.specs.declared.scalar.Width.TheVariants.{Two, Four}
-use Rattle.elem_descr.specs.declared.scalar.Scalar.TheVariants.{Bool as BoolScalar, Int, Bytes}
+use Rattle.elem_descr.specs.declared.scalar.Scalar.{Scalar}
+use Rattle.elem_descr.specs.declared.scalar.Scalar.TheVariants.{Bool as BoolScalar, Byte, Int, Bytes}
 use Rattle.elem_descr.specs.declared.descr.Descr.{Descr}
 use Rattle.elem_descr.specs.declared.descr.Descr.TheVariants.{Record as RecordDescr}
 use Rattle.elem_descr.specs.Values.{LeafValue, number, text}
+use Rattle.elem_descr.specs.Fields.{Fields, no_more, scalar_field, record_field}
 use Rattle.elem_descr.specs.Items.{decode_item, encode_item}
+use Rattle.elem_descr.specs.FormatTexts.{format, record_within, record_alone, field_at, scalar_in, pad_in, body_in, checked_name, added, widened, closed, ended}
+use Rattle.elem_descr.specs.WrittenFormats.{written}
+
+abbrev whole : ℕ → Fields → Descr
+whole size fields = RecordDescr (record { size = size; fields = fields })
 
 -- numpy.dtype({'names': ['x', 'y', 't', 'b'], 'formats': ['<i4', '>i2', 'S5', '?'], 'offsets': [0, 6, 8, 13], 'itemsize': 15})
 abbrev descr : Descr
-descr = RecordDescr (record {
-  size = 15;
-  leaves = record { name = codes "x"; scalar = Int true Four Little; at = 0 } ∷ (record { name = codes "y"; scalar = Int true Two Big; at = 6 } ∷ (record { name = codes "t"; scalar = Bytes 5; at = 8 } ∷ (record { name = codes "b"; scalar = BoolScalar; at = 13 } ∷ [])));
-})
+descr = whole 15 (scalar_field (codes "x") 0 (Int true Four Little) (scalar_field (codes "y") 6 (Int true Two Big) (scalar_field (codes "t") 8 (Bytes 5) (scalar_field (codes "b") 13 BoolScalar no_more))))
 
 -- (-2, 300, b'ab\x00c', True)
 abbrev values : List LeafValue
@@ -26,3 +33,54 @@ encoded = refl
 -- padding is ignored, and a bool is true where its byte is not 0
 pub decoded : decode_item descr (254 ∷ (255 ∷ (255 ∷ (255 ∷ (9 ∷ (9 ∷ (1 ∷ (44 ∷ (97 ∷ (98 ∷ (0 ∷ (99 ∷ (0 ∷ (7 ∷ (9 ∷ []))))))))))))))) ≡ values
 decoded = refl
+
+one : decimal 1 ≡ 49 ∷ []
+one = decimal_digit 1 (lit< tt)
+
+three : decimal 3 ≡ 51 ∷ []
+three = decimal_digit 3 (lit< tt)
+
+abbrev byte : Scalar
+byte = Byte true
+
+abbrev int : Scalar
+int = Int true Four Little
+
+-- a record within is aligned as the greatest of its members
+pub aligned_within : format (codes "T{b:x:T{i:y:}:s:}") ≡ Ok (whole 8 (scalar_field (codes "x") 0 byte (record_field (codes "s") 4 4 (scalar_field (codes "y") 0 int no_more) no_more)))
+unfolding record_within record_alone field_at scalar_in pad_in body_in checked_name added widened closed ended
+aligned_within = refl
+
+pub written_within : written (whole 8 (scalar_field (codes "x") 0 byte (record_field (codes "s") 4 4 (scalar_field (codes "y") 0 int no_more) no_more))) ≡ codes "T{<b:x:3xT{<i:y:}:s:}"
+written_within = rw three refl
+
+-- not where `@` comes into force behind its `T`: 5 bytes
+pub marked_within : format (codes "T{<T{@i:y:}:s:b:x:}") ≡ Ok (whole 5 (record_field (codes "s") 0 4 (scalar_field (codes "y") 0 int no_more) (scalar_field (codes "x") 4 byte no_more)))
+unfolding record_within record_alone field_at scalar_in pad_in body_in checked_name added widened closed ended
+marked_within = refl
+
+-- a record without a name of its own
+pub unnamed_within : format (codes "T{b:x:T{b:y:}}") ≡ Ok (whole 2 (scalar_field (codes "x") 0 byte (record_field (codes "f1") 1 1 (scalar_field (codes "y") 0 byte no_more) no_more)))
+unfolding record_within record_alone field_at scalar_in pad_in body_in checked_name added widened closed ended
+unnamed_within = rw one refl
+
+-- four levels, and a fifth
+pub four_levels : format (codes "T{T{T{T{b:x:}:t:}:s:}:r:}") ≡ Ok (whole 1 (record_field (codes "r") 0 1 (record_field (codes "s") 0 1 (record_field (codes "t") 0 1 (scalar_field (codes "x") 0 byte no_more) no_more) no_more) no_more))
+unfolding record_within record_alone field_at scalar_in pad_in body_in checked_name added widened closed ended
+four_levels = refl
+
+pub fifth_level : format (codes "T{T{T{T{T{5") ≡ Err DescriptorLeftOut
+unfolding record_within record_alone field_at scalar_in pad_in body_in checked_name added widened closed ended
+fifth_level = refl
+
+pub counted_record : format (codes "T{2T{i:x:}:y:}") ≡ Err DescriptorLeftOut
+unfolding record_within record_alone field_at scalar_in pad_in body_in checked_name added widened closed ended
+counted_record = refl
+
+pub name_taken : format (codes "T{T{i:x:}:x:T{i:x:}:x:}") ≡ Err BadDescriptor
+unfolding record_within record_alone field_at scalar_in pad_in body_in checked_name added widened closed ended
+name_taken = refl
+
+pub empty_within : format (codes "T{T{}:x:}") ≡ Err DescriptorLeftOut
+unfolding record_within record_alone field_at scalar_in pad_in body_in checked_name added widened closed ended
+empty_within = refl

@@ -1,29 +1,68 @@
--- Descriptors: a scalar, or a record of fields in order of offset.
-use Rattle.std.specs.Prelude.{◌≤◌, ◌+◌, ℕ, IsTrue, List, [], ◌∷◌, length, map}
+-- Descriptors: a scalar, or a record of fields in order of offset, which are scalars and records.
+use Rattle.std.specs.Prelude.{◌≤◌, ◌+◌, ℕ, IsTrue, List, [], ◌∷◌, length, map, max}
 use Rattle.std.specs.List.{IsDistinct, list_all}
 use Rattle.std.specs.Str.{bytes_eq}
-use Rattle.elem_descr.specs.declared.leaf.Leaf.{Leaf}
+use Rattle.elem_descr.specs.declared.descr.Field.{Field}
+use Rattle.elem_descr.specs.declared.descr.Descr.{Descr}
+use Rattle.elem_descr.specs.declared.descr.Descr.TheVariants.{Scalar as ScalarDescr, Record as RecordDescr}
 use Rattle.elem_descr.specs.Encoding.{size}
+use Rattle.elem_descr.specs.Fields.{Fields, no_more, scalar_field, record_field, Structure}
 use Rattle.elem_descr.specs.Names.{is_legal_name}
 
--- a record: the bytes of an item, and the fields
-pub record Structure : Type 0 where
-  pub size : ℕ
-  pub leaves : List Leaf
+-- the fields one by one
+abbrev pub fields_of : Fields → List Field
+fields_of no_more = []
+fields_of (scalar_field name at scalar rest) = record { name = name; at = at; descr = ScalarDescr scalar } ∷ fields_of rest
+fields_of (record_field name at size inner rest) = record { name = name; at = at; descr = RecordDescr (record { size = size; fields = inner }) } ∷ fields_of rest
 
--- from this byte on each field begins where the one before it ends, or later, and has a byte or more; the last ends within the bytes
-abbrev pub InOrder : ℕ → List Leaf → ℕ → Type 0
-InOrder from [] bytes = from ≤ bytes
-InOrder from (leaf ∷ leaves) bytes =
-    (from ≤ leaf.at) × (1 ≤ size leaf.scalar) × InOrder (leaf.at + size leaf.scalar) leaves bytes
+-- and back
+abbrev pub before : List ℕ → ℕ → Descr → Fields → Fields
+before name at (ScalarDescr scalar) rest = scalar_field name at scalar rest
+before name at (RecordDescr structure) rest = record_field name at structure.size structure.fields rest
 
-abbrev pub names_of : List Leaf → List (List ℕ)
-names_of leaves = map (λ leaf. leaf.name) leaves
+abbrev pub listed : List Field → Fields
+listed [] = no_more
+listed (field ∷ fields) = before field.name field.at field.descr (listed fields)
+
+-- how many records lie one within another, the outermost among them
+abbrev pub depth : Fields → ℕ
+depth no_more = 1
+depth (scalar_field name at scalar rest) = depth rest
+depth (record_field name at size inner rest) = max (1 + depth inner) (depth rest)
+
+-- the number of scalars, those of records within among them
+abbrev pub leaf_count : Fields → ℕ
+leaf_count no_more = 0
+leaf_count (scalar_field name at scalar rest) = 1 + leaf_count rest
+leaf_count (record_field name at size inner rest) = leaf_count inner + leaf_count rest
+
+-- From this byte on each field begins where the one before it ends, or later, and has a byte or
+-- more; the last ends within the bytes. So it is in each record within.
+abbrev pub InOrder : ℕ → Fields → ℕ → Type 0
+InOrder from no_more bytes = from ≤ bytes
+InOrder from (scalar_field name at scalar rest) bytes = (from ≤ at) × (1 ≤ size scalar) × InOrder (at + size scalar) rest bytes
+InOrder from (record_field name at size inner rest) bytes = (from ≤ at) × (1 ≤ size) × InOrder 0 inner size × InOrder (at + size) rest bytes
+
+abbrev pub names_of : Fields → List (List ℕ)
+names_of fields = map (λ field. field.name) (fields_of fields)
+
+-- 1 to 64 fields, with names of their own
+pub record AreNamed (fields : Fields) : Type 0 where
+  pub some : 1 ≤ length (fields_of fields)
+  pub few : length (fields_of fields) ≤ 64
+  pub named : IsTrue (list_all is_legal_name (names_of fields))
+  pub distinct : IsDistinct bytes_eq (names_of fields)
+
+-- so it is in each record within
+abbrev pub AreNamedWithin : Fields → Type 0
+AreNamedWithin no_more = Unit {0}
+AreNamedWithin (scalar_field name at scalar rest) = AreNamedWithin rest
+AreNamedWithin (record_field name at size inner rest) = AreNamed inner × AreNamedWithin inner × AreNamedWithin rest
 
 pub record IsLegal (s : Structure) : Type 0 where
-  pub some : 1 ≤ length s.leaves
-  pub few : length s.leaves ≤ 64
   pub small : s.size ≤ 65536
-  pub in_order : InOrder 0 s.leaves s.size
-  pub named : IsTrue (list_all is_legal_name (names_of s.leaves))
-  pub distinct : IsDistinct bytes_eq (names_of s.leaves)
+  pub shallow : depth s.fields ≤ 4
+  pub few : leaf_count s.fields ≤ 2048
+  pub in_order : InOrder 0 s.fields s.size
+  pub named : AreNamed s.fields
+  pub within : AreNamedWithin s.fields

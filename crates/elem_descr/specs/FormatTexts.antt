@@ -1,8 +1,8 @@
 -- Format texts of PEP 3118: what a text means, or the first fault from the left.
-use Rattle.std.specs.Prelude.{ℕ, zero, suc, ◌+◌, max, Bool, true, false, ◌&&◌, ◌||◌, not, List, [], ◌∷◌, ◌++◌, length, take, drop, codes, decimal, find, nat_eq, nat_lt, nat_le, if◌then◌else◌, Option, Some, None, is_some, unwrap_or, Result, Ok, Err}
+use Rattle.std.specs.Prelude.{ℕ, zero, suc, ◌+◌, max, Bool, true, false, ◌&&◌, not, List, [], ◌∷◌, ◌++◌, length, take, drop, codes, decimal, find, nat_eq, nat_lt, nat_le, if◌then◌else◌, Option, Some, None, is_some, unwrap_or, Result, Ok, Err}
 use Rattle.std.specs.Char.{is_ascii_digit}
 use Rattle.std.specs.Int.{next_multiple_of}
-use Rattle.std.specs.List.{list_all, list_any, prefix_len, starts_with}
+use Rattle.std.specs.List.{list_all, list_any, prefix_len}
 use Rattle.std.specs.Option.{option_map, ok_or}
 use Rattle.std.specs.Str.{bytes_eq}
 use Rattle.elem_descr.specs.declared.refusal.Refusal.{Refusal}
@@ -13,18 +13,34 @@ use Rattle.elem_descr.specs.declared.scalar.Width.{Width}
 use Rattle.elem_descr.specs.declared.scalar.Width.TheVariants.{Two, Four, Eight}
 use Rattle.elem_descr.specs.declared.scalar.Scalar.{Scalar}
 use Rattle.elem_descr.specs.declared.scalar.Scalar.TheVariants.{Bool as BoolScalar, Byte, Int, Bytes}
-use Rattle.elem_descr.specs.declared.leaf.Leaf.{Leaf}
+use Rattle.elem_descr.specs.declared.descr.Field.{Field}
 use Rattle.elem_descr.specs.declared.descr.Descr.{Descr}
 use Rattle.elem_descr.specs.declared.descr.Descr.TheVariants.{Scalar as ScalarDescr, Record as RecordDescr}
+use Rattle.elem_descr.specs.declared.format_text.draft.Body.{Body}
 use Rattle.elem_descr.specs.declared.format_text.mark.Mark.{Mark}
 use Rattle.elem_descr.specs.declared.format_text.mark.Mark.TheVariants.{Aligned, Native, Little as LittleMark, Big as BigMark}
 use Rattle.elem_descr.specs.declared.format_text.member.Member.{Member}
-use Rattle.elem_descr.specs.declared.format_text.member.Member.TheVariants.{Value, Pad}
+use Rattle.elem_descr.specs.declared.format_text.member.Member.TheVariants.{Value, Pad, Opened}
 use Rattle.elem_descr.specs.Refusals.{◌>>=◌, check}
 use Rattle.elem_descr.specs.Encoding.{size}
-use Rattle.elem_descr.specs.Descriptors.{Structure}
+use Rattle.elem_descr.specs.Descriptors.{listed}
+use Rattle.elem_descr.specs.Items.{item_size, leaves_of}
 use Rattle.elem_descr.specs.Names.{is_legal_name}
 use Rattle.elem_descr.specs.TypeStrings.{is_one_of, value_of}
+
+-- how many records may lie one within another
+abbrev pub max_depth : ℕ
+max_depth = 4
+
+-- the most fields of a record, leaves of a text, and bytes of an item
+abbrev pub max_fields : ℕ
+max_fields = 64
+
+abbrev pub max_leaves : ℕ
+max_leaves = 2048
+
+abbrev pub max_size : ℕ
+max_size = 65536
 
 -- nothing is left
 abbrev pub is_empty : List ℕ → Bool
@@ -82,9 +98,9 @@ abbrev pub own_alignment : Scalar → ℕ
 own_alignment (Bytes n) = 1
 own_alignment scalar = size scalar
 
--- what the offset of a member is a multiple of
-abbrev pub alignment : Mark → Scalar → ℕ
-alignment mark scalar = if is_aligning mark then own_alignment scalar else 1
+-- what the offset of a member with its own alignment is a multiple of
+abbrev pub aligned : Mark → ℕ → ℕ
+aligned mark own = if is_aligning mark then own else 1
 
 -- the byte is a colon, and the text begins with one
 abbrev pub is_colon : ℕ → Bool
@@ -102,7 +118,7 @@ is_opened (b ∷ rest) = is_one_of (codes "{") b
 -- the count that digits spell: 1 where there are none, and none where no item has as many bytes
 abbrev pub count_of : List ℕ → Option ℕ
 count_of [] = Some 1
-count_of (d ∷ digits) = if nat_le (value_of (d ∷ digits)) 65536 then Some (value_of (d ∷ digits)) else None
+count_of (d ∷ digits) = if nat_le (value_of (d ∷ digits)) max_size then Some (value_of (d ∷ digits)) else None
 
 -- a byte string of so many bytes
 abbrev pub text_member : Option ℕ → Result Member Refusal
@@ -120,7 +136,8 @@ lettered mark digits letter rest =
     if is_some (number_letter mark letter) then (if is_empty digits then Ok (Value (number_letter mark letter)) else Err DescriptorLeftOut)
     else if is_one_of (codes "s") letter then text_member (count_of digits)
     else if is_one_of (codes "x") letter then Ok (Pad (count_of digits))
-    else if is_left_out letter || (is_one_of (codes "T") letter && is_opened rest && is_empty digits) then Err DescriptorLeftOut
+    else if is_one_of (codes "T") letter && is_opened rest then (if is_empty digits then Ok Opened else Err DescriptorLeftOut)
+    else if is_left_out letter then Err DescriptorLeftOut
     else Err BadDescriptor
 
 abbrev pub after_count : Mark → List ℕ → List ℕ → Result (Member × List ℕ) Refusal
@@ -145,35 +162,48 @@ name_at text =
 abbrev pub named : ℕ → List ℕ → Result (List ℕ × List ℕ) Refusal
 named number text = if is_named text then name_at (drop 1 text) else Ok (codes "f" ++ decimal number, text)
 
--- a record as far as it is read: its bytes so far, the greatest alignment of its members, and its fields
+-- a record as far as it is read: its bytes so far, the greatest alignment of its members, the leaves
+-- of the whole text so far, how many levels of records may lie in it, and its fields
 pub record Partial : Type 0 where
   pub size : ℕ
   pub alignment : ℕ
-  pub leaves : List Leaf
+  pub leaves : ℕ
+  pub levels : ℕ
+  pub fields : List Field
 
 -- a record before its first member
-abbrev pub empty : Partial
-empty = record { size = 0; alignment = 1; leaves = [] }
+abbrev pub empty : ℕ → ℕ → Partial
+empty levels leaves = record { size = 0; alignment = 1; leaves = leaves; levels = levels; fields = [] }
 
-abbrev pub is_taken : List Leaf → List ℕ → Bool
-is_taken leaves name = list_any (λ leaf. bytes_eq leaf.name name) leaves
+abbrev pub is_taken : List Field → List ℕ → Bool
+is_taken fields name = list_any (λ field. bytes_eq field.name name) fields
 
--- a field after the bytes so far, aligned by its mark
-abbrev pub with_field : Mark → Partial → List ℕ → Scalar → Partial
-with_field mark p name scalar =
-    let at = next_multiple_of p.size (alignment mark scalar) in
-    record { size = at + size scalar; alignment = max p.alignment (alignment mark scalar); leaves = p.leaves ++ record { name = name; scalar = scalar; at = at } ∷ [] }
+-- a field after the bytes so far, at a multiple of its alignment
+abbrev pub with_field : Partial → List ℕ → ℕ → Descr → Partial
+with_field p name alignment descr =
+    let at = next_multiple_of p.size alignment in
+    record {
+      size = at + item_size descr;
+      alignment = max p.alignment alignment;
+      leaves = p.leaves + length (leaves_of descr);
+      levels = p.levels;
+      fields = p.fields ++ record { name = name; at = at; descr = descr } ∷ [];
+    }
 
 abbrev pub if_small : Partial → Result Partial Refusal
-if_small p = if nat_le p.size 65536 then Ok p else Err TooLarge
+if_small p = if nat_le p.size max_size then Ok p else Err TooLarge
 
--- a field is added once its name is read: its name, the number of fields and the bytes so far are checked
-unfoldable pub added : Mark → Partial → List ℕ → Option Scalar → Result Partial Refusal
-added mark p name value = do
-  _ ← check (not (is_taken p.leaves name)) BadDescriptor
-  _ ← check (nat_lt (length p.leaves) 64) TooLarge
-  scalar ← ok_or value TooLarge
-  if_small (with_field mark p name scalar)
+-- a further field may have this name
+unfoldable pub checked_name : Partial → List ℕ → Result (Unit {0}) Refusal
+checked_name p name = do
+  _ ← check (not (is_taken p.fields name)) BadDescriptor
+  check (nat_lt (length p.fields) max_fields) TooLarge
+
+-- the leaves of the text and the bytes of the record are checked with the field
+unfoldable pub added : Partial → List ℕ → ℕ → Descr → Result Partial Refusal
+added p name alignment descr = do
+  _ ← check (nat_le (p.leaves + length (leaves_of descr)) max_leaves) TooLarge
+  if_small (with_field p name alignment descr)
 
 -- so many bytes of padding are added
 unfoldable pub widened : Partial → Option ℕ → Result Partial Refusal
@@ -181,33 +211,58 @@ widened p count = do
   n ← ok_or count TooLarge
   if_small (record p { size = p.size + n })
 
--- a member and what may stand after it: a name after a value, none after padding
-unfoldable pub taken_in : Mark → Partial → Member → List ℕ → Result (Partial × List ℕ) Refusal
-taken_in mark p (Value value) rest = do
-  name ← named (length p.leaves) rest
-  more ← added mark p name.0 value
-  Ok (more, name.1)
-taken_in mark p (Pad count) rest = do
+-- what reads the members of a record up to its closing brace, begun under a mark and after so many
+-- leaves of the text, and answers what follows the brace
+abbrev pub Reader : Type 0
+Reader = Mark → ℕ → List ℕ → Result (Body × List ℕ) Refusal
+
+-- a record with a member more, the mark then in force, and what follows
+abbrev pub Later : Type 0
+Later = Partial × Mark × List ℕ
+
+-- a member and what may stand after it: a name after a scalar and a record, none after padding
+unfoldable pub scalar_in : Mark → Partial → Option Scalar → List ℕ → Result Later Refusal
+scalar_in mark p value rest = do
+  name ← named (length p.fields) rest
+  _ ← checked_name p name.0
+  scalar ← ok_or value TooLarge
+  more ← added p name.0 (aligned mark (own_alignment scalar)) (ScalarDescr scalar)
+  Ok (more, mark, name.1)
+
+unfoldable pub pad_in : Mark → Partial → Option ℕ → List ℕ → Result Later Refusal
+pad_in mark p count rest = do
   more ← widened p count
   _ ← check (not (is_named rest)) DescriptorLeftOut
-  Ok (more, rest)
+  Ok (more, mark, rest)
+
+unfoldable pub body_in : Mark → Partial → Body → List ℕ → Result Later Refusal
+body_in mark p body rest = do
+  name ← named (length p.fields) rest
+  _ ← checked_name p name.0
+  more ← added p name.0 (aligned mark body.alignment) (RecordDescr body.whole)
+  Ok (more, body.mark, name.1)
+
+abbrev pub taken_in : Reader → Mark → Partial → Member → List ℕ → Result Later Refusal
+taken_in within mark p (Value value) rest = scalar_in mark p value rest
+taken_in within mark p (Pad count) rest = pad_in mark p count rest
+taken_in within mark p Opened rest = within mark p.leaves (drop 1 rest) >>= λ body. body_in mark p body.0 body.1
 
 -- the next member of a record
-unfoldable pub field_at : Mark → Partial → List ℕ → Result (Partial × List ℕ) Refusal
-field_at mark p text = do
+unfoldable pub field_at : Reader → Mark → Partial → List ℕ → Result Later Refusal
+field_at within mark p text = do
   member ← member_at mark text
-  taken_in mark p member.0 member.1
+  taken_in within mark p member.0 member.1
 
 -- the bytes of a record, rounded up where `@` is in force at its end
 abbrev pub closed_size : Mark → Partial → ℕ
 closed_size mark p = if is_aligning mark then next_multiple_of p.size p.alignment else p.size
 
 -- a record at its closing brace
-unfoldable pub closed : Mark → Partial → Result Structure Refusal
+unfoldable pub closed : Mark → Partial → Result Body Refusal
 closed mark p = do
-  _ ← check (nat_le 1 (length p.leaves)) DescriptorLeftOut
-  _ ← check (nat_le (closed_size mark p) 65536) TooLarge
-  Ok (record { size = closed_size mark p; leaves = p.leaves })
+  _ ← check (nat_le 1 (length p.fields)) DescriptorLeftOut
+  _ ← check (nat_le (closed_size mark p) max_size) TooLarge
+  Ok (record { whole = record { size = closed_size mark p; fields = listed p.fields }; alignment = p.alignment; mark = mark })
 
 -- what follows a closing brace
 abbrev pub closing : List ℕ → Option (List ℕ)
@@ -215,15 +270,21 @@ closing [] = None
 closing (b ∷ rest) = if is_one_of (codes "}") b then Some rest else None
 
 -- the end of the record at its closing brace, or a member and then those after it
-abbrev pub turn : Mark → Partial → Option (List ℕ) → List ℕ → (Partial × List ℕ → Result (Structure × List ℕ) Refusal) → Result (Structure × List ℕ) Refusal
-turn mark p None text next = field_at mark p text >>= next
-turn mark p (Some rest) text next = closed mark p >>= λ structure. Ok (structure, rest)
+abbrev pub turn : Reader → Mark → Partial → Option (List ℕ) → List ℕ → (Later → Result (Body × List ℕ) Refusal) → Result (Body × List ℕ) Refusal
+turn within mark p None text later = field_at within mark p text >>= later
+turn within mark p (Some rest) text later = closed mark p >>= λ body. Ok (body, rest)
 
--- the members of a record up to its closing brace, and what follows that, in at most so many turns
-abbrev pub members : ℕ → Mark → Partial → List ℕ → Result (Structure × List ℕ) Refusal
-members zero mark p text = Err BadDescriptor
-members (suc turns) mark p text =
-    let m = marked mark text in turn m.0 p (closing m.1) m.1 (λ next. members turns m.0 next.0 next.1)
+-- the members of a record up to its closing brace, in at most so many turns
+abbrev pub members : Reader → ℕ → Mark → Partial → List ℕ → Result (Body × List ℕ) Refusal
+members within zero mark p text = Err BadDescriptor
+members within (suc turns) mark p text =
+    let m = marked mark text in turn within m.0 p (closing m.1) m.1 (λ next. members within turns next.1 next.0 next.2)
+
+-- a record in which records lie to this depth, itself counted
+unfoldable pub record_within : ℕ → Reader
+record_within zero mark leaves text = Err DescriptorLeftOut
+record_within (suc levels) mark leaves text =
+    members (record_within levels) (length text) mark (empty levels leaves) text
 
 -- nothing more may follow: a name and a second member are left out, all else does not fit
 unfoldable pub ended : List ℕ → Result (Unit {0}) Refusal
@@ -232,28 +293,27 @@ ended text = if list_all (is_one_of (codes " ")) text then Ok tt else do
   _ ← (let m = marked Aligned text in member_at m.0 m.1)
   Err DescriptorLeftOut
 
--- a member alone is a scalar
-unfoldable pub alone : Member → List ℕ → Result Descr Refusal
-alone (Pad count) rest = Err DescriptorLeftOut
-alone (Value value) rest = do
+-- a member alone is a scalar or a record
+unfoldable pub scalar_alone : Option Scalar → List ℕ → Result Descr Refusal
+scalar_alone value rest = do
   _ ← check (not (is_named rest)) DescriptorLeftOut
   scalar ← ok_or value TooLarge
   _ ← ended rest
   Ok (ScalarDescr scalar)
 
-unfoldable pub scalar_at : Mark → List ℕ → Result Descr Refusal
-scalar_at mark text = do
-  member ← member_at mark text
-  alone member.0 member.1
+unfoldable pub record_alone : Mark → List ℕ → Result Descr Refusal
+record_alone mark text = do
+  body ← record_within max_depth mark 0 text
+  _ ← ended body.1
+  Ok (RecordDescr body.0.whole)
 
-unfoldable pub record_at : Mark → List ℕ → Result Descr Refusal
-record_at mark text = do
-  whole ← members (length text) mark empty text
-  _ ← ended whole.1
-  Ok (RecordDescr whole.0)
+abbrev pub alone : Mark → Member → List ℕ → Result Descr Refusal
+alone mark (Value value) rest = scalar_alone value rest
+alone mark (Pad count) rest = Err DescriptorLeftOut
+alone mark Opened rest = record_alone mark (drop 1 rest)
 
 -- the descriptor that a format text means, or the fault in it
 abbrev pub format : List ℕ → Result Descr Refusal
 format text =
     let m = marked Aligned text in
-    if starts_with nat_eq m.1 (codes "T{") then record_at m.0 (drop 2 m.1) else scalar_at m.0 m.1
+    member_at m.0 m.1 >>= λ member. alone m.0 member.0 member.1

@@ -1,29 +1,47 @@
 -- The items of a descriptor: one value per leaf.
-use Rattle.std.specs.Prelude.{◌+◌, ◌-◌, ◌<◌, ◌≤◌, ℕ, List, [], ◌∷◌, ◌++◌, length, get_or, map, position, take, drop, replicate, Option, None}
+use Rattle.std.specs.Prelude.{◌+◌, ◌-◌, ◌<◌, ◌≤◌, ℕ, List, [], ◌∷◌, ◌++◌, length, get_or, map, position, take, drop, replicate, Option}
 use Rattle.std.specs.Str.{bytes_eq}
 use Rattle.elem_descr.specs.declared.descr.Descr.{Descr}
 use Rattle.elem_descr.specs.declared.descr.Descr.TheVariants.{Scalar as ScalarDescr, Record as RecordDescr}
+use Rattle.elem_descr.specs.declared.descr.Field.{Field}
 use Rattle.elem_descr.specs.declared.leaf.Leaf.{Leaf}
 use Rattle.elem_descr.specs.declared.scalar.Scalar.TheVariants.{Bool as BoolScalar}
 use Rattle.elem_descr.specs.Values.{LeafValue}
 use Rattle.elem_descr.specs.Encoding.{size, decode, encode}
+use Rattle.elem_descr.specs.Fields.{Fields, no_more, scalar_field, record_field}
+use Rattle.elem_descr.specs.Descriptors.{fields_of}
 
 -- the bytes of one item
 abbrev pub item_size : Descr → ℕ
 item_size (ScalarDescr scalar) = size scalar
 item_size (RecordDescr structure) = structure.size
 
--- the leaves of an item: a scalar is one nameless leaf at 0
+-- the scalars of fields whose record begins at this byte, with their offsets
+abbrev pub leaves_from : ℕ → Fields → List Leaf
+leaves_from from no_more = []
+leaves_from from (scalar_field name at scalar rest) = record { scalar = scalar; at = from + at } ∷ leaves_from from rest
+leaves_from from (record_field name at size inner rest) = leaves_from (from + at) inner ++ leaves_from from rest
+
+-- the leaves of an item: a scalar is one leaf at 0
 abbrev pub leaves_of : Descr → List Leaf
-leaves_of (ScalarDescr scalar) = record { name = []; scalar = scalar; at = 0 } ∷ []
-leaves_of (RecordDescr structure) = structure.leaves
+leaves_of (ScalarDescr scalar) = record { scalar = scalar; at = 0 } ∷ []
+leaves_of (RecordDescr structure) = leaves_from 0 structure.fields
 
 abbrev pub no_leaf : Leaf
-no_leaf = record { name = []; scalar = BoolScalar; at = 0 }
+no_leaf = record { scalar = BoolScalar; at = 0 }
+
+-- a leaf so many bytes further on
+abbrev pub moved : ℕ → Leaf → Leaf
+moved by leaf = record { scalar = leaf.scalar; at = by + leaf.at }
 
 -- the leaf with a number
 abbrev pub leaf_at : Descr → ℕ → Leaf
 leaf_at descr k = get_or (leaves_of descr) k no_leaf
+
+-- from this byte on each leaf begins where the one before it ends, or later, and has a byte or more; the last ends within the bytes
+abbrev pub AreInOrder : ℕ → List Leaf → ℕ → Type 0
+AreInOrder from [] bytes = from ≤ bytes
+AreInOrder from (leaf ∷ leaves) bytes = (from ≤ leaf.at) × (1 ≤ size leaf.scalar) × AreInOrder (leaf.at + size leaf.scalar) leaves bytes
 
 -- each leaf has a byte or more, ends within the item, and begins where those before it end, or later
 pub record AreApart (descr : Descr) : Type 0 where
@@ -31,14 +49,30 @@ pub record AreApart (descr : Descr) : Type 0 where
   pub within : (k : ℕ) → k < length (leaves_of descr) → (leaf_at descr k).at + size (leaf_at descr k).scalar ≤ item_size descr
   pub apart : (j k : ℕ) → j < k → k < length (leaves_of descr) → (leaf_at descr j).at + size (leaf_at descr j).scalar ≤ (leaf_at descr k).at
 
--- the place of the leaf with this name
-abbrev pub leaf_named : List Leaf → List ℕ → Option ℕ
-leaf_named leaves name = position (λ leaf. bytes_eq leaf.name name) leaves
+-- the fields of a record; a scalar has none
+abbrev pub fields : Descr → List Field
+fields (ScalarDescr scalar) = []
+fields (RecordDescr structure) = fields_of structure.fields
 
--- the place of the field with this name; a scalar has no fields
+-- the number of the field with this name
 abbrev pub field_of : Descr → List ℕ → Option ℕ
-field_of (ScalarDescr scalar) name = None
-field_of (RecordDescr structure) name = leaf_named structure.leaves name
+field_of descr name = position (λ field. bytes_eq field.name name) (fields descr)
+
+-- the leaves of several fields
+abbrev pub leaves_in : List Field → ℕ
+leaves_in [] = 0
+leaves_in (field ∷ fields) = length (leaves_of field.descr) + leaves_in fields
+
+abbrev pub no_field : Field
+no_field = record { name = []; at = 0; descr = ScalarDescr BoolScalar }
+
+-- the field with a number
+abbrev pub field_at : Descr → ℕ → Field
+field_at descr k = get_or (fields descr) k no_field
+
+-- the leaves of the field with a number: the first of them, and how many they are
+abbrev pub field_leaves : Descr → ℕ → ℕ × ℕ
+field_leaves descr k = (leaves_in (take k (fields descr)), length (leaves_of (field_at descr k).descr))
 
 -- the values that the bytes of an item mean; the bytes of no leaf are ignored
 abbrev pub decode_item : Descr → List ℕ → List LeafValue

@@ -3,11 +3,12 @@ pub mod Values
 pub mod Encoding
 pub mod TypeStrings
 pub mod Names
+pub mod Fields
 pub mod Descriptors
 pub mod Items
 pub mod Blocks
 pub mod Steps
+pub mod inside
 pub mod FormatTexts
-pub mod Partials
 pub mod WrittenFormats
 pub mod DescrTexts

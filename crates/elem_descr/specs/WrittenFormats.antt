@@ -1,13 +1,13 @@
 -- The format text that is written of a descriptor.
-use Rattle.std.specs.Prelude.{ℕ, zero, suc, ◌+◌, ◌-◌, true, false, List, [], ◌∷◌, ◌++◌, codes, decimal}
+use Rattle.std.specs.Prelude.{ℕ, zero, suc, ◌+◌, ◌-◌, true, false, List, [], ◌++◌, codes, decimal}
 use Rattle.elem_descr.specs.declared.scalar.Order.TheVariants.{Big}
 use Rattle.elem_descr.specs.declared.scalar.Width.TheVariants.{Two, Four, Eight}
 use Rattle.elem_descr.specs.declared.scalar.Scalar.{Scalar}
 use Rattle.elem_descr.specs.declared.scalar.Scalar.TheVariants.{Bool as BoolScalar, Byte, Int, Bytes}
-use Rattle.elem_descr.specs.declared.leaf.Leaf.{Leaf}
 use Rattle.elem_descr.specs.declared.descr.Descr.{Descr}
 use Rattle.elem_descr.specs.declared.descr.Descr.TheVariants.{Scalar as ScalarDescr, Record as RecordDescr}
 use Rattle.elem_descr.specs.Encoding.{size}
+use Rattle.elem_descr.specs.Fields.{Fields, no_more, scalar_field, record_field}
 
 -- `>` before a big-endian integer of two or more bytes, and else `<`
 abbrev pub written_mark : Scalar → List ℕ
@@ -41,17 +41,23 @@ abbrev pub written_pad : ℕ → List ℕ
 written_pad zero = []
 written_pad (suc n) = decimal (suc n) ++ codes "x"
 
--- a field and its name
-abbrev pub written_field : Leaf → List ℕ
-written_field leaf = written_scalar leaf.scalar ++ codes ":" ++ leaf.name ++ codes ":"
+-- the name behind a member
+abbrev pub written_name : List ℕ → List ℕ
+written_name name = codes ":" ++ name ++ codes ":"
+
+-- a record without its name
+abbrev pub braced : List ℕ → List ℕ
+braced text = codes "T{" ++ (text ++ codes "}")
 
 -- the fields from this byte on, and the padding before each and after the last
-abbrev pub written_fields : ℕ → List Leaf → ℕ → List ℕ
-written_fields from [] bytes = written_pad (bytes - from)
-written_fields from (leaf ∷ leaves) bytes =
-    written_pad (leaf.at - from) ++ (written_field leaf ++ written_fields (leaf.at + size leaf.scalar) leaves bytes)
+abbrev pub written_fields : ℕ → Fields → ℕ → List ℕ
+written_fields from no_more bytes = written_pad (bytes - from)
+written_fields from (scalar_field name at scalar rest) bytes =
+    written_pad (at - from) ++ (written_scalar scalar ++ (written_name name ++ written_fields (at + size scalar) rest bytes))
+written_fields from (record_field name at size inner rest) bytes =
+    written_pad (at - from) ++ (braced (written_fields 0 inner size) ++ (written_name name ++ written_fields (at + size) rest bytes))
 
 -- the format text of a descriptor
 abbrev pub written : Descr → List ℕ
 written (ScalarDescr scalar) = written_scalar scalar
-written (RecordDescr structure) = codes "T{" ++ (written_fields 0 structure.leaves structure.size ++ codes "}")
+written (RecordDescr structure) = braced (written_fields 0 structure.fields structure.size)

@@ -1,10 +1,13 @@
-// Descriptors: the element type of an array.
-ghost use Rattle.std.specs.Prelude.{◌≡◌, ◌≤◌, ◌<◌, ◌+◌, length, slice_get, IfOk, IfSome};
+//! Descriptors: the element type of an array.
+ghost use Rattle.std.specs.Prelude.{◌≡◌, ℕ, ◌≤◌, ◌<◌, ◌+◌, ◌++◌, ◌∷◌, [], length, map, take, drop, slice_get, get_or, IfOk, IfSome, OnOk, position};
+ghost use Rattle.std.specs.Str.{bytes_eq};
 ghost use Rattle.elem_descr.specs.Encoding.{size};
-ghost use Rattle.elem_descr.specs.Descriptors.{IsLegal};
-ghost use Rattle.elem_descr.specs.Items.{item_size, leaves_of, leaf_named, field_of, AreApart};
+ghost use Rattle.elem_descr.specs.Fields.{Structure, no_more};
+ghost use Rattle.elem_descr.specs.Descriptors.{IsLegal, fields_of, listed};
+ghost use Rattle.elem_descr.specs.Items.{item_size, leaves_of, leaves_from, leaves_in, moved, fields, field_of, field_at, field_leaves, AreApart, AreInOrder};
 
 use crate::leaf::Leaf;
+use crate::name::FieldName;
 use crate::scalar::Scalar;
 use std::alloc::{AllocError, Global};
 use std::marker::Model;
@@ -12,49 +15,170 @@ use std::marker::Model;
 /// The most fields that a record may have.
 pub const MAX_FIELDS: usize = 64;
 
+/// The most leaves that an item may have.
+pub const MAX_LEAVES: usize = 2048;
+
+/// How many records may lie one within another.
+pub const MAX_DEPTH: usize = 4;
+
 /// A record: 1 to 64 fields with names of their own, in order of offset, that do not overlap, in
 /// items of at most 65,536 bytes. The bytes between the fields and after them are padding.
 #[derive(Debug, Drop)]
+#[cycle(descr)]
 pub struct Record {
     size: usize,
+    fields: Vec<Field>,
     leaves: Vec<Leaf>,
 }
 
+/// A field of a record: its name, the offset of its bytes in the record, and what it is.
+#[derive(Debug, Drop)]
+#[cycle(descr)]
+pub struct Field {
+    pub name: FieldName,
+    pub at: usize,
+    pub descr: Descr,
+}
+
+/// The element type of an array: one scalar, or a record of fields.
+#[derive(Debug, Drop)]
+#[cycle(descr)]
+pub enum Descr {
+    Scalar(Scalar),
+    Record(Record),
+}
+
 impl Model for Record {
-    ghost use Rattle.elem_descr.specs.Descriptors.{Structure, IsLegal};
+    ghost use Rattle.std.specs.Prelude.{◌+◌};
+    ghost use Rattle.elem_descr.specs.Fields.{Structure, total};
+    ghost use Rattle.elem_descr.specs.inside.FieldCodes.{structure_code};
+    ghost use Rattle.elem_descr.specs.contracts.scalar.Scalar as scalar;
 
     ghost Value = { Structure };
 
-    ghost view = { λ r. record { size = r.size; leaves = r.leaves.items } };
+    ghost coded = { structure_code scalar.the_row.coded };
 
-    ghost invariant = { λ r. IsLegal (record { size = r.size; leaves = r.leaves.items }) };
+    ghost use Rattle.elem_descr.specs.Descriptors.{listed};
+    ghost use Rattle.elem_descr.specs.inside.Records.{IsRecord};
+
+    ghost view = { λ r. record { size = r.size; fields = listed r.fields.items } };
+
+    ghost invariant = { λ r. IsRecord r.size r.fields.items r.leaves.items };
+
+    ghost size = { λ s. 1 + total s.fields };
+
+    ghost use Rattle.elem_descr.specs.inside.Totals.{total_falls};
+
+    ghost size_decreases = { λ r h. total_falls r.fields.items };
 }
 
-/// A copy of the leaves.
-fn copied(alloc: Global, leaves: &[Leaf]) -> Result<Vec<Leaf>, AllocError>
-    ensures { IfOk result (λ copies. copies.items ≡ leaves.now) }
+/// Appends leaves, so many bytes further on.
+fn push_moved(
+    leaves: &mut Vec<Leaf>,
+    by: usize,
+    more: &[Leaf],
+    size: usize,
+) -> Result<(), AllocError>
+    requires in_order { AreInOrder 0 more.now size }
+    requires small { by + size ≤ 65536 }
+    ensures { OnOk result (leaves.new.items ≡ leaves.old.items ++ map (moved by) more.now) }
+{
+    for leaf in more {
+        leaves.push(Leaf {
+            scalar: leaf.scalar,
+            at: by + leaf.at,
+        })?;
+    }
+    Ok(())
+}
+
+/// Appends the leaves of a field.
+fn push_field(leaves: &mut Vec<Leaf>, field: &Field) -> Result<(), AllocError>
+    requires small { field.now.at + item_size field.now.descr ≤ 65536 }
+    ensures { OnOk result (leaves.new.items ≡ leaves.old.items ++ map (moved field.now.at) (leaves_of field.now.descr)) }
+{
+    match &field.descr {
+        Descr::Scalar(scalar) => leaves.push(Leaf {
+            scalar: *scalar,
+            at: field.at,
+        })?,
+        Descr::Record(inner) => push_moved(leaves, field.at, inner.leaves(), inner.size())?,
+    }
+    Ok(())
+}
+
+/// The leaves of the fields.
+fn leaves_in(alloc: Global, fields: &[Field], size: usize) -> Result<Vec<Leaf>, AllocError>
+    requires legal { IsLegal (record { size = size; fields = listed fields.now }) }
+    ensures { IfOk result (λ leaves. leaves.items ≡ leaves_from 0 (listed fields.now)) }
+{
+    let mut leaves = Vec::new(alloc);
+    for field in fields {
+        push_field(&mut leaves, field)?;
+    }
+    Ok(leaves)
+}
+
+/// A copy of the fields.
+#[cycle(copy)]
+fn copied(alloc: Global, fields: &[Field]) -> Result<Vec<Field>, AllocError>
+    ensures { IfOk result (λ copies. copies.items ≡ fields.now) }
 {
     let mut copies = Vec::new(alloc);
-    for leaf in leaves {
-        copies.push(Leaf::try_copy(alloc, leaf)?)?;
+    for field in fields {
+        copies.push(Field::try_copy(alloc, field)?)?;
     }
     Ok(copies)
 }
 
-fn leaf_in(leaves: &[Leaf], name: &[u8]) -> Option<usize>
-    ensures value { result ≡ leaf_named leaves.now name.now }
-    ensures below { IfSome result (λ k. k < length leaves.now) }
+fn field_named(fields: &[Field], name: &[u8]) -> Option<usize>
+    ensures value { result ≡ position (λ field. bytes_eq field.name name.now) fields.now }
+    ensures below { IfSome result (λ k. k < length fields.now) }
 {
-    leaves.iter().position(|leaf| leaf.name.as_slice() == name)
+    fields
+        .iter()
+        .position(|field| field.name.as_slice() == name)
+}
+
+/// The number of leaves of fields.
+fn leaf_sum(fields: &[Field]) -> usize
+    requires { leaves_in fields.now ≤ 2048 }
+    ensures { result ≡ leaves_in fields.now }
+{
+    let mut sum = 0;
+    for field in fields {
+        sum += field.descr.leaf_count();
+    }
+    sum
+}
+
+impl Field {
+    #[cycle(copy)]
+    pub fn try_copy(alloc: Global, field: &Field) -> Result<Field, AllocError>
+        ensures { IfOk result (λ copy. copy ≡ field.now) }
+    {
+        let name = FieldName::from_slice(alloc, field.name.as_slice())?;
+        let descr = Descr::try_copy(alloc, &field.descr)?;
+        Ok(Field {
+            name,
+            at: field.at,
+            descr,
+        })
+    }
 }
 
 impl Record {
     /// A record of these fields, whose items have `size` bytes.
-    pub fn new(size: usize, leaves: Vec<Leaf>) -> Record
-        requires { IsLegal (record { size = size; leaves = leaves.items }) }
-        ensures { result ≡ record { size = size; leaves = leaves.items } }
+    pub fn try_new(alloc: Global, size: usize, fields: Vec<Field>) -> Result<Record, AllocError>
+        requires { IsLegal (record { size = size; fields = listed fields.items }) }
+        ensures { IfOk result (λ made. made ≡ record { size = size; fields = listed fields.items }) }
     {
-        Record { size, leaves }
+        let leaves = leaves_in(alloc, fields.as_slice(), size)?;
+        Ok(Record {
+            size,
+            fields,
+            leaves,
+        })
     }
 
     /// The bytes of one item.
@@ -68,41 +192,48 @@ impl Record {
     }
 
     /// The fields, in order of offset.
-    pub fn leaves(&self) -> &[Leaf]
-        ensures value { result.now ≡ self.now.leaves }
+    pub fn fields(&self) -> &[Field]
+        ensures value { result.now ≡ fields_of self.now.fields }
         ensures legal { IsLegal self.now }
+    {
+        self.fields.as_slice()
+    }
+
+    /// The scalars of the fields, those of records within in their place, with their offsets in
+    /// the whole item.
+    pub fn leaves(&self) -> &[Leaf]
+        ensures value { result.now ≡ leaves_from 0 self.now.fields }
+        ensures in_order { AreInOrder 0 result.now self.now.size }
+        ensures not_empty { 1 ≤ length result.now }
+        ensures few { length result.now ≤ 2048 }
+        ensures small { self.now.size ≤ 65536 }
     {
         self.leaves.as_slice()
     }
 
-    /// The scalar of the k-th field, and its offset.
-    #[tactic(auto, using(crate::proofs::FieldLaws::leaf_within))]
+    /// The scalar of the k-th leaf, and its offset.
     fn leaf_at(&self, k: usize) -> (Scalar, usize)
-        requires { k < length self.now.leaves }
-        ensures leaf { IfSome (slice_get self.now.leaves k) (λ leaf. (result.0 ≡ leaf.scalar) × (result.1 ≡ leaf.at)) }
+        requires { k < length (leaves_from 0 self.now.fields) }
+        ensures leaf { IfSome (slice_get (leaves_from 0 self.now.fields) k) (λ leaf. (result.0 ≡ leaf.scalar) × (result.1 ≡ leaf.at)) }
         ensures within { result.1 + size result.0 ≤ self.now.size }
         ensures small { result.1 < 65536 }
     {
-        let leaf = &self.leaves[k];
+        let leaf = self.leaves[k];
         (leaf.scalar, leaf.at)
     }
 
+    #[cycle(copy)]
     pub fn try_copy(alloc: Global, original: &Record) -> Result<Record, AllocError>
         ensures { IfOk result (λ copy. copy ≡ original.now) }
     {
-        let leaves = copied(alloc, original.leaves.as_slice())?;
+        let fields = copied(alloc, original.fields.as_slice())?;
+        let leaves = Vec::from_slice(alloc, original.leaves.as_slice())?;
         Ok(Record {
             size: original.size,
+            fields,
             leaves,
         })
     }
-}
-
-/// The element type of an array: one scalar, or a record of them.
-#[derive(Debug, Drop)]
-pub enum Descr {
-    Scalar(Scalar),
-    Record(Record),
 }
 
 impl Descr {
@@ -116,19 +247,19 @@ impl Descr {
     {
         match self {
             Descr::Scalar(scalar) => scalar.size(),
-            Descr::Record(record) => record.size(),
+            Descr::Record(structure) => structure.size(),
         }
     }
 
-    /// The number of values in an item: one, or one a field.
+    /// The number of values in an item: one, or one for each scalar in the record.
     pub fn leaf_count(&self) -> usize
         ensures value { result ≡ length (leaves_of self.now) }
         ensures not_empty { 1 ≤ result }
-        ensures few { result ≤ 64 }
+        ensures few { result ≤ 2048 }
     {
         match self {
             Descr::Scalar(_) => 1,
-            Descr::Record(record) => record.leaves().len(),
+            Descr::Record(structure) => structure.leaves().len(),
         }
     }
 
@@ -141,28 +272,59 @@ impl Descr {
     {
         match self {
             Descr::Scalar(scalar) => (*scalar, 0),
-            Descr::Record(record) => record.leaf_at(k),
+            Descr::Record(structure) => structure.leaf_at(k),
         }
     }
 
-    /// The place of the field with this name among the fields. A scalar has none.
-    #[tactic(auto, using(crate::proofs::FieldLaws::leaf_below))]
-    pub fn leaf_of(&self, name: &[u8]) -> Option<usize>
-        ensures value { result ≡ field_of self.now name.now }
-        ensures below { IfSome result (λ k. k < length (leaves_of self.now)) }
+    /// The fields of a record. A scalar has none.
+    pub fn fields(&self) -> &[Field]
+        ensures value { result.now ≡ fields self.now }
+        ensures few { length (leaves_of self.now) ≤ 2048 }
+        ensures within { (k : ℕ) → k < length (fields self.now) → (field_at self.now k).at + item_size (field_at self.now k).descr ≤ item_size self.now }
     {
         match self {
-            Descr::Scalar(_) => None,
-            Descr::Record(record) => leaf_in(record.leaves(), name),
+            Descr::Scalar(_) => &[],
+            Descr::Record(structure) => structure.fields(),
         }
     }
 
+    /// The number of the field with this name among the fields. A scalar has none.
+    pub fn leaf_of(&self, name: &[u8]) -> Option<usize>
+        ensures value { result ≡ field_of self.now name.now }
+        ensures below { IfSome result (λ k. k < length (fields self.now)) }
+    {
+        field_named(self.fields(), name)
+    }
+
+    /// The field with this number.
+    pub fn field(&self, k: usize) -> &Field
+        requires { k < length (fields self.now) }
+        ensures value { result.now ≡ field_at self.now k }
+        ensures within { result.now.at + item_size result.now.descr ≤ item_size self.now }
+    {
+        &self.fields()[k]
+    }
+
+    /// The leaves of the field with this number: the first of them, and how many they are.
+    pub fn leaves_of(&self, field: usize) -> (usize, usize)
+        requires { field < length (fields self.now) }
+        ensures value { result ≡ field_leaves self.now field }
+        ensures some { 1 ≤ result.1 }
+        ensures within { result.0 + result.1 ≤ length (leaves_of self.now) }
+        ensures leaves { let there = field_at self.now field in take result.1 (drop result.0 (leaves_of self.now)) ≡ map (moved there.at) (leaves_of there.descr) }
+    {
+        let fields = self.fields();
+        let before = leaf_sum(&fields[..field]);
+        (before, fields[field].descr.leaf_count())
+    }
+
+    #[cycle(copy)]
     pub fn try_copy(alloc: Global, descr: &Descr) -> Result<Descr, AllocError>
         ensures { IfOk result (λ copy. copy ≡ descr.now) }
     {
         match descr {
             Descr::Scalar(scalar) => Ok(Descr::Scalar(*scalar)),
-            Descr::Record(record) => Ok(Descr::Record(Record::try_copy(alloc, record)?)),
+            Descr::Record(structure) => Ok(Descr::Record(Record::try_copy(alloc, structure)?)),
         }
     }
 }

@@ -4,4 +4,5 @@ mod field;
 pub mod mark;
 mod member;
 pub mod read;
+mod record;
 pub mod write;

@@ -10,7 +10,7 @@ struct ShortRun {
     replies: &'static [&'static [u8]],
 }
 
-const SHORT_RUNS: [ShortRun; 7] = [
+const SHORT_RUNS: [ShortRun; 8] = [
     ShortRun {
         script: FIRST_RUN,
         replies: &[
@@ -75,6 +75,17 @@ const SHORT_RUNS: [ShortRun; 7] = [
             b"ok a |u1 (4,) new\nok b |u1 (4,) view\nok t |u1 (4,) view\nok set 2\nno E40 out of memory\ninfo t |u1 (4,) strides (-1,) at 3 order - write yes\nshares yes\n",
             b"ok a |u1 (4,) new\nok b |u1 (4,) view\nok t |u1 (4,) view\nok set 2\n[0 1 9 9]\nno E40 out of memory\nshares yes\n",
             b"ok a |u1 (4,) new\nok b |u1 (4,) view\nok t |u1 (4,) view\nok set 2\n[0 1 9 9]\ninfo t |u1 (4,) strides (-1,) at 3 order - write yes\nno E40 out of memory\n",
+        ],
+    },
+    // A broadcast array.
+    ShortRun {
+        script: b"a = full |u1 (1) 5\nb = broadcast a (3)\nset b[0] = 1\nprint b\n",
+        replies: &[
+            b"ok a |u1 (1,) new\nok b |u1 (3,) view\nno E20 read-only\n[5 5 5]\n",
+            b"no E40 out of memory\nno E06 unknown name\nno E06 unknown name\nno E06 unknown name\n",
+            b"ok a |u1 (1,) new\nno E40 out of memory\nno E06 unknown name\nno E06 unknown name\n",
+            b"ok a |u1 (1,) new\nok b |u1 (3,) view\nno E40 out of memory\n[5 5 5]\n",
+            b"ok a |u1 (1,) new\nok b |u1 (3,) view\nno E20 read-only\nno E40 out of memory\n",
         ],
     },
     // A field: the records are not touched by one that is not bound.

@@ -12,7 +12,7 @@ pub struct Row {
     pub refused: u64,
 }
 
-pub const ROWS: [Row; 34] = [
+pub const ROWS: [Row; 38] = [
     Row {
         script: FIRST_RUN,
         replies: FIRST_REPLIES,
@@ -185,8 +185,22 @@ pub const ROWS: [Row; 34] = [
     // Records: a record literal goes by position, a scalar to every field.
     Row {
         script: b"r = zeros T{b:x:i:y:} (2)\nformat r\nset r[1] = (5,-1)\nprint r\nset r[0] = 7\nprint r\nset r[0] = (1,2,3)\nset r[0] = (300,b'a')\nset r[0] = (300,1)\nz = zeros T{b:x:T{i:y:}:s:} (1)\n",
-        replies: b"ok r T{<b:x:3x<i:y:} (2,) new\nformat T{<b:x:3x<i:y:}\nok set 1\n[(0,  0) (5, -1)]\nok set 1\n[(7,  7) (5, -1)]\nno E33 no such cast\nno E33 no such cast\nno E23 literal out of range\nno E05 descriptor left out\n",
-        accepted: 6,
+        replies: b"ok r T{<b:x:3x<i:y:} (2,) new\nformat T{<b:x:3x<i:y:}\nok set 1\n[(0,  0) (5, -1)]\nok set 1\n[(7,  7) (5, -1)]\nno E33 no such cast\nno E33 no such cast\nno E23 literal out of range\nok z T{<b:x:3xT{<i:y:}:s:} (1,) new\n",
+        accepted: 7,
+        refused: 3,
+    },
+    // Records within records: a field that is a record is seen as one, and so is a field of it.
+    Row {
+        script: b"z = zeros T{b:x:T{i:y:}:s:} (1)\ny = field z \"s\"\nw = field y \"y\"\ninfo w\nset z[0] = (1,(2))\nprint z\nset z[0] = (1,2)\nprint w\nset y[...] = (5)\nprint z\nx = field z \"x\"\nshares x y\nshares y w\ndel z\nprint y\nq = field w \"y\"\n",
+        replies: b"ok z T{<b:x:3xT{<i:y:}:s:} (1,) new\nok y T{<i:y:} (1,) view\nok w <i4 (1,) view\ninfo w <i4 (1,) strides (0,) at 4 order CF write yes\nok set 1\n[(1, (2,))]\nno E33 no such cast\n[2]\nok set 1\n[(1, (5,))]\nok x |i1 (1,) view\nshares no\nshares yes\nok del z\n[(5,)]\nno E19 no such field\n",
+        accepted: 14,
+        refused: 2,
+    },
+    // Four records lie one within another, and no five.
+    Row {
+        script: b"z = zeros T{T{T{T{<i:d:}:c:}:b:}:a:} ()\ny = zeros T{T{T{T{T{<i:e:}:d:}:c:}:b:}:a:} ()\ny = zeros T{2T{<i:d:}:c:} ()\nset z[...] = ((((3))))\nprint z\nset z[...] = (((((3)))))\na = field z \"a\"\na = field a \"b\"\na = field a \"c\"\na = field a \"d\"\nset a[...] = 4\nprint z\na = field a \"e\"\n",
+        replies: b"ok z T{T{T{T{<i:d:}:c:}:b:}:a:} () new\nno E05 descriptor left out\nno E05 descriptor left out\nok set 1\n((((3,),),),)\nno E03 syntax\nok a T{T{T{<i:d:}:c:}:b:} () view\nok a T{T{<i:d:}:c:} () view\nok a T{<i:d:} () view\nok a <i4 () view\nok set 1\n((((4,),),),)\nno E19 no such field\n",
+        accepted: 9,
         refused: 4,
     },
     // The number of values, then their kinds, then their ranges.
@@ -219,6 +233,20 @@ pub const ROWS: [Row; 34] = [
     Row {
         script: b"a = array |i1 (2) -128 127\nprint a\na = array |u1 (2) 0 255\nprint a\na = array >i2 (2) -32768 32767\nprint a\na = array >u4 (2) 0 4294967295\nprint a\na = array >i8 (2) -9223372036854775808 9223372036854775807\nprint a\na = array <u8 (1) 18446744073709551616\na = array <u2 (1) -1\nformat a\n",
         replies: b"ok a |i1 (2,) new\n[-128  127]\nok a |u1 (2,) new\n[  0 255]\nok a >i2 (2,) new\n[-32768  32767]\nok a >u4 (2,) new\n[         0 4294967295]\nok a >i8 (2,) new\n[-9223372036854775808  9223372036854775807]\nno E23 literal out of range\nno E23 literal out of range\nformat >q\n",
+        accepted: 11,
+        refused: 2,
+    },
+    // A broadcast array, which may not be written, nor may a view of it; its shape is checked first.
+    Row {
+        script: b"o = full <i4 (1) 5\nb = broadcast o (4)\nprint b\ninfo b\nset b[0] = 1\nset b[4] = 1\nv = b[1:]\nset v[0] = b'x'\ninfo v\nt = transpose b\nset t[...] = 1\nset o[0] = 7\nprint b\nshares b o\nw = broadcast b (2,4)\ninfo w\ndel o\nprint w\nsame = broadcast b (4,)\ninfo same\nw = broadcast b ()\ne = zeros <i4 (0)\nw = broadcast e (2,1)\nw = broadcast e (16777217)\nw = broadcast e (2,0)\ninfo w\nw = broadcast e (1,1,1,1,1,1,1,1,1,1,1,1,1,1,1,1,1,1,1,1,1,1,1,1,1,1,1,1,1,1,1,1,1,1,1,1,1,1,1,1,1,1,1,1,1,1,1,1,1,1,1,1,1,1,1,1,1,1,1,1,1,1,1,1,1)\nw = broadcast q (2,-1)\nw = broadcast q (16777217)\n",
+        replies: b"ok o <i4 (1,) new\nok b <i4 (4,) view\n[5 5 5 5]\ninfo b <i4 (4,) strides (0,) at 0 order - write no\nno E20 read-only\nno E11 index out of range\nok v <i4 (3,) view\nno E20 read-only\ninfo v <i4 (3,) strides (0,) at 0 order - write no\nok t <i4 (4,) view\nno E20 read-only\nok set 1\n[7 7 7 7]\nshares yes\nok w <i4 (2, 4) view\ninfo w <i4 (2, 4) strides (0, 0) at 0 order - write no\nok del o\n[[7 7 7 7]\n [7 7 7 7]]\nok same <i4 (4,) view\ninfo same <i4 (4,) strides (0,) at 0 order - write no\nno E16 shapes do not broadcast\nok e <i4 (0,) new\nno E16 shapes do not broadcast\nno E09 too large\nok w <i4 (2, 0) view\ninfo w <i4 (2, 0) strides (0, 0) at 0 order CF write no\nno E08 too many axes\nno E03 syntax\nno E06 unknown name\n",
+        accepted: 19,
+        refused: 10,
+    },
+    // Fields of a broadcast array of records.
+    Row {
+        script: b"r = array T{<b:x:T{<i:y:}:s:} (2,1) (1,(2)) (3,(4))\nb = broadcast r (2,2)\nprint b\ns = field b \"s\"\ny = field s \"y\"\ninfo y\nset y[0,1] = 9\nc = y[:,::-1]\nset c[0,0] = 9\nz = field r \"s\"\nset z[1,0] = (8)\nprint y\nshares y r\n",
+        replies: b"ok r T{<b:x:T{<i:y:}:s:} (2, 1) new\nok b T{<b:x:T{<i:y:}:s:} (2, 2) view\n[[(1, (2,)) (1, (2,))]\n [(3, (4,)) (3, (4,))]]\nok s T{<i:y:} (2, 2) view\nok y <i4 (2, 2) view\ninfo y <i4 (2, 2) strides (5, 0) at 1 order - write no\nno E20 read-only\nok c <i4 (2, 2) view\nno E20 read-only\nok z T{<i:y:} (2, 1) view\nok set 1\n[[2 2]\n [8 8]]\nshares yes\n",
         accepted: 11,
         refused: 2,
     },

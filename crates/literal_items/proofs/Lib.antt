@@ -2,6 +2,7 @@ pub mod Nuls
 pub mod Lists
 pub mod Decided
 pub mod Leaves
+pub mod Fields
 pub mod Blocked
 pub mod Stepping
 pub mod Scalars

@@ -1,5 +1,5 @@
 -- Lists element by element.
-use Rattle.std.proofs.Common.{◌≡◌, ◌+◌, ◌≤◌, ◌<◌, ℕ, Bool, true, false, List, [], ◌∷◌, ◌++◌, length, get_or, take, map, sym, ap, ◌∙◌}
+use Rattle.std.proofs.Common.{◌≡◌, ◌+◌, ◌≤◌, ◌<◌, ℕ, Bool, true, false, List, [], ◌∷◌, ◌++◌, length, get_or, take, map, refl, sym, ap, ◌∙◌}
 use Rattle.std.specs.Prelude.{◌&&◌}
 use Rattle.std.specs.List.{list_all}
 use Rattle.std.proofs.lemmas.List.{take_all, take_more, map-append}
@@ -20,3 +20,7 @@ all_at p xs k x low is passed = ap p (sym is) ∙ AllPass-from_list_all p xs pas
 
 pub map_more : {X Y : Type 0} (f : X → Y) (xs : List X) (k : ℕ) (x : X) → k < length xs → get_or xs k x ≡ x → map f (take (k + 1) xs) ≡ map f (take k xs) ++ f x ∷ []
 map_more f xs k x low is = ap (map f) (take_more xs k x low ∙ ap (λ y. take k xs ++ y ∷ []) is) ∙ map-append f (take k xs) (x ∷ [])
+
+pub not_true : (b : Bool) → (b ≡ true → ⊥) → b ≡ false
+not_true true never = absurd (never refl)
+not_true false never = refl

@@ -12,24 +12,48 @@ use Rattle.elem_descr.specs.declared.scalar.Width.TheVariants.{Four, Eight}
 use Rattle.elem_descr.specs.declared.scalar.Scalar.TheVariants.{Bool as BoolScalar, Byte, Int, Bytes as BytesScalar}
 use Rattle.elem_descr.specs.declared.descr.Descr.{Descr}
 use Rattle.elem_descr.specs.declared.descr.Descr.TheVariants.{Scalar as ScalarDescr, Record as RecordDescr}
+use Rattle.elem_descr.specs.Fields.{no_more, scalar_field, record_field}
+use Rattle.elem_descr.specs.Items.{encode_item}
 use Rattle.elem_descr.specs.Values.{number, text}
 use Rattle.script_lang.specs.declared.literal.ScalarLiteral.TheVariants.{Integer, Boolean, Bytes}
 use Rattle.script_lang.specs.declared.literal.Literal.TheVariants.{Scalar as ScalarOf, Record as RecordOf}
-use Rattle.literal_items.specs.LiteralItems.{item_value, item_values}
+use Rattle.script_lang.specs.RecordValues.{no_values, scalar_value, record_value}
+use Rattle.literal_items.specs.LiteralItems.{values_of, item_value, item_values}
 use Rattle.literal_items.specs.RangeItems.{range_length, range_items}
 
 -- T{<b:x:3x<i:y:}
 abbrev pair : Descr
 pair = RecordDescr (record {
   size = 8;
-  leaves = record { name = codes "x"; scalar = Byte true; at = 0 } ∷ (record { name = codes "y"; scalar = Int true Four Little; at = 4 } ∷ []);
+  fields = scalar_field (codes "x") 0 (Byte true) (scalar_field (codes "y") 4 (Int true Four Little) no_more);
 })
 
 -- T{<B:x:2s:t:}
 abbrev mixed : Descr
 mixed = RecordDescr (record {
   size = 3;
-  leaves = record { name = codes "x"; scalar = Byte false; at = 0 } ∷ (record { name = codes "t"; scalar = BytesScalar 2; at = 1 } ∷ []);
+  fields = scalar_field (codes "x") 0 (Byte false) (scalar_field (codes "t") 1 (BytesScalar 2) no_more);
+})
+
+-- T{<b:x:3xT{<i:y:}:s:}
+abbrev nested : Descr
+nested = RecordDescr (record {
+  size = 8;
+  fields = scalar_field (codes "x") 0 (Byte true) (record_field (codes "s") 4 4 (scalar_field (codes "y") 0 (Int true Four Little) no_more) no_more);
+})
+
+-- T{<b:x:T{<B:y:}:s:}
+abbrev byte_within : Descr
+byte_within = RecordDescr (record {
+  size = 2;
+  fields = scalar_field (codes "x") 0 (Byte true) (record_field (codes "s") 1 1 (scalar_field (codes "y") 0 (Byte false) no_more) no_more);
+})
+
+-- T{T{<B:y:}:s:2s:t:}
+abbrev text_behind : Descr
+text_behind = RecordDescr (record {
+  size = 3;
+  fields = record_field (codes "s") 0 1 (scalar_field (codes "y") 0 (Byte false) no_more) (scalar_field (codes "t") 1 (BytesScalar 2) no_more);
 })
 
 cut : item_value (ScalarDescr (BytesScalar 3)) (ScalarOf (Bytes (codes "abcd"))) ≡ Ok (text (codes "abc") ∷ [])
@@ -41,7 +65,7 @@ nuls_lost : item_value (ScalarDescr (BytesScalar 4)) (ScalarOf (Bytes (97 ∷ 0 
 unfolding item_value
 nuls_lost = refl
 
-by_position : item_value pair (RecordOf (Integer (pos 5) ∷ Integer (negsuc 0) ∷ [])) ≡ Ok (number (pos 5) ∷ number (negsuc 0) ∷ [])
+by_position : item_value pair (RecordOf (scalar_value (Integer (pos 5)) (scalar_value (Integer (negsuc 0)) no_values))) ≡ Ok (number (pos 5) ∷ number (negsuc 0) ∷ [])
 unfolding item_value
 by_position = refl
 
@@ -89,22 +113,60 @@ bool_to_bytes : item_value (ScalarDescr (BytesScalar 2)) (ScalarOf (Boolean true
 unfolding item_value
 bool_to_bytes = refl
 
-record_to_a_scalar : item_value (ScalarDescr (Byte true)) (RecordOf (Integer (pos 5) ∷ [])) ≡ Err NoSuchCast
+record_to_a_scalar : item_value (ScalarDescr (Byte true)) (RecordOf (scalar_value (Integer (pos 5)) no_values)) ≡ Err NoSuchCast
 unfolding item_value
 record_to_a_scalar = refl
 
-one_value_short : item_value pair (RecordOf (Integer (pos 5) ∷ [])) ≡ Err NoSuchCast
+one_value_short : item_value pair (RecordOf (scalar_value (Integer (pos 5)) no_values)) ≡ Err NoSuchCast
 unfolding item_value
 one_value_short = refl
 
-one_value_too_many : item_value pair (RecordOf (Integer (pos 5) ∷ Integer (pos 5) ∷ Integer (pos 5) ∷ [])) ≡ Err NoSuchCast
+one_value_too_many : item_value pair (RecordOf (scalar_value (Integer (pos 5)) (scalar_value (Integer (pos 5)) (scalar_value (Integer (pos 5)) no_values)))) ≡ Err NoSuchCast
 unfolding item_value
 one_value_too_many = refl
 
 -- a value that cannot be cast comes before one that is out of range
-cast_first : item_value mixed (RecordOf (Integer (pos 300) ∷ Integer (pos 1) ∷ [])) ≡ Err NoSuchCast
+cast_first : item_value mixed (RecordOf (scalar_value (Integer (pos 300)) (scalar_value (Integer (pos 1)) no_values))) ≡ Err NoSuchCast
 unfolding item_value
 cast_first = refl
+
+-- (1,(2))
+level_by_level : item_value nested (RecordOf (scalar_value (Integer (pos 1)) (record_value (scalar_value (Integer (pos 2)) no_values) no_values))) ≡ Ok (number (pos 1) ∷ number (pos 2) ∷ [])
+unfolding item_value
+level_by_level = refl
+
+level_by_level_bytes : encode_item nested (values_of nested (RecordOf (scalar_value (Integer (pos 1)) (record_value (scalar_value (Integer (pos 2)) no_values) no_values)))) ≡ 1 ∷ 0 ∷ 0 ∷ 0 ∷ 2 ∷ 0 ∷ 0 ∷ 0 ∷ []
+level_by_level_bytes = refl
+
+-- 5
+to_each_leaf : item_value nested (ScalarOf (Integer (pos 5))) ≡ Ok (number (pos 5) ∷ number (pos 5) ∷ [])
+unfolding item_value
+to_each_leaf = refl
+
+-- (1,2)
+scalar_to_a_record_within : item_value nested (RecordOf (scalar_value (Integer (pos 1)) (scalar_value (Integer (pos 2)) no_values))) ≡ Err NoSuchCast
+unfolding item_value
+scalar_to_a_record_within = refl
+
+-- ((1),(2))
+record_to_a_scalar_within : item_value nested (RecordOf (record_value (scalar_value (Integer (pos 1)) no_values) (record_value (scalar_value (Integer (pos 2)) no_values) no_values))) ≡ Err NoSuchCast
+unfolding item_value
+record_to_a_scalar_within = refl
+
+-- (1,(2,3))
+one_value_too_many_within : item_value nested (RecordOf (scalar_value (Integer (pos 1)) (record_value (scalar_value (Integer (pos 2)) (scalar_value (Integer (pos 3)) no_values)) no_values))) ≡ Err NoSuchCast
+unfolding item_value
+one_value_too_many_within = refl
+
+-- (1,(300))
+too_great_within : item_value byte_within (RecordOf (scalar_value (Integer (pos 1)) (record_value (scalar_value (Integer (pos 300)) no_values) no_values))) ≡ Err LiteralOutOfRange
+unfolding item_value
+too_great_within = refl
+
+-- ((300),1)
+cast_first_at_all_levels : item_value text_behind (RecordOf (record_value (scalar_value (Integer (pos 300)) no_values) (scalar_value (Integer (pos 1)) no_values))) ≡ Err NoSuchCast
+unfolding item_value
+cast_first_at_all_levels = refl
 
 cast_first_of_all : item_values (ScalarDescr (Byte false)) (ScalarOf (Integer (pos 300)) ∷ ScalarOf (Bytes (codes "a")) ∷ []) ≡ Err NoSuchCast
 unfolding item_values

@@ -1,3 +1,4 @@
 pub mod Numbers
 pub mod LiteralItems
 pub mod RangeItems
+pub mod inside

@@ -1,21 +1,22 @@
 -- Literals as items of a descriptor.
-use Rattle.std.specs.Prelude.{ℕ, ℤ, pos, Bool, true, false, not, ◌&&◌, List, [], length, map, take, replicate, nat_eq, Result, Ok}
-use Rattle.std.specs.List.{list_all, zip}
+use Rattle.std.specs.Prelude.{ℕ, ℤ, pos, Bool, true, false, not, ◌&&◌, List, [], ◌∷◌, ◌++◌, map, take, Result, Ok}
+use Rattle.std.specs.List.{list_all}
 use Rattle.elem_descr.specs.declared.refusal.Refusal.{Refusal}
 use Rattle.elem_descr.specs.declared.refusal.Refusal.TheVariants.{LiteralOutOfRange, NoSuchCast}
 use Rattle.elem_descr.specs.declared.scalar.Scalar.{Scalar}
 use Rattle.elem_descr.specs.declared.scalar.Scalar.TheVariants.{Bool as BoolScalar, Bytes as BytesScalar}
-use Rattle.elem_descr.specs.declared.leaf.Leaf.{Leaf}
 use Rattle.elem_descr.specs.declared.descr.Descr.{Descr}
 use Rattle.elem_descr.specs.declared.descr.Descr.TheVariants.{Scalar as ScalarDescr, Record as RecordDescr}
 use Rattle.elem_descr.specs.Refusals.{◌>>=◌, check}
 use Rattle.elem_descr.specs.Values.{LeafValue, number, text}
 use Rattle.elem_descr.specs.Encoding.{wrap, without_nuls}
+use Rattle.elem_descr.specs.Fields.{Fields, no_more, scalar_field, record_field}
 use Rattle.elem_descr.specs.Items.{leaves_of}
 use Rattle.script_lang.specs.declared.literal.ScalarLiteral.{ScalarLiteral}
 use Rattle.script_lang.specs.declared.literal.ScalarLiteral.TheVariants.{Integer, Boolean, Bytes}
 use Rattle.script_lang.specs.declared.literal.Literal.{Literal}
 use Rattle.script_lang.specs.declared.literal.Literal.TheVariants.{Scalar as ScalarOf, Record as RecordOf}
+use Rattle.script_lang.specs.RecordValues.{Values, no_values, scalar_value, record_value}
 use Rattle.literal_items.specs.Numbers.{is_value}
 
 -- One value
@@ -59,41 +60,43 @@ leaf_value scalar literal = number (wrap scalar (literal_number literal))
 
 -- One item
 
--- a scalar literal goes to each of n leaves, and the values of a record literal to one each
-abbrev pub literals_for : ℕ → Literal → List ScalarLiteral
-literals_for n (ScalarOf literal) = replicate n literal
-literals_for n (RecordOf literals) = literals
+-- Whether the values stand one by one for the fields, and each scalar passes a test at its field: a
+-- scalar stands for a scalar, and a record for a record, with as many values as that has fields.
+abbrev pub stand_for : (Scalar → ScalarLiteral → Bool) → Fields → Values → Bool
+stand_for test no_more no_values = true
+stand_for test (scalar_field name at scalar fields) (scalar_value literal values) = test scalar literal && stand_for test fields values
+stand_for test (record_field name at size inner fields) (record_value literals values) = stand_for test inner literals && stand_for test fields values
+stand_for test _ _ = false
 
--- the leaves, each with the literal that goes to it
-abbrev pub with_literals : List Leaf → Literal → List (Leaf × ScalarLiteral)
-with_literals leaves literal = zip leaves (literals_for (length leaves) literal)
+-- whether values can be those of fields, and whether each is in the range of its field
+abbrev pub can_hold : Fields → Values → Bool
+can_hold = stand_for is_castable
 
--- whether each leaf can hold its literal, and whether each literal is in the range of its leaf
-abbrev pub are_castable : List Leaf → Literal → Bool
-are_castable leaves literal = list_all (λ given. is_castable given.0.scalar given.1) (with_literals leaves literal)
-
-abbrev pub are_in_range : List Leaf → Literal → Bool
-are_in_range leaves literal = list_all (λ given. is_in_range given.0.scalar given.1) (with_literals leaves literal)
+abbrev pub are_in_range : Fields → Values → Bool
+are_in_range = stand_for is_in_range
 
 -- the values, leaf by leaf
-abbrev pub leaf_values : List Leaf → Literal → List LeafValue
-leaf_values leaves literal = map (λ given. leaf_value given.0.scalar given.1) (with_literals leaves literal)
+abbrev pub field_values : Fields → Values → List LeafValue
+field_values (scalar_field name at scalar fields) (scalar_value literal values) = leaf_value scalar literal ∷ field_values fields values
+field_values (record_field name at size inner fields) (record_value literals values) = field_values inner literals ++ field_values fields values
+field_values _ _ = []
 
--- a record literal has a value for each field of a record, and goes to no scalar
-abbrev pub covers : Descr → Literal → Bool
-covers descr (ScalarOf literal) = true
-covers (ScalarDescr scalar) (RecordOf literals) = false
-covers (RecordDescr structure) (RecordOf literals) = nat_eq (length literals) (length structure.leaves)
-
--- whether a literal can be an item of a descriptor
+-- Whether a literal can be an item of a descriptor: a scalar literal goes to every leaf, and the
+-- values of a record literal to the fields of a record.
 abbrev pub can_be_item : Descr → Literal → Bool
-can_be_item descr literal = covers descr literal && are_castable (leaves_of descr) literal
+can_be_item descr (ScalarOf literal) = list_all (λ leaf. is_castable leaf.scalar literal) (leaves_of descr)
+can_be_item (RecordDescr structure) (RecordOf literals) = can_hold structure.fields literals
+can_be_item (ScalarDescr scalar) (RecordOf literals) = false
 
 abbrev pub is_item_in_range : Descr → Literal → Bool
-is_item_in_range descr literal = are_in_range (leaves_of descr) literal
+is_item_in_range descr (ScalarOf literal) = list_all (λ leaf. is_in_range leaf.scalar literal) (leaves_of descr)
+is_item_in_range (RecordDescr structure) (RecordOf literals) = are_in_range structure.fields literals
+is_item_in_range (ScalarDescr scalar) (RecordOf literals) = false
 
 abbrev pub values_of : Descr → Literal → List LeafValue
-values_of descr literal = leaf_values (leaves_of descr) literal
+values_of descr (ScalarOf literal) = map (λ leaf. leaf_value leaf.scalar literal) (leaves_of descr)
+values_of (RecordDescr structure) (RecordOf literals) = field_values structure.fields literals
+values_of (ScalarDescr scalar) (RecordOf literals) = []
 
 -- the item that a literal means
 unfoldable pub item_value : Descr → Literal → Result (List LeafValue) Refusal

@@ -1,45 +1,55 @@
 //! Literals as items of a descriptor.
-ghost use Rattle.std.specs.Prelude.{◌≡◌, ◌<◌, ◌≤◌, ◌+◌, ◌*◌, ℕ, true, length, map, take, drop, replicate, slice_get, nat_eq, Some, Ok, Err, MatchResult, IfOk, OnErr};
+ghost use Rattle.std.specs.Prelude.{◌≡◌, ◌≤◌, ◌+◌, ◌*◌, true, length, map, replicate, Ok, Err, MatchResult, IfOk, OnErr};
 ghost use Rattle.std.specs.List.{list_all, concat};
 ghost use Rattle.elem_descr.specs.declared.refusal.Refusal.TheVariants.{LiteralOutOfRange};
-ghost use Rattle.elem_descr.specs.Descriptors.{InOrder};
-ghost use Rattle.elem_descr.specs.Encoding.{size, decode};
-ghost use Rattle.elem_descr.specs.Items.{item_size, decode_item, encode_item, encode_from};
+ghost use Rattle.elem_descr.specs.declared.descr.Descr.TheVariants.{Record as RecordDescr};
+ghost use Rattle.elem_descr.specs.Descriptors.{IsLegal, listed};
+ghost use Rattle.elem_descr.specs.Items.{AreInOrder, item_size, leaves_of, leaves_from, moved, decode_item, encode_item};
 ghost use Rattle.elem_descr.specs.Blocks.{blocks};
-ghost use Rattle.literal_items.specs.LiteralItems.{literals_for, can_be_item, is_item_in_range, values_of, item_value, item_values, are_castable, are_in_range, leaf_values};
+ghost use Rattle.script_lang.specs.Listed.{listed as all_values};
+ghost use Rattle.literal_items.specs.LiteralItems.{is_castable, is_in_range, leaf_value, can_hold, are_in_range, field_values, can_be_item, is_item_in_range, values_of, item_value, item_values};
+ghost use Rattle.literal_items.specs.inside.FieldItems.{can_be_field, is_field_in_range, field_value, put_leaves};
 
 use crate::leaf::{is_castable, is_in_range, write_leaf};
-use elem_descr::{Descr, Leaf, Refusal};
+use elem_descr::{Descr, Field, Leaf, Record, Refusal};
 use script_lang::{Literal, ScalarLiteral};
 
-/// Whether there is a literal for each of so many fields.
-fn covers(literal: &Literal, fields: usize) -> bool
-    ensures { result ≡ nat_eq (length (literals_for fields literal.now)) fields }
+/// Whether a literal can be the value of a field of a record.
+#[cycle(can_hold)]
+fn can_be_field(descr: &Descr, literal: &Literal) -> bool
+    ensures { result ≡ can_be_field descr.now literal.now }
 {
-    match literal {
-        Literal::Scalar(_) => true,
-        Literal::Record(values) => values.as_slice().len() == fields,
+    match (descr, literal) {
+        (Descr::Scalar(scalar), Literal::Scalar(value)) => is_castable(scalar, value),
+        (Descr::Record(structure), Literal::Record(values)) => {
+            can_hold(structure.fields(), values.as_slice())
+        }
+        _ => false,
     }
 }
 
-/// The literal that goes to the k-th leaf.
-fn literal_at(literal: &Literal, k: usize) -> &ScalarLiteral
-    requires { k < length (literals_for (k + 1) literal.now) }
-    ensures { (n : ℕ) → k < n → slice_get (literals_for n literal.now) k ≡ Some result.now }
+/// Whether the literals can be the values of the fields, one by one.
+#[cycle(can_hold)]
+fn can_hold(fields: &[Field], literals: &[Literal]) -> bool
+    ensures { result ≡ can_hold (listed fields.now) (all_values literals.now) }
 {
-    match literal {
-        Literal::Scalar(value) => value,
-        Literal::Record(values) => &values.as_slice()[k],
+    if fields.len() != literals.len() {
+        return false;
     }
+    for (k, field) in fields.iter().enumerate() {
+        if !can_be_field(&field.descr, &literals[k]) {
+            return false;
+        }
+    }
+    true
 }
 
-/// Whether each leaf's literal can be its value.
-fn are_castable(leaves: &[Leaf], literal: &Literal) -> bool
-    requires { length (literals_for (length leaves.now) literal.now) ≡ length leaves.now }
-    ensures { result ≡ are_castable leaves.now literal.now }
+/// Whether a literal can be the value of each leaf.
+fn is_castable_to_all(leaves: &[Leaf], literal: &ScalarLiteral) -> bool
+    ensures { result ≡ list_all (λ leaf. is_castable leaf.scalar literal.now) leaves.now }
 {
-    for (k, leaf) in leaves.iter().enumerate() {
-        if !is_castable(&leaf.scalar, literal_at(literal, k)) {
+    for leaf in leaves {
+        if !is_castable(&leaf.scalar, literal) {
             return false;
         }
     }
@@ -51,22 +61,49 @@ pub fn can_be_item(descr: &Descr, literal: &Literal) -> bool
     ensures { result ≡ can_be_item descr.now literal.now }
 {
     match (descr, literal) {
-        (Descr::Scalar(scalar), Literal::Scalar(value)) => is_castable(scalar, value),
-        (Descr::Scalar(_), Literal::Record(_)) => false,
-        (Descr::Record(record), _) => {
-            covers(literal, record.leaves().len()) && are_castable(record.leaves(), literal)
+        (Descr::Record(structure), Literal::Scalar(value)) => {
+            is_castable_to_all(structure.leaves(), value)
         }
+        _ => can_be_field(descr, literal),
     }
 }
 
-/// Whether each leaf's literal is in range.
-fn are_in_range(leaves: &[Leaf], literal: &Literal) -> bool
-    requires covered { length (literals_for (length leaves.now) literal.now) ≡ length leaves.now }
-    requires castable { are_castable leaves.now literal.now ≡ true }
-    ensures { result ≡ are_in_range leaves.now literal.now }
+/// Whether a literal that can be the value of a field is in its range.
+#[cycle(are_in_range)]
+fn is_field_in_range(descr: &Descr, literal: &Literal) -> bool
+    requires { can_be_field descr.now literal.now ≡ true }
+    ensures { result ≡ is_field_in_range descr.now literal.now }
 {
-    for (k, leaf) in leaves.iter().enumerate() {
-        if !is_in_range(&leaf.scalar, literal_at(literal, k)) {
+    match (descr, literal) {
+        (Descr::Scalar(scalar), Literal::Scalar(value)) => is_in_range(scalar, value),
+        (Descr::Record(structure), Literal::Record(values)) => {
+            are_in_range(structure.fields(), values.as_slice())
+        }
+        _ => unreachable!(),
+    }
+}
+
+/// Whether the literals that the fields can hold are in their ranges.
+#[cycle(are_in_range)]
+fn are_in_range(fields: &[Field], literals: &[Literal]) -> bool
+    requires { can_hold (listed fields.now) (all_values literals.now) ≡ true }
+    ensures { result ≡ are_in_range (listed fields.now) (all_values literals.now) }
+{
+    for (k, field) in fields.iter().enumerate() {
+        if !is_field_in_range(&field.descr, &literals[k]) {
+            return false;
+        }
+    }
+    true
+}
+
+/// Whether a literal that each leaf can hold is in the range of each.
+fn is_in_range_of_all(leaves: &[Leaf], literal: &ScalarLiteral) -> bool
+    requires { list_all (λ leaf. is_castable leaf.scalar literal.now) leaves.now ≡ true }
+    ensures { result ≡ list_all (λ leaf. is_in_range leaf.scalar literal.now) leaves.now }
+{
+    for leaf in leaves {
+        if !is_in_range(&leaf.scalar, literal) {
             return false;
         }
     }
@@ -79,29 +116,70 @@ fn is_item_in_range(descr: &Descr, literal: &Literal) -> bool
     requires { can_be_item descr.now literal.now ≡ true }
     ensures { result ≡ is_item_in_range descr.now literal.now }
 {
-    match descr {
-        Descr::Scalar(scalar) => is_in_range(scalar, literal_at(literal, 0)),
-        Descr::Record(record) => are_in_range(record.leaves(), literal),
+    match (descr, literal) {
+        (Descr::Record(structure), Literal::Scalar(value)) => {
+            is_in_range_of_all(structure.leaves(), value)
+        }
+        _ => is_field_in_range(descr, literal),
     }
 }
 
-/// Writes to each leaf its literal, and zeros elsewhere.
+/// Writes a literal as the field that begins at a byte of the item.
+#[cycle(write_fields)]
+fn write_field(descr: &Descr, literal: &Literal, at: usize, item: &mut [u8])
+    requires castable { can_be_field descr.now literal.now ≡ true }
+    requires within { at + item_size descr.now ≤ length item.old }
+    ensures { item.new ≡ put_leaves item.old (map (moved at) (leaves_of descr.now)) (field_value descr.now literal.now) }
+{
+    match (descr, literal) {
+        (Descr::Scalar(scalar), Literal::Scalar(value)) => {
+            write_leaf(scalar, value, &mut item[at..at + scalar.size()])
+        }
+        (Descr::Record(structure), Literal::Record(values)) => {
+            write_fields(structure, values.as_slice(), at, item)
+        }
+        _ => unreachable!(),
+    }
+}
+
+/// Writes literals as the fields of a record that begins at a byte of the item.
+#[cycle(write_fields)]
+fn write_fields(structure: &Record, literals: &[Literal], from: usize, item: &mut [u8])
+    requires castable { can_hold structure.now.fields (all_values literals.now) ≡ true }
+    requires within { from + structure.now.size ≤ length item.old }
+    ensures written { item.new ≡ put_leaves item.old (leaves_from from structure.now.fields) (field_values structure.now.fields (all_values literals.now)) }
+    ensures legal { IsLegal structure.now }
+{
+    let fields = structure.fields();
+    for (k, field) in fields.iter().enumerate() {
+        write_field(&field.descr, &literals[k], from + field.at, item);
+    }
+}
+
+/// Writes a literal to each leaf.
 #[tactic(auto, using(elem_descr::proofs::FieldLaws::leaf_within))]
-fn write_leaves(leaves: &[Leaf], literal: &Literal, item: &mut [u8])
-    requires covered { length (literals_for (length leaves.now) literal.now) ≡ length leaves.now }
-    requires castable { are_castable leaves.now literal.now ≡ true }
-    requires order { InOrder 0 leaves.now (length item.old) }
-    ensures encoded { item.new ≡ encode_from 0 leaves.now (leaf_values leaves.now literal.now) (length item.old) }
-    ensures reads_back { map (λ leaf. decode leaf.scalar (take (size leaf.scalar) (drop leaf.at item.new))) leaves.now ≡ leaf_values leaves.now literal.now }
+fn write_leaves(leaves: &[Leaf], literal: &ScalarLiteral, item: &mut [u8])
+    requires castable { list_all (λ leaf. is_castable leaf.scalar literal.now) leaves.now ≡ true }
+    requires order { AreInOrder 0 leaves.now (length item.old) }
+    ensures { item.new ≡ put_leaves item.old leaves.now (map (λ leaf. leaf_value leaf.scalar literal.now) leaves.now) }
+{
+    for leaf in leaves {
+        let end = leaf.at + leaf.scalar.size();
+        write_leaf(&leaf.scalar, literal, &mut item[leaf.at..end]);
+    }
+}
+
+/// Writes a literal as the bytes of a record.
+fn write_record(structure: &Record, literal: &Literal, item: &mut [u8])
+    requires castable { can_be_item (RecordDescr structure.now) literal.now ≡ true }
+    requires whole { length item.old ≡ structure.now.size }
+    ensures encoded { let descr = RecordDescr structure.now in item.new ≡ encode_item descr (values_of descr literal.now) }
+    ensures reads_back { let descr = RecordDescr structure.now in decode_item descr item.new ≡ values_of descr literal.now }
 {
     item.fill(0);
-    for (k, leaf) in leaves.iter().enumerate() {
-        let end = leaf.at + leaf.scalar.size();
-        write_leaf(
-            &leaf.scalar,
-            literal_at(literal, k),
-            &mut item[leaf.at..end],
-        );
+    match literal {
+        Literal::Scalar(value) => write_leaves(structure.leaves(), value, item),
+        Literal::Record(values) => write_fields(structure, values.as_slice(), 0, item),
     }
 }
 
@@ -112,9 +190,10 @@ fn write_cast(descr: &Descr, literal: &Literal, item: &mut [u8])
     ensures encoded { item.new ≡ encode_item descr.now (values_of descr.now literal.now) }
     ensures reads_back { decode_item descr.now item.new ≡ values_of descr.now literal.now }
 {
-    match descr {
-        Descr::Scalar(scalar) => write_leaf(scalar, literal_at(literal, 0), item),
-        Descr::Record(record) => write_leaves(record.leaves(), literal, item),
+    match (descr, literal) {
+        (Descr::Scalar(scalar), Literal::Scalar(value)) => write_leaf(scalar, value, item),
+        (Descr::Record(structure), _) => write_record(structure, literal, item),
+        _ => unreachable!(),
     }
 }
 

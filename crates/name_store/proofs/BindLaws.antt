@@ -62,7 +62,7 @@ module _ (es names : List (Key × Entry)) (slots before : Slots) (h : Holds es s
 -- A fresh array: a buffer is put in the first slot that was free.
 module _ (es : List (Key × Entry)) (slots reserved before : Slots) (v : Entry) (slot : Slot) (o : Owned)
     (same : reserved ≡ slots) (free : slot_at reserved v.number ≡ None) (put : (q : ℕ) → slot_at before q ≡ cond (nat_eq q v.number) (Some slot) (slot_at reserved q))
-    (descr-is : slot.descr ≡ o.descr) (items-are : slot.items ≡ count o.layout.shape) (block-is : slot.block ≡ o.block) (layout-is : v.layout ≡ o.layout) (item-is : v.item ≡ item_size o.descr) (field-is : v.field ≡ None)
+    (descr-is : slot.descr ≡ o.descr) (items-are : slot.items ≡ count o.layout.shape) (block-is : slot.block ≡ o.block) (layout-is : v.layout ≡ o.layout) (item-is : v.item ≡ item_size o.descr) (path-is : v.path ≡ [])
     (writable-is : v.writable ≡ true) where
   was_free : slot_at slots v.number ≡ None
   was_free = ap (λ (s : Slots). slot_at s v.number) (sym same) ∙ free
@@ -71,7 +71,7 @@ module _ (es : List (Key × Entry)) (slots reserved before : Slots) (v : Entry) 
   put_there q = put q ∙ ap (λ (s : Slots). cond (nat_eq q v.number) (Some slot) (slot_at s q)) same
 
   pub fresh-ready : Ready slots before v
-  fresh-ready = ready-fresh slots before v slot was_free put_there (fresh-lies o slot v descr-is items-are block-is layout-is item-is field-is writable-is)
+  fresh-ready = ready-fresh slots before v slot was_free put_there (fresh-lies o slot v descr-is items-are block-is layout-is item-is path-is writable-is)
 
   least : ((lower : ℕ) → lower < v.number → is_some (slot_at reserved lower) ≡ true) → (m : ℕ) → m < v.number → IsUnused (state_of es slots) m → ⊥
   least full m less free = occupied (slot_at slots m) refl (ap (λ (s : Slots). is_some (slot_at s m)) (sym same) ∙ full m less)
@@ -88,5 +88,5 @@ module _ (es : List (Key × Entry)) (slots reserved before : Slots) (v : Entry) 
     record { unused = record { unused = get-buffers es slots v.number ∙ ap (option_map buffer_in) was_free; unkept = All-from_recursion _ [] tt }; least = least full },
     ap (λ (ns : List (Key × Entry)). state_of ns after) inserted
         ∙ bound-state es slots before h eq k v is fresh-ready (insert (state_of es slots).buffers v.number (buffer_in slot)) (buffers-put es slots before v.number slot put_there) after swept
-        ∙ (λ i. bound_to (state_of es slots) k.bytes.items (fresh-array_at o slot v descr-is items-are block-is layout-is item-is field-is writable-is i) (fresh-buffer o slot v descr-is items-are block-is layout-is item-is field-is writable-is i)),
+        ∙ (λ i. bound_to (state_of es slots) k.bytes.items (fresh-array_at o slot v descr-is items-are block-is layout-is item-is path-is writable-is i) (fresh-buffer o slot v descr-is items-are block-is layout-is item-is path-is writable-is i)),
   )

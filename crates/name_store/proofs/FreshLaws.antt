@@ -1,22 +1,19 @@
 -- An array that fills a block of its own.
-use Rattle.std.proofs.Common.{◌≡◌, ◌+◌, ◌*◌, ◌/◌, ◌<◌, map, ℕ, true, List, [], ◌∷◌, None, refl, sym, ap, subst, ◌∙◌, arith}
+use Rattle.std.proofs.Common.{◌≡◌, ◌+◌, ◌*◌, ◌/◌, ◌<◌, map, ℕ, true, List, [], ◌∷◌, refl, sym, ap, subst, ◌∙◌, arith}
 use Rattle.std.proofs.lemmas.Nat.{div-mul-add}
 use Rattle.std.proofs.Math.Nat.{mul_comm}
-use Rattle.std.specs.Option.{option_map}
 use Rattle.elem_descr.specs.Items.{item_size}
 use Rattle.shape_strides.specs.Indexes.{count}
 use Rattle.shape_strides.specs.Layouts.{offsets, Fits}
 use Rattle.overlap_copy.specs.declared.owned.Owned.{Owned}
 use Rattle.name_store.specs.Calls.{own_array, own_buffer}
 use Rattle.elem_descr.specs.Blocks.{items_in}
-use Rattle.name_store.specs.Invariants.{LiesIn, IsFieldIn}
-use Rattle.name_store.specs.Parts.{path_of}
+use Rattle.name_store.specs.Invariants.{LiesIn}
 use Rattle.name_store.specs.Places.{offsets_of}
 use Rattle.overlap_copy.specs.Blocks.{places_of}
-use Rattle.name_store.specs.View.{array_at, buffer_in, leaf_in}
+use Rattle.name_store.specs.View.{array_at, buffer_in}
 use Rattle.name_store.specs.Views.{IsLaidOut}
 use Rattle.name_store.specs.declared.entry.Entry.{Entry}
-use Rattle.name_store.specs.declared.entry.Field.{Field}
 use Rattle.name_store.specs.declared.slot.Slot.{Slot}
 use Rattle.name_store.proofs.LaidLaws.{laid-same}
 
@@ -30,13 +27,9 @@ from_start item [] = refl
 from_start item (place ∷ places) = let same : item * place ≡ item * place + 0 = omega arith in λ i. same i ∷ from_start item places i
 
 module _ (o : Owned) (slot : Slot) (e : Entry) (descr-is : slot.descr ≡ o.descr) (items-are : slot.items ≡ count o.layout.shape) (block-is : slot.block ≡ o.block)
-    (layout-is : e.layout ≡ o.layout) (item-is : e.item ≡ item_size o.descr) (field-is : e.field ≡ None) (writable-is : e.writable ≡ true) where
-  none : leaf_in e ≡ None
-  none = ap (option_map (λ (field : Field). field.number)) field-is
-
-  own-laid : IsLaidOut o.descr (count o.layout.shape) (own_array e.number o) None o.layout true
+    (layout-is : e.layout ≡ o.layout) (item-is : e.item ≡ item_size o.descr) (path-is : e.path ≡ []) (writable-is : e.writable ≡ true) where
+  own-laid : IsLaidOut o.descr (count o.layout.shape) (own_array e.number o) o.layout true
   own-laid = record {
-    path = refl;
     part = tt;
     shape = refl;
     places = o.fills_block.whole ∙ from_start (item_size o.descr) (places_of (item_size o.descr) (offsets o.layout));
@@ -46,14 +39,13 @@ module _ (o : Owned) (slot : Slot) (e : Entry) (descr-is : slot.descr ≡ o.desc
   }
 
   pub fresh-array_at : array_at e ≡ own_array e.number o
-  fresh-array_at = λ i. record { buffer = e.number; path = path_of (none i); shape = (layout-is i).shape; places = places_of (item-is i) (offsets (layout-is i)); writable = writable-is i }
+  fresh-array_at = λ i. record { buffer = e.number; path = path-is i; shape = (layout-is i).shape; places = places_of (item-is i) (offsets (layout-is i)); writable = writable-is i }
 
   pub fresh-lies : LiesIn slot e
   fresh-lies = record {
     item = item-is ∙ ap item_size (sym descr-is);
-    field = subst (IsFieldIn slot.descr) (sym field-is) tt;
-    laid = laid-same o.descr slot.descr (count o.layout.shape) slot.items (own_array e.number o) (array_at e) None (leaf_in e) o.layout e.layout true e.writable
-        (sym descr-is) (sym items-are) (sym fresh-array_at) (sym none) (sym layout-is) (sym writable-is) own-laid;
+    laid = laid-same o.descr slot.descr (count o.layout.shape) slot.items (own_array e.number o) (array_at e) o.layout e.layout true e.writable
+        (sym descr-is) (sym items-are) (sym fresh-array_at) (sym layout-is) (sym writable-is) own-laid;
   }
 
   pub fresh-buffer : buffer_in slot ≡ own_buffer o

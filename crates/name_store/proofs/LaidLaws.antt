@@ -1,5 +1,5 @@
 -- Layouts with the items of an array: where their places are.
-use Rattle.std.proofs.Common.{◌≡◌, ◌+◌, ◌*◌, ◌<◌, ◌≤◌, ◌⊎◌, inl, inr, map, ℕ, zero, suc, ℤ, pos, negsuc, ◌+ℤ◌, ◌≤ℤ◌, List, [], ◌∷◌, ◌++◌, Option, Bool, subst, arith}
+use Rattle.std.proofs.Common.{◌≡◌, ◌+◌, ◌*◌, ◌<◌, ◌≤◌, ◌⊎◌, inl, inr, map, ℕ, zero, suc, ℤ, pos, negsuc, ◌+ℤ◌, ◌≤ℤ◌, List, [], ◌∷◌, ◌++◌, Bool, subst, arith}
 use Rattle.std.specs.List.{AllByRecursion, flat_map, range_with_len}
 use Rattle.std.proofs.lemmas.Bool.{cases_lt}
 use Rattle.std.proofs.lemmas.Int.{ints}
@@ -52,18 +52,17 @@ within-items item start width n (place ∷ places) some inside = (below (cases_l
     below (inl less) = less
     below (inr more) = let most : item * n ≤ item * place = mul-le-mul_left item more in absurd (omega (arith, some, inside.0, most, mul_comm n item))
 
-pub places-within : (descr : Descr) (n : ℕ) (array : Array) (leaf : Option ℕ) (layout : Layout) (writable : Bool) → IsLaidOut descr n array leaf layout writable → 1 ≤ item_size (descr_at descr array.path) → AllByRecursion (λ place. place < n) array.places
-places-within descr n array leaf layout writable laid some =
+pub places-within : (descr : Descr) (n : ℕ) (array : Array) (layout : Layout) (writable : Bool) → IsLaidOut descr n array layout writable → 1 ≤ item_size (descr_at descr array.path) → AllByRecursion (λ place. place < n) array.places
+places-within descr n array layout writable laid some =
     let width = item_size (descr_at descr array.path) in
     within-items (item_size descr) (start_at descr array.path) width n array.places some
     (subst (AllByRecursion (λ offset. offset + width ≤ n * item_size descr)) laid.places (offsets-within layout (n * item_size descr) width laid.fits))
 
 -- the same of equal ones
-pub laid-same : (d d' : Descr) (n n' : ℕ) (a a' : Array) (f f' : Option ℕ) (l l' : Layout) (w w' : Bool) → d ≡ d' → n ≡ n' → a ≡ a' → f ≡ f' → l ≡ l' → w ≡ w' → IsLaidOut d n a f l w → IsLaidOut d' n' a' f' l' w'
-laid-same d d' n n' a a' f f' l l' w w' d-is n-is a-is f-is l-is w-is laid =
-    subst (λ (x : Bool). IsLaidOut d' n' a' f' l' x) w-is
-    (subst (λ (x : Layout). IsLaidOut d' n' a' f' x w) l-is
-    (subst (λ (x : Option ℕ). IsLaidOut d' n' a' x l w) f-is
-    (subst (λ (x : Array). IsLaidOut d' n' x f l w) a-is
-    (subst (λ (x : ℕ). IsLaidOut d' x a f l w) n-is
-    (subst (λ (x : Descr). IsLaidOut x n a f l w) d-is laid)))))
+pub laid-same : (d d' : Descr) (n n' : ℕ) (a a' : Array) (l l' : Layout) (w w' : Bool) → d ≡ d' → n ≡ n' → a ≡ a' → l ≡ l' → w ≡ w' → IsLaidOut d n a l w → IsLaidOut d' n' a' l' w'
+laid-same d d' n n' a a' l l' w w' d-is n-is a-is l-is w-is laid =
+    subst (λ (x : Bool). IsLaidOut d' n' a' l' x) w-is
+    (subst (λ (x : Layout). IsLaidOut d' n' a' x w) l-is
+    (subst (λ (x : Array). IsLaidOut d' n' x l w) a-is
+    (subst (λ (x : ℕ). IsLaidOut d' x a l w) n-is
+    (subst (λ (x : Descr). IsLaidOut x n a l w) d-is laid))))

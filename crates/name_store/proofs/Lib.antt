@@ -1,4 +1,5 @@
 pub mod BlockLaws
+pub mod FieldSplits
 pub mod PartLaws
 pub mod PutLaws
 pub mod NameLaws

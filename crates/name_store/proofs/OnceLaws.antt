@@ -7,7 +7,7 @@ use Rattle.name_store.specs.Invariants.{LiesIn}
 use Rattle.name_store.specs.Parts.{start_at}
 use Rattle.name_store.specs.Places.{offsets_of}
 use Rattle.overlap_copy.specs.Blocks.{places_of}
-use Rattle.name_store.specs.View.{array_at, leaf_in, path_in}
+use Rattle.name_store.specs.View.{array_at}
 use Rattle.name_store.specs.declared.entry.Entry.{Entry}
 use Rattle.name_store.specs.declared.slot.Slot.{Slot}
 use Rattle.name_store.proofs.PartLaws.{part-some}
@@ -24,7 +24,7 @@ no-distance a b same = omega (arith, same)
 pub no_place_twice : (s : Slot) (e : Entry) → LiesIn s e → IsTrue e.writable → (j k : ℕ) → j < k → k < length (array_at e).places → slice_index (array_at e).places j ≢ slice_index (array_at e).places k
 no_place_twice s e lies free j k before within same =
     let item : ℕ = item_size s.descr in
-    let start : ℕ = start_at s.descr (path_in e) in
+    let start : ℕ = start_at s.descr e.path in
     let places : List ℕ = places_of e.item (offsets e.layout) in
     let first : slice_index (offsets e.layout) j ≡ item * slice_index places j + start = ap (λ (os : List ℕ). slice_index os j) lies.laid.places ∙ offset-at item start places j (omega (arith, before, within)) in
     let second : slice_index (offsets e.layout) k ≡ item * slice_index places k + start = ap (λ (os : List ℕ). slice_index os k) lies.laid.places ∙ offset-at item start places k within in
@@ -32,4 +32,4 @@ no_place_twice s e lies free j k before within same =
     let counted : length places ≡ length (offsets e.layout) = length-map (offsets e.layout) (λ offset. offset / e.item) in
     let inside : k < length places = within in
     let far = (lies.laid.nested free).apart j k before (omega (arith, inside, counted)) in
-    omega (arith, far, no-distance (slice_index (offsets e.layout) j) (slice_index (offsets e.layout) k) alike, part-some s.descr s.is_whole.apart s.is_whole.some (leaf_in e) lies.laid.part)
+    omega (arith, far, no-distance (slice_index (offsets e.layout) j) (slice_index (offsets e.layout) k) alike, part-some s.descr s.is_whole.legal e.path lies.laid.part)

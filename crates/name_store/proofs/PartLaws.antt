@@ -1,23 +1,19 @@
 -- Parts of an item: where their bytes lie, and what is read and written there.
-use Rattle.std.proofs.Common.{◌≡◌, ◌+◌, ◌-◌, ◌<◌, ◌≤◌, ℕ, zero, suc, List, [], ◌∷◌, ◌++◌, length, take, drop, map, get_or, refl, sym, ap, ◌∙◌, Option, Some, None, append_assoc, arith, length-take, length-append}
-use Rattle.std.specs.Option.{option_map}
+use Rattle.std.proofs.Common.{◌≡◌, ◌+◌, ◌-◌, ◌<◌, ◌≤◌, ℕ, zero, suc, List, [], ◌∷◌, ◌++◌, length, take, drop, map, refl, sym, ap, ◌∙◌, append_assoc, arith, length-take, length-append}
 use Rattle.std.proofs.Math.Seq.{take-append_seam}
-use Rattle.std.proofs.lemmas.List.{take-append-le, drop-append-le, take-append-drop, drop-take, take_at, drop_at, take_all, drop_all, append-nil}
+use Rattle.std.proofs.lemmas.List.{map-append, length-map, take-append-le, drop-append-le, take-append-drop, drop-take, take_at, drop_at}
 use Rattle.elem_descr.specs.declared.descr.Descr.{Descr}
 use Rattle.elem_descr.specs.declared.leaf.Leaf.{Leaf}
-use Rattle.elem_descr.specs.declared.scalar.Scalar.{Scalar}
 use Rattle.elem_descr.specs.Blocks.{item_from}
 use Rattle.elem_descr.specs.Encoding.{size, decode}
-use Rattle.elem_descr.specs.Items.{item_size, leaves_of, no_leaf, leaf_at, AreApart, decode_item}
+use Rattle.elem_descr.specs.Items.{item_size, leaves_of, leaves_in, fields, field_at, moved, AreInOrder, decode_item}
 use Rattle.elem_descr.specs.Values.{LeafValue}
+use Rattle.elem_descr.proofs.FieldLaws.{AreInOrder-within}
 use Rattle.raw_block.specs.Bytes.{put}
-use Rattle.name_store.specs.Parts.{descr_at, start_at, part_at, with_part, path_of, IsPartOf}
-use Rattle.name_store.specs.Invariants.{IsFieldIn, LiesIn}
-use Rattle.name_store.specs.View.{descr_in, descr_of_field, own_size, path_in, size_of_field}
-use Rattle.name_store.specs.declared.entry.Entry.{Entry}
-use Rattle.name_store.specs.declared.entry.Field.{Field}
-use Rattle.name_store.specs.declared.slot.Slot.{Slot}
+use Rattle.name_store.specs.Parts.{IsPathOf, descr_at, start_at, first_at, span_at, part_at, with_part}
+use Rattle.name_store.specs.Places.{IsElementType}
 use Rattle.name_store.proofs.BlockLaws.{drop-drop}
+use Rattle.name_store.proofs.FieldSplits.{Split, split-whole, split-within, records_deep, type-some, type-in_order, type-leaves, type-shallow, fields-deep, field-deep, field-legal, field-split}
 
 -- ---- bytes of a part
 
@@ -76,102 +72,153 @@ put-front at len item xs fits within =
     front : length (take len xs) ≡ len
     front = omega (arith, within, length-take len xs)
 
--- ---- values of a part
+-- ---- values of leaves
 
 abbrev value_in : List ℕ → Leaf → LeafValue
 value_in bytes leaf = decode leaf.scalar (take (size leaf.scalar) (drop leaf.at bytes))
 
-taken-one : (f : Leaf → LeafValue) (leaves : List Leaf) (k : ℕ) → k < length leaves → take 1 (drop k (map f leaves)) ≡ f (get_or leaves k no_leaf) ∷ []
-taken-one f [] k low = absurd (omega arith)
-taken-one f (leaf ∷ leaves) zero low = refl
-taken-one f (leaf ∷ leaves) (suc k) low = taken-one f leaves k (omega arith)
-
--- the values of fields behind the bytes that are put
-same-after : (to : ℕ) (item xs : List ℕ) (leaves : List Leaf) → ((j : ℕ) → j < length leaves → to + length item ≤ (get_or leaves j no_leaf).at) → to ≤ length xs → map (value_in (put to item xs)) leaves ≡ map (value_in xs) leaves
-same-after to item xs [] after within = refl
-same-after to item xs (leaf ∷ leaves) after within =
-    λ i. decode leaf.scalar (take (size leaf.scalar) (dropped-after leaf.at to item xs (after 0 (omega arith)) within i)) ∷ same-after to item xs leaves (λ j low. after (suc j) (omega arith)) within i
-
--- the values of all fields, where the bytes of one are put
-one-put : (to k : ℕ) (item xs : List ℕ) (leaves : List Leaf) → k < length leaves → to ≡ (get_or leaves k no_leaf).at → length item ≡ size (get_or leaves k no_leaf).scalar → to ≤ length xs →
-    ((j : ℕ) → j < k → (get_or leaves j no_leaf).at + size (get_or leaves j no_leaf).scalar ≤ to) → ((j : ℕ) → k < j → j < length leaves → to + length item ≤ (get_or leaves j no_leaf).at) →
-    map (value_in (put to item xs)) leaves ≡ take k (map (value_in xs) leaves) ++ (decode (get_or leaves k no_leaf).scalar item ∷ []) ++ drop (k + 1) (map (value_in xs) leaves)
-one-put to k item xs [] low is whole within before after = absurd (omega arith)
-one-put to zero item xs (leaf ∷ leaves) low is whole within before after =
-    λ i. decode leaf.scalar (there i) ∷ same-after to item xs leaves (λ j less. after (suc j) (omega arith) (omega arith)) within i
+-- those of leaves further on
+values-moved : (start width from : ℕ) (bytes part : List ℕ) (leaves : List Leaf) → AreInOrder from leaves width → take width (drop start bytes) ≡ part → map (value_in bytes) (map (moved start) leaves) ≡ map (value_in part) leaves
+values-moved start width from bytes part [] order is = refl
+values-moved start width from bytes part (leaf ∷ leaves) order is =
+    λ i. decode leaf.scalar (there i) ∷ values-moved start width (leaf.at + size leaf.scalar) bytes part leaves order.2 is i
   where
-    there : take (size leaf.scalar) (drop leaf.at (put to item xs)) ≡ item
-    there = (λ i. take (sym whole i) (drop (sym is i) (put to item xs))) ∙ taken-there to item xs within
-one-put to (suc k) item xs (leaf ∷ leaves) low is whole within before after =
-    (λ i. decode leaf.scalar (taken-before leaf.at (size leaf.scalar) to item xs (before 0 (omega arith)) within i)
-    ∷ one-put to k item xs leaves (omega arith) is whole within (λ j less. before (suc j) (omega arith)) (λ j more less. after (suc j) (omega arith) (omega arith)) i)
-    ∙ ap (λ n. value_in xs leaf ∷ take k (map (value_in xs) leaves) ++ (decode (get_or leaves k no_leaf).scalar item ∷ []) ++ drop n (map (value_in xs) (leaf ∷ leaves))) more
-  where
-    more : suc (k + 1) ≡ suc k + 1
-    more = omega arith
+    there : take (size leaf.scalar) (drop (start + leaf.at) bytes) ≡ take (size leaf.scalar) (drop leaf.at part)
+    there =
+        ap (take (size leaf.scalar)) (drop-drop start leaf.at bytes)
+        ∙ sym (take-within leaf.at (size leaf.scalar) width (drop start bytes) (AreInOrder-within (leaf.at + size leaf.scalar) leaves width order.2))
+        ∙ ap (λ bytes. take (size leaf.scalar) (drop leaf.at bytes)) is
 
--- ---- a part of an item
+-- those of leaves before the bytes that are put
+same-before : (to from : ℕ) (item xs : List ℕ) (leaves : List Leaf) → AreInOrder from leaves to → to ≤ length xs → map (value_in (put to item xs)) leaves ≡ map (value_in xs) leaves
+same-before to from item xs [] order within = refl
+same-before to from item xs (leaf ∷ leaves) order within =
+    λ i. decode leaf.scalar (taken-before leaf.at (size leaf.scalar) to item xs (AreInOrder-within (leaf.at + size leaf.scalar) leaves to order.2) within i)
+    ∷ same-before to (leaf.at + size leaf.scalar) item xs leaves order.2 within i
 
-module _ (descr : Descr) (apart : AreApart descr) where
-  pub part-within : (leaf : Option ℕ) → IsPartOf descr leaf → start_at descr (path_of leaf) + item_size (descr_at descr (path_of leaf)) ≤ item_size descr
-  part-within None there = omega arith
-  part-within (Some k) there = omega (arith, apart.within k there)
+-- and of leaves behind them
+same-after : (to from bytes : ℕ) (item xs : List ℕ) (leaves : List Leaf) → AreInOrder from leaves bytes → to + length item ≤ from → to ≤ length xs → map (value_in (put to item xs)) leaves ≡ map (value_in xs) leaves
+same-after to from bytes item xs [] order after within = refl
+same-after to from bytes item xs (leaf ∷ leaves) order after within =
+    λ i. decode leaf.scalar (take (size leaf.scalar) (dropped-after leaf.at to item xs (omega (arith, after, order.0)) within i))
+    ∷ same-after to (leaf.at + size leaf.scalar) bytes item xs leaves order.2 (omega (arith, after, order.0)) within i
 
-  pub part-some : 1 ≤ item_size descr → (leaf : Option ℕ) → IsPartOf descr leaf → 1 ≤ item_size (descr_at descr (path_of leaf))
-  part-some some None there = some
-  part-some some (Some k) there = apart.some k there
+-- ---- some of several values
+
+module _ (f : Leaf → LeafValue) (front middle back : List Leaf) (first count : ℕ) (before : length front ≡ first) (here : length middle ≡ count) where
+  three : map f (front ++ (middle ++ back)) ≡ map f front ++ (map f middle ++ map f back)
+  three = map-append f front (middle ++ back) ∙ ap (λ rest. map f front ++ rest) (map-append f middle back)
+
+  taken-front : take first (map f (front ++ (middle ++ back))) ≡ map f front
+  taken-front = ap (take first) three ∙ take_at (map f front) (map f middle ++ map f back) first (length-map front f ∙ before)
+
+  taken-middle : take count (drop first (map f (front ++ (middle ++ back)))) ≡ map f middle
+  taken-middle =
+      ap (λ all. take count (drop first all)) three
+      ∙ ap (take count) (drop_at (map f front) (map f middle ++ map f back) first (length-map front f ∙ before))
+      ∙ take_at (map f middle) (map f back) count (length-map middle f ∙ here)
+
+  dropped-back : drop (first + count) (map f (front ++ (middle ++ back))) ≡ map f back
+  dropped-back =
+      ap (drop (first + count)) (three ∙ sym (append_assoc (map f front) (map f middle) (map f back)))
+      ∙ drop_at (map f front ++ map f middle) (map f back) (first + count) (omega (arith, length-append (map f front) (map f middle), length-map front f, length-map middle f, before, here))
+
+-- ---- a path
+
+pub path-split : (descr : Descr) (path : List ℕ) → IsElementType descr → IsPathOf descr path → Split (leaves_of descr) 0 (start_at descr path) (descr_at descr path) (item_size descr) (first_at descr path)
+path-split descr [] legal is = split-whole descr
+path-split descr (k ∷ path) legal is =
+    let whole = (field_at descr k).descr in
+    split-within (leaves_of descr) 0 (field_at descr k).at whole (item_size descr) (leaves_in (take k (fields descr))) (start_at whole path) (first_at whole path) (descr_at whole path)
+    (field-split descr k is.0 legal) (path-split whole path (field-legal descr k is.0 legal) is.1)
+
+pub path-legal : (descr : Descr) (path : List ℕ) → IsElementType descr → IsPathOf descr path → IsElementType (descr_at descr path)
+path-legal descr [] legal is = legal
+path-legal descr (k ∷ path) legal is = path-legal (field_at descr k).descr path (field-legal descr k is.0 legal) is.1
+
+path-deep : (descr : Descr) (path : List ℕ) → IsPathOf descr path → length path + records_deep (descr_at descr path) ≤ records_deep descr
+path-deep descr [] is = omega arith
+path-deep descr (k ∷ path) is = omega (arith, field-deep descr k is.0, path-deep (field_at descr k).descr path is.1)
+
+module _ (descr : Descr) (legal : IsElementType descr) (path : List ℕ) (there : IsPathOf descr path) where
+  abbrev own : Descr
+  own = descr_at descr path
+
+  abbrev start : ℕ
+  start = start_at descr path
+
+  abbrev split : Split (leaves_of descr) 0 start own (item_size descr) (first_at descr path)
+  split = path-split descr path legal there
+
+  pub part-within : start + item_size own ≤ item_size descr
+  part-within = AreInOrder-within (start + item_size own) split.back (item_size descr) split.after
+
+  pub part-some : 1 ≤ item_size own
+  part-some = type-some own (path-legal descr path legal there)
+
+  pub part-leaves : 1 ≤ length (leaves_of own)
+  part-leaves = type-leaves own (path-legal descr path legal there)
+
+  -- the leaves of a part are some of the item's
+  pub span-within : first_at descr path + length (leaves_of own) ≤ length (leaves_of descr)
+  span-within =
+      omega (arith, ap length split.all, split.counted, length-append split.front (map (moved start) (leaves_of own) ++ split.back), length-append (map (moved start) (leaves_of own)) split.back, length-map (leaves_of own) (moved start))
+
+  -- a path to a record may go on
+  pub part-deeper : (k : ℕ) → k < length (fields own) → length path < 4
+  part-deeper k low = omega (arith, path-deep descr path there, type-shallow descr legal, fields-deep own k low)
 
   -- what is read where a part begins
-  pub part-read : (leaf : Option ℕ) → IsPartOf descr leaf → (block : List ℕ) (at : ℕ) →
-      part_at (path_of leaf) (item_from descr block at) ≡ item_from (descr_at descr (path_of leaf)) block (at + start_at descr (path_of leaf))
-  part-read None there block at = ap (item_from descr block) (omega arith)
-  part-read (Some k) there block at =
-      taken-one (value_in (take (item_size descr) (drop at block))) (leaves_of descr) k there
-      ∙ ap (λ bytes. decode scalar bytes ∷ []) (take-within start width (item_size descr) (drop at block) (omega (arith, apart.within k there)) ∙ same)
+  pub part-read : (block : List ℕ) (at : ℕ) → part_at (span_at descr path) (item_from descr block at) ≡ item_from own block (at + start)
+  part-read block at =
+      ap (λ leaves. take (length (leaves_of own)) (drop (first_at descr path) (map (value_in bytes) leaves))) split.all
+      ∙ taken-middle (value_in bytes) split.front (map (moved start) (leaves_of own)) split.back (first_at descr path) (length (leaves_of own)) split.counted (length-map (leaves_of own) (moved start))
+      ∙ values-moved start (item_size own) 0 bytes (take (item_size own) (drop (at + start) block)) (leaves_of own) (type-in_order own (path-legal descr path legal there)) same
     where
-      scalar : Scalar
-      scalar = (leaf_at descr k).scalar
+      bytes : List ℕ
+      bytes = take (item_size descr) (drop at block)
 
-      start : ℕ
-      start = (leaf_at descr k).at
-
-      width : ℕ
-      width = size scalar
-
-      same : take width (drop start (drop at block)) ≡ take width (take width (drop (at + (start + 0)) block))
+      same : take (item_size own) (drop start bytes) ≡ take (item_size own) (drop (at + start) block)
       same =
-          ap (take width) (sym (drop-drop at start block) ∙ ap (λ n. drop n block) (omega arith))
-          ∙ sym (take-take width width (drop (at + (start + 0)) block) (omega arith))
+          take-within start (item_size own) (item_size descr) (drop at block) part-within
+          ∙ ap (take (item_size own)) (sym (drop-drop at start block))
 
   -- what is read where the bytes of a part are put
-  pub part-put : (leaf : Option ℕ) → IsPartOf descr leaf → (part bytes : List ℕ) → length part ≡ item_size (descr_at descr (path_of leaf)) → length bytes ≡ item_size descr →
-      decode_item descr (put (start_at descr (path_of leaf)) part bytes) ≡ with_part (path_of leaf) (decode_item (descr_at descr (path_of leaf)) part) (decode_item descr bytes)
-  part-put None there part bytes whole long =
-      ap (decode_item descr) (ap (λ n. part ++ drop n bytes) none ∙ ap (λ back. part ++ back) (drop_all (length part) bytes (omega (arith, whole, long))) ∙ append-nil part)
+  pub part-put : (part bytes : List ℕ) → length part ≡ item_size own → length bytes ≡ item_size descr →
+      decode_item descr (put start part bytes) ≡ with_part (span_at descr path) (decode_item own part) (decode_item descr bytes)
+  part-put part bytes whole long =
+      ap (map (value_in new)) split.all
+      ∙ three (value_in new) split.front middle split.back (first_at descr path) (length (leaves_of own)) split.counted (length-map (leaves_of own) (moved start))
+      ∙ (λ i. before i ++ (here i ++ after i))
+      ∙ sym (append_assoc front (decode_item own part) back)
     where
-      none : 0 + length part ≡ length part
-      none = omega arith
-  part-put (Some k) there part bytes whole long =
-      one-put ((leaf_at descr k).at + 0) k part bytes (leaves_of descr) there same whole (omega (arith, long, apart.within k there))
-      (λ j less. omega (arith, apart.apart j k less there)) (λ j more low. omega (arith, whole, apart.apart k j more low))
-      ∙ ap (λ new. take k (decode_item descr bytes) ++ (decode (leaf_at descr k).scalar new ∷ []) ++ drop (k + 1) (decode_item descr bytes)) (sym (take_all (size (leaf_at descr k).scalar) part (omega (arith, whole))))
-    where
-      same : (leaf_at descr k).at + 0 ≡ (leaf_at descr k).at
-      same = omega arith
+      inside : start ≤ length bytes
+      inside = omega (arith, long, part-within)
 
--- ---- an entry's field
+      new : List ℕ
+      new = put start part bytes
 
-module _ (slot : Slot) (e : Entry) (lies : LiesIn slot e) where
-  pub own-descr : descr_in e slot.descr ≡ descr_at slot.descr (path_in e)
-  own-descr = by_case e.field lies.field
-    where
-      by_case : (field : Option Field) → IsFieldIn slot.descr field → descr_of_field field slot.descr ≡ descr_at slot.descr (path_of (option_map (λ f. f.number) field))
-      by_case None there = refl
-      by_case (Some f) there = there.1
+      middle : List Leaf
+      middle = map (moved start) (leaves_of own)
 
-  pub own-size : own_size e ≡ item_size (descr_at slot.descr (path_in e))
-  own-size = by_case e.field lies.field
-    where
-      by_case : (field : Option Field) → IsFieldIn slot.descr field → size_of_field field e.item ≡ item_size (descr_at slot.descr (path_of (option_map (λ f. f.number) field)))
-      by_case None there = lies.item
-      by_case (Some f) there = ap item_size there.1
+      front : List LeafValue
+      front = take (first_at descr path) (decode_item descr bytes)
+
+      back : List LeafValue
+      back = drop (first_at descr path + length (leaves_of own)) (decode_item descr bytes)
+
+      before : map (value_in new) split.front ≡ front
+      before =
+          same-before start 0 part bytes split.front split.before inside
+          ∙ sym (ap (λ leaves. take (first_at descr path) (map (value_in bytes) leaves)) split.all
+          ∙ taken-front (value_in bytes) split.front middle split.back (first_at descr path) (length (leaves_of own)) split.counted (length-map (leaves_of own) (moved start)))
+
+      here : map (value_in new) middle ≡ decode_item own part
+      here =
+          values-moved start (item_size own) 0 new part (leaves_of own) (type-in_order own (path-legal descr path legal there)) (ap (λ n. take n (drop start new)) (sym whole) ∙ taken-there start part bytes inside)
+
+      after : map (value_in new) split.back ≡ back
+      after =
+          same-after start (start + item_size own) (item_size descr) part bytes split.back split.after (omega (arith, whole)) inside
+          ∙ sym (ap (λ leaves. drop (first_at descr path + length (leaves_of own)) (map (value_in bytes) leaves)) split.all
+          ∙ dropped-back (value_in bytes) split.front middle split.back (first_at descr path) (length (leaves_of own)) split.counted (length-map (leaves_of own) (moved start)))

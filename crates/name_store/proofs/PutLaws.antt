@@ -1,13 +1,13 @@
 -- Parts of items in a block: read, and put.
-use Rattle.std.proofs.Common.{◌≡◌, ◌+◌, ◌*◌, ◌<◌, ◌≤◌, ℕ, List, [], ◌∷◌, ◌++◌, length, take, drop, map, replicate, refl, sym, ap, ◌∙◌, Option, unwrap_or, slice_set, append_assoc, arith, length-take, length-drop}
+use Rattle.std.proofs.Common.{◌≡◌, ◌+◌, ◌*◌, ◌<◌, ◌≤◌, ℕ, List, [], ◌∷◌, ◌++◌, length, take, drop, map, replicate, refl, sym, ap, ◌∙◌, unwrap_or, slice_set, append_assoc, arith, length-take, length-drop}
 use Rattle.std.specs.List.{AllByRecursion}
 use Rattle.elem_descr.specs.declared.descr.Descr.{Descr}
 use Rattle.elem_descr.specs.Blocks.{items_in, item_from}
-use Rattle.elem_descr.specs.Items.{item_size, decode_item, AreApart}
+use Rattle.elem_descr.specs.Items.{item_size, decode_item}
 use Rattle.raw_block.specs.Bytes.{put}
 use Rattle.name_store.specs.Arrays.{item_at, write}
-use Rattle.name_store.specs.Parts.{descr_at, start_at, part_at, with_part, path_of, IsPartOf}
-use Rattle.name_store.specs.Places.{offsets_of}
+use Rattle.name_store.specs.Parts.{IsPathOf, descr_at, start_at, span_at, part_at, with_part}
+use Rattle.name_store.specs.Places.{offsets_of, IsElementType}
 use Rattle.name_store.specs.Targets.{put_each}
 use Rattle.name_store.proofs.BlockLaws.{drop-drop, put-add, put-item, item-at, item-inside, length-put}
 use Rattle.name_store.proofs.PartLaws.{put-front, part-within, part-read, part-put}
@@ -26,9 +26,9 @@ put-part width at start part block fits within =
         let long : length (take width (drop at block)) ≡ width = omega (arith, length-take width (drop at block), length-drop at block) in
         length-put start part (take width (drop at block)) (omega (arith, long)) ∙ long
 
-module _ (descr : Descr) (apart : AreApart descr) (leaf : Option ℕ) (there : IsPartOf descr leaf) where
-  abbrev path : List ℕ
-  path = path_of leaf
+module _ (descr : Descr) (legal : IsElementType descr) (path : List ℕ) (there : IsPathOf descr path) where
+  abbrev span : ℕ × ℕ
+  span = span_at descr path
 
   abbrev start : ℕ
   start = start_at descr path
@@ -38,20 +38,20 @@ module _ (descr : Descr) (apart : AreApart descr) (leaf : Option ℕ) (there : I
 
   -- a part of the items at places is what is read where it begins
   pub items-read : (n : ℕ) (block places : List ℕ) → AllByRecursion (λ place. place < n) places →
-      map (λ place. part_at path (item_at (items_in descr n block) place)) places ≡ map (item_from part_descr block) (offsets_of (item_size descr) start places)
+      map (λ place. part_at span (item_at (items_in descr n block) place)) places ≡ map (item_from part_descr block) (offsets_of (item_size descr) start places)
   items-read n block [] within = refl
   items-read n block (place ∷ places) within =
-      λ i. (ap (λ o. part_at path (unwrap_or o [])) (item-at descr n place block within.0) ∙ part-read descr apart leaf there block (item_size descr * place)) i ∷ items-read n block places within.1 i
+      λ i. (ap (λ o. part_at span (unwrap_or o [])) (item-at descr n place block within.0) ∙ part-read descr legal path there block (item_size descr * place)) i ∷ items-read n block places within.1 i
 
   one-part : (n place : ℕ) (part block : List ℕ) → place < n → length part ≡ item_size part_descr → n * item_size descr ≤ length block →
       items_in descr n (put (item_size descr * place + start) part block)
-      ≡ slice_set (items_in descr n block) place (with_part path (decode_item part_descr part) (item_at (items_in descr n block) place))
+      ≡ slice_set (items_in descr n block) place (with_part span (decode_item part_descr part) (item_at (items_in descr n block) place))
   one-part n place part block within whole fits =
       ap (items_in descr n) (put-part (item_size descr) at start part block few inside)
       ∙ put-item descr n place (put start part old) block within (length-put start part old (omega (arith, few, long)) ∙ long) fits
       ∙ ap (slice_set (items_in descr n block) place)
-      (part-put descr apart leaf there part old whole long
-      ∙ ap (with_part path (decode_item part_descr part)) (sym (ap (λ o. unwrap_or o []) (item-at descr n place block within))))
+      (part-put descr legal path there part old whole long
+      ∙ ap (with_part span (decode_item part_descr part)) (sym (ap (λ o. unwrap_or o []) (item-at descr n place block within))))
     where
       at : ℕ
       at = item_size descr * place
@@ -60,7 +60,7 @@ module _ (descr : Descr) (apart : AreApart descr) (leaf : Option ℕ) (there : I
       old = take (item_size descr) (drop at block)
 
       few : start + length part ≤ item_size descr
-      few = omega (arith, whole, part-within descr apart leaf there)
+      few = omega (arith, whole, part-within descr legal path there)
 
       inside : at + item_size descr ≤ length block
       inside = omega (arith, fits, item-inside (item_size descr) n place within)
@@ -70,9 +70,9 @@ module _ (descr : Descr) (apart : AreApart descr) (leaf : Option ℕ) (there : I
 
   -- one put in the items at places, one after the other
   pub put_each-items : (n : ℕ) (places part bytes : List ℕ) → AllByRecursion (λ place. place < n) places → length part ≡ item_size part_descr → n * item_size descr ≤ length bytes →
-      items_in descr n (put_each (offsets_of (item_size descr) start places) part bytes) ≡ write path places (replicate (length places) (decode_item part_descr part)) (items_in descr n bytes)
+      items_in descr n (put_each (offsets_of (item_size descr) start places) part bytes) ≡ write span places (replicate (length places) (decode_item part_descr part)) (items_in descr n bytes)
   put_each-items n [] part bytes within whole fits = refl
   put_each-items n (place ∷ places) part bytes within whole fits =
-      let long : length (put (item_size descr * place + start) part bytes) ≡ length bytes = length-put (item_size descr * place + start) part bytes (omega (arith, whole, item-inside (item_size descr) n place within.0, part-within descr apart leaf there)) in
+      let long : length (put (item_size descr * place + start) part bytes) ≡ length bytes = length-put (item_size descr * place + start) part bytes (omega (arith, whole, item-inside (item_size descr) n place within.0, part-within descr legal path there)) in
       put_each-items n places part (put (item_size descr * place + start) part bytes) within.1 whole (omega arith)
-      ∙ ap (write path places (replicate (length places) (decode_item part_descr part))) (one-part n place part bytes within.0 whole fits)
+      ∙ ap (write span places (replicate (length places) (decode_item part_descr part))) (one-part n place part bytes within.0 whole fits)

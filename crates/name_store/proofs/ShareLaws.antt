@@ -1,29 +1,32 @@
 -- Arrays in one buffer share cells where their items have a byte in common.
-use Rattle.std.proofs.Common.{◌≡◌, ◌+◌, ◌*◌, ◌<◌, ◌≤◌, ◌^◌, ◌&&◌, ◌||◌, ◌⊎◌, inl, inr, ℕ, suc, Bool, true, false, List, [], ◌∷◌, refl, sym, ap, subst, ◌∙◌, Option, Some, None, nat_eq, nat_lt, arith, pos, ◌+ℤ◌, ◌≤ℤ◌}
-use Rattle.std.specs.List.{list_any}
+use Rattle.std.proofs.Common.{◌≡◌, ◌+◌, ◌*◌, ◌<◌, ◌≤◌, ◌^◌, ◌&&◌, ◌||◌, ◌⊎◌, inl, inr, ℕ, zero, suc, Bool, true, false, List, [], ◌∷◌, length, take, refl, sym, ap, subst, ◌∙◌, Some, nat_eq, nat_lt, arith, pos, ◌+ℤ◌, ◌≤ℤ◌}
+use Rattle.std.specs.List.{list_any, range_with_len}
 use Rattle.std.specs.Map.{lookup}
 use Rattle.std.proofs.lemmas.Int.{ints}
 use Rattle.std.proofs.lemmas.Bool.{eqb-true, eqb-false, ltb-true, ltb-false, lt-ltb, le-ltb, ne_eqb, cases_lt}
 use Rattle.std.proofs.Math.Bool.{and-false, and-true}
 use Rattle.std.proofs.Math.Nat.{mul-suc, mul-le-mul_left}
 use Rattle.elem_descr.specs.declared.descr.Descr.{Descr}
-use Rattle.elem_descr.specs.Items.{item_size, AreApart}
+use Rattle.elem_descr.specs.Items.{item_size, leaves_of, leaves_in, fields, field_at}
 use Rattle.shape_strides.specs.declared.layout.Layout.{Layout}
 use Rattle.shape_strides.specs.Layouts.{address, offsets, Fits}
-use Rattle.overlap_copy.specs.Overlaps.{have_common_byte}
-use Rattle.name_store.specs.Arrays.{paths_meet, share_cells}
-use Rattle.name_store.specs.Invariants.{Holds, LiesIn}
-use Rattle.name_store.specs.Parts.{descr_at, start_at, path_of, IsPartOf}
-use Rattle.name_store.specs.Places.{offsets_of}
 use Rattle.overlap_copy.specs.Blocks.{places_of}
-use Rattle.name_store.specs.View.{array_at, leaf_in, own_size, path_in, slot_at}
+use Rattle.overlap_copy.specs.Overlaps.{have_common_byte}
+use Rattle.name_store.specs.States.{Buffer}
+use Rattle.name_store.specs.Arrays.{buffer_of, share_cells}
+use Rattle.name_store.specs.Invariants.{Holds, LiesIn}
+use Rattle.name_store.specs.Parts.{IsPathOf, descr_at, start_at, first_at, have_common, share_leaves}
+use Rattle.name_store.specs.Places.{IsElementType, offsets_of}
+use Rattle.name_store.specs.View.{array_at, slot_at, state_of}
 use Rattle.name_store.specs.declared.entry.Entry.{Entry}
 use Rattle.name_store.specs.declared.entry.Key.{Key}
 use Rattle.name_store.specs.declared.slot.Slot.{Slot}
+use Rattle.name_store.proofs.FieldSplits.{field-legal, field-before, field_leaves-before}
 use Rattle.name_store.proofs.NameLaws.{TestsName}
-use Rattle.name_store.proofs.PartLaws.{own-size, part-some, part-within}
+use Rattle.name_store.proofs.PartLaws.{part-leaves, part-some, part-within, span-within}
+use Rattle.name_store.proofs.ShowLaws.{buffer-found}
 use Rattle.name_store.proofs.SlotLaws.{itself}
-use Rattle.name_store.proofs.StateLaws.{Slots, found-slot, found-lies}
+use Rattle.name_store.proofs.StateLaws.{Slots, found-lies}
 
 -- the one of two items of one size that begins first ends before the other
 ends-first : (item p q : ℕ) → p < q → item * p + item ≤ item * q
@@ -86,47 +89,149 @@ beside : (meet : Bool) (places others : List ℕ) → list_any (λ p. list_any (
 beside true places others = any-same (λ p. list_any (λ q. nat_eq p q && true) others) (λ p. list_any (nat_eq p) others) places (λ p. any-same (λ q. nat_eq p q && true) (nat_eq p) others (λ q. and-true (nat_eq p q)))
 beside false places others = any-none (λ p. list_any (λ q. nat_eq p q && false) others) places (λ p. any-none (λ q. nat_eq p q && false) others (λ q. and-false (nat_eq p q)))
 
--- two parts of an item have a byte in common just where their paths meet
-module _ (descr : Descr) (apart : AreApart descr) (some : 1 ≤ item_size descr) where
-  abbrev start : Option ℕ → ℕ
-  start leaf = start_at descr (path_of leaf)
+-- ---- spans of numbers
 
-  abbrev width : Option ℕ → ℕ
-  width leaf = item_size (descr_at descr (path_of leaf))
+-- whether a number is in a span
+number-in : (p from count : ℕ) → list_any (nat_eq p) (range_with_len from count) ≡ true → (from ≤ p) × (p < from + count)
+number-in p from zero none = let no : false ≡ true = none in absurd cc
+number-in p from (suc count) is = first (nat_eq p from) refl is (λ later. number-in p (from + 1) count later)
+  where
+    first : (t : Bool) → nat_eq p from ≡ t → (t || list_any (nat_eq p) (range_with_len (from + 1) count)) ≡ true →
+        (list_any (nat_eq p) (range_with_len (from + 1) count) ≡ true → (from + 1 ≤ p) × (p < from + 1 + count)) → (from ≤ p) × (p < from + suc count)
+    first true e _ _ = let same : p ≡ from = eqb-true p from e in (omega (arith, same), omega (arith, same))
+    first false e later rest = (omega (arith, (rest later).0), omega (arith, (rest later).1))
 
-  parts-meet : (leaf other : Option ℕ) → IsPartOf descr leaf → IsPartOf descr other →
-      (nat_lt (start leaf) (start other + width other) && nat_lt (start other) (start leaf + width leaf)) ≡ paths_meet (path_of leaf) (path_of other)
-  parts-meet None other there other-there =
-      let few = part-within descr apart other other-there in
-      let wide = part-some descr apart some other other-there in
-      λ i. lt-ltb 0 (start other + width other) (omega (arith, wide)) i && lt-ltb (start other) (0 + item_size descr) (omega (arith, few, wide)) i
-  parts-meet (Some k) None there other-there =
-      let few = part-within descr apart (Some k) there in
-      let wide = part-some descr apart some (Some k) there in
-      λ i. lt-ltb (start (Some k)) (0 + item_size descr) (omega (arith, few, wide)) i && lt-ltb 0 (start (Some k) + width (Some k)) (omega (arith, wide)) i
-  parts-meet (Some j) (Some k) there other-there =
-      elim (nat_eq j k) as (λ t. nat_eq j k ≡ t → (nat_lt (start (Some j)) (start (Some k) + width (Some k)) && nat_lt (start (Some k)) (start (Some j) + width (Some j))) ≡ (t && true)) [
-        | true ↦ λ e. same (eqb-true j k e)
-        | false ↦ λ e. differ (cases_lt j k) (cases_lt k j) (eqb-false j k e)
-      ] refl
-    where
-      same : j ≡ k → (nat_lt (start (Some j)) (start (Some k) + width (Some k)) && nat_lt (start (Some k)) (start (Some j) + width (Some j))) ≡ true
-      same is =
-          let wide = part-some descr apart some (Some k) other-there in
-          let here : start (Some j) ≡ start (Some k) = ap (λ n. start (Some n)) is in
-          let long : width (Some j) ≡ width (Some k) = ap (λ n. width (Some n)) is in
-          λ i. lt-ltb (start (Some j)) (start (Some k) + width (Some k)) (omega (arith, wide, here)) i && lt-ltb (start (Some k)) (start (Some j) + width (Some j)) (omega (arith, wide, here, long)) i
+in-number : (p from count : ℕ) → from ≤ p → p < from + count → list_any (nat_eq p) (range_with_len from count) ≡ true
+in-number p from zero low high = absurd (omega (arith, low, high))
+in-number p from (suc count) low high =
+    elim (nat_eq p from) as (λ t. nat_eq p from ≡ t → (t || list_any (nat_eq p) (range_with_len (from + 1) count)) ≡ true) [
+      | true ↦ λ _. refl
+      | false ↦ λ e. in-number p (from + 1) count (past (eqb-false p from e)) (omega (arith, high))
+    ] refl
+  where
+    past : (p ≡ from → ⊥) → from + 1 ≤ p
+    past ne = elim (cases_lt from p) [
+      | inl less ↦ omega (arith, less)
+      | inr more ↦ absurd (ne (omega (arith, low, more)))
+    ]
 
-      differ : (j < k) ⊎ (k ≤ j) → (k < j) ⊎ (j ≤ k) → (j ≡ k → ⊥) → (nat_lt (start (Some j)) (start (Some k) + width (Some k)) && nat_lt (start (Some k)) (start (Some j) + width (Some j))) ≡ false
-      differ (inl less) _ ne =
-          ap (λ t. nat_lt (start (Some j)) (start (Some k) + width (Some k)) && t) (le-ltb (start (Some k)) (start (Some j) + width (Some j)) (omega (arith, apart.apart j k less other-there)))
-          ∙ and-false (nat_lt (start (Some j)) (start (Some k) + width (Some k)))
-      differ (inr _) (inl more) ne = ap (λ t. t && nat_lt (start (Some k)) (start (Some j) + width (Some j))) (le-ltb (start (Some j)) (start (Some k) + width (Some k)) (omega (arith, apart.apart k j more there)))
-      differ (inr high) (inr low) ne = absurd (ne (omega (arith, high, low)))
+-- two spans that have a number in common
+common-span : (from count other others : ℕ) → have_common (range_with_len from count) (range_with_len other others) ≡ true → (from < other + others) × (other < from + count)
+common-span from zero other others none = let no : false ≡ true = none in absurd cc
+common-span from (suc count) other others is = first (list_any (nat_eq from) (range_with_len other others)) refl is (λ later. common-span (from + 1) count other others later)
+  where
+    first : (t : Bool) → list_any (nat_eq from) (range_with_len other others) ≡ t → (t || have_common (range_with_len (from + 1) count) (range_with_len other others)) ≡ true →
+        (have_common (range_with_len (from + 1) count) (range_with_len other others) ≡ true → (from + 1 < other + others) × (other < from + 1 + count)) → (from < other + others) × (other < from + suc count)
+    first true e _ _ = let there = number-in from other others e in (there.1, omega (arith, there.0))
+    first false e later rest = (omega (arith, (rest later).0), omega (arith, (rest later).1))
+
+span-common : (from count other others : ℕ) → 1 ≤ count → 1 ≤ others → from < other + others → other < from + count → have_common (range_with_len from count) (range_with_len other others) ≡ true
+span-common from zero other others any some low high = absurd (omega (arith, any))
+span-common from (suc count) other others any some low high =
+    elim (list_any (nat_eq from) (range_with_len other others)) as (λ t. list_any (nat_eq from) (range_with_len other others) ≡ t → (t || have_common (range_with_len (from + 1) count) (range_with_len other others)) ≡ true) [
+      | true ↦ λ _. refl
+      | false ↦ λ e. elim (cases_lt from other) [
+        | inl less ↦ span-common (from + 1) count other others (omega (arith, less, high)) some (omega (arith, less, some)) (omega (arith, high))
+        | inr more ↦ let no : false ≡ true = sym e ∙ in-number from other others more low in absurd cc
+      ]
+    ] refl
+
+both-true : (a b : Bool) → (a && b) ≡ true → (a ≡ true) × (b ≡ true)
+both-true true b is = (refl, is)
+both-true false b is = let no : false ≡ true = is in absurd cc
+
+true-same : (a b : Bool) → (a ≡ true → b ≡ true) → (b ≡ true → a ≡ true) → a ≡ b
+true-same true b there back = sym (there refl)
+true-same false true there back = back refl
+true-same false false there back = refl
+
+-- just where each begins before the other ends
+common-ends : (from count other others : ℕ) → 1 ≤ count → 1 ≤ others → (nat_lt from (other + others) && nat_lt other (from + count)) ≡ have_common (range_with_len from count) (range_with_len other others)
+common-ends from count other others some other-some =
+    true-same _ _
+    (λ is. let ends = both-true (nat_lt from (other + others)) (nat_lt other (from + count)) is in
+    span-common from count other others some other-some (ltb-true from (other + others) ends.0) (ltb-true other (from + count) ends.1))
+    (λ is. let ends = common-span from count other others is in
+    λ i. lt-ltb from (other + others) ends.0 i && lt-ltb other (from + count) ends.1 i)
+
+-- ---- two parts of an item
+
+-- how two parts begin and end, as bytes and as leaves
+abbrev BeginsSame : Descr → List ℕ → List ℕ → Type 0
+BeginsSame descr path other =
+    nat_lt (start_at descr path) (start_at descr other + item_size (descr_at descr other)) ≡ nat_lt (first_at descr path) (first_at descr other + length (leaves_of (descr_at descr other)))
+
+further-same : (by a b width : ℕ) → nat_lt (by + a) (by + b + width) ≡ nat_lt a (b + width)
+further-same by a b width = lt-same (by + a) (by + b + width) a (b + width) (λ h. omega (arith, h)) (λ h. omega (arith, h))
+
+-- parts of two fields
+module _ (descr : Descr) (j k : ℕ) (path other : List ℕ) (legal : IsElementType descr) (is : IsPathOf descr (j ∷ path)) (other-is : IsPathOf descr (k ∷ other)) where
+  abbrev left : Descr
+  left = (field_at descr j).descr
+
+  abbrev right : Descr
+  right = (field_at descr k).descr
+
+  left-legal : IsElementType left
+  left-legal = field-legal descr j is.0 legal
+
+  right-legal : IsElementType right
+  right-legal = field-legal descr k other-is.0 legal
+
+  earlier-field : j < k → BeginsSame descr (j ∷ path) (k ∷ other)
+  earlier-field less =
+      lt-ltb (start_at descr (j ∷ path)) (start_at descr (k ∷ other) + item_size (descr_at right other))
+      (omega (arith, field-before descr j k less other-is.0 legal, part-within left left-legal path is.1, part-some left left-legal path is.1))
+      ∙ sym (lt-ltb (first_at descr (j ∷ path)) (first_at descr (k ∷ other) + length (leaves_of (descr_at right other)))
+      (omega (arith, field_leaves-before descr j k less other-is.0, span-within left left-legal path is.1, part-leaves left left-legal path is.1)))
+
+  later-field : k < j → BeginsSame descr (j ∷ path) (k ∷ other)
+  later-field more =
+      le-ltb (start_at descr (j ∷ path)) (start_at descr (k ∷ other) + item_size (descr_at right other))
+      (omega (arith, field-before descr k j more is.0 legal, part-within right right-legal other other-is.1))
+      ∙ sym (le-ltb (first_at descr (j ∷ path)) (first_at descr (k ∷ other) + length (leaves_of (descr_at right other)))
+      (omega (arith, field_leaves-before descr k j more is.0, span-within right right-legal other other-is.1)))
+
+  -- and of one
+  one-field : j ≡ k → BeginsSame right path other → BeginsSame descr (j ∷ path) (k ∷ other)
+  one-field same within =
+      (λ i. nat_lt (start_at descr (same i ∷ path)) (start_at descr (k ∷ other) + item_size (descr_at right other)))
+      ∙ further-same (field_at descr k).at (start_at right path) (start_at right other) (item_size (descr_at right other))
+      ∙ within
+      ∙ sym (further-same (leaves_in (take k (fields descr))) (first_at right path) (first_at right other) (length (leaves_of (descr_at right other))))
+      ∙ (λ i. nat_lt (first_at descr (sym same i ∷ path)) (first_at descr (k ∷ other) + length (leaves_of (descr_at right other))))
+
+-- the bytes of one begin before those of another end just where its leaves do
+begins-same : (descr : Descr) (path other : List ℕ) → IsElementType descr → IsPathOf descr path → IsPathOf descr other → BeginsSame descr path other
+begins-same descr [] other legal is other-is =
+    lt-ltb 0 (start_at descr other + item_size (descr_at descr other)) (omega (arith, part-some descr legal other other-is))
+    ∙ sym (lt-ltb 0 (first_at descr other + length (leaves_of (descr_at descr other))) (omega (arith, part-leaves descr legal other other-is)))
+begins-same descr (k ∷ path) [] legal is other-is =
+    lt-ltb (start_at descr (k ∷ path)) (0 + item_size descr) (omega (arith, part-within descr legal (k ∷ path) is, part-some descr legal (k ∷ path) is))
+    ∙ sym (lt-ltb (first_at descr (k ∷ path)) (0 + length (leaves_of descr)) (omega (arith, span-within descr legal (k ∷ path) is, part-leaves descr legal (k ∷ path) is)))
+begins-same descr (j ∷ path) (k ∷ other) legal is other-is =
+    order (cases_lt j k) (cases_lt k j)
+    (λ same. one-field descr j k path other legal is other-is same
+    (begins-same (field_at descr k).descr path other (field-legal descr k other-is.0 legal) (subst (λ n. IsPathOf (field_at descr n).descr path) same is.1) other-is.1))
+  where
+    order : (j < k) ⊎ (k ≤ j) → (k < j) ⊎ (j ≤ k) → (j ≡ k → BeginsSame descr (j ∷ path) (k ∷ other)) → BeginsSame descr (j ∷ path) (k ∷ other)
+    order (inl less) _ one = earlier-field descr j k path other legal is other-is less
+    order (inr _) (inl more) one = later-field descr j k path other legal is other-is more
+    order (inr high) (inr low) one = one (omega (arith, high, low))
+
+-- two parts of an item have a byte in common just where they have a leaf in common
+parts-meet : (descr : Descr) (path other : List ℕ) → IsElementType descr → IsPathOf descr path → IsPathOf descr other →
+    (nat_lt (start_at descr path) (start_at descr other + item_size (descr_at descr other)) && nat_lt (start_at descr other) (start_at descr path + item_size (descr_at descr path)))
+    ≡ share_leaves descr path other
+parts-meet descr path other legal is other-is =
+    (λ i. begins-same descr path other legal is other-is i && begins-same descr other path legal other-is is i)
+    ∙ common-ends (first_at descr path) (length (leaves_of (descr_at descr path))) (first_at descr other) (length (leaves_of (descr_at descr other))) (part-leaves descr legal path is) (part-leaves descr legal other other-is)
 
 -- two arrays in two buffers
-pub shares-apart : (a b : Entry) → (a.number ≡ b.number → ⊥) → false ≡ share_cells (array_at a) (array_at b)
-shares-apart a b ne = sym (ap (λ t. t && paths_meet (path_in a) (path_in b) && list_any (λ place. list_any (nat_eq place) (places_of b.item (offsets b.layout))) (places_of a.item (offsets a.layout))) (ne_eqb a.number b.number ne))
+pub shares-apart : (es : List (Key × Entry)) (slots : Slots) (a b : Entry) → (a.number ≡ b.number → ⊥) → false ≡ share_cells (state_of es slots) (array_at a) (array_at b)
+shares-apart es slots a b ne =
+    sym (ap (λ t. t && share_leaves (buffer_of (state_of es slots) (array_at a)).descr a.path b.path && have_common (places_of a.item (offsets a.layout)) (places_of b.item (offsets b.layout)))
+    (ne_eqb a.number b.number ne))
 
 Fits-longer : (l : Layout) (short long item : ℕ) → short ≤ long → Fits l short item → Fits l long item
 Fits-longer l short long item more fits = record {
@@ -136,44 +241,43 @@ Fits-longer l short long item more fits = record {
       omega (arith, ints);
 }
 
-module _ (es : List (Key × Entry)) (slots : Slots) (h : Holds es slots) (test : Key → Bool) (name : List ℕ) (is : TestsName test name) (e : Entry) (was : lookup test es ≡ Some e) where
-  pub entry-some : 1 ≤ own_size e
-  entry-some =
-      let there = found-slot es slots h test name is e was in
-      omega (arith, own-size there.0 e there.2, part-some there.0.descr there.0.is_whole.apart there.0.is_whole.some (leaf_in e) there.2.laid.part)
+module _ (es : List (Key × Entry)) (slots : Slots) (h : Holds es slots) (test : Key → Bool) (name : List ℕ) (is : TestsName test name) (e : Entry) (was : lookup test es ≡ Some e) (slot : Slot) (there : slot_at slots e.number ≡ Some slot) where
+  lies : LiesIn slot e
+  lies = found-lies es slots h test name is e slot was there
 
-  pub entry-fits : Fits e.layout (2 ^ 28) (own_size e)
+  abbrev width : ℕ
+  width = item_size (descr_at slot.descr e.path)
+
+  pub entry-path : IsPathOf slot.descr e.path
+  entry-path = lies.laid.part
+
+  pub entry-fits : Fits e.layout (2 ^ 28) width
   entry-fits =
-      let there = found-slot es slots h test name is e was in
-      let small : there.0.items * item_size there.0.descr ≤ 2 ^ 28 = omega (arith, there.0.is_whole.whole, there.0.is_whole.small) in
-      Fits-longer e.layout (there.0.items * item_size there.0.descr) (2 ^ 28) (own_size e) small (subst (Fits e.layout (there.0.items * item_size there.0.descr)) (sym (own-size there.0 e there.2)) there.2.laid.fits)
+      let small : slot.items * item_size slot.descr ≤ 2 ^ 28 = omega (arith, slot.is_whole.whole, slot.is_whole.small) in
+      Fits-longer e.layout (slot.items * item_size slot.descr) (2 ^ 28) width small lies.laid.fits
 
   -- two arrays in one buffer
   pub shares-one : (test' : Key → Bool) (name' : List ℕ) → TestsName test' name' → (e' : Entry) → lookup test' es ≡ Some e' → e.number ≡ e'.number →
-      have_common_byte (offsets e.layout) (own_size e) (offsets e'.layout) (own_size e') ≡ share_cells (array_at e) (array_at e')
+      have_common_byte (offsets e.layout) width (offsets e'.layout) (item_size (descr_at slot.descr e'.path)) ≡ share_cells (state_of es slots) (array_at e) (array_at e')
   shares-one test' name' is' e' was' same =
-      (λ i. have_common_byte (lies.laid.places i) (own-size slot e lies i) (lies'.laid.places i) (own-size slot e' lies' i))
-      ∙ common-parts (item_size slot.descr) (start_in e) (width_in e) (start_in e') (width_in e') (paths_meet (path_in e) (path_in e'))
-      (part-within slot.descr slot.is_whole.apart (leaf_in e) lies.laid.part) (part-within slot.descr slot.is_whole.apart (leaf_in e') lies'.laid.part)
-      (parts-meet slot.descr slot.is_whole.apart slot.is_whole.some (leaf_in e) (leaf_in e') lies.laid.part lies'.laid.part)
+      (λ i. have_common_byte (lies.laid.places i) width (lies'.laid.places i) width')
+      ∙ common-parts (item_size slot.descr) (start_at slot.descr e.path) width (start_at slot.descr e'.path) width' meet
+      (part-within slot.descr slot.is_whole.legal e.path lies.laid.part) (part-within slot.descr slot.is_whole.legal e'.path lies'.laid.part)
+      (parts-meet slot.descr e.path e'.path slot.is_whole.legal lies.laid.part lies'.laid.part)
       (places_of e.item (offsets e.layout)) (places_of e'.item (offsets e'.layout))
-      ∙ beside (paths_meet (path_in e) (path_in e')) (places_of e.item (offsets e.layout)) (places_of e'.item (offsets e'.layout))
-      ∙ sym (ap (λ t. t && paths_meet (path_in e) (path_in e') && list_any (λ place. list_any (nat_eq place) (places_of e'.item (offsets e'.layout))) (places_of e.item (offsets e.layout))) (ap (nat_eq e.number) (sym same) ∙ itself e.number))
+      ∙ beside meet (places_of e.item (offsets e.layout)) (places_of e'.item (offsets e'.layout))
+      ∙ ap (λ (b : Buffer). share_leaves b.descr e.path e'.path && have_common (places_of e.item (offsets e.layout)) (places_of e'.item (offsets e'.layout))) (sym (buffer-found es slots e slot there))
+      ∙ sym (ap (λ t. t && share_leaves (buffer_of (state_of es slots) (array_at e)).descr e.path e'.path && have_common (places_of e.item (offsets e.layout)) (places_of e'.item (offsets e'.layout)))
+      (ap (nat_eq e.number) (sym same) ∙ itself e.number))
     where
-      there : (s : Slot) × (slot_at slots e.number ≡ Some s) × LiesIn s e
-      there = found-slot es slots h test name is e was
-
-      slot : Slot
-      slot = there.0
-
-      lies : LiesIn slot e
-      lies = there.2
+      there' : slot_at slots e'.number ≡ Some slot
+      there' = ap (slot_at slots) (sym same) ∙ there
 
       lies' : LiesIn slot e'
-      lies' = found-lies es slots h test' name' is' e' slot was' (ap (slot_at slots) (sym same) ∙ there.1)
+      lies' = found-lies es slots h test' name' is' e' slot was' there'
 
-      start_in : Entry → ℕ
-      start_in x = start_at slot.descr (path_in x)
+      width' : ℕ
+      width' = item_size (descr_at slot.descr e'.path)
 
-      width_in : Entry → ℕ
-      width_in x = item_size (descr_at slot.descr (path_in x))
+      meet : Bool
+      meet = share_leaves slot.descr e.path e'.path

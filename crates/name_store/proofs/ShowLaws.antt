@@ -5,16 +5,17 @@ use Rattle.std.specs.List.{AllByRecursion}
 use Rattle.std.specs.Option.{option_map}
 use Rattle.std.proofs.lemmas.List.Elements.{All-from_recursion}
 use Rattle.std.proofs.Math.Nat.{mul-suc, mul-le-mul_left}
-use Rattle.elem_descr.specs.Items.{item_size}
+use Rattle.elem_descr.specs.declared.descr.Descr.{Descr}
+use Rattle.elem_descr.specs.Items.{item_size, fields}
 use Rattle.shape_strides.specs.Layouts.{offsets}
 use Rattle.name_store.specs.States.{State, Array, Buffer}
 use Rattle.name_store.specs.Arrays.{buffer_of, descr_of, item_at, no_buffer, read}
 use Rattle.elem_descr.specs.Blocks.{items_in, item_from}
-use Rattle.name_store.specs.Parts.{descr_at, start_at, part_at}
+use Rattle.name_store.specs.Parts.{descr_at, start_at, span_at, part_at}
 use Rattle.name_store.specs.Invariants.{LiesIn}
 use Rattle.name_store.specs.Places.{offsets_of}
 use Rattle.name_store.specs.Shown.{Shows, Finds}
-use Rattle.name_store.specs.View.{array_at, buffer_in, leaf_in, path_in, slot_at, state_of}
+use Rattle.name_store.specs.View.{array_at, buffer_in, slot_at, state_of}
 use Rattle.name_store.specs.declared.array_ref.ArrayRef.{ArrayRef}
 use Rattle.name_store.specs.declared.entry.Entry.{Entry}
 use Rattle.name_store.specs.declared.entry.Key.{Key}
@@ -22,7 +23,7 @@ use Rattle.name_store.specs.declared.slot.Slot.{Slot}
 use Rattle.name_store.proofs.BlockLaws.{length-items_in}
 use Rattle.name_store.proofs.LaidLaws.{laid-same, places-within}
 use Rattle.name_store.proofs.OnceLaws.{no_place_twice}
-use Rattle.name_store.proofs.PartLaws.{part-some, part-within}
+use Rattle.name_store.proofs.PartLaws.{part-deeper, part-some, part-within}
 use Rattle.name_store.proofs.PutLaws.{items-read}
 use Rattle.name_store.proofs.SlotLaws.{get-buffers}
 use Rattle.name_store.proofs.StateLaws.{Slots}
@@ -38,8 +39,8 @@ inside-places item start width n len (place ∷ places) within whole few =
     (omega (arith, mul-suc item place), inside-places item start width n len places within.1 whole few)
 
 module _ (es : List (Key × Entry)) (slots : Slots) (e : Entry) (s : Slot) (r : ArrayRef) (there : slot_at slots e.number ≡ Some s) (lies : LiesIn s e)
-    (number-is : r.number ≡ e.number) (writable-is : r.writable ≡ e.writable) (layout-is : r.layout.now ≡ e.layout) (leaf-is : r.leaf ≡ leaf_in e)
-    (descr-is : r.descr.now ≡ descr_at s.descr (path_in e)) (block-is : r.block.now ≡ s.block) where
+    (number-is : r.number ≡ e.number) (writable-is : r.writable ≡ e.writable) (layout-is : r.layout.now ≡ e.layout) (path-is : r.path.now ≡ e.path)
+    (descr-is : r.descr.now ≡ descr_at s.descr e.path) (block-is : r.block.now ≡ s.block) where
   abbrev array : Array
   array = array_at e
 
@@ -53,33 +54,33 @@ module _ (es : List (Key × Entry)) (slots : Slots) (e : Entry) (s : Slot) (r : 
   type-is = ap (λ (b : Buffer). b.descr) found
 
   own-is : descr_of (state_of es slots) array ≡ r.descr.now
-  own-is = ap (λ d. descr_at d (path_in e)) type-is ∙ sym descr-is
+  own-is = ap (λ d. descr_at d e.path) type-is ∙ sym descr-is
 
   counted : length buffer.items ≡ s.items
   counted = ap (λ (b : Buffer). length b.items) found ∙ length-items_in s.descr s.items s.block
 
-  spread : offsets r.layout.now ≡ offsets_of (item_size s.descr) (start_at s.descr (path_in e)) array.places
+  spread : offsets r.layout.now ≡ offsets_of (item_size s.descr) (start_at s.descr e.path) array.places
   spread = ap offsets layout-is ∙ lies.laid.places
 
   within : AllByRecursion (λ place. place < s.items) array.places
-  within = places-within s.descr s.items array (leaf_in e) e.layout e.writable lies.laid (part-some s.descr s.is_whole.apart s.is_whole.some (leaf_in e) lies.laid.part)
+  within = places-within s.descr s.items array e.layout e.writable lies.laid (part-some s.descr s.is_whole.legal e.path lies.laid.part)
 
-  size-is : item_size (descr_at s.descr (path_in e)) ≡ item_size r.descr.now
+  size-is : item_size (descr_at s.descr e.path) ≡ item_size r.descr.now
   size-is = ap item_size (sym descr-is)
 
   shown-reads : read (state_of es slots) array ≡ map (item_from r.descr.now r.block.now) (offsets r.layout.now)
   shown-reads =
-      ap (λ (b : Buffer). map (λ place. part_at (path_in e) (item_at b.items place)) array.places) found
-      ∙ items-read s.descr s.is_whole.apart (leaf_in e) lies.laid.part s.items s.block array.places within
-      ∙ ap (map (item_from (descr_at s.descr (path_in e)) s.block)) (sym spread)
+      ap (λ (b : Buffer). map (λ place. part_at (span_at b.descr e.path) (item_at b.items place)) array.places) found
+      ∙ items-read s.descr s.is_whole.legal e.path lies.laid.part s.items s.block array.places within
+      ∙ ap (map (item_from (descr_at s.descr e.path) s.block)) (sym spread)
       ∙ λ i. map (item_from (sym descr-is i) (sym block-is i)) (offsets r.layout.now)
 
   shown-inside : All (λ offset. offset + item_size r.descr.now ≤ length r.block.now) (offsets r.layout.now)
   shown-inside =
       subst (All (λ offset. offset + item_size r.descr.now ≤ length r.block.now)) (sym spread)
-      (All-from_recursion _ _ (inside-places (item_size s.descr) (start_at s.descr (path_in e)) (item_size r.descr.now) s.items (length r.block.now) array.places within
+      (All-from_recursion _ _ (inside-places (item_size s.descr) (start_at s.descr e.path) (item_size r.descr.now) s.items (length r.block.now) array.places within
       (sym s.is_whole.whole ∙ ap length (sym block-is))
-      (omega (arith, size-is, part-within s.descr s.is_whole.apart (leaf_in e) lies.laid.part))))
+      (omega (arith, size-is, part-within s.descr s.is_whole.legal e.path lies.laid.part))))
 
   occupied : is_some (get (state_of es slots).buffers r.number) ≡ true
   occupied = ap (λ n. is_some (get (state_of es slots).buffers n)) number-is ∙ ap is_some (get-buffers es slots e.number ∙ ap (option_map buffer_in) there)
@@ -88,15 +89,17 @@ module _ (es : List (Key × Entry)) (slots : Slots) (e : Entry) (s : Slot) (r : 
   shown = record {
     view = record {
       number_is = number-is;
+      path_is = path-is;
       there = occupied;
-      laid = laid-same s.descr buffer.descr s.items (length buffer.items) array array (leaf_in e) r.leaf e.layout r.layout.now e.writable r.writable
-          (sym type-is) (sym counted) refl (sym leaf-is) (sym layout-is) (sym writable-is) lies.laid;
+      laid = laid-same s.descr buffer.descr s.items (length buffer.items) array array e.layout r.layout.now e.writable r.writable
+          (sym type-is) (sym counted) refl (sym layout-is) (sym writable-is) lies.laid;
     };
     descr = own-is;
     whole = ap length block-is ∙ s.is_whole.whole ∙ λ i. sym counted i * item_size (sym type-is i);
     small = subst (λ (b : List ℕ). length b ≤ 2 ^ 28) (sym block-is) s.is_whole.small;
     items = ap (λ (b : Buffer). b.items) found ∙ λ i. items_in (sym type-is i) (sym counted i) (sym block-is i);
     reads = shown-reads;
+    deeper = λ k low. let short : length e.path < 4 = part-deeper s.descr s.is_whole.legal e.path lies.laid.part k (subst (λ (d : Descr). k < length (fields d)) descr-is low) in omega (arith, short, ap length path-is);
     inside = shown-inside;
     once = no_place_twice s e lies;
   }

@@ -3,41 +3,32 @@ use Rattle.std.proofs.Common.{◌≡◌, ℕ, pos, true, false, List, [], ◌∷
 use Rattle.std.specs.FinMap.{from_entries}
 use Rattle.elem_descr.specs.declared.descr.Descr.{Descr}
 use Rattle.elem_descr.specs.declared.descr.Descr.TheVariants.{Scalar as ScalarDescr, Record as RecordDescr}
-use Rattle.elem_descr.specs.declared.scalar.Scalar.TheVariants.{Int}
+use Rattle.elem_descr.specs.declared.scalar.Scalar.TheVariants.{Byte, Int}
 use Rattle.elem_descr.specs.declared.scalar.Width.TheVariants.{Two, Four}
 use Rattle.elem_descr.specs.declared.scalar.Order.TheVariants.{Little, Big}
+use Rattle.elem_descr.specs.Fields.{no_more, scalar_field, record_field}
 use Rattle.elem_descr.specs.Values.{number}
-use Rattle.name_store.specs.States.{Array, State}
-use Rattle.name_store.specs.Arrays.{no_buffer, is_in_use, paths_meet, share_cells, bound_view, write}
-use Rattle.name_store.specs.Parts.{descr_at, start_at, part_at, with_part}
+use Rattle.name_store.specs.States.{Array, State, start}
+use Rattle.name_store.specs.Arrays.{no_buffer, is_in_use, share_cells, bound_view, write}
+use Rattle.name_store.specs.Parts.{descr_at, start_at, span_at, part_at, with_part, have_common, share_leaves}
 use Rattle.name_store.specs.Places.{offsets_of}
 
 abbrev at_places : ℕ → List ℕ → List ℕ → Array
 at_places buffer path places = record { buffer = buffer; path = path; shape = []; places = places; writable = true }
 
 -- `a = numpy.zeros(4)`: `shares_memory(a[:2], a[1:])`, `shares_memory(a[:2], a[2:])`, `shares_memory(a, a[4:])`
-slices_meet : share_cells (at_places 0 [] (0 ∷ 1 ∷ [])) (at_places 0 [] (1 ∷ 2 ∷ 3 ∷ [])) ≡ true
+slices_meet : have_common (0 ∷ 1 ∷ []) (1 ∷ 2 ∷ 3 ∷ []) ≡ true
 slices_meet = refl
 
-halves_apart : share_cells (at_places 0 [] (0 ∷ 1 ∷ [])) (at_places 0 [] (2 ∷ 3 ∷ [])) ≡ false
+halves_apart : have_common (0 ∷ 1 ∷ []) (2 ∷ 3 ∷ []) ≡ false
 halves_apart = refl
 
-empty_apart : share_cells (at_places 0 [] (0 ∷ 1 ∷ 2 ∷ 3 ∷ [])) (at_places 0 [] []) ≡ false
+empty_apart : have_common (0 ∷ 1 ∷ 2 ∷ 3 ∷ []) [] ≡ false
 empty_apart = refl
 
 -- `shares_memory(a, numpy.zeros(4))`
-buffers_apart : share_cells (at_places 0 [] (0 ∷ [])) (at_places 1 [] (0 ∷ [])) ≡ false
+buffers_apart : share_cells start (at_places 0 [] (0 ∷ [])) (at_places 1 [] (0 ∷ [])) ≡ false
 buffers_apart = refl
-
--- `r = numpy.zeros(1, [("x", [("y", "<i4"), ("z", "<i4")]), ("w", "<i4")])`: `r["x"]` shares with `r["x"]["z"]`, and not with `r["w"]`
-fields_meet : share_cells (at_places 0 (0 ∷ []) (0 ∷ [])) (at_places 0 (0 ∷ 1 ∷ []) (0 ∷ [])) ≡ true
-fields_meet = refl
-
-fields_apart : paths_meet (0 ∷ []) (1 ∷ []) ≡ false
-fields_apart = refl
-
-whole_meets_field : paths_meet [] (1 ∷ []) ≡ true
-whole_meets_field = refl
 
 -- `a` over buffer 0 and `b` over buffer 1, and then `a = b[1:]`: buffer 0 is gone, and buffer 1 is not
 before : State
@@ -70,10 +61,7 @@ own_view = refl
 
 -- `r = numpy.zeros(3, {"names": ["x", "y"], "formats": [">i2", "<i4"], "offsets": [0, 4], "itemsize": 8})`
 sample : Descr
-sample = RecordDescr (record {
-  size = 8;
-  leaves = record { name = 120 ∷ []; scalar = Int true Two Big; at = 0 } ∷ record { name = 121 ∷ []; scalar = Int true Four Little; at = 4 } ∷ [];
-})
+sample = RecordDescr (record { size = 8; fields = scalar_field (120 ∷ []) 0 (Int true Two Big) (scalar_field (121 ∷ []) 4 (Int true Four Little) no_more) })
 
 -- `r["y"].dtype`, and where the items of `r["y"]` lie in the buffer
 field_type : descr_at sample (1 ∷ []) ≡ ScalarDescr (Int true Four Little)
@@ -88,14 +76,63 @@ field_addresses : offsets_of 8 4 (0 ∷ 1 ∷ 2 ∷ []) ≡ 4 ∷ 12 ∷ 20 ∷ 
 field_addresses = refl
 
 -- `numpy.array((5, 7), dtype)["y"]`
-field_value : part_at (1 ∷ []) (number (pos 5) ∷ number (pos 7) ∷ []) ≡ number (pos 7) ∷ []
+field_value : part_at (span_at sample (1 ∷ [])) (number (pos 5) ∷ number (pos 7) ∷ []) ≡ number (pos 7) ∷ []
+unfolding sample
 field_value = refl
 
 -- `r = numpy.array([(5, 7), (6, 8)], dtype); r["x"] = [1, 2]`: r is `[(1, 7), (2, 8)]`
-field_written : write (0 ∷ []) (0 ∷ 1 ∷ []) ((number (pos 1) ∷ []) ∷ (number (pos 2) ∷ []) ∷ []) ((number (pos 5) ∷ number (pos 7) ∷ []) ∷ (number (pos 6) ∷ number (pos 8) ∷ []) ∷ [])
+field_written : write (span_at sample (0 ∷ [])) (0 ∷ 1 ∷ []) ((number (pos 1) ∷ []) ∷ (number (pos 2) ∷ []) ∷ []) ((number (pos 5) ∷ number (pos 7) ∷ []) ∷ (number (pos 6) ∷ number (pos 8) ∷ []) ∷ [])
     ≡ (number (pos 1) ∷ number (pos 7) ∷ []) ∷ (number (pos 2) ∷ number (pos 8) ∷ []) ∷ []
+unfolding sample
 field_written = refl
 
 -- `r[1] = (3, 4)` writes the whole of an item
-whole_written : with_part [] (number (pos 3) ∷ number (pos 4) ∷ []) (number (pos 6) ∷ number (pos 8) ∷ []) ≡ number (pos 3) ∷ number (pos 4) ∷ []
+whole_written : with_part (span_at sample []) (number (pos 3) ∷ number (pos 4) ∷ []) (number (pos 6) ∷ number (pos 8) ∷ []) ≡ number (pos 3) ∷ number (pos 4) ∷ []
+unfolding sample
 whole_written = refl
+
+-- The dtype of the format `T{<b:x:3xT{<i:y:}:s:}`: `r["s"]` is a record of one field, `r["s"]["y"]` an integer
+nested : Descr
+nested = RecordDescr (record { size = 8; fields = scalar_field (120 ∷ []) 0 (Byte true) (record_field (115 ∷ []) 4 4 (scalar_field (121 ∷ []) 0 (Int true Four Little) no_more) no_more) })
+
+whole_span : span_at nested [] ≡ (0, 2)
+unfolding nested
+whole_span = refl
+
+record_span : span_at nested (1 ∷ []) ≡ (1, 1)
+unfolding nested
+record_span = refl
+
+inner_span : span_at nested (1 ∷ 0 ∷ []) ≡ (1, 1)
+unfolding nested
+inner_span = refl
+
+inner_type : descr_at nested (1 ∷ 0 ∷ []) ≡ ScalarDescr (Int true Four Little)
+unfolding nested
+inner_type = refl
+
+inner_start : start_at nested (1 ∷ 0 ∷ []) ≡ 4
+unfolding nested
+inner_start = refl
+
+-- `numpy.array((5, (7,)), dtype)["s"]`, and `r["s"]["y"] = 9`
+record_value : part_at (span_at nested (1 ∷ [])) (number (pos 5) ∷ number (pos 7) ∷ []) ≡ number (pos 7) ∷ []
+unfolding nested
+record_value = refl
+
+inner_written : with_part (span_at nested (1 ∷ 0 ∷ [])) (number (pos 9) ∷ []) (number (pos 5) ∷ number (pos 7) ∷ []) ≡ number (pos 5) ∷ number (pos 9) ∷ []
+unfolding nested
+inner_written = refl
+
+-- `r["s"]` shares with `r["s"]["y"]` and with `r`, and not with `r["x"]`
+fields_meet : share_leaves nested (1 ∷ []) (1 ∷ 0 ∷ []) ≡ true
+unfolding nested
+fields_meet = refl
+
+whole_meets_field : share_leaves nested [] (1 ∷ []) ≡ true
+unfolding nested
+whole_meets_field = refl
+
+fields_apart : share_leaves nested (0 ∷ []) (1 ∷ 0 ∷ []) ≡ false
+unfolding nested
+fields_apart = refl

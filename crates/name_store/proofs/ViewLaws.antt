@@ -7,11 +7,11 @@ use Rattle.shape_strides.specs.declared.layout.Layout.{Layout}
 use Rattle.shape_strides.specs.Layouts.{offsets}
 use Rattle.name_store.specs.States.{Array, Buffer}
 use Rattle.name_store.specs.Arrays.{buffer_of, bound_view, no_buffer}
-use Rattle.name_store.specs.Invariants.{Holds, IsFieldIn, LiesAt, LiesIn}
-use Rattle.name_store.specs.Parts.{start_at, path_of, IsPartOf}
+use Rattle.name_store.specs.Invariants.{Holds, LiesAt, LiesIn}
+use Rattle.name_store.specs.Parts.{start_at, IsPathOf}
 use Rattle.name_store.specs.Places.{offsets_of}
 use Rattle.overlap_copy.specs.Blocks.{places_of}
-use Rattle.name_store.specs.View.{array_at, named_array, buffer_in, leaf_in, path_in, slot_at, state_of}
+use Rattle.name_store.specs.View.{array_at, named_array, buffer_in, slot_at, state_of}
 use Rattle.name_store.specs.Views.{IsViewIn}
 use Rattle.name_store.specs.declared.entry.Entry.{Entry}
 use Rattle.name_store.specs.declared.entry.Key.{Key}
@@ -24,7 +24,7 @@ use Rattle.name_store.proofs.PartLaws.{part-some, part-within}
 use Rattle.name_store.proofs.SlotLaws.{get-buffers, slot_at-within}
 use Rattle.name_store.proofs.StateLaws.{Slots, Swept, Ready, ready-view, bound-state}
 
-module _ (es : List (Key × Entry)) (slots : Slots) (number : ℕ) (leaf : Option ℕ) (layout : Layout) (writable : Bool) (array : Array) (view : IsViewIn (state_of es slots) number leaf layout writable array) where
+module _ (es : List (Key × Entry)) (slots : Slots) (number : ℕ) (path : List ℕ) (layout : Layout) (writable : Bool) (array : Array) (view : IsViewIn (state_of es slots) number path layout writable array) where
   view-slot : (s : Slot) × (slot_at slots number ≡ Some s)
   view-slot = occupied (slot_at slots number) refl (ap is_some (sym (get-buffers es slots number)) ∙ view.there)
     where
@@ -41,11 +41,7 @@ module _ (es : List (Key × Entry)) (slots : Slots) (number : ℕ) (leaf : Optio
   slot-buffer : (s : Slot) → slot_at slots number ≡ Some s → buffer_of (state_of es slots) array ≡ buffer_in s
   slot-buffer s there = ap (λ n. buffer_of (state_of es slots) (record array { buffer = n })) (sym view.number_is) ∙ ap (λ o. unwrap_or o no_buffer) (get-buffers es slots number ∙ ap (option_map buffer_in) there)
 
-  pub view-part : (s : Slot) → slot_at slots number ≡ Some s → IsPartOf s.descr leaf
-  view-part s there = subst (λ (b : Buffer). IsPartOf b.descr leaf) (slot-buffer s there) view.laid.part
-
-  module _ (v : Entry) (s : Slot) (there : slot_at slots number ≡ Some s) (v-number : v.number ≡ number) (layout-is : v.layout ≡ layout) (item-is : v.item ≡ item_size s.descr) (writable-is : v.writable ≡ writable)
-      (leaf-is : leaf_in v ≡ leaf) (field-is : IsFieldIn s.descr v.field) where
+  module _ (v : Entry) (s : Slot) (there : slot_at slots number ≡ Some s) (v-number : v.number ≡ number) (layout-is : v.layout ≡ layout) (item-is : v.item ≡ item_size s.descr) (writable-is : v.writable ≡ writable) (path-is : v.path ≡ path) where
     buffer : buffer_of (state_of es slots) array ≡ buffer_in s
     buffer = slot-buffer s there
 
@@ -55,32 +51,29 @@ module _ (es : List (Key × Entry)) (slots : Slots) (number : ℕ) (leaf : Optio
     counted : length (buffer_of (state_of es slots) array).items ≡ s.items
     counted = ap (λ (b : Buffer). length b.items) buffer ∙ length-items_in s.descr s.items s.block
 
-    path-is : path_in v ≡ array.path
-    path-is = ap path_of leaf-is ∙ sym view.laid.path
+    own-path : v.path ≡ array.path
+    own-path = path-is ∙ view.path_is
 
-    part : IsPartOf s.descr leaf
-    part = view-part s there
+    part : IsPathOf s.descr v.path
+    part = subst (λ (b : Buffer). IsPathOf b.descr v.path) buffer (subst (IsPathOf (buffer_of (state_of es slots) array).descr) (sym own-path) view.laid.part)
 
-    spread : offsets v.layout ≡ offsets_of v.item (start_at s.descr (path_in v)) array.places
-    spread = ap offsets layout-is ∙ view.laid.places ∙ λ i. offsets_of ((ap item_size type-is ∙ sym item-is) i) (start_at (type-is i) (sym path-is i)) array.places
+    spread : offsets v.layout ≡ offsets_of v.item (start_at s.descr v.path) array.places
+    spread = ap offsets layout-is ∙ view.laid.places ∙ λ i. offsets_of ((ap item_size type-is ∙ sym item-is) i) (start_at (type-is i) (sym own-path i)) array.places
 
-    starts-within : start_at s.descr (path_in v) < v.item
-    starts-within =
-        let here : start_at s.descr (path_in v) ≡ start_at s.descr (path_of leaf) = ap (λ l. start_at s.descr (path_of l)) leaf-is in
-        omega (arith, here, item-is, part-within s.descr s.is_whole.apart leaf part, part-some s.descr s.is_whole.apart s.is_whole.some leaf part)
+    starts-within : start_at s.descr v.path < v.item
+    starts-within = omega (arith, item-is, part-within s.descr s.is_whole.legal v.path part, part-some s.descr s.is_whole.legal v.path part)
 
     places : places_of v.item (offsets v.layout) ≡ array.places
-    places = ap (places_of v.item) spread ∙ places-offsets v.item (start_at s.descr (path_in v)) array.places starts-within
+    places = ap (places_of v.item) spread ∙ places-offsets v.item (start_at s.descr v.path) array.places starts-within
 
     pub view-array : array_at v ≡ array
-    view-array = λ i. record { buffer = (v-number ∙ view.number_is) i; path = path-is i; shape = (ap (λ (l : Layout). l.shape) layout-is ∙ view.laid.shape) i; places = places i; writable = (writable-is ∙ view.laid.writable_is) i }
+    view-array = λ i. record { buffer = (v-number ∙ view.number_is) i; path = own-path i; shape = (ap (λ (l : Layout). l.shape) layout-is ∙ view.laid.shape) i; places = places i; writable = (writable-is ∙ view.laid.writable_is) i }
 
     view-lies : LiesIn s v
     view-lies = record {
       item = item-is;
-      field = field-is;
-      laid = laid-same (buffer_of (state_of es slots) array).descr s.descr (length (buffer_of (state_of es slots) array).items) s.items array (array_at v) leaf (leaf_in v) layout v.layout writable v.writable
-          type-is counted (sym view-array) (sym leaf-is) (sym layout-is) (sym writable-is) view.laid;
+      laid = laid-same (buffer_of (state_of es slots) array).descr s.descr (length (buffer_of (state_of es slots) array).items) s.items array (array_at v) layout v.layout writable v.writable
+          type-is counted (sym view-array) (sym layout-is) (sym writable-is) view.laid;
     }
 
     pub view-ready : Ready slots slots v

@@ -13,14 +13,14 @@ use Rattle.shape_strides.specs.declared.layout.Layout.{Layout}
 use Rattle.shape_strides.specs.Indexes.{count}
 use Rattle.shape_strides.specs.Layouts.{offsets}
 use Rattle.name_store.specs.States.{Array, Buffer}
-use Rattle.name_store.specs.Arrays.{find_array, buffer_of, descr_of, write, written, is_in_use}
+use Rattle.name_store.specs.Arrays.{find_array, buffer_of, descr_of, span_of, write, written, is_in_use}
 use Rattle.elem_descr.specs.Blocks.{items_in}
-use Rattle.name_store.specs.Invariants.{Holds, IsFieldIn, LiesAt, LiesIn}
-use Rattle.name_store.specs.Parts.{descr_at, start_at}
+use Rattle.name_store.specs.Invariants.{Holds, LiesAt, LiesIn}
+use Rattle.name_store.specs.Parts.{descr_at, start_at, span_at}
 use Rattle.name_store.specs.Places.{offsets_of}
 use Rattle.overlap_copy.specs.Blocks.{places_of}
 use Rattle.name_store.specs.Targets.{LeadsTo, new_items, put_each}
-use Rattle.name_store.specs.View.{array_at, named_array, buffer_in, leaf_in, path_in, slot_at, state_of}
+use Rattle.name_store.specs.View.{array_at, named_array, buffer_in, slot_at, state_of}
 use Rattle.name_store.specs.declared.entry.Entry.{Entry}
 use Rattle.name_store.specs.declared.entry.Key.{Key}
 use Rattle.name_store.specs.declared.slot.Slot.{Slot}
@@ -63,29 +63,29 @@ module _ (es : List (Key × Entry)) (slots : Slots) (h : Holds es slots) (test :
   type-is : (buffer_of (state_of es slots) array).descr ≡ s.descr
   type-is = ap (λ (b : Buffer). b.descr) buffer
 
-  path-is : array.path ≡ path_in e
+  path-is : array.path ≡ e.path
   path-is = ap (λ (a : Array). a.path) same
 
-  own-is : descr_of (state_of es slots) array ≡ descr_at s.descr (path_in e)
+  own-is : descr_of (state_of es slots) array ≡ descr_at s.descr e.path
   own-is = λ i. descr_at (type-is i) (path-is i)
 
-  whole : length item.now ≡ item_size (descr_at s.descr (path_in e))
+  whole : length item.now ≡ item_size (descr_at s.descr e.path)
   whole = long ∙ ap item_size own-is
 
   lies : LiesIn s e
   lies = found-lies es slots h test name is e s was there
 
   within : AllByRecursion (λ place. place < s.items) places
-  within = all-among (λ place. place < s.items) (places_of e.item (offsets e.layout)) places (places-within s.descr s.items (array_at e) (leaf_in e) e.layout e.writable lies.laid (part-some s.descr s.is_whole.apart s.is_whole.some (leaf_in e) lies.laid.part)) (subst (λ (a : Array). All (Contains a.places) places) same leads.among)
+  within = all-among (λ place. place < s.items) (places_of e.item (offsets e.layout)) places (places-within s.descr s.items (array_at e) e.layout e.writable lies.laid (part-some s.descr s.is_whole.legal e.path lies.laid.part)) (subst (λ (a : Array). All (Contains a.places) places) same leads.among)
 
-  spread : offsets layout ≡ offsets_of (item_size s.descr) (start_at s.descr (path_in e)) places
+  spread : offsets layout ≡ offsets_of (item_size s.descr) (start_at s.descr e.path) places
   spread = leads.offsets_are ∙ λ i. offsets_of (item_size (type-is i)) (start_at (type-is i) (path-is i)) places
 
   pub inside : All (λ offset. offset + length item.now ≤ length s.block) (offsets layout)
   inside =
       subst (All (λ offset. offset + length item.now ≤ length s.block)) (sym spread)
-      (All-from_recursion _ _ (inside-places (item_size s.descr) (start_at s.descr (path_in e)) (length item.now) s.items (length s.block) places within (sym s.is_whole.whole)
-      (omega (arith, whole, part-within s.descr s.is_whole.apart (leaf_in e) lies.laid.part))))
+      (All-from_recursion _ _ (inside-places (item_size s.descr) (start_at s.descr e.path) (length item.now) s.items (length s.block) places within (sym s.is_whole.whole)
+      (omega (arith, whole, part-within s.descr s.is_whole.legal e.path lies.laid.part))))
 
   module _ (after : Slots) (s' : Slot) (counted : length (offsets layout) ≡ count layout.shape) (descr-is : s'.descr ≡ s.descr) (items-are : s'.items ≡ s.items) (block-is : s'.block ≡ put_each (offsets layout) item.now s.block)
       (set : (q : ℕ) → slot_at after q ≡ cond (nat_eq q e.number) (Some s') (slot_at slots q)) where
@@ -101,8 +101,7 @@ module _ (es : List (Key × Entry)) (slots : Slots) (h : Holds es slots) (test :
         moved : (x : Entry) → LiesIn s x → LiesIn s' x
         moved x l = record {
           item = l.item ∙ ap item_size (sym descr-is);
-          field = subst (λ d. IsFieldIn d x.field) (sym descr-is) l.field;
-          laid = laid-same s.descr s'.descr s.items s'.items (array_at x) (array_at x) (leaf_in x) (leaf_in x) x.layout x.layout x.writable x.writable (sym descr-is) (sym items-are) refl refl refl refl l.laid;
+          laid = laid-same s.descr s'.descr s.items s'.items (array_at x) (array_at x) x.layout x.layout x.writable x.writable (sym descr-is) (sym items-are) refl refl refl l.laid;
         }
 
     pub written-holds : Holds es after
@@ -120,16 +119,16 @@ module _ (es : List (Key × Entry)) (slots : Slots) (h : Holds es slots) (test :
             ] refl (set q)
 
     places-counted : length places ≡ count layout.shape
-    places-counted = sym (length-map places (λ place. item_size s.descr * place + start_at s.descr (path_in e))) ∙ ap length (sym spread) ∙ counted
+    places-counted = sym (length-map places (λ place. item_size s.descr * place + start_at s.descr e.path)) ∙ ap length (sym spread) ∙ counted
 
     abbrev new-buffer : Buffer
-    new-buffer = record (buffer_of (state_of es slots) array) { items = write array.path places (new_items (descr_of (state_of es slots) array) (count layout.shape) (One item)) (buffer_of (state_of es slots) array).items }
+    new-buffer = record (buffer_of (state_of es slots) array) { items = write (span_of (state_of es slots) array) places (new_items (descr_of (state_of es slots) array) (count layout.shape) (One item)) (buffer_of (state_of es slots) array).items }
 
-    items-written : write array.path places (new_items (descr_of (state_of es slots) array) (count layout.shape) (One item)) (buffer_of (state_of es slots) array).items ≡ items_in s'.descr s'.items s'.block
+    items-written : write (span_of (state_of es slots) array) places (new_items (descr_of (state_of es slots) array) (count layout.shape) (One item)) (buffer_of (state_of es slots) array).items ≡ items_in s'.descr s'.items s'.block
     items-written =
-        (λ i. write (path-is i) places (replicate (count layout.shape) (decode_item (own-is i) item.now)) (ap (λ (b : Buffer). b.items) buffer i))
-        ∙ ap (λ n. write (path_in e) places (replicate n (decode_item (descr_at s.descr (path_in e)) item.now)) (items_in s.descr s.items s.block)) (sym places-counted)
-        ∙ sym (put_each-items s.descr s.is_whole.apart (leaf_in e) lies.laid.part s.items places item.now s.block within whole (omega (arith, s.is_whole.whole)))
+        (λ i. write (span_at (type-is i) (path-is i)) places (replicate (count layout.shape) (decode_item (own-is i) item.now)) (ap (λ (b : Buffer). b.items) buffer i))
+        ∙ ap (λ n. write (span_at s.descr e.path) places (replicate n (decode_item (descr_at s.descr e.path) item.now)) (items_in s.descr s.items s.block)) (sym places-counted)
+        ∙ sym (put_each-items s.descr s.is_whole.legal e.path lies.laid.part s.items places item.now s.block within whole (omega (arith, s.is_whole.whole)))
         ∙ ap (items_in s.descr s.items) (ap (λ os. put_each os item.now s.block) (sym spread) ∙ sym block-is)
         ∙ λ i. items_in (sym descr-is i) (sym items-are i) s'.block
 

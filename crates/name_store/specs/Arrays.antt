@@ -11,7 +11,7 @@ use Rattle.elem_descr.specs.declared.scalar.Order.TheVariants.{Little}
 use Rattle.elem_descr.specs.Items.{item_size}
 use Rattle.elem_descr.specs.Values.{LeafValue}
 use Rattle.shape_strides.specs.Indexes.{count}
-use Rattle.name_store.specs.Parts.{descr_at, start_at, part_at, with_part}
+use Rattle.name_store.specs.Parts.{descr_at, start_at, span_at, part_at, with_part, have_common, share_leaves}
 use Rattle.name_store.specs.Places.{offsets_of}
 use Rattle.name_store.specs.States.{Buffer, Array, State}
 
@@ -84,29 +84,27 @@ addresses s array = offsets_of (item_size (buffer_of s array).descr) (start_at (
 abbrev pub item_at : List (List LeafValue) → ℕ → List LeafValue
 item_at items place = unwrap_or (slice_get items place) []
 
+-- the leaves that an array has of each item of its buffer: the first of them, and how many they are
+abbrev pub span_of : State → Array → ℕ × ℕ
+span_of s array = span_at (buffer_of s array).descr array.path
+
 -- the items of an array, place by place
 abbrev pub read : State → Array → List (List LeafValue)
-read s array = map (λ place. part_at array.path (item_at (buffer_of s array).items place)) array.places
+read s array = map (λ place. part_at (span_of s array) (item_at (buffer_of s array).items place)) array.places
 
 -- values put in a part of the items at places, one after the other
-abbrev pub write : List ℕ → List ℕ → List (List LeafValue) → List (List LeafValue) → List (List LeafValue)
-write path (place ∷ places) (part ∷ new) items = write path places new (slice_set items place (with_part path part (item_at items place)))
-write path places new items = items
+abbrev pub write : ℕ × ℕ → List ℕ → List (List LeafValue) → List (List LeafValue) → List (List LeafValue)
+write span (place ∷ places) (part ∷ new) items = write span places new (slice_set items place (with_part span part (item_at items place)))
+write span places new items = items
 
 -- the state in which an array's items at some of its places are new
 abbrev pub written : State → Array → List ℕ → List (List LeafValue) → State
 written s array places new =
-    record s { buffers = insert s.buffers array.buffer (record (buffer_of s array) { items = write array.path places new (buffer_of s array).items }) }
+    record s { buffers = insert s.buffers array.buffer (record (buffer_of s array) { items = write (span_of s array) places new (buffer_of s array).items }) }
 
 -- Shared cells
 
--- two paths in one item lead to something in common where one goes on from the other
-abbrev pub paths_meet : List ℕ → List ℕ → Bool
-paths_meet [] others = true
-paths_meet (k ∷ path) [] = true
-paths_meet (k ∷ path) (other ∷ others) = nat_eq k other && paths_meet path others
-
--- whether two arrays lie in one buffer, and some place is in both
-abbrev pub share_cells : Array → Array → Bool
-share_cells a b =
-    nat_eq a.buffer b.buffer && paths_meet a.path b.path && list_any (λ place. list_any (nat_eq place) b.places) a.places
+-- whether two arrays lie in one buffer, and some leaf of an item and some place are in both
+abbrev pub share_cells : State → Array → Array → Bool
+share_cells s a b =
+    nat_eq a.buffer b.buffer && share_leaves (buffer_of s a).descr a.path b.path && have_common a.places b.places

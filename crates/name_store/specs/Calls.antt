@@ -41,8 +41,8 @@ pub record IsLeastUnused (s : State) (number : ℕ) : Type 0 where
 abbrev pub Binds : State → List ℕ → Bound → State → Type 0
 Binds old name (Fresh o) new =
     (number : ℕ) × IsLeastUnused old number × (new ≡ bound_to old name (own_array number o) (own_buffer o))
-Binds old name (View number leaf layout writable) new =
-    (array : Array) → IsViewIn old number leaf layout writable array → new ≡ bound_view old name array
+Binds old name (View number path layout writable) new =
+    (array : Array) → IsViewIn old number path layout writable array → new ≡ bound_view old name array
 
 -- A name is bound where there is room for it. Else it is refused, as it is where memory runs out, and nothing has changed.
 abbrev pub AnswersBind : State → List ℕ → Bound → Result (Unit {0}) Refusal → State → Type 0
@@ -65,6 +65,6 @@ AnswersWrite old name target source (Err refusal) new = (new ≡ old) × (refusa
 -- Whether the arrays of two names share cells. It is refused only where a name is not bound, and as out of memory.
 abbrev pub AnswersShares : State → List ℕ → List ℕ → Result Bool Refusal → Type 0
 AnswersShares s left right (Ok answer) =
-    (a : Array) × (b : Array) × (find_array s.names left ≡ Some a) × (find_array s.names right ≡ Some b) × (answer ≡ share_cells a b)
+    (a : Array) × (b : Array) × (find_array s.names left ≡ Some a) × (find_array s.names right ≡ Some b) × (answer ≡ share_cells s a b)
 AnswersShares s left right (Err refusal) =
     (((is_bound s left && is_bound s right) ≡ false) × (refusal ≡ UnknownName)) ⊎ (((is_bound s left && is_bound s right) ≡ true) × (refusal ≡ OutOfMemory))

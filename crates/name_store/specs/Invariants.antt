@@ -1,27 +1,18 @@
 -- What always holds of the fields of a bench.
-use Rattle.std.specs.Prelude.{◌≡◌, ◌≤◌, ◌<◌, ℕ, true, List, [], ◌∷◌, length, map, Option, Some, None, is_some}
+use Rattle.std.specs.Prelude.{◌≡◌, ◌≤◌, ℕ, true, List, length, map, Option, Some, None, is_some}
 use Rattle.std.specs.List.{AllByRecursion}
-use Rattle.elem_descr.specs.declared.descr.Descr.{Descr}
-use Rattle.elem_descr.specs.Items.{item_size, leaves_of}
+use Rattle.elem_descr.specs.Items.{item_size}
 use Rattle.name_store.specs.Arrays.{is_in_use}
-use Rattle.name_store.specs.Parts.{descr_at}
-use Rattle.name_store.specs.View.{named_array, array_at, leaf_in, slot_at}
+use Rattle.name_store.specs.View.{named_array, array_at, slot_at}
 use Rattle.name_store.specs.Views.{IsLaidOut}
 use Rattle.name_store.specs.declared.entry.Entry.{Entry}
-use Rattle.name_store.specs.declared.entry.Field.{Field}
 use Rattle.name_store.specs.declared.entry.Key.{Key}
 use Rattle.name_store.specs.declared.slot.Slot.{Slot}
-
--- a field of the items of this element type, if there is one
-abbrev pub IsFieldIn : Descr → Option Field → Type 0
-IsFieldIn descr None = Unit {0}
-IsFieldIn descr (Some field) = (field.number < length (leaves_of descr)) × (field.descr ≡ descr_at descr (field.number ∷ []))
 
 -- an entry whose array lies in the slot
 pub record LiesIn (slot : Slot) (e : Entry) : Type 0 where
   pub item : e.item ≡ item_size slot.descr
-  pub field : IsFieldIn slot.descr e.field
-  pub laid : IsLaidOut slot.descr slot.items (array_at e) (leaf_in e) e.layout e.writable
+  pub laid : IsLaidOut slot.descr slot.items (array_at e) e.layout e.writable
 
 -- a slot that is occupied, and in which a layout lies
 abbrev pub LiesAt : Option Slot → Entry → Type 0

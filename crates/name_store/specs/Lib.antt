@@ -1,7 +1,7 @@
 pub mod Arrays
 pub mod Calls
-pub mod Codes
 pub mod Invariants
+pub mod Laws
 pub mod Parts
 pub mod Places
 pub mod Shown
@@ -9,3 +9,4 @@ pub mod States
 pub mod Targets
 pub mod View
 pub mod Views
+pub mod inside

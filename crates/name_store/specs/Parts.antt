@@ -1,36 +1,51 @@
--- Parts of an item: the whole of it, or the field that a path of field numbers leads to.
-use Rattle.std.specs.Prelude.{◌<◌, ℕ, ◌+◌, List, [], ◌∷◌, ◌++◌, length, take, drop, Option, Some, None}
+-- Parts of an item: the whole of it, or the field that a path of field numbers leads to, each number that of a field
+-- of what those before it lead to.
+use Rattle.std.specs.Prelude.{◌<◌, ℕ, ◌+◌, Bool, List, [], ◌∷◌, ◌++◌, length, take, drop, nat_eq}
+use Rattle.std.specs.List.{list_any, range_with_len}
 use Rattle.elem_descr.specs.declared.descr.Descr.{Descr}
-use Rattle.elem_descr.specs.declared.descr.Descr.TheVariants.{Scalar as ScalarDescr}
-use Rattle.elem_descr.specs.Items.{leaves_of, leaf_at}
+use Rattle.elem_descr.specs.Items.{leaves_of, leaves_in, fields, field_at}
 use Rattle.elem_descr.specs.Values.{LeafValue}
+
+-- each number of the path is that of a field
+abbrev pub IsPathOf : Descr → List ℕ → Type 0
+IsPathOf descr [] = Unit {0}
+IsPathOf descr (k ∷ path) = (k < length (fields descr)) × IsPathOf (field_at descr k).descr path
 
 -- the element type of a part
 abbrev pub descr_at : Descr → List ℕ → Descr
 descr_at descr [] = descr
-descr_at descr (k ∷ path) = descr_at (ScalarDescr (leaf_at descr k).scalar) path
+descr_at descr (k ∷ path) = descr_at (field_at descr k).descr path
 
 -- the byte of an item with which a part begins
 abbrev pub start_at : Descr → List ℕ → ℕ
 start_at descr [] = 0
-start_at descr (k ∷ path) = (leaf_at descr k).at + start_at (ScalarDescr (leaf_at descr k).scalar) path
+start_at descr (k ∷ path) = (field_at descr k).at + start_at (field_at descr k).descr path
 
--- the values of a part
-abbrev pub part_at : List ℕ → List LeafValue → List LeafValue
-part_at [] item = item
-part_at (k ∷ path) item = part_at path (take 1 (drop k item))
+-- the leaf of an item with which a part begins
+abbrev pub first_at : Descr → List ℕ → ℕ
+first_at descr [] = 0
+first_at descr (k ∷ path) = leaves_in (take k (fields descr)) + first_at (field_at descr k).descr path
+
+-- the leaves of a part: the first of them, and how many they are
+abbrev pub span_at : Descr → List ℕ → ℕ × ℕ
+span_at descr path = (first_at descr path, length (leaves_of (descr_at descr path)))
+
+-- of the values of an item, those of a part
+abbrev pub part_at : ℕ × ℕ → List LeafValue → List LeafValue
+part_at span item = take span.1 (drop span.0 item)
 
 -- an item in which a part has new values
-abbrev pub with_part : List ℕ → List LeafValue → List LeafValue → List LeafValue
-with_part [] new item = new
-with_part (k ∷ path) new item = take k item ++ with_part path new (take 1 (drop k item)) ++ drop (k + 1) item
+abbrev pub with_part : ℕ × ℕ → List LeafValue → List LeafValue → List LeafValue
+with_part span new item = take span.0 item ++ new ++ drop (span.0 + span.1) item
 
--- the path to one field, or to the whole
-abbrev pub path_of : Option ℕ → List ℕ
-path_of None = []
-path_of (Some k) = k ∷ []
+-- the numbers of the leaves of a part
+abbrev pub leaves_at : Descr → List ℕ → List ℕ
+leaves_at descr path = let span = span_at descr path in range_with_len span.0 span.1
 
--- there is such a field, if one is named
-abbrev pub IsPartOf : Descr → Option ℕ → Type 0
-IsPartOf descr None = Unit {0}
-IsPartOf descr (Some k) = k < length (leaves_of descr)
+-- whether some number is in both lists
+abbrev pub have_common : List ℕ → List ℕ → Bool
+have_common left right = list_any (λ number. list_any (nat_eq number) right) left
+
+-- whether some leaf is of both parts
+abbrev pub share_leaves : Descr → List ℕ → List ℕ → Bool
+share_leaves descr path other = have_common (leaves_at descr path) (leaves_at descr other)

@@ -1,15 +1,22 @@
 -- Places in a buffer, and the offsets of their items in its block.
 use Rattle.std.specs.Prelude.{◌≡◌, ◌≤◌, ℕ, ◌+◌, ◌*◌, ◌^◌, List, map, length}
 use Rattle.elem_descr.specs.declared.descr.Descr.{Descr}
-use Rattle.elem_descr.specs.Items.{item_size, AreApart}
+use Rattle.elem_descr.specs.declared.descr.Descr.TheVariants.{Scalar as ScalarDescr, Record as RecordDescr}
+use Rattle.elem_descr.specs.Descriptors.{IsLegal}
+use Rattle.elem_descr.specs.Encoding.{size}
+use Rattle.elem_descr.specs.Items.{item_size}
 
 -- where a part of the items at these places begins, if each has so many bytes, and the part so many before it
 abbrev pub offsets_of : ℕ → ℕ → List ℕ → List ℕ
 offsets_of item start places = map (λ place. item * place + start) places
 
--- the block has so many items and no other byte, and the fields of an item are apart
+-- a scalar of a byte or more, or a legal record
+abbrev pub IsElementType : Descr → Type 0
+IsElementType (ScalarDescr scalar) = 1 ≤ size scalar
+IsElementType (RecordDescr structure) = IsLegal structure
+
+-- the block has so many items and no other byte
 pub record IsWhole (descr : Descr) (items : ℕ) (block : List ℕ) : Type 0 where
-  pub some : 1 ≤ item_size descr
-  pub apart : AreApart descr
+  pub legal : IsElementType descr
   pub whole : length block ≡ items * item_size descr
   pub small : length block ≤ 2 ^ 28

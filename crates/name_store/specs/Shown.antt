@@ -1,6 +1,6 @@
 -- What a look-up shows of an array.
 use Rattle.std.specs.Prelude.{◌≡◌, ◌≢◌, ◌<◌, ℕ, ◌*◌, ◌^◌, slice_index, map, length, Option, Some, None, IsTrue, All, ◌+◌, ◌≤◌}
-use Rattle.elem_descr.specs.Items.{item_size}
+use Rattle.elem_descr.specs.Items.{item_size, fields}
 use Rattle.shape_strides.specs.Layouts.{offsets}
 use Rattle.name_store.specs.States.{State, Array}
 use Rattle.name_store.specs.Arrays.{buffer_of, descr_of, read}
@@ -8,14 +8,15 @@ use Rattle.elem_descr.specs.Blocks.{items_in, item_from}
 use Rattle.name_store.specs.Views.{IsViewIn}
 use Rattle.name_store.specs.declared.array_ref.ArrayRef.{ArrayRef}
 
--- the array of a state, as a view in its buffer, and by its buffer's block
+-- the array of a state, as a view in its buffer, and by its buffer's block; where it has fields, its path may go on
 pub record Shows (s : State) (array : Array) (r : ArrayRef) : Type 0 where
-  pub view : IsViewIn s r.number r.leaf r.layout.now r.writable array
+  pub view : IsViewIn s r.number r.path.now r.layout.now r.writable array
   pub descr : descr_of s array ≡ r.descr.now
   pub whole : length r.block.now ≡ length (buffer_of s array).items * item_size (buffer_of s array).descr
   pub small : length r.block.now ≤ 2 ^ 28
   pub items : (buffer_of s array).items ≡ items_in (buffer_of s array).descr (length (buffer_of s array).items) r.block.now
   pub reads : read s array ≡ map (item_from r.descr.now r.block.now) (offsets r.layout.now)
+  pub deeper : (k : ℕ) → k < length (fields r.descr.now) → length r.path.now < 4
   pub inside : All (λ offset. offset + item_size r.descr.now ≤ length r.block.now) (offsets r.layout.now)
   pub once : IsTrue array.writable → (j k : ℕ) → j < k → k < length array.places → slice_index array.places j ≢ slice_index array.places k
 

@@ -1,12 +1,12 @@
 -- Places of an array to be written, and what is written to them.
-use Rattle.std.specs.Prelude.{◌≡◌, ℕ, ◌^◌, true, List, [], ◌∷◌, length, replicate, Some, All}
+use Rattle.std.specs.Prelude.{◌≡◌, ℕ, true, List, [], ◌∷◌, length, replicate, Some, All}
 use Rattle.std.specs.List.{Contains}
 use Rattle.elem_descr.specs.declared.descr.Descr.{Descr}
 use Rattle.elem_descr.specs.Items.{item_size, decode_item}
 use Rattle.elem_descr.specs.Values.{LeafValue}
 use Rattle.raw_block.specs.Bytes.{put}
 use Rattle.shape_strides.specs.declared.layout.Layout.{Layout}
-use Rattle.shape_strides.specs.Layouts.{offsets, Fits}
+use Rattle.shape_strides.specs.Layouts.{offsets}
 use Rattle.name_store.specs.States.{State, Array}
 use Rattle.name_store.specs.Arrays.{find_array, descr_of, addresses}
 use Rattle.name_store.specs.declared.target.Source.{Source}

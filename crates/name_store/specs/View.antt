@@ -1,44 +1,16 @@
 -- What the fields of a bench stand for.
 use Rattle.std.specs.Prelude.{ℕ, zero, suc, List, [], ◌∷◌, map, Option, Some, None}
 use Rattle.std.specs.FinMap.{from_entries}
-use Rattle.std.specs.Option.{option_map}
-use Rattle.elem_descr.specs.declared.descr.Descr.{Descr}
-use Rattle.elem_descr.specs.Items.{item_size}
 use Rattle.shape_strides.specs.Layouts.{offsets}
 use Rattle.name_store.specs.States.{Array, Buffer, State}
 use Rattle.elem_descr.specs.Blocks.{items_in}
-use Rattle.name_store.specs.Parts.{path_of}
 use Rattle.overlap_copy.specs.Blocks.{places_of}
 use Rattle.name_store.specs.declared.entry.Entry.{Entry}
-use Rattle.name_store.specs.declared.entry.Field.{Field}
 use Rattle.name_store.specs.declared.entry.Key.{Key}
 use Rattle.name_store.specs.declared.slot.Slot.{Slot}
 
--- the number of the field that an entry's array has of each item, if not the whole
-abbrev pub leaf_in : Entry → Option ℕ
-leaf_in e = option_map (λ field. field.number) e.field
-
-abbrev pub path_in : Entry → List ℕ
-path_in e = path_of (leaf_in e)
-
 abbrev pub array_at : Entry → Array
-array_at e = record { buffer = e.number; path = path_in e; shape = e.layout.shape; places = places_of e.item (offsets e.layout); writable = e.writable }
-
--- the element type of the field, or the given one of the whole
-abbrev pub descr_of_field : Option Field → Descr → Descr
-descr_of_field None whole = whole
-descr_of_field (Some field) whole = field.descr
-
-abbrev pub descr_in : Entry → Descr → Descr
-descr_in e whole = descr_of_field e.field whole
-
--- the bytes of the field, or of the whole
-abbrev pub size_of_field : Option Field → ℕ → ℕ
-size_of_field None whole = whole
-size_of_field (Some field) whole = item_size field.descr
-
-abbrev pub own_size : Entry → ℕ
-own_size e = size_of_field e.field e.item
+array_at e = record { buffer = e.number; path = e.path; shape = e.layout.shape; places = places_of e.item (offsets e.layout); writable = e.writable }
 
 abbrev pub text_of : Key → List ℕ
 text_of key = key.bytes.items

@@ -30,7 +30,7 @@ pub struct Bench {
 
 impl Model for Bench {
     ghost use Rattle.name_store.specs.States.{State};
-    ghost use Rattle.name_store.specs.Codes.{state_code};
+    ghost use Rattle.name_store.specs.inside.Codes.{state_code};
 
     ghost Value = { State };
 

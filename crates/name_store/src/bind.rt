@@ -1,20 +1,19 @@
 //! A name is bound.
 ghost use Rattle.std.specs.Prelude.{◌≡◌, true};
-ghost use Rattle.std.specs.Option.{option_map};
 ghost use Rattle.name_store.specs.Arrays.{has_room_for};
 ghost use Rattle.name_store.specs.Calls.{AnswersBind};
-ghost use Rattle.name_store.specs.Invariants.{Holds, IsFieldIn};
-ghost use Rattle.name_store.specs.Parts.{IsPartOf};
+ghost use Rattle.name_store.specs.Invariants.{Holds};
 ghost use Rattle.name_store.specs.View.{state_of};
 ghost use Rattle.name_store.specs.declared.bound.Bound.TheVariants.{Fresh, View};
 ghost use Rattle.name_store.specs.States.{Array};
 ghost use Rattle.name_store.specs.Views.{IsViewIn, MayBind};
 
 use crate::bound::Bound;
-use crate::entry::{Entry, Field, Key};
+use crate::entry::{Entry, Key};
+use crate::path::Path;
 use crate::slot::Slot;
 use crate::slots::{free_number, put_slot, release_replaced, slot_of};
-use elem_descr::{Descr, Refusal};
+use elem_descr::Refusal;
 use indexmap::IndexMap;
 use overlap_copy::Owned;
 use shape_strides::Layout;
@@ -54,7 +53,7 @@ fn bind_fresh(
     let items = layout.shape.items();
     let entry = Entry {
         number,
-        field: None,
+        path: Path::whole(),
         layout,
         item: descr.size(),
         writable: true,
@@ -65,44 +64,29 @@ fn bind_fresh(
     Ok(())
 }
 
-/// The field with this number among those of an item.
-fn field_of(descr: &Descr, leaf: Option<usize>) -> Option<Field>
-    requires { IsPartOf descr.now leaf }
-    ensures number { option_map (λ field. field.number) result ≡ leaf }
-    ensures descr { IsFieldIn descr.now result }
-{
-    let number = leaf?;
-    let (scalar, _) = descr.leaf_at(number);
-    Some(Field {
-        number,
-        descr: Descr::Scalar(scalar),
-    })
-}
-
 /// Binds a name to a view. Only the table of names takes memory, and before the first change.
 fn bind_view(
     names: &mut IndexMap<Key, Entry>,
     slots: &mut Vec<Option<Slot>>,
     key: Key,
     number: u64,
-    leaf: Option<usize>,
+    path: Path,
     layout: Layout,
     writable: bool,
 ) -> Result<(), Refusal>
     requires holds { Holds names.old.entries slots.old.items }
     requires room { has_room_for (state_of names.old.entries slots.old.items) key.bytes.items ≡ true }
-    requires view { (array : Array) × IsViewIn (state_of names.old.entries slots.old.items) number leaf layout writable array }
+    requires view { (array : Array) × IsViewIn (state_of names.old.entries slots.old.items) number path layout writable array }
     ensures holds { Holds names.new.entries slots.new.items }
-    ensures answers { AnswersBind (state_of names.old.entries slots.old.items) key.bytes.items (View number leaf layout writable) result
+    ensures answers { AnswersBind (state_of names.old.entries slots.old.items) key.bytes.items (View number path layout writable) result
         (state_of names.new.entries slots.new.items) }
 {
     let number = number as usize;
-    let whole = &slot_of(slots.as_slice(), number).descr;
     let view = Entry {
         number,
-        field: field_of(whole, leaf),
+        path,
         layout,
-        item: whole.size(),
+        item: slot_of(slots.as_slice(), number).descr.size(),
         writable,
     };
     let replaced = names.insert(key, view)?;
@@ -130,9 +114,9 @@ pub(crate) fn bind_in(
         Bound::Fresh(owned) => bind_fresh(names, slots, key, owned),
         Bound::View {
             number,
-            leaf,
+            path,
             layout,
             writable,
-        } => bind_view(names, slots, key, number, leaf, layout, writable),
+        } => bind_view(names, slots, key, number, path, layout, writable),
     }
 }

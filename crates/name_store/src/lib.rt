@@ -9,6 +9,7 @@ mod bound;
 mod entry;
 mod look;
 mod names;
+mod path;
 mod shares;
 mod slot;
 mod slots;
@@ -20,10 +21,11 @@ pub use array_ref::ArrayRef;
 pub use bench::Bench;
 pub use bound::Bound;
 pub use names::Names;
+pub use path::Path;
 pub use target::{Source, Target};
 
 // A crate can name a bench in a contract only if the types of its fields are exported.
 #[doc(hidden)]
-pub use entry::{Entry, Field, Key};
+pub use entry::{Entry, Key};
 #[doc(hidden)]
 pub use slot::Slot;

@@ -24,10 +24,10 @@ pub(crate) fn look_in<'a>(
     let slot = slot_of(slots, entry.number);
     Some(ArrayRef {
         block: &slot.block,
-        descr: entry.descr(&slot.descr),
+        descr: entry.path.descr_in(&slot.descr),
         layout: &entry.layout,
+        path: &entry.path,
         number: entry.number as u64,
-        leaf: entry.leaf(),
         writable: entry.writable,
     })
 }

@@ -5,6 +5,7 @@ ghost use Rattle.name_store.specs.View.{state_of};
 
 use crate::entry::{Entry, Key};
 use crate::slot::Slot;
+use crate::slots::slot_of;
 use elem_descr::Refusal;
 use indexmap::IndexMap;
 use overlap_copy::share_cell;
@@ -31,12 +32,13 @@ pub(crate) fn shares_in(
     if first.number != second.number {
         return Ok(false);
     }
+    let whole = &slot_of(slots, first.number).descr;
     let has_common = share_cell(
         alloc,
         &first.layout,
-        first.size(),
+        first.path.descr_in(whole).size(),
         &second.layout,
-        second.size(),
+        second.path.descr_in(whole).size(),
     )?;
     Ok(has_common)
 }

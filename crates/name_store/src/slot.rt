@@ -1,7 +1,8 @@
 //! A buffer.
 ghost use Rattle.std.specs.Prelude.{◌≡◌, ◌≤◌, ◌*◌, ◌^◌, length};
 ghost use Rattle.elem_descr.specs.Items.{item_size};
-ghost use Rattle.name_store.specs.Places.{IsWhole};
+ghost use Rattle.name_store.specs.Places.{IsWhole, IsElementType};
+ghost use Rattle.name_store.specs.inside.Props.{IsWhole-prop};
 
 use elem_descr::Descr;
 use raw_block::RawBlock;
@@ -12,7 +13,18 @@ pub struct Slot {
     pub descr: Descr,
     pub items: usize,
     pub block: RawBlock,
-    ghost is_whole: { IsWhole descr items block },
+    ghost is_whole: { IsWhole descr items block } by { IsWhole-prop descr items block },
+}
+
+/// The bytes of an item, with what is known of the fields.
+fn legal_size(descr: &Descr) -> usize
+    ensures value { result ≡ item_size descr.now }
+    ensures legal { IsElementType descr.now }
+{
+    match descr {
+        Descr::Scalar(scalar) => scalar.size(),
+        Descr::Record(structure) => structure.size(),
+    }
 }
 
 impl Slot {
@@ -25,7 +37,7 @@ impl Slot {
         ensures block { result.block ≡ block }
     {
         // What is known of the sizes and offsets of the fields comes with this call.
-        let _size = descr.size();
+        let _size = legal_size(&descr);
         Slot {
             descr,
             items,

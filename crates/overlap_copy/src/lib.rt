@@ -6,5 +6,5 @@ mod owned;
 mod share;
 
 pub use overlap::may_overlap;
-pub use owned::{MemoryOrder, Owned};
+pub use owned::Owned;
 pub use share::share_cell;

@@ -2,25 +2,17 @@
 ghost use Rattle.std.specs.Prelude.{◌≡◌, ◌*◌, ◌≤◌, ◌||◌, length, map, nat_le, replicate, if◌then◌else◌, IfOk, IfErr, IsTrue};
 ghost use Rattle.elem_descr.specs.declared.refusal.Refusal.TheVariants.{OutOfMemory, TooLarge};
 ghost use Rattle.elem_descr.specs.Items.{item_size};
+ghost use Rattle.shape_strides.specs.declared.memory_order.MemoryOrder.TheVariants.{C};
 ghost use Rattle.shape_strides.specs.Limits.{max_bytes};
 ghost use Rattle.shape_strides.specs.Indexes.{count};
 ghost use Rattle.shape_strides.specs.Contiguity.{is_c_contiguous, is_f_contiguous};
 ghost use Rattle.shape_strides.specs.Layouts.{offsets, Fits, IsNested};
 ghost use Rattle.overlap_copy.specs.Blocks.{FillsBlock, offsets_in, places_of};
-ghost use Rattle.overlap_copy.specs.declared.owned.MemoryOrder.TheVariants.{C};
 
 use elem_descr::{Descr, Refusal};
 use raw_block::RawBlock;
-use shape_strides::{Layout, MAX_BYTES, Shape};
+use shape_strides::{Layout, MAX_BYTES, MemoryOrder, Shape};
 use std::alloc::{AllocError, Global};
-
-/// The order in which the items of an array lie one after another: the last axis running fastest, or
-/// the first.
-#[derive(Clone, Copy, Debug, PartialEq, Eq, Drop)]
-pub enum MemoryOrder {
-    C,
-    Fortran,
-}
 
 /// A block with the items that lie in it: of one descriptor, in C order or in Fortran order, from its
 /// start to its end.

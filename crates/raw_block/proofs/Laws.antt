@@ -14,13 +14,13 @@ use lib.Signed.{◌≤ℤ◌}
 use Rattle.std.proofs.lemmas.Int.{ints}
 use Rattle.raw_block.specs.Bytes.{position, place, EachWithin, put, item_at, copied, copied_within, filled, swapped, little_from, little_number, little_bytes}
 use Rattle.raw_block.proofs.Exchanges.{length-exchanged}
-use Rattle.raw_block.proofs.Places.{natural_is}
+use Rattle.raw_block.proofs.Places.{not_negative}
 use Rattle.raw_block.proofs.Puts.{length-item_at, length-put, get_or-put_before, get_or-put_after}
 
 -- the k-th item lies within
 pub place_within : (len at : ℕ) (step : ℤ) (width n k : ℕ) → EachWithin len at step width n → k < n → place at step k + width ≤ len
 place_within len at step width n k h lt =
-    let here = h.each k lt in let low = here.0 in let high = here.1 in let is : pos (place at step k) ≡ position at step k = natural_is (position at step k) low in
+    let here = h.each k lt in let low = here.0 in let high = here.1 in let is : pos (place at step k) ≡ position at step k = not_negative (position at step k) low in
     omega (arith, ints)
 
 pub fewer : (len at : ℕ) (step : ℤ) (width n : ℕ) → EachWithin len at step width (suc n) → EachWithin len at step width n

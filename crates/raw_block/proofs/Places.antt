@@ -2,20 +2,20 @@
 use Rattle.std.proofs.Common.{◌≡◌, ℕ, suc, ◌+◌, ◌-◌, ◌*◌, ◌%◌, ◌^◌, refl, sym, ap, ◌∙◌, w64, arith}
 use Rattle.std.proofs.Math.Nat.{add-mod-mod, add-mul-mod_self_right, mod-eq_of_lt, mul-add}
 use Rattle.std.proofs.lemmas.Int.{ints}
-use lib.IntN.{ℤ, pos, negsuc}
+use lib.IntN.{ℤ, pos, negsuc, nat_abs}
 use lib.Signed.{◌≤ℤ◌, ◌<ℤ◌}
 use mir.Val.{SFits, of_z}
-use Rattle.raw_block.specs.Bytes.{natural, position, place}
+use Rattle.raw_block.specs.Bytes.{position, place}
 
-pub natural_is : (z : ℤ) → pos 0 ≤ℤ z → pos (natural z) ≡ z
-natural_is (pos n) h = refl
-natural_is (negsuc n) h = absurd (omega (arith, ints))
+pub not_negative : (z : ℤ) → pos 0 ≤ℤ z → pos (nat_abs z) ≡ z
+not_negative (pos n) h = refl
+not_negative (negsuc n) h = absurd (omega (arith, ints))
 
 pub place_wraps : (at k : ℕ) (step : ℤ) → SFits w64 step → pos 0 ≤ℤ position at step k → position at step k <ℤ pos (2 ^ 64) → (at + (k * of_z w64 step) % 2 ^ 64) % 2 ^ 64 ≡ place at step k
 place_wraps at k (pos s) fits low high = add-mod-mod at (k * s) (2 ^ 64) ∙ mod-eq_of_lt (omega (arith, ints))
 place_wraps at k (negsuc s) fits low high =
     let N : ℕ = 2 ^ 64 in let p : ℕ = place at (negsuc s) k in let S : ℕ = N - suc s in
-    let is : pos p ≡ position at (negsuc s) k = natural_is (position at (negsuc s) k) low in
+    let is : pos p ≡ position at (negsuc s) k = not_negative (position at (negsuc s) k) low in
     let back : p + k * suc s ≡ at = omega (arith, ints) in
     let whole : S + suc s ≡ N = omega (arith, ints) in let parts : k * S + k * suc s ≡ k * N = sym (mul-add k S (suc s)) ∙ ap (λ t. k * t) whole in
     let sum : at + k * S ≡ p + k * N = omega arith in

@@ -1,5 +1,5 @@
 -- The operations of a block, on the list of its bytes.
-use Rattle.std.specs.Prelude.{ℕ, zero, suc, ◌+◌, ◌*◌, ◌<◌, ℤ, pos, negsuc, ◌+ℤ◌, ◌*ℤ◌, ◌≤ℤ◌, List, ◌++◌, length, take, drop, slice_index, swap}
+use Rattle.std.specs.Prelude.{ℕ, zero, suc, ◌+◌, ◌*◌, ◌<◌, ℤ, pos, ◌+ℤ◌, ◌*ℤ◌, ◌≤ℤ◌, nat_abs, List, ◌++◌, length, take, drop, slice_index, swap}
 use Rattle.std.specs.Int.{bytes_low_first}
 
 -- the width bytes from `at` on
@@ -27,14 +27,9 @@ little_bytes width x = bytes_low_first 0 width x
 abbrev pub position : ℕ → ℤ → ℕ → ℤ
 position at step k = pos at +ℤ pos k *ℤ step
 
--- the number, where it is not negative
-abbrev pub natural : ℤ → ℕ
-natural (pos n) = n
-natural (negsuc n) = 0
-
--- the same as an index
+-- the same as an index, where it is not negative
 abbrev pub place : ℕ → ℤ → ℕ → ℕ
-place at step k = natural (position at step k)
+place at step k = nat_abs (position at step k)
 
 -- each of the n items, of width bytes, lies within len bytes
 pub record EachWithin (len at : ℕ) (step : ℤ) (width n : ℕ) : Type 0 where

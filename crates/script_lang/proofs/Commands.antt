@@ -2,7 +2,7 @@
 use Rattle.std.proofs.Common.{◌≡◌, ℕ, ℤ, false, List, Option, Some, None, refl, is_some}
 use Rattle.std.specs.Prelude.{IsTrue, IfSome}
 use Rattle.std.specs.Option.{option_map}
-use Rattle.script_lang.specs.declared.index.IndexItem.{IndexItem}
+use Rattle.shape_strides.specs.declared.index_item.IndexItem.{IndexItem}
 use Rattle.script_lang.specs.declared.command.Operand.{Operand}
 use Rattle.script_lang.specs.declared.command.Viewing.{Viewing}
 use Rattle.script_lang.specs.declared.command.Computation.{Computation}
@@ -17,7 +17,7 @@ use Rattle.script_lang.specs.Verbs.{operation_of}
 use Rattle.script_lang.specs.Tokens.{symbol_at, at_end, word_at, name_at, quoted_at}
 use Rattle.script_lang.specs.Descriptors.{descr_at}
 use Rattle.script_lang.specs.Indexes.{shape_at, signed_shape_at, bracket_at, operand_at, argument_at}
-use Rattle.script_lang.specs.Commands.{new_items_at, make_at, viewing_of, plain_view_at, field_at, transposed, transpose_at, reshape_at, broadcast_at, viewing_at, view_at, cast_at, combine_at, transform_at, computation_at, compute_at, value_at, bind_at, set_at, update_at, form_at, command_at}
+use Rattle.script_lang.specs.Commands.{new_items_at, make_at, viewing_of, plain_view_at, field_at, transposed_by, transpose_at, reshape_at, broadcast_at, viewing_at, view_at, cast_at, combine_at, transform_at, computation_at, compute_at, value_at, bind_at, set_at, update_at, form_at, command_at}
 use Rattle.script_lang.specs.Reading.{optional_index_room, index_room, operand_room, argument_room, viewing_room, computation_room, value_room, needs_room}
 use Rattle.script_lang.proofs.Rooms.{after_step, after_known, or_left, or_right, HasIndexRoom, HasOperandRoom, HasArgumentRoom}
 
@@ -37,7 +37,7 @@ pub make_room : (making : MakeVerb) (bytes : List ℕ) → IfSome (make_at makin
 unfolding make_at
 make_room making bytes = after_step HasValueRoom (descr_at bytes) _ (λ descr. after_step HasValueRoom (new_items_at making descr.1) _ (λ items. refl))
 
-seen_room : (index : Option (List IndexItem)) → IsTrue (optional_index_room index) → IsTrue (viewing_room (viewing_of index))
+seen_room : (index : Option (List (IndexItem (List ℕ)))) → IsTrue (optional_index_room index) → IsTrue (viewing_room (viewing_of index))
 seen_room None room = room
 seen_room (Some index) room = room
 
@@ -49,7 +49,7 @@ pub field_room : (bytes : List ℕ) → IfSome (field_at bytes) (λ r. IsTrue (v
 unfolding field_at
 field_room bytes = after_step HasViewingRoom (quoted_at bytes) _ (λ field. refl)
 
-axes_room : (o : Option (List ℤ × List ℕ)) → IfSome (option_map transposed o) HasViewingRoom
+axes_room : (o : Option (List ℤ × List ℕ)) → IfSome (option_map transposed_by o) HasViewingRoom
 axes_room None = tt
 axes_room (Some axes) = refl
 
@@ -97,7 +97,7 @@ pub set_index_room : (bytes : List ℕ) (name : List ℕ × List ℕ) → name_a
 unfolding set_at
 set_index_room bytes name named known = rw named (after_known HasIndexRoom NeedsRoom (bracket_at name.1) _ known (λ index more. after_step NeedsRoom (symbol_at 61 index.1) _ (λ rest. after_step NeedsRoom (argument_at rest) _ (λ value. or_left (index_room index.0) (argument_room value.0) more))))
 
-pub set_value_room : (bytes : List ℕ) (name : List ℕ × List ℕ) (index : List IndexItem × List ℕ) (rest : List ℕ) → name_at bytes ≡ Some name → bracket_at name.1 ≡ Some index → symbol_at 61 index.1 ≡ Some rest → IfSome (argument_at rest) (λ r. IsTrue (argument_room r.0)) → IfSome (set_at bytes) (λ r. IsTrue (needs_room r.0))
+pub set_value_room : (bytes : List ℕ) (name : List ℕ × List ℕ) (index : List (IndexItem (List ℕ)) × List ℕ) (rest : List ℕ) → name_at bytes ≡ Some name → bracket_at name.1 ≡ Some index → symbol_at 61 index.1 ≡ Some rest → IfSome (argument_at rest) (λ r. IsTrue (argument_room r.0)) → IfSome (set_at bytes) (λ r. IsTrue (needs_room r.0))
 unfolding set_at
 set_value_room bytes name index rest named indexed equals known = rw (named, indexed, equals) (after_known HasArgumentRoom NeedsRoom (argument_at rest) _ known (λ value more. or_right (index_room index.0) (argument_room value.0) more))
 
@@ -105,7 +105,7 @@ pub update_index_room : (bytes : List ℕ) (name : List ℕ × List ℕ) → nam
 unfolding update_at
 update_index_room bytes name named known = rw named (after_known HasIndexRoom NeedsRoom (bracket_at name.1) _ known (λ index more. after_step NeedsRoom (word_at index.1) _ (λ word. after_step NeedsRoom (operation_of word.0) _ (λ operation. after_step NeedsRoom (argument_at word.1) _ (λ value. or_left (index_room index.0) (argument_room value.0) more)))))
 
-pub update_value_room : (bytes : List ℕ) (name : List ℕ × List ℕ) (index : List IndexItem × List ℕ) (word : List ℕ × List ℕ) (operation : Operation) → name_at bytes ≡ Some name → bracket_at name.1 ≡ Some index → word_at index.1 ≡ Some word → operation_of word.0 ≡ Some operation → IfSome (argument_at word.1) (λ r. IsTrue (argument_room r.0)) → IfSome (update_at bytes) (λ r. IsTrue (needs_room r.0))
+pub update_value_room : (bytes : List ℕ) (name : List ℕ × List ℕ) (index : List (IndexItem (List ℕ)) × List ℕ) (word : List ℕ × List ℕ) (operation : Operation) → name_at bytes ≡ Some name → bracket_at name.1 ≡ Some index → word_at index.1 ≡ Some word → operation_of word.0 ≡ Some operation → IfSome (argument_at word.1) (λ r. IsTrue (argument_room r.0)) → IfSome (update_at bytes) (λ r. IsTrue (needs_room r.0))
 unfolding update_at
 update_value_room bytes name index word operation named indexed worded named_operation known = rw (named, indexed, worded, named_operation) (after_known HasArgumentRoom NeedsRoom (argument_at word.1) _ known (λ value more. or_right (index_room index.0) (argument_room value.0) more))
 

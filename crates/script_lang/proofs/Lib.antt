@@ -1,5 +1,7 @@
 pub mod Spelling
 pub mod Braces
 pub mod Lists
+pub mod Records
 pub mod Rooms
 pub mod Commands
+mod Vectors

@@ -3,12 +3,12 @@ use Rattle.std.proofs.Common.{◌≡◌, ◌==◌, ℕ, Bool, true, false, List,
 use Rattle.std.specs.Prelude.{IsTrue, IfSome, nat_le, count_by, ◌||◌}
 use Rattle.std.specs.Option.{option_and_then, option_map}
 use Rattle.std.proofs.lemmas.Bool.{false≢true}
-use Rattle.script_lang.specs.declared.index.IndexItem.{IndexItem}
+use Rattle.shape_strides.specs.declared.index_item.IndexItem.{IndexItem}
+use Rattle.shape_strides.specs.IndexItems.{is_ellipsis}
 use Rattle.script_lang.specs.declared.literal.ScalarLiteral.{ScalarLiteral}
 use Rattle.script_lang.specs.declared.literal.Literal.{Literal}
 use Rattle.script_lang.specs.declared.command.Operand.{Operand}
 use Rattle.script_lang.specs.declared.command.Argument.{Argument}
-use Rattle.script_lang.specs.Ellipses.{is_ellipsis}
 use Rattle.script_lang.specs.Tokens.{where_true, byte_at, name_at}
 use Rattle.script_lang.specs.Lists.{entries_at, items_at}
 use Rattle.script_lang.specs.Literals.{byte_text_at, bytes_at, scalar_at, scalar_of, record_at, literal_at}
@@ -39,10 +39,10 @@ HasScalarRoom r = IsTrue (scalar_room r.0)
 abbrev HasLiteralRoom : Literal × List ℕ → Type 0
 HasLiteralRoom r = IsTrue (literal_room r.0)
 
-abbrev pub HasIndexRoom : List IndexItem × List ℕ → Type 0
+abbrev pub HasIndexRoom : List (IndexItem (List ℕ)) × List ℕ → Type 0
 HasIndexRoom r = IsTrue (index_room r.0)
 
-abbrev HasOptionalRoom : Option (List IndexItem) × List ℕ → Type 0
+abbrev HasOptionalRoom : Option (List (IndexItem (List ℕ))) × List ℕ → Type 0
 HasOptionalRoom r = IsTrue (optional_index_room r.0)
 
 abbrev pub HasOperandRoom : Operand × List ℕ → Type 0
@@ -55,10 +55,10 @@ pub bytes_room : (bytes : List ℕ) → IfSome (bytes_at bytes) (λ r. IsTrue (s
 unfolding bytes_at
 bytes_room bytes = after_step HasScalarRoom (byte_text_at bytes) _ (λ text. refl)
 
-pub record_room : (bytes : List ℕ) → IfSome (record_at bytes) (λ r. IsTrue (literal_room r.0))
+pub record_room : (value_at : List ℕ → Option (Literal × List ℕ)) (bytes : List ℕ) → IfSome (record_at value_at bytes) (λ r. IsTrue (literal_room r.0))
 unfolding record_at
-record_room bytes =
-    after_step HasLiteralRoom (entries_at scalar_at 41 (length bytes) bytes) _
+record_room value_at bytes =
+    after_step HasLiteralRoom (entries_at value_at 41 (length bytes) bytes) _
     (λ values. after_step HasLiteralRoom (where_true (not (length values.0 == 0))) _ (λ some. refl))
 
 scalar_kept : (o : Option (ScalarLiteral × List ℕ)) → IfSome o (λ r. IsTrue (scalar_room r.0)) → IfSome (option_map scalar_of o) (λ r. IsTrue (literal_room r.0))
@@ -74,7 +74,7 @@ index_list_room bytes known =
     after_known HasIndexRoom HasIndexRoom (items_at item_at 93 (length bytes) bytes) _ known
     (λ items more. after_step HasIndexRoom (where_true (nat_le (count_by is_ellipsis items.0) 1)) _ (λ once. more))
 
-index_kept : (o : Option (List IndexItem × List ℕ)) → IfSome o (λ r. IsTrue (index_room r.0)) → IfSome (option_map (λ (index : List IndexItem × List ℕ). (Some index.0, index.1)) o) HasOptionalRoom
+index_kept : (o : Option (List (IndexItem (List ℕ)) × List ℕ)) → IfSome o (λ r. IsTrue (index_room r.0)) → IfSome (option_map (λ (index : List (IndexItem (List ℕ)) × List ℕ). (Some index.0, index.1)) o) HasOptionalRoom
 index_kept None known = tt
 index_kept (Some r) known = known
 

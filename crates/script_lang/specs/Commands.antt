@@ -2,7 +2,7 @@
 -- word, and answers what it reads with the bytes behind it.
 use Rattle.std.specs.Prelude.{ℕ, ℤ, List, codes, Option, Some, None, is_some, if◌then◌else◌}
 use Rattle.std.specs.Option.{option_map}
-use Rattle.script_lang.specs.declared.index.IndexItem.{IndexItem}
+use Rattle.shape_strides.specs.declared.index_item.IndexItem.{IndexItem}
 use Rattle.script_lang.specs.declared.operation.Operation.{Operation}
 use Rattle.script_lang.specs.declared.operation.UnaryOperation.{UnaryOperation}
 use Rattle.script_lang.specs.declared.operation.Reduction.{Reduction}
@@ -79,7 +79,7 @@ make_at making bytes = do
 
 -- Views
 
-abbrev pub viewing_of : Option (List IndexItem) → Viewing
+abbrev pub viewing_of : Option (List (IndexItem (List ℕ))) → Viewing
 viewing_of None = Whole
 viewing_of (Some index) = Indexed index
 
@@ -95,12 +95,12 @@ field_at bytes = do
   field ← quoted_at bytes
   Some (Field field.0, field.1)
 
-abbrev pub transposed : List ℤ × List ℕ → Viewing × List ℕ
-transposed axes = (Transposed (Some axes.0), axes.1)
+abbrev pub transposed_by : List ℤ × List ℕ → Viewing × List ℕ
+transposed_by axes = (Transposed (Some axes.0), axes.1)
 
 -- the axes or nothing, behind `transpose Y`
 unfoldable pub transpose_at : List ℕ → Option (Viewing × List ℕ)
-transpose_at bytes = if is_some (at_end bytes) then Some (Transposed None, bytes) else option_map transposed (signed_shape_at bytes)
+transpose_at bytes = if is_some (at_end bytes) then Some (Transposed None, bytes) else option_map transposed_by (signed_shape_at bytes)
 
 -- S with signs, behind `reshape Y`
 unfoldable pub reshape_at : List ℕ → Option (Viewing × List ℕ)

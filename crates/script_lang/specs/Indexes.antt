@@ -1,13 +1,13 @@
 -- Shapes, index lists and operands.
 use Rattle.std.specs.Prelude.{ℕ, ℤ, Bool, List, length, codes, Option, Some, None, is_some, nat_le, not, ◌&&◌, count_by, if◌then◌else◌}
 use Rattle.std.specs.Option.{option_map}
-use Rattle.script_lang.specs.declared.index.IndexItem.{IndexItem}
-use Rattle.script_lang.specs.declared.index.IndexItem.TheVariants.{Integer, Slice, Ellipsis, NewAxis, Array}
+use Rattle.shape_strides.specs.declared.index_item.IndexItem.{IndexItem}
+use Rattle.shape_strides.specs.declared.index_item.IndexItem.TheVariants.{Integer, Slice, Ellipsis, NewAxis, Array}
+use Rattle.shape_strides.specs.IndexItems.{is_ellipsis}
 use Rattle.script_lang.specs.declared.literal.Literal.{Literal}
 use Rattle.script_lang.specs.declared.command.Operand.{Operand}
 use Rattle.script_lang.specs.declared.command.Argument.{Argument}
 use Rattle.script_lang.specs.declared.command.Argument.TheVariants as argument
-use Rattle.script_lang.specs.Ellipses.{is_ellipsis}
 use Rattle.script_lang.specs.Tokens.{◌>>=◌, ◌or_else◌, if_found, where_true, unspaced, byte_at, symbol_at, bytes_mark_at, keyword_at, name_at, length_at, integer_at, optional_integer_at}
 use Rattle.script_lang.specs.Lists.{entries_at, items_at}
 use Rattle.script_lang.specs.Literals.{literal_at}
@@ -30,28 +30,28 @@ step_at bytes None = (None, bytes)
 step_at bytes (Some rest) = optional_integer_at rest
 
 -- a:b or a:b:c, each part optional
-unfoldable pub slice_at : List ℕ → Option (IndexItem × List ℕ)
+unfoldable pub slice_at : List ℕ → Option (IndexItem (List ℕ) × List ℕ)
 slice_at bytes = do
   rest ← symbol_at 58 (optional_integer_at bytes).1
   let stop = optional_integer_at rest
   let step = step_at stop.1 (symbol_at 58 stop.1)
   Some (Slice (optional_integer_at bytes).0 stop.0 step.0, step.1)
 
-abbrev pub integer_item : ℤ × List ℕ → IndexItem × List ℕ
+abbrev pub integer_item : ℤ × List ℕ → IndexItem (List ℕ) × List ℕ
 integer_item found = (Integer found.0, found.1)
 
 -- ...
 unfoldable pub ellipsis_at : List ℕ → Option (List ℕ)
 ellipsis_at bytes = symbol_at 46 bytes >>= byte_at 46 >>= byte_at 46
 
-abbrev pub item_of : IndexItem → List ℕ → IndexItem × List ℕ
+abbrev pub item_of : IndexItem (List ℕ) → List ℕ → IndexItem (List ℕ) × List ℕ
 item_of item rest = (item, rest)
 
-abbrev pub array_item : List ℕ × List ℕ → IndexItem × List ℕ
+abbrev pub array_item : List ℕ × List ℕ → IndexItem (List ℕ) × List ℕ
 array_item found = (Array found.0, found.1)
 
 -- one item of an index list
-unfoldable pub item_at : List ℕ → Option (IndexItem × List ℕ)
+unfoldable pub item_at : List ℕ → Option (IndexItem (List ℕ) × List ℕ)
 item_at bytes =
     slice_at bytes
     or_else option_map integer_item (integer_at bytes)
@@ -60,21 +60,21 @@ item_at bytes =
     or_else option_map array_item (name_at bytes)
 
 -- ix], behind `[`: the items up to the bracket, `...` at most once
-unfoldable pub index_at : List ℕ → Option (List IndexItem × List ℕ)
+unfoldable pub index_at : List ℕ → Option (List (IndexItem (List ℕ)) × List ℕ)
 index_at bytes = do
   items ← items_at item_at 93 (length bytes) bytes
   _ ← where_true (nat_le (count_by is_ellipsis items.0) 1)
   Some items
 
 -- [ix], the bracket at once
-unfoldable pub bracket_at : List ℕ → Option (List IndexItem × List ℕ)
+unfoldable pub bracket_at : List ℕ → Option (List (IndexItem (List ℕ)) × List ℕ)
 bracket_at bytes = byte_at 91 bytes >>= index_at
 
 -- behind `[`: an index that is there
-abbrev pub some_index_at : List ℕ → Option (Option (List IndexItem) × List ℕ)
+abbrev pub some_index_at : List ℕ → Option (Option (List (IndexItem (List ℕ))) × List ℕ)
 some_index_at bytes = option_map (λ index. (Some index.0, index.1)) (index_at bytes)
 
-unfoldable pub optional_index_at : List ℕ → Option (Option (List IndexItem) × List ℕ)
+unfoldable pub optional_index_at : List ℕ → Option (Option (List (IndexItem (List ℕ))) × List ℕ)
 optional_index_at bytes = if_found (byte_at 91 bytes) some_index_at (Some (None, bytes))
 
 -- Y or Y[ix]

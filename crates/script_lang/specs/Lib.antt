@@ -1,12 +1,14 @@
-pub mod Classes
 pub mod Commands
 pub mod Descriptors
-pub mod Ellipses
 pub mod Indexes
 pub mod Lines
+pub mod Listed
 pub mod Lists
 pub mod Literals
 pub mod Reading
+pub mod RecordLaws
+pub mod RecordValues
 pub mod Refusals
 pub mod Tokens
 pub mod Verbs
+pub mod inside

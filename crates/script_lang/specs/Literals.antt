@@ -1,5 +1,5 @@
 -- Literals.
-use Rattle.std.specs.Prelude.{ℕ, ◌+◌, ◌-◌, ◌*◌, ◌==◌, ℤ, Bool, true, false, List, [], ◌∷◌, length, codes, Option, Some, None, nat_eq, nat_le, if◌then◌else◌, not, ◌&&◌}
+use Rattle.std.specs.Prelude.{ℕ, zero, suc, ◌+◌, ◌-◌, ◌*◌, ◌==◌, ℤ, Bool, true, false, List, [], ◌∷◌, length, codes, Option, Some, None, nat_eq, nat_le, if◌then◌else◌, not, ◌&&◌}
 use Rattle.std.specs.Option.{option_map}
 use Rattle.std.specs.Str.{bytes_eq}
 use Rattle.script_lang.specs.declared.literal.ScalarLiteral.{ScalarLiteral}
@@ -8,6 +8,7 @@ use Rattle.script_lang.specs.declared.literal.Literal.{Literal}
 use Rattle.script_lang.specs.declared.literal.Literal.TheVariants.{Scalar, Record}
 use Rattle.script_lang.specs.Tokens.{◌>>=◌, ◌or_else◌, if_found, where_true, is_digit, unspaced, byte_at, symbol_at, at_end, bytes_mark_at, word_at, integer_at}
 use Rattle.script_lang.specs.Lists.{entries_at, row_at}
+use Rattle.script_lang.specs.Listed.{listed}
 
 -- the digit that a byte is in base 16
 unfoldable pub hex_value : ℕ → Option ℕ
@@ -66,19 +67,27 @@ bytes_at bytes = do
 unfoldable pub scalar_at : List ℕ → Option (ScalarLiteral × List ℕ)
 scalar_at bytes = if_found (bytes_mark_at (unspaced bytes)) bytes_at (option_map integer_of (integer_at bytes) or_else boolean_at bytes)
 
--- behind `(`: one or more scalars, a last comma allowed
-unfoldable pub record_at : List ℕ → Option (Literal × List ℕ)
-record_at bytes = do
-  values ← entries_at scalar_at 41 (length bytes) bytes
+-- behind `(`: one or more values, a last comma allowed
+unfoldable pub record_at : (List ℕ → Option (Literal × List ℕ)) → List ℕ → Option (Literal × List ℕ)
+record_at value_at bytes = do
+  values ← entries_at value_at 41 (length bytes) bytes
   _ ← where_true (not (length values.0 == 0))
-  Some (Record values.0, values.1)
+  Some (Record (listed values.0), values.1)
 
 abbrev pub scalar_of : ScalarLiteral × List ℕ → Literal × List ℕ
 scalar_of found = (Scalar found.0, found.1)
 
+-- a literal of at most this depth: a scalar has depth 0, a record is one deeper than its deepest value
+unfoldable pub literal_within : ℕ → List ℕ → Option (Literal × List ℕ)
+literal_within zero bytes = option_map scalar_of (scalar_at bytes)
+literal_within (suc depth) bytes = if_found (symbol_at 40 bytes) (record_at (literal_within depth)) (option_map scalar_of (scalar_at bytes))
+
+abbrev pub max_literal_depth : ℕ
+max_literal_depth = 4
+
 -- L: a literal
 unfoldable pub literal_at : List ℕ → Option (Literal × List ℕ)
-literal_at bytes = if_found (symbol_at 40 bytes) record_at (option_map scalar_of (scalar_at bytes))
+literal_at bytes = literal_within max_literal_depth bytes
 
 -- the end of a line: blanks at most
 abbrev pub line_end_at : List ℕ → Option (List ℕ)

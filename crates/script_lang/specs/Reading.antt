@@ -1,8 +1,8 @@
 -- What a parser answers, beside what the line says.
-use Rattle.std.specs.Prelude.{◌≡◌, ◌⊎◌, Bool, true, false, IsTrue, IfSome, List, Option, Some, None, is_some, Result, Ok, Err, length, nat_lt, ◌||◌}
+use Rattle.std.specs.Prelude.{◌≡◌, ◌⊎◌, Bool, true, false, IsTrue, IfSome, ℕ, List, Option, Some, None, is_some, Result, Ok, Err, length, nat_lt, ◌||◌}
 use Rattle.elem_descr.specs.declared.refusal.Refusal.{Refusal}
 use Rattle.elem_descr.specs.declared.refusal.Refusal.TheVariants.{ByteNotAllowed, Syntax, OutOfMemory}
-use Rattle.script_lang.specs.declared.index.IndexItem.{IndexItem}
+use Rattle.shape_strides.specs.declared.index_item.IndexItem.{IndexItem}
 use Rattle.script_lang.specs.declared.literal.ScalarLiteral.{ScalarLiteral}
 use Rattle.script_lang.specs.declared.literal.ScalarLiteral.TheVariants.{Bytes}
 use Rattle.script_lang.specs.declared.literal.Literal.{Literal}
@@ -27,12 +27,12 @@ scalar_room _ = false
 
 abbrev pub literal_room : Literal → Bool
 literal_room (Scalar scalar) = scalar_room scalar
-literal_room (Record values) = true
+literal_room (Record inner) = true
 
-abbrev pub index_room : List IndexItem → Bool
+abbrev pub index_room : List (IndexItem (List ℕ)) → Bool
 index_room index = nat_lt 8 (length index)
 
-abbrev pub optional_index_room : Option (List IndexItem) → Bool
+abbrev pub optional_index_room : Option (List (IndexItem (List ℕ))) → Bool
 optional_index_room None = false
 optional_index_room (Some index) = index_room index
 
@@ -87,10 +87,10 @@ Says (Ok (Some command)) line = line ≡ asks command
 Says (Err refusal) line =
     ((refusal ≡ Syntax) × (line ≡ misspelt)) ⊎ (((refusal ≡ ByteNotAllowed) × (line ≡ bad_byte)) ⊎ ((refusal ≡ OutOfMemory) × MayLackRoom line))
 
--- What a scanner found, seen by view, is what is there.
-abbrev pub Finds : {X Y : Type 0} → (X → Y) → Option X → Option Y → Type 0
-Finds view None there = there ≡ None
-Finds view (Some x) there = there ≡ Some (view x)
+-- What a scanner answers, seen by view, is what is there.
+abbrev pub Scans : {X Y : Type 0} → (X → Y) → Option X → Option Y → Type 0
+Scans view None there = there ≡ None
+Scans view (Some x) there = there ≡ Some (view x)
 
 -- What a reader that takes memory answers: what is there, that nothing is, or that memory ran out,
 -- which it may where nothing is or where what is there is held in memory of its own.

@@ -1,9 +1,10 @@
 -- The tokens of a line. A reading word takes the bytes that are left, and answers what it reads
 -- with the bytes behind it. Blanks may stand before each token but where it says 'at once'.
-use Rattle.std.specs.Prelude.{ℕ, ◌+◌, ◌-◌, ◌*◌, ℤ, pos, neg_ℤ, Bool, true, false, List, [], ◌∷◌, length, Option, Some, None, is_some, nat_eq, nat_le, if◌then◌else◌, take, drop, fold, not, ◌||◌, ◌&&◌}
+use Rattle.std.specs.Prelude.{ℕ, ℤ, pos, neg_ℤ, Bool, true, false, List, [], ◌∷◌, length, Option, Some, None, is_some, nat_eq, nat_le, if◌then◌else◌, take, drop, not, ◌||◌, ◌&&◌}
 use Rattle.std.specs.List.{prefix_len, list_all}
 use Rattle.std.specs.Option.{option_and_then, option_map}
 use Rattle.std.specs.Str.{bytes_eq}
+use Rattle.elem_descr.specs.TypeStrings.{value_of}
 use Rattle.script_lang.specs.Verbs.{is_reserved}
 
 infixl 10 ◌>>=◌
@@ -106,10 +107,6 @@ name_at bytes = do
   word ← word_at bytes
   _ ← where_true (is_name word.0)
   Some word
-
--- the number that digits spell
-abbrev pub value_of : List ℕ → ℕ
-value_of digits = fold (λ n d. n * 10 + (d - 48)) 0 digits
 
 -- one to 30 digits, at once
 unfoldable pub number_at : List ℕ → Option (ℕ × List ℕ)

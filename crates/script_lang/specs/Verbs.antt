@@ -2,8 +2,8 @@
 use Rattle.std.specs.Prelude.{ℕ, Bool, List, [], ◌∷◌, codes, Option, Some, None, is_some, ◌||◌, if◌then◌else◌}
 use Rattle.std.specs.Option.{option_and_then}
 use Rattle.std.specs.Str.{bytes_eq}
-use Rattle.script_lang.specs.declared.command.MemoryOrder.{MemoryOrder}
-use Rattle.script_lang.specs.declared.command.MemoryOrder.TheVariants.{C, F}
+use Rattle.shape_strides.specs.declared.memory_order.MemoryOrder.{MemoryOrder}
+use Rattle.shape_strides.specs.declared.memory_order.MemoryOrder.TheVariants.{C, Fortran}
 use Rattle.script_lang.specs.declared.operation.BinaryOperation.TheVariants.{Add, Subtract, Multiply, FloorDivide, Modulo, And, Or, Xor, ShiftLeft, ShiftRight, Divide}
 use Rattle.script_lang.specs.declared.operation.Comparison.TheVariants.{Equal, NotEqual, Less, LessOrEqual, Greater, GreaterOrEqual}
 use Rattle.script_lang.specs.declared.operation.Operation.{Operation}
@@ -105,5 +105,5 @@ operation_of word = option_and_then as_operation (verb_of word)
 unfoldable pub order_of : List ℕ → Option MemoryOrder
 order_of word =
     if bytes_eq word (codes "C") then Some C
-    else if bytes_eq word (codes "F") then Some F
+    else if bytes_eq word (codes "F") then Some Fortran
     else None

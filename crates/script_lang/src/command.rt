@@ -5,7 +5,8 @@ use crate::literal::{Literal, Literals};
 use crate::name::Name;
 use crate::operation::{Operation, Reduction, UnaryOperation};
 use crate::shape::{Integers, Lengths};
-use crate::text::{DescrText, FieldName, FileName};
+use crate::text::{DescrText, FieldText, FileName};
+use shape_strides::MemoryOrder;
 
 /// `Y` or `Y[ix]`
 #[derive(Drop)]
@@ -19,13 +20,6 @@ pub struct Operand {
 pub enum Argument {
     Operand(Operand),
     Literal(Literal),
-}
-
-/// The order of a copy's items.
-#[derive(Clone, Copy)]
-pub enum MemoryOrder {
-    C,
-    F,
 }
 
 /// What the items of a new array are, behind its descriptor.
@@ -49,7 +43,7 @@ pub enum Viewing {
     /// `Y[ix]`
     Indexed(Index),
     /// `field Y "f"`
-    Field(FieldName),
+    Field(FieldText),
     /// `transpose Y [(axes)]`
     Transposed(Option<Integers>),
     /// `reshape Y S`

@@ -2,7 +2,7 @@
 ghost use Rattle.std.specs.Prelude.{◌≡◌, ◌≤◌, length};
 ghost use Rattle.script_lang.specs.Commands.{load_at, verb_value_at, value_at, bind_at, ask_at, verb_command_at, form_at, command_at};
 ghost use Rattle.script_lang.specs.Lines.{is_silent, line_of};
-ghost use Rattle.script_lang.specs.Reading.{Finds, Reads, Says, value_room, needs_room};
+ghost use Rattle.script_lang.specs.Reading.{Scans, Reads, Says, value_room, needs_room};
 
 mod classes;
 mod computations;
@@ -50,7 +50,7 @@ fn is_silent(line: &[u8]) -> bool
 /// `"f"`, behind `load`.
 #[tactic(auto, unfolding(crate::specs::Commands::load_at))]
 fn load(alloc: Global, bytes: &[u8]) -> Option<(Value, &[u8])>
-    ensures { Finds (λ r. (r.0, r.1.now)) result (load_at bytes.now) }
+    ensures { Scans (λ r. (r.0, r.1.now)) result (load_at bytes.now) }
 {
     let (file, rest) = file_name(bytes)?;
     let file = FileName::from_slice(alloc, file);

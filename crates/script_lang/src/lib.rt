@@ -12,14 +12,12 @@ mod shape;
 mod text;
 mod verb;
 
-pub use command::{
-    Argument, Command, Computation, MemoryOrder, NewItems, Operand, Question, Value, Viewing,
-};
+pub use command::{Argument, Command, Computation, NewItems, Operand, Question, Value, Viewing};
 pub use grammar::parse;
-pub use index::{Index, IndexItem};
+pub use index::Index;
 pub use literal::{ByteText, Literal, Literals, RecordLiteral, ScalarLiteral};
 pub use name::Name;
 pub use operation::{BinaryOperation, Comparison, Operation, Reduction, UnaryOperation};
 pub use refusal_text::word;
 pub use shape::{Integers, Lengths};
-pub use text::{DescrText, FieldName, FileName};
+pub use text::{DescrText, FieldText, FileName};

@@ -1,5 +1,7 @@
 //! Literals.
 ghost use Rattle.std.specs.Prelude.{◌≡◌, ◌==◌, ◌<◌, ◌++◌, ◌∷◌, [], length, IsOk, OnOk, OnErr};
+ghost use Rattle.script_lang.specs.RecordValues.{no_values, value_count};
+ghost use Rattle.script_lang.specs.Listed.{literals_of};
 
 use smallvec::SmallVec;
 use std::alloc::{AllocError, Global};
@@ -30,22 +32,34 @@ pub enum ScalarLiteral {
     Bytes(ByteText),
 }
 
-/// The values of a record literal, at least one.
+/// The values of a record literal, at least one, each a scalar or a record in its turn.
 #[derive(Drop)]
+#[cycle(literal)]
 pub struct RecordLiteral {
-    values: Vec<ScalarLiteral>,
+    values: Vec<Literal>,
 }
 
 impl Model for RecordLiteral {
-    ghost use Rattle.std.specs.Prelude.{List};
-    ghost use Rattle.script_lang.specs.declared.literal.ScalarLiteral.{ScalarLiteral};
+    ghost use Rattle.script_lang.specs.RecordValues.{Values, node_count};
+    ghost use Rattle.script_lang.specs.inside.ValueCodes.{values_code};
 
-    ghost Value = { List ScalarLiteral };
+    ghost Value = { Values };
 
-    ghost view = { λ r. r.values.items };
+    ghost coded = { values_code };
+
+    ghost use Rattle.script_lang.specs.Listed.{listed};
+
+    ghost view = { λ r. listed r.values.items };
+
+    ghost size = { node_count };
+
+    ghost use Rattle.script_lang.specs.inside.NodeCounts.{depth_le-node_count};
+
+    ghost size_decreases = { λ r h. depth_le-node_count r.values.items };
 }
 
 #[derive(Drop)]
+#[cycle(literal)]
 pub enum Literal {
     Scalar(ScalarLiteral),
     Record(RecordLiteral),
@@ -59,9 +73,13 @@ pub struct Literals {
 
 impl Model for Literals {
     ghost use Rattle.std.specs.Prelude.{List};
+    ghost use Rattle.std.specs.Coded.{coded_list};
     ghost use Rattle.script_lang.specs.declared.literal.Literal.{Literal};
+    ghost use Rattle.script_lang.specs.contracts.literal.Literal as literal;
 
     ghost Value = { List Literal };
+
+    ghost coded = { coded_list literal.the_row.coded };
 
     ghost view = { λ l. l.literals.items };
 }
@@ -94,29 +112,32 @@ impl ByteText {
 
 impl RecordLiteral {
     pub fn new(alloc: Global) -> RecordLiteral
-        ensures { result ≡ [] }
+        ensures { result ≡ no_values }
     {
         RecordLiteral {
             values: Vec::new(alloc),
         }
     }
 
-    pub fn push(&mut self, value: ScalarLiteral) -> Result<(), AllocError>
-        ensures ok { OnOk result (self.new ≡ self.old ++ value ∷ []) }
+    #[tactic(auto, using(crate::specs::RecordLaws::literals_of_listed))]
+    pub fn push(&mut self, value: Literal) -> Result<(), AllocError>
+        ensures ok { OnOk result (literals_of self.new ≡ literals_of self.old ++ value ∷ []) }
         ensures err { OnErr result (self.new ≡ self.old) }
     {
         self.values.push(value)?;
         Ok(())
     }
 
+    #[tactic(auto, using(crate::specs::RecordLaws::value_count_listed))]
     pub fn is_empty(&self) -> bool
-        ensures { result ≡ (length self.now == 0) }
+        ensures { result ≡ (value_count self.now == 0) }
     {
         self.values.as_slice().is_empty()
     }
 
-    pub fn as_slice(&self) -> &[ScalarLiteral]
-        ensures { result.now ≡ self.now }
+    #[tactic(auto, using(crate::specs::RecordLaws::literals_of_listed))]
+    pub fn as_slice(&self) -> &[Literal]
+        ensures { result.now ≡ literals_of self.now }
     {
         self.values.as_slice()
     }

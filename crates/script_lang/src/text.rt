@@ -24,11 +24,11 @@ impl Model for DescrText {
 
 /// What stands between the quotation marks of `field`: any bytes.
 #[derive(Drop)]
-pub struct FieldName {
+pub struct FieldText {
     bytes: SmallVec<u8, 32>,
 }
 
-impl Model for FieldName {
+impl Model for FieldText {
     ghost use Rattle.std.specs.Prelude.{List, ℕ};
 
     ghost Value = { List ℕ };
@@ -69,14 +69,14 @@ impl DescrText {
     }
 }
 
-impl FieldName {
+impl FieldText {
     /// A copy of the bytes; up to 32 take no memory of their own.
-    pub fn from_slice(alloc: Global, bytes: &[u8]) -> Result<FieldName, AllocError>
+    pub fn from_slice(alloc: Global, bytes: &[u8]) -> Result<FieldText, AllocError>
         ensures value { IfOk result (λ f. f ≡ bytes.now) }
         ensures succeeds { length bytes.now ≤ 32 → IsOk result }
     {
         let bytes = SmallVec::from_slice(alloc, bytes)?;
-        Ok(FieldName { bytes })
+        Ok(FieldText { bytes })
     }
 
     pub fn as_slice(&self) -> &[u8]

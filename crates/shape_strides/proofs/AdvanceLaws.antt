@@ -2,7 +2,7 @@
 use Rattle.std.proofs.Common.{◌≡◌, ℕ, zero, suc, ◌+◌, ◌-◌, ◌*◌, ◌<◌, ◌≤◌, ℤ, pos, negsuc, ◌+ℤ◌, ◌-ℤ◌, ◌*ℤ◌, ◌≤ℤ◌, List, [], ◌∷◌, ◌++◌, length, get_or, set, take, drop, replicate, refl, sym, ◌∙◌, ap, arith, length-take-le, length-append, take_all}
 use Rattle.std.proofs.lemmas.Int.{ints}
 use Rattle.std.proofs.lemmas.List.{drop_more, drop_all}
-use lib.IntN.{neg_ℤ, neg_ℤ-+ℤ}
+use lib.IntN.{neg_ℤ, neg_ℤ-+ℤ, +ℤ_idr}
 use Rattle.shape_strides.specs.declared.layout.Layout.{Layout}
 use Rattle.shape_strides.specs.Indexes.{count, rank, IsIndex}
 use Rattle.shape_strides.specs.Limits.{max_bytes}
@@ -12,7 +12,7 @@ use Rattle.shape_strides.specs.Walks.{IsOnWalk}
 use Rattle.shape_strides.proofs.LayoutLaws.{length-offsets, pos-offset}
 use Rattle.shape_strides.proofs.CountLaws.{factors_pos}
 use Rattle.shape_strides.proofs.IndexLaws.{length-index}
-use Rattle.shape_strides.proofs.StepLaws.{padded, length-padded, dot-padded, dot-push, dot-take_more, IsIndex-padded_push, rank-stepped, part_low, part_high, sum_start, sum_bounds, IsIndex-zeros, dot-nil, dot-zeros, last-more}
+use Rattle.shape_strides.proofs.StepLaws.{padded, length-padded, dot-padded, dot-push, dot-take_more, IsIndex-padded_push, rank-stepped, part_low, part_high, sum_start, sum_bounds, IsIndex-zeros, dot-nil, dot-zeros, rank-zeros, last-more}
 
 -- the number before the zeros
 pub get_or-padded_take : (shape index : List ℕ) (j : ℕ) → IsIndex shape index → j < length shape → get_or (padded shape (take (suc j) index)) j 0 ≡ get_or index j 0
@@ -180,6 +180,18 @@ IsIndex-first (n ∷ shape) some = let both = factors_pos n (count shape) some i
 pub padded-nil : (shape : List ℕ) → replicate (length shape) 0 ≡ padded shape []
 padded-nil [] = refl
 padded-nil (n ∷ shape) = ap (λ i. 0 ∷ i) (padded-nil shape)
+
+-- a walk at the first index
+pub walk_begins : (l : Layout) (index : List ℕ) (left : ℕ) → index ≡ padded l.shape [] → left ≡ count l.shape → IsOnWalk l index l.offset left
+walk_begins l index left zeros all = record {
+  most = omega arith;
+  axes = ap length zeros ∙ length-padded l.shape [];
+  next = λ some. record {
+    in_shape = rw zeros (IsIndex-first l.shape (omega arith));
+    place = omega (arith, ap (rank l.shape) zeros, rank-zeros l.shape);
+    address_is = sym (ap (λ i. pos l.offset +ℤ dot l.strides i) zeros ∙ ap (λ z. pos l.offset +ℤ z) (dot-zeros l.strides l.shape) ∙ +ℤ_idr (pos l.offset));
+  };
+}
 
 -- one item of a walk
 pub walk_step : (l : Layout) (index : List ℕ) (offset left : ℕ) → IsOnWalk l index offset left → 0 < left → drop (count l.shape - left) (offsets l) ≡ offset ∷ drop (count l.shape - (left - 1)) (offsets l)

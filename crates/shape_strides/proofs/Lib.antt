@@ -12,5 +12,12 @@ pub mod ContiguityLaws
 pub mod FortranLaws
 pub mod StackLaws
 pub mod StackedLaws
+pub mod JoinedLaws
+pub mod RunLaws
+pub mod StartLaws
+pub mod FrontLaws
+pub mod PairLaws
+pub mod RunBounds
 mod Vectors
+mod JoinedVectors
 mod ContiguityVectors

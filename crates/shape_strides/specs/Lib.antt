@@ -4,6 +4,11 @@ pub mod Shapes
 pub mod Addresses
 pub mod Layouts
 pub mod Walks
+pub mod Joined
+pub mod Runs
+pub mod RunPairs
+pub mod PairWalks
 pub mod Contiguity
 pub mod Stacks
+pub mod IndexItems
 pub mod inside

@@ -1,9 +1,14 @@
 //! Shapes and layouts of arrays: how many items there are along each axis, and where in a buffer
-//! each of them lies.
+//! each of them lies; and what arrays are indexed by.
 #![tactic(auto)]
 
 pub mod contiguous;
+mod index_item;
+pub mod joined;
 pub mod layout;
+mod memory_order;
+pub mod run_pairs;
+pub mod runs;
 pub mod shape;
 mod span;
 pub mod stacked;
@@ -11,7 +16,12 @@ mod steps;
 pub mod strides;
 pub mod walk;
 
+pub use index_item::IndexItem;
+pub use joined::StridedAxis;
 pub use layout::{Layout, MAX_BYTES};
+pub use memory_order::MemoryOrder;
+pub use run_pairs::{RunPair, RunPairs};
+pub use runs::{Run, Runs};
 pub use shape::{MAX_AXES, MAX_ITEMS, Shape};
 pub use strides::Strides;
 pub use walk::Walk;

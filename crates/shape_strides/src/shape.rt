@@ -4,7 +4,7 @@ ghost use Rattle.std.specs.List.{list_all};
 ghost use Rattle.elem_descr.specs.Refusals.{Gives};
 ghost use Rattle.shape_strides.specs.Limits.{max_axes, max_items};
 ghost use Rattle.shape_strides.specs.Indexes.{count};
-ghost use Rattle.shape_strides.specs.Shapes.{shape_of, shape_text};
+ghost use Rattle.shape_strides.specs.Shapes.{shape_of, shape_text, IsShape};
 
 use elem_descr::Refusal;
 use smallvec::SmallVec;
@@ -76,6 +76,15 @@ impl Shape {
         }
         let axes = SmallVec::from_slice(alloc, lengths)?;
         Ok(Shape { axes, items })
+    }
+
+    /// The shape of lengths that are within the limits.
+    pub(crate) fn from_axes(axes: SmallVec<usize, 8>, items: usize) -> Shape
+        requires limits { IsShape axes.items }
+        requires items { items ≡ count axes.items }
+        ensures { result ≡ axes.items }
+    {
+        Shape { axes, items }
     }
 
     /// The lengths of the axes.

@@ -52,7 +52,7 @@ impl<'a> Walk<'a> {
 
     /// Goes on to the next index in C order, and from the last one back to the first. The result is
     /// the offset there.
-    fn advance(layout: &Layout, index: &mut [usize], offset: usize) -> usize
+    pub(crate) fn advance(layout: &Layout, index: &mut [usize], offset: usize) -> usize
         requires index { IsIndex layout.now.shape index.old }
         requires offset { pos offset ≡ address layout.now index.old }
         ensures index { IsIndex layout.now.shape index.new }

@@ -1,13 +1,13 @@
 //! Format texts of PEP 3118, read and written.
-use elem_descr::{Descr, Leaf, Refusal, Scalar, format_read, format_write, typestr_write};
+use elem_descr::{Descr, Field, Refusal, Scalar, format_read, format_write, typestr_write};
 use std::alloc::{AllocError, Global};
 use std::process::Abort;
 use std::test::Fail;
 
-/// A format text, the size of its items, and its fields with name, type string and offset. The
-/// sizes and the fields are those of NumPy, which reads a format text by
-/// `numpy.core._internal._dtype_from_pep3118`. Only `f1` in `T{i:x:i}` is a name of our own, and the
-/// last four texts are none that NumPy reads.
+/// A format text, the size of its items, and its fields with name, type string and offset; of a
+/// record NumPy's type string is `|V` and its size. The sizes and the fields are those of NumPy, which
+/// reads a format text by `numpy.core._internal._dtype_from_pep3118`. Only `f1` in `T{i:x:i}` is a
+/// name of our own, and the last four texts are none that NumPy reads.
 const READ: &[(&str, usize, &str)] = &[
     ("?", 1, "|b1"),
     ("b", 1, "|i1"),
@@ -63,10 +63,82 @@ const READ: &[(&str, usize, &str)] = &[
     ("T{B:a:xB:b:2xB:c:}", 6, "a |u1 0 b |u1 2 c |u1 5"),
     ("T{L:l:L:m:}", 16, "l <u8 0 m <u8 8"),
     ("T{>L:l:L:m:}", 8, "l >u4 0 m >u4 4"),
+    ("T{b:x:T{i:y:}:s:}", 8, "x |i1 0 s |V4 4"),
+    ("T{b:x:T{<i:y:}:s:}", 5, "x |i1 0 s |V4 1"),
+    ("T{^b:x:T{i:y:}:s:}", 5, "x |i1 0 s |V4 1"),
+    ("T{b:x:T{b:y:i:z:}:s:b:w:}", 16, "x |i1 0 s |V8 4 w |i1 12"),
+    ("T{T{h:a:T{q:b:}:c:b:d:}:e:h:f:}", 32, "e |V24 0 f <i2 24"),
+    ("T{T{T{T{b:x:}:t:}:s:}:r:}", 1, "r |V1 0"),
+    ("T{b:x:T{b:y:>h:z:}:s:h:w:}", 6, "x |i1 0 s |V3 1 w >i2 4"),
+    ("T{T{>h:a:}:s:h:b:}", 4, "s |V2 0 b >i2 2"),
+    ("T{T{i:x:}:s:T{i:x:}:t:}", 8, "s |V4 0 t |V4 4"),
+    ("T{b:a:3xT{<i:b:}:s:x}", 9, "a |i1 0 s |V4 4"),
+    ("T{T{5s:n:B:a:}:p:i:k:}", 12, "p |V6 0 k <i4 8"),
+    ("T{T{2xh:x:}:s:2x@q:y:}", 16, "s |V4 0 y <i8 8"),
+    ("T{h:a:T{b:x:T{q:y:}:u:}:s:}", 24, "a <i2 0 s |V16 8"),
+    ("T{b:x:T{T{T{q:a:}:b:}:c:}:d:}", 16, "x |i1 0 d |V8 8"),
+    ("T{T{q:x:<b:y:}:s:@i:z:}", 16, "s |V9 0 z <i4 12"),
+    ("T{i:x:T{b:x:}:s:}", 8, "x <i4 0 s |V1 4"),
     (" @ < i ", 4, "<i4"),
     (" < T{ i:x:  >  i:y: 2x } ", 10, "x <i4 0 y >i4 4"),
     ("T{i:x:0xi:y:}", 8, "x <i4 0 y <i4 4"),
     ("T{65535x?:last:}", 65536, "last |b1 65535"),
+];
+
+/// A text of records within records, its leaves with type string and offset in the item, and what is
+/// written of it. The leaves are those of NumPy, which reads either text as one and the same type.
+const NESTED: &[(&str, &str, &str)] = &[
+    ("T{b:x:T{i:y:}:s:}", "|i1 0 <i4 4", "T{<b:x:3xT{<i:y:}:s:}"),
+    ("T{b:x:T{<i:y:}:s:}", "|i1 0 <i4 1", "T{<b:x:T{<i:y:}:s:}"),
+    (
+        "T{b:x:T{b:y:i:z:}:s:b:w:}",
+        "|i1 0 |i1 4 <i4 8 |i1 12",
+        "T{<b:x:3xT{<b:y:3x<i:z:}:s:<b:w:3x}",
+    ),
+    (
+        "T{T{h:a:T{q:b:}:c:b:d:}:e:h:f:}",
+        "<i2 0 <i8 8 |i1 16 <i2 24",
+        "T{T{<h:a:6xT{<q:b:}:c:<b:d:7x}:e:<h:f:6x}",
+    ),
+    (
+        "T{T{T{T{b:x:}:t:}:s:}:r:}",
+        "|i1 0",
+        "T{T{T{T{<b:x:}:t:}:s:}:r:}",
+    ),
+    (
+        "T{b:x:T{b:y:>h:z:}:s:h:w:}",
+        "|i1 0 |i1 1 >i2 2 >i2 4",
+        "T{<b:x:T{<b:y:>h:z:}:s:>h:w:}",
+    ),
+    (
+        "T{T{5s:n:B:a:}:p:i:k:}",
+        "|S5 0 |u1 5 <i4 8",
+        "T{T{<5s:n:<B:a:}:p:2x<i:k:}",
+    ),
+    (
+        "T{T{2xh:x:}:s:2x@q:y:}",
+        "<i2 2 <i8 8",
+        "T{T{2x<h:x:}:s:4x<q:y:}",
+    ),
+    (
+        "T{h:a:T{b:x:T{q:y:}:u:}:s:}",
+        "<i2 0 |i1 8 <i8 16",
+        "T{<h:a:6xT{<b:x:7xT{<q:y:}:u:}:s:}",
+    ),
+    (
+        "T{T{q:x:<b:y:}:s:@i:z:}",
+        "<i8 0 |i1 8 <i4 12",
+        "T{T{<q:x:<b:y:}:s:3x<i:z:}",
+    ),
+];
+
+/// Where our texts differ from NumPy's: a record within is aligned by the mark at its `T`, where NumPy
+/// takes the mark at its closing brace, and one without a name is called by its place.
+const OUR_OWN: &[(&str, usize, &str)] = &[
+    ("T{<T{@i:y:}:s:b:x:}", 5, "s |V4 0 x |i1 4"),
+    ("T{b:x:T{q:y:<b:z:}:s:}", 17, "x |i1 0 s |V9 8"),
+    ("T{b:x:T{i:y:}}", 8, "x |i1 0 f1 |V4 4"),
+    (" T{ b:x: T{ i:y: } } ", 8, "x |i1 0 f1 |V4 4"),
 ];
 
 const REFUSED: &[(&str, Refusal)] = &[
@@ -85,7 +157,6 @@ const REFUSED: &[(&str, Refusal)] = &[
     ("T{5 s:x:}", Refusal::BadDescriptor),
     ("T{i:x:i:x:}", Refusal::BadDescriptor),
     ("T{i:f1:i}", Refusal::BadDescriptor),
-    ("5T{i:x:}", Refusal::BadDescriptor),
     ("T{i:x:}<", Refusal::BadDescriptor),
     ("{i:x:}", Refusal::BadDescriptor),
     ("f", Refusal::DescriptorLeftOut),
@@ -107,13 +178,33 @@ const REFUSED: &[(&str, Refusal)] = &[
     ("T{x:a:i:b:}", Refusal::DescriptorLeftOut),
     ("T{i::}", Refusal::DescriptorLeftOut),
     ("T{i:it's:}", Refusal::DescriptorLeftOut),
-    ("T{T{i:x:}:y:}", Refusal::DescriptorLeftOut),
+    ("5T{i:x:}", Refusal::DescriptorLeftOut),
+    ("2T{", Refusal::DescriptorLeftOut),
+    ("T{2T{i:x:}:y:}", Refusal::DescriptorLeftOut),
+    ("T{T{}:x:}", Refusal::DescriptorLeftOut),
+    ("T{T{4x}:x:}", Refusal::DescriptorLeftOut),
+    ("T{T{T{T{T{b}}}}}", Refusal::DescriptorLeftOut),
+    ("T{T{T{T{T{5", Refusal::DescriptorLeftOut),
+    ("T{T{i:x:}::}", Refusal::DescriptorLeftOut),
+    ("T{T{}5", Refusal::DescriptorLeftOut),
+    ("T{i:x:}T{i:x:}", Refusal::DescriptorLeftOut),
+    ("T{T{i:x:}:x:T{i:x:}:x:}", Refusal::BadDescriptor),
+    ("T{i:x:T{i:y:}:x:}", Refusal::BadDescriptor),
+    ("T{T{i:x:i:x:}:y:}", Refusal::BadDescriptor),
+    ("T{T{i:x:}:y:", Refusal::BadDescriptor),
+    ("T{T{i:x:}:y", Refusal::BadDescriptor),
+    ("T{T{i:x:}", Refusal::BadDescriptor),
+    ("T{T:x:}", Refusal::BadDescriptor),
+    ("5T", Refusal::BadDescriptor),
     ("T{i:x:}i", Refusal::DescriptorLeftOut),
     ("65537s", Refusal::TooLarge),
     ("99999s i", Refusal::TooLarge),
     ("T{99999s:a:}", Refusal::TooLarge),
     ("T{99999999999999999999x:a:}", Refusal::TooLarge),
     ("T{65535xi:x:}", Refusal::TooLarge),
+    ("T{T{65536x?}:a:}", Refusal::TooLarge),
+    ("T{T{65535x?}:a:?:b:}", Refusal::TooLarge),
+    ("T{T{65535x?}:a:T{?}:a:}", Refusal::BadDescriptor),
     ("T{65535x}", Refusal::DescriptorLeftOut),
 ];
 
@@ -141,23 +232,33 @@ fn push_number(alloc: Global, shown: &mut Vec<u8>, number: usize) -> Result<(), 
     shown.extend_from_slice(text.as_bytes())
 }
 
-fn push_leaf(alloc: Global, shown: &mut Vec<u8>, leaf: &Leaf) -> Result<(), AllocError> {
+fn push_type(alloc: Global, shown: &mut Vec<u8>, descr: &Descr) -> Result<(), AllocError> {
+    match descr {
+        Descr::Scalar(scalar) => push_scalar(alloc, shown, scalar),
+        Descr::Record(record) => {
+            let text = format!(in alloc; "|V{}", record.size())?;
+            shown.extend_from_slice(text.as_bytes())
+        }
+    }
+}
+
+fn push_field(alloc: Global, shown: &mut Vec<u8>, field: &Field) -> Result<(), AllocError> {
     if !shown.is_empty() {
         shown.push(b' ')?;
     }
-    shown.extend_from_slice(leaf.name.as_slice())?;
+    shown.extend_from_slice(field.name.as_slice())?;
     shown.push(b' ')?;
-    push_scalar(alloc, shown, &leaf.scalar)?;
-    push_number(alloc, shown, leaf.at)
+    push_type(alloc, shown, &field.descr)?;
+    push_number(alloc, shown, field.at)
 }
 
 /// Appends the name, the type string and the offset of each field, or the type string of a scalar.
 fn push_fields(alloc: Global, shown: &mut Vec<u8>, descr: &Descr) -> Result<(), AllocError> {
     match descr {
         Descr::Scalar(scalar) => push_scalar(alloc, shown, scalar)?,
-        Descr::Record(fields) => {
-            for leaf in fields.leaves() {
-                push_leaf(alloc, shown, leaf)?;
+        Descr::Record(record) => {
+            for field in record.fields() {
+                push_field(alloc, shown, field)?;
             }
         }
     }
@@ -212,6 +313,92 @@ fn formats_as_numpy_reads_them(rt: HostRuntime) -> Result<(), Fail> {
         reads(&rt, rt.alloc(), text, *size, fields)?;
     }
     Ok(())
+}
+
+#[test]
+fn formats_of_our_own(rt: HostRuntime) -> Result<(), Fail> {
+    for (text, size, fields) in OUR_OWN {
+        reads(&rt, rt.alloc(), text, *size, fields)?;
+    }
+    Ok(())
+}
+
+/// The type string and the offset of each leaf.
+fn leaves(alloc: Global, descr: &Descr) -> Result<Vec<u8>, AllocError> {
+    let mut shown = Vec::new(alloc);
+    for k in 0..descr.leaf_count() {
+        if k > 0 {
+            shown.push(b' ')?;
+        }
+        let (scalar, at) = descr.leaf_at(k);
+        push_scalar(alloc, &mut shown, &scalar)?;
+        push_number(alloc, &mut shown, at)?;
+    }
+    Ok(shown)
+}
+
+fn nests(
+    rt: &impl Abort,
+    alloc: Global,
+    text: &str,
+    want: &str,
+    spelled: &str,
+) -> Result<(), Refusal> {
+    let descr = format_read(alloc, text.as_bytes())?;
+    let shown = leaves(alloc, &descr)?;
+    assert!(rt; shown.as_slice() == want.as_bytes(), "at {text}");
+    let again = copied(alloc, &descr)?;
+    let written = format_write(alloc, &again)?;
+    assert!(rt; written.as_slice() == spelled.as_bytes(), "at {text}");
+    Ok(())
+}
+
+#[test]
+fn records_within_records(rt: HostRuntime) -> Result<(), Fail> {
+    for (text, leaves, written) in NESTED {
+        nests(&rt, rt.alloc(), text, leaves, written)?;
+    }
+    Ok(())
+}
+
+/// Appends a record of so many bytes.
+fn push_record(text: &mut Vec<u8>, bytes: usize) -> Result<(), AllocError> {
+    text.extend_from_slice(b"T{")?;
+    for _ in 0..bytes {
+        text.push(b'b')?;
+    }
+    text.push(b'}')?;
+    Ok(())
+}
+
+/// The leaves of a record of so many records with 32 leaves each, and one of so many more.
+fn read_leaves(alloc: Global, records: usize, more: usize) -> Result<usize, Refusal> {
+    let mut text = Vec::from_slice(alloc, b"T{")?;
+    for _ in 0..records {
+        push_record(&mut text, 32)?;
+    }
+    push_record(&mut text, more)?;
+    text.push(b'}')?;
+    let descr = format_read(alloc, text.as_slice())?;
+    Ok(descr.leaf_count())
+}
+
+/// The fields of a record of so many bytes.
+fn read_fields(alloc: Global, fields: usize) -> Result<usize, Refusal> {
+    let mut text = Vec::new(alloc);
+    push_record(&mut text, fields)?;
+    let descr = format_read(alloc, text.as_slice())?;
+    Ok(descr.fields().len())
+}
+
+#[test]
+fn most_fields_and_leaves(rt: HostRuntime) {
+    let alloc = rt.alloc();
+    assert!(rt; read_fields(alloc, 64) == Ok(64));
+    assert!(rt; read_fields(alloc, 65) == Err(Refusal::TooLarge));
+    assert!(rt; read_leaves(alloc, 63, 32) == Ok(2048));
+    assert!(rt; read_leaves(alloc, 63, 33) == Err(Refusal::TooLarge));
+    assert!(rt; read_leaves(alloc, 64, 1) == Err(Refusal::TooLarge));
 }
 
 #[test]

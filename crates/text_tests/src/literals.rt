@@ -79,9 +79,46 @@ const LINES: &[(&str, Made)] = &[
         Err(Refusal::LiteralOutOfRange),
     ),
     ("a = array T{<B:x:2s:t:} (1) 7", Err(Refusal::NoSuchCast)),
+    (
+        "a = array T{<b:x:3xT{<i:y:}:s:} (1) (1,(2))",
+        Ok(&[1, 0, 0, 0, 2, 0, 0, 0]),
+    ),
+    (
+        "a = array T{<b:x:3xT{<i:y:}:s:} (1) 5",
+        Ok(&[5, 0, 0, 0, 5, 0, 0, 0]),
+    ),
+    (
+        "a = array T{T{T{>h:z:}:y:2s:t:}:x:B:w:} (1) (((258),b'a'),7)",
+        Ok(&[1, 2, 97, 0, 7]),
+    ),
+    (
+        "a = array T{<b:x:3xT{<i:y:}:s:} (1) (1,2)",
+        Err(Refusal::NoSuchCast),
+    ),
+    (
+        "a = array T{<b:x:3xT{<i:y:}:s:} (1) ((1),(2))",
+        Err(Refusal::NoSuchCast),
+    ),
+    (
+        "a = array T{<b:x:3xT{<i:y:}:s:} (1) (1,(2,3))",
+        Err(Refusal::NoSuchCast),
+    ),
+    (
+        "a = array T{<b:x:T{<B:y:}:s:} (1) (1,(300))",
+        Err(Refusal::LiteralOutOfRange),
+    ),
+    (
+        "a = array T{T{<B:y:}:s:2s:t:} (1) ((300),1)",
+        Err(Refusal::NoSuchCast),
+    ),
+    ("a = array |u1 (1) ((1))", Err(Refusal::NoSuchCast)),
     ("a = array |u1 (3) 3 True 255", Ok(&[3, 1, 255])),
     ("a = array >i2 (2) -2 515", Ok(&[255, 254, 2, 3])),
     ("a = array T{<b:x:x} (2) 1 -1", Ok(&[1, 0, 255, 0])),
+    (
+        "a = array T{T{b:y:}:s:b:x:} (2) 7 ((1),2)",
+        Ok(&[7, 7, 1, 2]),
+    ),
     ("a = array |u1 (2) 3 -1", Err(Refusal::LiteralOutOfRange)),
     ("a = array |u1 (2) 300 b'a'", Err(Refusal::NoSuchCast)),
 ];

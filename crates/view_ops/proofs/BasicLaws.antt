@@ -7,11 +7,11 @@ use Rattle.elem_descr.specs.declared.refusal.Refusal.{Refusal}
 use Rattle.elem_descr.specs.declared.refusal.Refusal.TheVariants.{OutOfMemory, TooManyAxes, TooManyIndices, ZeroStep, IndexOutOfRange}
 use Rattle.elem_descr.specs.Refusals.{◌>>=◌, check}
 use Rattle.shape_strides.specs.declared.layout.Layout.{Layout}
+use Rattle.shape_strides.specs.declared.index_item.IndexItem.{IndexItem}
 use Rattle.shape_strides.specs.Limits.{max_axes, max_items}
 use Rattle.shape_strides.specs.Indexes.{count}
 use Rattle.shape_strides.specs.Shapes.{shape_of}
 use Rattle.shape_strides.proofs.ShapeAnswers.{shape_of-many}
-use Rattle.view_ops.specs.declared.index.IndexItem.{IndexItem}
 use Rattle.view_ops.specs.declared.pick.AxisPick.{AxisPick}
 use Rattle.view_ops.specs.Basics.{taken, has_step, are_in_range, picks, shape_picked, picked_view, basic}
 use Rattle.view_ops.specs.inside.Picks.{shown, ArePicks}
@@ -53,25 +53,25 @@ gives_no_shape old picks e (inr there) = gives_refusal old (picked_view (map sho
 
 -- ---- a basic index
 
-pub basic-many : (shape : List ℕ) (items : List IndexItem) → length shape < taken items → basic shape items ≡ Err TooManyIndices
+pub basic-many : {A : Type 0} (shape : List ℕ) (items : List (IndexItem A)) → length shape < taken items → basic shape items ≡ Err TooManyIndices
 unfolding basic
 basic-many shape items many =
     let test : nat_le (taken items) (length shape) ≡ false = grind (arith, nat_tests) in
     rw test
 
-pub basic-no_step : (shape : List ℕ) (items : List IndexItem) → taken items ≤ length shape → list_all has_step items ≡ false → basic shape items ≡ Err ZeroStep
+pub basic-no_step : {A : Type 0} (shape : List ℕ) (items : List (IndexItem A)) → taken items ≤ length shape → list_all has_step items ≡ false → basic shape items ≡ Err ZeroStep
 unfolding basic
 basic-no_step shape items few none =
     let test : nat_le (taken items) (length shape) ≡ true = grind (arith, nat_tests) in
     rw (test, none)
 
-pub basic-out : (shape : List ℕ) (items : List IndexItem) → taken items ≤ length shape → list_all has_step items ≡ true → are_in_range shape items ≡ false → basic shape items ≡ Err IndexOutOfRange
+pub basic-out : {A : Type 0} (shape : List ℕ) (items : List (IndexItem A)) → taken items ≤ length shape → list_all has_step items ≡ true → are_in_range shape items ≡ false → basic shape items ≡ Err IndexOutOfRange
 unfolding basic
 basic-out shape items few steps out =
     let test : nat_le (taken items) (length shape) ≡ true = grind (arith, nat_tests) in
     rw (test, steps, out)
 
-pub basic-picks : (shape : List ℕ) (items : List IndexItem) → taken items ≤ length shape → list_all has_step items ≡ true → are_in_range shape items ≡ true → basic shape items ≡ picked_view (picks shape items)
+pub basic-picks : {A : Type 0} (shape : List ℕ) (items : List (IndexItem A)) → taken items ≤ length shape → list_all has_step items ≡ true → are_in_range shape items ≡ true → basic shape items ≡ picked_view (picks shape items)
 unfolding basic
 basic-picks shape items few steps in' =
     let test : nat_le (taken items) (length shape) ≡ true = grind (arith, nat_tests) in

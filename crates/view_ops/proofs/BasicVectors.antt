@@ -3,8 +3,8 @@ use Rattle.std.proofs.Common.{◌≡◌, ℕ, ◌^◌, pos, negsuc, Some, None, 
 use Rattle.elem_descr.specs.declared.refusal.Refusal.{Refusal}
 use Rattle.elem_descr.specs.declared.refusal.Refusal.TheVariants.{TooManyAxes, TooManyIndices, IndexOutOfRange, ZeroStep}
 use Rattle.elem_descr.specs.Refusals.{◌>>=◌}
-use Rattle.view_ops.specs.declared.index.IndexItem.{IndexItem}
-use Rattle.view_ops.specs.declared.index.IndexItem.TheVariants.{Integer, Slice, Ellipsis, NewAxis}
+use Rattle.shape_strides.specs.declared.index_item.IndexItem.{IndexItem}
+use Rattle.shape_strides.specs.declared.index_item.IndexItem.TheVariants.{Integer, Slice, Ellipsis, NewAxis}
 use Rattle.elem_descr.specs.Steps.{stepped}
 use Rattle.view_ops.specs.Slices.{slice_indices}
 use Rattle.view_ops.specs.Basics.{shape_picked, picked_view, basic}
@@ -13,10 +13,10 @@ record Seen : Type 0 where
   shape : List ℕ
   lead : List ℕ
 
-abbrev seen : List ℕ → List IndexItem → List ℕ → Result Seen Refusal
+abbrev seen : List ℕ → List (IndexItem ℕ) → List ℕ → Result Seen Refusal
 seen shape items index = basic shape items >>= λ view. Ok (record { shape = view.shape; lead = view.leads index })
 
-abbrev whole : IndexItem
+abbrev whole : IndexItem ℕ
 whole = Slice None None None
 
 -- `a[1, :]` of shape (2, 3)
@@ -78,43 +78,43 @@ unfolding basic picked_view shape_picked
 no_axes_either = refl
 
 -- `a[0, 0]` of shape (5,)
-many : basic (5 ∷ []) (Integer (pos 0) ∷ Integer (pos 0) ∷ []) ≡ Err TooManyIndices
+many : basic {A = ℕ} (5 ∷ []) (Integer (pos 0) ∷ Integer (pos 0) ∷ []) ≡ Err TooManyIndices
 unfolding basic
 many = refl
 
 -- `a[0:3:0]` of shape (5,)
-no_step : basic (5 ∷ []) (Slice (Some (pos 0)) (Some (pos 3)) (Some (pos 0)) ∷ []) ≡ Err ZeroStep
+no_step : basic {A = ℕ} (5 ∷ []) (Slice (Some (pos 0)) (Some (pos 3)) (Some (pos 0)) ∷ []) ≡ Err ZeroStep
 unfolding basic
 no_step = refl
 
 -- `a[5]` and `a[-6]` of shape (5,), and `a[..., 3]` of shape (5, 3)
-high : basic (5 ∷ []) (Integer (pos 5) ∷ []) ≡ Err IndexOutOfRange
+high : basic {A = ℕ} (5 ∷ []) (Integer (pos 5) ∷ []) ≡ Err IndexOutOfRange
 unfolding basic
 high = refl
 
-low : basic (5 ∷ []) (Integer (negsuc 5) ∷ []) ≡ Err IndexOutOfRange
+low : basic {A = ℕ} (5 ∷ []) (Integer (negsuc 5) ∷ []) ≡ Err IndexOutOfRange
 unfolding basic
 low = refl
 
-high_last : basic (5 ∷ 3 ∷ []) (Ellipsis ∷ Integer (pos 3) ∷ []) ≡ Err IndexOutOfRange
+high_last : basic {A = ℕ} (5 ∷ 3 ∷ []) (Ellipsis ∷ Integer (pos 3) ∷ []) ≡ Err IndexOutOfRange
 unfolding basic
 high_last = refl
 
 -- `a[9, ::0]` of shape (3, 3): the step is looked at before the integer
-no_step_first : basic (3 ∷ 3 ∷ []) (Integer (pos 9) ∷ Slice None None (Some (pos 0)) ∷ []) ≡ Err ZeroStep
+no_step_first : basic {A = ℕ} (3 ∷ 3 ∷ []) (Integer (pos 9) ∷ Slice None None (Some (pos 0)) ∷ []) ≡ Err ZeroStep
 unfolding basic
 no_step_first = refl
 
 -- `a[9, ::0]` of shape (3,): the axes are counted before
-many_first : basic (3 ∷ []) (Integer (pos 9) ∷ Slice None None (Some (pos 0)) ∷ []) ≡ Err TooManyIndices
+many_first : basic {A = ℕ} (3 ∷ []) (Integer (pos 9) ∷ Slice None None (Some (pos 0)) ∷ []) ≡ Err TooManyIndices
 unfolding basic
 many_first = refl
 
 -- 64 axes and one more, and an integer that is out of range beside it
-one_axis_more : basic (replicate 64 1) (NewAxis ∷ []) ≡ Err TooManyAxes
+one_axis_more : basic {A = ℕ} (replicate 64 1) (NewAxis ∷ []) ≡ Err TooManyAxes
 unfolding basic picked_view shape_picked
 one_axis_more = refl
 
-out_of_range_first : basic (replicate 64 1) (NewAxis ∷ NewAxis ∷ Integer (pos 1) ∷ []) ≡ Err IndexOutOfRange
+out_of_range_first : basic {A = ℕ} (replicate 64 1) (NewAxis ∷ NewAxis ∷ Integer (pos 1) ∷ []) ≡ Err IndexOutOfRange
 unfolding basic picked_view shape_picked
 out_of_range_first = refl

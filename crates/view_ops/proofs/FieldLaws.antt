@@ -1,18 +1,11 @@
 -- Laws of fields.
-use Rattle.std.proofs.Common.{◌≡◌, ℕ, ◌+◌, ◌<◌, ◌≤◌, ℤ, pos, negsuc, ◌+ℤ◌, ◌≤ℤ◌, Option, Some, None, List, [], ◌∷◌, map, length, get_or, Ok, refl, sym, ap, ◌∙◌, arith}
-use Rattle.std.specs.Prelude.{IfSome, IsSomeAnd, slice_get}
-use Rattle.std.specs.Str.{bytes_eq}
+use Rattle.std.proofs.Common.{◌≡◌, ℕ, ◌+◌, ◌<◌, ◌≤◌, ℤ, pos, negsuc, ◌+ℤ◌, ◌≤ℤ◌, Option, Some, List, [], map, length, get_or, Ok, refl, sym, ap, ◌∙◌, arith}
 use Rattle.std.proofs.lemmas.Int.{ints}
 use Rattle.std.proofs.lemmas.List.{length-map, get_or-map, same_lists}
-use Rattle.std.proofs.lemmas.List.Quantifiers.{position-Some}
-use Rattle.std.proofs.lemmas.Option.{slice_get-get_or}
 use lib.IntN.{+ℤ_idr}
 use Rattle.elem_descr.specs.declared.descr.Descr.{Descr}
-use Rattle.elem_descr.specs.declared.descr.Descr.TheVariants.{Scalar as ScalarDescr, Record as RecordDescr}
-use Rattle.elem_descr.specs.declared.leaf.Leaf.{Leaf}
-use Rattle.elem_descr.specs.declared.scalar.Scalar.{Scalar}
-use Rattle.elem_descr.specs.Encoding.{size}
-use Rattle.elem_descr.specs.Items.{item_size, leaves_of, leaf_named, field_of}
+use Rattle.elem_descr.specs.declared.descr.Field.{Field}
+use Rattle.elem_descr.specs.Items.{item_size, field_at}
 use Rattle.shape_strides.specs.declared.layout.Layout.{Layout}
 use Rattle.shape_strides.specs.Indexes.{count, rank, IsIndex}
 use Rattle.shape_strides.specs.Addresses.{natural, LieWithin}
@@ -21,7 +14,7 @@ use Rattle.shape_strides.proofs.IndexLaws.{index_at}
 use Rattle.shape_strides.proofs.LayoutLaws.{length-offsets, get_or-offsets}
 use Rattle.shape_strides.proofs.AdvanceLaws.{IsIndex-first}
 use Rattle.shape_strides.proofs.StepLaws.{padded, dot-zeros}
-use Rattle.view_ops.specs.FieldViews.{IsFieldOf, GivesField}
+use Rattle.view_ops.specs.FieldViews.{GivesField}
 
 -- the first item stands at the offset
 pub offset-within : (l : Layout) (len item : ℕ) → Fits l len item → 0 < count l.shape → l.offset + item ≤ len
@@ -90,38 +83,11 @@ moved-nested old new by item size moved few nested = record {
       further_apart (get_or (offsets new) j 0) (get_or (offsets new) k 0) (get_or (offsets old) j 0) (get_or (offsets old) k 0) by item size (offset_at old new by j 0 moved (omega (arith, same))) (offset_at old new by k 0 moved (omega (arith, same))) few (nested.apart j k before high);
 }
 
-field-is : (old new : Layout) (item : ℕ) (leaf : Leaf) → IsMoved old new leaf.at → leaf.at + size leaf.scalar ≤ item → IsFieldOf old new item leaf
-field-is old new item leaf moved few = record {
+-- the field at this place
+pub gives_field : (old new : Layout) (descr : Descr) (there : Option ℕ) (k : ℕ) (field : Field) → there ≡ Some k → field ≡ field_at descr k → field.at + item_size field.descr ≤ item_size descr → IsMoved old new field.at → GivesField old descr there (Ok new)
+gives_field old new descr there k field found is few moved = rw (found, ← is) (record {
   shape = moved.shape;
-  places = moved-places old new leaf.at moved;
-  fits = λ len old-fits. moved-fits old new leaf.at len item (size leaf.scalar) moved few old-fits;
-  nested = λ nested. moved-nested old new leaf.at item (size leaf.scalar) moved (omega arith) nested;
-}
-
--- ---- the leaf
-
-none_some : (k : ℕ) → ◌≡◌ {A = Option ℕ} None (Some k) → ⊥
-none_some k same = cc
-
-named-within : (leaves : List Leaf) (name : List ℕ) (k : ℕ) → leaf_named leaves name ≡ Some k → k < length leaves
-named-within [] name k is = absurd (none_some k is)
-named-within (leaf ∷ leaves) name k is = (position-Some (λ l. bytes_eq l.name name) (leaf ∷ leaves) k leaf is).0
-
-pub field-within : (descr : Descr) (name : List ℕ) (k : ℕ) → field_of descr name ≡ Some k → k < length (leaves_of descr)
-field-within (ScalarDescr scalar) name k is = absurd (none_some k is)
-field-within (RecordDescr structure) name k is = named-within structure.leaves name k is
-
-gives_leaf : (old new : Layout) (descr : Descr) (there : Option Leaf) (scalar : Scalar) (at : ℕ) → (there ≡ None → ⊥) → IfSome there (λ leaf. (scalar ≡ leaf.scalar) × (at ≡ leaf.at)) → at + size scalar ≤ item_size descr → IsMoved old new at → IsSomeAnd there (IsFieldOf old new (item_size descr))
-gives_leaf old new descr None scalar at some is few moved = absurd (some refl)
-gives_leaf old new descr (Some leaf) scalar at some is few moved =
-    field-is old new (item_size descr) leaf (rw (is.1) at moved) (rw (is.0, is.1) at few)
-
-get_some : (leaves : List Leaf) (k : ℕ) → k < length leaves → slice_get leaves k ≡ None → ⊥
-get_some [] k low none = omega arith
-get_some (leaf ∷ leaves) k low none =
-    let some = slice_get-get_or (leaf ∷ leaves) k leaf low in
-    cc
-
-pub gives_field : (old new : Layout) (descr : Descr) (there : Option ℕ) (k : ℕ) (scalar : Scalar) (at : ℕ) → there ≡ Some k → k < length (leaves_of descr) → IfSome (slice_get (leaves_of descr) k) (λ leaf. (scalar ≡ leaf.scalar) × (at ≡ leaf.at)) → at + size scalar ≤ item_size descr → IsMoved old new at → GivesField old descr there (Ok new)
-gives_field old new descr there k scalar at is low leaf few moved =
-    rw is (gives_leaf old new descr (slice_get (leaves_of descr) k) scalar at (get_some (leaves_of descr) k low) leaf few moved)
+  places = moved-places old new field.at moved;
+  fits = λ len old-fits. moved-fits old new field.at len (item_size descr) (item_size field.descr) moved few old-fits;
+  nested = λ nested. moved-nested old new field.at (item_size descr) (item_size field.descr) moved (omega arith) nested;
+})

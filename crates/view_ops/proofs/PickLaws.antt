@@ -6,14 +6,15 @@ use Rattle.std.proofs.lemmas.Bool.{and_parts, false≢true}
 use Rattle.std.specs.Result.{is_ok}
 use Rattle.std.proofs.lemmas.List.Folds.{drop_split}
 use Rattle.std.specs.List.{list_all, flat_map, range_with_len}
+use Rattle.shape_strides.specs.declared.index_item.IndexItem.{IndexItem}
+use Rattle.shape_strides.specs.declared.index_item.IndexItem.TheVariants.{Integer, Slice, Ellipsis, NewAxis as NewItem, Array}
+use Rattle.shape_strides.specs.IndexItems.{is_basic}
 use Rattle.shape_strides.specs.Layouts.{natural}
-use Rattle.view_ops.specs.declared.index.IndexItem.{IndexItem}
-use Rattle.view_ops.specs.declared.index.IndexItem.TheVariants.{Integer, Slice, Ellipsis, NewAxis as NewItem, Array}
 use Rattle.view_ops.specs.declared.pick.AxisPick.{AxisPick}
 use Rattle.view_ops.specs.declared.pick.AxisPick.TheVariants.{At as AtAxis, Along as AlongAxis, New as NewAxis}
 use Rattle.view_ops.specs.declared.slice.Run.{Run}
 use Rattle.view_ops.specs.Slices.{slice_indices, IsRunWithin}
-use Rattle.view_ops.specs.Basics.{Placed, is_basic, takes_axis, taken, width, placed, has_step, is_in_range, are_in_range, Pick, whole, picks_of, picks}
+use Rattle.view_ops.specs.Basics.{Placed, takes_axis, taken, width, placed, has_step, is_in_range, are_in_range, Pick, whole, picks_of, picks}
 use Rattle.view_ops.specs.inside.Picks.{shown, ArePicks, AddsPicks}
 
 -- ---- items over axes
@@ -22,7 +23,7 @@ drop_on : (shape : List ℕ) (a end n : ℕ) → a ≤ end → end ≡ a + n →
 drop_on shape a end n later is = drop-drop n a shape ∙ ap (λ m. drop m shape) (sym is)
 
 -- one item further on
-pub placed_more : (shape : List ℕ) (items : List IndexItem) (k a end : ℕ) → k < length items → a ≤ end → end ≡ a + width (length shape - a) (get_or items k (Integer (pos 0))) (drop (k + 1) items) → placed (drop a shape) (drop k items) ≡ record { item = get_or items k (Integer (pos 0)); axes = slice_range shape a end } ∷ placed (drop end shape) (drop (k + 1) items)
+pub placed_more : {A : Type 0} (shape : List ℕ) (items : List (IndexItem A)) (k a end : ℕ) → k < length items → a ≤ end → end ≡ a + width (length shape - a) (get_or items k (Integer (pos 0))) (drop (k + 1) items) → placed (drop a shape) (drop k items) ≡ record { item = get_or items k (Integer (pos 0)); axes = slice_range shape a end } ∷ placed (drop end shape) (drop (k + 1) items)
 placed_more shape items k a end low later is =
     let x = get_or items k (Integer (pos 0)) in
     let rest = drop (k + 1) items in
@@ -76,7 +77,7 @@ whole_more old new axes n adds = record {
   show = map-append shown adds.added (AlongAxis (whole_run n) ∷ []) ∙ ap (λ l. l ++ shown (AlongAxis (whole_run n)) ∷ []) adds.show ∙ ap (λ p. map whole axes ++ p ∷ []) (shown-whole n) ∙ sym (map-append whole axes (n ∷ []));
 }
 
-pub adds_new : (old new : List AxisPick) (axes : List ℕ) (item : IndexItem) → item ≡ NewItem → axes ≡ [] → new ≡ old ++ NewAxis ∷ [] → AddsPicks old new axes (picks_of axes item)
+pub adds_new : {A : Type 0} (old new : List AxisPick) (axes : List ℕ) (item : IndexItem A) → item ≡ NewItem → axes ≡ [] → new ≡ old ++ NewAxis ∷ [] → AddsPicks old new axes (picks_of axes item)
 adds_new old new axes item is none after = rw (is, none) (record { added = NewAxis ∷ []; after = after; are = tt; show = refl })
 
 pub adds_none : (old : List AxisPick) → AddsPicks old old [] []
@@ -84,13 +85,13 @@ adds_none old = record { added = []; after = sym (append-nil old); are = tt; sho
 
 -- ---- a slice with a step is not refused
 
-pub has_step-ok : (n : ℕ) (start stop step : Option ℤ) → has_step (Slice start stop step) ≡ true → is_ok (slice_indices n start stop step) ≡ true
+pub has_step-ok : (n : ℕ) (start stop step : Option ℤ) → has_step {A = ℕ} (Slice start stop step) ≡ true → is_ok (slice_indices n start stop step) ≡ true
 unfolding slice_indices
 has_step-ok n start stop step has = rw has refl
 
 -- ---- a loop that picks, before item k
 
-pub record HavePicked (shape : List ℕ) (items : List IndexItem) (done : List AxisPick) (k axis : ℕ) : Type 0 where
+pub record HavePicked {A : Type 0} (shape : List ℕ) (items : List (IndexItem A)) (done : List AxisPick) (k axis : ℕ) : Type 0 where
   pub within : axis ≤ length shape
   pub enough : taken (drop k items) ≤ length shape - axis
   pub basic : list_all is_basic (drop k items) ≡ true
@@ -100,7 +101,7 @@ pub record HavePicked (shape : List ℕ) (items : List IndexItem) (done : List A
   pub show : map shown done ++ picks (drop axis shape) (drop k items) ≡ picks shape items
 
 -- the item at k may be picked
-pub record CanPick (shape : List ℕ) (items : List IndexItem) (k axis end : ℕ) : Type 0 where
+pub record CanPick {A : Type 0} (shape : List ℕ) (items : List (IndexItem A)) (k axis end : ℕ) : Type 0 where
   pub basic : is_basic (get_or items k (Integer (pos 0))) ≡ true
   pub step : has_step (get_or items k (Integer (pos 0))) ≡ true
   pub in_range : is_in_range (slice_range shape axis end) (get_or items k (Integer (pos 0))) ≡ true
@@ -114,7 +115,7 @@ next_holds p xs k d low all = (and_parts (p (get_or xs k d)) (list_all p (drop (
 rest_hold : {X : Type 0} (p : X → Bool) (xs : List X) (k : ℕ) (d : X) → k < length xs → list_all p (drop k xs) ≡ true → list_all p (drop (k + 1) xs) ≡ true
 rest_hold p xs k d low all = (and_parts (p (get_or xs k d)) (list_all p (drop (k + 1) xs)) (sym (ap (list_all p) (drop_more xs k d low)) ∙ all)).1
 
-width_one : (left : ℕ) (item : IndexItem) (later : List IndexItem) → takes_axis item ≡ true → width left item later ≡ 1
+width_one : {A : Type 0} (left : ℕ) (item : IndexItem A) (later : List (IndexItem A)) → takes_axis item ≡ true → width left item later ≡ 1
 width_one left (Integer at) later takes = refl
 width_one left (Slice start stop step) later takes = refl
 width_one left Ellipsis later takes = absurd (false≢true takes)
@@ -124,12 +125,12 @@ width_one left (Array number) later takes = refl
 length-slice_range : (shape : List ℕ) (axis end : ℕ) → end ≤ length shape → length (slice_range shape axis end) ≡ end - axis
 length-slice_range shape axis end within = omega (arith, length-take-le (end - axis) (drop axis shape) (omega (arith, length-drop axis shape)))
 
-none_taken : (axis end left : ℕ) (item : IndexItem) (later : List IndexItem) → end ≡ axis + width left item later → item ≡ NewItem → end - axis ≡ 0
+none_taken : {A : Type 0} (axis end left : ℕ) (item : IndexItem A) (later : List (IndexItem A)) → end ≡ axis + width left item later → item ≡ NewItem → end - axis ≡ 0
 none_taken axis end left item later is new =
     let none : width left item later ≡ 0 = rw new refl in
     omega arith
 
-pub can_pick : (shape : List ℕ) (items : List IndexItem) (done : List AxisPick) (k axis end : ℕ) → k < length items → axis ≤ end → end ≤ length shape → end ≡ axis + width (length shape - axis) (get_or items k (Integer (pos 0))) (drop (k + 1) items) → HavePicked shape items done k axis → CanPick shape items k axis end
+pub can_pick : {A : Type 0} (shape : List ℕ) (items : List (IndexItem A)) (done : List AxisPick) (k axis end : ℕ) → k < length items → axis ≤ end → end ≤ length shape → end ≡ axis + width (length shape - axis) (get_or items k (Integer (pos 0))) (drop (k + 1) items) → HavePicked shape items done k axis → CanPick shape items k axis end
 can_pick shape items done k axis end low later within is have =
     let x = get_or items k (Integer (pos 0)) in
     let range : (is_in_range (slice_range shape axis end) x && are_in_range (drop end shape) (drop (k + 1) items)) ≡ true = sym (ap (list_all (λ p. is_in_range p.axes p.item)) (placed_more shape items k axis end low later is)) ∙ have.in_range in
@@ -141,7 +142,7 @@ can_pick shape items done k axis end low later within is have =
       one = λ takes. omega (arith, length-slice_range shape axis end within, width_one (length shape - axis) x (drop (k + 1) items) takes);
     }
 
-pub picked_more : (shape : List ℕ) (items : List IndexItem) (done new : List AxisPick) (k axis end : ℕ) → k < length items → axis ≤ end → end ≤ length shape → taken (drop (k + 1) items) ≤ length shape - end → end ≡ axis + width (length shape - axis) (get_or items k (Integer (pos 0))) (drop (k + 1) items) → HavePicked shape items done k axis → AddsPicks done new (slice_range shape axis end) (picks_of (slice_range shape axis end) (get_or items k (Integer (pos 0)))) → HavePicked shape items new (k + 1) end
+pub picked_more : {A : Type 0} (shape : List ℕ) (items : List (IndexItem A)) (done new : List AxisPick) (k axis end : ℕ) → k < length items → axis ≤ end → end ≤ length shape → taken (drop (k + 1) items) ≤ length shape - end → end ≡ axis + width (length shape - axis) (get_or items k (Integer (pos 0))) (drop (k + 1) items) → HavePicked shape items done k axis → AddsPicks done new (slice_range shape axis end) (picks_of (slice_range shape axis end) (get_or items k (Integer (pos 0)))) → HavePicked shape items new (k + 1) end
 picked_more shape items done new k axis end low later within enough is have adds =
     let x = get_or items k (Integer (pos 0)) in
     let axes = slice_range shape axis end in

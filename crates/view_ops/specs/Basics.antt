@@ -5,42 +5,36 @@ use Rattle.std.specs.List.{list_all, flat_map, range_with_len}
 use Rattle.elem_descr.specs.declared.refusal.Refusal.{Refusal}
 use Rattle.elem_descr.specs.declared.refusal.Refusal.TheVariants.{TooManyAxes, TooManyIndices, IndexOutOfRange, ZeroStep}
 use Rattle.elem_descr.specs.Refusals.{◌>>=◌, check}
+use Rattle.shape_strides.specs.declared.index_item.IndexItem.{IndexItem}
+use Rattle.shape_strides.specs.declared.index_item.IndexItem.TheVariants.{Integer, Slice, Ellipsis, NewAxis}
 use Rattle.shape_strides.specs.Limits.{max_axes}
 use Rattle.shape_strides.specs.Addresses.{natural}
-use Rattle.view_ops.specs.declared.index.IndexItem.{IndexItem}
-use Rattle.view_ops.specs.declared.index.IndexItem.TheVariants.{Integer, Slice, Ellipsis, NewAxis, Array}
 use Rattle.view_ops.specs.Slices.{from_front, is_place, slice_indices}
 use Rattle.view_ops.specs.Views.{View}
 
--- any item but an index array
-abbrev pub is_basic : IndexItem → Bool
-is_basic (Array number) = false
-is_basic _ = true
-
 -- ---- which axes an item takes
 
-abbrev pub takes_axis : IndexItem → Bool
+abbrev pub takes_axis : {A : Type 0} → IndexItem A → Bool
 takes_axis Ellipsis = false
 takes_axis NewAxis = false
 takes_axis _ = true
 
 -- how many axes the items take, beside those of `...`
-abbrev pub taken : List IndexItem → ℕ
+abbrev pub taken : {A : Type 0} → List (IndexItem A) → ℕ
 taken items = count_by takes_axis items
 
 -- how many of the axes that are left an item takes: `...` takes all but those of the items after it
-abbrev pub width : ℕ → IndexItem → List IndexItem → ℕ
+abbrev pub width : {A : Type 0} → ℕ → IndexItem A → List (IndexItem A) → ℕ
 width left Ellipsis later = left - taken later
-width left NewAxis later = 0
-width left _ later = 1
+width left item later = taken (item ∷ [])
 
 -- an item, and the lengths of the axes that it takes
-pub record Placed : Type 0 where
-  pub item : IndexItem
+pub record Placed (A : Type 0) : Type 0 where
+  pub item : IndexItem A
   pub axes : List ℕ
 
 -- the items of an index over the axes of a shape; those after the last item are taken as by `...`
-abbrev pub placed : List ℕ → List IndexItem → List Placed
+abbrev pub placed : {A : Type 0} → List ℕ → List (IndexItem A) → List (Placed A)
 placed shape [] = record { item = Ellipsis; axes = shape } ∷ []
 placed shape (item ∷ items) =
     let n = width (length shape) item items in
@@ -48,15 +42,15 @@ placed shape (item ∷ items) =
 
 -- ---- what is refused
 
-abbrev pub has_step : IndexItem → Bool
+abbrev pub has_step : {A : Type 0} → IndexItem A → Bool
 has_step (Slice start stop step) = not (int_eq (unwrap_or step (pos 1)) (pos 0))
 has_step _ = true
 
-abbrev pub is_in_range : List ℕ → IndexItem → Bool
+abbrev pub is_in_range : {A : Type 0} → List ℕ → IndexItem A → Bool
 is_in_range (n ∷ axes) (Integer at) = is_place n at
 is_in_range _ _ = true
 
-abbrev pub are_in_range : List ℕ → List IndexItem → Bool
+abbrev pub are_in_range : {A : Type 0} → List ℕ → List (IndexItem A) → Bool
 are_in_range shape items = list_all (λ p. is_in_range p.axes p.item) (placed shape items)
 
 -- ---- what is picked
@@ -75,14 +69,14 @@ numbers_of (Ok numbers) = numbers
 numbers_of (Err refusal) = []
 
 -- what an item picks of the axes that it takes
-abbrev pub picks_of : List ℕ → IndexItem → List Pick
+abbrev pub picks_of : {A : Type 0} → List ℕ → IndexItem A → List Pick
 picks_of axes Ellipsis = map whole axes
 picks_of axes NewAxis = New ∷ []
 picks_of (n ∷ axes) (Integer at) = At (natural (from_front n at)) ∷ []
 picks_of (n ∷ axes) (Slice start stop step) = Along (numbers_of (slice_indices n start stop step)) ∷ []
 picks_of _ _ = []
 
-abbrev pub picks : List ℕ → List IndexItem → List Pick
+abbrev pub picks : {A : Type 0} → List ℕ → List (IndexItem A) → List Pick
 picks shape items = flat_map (λ p. picks_of p.axes p.item) (placed shape items)
 
 -- ---- the view
@@ -115,7 +109,7 @@ picked_view picks = do
   Ok (record { shape = shape; leads = picked_index picks })
 
 -- the view that a basic index makes, or the first refusal
-unfoldable pub basic : List ℕ → List IndexItem → Result View Refusal
+unfoldable pub basic : {A : Type 0} → List ℕ → List (IndexItem A) → Result View Refusal
 basic shape items = do
   _ ← check (nat_le (taken items) (length shape)) TooManyIndices
   _ ← check (list_all has_step items) ZeroStep

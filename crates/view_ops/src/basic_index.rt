@@ -1,14 +1,15 @@
 //! Views by basic indexes: integers, slices, `...` and new axes.
 ghost use Rattle.std.specs.Prelude.{◌≡◌, true, IfOk};
 ghost use Rattle.std.specs.List.{list_all};
-ghost use Rattle.view_ops.specs.Basics.{is_basic, basic};
+ghost use Rattle.shape_strides.specs.IndexItems.{is_basic};
+ghost use Rattle.view_ops.specs.Basics.{basic};
 ghost use Rattle.view_ops.specs.Views.{GivesView, KeepsNested};
 
-use crate::index::{IndexItem, have_steps, taken};
+use crate::index::{have_steps, taken};
 use crate::pick::{are_in_range, picks_of};
 use crate::picked::with_picks;
 use elem_descr::Refusal;
-use shape_strides::Layout;
+use shape_strides::{IndexItem, Layout};
 use std::alloc::Global;
 
 /// The view that integers, slices, `...` and new axes make, as NumPy has it. A negative integer
@@ -19,7 +20,7 @@ use std::alloc::Global;
 /// are, as `TooManyIndices`; a slice whose step is 0, as `ZeroStep`; an integer outside its axis,
 /// as `IndexOutOfRange`; a view of more than 64 axes, as `TooManyAxes`. A view without items has
 /// strides and offset 0, and an axis of less than two items has stride 0.
-pub fn basic(alloc: Global, layout: &Layout, items: &[IndexItem]) -> Result<Layout, Refusal>
+pub fn basic<A>(alloc: Global, layout: &Layout, items: &[IndexItem<A>]) -> Result<Layout, Refusal>
     requires { list_all is_basic items.now ≡ true }
     ensures view { GivesView layout.now result (basic layout.now.shape items.now) }
     ensures nested { IfOk result (KeepsNested layout.now) }

@@ -25,8 +25,9 @@ fn moved(alloc: Global, layout: &Layout, by: usize) -> Result<Layout, AllocError
 }
 
 /// The view of one field of each item, where the items are those of `descr`: the offsets go on by
-/// the field's offset in an item. A name that no field has is refused as `NoSuchField`, and so is
-/// any name where the items are no records. A view without items has strides and offset 0.
+/// the field's offset in an item. A field that is a record is seen as a record. A name that no
+/// field has is refused as `NoSuchField`, and so is any name where the items are no records. A view
+/// without items has strides and offset 0.
 pub fn field(alloc: Global, layout: &Layout, descr: &Descr, name: &[u8]) -> Result<Layout, Refusal>
     requires { Fits layout.now max_bytes (item_size descr.now) }
     ensures { GivesField layout.now descr.now (field_of descr.now name.now) result }
@@ -34,7 +35,7 @@ pub fn field(alloc: Global, layout: &Layout, descr: &Descr, name: &[u8]) -> Resu
     let Some(k) = descr.leaf_of(name) else {
         return Err(Refusal::NoSuchField);
     };
-    let (leaf, at) = descr.leaf_at(k);
-    let _size = leaf.size();
-    Ok(moved(alloc, layout, at)?)
+    let field = descr.field(k);
+    let _size = field.descr.size();
+    Ok(moved(alloc, layout, field.at)?)
 }

@@ -1,56 +1,34 @@
-//! The items of an index, and the axes that they take.
+//! The axes that the items of an index take.
 ghost use Rattle.std.specs.Prelude.{◌≡◌, ◌+◌, ◌-◌, ◌<◌, ◌≤◌, length, drop, count_by, slice_index_or, pos};
 ghost use Rattle.std.specs.List.{list_all};
-ghost use Rattle.view_ops.specs.declared.index.IndexItem.TheVariants.{Integer};
-ghost use Rattle.view_ops.specs.Basics.{is_basic, takes_axis, taken, width, has_step};
+ghost use Rattle.shape_strides.specs.declared.index_item.IndexItem.TheVariants.{Integer};
+ghost use Rattle.shape_strides.specs.IndexItems.{is_basic};
+ghost use Rattle.view_ops.specs.Basics.{takes_axis, taken, width, has_step};
 
-/// One item of an index.
-#[derive(Clone, Copy, Debug, Default, PartialEq, Eq)]
-pub enum IndexItem {
-    Integer(i128),
-    /// `start:stop:step`
-    Slice {
-        start: Option<i128>,
-        stop: Option<i128>,
-        step: Option<i128>,
-    },
-    /// `...`
-    #[default]
-    Ellipsis,
-    /// `None`
-    NewAxis,
-    /// The number of an array of indices, or of a mask.
-    Array(usize),
-}
-
-fn is_basic(item: &IndexItem) -> bool
-    ensures { result ≡ is_basic item.now }
-{
-    !matches!(item, IndexItem::Array(_))
-}
+use shape_strides::IndexItem;
 
 /// Whether no item is an index array.
-pub fn are_basic(items: &[IndexItem]) -> bool
+pub fn are_basic<A>(items: &[IndexItem<A>]) -> bool
     ensures { result ≡ list_all is_basic items.now }
 {
-    items.iter().all(|item| is_basic(item))
+    items.iter().all(|item| item.is_basic())
 }
 
-fn takes_axis(item: &IndexItem) -> bool
+fn takes_axis<A>(item: &IndexItem<A>) -> bool
     ensures { result ≡ takes_axis item.now }
 {
     !matches!(item, IndexItem::Ellipsis | IndexItem::NewAxis)
 }
 
 /// How many axes the items take, beside those of `...`.
-pub(crate) fn taken(items: &[IndexItem]) -> usize
+pub(crate) fn taken<A>(items: &[IndexItem<A>]) -> usize
     ensures { result ≡ taken items.now }
 {
     items.iter().filter(|item| takes_axis(*item)).count()
 }
 
 /// The axis after those that the item at place k takes, from `axis` on.
-pub(crate) fn axes_end(rank: usize, axis: usize, items: &[IndexItem], k: usize) -> usize
+pub(crate) fn axes_end<A>(rank: usize, axis: usize, items: &[IndexItem<A>], k: usize) -> usize
     requires item { k < length items.now }
     requires axis { axis ≤ rank }
     requires enough { taken (drop k items.now) ≤ rank - axis }
@@ -66,7 +44,7 @@ pub(crate) fn axes_end(rank: usize, axis: usize, items: &[IndexItem], k: usize) 
     }
 }
 
-fn has_step(item: &IndexItem) -> bool
+fn has_step<A>(item: &IndexItem<A>) -> bool
     ensures { result ≡ has_step item.now }
 {
     match item {
@@ -76,7 +54,7 @@ fn has_step(item: &IndexItem) -> bool
 }
 
 /// Whether no slice has a step of 0.
-pub(crate) fn have_steps(items: &[IndexItem]) -> bool
+pub(crate) fn have_steps<A>(items: &[IndexItem<A>]) -> bool
     ensures { result ≡ list_all has_step items.now }
 {
     items.iter().all(|item| has_step(item))

@@ -12,6 +12,6 @@ pub mod transposition;
 
 pub use basic_index::basic;
 pub use fields::field;
-pub use index::{IndexItem, are_basic};
+pub use index::are_basic;
 pub use slice::{Run, slice_of};
 pub use transposition::transpose;

@@ -2,13 +2,15 @@
 ghost use Rattle.std.specs.Prelude.{◌≡◌, ℕ, ◌<◌, ◌≤◌, [], ◌∷◌, ◌++◌, map, length, true, false, IfOk, IfErr, OnOk, IsTrue};
 ghost use Rattle.std.specs.List.{list_all};
 ghost use Rattle.elem_descr.specs.declared.refusal.Refusal.TheVariants.{OutOfMemory};
-ghost use Rattle.view_ops.specs.declared.index.IndexItem.TheVariants.{NewAxis};
-ghost use Rattle.view_ops.specs.Basics.{is_basic, takes_axis, taken, has_step, is_in_range, are_in_range, whole, picks_of, picks};
+ghost use Rattle.shape_strides.specs.declared.index_item.IndexItem.TheVariants.{NewAxis};
+ghost use Rattle.shape_strides.specs.IndexItems.{is_basic};
+ghost use Rattle.view_ops.specs.Basics.{takes_axis, taken, has_step, is_in_range, are_in_range, whole, picks_of, picks};
 ghost use Rattle.view_ops.specs.inside.Picks.{shown, ArePicks, AddsPicks};
 
-use crate::index::{IndexItem, axes_end};
+use crate::index::axes_end;
 use crate::slice::{Run, from_front, is_place, slice_of};
 use elem_descr::Refusal;
+use shape_strides::IndexItem;
 use smallvec::SmallVec;
 use std::alloc::{AllocError, Global};
 
@@ -21,24 +23,24 @@ pub(crate) enum AxisPick {
     New,
 }
 
-fn is_in_range(axes: &[usize], item: IndexItem) -> bool
-    ensures { result ≡ is_in_range axes.now item }
+fn is_in_range<A>(axes: &[usize], item: &IndexItem<A>) -> bool
+    ensures { result ≡ is_in_range axes.now item.now }
 {
     match (item, axes) {
-        (IndexItem::Integer(at), [n, ..]) => is_place(*n, at),
+        (IndexItem::Integer(at), [n, ..]) => is_place(*n, *at),
         _ => true,
     }
 }
 
 /// Whether each integer is within its axis.
-pub(crate) fn are_in_range(lengths: &[usize], items: &[IndexItem]) -> bool
+pub(crate) fn are_in_range<A>(lengths: &[usize], items: &[IndexItem<A>]) -> bool
     requires { taken items.now ≤ length lengths.now }
     ensures { result ≡ are_in_range lengths.now items.now }
 {
     let mut axis = 0;
     for k in 0..items.len() {
         let end = axes_end(lengths.len(), axis, items, k);
-        if !is_in_range(&lengths[axis..end], items[k]) {
+        if !is_in_range(&lengths[axis..end], &items[k]) {
             return false;
         }
         axis = end;
@@ -47,18 +49,18 @@ pub(crate) fn are_in_range(lengths: &[usize], items: &[IndexItem]) -> bool
 }
 
 /// What an item picks of the axis that it takes.
-fn pick_of(n: usize, item: IndexItem) -> Result<AxisPick, Refusal>
-    requires axis { takes_axis item ≡ true }
-    requires basic { is_basic item ≡ true }
-    requires step { has_step item ≡ true }
-    requires in_range { is_in_range (n ∷ []) item ≡ true }
-    ensures ok { IfOk result (λ pick. ArePicks (n ∷ []) (pick ∷ []) × (picks_of (n ∷ []) item ≡ shown pick ∷ [])) }
+fn pick_of<A>(n: usize, item: &IndexItem<A>) -> Result<AxisPick, Refusal>
+    requires axis { takes_axis item.now ≡ true }
+    requires basic { is_basic item.now ≡ true }
+    requires step { has_step item.now ≡ true }
+    requires in_range { is_in_range (n ∷ []) item.now ≡ true }
+    ensures ok { IfOk result (λ pick. ArePicks (n ∷ []) (pick ∷ []) × (picks_of (n ∷ []) item.now ≡ shown pick ∷ [])) }
     ensures err { IfErr result (λ _. ⊥) }
 {
     match item {
-        IndexItem::Integer(at) => Ok(AxisPick::At(from_front(n, at) as usize)),
+        IndexItem::Integer(at) => Ok(AxisPick::At(from_front(n, *at) as usize)),
         IndexItem::Slice { start, stop, step } => {
-            Ok(AxisPick::Along(slice_of(n, start, stop, step)?))
+            Ok(AxisPick::Along(slice_of(n, *start, *stop, *step)?))
         }
         _ => unreachable!(),
     }
@@ -77,17 +79,17 @@ fn push_whole(picks: &mut SmallVec<AxisPick, 8>, axes: &[usize]) -> Result<(), A
     Ok(())
 }
 
-fn push_picks(
+fn push_picks<A>(
     picks: &mut SmallVec<AxisPick, 8>,
     axes: &[usize],
-    item: IndexItem,
+    item: &IndexItem<A>,
 ) -> Result<(), Refusal>
-    requires axis { takes_axis item ≡ true → length axes.now ≡ 1 }
-    requires none { item ≡ NewAxis → axes.now ≡ [] }
-    requires basic { is_basic item ≡ true }
-    requires step { has_step item ≡ true }
-    requires in_range { is_in_range axes.now item ≡ true }
-    ensures ok { OnOk result (AddsPicks picks.old.items picks.new.items axes.now (picks_of axes.now item)) }
+    requires axis { takes_axis item.now ≡ true → length axes.now ≡ 1 }
+    requires none { item.now ≡ NewAxis → axes.now ≡ [] }
+    requires basic { is_basic item.now ≡ true }
+    requires step { has_step item.now ≡ true }
+    requires in_range { is_in_range axes.now item.now ≡ true }
+    ensures ok { OnOk result (AddsPicks picks.old.items picks.new.items axes.now (picks_of axes.now item.now)) }
     ensures err { IfErr result (λ refusal. refusal ≡ OutOfMemory) }
 {
     match item {
@@ -101,10 +103,10 @@ fn push_picks(
 }
 
 /// What the items pick of the axes of a shape.
-pub(crate) fn picks_of(
+pub(crate) fn picks_of<A>(
     alloc: Global,
     lengths: &[usize],
-    items: &[IndexItem],
+    items: &[IndexItem<A>],
 ) -> Result<SmallVec<AxisPick, 8>, Refusal>
     requires taken { taken items.now ≤ length lengths.now }
     requires basic { list_all is_basic items.now ≡ true }
@@ -118,7 +120,7 @@ pub(crate) fn picks_of(
     let mut axis = 0;
     for k in 0..items.len() {
         let end = axes_end(lengths.len(), axis, items, k);
-        push_picks(&mut picks, &lengths[axis..end], items[k])?;
+        push_picks(&mut picks, &lengths[axis..end], &items[k])?;
         axis = end;
     }
     push_whole(&mut picks, &lengths[axis..])?;

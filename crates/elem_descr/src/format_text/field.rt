@@ -1,19 +1,22 @@
-// The fields of a record in a format text.
-ghost use Rattle.std.specs.Prelude.{◌≤◌, IsTrue, IfOk};
-ghost use Rattle.elem_descr.specs.Refusals.{Gives};
+// The members of a record in a format text, added one by one.
+ghost use Rattle.std.specs.Prelude.{◌≡◌, ◌≤◌, IsTrue, IfOk};
+ghost use Rattle.elem_descr.specs.Refusals.{Gives, Answers};
 ghost use Rattle.elem_descr.specs.Names.{is_legal_name};
-ghost use Rattle.elem_descr.specs.FormatTexts.{named, taken_in, field_at};
+ghost use Rattle.elem_descr.specs.inside.Partials.{IsBody};
+ghost use Rattle.elem_descr.specs.FormatTexts.{max_fields, named, scalar_in, pad_in, body_in};
 
-use crate::format_text::draft::Draft;
-use crate::format_text::mark::Mark;
-use crate::format_text::member::{Member, is_named, member_at, name_at};
-use crate::leaf::FieldName;
+use crate::descr::Descr;
+use crate::format_text::draft::{Body, Draft};
+use crate::format_text::mark::{Mark, own_alignment};
+use crate::format_text::member::{is_named, name_at};
+use crate::name::FieldName;
 use crate::refusal::Refusal;
+use crate::scalar::Scalar;
 use std::alloc::Global;
 
 /// The name of a field: between colons, or `f` and its number among the fields.
 fn named(alloc: Global, number: usize, text: &[u8]) -> Result<(FieldName, &[u8]), Refusal>
-    requires { number ≤ 64 }
+    requires { number ≤ max_fields }
     ensures gives { Gives (λ n. (n.0, n.1.now)) result (named number text.now) }
     ensures legal { IfOk result (λ n. IsTrue (is_legal_name n.0)) }
 {
@@ -27,45 +30,63 @@ fn named(alloc: Global, number: usize, text: &[u8]) -> Result<(FieldName, &[u8])
     }
 }
 
-/// Adds a member, and answers what follows it and its name.
-#[tactic(auto, unfolding(crate::specs::FormatTexts::taken_in))]
-fn taken_in<'a>(
+/// Adds a scalar, and answers the mark in force and what follows its name.
+#[tactic(auto, unfolding(crate::specs::FormatTexts::scalar_in))]
+pub fn add_scalar<'a>(
     alloc: Global,
     mark: Mark,
     draft: &mut Draft,
-    member: Member,
+    value: Option<Scalar>,
     rest: &'a [u8],
-) -> Result<&'a [u8], Refusal>
-    ensures { Gives (λ more. (draft.new, more.now)) result (taken_in mark draft.old member rest.now) }
+) -> Result<(Mark, &'a [u8]), Refusal>
+    ensures gives { Gives (λ m. (draft.new, m.0, m.1.now)) result (scalar_in mark draft.old value rest.now) }
+    ensures levels { draft.new.levels ≡ draft.old.levels }
 {
-    match member {
-        Member::Value(value) => {
-            let (name, rest) = named(alloc, draft.len(), rest)?;
-            draft.add(mark, name, value)?;
-            Ok(rest)
-        }
-        Member::Pad(count) => {
-            draft.pad(count)?;
-            if is_named(rest) {
-                return Err(Refusal::DescriptorLeftOut);
-            }
-            Ok(rest)
-        }
-    }
+    let (name, rest) = named(alloc, draft.len(), rest)?;
+    draft.check_name(name.as_slice())?;
+    let Some(scalar) = value else {
+        return Err(Refusal::TooLarge);
+    };
+    let alignment = mark.aligned(own_alignment(&scalar));
+    draft.add(name, alignment, Descr::Scalar(scalar))?;
+    Ok((mark, rest))
 }
 
-/// Adds the next member, and answers what follows it.
-#[tactic(auto, unfolding(crate::specs::FormatTexts::field_at))]
-pub fn field_at<'a>(
+/// Adds padding, which has no name, and answers the mark in force and what follows.
+#[tactic(auto, unfolding(crate::specs::FormatTexts::pad_in))]
+pub fn add_pad<'a>(
+    mark: Mark,
+    draft: &mut Draft,
+    count: Option<usize>,
+    rest: &'a [u8],
+) -> Result<(Mark, &'a [u8]), Refusal>
+    ensures gives { Answers (λ m. (draft.new, m.0, m.1.now)) result (pad_in mark draft.old count rest.now) }
+    ensures levels { draft.new.levels ≡ draft.old.levels }
+{
+    draft.pad(count)?;
+    if is_named(rest) {
+        return Err(Refusal::DescriptorLeftOut);
+    }
+    Ok((mark, rest))
+}
+
+/// Adds a record that is read, and answers the mark then in force and what follows its name.
+#[tactic(auto, unfolding(crate::specs::FormatTexts::body_in))]
+pub fn add_body<'a>(
     alloc: Global,
     mark: Mark,
     draft: &mut Draft,
-    text: &'a [u8],
-) -> Result<&'a [u8], Refusal>
-    ensures { Gives (λ more. (draft.new, more.now)) result (field_at mark draft.old text.now) }
+    body: Body,
+    rest: &'a [u8],
+) -> Result<(Mark, &'a [u8]), Refusal>
+    requires { IsBody draft.old.levels body }
+    ensures gives { Gives (λ m. (draft.new, m.0, m.1.now)) result (body_in mark draft.old body rest.now) }
+    ensures levels { draft.new.levels ≡ draft.old.levels }
 {
-    match member_at(mark, text) {
-        Ok((member, rest)) => taken_in(alloc, mark, draft, member, rest),
-        Err(refusal) => Err(refusal),
-    }
+    let (name, rest) = named(alloc, draft.len(), rest)?;
+    draft.check_name(name.as_slice())?;
+    let alignment = mark.aligned(body.alignment);
+    let later = body.mark;
+    draft.add(name, alignment, Descr::Record(body.whole))?;
+    Ok((later, rest))
 }

@@ -1,6 +1,6 @@
 // The marks of a format text, and the numbers by their letters.
 ghost use Rattle.std.specs.Prelude.{◌≡◌, ◌≤◌};
-ghost use Rattle.elem_descr.specs.FormatTexts.{after, marked, number_letter, order_under, long_under, is_aligning, alignment};
+ghost use Rattle.elem_descr.specs.FormatTexts.{after, marked, number_letter, order_under, long_under, is_aligning, aligned, own_alignment};
 
 use crate::scalar::{Order, Scalar, Width};
 
@@ -90,20 +90,30 @@ impl Mark {
         }
     }
 
-    /// What the offset of a member is a multiple of, in bytes.
-    pub fn alignment(self, scalar: &Scalar) -> usize
-        ensures value { result ≡ alignment self scalar.now }
+    /// What the offset of a member with its own alignment is a multiple of, in bytes.
+    pub fn aligned(self, own: usize) -> usize
+        requires { (1 ≤ own) × (own ≤ 8) }
+        ensures value { result ≡ aligned self own }
         ensures not_zero { 1 ≤ result }
         ensures within { result ≤ 8 }
     {
         if !self.is_aligning() {
             return 1;
         }
-        match scalar {
-            Scalar::Bytes(_) => 1,
-            Scalar::Bool | Scalar::Byte { .. } => 1,
-            Scalar::Int { width, .. } => width.bytes(),
-        }
+        own
+    }
+}
+
+/// A number's own alignment is its size, and a byte string has none.
+pub fn own_alignment(scalar: &Scalar) -> usize
+    ensures value { result ≡ own_alignment scalar.now }
+    ensures not_zero { 1 ≤ result }
+    ensures within { result ≤ 8 }
+{
+    match scalar {
+        Scalar::Bytes(_) => 1,
+        Scalar::Bool | Scalar::Byte { .. } => 1,
+        Scalar::Int { width, .. } => width.bytes(),
     }
 }
 

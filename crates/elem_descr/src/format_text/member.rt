@@ -1,14 +1,14 @@
 // The members of a format text, and their names.
-ghost use Rattle.std.specs.Prelude.{◌≡◌, ◌≤◌, not, length, take, drop, IsTrue, IfSome, IfOk};
+ghost use Rattle.std.specs.Prelude.{◌≡◌, ◌≤◌, not, length, take, drop, IsTrue, IfSome, IfOk, if◌then◌else◌};
 ghost use Rattle.std.specs.Char.{is_ascii_digit};
 ghost use Rattle.std.specs.List.{list_all, prefix_len};
 ghost use Rattle.elem_descr.specs.Refusals.{Answers};
 ghost use Rattle.elem_descr.specs.Names.{is_legal_name};
-ghost use Rattle.elem_descr.specs.FormatTexts.{is_colon, is_named, is_opened, count_of, is_left_out, text_member, lettered, member_at, name_at};
+ghost use Rattle.elem_descr.specs.FormatTexts.{is_empty, is_colon, is_named, is_opened, count_of, is_left_out, text_member, lettered, member_at, name_at};
 
 use crate::digits::capped_value;
 use crate::format_text::mark::Mark;
-use crate::leaf::is_legal_name;
+use crate::name::is_legal_name;
 use crate::refusal::Refusal;
 use crate::scalar::{BytesLen, MAX_ITEM_SIZE, Scalar};
 
@@ -19,6 +19,8 @@ pub enum Member {
     Value(Option<Scalar>),
     /// So many bytes of padding, `None` where they are more than any item has.
     Pad(Option<usize>),
+    /// The begin of a record, before its brace.
+    Opened,
 }
 
 fn digits_len(text: &[u8]) -> usize
@@ -108,6 +110,16 @@ fn text_member(digits: &[u8]) -> Result<Member, Refusal>
     }
 }
 
+/// A record has no count.
+fn opened(digits: &[u8]) -> Result<Member, Refusal>
+    ensures { result ≡ (if is_empty digits.now then Ok Member.Opened else Err Refusal.DescriptorLeftOut) }
+{
+    if digits.is_empty() {
+        return Ok(Member::Opened);
+    }
+    Err(Refusal::DescriptorLeftOut)
+}
+
 fn lettered(mark: Mark, digits: &[u8], letter: u8, rest: &[u8]) -> Result<Member, Refusal>
     requires { IsTrue (list_all is_ascii_digit digits.now) }
     ensures { result ≡ lettered mark digits.now letter rest.now }
@@ -121,7 +133,7 @@ fn lettered(mark: Mark, digits: &[u8], letter: u8, rest: &[u8]) -> Result<Member
     match letter {
         b's' => text_member(digits),
         b'x' => Ok(Member::Pad(count(digits))),
-        b'T' if is_opened(rest) && digits.is_empty() => Err(Refusal::DescriptorLeftOut),
+        b'T' if is_opened(rest) => opened(digits),
         _ if is_left_out(letter) => Err(Refusal::DescriptorLeftOut),
         _ => Err(Refusal::BadDescriptor),
     }
@@ -129,7 +141,8 @@ fn lettered(mark: Mark, digits: &[u8], letter: u8, rest: &[u8]) -> Result<Member
 
 /// The member at the front, and what follows it.
 pub fn member_at(mark: Mark, text: &[u8]) -> Result<(Member, &[u8]), Refusal>
-    ensures { Answers (λ m. (m.0, m.1.now)) result (member_at mark text.now) }
+    ensures answers { Answers (λ m. (m.0, m.1.now)) result (member_at mark text.now) }
+    ensures brace { IfOk result (λ m. m.0 ≡ Member.Opened → 1 ≤ length m.1.now) }
 {
     let (digits, rest) = split_digits(text);
     let [letter, rest @ ..] = rest else {

@@ -3,10 +3,9 @@ ghost use Rattle.std.specs.Prelude.{◌≡◌, ◌≤◌, ◌++◌, ◌∷◌, [
 ghost use Rattle.elem_descr.specs.Encoding.{size};
 ghost use Rattle.elem_descr.specs.Descriptors.{IsLegal};
 ghost use Rattle.elem_descr.specs.FormatTexts.{format};
-ghost use Rattle.elem_descr.specs.WrittenFormats.{written_mark, written_letter, written_count, written_scalar, written_pad, written_field, written_fields, written};
+ghost use Rattle.elem_descr.specs.WrittenFormats.{written_mark, written_letter, written_count, written_scalar, written_pad, written_name, written_fields, written};
 
 use crate::descr::{Descr, Record};
-use crate::leaf::Leaf;
 use crate::scalar::{Order, Scalar, Width};
 use itoa::Buffer;
 use std::alloc::{AllocError, Global};
@@ -91,62 +90,61 @@ fn push_pad(text: &mut Vec<u8>, bytes: usize) -> Result<(), AllocError>
     Ok(())
 }
 
-fn push_field(text: &mut Vec<u8>, leaf: &Leaf) -> Result<(), AllocError>
-    ensures { OnOk result (text.new.items ≡ text.old.items ++ written_field leaf.now) }
+fn push_name(text: &mut Vec<u8>, name: &[u8]) -> Result<(), AllocError>
+    ensures { OnOk result (text.new.items ≡ text.old.items ++ written_name name.now) }
 {
-    push_scalar(text, &leaf.scalar)?;
     text.push(b':')?;
-    text.extend_from_slice(leaf.name.as_slice())?;
+    text.extend_from_slice(name)?;
     text.push(b':')?;
     Ok(())
 }
 
 /// The fields, and the padding before each and after the last.
-fn push_fields(text: &mut Vec<u8>, fields: &Record) -> Result<(), AllocError>
-    ensures spelled { OnOk result (text.new.items ≡ text.old.items ++ written_fields 0 fields.now.leaves fields.now.size) }
-    ensures legal { IsLegal fields.now }
+#[cycle(written)]
+fn push_fields(text: &mut Vec<u8>, whole: &Record) -> Result<(), AllocError>
+    ensures spelled { OnOk result (text.new.items ≡ text.old.items ++ written_fields 0 whole.now.fields whole.now.size) }
+    ensures legal { IsLegal whole.now }
 {
-    let size = fields.size();
+    let size = whole.size();
     let mut end = 0;
-    for leaf in fields.leaves() {
-        push_pad(text, leaf.at - end)?;
-        push_field(text, leaf)?;
-        end = leaf.at + leaf.scalar.size();
+    for field in whole.fields() {
+        push_pad(text, field.at - end)?;
+        push_descr(text, &field.descr)?;
+        push_name(text, field.name.as_slice())?;
+        end = field.at + field.descr.size();
     }
     push_pad(text, size - end)
 }
 
-/// The format text of a scalar.
-#[tactic(auto, using(crate::proofs::RoundTrip::reads_scalar_alone))]
-fn scalar_text(alloc: Global, scalar: &Scalar) -> Result<Vec<u8>, AllocError>
-    ensures spelled { IfOk result (λ text. text.items ≡ written (Descr.Scalar scalar.now)) }
-    ensures reads_back { OnOk result (format (written (Descr.Scalar scalar.now)) ≡ Ok (Descr.Scalar scalar.now)) }
+/// A member without its name.
+#[cycle(written)]
+#[tactic(auto, using(crate::proofs::RoundTrip::reads_record_back))]
+fn push_descr(text: &mut Vec<u8>, descr: &Descr) -> Result<(), AllocError>
+    ensures spelled { OnOk result (text.new.items ≡ text.old.items ++ written descr.now) }
+    ensures reads_back { OnOk result (format (written descr.now) ≡ Ok descr.now) }
 {
-    let mut text = Vec::new(alloc);
-    push_scalar(&mut text, scalar)?;
-    Ok(text)
+    match descr {
+        Descr::Scalar(scalar) => {
+            push_scalar(text, scalar)?;
+            Ok(())
+        }
+        Descr::Record(whole) => {
+            text.extend_from_slice(b"T{")?;
+            push_fields(text, whole)?;
+            text.push(b'}')?;
+            Ok(())
+        }
+    }
 }
 
-/// The format text of a record.
-#[tactic(auto, using(crate::proofs::RoundTrip::reads_record))]
-fn record_text(alloc: Global, fields: &Record) -> Result<Vec<u8>, AllocError>
-    ensures spelled { IfOk result (λ text. text.items ≡ written (Descr.Record fields.now)) }
-    ensures reads_back { OnOk result (format (written (Descr.Record fields.now)) ≡ Ok (Descr.Record fields.now)) }
-{
-    let mut text = Vec::from_slice(alloc, b"T{")?;
-    push_fields(&mut text, fields)?;
-    text.push(b'}')?;
-    Ok(text)
-}
-
-/// Writes the format text of a descriptor: each member with `<`, or with `>` where it is a big-endian
+/// Writes the format text of a descriptor: each scalar with `<`, or with `>` where it is a big-endian
 /// integer of two or more bytes, and a record with the names of all its fields and its padding.
+
 pub fn format_write(alloc: Global, descr: &Descr) -> Result<Vec<u8>, AllocError>
     ensures spelled { IfOk result (λ text. text.items ≡ written descr.now) }
     ensures reads_back { OnOk result (format (written descr.now) ≡ Ok descr.now) }
 {
-    match descr {
-        Descr::Scalar(scalar) => scalar_text(alloc, scalar),
-        Descr::Record(fields) => record_text(alloc, fields),
-    }
+    let mut text = Vec::new(alloc);
+    push_descr(&mut text, descr)?;
+    Ok(text)
 }

@@ -1,7 +1,7 @@
 //! Classes of bytes.
 ghost use Rattle.std.specs.Prelude.{◌≡◌, ◌≤◌, length};
 ghost use Rattle.std.specs.List.{prefix_len, list_all};
-ghost use Rattle.script_lang.specs.Classes.{is_in};
+ghost use Rattle.script_lang.specs.inside.Classes.{is_in};
 ghost use Rattle.script_lang.specs.Descriptors.{is_mark};
 ghost use Rattle.script_lang.specs.Lines.{is_allowed};
 ghost use Rattle.script_lang.specs.Tokens.{is_blank, is_digit, is_sign, is_name_start, is_name_byte, is_file_byte};

@@ -1,7 +1,7 @@
 //! The values that are computed from other arrays.
 ghost use Rattle.std.specs.Prelude.{◌≡◌};
 ghost use Rattle.script_lang.specs.Commands.{copy_at, cast_at, combine_at, transform_at, reduce_at, computation_at, compute_at};
-ghost use Rattle.script_lang.specs.Reading.{Finds, Reads, computation_room, value_room};
+ghost use Rattle.script_lang.specs.Reading.{Scans, Reads, computation_room, value_room};
 
 use crate::command::{Computation, Value};
 use crate::grammar::descriptors::descr;
@@ -20,7 +20,7 @@ use std::alloc::Global;
 /// `Y C` or `Y F`, behind `copy`.
 #[tactic(auto, unfolding(crate::specs::Commands::copy_at))]
 fn copy(alloc: Global, bytes: &[u8]) -> Option<(Computation, &[u8])>
-    ensures { Finds (λ r. (r.0, r.1.now)) result (copy_at bytes.now) }
+    ensures { Scans (λ r. (r.0, r.1.now)) result (copy_at bytes.now) }
 {
     let (source, rest) = name(bytes)?;
     let (word, rest) = word(rest)?;
@@ -76,7 +76,7 @@ fn transform(
 /// `Y [axis] [keep]`, behind `RED`.
 #[tactic(auto, unfolding(crate::specs::Commands::reduce_at))]
 fn reduce(alloc: Global, reduction: Reduction, bytes: &[u8]) -> Option<(Computation, &[u8])>
-    ensures { Finds (λ r. (r.0, r.1.now)) result (reduce_at reduction bytes.now) }
+    ensures { Scans (λ r. (r.0, r.1.now)) result (reduce_at reduction bytes.now) }
 {
     let (source, rest) = owned_name(alloc, bytes)?;
     let (axis, rest) = optional_integer(rest);

@@ -1,7 +1,7 @@
 //! The values that make an array.
 ghost use Rattle.std.specs.Prelude.{◌≡◌, true};
 ghost use Rattle.script_lang.specs.Commands.{zeros_at, full_at, arange_at, array_at, new_items_at, make_at};
-ghost use Rattle.script_lang.specs.Reading.{Finds, Reads, value_room};
+ghost use Rattle.script_lang.specs.Reading.{Scans, Reads, value_room};
 
 use crate::command::{NewItems, Value};
 use crate::grammar::descriptors::descr;
@@ -35,7 +35,7 @@ fn full(alloc: Global, bytes: &[u8]) -> Result<(NewItems, &[u8]), Refusal>
 /// `a b s`, behind `arange D`.
 #[tactic(auto, unfolding(crate::specs::Commands::arange_at))]
 fn arange(bytes: &[u8]) -> Option<(NewItems, &[u8])>
-    ensures { Finds (λ r. (r.0, r.1.now)) result (arange_at bytes.now) }
+    ensures { Scans (λ r. (r.0, r.1.now)) result (arange_at bytes.now) }
 {
     let (start, rest) = integer(bytes)?;
     let (stop, rest) = integer(rest)?;

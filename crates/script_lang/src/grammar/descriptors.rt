@@ -1,7 +1,7 @@
 //! The text of a descriptor.
 ghost use Rattle.std.specs.Prelude.{◌≡◌, ◌≤◌, ◌<◌, ◌+◌, ◌^◌, length, IfSome, false};
 ghost use Rattle.script_lang.specs.Descriptors.{depth_behind, named_behind, record_mark_at, record_len, record_text_at, descr_at};
-ghost use Rattle.script_lang.specs.Reading.{Finds};
+ghost use Rattle.script_lang.specs.Reading.{Scans};
 
 use crate::grammar::classes::{Class, front_len};
 use crate::grammar::tokens::{byte, front, is_parted};
@@ -9,7 +9,7 @@ use crate::grammar::tokens::{byte, front, is_parted};
 /// The bytes behind the marks and `T{` that come at once.
 #[tactic(auto, unfolding(crate::specs::Descriptors::record_mark_at))]
 fn record_mark(bytes: &[u8]) -> Option<&[u8]>
-    ensures { Finds (λ rest. rest.now) result (record_mark_at bytes.now) }
+    ensures { Scans (λ rest. rest.now) result (record_mark_at bytes.now) }
 {
     let (_, rest) = bytes.split_at(front_len(Class::Mark, bytes));
     let rest = byte(b'T', rest)?;
@@ -39,7 +39,7 @@ fn named_behind(is_named: bool, byte: u8) -> bool
 
 /// How many bytes there are up to the brace that closes the one before them.
 fn record_len(bytes: &[u8]) -> Option<usize>
-    ensures found { Finds (λ n. n) result (record_len false 1 bytes.now) }
+    ensures found { Scans (λ n. n) result (record_len false 1 bytes.now) }
     ensures within { IfSome result (λ n. n ≤ length bytes.now) }
 {
     let mut depth = 1;
@@ -58,7 +58,7 @@ fn record_len(bytes: &[u8]) -> Option<usize>
 #[tactic(auto, unfolding(crate::specs::Descriptors::record_text_at))]
 fn record_text<'a>(bytes: &'a [u8], inside: &'a [u8]) -> Option<(&'a [u8], &'a [u8])>
     requires { length inside.now ≤ length bytes.now }
-    ensures { Finds (λ w. (w.0.now, w.1.now)) result (record_text_at bytes.now inside.now) }
+    ensures { Scans (λ w. (w.0.now, w.1.now)) result (record_text_at bytes.now inside.now) }
 {
     let len = record_len(inside)?;
     let (_, rest) = inside.split_at(len);
@@ -72,7 +72,7 @@ fn record_text<'a>(bytes: &'a [u8], inside: &'a [u8]) -> Option<(&'a [u8], &'a [
 /// The descriptor that comes next, behind at least one blank, and what follows it.
 #[tactic(auto, unfolding(crate::specs::Descriptors::descr_at), using(crate::proofs::Spelling::record_mark_shorter))]
 pub fn descr(bytes: &[u8]) -> Option<(&[u8], &[u8])>
-    ensures { Finds (λ w. (w.0.now, w.1.now)) result (descr_at bytes.now) }
+    ensures { Scans (λ w. (w.0.now, w.1.now)) result (descr_at bytes.now) }
 {
     let (_, text) = front(Class::Blank, bytes)?;
     if let Some(inside) = record_mark(text) {

@@ -3,16 +3,17 @@ ghost use Rattle.std.specs.Prelude.{◌≡◌, length};
 ghost use Rattle.script_lang.specs.Tokens.{symbol_at};
 ghost use Rattle.script_lang.specs.Lists.{items_at};
 ghost use Rattle.script_lang.specs.Indexes.{step_at, slice_at, ellipsis_at, item_at, index_at, bracket_at, optional_index_at, operand_at, begins_name, argument_at};
-ghost use Rattle.script_lang.specs.Reading.{Finds, Reads, index_room, optional_index_room, operand_room, argument_room};
+ghost use Rattle.script_lang.specs.Reading.{Scans, Reads, index_room, optional_index_room, operand_room, argument_room};
 
 use crate::command::{Argument, Operand};
 use crate::grammar::literals::literal;
 use crate::grammar::names::name;
 use crate::grammar::numbers::{integer, optional_integer};
 use crate::grammar::tokens::{byte, bytes_mark, keyword, symbol, unspaced};
-use crate::index::{Index, IndexItem};
+use crate::index::Index;
 use crate::name::Name;
 use elem_descr::Refusal;
+use shape_strides::IndexItem;
 use std::alloc::Global;
 
 /// The step behind the second colon, if there is one, and what follows it.
@@ -26,8 +27,8 @@ fn step(bytes: &[u8]) -> (Option<i128>, &[u8])
 }
 
 #[tactic(auto, unfolding(crate::specs::Indexes::slice_at))]
-fn slice(bytes: &[u8]) -> Option<(IndexItem, &[u8])>
-    ensures { Finds (λ r. (r.0, r.1.now)) result (slice_at bytes.now) }
+fn slice(bytes: &[u8]) -> Option<(IndexItem<Name>, &[u8])>
+    ensures { Scans (λ r. (r.0, r.1.now)) result (slice_at bytes.now) }
 {
     let (start, rest) = optional_integer(bytes);
     let rest = symbol(b':', rest)?;
@@ -39,7 +40,7 @@ fn slice(bytes: &[u8]) -> Option<(IndexItem, &[u8])>
 /// What follows `...`, which must come next.
 #[tactic(auto, unfolding(crate::specs::Indexes::ellipsis_at))]
 fn ellipsis(bytes: &[u8]) -> Option<&[u8]>
-    ensures { Finds (λ rest. rest.now) result (ellipsis_at bytes.now) }
+    ensures { Scans (λ rest. rest.now) result (ellipsis_at bytes.now) }
 {
     let rest = symbol(b'.', bytes)?;
     let rest = byte(b'.', rest)?;
@@ -48,8 +49,8 @@ fn ellipsis(bytes: &[u8]) -> Option<&[u8]>
 
 /// The item of an index list that comes next, and what follows it.
 #[tactic(auto, unfolding(crate::specs::Indexes::item_at))]
-fn item(alloc: Global, bytes: &[u8]) -> Option<(IndexItem, &[u8])>
-    ensures { Finds (λ r. (r.0, r.1.now)) result (item_at bytes.now) }
+fn item(alloc: Global, bytes: &[u8]) -> Option<(IndexItem<Name>, &[u8])>
+    ensures { Scans (λ r. (r.0, r.1.now)) result (item_at bytes.now) }
 {
     if let Some(found) = slice(bytes) {
         return Some(found);

@@ -2,14 +2,18 @@
 ghost use Rattle.std.specs.Prelude.{◌≡◌, ◌<◌, ◌+◌, length, true, IfSome};
 ghost use Rattle.script_lang.specs.Tokens.{byte_at};
 ghost use Rattle.script_lang.specs.Lists.{entries_at, row_at};
-ghost use Rattle.script_lang.specs.Literals.{hex_value, hex_digit_at, escape_at, plain_byte_at, text_byte_at, byte_text_at, boolean_at, bytes_at, scalar_at, record_at, literal_at, line_end_at};
-ghost use Rattle.script_lang.specs.Reading.{Finds, Reads, scalar_room, literal_room};
+ghost use Rattle.script_lang.specs.Literals.{hex_value, hex_digit_at, escape_at, plain_byte_at, text_byte_at, byte_text_at, boolean_at, bytes_at, scalar_at, record_at, literal_within, literal_at, line_end_at};
+ghost use Rattle.script_lang.specs.Listed.{literals_of};
+ghost use Rattle.script_lang.specs.Reading.{Scans, Reads, scalar_room, literal_room};
 
 use crate::grammar::numbers::integer;
 use crate::grammar::tokens::{byte, bytes_mark, is_at_end, symbol, unspaced, word};
 use crate::literal::{ByteText, Literal, Literals, RecordLiteral, ScalarLiteral};
 use elem_descr::Refusal;
 use std::alloc::Global;
+
+/// How deep the records of a literal nest at most; one of scalars has depth 1.
+const MAX_LITERAL_DEPTH: usize = 4;
 
 /// The digit that the byte is in base 16.
 #[tactic(auto, unfolding(crate::specs::Literals::hex_value))]
@@ -27,7 +31,7 @@ fn hex_value(byte: u8) -> Option<u8>
 
 #[tactic(auto, unfolding(crate::specs::Literals::hex_digit_at))]
 fn hex_digit(bytes: &[u8]) -> Option<(u8, &[u8])>
-    ensures found { Finds (λ d. (d.0, d.1.now)) result (hex_digit_at bytes.now) }
+    ensures found { Scans (λ d. (d.0, d.1.now)) result (hex_digit_at bytes.now) }
     ensures small { IfSome result (λ d. d.0 < 16) }
 {
     let [first, rest @ ..] = bytes else {
@@ -40,7 +44,7 @@ fn hex_digit(bytes: &[u8]) -> Option<(u8, &[u8])>
 /// The byte that `x` and two digits give, and what follows them.
 #[tactic(auto, unfolding(crate::specs::Literals::escape_at))]
 fn escape(bytes: &[u8]) -> Option<(u8, &[u8])>
-    ensures { Finds (λ b. (b.0, b.1.now)) result (escape_at bytes.now) }
+    ensures { Scans (λ b. (b.0, b.1.now)) result (escape_at bytes.now) }
 {
     let digits = byte(b'x', bytes)?;
     let (high, rest) = hex_digit(digits)?;
@@ -49,7 +53,7 @@ fn escape(bytes: &[u8]) -> Option<(u8, &[u8])>
 }
 
 fn plain_byte(bytes: &[u8]) -> Option<(u8, &[u8])>
-    ensures { Finds (λ b. (b.0, b.1.now)) result (plain_byte_at bytes.now) }
+    ensures { Scans (λ b. (b.0, b.1.now)) result (plain_byte_at bytes.now) }
 {
     match bytes {
         [first, rest @ ..] if matches!(*first, b' '..=b'~') && *first != b'\'' && *first != b'\\' =>
@@ -61,7 +65,7 @@ fn plain_byte(bytes: &[u8]) -> Option<(u8, &[u8])>
 /// The next byte of a bytes literal, and what follows it.
 #[tactic(auto, unfolding(crate::specs::Literals::text_byte_at))]
 fn text_byte(bytes: &[u8]) -> Option<(u8, &[u8])>
-    ensures { Finds (λ b. (b.0, b.1.now)) result (text_byte_at bytes.now) }
+    ensures { Scans (λ b. (b.0, b.1.now)) result (text_byte_at bytes.now) }
 {
     match byte(b'\\', bytes) {
         Some(rest) => escape(rest),
@@ -99,7 +103,7 @@ fn bytes_literal(alloc: Global, bytes: &[u8]) -> Result<(ScalarLiteral, &[u8]), 
 
 #[tactic(auto, unfolding(crate::specs::Literals::boolean_at))]
 fn boolean(bytes: &[u8]) -> Option<(ScalarLiteral, &[u8])>
-    ensures { Finds (λ r. (r.0, r.1.now)) result (boolean_at bytes.now) }
+    ensures { Scans (λ r. (r.0, r.1.now)) result (boolean_at bytes.now) }
 {
     let (word, rest) = word(bytes)?;
     if word == b"True".as_slice() {
@@ -125,9 +129,11 @@ pub fn scalar(alloc: Global, bytes: &[u8]) -> Result<(ScalarLiteral, &[u8]), Ref
     boolean(bytes).ok_or(Refusal::Syntax)
 }
 
-/// Scalars that commas part, up to the parenthesis that ends them, and what follows it.
-fn scalars(alloc: Global, bytes: &[u8]) -> Result<(RecordLiteral, &[u8]), Refusal>
-    ensures { Reads (λ r. (r.0, r.1.now)) (λ _. true) result (entries_at scalar_at 41 (length bytes.now) bytes.now) }
+/// Literals of at most this depth that commas part, up to the parenthesis that ends them, and what
+/// follows it.
+#[cycle(nesting)]
+fn values(alloc: Global, depth: usize, bytes: &[u8]) -> Result<(RecordLiteral, &[u8]), Refusal>
+    ensures { Reads (λ r. (literals_of r.0, r.1.now)) (λ _. true) result (entries_at (literal_within depth) 41 (length bytes.now) bytes.now) }
 {
     let mut values = RecordLiteral::new(alloc);
     let mut rest = bytes;
@@ -135,7 +141,7 @@ fn scalars(alloc: Global, bytes: &[u8]) -> Result<(RecordLiteral, &[u8]), Refusa
         if let Some(end) = symbol(b')', rest) {
             return Ok((values, end));
         }
-        let (entry, after) = scalar(alloc, rest)?;
+        let (entry, after) = literal_within(alloc, depth, rest)?;
         values.push(entry)?;
         if let Some(end) = symbol(b')', after) {
             return Ok((values, end));
@@ -148,28 +154,40 @@ fn scalars(alloc: Global, bytes: &[u8]) -> Result<(RecordLiteral, &[u8]), Refusa
     Err(Refusal::Syntax)
 }
 
-/// The record literal behind `(`, and what follows it.
+/// The record literal behind `(` whose values have at most this depth, and what follows it.
 #[tactic(auto, unfolding(crate::specs::Literals::record_at), using(crate::proofs::Rooms::record_room))]
-fn record(alloc: Global, bytes: &[u8]) -> Result<(Literal, &[u8]), Refusal>
-    ensures { Reads (λ r. (r.0, r.1.now)) (λ r. literal_room r.0) result (record_at bytes.now) }
+#[cycle(nesting)]
+fn record(alloc: Global, depth: usize, bytes: &[u8]) -> Result<(Literal, &[u8]), Refusal>
+    ensures { Reads (λ r. (r.0, r.1.now)) (λ r. literal_room r.0) result (record_at (literal_within depth) bytes.now) }
 {
-    let (values, rest) = scalars(alloc, bytes)?;
+    let (values, rest) = values(alloc, depth, bytes)?;
     if values.is_empty() {
         return Err(Refusal::Syntax);
     }
     Ok((Literal::Record(values), rest))
 }
 
-/// The literal that comes next, and what follows it.
-#[tactic(auto, unfolding(crate::specs::Literals::literal_at), using(crate::proofs::Rooms::scalar_literal_room))]
-pub fn literal(alloc: Global, bytes: &[u8]) -> Result<(Literal, &[u8]), Refusal>
-    ensures { Reads (λ r. (r.0, r.1.now)) (λ r. literal_room r.0) result (literal_at bytes.now) }
+/// The literal of at most this depth that comes next, and what follows it.
+#[tactic(auto, unfolding(crate::specs::Literals::literal_within), using(crate::proofs::Rooms::scalar_literal_room))]
+#[cycle(nesting)]
+fn literal_within(alloc: Global, depth: usize, bytes: &[u8]) -> Result<(Literal, &[u8]), Refusal>
+    ensures { Reads (λ r. (r.0, r.1.now)) (λ r. literal_room r.0) result (literal_within depth bytes.now) }
 {
-    if let Some(inside) = symbol(b'(', bytes) {
-        return record(alloc, inside);
+    if depth > 0
+        && let Some(inside) = symbol(b'(', bytes)
+    {
+        return record(alloc, depth - 1, inside);
     }
     let (value, rest) = scalar(alloc, bytes)?;
     Ok((Literal::Scalar(value), rest))
+}
+
+/// The literal that comes next, and what follows it.
+#[tactic(auto, unfolding(crate::specs::Literals::literal_at))]
+pub fn literal(alloc: Global, bytes: &[u8]) -> Result<(Literal, &[u8]), Refusal>
+    ensures { Reads (λ r. (r.0, r.1.now)) (λ r. literal_room r.0) result (literal_at bytes.now) }
+{
+    literal_within(alloc, MAX_LITERAL_DEPTH, bytes)
 }
 
 /// The literals up to the line's end, and the blanks that are left there.

@@ -1,7 +1,7 @@
 //! Names of arrays, and the words that name none.
 ghost use Rattle.std.specs.Prelude.{◌≡◌, ◌≤◌, length, IfSome};
 ghost use Rattle.script_lang.specs.Tokens.{starts_name, is_name, name_at};
-ghost use Rattle.script_lang.specs.Reading.{Finds};
+ghost use Rattle.script_lang.specs.Reading.{Scans};
 
 use crate::grammar::classes::is_name_start;
 use crate::grammar::tokens::word;
@@ -27,7 +27,7 @@ fn is_name(word: &[u8]) -> bool
 /// The name that comes next, with any blanks before it, and what follows it.
 #[tactic(auto, unfolding(crate::specs::Tokens::name_at))]
 pub fn name(bytes: &[u8]) -> Option<(&[u8], &[u8])>
-    ensures found { Finds (λ w. (w.0.now, w.1.now)) result (name_at bytes.now) }
+    ensures found { Scans (λ w. (w.0.now, w.1.now)) result (name_at bytes.now) }
     ensures short { IfSome result (λ w. length w.0.now ≤ 32) }
 {
     let (name, rest) = word(bytes)?;
@@ -39,7 +39,7 @@ pub fn name(bytes: &[u8]) -> Option<(&[u8], &[u8])>
 
 /// The same, with a copy of the name.
 pub fn owned_name(alloc: Global, bytes: &[u8]) -> Option<(Name, &[u8])>
-    ensures { Finds (λ r. (r.0, r.1.now)) result (name_at bytes.now) }
+    ensures { Scans (λ r. (r.0, r.1.now)) result (name_at bytes.now) }
 {
     let (name, rest) = name(bytes)?;
     Some((Name::from_slice(alloc, name), rest))

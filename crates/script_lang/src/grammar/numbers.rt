@@ -1,8 +1,9 @@
 //! Numbers without a sign, and integers.
 ghost use Rattle.std.specs.Prelude.{◌≡◌, ◌≤◌, ◌<◌, ◌^◌, length, IfSome, true};
 ghost use Rattle.std.specs.List.{list_all};
-ghost use Rattle.script_lang.specs.Tokens.{is_digit, value_of, number_at, length_at, integer_at, optional_integer_at};
-ghost use Rattle.script_lang.specs.Reading.{Finds};
+ghost use Rattle.elem_descr.specs.TypeStrings.{value_of};
+ghost use Rattle.script_lang.specs.Tokens.{is_digit, number_at, length_at, integer_at, optional_integer_at};
+ghost use Rattle.script_lang.specs.Reading.{Scans};
 
 use crate::grammar::tokens::{byte, digits, is_parted, unspaced};
 
@@ -25,7 +26,7 @@ fn value_of(digits: &[u8]) -> u128
 /// The number that comes at once, and what follows it.
 #[tactic(auto, unfolding(crate::specs::Tokens::number_at))]
 fn number(bytes: &[u8]) -> Option<(u128, &[u8])>
-    ensures found { Finds (λ n. (n.0, n.1.now)) result (number_at bytes.now) }
+    ensures found { Scans (λ n. (n.0, n.1.now)) result (number_at bytes.now) }
     ensures small { IfSome result (λ n. n.0 < 2 ^ 100) }
 {
     let (digits, rest) = digits(bytes)?;
@@ -41,7 +42,7 @@ fn number(bytes: &[u8]) -> Option<(u128, &[u8])>
 /// The integer without sign that comes next, with any blanks before it, and what follows it.
 #[tactic(auto, unfolding(crate::specs::Tokens::length_at))]
 pub fn length(bytes: &[u8]) -> Option<(u128, &[u8])>
-    ensures { Finds (λ n. (n.0, n.1.now)) result (length_at bytes.now) }
+    ensures { Scans (λ n. (n.0, n.1.now)) result (length_at bytes.now) }
 {
     number(unspaced(bytes))
 }
@@ -49,7 +50,7 @@ pub fn length(bytes: &[u8]) -> Option<(u128, &[u8])>
 /// The integer that comes next, with any blanks before it, and what follows it.
 #[tactic(auto, unfolding(crate::specs::Tokens::integer_at), using(crate::proofs::Spelling::signed_plain))]
 pub fn integer(bytes: &[u8]) -> Option<(i128, &[u8])>
-    ensures { Finds (λ n. (n.0, n.1.now)) result (integer_at bytes.now) }
+    ensures { Scans (λ n. (n.0, n.1.now)) result (integer_at bytes.now) }
 {
     let bytes = unspaced(bytes);
     if let Some(rest) = byte(b'-', bytes) {

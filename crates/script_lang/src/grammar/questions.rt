@@ -1,7 +1,7 @@
 //! The commands that ask.
 ghost use Rattle.std.specs.Prelude.{◌≡◌};
 ghost use Rattle.script_lang.specs.Commands.{shares_at, asked_at, question_at};
-ghost use Rattle.script_lang.specs.Reading.{Finds};
+ghost use Rattle.script_lang.specs.Reading.{Scans};
 
 use crate::command::Question;
 use crate::grammar::names::{name, owned_name};
@@ -12,7 +12,7 @@ use std::alloc::Global;
 /// `X Y`, behind `shares`.
 #[tactic(auto, unfolding(crate::specs::Commands::shares_at))]
 fn shares(alloc: Global, bytes: &[u8]) -> Option<(Question, &[u8])>
-    ensures { Finds (λ r. (r.0, r.1.now)) result (shares_at bytes.now) }
+    ensures { Scans (λ r. (r.0, r.1.now)) result (shares_at bytes.now) }
 {
     let (left, rest) = name(bytes)?;
     let (right, rest) = name(rest)?;
@@ -26,7 +26,7 @@ fn shares(alloc: Global, bytes: &[u8]) -> Option<(Question, &[u8])>
 /// What the verb asks.
 #[tactic(auto, unfolding(crate::specs::Commands::question_at, crate::specs::Commands::asked_at))]
 pub fn question(alloc: Global, verb: AskVerb, bytes: &[u8]) -> Option<(Question, &[u8])>
-    ensures { Finds (λ r. (r.0, r.1.now)) result (question_at verb bytes.now) }
+    ensures { Scans (λ r. (r.0, r.1.now)) result (question_at verb bytes.now) }
 {
     match verb {
         AskVerb::Print => {

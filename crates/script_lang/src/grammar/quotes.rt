@@ -1,7 +1,7 @@
 //! Texts between quotation marks.
 ghost use Rattle.std.specs.Prelude.{◌≡◌, ◌≤◌, length, IfSome};
 ghost use Rattle.script_lang.specs.Tokens.{starts_file_name, is_file_name, quoted_at, file_name_at};
-ghost use Rattle.script_lang.specs.Reading.{Finds};
+ghost use Rattle.script_lang.specs.Reading.{Scans};
 
 use crate::grammar::classes::{Class, are_in, front_len, is_name_byte};
 use crate::grammar::tokens::{byte, symbol};
@@ -10,7 +10,7 @@ use crate::text::MAX_FILE_NAME_LEN;
 /// The bytes between the two quotation marks that come next, and what follows them.
 #[tactic(auto, unfolding(crate::specs::Tokens::quoted_at))]
 pub fn quoted(bytes: &[u8]) -> Option<(&[u8], &[u8])>
-    ensures { Finds (λ w. (w.0.now, w.1.now)) result (quoted_at bytes.now) }
+    ensures { Scans (λ w. (w.0.now, w.1.now)) result (quoted_at bytes.now) }
 {
     let inside = symbol(b'"', bytes)?;
     let (text, rest) = inside.split_at(front_len(Class::Unquoted, inside));
@@ -36,7 +36,7 @@ fn is_file_name(bytes: &[u8]) -> bool
 /// The name of a file between the two quotation marks that come next, and what follows them.
 #[tactic(auto, unfolding(crate::specs::Tokens::file_name_at))]
 pub fn file_name(bytes: &[u8]) -> Option<(&[u8], &[u8])>
-    ensures found { Finds (λ w. (w.0.now, w.1.now)) result (file_name_at bytes.now) }
+    ensures found { Scans (λ w. (w.0.now, w.1.now)) result (file_name_at bytes.now) }
     ensures short { IfSome result (λ w. length w.0.now ≤ 64) }
 {
     let (name, rest) = quoted(bytes)?;

@@ -1,7 +1,7 @@
 //! The commands that bind no name and ask nothing.
 ghost use Rattle.std.specs.Prelude.{◌≡◌};
 ghost use Rattle.script_lang.specs.Commands.{set_at, update_at, delete_at, save_at};
-ghost use Rattle.script_lang.specs.Reading.{Finds, Reads, needs_room};
+ghost use Rattle.script_lang.specs.Reading.{Scans, Reads, needs_room};
 
 use crate::command::Command;
 use crate::grammar::indexes::{argument, bracket};
@@ -50,7 +50,7 @@ pub fn update(alloc: Global, bytes: &[u8]) -> Result<(Command, &[u8]), Refusal>
 /// `X`, behind `del`.
 #[tactic(auto, unfolding(crate::specs::Commands::delete_at))]
 pub fn delete(alloc: Global, bytes: &[u8]) -> Option<(Command, &[u8])>
-    ensures { Finds (λ r. (r.0, r.1.now)) result (delete_at bytes.now) }
+    ensures { Scans (λ r. (r.0, r.1.now)) result (delete_at bytes.now) }
 {
     let (name, rest) = owned_name(alloc, bytes)?;
     Some((Command::Delete { name }, rest))
@@ -59,7 +59,7 @@ pub fn delete(alloc: Global, bytes: &[u8]) -> Option<(Command, &[u8])>
 /// `X "f"`, behind `save`.
 #[tactic(auto, unfolding(crate::specs::Commands::save_at))]
 pub fn save(alloc: Global, bytes: &[u8]) -> Option<(Command, &[u8])>
-    ensures { Finds (λ r. (r.0, r.1.now)) result (save_at bytes.now) }
+    ensures { Scans (λ r. (r.0, r.1.now)) result (save_at bytes.now) }
 {
     let (name, rest) = name(bytes)?;
     let (file, rest) = file_name(rest)?;

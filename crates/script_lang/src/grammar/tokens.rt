@@ -2,15 +2,15 @@
 ghost use Rattle.std.specs.Prelude.{◌≡◌, is_some, IfSome, true};
 ghost use Rattle.std.specs.List.{list_all};
 ghost use Rattle.std.specs.Str.{bytes_eq};
-ghost use Rattle.script_lang.specs.Classes.{is_in};
+ghost use Rattle.script_lang.specs.inside.Classes.{is_in};
 ghost use Rattle.script_lang.specs.Tokens.{is_digit, unspaced, byte_at, symbol_at, front_at, bytes_mark_at, is_parted, word_at, keyword_at, flag_at, at_end};
-ghost use Rattle.script_lang.specs.Reading.{Finds};
+ghost use Rattle.script_lang.specs.Reading.{Scans};
 
 use crate::grammar::classes::{Class, front_len, is_name_byte, is_sign};
 
 /// The longest front of bytes of the class and the rest, unless it is empty.
 pub fn front(class: Class, bytes: &[u8]) -> Option<(&[u8], &[u8])>
-    ensures { Finds (λ w. (w.0.now, w.1.now)) result (front_at (is_in class) bytes.now) }
+    ensures { Scans (λ w. (w.0.now, w.1.now)) result (front_at (is_in class) bytes.now) }
 {
     let len = front_len(class, bytes);
     if len == 0 {
@@ -28,7 +28,7 @@ pub fn unspaced(bytes: &[u8]) -> &[u8]
 
 /// The bytes behind this byte, which must come at once.
 pub fn byte(expected: u8, bytes: &[u8]) -> Option<&[u8]>
-    ensures { Finds (λ rest. rest.now) result (byte_at expected bytes.now) }
+    ensures { Scans (λ rest. rest.now) result (byte_at expected bytes.now) }
 {
     match bytes {
         [first, rest @ ..] if *first == expected => Some(rest),
@@ -38,7 +38,7 @@ pub fn byte(expected: u8, bytes: &[u8]) -> Option<&[u8]>
 
 /// The same, with any blanks before the byte.
 pub fn symbol(expected: u8, bytes: &[u8]) -> Option<&[u8]>
-    ensures { Finds (λ rest. rest.now) result (symbol_at expected bytes.now) }
+    ensures { Scans (λ rest. rest.now) result (symbol_at expected bytes.now) }
 {
     byte(expected, unspaced(bytes))
 }
@@ -46,7 +46,7 @@ pub fn symbol(expected: u8, bytes: &[u8]) -> Option<&[u8]>
 /// The bytes behind `b'`, which must come at once.
 #[tactic(auto, unfolding(crate::specs::Tokens::bytes_mark_at))]
 pub fn bytes_mark(bytes: &[u8]) -> Option<&[u8]>
-    ensures { Finds (λ rest. rest.now) result (bytes_mark_at bytes.now) }
+    ensures { Scans (λ rest. rest.now) result (bytes_mark_at bytes.now) }
 {
     let rest = byte(b'b', bytes)?;
     byte(b'\'', rest)
@@ -69,7 +69,7 @@ pub fn is_parted(bytes: &[u8]) -> bool
 /// The next word, with any blanks before it, and what follows it.
 #[tactic(auto, unfolding(crate::specs::Tokens::word_at))]
 pub fn word(bytes: &[u8]) -> Option<(&[u8], &[u8])>
-    ensures { Finds (λ w. (w.0.now, w.1.now)) result (word_at bytes.now) }
+    ensures { Scans (λ w. (w.0.now, w.1.now)) result (word_at bytes.now) }
 {
     let bytes = unspaced(bytes);
     let (word, rest) = front(Class::Name, bytes)?;
@@ -82,7 +82,7 @@ pub fn word(bytes: &[u8]) -> Option<(&[u8], &[u8])>
 /// What follows this word, which must come next.
 #[tactic(auto, unfolding(crate::specs::Tokens::keyword_at))]
 pub fn keyword<'a>(keyword: &[u8], bytes: &'a [u8]) -> Option<&'a [u8]>
-    ensures { Finds (λ rest. rest.now) result (keyword_at keyword.now bytes.now) }
+    ensures { Scans (λ rest. rest.now) result (keyword_at keyword.now bytes.now) }
 {
     let (word, rest) = word(bytes)?;
     if word != keyword {
@@ -105,7 +105,7 @@ pub fn flag<'a>(word: &[u8], bytes: &'a [u8]) -> (bool, &'a [u8])
 /// The digits that come at once, and what follows them.
 #[tactic(auto, using(crate::proofs::Spelling::passing_front))]
 pub fn digits(bytes: &[u8]) -> Option<(&[u8], &[u8])>
-    ensures found { Finds (λ w. (w.0.now, w.1.now)) result (front_at is_digit bytes.now) }
+    ensures found { Scans (λ w. (w.0.now, w.1.now)) result (front_at is_digit bytes.now) }
     ensures digits { IfSome result (λ w. list_all is_digit w.0.now ≡ true) }
 {
     front(Class::Digit, bytes)

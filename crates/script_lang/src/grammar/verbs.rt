@@ -2,9 +2,9 @@
 ghost use Rattle.std.specs.Prelude.{◌≡◌, map};
 ghost use Rattle.script_lang.specs.Verbs.{beside, verb_of, is_reserved, operation_of, order_of};
 
-use crate::command::MemoryOrder;
 use crate::operation::Operation;
 use crate::verb::{ComputeVerb, VERBS, Verb};
+use shape_strides::MemoryOrder;
 
 /// What stands beside the word in a table.
 #[tactic(auto, unfolding(crate::specs::Verbs::beside))]
@@ -57,5 +57,5 @@ pub fn order(word: &[u8]) -> Option<MemoryOrder>
     if word == b"C".as_slice() {
         return Some(MemoryOrder::C);
     }
-    (word == b"F".as_slice()).then_some(MemoryOrder::F)
+    (word == b"F".as_slice()).then_some(MemoryOrder::Fortran)
 }

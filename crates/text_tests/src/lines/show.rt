@@ -1,9 +1,10 @@
 //! What was read, as text for the tables.
 use elem_descr::Refusal;
 use script_lang::{
-    Argument, Command, Computation, DescrText, Index, IndexItem, Integers, Lengths, Literal,
-    MemoryOrder, Name, NewItems, Operand, Question, ScalarLiteral, Value, Viewing,
+    Argument, Command, Computation, DescrText, Index, Integers, Lengths, Literal, Name, NewItems,
+    Operand, Question, ScalarLiteral, Value, Viewing,
 };
+use shape_strides::{IndexItem, MemoryOrder};
 use std::alloc::{AllocError, Global};
 use std::fmt::Debug;
 
@@ -58,14 +59,13 @@ fn put_scalar(alloc: Global, out: &mut Vec<u8>, scalar: &ScalarLiteral) -> Writt
     }
 }
 
-fn put_literal(alloc: Global, out: &mut Vec<u8>, literal: &Literal) -> Written {
-    put(out, b" ")?;
+fn put_unspaced(alloc: Global, out: &mut Vec<u8>, literal: &Literal) -> Written {
     match literal {
         Literal::Scalar(scalar) => put_scalar(alloc, out, scalar),
         Literal::Record(values) => {
             put(out, b"<")?;
             for value in values.as_slice() {
-                put_scalar(alloc, out, value)?;
+                put_unspaced(alloc, out, value)?;
                 put(out, b",")?;
             }
             put(out, b">")
@@ -73,7 +73,12 @@ fn put_literal(alloc: Global, out: &mut Vec<u8>, literal: &Literal) -> Written {
     }
 }
 
-fn put_item(alloc: Global, out: &mut Vec<u8>, item: &IndexItem) -> Written {
+fn put_literal(alloc: Global, out: &mut Vec<u8>, literal: &Literal) -> Written {
+    put(out, b" ")?;
+    put_unspaced(alloc, out, literal)
+}
+
+fn put_item(alloc: Global, out: &mut Vec<u8>, item: &IndexItem<Name>) -> Written {
     match item {
         IndexItem::Integer(n) => put_integer(alloc, out, *n),
         IndexItem::Slice { start, stop, step } => {
@@ -216,7 +221,7 @@ fn put_copy(out: &mut Vec<u8>, name: &Name, source: &Name, order: MemoryOrder) -
     put_names(out, b"copy", name, source)?;
     match order {
         MemoryOrder::C => put(out, b" C"),
-        MemoryOrder::F => put(out, b" F"),
+        MemoryOrder::Fortran => put(out, b" F"),
     }
 }
 

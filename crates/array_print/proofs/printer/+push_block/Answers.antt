@@ -1,5 +1,5 @@
 use Rattle.std.proofs.Common.{arith}
-use Rattle.array_print.specs.Shown.{shown}
+use Rattle.array_print.specs.inside.Shown.{shown}
 use Rattle.array_print.proofs.PrintLaws.{StartsWith-along, StartsWith-trans, opened-more, opened-all, walked-more}
 use Rattle.array_print.proofs.printer.+push_block.Goals as goal
 

@@ -1,6 +1,6 @@
 use Rattle.std.proofs.Common.{◌≡◌, ◌+◌, ◌-◌, ◌*◌, ◌≤◌, ◌++◌, length, drop, vec_capacity}
 use Rattle.shape_strides.specs.Indexes.{count}
-use Rattle.array_print.specs.Shown.{shown}
+use Rattle.array_print.specs.inside.Shown.{shown}
 use Rattle.array_print.proofs.PrintLaws.{opened}
 use Rattle.array_print.proofs.printer.+push_block.Given as goal
 

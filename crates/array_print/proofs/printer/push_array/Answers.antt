@@ -7,7 +7,7 @@ use Rattle.elem_descr.specs.Items.{leaves_of}
 use Rattle.shape_strides.specs.Indexes.{count}
 use Rattle.shape_strides.specs.Layouts.{offsets}
 use Rattle.array_print.specs.Printed.{array_text, block_text, item_text, widths, items_at}
-use Rattle.array_print.specs.Shown.{AreWidths, shown}
+use Rattle.array_print.specs.inside.Shown.{AreWidths, shown}
 use Rattle.array_print.proofs.LeafLaws.{are-widths}
 use Rattle.array_print.proofs.printer.push_array.Goals as goal
 

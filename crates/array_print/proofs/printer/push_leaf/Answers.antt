@@ -6,7 +6,7 @@ use Rattle.elem_descr.specs.declared.descr.Descr.{Descr}
 use Rattle.elem_descr.specs.Encoding.{size, decode}
 use Rattle.elem_descr.specs.Items.{item_size, leaves_of}
 use Rattle.array_print.specs.Printed.{padded, leaf_text}
-use Rattle.array_print.specs.Shown.{AreWidths, texts_at}
+use Rattle.array_print.specs.inside.Shown.{AreWidths, texts_at}
 use Rattle.array_print.proofs.LeafLaws.{bytes-at, count-widths, width-at, text-at}
 use Rattle.array_print.proofs.printer.push_leaf.Goals as goal
 

@@ -1,7 +1,7 @@
 use Rattle.std.proofs.Common.{◌≡◌, ℕ, ◌+◌, ◌≤◌, List, ◌∷◌, map, length, fold, max, ap, sym, ◌∙◌}
 use Rattle.std.proofs.lemmas.List.Elements.{All-rest}
 use Rattle.elem_descr.specs.Encoding.{size}
-use Rattle.array_print.specs.Shown.{integer_at}
+use Rattle.array_print.specs.inside.Shown.{integer_at}
 use Rattle.array_print.proofs.widths.widest_at.Goals as goal
 
 -- one text more is looked at

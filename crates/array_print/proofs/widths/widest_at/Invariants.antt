@@ -1,7 +1,7 @@
 use Rattle.std.proofs.Common.{◌≡◌, ◌+◌, ◌≤◌, length, map, fold, max, All}
 use Rattle.elem_descr.specs.Encoding.{size}
 use Rattle.array_print.specs.Printed.{widest}
-use Rattle.array_print.specs.Shown.{integer_at}
+use Rattle.array_print.specs.inside.Shown.{integer_at}
 use Rattle.array_print.proofs.widths.widest_at.Given as goal
 
 -- the items that are left make the width the widest of all

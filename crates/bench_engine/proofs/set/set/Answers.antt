@@ -1,4 +1,4 @@
-use Rattle.std.proofs.Common.{◌≡◌, ap, sym, refl, ◌∙◌, ◌++◌, inl, inr, arith, codes, decimal, length, map, replicate, Ok}
+use Rattle.std.proofs.Common.{◌≡◌, ap, sym, refl, ◌∙◌, ◌++◌, inl, inr, arith, codes, decimal, length, replicate, Ok}
 use Rattle.std.proofs.lemmas.Result.{err_from_is_err_and}
 use Rattle.elem_descr.specs.declared.descr.Descr.{Descr}
 use Rattle.elem_descr.specs.Items.{item_size, decode_item}
@@ -6,7 +6,6 @@ use Rattle.shape_strides.specs.Indexes.{count}
 use Rattle.view_ops.specs.Basics.{basic}
 use Rattle.literal_items.specs.LiteralItems.{item_value}
 use Rattle.name_store.specs.Arrays.{descr_of, written}
-use Rattle.bench_engine.specs.Indices.{basic_item}
 use Rattle.bench_engine.specs.Machine.{viewed, comes_to}
 use Rattle.bench_engine.proofs.Indices.{plain-items, not-plain}
 use Rattle.bench_engine.proofs.Looks.{unchanged, not_found, found, bound}
@@ -29,7 +28,7 @@ returns-in_err-target-clause-answers c =
     let p = err_from_is_err_and c.from_residual.result c.from_residual.ensures.1 in
     let plain = plain-items c.args.index.now (rw c.as_slice.ensures at (sym c.if-not-are_plain.ensures)) in
     let it = found c.args.bench.now _ c.in-Some.array c.in-Some.ensures in
-    let items = ap (map basic_item) (sym c.as_slice-2.ensures) in
+    let items = sym c.as_slice-2.ensures in
     rw (p.1, p.2) (
       refl,
       unchanged _,
@@ -42,7 +41,7 @@ returns-then-not-array-clause-answers c =
     let plain = plain-items c.args.index.now (rw c.as_slice.ensures at (sym c.if-not-are_plain.ensures)) in
     let it = found c.args.bench.now _ c.in-Some.array c.in-Some.ensures in
     let view = given-view c.in-Some.array.layout.now c.in_ok-target.target _ c.in_ok-target.ensures.view in
-    let items = ap (map basic_item) (sym c.as_slice-2.ensures) in
+    let items = sym c.as_slice-2.ensures in
     let there = (λ i. basic (sym it.2.view.laid.shape i) (items i)) ∙ view.1 in
     (refl, unchanged _, inr (λ choice. set-read_only _ _ _ _ _ it.0 view.0 plain it.1 there (sym it.2.view.laid.writable_is ∙ c.if-not-array.true)))
 
@@ -52,7 +51,7 @@ returns-in_err-item-clause-answers c =
     let plain = plain-items c.args.index.now (rw c.as_slice.ensures at (sym c.if-not-are_plain.ensures)) in
     let it = found c.args.bench.now _ c.in-Some.array c.in-Some.ensures in
     let view = given-view c.in-Some.array.layout.now c.in_ok-target.target _ c.in_ok-target.ensures.view in
-    let items = ap (map basic_item) (sym c.as_slice-2.ensures) in
+    let items = sym c.as_slice-2.ensures in
     let there = (λ i. basic (sym it.2.view.laid.shape i) (items i)) ∙ view.1 in
     rw (p.1, p.2) (
       refl,
@@ -87,7 +86,7 @@ returns-clause-answers c =
     let plain = plain-items c.args.index.now (rw c.as_slice.ensures at (sym c.if-not-are_plain.ensures)) in
     let it = found s _ c.in-Some.array c.in-Some.ensures in
     let view = given-view c.in-Some.array.layout.now c.in_ok-target.target _ c.in_ok-target.ensures.view in
-    let items = ap (map basic_item) (sym c.as_slice-2.ensures) in
+    let items = sym c.as_slice-2.ensures in
     let there = (λ i. basic (sym it.2.view.laid.shape i) (items i)) ∙ view.1 in
     let places = (viewed it.0 view.0).places in
     let aim = leads _ _ it.0 c.in-Some.array view.0 c.in_ok-target.target it.1 it.2 c.if-not-array.false view.2 in

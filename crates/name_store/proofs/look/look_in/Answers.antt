@@ -5,7 +5,6 @@ use Rattle.name_store.specs.Shown.{Finds}
 use Rattle.name_store.specs.View.{state_of}
 use Rattle.name_store.proofs.SlotLaws.{slot_at-within}
 use Rattle.name_store.proofs.StateLaws.{found-slot, found-lies, bound-found, none-found}
-use Rattle.name_store.proofs.PartLaws.{own-descr}
 use Rattle.name_store.proofs.ShowLaws.{shown, finds}
 use Rattle.name_store.proofs.look.look_in.Goals as goal
 
@@ -27,4 +26,10 @@ returns c =
     let was = sym c.get.ensures.value ∙ ap option_copied c.in_ok-entry.was in
     let lies = found-lies _ _ c.requires.holds _ c.args.key.now.bytes.items (λ _. refl) c.in_ok-entry.entry.now c.slot_of-slot.result.now was c.slot_of-slot.ensures in
     finds _ _ _ _ (bound-found _ _ c.requires.holds _ c.args.key.now.bytes.items (λ _. refl) c.in_ok-entry.entry.now was)
-    (shown c.args.names.now.entries c.args.slots.now c.in_ok-entry.entry.now c.slot_of-slot.result.now _ c.slot_of-slot.ensures lies refl refl refl c.leaf.ensures (c.descr.ensures ∙ own-descr c.slot_of-slot.result.now c.in_ok-entry.entry.now lies) refl)
+    (shown c.args.names.now.entries c.args.slots.now c.in_ok-entry.entry.now c.slot_of-slot.result.now _ c.slot_of-slot.ensures lies refl refl refl refl c.descr_in.ensures refl)
+
+pub descr_in-requires : goal.descr_in-requires
+descr_in-requires c =
+    let was = sym c.get.ensures.value ∙ ap option_copied c.in_ok-entry.was in
+    let lies = found-lies _ _ c.requires.holds _ c.args.key.now.bytes.items (λ _. refl) c.in_ok-entry.entry.now c.slot_of-slot.result.now was c.slot_of-slot.ensures in
+    lies.laid.part

@@ -1,11 +1,13 @@
-use Rattle.std.proofs.Common.{◌≡◌, ◌^◌, ◌&&◌, Bool, true, false, refl, sym, ap, subst, ◌∙◌, is_some, inl, inr, arith}
+use Rattle.std.proofs.Common.{◌≡◌, ◌^◌, ◌&&◌, Bool, true, false, refl, sym, ap, subst, ◌∙◌, is_some, inl, inr}
 use Rattle.std.proofs.lemmas.Result.{err_from_is_err_and}
 use Rattle.std.specs.Option.{option_copied}
+use Rattle.elem_descr.specs.Items.{item_size}
 use Rattle.shape_strides.specs.Layouts.{offsets, Fits}
 use Rattle.overlap_copy.specs.Overlaps.{have_common_byte}
-use Rattle.name_store.specs.View.{array_at}
-use Rattle.name_store.proofs.StateLaws.{bound-found, none-found}
-use Rattle.name_store.proofs.ShareLaws.{entry-fits, entry-some, shares-apart, shares-one}
+use Rattle.name_store.specs.View.{array_at, slot_at}
+use Rattle.name_store.proofs.SlotLaws.{slot_at-within}
+use Rattle.name_store.proofs.StateLaws.{bound-found, found-slot, none-found}
+use Rattle.name_store.proofs.ShareLaws.{entry-fits, entry-path, shares-apart, shares-one}
 use Rattle.name_store.proofs.shares.shares_in.Goals as goal
 
 both : {a b : Bool} → a ≡ true → b ≡ true → (a && b) ≡ true
@@ -31,26 +33,38 @@ returns-then-first-second c = (
   array_at c.in-Some-get.second.now,
   bound-found _ c.args.slots.now c.requires.holds _ c.args.left.now.bytes.items (λ _. refl) c.in-Some.first.now (sym c.get.ensures.value ∙ ap option_copied c.in-Some.is),
   bound-found _ c.args.slots.now c.requires.holds _ c.args.right.now.bytes.items (λ _. refl) c.in-Some-get.second.now (sym c.get-2.ensures.value ∙ ap option_copied c.in-Some-get.is),
-  shares-apart c.in-Some.first.now c.in-Some-get.second.now c.if-first-second.true,
+  shares-apart c.args.names.now.entries c.args.slots.now c.in-Some.first.now c.in-Some-get.second.now c.if-first-second.true,
 )
+
+pub slot_of-requires-clause-within : goal.slot_of-requires-clause-within
+slot_of-requires-clause-within c =
+    let there = found-slot _ _ c.requires.holds _ c.args.left.now.bytes.items (λ _. refl) c.in-Some.first.now (sym c.get.ensures.value ∙ ap option_copied c.in-Some.is) in
+    slot_at-within c.args.slots.now c.in-Some.first.now.number there.0 there.1
+
+pub slot_of-requires-clause-occupied : goal.slot_of-requires-clause-occupied
+slot_of-requires-clause-occupied c =
+    let there = found-slot _ _ c.requires.holds _ c.args.left.now.bytes.items (λ _. refl) c.in-Some.first.now (sym c.get.ensures.value ∙ ap option_copied c.in-Some.is) in
+    ap is_some there.1
+
+pub descr_in-requires : goal.descr_in-requires
+descr_in-requires c =
+    entry-path _ c.args.slots.now c.requires.holds _ c.args.left.now.bytes.items (λ _. refl) c.in-Some.first.now (sym c.get.ensures.value ∙ ap option_copied c.in-Some.is) c.slot_of.result.now c.slot_of.ensures
+
+pub descr_in-requires-2 : goal.descr_in-requires-2
+descr_in-requires-2 c =
+    let same = ap (slot_at c.args.slots.now) (sym c.if-first-second.false) ∙ c.slot_of.ensures in
+    entry-path _ c.args.slots.now c.requires.holds _ c.args.right.now.bytes.items (λ _. refl) c.in-Some-get.second.now (sym c.get-2.ensures.value ∙ ap option_copied c.in-Some-get.is) c.slot_of.result.now same
 
 pub share_cell-requires-clause-a_fits : goal.share_cell-requires-clause-a_fits
 share_cell-requires-clause-a_fits c =
-    subst (Fits c.in-Some.first.now.layout (2 ^ 28)) (sym c.size.ensures)
-    (entry-fits _ c.args.slots.now c.requires.holds _ c.args.left.now.bytes.items (λ _. refl) c.in-Some.first.now (sym c.get.ensures.value ∙ ap option_copied c.in-Some.is))
+    subst (Fits c.in-Some.first.now.layout (2 ^ 28)) (sym (c.size.ensures.value ∙ ap item_size c.descr_in.ensures))
+    (entry-fits _ c.args.slots.now c.requires.holds _ c.args.left.now.bytes.items (λ _. refl) c.in-Some.first.now (sym c.get.ensures.value ∙ ap option_copied c.in-Some.is) c.slot_of.result.now c.slot_of.ensures)
 
 pub share_cell-requires-clause-b_fits : goal.share_cell-requires-clause-b_fits
 share_cell-requires-clause-b_fits c =
-    subst (Fits c.in-Some-get.second.now.layout (2 ^ 28)) (sym c.size-2.ensures)
-    (entry-fits _ c.args.slots.now c.requires.holds _ c.args.right.now.bytes.items (λ _. refl) c.in-Some-get.second.now (sym c.get-2.ensures.value ∙ ap option_copied c.in-Some-get.is))
-
-pub share_cell-requires-clause-a_some : goal.share_cell-requires-clause-a_some
-share_cell-requires-clause-a_some c =
-    omega (arith, c.size.ensures, entry-some _ c.args.slots.now c.requires.holds _ c.args.left.now.bytes.items (λ _. refl) c.in-Some.first.now (sym c.get.ensures.value ∙ ap option_copied c.in-Some.is))
-
-pub share_cell-requires-clause-b_some : goal.share_cell-requires-clause-b_some
-share_cell-requires-clause-b_some c =
-    omega (arith, c.size-2.ensures, entry-some _ c.args.slots.now c.requires.holds _ c.args.right.now.bytes.items (λ _. refl) c.in-Some-get.second.now (sym c.get-2.ensures.value ∙ ap option_copied c.in-Some-get.is))
+    let same = ap (slot_at c.args.slots.now) (sym c.if-first-second.false) ∙ c.slot_of.ensures in
+    subst (Fits c.in-Some-get.second.now.layout (2 ^ 28)) (sym (c.size-2.ensures.value ∙ ap item_size c.descr_in-2.ensures))
+    (entry-fits _ c.args.slots.now c.requires.holds _ c.args.right.now.bytes.items (λ _. refl) c.in-Some-get.second.now (sym c.get-2.ensures.value ∙ ap option_copied c.in-Some-get.is) c.slot_of.result.now same)
 
 pub returns-in_err-has_common : goal.returns-in_err-has_common
 returns-in_err-has_common c =
@@ -65,6 +79,6 @@ returns c = (
   array_at c.in-Some-get.second.now,
   bound-found _ c.args.slots.now c.requires.holds _ c.args.left.now.bytes.items (λ _. refl) c.in-Some.first.now (sym c.get.ensures.value ∙ ap option_copied c.in-Some.is),
   bound-found _ c.args.slots.now c.requires.holds _ c.args.right.now.bytes.items (λ _. refl) c.in-Some-get.second.now (sym c.get-2.ensures.value ∙ ap option_copied c.in-Some-get.is),
-  c.in_ok-has_common.ensures ∙ (λ i. have_common_byte (offsets c.in-Some.first.now.layout) (c.size.ensures i) (offsets c.in-Some-get.second.now.layout) (c.size-2.ensures i)) ∙ shares-one _ c.args.slots.now c.requires.holds _ c.args.left.now.bytes.items (λ _. refl) c.in-Some.first.now (sym c.get.ensures.value ∙ ap option_copied c.in-Some.is)
+  c.in_ok-has_common.ensures ∙ (λ i. have_common_byte (offsets c.in-Some.first.now.layout) ((c.size.ensures.value ∙ ap item_size c.descr_in.ensures) i) (offsets c.in-Some-get.second.now.layout) ((c.size-2.ensures.value ∙ ap item_size c.descr_in-2.ensures) i)) ∙ shares-one _ c.args.slots.now c.requires.holds _ c.args.left.now.bytes.items (λ _. refl) c.in-Some.first.now (sym c.get.ensures.value ∙ ap option_copied c.in-Some.is) c.slot_of.result.now c.slot_of.ensures
       _ c.args.right.now.bytes.items (λ _. refl) c.in-Some-get.second.now (sym c.get-2.ensures.value ∙ ap option_copied c.in-Some-get.is) c.if-first-second.false,
 )

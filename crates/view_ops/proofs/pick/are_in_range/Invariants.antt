@@ -3,7 +3,7 @@ use Rattle.view_ops.specs.Basics.{taken, are_in_range}
 use Rattle.view_ops.proofs.pick.are_in_range.Given as goal
 
 abbrev pub invariant-loop-k : goal.invariant-loop-k
-invariant-loop-k l = record {
+invariant-loop-k g l = record {
   within : l.axis ≤ length l.lengths;
   enough : taken (drop l.k l.items) ≤ length l.lengths - l.axis;
   left : are_in_range (drop l.axis l.lengths) (drop l.k l.items) ≡ are_in_range l.lengths l.items;

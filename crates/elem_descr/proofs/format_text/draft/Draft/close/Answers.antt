@@ -3,10 +3,10 @@ use Rattle.elem_descr.specs.FormatTexts.{Partial}
 use Rattle.elem_descr.proofs.Drafts.{closed_legal}
 use Rattle.elem_descr.proofs.format_text.draft.Draft.close.Goals as goal
 
-pub new-requires : goal.new-requires
-new-requires c =
+pub try_new-requires : goal.try_new-requires
+try_new-requires c =
     let d = c.self.inside in
-    let p : Partial = record { size = d.size; alignment = d.alignment; leaves = d.leaves.items } in
+    let p : Partial = record { size = d.size; alignment = d.alignment; leaves = d.leaves; levels = d.levels; fields = d.fields.items } in
     let size : d.size ≡ c.args.self.size = ap (λ (q : Partial). q.size) c.self.view_is in
-    let some : 1 ≤ length d.leaves.items = search rules in
+    let some : 1 ≤ length d.fields.items = search rules in
     closed_legal p c.closed_size-size.result c.self.invariant some (omega (arith, c.closed_size-size.ensures.later)) (omega arith)

@@ -1,0 +1,13 @@
+use Rattle.std.proofs.Common.{subst, ◌∙◌, List, ℕ, Ok, option_copied}
+use Rattle.view_ops.specs.Views.{GivesView}
+use Rattle.view_ops.specs.Transposes.{transposed}
+use Rattle.bench_engine.proofs.Views.{viewed-part}
+use Rattle.bench_engine.proofs.part.transposed.Goals as goal
+
+pub returns : goal.returns
+returns c s array shows =
+    let r = c.args.array.now in
+    let axes = option_copied c.args.axes in
+    let given = subst (λ (shape : List ℕ). GivesView r.layout.now (Ok c.in_ok-layout.layout) (transposed shape axes)) shows.view.laid.shape c.in_ok-layout.ensures.view in
+    viewed-part s array r array.writable (transposed array.shape axes) c.items.result shows c.items.ensures.path c.items.ensures.descr (c.items.ensures.writable ∙ shows.view.laid.writable_is)
+    (rw c.items.ensures.layout given) (λ free. (free, rw c.items.ensures.layout c.in_ok-layout.ensures.nested))

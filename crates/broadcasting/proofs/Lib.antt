@@ -1,0 +1,5 @@
+pub mod AlignedLaws
+pub mod StretchLaws
+pub mod CommonLaws
+pub mod Fits
+mod Vectors

@@ -1,0 +1,166 @@
+-- A stretched layout is a view.
+use Rattle.std.proofs.Common.{◌≡◌, Option, Some, Ok, Err, ℕ, zero, suc, ◌-◌, ◌<◌, ◌==◌, ◌||◌, Bool, true, false, if◌then◌else◌, ℤ, pos, ◌+ℤ◌, ◌*ℤ◌, List, [], ◌∷◌, ◌++◌, length, drop, replicate, refl, sym, ap, subst, ◌∙◌, arith, zero-mul, length-append}
+use Rattle.std.specs.Option.{IfSome}
+use Rattle.std.proofs.lemmas.Bool.{false≢true, eqb-true}
+use Rattle.std.proofs.lemmas.List.{length-replicate}
+use lib.IntN.{+ℤ_idl, *ℤ-zero}
+use Rattle.elem_descr.proofs.WrittenMembers.{both}
+use Rattle.elem_descr.specs.declared.refusal.Refusal.TheVariants.{ShapesDoNotBroadcast}
+use Rattle.shape_strides.specs.declared.layout.Layout.{Layout}
+use Rattle.shape_strides.specs.Limits.{max_bytes}
+use Rattle.shape_strides.specs.Indexes.{count, IsIndex}
+use Rattle.shape_strides.specs.Addresses.{dot, address_at, LieWithin}
+use Rattle.shape_strides.specs.Layouts.{offsets}
+use Rattle.shape_strides.proofs.IndexLaws.{length-index, rank-lt}
+use Rattle.shape_strides.proofs.StepLaws.{dot-nil}
+use Rattle.view_ops.specs.Views.{view_through, IsViewOf, GivesView}
+use Rattle.view_ops.proofs.ViewLaws.{Shows, LieWithin-view, IsView, inside-view, offsets-view}
+use Rattle.broadcasting.specs.Broadcasts.{stretches, all_stretch, can_stretch, within_axes, broadcast_index, stretched}
+use Rattle.broadcasting.specs.inside.Stretches.{kept_strides}
+use Rattle.broadcasting.proofs.AlignedLaws.{few-axes}
+
+-- ---- where an index leads
+
+number-within : (m n k : ℕ) → stretches m n ≡ true → k < n → (if m == 1 then 0 else k) < m
+number-within m n k can below =
+    elim (m == 1) as (λ t. (m == 1) ≡ t → ((m == n) || t) ≡ true → (if t then 0 else k) < m) [
+      | true ↦ λ one can. omega (arith, eqb-true m 1 one)
+      | false ↦ λ other can. grind (arith, eqb-true m n)
+    ] refl can
+
+IsIndex-within : (shape target index : List ℕ) → all_stretch shape target ≡ true → IsIndex target index → IsIndex shape (within_axes shape index)
+IsIndex-within [] [] [] all in' = tt
+IsIndex-within [] [] (k ∷ index) all in' = absurd in'
+IsIndex-within [] (n ∷ target) index all in' = absurd (false≢true all)
+IsIndex-within (m ∷ shape) [] index all in' = absurd (false≢true all)
+IsIndex-within (m ∷ shape) (n ∷ target) [] all in' = absurd in'
+IsIndex-within (m ∷ shape) (n ∷ target) (k ∷ index) all in' =
+    let can = both (stretches m n) (all_stretch shape target) all in
+    (number-within m n k can.0 in'.0, IsIndex-within shape target index can.1 in'.1)
+
+-- behind so many new axes
+IsIndex-behind : (more : ℕ) (shape target index : List ℕ) → all_stretch (replicate more 1 ++ shape) target ≡ true → IsIndex target index → IsIndex shape (within_axes shape (drop more index))
+IsIndex-behind zero shape target index all in' = IsIndex-within shape target index all in'
+IsIndex-behind (suc more) shape [] index all in' = absurd (false≢true all)
+IsIndex-behind (suc more) shape (n ∷ target) [] all in' = absurd in'
+IsIndex-behind (suc more) shape (n ∷ target) (k ∷ index) all in' =
+    IsIndex-behind more shape target index (both (stretches 1 n) (all_stretch (replicate more 1 ++ shape) target) all).1 in'.1
+
+broadcast_index-is : (shape target index : List ℕ) → IsIndex target index → broadcast_index shape index ≡ within_axes shape (drop (length target - length shape) index)
+broadcast_index-is shape target index in' = ap (λ n. within_axes shape (drop (n - length shape) index)) (length-index target index in')
+
+leads : (shape target index : List ℕ) → can_stretch shape target ≡ true → IsIndex target index → IsIndex shape (broadcast_index shape index)
+leads shape target index can in' =
+    rw (broadcast_index-is shape target index in') (IsIndex-behind (length target - length shape) shape target index can in')
+
+-- ---- addresses
+
+axis-kept : (t : Bool) (stride : ℤ) (k : ℕ) → (if t then pos 0 else stride) *ℤ pos k ≡ stride *ℤ pos (if t then 0 else k)
+axis-kept true stride k = ap pos (zero-mul k) ∙ sym (*ℤ-zero stride)
+axis-kept false stride k = refl
+
+dot-kept : (shape : List ℕ) (strides : List ℤ) (index : List ℕ) → length strides ≡ length shape → dot (kept_strides shape strides) index ≡ dot strides (within_axes shape index)
+dot-kept [] [] index same = refl
+dot-kept [] (s ∷ strides) index same = absurd (omega arith)
+dot-kept (n ∷ shape) [] index same = absurd (omega arith)
+dot-kept (n ∷ shape) (s ∷ strides) [] same = refl
+dot-kept (n ∷ shape) (s ∷ strides) (k ∷ index) same =
+    λ i. axis-kept (n == 1) s k i +ℤ dot-kept shape strides index (omega arith) i
+
+dot-behind : (more : ℕ) (strides : List ℤ) (index : List ℕ) → dot (replicate more (pos 0) ++ strides) index ≡ dot strides (drop more index)
+dot-behind zero strides index = refl
+dot-behind (suc more) strides [] = sym (dot-nil strides)
+dot-behind (suc more) strides (k ∷ index) =
+    ap (λ n. pos n +ℤ dot (replicate more (pos 0) ++ strides) index) (zero-mul k) ∙ +ℤ_idl (dot (replicate more (pos 0) ++ strides) index) ∙ dot-behind more strides index
+
+-- ---- the view
+
+-- how the new strides were made
+pub record IsStretched (old : Layout) (target : List ℕ) (strides : List ℤ) : Type 0 where
+  pub can : can_stretch old.shape target ≡ true
+  pub strides_are : strides ≡ replicate (length target - length old.shape) (pos 0) ++ kept_strides old.shape old.strides
+
+stretched-dot : (old : Layout) (target : List ℕ) (strides : List ℤ) (index : List ℕ) → IsStretched old target strides → IsIndex target index → dot strides index ≡ dot old.strides (broadcast_index old.shape index)
+stretched-dot old target strides index made in' =
+    let more = length target - length old.shape in
+    ap (λ s. dot s index) made.strides_are ∙ dot-behind more (kept_strides old.shape old.strides) index ∙ dot-kept old.shape old.strides (drop more index) old.one_stride_an_axis ∙ sym (ap (dot old.strides) (broadcast_index-is old.shape target index in'))
+
+pub stretched-shows : (old : Layout) (target : List ℕ) (strides : List ℤ) → IsStretched old target strides → Shows old target strides old.offset (broadcast_index old.shape)
+stretched-shows old target strides made = record {
+  leads = λ index in'. leads old.shape target index made.can in';
+  same = λ index in'. ap (λ z. pos old.offset +ℤ z) (stretched-dot old target strides index made in');
+}
+
+length-kept : (shape : List ℕ) (strides : List ℤ) → length strides ≡ length shape → length (kept_strides shape strides) ≡ length shape
+length-kept [] [] same = refl
+length-kept [] (s ∷ strides) same = absurd (omega arith)
+length-kept (n ∷ shape) [] same = absurd (omega arith)
+length-kept (n ∷ shape) (s ∷ strides) same = ap suc (length-kept shape strides (omega arith))
+
+pub stretched-length : (old : Layout) (target : List ℕ) (strides : List ℤ) → IsStretched old target strides → length strides ≡ length target
+stretched-length old target strides made =
+    let more = length target - length old.shape in
+    let kept = kept_strides old.shape old.strides in
+    omega (arith, ap length made.strides_are, length-append (replicate more (pos 0)) kept, length-replicate {A = ℤ} more (pos 0), length-kept old.shape old.strides old.one_stride_an_axis, few-axes old.shape target made.can)
+
+pub stretched-lies : (old : Layout) (target : List ℕ) (strides : List ℤ) → IsStretched old target strides → LieWithin target strides old.offset max_bytes 1
+stretched-lies old target strides made =
+    LieWithin-view old target strides old.offset (broadcast_index old.shape) max_bytes 1 (stretched-shows old target strides made) old.within_limit
+
+-- a layout with these numbers, where it has items
+pub record HasNumbers (new : Layout) (shape : List ℕ) (strides : List ℤ) (offset : ℕ) : Type 0 where
+  pub shape_is : new.shape ≡ shape
+  pub strides_are : 0 < count shape → new.strides ≡ strides
+  pub offset_is : 0 < count shape → new.offset ≡ offset
+
+shows-numbers : (old new : Layout) (shape : List ℕ) (strides : List ℤ) (offset : ℕ) (m : List ℕ → List ℕ) → Shows old shape strides offset m → HasNumbers new shape strides offset → IsView old new m
+shows-numbers old new shape strides offset m shows has = record {
+  leads = λ index in'. shows.leads index (rw (← has.shape_is) in');
+  same = λ index in'.
+      let in-shape : IsIndex shape index = rw (← has.shape_is) in' in
+      let some : 0 < count shape = omega (arith, rank-lt shape index in-shape) in
+      ap (λ s. address_at s new.offset index) (has.strides_are some) ∙ ap (λ o. address_at strides o index) (has.offset_is some) ∙ shows.same index in-shape;
+}
+
+pub stretched-is : (old new : Layout) (target : List ℕ) (strides : List ℤ) → IsStretched old target strides → HasNumbers new target strides old.offset → IsViewOf old new (record { shape = target; leads = broadcast_index old.shape })
+stretched-is old new target strides made has =
+    let m = broadcast_index old.shape in
+    let shows = stretched-shows old target strides made in
+    let view : IsView old new m = shows-numbers old new target strides old.offset m shows has in
+    record {
+      shape = has.shape_is;
+      leads = shows.leads;
+      inside = inside-view old new m target view has.shape_is;
+      places = offsets-view old new m view ∙ ap (λ s. view_through (offsets old) old.shape s m) has.shape_is;
+      fits = λ len item fits. LieWithin-view old new.shape new.strides new.offset m len item view fits;
+    }
+
+-- what the exits of `stretch` have to give
+
+pub made_stretched : (old : Layout) (lengths target seen-target : List ℕ) (seen strides : List ℤ) (can : Bool) (more : ℕ) → lengths ≡ old.shape → seen-target ≡ target → can ≡ can_stretch lengths seen-target → can ≡ true → more ≡ length target - length lengths → seen ≡ old.strides → strides ≡ replicate more (pos 0) ++ kept_strides lengths seen → IsStretched old target strides
+made_stretched old lengths target seen-target seen strides can more is target-is tested good more-is seen-is are = record {
+  can = ap (λ s. can_stretch s target) (sym is) ∙ ap (can_stretch lengths) (sym target-is) ∙ sym tested ∙ good;
+  strides_are = are ∙ ap (λ m. replicate m (pos 0) ++ kept_strides lengths seen) more-is ∙ ap (λ s. replicate (length target - length lengths) (pos 0) ++ kept_strides lengths s) seen-is ∙ ap (λ l. replicate (length target - length l) (pos 0) ++ kept_strides l old.strides) is;
+}
+
+pub made_numbers : (result : Option Layout) (new : Layout) (shape target : List ℕ) (strides : List ℤ) (offset : ℕ) → result ≡ Some new → shape ≡ target → IfSome result (λ l. l.shape ≡ shape) → IfSome result (λ l. 0 < count shape → l.strides ≡ strides) → IfSome result (λ l. 0 < count shape → l.offset ≡ offset) → HasNumbers new target strides offset
+made_numbers result new shape target strides offset is same shape-is strides-are offset-is = record {
+  shape_is = subst (λ r. IfSome r (λ l. l.shape ≡ shape)) is shape-is ∙ same;
+  strides_are = λ some. subst (λ r. IfSome r (λ l. 0 < count shape → l.strides ≡ strides)) is strides-are (omega (arith, ap count same));
+  offset_is = λ some. subst (λ r. IfSome r (λ l. 0 < count shape → l.offset ≡ offset)) is offset-is (omega (arith, ap count same));
+}
+
+stretched-ok : (shape target : List ℕ) → can_stretch shape target ≡ true → stretched shape target ≡ Ok (record { shape = target; leads = broadcast_index shape })
+unfolding stretched
+stretched-ok shape target can = rw can
+
+stretched-err : (shape target : List ℕ) → can_stretch shape target ≡ false → stretched shape target ≡ Err ShapesDoNotBroadcast
+unfolding stretched
+stretched-err shape target cannot = rw cannot
+
+pub not_stretched : (shape lengths target seen-target : List ℕ) (can : Bool) → lengths ≡ shape → seen-target ≡ target → can ≡ can_stretch lengths seen-target → can ≡ false → stretched shape target ≡ Err ShapesDoNotBroadcast
+not_stretched shape lengths target seen-target can is target-is tested bad =
+    stretched-err shape target (ap (λ s. can_stretch s target) (sym is) ∙ ap (can_stretch lengths) (sym target-is) ∙ sym tested ∙ bad)
+
+pub gives_stretched : (old new : Layout) (target : List ℕ) (strides : List ℤ) → IsStretched old target strides → HasNumbers new target strides old.offset → GivesView old (Ok new) (stretched old.shape target)
+gives_stretched old new target strides made has = rw (stretched-ok old.shape target made.can) (stretched-is old new target strides made has)

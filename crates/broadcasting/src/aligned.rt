@@ -1,0 +1,17 @@
+//! Shapes that are lined up at the last axis.
+ghost use Rattle.std.specs.Prelude.{◌≡◌, ◌<◌, ◌≤◌, length, slice_index};
+ghost use Rattle.broadcasting.specs.Broadcasts.{aligned};
+
+/// The length of an axis of a shape that is lined up at the last of `rank` axes: 1 where the shape has
+/// no axis.
+pub(crate) fn length_at(lengths: &[usize], rank: usize, axis: usize) -> usize
+    requires rank { length lengths.now ≤ rank }
+    requires axis { axis < rank }
+    ensures { result ≡ slice_index (aligned rank lengths.now) axis }
+{
+    let missing = rank - lengths.len();
+    if axis < missing {
+        return 1;
+    }
+    lengths[axis - missing]
+}

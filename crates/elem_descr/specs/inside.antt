@@ -1,0 +1,4 @@
+pub mod Records
+pub mod Totals
+pub mod Partials
+pub mod FieldCodes

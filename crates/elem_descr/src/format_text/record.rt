@@ -1,0 +1,86 @@
+// The records of a format text, and the records within them.
+ghost use Rattle.std.specs.Prelude.{◌≡◌, ◌≤◌, length, option_copied, IfOk};
+ghost use Rattle.elem_descr.specs.Refusals.{Gives};
+ghost use Rattle.elem_descr.specs.FormatTexts.{max_depth, max_leaves, closing, record_within, field_at};
+ghost use Rattle.elem_descr.specs.inside.Partials.{IsBody};
+
+use crate::format_text::draft::{Body, Draft};
+use crate::format_text::field::{add_body, add_pad, add_scalar};
+use crate::format_text::mark::{Mark, marked};
+use crate::format_text::member::{Member, member_at};
+use crate::refusal::Refusal;
+use std::alloc::Global;
+
+/// What follows a closing brace, where the text begins with one.
+fn closing(text: &[u8]) -> Option<&[u8]>
+    ensures { option_copied result ≡ closing text.now }
+{
+    match text {
+        [b'}', rest @ ..] => Some(rest),
+        _ => None,
+    }
+}
+
+/// The record whose members the text begins with, up to its closing brace, and what follows that.
+/// `levels` says how many records may lie one within another, and `leaves` how many leaves the text
+/// has before this one.
+#[cycle(record)]
+pub fn record_within(
+    alloc: Global,
+    levels: usize,
+    mark: Mark,
+    leaves: usize,
+    text: &[u8],
+) -> Result<(Body, &[u8]), Refusal>
+    requires levels { levels ≤ max_depth }
+    requires leaves { leaves ≤ max_leaves }
+    ensures gives { Gives (λ r. (r.0, r.1.now)) result (record_within levels mark leaves text.now) }
+    ensures good { IfOk result (λ r. IsBody levels r.0) }
+{
+    if levels == 0 {
+        return Err(Refusal::DescriptorLeftOut);
+    }
+    let mut draft = Draft::new(alloc, levels - 1, leaves);
+    let mut mark = mark;
+    let mut rest = text;
+    for _turn in 0..text.len() {
+        let (now, unread) = marked(mark, rest);
+        if let Some(after) = closing(unread) {
+            let body = draft.close(alloc, now)?;
+            return Ok((body, after));
+        }
+        let (later, more) = field_at(alloc, now, &mut draft, unread)?;
+        mark = later;
+        rest = more;
+    }
+    Err(Refusal::BadDescriptor)
+}
+
+/// Adds the next member, and answers the mark then in force and what follows the member.
+#[cycle(record)]
+#[tactic(auto, unfolding(crate::specs::FormatTexts::field_at))]
+fn field_at<'a>(
+    alloc: Global,
+    mark: Mark,
+    draft: &mut Draft,
+    text: &'a [u8],
+) -> Result<(Mark, &'a [u8]), Refusal>
+    ensures gives { Gives (λ m. (draft.new, m.0, m.1.now)) result (field_at (record_within draft.old.levels) mark draft.old text.now) }
+    ensures levels { draft.new.levels ≡ draft.old.levels }
+{
+    match member_at(mark, text) {
+        Ok((Member::Value(value), rest)) => add_scalar(alloc, mark, draft, value, rest),
+        Ok((Member::Pad(count), rest)) => add_pad(mark, draft, count, rest),
+        Ok((Member::Opened, rest)) => {
+            let (body, rest) = record_within(
+                alloc,
+                draft.levels(),
+                mark,
+                draft.leaves(),
+                &rest[1..],
+            )?;
+            add_body(alloc, mark, draft, body, rest)
+        }
+        Err(refusal) => Err(refusal),
+    }
+}

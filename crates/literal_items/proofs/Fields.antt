@@ -1,0 +1,244 @@
+-- Fields and their literals, one by one.
+use Rattle.std.proofs.Common.{◌≡◌, ◌+◌, ◌-◌, ◌<◌, ◌≤◌, ℕ, zero, suc, Bool, true, false, List, [], ◌∷◌, ◌++◌, length, get_or, take, drop, map, min, replicate, refl, sym, ap, ◌∙◌, arith, length-take, length-append}
+use Rattle.std.specs.Prelude.{◌&&◌}
+use Rattle.std.specs.Int.{bytes_low_first, bytes_high_first}
+use Rattle.std.proofs.lemmas.List.{length-replicate, drop_all}
+use Rattle.elem_descr.specs.declared.leaf.Leaf.{Leaf}
+use Rattle.elem_descr.specs.declared.scalar.Scalar.{Scalar}
+use Rattle.elem_descr.specs.declared.scalar.Scalar.TheVariants.{Bool as BoolScalar, Byte, Int, Bytes as BytesScalar}
+use Rattle.elem_descr.specs.declared.scalar.Order.{Order}
+use Rattle.elem_descr.specs.declared.scalar.Order.TheVariants.{Little, Big}
+use Rattle.elem_descr.specs.declared.descr.Descr.{Descr}
+use Rattle.elem_descr.specs.declared.descr.Descr.TheVariants.{Scalar as ScalarDescr, Record as RecordDescr}
+use Rattle.elem_descr.specs.declared.descr.Field.{Field}
+use Rattle.elem_descr.specs.Values.{LeafValue, text}
+use Rattle.elem_descr.specs.Encoding.{width_size, bytes_of, low_bits, wrap, padded, without_nuls}
+use Rattle.elem_descr.specs.Fields.{Fields, no_more, scalar_field, record_field, Structure}
+use Rattle.elem_descr.specs.Descriptors.{before, listed, fields_of, InOrder, IsLegal}
+use Rattle.elem_descr.specs.Items.{item_size, moved, leaves_of, leaves_from, AreInOrder, encode_item, decode_item}
+use Rattle.elem_descr.proofs.Numbers.{decode_encode}
+use Rattle.elem_descr.proofs.FieldLaws.{rest_at, leaves_from-before, leaves_from-moved, listed-fields_of, field_within}
+use Rattle.script_lang.specs.declared.literal.ScalarLiteral.{ScalarLiteral}
+use Rattle.script_lang.specs.declared.literal.Literal.{Literal}
+use Rattle.script_lang.specs.declared.literal.Literal.TheVariants.{Scalar as ScalarOf, Record as RecordOf}
+use Rattle.script_lang.specs.RecordValues.{Values, no_values, scalar_value, record_value}
+use Rattle.script_lang.specs.Listed.{value_before, listed as all_values, literals_of}
+use Rattle.script_lang.specs.RecordLaws.{listed_literals_of}
+use Rattle.literal_items.specs.LiteralItems.{literal_number, literal_bytes, leaf_value, stand_for, can_hold, field_values, can_be_item, values_of}
+use Rattle.literal_items.specs.inside.FieldItems.{stands_for, can_be_field, field_value, put_leaves}
+use Rattle.literal_items.proofs.Nuls.{bytes_encoded, bytes_read_back}
+use Rattle.literal_items.proofs.Leaves.{ReadsBack, AreSound, AreSound-append, put_leaves-append, put_encoded, put_read}
+
+-- ---- a test of each field
+
+first_true : (a b : Bool) → (a && b) ≡ true → a ≡ true
+first_true true b both = refl
+first_true false b both = both
+
+second_true : (a b : Bool) → (a && b) ≡ true → b ≡ true
+second_true true b both = both
+second_true false b both = cc
+
+stand_for-before : (test : Scalar → ScalarLiteral → Bool) (name : List ℕ) (at : ℕ) (descr : Descr) (fields : Fields) (literal : Literal) (later : Values) → stand_for test (before name at descr fields) (value_before literal later) ≡ (stands_for test descr literal && stand_for test fields later)
+stand_for-before test name at (ScalarDescr scalar) fields (ScalarOf literal) later = refl
+stand_for-before test name at (ScalarDescr scalar) fields (RecordOf literals) later = refl
+stand_for-before test name at (RecordDescr structure) fields (ScalarOf literal) later = refl
+stand_for-before test name at (RecordDescr structure) fields (RecordOf literals) later = refl
+
+-- a loop has come to a field and its literal
+pub record IsTurn (fields : List Field) (literals : List Literal) (k : ℕ) (field : Field) (literal : Literal) : Type 0 where
+  pub low : k < length fields
+  pub near : k < length literals
+  pub is : field ≡ get_or fields k field
+  pub there : literal ≡ get_or literals k literal
+
+-- that field, and those after it
+stand_for-at : (test : Scalar → ScalarLiteral → Bool) (fields : List Field) (literals : List Literal) (k : ℕ) (field : Field) (literal : Literal) → IsTurn fields literals k field literal → stand_for test (listed (drop k fields)) (all_values (drop k literals)) ≡ (stands_for test field.descr literal && stand_for test (listed (drop (k + 1) fields)) (all_values (drop (k + 1) literals)))
+stand_for-at test fields literals k field literal turn =
+    (λ i. stand_for test (listed (rest_at fields field k turn.low turn.is i)) (all_values (rest_at literals literal k turn.near turn.there i)))
+    ∙ stand_for-before test field.name field.at field.descr (listed (drop (k + 1) fields)) literal (all_values (drop (k + 1) literals))
+
+-- it fails
+pub turn_fails : (test : Scalar → ScalarLiteral → Bool) (fields : List Field) (literals : List Literal) (k : ℕ) (field : Field) (literal : Literal) → IsTurn fields literals k field literal → stands_for test field.descr literal ≡ false → stand_for test (listed (drop k fields)) (all_values (drop k literals)) ≡ false
+turn_fails test fields literals k field literal turn fails =
+    stand_for-at test fields literals k field literal turn
+    ∙ ap (λ first. first && stand_for test (listed (drop (k + 1) fields)) (all_values (drop (k + 1) literals))) fails
+
+-- it passes
+pub turn_passes : (test : Scalar → ScalarLiteral → Bool) (fields : List Field) (literals : List Literal) (k : ℕ) (field : Field) (literal : Literal) → IsTurn fields literals k field literal → stands_for test field.descr literal ≡ true → stand_for test (listed (drop (k + 1) fields)) (all_values (drop (k + 1) literals)) ≡ stand_for test (listed (drop k fields)) (all_values (drop k literals))
+turn_passes test fields literals k field literal turn passes =
+    sym (stand_for-at test fields literals k field literal turn
+    ∙ ap (λ first. first && stand_for test (listed (drop (k + 1) fields)) (all_values (drop (k + 1) literals))) passes)
+
+-- it has passed
+pub turn_passed : (test : Scalar → ScalarLiteral → Bool) (fields : List Field) (literals : List Literal) (k : ℕ) (field : Field) (literal : Literal) → IsTurn fields literals k field literal → stand_for test (listed (drop k fields)) (all_values (drop k literals)) ≡ true → stands_for test field.descr literal ≡ true
+turn_passed test fields literals k field literal turn passed =
+    first_true (stands_for test field.descr literal) (stand_for test (listed (drop (k + 1) fields)) (all_values (drop (k + 1) literals))) (sym (stand_for-at test fields literals k field literal turn) ∙ passed)
+
+-- none is left
+pub none_left : (test : Scalar → ScalarLiteral → Bool) (fields : List Field) (literals : List Literal) (k : ℕ) → length fields ≤ k → length literals ≤ k → stand_for test (listed (drop k fields)) (all_values (drop k literals)) ≡ true
+none_left test fields literals k past over = λ i. stand_for test (listed (drop_all k fields past i)) (all_values (drop_all k literals over i))
+
+-- a record, and the values of a record literal, seen one by one
+pub seen_fields : (fields : List Field) (all : Fields) → fields ≡ fields_of all → listed fields ≡ all
+seen_fields fields all are = ap listed are ∙ listed-fields_of all
+
+pub seen_values : (literals : List Literal) (all : Values) → literals ≡ literals_of all → all_values literals ≡ all
+seen_values literals all are = ap all_values are ∙ listed_literals_of all
+
+pub stand_for-literals : (test : Scalar → ScalarLiteral → Bool) (descr : Descr) (literal : Literal) (structure : Structure) (values : Values) (literals : List Literal) → descr ≡ RecordDescr structure → literal ≡ RecordOf values → literals ≡ literals_of values → stand_for test structure.fields (all_values literals) ≡ stands_for test descr literal
+stand_for-literals test descr literal structure values literals is there have =
+    ap (stand_for test structure.fields) (seen_values literals values have)
+    ∙ sym (λ i. stands_for test (is i) (there i))
+
+pub stand_for-record : (test : Scalar → ScalarLiteral → Bool) (descr : Descr) (literal : Literal) (structure : Structure) (values : Values) (fields : List Field) (literals : List Literal) → descr ≡ RecordDescr structure → literal ≡ RecordOf values → fields ≡ fields_of structure.fields → literals ≡ literals_of values → stand_for test (listed fields) (all_values literals) ≡ stands_for test descr literal
+stand_for-record test descr literal structure values fields literals is there are have =
+    ap (λ fs. stand_for test fs (all_values literals)) (seen_fields fields structure.fields are)
+    ∙ stand_for-literals test descr literal structure values literals is there have
+
+no_field_left : (test : Scalar → ScalarLiteral → Bool) (literal : Literal) (later : Values) → stand_for test no_more (value_before literal later) ≡ false
+no_field_left test (ScalarOf literal) later = refl
+no_field_left test (RecordOf literals) later = refl
+
+no_value_left : (test : Scalar → ScalarLiteral → Bool) (name : List ℕ) (at : ℕ) (descr : Descr) (fields : Fields) → stand_for test (before name at descr fields) no_values ≡ false
+no_value_left test name at (ScalarDescr scalar) fields = refl
+no_value_left test name at (RecordDescr structure) fields = refl
+
+-- there are as many literals as fields
+pub stand_for-length : (test : Scalar → ScalarLiteral → Bool) (fields : List Field) (literals : List Literal) → stand_for test (listed fields) (all_values literals) ≡ true → length fields ≡ length literals
+stand_for-length test [] [] passed = refl
+stand_for-length test [] (literal ∷ literals) passed = let none = no_field_left test literal (all_values literals) in cc
+stand_for-length test (field ∷ fields) [] passed = let none = no_value_left test field.name field.at field.descr (listed fields) in cc
+stand_for-length test (field ∷ fields) (literal ∷ literals) passed =
+    let both = sym (stand_for-before test field.name field.at field.descr (listed fields) literal (all_values literals)) ∙ passed in
+    let more = stand_for-length test fields literals (second_true (stands_for test field.descr literal) (stand_for test (listed fields) (all_values literals)) both) in
+    omega (arith, more)
+
+-- ---- the values of leaves
+
+length-padded : (n : ℕ) (bytes : List ℕ) → length (padded n bytes) ≡ n
+length-padded n bytes =
+    let zeros : length {A = ℕ} (replicate (n - length bytes) 0) ≡ n - length bytes = length-replicate (n - length bytes) 0 in
+    let front = length-take n bytes in
+    length-append (take n bytes) (replicate (n - length bytes) 0) ∙ omega arith
+
+length-bytes_low_first : (i n bits : ℕ) → length (bytes_low_first i n bits) ≡ n
+length-bytes_low_first i zero bits = refl
+length-bytes_low_first i (suc n) bits = omega (arith, length-bytes_low_first (suc i) n bits)
+
+length-bytes_high_first : (n bits : ℕ) → length (bytes_high_first n bits) ≡ n
+length-bytes_high_first zero bits = refl
+length-bytes_high_first (suc n) bits = omega (arith, length-bytes_high_first n bits)
+
+length-bytes_of : (order : Order) (n bits : ℕ) → length (bytes_of order n bits) ≡ n
+length-bytes_of Little n bits = length-bytes_low_first 0 n bits
+length-bytes_of Big n bits = length-bytes_high_first n bits
+
+leaf_sound : (scalar : Scalar) (literal : ScalarLiteral) → ReadsBack scalar (leaf_value scalar literal)
+leaf_sound BoolScalar literal = record { whole = refl; same = decode_encode BoolScalar (literal_number literal) tt }
+leaf_sound (Byte signed) literal = record { whole = length-bytes_low_first 0 1 (low_bits 1 (wrap (Byte signed) (literal_number literal))); same = decode_encode (Byte signed) (literal_number literal) tt }
+leaf_sound (Int signed width order) literal = record { whole = length-bytes_of order (width_size width) (low_bits (width_size width) (wrap (Int signed width order) (literal_number literal))); same = decode_encode (Int signed width order) (literal_number literal) tt }
+leaf_sound (BytesScalar n) literal =
+    let bytes = literal_bytes literal in
+    let kept = min (length bytes) n in
+    record {
+      whole = length-padded n (without_nuls (take n bytes));
+      same = ap text (ap without_nuls (sym (bytes_encoded n kept bytes refl)) ∙ bytes_read_back n kept bytes refl);
+    }
+
+fields_sound : (start : ℕ) (fields : Fields) (values : Values) → can_hold fields values ≡ true → AreSound (leaves_from start fields) (field_values fields values)
+fields_sound start no_more no_values can = tt
+fields_sound start no_more (scalar_value literal later) can = cc
+fields_sound start no_more (record_value literals later) can = cc
+fields_sound start (scalar_field name at scalar fields) no_values can = cc
+fields_sound start (scalar_field name at scalar fields) (scalar_value literal values) can =
+    (leaf_sound scalar literal, fields_sound start fields values (second_true (can_be_field (ScalarDescr scalar) (ScalarOf literal)) (can_hold fields values) can))
+fields_sound start (scalar_field name at scalar fields) (record_value literals later) can = cc
+fields_sound start (record_field name at size inner fields) no_values can = cc
+fields_sound start (record_field name at size inner fields) (scalar_value literal later) can = cc
+fields_sound start (record_field name at size inner fields) (record_value literals values) can =
+    AreSound-append (leaves_from (start + at) inner) (field_values inner literals) (leaves_from start fields) (field_values fields values)
+    (fields_sound (start + at) inner literals (first_true (can_hold inner literals) (can_hold fields values) can))
+    (fields_sound start fields values (second_true (can_hold inner literals) (can_hold fields values) can))
+
+leaves_sound : (leaves : List Leaf) (literal : ScalarLiteral) → AreSound leaves (map (λ leaf. leaf_value leaf.scalar literal) leaves)
+leaves_sound [] literal = tt
+leaves_sound (leaf ∷ leaves) literal = (leaf_sound leaf.scalar literal, leaves_sound leaves literal)
+
+-- the leaves of a record that begins at a byte
+pub record_leaves : (by : ℕ) (fields : Fields) → map (moved by) (leaves_from 0 fields) ≡ leaves_from by fields
+record_leaves by fields = let none : by + 0 ≡ by = omega arith in sym (leaves_from-moved by 0 fields) ∙ ap (λ start. leaves_from start fields) none
+
+sound_along : (leaves others : List Leaf) (values : List LeafValue) → leaves ≡ others → AreSound leaves values → AreSound others values
+sound_along leaves others values same sound = rw (← same) sound
+
+field_sound : (by : ℕ) (descr : Descr) (literal : Literal) → can_be_field descr literal ≡ true → AreSound (map (moved by) (leaves_of descr)) (field_value descr literal)
+field_sound by (ScalarDescr scalar) (ScalarOf literal) can = (leaf_sound scalar literal, tt)
+field_sound by (ScalarDescr scalar) (RecordOf literals) can = cc
+field_sound by (RecordDescr structure) (ScalarOf literal) can = cc
+field_sound by (RecordDescr structure) (RecordOf literals) can =
+    sound_along (leaves_from by structure.fields) (map (moved by) (leaves_from 0 structure.fields)) (field_values structure.fields literals) (sym (record_leaves by structure.fields)) (fields_sound by structure.fields literals can)
+
+-- the bytes of each value are as many as its leaf has, and mean it
+pub item_sound : (descr : Descr) (literal : Literal) → can_be_item descr literal ≡ true → AreSound (leaves_of descr) (values_of descr literal)
+item_sound descr (ScalarOf literal) can = leaves_sound (leaves_of descr) literal
+item_sound (ScalarDescr scalar) (RecordOf literals) can = cc
+item_sound (RecordDescr structure) (RecordOf literals) can = fields_sound 0 structure.fields literals can
+
+-- ---- fields put one after the other
+
+field_values-before : (name : List ℕ) (at : ℕ) (descr : Descr) (fields : Fields) (literal : Literal) (later : Values) → can_be_field descr literal ≡ true → field_values (before name at descr fields) (value_before literal later) ≡ field_value descr literal ++ field_values fields later
+field_values-before name at (ScalarDescr scalar) fields (ScalarOf literal) later can = refl
+field_values-before name at (ScalarDescr scalar) fields (RecordOf literals) later can = cc
+field_values-before name at (RecordDescr structure) fields (ScalarOf literal) later can = cc
+field_values-before name at (RecordDescr structure) fields (RecordOf literals) later can = refl
+
+-- the bytes of an item, with those of the fields from the k-th on
+abbrev pub put_fields : List ℕ → ℕ → List Field → List Literal → List ℕ
+put_fields item start fields literals = put_leaves item (leaves_from start (listed fields)) (field_values (listed fields) (all_values literals))
+
+pub put_fields-at : (item : List ℕ) (start : ℕ) (fields : List Field) (literals : List Literal) (k : ℕ) (field : Field) (literal : Literal) → IsTurn fields literals k field literal → can_be_field field.descr literal ≡ true → put_fields (put_leaves item (map (moved (start + field.at)) (leaves_of field.descr)) (field_value field.descr literal)) start (drop (k + 1) fields) (drop (k + 1) literals) ≡ put_fields item start (drop k fields) (drop k literals)
+put_fields-at item start fields literals k field literal turn can =
+    let later = listed (drop (k + 1) fields) in
+    let others = all_values (drop (k + 1) literals) in
+    sym ((λ i. put_fields item start (rest_at fields field k turn.low turn.is i) (rest_at literals literal k turn.near turn.there i))
+    ∙ (λ i. put_leaves item (leaves_from-before start field.name field.at field.descr later i) (field_values-before field.name field.at field.descr later literal others can i))
+    ∙ put_leaves-append item (map (moved (start + field.at)) (leaves_of field.descr)) (field_value field.descr literal) (leaves_from start later) (field_values later others) (field_sound (start + field.at) field.descr literal can))
+
+-- no field is left
+pub put_fields-none : (item : List ℕ) (start : ℕ) (fields : List Field) (literals : List Literal) (k : ℕ) → length fields ≤ k → put_fields item start (drop k fields) literals ≡ item
+put_fields-none item start fields literals k past = ap (λ left. put_fields item start left literals) (drop_all k fields past)
+
+-- a field lies within its record
+pub turn_within : (structure : Structure) (fields : List Field) (k : ℕ) (field : Field) → IsLegal structure → fields ≡ fields_of structure.fields → k < length fields → field ≡ get_or fields k field → field.at + item_size field.descr ≤ structure.size
+turn_within structure fields k field legal are low is =
+    let order : InOrder 0 (listed fields) structure.size = rw (seen_fields fields structure.fields are) legal.in_order in
+    field_within 0 fields structure.size k field order low is
+
+-- a record that begins at a byte
+pub put_record : (item : List ℕ) (at : ℕ) (descr : Descr) (literal : Literal) (structure : Structure) (values : Values) (literals : List Literal) → descr ≡ RecordDescr structure → literal ≡ RecordOf values → literals ≡ literals_of values → put_leaves item (leaves_from at structure.fields) (field_values structure.fields (all_values literals)) ≡ put_leaves item (map (moved at) (leaves_of descr)) (field_value descr literal)
+put_record item at descr literal structure values literals is there have =
+    (λ i. put_leaves item (sym (record_leaves at structure.fields) i) (field_values structure.fields (seen_values literals values have i)))
+    ∙ sym (λ i. put_leaves item (map (moved at) (leaves_of (is i))) (field_value (is i) (there i)))
+
+-- ---- a record written over zeros
+
+pub record_written : (structure : Structure) (literal : Literal) (zeros item : List ℕ) → can_be_item (RecordDescr structure) literal ≡ true → AreInOrder 0 (leaves_from 0 structure.fields) structure.size → zeros ≡ replicate structure.size 0 → item ≡ put_leaves zeros (leaves_from 0 structure.fields) (values_of (RecordDescr structure) literal) → item ≡ encode_item (RecordDescr structure) (values_of (RecordDescr structure) literal)
+record_written structure literal zeros item can order blank is =
+    is
+    ∙ ap (λ bytes. put_leaves bytes (leaves_from 0 structure.fields) (values_of (RecordDescr structure) literal)) blank
+    ∙ put_encoded structure.size (leaves_from 0 structure.fields) (values_of (RecordDescr structure) literal) order (item_sound (RecordDescr structure) literal can)
+
+pub record_read : (structure : Structure) (literal : Literal) (item : List ℕ) → can_be_item (RecordDescr structure) literal ≡ true → AreInOrder 0 (leaves_from 0 structure.fields) structure.size → item ≡ encode_item (RecordDescr structure) (values_of (RecordDescr structure) literal) → decode_item (RecordDescr structure) item ≡ values_of (RecordDescr structure) literal
+record_read structure literal item can order is = put_read structure.size (leaves_from 0 structure.fields) (values_of (RecordDescr structure) literal) item order (item_sound (RecordDescr structure) literal can) is
+
+-- the values of a literal: one for all leaves, or one for each field
+pub put_all : (bytes : List ℕ) (structure : Structure) (literal : Literal) (value : ScalarLiteral) (leaves : List Leaf) → literal ≡ ScalarOf value → leaves ≡ leaves_from 0 structure.fields → put_leaves bytes leaves (map (λ leaf. leaf_value leaf.scalar value) leaves) ≡ put_leaves bytes (leaves_from 0 structure.fields) (values_of (RecordDescr structure) literal)
+put_all bytes structure literal value leaves is are =
+    ap (λ (all : List Leaf). put_leaves bytes all (map (λ leaf. leaf_value leaf.scalar value) all)) are
+    ∙ ap (λ given. put_leaves bytes (leaves_from 0 structure.fields) (values_of (RecordDescr structure) given)) (sym is)
+
+pub put_each : (bytes : List ℕ) (structure : Structure) (literal : Literal) (values : Values) (literals : List Literal) → literal ≡ RecordOf values → literals ≡ literals_of values → put_leaves bytes (leaves_from 0 structure.fields) (field_values structure.fields (all_values literals)) ≡ put_leaves bytes (leaves_from 0 structure.fields) (values_of (RecordDescr structure) literal)
+put_each bytes structure literal values literals is have =
+    ap (λ given. put_leaves bytes (leaves_from 0 structure.fields) (field_values structure.fields given)) (seen_values literals values have)
+    ∙ ap (λ given. put_leaves bytes (leaves_from 0 structure.fields) (values_of (RecordDescr structure) given)) (sym is)

@@ -1,0 +1,39 @@
+-- Fields of records, and their literals.
+use Rattle.std.specs.Prelude.{ℕ, Bool, false, List, [], ◌∷◌, ◌++◌, take, drop}
+use Rattle.elem_descr.specs.declared.scalar.Scalar.{Scalar}
+use Rattle.elem_descr.specs.declared.leaf.Leaf.{Leaf}
+use Rattle.elem_descr.specs.declared.descr.Descr.{Descr}
+use Rattle.elem_descr.specs.declared.descr.Descr.TheVariants.{Scalar as ScalarDescr, Record as RecordDescr}
+use Rattle.elem_descr.specs.Values.{LeafValue}
+use Rattle.elem_descr.specs.Encoding.{size, encode}
+use Rattle.script_lang.specs.declared.literal.ScalarLiteral.{ScalarLiteral}
+use Rattle.script_lang.specs.declared.literal.Literal.{Literal}
+use Rattle.script_lang.specs.declared.literal.Literal.TheVariants.{Scalar as ScalarOf, Record as RecordOf}
+use Rattle.literal_items.specs.LiteralItems.{is_castable, is_in_range, leaf_value, stand_for, field_values}
+
+-- whether a literal stands for one field, and each scalar passes a test at its field
+abbrev pub stands_for : (Scalar → ScalarLiteral → Bool) → Descr → Literal → Bool
+stands_for test (ScalarDescr scalar) (ScalarOf literal) = test scalar literal
+stands_for test (RecordDescr structure) (RecordOf literals) = stand_for test structure.fields literals
+stands_for test _ _ = false
+
+abbrev pub can_be_field : Descr → Literal → Bool
+can_be_field = stands_for is_castable
+
+abbrev pub is_field_in_range : Descr → Literal → Bool
+is_field_in_range = stands_for is_in_range
+
+-- the values of one field
+abbrev pub field_value : Descr → Literal → List LeafValue
+field_value (ScalarDescr scalar) (ScalarOf literal) = leaf_value scalar literal ∷ []
+field_value (RecordDescr structure) (RecordOf literals) = field_values structure.fields literals
+field_value _ _ = []
+
+-- bytes in place of as many
+abbrev pub put : ℕ → ℕ → List ℕ → List ℕ → List ℕ
+put at width bytes item = take at item ++ (bytes ++ drop width (drop at item))
+
+-- the bytes of an item, with those of leaves at their offsets
+abbrev pub put_leaves : List ℕ → List Leaf → List LeafValue → List ℕ
+put_leaves item (leaf ∷ leaves) (value ∷ values) = put_leaves (put leaf.at (size leaf.scalar) (encode leaf.scalar value) item) leaves values
+put_leaves item _ _ = item

@@ -1,0 +1,10 @@
+use Rattle.std.proofs.Common.{◌≡◌, drop}
+use Rattle.name_store.specs.Parts.{IsPathOf, descr_at}
+use Rattle.name_store.proofs.path.Path.descr_in.Given as goal
+
+-- the numbers that are left lead from here to what all of them do
+abbrev pub invariant-loop-number : goal.invariant-loop-number
+invariant-loop-number l = record {
+  path : IsPathOf l.descr (drop l.number-index l.number-items);
+  leads : descr_at l.descr (drop l.number-index l.number-items) ≡ descr_at l.fn.whole l.fn.self;
+}

@@ -1,0 +1,3 @@
+pub mod KeptPaths
+pub mod Props
+pub mod Codes

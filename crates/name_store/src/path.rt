@@ -1,0 +1,75 @@
+//! Paths of fields.
+ghost use Rattle.std.specs.Prelude.{◌≡◌, ◌<◌, ◌++◌, ◌∷◌, [], length};
+ghost use Rattle.name_store.specs.Parts.{IsPathOf, descr_at};
+
+use elem_descr::Descr;
+use std::marker::Model;
+
+/// The most numbers of a path: no more than four records lie one within another.
+const MAX_LEN: usize = 4;
+
+/// The numbers of the fields that lead to a part of an item, the outermost first: none for the whole,
+/// and at most four.
+#[derive(Clone, Copy)]
+pub struct Path {
+    numbers: [usize; MAX_LEN],
+    len: usize,
+}
+
+impl Model for Path {
+    ghost use Rattle.std.specs.Prelude.{List, ℕ, length, take};
+    ghost use Rattle.name_store.specs.inside.KeptPaths.{IsKept, in_places, kept-len, kept-numbers};
+
+    ghost Value = { List ℕ };
+
+    ghost view = { λ p. take p.len p.numbers };
+
+    ghost invariant = { λ p. IsKept p.len p.numbers };
+
+    ghost inverse = { λ path. record { numbers = in_places path; len = length path } };
+
+    ghost inverse_ok = { λ p h. λ i. record { numbers = kept-numbers p.len p.numbers h i; len = kept-len p.len p.numbers h i } };
+}
+
+impl Path {
+    /// The path to the whole of an item.
+    pub fn whole() -> Path
+        ensures { result ≡ [] }
+    {
+        Path {
+            numbers: [0; MAX_LEN],
+            len: 0,
+        }
+    }
+
+    /// The path to a field of what this one leads to.
+    pub fn then(self, field: usize) -> Path
+        requires { length self < 4 }
+        ensures { result ≡ self ++ field ∷ [] }
+    {
+        let mut numbers = self.numbers;
+        numbers[self.len] = field;
+        Path {
+            numbers,
+            len: self.len + 1,
+        }
+    }
+
+    fn as_slice(&self) -> &[usize]
+        ensures { result.now ≡ self.now }
+    {
+        &self.numbers[..self.len]
+    }
+
+    /// The element type of what the path leads to, in items of this one.
+    pub fn descr_in<'a>(&self, whole: &'a Descr) -> &'a Descr
+        requires { IsPathOf whole.now self.now }
+        ensures { result.now ≡ descr_at whole.now self.now }
+    {
+        let mut descr = whole;
+        for number in self.as_slice() {
+            descr = &descr.field(*number).descr;
+        }
+        descr
+    }
+}

@@ -1,0 +1,80 @@
+-- Record literals, worked out by hand.
+use Rattle.std.proofs.Common.{◌≡◌, ℕ, pos, true, [], ◌∷◌, Some, None, codes, refl}
+use Rattle.script_lang.specs.declared.literal.ScalarLiteral.{ScalarLiteral}
+use Rattle.script_lang.specs.declared.literal.ScalarLiteral.TheVariants.{Integer, Boolean, Bytes}
+use Rattle.script_lang.specs.declared.literal.Literal.TheVariants.{Scalar, Record}
+use Rattle.script_lang.specs.RecordValues.{Values, no_values, scalar_value, record_value, value_count, scalars_of}
+use Rattle.script_lang.specs.Listed.{listed, literals_of}
+use Rattle.script_lang.specs.Tokens.{word_at, number_at, integer_at, is_parted, bytes_mark_at}
+use Rattle.script_lang.specs.Lists.{entries_at, row_at}
+use Rattle.script_lang.specs.Literals.{text_byte_at, byte_text_at, boolean_at, bytes_at, scalar_at, record_at, literal_within, literal_at}
+
+abbrev number : ℕ → ScalarLiteral
+number n = Integer (pos n)
+
+-- the values of `(n)` and of `(m, (..))`
+abbrev just : ℕ → Values
+just n = scalar_value (number n) no_values
+
+abbrev before : ℕ → Values → Values
+before n inner = scalar_value (number n) (record_value inner no_values)
+
+depth_1 : literal_at (codes "(1)") ≡ Some (Record (just 1), [])
+unfolding literal_at literal_within record_at entries_at scalar_at integer_at number_at is_parted bytes_mark_at
+depth_1 = refl
+
+depth_2 : literal_at (codes "(1,(2))") ≡ Some (Record (before 1 (just 2)), [])
+unfolding literal_at literal_within record_at entries_at scalar_at integer_at number_at is_parted bytes_mark_at
+depth_2 = refl
+
+depth_4 : literal_at (codes "(1,(2,(3,(4))))") ≡ Some (Record (before 1 (before 2 (before 3 (just 4)))), [])
+unfolding literal_at literal_within record_at entries_at scalar_at integer_at number_at is_parted bytes_mark_at
+depth_4 = refl
+
+depth_5 : literal_at (codes "(1,(2,(3,(4,(5)))))") ≡ None
+unfolding literal_at literal_within record_at entries_at scalar_at integer_at number_at is_parted bytes_mark_at boolean_at word_at
+depth_5 = refl
+
+nothing_but_depth : literal_at (codes "(((((1)))))") ≡ None
+unfolding literal_at literal_within record_at entries_at scalar_at integer_at number_at is_parted bytes_mark_at boolean_at word_at
+nothing_but_depth = refl
+
+last_commas : literal_at (codes "(1,(2,),) 3") ≡ Some (Record (before 1 (just 2)), codes " 3")
+unfolding literal_at literal_within record_at entries_at scalar_at integer_at number_at is_parted bytes_mark_at
+last_commas = refl
+
+record_first : literal_at (codes "((1, 2), b'x')") ≡ Some (Record (record_value (scalar_value (number 1) (just 2)) (scalar_value (Bytes (codes "x")) no_values)), [])
+unfolding literal_at literal_within record_at entries_at scalar_at integer_at number_at is_parted bytes_mark_at bytes_at byte_text_at row_at text_byte_at
+record_first = refl
+
+empty : literal_at (codes "()") ≡ None
+unfolding literal_at literal_within record_at entries_at
+empty = refl
+
+empty_inside : literal_at (codes "(1,())") ≡ None
+unfolding literal_at literal_within record_at entries_at scalar_at integer_at number_at is_parted bytes_mark_at
+empty_inside = refl
+
+unclosed : literal_at (codes "(1,(2)") ≡ None
+unfolding literal_at literal_within record_at entries_at scalar_at integer_at number_at is_parted bytes_mark_at
+unclosed = refl
+
+no_comma : literal_at (codes "((1)(2))") ≡ None
+unfolding literal_at literal_within record_at entries_at scalar_at integer_at number_at is_parted bytes_mark_at
+no_comma = refl
+
+-- (1, (2, (3)), True)
+abbrev nested : Values
+nested = scalar_value (number 1) (record_value (before 2 (just 3)) (scalar_value (Boolean true) no_values))
+
+scalars_in_order : scalars_of nested ≡ number 1 ∷ number 2 ∷ number 3 ∷ Boolean true ∷ []
+scalars_in_order = refl
+
+counted_at_the_top : value_count nested ≡ 3
+counted_at_the_top = refl
+
+as_literals : literals_of nested ≡ Scalar (number 1) ∷ Record (before 2 (just 3)) ∷ Scalar (Boolean true) ∷ []
+as_literals = refl
+
+as_values : listed (Scalar (number 1) ∷ Record (before 2 (just 3)) ∷ Scalar (Boolean true) ∷ []) ≡ nested
+as_values = refl

@@ -1,0 +1,20 @@
+use Rattle.std.proofs.Common.{◌≡◌, ◌+◌, ◌-◌, ◌*◌, length}
+use Rattle.script_lang.specs.Lists.{entries_at}
+use Rattle.script_lang.specs.Literals.{literal_within}
+use Rattle.script_lang.specs.Listed.{literals_of}
+use Rattle.script_lang.proofs.Lists.{in_front}
+use Rattle.script_lang.proofs.grammar.literals.+nesting.Given as goal
+
+-- a record's values are one level less deep than it
+abbrev pub decreases-literal_within : goal.decreases-literal_within
+decreases-literal_within l = 3 * l.depth
+
+abbrev pub decreases-record : goal.decreases-record
+decreases-record l = 3 * l.depth + 2
+
+abbrev pub decreases-values : goal.decreases-values
+decreases-values l = 3 * l.depth + 1
+
+-- the values so far, in front of those of the rest, are all
+abbrev pub invariant-values-loop-turn : goal.invariant-values-loop-turn
+invariant-values-loop-turn l = entries_at (literal_within l.depth) 41 (length l.bytes) l.bytes ≡ in_front (literals_of l.values) (entries_at (literal_within l.depth) 41 (length l.bytes - l._turn) l.rest)

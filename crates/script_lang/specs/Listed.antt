@@ -1,0 +1,21 @@
+-- The values of a record literal as a list of literals.
+use Rattle.std.specs.Prelude.{List, [], ◌∷◌}
+use Rattle.script_lang.specs.declared.literal.Literal.{Literal}
+use Rattle.script_lang.specs.declared.literal.Literal.TheVariants.{Scalar, Record}
+use Rattle.script_lang.specs.RecordValues.{Values, no_values, scalar_value, record_value}
+
+-- one literal before others
+abbrev pub value_before : Literal → Values → Values
+value_before (Scalar scalar) rest = scalar_value scalar rest
+value_before (Record values) rest = record_value values rest
+
+-- these literals in this order
+abbrev pub listed : List Literal → Values
+listed [] = no_values
+listed (literal ∷ literals) = value_before literal (listed literals)
+
+-- the literals in their order
+abbrev pub literals_of : Values → List Literal
+literals_of no_values = []
+literals_of (scalar_value scalar rest) = Scalar scalar ∷ literals_of rest
+literals_of (record_value inner rest) = Record inner ∷ literals_of rest

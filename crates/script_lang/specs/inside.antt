@@ -1,0 +1,3 @@
+pub mod NodeCounts
+pub mod Classes
+pub mod ValueCodes

@@ -1,0 +1,15 @@
+-- A record in a record literal has fewer nodes than it.
+use Rattle.std.specs.Prelude.{◌≤◌, max, List, [], ◌∷◌}
+use Rattle.std.proofs.Common.{arith}
+use denote.Param.Weighed.{most}
+use Rattle.script_lang.specs.declared.literal.Literal.{Literal}
+use Rattle.script_lang.specs.declared.literal.Literal.TheVariants.{Scalar, Record}
+use Rattle.script_lang.specs.declared.literal.RecordLiteral.TheDeep.{deep-Literal}
+use Rattle.script_lang.specs.RecordValues.{node_count}
+use Rattle.script_lang.specs.Listed.{listed}
+
+-- no literal among those listed is deeper than they have nodes
+pub depth_le-node_count : (literals : List Literal) → max (most deep-Literal literals) 0 ≤ node_count (listed literals)
+depth_le-node_count [] = omega arith
+depth_le-node_count (Scalar scalar ∷ literals) = omega (arith, depth_le-node_count literals)
+depth_le-node_count (Record inner ∷ literals) = omega (arith, depth_le-node_count literals)

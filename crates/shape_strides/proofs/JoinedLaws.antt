@@ -1,0 +1,140 @@
+-- Joined axes lead to the same addresses.
+use Rattle.std.proofs.Common.{◌≡◌, ℕ, zero, suc, ◌+◌, ◌*◌, ◌==◌, ℤ, pos, ◌+ℤ◌, ◌*ℤ◌, List, [], ◌∷◌, ◌++◌, map, length, refl, sym, ◌∙◌, ap, arith, add-one, zero-mul, suc-mul}
+use Rattle.std.specs.List.{flat_map, range_with_len}
+use Rattle.std.proofs.lemmas.Bool.{cond_both, eqb-true}
+use Rattle.std.proofs.lemmas.Bool.Decides.{Decides-int_eq}
+use Rattle.std.proofs.lemmas.Grind.{flat_map-append}
+use Rattle.std.proofs.lemmas.Int.{ints}
+use Rattle.std.proofs.lemmas.List.{append-nil, map-append}
+use Rattle.std.proofs.lemmas.List.Folds.{flat_map-map}
+use Rattle.std.proofs.lemmas.Simd.{map-map}
+use lib.IntN.{one}
+use Rattle.std.proofs.Math.IntN.{*ℤ-one, *ℤ-zero, +ℤ_idr, +ℤ_assoc}
+use Rattle.elem_descr.specs.Steps.{numbers_from}
+use Rattle.shape_strides.specs.declared.layout.Layout.{Layout}
+use Rattle.shape_strides.specs.declared.joined.StridedAxis.{StridedAxis}
+use Rattle.shape_strides.specs.Indexes.{indexes}
+use Rattle.shape_strides.specs.Addresses.{dot, natural}
+use Rattle.shape_strides.specs.Layouts.{address, offsets}
+use Rattle.shape_strides.specs.Joined.{strided_axes, leads_over, join_outside, joined}
+use Rattle.shape_strides.proofs.AdvanceLaws.{*ℤ-more}
+
+-- ---- lists
+
+pub flat_map_same : {X Y : Type 0} (f g : X → List Y) → ((x : X) → f x ≡ g x) → (xs : List X) → flat_map f xs ≡ flat_map g xs
+flat_map_same f g same [] = refl
+flat_map_same f g same (x ∷ xs) = ap (λ ys. ys ++ flat_map f xs) (same x) ∙ ap (λ ys. g x ++ ys) (flat_map_same f g same xs)
+
+pub map_same : {X Y : Type 0} (f g : X → Y) → ((x : X) → f x ≡ g x) → (xs : List X) → map f xs ≡ map g xs
+map_same f g same [] = refl
+map_same f g same (x ∷ xs) = ap (λ y. y ∷ map f xs) (same x) ∙ ap (λ ys. g x ∷ ys) (map_same f g same xs)
+
+pub flat_map-flat_map : {X Y Z : Type 0} (f : Y → List Z) (g : X → List Y) (xs : List X) → flat_map f (flat_map g xs) ≡ flat_map (λ x. flat_map f (g x)) xs
+flat_map-flat_map f g [] = refl
+flat_map-flat_map f g (x ∷ xs) = flat_map-append f (g x) (flat_map g xs) ∙ ap (λ zs. flat_map f (g x) ++ zs) (flat_map-flat_map f g xs)
+
+pub map-flat_map : {X Y Z : Type 0} (f : Y → Z) (g : X → List Y) (xs : List X) → map f (flat_map g xs) ≡ flat_map (λ x. map f (g x)) xs
+map-flat_map f g [] = refl
+map-flat_map f g (x ∷ xs) = map-append f (g x) (flat_map g xs) ∙ ap (λ zs. map f (g x) ++ zs) (map-flat_map f g xs)
+
+pub flat_map-id : (zs : List ℤ) → flat_map (λ z. z ∷ []) zs ≡ zs
+flat_map-id [] = refl
+flat_map-id (z ∷ zs) = ap (λ rest. z ∷ rest) (flat_map-id zs)
+
+-- ---- numbers in steps
+
+pub times-one : (s : ℤ) → s *ℤ pos 1 ≡ s
+unfolding one
+times-one s = *ℤ-one s
+
+-- a step more
+times-more : (s : ℤ) (k : ℕ) → s *ℤ pos (k + 1) ≡ s *ℤ pos k +ℤ s
+times-more s k = *ℤ-more s k ∙ ap (λ z. s *ℤ pos k +ℤ z) (times-one s)
+
+moved : (at s p q : ℤ) → q ≡ p +ℤ s → at +ℤ q ≡ (at +ℤ s) +ℤ p
+moved at s p q is = omega (arith, ints)
+
+-- so many steps, from one step on
+pub steps_later : (at s : ℤ) (k : ℕ) → at +ℤ s *ℤ pos (suc k) ≡ (at +ℤ s) +ℤ s *ℤ pos k
+steps_later at s k = moved at s (s *ℤ pos k) (s *ℤ pos (suc k)) (ap (λ n. s *ℤ pos n) (sym (add-one k)) ∙ times-more s k)
+
+numbers-later : (at s : ℤ) (a n : ℕ) → map (λ k. at +ℤ s *ℤ pos k) (range_with_len (a + 1) n) ≡ map (λ k. (at +ℤ s) +ℤ s *ℤ pos k) (range_with_len a n)
+numbers-later at s a zero = refl
+numbers-later at s a (suc n) =
+    ap (λ z. z ∷ map (λ k. at +ℤ s *ℤ pos k) (range_with_len (a + 1 + 1) n)) (moved at s (s *ℤ pos a) (s *ℤ pos (a + 1)) (times-more s a)) ∙ ap (λ zs. ((at +ℤ s) +ℤ s *ℤ pos a) ∷ zs) (numbers-later at s (a + 1) n)
+
+none_more : (at s : ℤ) → at +ℤ s *ℤ pos 0 ≡ at
+none_more at s = ap (λ z. at +ℤ z) (*ℤ-zero s) ∙ +ℤ_idr at
+
+pub numbers-suc : (at s : ℤ) (n : ℕ) → numbers_from at s (suc n) ≡ at ∷ numbers_from (at +ℤ s) s n
+numbers-suc at s n = ap (λ z. z ∷ map (λ k. at +ℤ s *ℤ pos k) (range_with_len (0 + 1) n)) (none_more at s) ∙ ap (λ zs. at ∷ zs) (numbers-later at s 0 n)
+
+-- the first m numbers, and then those after them
+pub numbers-split : (at s : ℤ) (m n : ℕ) → numbers_from at s (m + n) ≡ numbers_from at s m ++ numbers_from (at +ℤ s *ℤ pos m) s n
+numbers-split at s zero n =
+    let none : zero + n ≡ n = omega arith in
+    ap (numbers_from at s) none ∙ ap (λ z. numbers_from z s n) (sym (none_more at s))
+numbers-split at s (suc m) n =
+    let head : suc m + n ≡ suc (m + n) = omega arith in
+    ap (numbers_from at s) head ∙ numbers-suc at s (m + n) ∙ ap (λ zs. at ∷ zs) (numbers-split (at +ℤ s) s m n) ∙ ap (λ z. at ∷ numbers_from (at +ℤ s) s m ++ numbers_from z s n) (sym (steps_later at s m)) ∙ ap (λ zs. zs ++ numbers_from (at +ℤ s *ℤ pos (suc m)) s n) (sym (numbers-suc at s m))
+
+-- n times m numbers, where one step leads over m steps
+pub numbers-times : (at s t : ℤ) (m n : ℕ) → t ≡ s *ℤ pos m → numbers_from at s (n * m) ≡ flat_map (λ next. numbers_from next s m) (numbers_from at t n)
+numbers-times at s t m zero over = ap (numbers_from at s) (zero-mul m)
+numbers-times at s t m (suc n) over =
+    let more : suc n * m ≡ m + n * m = omega (arith, suc-mul n m) in
+    ap (numbers_from at s) more ∙ numbers-split at s m (n * m) ∙ ap (λ z. numbers_from at s m ++ numbers_from (at +ℤ z) s (n * m)) (sym over) ∙ ap (λ zs. numbers_from at s m ++ zs) (numbers-times (at +ℤ t) s t m n over) ∙ ap (flat_map (λ next. numbers_from next s m)) (sym (numbers-suc at t n))
+
+-- ---- the addresses that axes lead to
+
+-- in C order, from an address on
+abbrev pub addresses : ℤ → List StridedAxis → List ℤ
+addresses at [] = at ∷ []
+addresses at (axis ∷ axes) = flat_map (λ next. addresses next axes) (numbers_from at axis.stride axis.len)
+
+pub flat_map-one : {Y : Type 0} (f : ℤ → List Y) (at s : ℤ) → flat_map f (numbers_from at s 1) ≡ f at
+flat_map-one f at s = append-nil (f (at +ℤ s *ℤ pos 0)) ∙ ap f (none_more at s)
+
+-- an axis of length 1
+addresses-single : (at : ℤ) (axis : StridedAxis) (axes : List StridedAxis) → axis.len ≡ 1 → addresses at axes ≡ addresses at (axis ∷ axes)
+addresses-single at axis axes one =
+    sym (flat_map-one (λ next. addresses next axes) at axis.stride) ∙ ap (λ n. flat_map (λ next. addresses next axes) (numbers_from at axis.stride n)) (sym one)
+
+addresses-merged : (at : ℤ) (outer inner : StridedAxis) (axes : List StridedAxis) → outer.stride ≡ inner.stride *ℤ pos inner.len → addresses at (record { len = outer.len * inner.len; stride = inner.stride } ∷ axes) ≡ addresses at (outer ∷ inner ∷ axes)
+addresses-merged at outer inner axes over =
+    ap (flat_map (λ next. addresses next axes)) (numbers-times at inner.stride outer.stride inner.len outer.len over) ∙ flat_map-flat_map (λ next. addresses next axes) (λ next. numbers_from next inner.stride inner.len) (numbers_from at outer.stride outer.len)
+
+pub addresses-join_outside : (at : ℤ) (axis : StridedAxis) (axes : List StridedAxis) → addresses at (join_outside axis axes) ≡ addresses at (axis ∷ axes)
+addresses-join_outside at axis [] =
+    cond_both (axis.len == 1) [] (axis ∷ []) (λ made. addresses at made ≡ addresses at (axis ∷ [])) (λ one. addresses-single at axis [] (eqb-true axis.len 1 one)) (λ _. refl)
+addresses-join_outside at axis (inner ∷ axes) =
+    let merged : StridedAxis = record { len = axis.len * inner.len; stride = inner.stride } in
+    cond_both (axis.len == 1) (inner ∷ axes) _ (λ made. addresses at made ≡ addresses at (axis ∷ inner ∷ axes)) (λ one. addresses-single at axis (inner ∷ axes) (eqb-true axis.len 1 one)) (λ _.
+    cond_both (leads_over axis inner) (merged ∷ axes) (axis ∷ inner ∷ axes) (λ made. addresses at made ≡ addresses at (axis ∷ inner ∷ axes)) (λ over. addresses-merged at axis inner axes ((Decides-int_eq axis.stride (inner.stride *ℤ pos inner.len)).0 over)) (λ _. refl))
+
+pub addresses-joined : (at : ℤ) (axes : List StridedAxis) → addresses at (joined axes) ≡ addresses at axes
+addresses-joined at [] = refl
+addresses-joined at (axis ∷ axes) =
+    addresses-join_outside at axis (joined axes) ∙ flat_map_same (λ next. addresses next (joined axes)) (λ next. addresses next axes) (λ next. addresses-joined next axes) (numbers_from at axis.stride axis.len)
+
+-- ---- the addresses of a layout
+
+pub addresses-indexes : (at : ℤ) (strides : List ℤ) (shape : List ℕ) → length strides ≡ length shape → addresses at (strided_axes strides shape) ≡ map (λ index. at +ℤ dot strides index) (indexes shape)
+addresses-indexes at [] [] same = ap (λ z. z ∷ []) (sym (+ℤ_idr at))
+addresses-indexes at [] (n ∷ shape) same = absurd (omega arith)
+addresses-indexes at (s ∷ strides) [] same = absurd (omega arith)
+addresses-indexes at (s ∷ strides) (n ∷ shape) same =
+    let later : ℤ → List ℤ = λ next. addresses next (strided_axes strides shape) in
+    let whole : List ℕ → ℤ = λ index. at +ℤ dot (s ∷ strides) index in
+    let one : (k : ℕ) → later (at +ℤ s *ℤ pos k) ≡ map whole (map (λ i. k ∷ i) (indexes shape)) = λ k.
+    addresses-indexes (at +ℤ s *ℤ pos k) strides shape (omega arith) ∙ map_same (λ i. (at +ℤ s *ℤ pos k) +ℤ dot strides i) (λ i. whole (k ∷ i)) (λ i. +ℤ_assoc at (s *ℤ pos k) (dot strides i)) (indexes shape) ∙ sym (map-map whole (λ i. k ∷ i) (indexes shape)) in
+    flat_map-map later (λ k. at +ℤ s *ℤ pos k) (range_with_len 0 n) ∙ flat_map_same (λ k. later (at +ℤ s *ℤ pos k)) (λ k. map whole (map (λ i. k ∷ i) (indexes shape))) one (range_with_len 0 n) ∙ sym (map-flat_map whole (λ k. map (λ i. k ∷ i) (indexes shape)) (range_with_len 0 n))
+
+-- as the axes lead to them, joined or not
+pub offsets-addresses : (l : Layout) → offsets l ≡ map natural (addresses (pos l.offset) (strided_axes l.strides l.shape))
+unfolding offsets
+offsets-addresses l =
+    sym (ap (map natural) (addresses-indexes (pos l.offset) l.strides l.shape l.one_stride_an_axis) ∙ map-map natural (address l) (indexes l.shape))
+
+pub offsets-joined : (l : Layout) → offsets l ≡ map natural (addresses (pos l.offset) (joined (strided_axes l.strides l.shape)))
+offsets-joined l = offsets-addresses l ∙ ap (map natural) (sym (addresses-joined (pos l.offset) (strided_axes l.strides l.shape)))

@@ -1,0 +1,34 @@
+-- How far a walk over two layouts has come.
+use Rattle.std.specs.Prelude.{◌≡◌, ℕ, ◌≤◌, ℤ, pos, ◌+ℤ◌, ◌≤ℤ◌, List, [], ◌∷◌, length, Option, Some, None}
+use Rattle.std.specs.List.{AllByRecursion as Each}
+use Rattle.elem_descr.specs.Steps.{numbers_from}
+use Rattle.shape_strides.specs.declared.runs.Run.{Run}
+use Rattle.shape_strides.specs.declared.run_pairs.RunPair.{RunPair}
+use Rattle.shape_strides.specs.Limits.{max_bytes, max_items}
+use Rattle.shape_strides.specs.RunPairs.{all_offsets}
+
+-- an item begins within the limit of a buffer
+abbrev pub IsInBytes : ℤ → Type 0
+IsInBytes z = (pos 0 ≤ℤ z) × ((z +ℤ pos 1) ≤ℤ pos max_bytes)
+
+-- a run with items, each of which does
+pub record IsWhole (run : Run) : Type 0 where
+  pub some : 1 ≤ run.count
+  pub few : run.count ≤ max_items
+  pub lies : Each IsInBytes (numbers_from (pos run.offset) run.step run.count)
+
+abbrev pub AreWhole : List Run → Type 0
+AreWhole [] = Unit {0}
+AreWhole (run ∷ runs) = IsWhole run × AreWhole runs
+
+-- two walks with as many items left, at most so many
+pub record AreEven (most : ℕ) (xs ys : List Run) : Type 0 where
+  pub whole : AreWhole xs
+  pub whole' : AreWhole ys
+  pub same : length (all_offsets xs) ≡ length (all_offsets ys)
+  pub few : length (all_offsets xs) ≤ most
+
+-- the walks after a pair, unless they are over
+abbrev pub IsAtPair : Option RunPair → List Run → List Run → Type 0
+IsAtPair None xs ys = Unit {0}
+IsAtPair (Some pair) xs ys = AreEven (length (all_offsets (pair.first ∷ xs))) (pair.first ∷ xs) (pair.second ∷ ys)

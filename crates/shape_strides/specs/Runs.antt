@@ -1,0 +1,33 @@
+-- A layout as runs: stretches in which each item lies one step after the one before it.
+use Rattle.std.specs.Prelude.{◌≡◌, ℕ, ◌==◌, if◌then◌else◌, ℤ, pos, ◌+ℤ◌, List, [], ◌∷◌, map}
+use Rattle.std.specs.List.{flat_map}
+use Rattle.elem_descr.specs.Steps.{numbers_from}
+use Rattle.shape_strides.specs.declared.layout.Layout.{Layout}
+use Rattle.shape_strides.specs.declared.joined.StridedAxis.{StridedAxis}
+use Rattle.shape_strides.specs.declared.runs.Run.{Run}
+use Rattle.shape_strides.specs.Indexes.{count}
+use Rattle.shape_strides.specs.Addresses.{natural}
+use Rattle.shape_strides.specs.Joined.{strided_axes, joined}
+
+-- the offsets of a run's items
+abbrev pub run_offsets : Run → List ℕ
+run_offsets run = map natural (numbers_from (pos run.offset) run.step run.count)
+
+-- a run along an axis, from an offset on
+abbrev pub run_along : StridedAxis → ℕ → Run
+run_along axis offset = record { offset = offset; count = axis.len; step = axis.stride }
+
+-- from an address on, the last axis is one run, and the axes before it lead from run to run; without an axis there is one item
+abbrev pub runs_from : ℤ → List StridedAxis → List Run
+runs_from at [] = record { offset = natural at; count = 1; step = pos 0 } ∷ []
+runs_from at (axis ∷ []) = run_along axis (natural at) ∷ []
+runs_from at (axis ∷ inner ∷ axes) = flat_map (λ next. runs_from next (inner ∷ axes)) (numbers_from at axis.stride axis.len)
+
+-- the runs of a layout, over its axes as they are joined; there are none without items
+unfoldable pub runs : Layout → List Run
+runs l = if count l.shape == 0 then [] else runs_from (pos l.offset) (joined (strided_axes l.strides l.shape))
+
+-- each number is the one before it and the step
+abbrev pub GoesBy : ℤ → List ℕ → Type 0
+GoesBy step (a ∷ b ∷ numbers) = (pos b ≡ pos a +ℤ step) × GoesBy step (b ∷ numbers)
+GoesBy step _ = Unit {0}

@@ -1,0 +1,138 @@
+//! The items of two layouts with as many items, run by run.
+ghost use Rattle.std.specs.Prelude.{◌≡◌, [], ◌∷◌, ◌<◌, ◌≤◌, ℕ, ℤ, pos, ◌+ℤ◌, ◌*ℤ◌, ◌≤ℤ◌, length, All, IfOk};
+ghost use Rattle.std.specs.List.{flat_map};
+ghost use Rattle.shape_strides.specs.Limits.{max_items, max_bytes};
+ghost use Rattle.shape_strides.specs.Indexes.{count};
+ghost use Rattle.shape_strides.specs.Addresses.{LieWithin};
+ghost use Rattle.shape_strides.specs.Layouts.{offsets, Fits};
+ghost use Rattle.shape_strides.specs.Runs.{run_offsets, GoesBy};
+ghost use Rattle.shape_strides.specs.RunPairs.{run_front, cut, run_pairs};
+ghost use Rattle.shape_strides.specs.PairWalks.{IsWhole};
+ghost use Rattle.shape_strides.specs.inside.Heads.{IsHead, both};
+
+use crate::layout::Layout;
+use crate::runs::{Run, Runs};
+use std::alloc::{AllocError, Global};
+use std::marker::Model;
+
+/// Runs of as many items in two layouts.
+#[derive(Clone, Copy, Drop)]
+pub struct RunPair {
+    pub first: Run,
+    pub second: Run,
+}
+
+/// Where the item is that is so many steps after a run's first.
+fn offset_after(run: Run, steps: usize) -> usize
+    requires start { run.offset ≤ max_bytes }
+    requires steps { steps ≤ max_items }
+    requires low { pos 0 ≤ℤ (pos run.offset +ℤ run.step *ℤ pos steps) }
+    requires high { (pos run.offset +ℤ run.step *ℤ pos steps) ≤ℤ pos max_bytes }
+    ensures { pos result ≡ pos run.offset +ℤ run.step *ℤ pos steps }
+{
+    (run.offset as isize + run.step * steps as isize) as usize
+}
+
+/// The first `n` items of a run.
+fn front(run: Run, n: usize) -> Run
+    ensures { result ≡ run_front n run }
+{
+    Run {
+        offset: run.offset,
+        count: n,
+        step: run.step,
+    }
+}
+
+/// What follows the first `n` items of a run, before the other runs: the rest of it, or the next
+/// one.
+fn after(runs: &mut Runs, run: Run, n: usize) -> Option<Run>
+    requires run { IsWhole run }
+    requires n { n ≤ run.count }
+    ensures { IsHead result runs.new (cut n run runs.old) }
+{
+    if run.count == n {
+        return runs.next();
+    }
+    Some(Run {
+        offset: offset_after(run, n),
+        count: run.count - n,
+        step: run.step,
+    })
+}
+
+fn both(first: Option<Run>, second: Option<Run>) -> Option<RunPair>
+    ensures { result ≡ both first second }
+{
+    let first = first?;
+    let second = second?;
+    Some(RunPair { first, second })
+}
+
+/// The items of two layouts with as many items, each in C order, seen as the list of the pairs of
+/// runs that are left. A step takes no memory.
+#[derive(Drop)]
+pub struct RunPairs {
+    at: Option<RunPair>,
+    first: Runs,
+    second: Runs,
+}
+
+impl Model for RunPairs {
+    ghost use Rattle.std.specs.Prelude.{List};
+    ghost use Rattle.shape_strides.specs.declared.run_pairs.RunPair.{RunPair};
+
+    ghost Value = { List RunPair };
+
+    ghost use Rattle.shape_strides.specs.RunPairs.{pairs_left};
+    ghost use Rattle.shape_strides.specs.PairWalks.{IsAtPair};
+
+    ghost view = { λ r. pairs_left r.at r.first r.second };
+
+    ghost invariant = { λ r. IsAtPair r.at r.first r.second };
+}
+
+impl RunPairs {
+    /// The pairs of runs of two layouts. A pair ends wherever a run of either layout ends.
+    pub fn new(alloc: Global, first: &Layout, second: &Layout) -> Result<RunPairs, AllocError>
+        requires { count first.now.shape ≡ count second.now.shape }
+        ensures pairs { IfOk result (λ left. left ≡ run_pairs first.now second.now) }
+        ensures first { flat_map (λ pair. run_offsets pair.first) (run_pairs first.now second.now) ≡ offsets first.now }
+        ensures second { flat_map (λ pair. run_offsets pair.second) (run_pairs first.now second.now) ≡ offsets second.now }
+        ensures first_lie { (len item : ℕ) → Fits first.now len item → All (λ pair. LieWithin (pair.first.count ∷ []) (pair.first.step ∷ []) pair.first.offset len item) (run_pairs first.now second.now) }
+        ensures second_lie { (len item : ℕ) → Fits second.now len item → All (λ pair. LieWithin (pair.second.count ∷ []) (pair.second.step ∷ []) pair.second.offset len item) (run_pairs first.now second.now) }
+        ensures counts { All (λ pair. pair.first.count ≡ pair.second.count) (run_pairs first.now second.now) }
+        ensures alone { (step other : ℤ) → 0 < count first.now.shape → GoesBy step (offsets first.now) → GoesBy other (offsets second.now) → length (run_pairs first.now second.now) ≡ 1 }
+    {
+        let _lengths = first.shape.as_slice();
+        let mut first = Runs::new(alloc, first)?;
+        let mut second = Runs::new(alloc, second)?;
+        Ok(RunPairs {
+            at: both(first.next(), second.next()),
+            first,
+            second,
+        })
+    }
+}
+
+impl Iterator for RunPairs {
+    ghost use Rattle.std.specs.Iterator.{YieldsFirst, item_count};
+
+    type Item = RunPair;
+
+    ghost next_gives = { YieldsFirst (λ left. left) };
+
+    ghost remaining = { item_count (λ left. left) };
+
+    fn next(&mut self) -> Option<RunPair> {
+        let pair = self.at?;
+        let count = pair.first.count.min(pair.second.count);
+        let first = after(&mut self.first, pair.first, count);
+        let second = after(&mut self.second, pair.second, count);
+        self.at = both(first, second);
+        Some(RunPair {
+            first: front(pair.first, count),
+            second: front(pair.second, count),
+        })
+    }
+}
