@@ -12,6 +12,7 @@ pub mod Meanings
 pub mod Outcomes
 pub mod Parts
 pub mod Steps
+mod Vectors
 pub mod Views
 pub mod Whole
 pub mod Zeros
