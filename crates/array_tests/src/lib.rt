@@ -21,6 +21,8 @@ mod made;
 #[cfg(test)]
 mod names;
 #[cfg(test)]
+mod reshapes;
+#[cfg(test)]
 mod runs;
 #[cfg(test)]
 mod shapes;

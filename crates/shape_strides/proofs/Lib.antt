@@ -13,11 +13,13 @@ pub mod FortranLaws
 pub mod StackLaws
 pub mod StackedLaws
 pub mod JoinedLaws
+pub mod UniqueLaws
 pub mod RunLaws
 pub mod StartLaws
 pub mod FrontLaws
 pub mod PairLaws
 pub mod RunBounds
+pub mod SameLaws
 mod Vectors
 mod JoinedVectors
 mod ContiguityVectors

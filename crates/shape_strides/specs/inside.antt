@@ -1,3 +1,4 @@
 pub mod Reach
 pub mod Starts
 pub mod Heads
+pub mod Alike

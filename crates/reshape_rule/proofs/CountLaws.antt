@@ -1,0 +1,83 @@
+-- A target shape has as many items.
+use Rattle.std.proofs.Common.{◌≡◌, ℕ, ◌*◌, ◌/◌, ◌%◌, ◌≤◌, ◌==◌, not, nat_le, Bool, true, false, ℤ, pos, negsuc, int_le, List, [], ◌∷◌, map, length, Result, Ok, Err, inl, inr, refl, sym, ◌∙◌, ap, arith, mul_assoc, mul_comm, div-add-mod'}
+use Rattle.std.specs.List.{list_all}
+use Rattle.std.specs.Result.{is_ok, IfOk}
+use Rattle.std.proofs.lemmas.Bool.{cases_lt, cases_Bool, and_parts, eqb-true, false≢true}
+use Rattle.elem_descr.specs.declared.refusal.Refusal.{Refusal}
+use Rattle.elem_descr.specs.declared.refusal.Refusal.TheVariants.{TooManyAxes, TooLarge}
+use Rattle.elem_descr.specs.Refusals.{Gives, ◌>>=◌, check}
+use Rattle.shape_strides.specs.Limits.{max_axes, max_items}
+use Rattle.shape_strides.specs.Indexes.{count}
+use Rattle.shape_strides.specs.Shapes.{shape_of}
+use Rattle.reshape_rule.specs.Targets.{left_open, given, make_up, length_or, target_of}
+use Rattle.reshape_rule.proofs.TargetLaws.{target_of-many, target_of-low, target_of-opened, target_of-made}
+
+-- ---- the product of the lengths
+
+count-none_open : (rest : ℕ) (numbers : List ℤ) → left_open numbers ≡ 0 → count (map (length_or rest) numbers) ≡ given numbers
+count-none_open rest [] none = refl
+count-none_open rest (pos n ∷ numbers) none = ap (λ c. n * c) (count-none_open rest numbers none)
+count-none_open rest (negsuc n ∷ numbers) none = absurd (omega arith)
+
+count-one_open : (rest : ℕ) (numbers : List ℤ) → left_open numbers ≡ 1 → count (map (length_or rest) numbers) ≡ given numbers * rest
+count-one_open rest [] one = absurd (omega arith)
+count-one_open rest (pos n ∷ numbers) one = ap (λ c. n * c) (count-one_open rest numbers one) ∙ sym (mul_assoc n (given numbers) rest)
+count-one_open rest (negsuc n ∷ numbers) one = ap (λ c. rest * c) (count-none_open rest numbers (omega arith)) ∙ mul_comm rest (given numbers)
+
+made-none : (items product : ℕ) → make_up items 0 product ≡ true → product ≡ items
+made-none items product made = eqb-true product items made
+
+made-one : (items product : ℕ) → make_up items 1 product ≡ true → product * (items / product) ≡ items
+made-one items product made =
+    let both = and_parts (not (product == 0)) (items % product == 0) made in
+    let whole : items % product ≡ 0 = eqb-true (items % product) 0 both.1 in
+    omega (arith, mul_comm product (items / product), div-add-mod' items product)
+
+count-made : (items : ℕ) (numbers : List ℤ) → left_open numbers ≤ 1 → make_up items (left_open numbers) (given numbers) ≡ true → count (map (length_or (items / given numbers)) numbers) ≡ items
+count-made items numbers few made =
+    elim (cases_lt 0 (left_open numbers)) [
+      | inl some ↦
+          let one : left_open numbers ≡ 1 = omega arith in
+          count-one_open (items / given numbers) numbers one ∙ made-one items (given numbers) (ap (λ o. make_up items o (given numbers)) (sym one) ∙ made)
+      | inr most ↦
+          let none : left_open numbers ≡ 0 = omega arith in
+          count-none_open (items / given numbers) numbers none ∙ made-none items (given numbers) (ap (λ o. make_up items o (given numbers)) (sym none) ∙ made)
+    ]
+
+-- ---- the target
+
+err_is : {A X : Type 0} (e : Refusal) (x : X) → Err e ≡ Ok x → A
+err_is e x same = absurd (false≢true (ap is_ok same))
+
+then-same : (test : Bool) (e : Refusal) (there : Result (List ℕ) Refusal) (shape : List ℕ) → (check test e >>= (λ _. there)) ≡ Ok shape → there ≡ Ok shape
+then-same true e there shape found = found
+then-same false e there shape found = err_is e shape found
+
+same_list : (xs ys : List ℕ) → (let there : Result (List ℕ) Refusal = Ok xs in there) ≡ Ok ys → xs ≡ ys
+same_list xs ys same =
+    ap (λ r. elim r as (λ _. List ℕ) [ Ok zs ↦ zs | Err e ↦ [] ]) same
+
+shape_of-same : (lengths shape : List ℕ) → shape_of lengths ≡ Ok shape → lengths ≡ shape
+unfolding shape_of
+shape_of-same lengths shape found =
+    same_list lengths shape (then-same (nat_le (count lengths) max_items) TooLarge (Ok lengths) shape (then-same (list_all (λ n. nat_le n max_items) lengths) TooLarge _ shape (then-same (nat_le (length lengths) max_axes) TooManyAxes _ shape found)))
+
+target-count : (items : ℕ) (numbers : List ℤ) (shape : List ℕ) → target_of items numbers ≡ Ok shape → count shape ≡ items
+target-count items numbers shape found =
+    elim (cases_lt max_axes (length numbers)) [
+      | inl many ↦ err_is _ shape (sym (target_of-many items numbers many) ∙ found)
+      | inr few ↦ elim (cases_Bool (list_all (int_le (negsuc 0)) numbers)) [
+        | inr low ↦ err_is _ shape (sym (target_of-low items numbers few low) ∙ found)
+        | inl high ↦ elim (cases_lt 1 (left_open numbers)) [
+          | inl more ↦ err_is _ shape (sym (target_of-opened items numbers few high more) ∙ found)
+          | inr one ↦ elim (cases_Bool (make_up items (left_open numbers) (given numbers))) [
+            | inr not ↦ err_is _ shape (sym (target_of-made items numbers false few high one not) ∙ found)
+            | inl made ↦ ap count (sym (shape_of-same _ shape (sym (target_of-made items numbers true few high one made) ∙ found))) ∙ count-made items numbers one made
+          ]
+        ]
+      ]
+    ]
+
+pub given-count : (items : ℕ) (numbers : List ℤ) (result : Result (List ℕ) Refusal) → Gives (λ s. s) result (target_of items numbers) → IfOk result (λ s. count s ≡ items)
+given-count items numbers (Ok shape) there = target-count items numbers shape there
+given-count items numbers (Err e) there = tt

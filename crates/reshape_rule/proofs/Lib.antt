@@ -1,0 +1,5 @@
+pub mod TargetLaws
+pub mod CountLaws
+pub mod RankLaws
+pub mod ReshapeLaws
+mod Vectors

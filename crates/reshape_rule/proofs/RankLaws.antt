@@ -1,0 +1,78 @@
+-- Laws of the index that has a rank, and of the strides that are read off at unit indexes.
+use Rattle.std.proofs.Common.{◌≡◌, ℕ, ◌+◌, ◌*◌, ◌/◌, ◌%◌, ◌<◌, ◌≤◌, nat_le, true, pos, ◌-ℤ◌, List, [], ◌∷◌, ◌++◌, length, get_or, drop, sym, ◌∙◌, ap, arith, mod-lt, div-add-mod', mul_comm, mul-div_cancel, mul-le-mul_right}
+use Rattle.std.proofs.lemmas.Bool.{cond-true}
+use Rattle.std.proofs.lemmas.Bool.Decides.{nat_tests}
+use Rattle.std.proofs.lemmas.List.{drop_more, append_assoc}
+use Rattle.std.proofs.lemmas.Nat.{div_below}
+use Rattle.shape_strides.specs.declared.layout.Layout.{Layout}
+use Rattle.shape_strides.specs.Limits.{max_bytes}
+use Rattle.shape_strides.specs.Indexes.{count, rank, IsIndex}
+use Rattle.shape_strides.specs.Contiguity.{printed_stride, printed_strides}
+use Rattle.shape_strides.proofs.IndexLaws.{pos_of_factor}
+use Rattle.shape_strides.proofs.CountLaws.{count-drop, factors_pos}
+use Rattle.shape_strides.proofs.LayoutLaws.{length-offsets, offsets_within}
+use Rattle.shape_strides.proofs.ContiguityLaws.{entry-first}
+use Rattle.reshape_rule.specs.inside.Ranks.{unranked}
+
+-- ---- the index that has a rank
+
+pub unranked-is : (shape : List ℕ) (k : ℕ) → k < count shape → IsIndex shape (unranked shape k) × (rank shape (unranked shape k) ≡ k)
+unranked-is [] k below = (tt, omega arith)
+unranked-is (n ∷ shape) k below =
+    let c = count shape in
+    let some : 0 < c = pos_of_factor n c k below in
+    let rest = unranked-is shape (k % c) (mod-lt k some) in
+    ((div_below k c n some below, rest.0), ap (λ r. k / c * c + r) rest.1 ∙ div-add-mod' k c)
+
+-- the items of the axes after one
+pub record Later (lengths : List ℕ) (k items : ℕ) : Type 0 where
+  pub len : 0 < get_or lengths k 0
+  pub some : 0 < items / get_or lengths k 0
+  pub is : items / get_or lengths k 0 ≡ count (drop (k + 1) lengths)
+  pub whole : items ≡ get_or lengths k 0 * count (drop (k + 1) lengths)
+
+pub later : (lengths : List ℕ) (k items : ℕ) → k < length lengths → 0 < items → items ≡ count (drop k lengths) → Later lengths k items
+later lengths k items below some is =
+    let n = get_or lengths k 0 in
+    let c = count (drop (k + 1) lengths) in
+    let whole : items ≡ n * c = is ∙ count-drop lengths k below in
+    let both = factors_pos n c (omega arith) in
+    let step : items / n ≡ c = ap (λ x. x / n) (whole ∙ mul_comm n c) ∙ mul-div_cancel c both.0 in
+    record { len = both.0; some = omega (arith, both.1); is = step; whole = whole }
+
+-- one more number of the index
+pub unranked-more : (lengths : List ℕ) (k items left : ℕ) → k < length lengths → Later lengths k items → unranked (drop k lengths) left ≡ left / (items / get_or lengths k 0) ∷ unranked (drop (k + 1) lengths) (left % (items / get_or lengths k 0))
+unranked-more lengths k items left below l =
+    ap (λ s. unranked s left) (drop_more lengths k 0 below) ∙ ap (λ c. left / c ∷ unranked (drop (k + 1) lengths) (left % c)) (sym l.is)
+
+pub pushed_onto : {A : Type 0} (made new rest all : List A) (x : A) (left : List A) → new ≡ made ++ x ∷ [] → left ≡ x ∷ rest → made ++ left ≡ all → new ++ rest ≡ all
+pushed_onto made new rest all x left is next so_far = ap (λ m. m ++ rest) is ∙ append_assoc made (x ∷ []) rest ∙ ap (λ l. made ++ l) (sym next) ∙ so_far
+
+-- ---- strides
+
+-- one more stride
+pub printed-more : (lengths list : List ℕ) (k items : ℕ) → k < length lengths → Later lengths k items → printed_strides (drop k lengths) list ≡ printed_stride (get_or lengths k 0) (items / get_or lengths k 0) list ∷ printed_strides (drop (k + 1) lengths) list
+printed-more lengths list k items below l =
+    ap (λ s. printed_strides s list) (drop_more lengths k 0 below) ∙ ap (λ c. printed_stride (get_or lengths k 0) c list ∷ printed_strides (drop (k + 1) lengths) list) (sym l.is)
+
+-- index 1 of an axis of 2 items or more
+pub unit-below : (lengths : List ℕ) (k items total : ℕ) → Later lengths k items → items ≤ total → 2 ≤ get_or lengths k 0 → items / get_or lengths k 0 < total
+unit-below lengths k items total l low long =
+    let c = count (drop (k + 1) lengths) in
+    let grown : 2 * c ≤ get_or lengths k 0 * c = mul-le-mul_right c long in
+    let some : 0 < c = omega (arith, l.some, l.is) in
+    omega (arith, l.is, l.whole)
+
+pub later-below : (lengths : List ℕ) (k items total : ℕ) → Later lengths k items → items ≤ total → items / get_or lengths k 0 ≤ total
+later-below lengths k items total l low =
+    let c = count (drop (k + 1) lengths) in
+    let grown : 1 * c ≤ get_or lengths k 0 * c = mul-le-mul_right c l.len in
+    omega (arith, l.is, l.whole)
+
+pub first_low : (l : Layout) → 0 < count l.shape → l.offset < max_bytes
+first_low l some = omega (arith, entry-first l some, offsets_within l max_bytes 1 l.within_limit 0 0 (omega (arith, length-offsets l)))
+
+pub stride-long : (len place first at : ℕ) (list : List ℕ) → 2 ≤ len → get_or list 0 0 ≡ first → at ≡ get_or list place 0 → pos at -ℤ pos first ≡ printed_stride len place list
+stride-long len place first at list long is entry =
+    let test : nat_le 2 len ≡ true = grind (arith, nat_tests) in
+    ap (λ a. pos a -ℤ pos first) entry ∙ ap (λ f. pos (get_or list place 0) -ℤ pos f) (sym is) ∙ sym (cond-true (nat_le 2 len) _ _ test)

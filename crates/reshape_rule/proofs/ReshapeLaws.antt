@@ -1,0 +1,132 @@
+-- Laws of reshaping without a copy: the strides at unit indexes are the only ones.
+use Rattle.std.proofs.Common.{◌≡◌, ◌↔◌, Bool, ℕ, zero, suc, ◌+◌, ◌<◌, ◌≤◌, nat_le, true, ℤ, pos, ◌+ℤ◌, ◌-ℤ◌, ◌*ℤ◌, ◌≤ℤ◌, List, [], ◌∷◌, length, get_or, drop, refl, sym, ◌∙◌, ap, subst, arith}
+use Rattle.std.proofs.lemmas.Bool.{cond-true}
+use Rattle.std.proofs.lemmas.Bool.Decides.{nat_tests}
+use Rattle.std.proofs.lemmas.Grind.{get_or_default_zero}
+use Rattle.std.proofs.lemmas.Bool.Decides.{Decides-int_eq}
+use Rattle.std.specs.Ordering.{int_eq}
+use Rattle.std.proofs.lemmas.List.Sums.{AllPass-from_list_all, list_all-from_AllPass}
+use Rattle.std.proofs.lemmas.Int.{ints}
+use Rattle.std.proofs.lemmas.List.{same_lists}
+use lib.IntN.{*ℤ-zero, +ℤ_idr}
+use Rattle.shape_strides.specs.declared.layout.Layout.{Layout}
+use Rattle.shape_strides.specs.Limits.{max_bytes}
+use Rattle.shape_strides.specs.Indexes.{count, indexes, rank, IsIndex}
+use Rattle.shape_strides.specs.Addresses.{dot, natural, address_at, LieWithin}
+use Rattle.shape_strides.specs.Layouts.{address, offsets}
+use Rattle.shape_strides.specs.Contiguity.{first_address, printed_strides}
+use Rattle.shape_strides.proofs.IndexLaws.{length-indexes, get_or-indexes, rank-lt, index_at}
+use Rattle.shape_strides.proofs.LayoutLaws.{length-offsets, get_or-offsets, pos-offset, offsets_within}
+use Rattle.shape_strides.proofs.StepLaws.{padded, dot-zeros, rank-zeros}
+use Rattle.shape_strides.proofs.AdvanceLaws.{IsIndex-first}
+use Rattle.shape_strides.proofs.ContiguityLaws.{entry-first, first_address-entry, unit, IsIndex-unit, rank-unit, dot-unit, printed-at, length-printed}
+use Rattle.shape_strides.proofs.SameLaws.{Fits-same}
+use Rattle.reshape_rule.specs.Reshapes.{IsAffine, is_affine, IsReshapeOf}
+
+-- ---- the only strides
+
+-- strides that differ on axes of length 1 alone lead to the same places
+dot-same : (shape : List ℕ) (s t : List ℤ) (index : List ℕ) → length s ≡ length shape → length t ≡ length shape → ((axis : ℕ) → axis < length shape → 2 ≤ get_or shape axis 0 → get_or s axis (pos 0) ≡ get_or t axis (pos 0)) → IsIndex shape index → dot s index ≡ dot t index
+dot-same [] [] [] index same same' are in' = refl
+dot-same [] (x ∷ s) t index same same' are in' = absurd (omega arith)
+dot-same [] [] (y ∷ t) index same same' are in' = absurd (omega arith)
+dot-same (n ∷ shape) [] t index same same' are in' = absurd (omega arith)
+dot-same (n ∷ shape) (x ∷ s) [] index same same' are in' = absurd (omega arith)
+dot-same (n ∷ shape) (x ∷ s) (y ∷ t) [] same same' are in' = absurd in'
+dot-same (n ∷ shape) (x ∷ s) (y ∷ t) (zero ∷ index) same same' are in' =
+    ap (λ z. z +ℤ dot s index) (*ℤ-zero x ∙ sym (*ℤ-zero y)) ∙ ap (λ z. y *ℤ pos 0 +ℤ z) (dot-same shape s t index (omega arith) (omega arith) (λ axis below long. are (suc axis) (omega arith) long) in'.1)
+dot-same (n ∷ shape) (x ∷ s) (y ∷ t) (suc k ∷ index) same same' are in' =
+    ap (λ z. z *ℤ pos (suc k) +ℤ dot s index) (are 0 (omega arith) (omega (arith, in'.0))) ∙ ap (λ z. y *ℤ pos (suc k) +ℤ z) (dot-same shape s t index (omega arith) (omega arith) (λ axis below long. are (suc axis) (omega arith) long) in'.1)
+
+affine-first : (list shape : List ℕ) → 0 < count shape → (affine : IsAffine list shape) → pos (get_or list 0 0) ≡ affine.first
+affine-first list shape some affine =
+    ap (λ r. pos (get_or list r 0)) (sym (rank-zeros shape)) ∙ affine.leads (padded shape []) (IsIndex-first shape some) ∙ ap (λ z. affine.first +ℤ z) (dot-zeros affine.strides shape) ∙ +ℤ_idr affine.first
+
+difference : (a b f s : ℤ) → a ≡ f +ℤ s → b ≡ f → a -ℤ b ≡ s
+difference a b f s is is' = omega (arith, ints)
+
+affine-stride : (list shape : List ℕ) → 0 < count shape → (affine : IsAffine list shape) (axis : ℕ) → axis < length shape → 2 ≤ get_or shape axis 0 → get_or (printed_strides shape list) axis (pos 0) ≡ get_or affine.strides axis (pos 0)
+affine-stride list shape some affine axis below long =
+    let test : nat_le 2 (get_or shape axis 0) ≡ true = grind (arith, nat_tests) in
+    let at : pos (get_or list (count (drop (suc axis) shape)) 0) ≡ affine.first +ℤ get_or affine.strides axis (pos 0) =
+    ap (λ r. pos (get_or list r 0)) (sym (rank-unit shape axis below)) ∙ affine.leads (unit shape axis) (IsIndex-unit shape axis some below long) ∙ ap (λ z. affine.first +ℤ z) (dot-unit affine.strides shape axis affine.one_stride_an_axis below) in
+    printed-at shape list axis below ∙ cond-true (nat_le 2 (get_or shape axis 0)) _ _ test ∙ difference _ _ affine.first (get_or affine.strides axis (pos 0)) at (affine-first list shape some affine)
+
+-- an affine list is led to by the strides at unit indexes
+pub affine-address : (list shape : List ℕ) (first : ℕ) → 0 < count shape → get_or list 0 0 ≡ first → IsAffine list shape → (index : List ℕ) → IsIndex shape index → address_at (printed_strides shape list) first index ≡ pos (get_or list (rank shape index) 0)
+affine-address list shape first some is affine index in' =
+    let start : pos first ≡ affine.first = ap pos (sym is) ∙ affine-first list shape some affine in
+    ap (λ z. z +ℤ dot (printed_strides shape list) index) start ∙ ap (λ z. affine.first +ℤ z) (dot-same shape (printed_strides shape list) affine.strides index (length-printed shape list) affine.one_stride_an_axis (affine-stride list shape some affine) in') ∙ sym (affine.leads index in')
+
+-- ---- layouts
+
+pub affine-lies : (old : Layout) (shape : List ℕ) → 0 < count shape → count shape ≡ count old.shape → IsAffine (offsets old) shape → LieWithin shape (printed_strides shape (offsets old)) old.offset max_bytes 1
+affine-lies old shape some same affine =
+    let first = entry-first old (omega arith) in
+    let ends : (index : List ℕ) → IsIndex shape index → get_or (offsets old) (rank shape index) 0 + 1 ≤ max_bytes = λ index in'. offsets_within old max_bytes 1 old.within_limit (rank shape index) 0 (omega (arith, rank-lt shape index in', length-offsets old)) in
+    record {
+      from_zero = λ index in'. subst (λ z. pos 0 ≤ℤ z) (sym (affine-address (offsets old) shape old.offset some first affine index in')) (omega (arith, ints));
+      within = λ index in'. subst (λ z. (z +ℤ pos 1) ≤ℤ pos max_bytes) (sym (affine-address (offsets old) shape old.offset some first affine index in')) (omega (arith, ints, ends index in'));
+    }
+
+-- a layout with these numbers
+pub record HasUnitStrides (old new : Layout) (shape : List ℕ) : Type 0 where
+  pub shape_is : new.shape ≡ shape
+  pub strides_are : new.strides ≡ printed_strides shape (offsets old)
+  pub offset_is : new.offset ≡ old.offset
+
+pub affine-offsets : (old new : Layout) (shape : List ℕ) → 0 < count shape → count shape ≡ count old.shape → HasUnitStrides old new shape → IsAffine (offsets old) shape → offsets new ≡ offsets old
+affine-offsets old new shape some same has affine =
+    let size : length (offsets new) ≡ count shape = length-offsets new ∙ ap count has.shape_is in
+    same_lists (offsets new) (offsets old) (size ∙ same ∙ sym (length-offsets old)) (λ k d below.
+    let found = index_at shape k (omega arith) in
+    let in' : IsIndex new.shape found.0 = subst (λ s. IsIndex s found.0) (sym has.shape_is) found.1 in
+    let place : rank new.shape found.0 ≡ k = ap (λ s. rank s found.0) has.shape_is ∙ found.2 in
+    let is : address new found.0 ≡ pos (get_or (offsets old) k 0) =
+    ap (λ s. pos new.offset +ℤ dot s found.0) has.strides_are ∙ ap (λ o. address_at (printed_strides shape (offsets old)) o found.0) has.offset_is ∙ affine-address (offsets old) shape old.offset some (entry-first old (omega arith)) affine found.0 found.1 ∙ ap (λ r. pos (get_or (offsets old) r 0)) found.2 in
+    ap (λ r. get_or (offsets new) r d) (sym place) ∙ get_or-offsets new found.0 d in' ∙ ap natural is ∙ sym (get_or_default_zero (offsets old) k d (omega (arith, length-offsets old))))
+
+-- any layout is affine in its shape
+pub offsets-affine : (old new : Layout) (shape : List ℕ) → new.shape ≡ shape → offsets new ≡ offsets old → IsAffine (offsets old) shape
+offsets-affine old new shape is same = record {
+  first = pos new.offset;
+  strides = new.strides;
+  one_stride_an_axis = new.one_stride_an_axis ∙ ap length is;
+  leads = λ index in'.
+      let in-new : IsIndex new.shape index = subst (λ s. IsIndex s index) (sym is) in' in
+      ap (λ s. pos (get_or (offsets old) (rank s index) 0)) (sym is) ∙ ap (λ l. pos (get_or l (rank new.shape index) 0)) (sym same) ∙ pos-offset new index 0 in-new;
+}
+
+pub reshape-of : (old new : Layout) (shape : List ℕ) → new.shape ≡ shape → offsets new ≡ offsets old → IsReshapeOf old new shape
+reshape-of old new shape is same = record { shape_is = is; places = same; fits = λ len item fits. Fits-same old new len item same fits }
+
+-- ---- the test
+
+at_unit : List ℕ → List ℕ → List ℕ → Bool
+at_unit list shape index = int_eq (address_at (printed_strides shape list) (first_address list) index) (pos (get_or list (rank shape index) 0))
+
+pub affine-from_test : (list shape : List ℕ) → is_affine list shape ≡ true → IsAffine list shape
+unfolding at_unit
+affine-from_test list shape test =
+    let all = AllPass-from_list_all (at_unit list shape) (indexes shape) test in
+    record {
+      first = pos (first_address list);
+      strides = printed_strides shape list;
+      one_stride_an_axis = length-printed shape list;
+      leads = λ index in'.
+          let passes : at_unit list shape index ≡ true = ap (at_unit list shape) (sym (get_or-indexes shape index [] in')) ∙ all (rank shape index) [] (omega (arith, length-indexes shape, rank-lt shape index in')) in
+          sym ((Decides-int_eq (address_at (printed_strides shape list) (first_address list) index) (pos (get_or list (rank shape index) 0))).0 passes);
+    }
+
+pub test_from_affine : (list shape : List ℕ) → IsAffine list shape → is_affine list shape ≡ true
+unfolding at_unit
+test_from_affine list shape affine =
+    list_all-from_AllPass (at_unit list shape) (indexes shape) (λ k d below.
+    let some : 0 < count shape = omega (arith, length-indexes shape) in
+    let found = index_at shape k (omega (arith, length-indexes shape)) in
+    let here : get_or (indexes shape) k d ≡ found.0 = ap (λ r. get_or (indexes shape) r d) (sym found.2) ∙ get_or-indexes shape found.0 d found.1 in
+    let passes : at_unit list shape found.0 ≡ true = (Decides-int_eq (address_at (printed_strides shape list) (first_address list) found.0) (pos (get_or list (rank shape found.0) 0))).1 (affine-address list shape (first_address list) some (sym (first_address-entry list)) affine found.0 found.1) in
+    ap (at_unit list shape) here ∙ passes)
+
+pub exact-decided : (list shape : List ℕ) (X : Type 0) → X ↔ IsAffine list shape → X ↔ (is_affine list shape ≡ true)
+exact-decided list shape X exact = (λ x. test_from_affine list shape (exact.0 x), λ test. exact.1 (affine-from_test list shape test))

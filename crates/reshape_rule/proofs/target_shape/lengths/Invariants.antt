@@ -1,0 +1,7 @@
+use Rattle.std.proofs.Common.{◌≡◌, ◌+◌, min, map, take}
+use Rattle.shape_strides.specs.Limits.{max_items}
+use Rattle.reshape_rule.specs.Targets.{length_or}
+use Rattle.reshape_rule.proofs.target_shape.lengths.Given as goal
+
+abbrev pub invariant-loop-number : goal.invariant-loop-number
+invariant-loop-number l = l.lengths.items ≡ map (λ number. min (length_or l.rest number) (max_items + 1)) (take l.number-index l.numbers)

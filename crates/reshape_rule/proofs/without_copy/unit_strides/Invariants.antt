@@ -1,0 +1,13 @@
+use Rattle.std.proofs.Common.{◌≡◌, ◌<◌, ◌≤◌, ◌++◌, drop}
+use Rattle.shape_strides.specs.Indexes.{count}
+use Rattle.shape_strides.specs.Layouts.{offsets}
+use Rattle.shape_strides.specs.Contiguity.{printed_strides}
+use Rattle.reshape_rule.proofs.without_copy.unit_strides.Given as goal
+
+abbrev pub invariant-loop-len : goal.invariant-loop-len
+invariant-loop-len l = record {
+  some : 0 < l.items;
+  low : l.items ≤ count l.layout.shape;
+  items : l.items ≡ count (drop l.len-index l.lengths);
+  made : l.strides ++ printed_strides (drop l.len-index l.lengths) (offsets l.layout) ≡ printed_strides l.lengths (offsets l.layout);
+}

@@ -1,0 +1,39 @@
+-- The shape that the numbers of a reshape mean, as NumPy has it: one of them may be -1, which stands for what is left.
+use Rattle.std.specs.Prelude.{ℕ, ◌+◌, ◌*◌, ◌/◌, ◌%◌, nat_le, ◌==◌, ℤ, pos, negsuc, int_le, Bool, ◌&&◌, not, if◌then◌else◌, List, [], ◌∷◌, length, map, Result}
+use Rattle.std.specs.List.{list_all}
+use Rattle.elem_descr.specs.declared.refusal.Refusal.{Refusal}
+use Rattle.elem_descr.specs.declared.refusal.Refusal.TheVariants.{TooManyAxes, BadReshape}
+use Rattle.elem_descr.specs.Refusals.{◌>>=◌, check}
+use Rattle.shape_strides.specs.Limits.{max_axes}
+use Rattle.shape_strides.specs.Shapes.{shape_of}
+
+-- how many numbers are below 0, and so stand for no length of their own
+abbrev pub left_open : List ℤ → ℕ
+left_open [] = 0
+left_open (pos n ∷ numbers) = left_open numbers
+left_open (negsuc n ∷ numbers) = 1 + left_open numbers
+
+-- the product of the lengths that are given
+abbrev pub given : List ℤ → ℕ
+given [] = 1
+given (pos n ∷ numbers) = n * given numbers
+given (negsuc n ∷ numbers) = given numbers
+
+-- so many lengths that are left open and others of this product make up so many items: one that is left open comes out whole,
+-- and does not stand beside a product of 0
+abbrev pub make_up : ℕ → ℕ → ℕ → Bool
+make_up items opened product = if opened == 0 then product == items else (not (product == 0) && (items % product == 0))
+
+-- a length as it is given, or what is left
+abbrev pub length_or : ℕ → ℤ → ℕ
+length_or rest (pos n) = n
+length_or rest (negsuc n) = rest
+
+-- the shape that the numbers mean for an array of so many items
+unfoldable pub target_of : ℕ → List ℤ → Result (List ℕ) Refusal
+target_of items numbers = do
+  _ ← check (nat_le (length numbers) max_axes) TooManyAxes
+  _ ← check (list_all (int_le (negsuc 0)) numbers) BadReshape
+  _ ← check (nat_le (left_open numbers) 1) BadReshape
+  _ ← check (make_up items (left_open numbers) (given numbers)) BadReshape
+  shape_of (map (length_or (items / given numbers)) numbers)

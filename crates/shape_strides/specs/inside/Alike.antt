@@ -1,0 +1,9 @@
+-- Axes that are compared one by one.
+use Rattle.std.specs.Prelude.{◌==◌, Bool, true, false, ◌&&◌, List, [], ◌∷◌}
+use Rattle.std.specs.Ordering.{int_eq}
+use Rattle.shape_strides.specs.declared.joined.StridedAxis.{StridedAxis}
+
+abbrev pub all_alike : List StridedAxis → List StridedAxis → Bool
+all_alike [] [] = true
+all_alike (x ∷ xs) (y ∷ ys) = (x.len == y.len) && int_eq x.stride y.stride && all_alike xs ys
+all_alike _ _ = false
