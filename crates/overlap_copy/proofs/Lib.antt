@@ -1,3 +1,4 @@
+pub mod CopyLaws
 pub mod MarkLaws
 pub mod OwnedLaws
 pub mod OverlapLaws

@@ -1,0 +1,96 @@
+-- Items that are copied to offsets at which they lie apart.
+use Rattle.std.proofs.Common.{◌≡◌, ◌+◌, ◌≤◌, ◌⊎◌, inl, inr, ℕ, suc, List, [], ◌∷◌, length, map, All, refl, sym, ap, subst, ◌∙◌, arith}
+use Rattle.std.proofs.lemmas.Bool.{cases_lt}
+use Rattle.std.proofs.lemmas.List.Elements.{All-rest, All-head, All-from_get_or}
+use Rattle.std.proofs.lemmas.Simd.{map-map}
+use Rattle.raw_block.specs.Bytes.{put, item_at}
+use Rattle.raw_block.proofs.Puts.{length-item_at, length-put}
+use Rattle.raw_block.proofs.Laws.{item_at-put_same, item_at-put_apart}
+use Rattle.elem_descr.specs.declared.descr.Descr.{Descr}
+use Rattle.elem_descr.specs.Items.{item_size, decode_item}
+use Rattle.elem_descr.specs.Blocks.{item_from}
+use Rattle.shape_strides.specs.Layouts.{IsNested, distance}
+use Rattle.overlap_copy.specs.inside.Copies.{copied_each}
+
+module _ (width : ℕ) (other : List ℕ) where
+  abbrev IsIn : List ℕ → ℕ → Type 0
+  IsIn block offset = offset + width ≤ length block
+
+  -- one item is put into a block
+  put-length : (at offset : ℕ) (block : List ℕ) → IsIn block at → IsIn other offset → length (put at (item_at offset width other) block) ≡ length block
+  put-length at offset block in_block in_other = length-put at (item_at offset width other) block (omega (arith, length-item_at offset width other in_other, in_block))
+
+  read-back : (at offset : ℕ) (block : List ℕ) → IsIn block at → IsIn other offset → item_at at width (put at (item_at offset width other) block) ≡ item_at offset width other
+  read-back at offset block in_block in_other =
+      let long = length-item_at offset width other in_other in
+      let item = item_at offset width other in
+      ap (λ n. item_at at n (put at item block)) (sym long) ∙ item_at-put_same at item block (omega (arith, long, in_block))
+
+  kept-once : (at offset place : ℕ) (block : List ℕ) → IsIn block at → IsIn other offset → IsIn block place → width ≤ distance place at → item_at place width (put at (item_at offset width other) block) ≡ item_at place width block
+  kept-once at offset place block in_block in_other there apart =
+      let long = length-item_at offset width other in_other in
+      let item = item_at offset width other in
+      let sides : place + width ≤ at ⊎ at + length item ≤ place = elim (cases_lt place at) [
+        | inl below ↦ inl (omega (arith, below, apart))
+        | inr above ↦ inr (omega (arith, above, apart, long))
+      ] in
+      item_at-put_apart at item block place width (omega (arith, long, in_block)) there sides
+
+  -- what lies apart from all that are copied is as before
+  kept : (place : ℕ) (to from block : List ℕ) → IsIn block place → All (IsIn block) to → All (IsIn other) from → All (λ at. width ≤ distance place at) to → item_at place width (copied_each to from width other block) ≡ item_at place width block
+  kept place [] from block there in_block in_other apart = refl
+  kept place (at ∷ to) [] block there in_block in_other apart = refl
+  kept place (at ∷ to) (offset ∷ from) block there in_block in_other apart =
+      let here = All-head (IsIn block) at to in_block in
+      let first = All-head (IsIn other) offset from in_other in
+      let same = put-length at offset block here first in
+      let next = put at (item_at offset width other) block in
+      let left : All (IsIn next) to = subst (λ n. All (λ o. o + width ≤ n) to) (sym same) (All-rest (IsIn block) at to (at ∷ to) refl in_block) in
+      kept place to from next (subst (λ n. place + width ≤ n) (sym same) there) left (All-rest (IsIn other) offset from (offset ∷ from) refl in_other) (All-rest (λ o. width ≤ distance place o) at to (at ∷ to) refl apart)
+      ∙ kept-once at offset place block here first there (All-head (λ o. width ≤ distance place o) at to apart)
+
+  apart-first : (at : ℕ) (to : List ℕ) → IsNested (at ∷ to) width → All (λ o. width ≤ distance at o) to
+  apart-first at to nested = All-from_get_or (λ o. width ≤ distance at o) to 0 (λ i inside. nested.apart 0 (suc i) (omega arith) (omega (arith, inside)))
+
+  nested-rest : (at : ℕ) (to : List ℕ) → IsNested (at ∷ to) width → IsNested to width
+  nested-rest at to nested = record { apart = λ j k before inside. nested.apart (suc j) (suc k) (omega (arith, before)) (omega (arith, inside)) }
+
+  -- each item that is copied is read where it was written
+  pub landed : (to from block : List ℕ) → length to ≡ length from → All (IsIn block) to → All (IsIn other) from → IsNested to width → map (λ o. item_at o width (copied_each to from width other block)) to ≡ map (λ o. item_at o width other) from
+  landed [] [] block even in_block in_other nested = refl
+  landed [] (offset ∷ from) block even in_block in_other nested = absurd (omega (arith, even))
+  landed (at ∷ to) [] block even in_block in_other nested = absurd (omega (arith, even))
+  landed (at ∷ to) (offset ∷ from) block even in_block in_other nested =
+      let here = All-head (IsIn block) at to in_block in
+      let first = All-head (IsIn other) offset from in_other in
+      let same = put-length at offset block here first in
+      let next = put at (item_at offset width other) block in
+      let left : All (IsIn next) to = subst (λ n. All (λ o. o + width ≤ n) to) (sym same) (All-rest (IsIn block) at to (at ∷ to) refl in_block) in
+      let left' = All-rest (IsIn other) offset from (offset ∷ from) refl in_other in
+      let one = kept at to from next (subst (λ n. at + width ≤ n) (sym same) here) left left' (apart-first at to nested) ∙ read-back at offset block here first in
+      let more = landed to from next (omega (arith, even)) left left' (nested-rest at to nested) in
+      λ i. one i ∷ more i
+
+-- without an offset on either side nothing is copied
+pub none-from : (to : List ℕ) (width : ℕ) (other block : List ℕ) → copied_each to [] width other block ≡ block
+none-from [] width other block = refl
+none-from (at ∷ to) width other block = refl
+
+pub none-to : (to from to' from' : List ℕ) (width : ℕ) (other block whole : List ℕ) → to ≡ [] → to' ≡ [] → copied_each to from width other block ≡ whole → copied_each to' from' width other block ≡ whole
+none-to to from to' from' width other block whole none none' so_far =
+    ap (λ l. copied_each l from' width other block) none' ∙ ap (λ l. copied_each l from width other block) (sym none) ∙ so_far
+
+-- the next item is copied
+pub copied-next : (to from to' from' : List ℕ) (at offset width : ℕ) (other block block' whole : List ℕ) → to ≡ at ∷ to' → from ≡ offset ∷ from' → block' ≡ put at (item_at offset width other) block → copied_each to from width other block ≡ whole → copied_each to' from' width other block' ≡ whole
+copied-next to from to' from' at offset width other block block' whole first second is so_far =
+    ap (copied_each to' from' width other) is ∙ (λ i. copied_each (sym first i) (sym second i) width other block) ∙ so_far
+
+pub next-inside : (left left' : List ℕ) (offset item len : ℕ) → left ≡ offset ∷ left' → All (λ o. o + item ≤ len) left → offset + item ≤ len
+next-inside left left' offset item len walked inside = All-head (λ o. o + item ≤ len) offset left' (subst (All (λ o. o + item ≤ len)) walked inside)
+
+-- equal bytes are equal items
+pub items-from_bytes : (descr : Descr) (block other to from : List ℕ) → map (λ o. item_at o (item_size descr) block) to ≡ map (λ o. item_at o (item_size descr) other) from → map (item_from descr block) to ≡ map (item_from descr other) from
+items-from_bytes descr block other to from same =
+    sym (map-map (decode_item descr) (λ o. item_at o (item_size descr) block) to)
+    ∙ ap (map (decode_item descr)) same
+    ∙ map-map (decode_item descr) (λ o. item_at o (item_size descr) other) from
