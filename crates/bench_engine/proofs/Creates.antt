@@ -15,7 +15,7 @@ use Rattle.name_store.specs.Arrays.{has_room_for, bound_to, fresh_array}
 use Rattle.name_store.specs.Calls.{AnswersBind, own_array, own_buffer}
 use Rattle.name_store.specs.declared.bound.Bound.TheVariants.{Fresh}
 use Rattle.bench_engine.specs.Contents.{Contents, held, IsInCOrder}
-use Rattle.bench_engine.specs.Contract.{IsRefused, Answers}
+use Rattle.bench_engine.specs.inside.Contract.{IsRefused, Answers}
 use Rattle.bench_engine.specs.Machine.{Choice, creation_outcome, comes_to}
 use Rattle.bench_engine.specs.Replies.{fresh_text}
 

@@ -10,7 +10,7 @@ use Rattle.bench_engine.specs.Meanings.{AnswersLine}
 use Rattle.bench_engine.specs.Replies.{Reply}
 use Rattle.bench_engine.specs.Lines.{ended, unended, trimmed, whole_lines, lines}
 use Rattle.bench_engine.specs.Runs.{Run, Cut, output, reply_line, accepted_count, refused_count}
-use Rattle.bench_engine.specs.Sessions.{HoldsPiece, HoldsBytes, Fed, HasTold, Told, ToldInPart, AnswersHeld}
+use Rattle.bench_engine.specs.inside.Sessions.{HoldsPiece, HoldsBytes, Fed, HasTold, Told, ToldInPart, AnswersHeld}
 use Rattle.bench_engine.proofs.Known.{appends_then, appends_none}
 use Rattle.bench_engine.proofs.Lines.{whole_lines-piece, whole_lines-split, unended-newline, unended-piece, lines-last}
 

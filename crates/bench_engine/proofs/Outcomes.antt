@@ -14,7 +14,7 @@ use Rattle.literal_items.specs.LiteralItems.{item_value}
 use Rattle.name_store.specs.States.{State, Array}
 use Rattle.name_store.specs.Arrays.{find_array, is_bound, has_room_for, bound_view, descr_of, addresses, written, share_cells}
 use Rattle.name_store.specs.Calls.{AnswersShares}
-use Rattle.bench_engine.specs.Contract.{IsRefused}
+use Rattle.bench_engine.specs.inside.Contract.{IsRefused}
 use Rattle.bench_engine.specs.Indices.{basic_items}
 use Rattle.bench_engine.specs.Machine.{viewed, seen, is_carried_out, view_outcome, view_takes_memory, set_outcome, info_outcome, shares_outcome, comes_to}
 use Rattle.bench_engine.specs.Replies.{view_text, info_text, shares_text}

@@ -13,7 +13,7 @@ use Rattle.script_lang.specs.Reading.{needs_room, MayLackRoom, Says}
 use Rattle.name_store.specs.States.{State, Array, Buffer}
 use Rattle.bench_engine.specs.Replies.{Reply, refusal}
 use Rattle.bench_engine.specs.Machine.{Choice, IsAllowed, outcome, settled, may_lack_memory}
-use Rattle.bench_engine.specs.Contract.{IsRefused}
+use Rattle.bench_engine.specs.inside.Contract.{IsRefused}
 use Rattle.bench_engine.specs.Meanings.{Meaning, too_long, says, ReadsAs, Case, Answered}
 
 apart : (q k : ℕ) → k ≢ q → eq_by_cmp nat_cmp q k ≡ false

@@ -26,7 +26,7 @@ use Rattle.name_store.specs.declared.target.Target.TheVariants as target
 use Rattle.name_store.specs.declared.array_ref.ArrayRef.{ArrayRef}
 use Rattle.bench_engine.specs.declared.part.Part.{Part}
 use Rattle.bench_engine.specs.inside.Parts.{IsPart, GivesPart}
-use Rattle.bench_engine.specs.Contract.{Answers, IsRefused}
+use Rattle.bench_engine.specs.inside.Contract.{Answers, IsRefused}
 use Rattle.bench_engine.specs.Machine.{Choice, Outcome, viewed, comes_to}
 use Rattle.bench_engine.proofs.Creates.{starts}
 use Rattle.bench_engine.proofs.Steps.{spare}

@@ -2,7 +2,7 @@
 use Rattle.std.proofs.Common.{◌≡◌, ◌⊎◌, inl, inr, ◌++◌, ap, ◌∙◌, append_assoc, ℕ, List, Option, Some, None, Result, Ok, Err, subst, IfOk, IfSome, IsErrOf}
 use Rattle.bench_engine.specs.declared.session.Session.{Session}
 use Rattle.bench_engine.specs.declared.session.Summary.{Summary}
-use Rattle.bench_engine.specs.Sessions.{Ended}
+use Rattle.bench_engine.specs.inside.Sessions.{Ended}
 use Rattle.bench_engine.specs.declared.runner.RunFault.{RunFault}
 use Rattle.bench_engine.specs.Held.{Finished, AnswersAll, StoppedWriting, AnswersInPart}
 use Rattle.std.specs.Io.KnownBytes.{Consumes, IsAtEnd}

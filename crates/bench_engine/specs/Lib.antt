@@ -1,5 +1,4 @@
 pub mod Contents
-pub mod Contract
 pub mod Held
 pub mod Indices
 pub mod Lines
@@ -7,5 +6,4 @@ pub mod Machine
 pub mod Meanings
 pub mod Replies
 pub mod Runs
-pub mod Sessions
 pub mod inside

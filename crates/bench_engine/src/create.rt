@@ -2,7 +2,7 @@
 ghost use Rattle.std.specs.Prelude.{◌≡◌, ◌≤◌, true, Ok, vec_capacity};
 ghost use Rattle.name_store.specs.Arrays.{has_room_for};
 ghost use Rattle.bench_engine.specs.Contents.{zeros_contents, full_contents, arange_contents, array_contents, contents_of, held, IsInCOrder};
-ghost use Rattle.bench_engine.specs.Contract.{Answers};
+ghost use Rattle.bench_engine.specs.inside.Contract.{Answers};
 ghost use Rattle.bench_engine.specs.Machine.{creation_outcome};
 
 use crate::contents;

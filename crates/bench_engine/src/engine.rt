@@ -2,7 +2,7 @@
 ghost use Rattle.std.specs.Prelude.{◌≡◌, ◌≤◌, ◌+◌, ◌++◌, ◌&&◌, [], List, vec_len, vec_capacity};
 ghost use Rattle.std.specs.List.{list_all};
 ghost use Rattle.name_store.specs.Arrays.{is_bound};
-ghost use Rattle.bench_engine.specs.Contract.{Answers};
+ghost use Rattle.bench_engine.specs.inside.Contract.{Answers};
 ghost use Rattle.bench_engine.specs.Machine.{outcome, bind_outcome, question_outcome, value_takes_memory, bound_in_value, bound_in_question, may_lack_memory};
 ghost use Rattle.bench_engine.specs.Replies.{Reply};
 ghost use Rattle.bench_engine.specs.Meanings.{Case, Answered, ReadsAs, Tells, meaning_of_read};

@@ -2,7 +2,7 @@
 ghost use Rattle.std.specs.Prelude.{◌≡◌, ◌≤◌, ◌++◌, OnOk, vec_capacity};
 ghost use Rattle.std.specs.Io.{StartsWith};
 ghost use Rattle.name_store.specs.Arrays.{is_bound};
-ghost use Rattle.bench_engine.specs.Contract.{Answers};
+ghost use Rattle.bench_engine.specs.inside.Contract.{Answers};
 ghost use Rattle.bench_engine.specs.Machine.{format_outcome};
 ghost use Rattle.bench_engine.specs.Replies.{format_text};
 

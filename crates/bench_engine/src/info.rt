@@ -4,7 +4,7 @@ ghost use Rattle.std.specs.Io.{StartsWith};
 ghost use Rattle.shape_strides.specs.Contiguity.{printed_strides, strides_text};
 ghost use Rattle.shape_strides.specs.Layouts.{offsets};
 ghost use Rattle.name_store.specs.Arrays.{is_bound};
-ghost use Rattle.bench_engine.specs.Contract.{Answers};
+ghost use Rattle.bench_engine.specs.inside.Contract.{Answers};
 ghost use Rattle.bench_engine.specs.Machine.{info_outcome};
 ghost use Rattle.bench_engine.specs.Replies.{info_text, layout_words, order_text, yes_or_no};
 

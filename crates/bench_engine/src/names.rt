@@ -1,7 +1,7 @@
 //! `names`: the names that are bound.
 ghost use Rattle.std.specs.Prelude.{◌≡◌, ◌≤◌, ◌++◌, true, codes, OnOk, vec_capacity};
 ghost use Rattle.std.specs.Io.{StartsWith};
-ghost use Rattle.bench_engine.specs.Contract.{Answers};
+ghost use Rattle.bench_engine.specs.inside.Contract.{Answers};
 ghost use Rattle.bench_engine.specs.Machine.{comes_to};
 ghost use Rattle.bench_engine.specs.Replies.{names_text};
 

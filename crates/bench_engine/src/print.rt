@@ -1,7 +1,7 @@
 //! `print X`: the text of an array.
 ghost use Rattle.std.specs.Prelude.{◌≡◌, ◌≤◌, vec_capacity};
 ghost use Rattle.name_store.specs.Arrays.{is_bound};
-ghost use Rattle.bench_engine.specs.Contract.{Answers};
+ghost use Rattle.bench_engine.specs.inside.Contract.{Answers};
 ghost use Rattle.bench_engine.specs.Machine.{print_outcome};
 
 use array_print::print_into;

@@ -2,7 +2,7 @@
 ghost use Rattle.std.specs.Prelude.{◌≡◌, ◌≤◌, ◌<◌, ◌+◌, ◌^◌, List, ℕ, Option, length, IfOk, IfSome, IsErrOf};
 ghost use Rattle.bench_engine.specs.Held.{Finished, AnswersAll, AnswersInPart, StoppedReading, StoppedWriting};
 ghost use Rattle.bench_engine.specs.Lines.{lines};
-ghost use Rattle.bench_engine.specs.Sessions.{HasRoom, Reading, Turned};
+ghost use Rattle.bench_engine.specs.inside.Sessions.{HasRoom, Reading, Turned};
 ghost use Rattle.bench_engine.specs.declared.runner.RunFault.TheVariants.{Write, Memory};
 
 use crate::send::WriteFault;

@@ -4,7 +4,7 @@ ghost use Rattle.std.specs.List.{position};
 ghost use Rattle.bench_engine.specs.Held.{AnswersInPart};
 ghost use Rattle.bench_engine.specs.Lines.{ended, lines, whole_lines};
 ghost use Rattle.bench_engine.specs.Meanings.{AnswersLine};
-ghost use Rattle.bench_engine.specs.Sessions.{HoldsPiece, HasRoom, FedMachine, Told, ToldInPart, AnswersHeld, HasTold, IsNew};
+ghost use Rattle.bench_engine.specs.inside.Sessions.{HoldsPiece, HasRoom, FedMachine, Told, ToldInPart, AnswersHeld, HasTold, IsNew};
 ghost use Rattle.name_store.specs.States.{start};
 
 use crate::engine::{MAX_REFUSAL_LEN, answer};

@@ -12,7 +12,7 @@ use Rattle.shape_strides.specs.IndexItems.{is_basic}
 use Rattle.shape_strides.specs.Layouts.{natural}
 use Rattle.view_ops.specs.declared.pick.AxisPick.{AxisPick}
 use Rattle.view_ops.specs.declared.pick.AxisPick.TheVariants.{At as AtAxis, Along as AlongAxis, New as NewAxis}
-use Rattle.view_ops.specs.declared.slice.Run.{Run}
+use Rattle.view_ops.specs.declared.slice.Progression.{Progression}
 use Rattle.view_ops.specs.Slices.{slice_indices, IsRunWithin}
 use Rattle.view_ops.specs.Basics.{Placed, takes_axis, taken, width, placed, has_step, is_in_range, are_in_range, Pick, whole, picks_of, picks}
 use Rattle.view_ops.specs.inside.Picks.{shown, ArePicks, AddsPicks}
@@ -51,7 +51,7 @@ numbers-whole : (a n : ℕ) → map (λ k. natural (pos 0 +ℤ pos 1 *ℤ pos k)
 numbers-whole a zero = refl
 numbers-whole a (suc n) = rw (one_by_one a) (ap (λ xs. a ∷ xs) (numbers-whole (a + 1) n))
 
-abbrev pub whole_run : ℕ → Run
+abbrev pub whole_run : ℕ → Progression
 whole_run n = record { first = 0; step = pos 1; count = n }
 
 pub shown-whole : (n : ℕ) → shown (AlongAxis (whole_run n)) ≡ whole n

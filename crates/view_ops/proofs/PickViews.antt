@@ -22,7 +22,7 @@ use Rattle.shape_strides.proofs.StepLaws.{dot-nil}
 use Rattle.shape_strides.proofs.ContiguityLaws.{one-step}
 use Rattle.view_ops.specs.declared.pick.AxisPick.{AxisPick}
 use Rattle.view_ops.specs.declared.pick.AxisPick.TheVariants.{At as AtAxis, Along as AlongAxis, New as NewAxis}
-use Rattle.view_ops.specs.declared.slice.Run.{Run}
+use Rattle.view_ops.specs.declared.slice.Progression.{Progression}
 use Rattle.view_ops.specs.Slices.{run_number, run_numbers, IsRunWithin}
 use Rattle.view_ops.specs.Basics.{axis_of, picked_shape, picked_index}
 use Rattle.view_ops.specs.inside.Picks.{shown, ArePicks, first_of, axes_taken, run_stride, stride_of, picked_strides, IsSmallStep, IsSmallPick, HaveSmallSteps}
@@ -40,10 +40,10 @@ leads_of_picks picks = picked_index (map shown picks)
 abbrev pub firsts : List AxisPick → List ℕ
 firsts picks = flat_map first_of picks
 
-pub length-run : (run : Run) → length (run_numbers run) ≡ run.count
+pub length-run : (run : Progression) → length (run_numbers run) ≡ run.count
 length-run run = length-map-range_with_len (run_number run) 0 run.count
 
-number_at : (run : Run) (k : ℕ) → k < run.count → get_or (run_numbers run) k 0 ≡ run_number run k
+number_at : (run : Progression) (k : ℕ) → k < run.count → get_or (run_numbers run) k 0 ≡ run_number run k
 number_at run k low = get_or-map-range_with_len (run_number run) 0 run.count k k 0 low (omega arith)
 
 -- ---- the shape
@@ -96,7 +96,7 @@ leads-picks (n ∷ shape) (AlongAxis run ∷ picks) (k ∷ index) are in' =
     let low : k < run.count = omega (arith, length-run run, in'.0) in
     (rw (number_at run k low) (are.0.below k low), leads-picks shape picks index are.1 in'.1)
 
-first_number : (run : Run) → run_number run 0 ≡ run.first
+first_number : (run : Progression) → run_number run 0 ≡ run.first
 first_number run = ap (λ z. natural (pos run.first +ℤ z)) (*ℤ-zero run.step) ∙ ap natural (+ℤ_idr (pos run.first))
 
 -- the first item that is picked, where there is one
@@ -205,7 +205,7 @@ length-strides (s ∷ strides) (n ∷ shape) (AlongAxis run ∷ picks) one are =
 sums : (a b c d e m : ℤ) → a +ℤ c ≡ e → b +ℤ d ≡ m → (a +ℤ b) +ℤ (c +ℤ d) ≡ e +ℤ m
 sums a b c d e m first second = omega (arith, ints)
 
-along : (s : ℤ) (run : Run) (n k : ℕ) → IsRunWithin run n → k < run.count → s *ℤ pos run.first +ℤ run_stride s run *ℤ pos k ≡ s *ℤ pos (run_number run k)
+along : (s : ℤ) (run : Progression) (n k : ℕ) → IsRunWithin run n → k < run.count → s *ℤ pos run.first +ℤ run_stride s run *ℤ pos k ≡ s *ℤ pos (run_number run k)
 along s run n k within low =
     elim (cases_Bool (nat_lt run.count 2)) [
       | inl short ↦
@@ -283,7 +283,7 @@ far_apart z d a b p len is low high low' high' = (omega (arith, ints), omega (ar
 near_by : (x f n len : ℕ) (p : ℤ) → pos x ≡ pos f +ℤ p → x < n → f < n → n ≤ len → (neg_ℤ (pos len) ≤ℤ p) × (p ≤ℤ pos len)
 near_by x f n len p is low low' few = (omega (arith, ints), omega (arith, ints))
 
-small_step : (z s : ℤ) (strides : List ℤ) (n : ℕ) (shape : List ℕ) (run : Run) (rest : List ℕ) → IsRunWithin run n → n ≤ max_items → IsIndex shape rest → StaysWithin z (s ∷ strides) (n ∷ shape) → 2 ≤ run.count → IsSmallStep s run.step
+small_step : (z s : ℤ) (strides : List ℤ) (n : ℕ) (shape : List ℕ) (run : Progression) (rest : List ℕ) → IsRunWithin run n → n ≤ max_items → IsIndex shape rest → StaysWithin z (s ∷ strides) (n ∷ shape) → 2 ≤ run.count → IsSmallStep s run.step
 small_step z s strides n shape run rest within few in' stays two =
     let d = dot strides rest in
     let x = run_number run 1 in

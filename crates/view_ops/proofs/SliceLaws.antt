@@ -12,7 +12,7 @@ use Rattle.elem_descr.specs.Steps.{stepped}
 use Rattle.elem_descr.proofs.StepLaws.{product_back, product_forth, counted_within, stepped_first}
 use Rattle.shape_strides.specs.Layouts.{natural}
 use Rattle.shape_strides.proofs.LayoutLaws.{pos-natural}
-use Rattle.view_ops.specs.declared.slice.Run.{Run}
+use Rattle.view_ops.specs.declared.slice.Progression.{Progression}
 use Rattle.view_ops.specs.Slices.{lowest, highest, start_of, stop_of, slice_indices, run_number, run_numbers, IsRunWithin}
 
 pub clamp_low : (x low : ℤ) (n : ℕ) → low ≤ℤ int_min (int_max x low) (low +ℤ pos n)
@@ -67,20 +67,20 @@ span_count n gap count start stop step s = omega (arith, counted_within count ga
 
 -- ---- the lists
 
-same_run : (start : ℤ) (run : Run) (a n : ℕ) → (0 < n → pos run.first ≡ start) → map natural (map (λ k. start +ℤ run.step *ℤ pos k) (range_with_len a n)) ≡ map (run_number run) (range_with_len a n)
+same_run : (start : ℤ) (run : Progression) (a n : ℕ) → (0 < n → pos run.first ≡ start) → map natural (map (λ k. start +ℤ run.step *ℤ pos k) (range_with_len a n)) ≡ map (run_number run) (range_with_len a n)
 same_run start run a zero first = refl
 same_run start run a (suc n) first =
     let is = first (omega arith) in
     λ i. natural (sym is i +ℤ run.step *ℤ pos a) ∷ same_run start run (a + 1) n (λ some. is) i
 
-pub stepped-run : (n gap : ℕ) (start stop : ℤ) (run : Run) → IsSpan n gap run.count start stop run.step → (0 < run.count → pos run.first ≡ start) → map natural (stepped n start stop run.step) ≡ run_numbers run
+pub stepped-run : (n gap : ℕ) (start stop : ℤ) (run : Progression) → IsSpan n gap run.count start stop run.step → (0 < run.count → pos run.first ≡ start) → map natural (stepped n start stop run.step) ≡ run_numbers run
 stepped-run n gap start stop run s first =
     ap (map natural) (stepped_first n run.count gap start stop run.step (record { back = s.back; forth = s.forth }) s.steps (span_count n gap run.count start stop run.step s)) ∙ same_run start run 0 run.count first
 
 natural_below : (z : ℤ) (n : ℕ) → pos 0 ≤ℤ z → z <ℤ pos n → natural z < n
 natural_below z n low high = let is = pos-natural z low in omega (arith, ints)
 
-pub within-run : (n gap : ℕ) (start stop : ℤ) (run : Run) → IsSpan n gap run.count start stop run.step → (0 < run.count → pos run.first ≡ start) → IsRunWithin run n
+pub within-run : (n gap : ℕ) (start stop : ℤ) (run : Progression) → IsSpan n gap run.count start stop run.step → (0 < run.count → pos run.first ≡ start) → IsRunWithin run n
 within-run n gap start stop run s first = record {
   moves = s.some;
   count_within = span_count n gap run.count start stop run.step s;

@@ -5,7 +5,7 @@ use Rattle.std.proofs.lemmas.Bool.{cases_lt}
 use Rattle.std.proofs.lemmas.Int.{ints, by_lt_z}
 use lib.IntN.{negsuc-*ℤ-pos, pos-*ℤ-negsuc, negsuc-*ℤ-negsuc}
 use Rattle.shape_strides.proofs.LayoutLaws.{pos-natural}
-use Rattle.view_ops.specs.declared.slice.Run.{Run}
+use Rattle.view_ops.specs.declared.slice.Progression.{Progression}
 use Rattle.view_ops.specs.Slices.{run_number, IsRunWithin}
 use Rattle.elem_descr.proofs.StepLaws.{product_back, product_forth, abs_pos}
 
@@ -52,7 +52,7 @@ stride_along (negsuc a) (negsuc b) x f k is =
 
 -- ---- the numbers of a run
 
-pub run_number-is : (run : Run) (n k : ℕ) → IsRunWithin run n → k < run.count → pos (run_number run k) ≡ pos run.first +ℤ run.step *ℤ pos k
+pub run_number-is : (run : Progression) (n k : ℕ) → IsRunWithin run n → k < run.count → pos (run_number run k) ≡ pos run.first +ℤ run.step *ℤ pos k
 run_number-is run n k within low = pos-natural (pos run.first +ℤ run.step *ℤ pos k) (within.from_zero k low)
 
 same_times : (k l s : ℕ) → 0 < s → k * s ≡ l * s → k ≡ l
@@ -69,7 +69,7 @@ same_steps : (x y f p q : ℤ) → x ≡ f +ℤ p → y ≡ f +ℤ q → x ≡ y
 same_steps x y f p q first second same = omega (arith, ints)
 
 -- no number comes twice
-pub run-one : (run : Run) (n k l : ℕ) → IsRunWithin run n → k < run.count → l < run.count → run_number run k ≡ run_number run l → k ≡ l
+pub run-one : (run : Progression) (n k l : ℕ) → IsRunWithin run n → k < run.count → l < run.count → run_number run k ≡ run_number run l → k ≡ l
 run-one run n k l within low-k low-l same =
     let steps = same_steps (pos (run_number run k)) (pos (run_number run l)) (pos run.first) (run.step *ℤ pos k) (run.step *ℤ pos l) (run_number-is run n k within low-k) (run_number-is run n l within low-l) (ap pos same) in
     same_times k l (unsigned_abs run.step) (abs_pos run.step within.moves) (by_lt_z run.step (pos 0)

@@ -8,7 +8,7 @@ use Rattle.elem_descr.specs.declared.refusal.Refusal.TheVariants.{ZeroStep}
 use Rattle.elem_descr.specs.Refusals.{◌>>=◌, check}
 use Rattle.elem_descr.specs.Steps.{stepped}
 use Rattle.shape_strides.specs.Addresses.{natural}
-use Rattle.view_ops.specs.declared.slice.Run.{Run}
+use Rattle.view_ops.specs.declared.slice.Progression.{Progression}
 
 -- bounds are put between 0 and n for a positive step, and between -1 and n - 1 for a negative one
 abbrev pub lowest : ℤ → ℤ
@@ -45,15 +45,15 @@ slice_indices n start stop given = do
   Ok (map natural (stepped n (start_of n step start) (stop_of n step stop) step))
 
 -- the number at a place of a run
-abbrev pub run_number : Run → ℕ → ℕ
+abbrev pub run_number : Progression → ℕ → ℕ
 run_number run k = natural (pos run.first +ℤ run.step *ℤ pos k)
 
 -- the numbers of a run
-abbrev pub run_numbers : Run → List ℕ
+abbrev pub run_numbers : Progression → List ℕ
 run_numbers run = map (run_number run) (range_with_len 0 run.count)
 
 -- the numbers of a run are different places of n items
-pub record IsRunWithin (run : Run) (n : ℕ) : Type 0 where
+pub record IsRunWithin (run : Progression) (n : ℕ) : Type 0 where
   pub moves : run.step ≢ pos 0
   pub count_within : run.count ≤ n
   pub from_zero : (k : ℕ) → k < run.count → pos 0 ≤ℤ (pos run.first +ℤ run.step *ℤ pos k)

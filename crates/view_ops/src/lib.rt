@@ -13,5 +13,5 @@ pub mod transposition;
 pub use basic_index::basic;
 pub use fields::field;
 pub use index::are_basic;
-pub use slice::{Run, slice_of};
+pub use slice::{Progression, slice_of};
 pub use transposition::transpose;

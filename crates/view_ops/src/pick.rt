@@ -8,7 +8,7 @@ ghost use Rattle.view_ops.specs.Basics.{takes_axis, taken, has_step, is_in_range
 ghost use Rattle.view_ops.specs.inside.Picks.{shown, ArePicks, AddsPicks};
 
 use crate::index::axes_end;
-use crate::slice::{Run, from_front, is_place, slice_of};
+use crate::slice::{Progression, from_front, is_place, slice_of};
 use elem_descr::Refusal;
 use shape_strides::IndexItem;
 use smallvec::SmallVec;
@@ -18,7 +18,7 @@ use std::alloc::{AllocError, Global};
 #[derive(Clone, Copy, Debug, PartialEq, Eq, Default)]
 pub(crate) enum AxisPick {
     At(usize),
-    Along(Run),
+    Along(Progression),
     #[default]
     New,
 }
@@ -70,7 +70,7 @@ fn push_whole(picks: &mut SmallVec<AxisPick, 8>, axes: &[usize]) -> Result<(), A
     ensures { OnOk result (AddsPicks picks.old.items picks.new.items axes.now (map whole axes.now)) }
 {
     for n in axes {
-        picks.push(AxisPick::Along(Run {
+        picks.push(AxisPick::Along(Progression {
             first: 0,
             step: 1,
             count: *n,

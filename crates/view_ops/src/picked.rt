@@ -8,7 +8,7 @@ ghost use Rattle.view_ops.specs.inside.Picks.{shown, ArePicks, first_of, axes_ta
 ghost use Rattle.view_ops.specs.Views.{GivesView, KeepsNested};
 
 use crate::pick::AxisPick;
-use crate::slice::Run;
+use crate::slice::Progression;
 use elem_descr::Refusal;
 use shape_strides::{Layout, Shape, Strides};
 use smallvec::SmallVec;
@@ -66,7 +66,7 @@ fn axes_taken(pick: AxisPick) -> usize
 }
 
 /// The stride of a run along an axis; 0 where it has less than two numbers.
-fn run_stride(strides: &[isize], axis: usize, run: Run) -> isize
+fn run_stride(strides: &[isize], axis: usize, run: Progression) -> isize
     requires axis { axis < length strides.now }
     requires small { 2 ≤ run.count → IsSmallStep (slice_index_or strides.now axis (pos 0)) run.step }
     ensures { result ≡ run_stride (slice_index_or strides.now axis (pos 0)) run }

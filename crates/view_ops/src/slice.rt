@@ -7,7 +7,7 @@ use elem_descr::Refusal;
 
 /// The numbers `first`, `first + step`, `first + 2 * step`, .., of which there are `count`.
 #[derive(Clone, Copy, Debug, PartialEq, Eq)]
-pub struct Run {
+pub struct Progression {
     pub first: usize,
     pub step: i128,
     pub count: usize,
@@ -105,7 +105,7 @@ pub fn slice_of(
     start: Option<i128>,
     stop: Option<i128>,
     step: Option<i128>,
-) -> Result<Run, Refusal>
+) -> Result<Progression, Refusal>
     ensures value { MatchResult result (λ run. slice_indices n start stop step ≡ Ok (run_numbers run)) (λ refusal. slice_indices n start stop step ≡ Err refusal) }
     ensures within { IfOk result (λ run. IsRunWithin run n) }
 {
@@ -117,5 +117,5 @@ pub fn slice_of(
     let stop = stop_of(n, step, stop);
     let count = steps_below(gap(start, stop, step), step);
     let first = start.max(0) as usize;
-    Ok(Run { first, step, count })
+    Ok(Progression { first, step, count })
 }

@@ -3,7 +3,7 @@ use Rattle.std.specs.Prelude.{◌≡◌, ◌<◌, ◌≤◌, ℕ, nat_lt, if◌t
 use Rattle.shape_strides.specs.Limits.{max_bytes}
 use Rattle.view_ops.specs.declared.pick.AxisPick.{AxisPick}
 use Rattle.view_ops.specs.declared.pick.AxisPick.TheVariants.{At as AtAxis, Along as AlongAxis, New as NewAxis}
-use Rattle.view_ops.specs.declared.slice.Run.{Run}
+use Rattle.view_ops.specs.declared.slice.Progression.{Progression}
 use Rattle.view_ops.specs.Slices.{run_numbers, IsRunWithin}
 use Rattle.view_ops.specs.Basics.{Pick, At, Along, New}
 
@@ -40,7 +40,7 @@ axes_taken _ = 1
 -- ---- strides
 
 -- an axis of less than two items has the stride 0
-abbrev pub run_stride : ℤ → Run → ℤ
+abbrev pub run_stride : ℤ → Progression → ℤ
 run_stride stride run = if nat_lt run.count 2 then pos 0 else stride *ℤ run.step
 
 -- the stride of the axis that a pick makes of an axis with this stride

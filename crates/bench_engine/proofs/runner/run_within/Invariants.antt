@@ -1,5 +1,5 @@
 use Rattle.std.proofs.Common.{◌≡◌, ◌≤◌, ◌+◌, ◌*◌, vec_len}
-use Rattle.bench_engine.specs.Sessions.{HasRoom, Reading}
+use Rattle.bench_engine.specs.inside.Sessions.{HasRoom, Reading}
 use Rattle.bench_engine.proofs.runner.run_within.Given as goal
 
 -- what was read so far is fed to the session

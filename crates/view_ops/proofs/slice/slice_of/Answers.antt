@@ -1,7 +1,7 @@
 use Rattle.std.proofs.Common.{◌≡◌, ◌<◌, ◌∙◌, ap, sym, pos, unsigned_abs, to_z, of_z, FitsSigned}
 use Rattle.std.specs.Int.{w128}
 use Rattle.std.proofs.lemmas.Int.{to_z-of_z}
-use Rattle.view_ops.specs.declared.slice.Run.{Run}
+use Rattle.view_ops.specs.declared.slice.Progression.{Progression}
 use Rattle.view_ops.specs.Slices.{run_numbers}
 use Rattle.view_ops.proofs.SliceLaws.{IsSpan, slice_indices-zero, slice_indices-list, stepped-run, within-run, span_first}
 use Rattle.view_ops.proofs.slice.slice_of.Goals as goal
@@ -26,7 +26,7 @@ span c =
       steps = c.steps_below-count.ensures;
     }
 
-run : (c : goal.After-max-first) → Run
+run : (c : goal.After-max-first) → Progression
 run c = record { first = unsigned_abs (to_z w128 (of_z w128 c.max-first.result)); step = to_z w128 (of_z w128 c.unwrap_or-step.result); count = c.steps_below-count.result }
 
 first : (c : goal.After-max-first) → 0 < c.steps_below-count.result → pos (unsigned_abs (to_z w128 (of_z w128 c.max-first.result))) ≡ to_z w128 (of_z w128 c.start_of-start.result)

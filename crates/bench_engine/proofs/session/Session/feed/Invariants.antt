@@ -1,5 +1,5 @@
 use Rattle.std.proofs.Common.{◌≡◌, ◌≤◌, ◌+◌, ◌++◌, List, ℕ, Option, length}
-use Rattle.bench_engine.specs.Sessions.{HasRoom, FedMachine}
+use Rattle.bench_engine.specs.inside.Sessions.{HasRoom, FedMachine}
 use Rattle.bench_engine.proofs.session.Session.feed.Given as goal
 
 -- some first bytes are taken, up to a newline
