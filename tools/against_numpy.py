@@ -1,22 +1,33 @@
 #!/usr/bin/env python3
 """Runs random scripts through the built program and through NumPy, and compares the replies.
 
-    tools/against_numpy.py [SEED [SCRIPTS]]
+    tools/against_numpy.py [--program BENCH] [--alone] [SEED [SCRIPTS]]
 
 It needs NumPy and the program that `./bench` builds. The gate does not run it. What NumPy leaves
 open is taken as the program tells it: the stride of an axis shorter than 2 is 0, and so is each
 stride of an empty array; an integer for every axis gives an array of no axes. A format text that
 sets `@` has it from its start to its end: of a record within that ends under another mark than it
 begins under, NumPy takes the later one for its alignment.
+
+Where a reshape shares and where it copies is worked out in `reshapes.py` from the addresses of the
+items, and what NumPy does is held against that too; differences are counted. A program that answers
+`no E03 syntax` to a reshape is tried without any. With --alone the scripts are made and no program
+runs, which tries the rule against NumPy.
 """
+import argparse
 import math
 import pathlib
 import random
 import subprocess
 import sys
+from itertools import zip_longest
 
 import numpy as np
 from numpy.core._internal import _dtype_from_pep3118
+
+import reshapes
+from expected import FAR, MOST_AXES, MOST_ITEMS, Bench, Refused, address, fields, format_text, leaves, type_text, view_of
+from limits import Limits
 
 PROGRAM = pathlib.Path(__file__).resolve().parent.parent / "crates/bench_main/out/bench_main"
 SCALARS = ["<i4", ">i2", "|u1", "|i1", "<u8", ">i8", "|b1", "<i8", ">u4", "<u2"]
@@ -32,56 +43,6 @@ RECORDS = [
     np.dtype([("x", "|u1"), ("s", [("p", PAIR), ("t", [("u", [("y", ">i8"), ("z", "|b1")]), ("y", "<u2")])])]),
 ]
 NAMES = "abcdefg"
-FAR = 10**29
-
-np.set_printoptions(threshold=sys.maxsize, linewidth=sys.maxsize)
-
-
-class Refused(Exception):
-    """A refusal: its code and text."""
-
-
-UNKNOWN = Refused("E06 unknown name")
-
-
-def tuple_text(numbers):
-    inside = ", ".join(map(str, numbers))
-    return f"({inside},)" if len(numbers) == 1 else f"({inside})"
-
-
-def fields(dtype):
-    """The fields of a record: their names, types and offsets, in order of offset."""
-    return sorted(((name, *dtype.fields[name][:2]) for name in dtype.names), key=lambda field: field[2])
-
-
-def leaves(dtype):
-    """The types of an item's values: its own, or those of its fields."""
-    if dtype.names is None:
-        return [dtype]
-    return [leaf for _, inner, _ in fields(dtype) for leaf in leaves(inner)]
-
-
-LETTERS = {"b1": "?", "i1": "b", "u1": "B", "i2": "h", "u2": "H", "i4": "i", "u4": "I", "i8": "q", "u8": "Q"}
-
-
-def scalar_format(dtype):
-    mark = ">" if dtype.str[0] == ">" else "<"
-    return mark + (f"{dtype.itemsize}s" if dtype.kind == "S" else LETTERS[dtype.str[1:]])
-
-
-def format_text(dtype):
-    """The format text of a type, as the program writes it."""
-    if dtype.names is None:
-        return scalar_format(dtype)
-    text, end = "", 0
-    for name, inner, at in fields(dtype):
-        text += f"{at - end}x" * (at > end) + f"{format_text(inner)}:{name}:"
-        end = at + inner.itemsize
-    return "T{" + text + f"{dtype.itemsize - end}x" * (dtype.itemsize > end) + "}"
-
-
-def type_text(dtype):
-    return dtype.str if dtype.names is None else format_text(dtype)
 
 
 def random_value(rng, dtype, low, top):
@@ -110,65 +71,6 @@ def filled(value, dtype):
     return value if dtype.names is None else tuple(filled(value, inner) for _, inner, _ in fields(dtype))
 
 
-def address(array):
-    return array.__array_interface__["data"][0]
-
-
-class Bench:
-    """What the program should hold: arrays by name, in the order in which the names were bound."""
-
-    def __init__(self):
-        self.arrays = {}
-        self.starts = {}
-
-    def array(self, name):
-        if name not in self.arrays:
-            raise UNKNOWN
-        return self.arrays[name]
-
-    def bind(self, name, array, start, kind):
-        self.arrays[name] = array
-        self.starts[name] = start
-        return f"ok {name} {type_text(array.dtype)} {tuple_text(array.shape)} {kind}"
-
-    def bind_view(self, name, source, array):
-        return self.bind(name, array, self.starts[source], "view")
-
-    def printed(self, name):
-        array = self.array(name)
-        if array.size == 0:
-            return "[]"
-        if array.ndim == 0:
-            return str(array[()])
-        return np.array2string(array)
-
-    def info(self, name):
-        array = self.array(name)
-        steps = [
-            0 if array.size == 0 or length < 2 else stride
-            for length, stride in zip(array.shape, array.strides)
-        ]
-        at = 0 if array.size == 0 else address(array) - self.starts[name]
-        order = "C" * array.flags.c_contiguous + "F" * array.flags.f_contiguous
-        return (
-            f"info {name} {type_text(array.dtype)} {tuple_text(array.shape)} strides {tuple_text(steps)}"
-            f" at {at} order {order or '-'} write {'yes' if array.flags.writeable else 'no'}"
-        )
-
-
-def view_of(array, items):
-    """The view that an index list makes. Its refusals come in the program's order."""
-    axes = [item for item in items if item is not Ellipsis and item is not None]
-    if len(axes) > array.ndim:
-        raise Refused("E10 too many indices")
-    if any(isinstance(item, slice) and item.step == 0 for item in axes):
-        raise Refused("E12 zero step")
-    try:
-        return array[tuple(items) + (() if Ellipsis in items else (Ellipsis,))]
-    except IndexError:
-        raise Refused("E11 index out of range") from None
-
-
 def literal_text(value):
     return f"({','.join(map(literal_text, value))})" if isinstance(value, tuple) else str(value)
 
@@ -183,25 +85,31 @@ def item_text(item):
 
 
 class Script:
-    """A random script, with the replies that NumPy gives."""
+    """A random script, with the replies that NumPy gives. In a roomy one, arrays seldom become small."""
 
-    def __init__(self, rng, commands):
+    def __init__(self, rng, commands, with_reshapes):
         self.rng = rng
         self.bench = Bench()
+        self.roomy = rng.random() < 0.5
         self.lines = []
         self.replies = []
         kinds = [
             (self.make, 14), (self.index, 28), (self.alias, 5), (self.transpose, 9), (self.set, 16),
             (self.print, 12), (self.info, 8), (self.shares, 5), (self.delete, 2), (self.names, 1),
-            (self.field, 10), (self.broadcast, 9),
+            (self.field, 10), (self.broadcast, 9), (self.reshape, 24 if with_reshapes else 0),
         ]
         for command in rng.choices(*zip(*kinds), k=commands):
-            line, reply = (command if self.bench.arrays else self.make)()
-            self.lines.append(line)
-            try:
-                self.replies.append(reply())
-            except Refused as refused:
-                self.replies.append(f"no {refused}")
+            self.add(*(command if self.bench.arrays else self.make)())
+        for name in self.bench.arrays:
+            self.add(f"info {name}", lambda: self.bench.info(name))
+            self.add(f"print {name}", lambda: self.bench.printed(name))
+
+    def add(self, line, reply):
+        self.lines.append(line)
+        try:
+            self.replies.append(reply())
+        except Refused as refused:
+            self.replies.append(f"no {refused}")
 
     def source(self):
         """A name, nearly always one that is bound."""
@@ -218,7 +126,7 @@ class Script:
 
     def slice(self, length):
         bounds = [
-            None if self.rng.random() < 0.4
+            None if self.rng.random() < (0.8 if self.roomy else 0.4)
             else self.rng.choice([FAR, -FAR]) if self.rng.random() < 0.05
             else self.rng.randint(-length - 2, length + 2)
             for _ in range(2)
@@ -232,7 +140,8 @@ class Script:
         items = []
         for k in range(axes):
             length = shape[min(k, len(shape) - 1)] if shape else 3
-            items.append(self.integer(length) if self.rng.random() < 0.45 else self.slice(length))
+            chosen = self.rng.random() < (0.15 if self.roomy else 0.45)
+            items.append(self.integer(length) if chosen else self.slice(length))
         for _ in range(self.rng.choice([0, 0, 1, 2])):
             items.insert(self.rng.randint(0, len(items)), None)
         if not items or self.rng.random() < 0.3:
@@ -243,7 +152,8 @@ class Script:
         name = self.rng.choice(NAMES)
         dtype = self.rng.choice(RECORDS) if self.rng.random() < 0.5 else np.dtype(self.rng.choice(SCALARS))
         text = type_text(dtype)
-        shape = [self.rng.choice([0, 1, 2, 3, 4]) for _ in range(self.rng.choice([0, 1, 1, 2, 2, 3, 4]))]
+        lengths, ranks = ([1, 2, 3, 4, 6], [2, 2, 3, 4]) if self.roomy else ([0, 1, 2, 3, 4], [0, 1, 1, 2, 2, 3, 4])
+        shape = [self.rng.choice(lengths) for _ in range(self.rng.choice(ranks))]
         values = [random_value(self.rng, dtype, 0, 99) for _ in range(int(np.prod(shape)))]
         lengths, literals = ",".join(map(str, shape)), " ".join(map(literal_text, values))
         array = np.array(values, dtype=dtype).reshape(shape)
@@ -298,9 +208,9 @@ class Script:
 
         def reply():
             array = self.bench.array(source)
-            if len(shape) > 64:
+            if len(shape) > MOST_AXES:
                 raise Refused("E08 too many axes")
-            if max([0, *shape]) > 2**24 or math.prod(shape) > 2**24:
+            if max([0, *shape]) > MOST_ITEMS or math.prod(shape) > MOST_ITEMS:
                 raise Refused("E09 too large")
             try:
                 return self.bench.bind_view(name, source, np.broadcast_to(array, shape))
@@ -308,6 +218,28 @@ class Script:
                 raise Refused("E16 shapes do not broadcast") from None
 
         return f"{name} = broadcast {source} ({','.join(map(str, shape))})", reply
+
+    def scattered(self):
+        """A name, mostly of an array of several items that do not lie one after another, if there is one."""
+        several = [name for name, array in self.bench.arrays.items() if array.size > 3]
+        found = [name for name in several if not self.bench.arrays[name].flags.c_contiguous] or several
+        return self.rng.choice(found) if found and self.rng.random() < 0.8 else self.source()
+
+    def reshape(self):
+        name, source = self.rng.choice(NAMES), self.scattered()
+        numbers = reshapes.numbers_for(self.rng, self.shape_of(source))
+
+        def reply():
+            array = self.bench.array(source)
+            fault = reshapes.refusal(array.size, numbers)
+            reshapes.compare_refusals(array, numbers, fault)
+            if fault:
+                raise Refused(fault)
+            result, kind = reshapes.reshaped(array, reshapes.target(array.size, numbers))
+            start = self.bench.starts[source] if kind == "view" else address(result)
+            return self.bench.bind(name, result, start, kind)
+
+        return f"{name} = reshape {source} ({','.join(map(str, numbers))})", reply
 
     def field(self):
         name, source = self.rng.choice(NAMES), self.source()
@@ -412,19 +344,54 @@ class Formats:
         return f"{pad}{rng.choice('^<>=!') if marks else ''}{letter}:n{k}:"
 
 
-def main(seed=1, scripts=1000):
-    rng, commands = random.Random(seed), 0
-    for number in range(scripts):
-        script = Formats(rng, 20) if number % 5 == 4 else Script(rng, rng.randint(5, 40))
-        text = "".join(f"{line}\n" for line in script.lines)
-        ran = subprocess.run([PROGRAM], input=text.encode(), stdout=subprocess.PIPE)
+def runs(program, text):
+    """What the program replies to a script."""
+    return subprocess.run([program], input=text.encode(), stdout=subprocess.PIPE).stdout.decode()
+
+
+def first_difference(expected, replied):
+    """The first lines of the replies that are not the same."""
+    pairs = zip_longest(expected.split("\n"), replied.split("\n"), fillvalue="nothing")
+    numpys, bench = next(pair for pair in pairs if pair[0] != pair[1])
+    return f"-- first difference\nNumPy: {numpys}\nbench: {bench}"
+
+
+def script_of(rng, number, with_reshapes):
+    if number % 5 == 4:
+        return Formats(rng, 20)
+    if with_reshapes and number % 500 == 1:
+        return Limits(rng)
+    return Script(rng, rng.randint(5, 40), with_reshapes)
+
+
+def words():
+    """The words of the call."""
+    parser = argparse.ArgumentParser(description="Compares the replies to random scripts with NumPy.")
+    parser.add_argument("seed", type=int, nargs="?", default=1)
+    parser.add_argument("scripts", type=int, nargs="?", default=1000)
+    parser.add_argument("--program", type=pathlib.Path, default=PROGRAM, help="the program, if not the built one")
+    parser.add_argument("--alone", action="store_true", help="make the scripts and run no program")
+    return parser.parse_args()
+
+
+def main():
+    given = words()
+    rng, commands = random.Random(given.seed), 0
+    with_reshapes = given.alone or "no E03" not in runs(given.program, "a = zeros |u1 ()\nb = reshape a (1)\n")
+    for number in range(given.scripts):
+        script = script_of(rng, number, with_reshapes)
+        text, expected = ("".join(f"{line}\n" for line in lines) for lines in (script.lines, script.replies))
         commands += len(script.lines)
-        if ran.stdout.decode() != "".join(f"{reply}\n" for reply in script.replies):
-            print(text, "-- NumPy", *script.replies, "-- bench", ran.stdout.decode(), sep="\n")
+        replied = expected if given.alone else runs(given.program, text)
+        if replied != expected:
+            print(text, "-- NumPy", expected, "-- bench", replied, first_difference(expected, replied), sep="\n")
             return 1
-    print(f"{scripts} scripts, {commands} commands: the same as NumPy {np.__version__}")
+    said = "made alone" if given.alone else f"the same as NumPy {np.__version__}"
+    print(f"{given.scripts} scripts, {commands} commands: {said}")
+    told = ", ".join(f"{count} {what}" for what, count in reshapes.TALLY.items())
+    print(f"reshapes: {told}" if with_reshapes else "reshapes left out: the program has none")
     return 0
 
 
 if __name__ == "__main__":
-    sys.exit(main(*map(int, sys.argv[1:])))
+    sys.exit(main())

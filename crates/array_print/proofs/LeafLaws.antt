@@ -14,11 +14,11 @@ use Rattle.elem_descr.specs.declared.descr.Descr.TheVariants.{Scalar as ScalarDe
 use Rattle.elem_descr.specs.declared.descr.Field.{Field}
 use Rattle.elem_descr.specs.Fields.{Fields, Structure}
 use Rattle.elem_descr.specs.Descriptors.{before, listed}
-use Rattle.elem_descr.proofs.FieldLaws.{length-leaves_from}
+use Rattle.elem_descr.specs.ItemLaws.{length-leaves_from}
 use Rattle.elem_descr.specs.Values.{LeafValue}
 use Rattle.elem_descr.specs.Encoding.{size, decode, number_of}
 use Rattle.elem_descr.specs.Items.{item_size, leaves_of}
-use Rattle.array_print.specs.Printed.{leaf_text, leaf_texts, first_text, later_texts, leaf_width, leaf_widths, widths, widest, padded, aligned, joined, in_parentheses, field_texts, descr_text, items_at}
+use Rattle.array_print.specs.Printed.{leaf_text, leaf_texts, first_text, later_texts, leaf_width, leaf_widths, widths, widest, right_justified, all_justified, join_texts, in_parentheses, field_texts, structure_text, items_from}
 use Rattle.array_print.specs.inside.Shown.{IsWidth, AreWidths, integer_at, lead, texts_at, shown}
 
 -- ---- values in a block
@@ -75,35 +75,35 @@ are-widths descr (n ∷ shape) items = are-leaf-widths (leaves_of descr) (map (l
 -- ---- the texts of an item
 
 pub text-at : (leaves : List Leaf) (ws bytes : List ℕ) (k : ℕ) (scalar : Scalar) (at : ℕ) → AreWidths leaves ws → k < length leaves → IfSome (slice_get leaves k) (λ leaf. (scalar ≡ leaf.scalar) × (at ≡ leaf.at)) →
-    get_or (aligned ws (leaf_texts leaves (map (value_in bytes) leaves))) k [] ≡ padded (get_or ws k 0) (leaf_text scalar (decode scalar (take (size scalar) (drop at bytes))))
+    get_or (all_justified ws (leaf_texts leaves (map (value_in bytes) leaves))) k [] ≡ right_justified (get_or ws k 0) (leaf_text scalar (decode scalar (take (size scalar) (drop at bytes))))
 text-at [] ws bytes k scalar at are below is = absurd (omega arith)
 text-at (leaf ∷ leaves) [] bytes k scalar at are below is = absurd are
 text-at (leaf ∷ leaves) (w ∷ ws) bytes zero scalar at are below is =
-    λ i. padded w (leaf_text (sym is.0 i) (decode (sym is.0 i) (take (size (sym is.0 i)) (drop (sym is.1 i) bytes))))
+    λ i. right_justified w (leaf_text (sym is.0 i) (decode (sym is.0 i) (take (size (sym is.0 i)) (drop (sym is.1 i) bytes))))
 text-at (leaf ∷ leaves) (w ∷ ws) bytes (suc k) scalar at are below is = text-at leaves ws bytes k scalar at are.1 (omega arith) is
 
-pub length-texts : (leaves : List Leaf) (ws bytes : List ℕ) → AreWidths leaves ws → length (aligned ws (leaf_texts leaves (map (value_in bytes) leaves))) ≡ length leaves
+pub length-texts : (leaves : List Leaf) (ws bytes : List ℕ) → AreWidths leaves ws → length (all_justified ws (leaf_texts leaves (map (value_in bytes) leaves))) ≡ length leaves
 length-texts [] [] bytes are = refl
 length-texts [] (w ∷ ws) bytes are = absurd are
 length-texts (leaf ∷ leaves) [] bytes are = absurd are
 length-texts (leaf ∷ leaves) (w ∷ ws) bytes are = ap suc (length-texts leaves ws bytes are.1)
 
 -- one text more, with what leads it
-joined-push : (separator text : List ℕ) (texts : List (List ℕ)) → joined separator (texts ++ text ∷ []) ≡ joined separator texts ++ lead (length texts) separator ++ text
+joined-push : (separator text : List ℕ) (texts : List (List ℕ)) → join_texts separator (texts ++ text ∷ []) ≡ join_texts separator texts ++ lead (length texts) separator ++ text
 joined-push separator text [] = refl
 joined-push separator text (first ∷ []) = refl
 joined-push separator text (first ∷ (next ∷ texts)) =
-    let rest = joined separator (next ∷ texts) in
+    let rest = join_texts separator (next ∷ texts) in
     ap (λ l. first ++ separator ++ l) (joined-push separator text (next ∷ texts))
     ∙ sym (append_assoc (first ++ separator) (rest ++ separator) text)
     ∙ ap (λ l. l ++ text) (sym (append_assoc (first ++ separator) rest separator))
 
-pub joined-take-more : (separator : List ℕ) (texts : List (List ℕ)) (k : ℕ) → k < length texts → joined separator (take (k + 1) texts) ≡ joined separator (take k texts) ++ lead k separator ++ get_or texts k []
+pub joined-take-more : (separator : List ℕ) (texts : List (List ℕ)) (k : ℕ) → k < length texts → join_texts separator (take (k + 1) texts) ≡ join_texts separator (take k texts) ++ lead k separator ++ get_or texts k []
 joined-take-more separator texts k below =
     let count : length (take k texts) ≡ k = omega (arith, length-take k texts) in
-    ap (joined separator) (take_more texts k [] below)
+    ap (join_texts separator) (take_more texts k [] below)
     ∙ joined-push separator (get_or texts k []) (take k texts)
-    ∙ ap (λ n. joined separator (take k texts) ++ lead n separator ++ get_or texts k []) count
+    ∙ ap (λ n. join_texts separator (take k texts) ++ lead n separator ++ get_or texts k []) count
 
 -- ---- the texts of one leaf in all items
 
@@ -129,19 +129,19 @@ leaf-width-at (leaf ∷ leaves) bytes offsets (suc k) scalar at below is =
 
 -- an array with axes
 pub array-width-at : (descr : Descr) (shape block offsets : List ℕ) (k : ℕ) (scalar : Scalar) (at : ℕ) → 0 < length shape → k < length (leaves_of descr) → IfSome (slice_get (leaves_of descr) k) (λ leaf. (scalar ≡ leaf.scalar) × (at ≡ leaf.at)) →
-    get_or (widths descr shape (items_at descr block offsets)) k 0 ≡ leaf_width scalar (map (λ offset. leaf_text scalar (decode scalar (take (size scalar) (drop at (take (item_size descr) (drop offset block)))))) offsets)
+    get_or (widths descr shape (items_from descr block offsets)) k 0 ≡ leaf_width scalar (map (λ offset. leaf_text scalar (decode scalar (take (size scalar) (drop at (take (item_size descr) (drop offset block)))))) offsets)
 array-width-at descr [] block offsets k scalar at axes below is = absurd (omega arith)
 array-width-at descr (n ∷ shape) block offsets k scalar at axes below is =
     leaf-width-at (leaves_of descr) (λ offset. take (item_size descr) (drop offset block)) offsets k scalar at below is
 
 pub bool-width : (descr : Descr) (shape block offsets : List ℕ) (k : ℕ) (scalar : Scalar) (at : ℕ) → scalar ≡ BoolScalar → 0 < length shape → k < length (leaves_of descr) → IfSome (slice_get (leaves_of descr) k) (λ leaf. (scalar ≡ leaf.scalar) × (at ≡ leaf.at)) →
-    5 ≡ get_or (widths descr shape (items_at descr block offsets)) k 0
+    5 ≡ get_or (widths descr shape (items_from descr block offsets)) k 0
 bool-width descr shape block offsets k scalar at bool axes below is =
     let texts = map (λ offset. leaf_text scalar (decode scalar (take (size scalar) (drop at (take (item_size descr) (drop offset block)))))) offsets in
     sym (array-width-at descr shape block offsets k scalar at axes below is ∙ ap (λ s. leaf_width s texts) bool)
 
 pub bytes-width : (descr : Descr) (shape block offsets : List ℕ) (k : ℕ) (scalar : Scalar) (at n : ℕ) → scalar ≡ Bytes n → 0 < length shape → k < length (leaves_of descr) → IfSome (slice_get (leaves_of descr) k) (λ leaf. (scalar ≡ leaf.scalar) × (at ≡ leaf.at)) →
-    0 ≡ get_or (widths descr shape (items_at descr block offsets)) k 0
+    0 ≡ get_or (widths descr shape (items_from descr block offsets)) k 0
 bytes-width descr shape block offsets k scalar at n string axes below is =
     let texts = map (λ offset. leaf_text scalar (decode scalar (take (size scalar) (drop at (take (item_size descr) (drop offset block)))))) offsets in
     sym (array-width-at descr shape block offsets k scalar at axes below is ∙ ap (λ s. leaf_width s texts) string)
@@ -166,7 +166,7 @@ integers-at scalar block at n (offset ∷ offsets) prints fits =
     λ i. here i ∷ integers-at scalar block at n offsets prints fits i
 
 pub integer-width : (descr : Descr) (shape block offsets walk : List ℕ) (k : ℕ) (scalar : Scalar) (at width : ℕ) → PrintsInteger scalar → at + size scalar ≤ item_size descr → 0 < length shape → k < length (leaves_of descr) →
-    IfSome (slice_get (leaves_of descr) k) (λ leaf. (scalar ≡ leaf.scalar) × (at ≡ leaf.at)) → walk ≡ offsets → width ≡ widest (map (λ offset. integer_at scalar block (offset + at)) walk) → width ≡ get_or (widths descr shape (items_at descr block offsets)) k 0
+    IfSome (slice_get (leaves_of descr) k) (λ leaf. (scalar ≡ leaf.scalar) × (at ≡ leaf.at)) → walk ≡ offsets → width ≡ widest (map (λ offset. integer_at scalar block (offset + at)) walk) → width ≡ get_or (widths descr shape (items_from descr block offsets)) k 0
 integer-width descr shape block offsets walk k scalar at width prints fits axes below is walked wide =
     wide
     ∙ ap (λ l. widest (map (λ offset. integer_at scalar block (offset + at)) l)) walked
@@ -181,7 +181,7 @@ first_text-get [] = refl
 first_text-get (text ∷ texts) = refl
 
 -- the text of one field, and those after it
-pub field_texts-before : (name : List ℕ) (at : ℕ) (descr : Descr) (rest : Fields) (texts : List (List ℕ)) → field_texts (before name at descr rest) texts ≡ descr_text descr texts ∷ field_texts rest (drop (length (leaves_of descr)) texts)
+pub field_texts-before : (name : List ℕ) (at : ℕ) (descr : Descr) (rest : Fields) (texts : List (List ℕ)) → field_texts (before name at descr rest) texts ≡ structure_text descr texts ∷ field_texts rest (drop (length (leaves_of descr)) texts)
 field_texts-before name at (ScalarDescr scalar) rest texts = refl
 field_texts-before name at (RecordDescr structure) rest texts =
     ap (λ n. in_parentheses (field_texts structure.fields texts) ∷ field_texts rest (drop n texts)) (sym (length-leaves_from 0 structure.fields))
@@ -198,9 +198,9 @@ length-texts-at descr ws block offset are = length-texts (leaves_of descr) ws (t
 
 -- the one text of a scalar stands alone
 pub shown-scalar : (descr : Descr) (scalar : Scalar) (ws block : List ℕ) (offset : ℕ) → descr ≡ ScalarDescr scalar → shown descr ws block offset ≡ get_or (texts_at descr ws block offset) 0 []
-shown-scalar descr scalar ws block offset is = ap (λ d. descr_text d (texts_at descr ws block offset)) is ∙ first_text-get (texts_at descr ws block offset)
+shown-scalar descr scalar ws block offset is = ap (λ d. structure_text d (texts_at descr ws block offset)) is ∙ first_text-get (texts_at descr ws block offset)
 
 -- those of a record stand in parentheses
 pub shown-record : (descr : Descr) (structure : Structure) (ws block : List ℕ) (offset : ℕ) → descr ≡ RecordDescr structure →
     shown descr ws block offset ≡ in_parentheses (field_texts structure.fields (texts_at descr ws block offset))
-shown-record descr structure ws block offset is = ap (λ d. descr_text d (texts_at descr ws block offset)) is
+shown-record descr structure ws block offset is = ap (λ d. structure_text d (texts_at descr ws block offset)) is

@@ -1,21 +1,17 @@
 -- Laws of printed text: blocks, what joins them, and what stays in front.
 use Rattle.std.proofs.Common.{◌≡◌, ℕ, zero, suc, ◌+◌, ◌-◌, ◌*◌, ◌<◌, ◌≤◌, List, ◌∷◌, ◌++◌, codes, map, length, take, drop, get_or, refl, sym, ◌∙◌, ap, arith, add-one, suc-mul, zero-mul, append_assoc}
-use Rattle.std.proofs.lemmas.List.{take_at, take-take, take-map, drop-map, drop-drop, drop-take, length-take, length-drop, drop_more}
+use Rattle.std.proofs.lemmas.List.{take_at, take-take, take-map, drop-map, drop-drop, drop-take, length-drop, drop_more}
 use Rattle.std.specs.Io.{StartsWith}
 use Rattle.shape_strides.specs.Indexes.{count}
-use Rattle.array_print.specs.Printed.{joined, block_text, separator}
+use Rattle.array_print.specs.Printed.{join_texts, block_text, separator}
 use Rattle.elem_descr.specs.Blocks.{blocks}
 use Rattle.array_print.specs.inside.Shown.{lead}
+use Rattle.array_print.specs.StartLaws.{StartsWith-trans}
 
 -- ---- a list that begins with another
 
 pub StartsWith-append : (xs ys : List ℕ) → StartsWith (xs ++ ys) xs
 StartsWith-append xs ys = take_at xs ys (length xs) refl
-
-pub StartsWith-trans : (xs ys zs : List ℕ) → StartsWith xs ys → StartsWith ys zs → StartsWith xs zs
-StartsWith-trans xs ys zs first second =
-    let short : length zs ≤ length ys = omega (arith, ap length second, length-take (length zs) ys) in
-    sym (take-take (length zs) (length ys) xs short) ∙ ap (λ l. take (length zs) l) first ∙ second
 
 -- a text that grew, and then became one that begins with it
 pub StartsWith-along : (new mid old more : List ℕ) → mid ≡ old ++ more → StartsWith new mid → StartsWith new old
@@ -36,14 +32,14 @@ blocks-take c (suc n) xs =
     ∙ ap (λ l. take c xs ∷ l) (blocks-take c n (drop c xs))
 
 -- one block more, with what leads it
-pub joined-more : {A : Type 0} (separator : List ℕ) (text : List A → List ℕ) (c k : ℕ) (xs : List A) → joined separator (map text (blocks c (suc k) xs)) ≡ joined separator (map text (blocks c k xs)) ++ lead k separator ++ text (take c (drop (k * c) xs))
+pub joined-more : {A : Type 0} (separator : List ℕ) (text : List A → List ℕ) (c k : ℕ) (xs : List A) → join_texts separator (map text (blocks c (suc k) xs)) ≡ join_texts separator (map text (blocks c k xs)) ++ lead k separator ++ text (take c (drop (k * c) xs))
 joined-more separator text c zero xs = ap (λ m. text (take c (drop m xs))) (sym (zero-mul c))
 joined-more separator text c (suc zero) xs =
     let one : c ≡ suc zero * c = omega (arith, suc-mul zero c, zero-mul c) in
     ap (λ m. text (take c xs) ++ separator ++ text (take c (drop m xs))) one
 joined-more separator text c (suc (suc k)) xs =
     let first = text (take c xs) in
-    let rest = joined separator (map text (blocks c (suc k) (drop c xs))) in
+    let rest = join_texts separator (map text (blocks c (suc k) (drop c xs))) in
     let last = text (take c (drop (suc k * c) (drop c xs))) in
     let size : c + suc k * c ≡ suc (suc k) * c = omega (arith, suc-mul (suc k) c) in
     let moved : drop (suc k * c) (drop c xs) ≡ drop (suc (suc k) * c) xs = drop-drop (suc k * c) c xs ∙ ap (λ m. drop m xs) size in
@@ -53,10 +49,10 @@ joined-more separator text c (suc (suc k)) xs =
     ∙ ap (λ l. first ++ separator ++ rest ++ separator ++ text (take c l)) moved
 
 -- the same over items that are mapped
-pub joined-map-more : (separator : List ℕ) (text : List (List ℕ) → List ℕ) (f : ℕ → List ℕ) (c k : ℕ) (xs : List ℕ) → joined separator (map text (blocks c (suc k) (map f xs))) ≡ joined separator (map text (blocks c k (map f xs))) ++ lead k separator ++ text (map f (take c (drop (k * c) xs)))
+pub joined-map-more : (separator : List ℕ) (text : List (List ℕ) → List ℕ) (f : ℕ → List ℕ) (c k : ℕ) (xs : List ℕ) → join_texts separator (map text (blocks c (suc k) (map f xs))) ≡ join_texts separator (map text (blocks c k (map f xs))) ++ lead k separator ++ text (map f (take c (drop (k * c) xs)))
 joined-map-more separator text f c k xs =
     let here : take c (drop (k * c) (map f xs)) ≡ map f (take c (drop (k * c) xs)) = ap (λ l. take c l) (drop-map f (k * c) xs) ∙ take-map f c (drop (k * c) xs) in
-    joined-more separator text c k (map f xs) ∙ ap (λ l. joined separator (map text (blocks c k (map f xs))) ++ lead k separator ++ text l) here
+    joined-more separator text c k (map f xs) ∙ ap (λ l. join_texts separator (map text (blocks c k (map f xs))) ++ lead k separator ++ text l) here
 
 -- the blocks of the items that are taken are those of all
 pub blocks-map-take : (f : ℕ → List ℕ) (c n : ℕ) (xs : List ℕ) → blocks c n (map f (take (n * c) xs)) ≡ blocks c n (map f xs)
@@ -67,7 +63,7 @@ blocks-map-take f c n xs = ap (blocks c n) (sym (take-map f (n * c) xs)) ∙ blo
 -- the first k blocks of an axis, as they stand behind its bracket
 abbrev pub opened : (ℕ → List ℕ) → List ℕ → ℕ → ℕ → List ℕ → List ℕ
 opened f axes axis k offsets =
-    codes "[" ++ joined (separator axis (length axes - axis - 1)) (map (block_text (axis + 1) (drop (axis + 1) axes)) (blocks (count (drop (axis + 1) axes)) k (map f offsets)))
+    codes "[" ++ join_texts (separator axis (length axes - axis - 1)) (map (block_text (axis + 1) (drop (axis + 1) axes)) (blocks (count (drop (axis + 1) axes)) k (map f offsets)))
 
 -- the parts of a longer text, grouped from the left and from the right
 pub regroup : (old bracket so_far leads next : List ℕ) → old ++ (bracket ++ so_far) ++ leads ++ next ≡ old ++ (bracket ++ (so_far ++ leads ++ next))
@@ -79,9 +75,9 @@ opened-more f axes axis k offsets walk old out led out' pushed walked leads bloc
     let c = count (drop (axis + 1) axes) in
     let sep = separator axis (length axes - axis - 1) in
     let text = block_text (axis + 1) (drop (axis + 1) axes) in
-    let so_far = joined sep (map text (blocks c k (map f offsets))) in
+    let so_far = join_texts sep (map text (blocks c k (map f offsets))) in
     let next = text (map f (take c (drop (k * c) offsets))) in
-    let more : joined sep (map text (blocks c (k + 1) (map f offsets))) ≡ so_far ++ lead k sep ++ next = ap (λ m. joined sep (map text (blocks c m (map f offsets)))) (add-one k) ∙ joined-map-more sep text f c k offsets in
+    let more : join_texts sep (map text (blocks c (k + 1) (map f offsets))) ≡ so_far ++ lead k sep ++ next = ap (λ m. join_texts sep (map text (blocks c m (map f offsets)))) (add-one k) ∙ joined-map-more sep text f c k offsets in
     block
     ∙ ap (λ w. led ++ text (map f (take c w))) walked
     ∙ ap (λ l. l ++ next) (leads ∙ ap (λ l. l ++ lead k sep) pushed)
@@ -100,7 +96,7 @@ opened-all f axes axis k offsets old out out' below all pushed closed =
     let rest = drop (axis + 1) axes in
     let c = count rest in
     let n = get_or axes axis 0 in
-    let body : List (List (List ℕ)) → ℕ → List ℕ = λ bs inner. joined (separator axis inner) (map (block_text (axis + 1) rest) bs) in
+    let body : List (List (List ℕ)) → ℕ → List ℕ = λ bs inner. join_texts (separator axis inner) (map (block_text (axis + 1) rest) bs) in
     let inner : length axes - axis - 1 ≡ length rest = omega (arith, length-drop (axis + 1) axes) in
     closed
     ∙ ap (λ l. l ++ codes "]") (pushed ∙ ap (λ m. old ++ opened f axes axis m offsets) all)

@@ -7,11 +7,11 @@ use Rattle.elem_descr.specs.declared.scalar.Scalar.TheVariants.{Bool as BoolScal
 use Rattle.elem_descr.specs.declared.descr.Descr.{Descr}
 use Rattle.elem_descr.specs.declared.descr.Descr.TheVariants.{Scalar as ScalarDescr, Record as RecordDescr}
 use Rattle.elem_descr.specs.Fields.{no_more, scalar_field, record_field}
-use Rattle.array_print.specs.Printed.{array_text, items_at}
+use Rattle.array_print.specs.Printed.{array_text, items_from}
 
 -- the items of a block in a shape
 abbrev text_of_array : Descr → List ℕ → List ℕ → List ℕ → List ℕ
-text_of_array descr shape offsets block = array_text descr shape (items_at descr block offsets)
+text_of_array descr shape offsets block = array_text descr shape (items_from descr block offsets)
 
 bools : text_of_array (ScalarDescr BoolScalar) (3 ∷ []) (0 ∷ 1 ∷ 2 ∷ []) (1 ∷ 0 ∷ 7 ∷ []) ≡ codes "[ True False  True]"
 bools = refl

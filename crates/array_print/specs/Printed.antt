@@ -20,12 +20,12 @@ abbrev pub hex_digit : ℕ → ℕ
 hex_digit n = slice_index (codes "0123456789abcdef") n
 
 -- a printable byte that is no quote and no backslash
-abbrev pub is_plain : ℕ → Bool
-is_plain byte = nat_le 32 byte && nat_le byte 126 && not (is_one_of (codes "'\\") byte)
+abbrev pub stands_for_itself : ℕ → Bool
+stands_for_itself byte = nat_le 32 byte && nat_le byte 126 && not (is_one_of (codes "'\\") byte)
 
 -- the text of a byte inside b'..': itself, or two hexadecimal digits behind `\x`
 abbrev pub escaped : ℕ → List ℕ
-escaped byte = if is_plain byte then byte ∷ [] else codes "\\x" ++ (hex_digit (byte / 16) ∷ (hex_digit (byte % 16) ∷ []))
+escaped byte = if stands_for_itself byte then byte ∷ [] else codes "\\x" ++ (hex_digit (byte / 16) ∷ (hex_digit (byte % 16) ∷ []))
 
 -- the text of a bool
 abbrev pub bool_text : ℤ → List ℕ
@@ -79,19 +79,19 @@ widths descr [] items = replicate (length (leaves_of descr)) 0
 widths descr (n ∷ shape) items = leaf_widths (leaves_of descr) (map (leaf_texts (leaves_of descr)) items)
 
 -- a text, with blanks before it up to a width
-abbrev pub padded : ℕ → List ℕ → List ℕ
-padded width text = replicate (width - length text) 32 ++ text
+abbrev pub right_justified : ℕ → List ℕ → List ℕ
+right_justified width text = replicate (width - length text) 32 ++ text
 
 -- each text as wide as it is to be
-abbrev pub aligned : List ℕ → List (List ℕ) → List (List ℕ)
-aligned (width ∷ widths) (text ∷ texts) = padded width text ∷ aligned widths texts
-aligned _ _ = []
+abbrev pub all_justified : List ℕ → List (List ℕ) → List (List ℕ)
+all_justified (width ∷ widths) (text ∷ texts) = right_justified width text ∷ all_justified widths texts
+all_justified _ _ = []
 
 -- texts, and a separator between each two
-abbrev pub joined : List ℕ → List (List ℕ) → List ℕ
-joined separator [] = []
-joined separator (first ∷ []) = first
-joined separator (first ∷ (next ∷ texts)) = first ++ separator ++ joined separator (next ∷ texts)
+abbrev pub join_texts : List ℕ → List (List ℕ) → List ℕ
+join_texts separator [] = []
+join_texts separator (first ∷ []) = first
+join_texts separator (first ∷ (next ∷ texts)) = first ++ separator ++ join_texts separator (next ∷ texts)
 
 -- what follows the texts of a record: one text alone has a comma after it
 abbrev pub record_end : ℕ → List ℕ
@@ -99,7 +99,7 @@ record_end n = if nat_eq n 1 then codes ",)" else codes ")"
 
 -- the texts of a record in parentheses
 abbrev pub in_parentheses : List (List ℕ) → List ℕ
-in_parentheses texts = codes "(" ++ joined (codes ", ") texts ++ record_end (length texts)
+in_parentheses texts = codes "(" ++ join_texts (codes ", ") texts ++ record_end (length texts)
 
 -- the texts of fields, from the texts of their leaves: a record within stands in parentheses of its own
 abbrev pub field_texts : Fields → List (List ℕ) → List (List ℕ)
@@ -109,13 +109,13 @@ field_texts (record_field name at size inner rest) texts =
     in_parentheses (field_texts inner texts) ∷ field_texts rest (drop (leaf_count inner) texts)
 
 -- the text of an item from the texts of its leaves
-abbrev pub descr_text : Descr → List (List ℕ) → List ℕ
-descr_text (ScalarDescr scalar) texts = first_text texts
-descr_text (RecordDescr structure) texts = in_parentheses (field_texts structure.fields texts)
+abbrev pub structure_text : Descr → List (List ℕ) → List ℕ
+structure_text (ScalarDescr scalar) texts = first_text texts
+structure_text (RecordDescr structure) texts = in_parentheses (field_texts structure.fields texts)
 
 -- the text of an item, each leaf's text as wide as it is to be
 abbrev pub item_text : Descr → List ℕ → List LeafValue → List ℕ
-item_text descr widths values = descr_text descr (aligned widths (leaf_texts (leaves_of descr) values))
+item_text descr widths values = structure_text descr (all_justified widths (leaf_texts (leaves_of descr) values))
 
 -- What stands between two blocks, below an axis that has `inner` axes inside it and so many
 -- brackets open before its own: a space between items, and else as many newlines as there are inner axes and
@@ -126,9 +126,9 @@ separator brackets (suc inner) = replicate (suc inner) 10 ++ replicate (brackets
 
 -- the blocks of an axis in brackets, and the one item where no axis is left
 abbrev pub block_text : ℕ → List ℕ → List (List ℕ) → List ℕ
-block_text brackets [] texts = joined [] texts
+block_text brackets [] texts = join_texts [] texts
 block_text brackets (n ∷ shape) texts =
-    codes "[" ++ joined (separator brackets (length shape)) (map (block_text (brackets + 1) shape) (blocks (count shape) n texts)) ++ codes "]"
+    codes "[" ++ join_texts (separator brackets (length shape)) (map (block_text (brackets + 1) shape) (blocks (count shape) n texts)) ++ codes "]"
 
 -- the text of items in a shape; an array of no items is `[]`
 abbrev pub array_text : Descr → List ℕ → List (List LeafValue) → List ℕ
@@ -136,5 +136,5 @@ array_text descr shape items =
     if nat_eq (count shape) 0 then codes "[]" else block_text 0 shape (map (item_text descr (widths descr shape items)) items)
 
 -- the items of a block by their offsets
-abbrev pub items_at : Descr → List ℕ → List ℕ → List (List LeafValue)
-items_at descr block offsets = map (item_from descr block) offsets
+abbrev pub items_from : Descr → List ℕ → List ℕ → List (List LeafValue)
+items_from descr block offsets = map (item_from descr block) offsets

@@ -1,7 +1,7 @@
 //! Blanks, separators, and texts that are padded to a width.
 ghost use Rattle.std.specs.Prelude.{◌≡◌, ◌+◌, ◌≤◌, ◌++◌, codes, replicate, vec_capacity, OnOk};
 ghost use Rattle.std.specs.Io.{StartsWith};
-ghost use Rattle.array_print.specs.Printed.{separator, padded, record_end};
+ghost use Rattle.array_print.specs.Printed.{separator, right_justified, record_end};
 ghost use Rattle.array_print.specs.inside.Shown.{lead};
 
 use std::alloc::AllocError;
@@ -53,7 +53,7 @@ fn push_separator(out: &mut Vec<u8>, brackets: usize, inner: usize) -> Result<()
 
 /// Appends a text, padded on the left to a width.
 pub fn push_padded(out: &mut Vec<u8>, text: &str, width: usize) -> Result<(), AllocError>
-    ensures ok { OnOk result (out.new.items ≡ out.old.items ++ padded width text.now) }
+    ensures ok { OnOk result (out.new.items ≡ out.old.items ++ right_justified width text.now) }
     ensures kept { StartsWith out.new.items out.old.items }
     ensures room { vec_capacity out.old ≤ vec_capacity out.new }
 {

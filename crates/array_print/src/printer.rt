@@ -5,7 +5,7 @@ ghost use Rattle.elem_descr.specs.Descriptors.{listed, leaf_count};
 ghost use Rattle.elem_descr.specs.Items.{item_size, leaves_of};
 ghost use Rattle.shape_strides.specs.Indexes.{count};
 ghost use Rattle.shape_strides.specs.Layouts.{offsets, Fits};
-ghost use Rattle.array_print.specs.Printed.{array_text, block_text, in_parentheses, field_texts, descr_text, items_at};
+ghost use Rattle.array_print.specs.Printed.{array_text, block_text, in_parentheses, field_texts, structure_text, items_from};
 ghost use Rattle.array_print.specs.inside.Shown.{AreWidths, texts_at, shown};
 
 use crate::padding::{push_comma, push_lead, push_record_end};
@@ -61,7 +61,7 @@ fn push_field(
     requires widths { AreWidths (leaves_of items.now.descr.now) items.now.widths.now }
     requires inside { offset + item_size items.now.descr.now ≤ length items.now.block.now }
     ensures ok { OnOk result (out.new.items ≡ out.old.items
-        ++ descr_text descr.now (drop k (texts_at items.now.descr.now items.now.widths.now items.now.block.now offset))) }
+        ++ structure_text descr.now (drop k (texts_at items.now.descr.now items.now.widths.now items.now.block.now offset))) }
     ensures next { IfOk result (λ next. next ≡ k + length (leaves_of descr.now)) }
     ensures kept { StartsWith out.new.items out.old.items }
     ensures room { vec_capacity out.old ≤ vec_capacity out.new }
@@ -178,7 +178,7 @@ fn push_array(
 ) -> Result<(), AllocError>
     requires inside { All (λ offset. offset + item_size descr.now ≤ length block.now) (offsets layout.now) }
     ensures ok { OnOk result (out.new.items ≡ out.old.items
-        ++ array_text descr.now layout.now.shape (items_at descr.now block.now (offsets layout.now))) }
+        ++ array_text descr.now layout.now.shape (items_from descr.now block.now (offsets layout.now))) }
     ensures kept { StartsWith out.new.items out.old.items }
     ensures room { vec_capacity out.old ≤ vec_capacity out.new }
 {
@@ -206,7 +206,7 @@ pub fn print_into(
 ) -> Result<(), AllocError>
     requires inside { All (λ offset. offset + item_size descr.now ≤ length block.now) (offsets layout.now) }
     ensures ok { OnOk result (out.new.items ≡ out.old.items
-        ++ array_text descr.now layout.now.shape (items_at descr.now block.now (offsets layout.now))) }
+        ++ array_text descr.now layout.now.shape (items_from descr.now block.now (offsets layout.now))) }
     ensures err { OnErr result (out.new.items ≡ out.old.items) }
     ensures room { vec_capacity out.old ≤ vec_capacity out.new }
 {

@@ -3,7 +3,7 @@ ghost use Rattle.std.specs.Prelude.{◌≡◌, ◌++◌, ◌≤◌, ◌<◌, len
 ghost use Rattle.std.specs.Io.{StartsWith};
 ghost use Rattle.std.specs.Fmt.{signed_decimal};
 ghost use Rattle.elem_descr.specs.Encoding.{IsNumber, size, decode, number_of, without_nuls};
-ghost use Rattle.array_print.specs.Printed.{hex_digit, is_plain, escaped, byte_string_text, bool_text, leaf_text, padded};
+ghost use Rattle.array_print.specs.Printed.{hex_digit, stands_for_itself, escaped, byte_string_text, bool_text, leaf_text, right_justified};
 ghost use Rattle.array_print.specs.inside.Shown.{IsWidth};
 
 use crate::padding::push_padded;
@@ -21,7 +21,7 @@ fn hex_digit(digit: u8) -> u8
 
 /// Whether a byte of a byte string is printed as itself.
 fn is_plain(byte: u8) -> bool
-    ensures { result ≡ is_plain byte }
+    ensures { result ≡ stands_for_itself byte }
 {
     byte >= b' ' && byte <= b'~' && !b"'\\".contains(&byte)
 }
@@ -89,7 +89,7 @@ fn push_integer(
     requires number { IsNumber scalar.now }
     requires whole { length bytes.now ≡ size scalar.now }
     ensures ok { OnOk result (out.new.items ≡ out.old.items
-        ++ padded width (signed_decimal (number_of (decode scalar.now bytes.now)))) }
+        ++ right_justified width (signed_decimal (number_of (decode scalar.now bytes.now)))) }
     ensures kept { StartsWith out.new.items out.old.items }
     ensures room { vec_capacity out.old ≤ vec_capacity out.new }
 {
@@ -107,7 +107,7 @@ pub fn push_value(
     requires width { IsWidth scalar.now width }
     requires whole { length bytes.now ≡ size scalar.now }
     ensures ok { OnOk result (out.new.items ≡ out.old.items
-        ++ padded width (leaf_text scalar.now (decode scalar.now bytes.now))) }
+        ++ right_justified width (leaf_text scalar.now (decode scalar.now bytes.now))) }
     ensures kept { StartsWith out.new.items out.old.items }
     ensures room { vec_capacity out.old ≤ vec_capacity out.new }
 {

@@ -3,7 +3,7 @@ ghost use Rattle.std.specs.Prelude.{◌≡◌, ◌+◌, ◌^◌, ◌≤◌, ◌<
 ghost use Rattle.elem_descr.specs.Encoding.{IsNumber, size};
 ghost use Rattle.elem_descr.specs.Items.{item_size, leaves_of};
 ghost use Rattle.shape_strides.specs.Layouts.{offsets, Fits};
-ghost use Rattle.array_print.specs.Printed.{widths, widest, items_at};
+ghost use Rattle.array_print.specs.Printed.{widths, widest, items_from};
 ghost use Rattle.array_print.specs.inside.Shown.{integer_at};
 
 use elem_descr::{Descr, Scalar, num_read};
@@ -49,7 +49,7 @@ fn leaf_width(
     requires leaf { k < length (leaves_of descr.now) }
     requires inside { All (λ offset. offset + item_size descr.now ≤ length block.now) (offsets layout.now) }
     ensures { IfOk result (λ width. width
-        ≡ get_or (widths descr.now layout.now.shape (items_at descr.now block.now (offsets layout.now))) k 0) }
+        ≡ get_or (widths descr.now layout.now.shape (items_from descr.now block.now (offsets layout.now))) k 0) }
 {
     if layout.shape.rank() == 0 {
         return Ok(0);
@@ -72,7 +72,7 @@ pub fn widths_of(
 ) -> Result<SmallVec<usize, 8>, AllocError>
     requires inside { All (λ offset. offset + item_size descr.now ≤ length block.now) (offsets layout.now) }
     ensures { IfOk result (λ v. v.items
-        ≡ widths descr.now layout.now.shape (items_at descr.now block.now (offsets layout.now))) }
+        ≡ widths descr.now layout.now.shape (items_from descr.now block.now (offsets layout.now))) }
 {
     let mut widths = SmallVec::new(alloc);
     for k in 0..descr.leaf_count() {

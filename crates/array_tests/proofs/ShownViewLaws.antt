@@ -1,5 +1,5 @@
 -- Views of an array that is looked up: all of it, and one of its items.
-use Rattle.std.proofs.Common.{◌≡◌, ◌+◌, ◌*◌, ◌≤◌, ◌^◌, ℕ, Bool, List, [], ◌∷◌, length, map, refl, sym, ap, subst, ◌∙◌, Option, Some, None, slice_get, All, Contains, IsTrue, IfOk, arith, pos, ℤ, ◌<◌, ◌+ℤ◌, Bor, true}
+use Rattle.std.proofs.Common.{◌≡◌, ◌+◌, ◌*◌, ◌≤◌, ℕ, Bool, List, [], ◌∷◌, length, map, refl, sym, ap, subst, ◌∙◌, Option, Some, None, slice_get, All, Contains, IsTrue, IfOk, arith, pos, ℤ, ◌<◌, ◌+ℤ◌, Bor, true}
 use Rattle.std.specs.Option.{option_map, ok_or}
 use Rattle.std.proofs.lemmas.Int.{ints}
 use Rattle.std.proofs.lemmas.List.Elements.{All-contains, All-contains_itself}
@@ -14,7 +14,7 @@ use Rattle.name_store.specs.States.{State, Array}
 use Rattle.name_store.specs.Arrays.{find_array, buffer_of, descr_of}
 use Rattle.name_store.specs.Parts.{start_at}
 use Rattle.name_store.specs.Places.{offsets_of}
-use Rattle.name_store.specs.Shown.{Shows, Finds}
+use Rattle.name_store.specs.Shown.{Shows}
 use Rattle.name_store.specs.Targets.{IsAim}
 use Rattle.name_store.specs.Views.{IsLaidOut, IsViewIn, MayBind}
 use Rattle.name_store.specs.declared.array_ref.ArrayRef.{ArrayRef}
@@ -119,10 +119,6 @@ if-item xs k (Some x) refusal h = sym h
 pub if-within : (xs : List ℕ) (k limit : ℕ) (found : Option ℕ) (refusal : Refusal) → option_map (λ x. x) found ≡ slice_get xs k → All (λ x. x + 1 ≤ limit) xs → IfOk (ok_or found refusal) (λ x. x < limit)
 if-within xs k limit None refusal h all = tt
 if-within xs k limit (Some x) refusal h all = let low : x + 1 ≤ limit = All-contains (λ x. x + 1 ≤ limit) xs x all (contains-at xs k x (sym h)) in omega arith
-
-pub shown-array : (s : State) (found : Option Array) (r : ArrayRef) → Finds s found (Some r) → (array : Array) × (found ≡ Some array) × Shows s array r
-shown-array s None r nothing = absurd nothing
-shown-array s (Some array) r shows = (array, refl, shows)
 
 -- every place of an array that is shown may be written
 pub aim-whole : (s : State) (name : List ℕ) (layout : Layout) (item : Bor (List ℕ)) (array : Array) (r : ArrayRef) → find_array s.names name ≡ Some array → Shows s array r → r.writable ≡ true → layout ≡ r.layout.now →

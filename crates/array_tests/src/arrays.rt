@@ -91,7 +91,7 @@ fn view_of(rt: &impl Abort, alloc: Global, axis: Axis) -> View {
     View { layout, item }
 }
 
-/// Whether the ranges of two views meet, and whether they share bytes.
+/// Whether two views may overlap, and whether they share bytes.
 fn share(rt: &impl Abort, alloc: Global, a: &View, b: &View, wanted: (bool, bool)) {
     let may = may_overlap(&a.layout, a.item, &b.layout, b.item);
     let shares = share_cell(alloc, &a.layout, a.item, &b.layout, b.item).expect(rt, "no memory");
@@ -106,25 +106,26 @@ fn share_both(rt: &impl Abort, alloc: Global, first: Axis, second: Axis, wanted:
     share(rt, alloc, &b, &a, wanted);
 }
 
-/// Two views; whether their ranges meet; whether they share bytes.
+/// Two views; whether they may overlap, by ranges and strides; whether they share bytes.
 const ROWS: &[(Axis, Axis, bool, bool)] = &[
-    ((3, 8, 0, 4), (3, 8, 4, 4), true, false),
+    ((3, 8, 0, 4), (3, 8, 4, 4), false, false),
     ((3, 8, 0, 4), (5, 4, 4, 4), true, true),
     ((6, 4, 0, 4), (6, 4, 0, 4), true, true),
     ((3, 4, 0, 4), (3, 4, 12, 4), false, false),
-    ((3, 8, 0, 4), (3, -8, 20, 4), true, false),
+    ((3, 8, 0, 4), (3, -8, 20, 4), false, false),
     ((3, 8, 4, 4), (3, -8, 20, 4), true, true),
     ((3, -4, 8, 4), (1, 4, 0, 4), true, true),
     ((3, -4, 8, 4), (3, 4, 12, 4), false, false),
     ((0, 4, 12, 4), (6, 4, 0, 4), false, false),
     ((6, 4, 0, 4), (0, 4, 12, 4), false, false),
     ((0, 4, 0, 4), (0, 4, 0, 4), false, false),
-    ((8, 2, 0, 1), (8, 2, 1, 1), true, false),
-    ((4, 4, 0, 2), (4, 4, 2, 2), true, false),
+    ((8, 2, 0, 1), (8, 2, 1, 1), false, false),
+    ((4, 4, 0, 2), (4, 4, 2, 2), false, false),
     ((4, 4, 0, 2), (4, 4, 1, 2), true, true),
     ((4, 4, 0, 4), (4, 4, 3, 1), true, true),
     ((3, 0, 4, 4), (2, 4, 4, 4), true, true),
-    ((3, 0, 4, 4), (2, 8, 0, 4), true, false),
+    ((3, 0, 4, 4), (2, 8, 0, 4), false, false),
+    ((2, 6, 0, 2), (2, 2, 2, 2), true, false),
 ];
 
 #[test]

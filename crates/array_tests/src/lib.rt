@@ -5,6 +5,8 @@
 #[cfg(test)]
 mod arrays;
 #[cfg(test)]
+mod assignments;
+#[cfg(test)]
 mod basic_indexes;
 #[cfg(test)]
 mod blocks;

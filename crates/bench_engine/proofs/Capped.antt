@@ -1,7 +1,7 @@
 -- Lengths of a script as numbers of the machine.
-use Rattle.std.proofs.Common.{◌≡◌, ◌≤◌, ◌-◌, ◌^◌, ℕ, Bool, true, false, List, [], ◌∷◌, length, map, min, refl, sym, ap, ◌∙◌, ◌&&◌, Err, nat_le, arith}
+use Rattle.std.proofs.Common.{◌≡◌, ◌≤◌, ◌-◌, ◌^◌, ℕ, true, false, List, [], ◌∷◌, length, map, min, refl, sym, ap, ◌∙◌, Err, nat_le, arith}
 use Rattle.std.specs.List.{list_all}
-use Rattle.std.proofs.lemmas.Bool.{le-leb, leb-true, leb-false, lt-leb}
+use Rattle.std.proofs.lemmas.Bool.{le-leb, leb-true, leb-false, lt-leb, and_parts}
 use Rattle.std.proofs.lemmas.List.{length-map}
 use Rattle.elem_descr.specs.Refusals.{◌>>=◌, check}
 use Rattle.elem_descr.specs.declared.refusal.Refusal.TheVariants.{TooManyAxes, TooLarge}
@@ -18,20 +18,12 @@ all-capped : (xs : List ℕ) → list_all (λ n. nat_le n (2 ^ 24)) (map (λ n. 
 all-capped [] = refl
 all-capped (x ∷ xs) = rw (capped-fits x, all-capped xs) refl
 
-and-first : (a b : Bool) → (a && b) ≡ true → a ≡ true
-and-first true b h = refl
-and-first false b h = h
-
-and-second : (a b : Bool) → (a && b) ≡ true → b ≡ true
-and-second true b h = h
-and-second false b h = let no : false ≡ true = h in cc
-
 capped-same : (xs : List ℕ) → list_all (λ n. nat_le n (2 ^ 24)) xs ≡ true → map (λ n. min n (2 ^ 64 - 1)) xs ≡ xs
 capped-same [] h = refl
 capped-same (x ∷ xs) h =
-    let small : x ≤ 2 ^ 24 = leb-true x (2 ^ 24) (and-first _ _ h) in
+    let small : x ≤ 2 ^ 24 = leb-true x (2 ^ 24) (and_parts _ _ h).0 in
     let same : min x (2 ^ 64 - 1) ≡ x = omega arith in
-    λ i. same i ∷ capped-same xs (and-second (nat_le x (2 ^ 24)) _ h) i
+    λ i. same i ∷ capped-same xs (and_parts (nat_le x (2 ^ 24)) _ h).1 i
 
 -- a shape with a length that is too large
 shape_of-wide : (xs : List ℕ) → list_all (λ n. nat_le n (2 ^ 24)) xs ≡ false → shape_of xs ≡ (check (nat_le (length xs) 64) TooManyAxes >>= λ _. Err TooLarge)

@@ -11,6 +11,7 @@ pub mod Makes
 pub mod Meanings
 pub mod Outcomes
 pub mod Parts
+pub mod Reshapes
 pub mod Steps
 mod Vectors
 pub mod Views

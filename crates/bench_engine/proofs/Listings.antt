@@ -1,9 +1,7 @@
 -- The names of a bench, one after the other.
-use Rattle.std.proofs.Common.{◌≡◌, ◌≤◌, ℕ, zero, suc, List, [], ◌∷◌, ◌++◌, length, take, drop, codes, refl, sym, ap, ◌∙◌, Some, slice_get, arith}
+use Rattle.std.proofs.Common.{◌≡◌, ◌≤◌, ℕ, zero, suc, List, [], ◌∷◌, ◌++◌, length, drop, codes, refl, ap, Some, slice_get, arith}
 use Rattle.std.specs.List.{flat_map}
 use Rattle.std.specs.Option.{option_map}
-use Rattle.std.specs.Io.{StartsWith}
-use Rattle.std.proofs.lemmas.List.{take-take, length-take}
 use Rattle.name_store.specs.States.{Array}
 
 -- the names from one on, each behind a blank
@@ -21,9 +19,3 @@ listed-all [] zero h = refl
 listed-all [] (suc k) h = refl
 listed-all (entry ∷ names) zero h = absurd (omega arith)
 listed-all (entry ∷ names) (suc k) h = listed-all names k (omega arith)
-
--- a text that goes on
-pub StartsWith-trans : (xs ys zs : List ℕ) → StartsWith xs ys → StartsWith ys zs → StartsWith xs zs
-StartsWith-trans xs ys zs first second =
-    let short : length zs ≤ length ys = omega (arith, ap length second, length-take (length zs) ys) in
-    sym (take-take (length zs) (length ys) xs short) ∙ ap (λ l. take (length zs) l) first ∙ second

@@ -4,7 +4,7 @@ use Rattle.std.specs.Io.{StartsWith}
 use Rattle.elem_descr.specs.declared.refusal.Refusal.TheVariants.{UnknownName}
 use Rattle.elem_descr.specs.declared.descr.Descr.{Descr}
 use Rattle.shape_strides.specs.Layouts.{offsets}
-use Rattle.array_print.specs.Printed.{array_text, items_at}
+use Rattle.array_print.specs.Printed.{array_text, items_from}
 use Rattle.name_store.specs.States.{State, Array}
 use Rattle.name_store.specs.Arrays.{find_array, is_bound, descr_of, read}
 use Rattle.name_store.specs.Shown.{Finds, Shows}
@@ -24,10 +24,6 @@ pub not_found : (s : State) (found : Option Array) → Finds s found None → fo
 not_found s None h = refl
 not_found s (Some array) h = absurd h
 
-pub found : (s : State) (found : Option Array) (r : ArrayRef) → Finds s found (Some r) → (array : Array) × (found ≡ Some array) × Shows s array r
-found s None r h = absurd h
-found s (Some array) r h = (array, refl, h)
-
 pub bound : (s : State) (name : List ℕ) (array : Array) → find_array s.names name ≡ Some array → is_bound s name ≡ true
 bound s name array is = ap is_some is
 
@@ -41,7 +37,7 @@ unfolding print_outcome
 print-done s name a is = rw is refl
 
 pub print-found : (s : State) (name : List ℕ) (a : Array) (r : ArrayRef) → find_array s.names name ≡ Some a → Shows s a r →
-    print_outcome s name ≡ comes_to s (array_text r.descr.now r.layout.now.shape (items_at r.descr.now r.block.now (offsets r.layout.now)))
+    print_outcome s name ≡ comes_to s (array_text r.descr.now r.layout.now.shape (items_from r.descr.now r.block.now (offsets r.layout.now)))
 print-found s name a r is shows =
     print-done s name a is
     ∙ λ i. comes_to s (array_text (shows.descr i) (sym shows.view.laid.shape i) (shows.reads i))

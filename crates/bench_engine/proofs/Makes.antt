@@ -20,7 +20,8 @@ use Rattle.script_lang.specs.declared.literal.Literal.{Literal}
 use Rattle.overlap_copy.specs.declared.owned.Owned.{Owned}
 use Rattle.literal_items.specs.LiteralItems.{item_value, item_values}
 use Rattle.literal_items.specs.RangeItems.{range_length, range_items}
-use Rattle.bench_engine.specs.Contents.{made, held, array_type, zeros_contents, full_contents, array_contents, arange_contents, integer_scalar, integer_type}
+use Rattle.bench_engine.specs.Contents.{made, array_type, zeros_contents, full_contents, array_contents, arange_contents, integer_scalar, integer_type}
+use Rattle.bench_engine.specs.inside.OwnContents.{held}
 use Rattle.bench_engine.proofs.Zeros.{items_in-zeros}
 
 -- a slice that was written to, back in its place
@@ -50,7 +51,7 @@ unfolding array_type
 type-done text lengths descr shape good fits small = rw (good, fits, le-leb (count shape * item_size descr) (2 ^ 28) small) refl
 
 -- what a block holds
-held-is : (o : Owned) (descr : Descr) (shape bytes : List ℕ) (items : List (List LeafValue)) → o.descr ≡ descr → o.layout.shape ≡ shape → o.block ≡ bytes → items ≡ items_in descr (count shape) bytes → made descr shape items ≡ held o
+pub held-is : (o : Owned) (descr : Descr) (shape bytes : List ℕ) (items : List (List LeafValue)) → o.descr ≡ descr → o.layout.shape ≡ shape → o.block ≡ bytes → items ≡ items_in descr (count shape) bytes → made descr shape items ≡ held o
 held-is o descr shape bytes items typed shaped filled is =
     (λ i. made (sym typed i) (sym shaped i) ((is ∙ λ j. items_in (sym typed j) (count (sym shaped j)) (sym filled j)) i))
 

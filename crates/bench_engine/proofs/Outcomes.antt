@@ -9,46 +9,36 @@ use Rattle.view_ops.specs.Views.{View}
 use Rattle.view_ops.specs.Basics.{basic}
 use Rattle.script_lang.specs.declared.literal.Literal.{Literal}
 use Rattle.script_lang.specs.declared.command.Viewing.{Viewing}
-use Rattle.script_lang.specs.declared.command.Viewing.TheVariants.{Whole, Indexed, Field, Transposed, Reshaped, Broadcast}
 use Rattle.literal_items.specs.LiteralItems.{item_value}
 use Rattle.name_store.specs.States.{State, Array}
-use Rattle.name_store.specs.Arrays.{find_array, is_bound, has_room_for, bound_view, descr_of, addresses, written, share_cells}
+use Rattle.name_store.specs.Arrays.{find_array, is_bound, has_room_for, descr_of, addresses, written, share_cells}
 use Rattle.name_store.specs.Calls.{AnswersShares}
 use Rattle.bench_engine.specs.inside.Contract.{IsRefused}
 use Rattle.bench_engine.specs.Indices.{basic_items}
-use Rattle.bench_engine.specs.Machine.{viewed, seen, is_carried_out, view_outcome, view_takes_memory, set_outcome, info_outcome, shares_outcome, comes_to}
-use Rattle.bench_engine.specs.Replies.{view_text, info_text, shares_text}
+use Rattle.bench_engine.specs.Machine.{Choice, ViewOrCopy, viewed, seen, is_carried_out, view_outcome, bound_seen, set_outcome, info_outcome, shares_outcome, comes_to}
+use Rattle.bench_engine.specs.Replies.{info_text, shares_text}
 
--- X = a view of Y
-pub view-syntax : (s : State) (name source : List ℕ) (how : Viewing) → is_carried_out how ≡ false → view_outcome s name source how ≡ Err Syntax
+-- X = Y, seen in some way
+pub view-syntax : (choice : Choice) (s : State) (name source : List ℕ) (how : Viewing) → is_carried_out how ≡ false → view_outcome choice s name source how ≡ Err Syntax
 unfolding view_outcome
-view-syntax s name source how other = rw other refl
+view-syntax choice s name source how other = rw other refl
 
-pub view-unknown : (s : State) (name source : List ℕ) (how : Viewing) → is_carried_out how ≡ true → find_array s.names source ≡ None → view_outcome s name source how ≡ Err UnknownName
+pub view-unknown : (choice : Choice) (s : State) (name source : List ℕ) (how : Viewing) → is_carried_out how ≡ true → find_array s.names source ≡ None → view_outcome choice s name source how ≡ Err UnknownName
 unfolding view_outcome
-view-unknown s name source how carried none = rw (carried, none) refl
+view-unknown choice s name source how carried none = rw (carried, none) refl
 
-pub view-many : (s : State) (name source : List ℕ) (how : Viewing) (a : Array) → is_carried_out how ≡ true → find_array s.names source ≡ Some a → has_room_for s name ≡ false → view_outcome s name source how ≡ Err TooManyNames
+pub view-many : (choice : Choice) (s : State) (name source : List ℕ) (how : Viewing) (a : Array) → is_carried_out how ≡ true → find_array s.names source ≡ Some a → has_room_for s name ≡ false → view_outcome choice s name source how ≡ Err TooManyNames
 unfolding view_outcome
-view-many s name source how a carried is full = rw (carried, is, full) refl
+view-many choice s name source how a carried is full = rw (carried, is, full) refl
 
-pub view-bad : (s : State) (name source : List ℕ) (how : Viewing) (a : Array) (e : Refusal) → is_carried_out how ≡ true → find_array s.names source ≡ Some a → has_room_for s name ≡ true → seen how (descr_of s a) a ≡ Err e → view_outcome s name source how ≡ Err e
+pub view-bad : (choice : Choice) (s : State) (name source : List ℕ) (how : Viewing) (a : Array) (e : Refusal) → is_carried_out how ≡ true → find_array s.names source ≡ Some a → has_room_for s name ≡ true → seen how s a ≡ Err e → view_outcome choice s name source how ≡ Err e
 unfolding view_outcome
-view-bad s name source how a e carried is room bad = rw (carried, is, room, bad) refl
+view-bad choice s name source how a e carried is room bad = rw (carried, is, room, bad) refl
 
-pub view-done : (s : State) (name source : List ℕ) (how : Viewing) (a part : Array) → is_carried_out how ≡ true → find_array s.names source ≡ Some a → has_room_for s name ≡ true → seen how (descr_of s a) a ≡ Ok part →
-    view_outcome s name source how ≡ comes_to (bound_view s name part) (view_text name (descr_of s part) part.shape)
+pub view-done : (choice : Choice) (s : State) (name source : List ℕ) (how : Viewing) (a : Array) (found : ViewOrCopy) → is_carried_out how ≡ true → find_array s.names source ≡ Some a → has_room_for s name ≡ true → seen how s a ≡ Ok found →
+    view_outcome choice s name source how ≡ bound_seen choice s name found
 unfolding view_outcome
-view-done s name source how a part carried is room good = rw (carried, is, room, good) refl
-
--- what is carried out may lack memory
-pub carried-takes : (how : Viewing) → is_carried_out how ≡ true → view_takes_memory how ≡ true
-carried-takes Whole carried = refl
-carried-takes (Indexed index) carried = refl
-carried-takes (Field field) carried = refl
-carried-takes (Transposed axes) carried = refl
-carried-takes (Reshaped shape) carried = carried
-carried-takes (Broadcast lengths) carried = refl
+view-done choice s name source how a found carried is room good = rw (carried, is, room, good) refl
 
 -- set X[ix] = L
 pub set-syntax : (s : State) (name : List ℕ) (index : List (IndexItem (List ℕ))) (literal : Literal) → basic_items index ≡ Err Syntax → set_outcome s name index literal ≡ Err Syntax

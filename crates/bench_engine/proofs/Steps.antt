@@ -1,10 +1,11 @@
 -- The cases of a command and of a line, from what carries them out.
-use Rattle.std.proofs.Common.{◌≡◌, ◌≢◌, ◌≤◌, ◌+◌, ℕ, suc, Bool, true, false, ◌||◌, List, [], ◌∷◌, Some, None, refl, sym, ap, subst, ◌∙◌, inl, inr, arith, Err, Ok, IsTrue}
+use Rattle.std.proofs.Common.{◌≡◌, ◌≢◌, ◌≤◌, ◌+◌, ℕ, suc, false, List, [], ◌∷◌, Some, None, refl, sym, ap, subst, ◌∙◌, inl, inr, arith, Err, Ok}
 use Rattle.std.specs.Ordering.{nat_cmp, eq_by_cmp, is_eq}
 use Rattle.std.specs.declared.cmp.Ordering.TheVariants.{Less, Equal, Greater}
 use Rattle.std.specs.List.{AllByRecursion}
 use Rattle.std.specs.FinMap.{FinMap, get, get-entries, find, entries, nat_cmp-IsAntisymmetric}
 use Rattle.std.proofs.lemmas.List.Elements.{All-from_recursion}
+use Rattle.std.proofs.lemmas.Bool.{or_left, or_right}
 use Rattle.elem_descr.specs.declared.refusal.Refusal.{Refusal}
 use Rattle.elem_descr.specs.declared.refusal.Refusal.TheVariants.{LineTooLong, OutOfMemory}
 use Rattle.script_lang.specs.declared.command.Command.{Command}
@@ -14,7 +15,8 @@ use Rattle.name_store.specs.States.{State, Array, Buffer}
 use Rattle.bench_engine.specs.Replies.{Reply, refusal}
 use Rattle.bench_engine.specs.Machine.{Choice, IsAllowed, outcome, settled, may_lack_memory}
 use Rattle.bench_engine.specs.inside.Contract.{IsRefused}
-use Rattle.bench_engine.specs.Meanings.{Meaning, too_long, says, ReadsAs, Case, Answered}
+use Rattle.bench_engine.specs.Meanings.{Meaning, too_long, says, Case, Answered}
+use Rattle.bench_engine.specs.inside.ReadLines.{ReadsAs}
 
 apart : (q k : ℕ) → k ≢ q → eq_by_cmp nat_cmp q k ≡ false
 apart q k ne =
@@ -60,22 +62,11 @@ refused old new command r same (inr is) =
     let any = spare old in
     inl (any.0, any.1, ap (settled old) (is any.0) ∙ ap (λ (s : State). (s, refusal r)) (sym same))
 
-either : (a b : Bool) → IsTrue a → IsTrue (a || b)
-either true b h = h
-either false b h = absurd (no h)
-  where
-    no : IsTrue false → ⊥
-    no e = cc
-
-or_else : (a b : Bool) → IsTrue b → IsTrue (a || b)
-or_else true b h = refl
-or_else false b h = h
-
 -- a line that asks for a command
 asked : (old new : State) (line : Line) (command : Command) (reply : Reply) → line ≡ asks command → Case old command new reply → Answered old (says line) new (reply ∷ [])
 asked old new line command reply is (inl step) = subst (λ (l : Line). Answered old (says l) new (reply ∷ [])) (sym is) (reply, refl, inl step)
 asked old new line command reply is (inr lacks) =
-    subst (λ (l : Line). Answered old (says l) new (reply ∷ [])) (sym is) (reply, refl, inr (either (may_lack_memory old command) (needs_room command) lacks.0, lacks.1))
+    subst (λ (l : Line). Answered old (says l) new (reply ∷ [])) (sym is) (reply, refl, inr (or_left (may_lack_memory old command) (needs_room command) lacks.0, lacks.1))
 
 pub answered : (old new : State) (meaning : Meaning) (command : Command) (reply : Reply) → ReadsAs (Ok (Some command)) meaning → Case old command new reply → Answered old meaning new (reply ∷ [])
 answered old new too_long command reply is done = cc
@@ -85,7 +76,7 @@ lacking : (old : State) (line : Line) → MayLackRoom line → Answered old (say
 lacking old silent h = absurd h
 lacking old bad_byte h = absurd h
 lacking old misspelt h = (refusal OutOfMemory, refl, inr (refl, refl))
-lacking old (asks command) h = (refusal OutOfMemory, refl, inr (or_else (may_lack_memory old command) (needs_room command) h, (refl, refl)))
+lacking old (asks command) h = (refusal OutOfMemory, refl, inr (or_right (may_lack_memory old command) (needs_room command) h, (refl, refl)))
 
 -- a line that is refused
 misread : (old : State) (line : Line) (r : Refusal) → Says (Err r) line → Answered old (says line) old (refusal r ∷ [])

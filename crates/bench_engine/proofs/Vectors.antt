@@ -1,32 +1,31 @@
 -- What `broadcast` shows of an array, as NumPy's `broadcast_to` has it.
 use Rattle.std.proofs.Common.{◌≡◌, ℕ, Bool, true, false, List, [], ◌∷◌, Ok, Err, refl}
 use Rattle.elem_descr.specs.declared.refusal.Refusal.TheVariants.{TooLarge, ShapesDoNotBroadcast}
-use Rattle.elem_descr.specs.declared.descr.Descr.{Descr}
 use Rattle.shape_strides.specs.Shapes.{shape_of}
 use Rattle.broadcasting.specs.Broadcasts.{stretched}
 use Rattle.script_lang.specs.declared.command.Viewing.TheVariants.{Broadcast}
-use Rattle.name_store.specs.States.{Array}
-use Rattle.bench_engine.specs.Machine.{seen}
+use Rattle.name_store.specs.States.{State, Array}
+use Rattle.bench_engine.specs.Machine.{a_view, seen}
 
 -- an array over buffer 0 with these places
 over_places : List ℕ → List ℕ → Bool → Array
 over_places shape places writable = record { buffer = 0; path = []; shape = shape; places = places; writable = writable }
 
 -- `numpy.broadcast_to(numpy.array([[0], [1]]), (2, 3))`, which may not be written
-repeated : (descr : Descr) → seen (Broadcast (2 ∷ 3 ∷ [])) descr (over_places (2 ∷ 1 ∷ []) (0 ∷ 1 ∷ []) true) ≡ Ok (over_places (2 ∷ 3 ∷ []) (0 ∷ 0 ∷ 0 ∷ 1 ∷ 1 ∷ 1 ∷ []) false)
+repeated : (s : State) → seen (Broadcast (2 ∷ 3 ∷ [])) s (over_places (2 ∷ 1 ∷ []) (0 ∷ 1 ∷ []) true) ≡ Ok (a_view (over_places (2 ∷ 3 ∷ []) (0 ∷ 0 ∷ 0 ∷ 1 ∷ 1 ∷ 1 ∷ []) false))
 unfolding shape_of stretched over_places
-repeated descr = refl
+repeated s = refl
 
 -- `numpy.broadcast_to(numpy.arange(3), (3,))` may not be written either
-as_it_is : (descr : Descr) → seen (Broadcast (3 ∷ [])) descr (over_places (3 ∷ []) (0 ∷ 1 ∷ 2 ∷ []) true) ≡ Ok (over_places (3 ∷ []) (0 ∷ 1 ∷ 2 ∷ []) false)
+as_it_is : (s : State) → seen (Broadcast (3 ∷ [])) s (over_places (3 ∷ []) (0 ∷ 1 ∷ 2 ∷ []) true) ≡ Ok (a_view (over_places (3 ∷ []) (0 ∷ 1 ∷ 2 ∷ []) false))
 unfolding shape_of stretched over_places
-as_it_is descr = refl
+as_it_is s = refl
 
 -- an array without items shows in no shape with some; the shape is checked first
-no_items : (descr : Descr) → seen (Broadcast (2 ∷ 1 ∷ [])) descr (over_places (0 ∷ []) [] true) ≡ Err ShapesDoNotBroadcast
+no_items : (s : State) → seen (Broadcast (2 ∷ 1 ∷ [])) s (over_places (0 ∷ []) [] true) ≡ Err ShapesDoNotBroadcast
 unfolding shape_of stretched over_places
-no_items descr = refl
+no_items s = refl
 
-too_large : (descr : Descr) → seen (Broadcast (16777217 ∷ [])) descr (over_places (0 ∷ []) [] true) ≡ Err TooLarge
+too_large : (s : State) → seen (Broadcast (16777217 ∷ [])) s (over_places (0 ∷ []) [] true) ≡ Err TooLarge
 unfolding shape_of stretched over_places
-too_large descr = refl
+too_large s = refl

@@ -13,7 +13,7 @@ use Rattle.shape_strides.specs.Indexes.{indexes, rank}
 use Rattle.shape_strides.specs.Layouts.{offsets}
 use Rattle.view_ops.specs.Views.{View, view_through, IsViewOf, GivesView, KeepsNested}
 use Rattle.name_store.specs.States.{State, Array}
-use Rattle.name_store.specs.Arrays.{find_array, has_room_for, bound_view, buffer_of, addresses}
+use Rattle.name_store.specs.Arrays.{find_array, has_room_for, bound_to, bound_view, fresh_array, buffer_of, addresses}
 use Rattle.name_store.specs.Calls.{AnswersBind}
 use Rattle.name_store.specs.Views.{IsViewIn, MayBind}
 use Rattle.name_store.specs.Parts.{start_at}
@@ -24,24 +24,22 @@ use Rattle.name_store.specs.declared.bound.Bound.{Bound}
 use Rattle.name_store.specs.declared.bound.Bound.TheVariants as bound
 use Rattle.name_store.specs.declared.target.Target.TheVariants as target
 use Rattle.name_store.specs.declared.array_ref.ArrayRef.{ArrayRef}
+use Rattle.name_store.specs.ArrayLaws.{offset-at}
 use Rattle.bench_engine.specs.declared.part.Part.{Part}
-use Rattle.bench_engine.specs.inside.Parts.{IsPart, GivesPart}
-use Rattle.bench_engine.specs.inside.Contract.{Answers, IsRefused}
-use Rattle.bench_engine.specs.Machine.{Choice, Outcome, viewed, comes_to}
-use Rattle.bench_engine.proofs.Creates.{starts}
+use Rattle.bench_engine.specs.declared.part.PartOrCopy.{PartOrCopy}
+use Rattle.bench_engine.specs.declared.part.PartOrCopy.TheVariants as given
+use Rattle.bench_engine.specs.inside.Parts.{GivesSeen, bound_of, seen_text}
+use Rattle.bench_engine.specs.inside.Contract.{CarriesOut, IsRefused}
+use Rattle.bench_engine.specs.Replies.{view_text, copy_text}
+use Rattle.bench_engine.specs.Machine.{Choice, Outcome, ViewOrCopy, a_view, a_copy, viewed, bound_seen, comes_to}
+use Rattle.bench_engine.proofs.Creates.{starts, fresh-answers}
 use Rattle.bench_engine.proofs.Steps.{spare}
-
--- the offset of a place
-at-offsets : (item start : ℕ) (places : List ℕ) (k : ℕ) → k < length places → slice_index (offsets_of item start places) k ≡ item * slice_index places k + start
-at-offsets item start [] k below = absurd (omega (arith, below))
-at-offsets item start (p ∷ places) zero below = refl
-at-offsets item start (p ∷ places) (suc k) below = at-offsets item start places k (omega (arith, below))
 
 offsets-at : (item start : ℕ) (places shape : List ℕ) (leads : List ℕ → List ℕ) (is : List (List ℕ)) → All (λ i. rank shape (leads i) < length places) is →
     map (λ i. slice_index (offsets_of item start places) (rank shape (leads i))) is ≡ offsets_of item start (map (λ i. slice_index places (rank shape (leads i))) is)
 offsets-at item start places shape leads [] inside = refl
 offsets-at item start places shape leads (i ∷ is) inside = λ j.
-    at-offsets item start places (rank shape (leads i)) (inside zero i (omega arith)) j
+    offset-at item start places (rank shape (leads i)) (inside zero i (omega arith)) j
     ∷ offsets-at item start places shape leads is (λ k d below. inside (suc k) d (omega (arith, below))) j
 
 -- a view of the offsets of some places has the offsets of the view of the places
@@ -91,17 +89,12 @@ seen s base r view new writable shows is free = record {
 
 -- so do its items that are a view of it
 pub viewed-part : (s : State) (base : Array) (r : ArrayRef) (writable : Bool) (there : Result View Refusal) (part : Part) → Shows s base r → part.path ≡ r.path.now → part.descr ≡ r.descr → part.writable ≡ writable → GivesView r.layout.now (Ok part.layout) there →
-    (IsTrue writable → IsTrue base.writable × KeepsNested r.layout.now part.layout) → GivesPart s r.number (Ok part) (there >>= (λ view. Ok (record (viewed base view) { writable = writable })))
+    (IsTrue writable → IsTrue base.writable × KeepsNested r.layout.now part.layout) → GivesSeen s r.number (Ok (given.Part part)) (there >>= (λ view. Ok (a_view (record (viewed base view) { writable = writable }))))
 viewed-part s base r writable (Err e) part shows path descr same is free = absurd is
 viewed-part s base r writable (Ok view) part shows path descr same is free = record {
   view = rw (path, same) (seen s base r view part.layout writable shows is free);
   descr = shows.descr ∙ ap (λ (d : Bor Descr). d.now) (sym descr);
 }
-
--- the part that is given
-pub given-part : (s : State) (number : ℕ) (part : Part) (there : Result Array Refusal) → GivesPart s number (Ok part) there → (array : Array) × (there ≡ Ok array) × IsPart s number part array
-given-part s number part (Ok array) is = (array, refl, is)
-given-part s number part (Err e) is = absurd is
 
 -- items of an array, to be written
 pub leads : (s : State) (name : List ℕ) (base : Array) (r : ArrayRef) (view : View) (new : Layout) → find_array s.names name ≡ Some base → Shows s base r → r.writable ≡ true → IsViewOf r.layout.now new view →
@@ -119,7 +112,7 @@ may-bind s what number path layout writable array is in' = subst (MayBind s) (sy
 
 bound-answers : (s new : State) (name : List ℕ) (may : Bool) (outcome : Choice → Outcome) (number : ℕ) (path : List ℕ) (layout : Layout) (writable : Bool) (array : Array) (result : Result (Unit {0}) Refusal) (text before after : List ℕ) → may ≡ true →
     has_room_for s name ≡ true → ((choice : Choice) → outcome choice ≡ comes_to (bound_view s name array) text) → after ≡ before ++ text → IsViewIn s number path layout writable array →
-    AnswersBind s name (bound.View number path layout writable) result new → Answers may outcome s new before after result
+    AnswersBind s name (bound.View number path layout writable) result new → CarriesOut may outcome s new before after result
 bound-answers s new name may outcome number path layout writable array (Ok done) text before after can room is told in' (_, binds) =
     let any = spare s in
     (any.0, any.1, text, is any.0 ∙ ap (λ (t : State). comes_to t text) (sym (binds array in')), told)
@@ -131,9 +124,32 @@ bound-answers s new name may outcome number path layout writable array (Err e) t
 -- the name is bound to the view, or refused as out of memory
 pub view-answers : (s new : State) (name : List ℕ) (may : Bool) (outcome : Choice → Outcome) (what : Bound) (number : ℕ) (path : List ℕ) (layout : Layout) (writable : Bool) (array : Array) (result : Result (Unit {0}) Refusal) (text before after : List ℕ) →
     may ≡ true → has_room_for s name ≡ true → ((choice : Choice) → outcome choice ≡ comes_to (bound_view s name array) text) → after ≡ before ++ text → what ≡ bound.View number path layout writable → IsViewIn s number path layout writable array →
-    AnswersBind s name what result new → Answers may outcome s new before after result
+    AnswersBind s name what result new → CarriesOut may outcome s new before after result
 view-answers s new name may outcome what number path layout writable array result text before after can room is told view in' binds =
     bound-answers s new name may outcome number path layout writable array result text before after can room is told in' (subst (λ (b : Bound). AnswersBind s name b result new) view binds)
+
+-- what is seen may be bound
+pub may-bind-seen : (s : State) (what : Bound) (number : ℕ) (found : PartOrCopy) (there : Result ViewOrCopy Refusal) → what ≡ bound_of number found → GivesSeen s number (Ok found) there → MayBind s what
+may-bind-seen s what number (given.Part part) (Ok (a_view array)) is in' = may-bind s what number part.path part.layout part.writable array is in'.view
+may-bind-seen s what number (given.Part part) (Ok (a_copy contents)) is in' = absurd in'
+may-bind-seen s what number (given.Part part) (Err e) is in' = absurd in'
+may-bind-seen s what number (given.Copy o) there is in' = subst (MayBind s) (sym is) tt
+
+-- the name is bound to what is seen, or refused as out of memory
+pub seen-answers : (s new : State) (name : List ℕ) (may : Bool) (outcome : Choice → Outcome) (what : Bound) (number : ℕ) (found : PartOrCopy) (there : Result ViewOrCopy Refusal) (result : Result (Unit {0}) Refusal) (before after : List ℕ) → may ≡ true → has_room_for s name ≡ true →
+    ((x : ViewOrCopy) → there ≡ Ok x → (choice : Choice) → outcome choice ≡ bound_seen choice s name x) → after ≡ before ++ seen_text name found → what ≡ bound_of number found → GivesSeen s number (Ok found) there →
+    AnswersBind s name what result new → CarriesOut may outcome s new before after result
+seen-answers s new name may outcome what number (given.Part part) (Ok (a_view array)) result before after can room is told view in' binds =
+    view-answers s new name may outcome what number part.path part.layout part.writable array result (view_text name part.descr.now part.layout.shape) before after can room
+    (λ choice. is (a_view array) refl choice ∙ λ i. comes_to (bound_view s name array) (view_text name (in'.descr i) (sym in'.view.laid.shape i))) told view in'.view binds
+seen-answers s new name may outcome what number (given.Part part) (Ok (a_copy contents)) result before after can room is told view in' binds = absurd in'
+seen-answers s new name may outcome what number (given.Part part) (Err e) result before after can room is told view in' binds = absurd in'
+seen-answers s new name may outcome what number (given.Copy o) (Ok (a_view array)) result before after can room is told view in' binds = absurd in'
+seen-answers s new name may outcome what number (given.Copy o) (Err e) result before after can room is told view in' binds = absurd in'
+seen-answers s new name may outcome what number (given.Copy o) (Ok (a_copy contents)) result before after can room is told view in' binds =
+    fresh-answers s new name may outcome o contents result (copy_text name o.descr o.layout.shape) before after can room in'.order in'.contents_are
+    (λ choice. is (a_copy contents) refl choice ∙ λ i. comes_to (bound_to s name (fresh_array choice.fresh contents.shape) contents.buffer) (copy_text name (in'.contents_are i).buffer.descr (in'.contents_are i).shape))
+    told (subst (λ (b : Bound). AnswersBind s name b result new) view binds)
 
 -- what a call that gives a view answers
 pub given-view : (old new : Layout) (there : Result View Refusal) → GivesView old (Ok new) there → (view : View) × (there ≡ Ok view) × IsViewOf old new view

@@ -1,5 +1,5 @@
 -- What the commands that make an array put into it.
-use Rattle.std.specs.Prelude.{◌≡◌, ℕ, ◌*◌, ◌^◌, ℤ, pos, List, [], ◌∷◌, length, map, replicate, Result, Ok, Err, nat_eq, nat_le}
+use Rattle.std.specs.Prelude.{ℕ, ◌*◌, ◌^◌, ℤ, pos, List, [], ◌∷◌, length, map, replicate, Result, Ok, Err, nat_eq, nat_le}
 use Rattle.elem_descr.specs.declared.refusal.Refusal.{Refusal}
 use Rattle.elem_descr.specs.declared.refusal.Refusal.TheVariants.{TooLarge, NotForThisKind, NumberOfValues}
 use Rattle.elem_descr.specs.declared.scalar.Scalar.{Scalar}
@@ -10,17 +10,12 @@ use Rattle.elem_descr.specs.Refusals.{◌>>=◌, check}
 use Rattle.elem_descr.specs.DescrTexts.{descriptor}
 use Rattle.elem_descr.specs.Items.{item_size, leaves_of}
 use Rattle.elem_descr.specs.Values.{LeafValue, number, text}
-use Rattle.shape_strides.specs.declared.memory_order.MemoryOrder.TheVariants.{C}
 use Rattle.shape_strides.specs.Indexes.{count}
-use Rattle.shape_strides.specs.Layouts.{offsets}
 use Rattle.shape_strides.specs.Shapes.{shape_of}
 use Rattle.script_lang.specs.declared.literal.Literal.{Literal}
 use Rattle.script_lang.specs.declared.command.NewItems.{NewItems}
 use Rattle.script_lang.specs.declared.command.NewItems.TheVariants.{Zeros, Full, Arange, Array}
-use Rattle.overlap_copy.specs.declared.owned.Owned.{Owned}
-use Rattle.overlap_copy.specs.Blocks.{offsets_in}
 use Rattle.name_store.specs.States.{Buffer}
-use Rattle.name_store.specs.Calls.{own_buffer}
 use Rattle.literal_items.specs.LiteralItems.{item_value, item_values}
 use Rattle.literal_items.specs.RangeItems.{range_items}
 
@@ -31,14 +26,6 @@ pub record Contents : Type 0 where
 
 abbrev pub made : Descr → List ℕ → List (List LeafValue) → Contents
 made descr shape items = record { shape = shape; buffer = record { descr = descr; items = items } }
-
--- an array stands in its block in C order
-abbrev pub IsInCOrder : Owned → Type 0
-IsInCOrder o = offsets o.layout ≡ offsets_in C (item_size o.descr) o.layout.shape
-
--- the contents of a block
-abbrev pub held : Owned → Contents
-held o = record { shape = o.layout.shape; buffer = own_buffer o }
 
 -- the value 0, and the byte string of no bytes
 abbrev pub zero_of : Scalar → LeafValue

@@ -1,20 +1,22 @@
 -- The machine: one step of it, for each command and each choice that it is free to make.
-use Rattle.std.specs.Prelude.{◌≡◌, ℕ, Bool, true, false, ◌&&◌, List, [], ◌∷◌, ◌++◌, replicate, codes, decimal, Result, Ok, Err}
+use Rattle.std.specs.Prelude.{◌≡◌, ℕ, ◌*◌, nat_le, ℤ, Bool, true, false, ◌&&◌, if◌then◌else◌, List, [], ◌∷◌, ◌++◌, replicate, codes, decimal, Result, Ok, Err}
 use Rattle.std.specs.List.{list_all}
 use Rattle.std.specs.Option.{ok_or}
 use Rattle.elem_descr.specs.declared.refusal.Refusal.{Refusal}
-use Rattle.elem_descr.specs.declared.refusal.Refusal.TheVariants.{Syntax, UnknownName, TooManyNames, NoSuchField, ReadOnly}
-use Rattle.elem_descr.specs.declared.descr.Descr.{Descr}
+use Rattle.elem_descr.specs.declared.refusal.Refusal.TheVariants.{Syntax, UnknownName, TooManyNames, NoSuchField, ReadOnly, TooLarge}
 use Rattle.elem_descr.specs.Refusals.{◌>>=◌, check}
-use Rattle.elem_descr.specs.Items.{field_of}
+use Rattle.elem_descr.specs.Items.{item_size, field_of}
 use Rattle.shape_strides.specs.declared.index_item.IndexItem.{IndexItem}
 use Rattle.shape_strides.specs.IndexItems.{is_basic}
+use Rattle.shape_strides.specs.Limits.{max_bytes}
 use Rattle.shape_strides.specs.Indexes.{count}
 use Rattle.shape_strides.specs.Shapes.{shape_of}
 use Rattle.view_ops.specs.Views.{View, view_through}
 use Rattle.view_ops.specs.Basics.{basic}
 use Rattle.view_ops.specs.Transposes.{transposed}
 use Rattle.broadcasting.specs.Broadcasts.{stretched}
+use Rattle.reshape_rule.specs.Targets.{target_of}
+use Rattle.reshape_rule.specs.Reshapes.{is_affine}
 use Rattle.script_lang.specs.declared.literal.Literal.{Literal}
 use Rattle.script_lang.specs.declared.command.Argument.TheVariants as argument
 use Rattle.script_lang.specs.declared.command.Viewing.{Viewing}
@@ -31,9 +33,9 @@ use Rattle.name_store.specs.States.{State}
 use Rattle.name_store.specs.States as states
 use Rattle.name_store.specs.Arrays.{find_array, is_bound, has_room_for, bound_to, bound_view, unbound, fresh_array, descr_of, addresses, read, written, share_cells}
 use Rattle.name_store.specs.Calls.{IsUnused}
-use Rattle.bench_engine.specs.Contents.{Contents, contents_of}
+use Rattle.bench_engine.specs.Contents.{Contents, made, contents_of}
 use Rattle.bench_engine.specs.Indices.{basic_items}
-use Rattle.bench_engine.specs.Replies.{Reply, refusal, fresh_text, view_text, info_text, format_text, names_text, shares_text}
+use Rattle.bench_engine.specs.Replies.{Reply, refusal, fresh_text, view_text, copy_text, info_text, format_text, names_text, shares_text}
 
 -- what the machine is free to choose: the number of a fresh buffer
 pub record Choice : Type 0 where
@@ -64,23 +66,54 @@ array_of s name = ok_or (find_array s.names name) UnknownName
 abbrev pub viewed : states.Array → View → states.Array
 viewed array view = record array { shape = view.shape; places = view_through array.places array.shape view.shape view.leads }
 
--- an array of this element type, seen in some way
-abbrev pub seen : Viewing → Descr → states.Array → Result states.Array Refusal
-seen viewing.Whole descr array = Ok array
-seen (viewing.Indexed index) descr array = basic array.shape index >>= (λ view. Ok (viewed array view))
-seen (viewing.Transposed axes) descr array = transposed array.shape axes >>= (λ view. Ok (viewed array view))
-seen (viewing.Field field) descr array = ok_or (field_of descr field) NoSuchField >>= (λ k. Ok (record array { path = array.path ++ k ∷ [] }))
-seen (viewing.Broadcast lengths) descr array = do
+-- what seeing an array in some way gives: an array over the same cells, or contents of its own
+pub data ViewOrCopy : Type 0 where
+  a_view : states.Array → ViewOrCopy
+  a_copy : Contents → ViewOrCopy
+
+-- one field of each item
+abbrev pub field_seen : State → states.Array → List ℕ → Result ViewOrCopy Refusal
+field_seen s array field = do
+  k ← ok_or (field_of (descr_of s array) field) NoSuchField
+  Ok (a_view (record array { path = array.path ++ k ∷ [] }))
+
+-- the items in a larger shape, to be read alone
+abbrev pub broadcast_seen : states.Array → List ℕ → Result ViewOrCopy Refusal
+broadcast_seen array lengths = do
   shape ← shape_of lengths
   view ← stretched array.shape shape
-  Ok (record (viewed array view) { writable = false })
-seen _ descr array = Err Syntax
+  Ok (a_view (record (viewed array view) { writable = false }))
+
+-- the items copied, in C order
+unfoldable pub duplicated : State → states.Array → List ℕ → Result ViewOrCopy Refusal
+duplicated s array shape = do
+  _ ← check (nat_le (count shape * item_size (descr_of s array)) max_bytes) TooLarge
+  Ok (a_copy (made (descr_of s array) shape (read s array)))
+
+-- the items under another shape: where they stand, if some first place and some strides lead to them so, and else copied
+unfoldable pub reshaped : State → states.Array → List ℤ → Result ViewOrCopy Refusal
+reshaped s array numbers = do
+  shape ← target_of (count array.shape) numbers
+  if is_affine array.places shape then Ok (a_view (record array { shape = shape })) else duplicated s array shape
+
+-- an array, seen in some way
+abbrev pub seen : Viewing → State → states.Array → Result ViewOrCopy Refusal
+seen viewing.Whole s array = Ok (a_view array)
+seen (viewing.Indexed index) s array = basic array.shape index >>= (λ view. Ok (a_view (viewed array view)))
+seen (viewing.Transposed axes) s array = transposed array.shape axes >>= (λ view. Ok (a_view (viewed array view)))
+seen (viewing.Field field) s array = field_seen s array field
+seen (viewing.Reshaped numbers) s array = reshaped s array numbers
+seen (viewing.Broadcast lengths) s array = broadcast_seen array lengths
 
 -- the ways that are carried out so far
 abbrev pub is_carried_out : Viewing → Bool
 is_carried_out (viewing.Indexed index) = list_all is_basic index
-is_carried_out (viewing.Reshaped shape) = false
 is_carried_out _ = true
+
+-- a name is bound to what is seen
+abbrev pub bound_seen : Choice → State → List ℕ → ViewOrCopy → Outcome
+bound_seen choice s name (a_view part) = comes_to (bound_view s name part) (view_text name (descr_of s part) part.shape)
+bound_seen choice s name (a_copy new) = comes_to (bound_to s name (fresh_array choice.fresh new.shape) new.buffer) (copy_text name new.buffer.descr new.shape)
 
 -- Commands
 
@@ -91,14 +124,14 @@ creation_outcome choice s name contents = do
   new ← contents
   comes_to (bound_to s name (fresh_array choice.fresh new.shape) new.buffer) (fresh_text name new.buffer.descr new.shape)
 
--- X = a view of the array of this name
-unfoldable pub view_outcome : State → List ℕ → List ℕ → Viewing → Outcome
-view_outcome s name source how = do
+-- X = the array of a name, seen in some way
+unfoldable pub view_outcome : Choice → State → List ℕ → List ℕ → Viewing → Outcome
+view_outcome choice s name source how = do
   _ ← check (is_carried_out how) Syntax
   array ← array_of s source
   _ ← check (has_room_for s name) TooManyNames
-  part ← seen how (descr_of s array) array
-  comes_to (bound_view s name part) (view_text name (descr_of s part) part.shape)
+  found ← seen how s array
+  bound_seen choice s name found
 
 -- set X[ix] = L
 unfoldable pub set_outcome : State → List ℕ → List (IndexItem (List ℕ)) → Literal → Outcome
@@ -147,7 +180,7 @@ shares_outcome s left right = do
 -- X = ..
 abbrev pub bind_outcome : Choice → State → List ℕ → Value → Outcome
 bind_outcome choice s name (value.Make descr items) = creation_outcome choice s name (contents_of descr items)
-bind_outcome choice s name (value.View source how) = view_outcome s name source how
+bind_outcome choice s name (value.View source how) = view_outcome choice s name source how
 bind_outcome choice s name _ = Err Syntax
 
 abbrev pub question_outcome : State → Question → Outcome
@@ -196,13 +229,9 @@ must_be_bound _ = []
 
 -- Whether carrying out a command takes memory: unbinding a name does not, nor does what is not carried out so far.
 
-abbrev pub view_takes_memory : Viewing → Bool
-view_takes_memory (viewing.Reshaped shape) = false
-view_takes_memory _ = true
-
 abbrev pub value_takes_memory : Value → Bool
 value_takes_memory (value.Make descr items) = true
-value_takes_memory (value.View source how) = view_takes_memory how
+value_takes_memory (value.View source how) = true
 value_takes_memory _ = false
 
 abbrev pub takes_memory : Command → Bool

@@ -1,13 +1,10 @@
 -- What a line means, and what it may be answered.
-use Rattle.std.specs.Prelude.{◌≡◌, ◌⊎◌, ℕ, Bool, ◌||◌, IsTrue, IsErrOf, Option, Some, None, Result, List, [], ◌∷◌, length, nat_lt, if◌then◌else◌}
-use Rattle.elem_descr.specs.declared.refusal.Refusal.{Refusal}
+use Rattle.std.specs.Prelude.{◌≡◌, ◌⊎◌, ℕ, Bool, ◌||◌, IsTrue, List, [], ◌∷◌, length, nat_lt, if◌then◌else◌}
 use Rattle.elem_descr.specs.declared.refusal.Refusal.TheVariants.{LineTooLong, ByteNotAllowed, Syntax, OutOfMemory}
 use Rattle.script_lang.specs.declared.command.Command.{Command}
 use Rattle.script_lang.specs.Lines.{Line, line_of, silent, bad_byte, misspelt, asks}
-use Rattle.script_lang.specs.Reading.{Says, needs_room}
+use Rattle.script_lang.specs.Reading.{needs_room}
 use Rattle.name_store.specs.States.{State}
-use Rattle.bench_engine.specs.declared.line.Line.{Line as ReadLine}
-use Rattle.bench_engine.specs.declared.line.Line.TheVariants.{Held, TooLong}
 use Rattle.bench_engine.specs.Replies.{Reply, refusal}
 use Rattle.bench_engine.specs.Machine.{Step, may_lack_memory}
 
@@ -48,18 +45,3 @@ Answered old (says (asks command)) new replies =
 -- what the machine may answer a line
 abbrev pub AnswersLine : State → List ℕ → State → List Reply → Type 0
 AnswersLine old line new replies = Answered old (meaning_of line) new replies
-
--- what a line as it was read means
-abbrev pub meaning_of_read : ReadLine → Meaning
-meaning_of_read (Held line) = meaning_of line.now
-meaning_of_read TooLong = too_long
-
--- what reading a line answers: what the grammar says, or that it is too long
-abbrev pub ReadsAs : Result (Option Command) Refusal → Meaning → Type 0
-ReadsAs result too_long = IsErrOf result LineTooLong
-ReadsAs result (says line) = Says result line
-
--- at most one reply, which stands in out
-abbrev pub Tells : List Reply → Option Bool → List ℕ → Type 0
-Tells replies None out = (replies ≡ []) × (out ≡ [])
-Tells replies (Some accepted) out = (reply : Reply) × (replies ≡ reply ∷ []) × (reply.accepted ≡ accepted) × (out ≡ reply.text)

@@ -5,11 +5,11 @@ use Rattle.elem_descr.specs.declared.refusal.Refusal.{Refusal}
 use Rattle.elem_descr.specs.declared.descr.Descr.{Descr}
 use Rattle.elem_descr.specs.declared.descr.Descr.TheVariants.{Scalar as ScalarDescr, Record as RecordDescr}
 use Rattle.elem_descr.specs.TypeStrings.{spelling}
-use Rattle.elem_descr.specs.WrittenFormats as formats
+use Rattle.elem_descr.specs.WrittenFormats.{written_format}
 use Rattle.elem_descr.specs.Items.{item_size}
 use Rattle.shape_strides.specs.Shapes.{shape_text}
 use Rattle.shape_strides.specs.Contiguity.{first_address, printed_strides, is_c_contiguous, is_f_contiguous, strides_text}
-use Rattle.script_lang.specs.Refusals.{text_of}
+use Rattle.script_lang.specs.Refusals.{refusal_text}
 use Rattle.name_store.specs.States.{State}
 
 -- the answer to a command, and whether it was accepted
@@ -19,12 +19,12 @@ pub record Reply : Type 0 where
 
 -- the reply to what is refused
 abbrev pub refusal : Refusal → Reply
-refusal r = record { text = text_of r; accepted = false }
+refusal r = record { text = refusal_text r; accepted = false }
 
 -- an element type: a scalar as its type string, a record as its format text
 abbrev pub descr_text : Descr → List ℕ
 descr_text (ScalarDescr scalar) = spelling scalar
-descr_text (RecordDescr structure) = formats.written (RecordDescr structure)
+descr_text (RecordDescr structure) = written_format (RecordDescr structure)
 
 -- X DESCR SHAPE
 abbrev pub array_words : List ℕ → Descr → List ℕ → List ℕ
@@ -37,6 +37,10 @@ fresh_text name descr shape = codes "ok " ++ array_words name descr shape ++ cod
 -- ok X DESCR SHAPE view
 abbrev pub view_text : List ℕ → Descr → List ℕ → List ℕ
 view_text name descr shape = codes "ok " ++ array_words name descr shape ++ codes " view"
+
+-- ok X DESCR SHAPE copy
+abbrev pub copy_text : List ℕ → Descr → List ℕ → List ℕ
+copy_text name descr shape = codes "ok " ++ array_words name descr shape ++ codes " copy"
 
 abbrev pub yes_or_no : Bool → List ℕ
 yes_or_no is = if is then codes "yes" else codes "no"
@@ -68,4 +72,4 @@ names_text s = codes "names" ++ flat_map (λ entry. codes " " ++ entry.0) s.name
 
 -- format TEXT
 abbrev pub format_text : Descr → List ℕ
-format_text descr = codes "format " ++ formats.written descr
+format_text descr = codes "format " ++ written_format descr

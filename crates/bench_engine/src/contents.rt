@@ -9,7 +9,8 @@ ghost use Rattle.shape_strides.specs.Indexes.{count};
 ghost use Rattle.shape_strides.specs.Shapes.{shape_of};
 ghost use Rattle.literal_items.specs.LiteralItems.{item_values};
 ghost use Rattle.literal_items.specs.RangeItems.{range_count, range_items};
-ghost use Rattle.bench_engine.specs.Contents.{array_type, zeros_contents, full_contents, array_contents, arange_contents, integer_scalar, integer_type, held, IsInCOrder};
+ghost use Rattle.bench_engine.specs.Contents.{array_type, zeros_contents, full_contents, array_contents, arange_contents, integer_scalar, integer_type};
+ghost use Rattle.bench_engine.specs.inside.OwnContents.{held, IsInCOrder};
 
 use crate::item::item_of;
 use elem_descr::{Descr, Refusal, Scalar, descr_read};

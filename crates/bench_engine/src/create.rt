@@ -1,8 +1,9 @@
 //! `X = zeros ..`, `full`, `arange`, `array`: a name is bound to a new array.
 ghost use Rattle.std.specs.Prelude.{◌≡◌, ◌≤◌, true, Ok, vec_capacity};
 ghost use Rattle.name_store.specs.Arrays.{has_room_for};
-ghost use Rattle.bench_engine.specs.Contents.{zeros_contents, full_contents, arange_contents, array_contents, contents_of, held, IsInCOrder};
-ghost use Rattle.bench_engine.specs.inside.Contract.{Answers};
+ghost use Rattle.bench_engine.specs.Contents.{zeros_contents, full_contents, arange_contents, array_contents, contents_of};
+ghost use Rattle.bench_engine.specs.inside.OwnContents.{held, IsInCOrder};
+ghost use Rattle.bench_engine.specs.inside.Contract.{CarriesOut};
 ghost use Rattle.bench_engine.specs.Machine.{creation_outcome};
 
 use crate::contents;
@@ -25,7 +26,7 @@ fn create(
     requires room { has_room_for bench.old name.now ≡ true }
     requires order { IsInCOrder owned }
     ensures room { vec_capacity out.old ≤ vec_capacity out.new }
-    ensures answers { Answers true (λ choice. creation_outcome choice bench.old name.now (Ok (held owned)))
+    ensures answers { CarriesOut true (λ choice. creation_outcome choice bench.old name.now (Ok (held owned)))
         bench.old bench.new out.old.items out.new.items result }
 {
     push_fresh_text(alloc, out, name, &owned.descr, &owned.layout.shape)?;
@@ -42,7 +43,7 @@ fn zeros(
     out: &mut Vec<u8>,
 ) -> Result<(), Refusal>
     ensures room { vec_capacity out.old ≤ vec_capacity out.new }
-    ensures answers { Answers true (λ choice. creation_outcome choice bench.old name.now (zeros_contents descr.now shape.now))
+    ensures answers { CarriesOut true (λ choice. creation_outcome choice bench.old name.now (zeros_contents descr.now shape.now))
         bench.old bench.new out.old.items out.new.items result }
 {
     if !bench.has_room_for(name) {
@@ -63,7 +64,7 @@ fn full(
     out: &mut Vec<u8>,
 ) -> Result<(), Refusal>
     ensures room { vec_capacity out.old ≤ vec_capacity out.new }
-    ensures answers { Answers true (λ choice. creation_outcome choice bench.old name.now (full_contents descr.now shape.now value.now))
+    ensures answers { CarriesOut true (λ choice. creation_outcome choice bench.old name.now (full_contents descr.now shape.now value.now))
         bench.old bench.new out.old.items out.new.items result }
 {
     if !bench.has_room_for(name) {
@@ -85,7 +86,7 @@ fn arange(
     out: &mut Vec<u8>,
 ) -> Result<(), Refusal>
     ensures room { vec_capacity out.old ≤ vec_capacity out.new }
-    ensures answers { Answers true (λ choice. creation_outcome choice bench.old name.now (arange_contents descr.now start.now stop.now step.now))
+    ensures answers { CarriesOut true (λ choice. creation_outcome choice bench.old name.now (arange_contents descr.now start.now stop.now step.now))
         bench.old bench.new out.old.items out.new.items result }
 {
     if !bench.has_room_for(name) {
@@ -106,7 +107,7 @@ fn array(
     out: &mut Vec<u8>,
 ) -> Result<(), Refusal>
     ensures room { vec_capacity out.old ≤ vec_capacity out.new }
-    ensures answers { Answers true (λ choice. creation_outcome choice bench.old name.now (array_contents descr.now shape.now values.now))
+    ensures answers { CarriesOut true (λ choice. creation_outcome choice bench.old name.now (array_contents descr.now shape.now values.now))
         bench.old bench.new out.old.items out.new.items result }
 {
     if !bench.has_room_for(name) {
@@ -126,7 +127,7 @@ pub fn make(
     out: &mut Vec<u8>,
 ) -> Result<(), Refusal>
     ensures room { vec_capacity out.old ≤ vec_capacity out.new }
-    ensures answers { Answers true (λ choice. creation_outcome choice bench.old name.now (contents_of descr.now items.now))
+    ensures answers { CarriesOut true (λ choice. creation_outcome choice bench.old name.now (contents_of descr.now items.now))
         bench.old bench.new out.old.items out.new.items result }
 {
     match items {

@@ -1,6 +1,6 @@
 //! `del X`: a name is bound no longer.
 ghost use Rattle.std.specs.Prelude.{◌≡◌, ◌≤◌, ◌+◌, false, vec_len, vec_capacity};
-ghost use Rattle.bench_engine.specs.inside.Contract.{Answers};
+ghost use Rattle.bench_engine.specs.inside.Contract.{CarriesOut};
 ghost use Rattle.bench_engine.specs.Machine.{delete_outcome};
 
 use elem_descr::Refusal;
@@ -11,7 +11,7 @@ use script_lang::Name;
 pub fn delete(bench: &mut Bench, name: &Name, out: &mut Vec<u8>) -> Result<(), Refusal>
     requires room { vec_len out.old + 64 ≤ vec_capacity out.old }
     ensures room { vec_capacity out.old ≤ vec_capacity out.new }
-    ensures answers { Answers false (λ choice. delete_outcome bench.old name.now)
+    ensures answers { CarriesOut false (λ choice. delete_outcome bench.old name.now)
         bench.old bench.new out.old.items out.new.items result }
 {
     bench.unbind(name)?;

@@ -2,10 +2,11 @@
 ghost use Rattle.std.specs.Prelude.{◌≡◌, ◌≤◌, ◌+◌, ◌++◌, ◌&&◌, [], List, vec_len, vec_capacity};
 ghost use Rattle.std.specs.List.{list_all};
 ghost use Rattle.name_store.specs.Arrays.{is_bound};
-ghost use Rattle.bench_engine.specs.inside.Contract.{Answers};
+ghost use Rattle.bench_engine.specs.inside.Contract.{CarriesOut};
 ghost use Rattle.bench_engine.specs.Machine.{outcome, bind_outcome, question_outcome, value_takes_memory, bound_in_value, bound_in_question, may_lack_memory};
 ghost use Rattle.bench_engine.specs.Replies.{Reply};
-ghost use Rattle.bench_engine.specs.Meanings.{Case, Answered, ReadsAs, Tells, meaning_of_read};
+ghost use Rattle.bench_engine.specs.Meanings.{Case, Answered};
+ghost use Rattle.bench_engine.specs.inside.ReadLines.{ReadsAs, Tells, meaning_of_read};
 
 use crate::create::make;
 use crate::delete::delete;
@@ -33,7 +34,7 @@ fn bind(
     value: &Value,
     out: &mut Vec<u8>,
 ) -> Result<(), Refusal>
-    ensures answers { Answers (value_takes_memory value.now && list_all (is_bound bench.old) (bound_in_value value.now))
+    ensures answers { CarriesOut (value_takes_memory value.now && list_all (is_bound bench.old) (bound_in_value value.now))
         (λ choice. bind_outcome choice bench.old name.now value.now) bench.old bench.new out.old.items out.new.items result }
     ensures room { vec_capacity out.old ≤ vec_capacity out.new }
 {
@@ -52,7 +53,7 @@ fn reply(
     out: &mut Vec<u8>,
 ) -> Result<(), Refusal>
     requires room { vec_len out.old + 64 ≤ vec_capacity out.old }
-    ensures answers { Answers (list_all (is_bound bench.now) (bound_in_question question.now))
+    ensures answers { CarriesOut (list_all (is_bound bench.now) (bound_in_question question.now))
         (λ choice. question_outcome bench.now question.now) bench.now bench.now out.old.items out.new.items result }
     ensures room { vec_capacity out.old ≤ vec_capacity out.new }
 {
@@ -74,7 +75,7 @@ fn perform(
     out: &mut Vec<u8>,
 ) -> Result<(), Refusal>
     requires room { vec_len out.old + 64 ≤ vec_capacity out.old }
-    ensures answers { Answers (may_lack_memory bench.old command.now) (λ choice. outcome choice bench.old command.now)
+    ensures answers { CarriesOut (may_lack_memory bench.old command.now) (λ choice. outcome choice bench.old command.now)
         bench.old bench.new out.old.items out.new.items result }
     ensures room { vec_capacity out.old ≤ vec_capacity out.new }
 {

@@ -2,7 +2,7 @@
 ghost use Rattle.std.specs.Prelude.{◌≡◌, ◌≤◌, ◌++◌, OnOk, vec_capacity};
 ghost use Rattle.std.specs.Io.{StartsWith};
 ghost use Rattle.name_store.specs.Arrays.{is_bound};
-ghost use Rattle.bench_engine.specs.inside.Contract.{Answers};
+ghost use Rattle.bench_engine.specs.inside.Contract.{CarriesOut};
 ghost use Rattle.bench_engine.specs.Machine.{format_outcome};
 ghost use Rattle.bench_engine.specs.Replies.{format_text};
 
@@ -26,7 +26,7 @@ fn push_format_text(alloc: Global, out: &mut Vec<u8>, descr: &Descr) -> Result<(
 /// Tells the format text of a name's array.
 pub fn format(alloc: Global, bench: &Bench, name: &Name, out: &mut Vec<u8>) -> Result<(), Refusal>
     ensures room { vec_capacity out.old ≤ vec_capacity out.new }
-    ensures answers { Answers (is_bound bench.now name.now) (λ choice. format_outcome bench.now name.now)
+    ensures answers { CarriesOut (is_bound bench.now name.now) (λ choice. format_outcome bench.now name.now)
         bench.now bench.now out.old.items out.new.items result }
 {
     let Some(array) = bench.get(name) else {

@@ -4,7 +4,7 @@ ghost use Rattle.std.specs.Io.{StartsWith};
 ghost use Rattle.shape_strides.specs.Contiguity.{printed_strides, strides_text};
 ghost use Rattle.shape_strides.specs.Layouts.{offsets};
 ghost use Rattle.name_store.specs.Arrays.{is_bound};
-ghost use Rattle.bench_engine.specs.inside.Contract.{Answers};
+ghost use Rattle.bench_engine.specs.inside.Contract.{CarriesOut};
 ghost use Rattle.bench_engine.specs.Machine.{info_outcome};
 ghost use Rattle.bench_engine.specs.Replies.{info_text, layout_words, order_text, yes_or_no};
 
@@ -108,7 +108,7 @@ fn push_info_text(
 /// Tells where the items of a name's array lie in its buffer, in bytes.
 pub fn info(alloc: Global, bench: &Bench, name: &Name, out: &mut Vec<u8>) -> Result<(), Refusal>
     ensures room { vec_capacity out.old ≤ vec_capacity out.new }
-    ensures answers { Answers (is_bound bench.now name.now) (λ choice. info_outcome bench.now name.now)
+    ensures answers { CarriesOut (is_bound bench.now name.now) (λ choice. info_outcome bench.now name.now)
         bench.now bench.now out.old.items out.new.items result }
 {
     let Some(array) = bench.get(name) else {

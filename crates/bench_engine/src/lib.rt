@@ -26,4 +26,4 @@ mod view;
 pub use engine::execute;
 pub use runner::{RunFault, run};
 pub use session::Summary;
-pub use source::Source;
+pub use source::ScriptSource;

@@ -1,7 +1,8 @@
 //! The line that is being read.
 ghost use Rattle.std.specs.Prelude.{◌≡◌, ◌++◌, [], List, ℕ, IfOk, false, ◌&&◌, nat_eq, not, length, vec_capacity, ◌+◌, ◌≤◌};
 ghost use Rattle.bench_engine.specs.Lines.{trimmed};
-ghost use Rattle.bench_engine.specs.Meanings.{meaning_of, meaning_of_read};
+ghost use Rattle.bench_engine.specs.Meanings.{meaning_of};
+ghost use Rattle.bench_engine.specs.inside.ReadLines.{meaning_of_read};
 ghost use Rattle.bench_engine.specs.inside.Sessions.{HoldsPiece, HasLineRoom};
 
 use std::alloc::{AllocError, Global};

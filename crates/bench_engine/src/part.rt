@@ -1,18 +1,21 @@
-//! What a view shows of an array: all of it, the items that an index list names, its axes in another
-//! order, one field of each item, or its items in a larger shape, to be read alone.
+//! An array seen in some way: all of it, the items that an index list names, its axes in another order,
+//! one field of each item, its items in a larger shape, to be read alone, or in another shape, where
+//! they stand if strides can lead to them and else in a copy.
 ghost use Rattle.std.specs.Prelude.{◌≡◌, true, option_copied};
 ghost use Rattle.std.specs.List.{list_all};
+ghost use Rattle.shape_strides.specs.Indexes.{count};
 ghost use Rattle.shape_strides.specs.IndexItems.{is_basic};
-ghost use Rattle.script_lang.specs.declared.command.Viewing.TheVariants.{Whole, Indexed, Field, Transposed, Broadcast};
+ghost use Rattle.script_lang.specs.declared.command.Viewing.TheVariants.{Whole, Indexed, Field, Transposed, Reshaped, Broadcast};
 ghost use Rattle.bench_engine.specs.Machine.{is_carried_out};
-ghost use Rattle.bench_engine.specs.inside.Parts.{IsShown, Sees};
+ghost use Rattle.bench_engine.specs.inside.Parts.{IsShown, Sees, Duplicates};
 
 use crate::contents::shape_of;
 use crate::index::{are_plain, named_items};
 use elem_descr::{Descr, Refusal};
 use name_store::{ArrayRef, Path};
+use overlap_copy::Owned;
 use script_lang::{FieldText, Index, Lengths, Viewing};
-use shape_strides::Layout;
+use shape_strides::{Layout, MemoryOrder, Shape};
 use std::alloc::Global;
 
 /// What a view shows: the path to a part of each item of a buffer, the element type of that part, and
@@ -23,6 +26,13 @@ pub struct Part<'a> {
     pub descr: &'a Descr,
     pub layout: Layout,
     pub writable: bool,
+}
+
+/// What is seen of an array: a part of the buffer that it lies in, or a copy of its items, in C order.
+#[derive(Drop)]
+pub enum PartOrCopy<'a> {
+    Part(Part<'a>),
+    Copy(Owned),
 }
 
 /// The items of an array with this layout.
@@ -41,20 +51,24 @@ fn items<'a>(array: &ArrayRef<'a>, layout: Layout, writable: bool) -> Part<'a>
 }
 
 /// `Y`
-fn whole<'a>(alloc: Global, array: &ArrayRef<'a>) -> Result<Part<'a>, Refusal>
+fn whole<'a>(alloc: Global, array: &ArrayRef<'a>) -> Result<PartOrCopy<'a>, Refusal>
     ensures { Sees Whole array.now result }
 {
     let layout = Layout::try_copy(alloc, array.layout)?;
-    Ok(items(array, layout, array.writable))
+    Ok(PartOrCopy::Part(items(array, layout, array.writable)))
 }
 
 /// `Y[ix]`
-fn indexed<'a>(alloc: Global, array: &ArrayRef<'a>, index: &Index) -> Result<Part<'a>, Refusal>
+fn indexed<'a>(
+    alloc: Global,
+    array: &ArrayRef<'a>,
+    index: &Index,
+) -> Result<PartOrCopy<'a>, Refusal>
     requires plain { list_all is_basic index.now ≡ true }
     ensures { Sees (Indexed index.now) array.now result }
 {
     let layout = named_items(alloc, array.layout, index.as_slice())?;
-    Ok(items(array, layout, array.writable))
+    Ok(PartOrCopy::Part(items(array, layout, array.writable)))
 }
 
 /// `transpose Y [(axes)]`
@@ -62,15 +76,19 @@ fn transposed<'a>(
     alloc: Global,
     array: &ArrayRef<'a>,
     axes: Option<&[i128]>,
-) -> Result<Part<'a>, Refusal>
+) -> Result<PartOrCopy<'a>, Refusal>
     ensures { Sees (Transposed (option_copied axes.entry)) array.now result }
 {
     let layout = view_ops::transpose(alloc, array.layout, axes)?;
-    Ok(items(array, layout, array.writable))
+    Ok(PartOrCopy::Part(items(array, layout, array.writable)))
 }
 
 /// `field Y "f"`
-fn field<'a>(alloc: Global, array: &ArrayRef<'a>, field: &FieldText) -> Result<Part<'a>, Refusal>
+fn field<'a>(
+    alloc: Global,
+    array: &ArrayRef<'a>,
+    field: &FieldText,
+) -> Result<PartOrCopy<'a>, Refusal>
     requires { IsShown array.now }
     ensures { Sees (Field field.now) array.now result }
 {
@@ -78,12 +96,12 @@ fn field<'a>(alloc: Global, array: &ArrayRef<'a>, field: &FieldText) -> Result<P
         return Err(Refusal::NoSuchField);
     };
     let layout = view_ops::field(alloc, array.layout, array.descr, field.as_slice())?;
-    Ok(Part {
+    Ok(PartOrCopy::Part(Part {
         path: array.path.then(k),
         descr: &array.descr.field(k).descr,
         layout,
         writable: array.writable,
-    })
+    }))
 }
 
 /// `broadcast Y S`: it may not be written, since one item may stand at many indexes.
@@ -91,27 +109,67 @@ fn broadcast<'a>(
     alloc: Global,
     array: &ArrayRef<'a>,
     lengths: &Lengths,
-) -> Result<Part<'a>, Refusal>
+) -> Result<PartOrCopy<'a>, Refusal>
     ensures { Sees (Broadcast lengths.now) array.now result }
 {
     let shape = shape_of(alloc, lengths)?;
     let layout = broadcasting::stretch(alloc, array.layout, &shape)?;
-    Ok(items(array, layout, false))
+    Ok(PartOrCopy::Part(items(array, layout, false)))
 }
 
-/// Whether an array can be seen so: not with an index list that names an array, nor reshaped.
+/// The items of an array in a block of their own, in C order, under a shape with as many items.
+fn duplicate<'a>(
+    alloc: Global,
+    array: &ArrayRef<'a>,
+    shape: &Shape,
+) -> Result<PartOrCopy<'a>, Refusal>
+    requires shown { IsShown array.now }
+    requires items { count shape.now ≡ count array.now.layout.now.shape }
+    ensures { Duplicates shape.now array.now result }
+{
+    let copy = overlap_copy::copy(
+        alloc,
+        array.block,
+        array.layout,
+        array.descr,
+        MemoryOrder::C,
+    )?;
+    let owned = Owned::over(alloc, copy.descr, shape, MemoryOrder::C, copy.block)?;
+    Ok(PartOrCopy::Copy(owned))
+}
+
+/// `reshape Y S`: where no strides lead to the items under the new shape, they are copied.
+fn reshaped<'a>(
+    alloc: Global,
+    array: &ArrayRef<'a>,
+    numbers: &[i128],
+) -> Result<PartOrCopy<'a>, Refusal>
+    requires { IsShown array.now }
+    ensures { Sees (Reshaped numbers.now) array.now result }
+{
+    let shape = reshape_rule::target(alloc, &array.layout.shape, numbers)?;
+    if let Some(layout) = reshape_rule::no_copy(alloc, array.layout, &shape)? {
+        return Ok(PartOrCopy::Part(items(array, layout, array.writable)));
+    }
+    duplicate(alloc, array, &shape)
+}
+
+/// Whether an array can be seen so: not with an index list that names an array.
 pub fn is_carried_out(how: &Viewing) -> bool
     ensures { result ≡ is_carried_out how.now }
 {
     match how {
-        Viewing::Whole | Viewing::Field(_) | Viewing::Transposed(_) | Viewing::Broadcast(_) => true,
         Viewing::Indexed(index) => are_plain(index.as_slice()),
-        Viewing::Reshaped(_) => false,
+        _ => true,
     }
 }
 
-/// What a view shows of an array. The refusals are those of the way it is seen.
-pub fn seen<'a>(alloc: Global, array: &ArrayRef<'a>, how: &Viewing) -> Result<Part<'a>, Refusal>
+/// What is seen of an array. The refusals are those of the way it is seen.
+pub fn seen<'a>(
+    alloc: Global,
+    array: &ArrayRef<'a>,
+    how: &Viewing,
+) -> Result<PartOrCopy<'a>, Refusal>
     requires shown { IsShown array.now }
     requires carried_out { is_carried_out how.now ≡ true }
     ensures { Sees how.now array.now result }
@@ -125,6 +183,6 @@ pub fn seen<'a>(alloc: Global, array: &ArrayRef<'a>, how: &Viewing) -> Result<Pa
             Some(axes) => transposed(alloc, array, Some(axes.as_slice())),
         },
         Viewing::Broadcast(lengths) => broadcast(alloc, array, lengths),
-        Viewing::Reshaped(_) => Err(Refusal::Syntax),
+        Viewing::Reshaped(numbers) => reshaped(alloc, array, numbers.as_slice()),
     }
 }

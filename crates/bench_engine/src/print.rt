@@ -1,7 +1,7 @@
 //! `print X`: the text of an array.
 ghost use Rattle.std.specs.Prelude.{◌≡◌, ◌≤◌, vec_capacity};
 ghost use Rattle.name_store.specs.Arrays.{is_bound};
-ghost use Rattle.bench_engine.specs.inside.Contract.{Answers};
+ghost use Rattle.bench_engine.specs.inside.Contract.{CarriesOut};
 ghost use Rattle.bench_engine.specs.Machine.{print_outcome};
 
 use array_print::print_into;
@@ -13,7 +13,7 @@ use std::alloc::Global;
 /// Prints a name's array.
 pub fn print(alloc: Global, bench: &Bench, name: &Name, out: &mut Vec<u8>) -> Result<(), Refusal>
     ensures room { vec_capacity out.old ≤ vec_capacity out.new }
-    ensures answers { Answers (is_bound bench.now name.now) (λ choice. print_outcome bench.now name.now)
+    ensures answers { CarriesOut (is_bound bench.now name.now) (λ choice. print_outcome bench.now name.now)
         bench.now bench.now out.old.items out.new.items result }
 {
     let Some(array) = bench.get(name) else {

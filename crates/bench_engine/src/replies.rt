@@ -2,7 +2,7 @@
 ghost use Rattle.std.specs.Prelude.{◌≡◌, ◌≤◌, ◌++◌, OnOk, IfOk, vec_capacity};
 ghost use Rattle.std.specs.Io.{StartsWith};
 ghost use Rattle.shape_strides.specs.Shapes.{shape_text};
-ghost use Rattle.bench_engine.specs.Replies.{descr_text, array_words, fresh_text, view_text};
+ghost use Rattle.bench_engine.specs.Replies.{descr_text, array_words, fresh_text, view_text, copy_text};
 
 use elem_descr::{Descr, format_write, typestr_write};
 use script_lang::Name;
@@ -90,4 +90,21 @@ pub fn push_view_text(
     out.extend_from_slice(b"ok ")?;
     push_array_words(alloc, out, name, descr, shape)?;
     out.extend_from_slice(b" view")
+}
+
+/// Appends `ok X DESCR SHAPE copy`. Where memory runs out, some of it may stand past the old end.
+pub fn push_copy_text(
+    alloc: Global,
+    out: &mut Vec<u8>,
+    name: &Name,
+    descr: &Descr,
+    shape: &Shape,
+) -> Result<(), AllocError>
+    ensures ok { OnOk result (out.new.items ≡ out.old.items ++ copy_text name.now descr.now shape.now) }
+    ensures kept { StartsWith out.new.items out.old.items }
+    ensures room { vec_capacity out.old ≤ vec_capacity out.new }
+{
+    out.extend_from_slice(b"ok ")?;
+    push_array_words(alloc, out, name, descr, shape)?;
+    out.extend_from_slice(b" copy")
 }

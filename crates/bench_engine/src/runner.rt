@@ -7,7 +7,7 @@ ghost use Rattle.bench_engine.specs.declared.runner.RunFault.TheVariants.{Write,
 
 use crate::send::WriteFault;
 use crate::session::{Session, Summary};
-use crate::source::Source;
+use crate::source::ScriptSource;
 use std::alloc::{AllocError, Global};
 use std::io::Write;
 
@@ -45,7 +45,7 @@ const READ_SIZE: usize = 65_538;
 const MAX_READS: u64 = 1 << 32;
 
 /// Takes what one read gives, and answers whether that is the end.
-fn take_turn<S: Source, W: Write>(
+fn take_turn<S: ScriptSource, W: Write>(
     alloc: Global,
     source: &mut S,
     writer: &mut W,
@@ -79,7 +79,7 @@ fn take_turn<S: Source, W: Write>(
 }
 
 /// A run of at most so many reads, each of which asks for so many bytes.
-pub fn run_within<S: Source, W: Write>(
+pub fn run_within<S: ScriptSource, W: Write>(
     alloc: Global,
     source: &mut S,
     writer: &mut W,
@@ -111,7 +111,7 @@ pub fn run_within<S: Source, W: Write>(
 ///
 /// A script ends where a read gives no byte. Each reply is written whole before the next line is
 /// looked at. `RunFault::Memory` comes before the first read.
-pub fn run<S: Source, W: Write>(
+pub fn run<S: ScriptSource, W: Write>(
     alloc: Global,
     source: &mut S,
     writer: &mut W,

@@ -1,7 +1,7 @@
 //! `set X[ix] = L`: items of an array are written.
 ghost use Rattle.std.specs.Prelude.{◌≡◌, ◌≤◌, ◌<◌, ◌+◌, ◌^◌, ◌++◌, codes, decimal, vec_len, vec_capacity};
 ghost use Rattle.name_store.specs.Arrays.{is_bound};
-ghost use Rattle.bench_engine.specs.inside.Contract.{Answers};
+ghost use Rattle.bench_engine.specs.inside.Contract.{CarriesOut};
 ghost use Rattle.bench_engine.specs.Machine.{set_outcome};
 
 use crate::index::{are_plain, named_items};
@@ -36,7 +36,7 @@ pub fn set(
 ) -> Result<(), Refusal>
     requires room { vec_len out.old + 64 ≤ vec_capacity out.old }
     ensures room { vec_capacity out.old ≤ vec_capacity out.new }
-    ensures answers { Answers (is_bound bench.old name.now) (λ choice. set_outcome bench.old name.now index.now literal.now)
+    ensures answers { CarriesOut (is_bound bench.old name.now) (λ choice. set_outcome bench.old name.now index.now literal.now)
         bench.old bench.new out.old.items out.new.items result }
 {
     if !are_plain(index.as_slice()) {

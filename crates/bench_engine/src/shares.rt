@@ -1,7 +1,7 @@
 //! `shares X Y`: whether two arrays have a cell in common.
 ghost use Rattle.std.specs.Prelude.{◌≡◌, ◌≤◌, ◌+◌, ◌&&◌, vec_len, vec_capacity};
 ghost use Rattle.name_store.specs.Arrays.{is_bound};
-ghost use Rattle.bench_engine.specs.inside.Contract.{Answers};
+ghost use Rattle.bench_engine.specs.inside.Contract.{CarriesOut};
 ghost use Rattle.bench_engine.specs.Machine.{shares_outcome};
 
 use crate::info::yes_or_no;
@@ -20,7 +20,7 @@ pub fn shares(
 ) -> Result<(), Refusal>
     requires room { vec_len out.old + 64 ≤ vec_capacity out.old }
     ensures room { vec_capacity out.old ≤ vec_capacity out.new }
-    ensures answers { Answers (is_bound bench.now left.now && is_bound bench.now right.now) (λ choice. shares_outcome bench.now left.now right.now)
+    ensures answers { CarriesOut (is_bound bench.now left.now && is_bound bench.now right.now) (λ choice. shares_outcome bench.now left.now right.now)
         bench.now bench.now out.old.items out.new.items result }
 {
     let yes = bench.shares(alloc, left, right)?;

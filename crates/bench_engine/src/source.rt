@@ -5,7 +5,7 @@ ghost use Rattle.std.specs.Io.KnownBytes.{Consumes, Keeps, IsAtEnd};
 use std::io::Read;
 
 /// What a script is read from. Each reader is one; one that counts its reads shows how many a run makes.
-pub trait Source {
+pub trait ScriptSource {
     // The bytes that are left, where they are known.
     ghost remaining: { Self → Option (List ℕ) };
 
@@ -21,7 +21,7 @@ pub trait Source {
             × (n ≡ 0 → IsAtEnd (remaining self.new))) };
 }
 
-impl<R: Read> Source for R {
+impl<R: Read> ScriptSource for R {
     ghost remaining = { R.remaining };
 
     ghost reads = { λ _. 0 };

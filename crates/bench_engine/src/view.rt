@@ -1,15 +1,16 @@
-//! `X = Y`, `X = Y[ix]`, `X = transpose Y`, `X = broadcast Y S`, `X = field Y "f"`: a name is bound to
-//! items of another name's array, or to one field of each.
-ghost use Rattle.std.specs.Prelude.{◌≡◌, ◌≤◌, ◌++◌, ◌&&◌, IfOk, OnOk, vec_capacity};
+//! `X = Y`, `X = Y[ix]`, `X = transpose Y`, `X = reshape Y S`, `X = broadcast Y S`, `X = field Y "f"`: a
+//! name is bound to items of another name's array, to one field of each, or to a copy of them.
+ghost use Rattle.std.specs.Prelude.{◌≡◌, ◌≤◌, ◌++◌, IfOk, OnOk, vec_capacity};
 ghost use Rattle.std.specs.Io.{StartsWith};
 ghost use Rattle.name_store.specs.Arrays.{is_bound};
 ghost use Rattle.name_store.specs.declared.bound.Bound.TheVariants.{View};
-ghost use Rattle.bench_engine.specs.inside.Contract.{Answers};
+ghost use Rattle.bench_engine.specs.inside.Contract.{CarriesOut};
 ghost use Rattle.bench_engine.specs.Replies.{view_text};
-ghost use Rattle.bench_engine.specs.Machine.{view_outcome, view_takes_memory};
+ghost use Rattle.bench_engine.specs.inside.Parts.{bound_of, seen_text};
+ghost use Rattle.bench_engine.specs.Machine.{view_outcome};
 
-use crate::part::{Part, is_carried_out, seen};
-use crate::replies::push_view_text;
+use crate::part::{Part, PartOrCopy, is_carried_out, seen};
+use crate::replies::{push_copy_text, push_view_text};
 use elem_descr::Refusal;
 use name_store::{Bench, Bound};
 use script_lang::{Name, Viewing};
@@ -37,8 +38,31 @@ fn told_view(
     })
 }
 
-/// Binds a name to the items of an array, seen in some way. The reply is appended before the change,
-/// which is the last step that may lack memory.
+/// What is seen of an array in the buffer with this number, to be bound. The reply that binds a name to
+/// it is appended.
+fn told(
+    alloc: Global,
+    out: &mut Vec<u8>,
+    name: &Name,
+    number: u64,
+    seen: PartOrCopy<'_>,
+) -> Result<Bound, AllocError>
+    ensures bound { IfOk result (λ bound. bound ≡ bound_of number seen.entry) }
+    ensures ok { OnOk result (out.new.items ≡ out.old.items ++ seen_text name.now seen.entry) }
+    ensures kept { StartsWith out.new.items out.old.items }
+    ensures room { vec_capacity out.old ≤ vec_capacity out.new }
+{
+    match seen {
+        PartOrCopy::Part(part) => told_view(alloc, out, name, number, part),
+        PartOrCopy::Copy(owned) => {
+            push_copy_text(alloc, out, name, &owned.descr, &owned.layout.shape)?;
+            Ok(Bound::Fresh(owned))
+        }
+    }
+}
+
+/// Binds a name to an array, seen in some way. The reply is appended before the change, which is the
+/// last step that may lack memory.
 pub fn view(
     alloc: Global,
     bench: &mut Bench,
@@ -48,7 +72,7 @@ pub fn view(
     out: &mut Vec<u8>,
 ) -> Result<(), Refusal>
     ensures room { vec_capacity out.old ≤ vec_capacity out.new }
-    ensures answers { Answers (view_takes_memory how.now && is_bound bench.old source.now) (λ choice. view_outcome bench.old name.now source.now how.now)
+    ensures answers { CarriesOut (is_bound bench.old source.now) (λ choice. view_outcome choice bench.old name.now source.now how.now)
         bench.old bench.new out.old.items out.new.items result }
 {
     if !is_carried_out(how) {
@@ -61,6 +85,6 @@ pub fn view(
         return Err(Refusal::TooManyNames);
     }
     let part = seen(alloc, &array, how)?;
-    let view = told_view(alloc, out, name, array.number, part)?;
-    bench.bind(alloc, name, view)
+    let bound = told(alloc, out, name, array.number, part)?;
+    bench.bind(alloc, name, bound)
 }

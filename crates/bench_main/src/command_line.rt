@@ -17,6 +17,7 @@ const COMMANDS: &str = "Commands, one a line:
   X = Y[ix]             to those that ix names, as b = a[1,:], c = a[::-1], d = a[...,0,None]
   X = field Y \"f\"       to the field f of each record, as y = field r \"y\"
   X = transpose Y (..)  to the same items with the axes in this order, or reversed
+  X = reshape Y S       to the same items in another shape, or a copy, as m = reshape a (2,-1)
   X = broadcast Y S     to the same items, repeated in a larger shape and read-only
   set X[ix] = L         writes a literal to the items that ix names, as set a[1,-1] = 7
   del X                 unbinds X

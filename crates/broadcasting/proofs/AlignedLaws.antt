@@ -2,9 +2,8 @@
 use Rattle.std.proofs.Common.{◌≡◌, ℕ, suc, ◌+◌, ◌-◌, ◌<◌, ◌≤◌, ◌&&◌, max, Bool, true, false, Ok, Err, ℤ, pos, List, [], ◌∷◌, ◌++◌, length, drop, get_or, replicate, refl, sym, ap, ◌∙◌, arith, length-append, append-nil}
 use Rattle.std.proofs.Math.Nat.{le-max_left, le-max_right}
 use Rattle.std.proofs.Math.ListN.{drop_of_length-le}
-use Rattle.std.proofs.lemmas.Bool.{false≢true, false_from_ne_true, and_left}
+use Rattle.std.proofs.lemmas.Bool.{false≢true, false_from_ne_true, and_left, and_parts}
 use Rattle.std.proofs.lemmas.List.{drop_more, length-replicate}
-use Rattle.elem_descr.proofs.WrittenMembers.{both}
 use Rattle.elem_descr.specs.declared.refusal.Refusal.TheVariants.{ShapesDoNotBroadcast}
 use Rattle.broadcasting.specs.Broadcasts.{aligned, go_together, common_length, all_go_together, common_lengths, common_of_two, stretches, all_stretch, can_stretch}
 use Rattle.broadcasting.specs.inside.Stretches.{kept_stride, kept_strides}
@@ -59,7 +58,7 @@ pub length-all_stretch : (shape target : List ℕ) → all_stretch shape target 
 length-all_stretch [] [] all = refl
 length-all_stretch [] (n ∷ target) all = absurd (false≢true all)
 length-all_stretch (m ∷ shape) [] all = absurd (false≢true all)
-length-all_stretch (m ∷ shape) (n ∷ target) all = ap suc (length-all_stretch shape target (both (stretches m n) (all_stretch shape target) all).1)
+length-all_stretch (m ∷ shape) (n ∷ target) all = ap suc (length-all_stretch shape target (and_parts (stretches m n) (all_stretch shape target) all).1)
 
 -- no shape stretches to one of fewer axes
 pub few-axes : (shape target : List ℕ) → can_stretch shape target ≡ true → length shape ≤ length target

@@ -1,21 +1,17 @@
 -- Shapes stretch to the shape that they have in common.
-use Rattle.std.proofs.Common.{◌≡◌, inl, inr, Result, Ok, Err, ℕ, zero, suc, ◌-◌, ◌+◌, ◌≤◌, ◌&&◌, max, nat_le, Bool, true, false, IsTrue, List, [], ◌∷◌, ◌++◌, All, length, replicate, refl, sym, ap, ◌∙◌, arith}
+use Rattle.std.proofs.Common.{◌≡◌, inl, inr, Result, Ok, Err, ℕ, zero, suc, ◌-◌, ◌+◌, ◌≤◌, ◌&&◌, max, true, IsTrue, List, [], ◌∷◌, ◌++◌, All, length, replicate, refl, sym, ap, ◌∙◌, arith}
 use Rattle.std.specs.Result.{is_ok, IfOk}
-use Rattle.std.specs.List.{list_all}
 use Rattle.std.proofs.Math.Nat.{le-max_left, le-max_right}
-use Rattle.std.proofs.lemmas.Bool.{false≢true, cases_Bool}
+use Rattle.std.proofs.lemmas.Bool.{false≢true, cases_Bool, and_parts}
 use Rattle.std.proofs.lemmas.Bool.Decides.{nat_tests}
 use Rattle.std.proofs.lemmas.List.{append_assoc, replicate-append-replicate}
 use Rattle.std.proofs.lemmas.List.Elements.{All-cons, All-nil}
-use Rattle.elem_descr.proofs.WrittenMembers.{both}
+use Rattle.elem_descr.specs.RefusalLaws.{same_answer}
+use Rattle.shape_strides.specs.ShapeLaws.{shape_of-same}
 use Rattle.elem_descr.specs.declared.refusal.Refusal.{Refusal}
-use Rattle.elem_descr.specs.Refusals.{Gives, ◌>>=◌, check}
-use Rattle.elem_descr.specs.declared.refusal.Refusal.TheVariants.{TooManyAxes, TooLarge}
-use Rattle.shape_strides.specs.Limits.{max_axes, max_items}
-use Rattle.shape_strides.specs.Indexes.{count}
+use Rattle.elem_descr.specs.Refusals.{Gives, ◌>>=◌}
 use Rattle.shape_strides.specs.Shapes.{shape_of}
 use Rattle.broadcasting.specs.Broadcasts.{aligned, go_together, common_length, all_go_together, common_lengths, common_of_two, common_with, common_shape, stretches, all_stretch, can_stretch}
-use Rattle.view_ops.proofs.AxesLaws.{same_list}
 use Rattle.broadcasting.proofs.AlignedLaws.{length-aligned, common-none, common-some, few-axes}
 
 -- ---- one axis
@@ -45,7 +41,7 @@ all-right [] [] same together = refl
 all-right [] (n ∷ right) same together = absurd (omega arith)
 all-right (m ∷ left) [] same together = absurd (omega arith)
 all-right (m ∷ left) (n ∷ right) same together =
-    let first = both (go_together m n) (all_go_together left right) together in
+    let first = and_parts (go_together m n) (all_go_together left right) together in
     λ i. right-fits m n first.0 i && all-right left right (omega arith) first.1 i
 
 length-common : (left right : List ℕ) → length left ≡ length right → length (common_lengths left right) ≡ length left
@@ -64,8 +60,8 @@ all-on [] (m ∷ middle) last one two = absurd (false≢true one)
 all-on (k ∷ first) [] last one two = absurd (false≢true one)
 all-on (k ∷ first) (m ∷ middle) [] one two = absurd (false≢true two)
 all-on (k ∷ first) (m ∷ middle) (n ∷ last) one two =
-    let here = both (stretches k m) (all_stretch first middle) one in
-    let there = both (stretches m n) (all_stretch middle last) two in
+    let here = and_parts (stretches k m) (all_stretch first middle) one in
+    let there = and_parts (stretches m n) (all_stretch middle last) two in
     λ i. fits-on k m n here.0 there.0 i && all-on first middle last here.1 there.1 i
 
 -- behind so many new axes
@@ -73,7 +69,7 @@ all-behind : (more : ℕ) (first middle last : List ℕ) → all_stretch first m
 all-behind zero first middle last one two = all-on first middle last one two
 all-behind (suc more) first middle [] one two = absurd (false≢true two)
 all-behind (suc more) first middle (n ∷ last) one two =
-    let there = both (stretches 1 n) (all_stretch (replicate more 1 ++ middle) last) two in
+    let there = and_parts (stretches 1 n) (all_stretch (replicate more 1 ++ middle) last) two in
     λ i. there.0 i && all-behind more first middle last one there.1 i
 
 joined : (x a b c : ℕ) → a + b ≡ c → replicate a x ++ replicate b x ≡ replicate c x
@@ -104,7 +100,7 @@ both-fit left right common found =
     let rank-right : length r ≡ rank = length-aligned rank right (le-max_right (length left) (length right)) in
     elim (cases_Bool (all_go_together l r)) [
       | inl together ↦
-          let is : common_lengths l r ≡ common = same_list (common_lengths l r) common (sym (common-some left right rank refl together) ∙ found) in
+          let is : common_lengths l r ≡ common = same_answer (common_lengths l r) common (sym (common-some left right rank refl together) ∙ found) in
           let size : length common ≡ rank = ap length (sym is) ∙ length-common l r (rank-left ∙ sym rank-right) ∙ rank-left in (
             ap (λ n. all_stretch (aligned n left) common) size ∙ ap (all_stretch l) (sym is) ∙ all-left l r (rank-left ∙ sym rank-right),
             ap (λ n. all_stretch (aligned n right) common) size ∙ ap (all_stretch r) (sym is) ∙ all-right l r (rank-left ∙ sym rank-right) together,
@@ -127,18 +123,9 @@ fits-next lengths shape common shapes (Ok next) rest is found =
 
 with-fits : (lengths : List ℕ) (shapes : List (List ℕ)) (common : List ℕ) → common_with lengths shapes ≡ Ok common → AllFit lengths shapes common
 with-fits lengths [] common found =
-    (ap (can_stretch lengths) (sym (same_list lengths common found)) ∙ can-itself lengths, All-nil (λ shape. IsTrue (can_stretch shape common)))
+    (ap (can_stretch lengths) (sym (same_answer lengths common found)) ∙ can-itself lengths, All-nil (λ shape. IsTrue (can_stretch shape common)))
 with-fits lengths (shape ∷ shapes) common found =
     fits-next lengths shape common shapes (common_of_two lengths shape) (λ next. with-fits next shapes common) refl found
-
-passed : (test : Bool) (e : Refusal) (rest : Result (List ℕ) Refusal) (shape : List ℕ) → check test e >>= (λ _. rest) ≡ Ok shape → rest ≡ Ok shape
-passed true e rest shape found = found
-passed false e rest shape found = absurd (false≢true (ap is_ok found))
-
-shape_of-same : (lengths shape : List ℕ) → shape_of lengths ≡ Ok shape → lengths ≡ shape
-unfolding shape_of
-shape_of-same lengths shape found =
-    same_list lengths shape (passed (nat_le (count lengths) max_items) TooLarge (Ok lengths) shape (passed (list_all (λ n. nat_le n max_items) lengths) TooLarge _ shape (passed (nat_le (length lengths) max_axes) TooManyAxes _ shape found)))
 
 fits-common : (shapes : List (List ℕ)) (common : List ℕ) (r : Result (List ℕ) Refusal) → common_with [] shapes ≡ r → r >>= shape_of ≡ Ok common → All (λ shape. IsTrue (can_stretch shape common)) shapes
 fits-common shapes common (Err e) is found = absurd (false≢true (ap is_ok found))

@@ -1,20 +1,20 @@
 -- A stretched layout is a view.
 use Rattle.std.proofs.Common.{◌≡◌, Option, Some, Ok, Err, ℕ, zero, suc, ◌-◌, ◌<◌, ◌==◌, ◌||◌, Bool, true, false, if◌then◌else◌, ℤ, pos, ◌+ℤ◌, ◌*ℤ◌, List, [], ◌∷◌, ◌++◌, length, drop, replicate, refl, sym, ap, subst, ◌∙◌, arith, zero-mul, length-append}
 use Rattle.std.specs.Option.{IfSome}
-use Rattle.std.proofs.lemmas.Bool.{false≢true, eqb-true}
+use Rattle.std.proofs.lemmas.Bool.{false≢true, eqb-true, and_parts}
 use Rattle.std.proofs.lemmas.List.{length-replicate}
 use lib.IntN.{+ℤ_idl, *ℤ-zero}
-use Rattle.elem_descr.proofs.WrittenMembers.{both}
 use Rattle.elem_descr.specs.declared.refusal.Refusal.TheVariants.{ShapesDoNotBroadcast}
 use Rattle.shape_strides.specs.declared.layout.Layout.{Layout}
 use Rattle.shape_strides.specs.Limits.{max_bytes}
 use Rattle.shape_strides.specs.Indexes.{count, IsIndex}
 use Rattle.shape_strides.specs.Addresses.{dot, address_at, LieWithin}
 use Rattle.shape_strides.specs.Layouts.{offsets}
-use Rattle.shape_strides.proofs.IndexLaws.{length-index, rank-lt}
-use Rattle.shape_strides.proofs.StepLaws.{dot-nil}
+use Rattle.shape_strides.specs.IndexLaws.{length-index, rank-lt}
+use Rattle.shape_strides.specs.AxisLaws.{dot-nil}
 use Rattle.view_ops.specs.Views.{view_through, IsViewOf, GivesView}
-use Rattle.view_ops.proofs.ViewLaws.{Shows, LieWithin-view, IsView, inside-view, offsets-view}
+use Rattle.view_ops.specs.inside.Shows.{Shows, IsView}
+use Rattle.view_ops.specs.ViewLaws.{LieWithin-view, inside-view, offsets-view}
 use Rattle.broadcasting.specs.Broadcasts.{stretches, all_stretch, can_stretch, within_axes, broadcast_index, stretched}
 use Rattle.broadcasting.specs.inside.Stretches.{kept_strides}
 use Rattle.broadcasting.proofs.AlignedLaws.{few-axes}
@@ -35,7 +35,7 @@ IsIndex-within [] (n ∷ target) index all in' = absurd (false≢true all)
 IsIndex-within (m ∷ shape) [] index all in' = absurd (false≢true all)
 IsIndex-within (m ∷ shape) (n ∷ target) [] all in' = absurd in'
 IsIndex-within (m ∷ shape) (n ∷ target) (k ∷ index) all in' =
-    let can = both (stretches m n) (all_stretch shape target) all in
+    let can = and_parts (stretches m n) (all_stretch shape target) all in
     (number-within m n k can.0 in'.0, IsIndex-within shape target index can.1 in'.1)
 
 -- behind so many new axes
@@ -44,7 +44,7 @@ IsIndex-behind zero shape target index all in' = IsIndex-within shape target ind
 IsIndex-behind (suc more) shape [] index all in' = absurd (false≢true all)
 IsIndex-behind (suc more) shape (n ∷ target) [] all in' = absurd in'
 IsIndex-behind (suc more) shape (n ∷ target) (k ∷ index) all in' =
-    IsIndex-behind more shape target index (both (stretches 1 n) (all_stretch (replicate more 1 ++ shape) target) all).1 in'.1
+    IsIndex-behind more shape target index (and_parts (stretches 1 n) (all_stretch (replicate more 1 ++ shape) target) all).1 in'.1
 
 broadcast_index-is : (shape target index : List ℕ) → IsIndex target index → broadcast_index shape index ≡ within_axes shape (drop (length target - length shape) index)
 broadcast_index-is shape target index in' = ap (λ n. within_axes shape (drop (n - length shape) index)) (length-index target index in')
@@ -136,7 +136,6 @@ stretched-is old new target strides made has =
     }
 
 -- what the exits of `stretch` have to give
-
 pub made_stretched : (old : Layout) (lengths target seen-target : List ℕ) (seen strides : List ℤ) (can : Bool) (more : ℕ) → lengths ≡ old.shape → seen-target ≡ target → can ≡ can_stretch lengths seen-target → can ≡ true → more ≡ length target - length lengths → seen ≡ old.strides → strides ≡ replicate more (pos 0) ++ kept_strides lengths seen → IsStretched old target strides
 made_stretched old lengths target seen-target seen strides can more is target-is tested good more-is seen-is are = record {
   can = ap (λ s. can_stretch s target) (sym is) ∙ ap (can_stretch lengths) (sym target-is) ∙ sym tested ∙ good;

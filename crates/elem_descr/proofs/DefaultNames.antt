@@ -4,9 +4,9 @@ use Rattle.std.specs.Fmt.{decimal}
 use Rattle.std.proofs.lemmas.Fmt.{decimal_digit, decimal_step}
 use Rattle.std.proofs.lemmas.Bool.{cases_lt}
 use Rattle.std.proofs.lemmas.Bool.Decides.{nat_tests}
-use Rattle.elem_descr.specs.Names.{is_legal_name, is_name_byte}
+use Rattle.elem_descr.specs.Names.{is_legal_name, is_field_name_byte}
 
-digit_is_name_byte : (d : ℕ) → d ≤ 9 → is_name_byte (48 + d) ≡ true
+digit_is_name_byte : (d : ℕ) → d ≤ 9 → is_field_name_byte (48 + d) ≡ true
 digit_is_name_byte d small = grind (arith, nat_tests)
 
 one_digit : (n : ℕ) → n < 10 → is_legal_name (codes "f" ++ decimal n) ≡ true

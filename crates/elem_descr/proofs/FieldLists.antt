@@ -1,5 +1,5 @@
 -- A list of fields: one more at its end, and one after the other from its begin.
-use Rattle.std.proofs.Common.{◌≡◌, ◌≤◌, ◌<◌, ◌+◌, ◌*◌, ℕ, zero, suc, List, [], ◌∷◌, ◌++◌, length, get_or, drop, max, refl, arith}
+use Rattle.std.proofs.Common.{◌≡◌, ◌≤◌, ◌<◌, ◌+◌, ℕ, List, [], ◌∷◌, ◌++◌, length, get_or, drop, max, refl, arith}
 use Rattle.elem_descr.specs.declared.descr.Field.{Field}
 use Rattle.elem_descr.specs.declared.descr.Descr.{Descr}
 use Rattle.elem_descr.specs.declared.descr.Descr.TheVariants.{Scalar as ScalarDescr, Record as RecordDescr}
@@ -8,7 +8,8 @@ use Rattle.elem_descr.specs.Fields.{Fields, no_more, scalar_field, record_field}
 use Rattle.elem_descr.specs.Descriptors.{InOrder, AreNamedWithin, listed, before, depth, leaf_count}
 use Rattle.elem_descr.specs.Items.{item_size, leaves_of}
 use Rattle.elem_descr.specs.inside.Partials.{IsShallow}
-use Rattle.elem_descr.proofs.FieldLaws.{leaf_count-before, rest_at, InOrder-before}
+use Rattle.elem_descr.specs.ItemLaws.{leaf_count-before}
+use Rattle.elem_descr.specs.DescriptorLaws.{rest_at, InOrder-before, some_depth}
 
 -- fields in order, with a later end
 InOrder-later : (from : ℕ) (fields : Fields) (bytes more : ℕ) → InOrder from fields bytes → bytes ≤ more → InOrder from fields more
@@ -28,11 +29,6 @@ in_order_before from name at (RecordDescr structure) rest bytes b h = (b.0, b.1,
 InOrder-begins : (from : ℕ) (name : List ℕ) (at : ℕ) (descr : Descr) (rest : Fields) (bytes : ℕ) → InOrder from (before name at descr rest) bytes → Begins from at descr × InOrder (at + item_size descr) rest bytes
 InOrder-begins from name at (ScalarDescr scalar) rest bytes h = ((h.0, h.1), h.2)
 InOrder-begins from name at (RecordDescr structure) rest bytes h = ((h.0, h.1, h.2), h.3)
-
-pub InOrder-within : (from : ℕ) (fields : Fields) (bytes : ℕ) → InOrder from fields bytes → from ≤ bytes
-InOrder-within from no_more bytes h = h
-InOrder-within from (scalar_field name at scalar rest) bytes h = omega (arith, h.0, InOrder-within (at + size scalar) rest bytes h.2)
-InOrder-within from (record_field name at size inner rest) bytes h = omega (arith, h.0, InOrder-within (at + size) rest bytes h.3)
 
 -- a further field
 InOrder-push : (from : ℕ) (fields : List Field) (bytes : ℕ) (field : Field) → InOrder from (listed fields) bytes → Begins bytes field.at field.descr → InOrder from (listed (fields ++ field ∷ [])) (field.at + item_size field.descr)
@@ -77,11 +73,6 @@ within_push levels (first ∷ fields) field h legal =
 abbrev depth_at : Descr → ℕ
 depth_at (ScalarDescr scalar) = 1
 depth_at (RecordDescr structure) = 1 + depth structure.fields
-
-some_depth : (fields : Fields) → 1 ≤ depth fields
-some_depth no_more = omega arith
-some_depth (scalar_field name at scalar rest) = some_depth rest
-some_depth (record_field name at size inner rest) = omega (arith, some_depth rest)
 
 depth-before : (name : List ℕ) (at : ℕ) (descr : Descr) (rest : Fields) → depth (before name at descr rest) ≡ max (depth_at descr) (depth rest)
 depth-before name at (ScalarDescr scalar) rest = omega (arith, some_depth rest)

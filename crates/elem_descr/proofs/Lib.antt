@@ -1,11 +1,8 @@
 pub mod Decimals
 pub mod Spellings
-pub mod Wraps
-pub mod Numbers
 pub mod DefaultNames
 pub mod FieldLaws
 pub mod FieldLists
-pub mod StepLaws
 pub mod Marks
 pub mod Fronts
 pub mod Drafts
@@ -13,5 +10,9 @@ pub mod Turns
 pub mod Binds
 pub mod WrittenMembers
 pub mod WrittenFields
+pub mod Pieces
+pub mod PieceMembers
+pub mod SameMembers
+pub mod SameFormat
 pub mod RoundTrip
 pub mod Vectors

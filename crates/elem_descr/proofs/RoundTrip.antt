@@ -26,12 +26,16 @@ use Rattle.elem_descr.specs.Fields.{Fields, no_more, scalar_field, record_field,
 use Rattle.elem_descr.specs.Names.{is_legal_name}
 use Rattle.elem_descr.specs.Descriptors.{IsLegal, AreNamedWithin, InOrder, fields_of, listed, names_of, depth, leaf_count}
 use Rattle.elem_descr.specs.Items.{item_size, leaves_of, leaves_from}
-use Rattle.elem_descr.specs.FormatTexts.{Partial, member_at, Reader, own_alignment, aligned, is_taken, is_named, marked, closing, checked_name, added, widened, scalar_in, pad_in, body_in, field_at, closed_size, closed, turn, members, record_within, ended, scalar_alone, record_alone, alone, format}
-use Rattle.elem_descr.specs.WrittenFormats.{written_mark, written_count, written_letter, written_scalar, written_pad, written_name, braced, written_fields, written}
+use Rattle.elem_descr.specs.FormatLetters.{own_alignment, aligned}
+use Rattle.elem_descr.specs.FormatRecords.{Partial, is_taken, checked_name, added, widened, closed_size, closed_record}
+use Rattle.elem_descr.specs.FormatTexts.{format}
+use Rattle.elem_descr.specs.inside.Turns.{format_in_turns, member_at, Reader, is_named, marked, closing, scalar_in, pad_in, body_in, field_at, turn, members, record_within, ended, scalar_alone, record_alone, alone}
+use Rattle.elem_descr.specs.WrittenFormats.{written_mark, written_count, written_letter, written_scalar, written_pad, written_name, braced, written_fields, written_format}
 use Rattle.elem_descr.proofs.Binds.{after_ok}
 use Rattle.elem_descr.proofs.Decimals.{digits-decimal}
-use Rattle.elem_descr.proofs.FieldLaws.{listed-fields_of, length-leaves_from}
-use Rattle.elem_descr.proofs.FieldLists.{InOrder-within}
+use Rattle.elem_descr.specs.DescriptorLaws.{listed-fields_of, InOrder-within}
+use Rattle.elem_descr.specs.ItemLaws.{length-leaves_from}
+use Rattle.elem_descr.proofs.SameFormat.{same_format}
 use Rattle.elem_descr.proofs.WrittenMembers.{both, mark_of, marked_digits, after_letter, reads_scalar, reads_pad, reads_name}
 
 -- a record as far as it is read, where nothing aligns
@@ -119,7 +123,7 @@ reads_more within mark now later p next text unread rest r marks no_brace field 
 
 -- the closing brace
 reads_end : (within : Reader) (mark : Mark) (levels leaves bytes : ℕ) (done : List Field) (rest : List ℕ) → 1 ≤ length done → bytes ≤ 65536 → Reads within mark (packed levels leaves bytes done) (125 ∷ rest) (record { whole = record { size = bytes; fields = listed done }; alignment = 1; mark = mark }, rest)
-unfolding closed
+unfolding closed_record
 reads_end within mark levels leaves bytes done rest some small zero l = absurd (omega arith)
 reads_end within mark levels leaves bytes done rest some small (suc turns) l =
     let whole = closed_packed mark bytes done in
@@ -340,7 +344,7 @@ reads_fields (record_field name at size inner more) (suc levels) mark leaves fro
     subst Goal (sym text) (reads_padding (record_within (suc levels)) (at - from) (suc levels) leaves from mark done (braced (written_fields 0 inner size) ++ (written_name name ++ tail)) result (omega (arith, may.small)) refl (rw gap one))
 
 -- a record alone
-reads_record : (s : Structure) → IsLegal s → format (written (RecordDescr s)) ≡ Ok (RecordDescr s)
+reads_record : (s : Structure) → IsLegal s → format_in_turns (written_format (RecordDescr s)) ≡ Ok (RecordDescr s)
 unfolding record_alone ended
 reads_record s h =
     let text = written_fields 0 s.fields s.size ++ 125 ∷ [] in
@@ -364,15 +368,15 @@ reads_record s h =
 abbrev unmarked_format : Mark × List ℕ → Result Descr Refusal
 unmarked_format m = member_at m.0 m.1 >>= λ member. alone m.0 member.0 member.1
 
-reads_scalar_alone : (scalar : Scalar) → 1 ≤ size scalar → size scalar ≤ 65536 → format (written (ScalarDescr scalar)) ≡ Ok (ScalarDescr scalar)
+reads_scalar_alone : (scalar : Scalar) → 1 ≤ size scalar → size scalar ≤ 65536 → format_in_turns (written_format (ScalarDescr scalar)) ≡ Ok (ScalarDescr scalar)
 unfolding scalar_alone ended
 reads_scalar_alone scalar some small =
     let text : written_scalar scalar ≡ written_mark scalar ++ (written_count scalar ++ (written_letter scalar ++ [])) = simp (append_assoc, append-nil) in
-    ap format text ∙ ap unmarked_format (after_letter Aligned scalar [] some small) ∙ after_ok _ _ _ (reads_scalar scalar [] some small)
+    ap format_in_turns text ∙ ap unmarked_format (after_letter Aligned scalar [] some small) ∙ after_ok _ _ _ (reads_scalar scalar [] some small)
 
 -- a descriptor
-pub reads_scalar_back : (descr : Descr) (scalar : Scalar) → descr ≡ ScalarDescr scalar → 1 ≤ size scalar → size scalar ≤ 65536 → format (written descr) ≡ Ok descr
-reads_scalar_back descr scalar is some small = rw is (reads_scalar_alone scalar some small)
+pub reads_scalar_back : (descr : Descr) (scalar : Scalar) → descr ≡ ScalarDescr scalar → 1 ≤ size scalar → size scalar ≤ 65536 → format (written_format descr) ≡ Ok descr
+reads_scalar_back descr scalar is some small = same_format (written_format descr) ∙ rw is (reads_scalar_alone scalar some small)
 
-pub reads_record_back : (descr : Descr) (structure : Structure) → descr ≡ RecordDescr structure → IsLegal structure → format (written descr) ≡ Ok descr
-reads_record_back descr structure is legal = rw is (reads_record structure legal)
+pub reads_record_back : (descr : Descr) (structure : Structure) → descr ≡ RecordDescr structure → IsLegal structure → format (written_format descr) ≡ Ok descr
+reads_record_back descr structure is legal = same_format (written_format descr) ∙ rw is (reads_record structure legal)

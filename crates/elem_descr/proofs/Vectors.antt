@@ -13,8 +13,10 @@ use Rattle.elem_descr.specs.declared.descr.Descr.TheVariants.{Record as RecordDe
 use Rattle.elem_descr.specs.Values.{LeafValue, number, text}
 use Rattle.elem_descr.specs.Fields.{Fields, no_more, scalar_field, record_field}
 use Rattle.elem_descr.specs.Items.{decode_item, encode_item}
-use Rattle.elem_descr.specs.FormatTexts.{format, record_within, record_alone, field_at, scalar_in, pad_in, body_in, checked_name, added, widened, closed, ended}
-use Rattle.elem_descr.specs.WrittenFormats.{written}
+use Rattle.elem_descr.specs.FormatRecords.{checked_name, added, widened, closed_record}
+use Rattle.elem_descr.specs.FormatPieces.{nothing, between_colons, letter, opening, pieces}
+use Rattle.elem_descr.specs.FormatTexts.{format}
+use Rattle.elem_descr.specs.WrittenFormats.{written_format}
 
 abbrev whole : ℕ → Fields → Descr
 whole size fields = RecordDescr (record { size = size; fields = fields })
@@ -46,41 +48,44 @@ byte = Byte true
 abbrev int : Scalar
 int = Int true Four Little
 
+pub cut_text : pieces (codes "T{<5s:a:4x}") ≡ opening [] ∷ (letter [] 60 nothing ∷ (letter (codes "5") 115 (between_colons (codes "a")) ∷ (letter (codes "4") 120 nothing ∷ (letter [] 125 nothing ∷ []))))
+cut_text = refl
+
 -- a record within is aligned as the greatest of its members
 pub aligned_within : format (codes "T{b:x:T{i:y:}:s:}") ≡ Ok (whole 8 (scalar_field (codes "x") 0 byte (record_field (codes "s") 4 4 (scalar_field (codes "y") 0 int no_more) no_more)))
-unfolding record_within record_alone field_at scalar_in pad_in body_in checked_name added widened closed ended
+unfolding checked_name added widened closed_record
 aligned_within = refl
 
-pub written_within : written (whole 8 (scalar_field (codes "x") 0 byte (record_field (codes "s") 4 4 (scalar_field (codes "y") 0 int no_more) no_more))) ≡ codes "T{<b:x:3xT{<i:y:}:s:}"
+pub written_within : written_format (whole 8 (scalar_field (codes "x") 0 byte (record_field (codes "s") 4 4 (scalar_field (codes "y") 0 int no_more) no_more))) ≡ codes "T{<b:x:3xT{<i:y:}:s:}"
 written_within = rw three refl
 
 -- not where `@` comes into force behind its `T`: 5 bytes
 pub marked_within : format (codes "T{<T{@i:y:}:s:b:x:}") ≡ Ok (whole 5 (record_field (codes "s") 0 4 (scalar_field (codes "y") 0 int no_more) (scalar_field (codes "x") 4 byte no_more)))
-unfolding record_within record_alone field_at scalar_in pad_in body_in checked_name added widened closed ended
+unfolding checked_name added widened closed_record
 marked_within = refl
 
 -- a record without a name of its own
 pub unnamed_within : format (codes "T{b:x:T{b:y:}}") ≡ Ok (whole 2 (scalar_field (codes "x") 0 byte (record_field (codes "f1") 1 1 (scalar_field (codes "y") 0 byte no_more) no_more)))
-unfolding record_within record_alone field_at scalar_in pad_in body_in checked_name added widened closed ended
+unfolding checked_name added widened closed_record
 unnamed_within = rw one refl
 
 -- four levels, and a fifth
 pub four_levels : format (codes "T{T{T{T{b:x:}:t:}:s:}:r:}") ≡ Ok (whole 1 (record_field (codes "r") 0 1 (record_field (codes "s") 0 1 (record_field (codes "t") 0 1 (scalar_field (codes "x") 0 byte no_more) no_more) no_more) no_more))
-unfolding record_within record_alone field_at scalar_in pad_in body_in checked_name added widened closed ended
+unfolding checked_name added widened closed_record
 four_levels = refl
 
 pub fifth_level : format (codes "T{T{T{T{T{5") ≡ Err DescriptorLeftOut
-unfolding record_within record_alone field_at scalar_in pad_in body_in checked_name added widened closed ended
+unfolding checked_name added widened closed_record
 fifth_level = refl
 
 pub counted_record : format (codes "T{2T{i:x:}:y:}") ≡ Err DescriptorLeftOut
-unfolding record_within record_alone field_at scalar_in pad_in body_in checked_name added widened closed ended
+unfolding checked_name added widened closed_record
 counted_record = refl
 
 pub name_taken : format (codes "T{T{i:x:}:x:T{i:x:}:x:}") ≡ Err BadDescriptor
-unfolding record_within record_alone field_at scalar_in pad_in body_in checked_name added widened closed ended
+unfolding checked_name added widened closed_record
 name_taken = refl
 
 pub empty_within : format (codes "T{T{}:x:}") ≡ Err DescriptorLeftOut
-unfolding record_within record_alone field_at scalar_in pad_in body_in checked_name added widened closed ended
+unfolding checked_name added widened closed_record
 empty_within = refl

@@ -16,8 +16,10 @@ use Rattle.elem_descr.specs.declared.format_text.mark.Mark.TheVariants.{Little a
 use Rattle.elem_descr.specs.declared.format_text.member.Member.TheVariants.{Value, Pad}
 use Rattle.elem_descr.specs.Encoding.{size}
 use Rattle.elem_descr.specs.TypeStrings.{value_of}
-use Rattle.elem_descr.specs.Names.{is_legal_name, is_name_byte}
-use Rattle.elem_descr.specs.FormatTexts.{after, is_empty, marked, after_count, member_at, count_of, text_member, is_colon, name_at, named}
+use Rattle.elem_descr.specs.Names.{is_legal_name, is_field_name_byte}
+use Rattle.elem_descr.specs.FormatLetters.{is_empty, count_of, text_member}
+use Rattle.elem_descr.specs.FormatPieces.{is_colon}
+use Rattle.elem_descr.specs.inside.Turns.{after, marked, after_count, member_at, name_at, named}
 use Rattle.elem_descr.specs.WrittenFormats.{written_mark, written_count, written_letter}
 use Rattle.elem_descr.proofs.Decimals.{digits-decimal, value_of-decimal}
 
@@ -110,13 +112,13 @@ pub reads_pad : (mark : Mark) (n : ℕ) (rest : List ℕ) → n ≤ 65536 → me
 reads_pad mark n rest small = count_and_letter mark n 120 rest small refl ∙ rw (count_of-decimal n small) refl
 
 -- a byte of a name is no colon
-colonless : (b : ℕ) → is_name_byte b ≡ true → not (is_colon b) ≡ true
+colonless : (b : ℕ) → is_field_name_byte b ≡ true → not (is_colon b) ≡ true
 colonless b e = grind (arith, nat_tests)
 
-colonless_name : (name : List ℕ) → list_all is_name_byte name ≡ true → list_all (λ b. not (is_colon b)) name ≡ true
+colonless_name : (name : List ℕ) → list_all is_field_name_byte name ≡ true → list_all (λ b. not (is_colon b)) name ≡ true
 colonless_name [] all = refl
 colonless_name (b ∷ name) all =
-    let h = both (is_name_byte b) (list_all is_name_byte name) all in
+    let h = both (is_field_name_byte b) (list_all is_field_name_byte name) all in
     rw (colonless b h.0) (colonless_name name h.1)
 
 some_left : (b : ℕ) (rest : List ℕ) → is_empty (b ∷ rest) ≡ false
@@ -124,7 +126,7 @@ some_left b rest = grind (arith, nat_tests)
 
 reads_name_at : (name rest : List ℕ) → is_legal_name name ≡ true → name_at (name ++ 58 ∷ rest) ≡ Ok (name, rest)
 reads_name_at name rest legal =
-    let bytes = (both (nat_le 1 (length name) && nat_le (length name) 64) (list_all is_name_byte name) legal).1 in
+    let bytes = (both (nat_le 1 (length name) && nat_le (length name) 64) (list_all is_field_name_byte name) legal).1 in
     let front = prefix_len-passing (λ b. not (is_colon b)) name 58 rest (colonless_name name bytes) refl in
     rw (front, take-append_seam name (58 ∷ rest), drop-append_seam name (58 ∷ rest), some_left 58 rest, legal) refl
 

@@ -7,7 +7,8 @@ use Rattle.elem_descr.specs.declared.descr.Descr.TheVariants.{Scalar as ScalarDe
 use Rattle.elem_descr.specs.Refusals.{◌>>=◌}
 use Rattle.elem_descr.specs.TypeStrings.{is_one_of, typestr}
 use Rattle.elem_descr.specs.TypeStrings as type_strings
-use Rattle.elem_descr.specs.FormatTexts.{is_empty, format}
+use Rattle.elem_descr.specs.FormatLetters.{is_empty}
+use Rattle.elem_descr.specs.FormatTexts.{format}
 
 abbrev pub begins_with_digit : List ℕ → Bool
 begins_with_digit [] = false

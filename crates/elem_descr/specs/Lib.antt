@@ -9,6 +9,16 @@ pub mod Items
 pub mod Blocks
 pub mod Steps
 pub mod inside
+pub mod FormatLetters
+pub mod FormatRecords
+pub mod FormatPieces
 pub mod FormatTexts
 pub mod WrittenFormats
 pub mod DescrTexts
+pub mod ItemLaws
+pub mod DescriptorLaws
+pub mod StepLaws
+pub mod EncodingLaws
+pub mod RefusalLaws
+pub mod WrapLaws
+pub mod NumberLaws

@@ -58,6 +58,6 @@ written_fields from (record_field name at size inner rest) bytes =
     written_pad (at - from) ++ (braced (written_fields 0 inner size) ++ (written_name name ++ written_fields (at + size) rest bytes))
 
 -- the format text of a descriptor
-abbrev pub written : Descr → List ℕ
-written (ScalarDescr scalar) = written_scalar scalar
-written (RecordDescr structure) = braced (written_fields 0 structure.fields structure.size)
+abbrev pub written_format : Descr → List ℕ
+written_format (ScalarDescr scalar) = written_scalar scalar
+written_format (RecordDescr structure) = braced (written_fields 0 structure.fields structure.size)

@@ -1,4 +1,4 @@
-// Descriptors as a script gives them.
+//! Descriptors as a script gives them.
 ghost use Rattle.std.specs.Prelude.{◌≡◌};
 ghost use Rattle.elem_descr.specs.Refusals.{Gives};
 ghost use Rattle.elem_descr.specs.DescrTexts.{is_kind, is_type_string, descriptor};

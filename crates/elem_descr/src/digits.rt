@@ -1,4 +1,4 @@
-// Decimal digits.
+//! Decimal digits.
 ghost use Rattle.std.specs.Prelude.{◌≡◌, min, IsTrue};
 ghost use Rattle.std.specs.Char.{is_ascii_digit};
 ghost use Rattle.std.specs.List.{list_all};

@@ -1,4 +1,4 @@
-// Format texts of PEP 3118.
+//! Format texts of PEP 3118.
 pub mod draft;
 mod field;
 pub mod mark;

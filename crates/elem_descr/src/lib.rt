@@ -12,7 +12,7 @@ pub mod refusal;
 pub mod scalar;
 pub mod typestr;
 
-pub use descr::{Descr, Field, Record};
+pub use descr::{Descr, Field, MAX_DEPTH, Record};
 pub use descr_text::descr_read;
 pub use format_text::read::format_read;
 pub use format_text::write::format_write;

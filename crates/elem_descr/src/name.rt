@@ -1,7 +1,7 @@
 //! The names of fields.
 ghost use Rattle.std.specs.Prelude.{◌≡◌, ◌≤◌, ◌++◌, codes, decimal, IsTrue, IfOk};
 ghost use Rattle.std.specs.List.{list_all};
-ghost use Rattle.elem_descr.specs.Names.{is_name_byte, is_legal_name};
+ghost use Rattle.elem_descr.specs.Names.{is_field_name_byte, is_legal_name};
 
 use itoa::Buffer;
 use std::alloc::{AllocError, Global};
@@ -53,13 +53,13 @@ impl FieldName {
 }
 
 fn is_name_byte(byte: u8) -> bool
-    ensures { result ≡ is_name_byte byte }
+    ensures { result ≡ is_field_name_byte byte }
 {
     byte >= b' ' && byte <= b'~' && !b"'\"\\:".contains(&byte)
 }
 
 fn are_name_bytes(name: &[u8]) -> bool
-    ensures { result ≡ list_all is_name_byte name.now }
+    ensures { result ≡ list_all is_field_name_byte name.now }
 {
     name.iter().all(|b| is_name_byte(*b))
 }

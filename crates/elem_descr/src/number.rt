@@ -1,4 +1,4 @@
-// Numbers as bytes, in either byte order.
+//! Numbers as bytes, in either byte order.
 ghost use Rattle.std.specs.Prelude.{◌≡◌, ◌≤◌, length};
 ghost use Rattle.elem_descr.specs.Values.{number};
 ghost use Rattle.elem_descr.specs.Encoding.{IsNumber, size, decode, encode, wrap, integer, number_in, bytes_of, low_bits, IsValueOf, WrapsTo};
@@ -52,7 +52,7 @@ fn integer_write(order: Order, size: usize, value: i128, bytes: &mut [u8])
     }
 }
 
-#[tactic(auto, using(crate::proofs::Numbers::encode_wrap))]
+#[tactic(auto, using(crate::specs::NumberLaws::encode_wrap))]
 fn wrapped_write(scalar: Scalar, value: i128, bytes: &mut [u8])
     requires number { IsNumber scalar }
     requires whole { length bytes.old ≡ size scalar }

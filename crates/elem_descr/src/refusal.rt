@@ -1,3 +1,4 @@
+//! Refusals, with their codes and texts.
 ghost use Rattle.std.specs.Prelude.{◌≡◌};
 ghost use Rattle.elem_descr.specs.declared.refusal.Refusal.TheVariants.{OutOfMemory};
 

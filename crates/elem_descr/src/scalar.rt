@@ -1,3 +1,4 @@
+//! Scalars: the types of single values, and the bytes that they take.
 ghost use Rattle.std.specs.Prelude.{◌≡◌, ◌≤◌, SomeIff};
 ghost use Rattle.elem_descr.specs.Encoding.{size, width_size};
 

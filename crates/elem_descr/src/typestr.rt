@@ -1,4 +1,4 @@
-// Type strings of NumPy's array interface.
+//! Type strings of NumPy's array interface.
 ghost use Rattle.std.specs.Prelude.{◌≡◌, ◌∷◌, [], IfOk};
 ghost use Rattle.elem_descr.specs.TypeStrings.{marked, number_spelled, byte_string, typestr, mark, letter_of, spelling};
 

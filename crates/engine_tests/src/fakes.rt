@@ -1,7 +1,7 @@
 //! Readers that give little or fail, one that counts its reads, and writers that take little.
 ghost use Rattle.std.specs.Prelude.{Some};
 
-use bench_engine::Source;
+use bench_engine::ScriptSource;
 use std::io;
 use std::io::{Read, Write};
 
@@ -64,7 +64,7 @@ impl<'a> Counted<'a> {
     }
 }
 
-impl<'a> Source for Counted<'a> {
+impl<'a> ScriptSource for Counted<'a> {
     ghost remaining = { λ counted. Some counted.rest.now };
 
     ghost reads = { λ counted. counted.reads };

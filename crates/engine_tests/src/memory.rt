@@ -10,7 +10,7 @@ struct ShortRun {
     replies: &'static [&'static [u8]],
 }
 
-const SHORT_RUNS: [ShortRun; 8] = [
+const SHORT_RUNS: [ShortRun; 9] = [
     ShortRun {
         script: FIRST_RUN,
         replies: &[
@@ -86,6 +86,18 @@ const SHORT_RUNS: [ShortRun; 8] = [
             b"ok a |u1 (1,) new\nno E40 out of memory\nno E06 unknown name\nno E06 unknown name\n",
             b"ok a |u1 (1,) new\nok b |u1 (3,) view\nno E40 out of memory\n[5 5 5]\n",
             b"ok a |u1 (1,) new\nok b |u1 (3,) view\nno E20 read-only\nno E40 out of memory\n",
+        ],
+    },
+    // A reshape that copies.
+    ShortRun {
+        script: b"a = array |u1 (2,2) 1 2 3 4\nt = transpose a\nc = reshape t (4)\nset c[0] = 9\nprint a\n",
+        replies: &[
+            b"ok a |u1 (2, 2) new\nok t |u1 (2, 2) view\nok c |u1 (4,) copy\nok set 1\n[[1 2]\n [3 4]]\n",
+            b"no E40 out of memory\nno E06 unknown name\nno E06 unknown name\nno E06 unknown name\nno E06 unknown name\n",
+            b"ok a |u1 (2, 2) new\nno E40 out of memory\nno E06 unknown name\nno E06 unknown name\n[[1 2]\n [3 4]]\n",
+            b"ok a |u1 (2, 2) new\nok t |u1 (2, 2) view\nno E40 out of memory\nno E06 unknown name\n[[1 2]\n [3 4]]\n",
+            b"ok a |u1 (2, 2) new\nok t |u1 (2, 2) view\nok c |u1 (4,) copy\nno E40 out of memory\n[[1 2]\n [3 4]]\n",
+            b"ok a |u1 (2, 2) new\nok t |u1 (2, 2) view\nok c |u1 (4,) copy\nok set 1\nno E40 out of memory\n",
         ],
     },
     // A field: the records are not touched by one that is not bound.

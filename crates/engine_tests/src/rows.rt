@@ -12,7 +12,7 @@ pub struct Row {
     pub refused: u64,
 }
 
-pub const ROWS: [Row; 38] = [
+pub const ROWS: [Row; 39] = [
     Row {
         script: FIRST_RUN,
         replies: FIRST_REPLIES,
@@ -242,6 +242,13 @@ pub const ROWS: [Row; 38] = [
         replies: b"ok o <i4 (1,) new\nok b <i4 (4,) view\n[5 5 5 5]\ninfo b <i4 (4,) strides (0,) at 0 order - write no\nno E20 read-only\nno E11 index out of range\nok v <i4 (3,) view\nno E20 read-only\ninfo v <i4 (3,) strides (0,) at 0 order - write no\nok t <i4 (4,) view\nno E20 read-only\nok set 1\n[7 7 7 7]\nshares yes\nok w <i4 (2, 4) view\ninfo w <i4 (2, 4) strides (0, 0) at 0 order - write no\nok del o\n[[7 7 7 7]\n [7 7 7 7]]\nok same <i4 (4,) view\ninfo same <i4 (4,) strides (0,) at 0 order - write no\nno E16 shapes do not broadcast\nok e <i4 (0,) new\nno E16 shapes do not broadcast\nno E09 too large\nok w <i4 (2, 0) view\ninfo w <i4 (2, 0) strides (0, 0) at 0 order CF write no\nno E08 too many axes\nno E03 syntax\nno E06 unknown name\n",
         accepted: 19,
         refused: 10,
+    },
+    // Reshapes: views exactly where some strides lead to the items, and copies else.
+    Row {
+        script: b"a = zeros <i4 (2,3)\nt = transpose a\nr = reshape t (6)\ns = a[:, :1]\nv = reshape s (2)\ninfo v\nset v[1] = 9\nprint a\nshares r a\na = zeros <i4 (2,3,4)\nb = a[:,:,:2]\nc = reshape b (6,2)\ninfo c\nd = reshape b (3,2,2)\ninfo d\ne = reshape b (6,1,2)\ninfo e\nf = reshape b (2,6)\ng = reshape b (12)\nh = reshape a (2,3,2,2)\ne = zeros <i4 (0)\nr = reshape e (0,5)\nr = reshape e (0,-1)\nb = broadcast e (2,1)\nb = broadcast e (16777217)\na = arange <i4 0 8 1\nb = reshape a (2,2,-1)\nprint b\nc = reshape a (3,-1)\nd = b[...,0,None]\np = zeros <i4 (2)\nx = reshape p (2,2)\nx = reshape p (-1,-1)\nx = reshape p (-2)\nx = reshape p (0,-1)\nx = reshape q (2)\no = full |S32 (2,1) b'x'\nw = broadcast o (2,8388608)\nx = reshape w (16777216)\nx = reshape w (2,8,-1)\ninfo x\nset x[0,0,0] = b'y'\n",
+        replies: b"ok a <i4 (2, 3) new\nok t <i4 (3, 2) view\nok r <i4 (6,) copy\nok s <i4 (2, 1) view\nok v <i4 (2,) view\ninfo v <i4 (2,) strides (12,) at 0 order - write yes\nok set 1\n[[0 0 0]\n [9 0 0]]\nshares no\nok a <i4 (2, 3, 4) new\nok b <i4 (2, 3, 2) view\nok c <i4 (6, 2) view\ninfo c <i4 (6, 2) strides (16, 4) at 0 order - write yes\nok d <i4 (3, 2, 2) view\ninfo d <i4 (3, 2, 2) strides (32, 16, 4) at 0 order - write yes\nok e <i4 (6, 1, 2) view\ninfo e <i4 (6, 1, 2) strides (16, 0, 4) at 0 order - write yes\nok f <i4 (2, 6) copy\nok g <i4 (12,) copy\nok h <i4 (2, 3, 2, 2) view\nok e <i4 (0,) new\nok r <i4 (0, 5) view\nno E18 bad reshape\nno E16 shapes do not broadcast\nno E09 too large\nok a <i4 (8,) new\nok b <i4 (2, 2, 2) view\n[[[0 1]\n  [2 3]]\n\n [[4 5]\n  [6 7]]]\nno E18 bad reshape\nok d <i4 (2, 2, 1) view\nok p <i4 (2,) new\nno E18 bad reshape\nno E18 bad reshape\nno E18 bad reshape\nno E18 bad reshape\nno E06 unknown name\nok o |S32 (2, 1) new\nok w |S32 (2, 8388608) view\nno E09 too large\nok x |S32 (2, 8, 1048576) view\ninfo x |S32 (2, 8, 1048576) strides (32, 0, 0) at 0 order - write no\nno E20 read-only\n",
+        accepted: 31,
+        refused: 11,
     },
     // Fields of a broadcast array of records.
     Row {

@@ -1,12 +1,12 @@
 //! What a run came to, in a few numbers.
 use crate::rows::Row;
-use bench_engine::{RunFault, Source, run};
+use bench_engine::{RunFault, ScriptSource, run};
 use std::alloc::Global;
 use std::io::Write;
 use std::process::Abort;
 
 /// How many replies accept a command and how many refuse one, or why the run stopped.
-pub fn counts<S: Source, W: Write>(
+pub fn counts<S: ScriptSource, W: Write>(
     alloc: Global,
     source: &mut S,
     writer: &mut W,
@@ -16,7 +16,7 @@ pub fn counts<S: Source, W: Write>(
 }
 
 /// Runs a row's script and compares what it replies.
-pub fn check_row<S: Source>(rt: &impl Abort, alloc: Global, source: &mut S, row: &Row) {
+pub fn check_row<S: ScriptSource>(rt: &impl Abort, alloc: Global, source: &mut S, row: &Row) {
     let mut replies = Vec::new(alloc);
     let told = counts(alloc, source, &mut replies);
     assert_eq!(rt; replies.as_slice(), row.replies);
@@ -24,7 +24,7 @@ pub fn check_row<S: Source>(rt: &impl Abort, alloc: Global, source: &mut S, row:
 }
 
 /// Runs a script and compares what it replies, and why it stops.
-pub fn check_fault<S: Source>(
+pub fn check_fault<S: ScriptSource>(
     rt: &impl Abort,
     alloc: Global,
     source: &mut S,

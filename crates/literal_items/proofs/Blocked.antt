@@ -1,8 +1,7 @@
 -- Blocks of items.
-use Rattle.std.proofs.Common.{◌≡◌, ◌+◌, ◌*◌, ◌≤◌, ℕ, zero, suc, List, [], ◌∷◌, ◌++◌, length, take, drop, map, replicate, sym, ap, ◌∙◌, refl, arith, length-take, length-drop}
-use Rattle.std.specs.List.{concat}
+use Rattle.std.proofs.Common.{◌≡◌, ◌+◌, ◌*◌, ◌≤◌, ℕ, zero, suc, List, [], ◌∷◌, ◌++◌, length, take, drop, map, sym, ap, ◌∙◌, refl, arith, length-take}
 use Rattle.std.proofs.Math.Nat.{suc-mul}
-use Rattle.std.proofs.lemmas.List.{drop-drop, drop-take, take-take, take-append-drop, take_at, drop_at, map-append, replicate-append-replicate}
+use Rattle.std.proofs.lemmas.List.{drop-drop, drop-take, take-take, take_at, drop_at, map-append}
 use Rattle.elem_descr.specs.Blocks.{blocks}
 
 -- the blocks depend on the bytes in them alone
@@ -42,15 +41,3 @@ map-blocks-put f size n at xs item rest so_far next is within whole before here 
     ap (map f) (blocks-put size n at xs item rest is within whole)
     ∙ map-append f (blocks size n xs) (item ∷ [])
     ∙ (λ i. before i ++ here i ∷ [])
-
--- the blocks are all there is
-pub concat-blocks : (size n : ℕ) (bytes : List ℕ) → length bytes ≡ n * size → concat (blocks size n bytes) ≡ bytes
-concat-blocks size zero [] whole = refl
-concat-blocks size zero (b ∷ bytes) whole = absurd (omega arith)
-concat-blocks size (suc n) bytes whole =
-    let more = suc-mul n size in
-    ap (λ back. take size bytes ++ back) (concat-blocks size n (drop size bytes) (length-drop size bytes ∙ omega arith))
-    ∙ take-append-drop size bytes
-
-pub replicate-push : {A : Type 0} (n : ℕ) (x : A) → replicate (n + 1) x ≡ replicate n x ++ x ∷ []
-replicate-push n x = sym (replicate-append-replicate n 1 x)

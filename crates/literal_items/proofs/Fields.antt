@@ -3,6 +3,7 @@ use Rattle.std.proofs.Common.{◌≡◌, ◌+◌, ◌-◌, ◌<◌, ◌≤◌, �
 use Rattle.std.specs.Prelude.{◌&&◌}
 use Rattle.std.specs.Int.{bytes_low_first, bytes_high_first}
 use Rattle.std.proofs.lemmas.List.{length-replicate, drop_all}
+use Rattle.std.proofs.lemmas.Bool.{and_parts}
 use Rattle.elem_descr.specs.declared.leaf.Leaf.{Leaf}
 use Rattle.elem_descr.specs.declared.scalar.Scalar.{Scalar}
 use Rattle.elem_descr.specs.declared.scalar.Scalar.TheVariants.{Bool as BoolScalar, Byte, Int, Bytes as BytesScalar}
@@ -16,13 +17,14 @@ use Rattle.elem_descr.specs.Encoding.{width_size, bytes_of, low_bits, wrap, padd
 use Rattle.elem_descr.specs.Fields.{Fields, no_more, scalar_field, record_field, Structure}
 use Rattle.elem_descr.specs.Descriptors.{before, listed, fields_of, InOrder, IsLegal}
 use Rattle.elem_descr.specs.Items.{item_size, moved, leaves_of, leaves_from, AreInOrder, encode_item, decode_item}
-use Rattle.elem_descr.proofs.Numbers.{decode_encode}
-use Rattle.elem_descr.proofs.FieldLaws.{rest_at, leaves_from-before, leaves_from-moved, listed-fields_of, field_within}
+use Rattle.elem_descr.specs.EncodingLaws.{decode_encode}
+use Rattle.elem_descr.specs.DescriptorLaws.{rest_at, listed-fields_of, field_within}
+use Rattle.elem_descr.specs.ItemLaws.{leaves_from-before, leaves_from-moved}
 use Rattle.script_lang.specs.declared.literal.ScalarLiteral.{ScalarLiteral}
 use Rattle.script_lang.specs.declared.literal.Literal.{Literal}
 use Rattle.script_lang.specs.declared.literal.Literal.TheVariants.{Scalar as ScalarOf, Record as RecordOf}
 use Rattle.script_lang.specs.RecordValues.{Values, no_values, scalar_value, record_value}
-use Rattle.script_lang.specs.Listed.{value_before, listed as all_values, literals_of}
+use Rattle.script_lang.specs.Listed.{value_before, all_values, literals_of}
 use Rattle.script_lang.specs.RecordLaws.{listed_literals_of}
 use Rattle.literal_items.specs.LiteralItems.{literal_number, literal_bytes, leaf_value, stand_for, can_hold, field_values, can_be_item, values_of}
 use Rattle.literal_items.specs.inside.FieldItems.{stands_for, can_be_field, field_value, put_leaves}
@@ -30,14 +32,6 @@ use Rattle.literal_items.proofs.Nuls.{bytes_encoded, bytes_read_back}
 use Rattle.literal_items.proofs.Leaves.{ReadsBack, AreSound, AreSound-append, put_leaves-append, put_encoded, put_read}
 
 -- ---- a test of each field
-
-first_true : (a b : Bool) → (a && b) ≡ true → a ≡ true
-first_true true b both = refl
-first_true false b both = both
-
-second_true : (a b : Bool) → (a && b) ≡ true → b ≡ true
-second_true true b both = both
-second_true false b both = cc
 
 stand_for-before : (test : Scalar → ScalarLiteral → Bool) (name : List ℕ) (at : ℕ) (descr : Descr) (fields : Fields) (literal : Literal) (later : Values) → stand_for test (before name at descr fields) (value_before literal later) ≡ (stands_for test descr literal && stand_for test fields later)
 stand_for-before test name at (ScalarDescr scalar) fields (ScalarOf literal) later = refl
@@ -73,7 +67,7 @@ turn_passes test fields literals k field literal turn passes =
 -- it has passed
 pub turn_passed : (test : Scalar → ScalarLiteral → Bool) (fields : List Field) (literals : List Literal) (k : ℕ) (field : Field) (literal : Literal) → IsTurn fields literals k field literal → stand_for test (listed (drop k fields)) (all_values (drop k literals)) ≡ true → stands_for test field.descr literal ≡ true
 turn_passed test fields literals k field literal turn passed =
-    first_true (stands_for test field.descr literal) (stand_for test (listed (drop (k + 1) fields)) (all_values (drop (k + 1) literals))) (sym (stand_for-at test fields literals k field literal turn) ∙ passed)
+    (and_parts (stands_for test field.descr literal) (stand_for test (listed (drop (k + 1) fields)) (all_values (drop (k + 1) literals))) (sym (stand_for-at test fields literals k field literal turn) ∙ passed)).0
 
 -- none is left
 pub none_left : (test : Scalar → ScalarLiteral → Bool) (fields : List Field) (literals : List Literal) (k : ℕ) → length fields ≤ k → length literals ≤ k → stand_for test (listed (drop k fields)) (all_values (drop k literals)) ≡ true
@@ -111,7 +105,7 @@ stand_for-length test [] (literal ∷ literals) passed = let none = no_field_lef
 stand_for-length test (field ∷ fields) [] passed = let none = no_value_left test field.name field.at field.descr (listed fields) in cc
 stand_for-length test (field ∷ fields) (literal ∷ literals) passed =
     let both = sym (stand_for-before test field.name field.at field.descr (listed fields) literal (all_values literals)) ∙ passed in
-    let more = stand_for-length test fields literals (second_true (stands_for test field.descr literal) (stand_for test (listed fields) (all_values literals)) both) in
+    let more = stand_for-length test fields literals (and_parts (stands_for test field.descr literal) (stand_for test (listed fields) (all_values literals)) both).1 in
     omega (arith, more)
 
 -- ---- the values of leaves
@@ -152,14 +146,14 @@ fields_sound start no_more (scalar_value literal later) can = cc
 fields_sound start no_more (record_value literals later) can = cc
 fields_sound start (scalar_field name at scalar fields) no_values can = cc
 fields_sound start (scalar_field name at scalar fields) (scalar_value literal values) can =
-    (leaf_sound scalar literal, fields_sound start fields values (second_true (can_be_field (ScalarDescr scalar) (ScalarOf literal)) (can_hold fields values) can))
+    (leaf_sound scalar literal, fields_sound start fields values (and_parts (can_be_field (ScalarDescr scalar) (ScalarOf literal)) (can_hold fields values) can).1)
 fields_sound start (scalar_field name at scalar fields) (record_value literals later) can = cc
 fields_sound start (record_field name at size inner fields) no_values can = cc
 fields_sound start (record_field name at size inner fields) (scalar_value literal later) can = cc
 fields_sound start (record_field name at size inner fields) (record_value literals values) can =
     AreSound-append (leaves_from (start + at) inner) (field_values inner literals) (leaves_from start fields) (field_values fields values)
-    (fields_sound (start + at) inner literals (first_true (can_hold inner literals) (can_hold fields values) can))
-    (fields_sound start fields values (second_true (can_hold inner literals) (can_hold fields values) can))
+    (fields_sound (start + at) inner literals (and_parts (can_hold inner literals) (can_hold fields values) can).0)
+    (fields_sound start fields values (and_parts (can_hold inner literals) (can_hold fields values) can).1)
 
 leaves_sound : (leaves : List Leaf) (literal : ScalarLiteral) → AreSound leaves (map (λ leaf. leaf_value leaf.scalar literal) leaves)
 leaves_sound [] literal = tt

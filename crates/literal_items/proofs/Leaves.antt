@@ -7,7 +7,7 @@ use Rattle.elem_descr.specs.declared.scalar.Scalar.{Scalar}
 use Rattle.elem_descr.specs.Values.{LeafValue}
 use Rattle.elem_descr.specs.Encoding.{size, encode, decode}
 use Rattle.elem_descr.specs.Items.{AreInOrder, encode_from}
-use Rattle.elem_descr.proofs.FieldLaws.{AreInOrder-within}
+use Rattle.elem_descr.specs.ItemLaws.{AreInOrder-within}
 use Rattle.literal_items.specs.inside.FieldItems.{put, put_leaves}
 
 -- the bytes of a value are as many as the scalar has, and mean the value

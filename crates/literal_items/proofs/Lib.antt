@@ -4,6 +4,8 @@ pub mod Decided
 pub mod Leaves
 pub mod Fields
 pub mod Blocked
+pub mod Copied
 pub mod Stepping
+pub mod Ends
 pub mod Scalars
 mod Vectors

@@ -1,5 +1,5 @@
 -- The numbers of a range.
-use Rattle.std.proofs.Common.{◌≡◌, ◌≢◌, ◌^◌, Bool, List, [], ◌∷◌, length, map, Result, Ok, Err, ◌↔◌, ℕ, ◌+◌, ◌*◌, ◌%◌, ◌<◌, ◌≤◌, true, false, ℤ, pos, unsigned_abs, ◌+ℤ◌, ◌-ℤ◌, ◌*ℤ◌, ◌≤ℤ◌, inl, inr, sym, ap, ◌∙◌, arith}
+use Rattle.std.proofs.Common.{◌≡◌, ◌≢◌, ◌^◌, Bool, List, [], ◌∷◌, length, map, Result, Ok, Err, ◌↔◌, ℕ, ◌+◌, ◌*◌, ◌%◌, ◌<◌, ◌≤◌, true, false, ℤ, pos, unsigned_abs, ◌+ℤ◌, ◌-ℤ◌, ◌*ℤ◌, ◌≤ℤ◌, inl, inr, lit<, sym, ap, ◌∙◌, arith}
 use Rattle.std.proofs.lemmas.Bool.{cases_lt, cases_Bool}
 use Rattle.std.proofs.lemmas.Bool.Decides.{Decides-int_eq, nat_tests}
 use Rattle.std.specs.Prelude.{FitsSigned, not, nat_le}
@@ -10,9 +10,12 @@ use Rattle.elem_descr.specs.declared.scalar.Scalar.{Scalar}
 use Rattle.elem_descr.specs.Refusals.{◌>>=◌, check}
 use Rattle.elem_descr.specs.Steps.{is_before, numbers_from, IsGap}
 use Rattle.elem_descr.specs.Values.{LeafValue, number}
-use Rattle.elem_descr.proofs.StepLaws.{Counts, steps_end_below, abs_pos, next_number, between_back, between_forth, near_before, far_after, counted_within, stepped_first, length-numbers_from}
+use Rattle.elem_descr.specs.inside.Counts.{Counts}
+use Rattle.elem_descr.specs.StepLaws.{steps_end_below, abs_pos, next_number, between_back, between_forth, near_before, far_after, counted_within, stepped_first, length-numbers_from}
 use Rattle.std.specs.Ordering.{int_eq}
-use Rattle.std.proofs.lemmas.Int.{ints, clamps, by_lt_z, wrapping_add_onto, int_wrap_fits}
+use Rattle.std.proofs.Math.IntN.{*ℤ_comm}
+use Rattle.std.proofs.Math.Nat.{mod-lt}
+use Rattle.std.proofs.lemmas.Int.{ints, clamps, by_lt_z, to_z-of_z, wrapping_add_onto, wrapping_mul_onto, int_wrap-add_left, int_wrap_fits}
 use Rattle.std.specs.Int.{w128, int_wrap, div_ceil, cast_signed, cast_unsigned}
 use Rattle.literal_items.specs.Numbers.{is_value}
 use Rattle.literal_items.proofs.Decided.{decided_first, decided_second, decided_ok}
@@ -113,3 +116,13 @@ next_sum start step k bits few fits is next =
     wrapping_add_onto w128 bits step few fits
     ∙ ap (int_wrap w128) (next_number start step (cast_signed w128 bits) k is)
     ∙ int_wrap_fits w128 (start +ℤ step *ℤ pos (k + 1)) next
+
+-- the number k steps after the start, as a product and a sum of 128 bits
+pub number_far : (start step : ℤ) (k : ℕ) → k < 2 ^ 64 → FitsSigned w128 start → FitsSigned w128 step → FitsSigned w128 (start +ℤ step *ℤ pos k) → cast_signed w128 ((k * cast_unsigned w128 step % 2 ^ 128 + cast_unsigned w128 start) % 2 ^ 128) ≡ start +ℤ step *ℤ pos k
+number_far start step k few fits_start fits_step fits =
+    let small : FitsSigned w128 (pos k) = omega (arith, ints) in
+    let product : cast_signed w128 (k * cast_unsigned w128 step % 2 ^ 128) ≡ int_wrap w128 (pos k *ℤ step) = wrapping_mul_onto w128 k step (omega arith) fits_step ∙ ap (λ z. int_wrap w128 (z *ℤ step)) (to_z-of_z w128 (pos k) small) in
+    let turned : pos k *ℤ step +ℤ start ≡ start +ℤ step *ℤ pos k = ap (λ z. z +ℤ start) (*ℤ_comm (pos k) step) ∙ omega (arith, ints) in
+    wrapping_add_onto w128 (k * cast_unsigned w128 step % 2 ^ 128) start (mod-lt (k * cast_unsigned w128 step) (lit< tt)) fits_start
+    ∙ ap (λ z. int_wrap w128 (z +ℤ start)) product ∙ int_wrap-add_left w128 (pos k *ℤ step) start ∙ ap (int_wrap w128) turned
+    ∙ int_wrap_fits w128 (start +ℤ step *ℤ pos k) fits

@@ -1,12 +1,12 @@
 //! Literals as items of a descriptor.
-ghost use Rattle.std.specs.Prelude.{◌≡◌, ◌≤◌, ◌+◌, ◌*◌, true, length, map, replicate, Ok, Err, MatchResult, IfOk, OnErr};
+ghost use Rattle.std.specs.Prelude.{◌≡◌, ◌≤◌, ◌+◌, ◌*◌, true, ◌++◌, length, take, drop, map, replicate, Ok, Err, MatchResult, IfOk, OnErr};
 ghost use Rattle.std.specs.List.{list_all, concat};
 ghost use Rattle.elem_descr.specs.declared.refusal.Refusal.TheVariants.{LiteralOutOfRange};
 ghost use Rattle.elem_descr.specs.declared.descr.Descr.TheVariants.{Record as RecordDescr};
 ghost use Rattle.elem_descr.specs.Descriptors.{IsLegal, listed};
 ghost use Rattle.elem_descr.specs.Items.{AreInOrder, item_size, leaves_of, leaves_from, moved, decode_item, encode_item};
 ghost use Rattle.elem_descr.specs.Blocks.{blocks};
-ghost use Rattle.script_lang.specs.Listed.{listed as all_values};
+ghost use Rattle.script_lang.specs.Listed.{all_values};
 ghost use Rattle.literal_items.specs.LiteralItems.{is_castable, is_in_range, leaf_value, can_hold, are_in_range, field_values, can_be_item, is_item_in_range, values_of, item_value, item_values};
 ghost use Rattle.literal_items.specs.inside.FieldItems.{can_be_field, is_field_in_range, field_value, put_leaves};
 
@@ -157,7 +157,7 @@ fn write_fields(structure: &Record, literals: &[Literal], from: usize, item: &mu
 }
 
 /// Writes a literal to each leaf.
-#[tactic(auto, using(elem_descr::proofs::FieldLaws::leaf_within))]
+#[tactic(auto, using(elem_descr::specs::ItemLaws::leaf_within))]
 fn write_leaves(leaves: &[Leaf], literal: &ScalarLiteral, item: &mut [u8])
     requires castable { list_all (λ leaf. is_castable leaf.scalar literal.now) leaves.now ≡ true }
     requires order { AreInOrder 0 leaves.now (length item.old) }
@@ -272,14 +272,34 @@ pub fn write_items(descr: &Descr, literals: &[Literal], block: &mut [u8]) -> Res
     Ok(())
 }
 
-/// Fills a block with n copies of an item.
+/// The most items that are copied at once, so that they are read from near memory.
+const MOST_AT_ONCE: usize = 1024;
+
+/// Copies the first `len` bytes to those from `at` on.
+fn copy_front(block: &mut [u8], at: usize, len: usize)
+    requires { (len ≤ at) × (at + len ≤ length block.old) }
+    ensures { block.new ≡ take at block.old ++ take len block.old ++ drop (at + len) block.old }
+{
+    let (front, back) = block.split_at_mut(at);
+    back[..len].copy_from_slice(&front[..len]);
+}
+
+/// Fills a block with n copies of an item. Those that are there are copied again, so that most moves
+/// are long.
 pub fn fill(item: &[u8], block: &mut [u8], n: usize)
     requires { length block.old ≡ n * length item.now }
     ensures copies { block.new ≡ concat (replicate n item.now) }
     ensures items { blocks (length item.now) n block.new ≡ replicate n item.now }
 {
+    if n == 0 {
+        return;
+    }
     let size = item.len();
-    for k in 0..n {
-        block[k * size..(k + 1) * size].copy_from_slice(item);
+    block[..size].copy_from_slice(item);
+    let mut done = 1;
+    while done < n {
+        let more = done.min(n - done).min(MOST_AT_ONCE);
+        copy_front(block, done * size, more * size);
+        done += more;
     }
 }

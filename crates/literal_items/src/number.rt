@@ -1,4 +1,4 @@
-// Numbers that a scalar may hold.
+//! Numbers that a scalar may hold.
 ghost use Rattle.std.specs.Prelude.{◌≡◌};
 ghost use Rattle.elem_descr.specs.Encoding.{IsNumber};
 ghost use Rattle.literal_items.specs.Numbers.{is_value};

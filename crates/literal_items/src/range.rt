@@ -3,7 +3,8 @@ ghost use Rattle.std.specs.Prelude.{◌≡◌, ◌<◌, ◌≤◌, ◌^◌, ◌�
 ghost use Rattle.std.specs.List.{list_all};
 ghost use Rattle.std.specs.Int.{w128};
 ghost use Rattle.elem_descr.specs.declared.descr.Descr.TheVariants.{Scalar as ScalarDescr};
-ghost use Rattle.elem_descr.specs.Encoding.{IsNumber, size};
+ghost use Rattle.elem_descr.specs.declared.scalar.Scalar.TheVariants.{Int as IntScalar};
+ghost use Rattle.elem_descr.specs.Encoding.{IsNumber, size, width_size};
 ghost use Rattle.elem_descr.specs.Items.{decode_item};
 ghost use Rattle.elem_descr.specs.Blocks.{blocks};
 ghost use Rattle.elem_descr.specs.Steps.{is_before, numbers_from, IsGap};
@@ -12,7 +13,7 @@ ghost use Rattle.literal_items.specs.Numbers.{is_value};
 ghost use Rattle.literal_items.specs.RangeItems.{range_numbers, range_count, range_length, range_items};
 
 use crate::number::is_value;
-use elem_descr::{Refusal, Scalar, num_write};
+use elem_descr::{Order, Refusal, Scalar, Width, num_write};
 
 /// The most numbers that a range may have.
 const MAX_NUMBERS: u128 = 1 << 24;
@@ -51,24 +52,31 @@ pub fn range_len(start: &i128, stop: &i128, step: &i128) -> Result<usize, Refusa
     Ok(count as usize)
 }
 
-/// Whether the first `count` of the numbers start, start + step, .. are values of the scalar.
+/// The number that is `k` steps after the start.
+fn number_at(start: &i128, step: &i128, k: usize) -> i128
+    requires { FitsSigned w128 (start.now +ℤ step.now *ℤ pos k) }
+    ensures { result ≡ start.now +ℤ step.now *ℤ pos k }
+{
+    (k as i128).wrapping_mul(*step).wrapping_add(*start)
+}
+
+/// Whether the first `count` of the numbers start, start + step, .. are values of the scalar. They lie
+/// between the first and the last, so these two decide it.
 fn are_values(scalar: &Scalar, start: &i128, step: &i128, count: usize) -> bool
     requires number { IsNumber scalar.now }
     requires fits { (k : ℕ) → k < count → FitsSigned w128 (start.now +ℤ step.now *ℤ pos k) }
     ensures { result ≡ list_all (is_value scalar.now) (numbers_from start.now step.now count) }
 {
-    let mut number = *start;
-    for _i in 0..count {
-        if !is_value(scalar, &number) {
-            return false;
-        }
-        number = number.wrapping_add(*step);
+    if count == 0 {
+        return true;
     }
-    true
+    is_value(scalar, start) && is_value(scalar, &number_at(start, step, count - 1))
 }
 
-/// Writes the first `count` of the numbers start, start + step, .. as items one after another.
-fn write_numbers(scalar: &Scalar, start: &i128, step: &i128, count: usize, block: &mut [u8])
+/// Writes the first `count` of the numbers start, start + step, .. as items one after another. Where it
+/// is called with a scalar that is known, each is stored at once.
+#[inline(always)]
+fn write_each(scalar: &Scalar, start: &i128, step: &i128, count: usize, block: &mut [u8])
     requires number { IsNumber scalar.now }
     requires whole { length block.old ≡ count * size scalar.now }
     requires fits { (k : ℕ) → k < count → FitsSigned w128 (start.now +ℤ step.now *ℤ pos k) }
@@ -80,6 +88,80 @@ fn write_numbers(scalar: &Scalar, start: &i128, step: &i128, count: usize, block
     for k in 0..count {
         num_write(*scalar, number, &mut block[k * size..(k + 1) * size]);
         number = number.wrapping_add(*step);
+    }
+}
+
+/// Writes the first `count` of the numbers start, start + step, .. as integers one after another, with
+/// a loop of its own for each width.
+#[inline(always)]
+fn write_integers(
+    signed: bool,
+    width: Width,
+    order: Order,
+    start: &i128,
+    step: &i128,
+    count: usize,
+    block: &mut [u8],
+)
+    requires whole { length block.old ≡ count * width_size width }
+    requires fits { (k : ℕ) → k < count → FitsSigned w128 (start.now +ℤ step.now *ℤ pos k) }
+    requires values { list_all (is_value (IntScalar signed width order)) (numbers_from start.now step.now count) ≡ true }
+    ensures { map (decode_item (ScalarDescr (IntScalar signed width order))) (blocks (width_size width) count block.new) ≡ map (λ value. number value ∷ []) (numbers_from start.now step.now count) }
+{
+    match width {
+        Width::Two => {
+            let width = Width::Two;
+            let scalar = Scalar::Int {
+                signed,
+                width,
+                order,
+            };
+            write_each(&scalar, start, step, count, block)
+        }
+        Width::Four => {
+            let width = Width::Four;
+            let scalar = Scalar::Int {
+                signed,
+                width,
+                order,
+            };
+            write_each(&scalar, start, step, count, block)
+        }
+        Width::Eight => {
+            let width = Width::Eight;
+            let scalar = Scalar::Int {
+                signed,
+                width,
+                order,
+            };
+            write_each(&scalar, start, step, count, block)
+        }
+    }
+}
+
+/// Writes the first `count` of the numbers start, start + step, .. as items one after another.
+fn write_numbers(scalar: &Scalar, start: &i128, step: &i128, count: usize, block: &mut [u8])
+    requires number { IsNumber scalar.now }
+    requires whole { length block.old ≡ count * size scalar.now }
+    requires fits { (k : ℕ) → k < count → FitsSigned w128 (start.now +ℤ step.now *ℤ pos k) }
+    requires values { list_all (is_value scalar.now) (numbers_from start.now step.now count) ≡ true }
+    ensures { map (decode_item (ScalarDescr scalar.now)) (blocks (size scalar.now) count block.new) ≡ map (λ value. number value ∷ []) (numbers_from start.now step.now count) }
+{
+    match *scalar {
+        Scalar::Byte { signed } => {
+            write_each(&Scalar::Byte { signed }, start, step, count, block)
+        }
+        Scalar::Int {
+            signed,
+            width,
+            order: Order::Little,
+        } => write_integers(signed, width, Order::Little, start, step, count, block),
+        Scalar::Int {
+            signed,
+            width,
+            order: Order::Big,
+        } => write_integers(signed, width, Order::Big, start, step, count, block),
+        _ => write_each(scalar, start, step, count, block),
     }
 }
 

@@ -1,5 +1,5 @@
 -- Items in a block of bytes, one after another.
-use Rattle.std.proofs.Common.{◌≡◌, ◌≤◌, ◌<◌, ◌+◌, ◌*◌, ℕ, zero, suc, List, [], ◌∷◌, ◌++◌, length, take, drop, map, refl, sym, ap, ◌∙◌, Some, slice_get, slice_set, append_assoc, arith, length-take, length-drop, length-append}
+use Rattle.std.proofs.Common.{◌≡◌, ◌≤◌, ◌<◌, ◌+◌, ◌*◌, ℕ, zero, suc, List, [], ◌∷◌, ◌++◌, length, take, drop, map, refl, sym, ap, ◌∙◌, Some, slice_get, slice_set, append_assoc, arith, length-take, length-drop}
 use Rattle.std.proofs.Math.Nat.{mul-suc, suc-mul, mul-le-mul_left}
 use Rattle.std.proofs.Math.Seq.{take-add, take-append_seam, drop-append_seam}
 use Rattle.std.proofs.lemmas.List.{map-set}
@@ -68,10 +68,6 @@ length-blocks width (suc n) bytes = ap suc (length-blocks width n (drop width by
 pub length-items_in : (descr : Descr) (n : ℕ) (bytes : List ℕ) → length (items_in descr n bytes) ≡ n
 length-items_in descr zero bytes = refl
 length-items_in descr (suc n) bytes = ap suc (length-items_in descr n (drop (item_size descr) bytes))
-
-pub length-put : (at : ℕ) (item bytes : List ℕ) → at + length item ≤ length bytes → length (put at item bytes) ≡ length bytes
-length-put at item bytes h =
-    omega (arith, length-append (take at bytes ++ item) (drop (at + length item) bytes), length-append (take at bytes) item, length-take at bytes, length-drop (at + length item) bytes)
 
 -- the item at a place is the one whose bytes begin there
 pub item-at : (descr : Descr) (n place : ℕ) (bytes : List ℕ) → place < n → slice_get (items_in descr n bytes) place ≡ Some (item_from descr bytes (item_size descr * place))

@@ -9,18 +9,11 @@ use Rattle.elem_descr.specs.Descriptors.{InOrder, AreNamedWithin, fields_of, dep
 use Rattle.elem_descr.specs.Encoding.{size}
 use Rattle.elem_descr.specs.Fields.{Fields, no_more, scalar_field, record_field}
 use Rattle.elem_descr.specs.Items.{item_size, leaves_of, leaves_from, leaves_in, fields, field_at, no_field, moved, AreInOrder}
-use Rattle.elem_descr.proofs.FieldLaws.{leaves_from-in_order, leaves_from-moved, leaves_in_order, length-leaves_from, some_leaves, legal_size}
+use Rattle.elem_descr.specs.ItemLaws.{leaves_from-in_order, leaves_from-moved, leaves_in_order, length-leaves_from, AreInOrder-earlier, AreInOrder-append}
+use Rattle.elem_descr.specs.DescriptorLaws.{some_leaves, legal_size, InOrder-within, some_depth}
 use Rattle.name_store.specs.Places.{IsElementType}
 
 -- ---- leaves in order
-
-AreInOrder-earlier : (from later : ℕ) (leaves : List Leaf) (bytes : ℕ) → from ≤ later → AreInOrder later leaves bytes → AreInOrder from leaves bytes
-AreInOrder-earlier from later [] bytes l h = omega (arith, h)
-AreInOrder-earlier from later (leaf ∷ leaves) bytes l h = (omega (arith, h.0), h.1, h.2)
-
-AreInOrder-append : (from middle bytes : ℕ) (front back : List Leaf) → AreInOrder from front middle → AreInOrder middle back bytes → AreInOrder from (front ++ back) bytes
-AreInOrder-append from middle bytes [] back h l = AreInOrder-earlier from middle back bytes h l
-AreInOrder-append from middle bytes (leaf ∷ front) back h l = (h.0, h.1, AreInOrder-append (leaf.at + size leaf.scalar) middle bytes front back h.2 l)
 
 AreInOrder-moved : (by from bytes : ℕ) (leaves : List Leaf) → AreInOrder from leaves bytes → AreInOrder (by + from) (map (moved by) leaves) (by + bytes)
 AreInOrder-moved by from bytes [] h = omega (arith, h)
@@ -95,11 +88,6 @@ split-within leaves from at whole bytes before start first descr outer inner = r
 
 abbrev at_number : Fields → ℕ → Field
 at_number fields k = get_or (fields_of fields) k no_field
-
-InOrder-within : (from : ℕ) (fields : Fields) (bytes : ℕ) → InOrder from fields bytes → from ≤ bytes
-InOrder-within from no_more bytes h = h
-InOrder-within from (scalar_field name at scalar rest) bytes h = omega (arith, h.0, InOrder-within (at + size scalar) rest bytes h.2)
-InOrder-within from (record_field name at width inner rest) bytes h = omega (arith, h.0, InOrder-within (at + width) rest bytes h.3)
 
 -- the leaves of fields whose record begins at 0
 fields-in_order : (from : ℕ) (fields : Fields) (bytes : ℕ) → InOrder from fields bytes → AreInOrder from (leaves_from 0 fields) bytes
@@ -196,14 +184,9 @@ abbrev pub records_deep : Descr → ℕ
 records_deep (ScalarDescr scalar) = 0
 records_deep (RecordDescr structure) = depth structure.fields
 
-some-deep : (fields : Fields) → 1 ≤ depth fields
-some-deep no_more = omega arith
-some-deep (scalar_field name at scalar rest) = some-deep rest
-some-deep (record_field name at width inner rest) = omega (arith, some-deep rest)
-
 one-deep : (fields : Fields) (k : ℕ) → k < length (fields_of fields) → 1 + records_deep (at_number fields k).descr ≤ depth fields
 one-deep no_more k low = absurd (omega (arith, low))
-one-deep (scalar_field name at scalar rest) zero low = omega (arith, some-deep rest)
+one-deep (scalar_field name at scalar rest) zero low = omega (arith, some_depth rest)
 one-deep (scalar_field name at scalar rest) (suc k) low = one-deep rest k (omega (arith, low))
 one-deep (record_field name at width inner rest) zero low = omega arith
 one-deep (record_field name at width inner rest) (suc k) low = omega (arith, one-deep rest k (omega (arith, low)))
@@ -229,7 +212,7 @@ type-shallow (RecordDescr structure) legal = legal.shallow
 -- what has a field is a record
 pub fields-deep : (descr : Descr) (k : ℕ) → k < length (fields descr) → 1 ≤ records_deep descr
 fields-deep (ScalarDescr scalar) k low = absurd (omega (arith, low))
-fields-deep (RecordDescr structure) k low = some-deep structure.fields
+fields-deep (RecordDescr structure) k low = some_depth structure.fields
 
 pub field-deep : (descr : Descr) (k : ℕ) → k < length (fields descr) → 1 + records_deep (field_at descr k).descr ≤ records_deep descr
 field-deep (ScalarDescr scalar) k low = absurd (omega (arith, low))

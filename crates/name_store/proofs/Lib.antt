@@ -5,6 +5,7 @@ pub mod PutLaws
 pub mod NameLaws
 pub mod OnceLaws
 pub mod LaidLaws
+pub mod RunWrites
 pub mod SlotLaws
 pub mod StateLaws
 pub mod FreshLaws

@@ -10,7 +10,7 @@ use Rattle.indexmap.specs.IndexMap.{insert_entry, shift_remove_entry}
 use Rattle.std.specs.Map.{lookup, keys_of}
 use Rattle.name_store.specs.States.{Array}
 use Rattle.name_store.specs.Arrays.{find_array, put_array, without, is_in_use}
-use Rattle.name_store.specs.View.{array_at, named_array, text_of}
+use Rattle.name_store.specs.View.{array_at, named_array, key_bytes}
 use Rattle.name_store.specs.declared.entry.Entry.{Entry}
 use Rattle.name_store.specs.declared.entry.Key.{Key}
 
@@ -159,6 +159,6 @@ length-remove test (e ∷ es) =
     elim (test e.0) as (λ t. length (cond t es (e ∷ shift_remove_entry test es)) ≤ length (e ∷ es)) [ true ↦ omega arith | false ↦ omega (arith, length-remove test es) ]
 
 -- the names are the texts of the keys
-pub texts-names : (es : List (Key × Entry)) → map text_of (keys_of es) ≡ map (λ entry. entry.0) (map named_array es)
+pub texts-names : (es : List (Key × Entry)) → map key_bytes (keys_of es) ≡ map (λ entry. entry.0) (map named_array es)
 texts-names [] = refl
-texts-names (e ∷ es) = ap (λ texts. text_of e.0 ∷ texts) (texts-names es)
+texts-names (e ∷ es) = ap (λ texts. key_bytes e.0 ∷ texts) (texts-names es)

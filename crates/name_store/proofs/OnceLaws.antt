@@ -1,22 +1,16 @@
 -- A writable array has no place twice.
-use Rattle.std.proofs.Common.{◌≡◌, ◌≢◌, ◌+◌, ◌*◌, ◌/◌, ◌<◌, ℕ, zero, suc, List, [], ◌∷◌, length, IsTrue, refl, sym, ap, ◌∙◌, slice_index, arith}
+use Rattle.std.proofs.Common.{◌≡◌, ◌≢◌, ◌+◌, ◌*◌, ◌/◌, ◌<◌, ℕ, List, length, IsTrue, sym, ap, ◌∙◌, slice_index, arith}
 use Rattle.std.proofs.lemmas.List.{length-map}
 use Rattle.elem_descr.specs.Items.{item_size}
 use Rattle.shape_strides.specs.Layouts.{offsets, distance}
 use Rattle.name_store.specs.Invariants.{LiesIn}
 use Rattle.name_store.specs.Parts.{start_at}
-use Rattle.name_store.specs.Places.{offsets_of}
 use Rattle.overlap_copy.specs.Blocks.{places_of}
 use Rattle.name_store.specs.View.{array_at}
 use Rattle.name_store.specs.declared.entry.Entry.{Entry}
 use Rattle.name_store.specs.declared.slot.Slot.{Slot}
+use Rattle.name_store.specs.ArrayLaws.{offset-at}
 use Rattle.name_store.proofs.PartLaws.{part-some}
-
--- the offset of a place
-offset-at : (item start : ℕ) (places : List ℕ) (k : ℕ) → k < length places → slice_index (offsets_of item start places) k ≡ item * slice_index places k + start
-offset-at item start [] k within = absurd (omega (arith, within))
-offset-at item start (place ∷ places) zero within = refl
-offset-at item start (place ∷ places) (suc k) within = offset-at item start places k (omega (arith, within))
 
 no-distance : (a b : ℕ) → a ≡ b → distance a b ≡ 0
 no-distance a b same = omega (arith, same)

@@ -8,7 +8,7 @@ use Rattle.elem_descr.specs.Blocks.{item_from}
 use Rattle.elem_descr.specs.Encoding.{size, decode}
 use Rattle.elem_descr.specs.Items.{item_size, leaves_of, leaves_in, fields, field_at, moved, AreInOrder, decode_item}
 use Rattle.elem_descr.specs.Values.{LeafValue}
-use Rattle.elem_descr.proofs.FieldLaws.{AreInOrder-within}
+use Rattle.elem_descr.specs.ItemLaws.{AreInOrder-within}
 use Rattle.raw_block.specs.Bytes.{put}
 use Rattle.name_store.specs.Parts.{IsPathOf, descr_at, start_at, first_at, span_at, part_at, with_part}
 use Rattle.name_store.specs.Places.{IsElementType}

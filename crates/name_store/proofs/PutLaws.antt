@@ -5,11 +5,12 @@ use Rattle.elem_descr.specs.declared.descr.Descr.{Descr}
 use Rattle.elem_descr.specs.Blocks.{items_in, item_from}
 use Rattle.elem_descr.specs.Items.{item_size, decode_item}
 use Rattle.raw_block.specs.Bytes.{put}
-use Rattle.name_store.specs.Arrays.{item_at, write}
+use Rattle.name_store.specs.Arrays.{placed_item, write}
 use Rattle.name_store.specs.Parts.{IsPathOf, descr_at, start_at, span_at, part_at, with_part}
 use Rattle.name_store.specs.Places.{offsets_of, IsElementType}
-use Rattle.name_store.specs.Targets.{put_each}
-use Rattle.name_store.proofs.BlockLaws.{drop-drop, put-add, put-item, item-at, item-inside, length-put}
+use Rattle.name_store.specs.inside.Puts.{put_each}
+use Rattle.raw_block.specs.BytesLaws.{length-put}
+use Rattle.name_store.proofs.BlockLaws.{drop-drop, put-add, put-item, item-at, item-inside}
 use Rattle.name_store.proofs.PartLaws.{put-front, part-within, part-read, part-put}
 
 -- bytes put within an item are the item put, with these bytes in it
@@ -38,14 +39,14 @@ module _ (descr : Descr) (legal : IsElementType descr) (path : List ℕ) (there 
 
   -- a part of the items at places is what is read where it begins
   pub items-read : (n : ℕ) (block places : List ℕ) → AllByRecursion (λ place. place < n) places →
-      map (λ place. part_at span (item_at (items_in descr n block) place)) places ≡ map (item_from part_descr block) (offsets_of (item_size descr) start places)
+      map (λ place. part_at span (placed_item (items_in descr n block) place)) places ≡ map (item_from part_descr block) (offsets_of (item_size descr) start places)
   items-read n block [] within = refl
   items-read n block (place ∷ places) within =
       λ i. (ap (λ o. part_at span (unwrap_or o [])) (item-at descr n place block within.0) ∙ part-read descr legal path there block (item_size descr * place)) i ∷ items-read n block places within.1 i
 
   one-part : (n place : ℕ) (part block : List ℕ) → place < n → length part ≡ item_size part_descr → n * item_size descr ≤ length block →
       items_in descr n (put (item_size descr * place + start) part block)
-      ≡ slice_set (items_in descr n block) place (with_part span (decode_item part_descr part) (item_at (items_in descr n block) place))
+      ≡ slice_set (items_in descr n block) place (with_part span (decode_item part_descr part) (placed_item (items_in descr n block) place))
   one-part n place part block within whole fits =
       ap (items_in descr n) (put-part (item_size descr) at start part block few inside)
       ∙ put-item descr n place (put start part old) block within (length-put start part old (omega (arith, few, long)) ∙ long) fits

@@ -3,15 +3,16 @@ use Rattle.std.proofs.Common.{◌≡◌, ◌+◌, ◌*◌, ◌<◌, ◌≤◌, �
 use Rattle.std.specs.List.{list_any, range_with_len}
 use Rattle.std.specs.Map.{lookup}
 use Rattle.std.proofs.lemmas.Int.{ints}
-use Rattle.std.proofs.lemmas.Bool.{eqb-true, eqb-false, ltb-true, ltb-false, lt-ltb, le-ltb, ne_eqb, cases_lt}
+use Rattle.std.proofs.lemmas.Bool.{eqb-true, eqb-false, ltb-true, ltb-false, lt-ltb, le-ltb, ne_eqb, cases_lt, and_parts}
 use Rattle.std.proofs.Math.Bool.{and-false, and-true}
-use Rattle.std.proofs.Math.Nat.{mul-suc, mul-le-mul_left}
+use Rattle.std.proofs.lemmas.Bool.Decides.{same_from_decides}
 use Rattle.elem_descr.specs.declared.descr.Descr.{Descr}
 use Rattle.elem_descr.specs.Items.{item_size, leaves_of, leaves_in, fields, field_at}
 use Rattle.shape_strides.specs.declared.layout.Layout.{Layout}
 use Rattle.shape_strides.specs.Layouts.{address, offsets, Fits}
 use Rattle.overlap_copy.specs.Blocks.{places_of}
 use Rattle.overlap_copy.specs.Overlaps.{have_common_byte}
+use Rattle.shape_strides.specs.CountLaws.{mul-step}
 use Rattle.name_store.specs.States.{Buffer}
 use Rattle.name_store.specs.Arrays.{buffer_of, share_cells}
 use Rattle.name_store.specs.Invariants.{Holds, LiesIn}
@@ -27,10 +28,6 @@ use Rattle.name_store.proofs.PartLaws.{part-leaves, part-some, part-within, span
 use Rattle.name_store.proofs.ShowLaws.{buffer-found}
 use Rattle.name_store.proofs.SlotLaws.{itself}
 use Rattle.name_store.proofs.StateLaws.{Slots, found-lies}
-
--- the one of two items of one size that begins first ends before the other
-ends-first : (item p q : ℕ) → p < q → item * p + item ≤ item * q
-ends-first item p q less = let most : item * suc p ≤ item * q = mul-le-mul_left item less in omega (arith, mul-suc item p, most)
 
 lt-same : (a b c d : ℕ) → (a < b → c < d) → (c < d → a < b) → nat_lt a b ≡ nat_lt c d
 lt-same a b c d there back =
@@ -59,9 +56,9 @@ same-part item start width other other_width p q few other-few =
 
     differ : (p < q) ⊎ (q ≤ p) → (q < p) ⊎ (p ≤ q) → (p ≡ q → ⊥) → (nat_lt (item * p + start) (item * q + other + other_width) && nat_lt (item * q + other) (item * p + start + width)) ≡ false
     differ (inl less) _ ne =
-        ap (λ t. nat_lt (item * p + start) (item * q + other + other_width) && t) (le-ltb (item * q + other) (item * p + start + width) (omega (arith, few, ends-first item p q less)))
+        ap (λ t. nat_lt (item * p + start) (item * q + other + other_width) && t) (le-ltb (item * q + other) (item * p + start + width) (omega (arith, few, mul-step item p q less)))
         ∙ and-false (nat_lt (item * p + start) (item * q + other + other_width))
-    differ (inr _) (inl more) ne = ap (λ t. t && nat_lt (item * q + other) (item * p + start + width)) (le-ltb (item * p + start) (item * q + other + other_width) (omega (arith, other-few, ends-first item q p more)))
+    differ (inr _) (inl more) ne = ap (λ t. t && nat_lt (item * q + other) (item * p + start + width)) (le-ltb (item * p + start) (item * q + other + other_width) (omega (arith, other-few, mul-step item q p more)))
     differ (inr high) (inr low) ne = absurd (ne (omega (arith, high, low)))
 
 -- one item among others, and some among others
@@ -136,23 +133,17 @@ span-common from (suc count) other others any some low high =
       ]
     ] refl
 
-both-true : (a b : Bool) → (a && b) ≡ true → (a ≡ true) × (b ≡ true)
-both-true true b is = (refl, is)
-both-true false b is = let no : false ≡ true = is in absurd cc
-
-true-same : (a b : Bool) → (a ≡ true → b ≡ true) → (b ≡ true → a ≡ true) → a ≡ b
-true-same true b there back = sym (there refl)
-true-same false true there back = back refl
-true-same false false there back = refl
-
 -- just where each begins before the other ends
 common-ends : (from count other others : ℕ) → 1 ≤ count → 1 ≤ others → (nat_lt from (other + others) && nat_lt other (from + count)) ≡ have_common (range_with_len from count) (range_with_len other others)
 common-ends from count other others some other-some =
-    true-same _ _
-    (λ is. let ends = both-true (nat_lt from (other + others)) (nat_lt other (from + count)) is in
-    span-common from count other others some other-some (ltb-true from (other + others) ends.0) (ltb-true other (from + count) ends.1))
-    (λ is. let ends = common-span from count other others is in
-    λ i. lt-ltb from (other + others) ends.0 i && lt-ltb other (from + count) ends.1 i)
+    let shared = have_common (range_with_len from count) (range_with_len other others) in
+    let there : (nat_lt from (other + others) && nat_lt other (from + count)) ≡ true → shared ≡ true = λ is.
+    let ends = and_parts (nat_lt from (other + others)) (nat_lt other (from + count)) is in
+    span-common from count other others some other-some (ltb-true from (other + others) ends.0) (ltb-true other (from + count) ends.1) in
+    let back : shared ≡ true → (nat_lt from (other + others) && nat_lt other (from + count)) ≡ true = λ is.
+    let ends = common-span from count other others is in
+    λ i. lt-ltb from (other + others) ends.0 i && lt-ltb other (from + count) ends.1 i in
+    same_from_decides (nat_lt from (other + others) && nat_lt other (from + count)) shared (there, back) (λ is. is, λ is. is)
 
 -- ---- two parts of an item
 

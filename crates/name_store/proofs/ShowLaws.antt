@@ -9,7 +9,7 @@ use Rattle.elem_descr.specs.declared.descr.Descr.{Descr}
 use Rattle.elem_descr.specs.Items.{item_size, fields}
 use Rattle.shape_strides.specs.Layouts.{offsets}
 use Rattle.name_store.specs.States.{State, Array, Buffer}
-use Rattle.name_store.specs.Arrays.{buffer_of, descr_of, item_at, no_buffer, read}
+use Rattle.name_store.specs.Arrays.{buffer_of, descr_of, placed_item, no_buffer, read}
 use Rattle.elem_descr.specs.Blocks.{items_in, item_from}
 use Rattle.name_store.specs.Parts.{descr_at, start_at, span_at, part_at}
 use Rattle.name_store.specs.Invariants.{LiesIn}
@@ -23,6 +23,7 @@ use Rattle.name_store.specs.declared.slot.Slot.{Slot}
 use Rattle.name_store.proofs.BlockLaws.{length-items_in}
 use Rattle.name_store.proofs.LaidLaws.{laid-same, places-within}
 use Rattle.name_store.proofs.OnceLaws.{no_place_twice}
+use Rattle.name_store.proofs.FieldSplits.{type-some}
 use Rattle.name_store.proofs.PartLaws.{part-deeper, part-some, part-within}
 use Rattle.name_store.proofs.PutLaws.{items-read}
 use Rattle.name_store.proofs.SlotLaws.{get-buffers}
@@ -70,7 +71,7 @@ module _ (es : List (Key × Entry)) (slots : Slots) (e : Entry) (s : Slot) (r : 
 
   shown-reads : read (state_of es slots) array ≡ map (item_from r.descr.now r.block.now) (offsets r.layout.now)
   shown-reads =
-      ap (λ (b : Buffer). map (λ place. part_at (span_at b.descr e.path) (item_at b.items place)) array.places) found
+      ap (λ (b : Buffer). map (λ place. part_at (span_at b.descr e.path) (placed_item b.items place)) array.places) found
       ∙ items-read s.descr s.is_whole.legal e.path lies.laid.part s.items s.block array.places within
       ∙ ap (map (item_from (descr_at s.descr e.path) s.block)) (sym spread)
       ∙ λ i. map (item_from (sym descr-is i) (sym block-is i)) (offsets r.layout.now)
@@ -96,6 +97,7 @@ module _ (es : List (Key × Entry)) (slots : Slots) (e : Entry) (s : Slot) (r : 
     };
     descr = own-is;
     whole = ap length block-is ∙ s.is_whole.whole ∙ λ i. sym counted i * item_size (sym type-is i);
+    some = subst (λ (d : Descr). 1 ≤ item_size d) (sym type-is) (type-some s.descr s.is_whole.legal);
     small = subst (λ (b : List ℕ). length b ≤ 2 ^ 28) (sym block-is) s.is_whole.small;
     items = ap (λ (b : Buffer). b.items) found ∙ λ i. items_in (sym type-is i) (sym counted i) (sym block-is i);
     reads = shown-reads;
@@ -104,5 +106,5 @@ module _ (es : List (Key × Entry)) (slots : Slots) (e : Entry) (s : Slot) (r : 
     once = no_place_twice s e lies;
   }
 
-pub finds : (s : State) (found : Option Array) (array : Array) (r : ArrayRef) → found ≡ Some array → Shows s array r → Finds s found (Some r)
-finds s found array r is shows = subst (λ f. Finds s f (Some r)) (sym is) shows
+pub finds : (s : State) (there : Option Array) (a : Array) (r : ArrayRef) → there ≡ Some a → Shows s a r → Finds s there (Some r)
+finds s there a r is shows = subst (λ f. Finds s f (Some r)) (sym is) shows

@@ -19,7 +19,8 @@ use Rattle.name_store.specs.Invariants.{Holds, LiesAt, LiesIn}
 use Rattle.name_store.specs.Parts.{descr_at, start_at, span_at}
 use Rattle.name_store.specs.Places.{offsets_of}
 use Rattle.overlap_copy.specs.Blocks.{places_of}
-use Rattle.name_store.specs.Targets.{LeadsTo, new_items, put_each}
+use Rattle.name_store.specs.Targets.{LeadsTo, new_items}
+use Rattle.name_store.specs.inside.Puts.{put_each}
 use Rattle.name_store.specs.View.{array_at, named_array, buffer_in, slot_at, state_of}
 use Rattle.name_store.specs.declared.entry.Entry.{Entry}
 use Rattle.name_store.specs.declared.entry.Key.{Key}

@@ -81,8 +81,8 @@ descr_of s array = descr_at (buffer_of s array).descr array.path
 abbrev pub addresses : State → Array → List ℕ
 addresses s array = offsets_of (item_size (buffer_of s array).descr) (start_at (buffer_of s array).descr array.path) array.places
 
-abbrev pub item_at : List (List LeafValue) → ℕ → List LeafValue
-item_at items place = unwrap_or (slice_get items place) []
+abbrev pub placed_item : List (List LeafValue) → ℕ → List LeafValue
+placed_item items place = unwrap_or (slice_get items place) []
 
 -- the leaves that an array has of each item of its buffer: the first of them, and how many they are
 abbrev pub span_of : State → Array → ℕ × ℕ
@@ -90,11 +90,11 @@ span_of s array = span_at (buffer_of s array).descr array.path
 
 -- the items of an array, place by place
 abbrev pub read : State → Array → List (List LeafValue)
-read s array = map (λ place. part_at (span_of s array) (item_at (buffer_of s array).items place)) array.places
+read s array = map (λ place. part_at (span_of s array) (placed_item (buffer_of s array).items place)) array.places
 
 -- values put in a part of the items at places, one after the other
 abbrev pub write : ℕ × ℕ → List ℕ → List (List LeafValue) → List (List LeafValue) → List (List LeafValue)
-write span (place ∷ places) (part ∷ new) items = write span places new (slice_set items place (with_part span part (item_at items place)))
+write span (place ∷ places) (part ∷ new) items = write span places new (slice_set items place (with_part span part (placed_item items place)))
 write span places new items = items
 
 -- the state in which an array's items at some of its places are new

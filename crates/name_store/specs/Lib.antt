@@ -1,3 +1,4 @@
+pub mod ArrayLaws
 pub mod Arrays
 pub mod Calls
 pub mod Invariants

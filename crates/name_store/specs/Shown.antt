@@ -13,6 +13,7 @@ pub record Shows (s : State) (array : Array) (r : ArrayRef) : Type 0 where
   pub view : IsViewIn s r.number r.path.now r.layout.now r.writable array
   pub descr : descr_of s array ≡ r.descr.now
   pub whole : length r.block.now ≡ length (buffer_of s array).items * item_size (buffer_of s array).descr
+  pub some : 1 ≤ item_size (buffer_of s array).descr
   pub small : length r.block.now ≤ 2 ^ 28
   pub items : (buffer_of s array).items ≡ items_in (buffer_of s array).descr (length (buffer_of s array).items) r.block.now
   pub reads : read s array ≡ map (item_from r.descr.now r.block.now) (offsets r.layout.now)

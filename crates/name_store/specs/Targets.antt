@@ -1,10 +1,9 @@
 -- Places of an array to be written, and what is written to them.
-use Rattle.std.specs.Prelude.{◌≡◌, ℕ, true, List, [], ◌∷◌, length, replicate, Some, All}
+use Rattle.std.specs.Prelude.{◌≡◌, ℕ, true, List, length, replicate, Some, All}
 use Rattle.std.specs.List.{Contains}
 use Rattle.elem_descr.specs.declared.descr.Descr.{Descr}
 use Rattle.elem_descr.specs.Items.{item_size, decode_item}
 use Rattle.elem_descr.specs.Values.{LeafValue}
-use Rattle.raw_block.specs.Bytes.{put}
 use Rattle.shape_strides.specs.declared.layout.Layout.{Layout}
 use Rattle.shape_strides.specs.Layouts.{offsets}
 use Rattle.name_store.specs.States.{State, Array}
@@ -38,8 +37,3 @@ pub record IsAim (s : State) (name : List ℕ) (target : Target) (source : Sourc
   pub places : List ℕ
   pub leads : LeadsTo s name target array places
   pub source_for : IsFor (descr_of s array) source
-
--- the bytes of an item put at each of some offsets, one after the other
-abbrev pub put_each : List ℕ → List ℕ → List ℕ → List ℕ
-put_each [] item bytes = bytes
-put_each (offset ∷ offsets) item bytes = put_each offsets item (put offset item bytes)

@@ -1,3 +1,4 @@
 pub mod KeptPaths
 pub mod Props
 pub mod Codes
+pub mod Puts

@@ -13,11 +13,11 @@ pub struct Names<'a> {
 
 impl<'a> Model for Names<'a> {
     ghost use Rattle.std.specs.Prelude.{List, ℕ, map};
-    ghost use Rattle.name_store.specs.View.{text_of};
+    ghost use Rattle.name_store.specs.View.{key_bytes};
 
     ghost Value = { List (List ℕ) };
 
-    ghost view = { λ n. map text_of n.keys };
+    ghost view = { λ n. map key_bytes n.keys };
 }
 
 impl<'a> Iterator for Names<'a> {

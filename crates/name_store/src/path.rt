@@ -2,17 +2,14 @@
 ghost use Rattle.std.specs.Prelude.{◌≡◌, ◌<◌, ◌++◌, ◌∷◌, [], length};
 ghost use Rattle.name_store.specs.Parts.{IsPathOf, descr_at};
 
-use elem_descr::Descr;
+use elem_descr::{Descr, MAX_DEPTH};
 use std::marker::Model;
 
-/// The most numbers of a path: no more than four records lie one within another.
-const MAX_LEN: usize = 4;
-
 /// The numbers of the fields that lead to a part of an item, the outermost first: none for the whole,
-/// and at most four.
+/// and at most as many as records may lie one within another.
 #[derive(Clone, Copy)]
 pub struct Path {
-    numbers: [usize; MAX_LEN],
+    numbers: [usize; MAX_DEPTH],
     len: usize,
 }
 
@@ -37,7 +34,7 @@ impl Path {
         ensures { result ≡ [] }
     {
         Path {
-            numbers: [0; MAX_LEN],
+            numbers: [0; MAX_DEPTH],
             len: 0,
         }
     }

@@ -4,8 +4,7 @@ use Rattle.std.proofs.lemmas.Bool.{cases_lt}
 use Rattle.std.proofs.lemmas.List.Elements.{All-rest, All-head, All-from_get_or}
 use Rattle.std.proofs.lemmas.Simd.{map-map}
 use Rattle.raw_block.specs.Bytes.{put, item_at}
-use Rattle.raw_block.proofs.Puts.{length-item_at, length-put}
-use Rattle.raw_block.proofs.Laws.{item_at-put_same, item_at-put_apart}
+use Rattle.raw_block.specs.BytesLaws.{length-item_at, length-put, item_at-put_same, item_at-put_apart}
 use Rattle.elem_descr.specs.declared.descr.Descr.{Descr}
 use Rattle.elem_descr.specs.Items.{item_size, decode_item}
 use Rattle.elem_descr.specs.Blocks.{item_from}
@@ -70,23 +69,6 @@ module _ (width : ℕ) (other : List ℕ) where
       let one = kept at to from next (subst (λ n. at + width ≤ n) (sym same) here) left left' (apart-first at to nested) ∙ read-back at offset block here first in
       let more = landed to from next (omega (arith, even)) left left' (nested-rest at to nested) in
       λ i. one i ∷ more i
-
--- without an offset on either side nothing is copied
-pub none-from : (to : List ℕ) (width : ℕ) (other block : List ℕ) → copied_each to [] width other block ≡ block
-none-from [] width other block = refl
-none-from (at ∷ to) width other block = refl
-
-pub none-to : (to from to' from' : List ℕ) (width : ℕ) (other block whole : List ℕ) → to ≡ [] → to' ≡ [] → copied_each to from width other block ≡ whole → copied_each to' from' width other block ≡ whole
-none-to to from to' from' width other block whole none none' so_far =
-    ap (λ l. copied_each l from' width other block) none' ∙ ap (λ l. copied_each l from width other block) (sym none) ∙ so_far
-
--- the next item is copied
-pub copied-next : (to from to' from' : List ℕ) (at offset width : ℕ) (other block block' whole : List ℕ) → to ≡ at ∷ to' → from ≡ offset ∷ from' → block' ≡ put at (item_at offset width other) block → copied_each to from width other block ≡ whole → copied_each to' from' width other block' ≡ whole
-copied-next to from to' from' at offset width other block block' whole first second is so_far =
-    ap (copied_each to' from' width other) is ∙ (λ i. copied_each (sym first i) (sym second i) width other block) ∙ so_far
-
-pub next-inside : (left left' : List ℕ) (offset item len : ℕ) → left ≡ offset ∷ left' → All (λ o. o + item ≤ len) left → offset + item ≤ len
-next-inside left left' offset item len walked inside = All-head (λ o. o + item ≤ len) offset left' (subst (All (λ o. o + item ≤ len)) walked inside)
 
 -- equal bytes are equal items
 pub items-from_bytes : (descr : Descr) (block other to from : List ℕ) → map (λ o. item_at o (item_size descr) block) to ≡ map (λ o. item_at o (item_size descr) other) from → map (item_from descr block) to ≡ map (item_from descr other) from

@@ -1,6 +1,15 @@
+pub mod ApartLaws
+pub mod AssignLaws
 pub mod CopyLaws
+pub mod LineLaws
 pub mod MarkLaws
+pub mod MoveLaws
 pub mod OwnedLaws
 pub mod OverlapLaws
+pub mod RunCopies
+pub mod PackedLaws
+pub mod RunCopyLaws
 pub mod ShareLaws
+pub mod SwapLaws
+pub mod TurnLaws
 mod Vectors

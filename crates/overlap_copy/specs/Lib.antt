@@ -1,3 +1,6 @@
 pub mod Blocks
 pub mod Overlaps
+pub mod RunLaws
+pub mod Assignments
+pub mod Apart
 pub mod inside

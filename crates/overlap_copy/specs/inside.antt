@@ -1,2 +1,4 @@
 pub mod Copies
 pub mod Marks
+pub mod Moves
+pub mod Packed

@@ -1,13 +1,18 @@
-//! Arrays over a block of their own, in C or Fortran order, copies of items in one, and whether arrays in
-//! one block share bytes.
+//! Arrays over a block of their own, in C or Fortran order, copies of items in one, whether arrays in
+//! one block share bytes, and assignment.
 #![tactic(auto)]
 
+mod apart;
+mod assignment;
 mod copies;
 mod overlap;
 mod owned;
+mod packed;
+mod run_moves;
 mod share;
 
+pub use apart::may_overlap;
+pub use assignment::{assign, assign_from};
 pub use copies::copy;
-pub use overlap::may_overlap;
 pub use owned::Owned;
 pub use share::share_cell;

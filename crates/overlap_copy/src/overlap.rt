@@ -1,4 +1,4 @@
-//! Whether the items of two layouts in one block have bytes in common.
+//! Whether the ranges of bytes of two layouts in one block meet.
 ghost use Rattle.std.specs.Prelude.{◌≡◌, false};
 ghost use Rattle.shape_strides.specs.Limits.{max_bytes};
 ghost use Rattle.shape_strides.specs.Layouts.{offsets, Fits};
@@ -9,7 +9,7 @@ use shape_strides::Layout;
 /// Whether the ranges from the first to the last byte of two layouts meet, whose items have `a_item`
 /// and `b_item` bytes. Only where they do can items share bytes. Takes no memory, and time only for
 /// the axes.
-pub fn may_overlap(a: &Layout, a_item: usize, b: &Layout, b_item: usize) -> bool
+pub fn ranges_meet(a: &Layout, a_item: usize, b: &Layout, b_item: usize) -> bool
     requires a_fits { Fits a.now max_bytes a_item }
     requires b_fits { Fits b.now max_bytes b_item }
     ensures value { result ≡ do_ranges_meet (offsets a.now) a_item (offsets b.now) b_item }

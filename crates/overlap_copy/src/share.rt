@@ -6,7 +6,7 @@ ghost use Rattle.shape_strides.specs.Layouts.{offsets, Fits};
 ghost use Rattle.overlap_copy.specs.Overlaps.{have_common_byte, do_ranges_meet};
 ghost use Rattle.overlap_copy.specs.inside.Marks.{holds_byte, IsMarkedUpTo, is_marked, is_end_marked};
 
-use crate::overlap::may_overlap;
+use crate::overlap::ranges_meet;
 use shape_strides::{Layout, Walk};
 use std::alloc::{AllocError, Global};
 
@@ -121,7 +121,7 @@ pub fn share_cell(
     requires b_some { 1 ≤ b_item }
     ensures { IfOk result (λ yes. yes ≡ have_common_byte (offsets a.now) a_item (offsets b.now) b_item) }
 {
-    if !may_overlap(a, a_item, b, b_item) {
+    if !ranges_meet(a, a_item, b, b_item) {
         return Ok(false);
     }
     if a.span(a_item).len() <= b.span(b_item).len() {

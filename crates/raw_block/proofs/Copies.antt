@@ -2,9 +2,9 @@
 use Rattle.std.proofs.Common.{◌≡◌, ℕ, zero, suc, ◌+◌, ◌<◌, ◌≤◌, ◌⊎◌, inl, inr, List, length, refl, sym, ap, ◌∙◌, arith}
 use lib.IntN.{ℤ}
 use Rattle.raw_block.specs.Bytes.{place, item_at, copied, EachWithin}
-use Rattle.raw_block.proofs.Exchanges.{last_or_before}
-use Rattle.raw_block.proofs.Laws.{place_within, fewer, length-copied, item_at-put_same, item_at-put_apart}
-use Rattle.raw_block.proofs.Puts.{length-item_at}
+use Rattle.raw_block.specs.ExchangeLaws.{last_or_before}
+use Rattle.raw_block.specs.BytesLaws.{item_at-put_same, item_at-put_apart, length-item_at, place_within, fewer}
+use Rattle.raw_block.proofs.Laws.{length-copied}
 
 module _ (dst : ℕ) (dst_step : ℤ) (other : List ℕ) (src : ℕ) (src_step : ℤ) (width : ℕ) (bytes : List ℕ) where
   abbrev after : ℕ → List ℕ

@@ -1,30 +1,17 @@
--- What the operations of a block change and leave, for the crates above.
---     place_within, ends_within                each item lies within, and does so where the first and the last do
+-- What the operations of a block change and leave.
+--     ends_within                              each item lies within where the first and the last do
 --     length-copied, length-copied_within, length-filled, length-swapped      no operation changes the length
---     item_at-put_same, item_at-put_apart      an item that was written is read back, and one that lies apart is as before
 --     little_number-little_bytes, stored_number      the lowest bytes of a number spell its lowest part, also once they are stored
-use Rattle.std.proofs.Common.{◌≡◌, ℕ, zero, suc, ◌+◌, ◌*◌, ◌%◌, ◌/◌, ◌^◌, ◌<◌, ◌≤◌, ◌⊎◌, inl, inr, List, ◌∷◌, ◌++◌, length, take, drop, get_or, refl, sym, ap, ◌∙◌, arith, lit<, append_assoc, length-take}
+use Rattle.std.proofs.Common.{◌≡◌, ℕ, zero, suc, ◌+◌, ◌*◌, ◌%◌, ◌/◌, ◌^◌, ◌≤◌, List, ◌∷◌, length, get_or, refl, sym, ap, ◌∙◌, arith, lit<}
 use Rattle.std.proofs.Math.Arith.{mod-mul}
 use Rattle.std.proofs.Math.Nat.{div-one, div-div-eq-div-mul, mul-le-mul_right, one-le-pow, pow-suc, zero-mul}
-use Rattle.std.proofs.Math.Seq.{take-append_seam, drop-append_seam}
-use Rattle.std.proofs.lemmas.List.{ext_get_or, get_or-take, get_or-drop}
 use Rattle.std.specs.Int.{byte_at, bytes_low_first}
 use lib.IntN.{ℤ, pos, negsuc, ◌+ℤ◌}
 use lib.Signed.{◌≤ℤ◌}
 use Rattle.std.proofs.lemmas.Int.{ints}
 use Rattle.raw_block.specs.Bytes.{position, place, EachWithin, put, item_at, copied, copied_within, filled, swapped, little_from, little_number, little_bytes}
-use Rattle.raw_block.proofs.Exchanges.{length-exchanged}
-use Rattle.raw_block.proofs.Places.{not_negative}
-use Rattle.raw_block.proofs.Puts.{length-item_at, length-put, get_or-put_before, get_or-put_after}
-
--- the k-th item lies within
-pub place_within : (len at : ℕ) (step : ℤ) (width n k : ℕ) → EachWithin len at step width n → k < n → place at step k + width ≤ len
-place_within len at step width n k h lt =
-    let here = h.each k lt in let low = here.0 in let high = here.1 in let is : pos (place at step k) ≡ position at step k = not_negative (position at step k) low in
-    omega (arith, ints)
-
-pub fewer : (len at : ℕ) (step : ℤ) (width n : ℕ) → EachWithin len at step width (suc n) → EachWithin len at step width n
-fewer len at step width n h = record { each = λ k lt. h.each k (omega arith) }
+use Rattle.raw_block.specs.BytesLaws.{item_at-put_same, length-item_at, length-put, place_within, fewer}
+use Rattle.raw_block.specs.ExchangeLaws.{length-exchanged}
 
 pub length-copied : (dst : ℕ) (dst_step : ℤ) (other : List ℕ) (src : ℕ) (src_step : ℤ) (width n : ℕ) (bytes : List ℕ) → EachWithin (length bytes) dst dst_step width n → EachWithin (length other) src src_step width n
     → length (copied dst dst_step other src src_step width n bytes) ≡ length bytes
@@ -52,24 +39,6 @@ length-filled dst step item (suc n) bytes to =
     let before = filled dst step item n bytes in let same : length before ≡ length bytes = length-filled dst step item n bytes (fewer _ dst step (length item) n to) in
     let within = place_within (length bytes) dst step (length item) (suc n) n to (omega arith) in
     length-put (place dst step n) item before (omega arith) ∙ same
-
--- what was written is read back
-pub item_at-put_same : (at : ℕ) (item bytes : List ℕ) → at + length item ≤ length bytes → item_at at (length item) (put at item bytes) ≡ item
-item_at-put_same at item bytes le =
-    let front = take at bytes in let rest = drop (at + length item) bytes in let long : length front ≡ at = omega (arith, length-take at bytes) in
-    ap (λ k. take (length item) (drop k (front ++ item ++ rest))) (sym long) ∙ ap (λ l. take (length item) (drop (length front) l)) (append_assoc front item rest)
-    ∙ ap (take (length item)) (drop-append_seam front (item ++ rest)) ∙ take-append_seam item rest
-
--- what lies apart is as before
-pub item_at-put_apart : (at : ℕ) (item bytes : List ℕ) (other width : ℕ) → at + length item ≤ length bytes → other + width ≤ length bytes → other + width ≤ at ⊎ at + length item ≤ other
-    → item_at other width (put at item bytes) ≡ item_at other width bytes
-item_at-put_apart at item bytes other width le within apart =
-    let new = put at item bytes in let same = length-put at item bytes le in
-    let counted : length (item_at other width new) ≡ width = length-item_at other width new (omega arith) in
-    let read : (l : List ℕ) (i : ℕ) → i < width → get_or (item_at other width l) i 0 ≡ get_or l (other + i) 0 = λ l i lt. get_or-take width (drop other l) i 0 lt ∙ get_or-drop other l i 0 in
-    ext_get_or 0 (item_at other width new) (item_at other width bytes) (counted ∙ sym (length-item_at other width bytes within)) (λ i lt.
-    let inside : i < width = omega arith in
-    read new i inside ∙ elim apart [ inl before ↦ get_or-put_before at item bytes le (other + i) (omega arith) | inr after ↦ get_or-put_after at item bytes le (other + i) (omega arith) ] ∙ sym (read bytes i inside))
 
 little_from-tail : (i n b : ℕ) (bytes : List ℕ) → little_from (suc i) n (b ∷ bytes) ≡ little_from i n bytes
 little_from-tail i zero b bytes = refl

@@ -1,9 +1,10 @@
 pub mod Carving
 pub mod Copies
-pub mod Exchanges
 pub mod Laws
 pub mod Numbers
 pub mod Places
 pub mod Puts
+pub mod Runs
 pub mod Sharing
 pub mod Values
+pub mod Writing

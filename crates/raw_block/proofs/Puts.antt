@@ -1,27 +1,9 @@
--- An item written into a list of bytes: its length, what is read of it, and one byte more on either side.
-use Rattle.std.proofs.Common.{◌≡◌, ℕ, suc, ◌+◌, ◌-◌, ◌<◌, ◌≤◌, List, [], ◌∷◌, ◌++◌, length, take, drop, get_or, set, sym, ap, ◌∙◌, arith, append_assoc, length-append, length-take, length-drop, drop-cons}
+-- An item written into a list of bytes, with one byte more on either side.
+use Rattle.std.proofs.Common.{◌≡◌, ℕ, suc, ◌+◌, ◌<◌, ◌≤◌, List, [], ◌∷◌, ◌++◌, length, take, drop, get_or, set, sym, ap, ◌∙◌, arith, append_assoc, length-append, length-take, length-drop, drop-cons}
 use Rattle.std.proofs.Math.Seq.{set-append_seam}
-use Rattle.std.proofs.lemmas.List.{get_or-append_right, get_or_append_left, get_or-take, get_or-drop, take_more}
+use Rattle.std.proofs.lemmas.List.{get_or-drop, take_more}
 use Rattle.raw_block.specs.Bytes.{put, item_at}
-
-pub length-item_at : (at n : ℕ) (bytes : List ℕ) → at + n ≤ length bytes → length (item_at at n bytes) ≡ n
-length-item_at at n bytes le = omega (arith, length-take n (drop at bytes), length-drop at bytes)
-
-pub length-put : (at : ℕ) (xs bytes : List ℕ) → at + length xs ≤ length bytes → length (put at xs bytes) ≡ length bytes
-length-put at xs bytes le = omega (arith, length-append (take at bytes ++ xs) (drop (at + length xs) bytes), length-append (take at bytes) xs, length-take at bytes, length-drop (at + length xs) bytes)
-
-module _ (at : ℕ) (xs bytes : List ℕ) (le : at + length xs ≤ length bytes) where
-  front_length : length (take at bytes ++ xs) ≡ at + length xs
-  front_length = omega (arith, length-append (take at bytes) xs, length-take at bytes)
-
-  pub get_or-put_after : (j : ℕ) → at + length xs ≤ j → get_or (put at xs bytes) j 0 ≡ get_or bytes j 0
-  get_or-put_after j past =
-      let m = at + length xs in let back : m + (j - m) ≡ j = omega arith in
-      get_or-append_right (take at bytes ++ xs) (drop m bytes) m j 0 front_length past ∙ get_or-drop m bytes (j - m) 0 ∙ ap (λ k. get_or bytes k 0) back
-
-  pub get_or-put_before : (j : ℕ) → j < at → get_or (put at xs bytes) j 0 ≡ get_or bytes j 0
-  get_or-put_before j lt =
-      get_or_append_left (take at bytes ++ xs) (drop (at + length xs) bytes) 0 j (omega (arith, front_length)) ∙ get_or_append_left (take at bytes) xs 0 j (omega (arith, length-take at bytes)) ∙ get_or-take at bytes j 0 lt
+use Rattle.raw_block.specs.BytesLaws.{length-item_at, front_length, get_or-put_before, get_or-put_after}
 
 -- one byte more at the end
 pub set-put_end : (at : ℕ) (xs bytes : List ℕ) (v : ℕ) → at + length xs < length bytes → set (put at xs bytes) (at + length xs) v ≡ put at (xs ++ v ∷ []) bytes

@@ -1,6 +1,7 @@
 //! Where a block lies, who owns its bytes and who may give them back. Every raw pointer stands here.
-ghost use Rattle.std.specs.Prelude.{◌≡◌, ℕ, ◌+◌, ◌^◌, ◌<◌, ◌≤◌, List, [], ◌∷◌, ◌++◌, length, IfOk, ⊤};
+ghost use Rattle.std.specs.Prelude.{◌≡◌, ℕ, ◌+◌, ◌*◌, ◌^◌, ◌<◌, ◌≤◌, List, [], ◌∷◌, ◌++◌, length, take, drop, IfOk, ⊤};
 ghost use Rattle.std.specs.Borrow.{sem};
+ghost use Rattle.std.specs.Simd.{first_chunks};
 ghost use base.Fml.{ftrue};
 ghost use denote.RawPtr.{Ptr};
 ghost use Rattle.raw_block.specs.Ownership.{bytes_own, bytes_lent, deed_owns};
@@ -61,7 +62,7 @@ impl<A: Allocator> Model for Deed<A> {
 }
 
 impl Bytes {
-    ghost use Rattle.raw_block.specs.inside.Lends.{lends_bytes};
+    ghost use Rattle.raw_block.specs.inside.Lends.{lends_bytes, lends_arrays};
 
     /// Writes a zero after those that are written.
     pub(crate) fn push_zero(&mut self, base: Base, index: usize)
@@ -87,6 +88,20 @@ impl Bytes {
         ensures value { result.now ≡ self.old.items }
     {
         unsafe { slice::from_raw_parts_mut(base.ptr, len) }
+    }
+
+    /// The `n` arrays of bytes that lie one right after the other from `at` on, to write to.
+    pub(crate) fn run_mut<const N: usize>(
+        &mut self,
+        base: Base,
+        at: usize,
+        n: usize,
+    ) -> &mut [[u8; N]]
+        requires { (base.ptr ≡ self.old.at) × (at + n * N ≤ length self.old.items) }
+        ensures* writes_back { sem 𝓛 (lends_arrays N at self.entry result) }
+        ensures value { result.now ≡ first_chunks N n (take (n * N) (drop at self.old.items)) }
+    {
+        unsafe { slice::from_raw_parts_mut(base.ptr.add(at) as *mut [u8; N], n) }
     }
 }
 

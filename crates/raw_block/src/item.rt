@@ -53,6 +53,17 @@ pub(crate) fn move_item(bytes: &mut [u8], dst: usize, src: usize, width: usize)
     }
 }
 
+/// Writes the `N` bytes from `src` on to those from `dst` on, as if they were read first.
+#[inline(always)]
+pub(crate) fn move_array<const N: usize>(bytes: &mut [u8], dst: usize, src: usize)
+    requires { (dst + N ≤ length bytes.old) × (src + N ≤ length bytes.old) }
+    ensures { bytes.new ≡ put dst (item_at src N bytes.old) bytes.old }
+{
+    let mut item = [0; N];
+    item.copy_from_slice(&bytes[src..src + N]);
+    put_item(bytes, dst, &item);
+}
+
 /// Writes the item to the bytes from `at` on.
 pub(crate) fn put_item(bytes: &mut [u8], at: usize, item: &[u8])
     requires { at + length item.now ≤ length bytes.old }

@@ -1,14 +1,13 @@
 -- A target shape has as many items.
-use Rattle.std.proofs.Common.{◌≡◌, ℕ, ◌*◌, ◌/◌, ◌%◌, ◌≤◌, ◌==◌, not, nat_le, Bool, true, false, ℤ, pos, negsuc, int_le, List, [], ◌∷◌, map, length, Result, Ok, Err, inl, inr, refl, sym, ◌∙◌, ap, arith, mul_assoc, mul_comm, div-add-mod'}
+use Rattle.std.proofs.Common.{◌≡◌, ℕ, ◌*◌, ◌/◌, ◌%◌, ◌≤◌, ◌==◌, not, true, false, ℤ, pos, negsuc, int_le, List, [], ◌∷◌, map, length, Result, Ok, Err, inl, inr, refl, sym, ◌∙◌, ap, arith, mul_assoc, mul_comm, div-add-mod'}
 use Rattle.std.specs.List.{list_all}
 use Rattle.std.specs.Result.{is_ok, IfOk}
 use Rattle.std.proofs.lemmas.Bool.{cases_lt, cases_Bool, and_parts, eqb-true, false≢true}
 use Rattle.elem_descr.specs.declared.refusal.Refusal.{Refusal}
-use Rattle.elem_descr.specs.declared.refusal.Refusal.TheVariants.{TooManyAxes, TooLarge}
-use Rattle.elem_descr.specs.Refusals.{Gives, ◌>>=◌, check}
-use Rattle.shape_strides.specs.Limits.{max_axes, max_items}
+use Rattle.elem_descr.specs.Refusals.{Gives}
+use Rattle.shape_strides.specs.Limits.{max_axes}
 use Rattle.shape_strides.specs.Indexes.{count}
-use Rattle.shape_strides.specs.Shapes.{shape_of}
+use Rattle.shape_strides.specs.ShapeLaws.{shape_of-same}
 use Rattle.reshape_rule.specs.Targets.{left_open, given, make_up, length_or, target_of}
 use Rattle.reshape_rule.proofs.TargetLaws.{target_of-many, target_of-low, target_of-opened, target_of-made}
 
@@ -48,19 +47,6 @@ count-made items numbers few made =
 
 err_is : {A X : Type 0} (e : Refusal) (x : X) → Err e ≡ Ok x → A
 err_is e x same = absurd (false≢true (ap is_ok same))
-
-then-same : (test : Bool) (e : Refusal) (there : Result (List ℕ) Refusal) (shape : List ℕ) → (check test e >>= (λ _. there)) ≡ Ok shape → there ≡ Ok shape
-then-same true e there shape found = found
-then-same false e there shape found = err_is e shape found
-
-same_list : (xs ys : List ℕ) → (let there : Result (List ℕ) Refusal = Ok xs in there) ≡ Ok ys → xs ≡ ys
-same_list xs ys same =
-    ap (λ r. elim r as (λ _. List ℕ) [ Ok zs ↦ zs | Err e ↦ [] ]) same
-
-shape_of-same : (lengths shape : List ℕ) → shape_of lengths ≡ Ok shape → lengths ≡ shape
-unfolding shape_of
-shape_of-same lengths shape found =
-    same_list lengths shape (then-same (nat_le (count lengths) max_items) TooLarge (Ok lengths) shape (then-same (list_all (λ n. nat_le n max_items) lengths) TooLarge _ shape (then-same (nat_le (length lengths) max_axes) TooManyAxes _ shape found)))
 
 target-count : (items : ℕ) (numbers : List ℤ) (shape : List ℕ) → target_of items numbers ≡ Ok shape → count shape ≡ items
 target-count items numbers shape found =

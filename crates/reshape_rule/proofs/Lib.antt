@@ -2,4 +2,5 @@ pub mod TargetLaws
 pub mod CountLaws
 pub mod RankLaws
 pub mod ReshapeLaws
+pub mod ScaleLaws
 mod Vectors

@@ -8,10 +8,8 @@ use Rattle.shape_strides.specs.declared.layout.Layout.{Layout}
 use Rattle.shape_strides.specs.Limits.{max_bytes}
 use Rattle.shape_strides.specs.Indexes.{count, rank, IsIndex}
 use Rattle.shape_strides.specs.Contiguity.{printed_stride, printed_strides}
-use Rattle.shape_strides.proofs.IndexLaws.{pos_of_factor}
-use Rattle.shape_strides.proofs.CountLaws.{count-drop, factors_pos}
-use Rattle.shape_strides.proofs.LayoutLaws.{length-offsets, offsets_within}
-use Rattle.shape_strides.proofs.ContiguityLaws.{entry-first}
+use Rattle.shape_strides.specs.CountLaws.{pos_of_factor, count-drop, factors_pos}
+use Rattle.shape_strides.specs.LayoutLaws.{length-offsets, offsets_within, entry-first}
 use Rattle.reshape_rule.specs.inside.Ranks.{unranked}
 
 -- ---- the index that has a rank

@@ -1,9 +1,8 @@
 -- Laws of reshaping without a copy: the strides at unit indexes are the only ones.
-use Rattle.std.proofs.Common.{◌≡◌, ◌↔◌, Bool, ℕ, zero, suc, ◌+◌, ◌<◌, ◌≤◌, nat_le, true, ℤ, pos, ◌+ℤ◌, ◌-ℤ◌, ◌*ℤ◌, ◌≤ℤ◌, List, [], ◌∷◌, length, get_or, drop, refl, sym, ◌∙◌, ap, subst, arith}
+use Rattle.std.proofs.Common.{◌≡◌, Bool, ℕ, zero, suc, ◌+◌, ◌<◌, ◌≤◌, nat_le, true, ℤ, pos, ◌+ℤ◌, ◌-ℤ◌, ◌*ℤ◌, ◌≤ℤ◌, List, [], ◌∷◌, length, get_or, drop, refl, sym, ◌∙◌, ap, subst, arith}
 use Rattle.std.proofs.lemmas.Bool.{cond-true}
-use Rattle.std.proofs.lemmas.Bool.Decides.{nat_tests}
+use Rattle.std.proofs.lemmas.Bool.Decides.{nat_tests, Decides-int_eq}
 use Rattle.std.proofs.lemmas.Grind.{get_or_default_zero}
-use Rattle.std.proofs.lemmas.Bool.Decides.{Decides-int_eq}
 use Rattle.std.specs.Ordering.{int_eq}
 use Rattle.std.proofs.lemmas.List.Sums.{AllPass-from_list_all, list_all-from_AllPass}
 use Rattle.std.proofs.lemmas.Int.{ints}
@@ -15,12 +14,11 @@ use Rattle.shape_strides.specs.Indexes.{count, indexes, rank, IsIndex}
 use Rattle.shape_strides.specs.Addresses.{dot, natural, address_at, LieWithin}
 use Rattle.shape_strides.specs.Layouts.{address, offsets}
 use Rattle.shape_strides.specs.Contiguity.{first_address, printed_strides}
-use Rattle.shape_strides.proofs.IndexLaws.{length-indexes, get_or-indexes, rank-lt, index_at}
-use Rattle.shape_strides.proofs.LayoutLaws.{length-offsets, get_or-offsets, pos-offset, offsets_within}
-use Rattle.shape_strides.proofs.StepLaws.{padded, dot-zeros, rank-zeros}
-use Rattle.shape_strides.proofs.AdvanceLaws.{IsIndex-first}
-use Rattle.shape_strides.proofs.ContiguityLaws.{entry-first, first_address-entry, unit, IsIndex-unit, rank-unit, dot-unit, printed-at, length-printed}
-use Rattle.shape_strides.proofs.SameLaws.{Fits-same}
+use Rattle.shape_strides.specs.IndexLaws.{length-indexes, get_or-indexes, rank-lt, index_at}
+use Rattle.shape_strides.specs.LayoutLaws.{length-offsets, get_or-offsets, pos-offset, offsets_within, entry-first, Fits-same}
+use Rattle.shape_strides.specs.inside.AxisIndexes.{padded, unit}
+use Rattle.shape_strides.specs.AxisLaws.{dot-zeros, rank-zeros, IsIndex-first, IsIndex-unit, rank-unit, dot-unit}
+use Rattle.shape_strides.specs.ContiguityLaws.{first_address-entry, printed-at, length-printed}
 use Rattle.reshape_rule.specs.Reshapes.{IsAffine, is_affine, IsReshapeOf}
 
 -- ---- the only strides
@@ -127,6 +125,3 @@ test_from_affine list shape affine =
     let here : get_or (indexes shape) k d ≡ found.0 = ap (λ r. get_or (indexes shape) r d) (sym found.2) ∙ get_or-indexes shape found.0 d found.1 in
     let passes : at_unit list shape found.0 ≡ true = (Decides-int_eq (address_at (printed_strides shape list) (first_address list) found.0) (pos (get_or list (rank shape found.0) 0))).1 (affine-address list shape (first_address list) some (sym (first_address-entry list)) affine found.0 found.1) in
     ap (at_unit list shape) here ∙ passes)
-
-pub exact-decided : (list shape : List ℕ) (X : Type 0) → X ↔ IsAffine list shape → X ↔ (is_affine list shape ≡ true)
-exact-decided list shape X exact = (λ x. test_from_affine list shape (exact.0 x), λ test. exact.1 (affine-from_test list shape test))

@@ -10,8 +10,8 @@ use Rattle.elem_descr.specs.Refusals.{◌>>=◌, check}
 use Rattle.elem_descr.specs.declared.refusal.Refusal.TheVariants.{TooManyAxes, BadReshape}
 use Rattle.shape_strides.specs.Limits.{max_axes, max_items}
 use Rattle.shape_strides.specs.Shapes.{shape_of}
-use Rattle.shape_strides.proofs.CountLaws.{min-mul}
-use Rattle.shape_strides.proofs.ShapeAnswers.{shape_of-many, shape_of-long}
+use Rattle.shape_strides.specs.CountLaws.{min-mul}
+use Rattle.shape_strides.specs.ShapeLaws.{shape_of-many, shape_of-long}
 use Rattle.reshape_rule.specs.Targets.{left_open, given, make_up, length_or, target_of}
 
 -- ---- the numbers from one on

@@ -1,5 +1,5 @@
 //! Reshaping without a copy.
-ghost use Rattle.std.specs.Prelude.{◌≡◌, ◌↔◌, ◌<◌, ◌≤◌, slice_index, IfOk, IfSome, IsSome, IsTrue};
+ghost use Rattle.std.specs.Prelude.{◌≡◌, ◌↔◌, ◌+◌, ◌*◌, ◌<◌, ◌≤◌, ℕ, List, map, slice_index, IfOk, IfSome, IsSome, IsTrue};
 ghost use Rattle.shape_strides.specs.Limits.{max_bytes};
 ghost use Rattle.shape_strides.specs.Indexes.{count};
 ghost use Rattle.shape_strides.specs.Layouts.{offsets};
@@ -75,7 +75,8 @@ pub fn no_copy(alloc: Global, layout: &Layout, shape: &Shape) -> Result<Option<L
     requires { count shape.now ≡ count layout.now.shape }
     ensures reshape { IfOk result (λ found. IfSome found (λ new. IsReshapeOf layout.now new shape.now)) }
     ensures exact { IfOk result (λ found. IsSome found ↔ IsAffine (offsets layout.now) shape.now) }
-    ensures decided { IfOk result (λ found. IsSome found ↔ IsTrue (is_affine (offsets layout.now) shape.now)) }
+    ensures decided { IfOk result (λ found. (item start : ℕ) (places : List ℕ) → 1 ≤ item
+        → offsets layout.now ≡ map (λ place. item * place + start) places → IsSome found ↔ IsTrue (is_affine places shape.now)) }
 {
     if shape.items() == 0 {
         return Ok(Some(Layout::c_order(alloc, shape, 1)?));

@@ -4,7 +4,7 @@ use Rattle.script_lang.specs.declared.literal.ScalarLiteral.{ScalarLiteral}
 use Rattle.script_lang.specs.declared.literal.ScalarLiteral.TheVariants.{Integer, Boolean, Bytes}
 use Rattle.script_lang.specs.declared.literal.Literal.TheVariants.{Scalar, Record}
 use Rattle.script_lang.specs.RecordValues.{Values, no_values, scalar_value, record_value, value_count, scalars_of}
-use Rattle.script_lang.specs.Listed.{listed, literals_of}
+use Rattle.script_lang.specs.Listed.{all_values, literals_of}
 use Rattle.script_lang.specs.Tokens.{word_at, number_at, integer_at, is_parted, bytes_mark_at}
 use Rattle.script_lang.specs.Lists.{entries_at, row_at}
 use Rattle.script_lang.specs.Literals.{text_byte_at, byte_text_at, boolean_at, bytes_at, scalar_at, record_at, literal_within, literal_at}
@@ -76,5 +76,5 @@ counted_at_the_top = refl
 as_literals : literals_of nested ≡ Scalar (number 1) ∷ Record (before 2 (just 3)) ∷ Scalar (Boolean true) ∷ []
 as_literals = refl
 
-as_values : listed (Scalar (number 1) ∷ Record (before 2 (just 3)) ∷ Scalar (Boolean true) ∷ []) ≡ nested
+as_values : all_values (Scalar (number 1) ∷ Record (before 2 (just 3)) ∷ Scalar (Boolean true) ∷ []) ≡ nested
 as_values = refl

@@ -10,9 +10,9 @@ value_before (Scalar scalar) rest = scalar_value scalar rest
 value_before (Record values) rest = record_value values rest
 
 -- these literals in this order
-abbrev pub listed : List Literal → Values
-listed [] = no_values
-listed (literal ∷ literals) = value_before literal (listed literals)
+abbrev pub all_values : List Literal → Values
+all_values [] = no_values
+all_values (literal ∷ literals) = value_before literal (all_values literals)
 
 -- the literals in their order
 abbrev pub literals_of : Values → List Literal

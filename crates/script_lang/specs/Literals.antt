@@ -8,7 +8,7 @@ use Rattle.script_lang.specs.declared.literal.Literal.{Literal}
 use Rattle.script_lang.specs.declared.literal.Literal.TheVariants.{Scalar, Record}
 use Rattle.script_lang.specs.Tokens.{◌>>=◌, ◌or_else◌, if_found, where_true, is_digit, unspaced, byte_at, symbol_at, at_end, bytes_mark_at, word_at, integer_at}
 use Rattle.script_lang.specs.Lists.{entries_at, row_at}
-use Rattle.script_lang.specs.Listed.{listed}
+use Rattle.script_lang.specs.Listed.{all_values}
 
 -- the digit that a byte is in base 16
 unfoldable pub hex_value : ℕ → Option ℕ
@@ -72,7 +72,7 @@ unfoldable pub record_at : (List ℕ → Option (Literal × List ℕ)) → List 
 record_at value_at bytes = do
   values ← entries_at value_at 41 (length bytes) bytes
   _ ← where_true (not (length values.0 == 0))
-  Some (Record (listed values.0), values.1)
+  Some (Record (all_values values.0), values.1)
 
 abbrev pub scalar_of : ScalarLiteral × List ℕ → Literal × List ℕ
 scalar_of found = (Scalar found.0, found.1)

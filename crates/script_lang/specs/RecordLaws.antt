@@ -4,15 +4,16 @@ use Rattle.std.specs.List.{All}
 use Rattle.std.proofs.Common.{slice_index_or, arith, refl, ap, sym, ◌∙◌, append_assoc}
 use Rattle.script_lang.specs.declared.literal.Literal.{Literal}
 use Rattle.script_lang.specs.declared.literal.Literal.TheVariants.{Scalar, Record}
-use Rattle.script_lang.specs.RecordValues.{Values, no_values, scalar_value, record_value, value_count, scalars_of, node_count}
-use Rattle.script_lang.specs.Listed.{value_before, listed, literals_of}
+use Rattle.script_lang.specs.RecordValues.{Values, no_values, scalar_value, record_value, value_count, scalars_of}
+use Rattle.script_lang.specs.Listed.{all_values, literals_of}
+use Rattle.script_lang.specs.inside.Nodes.{literal_nodes}
 
-pub literals_of_listed : (literals : List Literal) → literals_of (listed literals) ≡ literals
+pub literals_of_listed : (literals : List Literal) → literals_of (all_values literals) ≡ literals
 literals_of_listed [] = refl
 literals_of_listed (Scalar scalar ∷ literals) = ap (λ ls. Scalar scalar ∷ ls) (literals_of_listed literals)
 literals_of_listed (Record inner ∷ literals) = ap (λ ls. Record inner ∷ ls) (literals_of_listed literals)
 
-pub listed_literals_of : (values : Values) → listed (literals_of values) ≡ values
+pub listed_literals_of : (values : Values) → all_values (literals_of values) ≡ values
 listed_literals_of no_values = refl
 listed_literals_of (scalar_value scalar rest) = ap (scalar_value scalar) (listed_literals_of rest)
 listed_literals_of (record_value inner rest) = ap (record_value inner) (listed_literals_of rest)
@@ -22,18 +23,14 @@ length_literals_of no_values = refl
 length_literals_of (scalar_value scalar rest) = omega (arith, length_literals_of rest)
 length_literals_of (record_value inner rest) = omega (arith, length_literals_of rest)
 
-pub value_count_listed : (literals : List Literal) → value_count (listed literals) ≡ length literals
-value_count_listed literals = sym (length_literals_of (listed literals)) ∙ ap length (literals_of_listed literals)
+pub value_count_listed : (literals : List Literal) → value_count (all_values literals) ≡ length literals
+value_count_listed literals = sym (length_literals_of (all_values literals)) ∙ ap length (literals_of_listed literals)
 
-pub scalars_of_listed_append : (front back : List Literal) → scalars_of (listed (front ++ back)) ≡ scalars_of (listed front) ++ scalars_of (listed back)
+pub scalars_of_listed_append : (front back : List Literal) → scalars_of (all_values (front ++ back)) ≡ scalars_of (all_values front) ++ scalars_of (all_values back)
 scalars_of_listed_append [] back = refl
 scalars_of_listed_append (Scalar scalar ∷ front) back = ap (λ ss. scalar ∷ ss) (scalars_of_listed_append front back)
 scalars_of_listed_append (Record inner ∷ front) back =
-    ap (λ ss. scalars_of inner ++ ss) (scalars_of_listed_append front back) ∙ sym (append_assoc (scalars_of inner) (scalars_of (listed front)) (scalars_of (listed back)))
-
--- the scalars and records that a literal is made of, itself among them
-abbrev pub literal_nodes : Literal → ℕ
-literal_nodes literal = node_count (value_before literal no_values)
+    ap (λ ss. scalars_of inner ++ ss) (scalars_of_listed_append front back) ∙ sym (append_assoc (scalars_of inner) (scalars_of (all_values front)) (scalars_of (all_values back)))
 
 at-literal_nodes : (values : Values) (k : ℕ) (d : Literal) → k < length (literals_of values) → literal_nodes (slice_index_or (literals_of values) k d) < literal_nodes (Record values)
 at-literal_nodes no_values k d low = absurd (omega (arith, low))

@@ -47,9 +47,9 @@ impl Model for RecordLiteral {
 
     ghost coded = { values_code };
 
-    ghost use Rattle.script_lang.specs.Listed.{listed};
+    ghost use Rattle.script_lang.specs.Listed.{all_values};
 
-    ghost view = { λ r. listed r.values.items };
+    ghost view = { λ r. all_values r.values.items };
 
     ghost size = { node_count };
 

@@ -1,18 +1,19 @@
 -- One turn of the loop that goes on to the next index in C order.
-use Rattle.std.proofs.Common.{◌≡◌, ℕ, zero, suc, ◌+◌, ◌-◌, ◌*◌, ◌<◌, ◌≤◌, ℤ, pos, negsuc, ◌+ℤ◌, ◌-ℤ◌, ◌*ℤ◌, ◌≤ℤ◌, List, [], ◌∷◌, ◌++◌, length, get_or, set, take, drop, replicate, refl, sym, ◌∙◌, ap, arith, length-take-le, length-append, take_all}
+use Rattle.std.proofs.Common.{◌≡◌, ℕ, zero, suc, ◌+◌, ◌-◌, ◌<◌, ◌≤◌, ℤ, pos, ◌+ℤ◌, ◌-ℤ◌, ◌*ℤ◌, ◌≤ℤ◌, List, [], ◌∷◌, ◌++◌, length, get_or, set, take, drop, replicate, refl, sym, ◌∙◌, ap, arith, length-take-le, length-append, take_all}
 use Rattle.std.proofs.lemmas.Int.{ints}
 use Rattle.std.proofs.lemmas.List.{drop_more, drop_all}
-use lib.IntN.{neg_ℤ, neg_ℤ-+ℤ, +ℤ_idr}
+use lib.IntN.{+ℤ_idr}
 use Rattle.shape_strides.specs.declared.layout.Layout.{Layout}
 use Rattle.shape_strides.specs.Indexes.{count, rank, IsIndex}
 use Rattle.shape_strides.specs.Limits.{max_bytes}
 use Rattle.shape_strides.specs.Addresses.{dot}
 use Rattle.shape_strides.specs.Layouts.{address, offsets}
 use Rattle.shape_strides.specs.Walks.{IsOnWalk}
-use Rattle.shape_strides.proofs.LayoutLaws.{length-offsets, pos-offset}
-use Rattle.shape_strides.proofs.CountLaws.{factors_pos}
-use Rattle.shape_strides.proofs.IndexLaws.{length-index}
-use Rattle.shape_strides.proofs.StepLaws.{padded, length-padded, dot-padded, dot-push, dot-take_more, IsIndex-padded_push, rank-stepped, part_low, part_high, sum_start, sum_bounds, IsIndex-zeros, dot-nil, dot-zeros, rank-zeros, last-more}
+use Rattle.shape_strides.specs.AxisLaws.{IsIndex-first, dot-nil, dot-zeros, rank-zeros, *ℤ-more}
+use Rattle.shape_strides.specs.LayoutLaws.{length-offsets, pos-offset}
+use Rattle.shape_strides.specs.IndexLaws.{length-index}
+use Rattle.shape_strides.specs.inside.AxisIndexes.{padded}
+use Rattle.shape_strides.proofs.StepLaws.{length-padded, dot-padded, dot-push, dot-take_more, IsIndex-padded_push, rank-stepped, part_low, part_high, sum_start, sum_bounds, IsIndex-zeros, last-more}
 
 -- the number before the zeros
 pub get_or-padded_take : (shape index : List ℕ) (j : ℕ) → IsIndex shape index → j < length shape → get_or (padded shape (take (suc j) index)) j 0 ≡ get_or index j 0
@@ -94,13 +95,6 @@ stepped l old j = padded l.shape (take j old ++ (get_or old j 0 + 1) ∷ [])
 step_on : (off d d' d'' at s p q : ℤ) → at ≡ off +ℤ d' → d' ≡ d +ℤ p → d'' ≡ d +ℤ q → q ≡ p +ℤ s → at +ℤ s ≡ off +ℤ d''
 step_on off d d' d'' at s p q is one two more = omega (arith, ints)
 
--- a stride taken once more
-pub *ℤ-more : (s : ℤ) (k : ℕ) → s *ℤ pos (k + 1) ≡ s *ℤ pos k +ℤ s *ℤ pos 1
-*ℤ-more (pos a) k = ap pos (omega arith)
-*ℤ-more (negsuc a) k =
-    let sum : suc a * (k + 1) ≡ suc a * k + suc a * 1 = omega arith in
-    ap (λ n. neg_ℤ (pos n)) sum ∙ neg_ℤ-+ℤ (pos (suc a * k)) (pos (suc a * 1))
-
 pub step-address : (l : Layout) (old index : List ℕ) (j offset : ℕ) → Turns l old index j offset → pos offset +ℤ get_or l.strides j (pos 0) *ℤ pos 1 ≡ address l (stepped l old j)
 step-address l old index j offset t =
     let k = get_or old j 0 in
@@ -171,11 +165,6 @@ over l old index zero offset none in' at =
 over l old index (suc a) offset none in' at = absurd (omega arith)
 
 -- ---- where the walk is over, or has not begun
-
--- the zeros are the first index, where there is one
-pub IsIndex-first : (shape : List ℕ) → 0 < count shape → IsIndex shape (padded shape [])
-IsIndex-first [] some = tt
-IsIndex-first (n ∷ shape) some = let both = factors_pos n (count shape) some in (both.0, IsIndex-first shape both.1)
 
 pub padded-nil : (shape : List ℕ) → replicate (length shape) 0 ≡ padded shape []
 padded-nil [] = refl

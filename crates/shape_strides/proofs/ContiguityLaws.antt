@@ -3,20 +3,21 @@ use Rattle.std.proofs.Common.{◌≡◌, ℕ, zero, suc, ◌+◌, ◌*◌, ◌^�
 use Rattle.std.proofs.lemmas.Bool.{cases_lt, cases_Bool, cond-true, cond-false, eqb-true, eq-eqb, and_parts, and_from, false_from_ne_true}
 use Rattle.std.proofs.lemmas.Bool.Decides.{nat_tests}
 use Rattle.std.proofs.lemmas.Int.{ints}
-use Rattle.std.proofs.lemmas.List.{drop_more, nil_from_length, get_or-map}
-use lib.IntN.{one, *ℤ-zero, *ℤ-one, +ℤ_idl, +ℤ_idr}
+use Rattle.std.proofs.lemmas.List.{drop_more, get_or-map}
+use lib.IntN.{*ℤ-zero, +ℤ_idl}
 use Rattle.shape_strides.specs.declared.layout.Layout.{Layout}
 use Rattle.shape_strides.specs.Indexes.{count, rank, IsIndex}
 use Rattle.shape_strides.specs.Limits.{max_items, max_bytes}
 use Rattle.shape_strides.specs.Addresses.{dot, natural}
 use Rattle.shape_strides.specs.Layouts.{offsets}
-use Rattle.shape_strides.specs.Contiguity.{first_address, printed_stride, printed_strides, is_c_contiguous}
-use Rattle.shape_strides.proofs.IndexLaws.{rank-lt, index_at}
+use Rattle.shape_strides.specs.Contiguity.{first_address, printed_strides, is_c_contiguous}
+use Rattle.shape_strides.specs.inside.AxisIndexes.{unit}
+use Rattle.shape_strides.specs.AxisLaws.{IsIndex-unit, rank-unit, dot-unit}
+use Rattle.shape_strides.specs.LayoutLaws.{entry-first, length-offsets, get_or-offsets, pos-offset, offsets_within, offsets-none}
+use Rattle.shape_strides.specs.ContiguityLaws.{first_address-entry, printed-at}
+use Rattle.shape_strides.specs.IndexLaws.{rank-lt, index_at}
 use Rattle.shape_strides.specs.inside.Reach.{max_reach}
-use Rattle.shape_strides.proofs.CountLaws.{factors_pos, count-drop}
-use Rattle.shape_strides.proofs.StepLaws.{padded, dot-zeros, rank-zeros}
-use Rattle.shape_strides.proofs.AdvanceLaws.{IsIndex-first}
-use Rattle.shape_strides.proofs.LayoutLaws.{length-offsets, get_or-offsets, pos-offset, offsets_within}
+use Rattle.shape_strides.specs.CountLaws.{factors_pos, count-drop}
 
 -- ---- addresses that go up by an item
 
@@ -80,16 +81,6 @@ StepsOver-more item strides shape k same below first later =
 
 -- ---- the addresses of a layout whose strides do
 
--- the first one
-pub entry-first : (l : Layout) → 0 < count l.shape → get_or (offsets l) 0 0 ≡ l.offset
-entry-first l some =
-    let zeros = padded l.shape [] in
-    ap (λ r. get_or (offsets l) r 0) (sym (rank-zeros l.shape)) ∙ get_or-offsets l zeros 0 (IsIndex-first l.shape some) ∙ ap (λ z. natural (pos l.offset +ℤ z)) (dot-zeros l.strides l.shape) ∙ ap natural (+ℤ_idr (pos l.offset))
-
-pub first_address-entry : (addresses : List ℕ) → first_address addresses ≡ get_or addresses 0 0
-first_address-entry [] = refl
-first_address-entry (a ∷ addresses) = refl
-
 pub entry-steps : (l : Layout) (item k : ℕ) → StepsOver item l.strides l.shape → k < count l.shape → get_or (offsets l) k 0 ≡ l.offset + item * k
 entry-steps l item k steps below =
     let found = index_at l.shape k below in
@@ -103,33 +94,6 @@ GoesUp-steps l item steps = record {
 }
 
 -- ---- the index that is 1 along an axis and 0 along the others
-
-abbrev pub unit : List ℕ → ℕ → List ℕ
-unit [] axis = []
-unit (n ∷ shape) zero = 1 ∷ padded shape []
-unit (n ∷ shape) (suc axis) = 0 ∷ unit shape axis
-
-pub IsIndex-unit : (shape : List ℕ) (axis : ℕ) → 0 < count shape → axis < length shape → 2 ≤ get_or shape axis 0 → IsIndex shape (unit shape axis)
-IsIndex-unit [] axis some below long = absurd (omega arith)
-IsIndex-unit (n ∷ shape) zero some below long = let both = factors_pos n (count shape) some in (omega arith, IsIndex-first shape both.1)
-IsIndex-unit (n ∷ shape) (suc axis) some below long =
-    let both = factors_pos n (count shape) some in
-    (both.0, IsIndex-unit shape axis both.1 (omega arith) long)
-
-pub rank-unit : (shape : List ℕ) (axis : ℕ) → axis < length shape → rank shape (unit shape axis) ≡ count (drop (suc axis) shape)
-rank-unit [] axis below = absurd (omega arith)
-rank-unit (n ∷ shape) zero below = omega (arith, rank-zeros shape, one-mul (count shape))
-rank-unit (n ∷ shape) (suc axis) below = omega (arith, rank-unit shape axis (omega arith), zero-mul (count shape))
-
-pub one-step : (s : ℤ) → s *ℤ pos 1 ≡ s
-unfolding one
-one-step s = *ℤ-one s
-
-pub dot-unit : (strides : List ℤ) (shape : List ℕ) (axis : ℕ) → length strides ≡ length shape → axis < length shape → dot strides (unit shape axis) ≡ get_or strides axis (pos 0)
-dot-unit [] shape axis same below = absurd (omega arith)
-dot-unit (s ∷ strides) [] axis same below = absurd (omega arith)
-dot-unit (s ∷ strides) (n ∷ shape) zero same below = ap (λ z. s *ℤ pos 1 +ℤ z) (dot-zeros strides shape) ∙ +ℤ_idr (s *ℤ pos 1) ∙ one-step s
-dot-unit (s ∷ strides) (n ∷ shape) (suc axis) same below = rw (*ℤ-zero s, +ℤ_idl (dot strides (unit shape axis))) (dot-unit strides shape axis (omega arith) (omega arith))
 
 -- the address there
 pub entry-unit : (l : Layout) (axis : ℕ) → 0 < count l.shape → axis < length l.shape → 2 ≤ get_or l.shape axis 0 → pos (get_or (offsets l) (count (drop (suc axis) l.shape)) 0) ≡ pos l.offset +ℤ get_or l.strides axis (pos 0)
@@ -200,15 +164,6 @@ bytes-step shape k bytes item below is =
 
 -- ---- the strides that are printed
 
-pub printed-at : (shape addresses : List ℕ) (axis : ℕ) → axis < length shape → get_or (printed_strides shape addresses) axis (pos 0) ≡ printed_stride (get_or shape axis 0) (count (drop (suc axis) shape)) addresses
-printed-at [] addresses axis below = absurd (omega arith)
-printed-at (n ∷ shape) addresses zero below = refl
-printed-at (n ∷ shape) addresses (suc axis) below = printed-at shape addresses axis (omega arith)
-
-pub length-printed : (shape addresses : List ℕ) → length (printed_strides shape addresses) ≡ length shape
-length-printed [] addresses = refl
-length-printed (n ∷ shape) addresses = ap suc (length-printed shape addresses)
-
 pub printed-short : (shape addresses : List ℕ) (axis : ℕ) → axis < length shape → get_or shape axis 0 < 2 → get_or (printed_strides shape addresses) axis (pos 0) ≡ pos 0
 printed-short shape addresses axis below short =
     let test : nat_le 2 (get_or shape axis 0) ≡ false = grind (arith, nat_tests) in
@@ -229,15 +184,12 @@ printed-empty (n ∷ shape) = elim (cases_Bool (nat_le 2 n)) [
   | inr short ↦ ap (λ z. z ∷ printed_strides shape []) (cond-false (nat_le 2 n) _ _ short) ∙ ap (λ s. pos 0 ∷ s) (printed-empty shape)
 ]
 
-pub no_offsets : (l : Layout) → count l.shape ≡ 0 → offsets l ≡ []
-no_offsets l none = nil_from_length (offsets l) (length-offsets l ∙ none)
-
 stride-none : (l : Layout) (axis : ℕ) → count l.shape ≡ 0 → axis < length l.shape → get_or l.strides axis (pos 0) ≡ pos 0
 stride-none l axis none below = ap (λ s. get_or s axis (pos 0)) (l.zero_if_empty none).1 ∙ get_or-map (λ _. pos 0) l.shape axis 0 (pos 0) below
 
 printed-none : (l : Layout) (axis : ℕ) → count l.shape ≡ 0 → axis < length l.shape → get_or (printed_strides l.shape (offsets l)) axis (pos 0) ≡ pos 0
 printed-none l axis none below =
-    ap (λ a. get_or (printed_strides l.shape a) axis (pos 0)) (no_offsets l none) ∙ ap (λ s. get_or s axis (pos 0)) (printed-empty l.shape) ∙ get_or-map (λ _. pos 0) l.shape axis 0 (pos 0) below
+    ap (λ a. get_or (printed_strides l.shape a) axis (pos 0)) (offsets-none l none) ∙ ap (λ s. get_or s axis (pos 0)) (printed-empty l.shape) ∙ get_or-map (λ _. pos 0) l.shape axis 0 (pos 0) below
 
 pub printed-entry : (l : Layout) (axis : ℕ) (stride : ℤ) → axis < length l.shape → (get_or l.shape axis 0 < 2 → stride ≡ pos 0) → (2 ≤ get_or l.shape axis 0 → stride ≡ get_or l.strides axis (pos 0)) → stride ≡ get_or (printed_strides l.shape (offsets l)) axis (pos 0)
 printed-entry l axis stride below short long = elim (cases_lt (get_or l.shape axis 0) 2) [
@@ -270,5 +222,5 @@ printed-small l axis below = elim (cases_lt (get_or l.shape axis 0) 2) [
 pub first_address-is : (l : Layout) → l.offset ≡ first_address (offsets l)
 first_address-is l = elim (cases_lt 0 (count l.shape)) [
   | inl some ↦ sym (first_address-entry (offsets l) ∙ entry-first l some)
-  | inr none ↦ (l.zero_if_empty (omega arith)).0 ∙ sym (ap first_address (no_offsets l (omega arith)))
+  | inr none ↦ (l.zero_if_empty (omega arith)).0 ∙ sym (ap first_address (offsets-none l (omega arith)))
 ]

@@ -1,32 +1,10 @@
 -- Laws of the number of items: the product that is capped, and the one that is divided.
-use Rattle.std.proofs.Common.{◌≡◌, ℕ, zero, suc, ◌+◌, ◌*◌, ◌/◌, ◌<◌, ◌≤◌, min, ℤ, pos, List, [], ◌∷◌, map, length, get_or, drop, inl, inr, refl, sym, ◌∙◌, ap, arith, zero-mul, mul-zero, mul_assoc, mul_comm, mul-div_cancel, mul-suc}
-use Rattle.std.proofs.Math.Nat.{min-eq_left, min-eq_right}
+use Rattle.std.proofs.Common.{◌≡◌, ℕ, suc, ◌+◌, ◌*◌, ◌/◌, ◌<◌, min, ℤ, pos, List, [], ◌∷◌, map, length, get_or, drop, inl, inr, refl, sym, ◌∙◌, ap, arith, mul_assoc, mul_comm, mul-div_cancel}
 use Rattle.std.proofs.lemmas.Bool.{cases_lt}
 use Rattle.std.proofs.lemmas.List.{drop_more, length-map}
 use Rattle.shape_strides.specs.Indexes.{count}
 use Rattle.shape_strides.specs.Layouts.{c_strides}
-
--- a cap may be put on a factor
-pub min-mul : (a c top : ℕ) → min (min a top * c) top ≡ min (a * c) top
-min-mul a zero top = ap (λ x. min x top) (mul-zero (min a top) ∙ sym (mul-zero a))
-min-mul a (suc c) top =
-    elim (cases_lt a top) [
-      | inl below ↦ ap (λ x. min (x * suc c) top) (min-eq_left (omega arith))
-      | inr above ↦
-          let grown : top ≤ a * suc c = omega (arith, mul-suc a c) in
-          let grown' : top ≤ top * suc c = omega (arith, mul-suc top c) in
-          ap (λ x. min (x * suc c) top) (min-eq_right above) ∙ min-eq_right grown' ∙ sym (min-eq_right grown)
-    ]
-
--- the count from an axis on is that axis's length times the count after it
-pub count-drop : (shape : List ℕ) (k : ℕ) → k < length shape → count (drop k shape) ≡ get_or shape k 0 * count (drop (k + 1) shape)
-count-drop shape k below = ap count (drop_more shape k 0 below)
-
--- both factors of a product that is not 0
-pub factors_pos : (n c : ℕ) → 0 < n * c → (0 < n) × (0 < c)
-factors_pos zero c some = absurd (omega (arith, zero-mul c))
-factors_pos (suc n) zero some = absurd (omega (arith, mul-zero (suc n)))
-factors_pos (suc n) (suc c) some = (omega arith, omega arith)
+use Rattle.shape_strides.specs.CountLaws.{factors_pos, min-mul, count-drop}
 
 -- one more factor of the capped product
 pub capped-more : (lengths : List ℕ) (k items top : ℕ) → k < length lengths → min (min (items * get_or lengths k 0) top * count (drop (k + 1) lengths)) top ≡ min (items * count (drop k lengths)) top

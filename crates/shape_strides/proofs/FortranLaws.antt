@@ -12,10 +12,12 @@ use Rattle.shape_strides.specs.Limits.{max_items, max_bytes}
 use Rattle.shape_strides.specs.Addresses.{dot, address_at, natural, LieWithin}
 use Rattle.shape_strides.specs.Layouts.{address, offsets, IsNested, distance, multiples, c_strides, f_strides, f_multiples}
 use Rattle.shape_strides.specs.Contiguity.{fortran_order, is_c_contiguous, is_f_contiguous}
-use Rattle.shape_strides.proofs.IndexLaws.{same_on_indexes, rank-same, index_at, rank-lt, length-index, IsIndex-append}
-use Rattle.shape_strides.proofs.LayoutLaws.{length-offsets, get_or-offsets, dot-c_strides, address-made, StandsInCOrder, offsets-c_order, mul-step}
+use Rattle.shape_strides.specs.IndexLaws.{same_on_indexes, rank-same, index_at, rank-lt, length-index, IsIndex-append}
+use Rattle.shape_strides.specs.LayoutLaws.{length-offsets, get_or-offsets}
+use Rattle.shape_strides.specs.CountLaws.{mul-step, factors_pos, count-drop}
+use Rattle.shape_strides.proofs.LayoutLaws.{dot-c_strides, address-made, StandsInCOrder, offsets-c_order}
 use Rattle.shape_strides.specs.inside.Reach.{max_reach}
-use Rattle.shape_strides.proofs.CountLaws.{factors_pos, count-drop, length-c_strides, length-ordered}
+use Rattle.shape_strides.proofs.CountLaws.{length-c_strides, length-ordered}
 use Rattle.shape_strides.proofs.ContiguityLaws.{StepsOver, product-bound, is_c-empty, is_c-true, is_c-false}
 
 -- ---- lists in reverse

@@ -18,10 +18,12 @@ use Rattle.shape_strides.specs.Joined.{strided_axes, leads_over, join_outside, j
 use Rattle.shape_strides.specs.Runs.{run_along, runs_from, runs}
 use Rattle.shape_strides.specs.PairWalks.{IsInBytes}
 use Rattle.shape_strides.specs.inside.Starts.{lengths_of, strides_of, LeadToRuns}
-use Rattle.shape_strides.proofs.CountLaws.{factors_pos}
-use Rattle.shape_strides.proofs.IndexLaws.{length-indexes, get_or-indexes, rank-lt}
-use Rattle.shape_strides.proofs.JoinedLaws.{map-flat_map, flat_map_same, flat_map-id, numbers-suc, addresses, addresses-indexes, addresses-joined, offsets-addresses}
-use Rattle.shape_strides.proofs.RunLaws.{runs-some, runs-none, offsets-none, Each-front, Each-back, Each-indexes}
+use Rattle.shape_strides.specs.CountLaws.{factors_pos}
+use Rattle.shape_strides.specs.IndexLaws.{length-indexes, get_or-indexes, rank-lt}
+use Rattle.elem_descr.specs.StepLaws.{numbers-suc}
+use Rattle.shape_strides.proofs.JoinedLaws.{map-flat_map, flat_map_same, flat_map-id, addresses, addresses-indexes, addresses-joined, offsets-addresses}
+use Rattle.shape_strides.specs.LayoutLaws.{offsets-none}
+use Rattle.shape_strides.proofs.RunLaws.{runs-some, runs-none, Each-front, Each-back, Each-indexes}
 use Rattle.shape_strides.proofs.StartLaws.{count-joined, lengths_of-axes, length-axes}
 
 -- ---- the runs of axes with a last one

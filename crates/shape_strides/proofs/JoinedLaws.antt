@@ -1,23 +1,21 @@
 -- Joined axes lead to the same addresses.
-use Rattle.std.proofs.Common.{◌≡◌, ℕ, zero, suc, ◌+◌, ◌*◌, ◌==◌, ℤ, pos, ◌+ℤ◌, ◌*ℤ◌, List, [], ◌∷◌, ◌++◌, map, length, refl, sym, ◌∙◌, ap, arith, add-one, zero-mul, suc-mul}
+use Rattle.std.proofs.Common.{◌≡◌, ℕ, zero, suc, ◌+◌, ◌*◌, ◌==◌, ℤ, pos, ◌+ℤ◌, ◌*ℤ◌, List, [], ◌∷◌, ◌++◌, map, length, refl, sym, ◌∙◌, ap, arith, zero-mul, suc-mul}
 use Rattle.std.specs.List.{flat_map, range_with_len}
 use Rattle.std.proofs.lemmas.Bool.{cond_both, eqb-true}
 use Rattle.std.proofs.lemmas.Bool.Decides.{Decides-int_eq}
 use Rattle.std.proofs.lemmas.Grind.{flat_map-append}
-use Rattle.std.proofs.lemmas.Int.{ints}
 use Rattle.std.proofs.lemmas.List.{append-nil, map-append}
 use Rattle.std.proofs.lemmas.List.Folds.{flat_map-map}
 use Rattle.std.proofs.lemmas.Simd.{map-map}
-use lib.IntN.{one}
-use Rattle.std.proofs.Math.IntN.{*ℤ-one, *ℤ-zero, +ℤ_idr, +ℤ_assoc}
+use Rattle.std.proofs.Math.IntN.{+ℤ_idr, +ℤ_assoc}
 use Rattle.elem_descr.specs.Steps.{numbers_from}
+use Rattle.elem_descr.specs.StepLaws.{none_more, numbers-suc, numbers-split}
 use Rattle.shape_strides.specs.declared.layout.Layout.{Layout}
 use Rattle.shape_strides.specs.declared.joined.StridedAxis.{StridedAxis}
 use Rattle.shape_strides.specs.Indexes.{indexes}
 use Rattle.shape_strides.specs.Addresses.{dot, natural}
 use Rattle.shape_strides.specs.Layouts.{address, offsets}
 use Rattle.shape_strides.specs.Joined.{strided_axes, leads_over, join_outside, joined}
-use Rattle.shape_strides.proofs.AdvanceLaws.{*ℤ-more}
 
 -- ---- lists
 
@@ -40,43 +38,6 @@ map-flat_map f g (x ∷ xs) = map-append f (g x) (flat_map g xs) ∙ ap (λ zs. 
 pub flat_map-id : (zs : List ℤ) → flat_map (λ z. z ∷ []) zs ≡ zs
 flat_map-id [] = refl
 flat_map-id (z ∷ zs) = ap (λ rest. z ∷ rest) (flat_map-id zs)
-
--- ---- numbers in steps
-
-pub times-one : (s : ℤ) → s *ℤ pos 1 ≡ s
-unfolding one
-times-one s = *ℤ-one s
-
--- a step more
-times-more : (s : ℤ) (k : ℕ) → s *ℤ pos (k + 1) ≡ s *ℤ pos k +ℤ s
-times-more s k = *ℤ-more s k ∙ ap (λ z. s *ℤ pos k +ℤ z) (times-one s)
-
-moved : (at s p q : ℤ) → q ≡ p +ℤ s → at +ℤ q ≡ (at +ℤ s) +ℤ p
-moved at s p q is = omega (arith, ints)
-
--- so many steps, from one step on
-pub steps_later : (at s : ℤ) (k : ℕ) → at +ℤ s *ℤ pos (suc k) ≡ (at +ℤ s) +ℤ s *ℤ pos k
-steps_later at s k = moved at s (s *ℤ pos k) (s *ℤ pos (suc k)) (ap (λ n. s *ℤ pos n) (sym (add-one k)) ∙ times-more s k)
-
-numbers-later : (at s : ℤ) (a n : ℕ) → map (λ k. at +ℤ s *ℤ pos k) (range_with_len (a + 1) n) ≡ map (λ k. (at +ℤ s) +ℤ s *ℤ pos k) (range_with_len a n)
-numbers-later at s a zero = refl
-numbers-later at s a (suc n) =
-    ap (λ z. z ∷ map (λ k. at +ℤ s *ℤ pos k) (range_with_len (a + 1 + 1) n)) (moved at s (s *ℤ pos a) (s *ℤ pos (a + 1)) (times-more s a)) ∙ ap (λ zs. ((at +ℤ s) +ℤ s *ℤ pos a) ∷ zs) (numbers-later at s (a + 1) n)
-
-none_more : (at s : ℤ) → at +ℤ s *ℤ pos 0 ≡ at
-none_more at s = ap (λ z. at +ℤ z) (*ℤ-zero s) ∙ +ℤ_idr at
-
-pub numbers-suc : (at s : ℤ) (n : ℕ) → numbers_from at s (suc n) ≡ at ∷ numbers_from (at +ℤ s) s n
-numbers-suc at s n = ap (λ z. z ∷ map (λ k. at +ℤ s *ℤ pos k) (range_with_len (0 + 1) n)) (none_more at s) ∙ ap (λ zs. at ∷ zs) (numbers-later at s 0 n)
-
--- the first m numbers, and then those after them
-pub numbers-split : (at s : ℤ) (m n : ℕ) → numbers_from at s (m + n) ≡ numbers_from at s m ++ numbers_from (at +ℤ s *ℤ pos m) s n
-numbers-split at s zero n =
-    let none : zero + n ≡ n = omega arith in
-    ap (numbers_from at s) none ∙ ap (λ z. numbers_from z s n) (sym (none_more at s))
-numbers-split at s (suc m) n =
-    let head : suc m + n ≡ suc (m + n) = omega arith in
-    ap (numbers_from at s) head ∙ numbers-suc at s (m + n) ∙ ap (λ zs. at ∷ zs) (numbers-split (at +ℤ s) s m n) ∙ ap (λ z. at ∷ numbers_from (at +ℤ s) s m ++ numbers_from z s n) (sym (steps_later at s m)) ∙ ap (λ zs. zs ++ numbers_from (at +ℤ s *ℤ pos (suc m)) s n) (sym (numbers-suc at s m))
 
 -- n times m numbers, where one step leads over m steps
 pub numbers-times : (at s t : ℤ) (m n : ℕ) → t ≡ s *ℤ pos m → numbers_from at s (n * m) ≡ flat_map (λ next. numbers_from next s m) (numbers_from at t n)

@@ -1,46 +1,18 @@
 -- Laws of addresses and offsets.
-use Rattle.std.proofs.Common.{◌≡◌, ℕ, ◌+◌, ◌*◌, ◌<◌, ◌≤◌, ℤ, pos, negsuc, ◌+ℤ◌, ◌≤ℤ◌, List, [], ◌∷◌, All, length, get_or, refl, sym, ◌∙◌, ap, arith, mul-suc, mul-zero, mul_comm, mul-le-mul_left}
+use Rattle.std.proofs.Common.{◌≡◌, ℕ, ◌+◌, ◌*◌, ◌<◌, ◌≤◌, ℤ, pos, ◌+ℤ◌, ◌≤ℤ◌, List, [], ◌∷◌, length, get_or, sym, ◌∙◌, ap, arith, mul-zero, mul_comm}
 use Rattle.std.proofs.lemmas.Int.{ints}
-use Rattle.std.proofs.lemmas.List.{length-map, get_or-map, same_lists}
+use Rattle.std.proofs.lemmas.List.{same_lists}
 use Rattle.std.proofs.lemmas.List.FromFn.{length-map-range_with_len, get_or-map-range_with_len}
 use lib.IntN.{+ℤ_idl}
 use Rattle.shape_strides.specs.declared.layout.Layout.{Layout}
-use Rattle.shape_strides.specs.Indexes.{count, indexes, rank, IsIndex}
+use Rattle.shape_strides.specs.Indexes.{count, rank, IsIndex}
 use Rattle.shape_strides.specs.Addresses.{dot, address_at, natural, LieWithin}
-use Rattle.shape_strides.specs.Layouts.{address, offsets, Fits, IsNested, multiples, c_strides}
-use Rattle.shape_strides.proofs.IndexLaws.{length-indexes, rank-lt, get_or-indexes, index_at}
-
-pub pos-natural : (z : ℤ) → pos 0 ≤ℤ z → pos (natural z) ≡ z
-pos-natural (pos n) low = refl
-pos-natural (negsuc n) low = absurd (omega (arith, ints))
-
--- ---- the offsets of any layout
-
-pub length-offsets : (l : Layout) → length (offsets l) ≡ count l.shape
-unfolding offsets
-length-offsets l = length-map (indexes l.shape) (λ index. natural (address l index)) ∙ length-indexes l.shape
-
--- the entry at an index's rank is the index's address
-pub get_or-offsets : (l : Layout) (index : List ℕ) (d : ℕ) → IsIndex l.shape index → get_or (offsets l) (rank l.shape index) d ≡ natural (address l index)
-unfolding offsets
-get_or-offsets l index d in' =
-    let inside : rank l.shape index < length (indexes l.shape) = omega (arith, length-indexes l.shape, rank-lt l.shape index in') in
-    get_or-map (λ i. natural (address l i)) (indexes l.shape) (rank l.shape index) [] d inside ∙ ap (λ i. natural (address l i)) (get_or-indexes l.shape index [] in')
+use Rattle.shape_strides.specs.Layouts.{offsets, IsNested, multiples, c_strides}
+use Rattle.shape_strides.specs.CountLaws.{mul-step}
+use Rattle.shape_strides.specs.LayoutLaws.{length-offsets, get_or-offsets}
+use Rattle.shape_strides.specs.IndexLaws.{rank-lt, index_at}
 
 -- ---- layouts that fit
-
--- an address is none below 0, and so it is the offset
-pub pos-offset : (l : Layout) (index : List ℕ) (d : ℕ) → IsIndex l.shape index → pos (get_or (offsets l) (rank l.shape index) d) ≡ address l index
-pos-offset l index d in' = ap pos (get_or-offsets l index d in') ∙ pos-natural (address l index) (l.within_limit.from_zero index in')
-
--- every offset ends, with its item, within the bytes that a layout fits
-pub offsets_within : (l : Layout) (len item : ℕ) → Fits l len item → All (λ offset. offset + item ≤ len) (offsets l)
-offsets_within l len item fits = λ k d below.
-    let found = index_at l.shape k (omega (arith, length-offsets l)) in
-    let here : get_or (offsets l) k d ≡ get_or (offsets l) (rank l.shape found.0) d = ap (λ r. get_or (offsets l) r d) (sym found.2) in
-    let is : pos (get_or (offsets l) (rank l.shape found.0) d) ≡ address l found.0 = pos-offset l found.0 d found.1 in
-    let high : (address l found.0 +ℤ pos item) ≤ℤ pos len = fits.within found.0 found.1 in
-    omega (arith, ints)
 
 pub LieWithin-weaker : (shape : List ℕ) (strides : List ℤ) (offset len len' item item' : ℕ) → len ≤ len' → item' ≤ item → LieWithin shape strides offset len item → LieWithin shape strides offset len' item'
 LieWithin-weaker shape strides offset len len' item item' more less lie = record {
@@ -80,10 +52,6 @@ offsets-c_order l item stands =
     let found = index_at l.shape k low in
     let from_zero : 0 + k ≡ k = omega arith in
     ap (λ r. get_or (offsets l) r d) (sym found.2) ∙ get_or-offsets l found.0 d found.1 ∙ ap natural (stands.addresses found.0 found.1) ∙ ap (λ r. item * r) found.2 ∙ sym (get_or-multiples item (count l.shape) k d low))
-
--- a step of a product
-pub mul-step : (a j n : ℕ) → j < n → a * j + a ≤ a * n
-mul-step a j n below = omega (arith, mul-le-mul_left a below, mul-suc a j)
 
 pub LieWithin-c_order : (shape : List ℕ) (strides : List ℤ) (offset item : ℕ) → StandsInCOrder shape strides offset item → LieWithin shape strides offset (count shape * item) item
 LieWithin-c_order shape strides offset item stands = record {

@@ -1,12 +1,9 @@
-pub mod IndexLaws
 pub mod LayoutLaws
 pub mod StepLaws
 pub mod ReachLaws
 pub mod SpanLaws
 pub mod CountLaws
-pub mod ShapeAnswers
 pub mod AdvanceLaws
-pub mod WalkLaws
 pub mod ZeroLaws
 pub mod ContiguityLaws
 pub mod FortranLaws
@@ -23,3 +20,4 @@ pub mod SameLaws
 mod Vectors
 mod JoinedVectors
 mod ContiguityVectors
+pub mod SingleLaws

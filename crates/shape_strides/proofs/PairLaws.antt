@@ -21,8 +21,9 @@ use Rattle.shape_strides.specs.RunPairs.{run_front, run_after, cut, paired, all_
 use Rattle.shape_strides.specs.inside.Starts.{lengths_of}
 use Rattle.shape_strides.specs.PairWalks.{IsInBytes, IsWhole, AreWhole, AreEven, IsAtPair}
 use Rattle.shape_strides.specs.inside.Heads.{IsHead, both}
-use Rattle.shape_strides.proofs.LayoutLaws.{pos-natural, length-offsets}
-use Rattle.shape_strides.proofs.JoinedLaws.{numbers-split, numbers-suc, flat_map-id, addresses}
+use Rattle.shape_strides.specs.LayoutLaws.{pos-natural, length-offsets}
+use Rattle.elem_descr.specs.StepLaws.{numbers-split, numbers-suc}
+use Rattle.shape_strides.proofs.JoinedLaws.{flat_map-id, addresses}
 use Rattle.shape_strides.proofs.RunLaws.{NoneBelow, Each-front, Each-back, numbers-natural, empty, IsJoined, HasItems, IsJoined-joined, HasItems-axes, runs-some, runs-none, runs-offsets, runs-alone}
 use Rattle.shape_strides.proofs.FrontLaws.{in_bytes, lengths-low, count-whole}
 

@@ -6,8 +6,8 @@ use lib.IntN.{*ℤ-zero, negsuc-*ℤ-pos}
 use Rattle.shape_strides.specs.Indexes.{count, IsIndex}
 use Rattle.shape_strides.specs.Addresses.{dot, natural, LieWithin}
 use Rattle.shape_strides.specs.inside.Reach.{reach_above, reach_below}
-use Rattle.shape_strides.proofs.IndexLaws.{rank-lt}
-use Rattle.shape_strides.proofs.CountLaws.{factors_pos}
+use Rattle.shape_strides.specs.IndexLaws.{rank-lt}
+use Rattle.shape_strides.specs.CountLaws.{factors_pos}
 
 -- an axis's part of an address, at a number below its length
 axis_high : (s : ℤ) (k n : ℕ) → k < n → (s *ℤ pos k) ≤ℤ pos (natural s * (n - 1))

@@ -15,8 +15,9 @@ use Rattle.shape_strides.specs.Layouts.{address, Fits}
 use Rattle.shape_strides.specs.Joined.{strided_axes, joined}
 use Rattle.shape_strides.specs.Runs.{runs_from, runs}
 use Rattle.shape_strides.specs.RunPairs.{run_front, run_after, cut, paired, all_offsets, run_pairs}
-use Rattle.shape_strides.proofs.LayoutLaws.{pos-natural}
-use Rattle.shape_strides.proofs.JoinedLaws.{numbers-suc, flat_map-id, addresses, addresses-joined, addresses-indexes}
+use Rattle.shape_strides.specs.LayoutLaws.{pos-natural}
+use Rattle.elem_descr.specs.StepLaws.{numbers-suc}
+use Rattle.shape_strides.proofs.JoinedLaws.{flat_map-id, addresses, addresses-joined, addresses-indexes}
 use Rattle.shape_strides.proofs.RunLaws.{NoneBelow, Each-front, Each-back, Each-indexes, numbers-natural, runs-some, runs-none}
 use Rattle.shape_strides.proofs.PairLaws.{split}
 

@@ -16,10 +16,12 @@ use Rattle.shape_strides.specs.Addresses.{natural}
 use Rattle.shape_strides.specs.Layouts.{address, offsets}
 use Rattle.shape_strides.specs.Joined.{strided_axes, leads_over, join_outside, joined}
 use Rattle.shape_strides.specs.Runs.{run_offsets, runs_from, runs, GoesBy}
-use Rattle.shape_strides.proofs.IndexLaws.{index_at, length-indexes, get_or-indexes}
-use Rattle.shape_strides.proofs.LayoutLaws.{pos-natural, length-offsets}
-use Rattle.shape_strides.proofs.CountLaws.{factors_pos}
-use Rattle.shape_strides.proofs.JoinedLaws.{numbers-suc, times-one, steps_later, flat_map-id, addresses, addresses-indexes, addresses-joined, offsets-joined}
+use Rattle.shape_strides.specs.IndexLaws.{index_at, length-indexes, get_or-indexes}
+use Rattle.shape_strides.specs.LayoutLaws.{pos-natural, offsets-none}
+use Rattle.shape_strides.specs.CountLaws.{factors_pos}
+use Rattle.shape_strides.specs.AxisLaws.{one-step}
+use Rattle.elem_descr.specs.StepLaws.{numbers-suc, steps_later}
+use Rattle.shape_strides.proofs.JoinedLaws.{flat_map-id, addresses, addresses-indexes, addresses-joined, offsets-joined}
 
 -- ---- what holds of each address
 
@@ -83,9 +85,6 @@ runs-none l none = cond-true (count l.shape == 0) [] (runs_from (pos l.offset) (
 pub empty : {X : Type 0} (xs : List X) → length xs ≡ 0 → xs ≡ []
 empty [] none = refl
 empty (x ∷ xs) none = absurd (omega arith)
-
-pub offsets-none : (l : Layout) → count l.shape ≡ 0 → offsets l ≡ []
-offsets-none l none = empty (offsets l) (length-offsets l ∙ none)
 
 -- the runs lay out the offsets of the layout
 pub runs-offsets : (l : Layout) → flat_map run_offsets (runs l) ≡ offsets l
@@ -160,7 +159,7 @@ StepsBy-tail step a (b ∷ xs) by = by.1
 after_numbers : (at step : ℤ) (k : ℕ) (z : ℤ) (zs : List ℤ) → StepsBy step (numbers_from at step (suc k) ++ z ∷ zs) → z ≡ at +ℤ step *ℤ pos (suc k)
 after_numbers at step zero z zs by =
     let first = subst (λ xs. StepsBy step (xs ++ z ∷ zs)) (numbers-suc at step 0) by in
-    first.0 ∙ ap (λ y. at +ℤ y) (sym (times-one step))
+    first.0 ∙ ap (λ y. at +ℤ y) (sym (one-step step))
 after_numbers at step (suc k) z zs by =
     let later = StepsBy-tail step at (numbers_from (at +ℤ step) step (suc k) ++ z ∷ zs) (subst (λ xs. StepsBy step (xs ++ z ∷ zs)) (numbers-suc at step (suc k)) by) in
     after_numbers (at +ℤ step) step k z zs later ∙ sym (steps_later at step (suc k))
@@ -221,3 +220,20 @@ pub runs-alone : (l : Layout) (step : ℤ) → 0 < count l.shape → GoesBy step
 runs-alone l step some by =
     let axes = strided_axes l.strides l.shape in
     ap length (runs-some l some) ∙ one_alone step (pos l.offset) (joined axes) (IsJoined-joined axes (HasItems-axes l.strides l.shape some)) (StepsBy-natural step (addresses (pos l.offset) (joined axes)) (none_below l) (subst (GoesBy step) (offsets-joined l) by))
+
+-- where two axes are left once all are joined, the offsets do not go by one step
+pub two_never : (l : Layout) (step : ℤ) (outer inner : StridedAxis) (axes : List StridedAxis) → 0 < count l.shape → joined (strided_axes l.strides l.shape) ≡ outer ∷ inner ∷ axes → GoesBy step (offsets l) → ⊥
+two_never l step outer inner axes some are by =
+    let all = strided_axes l.strides l.shape in
+    let at : ℤ = pos l.offset in
+    let steps = StepsBy-natural step (addresses at (joined all)) (none_below l) (subst (GoesBy step) (offsets-joined l) by) in
+    never step at outer inner axes (subst IsJoined are (IsJoined-joined all (HasItems-axes l.strides l.shape some))) (subst (λ made. StepsBy step (addresses at made)) are steps)
+
+-- the step of offsets that are a run is the run's
+pub run_goes : (l : Layout) (step : ℤ) (axis : StridedAxis) → 2 ≤ axis.len → joined (strided_axes l.strides l.shape) ≡ axis ∷ [] → GoesBy step (offsets l) → axis.stride ≡ step
+run_goes l step axis two are by =
+    let all = strided_axes l.strides l.shape in
+    let at : ℤ = pos l.offset in
+    let steps = StepsBy-natural step (addresses at (joined all)) (none_below l) (subst (GoesBy step) (offsets-joined l) by) in
+    let line = subst (StepsBy step) (flat_map-id (numbers_from at axis.stride axis.len)) (subst (λ made. StepsBy step (addresses at made)) are steps) in
+    first_step at step axis.stride axis.len [] two (subst (StepsBy step) (sym (append-nil (numbers_from at axis.stride axis.len))) line)

@@ -1,19 +1,17 @@
 -- Layouts with the same offsets have the same first one and the same joined axes.
-use Rattle.std.proofs.Common.{◌≡◌, ◌↔◌, ◌≢◌, ℕ, ◌+◌, ◌<◌, ◌≤◌, ◌==◌, Bool, true, false, ◌&&◌, IsTrue, ℤ, pos, ◌+ℤ◌, ◌≤ℤ◌, List, [], ◌∷◌, map, length, get_or, reverse, inl, inr, refl, sym, ◌∙◌, ap, subst, arith}
+use Rattle.std.proofs.Common.{◌≡◌, ◌↔◌, ◌≢◌, ◌<◌, ◌==◌, Bool, true, false, ◌&&◌, IsTrue, ℤ, pos, List, [], ◌∷◌, map, length, get_or, reverse, inl, inr, refl, sym, ◌∙◌, ap, arith}
 use Rattle.std.proofs.lemmas.Bool.{cases_Bool, eqb-true, eq-eqb, false≢true, and_parts}
 use Rattle.std.proofs.lemmas.Bool.Decides.{Decides-int_eq}
-use Rattle.std.proofs.lemmas.Int.{ints}
 use Rattle.std.proofs.lemmas.List.{reverse-reverse}
 use Rattle.std.specs.Ordering.{int_eq}
 use Rattle.shape_strides.specs.declared.layout.Layout.{Layout}
 use Rattle.shape_strides.specs.declared.joined.StridedAxis.{StridedAxis}
-use Rattle.shape_strides.specs.Indexes.{count, rank, IsIndex}
+use Rattle.shape_strides.specs.Indexes.{count}
 use Rattle.shape_strides.specs.Addresses.{natural}
-use Rattle.shape_strides.specs.Layouts.{offsets, Fits}
+use Rattle.shape_strides.specs.Layouts.{offsets}
 use Rattle.shape_strides.specs.Joined.{strided_axes, joined}
 use Rattle.shape_strides.specs.inside.Alike.{all_alike}
-use Rattle.shape_strides.proofs.IndexLaws.{rank-lt}
-use Rattle.shape_strides.proofs.LayoutLaws.{pos-natural, pos-offset, length-offsets, offsets_within}
+use Rattle.shape_strides.specs.LayoutLaws.{pos-natural, length-offsets}
 use Rattle.shape_strides.proofs.JoinedLaws.{addresses, offsets-joined}
 use Rattle.shape_strides.proofs.RunLaws.{NoneBelow, none_below}
 use Rattle.shape_strides.proofs.StartLaws.{lengths_of-axes}
@@ -38,13 +36,6 @@ axes_joined l some = are_joined (strided_axes l.strides l.shape) (omega (arith, 
 
 pub offsets_differ : (a b : Layout) → count a.shape ≢ count b.shape → offsets a ≢ offsets b
 offsets_differ a b other same = other (sym (length-offsets a) ∙ ap length same ∙ length-offsets b)
-
-nothing : (xs : List ℕ) → length xs ≡ 0 → xs ≡ []
-nothing [] none = refl
-nothing (x ∷ xs) none = absurd (omega arith)
-
-pub no_offsets : (a b : Layout) → count a.shape ≡ 0 → count b.shape ≡ 0 → offsets a ≡ offsets b
-no_offsets a b none none' = nothing (offsets a) (length-offsets a ∙ none) ∙ sym (nothing (offsets b) (length-offsets b ∙ none'))
 
 same_first : (a b : Layout) → 0 < count a.shape → 0 < count b.shape → offsets a ≡ offsets b → a.offset ≡ b.offset
 same_first a b some some' same =
@@ -96,15 +87,3 @@ pub decided : (a b : Layout) (left right : List StridedAxis) (alike : Bool) → 
 decided a b left right alike some some' first is is' test =
     let onto : offsets a ≡ offsets b → left ≡ right = λ same. sym (reverse-reverse left) ∙ ap reverse (is ∙ same_axes a b some some' same ∙ sym is') ∙ reverse-reverse right in
     (λ yes. same_offsets a b first (sym is ∙ ap reverse (alike-same left right (sym test ∙ yes)) ∙ is'), λ same. test ∙ ap (all_alike left) (sym (onto same)) ∙ alike-itself left)
-
--- ---- what the same offsets fit
-
-pub Fits-same : (old new : Layout) (len item : ℕ) → offsets new ≡ offsets old → Fits old len item → Fits new len item
-Fits-same old new len item same fits =
-    let size : length (offsets old) ≡ count new.shape = ap length (sym same) ∙ length-offsets new in
-    let ends : (index : List ℕ) → IsIndex new.shape index → get_or (offsets new) (rank new.shape index) 0 + item ≤ len = λ index in'.
-    subst (λ list. get_or list (rank new.shape index) 0 + item ≤ len) (sym same) (offsets_within old len item fits (rank new.shape index) 0 (omega (arith, rank-lt new.shape index in'))) in
-    record {
-      from_zero = λ index in'. subst (λ z. pos 0 ≤ℤ z) (pos-offset new index 0 in') (omega (arith, ints));
-      within = λ index in'. subst (λ z. (z +ℤ pos item) ≤ℤ pos len) (pos-offset new index 0 in') (omega (arith, ints, ends index in'));
-    }

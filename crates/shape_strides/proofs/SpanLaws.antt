@@ -7,8 +7,8 @@ use Rattle.shape_strides.specs.Limits.{max_bytes}
 use Rattle.shape_strides.specs.Addresses.{dot}
 use Rattle.shape_strides.specs.Layouts.{offsets, Fits}
 use Rattle.shape_strides.specs.inside.Reach.{reach_above, reach_below}
-use Rattle.shape_strides.proofs.IndexLaws.{rank-lt, index_at}
-use Rattle.shape_strides.proofs.LayoutLaws.{length-offsets, pos-offset}
+use Rattle.shape_strides.specs.IndexLaws.{rank-lt, index_at}
+use Rattle.shape_strides.specs.LayoutLaws.{length-offsets, pos-offset}
 use Rattle.shape_strides.proofs.ReachLaws.{dot_high, dot_low, top_of, bottom_of, reach_from_LieWithin}
 
 -- the plain sums behind it

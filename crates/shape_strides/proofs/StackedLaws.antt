@@ -10,8 +10,9 @@ use Rattle.shape_strides.specs.Indexes.{rank, IsIndex}
 use Rattle.shape_strides.specs.Addresses.{dot}
 use Rattle.shape_strides.specs.Layouts.{offsets, IsNested, distance}
 use Rattle.shape_strides.specs.Stacks.{Axis, reach, axes, IsStacked}
-use Rattle.shape_strides.proofs.IndexLaws.{index_at}
-use Rattle.shape_strides.proofs.LayoutLaws.{length-offsets, pos-offset, mul-step}
+use Rattle.shape_strides.specs.IndexLaws.{index_at}
+use Rattle.shape_strides.specs.LayoutLaws.{length-offsets, pos-offset}
+use Rattle.shape_strides.specs.CountLaws.{mul-step}
 use Rattle.shape_strides.proofs.StackLaws.{within, within-all, within-none, within-le, IsClear, each_from_CanStack}
 
 -- ---- one axis

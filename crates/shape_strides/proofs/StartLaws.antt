@@ -7,7 +7,7 @@ use Rattle.shape_strides.specs.Limits.{max_items}
 use Rattle.shape_strides.specs.Indexes.{count}
 use Rattle.shape_strides.specs.Joined.{strided_axes, leads_over, join_outside, joined}
 use Rattle.shape_strides.specs.inside.Starts.{lengths_of}
-use Rattle.shape_strides.proofs.CountLaws.{factors_pos, count-drop}
+use Rattle.shape_strides.specs.CountLaws.{factors_pos, count-drop}
 
 -- ---- numbers of items
 

@@ -1,35 +1,21 @@
 -- Sums of strides over the first axes, and the next index.
-use Rattle.std.proofs.Common.{◌≡◌, ℕ, zero, suc, ◌+◌, ◌<◌, ◌≤◌, ℤ, pos, ◌+ℤ◌, ◌*ℤ◌, ◌≤ℤ◌, List, [], ◌∷◌, ◌++◌, length, get_or, take, drop, refl, sym, ◌∙◌, ap, arith, add-one, zero-mul, add-mul, length-take, length-take-le}
+use Rattle.std.proofs.Common.{◌≡◌, ℕ, zero, suc, ◌+◌, ◌<◌, ◌≤◌, ℤ, pos, ◌+ℤ◌, ◌*ℤ◌, ◌≤ℤ◌, List, [], ◌∷◌, ◌++◌, length, get_or, take, drop, refl, sym, ◌∙◌, ap, arith, add-one, add-mul, length-take, length-take-le}
 use Rattle.std.proofs.lemmas.Int.{ints}
 use Rattle.std.proofs.lemmas.List.{take_more}
-use lib.IntN.{*ℤ-zero, +ℤ_assoc, +ℤ_idl, +ℤ_idr}
+use lib.IntN.{+ℤ_assoc, +ℤ_idl, +ℤ_idr}
 use Rattle.shape_strides.specs.declared.layout.Layout.{Layout}
-use Rattle.shape_strides.proofs.IndexLaws.{length-index}
+use Rattle.shape_strides.specs.inside.AxisIndexes.{padded}
+use Rattle.shape_strides.specs.AxisLaws.{dot-nil, dot-zeros, rank-zeros}
+use Rattle.shape_strides.specs.IndexLaws.{length-index}
 use Rattle.shape_strides.specs.Indexes.{count, rank, IsIndex}
 use Rattle.shape_strides.specs.Limits.{max_bytes}
 use Rattle.shape_strides.specs.Addresses.{dot}
 use Rattle.shape_strides.specs.Layouts.{address}
 
--- the index that begins with these numbers and goes on with zeros
-abbrev pub padded : List ℕ → List ℕ → List ℕ
-padded [] front = []
-padded (n ∷ shape) [] = 0 ∷ padded shape []
-padded (n ∷ shape) (k ∷ front) = k ∷ padded shape front
-
 pub length-padded : (shape front : List ℕ) → length (padded shape front) ≡ length shape
 length-padded [] front = refl
 length-padded (n ∷ shape) [] = ap suc (length-padded shape [])
 length-padded (n ∷ shape) (k ∷ front) = ap suc (length-padded shape front)
-
-pub dot-nil : (strides : List ℤ) → dot strides [] ≡ pos 0
-dot-nil [] = refl
-dot-nil (s ∷ strides) = refl
-
--- zeros add nothing
-pub dot-zeros : (strides : List ℤ) (shape : List ℕ) → dot strides (padded shape []) ≡ pos 0
-dot-zeros [] shape = refl
-dot-zeros (s ∷ strides) [] = refl
-dot-zeros (s ∷ strides) (n ∷ shape) = rw (*ℤ-zero s, dot-zeros strides shape)
 
 pub dot-padded : (strides : List ℤ) (shape front : List ℕ) → length front ≤ length shape → dot strides (padded shape front) ≡ dot strides front
 dot-padded [] shape front short = refl
@@ -67,10 +53,6 @@ IsIndex-padded_push [] index j x in' below fits = absurd (omega arith)
 IsIndex-padded_push (n ∷ shape) [] j x in' below fits = absurd in'
 IsIndex-padded_push (n ∷ shape) (k ∷ index) zero x in' below fits = (fits, IsIndex-zeros shape index in'.1)
 IsIndex-padded_push (n ∷ shape) (k ∷ index) (suc j) x in' below fits = (in'.0, IsIndex-padded_push shape index j x in'.1 (omega arith) fits)
-
-pub rank-zeros : (shape : List ℕ) → rank shape (padded shape []) ≡ 0
-rank-zeros [] = refl
-rank-zeros (n ∷ shape) = omega (arith, rank-zeros shape, zero-mul (count shape))
 
 -- The index after this one, where the axes after j are at their last numbers.
 pub rank-stepped : (shape index : List ℕ) (j : ℕ) → IsIndex shape index → j < length shape → rank (drop (suc j) shape) (drop (suc j) index) + 1 ≡ count (drop (suc j) shape) → rank shape (padded shape (take j index ++ (get_or index j 0 + 1) ∷ [])) ≡ rank shape index + 1

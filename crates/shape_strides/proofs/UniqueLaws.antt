@@ -11,8 +11,9 @@ use Rattle.shape_strides.specs.declared.joined.StridedAxis.{StridedAxis}
 use Rattle.shape_strides.specs.Indexes.{count}
 use Rattle.shape_strides.specs.Joined.{leads_over, join_outside, joined}
 use Rattle.shape_strides.specs.inside.Starts.{lengths_of}
-use Rattle.shape_strides.proofs.CountLaws.{factors_pos}
-use Rattle.shape_strides.proofs.JoinedLaws.{flat_map_same, flat_map-id, flat_map-flat_map, numbers-suc, numbers-split, addresses, addresses-joined}
+use Rattle.shape_strides.specs.CountLaws.{factors_pos}
+use Rattle.elem_descr.specs.StepLaws.{numbers-suc, numbers-split}
+use Rattle.shape_strides.proofs.JoinedLaws.{flat_map_same, flat_map-id, flat_map-flat_map, addresses, addresses-joined}
 
 -- ---- axes as they stand joined
 

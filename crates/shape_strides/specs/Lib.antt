@@ -12,3 +12,10 @@ pub mod Contiguity
 pub mod Stacks
 pub mod IndexItems
 pub mod inside
+pub mod CountLaws
+pub mod IndexLaws
+pub mod AxisLaws
+pub mod LayoutLaws
+pub mod ContiguityLaws
+pub mod ShapeLaws
+pub mod WalkLaws

@@ -2,3 +2,5 @@ pub mod Reach
 pub mod Starts
 pub mod Heads
 pub mod Alike
+pub mod AxisIndexes
+pub mod Single

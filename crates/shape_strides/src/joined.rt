@@ -17,7 +17,7 @@ pub struct StridedAxis {
 }
 
 /// Whether a step along the outer axis leads to where the steps along the inner one end.
-fn leads_over(outer: StridedAxis, inner: StridedAxis) -> bool
+pub(crate) fn leads_over(outer: StridedAxis, inner: StridedAxis) -> bool
     requires { inner.len ≤ max_items }
     ensures { result ≡ leads_over outer inner }
 {

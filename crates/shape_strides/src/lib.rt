@@ -3,6 +3,7 @@
 #![tactic(auto)]
 
 pub mod contiguous;
+pub mod fixed_walk;
 mod index_item;
 pub mod joined;
 pub mod layout;
@@ -11,12 +12,14 @@ pub mod run_pairs;
 pub mod runs;
 pub mod same_offsets;
 pub mod shape;
+pub mod single_run;
 mod span;
 pub mod stacked;
 mod steps;
 pub mod strides;
 pub mod walk;
 
+pub use fixed_walk::FixedWalk;
 pub use index_item::IndexItem;
 pub use joined::StridedAxis;
 pub use layout::{Layout, MAX_BYTES};

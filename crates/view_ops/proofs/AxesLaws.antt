@@ -9,6 +9,7 @@ use Rattle.std.proofs.lemmas.List.{length-map}
 use Rattle.std.proofs.lemmas.List.FromFn.{length-range_with_len}
 use Rattle.elem_descr.specs.declared.refusal.Refusal.TheVariants.{BadAxis}
 use Rattle.shape_strides.specs.Layouts.{natural}
+use Rattle.elem_descr.specs.RefusalLaws.{same_answer}
 use Rattle.view_ops.specs.Slices.{from_front, is_place}
 use Rattle.view_ops.specs.Transposes.{are_distinct, axes_of}
 use Rattle.view_ops.specs.inside.Axes.{AreAxes, AreAllAxes}
@@ -72,17 +73,13 @@ AreAxes-reversed : (n a m : ℕ) → a + m ≤ n → AreAxes n (map (λ k. n - 1
 AreAxes-reversed n a zero few = tt
 AreAxes-reversed n a (suc m) few = (omega arith, not_later n (a + 1) m (n - 1 - a) (omega arith) (omega arith), AreAxes-reversed n (a + 1) m (omega arith))
 
--- equal answers are of one list
-pub same_list : (xs ys : List ℕ) → ◌≡◌ {A = Result (List ℕ) Refusal} (Ok xs) (Ok ys) → xs ≡ ys
-same_list xs ys same = cc
-
 no_axes : (axes : List ℕ) (e : Refusal) (there : Result (List ℕ) Refusal) → there ≡ Err e → there ≡ Ok axes → ⊥
 no_axes axes e there refused is = false≢true (ap is_ok (sym refused ∙ is))
 
 pub all_axes : (n : ℕ) (named : Option (List ℤ)) (axes : List ℕ) → axes_of n named ≡ Ok axes → AreAllAxes n axes
 unfolding axes_of
 all_axes n None axes is =
-    let list : map (λ k. n - 1 - k) (range_with_len 0 n) ≡ axes = same_list _ axes is in
+    let list : map (λ k. n - 1 - k) (range_with_len 0 n) ≡ axes = same_answer _ axes is in
     rw (← list) (record { size = length-map (range_with_len 0 n) (λ k. n - 1 - k) ∙ length-range_with_len 0 n; are = AreAxes-reversed n 0 n (omega arith) })
 all_axes n (Some named) axes is =
     let counted = map (λ axis. natural (from_front n axis)) named in
@@ -93,7 +90,7 @@ all_axes n (Some named) axes is =
         | inl within ↦ elim (cases_Bool (are_distinct counted)) [
           | inr again ↦ absurd (no_axes axes BadAxis (axes_of n (Some named)) (axes_of-repeated n named size within again) is)
           | inl once ↦
-              let list : counted ≡ axes = same_list counted axes (sym (axes_of-ok n named counted size within refl once) ∙ is) in
+              let list : counted ≡ axes = same_answer counted axes (sym (axes_of-ok n named counted size within refl once) ∙ is) in
               rw (← list) (record { size = length-map named (λ axis. natural (from_front n axis)) ∙ size; are = AreAxes-counted n named within once })
         ]
       ]

@@ -11,9 +11,9 @@ use Rattle.shape_strides.specs.declared.index_item.IndexItem.{IndexItem}
 use Rattle.shape_strides.specs.Limits.{max_axes, max_items}
 use Rattle.shape_strides.specs.Indexes.{count}
 use Rattle.shape_strides.specs.Shapes.{shape_of}
-use Rattle.shape_strides.proofs.ShapeAnswers.{shape_of-many}
+use Rattle.shape_strides.specs.ShapeLaws.{shape_of-many}
 use Rattle.view_ops.specs.declared.pick.AxisPick.{AxisPick}
-use Rattle.view_ops.specs.Basics.{taken, has_step, are_in_range, picks, shape_picked, picked_view, basic}
+use Rattle.view_ops.specs.Basics.{taken, has_step, are_on_axes, picks, shape_picked, picked_view, basic}
 use Rattle.view_ops.specs.inside.Picks.{shown, ArePicks}
 use Rattle.view_ops.specs.Views.{IsViewOf, GivesView}
 use Rattle.view_ops.proofs.PickViews.{shape_of_picks, leads_of_picks, shape_of-picks}
@@ -65,13 +65,13 @@ basic-no_step shape items few none =
     let test : nat_le (taken items) (length shape) ≡ true = grind (arith, nat_tests) in
     rw (test, none)
 
-pub basic-out : {A : Type 0} (shape : List ℕ) (items : List (IndexItem A)) → taken items ≤ length shape → list_all has_step items ≡ true → are_in_range shape items ≡ false → basic shape items ≡ Err IndexOutOfRange
+pub basic-out : {A : Type 0} (shape : List ℕ) (items : List (IndexItem A)) → taken items ≤ length shape → list_all has_step items ≡ true → are_on_axes shape items ≡ false → basic shape items ≡ Err IndexOutOfRange
 unfolding basic
 basic-out shape items few steps out =
     let test : nat_le (taken items) (length shape) ≡ true = grind (arith, nat_tests) in
     rw (test, steps, out)
 
-pub basic-picks : {A : Type 0} (shape : List ℕ) (items : List (IndexItem A)) → taken items ≤ length shape → list_all has_step items ≡ true → are_in_range shape items ≡ true → basic shape items ≡ picked_view (picks shape items)
+pub basic-picks : {A : Type 0} (shape : List ℕ) (items : List (IndexItem A)) → taken items ≤ length shape → list_all has_step items ≡ true → are_on_axes shape items ≡ true → basic shape items ≡ picked_view (picks shape items)
 unfolding basic
 basic-picks shape items few steps in' =
     let test : nat_le (taken items) (length shape) ≡ true = grind (arith, nat_tests) in

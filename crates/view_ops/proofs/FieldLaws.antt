@@ -10,10 +10,10 @@ use Rattle.shape_strides.specs.declared.layout.Layout.{Layout}
 use Rattle.shape_strides.specs.Indexes.{count, rank, IsIndex}
 use Rattle.shape_strides.specs.Addresses.{natural, LieWithin}
 use Rattle.shape_strides.specs.Layouts.{address, offsets, Fits, distance, IsNested}
-use Rattle.shape_strides.proofs.IndexLaws.{index_at}
-use Rattle.shape_strides.proofs.LayoutLaws.{length-offsets, get_or-offsets}
-use Rattle.shape_strides.proofs.AdvanceLaws.{IsIndex-first}
-use Rattle.shape_strides.proofs.StepLaws.{padded, dot-zeros}
+use Rattle.shape_strides.specs.IndexLaws.{index_at}
+use Rattle.shape_strides.specs.LayoutLaws.{length-offsets, get_or-offsets}
+use Rattle.shape_strides.specs.AxisLaws.{IsIndex-first, dot-zeros}
+use Rattle.shape_strides.specs.inside.AxisIndexes.{padded}
 use Rattle.view_ops.specs.FieldViews.{GivesField}
 
 -- the first item stands at the offset

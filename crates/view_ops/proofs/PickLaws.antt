@@ -14,7 +14,7 @@ use Rattle.view_ops.specs.declared.pick.AxisPick.{AxisPick}
 use Rattle.view_ops.specs.declared.pick.AxisPick.TheVariants.{At as AtAxis, Along as AlongAxis, New as NewAxis}
 use Rattle.view_ops.specs.declared.slice.Progression.{Progression}
 use Rattle.view_ops.specs.Slices.{slice_indices, IsRunWithin}
-use Rattle.view_ops.specs.Basics.{Placed, takes_axis, taken, width, placed, has_step, is_in_range, are_in_range, Pick, whole, picks_of, picks}
+use Rattle.view_ops.specs.Basics.{Placed, takes_axis, taken, width, placed, has_step, is_on_axis, are_on_axes, Pick, whole, picks_of, picks}
 use Rattle.view_ops.specs.inside.Picks.{shown, ArePicks, AddsPicks}
 
 -- ---- items over axes
@@ -96,7 +96,7 @@ pub record HavePicked {A : Type 0} (shape : List ℕ) (items : List (IndexItem A
   pub enough : taken (drop k items) ≤ length shape - axis
   pub basic : list_all is_basic (drop k items) ≡ true
   pub steps : list_all has_step (drop k items) ≡ true
-  pub in_range : are_in_range (drop axis shape) (drop k items) ≡ true
+  pub in_range : are_on_axes (drop axis shape) (drop k items) ≡ true
   pub are : (more : List AxisPick) → ArePicks (drop axis shape) more → ArePicks shape (done ++ more)
   pub show : map shown done ++ picks (drop axis shape) (drop k items) ≡ picks shape items
 
@@ -104,7 +104,7 @@ pub record HavePicked {A : Type 0} (shape : List ℕ) (items : List (IndexItem A
 pub record CanPick {A : Type 0} (shape : List ℕ) (items : List (IndexItem A)) (k axis end : ℕ) : Type 0 where
   pub basic : is_basic (get_or items k (Integer (pos 0))) ≡ true
   pub step : has_step (get_or items k (Integer (pos 0))) ≡ true
-  pub in_range : is_in_range (slice_range shape axis end) (get_or items k (Integer (pos 0))) ≡ true
+  pub in_range : is_on_axis (slice_range shape axis end) (get_or items k (Integer (pos 0))) ≡ true
   pub one : takes_axis (get_or items k (Integer (pos 0))) ≡ true → length (slice_range shape axis end) ≡ 1
   pub none : get_or items k (Integer (pos 0)) ≡ NewItem → slice_range shape axis end ≡ []
 
@@ -133,11 +133,11 @@ none_taken axis end left item later is new =
 pub can_pick : {A : Type 0} (shape : List ℕ) (items : List (IndexItem A)) (done : List AxisPick) (k axis end : ℕ) → k < length items → axis ≤ end → end ≤ length shape → end ≡ axis + width (length shape - axis) (get_or items k (Integer (pos 0))) (drop (k + 1) items) → HavePicked shape items done k axis → CanPick shape items k axis end
 can_pick shape items done k axis end low later within is have =
     let x = get_or items k (Integer (pos 0)) in
-    let range : (is_in_range (slice_range shape axis end) x && are_in_range (drop end shape) (drop (k + 1) items)) ≡ true = sym (ap (list_all (λ p. is_in_range p.axes p.item)) (placed_more shape items k axis end low later is)) ∙ have.in_range in
+    let range : (is_on_axis (slice_range shape axis end) x && are_on_axes (drop end shape) (drop (k + 1) items)) ≡ true = sym (ap (list_all (λ p. is_on_axis p.axes p.item)) (placed_more shape items k axis end low later is)) ∙ have.in_range in
     record {
       basic = next_holds is_basic items k (Integer (pos 0)) low have.basic;
       step = next_holds has_step items k (Integer (pos 0)) low have.steps;
-      in_range = (and_parts (is_in_range (slice_range shape axis end) x) (are_in_range (drop end shape) (drop (k + 1) items)) range).0;
+      in_range = (and_parts (is_on_axis (slice_range shape axis end) x) (are_on_axes (drop end shape) (drop (k + 1) items)) range).0;
       none = λ new. ap (λ n. take n (drop axis shape)) (none_taken axis end (length shape - axis) (get_or items k (Integer (pos 0))) (drop (k + 1) items) is new);
       one = λ takes. omega (arith, length-slice_range shape axis end within, width_one (length shape - axis) x (drop (k + 1) items) takes);
     }
@@ -147,14 +147,14 @@ picked_more shape items done new k axis end low later within enough is have adds
     let x = get_or items k (Integer (pos 0)) in
     let axes = slice_range shape axis end in
     let next = placed_more shape items k axis end low later is in
-    let range : (is_in_range axes x && are_in_range (drop end shape) (drop (k + 1) items)) ≡ true = sym (ap (list_all (λ p. is_in_range p.axes p.item)) next) ∙ have.in_range in
+    let range : (is_on_axis axes x && are_on_axes (drop end shape) (drop (k + 1) items)) ≡ true = sym (ap (list_all (λ p. is_on_axis p.axes p.item)) next) ∙ have.in_range in
     let left = picks (drop end shape) (drop (k + 1) items) in
     record {
       within = within;
       enough = enough;
       basic = rest_hold is_basic items k (Integer (pos 0)) low have.basic;
       steps = rest_hold has_step items k (Integer (pos 0)) low have.steps;
-      in_range = (and_parts (is_in_range axes x) (are_in_range (drop end shape) (drop (k + 1) items)) range).1;
+      in_range = (and_parts (is_on_axis axes x) (are_on_axes (drop end shape) (drop (k + 1) items)) range).1;
       are = λ more are-more.
           let these : ArePicks (drop axis shape) (adds.added ++ more) = rw (drop_split shape axis end later) (ArePicks-append axes (drop end shape) adds.added more adds.are are-more) in
           rw (adds.after, append_assoc done adds.added more) (have.are (adds.added ++ more) these);

@@ -15,11 +15,10 @@ use Rattle.shape_strides.specs.Shapes.{shape_of}
 use Rattle.shape_strides.specs.Limits.{max_axes, max_items, max_bytes}
 use Rattle.shape_strides.specs.Addresses.{dot, address_at, natural, LieWithin}
 use Rattle.shape_strides.specs.Layouts.{address, offsets}
-use Rattle.shape_strides.proofs.IndexLaws.{rank-lt}
-use Rattle.shape_strides.proofs.CountLaws.{factors_pos}
-use Rattle.shape_strides.proofs.ShapeAnswers.{shape_of-ok}
-use Rattle.shape_strides.proofs.StepLaws.{dot-nil}
-use Rattle.shape_strides.proofs.ContiguityLaws.{one-step}
+use Rattle.shape_strides.specs.IndexLaws.{rank-lt}
+use Rattle.shape_strides.specs.CountLaws.{factors_pos}
+use Rattle.shape_strides.specs.ShapeLaws.{shape_of-ok}
+use Rattle.shape_strides.specs.AxisLaws.{dot-nil, one-step}
 use Rattle.view_ops.specs.declared.pick.AxisPick.{AxisPick}
 use Rattle.view_ops.specs.declared.pick.AxisPick.TheVariants.{At as AtAxis, Along as AlongAxis, New as NewAxis}
 use Rattle.view_ops.specs.declared.slice.Progression.{Progression}
@@ -27,7 +26,9 @@ use Rattle.view_ops.specs.Slices.{run_number, run_numbers, IsRunWithin}
 use Rattle.view_ops.specs.Basics.{axis_of, picked_shape, picked_index}
 use Rattle.view_ops.specs.inside.Picks.{shown, ArePicks, first_of, axes_taken, run_stride, stride_of, picked_strides, IsSmallStep, IsSmallPick, HaveSmallSteps}
 use Rattle.view_ops.specs.Views.{view_through, IsViewOf, KeepsNested}
-use Rattle.view_ops.proofs.ViewLaws.{Shows, LieWithin-view, inside-view, offsets-view, IsNested-view}
+use Rattle.view_ops.specs.inside.Shows.{Shows}
+use Rattle.view_ops.specs.ViewLaws.{LieWithin-view, inside-view, offsets-view}
+use Rattle.view_ops.proofs.ViewLaws.{IsNested-view}
 use Rattle.view_ops.proofs.StrideLaws.{stride_along, run_number-is, run-one}
 
 -- the lengths and the leads of what is picked

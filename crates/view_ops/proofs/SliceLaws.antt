@@ -9,9 +9,9 @@ use Rattle.std.specs.Int.{int_min, int_max}
 use Rattle.std.specs.List.{range_with_len}
 use lib.IntN.{*ℤ-zero}
 use Rattle.elem_descr.specs.Steps.{stepped}
-use Rattle.elem_descr.proofs.StepLaws.{product_back, product_forth, counted_within, stepped_first}
+use Rattle.elem_descr.specs.StepLaws.{product_back, product_forth, counted_within, stepped_first}
 use Rattle.shape_strides.specs.Layouts.{natural}
-use Rattle.shape_strides.proofs.LayoutLaws.{pos-natural}
+use Rattle.shape_strides.specs.LayoutLaws.{pos-natural}
 use Rattle.view_ops.specs.declared.slice.Progression.{Progression}
 use Rattle.view_ops.specs.Slices.{lowest, highest, start_of, stop_of, slice_indices, run_number, run_numbers, IsRunWithin}
 

@@ -4,10 +4,10 @@ use Rattle.std.proofs.Math.Nat.{mul-le-mul_right}
 use Rattle.std.proofs.lemmas.Bool.{cases_lt}
 use Rattle.std.proofs.lemmas.Int.{ints, by_lt_z}
 use lib.IntN.{negsuc-*ℤ-pos, pos-*ℤ-negsuc, negsuc-*ℤ-negsuc}
-use Rattle.shape_strides.proofs.LayoutLaws.{pos-natural}
+use Rattle.shape_strides.specs.LayoutLaws.{pos-natural}
 use Rattle.view_ops.specs.declared.slice.Progression.{Progression}
 use Rattle.view_ops.specs.Slices.{run_number, IsRunWithin}
-use Rattle.elem_descr.proofs.StepLaws.{product_back, product_forth, abs_pos}
+use Rattle.elem_descr.specs.StepLaws.{product_back, product_forth, abs_pos}
 
 -- ---- a stride along a run
 

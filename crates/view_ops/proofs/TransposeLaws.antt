@@ -9,7 +9,7 @@ use Rattle.std.specs.List.{list_any, IsDistinct, AllByRecursion}
 use lib.IntN.{*ℤ-zero, +ℤ_assoc}
 use Rattle.shape_strides.specs.Indexes.{count, IsIndex}
 use Rattle.shape_strides.specs.Layouts.{dot}
-use Rattle.shape_strides.proofs.IndexLaws.{length-index, IsIndex-from_numbers}
+use Rattle.shape_strides.specs.IndexLaws.{length-index, IsIndex-from_numbers}
 use Rattle.view_ops.specs.Transposes.{transposed_shape, transposed_index, put_at}
 use Rattle.view_ops.specs.inside.Axes.{AreAxes}
 

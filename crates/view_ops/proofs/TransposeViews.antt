@@ -13,14 +13,17 @@ use Rattle.shape_strides.specs.Shapes.{shape_of}
 use Rattle.shape_strides.specs.Limits.{max_axes, max_items, max_bytes}
 use Rattle.shape_strides.specs.Addresses.{dot, address_at, LieWithin}
 use Rattle.shape_strides.specs.Layouts.{address, offsets}
-use Rattle.shape_strides.proofs.ZeroLaws.{zeros_are}
-use Rattle.shape_strides.proofs.ShapeAnswers.{shape_of-ok}
+use Rattle.shape_strides.specs.AxisLaws.{zeros_are}
+use Rattle.shape_strides.specs.ShapeLaws.{shape_of-ok}
+use Rattle.elem_descr.specs.RefusalLaws.{same_answer}
 use Rattle.view_ops.specs.Transposes.{axes_of, transposed, transposed_shape, transposed_index, put_at}
 use Rattle.view_ops.specs.inside.Axes.{AreAxes, AreAllAxes}
 use Rattle.view_ops.specs.Views.{view_through, IsViewOf, GivesView, KeepsNested}
 use Rattle.view_ops.proofs.TransposeLaws.{dot-put_at, IsIndex-transposed, transposed-one, count-transposed}
-use Rattle.view_ops.proofs.ViewLaws.{Shows, LieWithin-view, IsView, inside-view, offsets-view, IsNested-view, gives_refusal}
-use Rattle.view_ops.proofs.AxesLaws.{axis-lt, same_list}
+use Rattle.view_ops.specs.inside.Shows.{Shows, IsView}
+use Rattle.view_ops.specs.ViewLaws.{LieWithin-view, inside-view, offsets-view}
+use Rattle.view_ops.proofs.ViewLaws.{IsNested-view, gives_refusal}
+use Rattle.view_ops.proofs.AxesLaws.{axis-lt}
 
 -- ---- the shape
 
@@ -98,7 +101,7 @@ made_lengths lengths items l shape axes first second third = first ∙ second �
 
 pub made_shape : (axes shape lengths made : List ℕ) → lengths ≡ transposed_shape axes shape → AreAllAxes (length shape) axes → length shape ≤ max_axes → All (λ m. m ≤ max_items) shape → count shape ≤ max_items → shape_of lengths ≡ Ok made → made ≡ transposed_shape axes shape
 made_shape axes shape lengths made is all few low small there =
-    same_list made (transposed_shape axes shape) (sym there ∙ ap shape_of is ∙ shape_of-transposed axes shape all few low small)
+    same_answer made (transposed_shape axes shape) (sym there ∙ ap shape_of is ∙ shape_of-transposed axes shape all few low small)
 
 pub turned_as : (old : Layout) (axes lengths items l made : List ℕ) (seen strides : List ℤ) → lengths ≡ items → items ≡ transposed_shape axes l → l ≡ old.shape → AreAllAxes (length old.shape) axes → length old.shape ≤ max_axes → All (λ m. m ≤ max_items) old.shape → count old.shape ≤ max_items → shape_of lengths ≡ Ok made → strides ≡ map (λ a. get_or seen a (pos 0)) axes → seen ≡ old.strides → IsTurned old made strides axes
 turned_as old axes lengths items l made seen strides first second third all few low small there are is = record {

@@ -1,46 +1,16 @@
--- Laws of views.
-use Rattle.std.proofs.Common.{◌≡◌, ℕ, ℤ, ◌<◌, ◌≤◌, ◌⊎◌, Result, Ok, Err, List, All, length, get_or, inl, inr, sym, ap, subst, ◌∙◌, arith}
+-- The items of views lie apart, and what is answered where there is none.
+use Rattle.std.proofs.Common.{◌≡◌, ℕ, ◌<◌, ◌≤◌, ◌⊎◌, Result, Ok, Err, List, length, get_or, inl, inr, sym, ap, ◌∙◌, arith}
 use Rattle.std.proofs.lemmas.Bool.{cases_lt}
 use Rattle.elem_descr.specs.declared.refusal.Refusal.{Refusal}
 use Rattle.elem_descr.specs.declared.refusal.Refusal.TheVariants.{OutOfMemory}
 use Rattle.shape_strides.specs.declared.layout.Layout.{Layout}
-use Rattle.shape_strides.specs.Indexes.{count, indexes, rank, IsIndex}
-use Rattle.shape_strides.specs.Addresses.{address_at, natural, LieWithin}
-use Rattle.shape_strides.specs.Layouts.{address, offsets, Fits, distance, IsNested}
-use Rattle.shape_strides.proofs.IndexLaws.{length-indexes, rank-lt, rank-same, get_or-indexes, index_at, same_on_indexes}
-use Rattle.shape_strides.proofs.LayoutLaws.{length-offsets, get_or-offsets}
-use Rattle.view_ops.specs.Views.{view_through, View, GivesView}
-
--- an array with this shape, these strides and this offset shows the items of a layout through m
-pub record Shows (old : Layout) (shape : List ℕ) (strides : List ℤ) (offset : ℕ) (m : List ℕ → List ℕ) : Type 0 where
-  pub leads : (index : List ℕ) → IsIndex shape index → IsIndex old.shape (m index)
-  pub same : (index : List ℕ) → IsIndex shape index → address_at strides offset index ≡ address old (m index)
-
-pub LieWithin-view : (old : Layout) (shape : List ℕ) (strides : List ℤ) (offset : ℕ) (m : List ℕ → List ℕ) (len item : ℕ) → Shows old shape strides offset m → Fits old len item → LieWithin shape strides offset len item
-LieWithin-view old shape strides offset m len item view fits = record {
-  from_zero = λ index in'. rw (view.same index in') (fits.from_zero (m index) (view.leads index in'));
-  within = λ index in'. rw (view.same index in') (fits.within (m index) (view.leads index in'));
-}
-
--- so a layout does
-abbrev pub IsView : Layout → Layout → (List ℕ → List ℕ) → Type 0
-IsView old new m = Shows old new.shape new.strides new.offset m
-
-pub offsets-view : (old new : Layout) (m : List ℕ → List ℕ) → IsView old new m → offsets new ≡ view_through (offsets old) old.shape new.shape m
-unfolding offsets
-offsets-view old new m view =
-    same_on_indexes new.shape (λ index. natural (address new index)) (λ index. get_or (offsets old) (rank old.shape (m index)) 0)
-    (λ index in'. ap natural (view.same index in') ∙ sym (get_or-offsets old (m index) 0 (view.leads index in')))
-
--- each index leads to an item
-inside : (old new : Layout) (m : List ℕ → List ℕ) → IsView old new m → All (λ index. rank old.shape (m index) < length (offsets old)) (indexes new.shape)
-inside old new m view k d below =
-    let found = index_at new.shape k (omega (arith, length-indexes new.shape)) in
-    let here : get_or (indexes new.shape) k d ≡ found.0 = ap (λ r. get_or (indexes new.shape) r d) (sym found.2) ∙ get_or-indexes new.shape found.0 d found.1 in
-    rw here (omega (arith, length-offsets old, rank-lt old.shape (m found.0) (view.leads found.0 found.1)))
-
-pub inside-view : (old new : Layout) (m : List ℕ → List ℕ) (shape : List ℕ) → IsView old new m → new.shape ≡ shape → All (λ index. rank old.shape (m index) < length (offsets old)) (indexes shape)
-inside-view old new m shape view same = subst (λ (s : List ℕ). All (λ index. rank old.shape (m index) < length (offsets old)) (indexes s)) same (inside old new m view)
+use Rattle.shape_strides.specs.Indexes.{count, rank, IsIndex}
+use Rattle.shape_strides.specs.Addresses.{natural}
+use Rattle.shape_strides.specs.Layouts.{offsets, distance, IsNested}
+use Rattle.shape_strides.specs.IndexLaws.{rank-lt, rank-same, index_at}
+use Rattle.shape_strides.specs.LayoutLaws.{length-offsets, get_or-offsets}
+use Rattle.view_ops.specs.Views.{View, GivesView}
+use Rattle.view_ops.specs.inside.Shows.{IsView}
 
 -- the offset of the view at the rank of an index
 offset-view : (old new : Layout) (m : List ℕ → List ℕ) → IsView old new m → (index : List ℕ) → IsIndex new.shape index → get_or (offsets new) (rank new.shape index) 0 ≡ get_or (offsets old) (rank old.shape (m index)) 0

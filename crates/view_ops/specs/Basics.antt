@@ -46,12 +46,12 @@ abbrev pub has_step : {A : Type 0} → IndexItem A → Bool
 has_step (Slice start stop step) = not (int_eq (unwrap_or step (pos 1)) (pos 0))
 has_step _ = true
 
-abbrev pub is_in_range : {A : Type 0} → List ℕ → IndexItem A → Bool
-is_in_range (n ∷ axes) (Integer at) = is_place n at
-is_in_range _ _ = true
+abbrev pub is_on_axis : {A : Type 0} → List ℕ → IndexItem A → Bool
+is_on_axis (n ∷ axes) (Integer at) = is_place n at
+is_on_axis _ _ = true
 
-abbrev pub are_in_range : {A : Type 0} → List ℕ → List (IndexItem A) → Bool
-are_in_range shape items = list_all (λ p. is_in_range p.axes p.item) (placed shape items)
+abbrev pub are_on_axes : {A : Type 0} → List ℕ → List (IndexItem A) → Bool
+are_on_axes shape items = list_all (λ p. is_on_axis p.axes p.item) (placed shape items)
 
 -- ---- what is picked
 
@@ -113,5 +113,5 @@ unfoldable pub basic : {A : Type 0} → List ℕ → List (IndexItem A) → Resu
 basic shape items = do
   _ ← check (nat_le (taken items) (length shape)) TooManyIndices
   _ ← check (list_all has_step items) ZeroStep
-  _ ← check (are_in_range shape items) IndexOutOfRange
+  _ ← check (are_on_axes shape items) IndexOutOfRange
   picked_view (picks shape items)

@@ -4,3 +4,4 @@ pub mod Transposes
 pub mod Basics
 pub mod FieldViews
 pub mod inside
+pub mod ViewLaws

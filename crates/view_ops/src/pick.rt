@@ -4,7 +4,7 @@ ghost use Rattle.std.specs.List.{list_all};
 ghost use Rattle.elem_descr.specs.declared.refusal.Refusal.TheVariants.{OutOfMemory};
 ghost use Rattle.shape_strides.specs.declared.index_item.IndexItem.TheVariants.{NewAxis};
 ghost use Rattle.shape_strides.specs.IndexItems.{is_basic};
-ghost use Rattle.view_ops.specs.Basics.{takes_axis, taken, has_step, is_in_range, are_in_range, whole, picks_of, picks};
+ghost use Rattle.view_ops.specs.Basics.{takes_axis, taken, has_step, is_on_axis, are_on_axes, whole, picks_of, picks};
 ghost use Rattle.view_ops.specs.inside.Picks.{shown, ArePicks, AddsPicks};
 
 use crate::index::axes_end;
@@ -24,7 +24,7 @@ pub(crate) enum AxisPick {
 }
 
 fn is_in_range<A>(axes: &[usize], item: &IndexItem<A>) -> bool
-    ensures { result ≡ is_in_range axes.now item.now }
+    ensures { result ≡ is_on_axis axes.now item.now }
 {
     match (item, axes) {
         (IndexItem::Integer(at), [n, ..]) => is_place(*n, *at),
@@ -35,7 +35,7 @@ fn is_in_range<A>(axes: &[usize], item: &IndexItem<A>) -> bool
 /// Whether each integer is within its axis.
 pub(crate) fn are_in_range<A>(lengths: &[usize], items: &[IndexItem<A>]) -> bool
     requires { taken items.now ≤ length lengths.now }
-    ensures { result ≡ are_in_range lengths.now items.now }
+    ensures { result ≡ are_on_axes lengths.now items.now }
 {
     let mut axis = 0;
     for k in 0..items.len() {
@@ -53,7 +53,7 @@ fn pick_of<A>(n: usize, item: &IndexItem<A>) -> Result<AxisPick, Refusal>
     requires axis { takes_axis item.now ≡ true }
     requires basic { is_basic item.now ≡ true }
     requires step { has_step item.now ≡ true }
-    requires in_range { is_in_range (n ∷ []) item.now ≡ true }
+    requires in_range { is_on_axis (n ∷ []) item.now ≡ true }
     ensures ok { IfOk result (λ pick. ArePicks (n ∷ []) (pick ∷ []) × (picks_of (n ∷ []) item.now ≡ shown pick ∷ [])) }
     ensures err { IfErr result (λ _. ⊥) }
 {
@@ -88,7 +88,7 @@ fn push_picks<A>(
     requires none { item.now ≡ NewAxis → axes.now ≡ [] }
     requires basic { is_basic item.now ≡ true }
     requires step { has_step item.now ≡ true }
-    requires in_range { is_in_range axes.now item.now ≡ true }
+    requires in_range { is_on_axis axes.now item.now ≡ true }
     ensures ok { OnOk result (AddsPicks picks.old.items picks.new.items axes.now (picks_of axes.now item.now)) }
     ensures err { IfErr result (λ refusal. refusal ≡ OutOfMemory) }
 {
@@ -111,7 +111,7 @@ pub(crate) fn picks_of<A>(
     requires taken { taken items.now ≤ length lengths.now }
     requires basic { list_all is_basic items.now ≡ true }
     requires steps { list_all has_step items.now ≡ true }
-    requires in_range { are_in_range lengths.now items.now ≡ true }
+    requires in_range { are_on_axes lengths.now items.now ≡ true }
     ensures are { IfOk result (λ v. ArePicks lengths.now v.items) }
     ensures shown { IfOk result (λ v. map shown v.items ≡ picks lengths.now items.now) }
     ensures err { IfErr result (λ refusal. refusal ≡ OutOfMemory) }

@@ -9,7 +9,7 @@ use Rattle.elem_descr.specs.declared.descr.Descr.{Descr}
 use Rattle.elem_descr.specs.Encoding.{size, decode, number_of}
 use Rattle.elem_descr.specs.Items.{leaves_of}
 use Rattle.elem_descr.specs.Blocks.{item_from}
-use Rattle.array_print.specs.Printed.{leaf_texts, aligned, item_text}
+use Rattle.array_print.specs.Printed.{leaf_texts, all_justified, item_text}
 
 -- the text of the integer whose bytes begin at a place
 abbrev pub integer_at : Scalar → List ℕ → ℕ → List ℕ
@@ -28,7 +28,7 @@ AreWidths leaves widths = AllZip (λ leaf width. IsWidth leaf.scalar width) leav
 
 -- the texts of the item whose bytes begin at an offset, each as wide as it is to be
 abbrev pub texts_at : Descr → List ℕ → List ℕ → ℕ → List (List ℕ)
-texts_at descr widths block offset = aligned widths (leaf_texts (leaves_of descr) (item_from descr block offset))
+texts_at descr widths block offset = all_justified widths (leaf_texts (leaves_of descr) (item_from descr block offset))
 
 -- the text of that item
 abbrev pub shown : Descr → List ℕ → List ℕ → ℕ → List ℕ

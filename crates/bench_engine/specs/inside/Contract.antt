@@ -12,8 +12,8 @@ IsRefused may_lack outcome refusal =
     ((refusal ≡ OutOfMemory) × IsTrue may_lack) ⊎ ((choice : Choice) → outcome choice ≡ Err refusal)
 
 -- Done as the machine does it for some choice, with the reply at the end of out; or refused, with nothing changed.
-abbrev pub Answers : Bool → (Choice → Outcome) → State → State → List ℕ → List ℕ → Result (Unit {0}) Refusal → Type 0
-Answers may_lack outcome old new before after (Ok _) =
+abbrev pub CarriesOut : Bool → (Choice → Outcome) → State → State → List ℕ → List ℕ → Result (Unit {0}) Refusal → Type 0
+CarriesOut may_lack outcome old new before after (Ok _) =
     (choice : Choice) × IsAllowed old choice × (reply : List ℕ) × (outcome choice ≡ comes_to new reply) × (after ≡ before ++ reply)
-Answers may_lack outcome old new before after (Err refusal) =
+CarriesOut may_lack outcome old new before after (Err refusal) =
     (new ≡ old) × StartsWith after before × IsRefused may_lack outcome refusal

@@ -6,7 +6,8 @@ use Rattle.bench_engine.specs.declared.line.HeldLine.{HeldLine}
 use Rattle.bench_engine.specs.declared.session.Session.{Session}
 use Rattle.bench_engine.specs.Replies.{Reply}
 use Rattle.bench_engine.specs.Lines.{lines, whole_lines, unended, trimmed}
-use Rattle.bench_engine.specs.Meanings.{limit, AnswersLine, Tells}
+use Rattle.bench_engine.specs.Meanings.{limit, AnswersLine}
+use Rattle.bench_engine.specs.inside.ReadLines.{Tells}
 use Rattle.bench_engine.specs.Runs.{Run, output, reply_line, accepted_count, refused_count}
 
 -- bytes that are held: whole, or only that they are too many for a line

@@ -7,7 +7,8 @@ use Rattle.elem_descr.specs.declared.descr.Descr.TheVariants.{Scalar as ScalarDe
 use Rattle.elem_descr.specs.declared.format_text.draft.Body.{Body}
 use Rattle.elem_descr.specs.Names.{is_legal_name}
 use Rattle.elem_descr.specs.Descriptors.{IsLegal, InOrder, AreNamedWithin, listed, depth, leaf_count}
-use Rattle.elem_descr.specs.FormatTexts.{Partial, max_depth, max_fields, max_leaves, max_size}
+use Rattle.elem_descr.specs.FormatLetters.{max_size}
+use Rattle.elem_descr.specs.FormatRecords.{Partial, max_depth, max_fields, max_leaves}
 
 pub record IsPartial (p : Partial) : Type 0 where
   pub few : length p.fields ≤ max_fields

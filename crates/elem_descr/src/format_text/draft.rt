@@ -1,9 +1,9 @@
-// A record as far as it is read.
+//! A record as far as it is read.
 ghost use Rattle.std.specs.Prelude.{◌≡◌, ◌≤◌, ◌<◌, ◌+◌, length, IsTrue, IfOk, false};
 ghost use Rattle.elem_descr.specs.Refusals.{Answers, Gives};
 ghost use Rattle.elem_descr.specs.Names.{is_legal_name};
 ghost use Rattle.elem_descr.specs.Items.{leaves_of};
-ghost use Rattle.elem_descr.specs.FormatTexts.{max_depth, max_fields, max_leaves, Partial, empty, is_taken, checked_name, added, widened, closed, closed_size};
+ghost use Rattle.elem_descr.specs.FormatRecords.{max_depth, max_fields, max_leaves, Partial, empty, is_taken, checked_name, added, widened, closed_record, closed_size};
 ghost use Rattle.elem_descr.specs.inside.Partials.{IsShallow, IsBody};
 
 use crate::descr::{Descr, Field, MAX_FIELDS, MAX_LEAVES, Record};
@@ -34,7 +34,7 @@ pub struct Draft {
 }
 
 impl Model for Draft {
-    ghost use Rattle.elem_descr.specs.FormatTexts.{Partial};
+    ghost use Rattle.elem_descr.specs.FormatRecords.{Partial};
     ghost use Rattle.elem_descr.specs.inside.Partials.{IsPartial};
     ghost use Rattle.elem_descr.specs.contracts.descr.Field as field;
     ghost use Rattle.std.specs.Coded.{codes};
@@ -97,7 +97,7 @@ impl Draft {
 
     /// Whether a further field may have this name. A name that is taken is `BadDescriptor`, and a
     /// 65th field is `TooLarge`.
-    #[tactic(auto, unfolding(crate::specs::FormatTexts::checked_name))]
+    #[tactic(auto, unfolding(crate::specs::FormatRecords::checked_name))]
     pub fn check_name(&self, name: &[u8]) -> Result<(), Refusal>
         ensures answers { Answers (λ _. tt) result (checked_name self.now name.now) }
         ensures new { IfOk result (λ _. is_taken self.now.fields name.now ≡ false) }
@@ -114,7 +114,7 @@ impl Draft {
 
     /// Adds a field. More than 2,048 leaves of the text, and an item of more than 65,536 bytes, are
     /// `TooLarge`.
-    #[tactic(auto, unfolding(crate::specs::FormatTexts::added))]
+    #[tactic(auto, unfolding(crate::specs::FormatRecords::added))]
     pub fn add(&mut self, name: FieldName, alignment: usize, descr: Descr) -> Result<(), Refusal>
         requires legal { IsTrue (is_legal_name name) }
         requires new { is_taken self.old.fields name ≡ false }
@@ -141,7 +141,7 @@ impl Draft {
     }
 
     /// Adds padding. An item of more than 65,536 bytes is `TooLarge`.
-    #[tactic(auto, unfolding(crate::specs::FormatTexts::widened))]
+    #[tactic(auto, unfolding(crate::specs::FormatRecords::widened))]
     pub fn pad(&mut self, count: Option<usize>) -> Result<(), Refusal>
         ensures answers { Answers (λ _. self.new) result (widened self.old count) }
         ensures levels { self.new.levels ≡ self.old.levels }
@@ -169,9 +169,9 @@ impl Draft {
 
     /// The record, its size rounded up where the mark aligns. A record without a field is
     /// `DescriptorLeftOut`.
-    #[tactic(auto, unfolding(crate::specs::FormatTexts::closed))]
+    #[tactic(auto, unfolding(crate::specs::FormatRecords::closed_record))]
     pub fn close(self, alloc: Global, mark: Mark) -> Result<Body, Refusal>
-        ensures gives { Gives (λ body. body) result (closed mark self) }
+        ensures gives { Gives (λ body. body) result (closed_record mark self) }
         ensures good { IfOk result (IsBody (1 + self.levels)) }
     {
         if self.fields.is_empty() {

@@ -1,9 +1,10 @@
-// The members of a record in a format text, added one by one.
+//! The members of a record in a format text, added one by one.
 ghost use Rattle.std.specs.Prelude.{◌≡◌, ◌≤◌, IsTrue, IfOk};
 ghost use Rattle.elem_descr.specs.Refusals.{Gives, Answers};
 ghost use Rattle.elem_descr.specs.Names.{is_legal_name};
 ghost use Rattle.elem_descr.specs.inside.Partials.{IsBody};
-ghost use Rattle.elem_descr.specs.FormatTexts.{max_fields, named, scalar_in, pad_in, body_in};
+ghost use Rattle.elem_descr.specs.FormatRecords.{max_fields};
+ghost use Rattle.elem_descr.specs.inside.Turns.{named, scalar_in, pad_in, body_in};
 
 use crate::descr::Descr;
 use crate::format_text::draft::{Body, Draft};
@@ -31,7 +32,7 @@ fn named(alloc: Global, number: usize, text: &[u8]) -> Result<(FieldName, &[u8])
 }
 
 /// Adds a scalar, and answers the mark in force and what follows its name.
-#[tactic(auto, unfolding(crate::specs::FormatTexts::scalar_in))]
+#[tactic(auto, unfolding(crate::specs::inside::Turns::scalar_in))]
 pub fn add_scalar<'a>(
     alloc: Global,
     mark: Mark,
@@ -53,7 +54,7 @@ pub fn add_scalar<'a>(
 }
 
 /// Adds padding, which has no name, and answers the mark in force and what follows.
-#[tactic(auto, unfolding(crate::specs::FormatTexts::pad_in))]
+#[tactic(auto, unfolding(crate::specs::inside::Turns::pad_in))]
 pub fn add_pad<'a>(
     mark: Mark,
     draft: &mut Draft,
@@ -71,7 +72,7 @@ pub fn add_pad<'a>(
 }
 
 /// Adds a record that is read, and answers the mark then in force and what follows its name.
-#[tactic(auto, unfolding(crate::specs::FormatTexts::body_in))]
+#[tactic(auto, unfolding(crate::specs::inside::Turns::body_in))]
 pub fn add_body<'a>(
     alloc: Global,
     mark: Mark,

@@ -1,6 +1,7 @@
-// The marks of a format text, and the numbers by their letters.
+//! The marks of a format text, and the numbers by their letters.
 ghost use Rattle.std.specs.Prelude.{◌≡◌, ◌≤◌};
-ghost use Rattle.elem_descr.specs.FormatTexts.{after, marked, number_letter, order_under, long_under, is_aligning, aligned, own_alignment};
+ghost use Rattle.elem_descr.specs.FormatLetters.{number_letter, order_under, long_under, is_aligning, aligned, own_alignment};
+ghost use Rattle.elem_descr.specs.inside.Turns.{after, marked};
 
 use crate::scalar::{Order, Scalar, Width};
 

@@ -1,10 +1,12 @@
-// The members of a format text, and their names.
+//! The members of a format text, and their names.
 ghost use Rattle.std.specs.Prelude.{◌≡◌, ◌≤◌, not, length, take, drop, IsTrue, IfSome, IfOk, if◌then◌else◌};
 ghost use Rattle.std.specs.Char.{is_ascii_digit};
 ghost use Rattle.std.specs.List.{list_all, prefix_len};
 ghost use Rattle.elem_descr.specs.Refusals.{Answers};
 ghost use Rattle.elem_descr.specs.Names.{is_legal_name};
-ghost use Rattle.elem_descr.specs.FormatTexts.{is_empty, is_colon, is_named, is_opened, count_of, is_left_out, text_member, lettered, member_at, name_at};
+ghost use Rattle.elem_descr.specs.FormatLetters.{is_empty, count_of, is_left_out, text_member, lettered};
+ghost use Rattle.elem_descr.specs.FormatPieces.{is_colon};
+ghost use Rattle.elem_descr.specs.inside.Turns.{is_named, is_opened, lettered_before, member_at, name_at};
 
 use crate::digits::capped_value;
 use crate::format_text::mark::Mark;
@@ -120,9 +122,9 @@ fn opened(digits: &[u8]) -> Result<Member, Refusal>
     Err(Refusal::DescriptorLeftOut)
 }
 
-fn lettered(mark: Mark, digits: &[u8], letter: u8, rest: &[u8]) -> Result<Member, Refusal>
+fn lettered(mark: Mark, digits: &[u8], letter: u8) -> Result<Member, Refusal>
     requires { IsTrue (list_all is_ascii_digit digits.now) }
-    ensures { result ≡ lettered mark digits.now letter rest.now }
+    ensures { result ≡ lettered mark digits.now letter }
 {
     if let Some(scalar) = mark.number(letter) {
         if !digits.is_empty() {
@@ -133,10 +135,19 @@ fn lettered(mark: Mark, digits: &[u8], letter: u8, rest: &[u8]) -> Result<Member
     match letter {
         b's' => text_member(digits),
         b'x' => Ok(Member::Pad(count(digits))),
-        b'T' if is_opened(rest) => opened(digits),
         _ if is_left_out(letter) => Err(Refusal::DescriptorLeftOut),
         _ => Err(Refusal::BadDescriptor),
     }
+}
+
+fn lettered_before(mark: Mark, digits: &[u8], letter: u8, rest: &[u8]) -> Result<Member, Refusal>
+    requires { IsTrue (list_all is_ascii_digit digits.now) }
+    ensures { result ≡ lettered_before mark digits.now letter rest.now }
+{
+    if letter == b'T' && is_opened(rest) {
+        return opened(digits);
+    }
+    lettered(mark, digits, letter)
 }
 
 /// The member at the front, and what follows it.
@@ -148,7 +159,7 @@ pub fn member_at(mark: Mark, text: &[u8]) -> Result<(Member, &[u8]), Refusal>
     let [letter, rest @ ..] = rest else {
         return Err(Refusal::BadDescriptor);
     };
-    match lettered(mark, digits, *letter, rest) {
+    match lettered_before(mark, digits, *letter, rest) {
         Ok(member) => Ok((member, rest)),
         Err(refusal) => Err(refusal),
     }

@@ -1,9 +1,10 @@
-// What a format text means.
+//! What a format text means.
 ghost use Rattle.std.specs.Prelude.{◌≡◌, codes};
 ghost use Rattle.std.specs.List.{list_all};
 ghost use Rattle.elem_descr.specs.Refusals.{Answers, Gives};
 ghost use Rattle.elem_descr.specs.TypeStrings.{is_one_of};
-ghost use Rattle.elem_descr.specs.FormatTexts.{ended, scalar_alone, record_alone, format};
+ghost use Rattle.elem_descr.specs.FormatTexts.{format};
+ghost use Rattle.elem_descr.specs.inside.Turns.{ended, scalar_alone, record_alone};
 
 use crate::descr::{Descr, MAX_DEPTH};
 use crate::format_text::mark::{Mark, marked};
@@ -20,7 +21,7 @@ fn is_blank(text: &[u8]) -> bool
 }
 
 /// Refuses whatever follows a whole descriptor but blanks.
-#[tactic(auto, unfolding(crate::specs::FormatTexts::ended))]
+#[tactic(auto, unfolding(crate::specs::inside::Turns::ended))]
 fn ended(text: &[u8]) -> Result<(), Refusal>
     ensures { Answers (λ _. tt) result (ended text.now) }
 {
@@ -38,7 +39,7 @@ fn ended(text: &[u8]) -> Result<(), Refusal>
 }
 
 /// The scalar that a member alone means.
-#[tactic(auto, unfolding(crate::specs::FormatTexts::scalar_alone))]
+#[tactic(auto, unfolding(crate::specs::inside::Turns::scalar_alone))]
 fn scalar_alone(value: Option<Scalar>, rest: &[u8]) -> Result<Descr, Refusal>
     ensures { Answers (λ descr. descr) result (scalar_alone value rest.now) }
 {
@@ -53,7 +54,7 @@ fn scalar_alone(value: Option<Scalar>, rest: &[u8]) -> Result<Descr, Refusal>
 }
 
 /// The record whose members the text begins with, where nothing follows it.
-#[tactic(auto, unfolding(crate::specs::FormatTexts::record_alone))]
+#[tactic(auto, unfolding(crate::specs::inside::Turns::record_alone))]
 fn record_alone(alloc: Global, mark: Mark, text: &[u8]) -> Result<Descr, Refusal>
     ensures { Gives (λ descr. descr) result (record_alone mark text.now) }
 {

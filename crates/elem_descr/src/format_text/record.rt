@@ -1,7 +1,8 @@
-// The records of a format text, and the records within them.
+//! The records of a format text, and the records within them.
 ghost use Rattle.std.specs.Prelude.{◌≡◌, ◌≤◌, length, option_copied, IfOk};
 ghost use Rattle.elem_descr.specs.Refusals.{Gives};
-ghost use Rattle.elem_descr.specs.FormatTexts.{max_depth, max_leaves, closing, record_within, field_at};
+ghost use Rattle.elem_descr.specs.FormatRecords.{max_depth, max_leaves};
+ghost use Rattle.elem_descr.specs.inside.Turns.{closing, record_within, field_at};
 ghost use Rattle.elem_descr.specs.inside.Partials.{IsBody};
 
 use crate::format_text::draft::{Body, Draft};
@@ -58,7 +59,7 @@ pub fn record_within(
 
 /// Adds the next member, and answers the mark then in force and what follows the member.
 #[cycle(record)]
-#[tactic(auto, unfolding(crate::specs::FormatTexts::field_at))]
+#[tactic(auto, unfolding(crate::specs::inside::Turns::field_at))]
 fn field_at<'a>(
     alloc: Global,
     mark: Mark,

@@ -1,9 +1,9 @@
-// The format text of a descriptor.
+//! The format text of a descriptor.
 ghost use Rattle.std.specs.Prelude.{◌≡◌, ◌≤◌, ◌++◌, ◌∷◌, [], OnOk, IfOk, decimal};
 ghost use Rattle.elem_descr.specs.Encoding.{size};
 ghost use Rattle.elem_descr.specs.Descriptors.{IsLegal};
 ghost use Rattle.elem_descr.specs.FormatTexts.{format};
-ghost use Rattle.elem_descr.specs.WrittenFormats.{written_mark, written_letter, written_count, written_scalar, written_pad, written_name, written_fields, written};
+ghost use Rattle.elem_descr.specs.WrittenFormats.{written_mark, written_letter, written_count, written_scalar, written_pad, written_name, written_fields, written_format};
 
 use crate::descr::{Descr, Record};
 use crate::scalar::{Order, Scalar, Width};
@@ -120,8 +120,8 @@ fn push_fields(text: &mut Vec<u8>, whole: &Record) -> Result<(), AllocError>
 #[cycle(written)]
 #[tactic(auto, using(crate::proofs::RoundTrip::reads_record_back))]
 fn push_descr(text: &mut Vec<u8>, descr: &Descr) -> Result<(), AllocError>
-    ensures spelled { OnOk result (text.new.items ≡ text.old.items ++ written descr.now) }
-    ensures reads_back { OnOk result (format (written descr.now) ≡ Ok descr.now) }
+    ensures spelled { OnOk result (text.new.items ≡ text.old.items ++ written_format descr.now) }
+    ensures reads_back { OnOk result (format (written_format descr.now) ≡ Ok descr.now) }
 {
     match descr {
         Descr::Scalar(scalar) => {
@@ -141,8 +141,8 @@ fn push_descr(text: &mut Vec<u8>, descr: &Descr) -> Result<(), AllocError>
 /// integer of two or more bytes, and a record with the names of all its fields and its padding.
 
 pub fn format_write(alloc: Global, descr: &Descr) -> Result<Vec<u8>, AllocError>
-    ensures spelled { IfOk result (λ text. text.items ≡ written descr.now) }
-    ensures reads_back { OnOk result (format (written descr.now) ≡ Ok descr.now) }
+    ensures spelled { IfOk result (λ text. text.items ≡ written_format descr.now) }
+    ensures reads_back { OnOk result (format (written_format descr.now) ≡ Ok descr.now) }
 {
     let mut text = Vec::new(alloc);
     push_descr(&mut text, descr)?;

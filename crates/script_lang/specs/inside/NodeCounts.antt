@@ -6,10 +6,10 @@ use Rattle.script_lang.specs.declared.literal.Literal.{Literal}
 use Rattle.script_lang.specs.declared.literal.Literal.TheVariants.{Scalar, Record}
 use Rattle.script_lang.specs.declared.literal.RecordLiteral.TheDeep.{deep-Literal}
 use Rattle.script_lang.specs.RecordValues.{node_count}
-use Rattle.script_lang.specs.Listed.{listed}
+use Rattle.script_lang.specs.Listed.{all_values}
 
 -- no literal among those listed is deeper than they have nodes
-pub depth_le-node_count : (literals : List Literal) → max (most deep-Literal literals) 0 ≤ node_count (listed literals)
+pub depth_le-node_count : (literals : List Literal) → max (most deep-Literal literals) 0 ≤ node_count (all_values literals)
 depth_le-node_count [] = omega arith
 depth_le-node_count (Scalar scalar ∷ literals) = omega (arith, depth_le-node_count literals)
 depth_le-node_count (Record inner ∷ literals) = omega (arith, depth_le-node_count literals)

@@ -7,18 +7,21 @@ use Rattle.elem_descr.specs.declared.descr.Descr.TheVariants.{Record as RecordDe
 use Rattle.elem_descr.specs.Fields.{Structure, total}
 use Rattle.elem_descr.specs.Descriptors.{fields_of, listed, leaf_count}
 use Rattle.elem_descr.specs.Items.{leaves_of}
-use Rattle.elem_descr.proofs.FieldLaws.{rest_at, weight, weight-one, leaf_count-before, listed-fields_of, length-leaves_from}
-use Rattle.array_print.specs.Printed.{joined, record_end, field_texts, descr_text, in_parentheses, first_text}
+use Rattle.elem_descr.specs.inside.Weights.{weight}
+use Rattle.elem_descr.specs.DescriptorLaws.{rest_at, weight-one, listed-fields_of}
+use Rattle.elem_descr.specs.ItemLaws.{leaf_count-before, length-leaves_from}
+use Rattle.array_print.specs.Printed.{join_texts, record_end, field_texts, structure_text, in_parentheses, first_text}
 use Rattle.array_print.specs.inside.Shown.{lead, texts_at}
 use Rattle.array_print.proofs.LeafLaws.{joined-take-more, field_texts-before, length-field_texts}
-use Rattle.array_print.proofs.PrintLaws.{StartsWith-along, StartsWith-trans, regroup}
+use Rattle.array_print.specs.StartLaws.{StartsWith-trans}
+use Rattle.array_print.proofs.PrintLaws.{StartsWith-along, regroup}
 use Rattle.array_print.proofs.printer.+fields.Goals as goal
 
 -- one text more is pushed
-text-more : (texts : List (List ℕ)) (k : ℕ) (old out led out' : List ℕ) → k < length texts → out ≡ old ++ (codes "(" ++ joined (codes ", ") (take k texts)) → led ≡ out ++ lead k (codes ", ") → out' ≡ led ++ get_or texts k [] → out' ≡ old ++ (codes "(" ++ joined (codes ", ") (take (k + 1) texts))
+text-more : (texts : List (List ℕ)) (k : ℕ) (old out led out' : List ℕ) → k < length texts → out ≡ old ++ (codes "(" ++ join_texts (codes ", ") (take k texts)) → led ≡ out ++ lead k (codes ", ") → out' ≡ led ++ get_or texts k [] → out' ≡ old ++ (codes "(" ++ join_texts (codes ", ") (take (k + 1) texts))
 text-more texts k old out led out' below pushed leads text =
     let comma = lead k (codes ", ") in
-    let so_far = joined (codes ", ") (take k texts) in
+    let so_far = join_texts (codes ", ") (take k texts) in
     let next = get_or texts k [] in
     text
     ∙ ap (λ l. l ++ next) (leads ∙ ap (λ l. l ++ comma) pushed)
@@ -26,21 +29,21 @@ text-more texts k old out led out' below pushed leads text =
     ∙ ap (λ l. old ++ (codes "(" ++ l)) (sym (joined-take-more (codes ", ") texts k below))
 
 -- all texts, and the closing parenthesis
-texts-all : (texts : List (List ℕ)) (k n : ℕ) (old out out' : List ℕ) → k ≡ length texts → n ≡ length texts → out ≡ old ++ (codes "(" ++ joined (codes ", ") (take k texts)) → out' ≡ out ++ record_end n → out' ≡ old ++ (codes "(" ++ joined (codes ", ") texts ++ record_end (length texts))
+texts-all : (texts : List (List ℕ)) (k n : ℕ) (old out out' : List ℕ) → k ≡ length texts → n ≡ length texts → out ≡ old ++ (codes "(" ++ join_texts (codes ", ") (take k texts)) → out' ≡ out ++ record_end n → out' ≡ old ++ (codes "(" ++ join_texts (codes ", ") texts ++ record_end (length texts))
 texts-all texts k n old out out' all count pushed closed =
     closed
-    ∙ ap (λ l. l ++ record_end n) (pushed ∙ ap (λ l. old ++ (codes "(" ++ joined (codes ", ") l)) (take_all k texts (omega arith)))
-    ∙ append_assoc old (codes "(" ++ joined (codes ", ") texts) (record_end n)
-    ∙ ap (λ m. old ++ (codes "(" ++ joined (codes ", ") texts ++ record_end m)) count
+    ∙ ap (λ l. l ++ record_end n) (pushed ∙ ap (λ l. old ++ (codes "(" ++ join_texts (codes ", ") l)) (take_all k texts (omega arith)))
+    ∙ append_assoc old (codes "(" ++ join_texts (codes ", ") texts) (record_end n)
+    ∙ ap (λ m. old ++ (codes "(" ++ join_texts (codes ", ") texts ++ record_end m)) count
 
 -- the fields of a record, seen as such
 seen : (structure : Structure) (fields : List Field) → fields ≡ fields_of structure.fields → listed fields ≡ structure.fields
 seen structure fields is = ap listed is ∙ listed-fields_of structure.fields
 
 -- a field's text, and the text of what it is
-field-text : (descr : Descr) (structure : Structure) (fields : List Field) (texts : List (List ℕ)) → descr ≡ RecordDescr structure → fields ≡ fields_of structure.fields → in_parentheses (field_texts (listed fields) texts) ≡ descr_text descr texts
+field-text : (descr : Descr) (structure : Structure) (fields : List Field) (texts : List (List ℕ)) → descr ≡ RecordDescr structure → fields ≡ fields_of structure.fields → in_parentheses (field_texts (listed fields) texts) ≡ structure_text descr texts
 field-text descr structure fields texts is fields-are =
-    ap (λ fs. in_parentheses (field_texts fs texts)) (seen structure fields fields-are) ∙ sym (ap (λ d. descr_text d texts) is)
+    ap (λ fs. in_parentheses (field_texts fs texts)) (seen structure fields fields-are) ∙ sym (ap (λ d. structure_text d texts) is)
 
 pub push_field-push_leaf-requires-clause-few : goal.push_field-push_leaf-requires-clause-few
 push_field-push_leaf-requires-clause-few t c =
@@ -96,12 +99,12 @@ push_record-push_field-requires t c =
     (omega (arith, c.decreases, one), (omega (arith, here, c.loop-i.invariant.count, c.requires.leaves), (c.requires.few, (c.requires.widths, c.requires.inside))))
 
 -- the text of the next field, and those after it
-unread-more : (fields : List Field) (field : Field) (i leaf : ℕ) (texts leaves : List (List ℕ)) → i < length fields → field ≡ get_or fields i field → drop i texts ≡ field_texts (listed (drop i fields)) (drop leaf leaves) → drop i texts ≡ descr_text field.descr (drop leaf leaves) ∷ field_texts (listed (drop (i + 1) fields)) (drop (leaf + length (leaves_of field.descr)) leaves)
+unread-more : (fields : List Field) (field : Field) (i leaf : ℕ) (texts leaves : List (List ℕ)) → i < length fields → field ≡ get_or fields i field → drop i texts ≡ field_texts (listed (drop i fields)) (drop leaf leaves) → drop i texts ≡ structure_text field.descr (drop leaf leaves) ∷ field_texts (listed (drop (i + 1) fields)) (drop (leaf + length (leaves_of field.descr)) leaves)
 unread-more fields field i leaf texts leaves below is unread =
     unread
     ∙ ap (λ fs. field_texts (listed fs) (drop leaf leaves)) (rest_at fields field i below is)
     ∙ field_texts-before field.name field.at field.descr (listed (drop (i + 1) fields)) (drop leaf leaves)
-    ∙ ap (λ later. descr_text field.descr (drop leaf leaves) ∷ field_texts (listed (drop (i + 1) fields)) later) (drop-drop (length (leaves_of field.descr)) leaf leaves)
+    ∙ ap (λ later. structure_text field.descr (drop leaf leaves) ∷ field_texts (listed (drop (i + 1) fields)) later) (drop-drop (length (leaves_of field.descr)) leaf leaves)
 
 parted : (texts later : List (List ℕ)) (i : ℕ) (text : List ℕ) → i < length texts → drop i texts ≡ text ∷ later → (get_or texts i [] ≡ text) × (drop (i + 1) texts ≡ later)
 parted texts later i text below is =

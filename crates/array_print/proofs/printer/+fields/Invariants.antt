@@ -1,8 +1,8 @@
 use Rattle.std.proofs.Common.{◌≡◌, ◌≤◌, ◌+◌, ◌*◌, ◌++◌, codes, take, drop, vec_capacity}
 use Rattle.elem_descr.specs.Descriptors.{listed, leaf_count}
 use Rattle.elem_descr.specs.Fields.{total}
-use Rattle.elem_descr.proofs.FieldLaws.{weight}
-use Rattle.array_print.specs.Printed.{joined, field_texts}
+use Rattle.elem_descr.specs.inside.Weights.{weight}
+use Rattle.array_print.specs.Printed.{join_texts, field_texts}
 use Rattle.array_print.specs.inside.Shown.{texts_at}
 use Rattle.array_print.proofs.printer.+fields.Given as goal
 
@@ -12,7 +12,7 @@ invariant-push_record-loop-i l =
     let leaves = texts_at l.items.descr.now l.items.widths.now l.items.block.now l.offset in
     let texts = field_texts (listed l.fields) (drop l.k leaves) in
     record {
-      pushed : l.out.items ≡ l.fn.out.items ++ (codes "(" ++ joined (codes ", ") (take l.i texts));
+      pushed : l.out.items ≡ l.fn.out.items ++ (codes "(" ++ join_texts (codes ", ") (take l.i texts));
       unread : drop l.i texts ≡ field_texts (listed (drop l.i l.fields)) (drop l.leaf leaves);
       count : l.leaf + leaf_count (listed (drop l.i l.fields)) ≡ l.k + leaf_count (listed l.fields);
       room : vec_capacity l.fn.out ≤ vec_capacity l.out;

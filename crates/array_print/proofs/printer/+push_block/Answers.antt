@@ -1,6 +1,7 @@
 use Rattle.std.proofs.Common.{arith}
 use Rattle.array_print.specs.inside.Shown.{shown}
-use Rattle.array_print.proofs.PrintLaws.{StartsWith-along, StartsWith-trans, opened-more, opened-all, walked-more}
+use Rattle.array_print.specs.StartLaws.{StartsWith-trans}
+use Rattle.array_print.proofs.PrintLaws.{StartsWith-along, opened-more, opened-all, walked-more}
 use Rattle.array_print.proofs.printer.+push_block.Goals as goal
 
 pub returns-in_err-push_lead-clause-kept : goal.returns-in_err-push_lead-clause-kept

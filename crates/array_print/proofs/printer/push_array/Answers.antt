@@ -6,20 +6,20 @@ use Rattle.elem_descr.specs.declared.descr.Descr.{Descr}
 use Rattle.elem_descr.specs.Items.{leaves_of}
 use Rattle.shape_strides.specs.Indexes.{count}
 use Rattle.shape_strides.specs.Layouts.{offsets}
-use Rattle.array_print.specs.Printed.{array_text, block_text, item_text, widths, items_at}
+use Rattle.array_print.specs.Printed.{array_text, block_text, item_text, widths, items_from}
 use Rattle.array_print.specs.inside.Shown.{AreWidths, shown}
 use Rattle.array_print.proofs.LeafLaws.{are-widths}
 use Rattle.array_print.proofs.printer.push_array.Goals as goal
 
-texts-shown : (descr : Descr) (ws block offs : List ℕ) → map (shown descr ws block) offs ≡ map (item_text descr ws) (items_at descr block offs)
+texts-shown : (descr : Descr) (ws block offs : List ℕ) → map (shown descr ws block) offs ≡ map (item_text descr ws) (items_from descr block offs)
 texts-shown descr ws block [] = refl
 texts-shown descr ws block (offset ∷ offs) = ap (λ l. shown descr ws block offset ∷ l) (texts-shown descr ws block offs)
 
 -- the whole walk is printed as one block, inside no bracket
-printed : (descr : Descr) (block shape axes offs walk ws out out' : List ℕ) → length offs ≡ count shape → (count shape ≡ 0 → ⊥) → axes ≡ shape → walk ≡ offs → ws ≡ widths descr shape (items_at descr block offs) →
-    out' ≡ out ++ block_text 0 (drop 0 axes) (map (shown descr ws block) (take (count (drop 0 axes)) walk)) → out' ≡ out ++ array_text descr shape (items_at descr block offs)
+printed : (descr : Descr) (block shape axes offs walk ws out out' : List ℕ) → length offs ≡ count shape → (count shape ≡ 0 → ⊥) → axes ≡ shape → walk ≡ offs → ws ≡ widths descr shape (items_from descr block offs) →
+    out' ≡ out ++ block_text 0 (drop 0 axes) (map (shown descr ws block) (take (count (drop 0 axes)) walk)) → out' ≡ out ++ array_text descr shape (items_from descr block offs)
 printed descr block shape axes offs walk ws out out' all some same walked wide pushed =
-    let items = items_at descr block offs in
+    let items = items_from descr block offs in
     let texts = map (item_text descr (widths descr shape items)) items in
     pushed
     ∙ ap (λ s. out ++ block_text 0 s (map (shown descr ws block) (take (count s) walk))) same
@@ -32,7 +32,7 @@ printed descr block shape axes offs walk ws out out' all some same walked wide p
 pub push_block-requires-clause-widths : goal.push_block-requires-clause-widths
 push_block-requires-clause-widths c =
     subst (λ ws. AreWidths (leaves_of c.args.descr.now) ws) (sym (c.as_slice.ensures ∙ c.in_ok-widths.ensures))
-    (are-widths c.args.descr.now c.args.layout.now.shape (items_at c.args.descr.now c.args.block.now (offsets c.args.layout.now)))
+    (are-widths c.args.descr.now c.args.layout.now.shape (items_from c.args.descr.now c.args.block.now (offsets c.args.layout.now)))
 
 pub returns-clause-ok : goal.returns-clause-ok
 returns-clause-ok c =

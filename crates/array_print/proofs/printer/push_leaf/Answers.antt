@@ -5,17 +5,17 @@ use Rattle.elem_descr.specs.declared.scalar.Scalar.{Scalar}
 use Rattle.elem_descr.specs.declared.descr.Descr.{Descr}
 use Rattle.elem_descr.specs.Encoding.{size, decode}
 use Rattle.elem_descr.specs.Items.{item_size, leaves_of}
-use Rattle.array_print.specs.Printed.{padded, leaf_text}
+use Rattle.array_print.specs.Printed.{right_justified, leaf_text}
 use Rattle.array_print.specs.inside.Shown.{AreWidths, texts_at}
 use Rattle.array_print.proofs.LeafLaws.{bytes-at, count-widths, width-at, text-at}
 use Rattle.array_print.proofs.printer.push_leaf.Goals as goal
 
 -- the text that is pushed is that of the leaf
 pushed-leaf : (descr : Descr) (ws block old new : List ℕ) (offset k at wide : ℕ) (scalar : Scalar) → AreWidths (leaves_of descr) ws → k < length (leaves_of descr) → IfSome (slice_get (leaves_of descr) k) (λ leaf. (scalar ≡ leaf.scalar) × (at ≡ leaf.at)) →
-    at + size scalar ≤ item_size descr → wide ≡ size scalar → new ≡ old ++ padded (get_or ws k 0) (leaf_text scalar (decode scalar (take wide (drop (offset + at) block)))) → new ≡ old ++ get_or (texts_at descr ws block offset) k []
+    at + size scalar ≤ item_size descr → wide ≡ size scalar → new ≡ old ++ right_justified (get_or ws k 0) (leaf_text scalar (decode scalar (take wide (drop (offset + at) block)))) → new ≡ old ++ get_or (texts_at descr ws block offset) k []
 pushed-leaf descr ws block old new offset k at wide scalar are below is fits whole pushed =
     pushed
-    ∙ ap (λ bytes. old ++ padded (get_or ws k 0) (leaf_text scalar (decode scalar bytes))) (ap (λ n. take n (drop (offset + at) block)) whole ∙ sym (bytes-at block offset at (size scalar) (item_size descr) fits))
+    ∙ ap (λ bytes. old ++ right_justified (get_or ws k 0) (leaf_text scalar (decode scalar bytes))) (ap (λ n. take n (drop (offset + at) block)) whole ∙ sym (bytes-at block offset at (size scalar) (item_size descr) fits))
     ∙ ap (λ text. old ++ text) (sym (text-at (leaves_of descr) ws (take (item_size descr) (drop offset block)) k scalar at are below is))
 
 pub bounds-items-k : goal.bounds-items-k

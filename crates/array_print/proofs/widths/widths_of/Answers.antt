@@ -2,13 +2,13 @@ use Rattle.std.proofs.Common.{◌≡◌, ◌<◌, ◌++◌, ◌∷◌, [], lengt
 use Rattle.std.proofs.lemmas.List.{take_more, take_all}
 use Rattle.elem_descr.specs.Items.{leaves_of}
 use Rattle.shape_strides.specs.Layouts.{offsets}
-use Rattle.array_print.specs.Printed.{widths, items_at}
+use Rattle.array_print.specs.Printed.{widths, items_from}
 use Rattle.array_print.proofs.LeafLaws.{are-widths, count-widths}
 use Rattle.array_print.proofs.widths.widths_of.Goals as goal
 
 pub loop-k-preserved : goal.loop-k-preserved
 loop-k-preserved c =
-    let items = items_at c.args.descr.now c.args.block.now (offsets c.args.layout.now) in
+    let items = items_from c.args.descr.now c.args.block.now (offsets c.args.layout.now) in
     let all = widths c.args.descr.now c.args.layout.now.shape items in
     let many : length all ≡ length (leaves_of c.args.descr.now) = count-widths (leaves_of c.args.descr.now) all (are-widths c.args.descr.now c.args.layout.now.shape items) in
     let below : c.loop-k.k < length all = omega (arith, many, c.leaf_count-k-end.ensures.value, c.loop-k-test.true) in
@@ -16,7 +16,7 @@ loop-k-preserved c =
 
 pub returns : goal.returns
 returns c =
-    let items = items_at c.args.descr.now c.args.block.now (offsets c.args.layout.now) in
+    let items = items_from c.args.descr.now c.args.block.now (offsets c.args.layout.now) in
     let all = widths c.args.descr.now c.args.layout.now.shape items in
     let many : length all ≡ length (leaves_of c.args.descr.now) = count-widths (leaves_of c.args.descr.now) all (are-widths c.args.descr.now c.args.layout.now.shape items) in
     c.loop-k.invariant ∙ take_all c.loop-k.k all (omega (arith, many, c.leaf_count-k-end.ensures.value, c.loop-k-test.false))

@@ -2,7 +2,8 @@ use Rattle.std.proofs.Common.{◌≡◌, sym, ap, ◌∙◌, length, Ok, Result,
 use Rattle.shape_strides.specs.Limits.{max_bytes}
 use Rattle.shape_strides.specs.Indexes.{count}
 use Rattle.shape_strides.specs.Shapes.{shape_of}
-use Rattle.array_tests.proofs.ShownViewLaws.{alone-lies, shown-array, may-view_item}
+use Rattle.name_store.specs.ArrayLaws.{found-array}
+use Rattle.array_tests.proofs.ShownViewLaws.{alone-lies, may-view_item}
 use Rattle.array_tests.proofs.table.view_item.Goals as goal
 
 same-ok : {A E : Type 0} (x y : A) → ◌≡◌ {A = Result A E} (Ok x) (Ok y) → x ≡ y
@@ -24,5 +25,5 @@ invariant_of-layout c =
 
 pub bind-requires : goal.bind-requires
 bind-requires c =
-    let there = shown-array _ _ c.in-Some.array c.in-Some.ensures in
+    let there = found-array _ _ c.in-Some.array c.in-Some.ensures in
     may-view_item c.args.bench.now c.args.source.now there.0 c.in-Some.array there.1 there.2 _ c.args.k (no-axes c.in_ok-try_new.field-0 c.in_ok-try_new.ensures) c.new.ensures c.in_ok-offset.ensures.entry

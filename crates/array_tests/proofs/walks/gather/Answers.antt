@@ -1,6 +1,6 @@
 use Rattle.std.proofs.Common.{◌<◌, length, slice_index}
 use Rattle.std.proofs.lemmas.List.Elements.{All-rest}
-use Rattle.shape_strides.proofs.WalkLaws.{mapped_more}
+use Rattle.shape_strides.specs.WalkLaws.{mapped_more}
 use Rattle.array_tests.proofs.walks.gather.Goals as goal
 
 pub loop-offset-preserved : goal.loop-offset-preserved

@@ -1,7 +1,7 @@
 use Rattle.std.proofs.Common.{refl, ap, [], ◌∷◌, ◌++◌, arith, ◌∙◌, ◌≡◌}
 use Rattle.std.proofs.lemmas.Grind.{common_steps}
 use Rattle.bench_engine.specs.Replies.{refusal}
-use Rattle.script_lang.specs.Refusals.{text_of}
+use Rattle.script_lang.specs.Refusals.{refusal_text}
 use Rattle.bench_engine.proofs.Steps.{answered, silent_line, refused_line}
 use Rattle.bench_engine.proofs.engine.answer.Goals as goal
 
@@ -15,5 +15,5 @@ returns-in-Ok-Some-clause-answered c =
 
 pub returns-in-Err-clause-answered : goal.returns-in-Err-clause-answered
 returns-in-Err-clause-answered c =
-    let text : c.extend_from_slice.new.self.items ≡ text_of c.in-Err.refusal = grind (arith, common_steps, c.requires.empty, c.word.ensures.text) in
+    let text : c.extend_from_slice.new.self.items ≡ refusal_text c.in-Err.refusal = grind (arith, common_steps, c.requires.empty, c.word.ensures.text) in
     (refusal c.in-Err.refusal ∷ [], (refusal c.in-Err.refusal, refl, refl, text), refused_line _ _ _ c.in-Err.ensures)

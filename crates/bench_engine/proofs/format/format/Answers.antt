@@ -1,6 +1,7 @@
 use Rattle.std.proofs.Common.{refl, inr}
 use Rattle.bench_engine.specs.Replies.{format_text}
-use Rattle.bench_engine.proofs.Looks.{unchanged, not_found, found, format-unknown, format-found}
+use Rattle.name_store.specs.ArrayLaws.{found-array as found}
+use Rattle.bench_engine.proofs.Looks.{unchanged, not_found, format-unknown, format-found}
 use Rattle.bench_engine.proofs.Steps.{spare}
 use Rattle.bench_engine.proofs.format.format.Goals as goal
 

@@ -2,7 +2,8 @@ use Rattle.std.proofs.Common.{◌≡◌, sym, refl, ◌∙◌, inr}
 use Rattle.shape_strides.specs.Layouts.{offsets}
 use Rattle.name_store.specs.Arrays.{addresses}
 use Rattle.bench_engine.specs.Replies.{info_text}
-use Rattle.bench_engine.proofs.Looks.{unchanged, not_found, found}
+use Rattle.name_store.specs.ArrayLaws.{found-array as found}
+use Rattle.bench_engine.proofs.Looks.{unchanged, not_found}
 use Rattle.bench_engine.proofs.Outcomes.{info-unknown, info-done}
 use Rattle.bench_engine.proofs.Steps.{spare}
 use Rattle.bench_engine.specs.Machine.{comes_to}

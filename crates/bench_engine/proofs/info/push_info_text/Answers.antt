@@ -1,5 +1,5 @@
 use Rattle.bench_engine.proofs.Creates.{starts}
-use Rattle.bench_engine.proofs.Listings.{StartsWith-trans}
+use Rattle.array_print.specs.StartLaws.{StartsWith-trans}
 use Rattle.bench_engine.proofs.info.push_info_text.Goals as goal
 
 pub returns-clause-kept : goal.returns-clause-kept

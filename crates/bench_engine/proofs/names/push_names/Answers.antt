@@ -1,5 +1,6 @@
 use Rattle.std.proofs.Common.{◌++◌, ap, sym, ◌∙◌, arith, add-one, append_assoc, codes, drop, suc}
-use Rattle.bench_engine.proofs.Listings.{listed, listed-next, StartsWith-trans}
+use Rattle.array_print.specs.StartLaws.{StartsWith-trans}
+use Rattle.bench_engine.proofs.Listings.{listed, listed-next}
 use Rattle.bench_engine.proofs.names.push_names.Goals as goal
 
 pub loop-k-preserved : goal.loop-k-preserved

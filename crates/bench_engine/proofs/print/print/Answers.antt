@@ -1,7 +1,8 @@
 use Rattle.std.proofs.Common.{ap, refl, ◌∙◌, inr, ◌++◌}
 use Rattle.shape_strides.specs.Layouts.{offsets}
-use Rattle.array_print.specs.Printed.{array_text, items_at}
-use Rattle.bench_engine.proofs.Looks.{unchanged, not_found, found, print-unknown, print-found}
+use Rattle.array_print.specs.Printed.{array_text, items_from}
+use Rattle.name_store.specs.ArrayLaws.{found-array as found}
+use Rattle.bench_engine.proofs.Looks.{unchanged, not_found, print-unknown, print-found}
 use Rattle.bench_engine.proofs.Steps.{spare}
 use Rattle.bench_engine.proofs.print.print.Goals as goal
 
@@ -15,7 +16,7 @@ returns-clause-answers c =
     let r = c.in-Some.array in (
       any.0,
       any.1,
-      array_text r.descr.now r.layout.now.shape (items_at r.descr.now r.block.now (offsets r.layout.now)),
+      array_text r.descr.now r.layout.now.shape (items_from r.descr.now r.block.now (offsets r.layout.now)),
       print-found _ _ it.0 r it.1 it.2,
-      c.in_ok-print_into.ensures.ok ∙ ap (λ block. c.args.out.now.items ++ array_text r.descr.now r.layout.now.shape (items_at r.descr.now block (offsets r.layout.now))) c.bytes.ensures,
+      c.in_ok-print_into.ensures.ok ∙ ap (λ block. c.args.out.now.items ++ array_text r.descr.now r.layout.now.shape (items_from r.descr.now block (offsets r.layout.now))) c.bytes.ensures,
     )

@@ -8,6 +8,6 @@ invariant-loop-turn g l = record {
   room : HasRoom l.session;
   few : l.session.accepted + l.session.refused ≤ 65538 * l.turn;
   chunk : vec_len l.chunk ≡ l.size;
-  counted : g.S.Source.reads l.source ≤ g.S.Source.reads l.fn.source + l.turn;
-  fed : Reading (g.S.Source.remaining l.fn.source) (g.S.Source.remaining l.source) (g.W.Write.contents l.fn.writer) (g.W.Write.contents l.writer) l.session;
+  counted : g.S.ScriptSource.reads l.source ≤ g.S.ScriptSource.reads l.fn.source + l.turn;
+  fed : Reading (g.S.ScriptSource.remaining l.fn.source) (g.S.ScriptSource.remaining l.source) (g.W.Write.contents l.fn.writer) (g.W.Write.contents l.writer) l.session;
 }

@@ -8,7 +8,8 @@ use Rattle.literal_items.specs.LiteralItems.{item_value}
 use Rattle.name_store.specs.Arrays.{descr_of, written}
 use Rattle.bench_engine.specs.Machine.{viewed, comes_to}
 use Rattle.bench_engine.proofs.Indices.{plain-items, not-plain}
-use Rattle.bench_engine.proofs.Looks.{unchanged, not_found, found, bound}
+use Rattle.name_store.specs.ArrayLaws.{found-array as found}
+use Rattle.bench_engine.proofs.Looks.{unchanged, not_found, bound}
 use Rattle.bench_engine.proofs.Outcomes.{set-syntax, set-unknown, set-index, set-read_only, set-literal, set-done}
 use Rattle.bench_engine.proofs.Steps.{spare}
 use Rattle.bench_engine.proofs.Views.{leads, given-view, view-refused, refused-or}

@@ -2,7 +2,8 @@ use Rattle.std.proofs.Common.{ap, ◌∙◌, List, append_assoc, arith, rules}
 use Rattle.elem_descr.specs.declared.descr.Field.{Field}
 use Rattle.elem_descr.specs.Descriptors.{listed}
 use Rattle.elem_descr.specs.Items.{leaves_from}
-use Rattle.elem_descr.proofs.FieldLaws.{rest_at, field_within, leaves_before}
+use Rattle.elem_descr.specs.DescriptorLaws.{rest_at, field_within}
+use Rattle.elem_descr.proofs.FieldLaws.{leaves_before}
 use Rattle.elem_descr.proofs.descr.leaves_in.Goals as goal
 
 pub push_field-requires : goal.push_field-requires

@@ -1,5 +1,5 @@
 use Rattle.std.proofs.Common.{arith}
-use Rattle.elem_descr.proofs.FieldLaws.{leaf_within}
+use Rattle.elem_descr.specs.ItemLaws.{leaf_within}
 use Rattle.elem_descr.proofs.descr.push_moved.Goals as goal
 
 pub overflow_add-by : goal.overflow_add-by

@@ -2,7 +2,7 @@ use Rattle.std.specs.Prelude.{FitsSigned}
 use Rattle.std.specs.Int.{w128}
 use Rattle.std.proofs.lemmas.Int.{to_z-of_z}
 use Rattle.byteorder.specs.Endian.{little_bytes, big_bytes}
-use Rattle.elem_descr.proofs.Wraps.{written_whole}
+use Rattle.elem_descr.specs.WrapLaws.{written_whole}
 use Rattle.elem_descr.proofs.number.integer_write.Goals as goal
 
 pub returns-in-Little : goal.returns-in-Little

@@ -1,33 +1,17 @@
-use Rattle.std.proofs.Common.{◌≡◌, ◌+◌, pos, ◌+ℤ◌, ◌*ℤ◌, sym, ◌∙◌, arith, rules}
+use Rattle.std.proofs.Common.{◌-◌, sym, ap, subst, ◌∙◌, arith}
 use Rattle.std.specs.Prelude.{FitsSigned}
-use Rattle.std.specs.Int.{w128, cast_signed}
+use Rattle.std.specs.Int.{w128}
+use Rattle.std.proofs.lemmas.Int.{to_z-of_z}
 use Rattle.literal_items.specs.Numbers.{is_value}
-use Rattle.elem_descr.specs.Steps.{numbers_from}
-use Rattle.literal_items.proofs.Lists.{all_more, all_fails, all_passed}
-use Rattle.elem_descr.proofs.StepLaws.{length-numbers_from, number_at}
-use Rattle.literal_items.proofs.Stepping.{next_sum}
+use Rattle.literal_items.proofs.Ends.{last_decides, first_fails}
 use Rattle.literal_items.proofs.range.are_values.Goals as goal
 
-pub returns-then-not-is_value : goal.returns-then-not-is_value
-returns-then-not-is_value c =
-    let z = cast_signed w128 c.loop-i.number-bits in
-    let is = number_at c.args.start.now c.args.step.now z c.args.count c.loop-i._i c.loop-i-test.true (c.loop-i.invariant.next c.loop-i-test.true) in
-    let long = length-numbers_from c.args.start.now c.args.step.now c.args.count in
-    sym (all_fails (is_value c.args.scalar.now) (numbers_from c.args.start.now c.args.step.now c.args.count) c.loop-i._i z (omega arith) is (sym c.is_value.ensures ∙ c.if-not-is_value.true))
+pub returns-then-is_value : goal.returns-then-is_value
+returns-then-is_value c =
+    let scalar = c.args.scalar.now in let last = c.number_at.result in
+    let fits : FitsSigned w128 last = subst (FitsSigned w128) (sym c.number_at.ensures) (c.requires.fits (c.args.count - 1) (omega (arith, c.if-count-eq0.false))) in
+    let decided = c.is_value-then-is_value.ensures ∙ ap (is_value scalar) (to_z-of_z w128 last fits) in
+    last_decides scalar c.args.start.now c.args.step.now last c.args.count c.is_value-then-is_value.result c.requires.number (omega (arith, c.if-count-eq0.false)) (sym c.is_value.ensures ∙ c.if-is_value.true) c.number_at.ensures decided
 
-pub loop-i-preserved : goal.loop-i-preserved
-loop-i-preserved c =
-    let z = cast_signed w128 c.loop-i.number-bits in
-    let here : z ≡ c.args.start.now +ℤ c.args.step.now *ℤ pos c.loop-i._i = c.loop-i.invariant.next c.loop-i-test.true in
-    let is = number_at c.args.start.now c.args.step.now z c.args.count c.loop-i._i c.loop-i-test.true here in
-    let long = length-numbers_from c.args.start.now c.args.step.now c.args.count in
-    let step_fits : FitsSigned w128 c.args.step.now = search rules in
-    record {
-      next = λ more. next_sum c.args.start.now c.args.step.now c.loop-i._i c.loop-i.number-bits (omega arith) step_fits here (c.requires.fits (c.loop-i._i + 1) more);
-      held = all_more (is_value c.args.scalar.now) (numbers_from c.args.start.now c.args.step.now c.args.count) c.loop-i._i z (omega arith) is c.loop-i.invariant.held (sym c.is_value.ensures ∙ c.if-not-is_value.false);
-    }
-
-pub returns : goal.returns
-returns c =
-    let long = length-numbers_from c.args.start.now c.args.step.now c.args.count in
-    sym (all_passed (is_value c.args.scalar.now) (numbers_from c.args.start.now c.args.step.now c.args.count) c.loop-i._i (omega arith) c.loop-i.invariant.held)
+pub returns-else-is_value : goal.returns-else-is_value
+returns-else-is_value c = c.if-is_value.false ∙ sym (first_fails c.args.scalar.now c.args.start.now c.args.step.now c.args.count (omega (arith, c.if-count-eq0.false)) (sym c.is_value.ensures ∙ c.if-is_value.false))

@@ -1,37 +1,23 @@
-use Rattle.std.proofs.Common.{◌≡◌, ℕ, ◌+◌, ◌≤◌, List, ◌∷◌, length, All, ap, sym, subst, ◌∙◌, refl}
+use Rattle.std.proofs.Common.{rules, length, All, w64, ap, subst, ◌∙◌}
+use Rattle.std.proofs.lemmas.Int.{to_z-of_z}
 use Rattle.std.proofs.lemmas.List.Elements.{All-rest, All-head}
-use Rattle.raw_block.specs.Bytes.{put}
-use Rattle.name_store.specs.Targets.{put_each}
+use mir.Val.{SFits}
+use Rattle.raw_block.specs.Bytes.{EachWithin, filled}
+use Rattle.shape_strides.specs.declared.runs.Run.{Run}
+use Rattle.name_store.proofs.RunWrites.{filled-next}
 use Rattle.name_store.proofs.write.fill.Goals as goal
 
--- one offset more is written to
-put_more : (left left' item block block' whole : List ℕ) (offset : ℕ) → left ≡ offset ∷ left' → block' ≡ put offset item block → put_each left item block ≡ whole → put_each left' item block' ≡ whole
-put_more left left' item block block' whole offset walked is so_far =
-    ap (put_each left' item) is ∙ ap (λ l. put_each l item block) (sym walked) ∙ so_far
-
-first-inside : (left left' : List ℕ) (offset item len : ℕ) → left ≡ offset ∷ left' → All (λ o. o + item ≤ len) left → offset + item ≤ len
-first-inside left left' offset item len walked inside = All-head (λ o. o + item ≤ len) offset left' (subst (All (λ o. o + item ≤ len)) walked inside)
-
-pub loop-offset-init : goal.loop-offset-init
-loop-offset-init c = record {
-  rest = ap (λ l. put_each l c.args.item.now c.args.block.now) c.into_iter-offset-iterator.ensures.into_iter_gives;
-  len = refl;
-  inside = subst (All (λ offset. offset + length c.args.item.now ≤ length c.args.block.now)) (sym c.into_iter-offset-iterator.ensures.into_iter_gives) c.requires;
-}
-
-pub put-requires : goal.put-requires
-put-requires c = subst (λ n. c.in-Some.offset + length c.args.item.now ≤ n) (sym c.loop-offset.invariant.len) (first-inside _ _ _ _ _ c.in-Some.ensures.steps c.loop-offset.invariant.inside)
-
-pub loop-offset-preserved : goal.loop-offset-preserved
-loop-offset-preserved c = record {
-  rest = put_more _ _ _ _ _ _ _ c.in-Some.ensures.steps c.put.ensures.written c.loop-offset.invariant.rest;
-  len = c.put.ensures.len ∙ c.loop-offset.invariant.len;
-  inside = All-rest (λ offset. offset + length c.args.item.now ≤ length c.args.block.now) _ _ _ c.in-Some.ensures.steps c.loop-offset.invariant.inside;
-}
-
-pub returns-clause-bytes : goal.returns-clause-bytes
-returns-clause-bytes c =
-    ap (λ l. put_each l c.args.item.now c.loop-offset.block) (sym c.in-None.ensures.steps.0) ∙ c.loop-offset.invariant.rest
-
-pub returns-clause-len : goal.returns-clause-len
-returns-clause-len c = c.loop-offset.invariant.len
+pub loop-run-preserved : goal.loop-run-preserved
+loop-run-preserved c =
+    let len = length c.args.block.now in
+    let item = c.args.item.now in
+    let run = c.in-Some.run' in
+    let within = λ (run : Run). EachWithin len run.offset run.step (length item) run.count in
+    let fits : SFits w64 run.step = search rules in
+    let here : within run = All-head within run c.next.new.self (subst (All within) c.in-Some.ensures.steps c.loop-run.invariant.inside) in
+    let written = c.fill_strided.ensures.filled ∙ ap (λ step. filled run.offset step item run.count c.loop-run.block) (to_z-of_z w64 run.step fits) in
+    record {
+      rest = filled-next len _ _ run _ _ _ _ c.in-Some.ensures.steps here written c.loop-run.invariant.rest;
+      len = c.fill_strided.ensures.len ∙ c.loop-run.invariant.len;
+      inside = All-rest within _ _ _ c.in-Some.ensures.steps c.loop-run.invariant.inside;
+    }

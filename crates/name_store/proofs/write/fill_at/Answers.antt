@@ -1,4 +1,5 @@
-use Rattle.std.proofs.Common.{◌+◌, ◌≤◌, ◌<◌, ap, sym, ◌∙◌, Option, subst, All, length, nat_eq, cond, arith, IfSome}
+use Rattle.std.proofs.Common.{◌<◌, ap, sym, ◌∙◌, Option, subst, All, length, nat_eq, cond, arith, IfSome}
+use Rattle.raw_block.specs.Bytes.{EachWithin}
 use Rattle.name_store.specs.View.{slot_at}
 use Rattle.name_store.specs.declared.slot.Slot.{Slot}
 use Rattle.name_store.proofs.SlotLaws.{slot_at-get_or, slot_at-set}
@@ -7,7 +8,7 @@ use Rattle.name_store.proofs.write.fill_at.Goals as goal
 pub fill_slot-requires : goal.fill_slot-requires
 fill_slot-requires c =
     let inside : c.args.number < length c.args.slots.now.items = omega (arith, c.args.slots.now.ok.0, c.requires.within) in
-    subst (λ (o : Option Slot). IfSome o (λ s. All (λ offset. offset + length c.args.item.now ≤ length s.block) c.args.offsets)) (sym (c.index_mut.ensures.value ∙ slot_at-get_or c.args.slots.now.items c.args.number _ inside)) c.requires.fits
+    subst (λ (o : Option Slot). IfSome o (λ s. All (λ run. EachWithin (length s.block) run.offset run.step (length c.args.item.now) run.count) c.args.runs)) (sym (c.index_mut.ensures.value ∙ slot_at-get_or c.args.slots.now.items c.args.number _ inside)) c.requires.fits
 
 pub returns : goal.returns
 returns c old is =

@@ -1,5 +1,7 @@
 use Rattle.std.proofs.Common.{◌≡◌, ap, sym, ◌∙◌, refl}
-use Rattle.name_store.specs.Targets.{put_each}
+use Rattle.std.specs.List.{flat_map}
+use Rattle.shape_strides.specs.Runs.{run_offsets}
+use Rattle.name_store.specs.inside.Puts.{put_each}
 use Rattle.name_store.specs.declared.slot.Slot.{Slot}
 use Rattle.name_store.proofs.WriteLaws.{some-same}
 use Rattle.name_store.proofs.write.fill_slot.Goals as goal
@@ -11,5 +13,5 @@ returns-in-Some-clause-some c old is =
       refl,
       ap (λ (s : Slot). s.descr) same,
       ap (λ (s : Slot). s.items) same,
-      c.fill.ensures.bytes ∙ ap (λ (s : Slot). put_each c.args.offsets c.args.item.now s.block) same,
+      c.fill.ensures.bytes ∙ ap (λ (s : Slot). put_each (flat_map run_offsets c.args.runs) c.args.item.now s.block) same,
     )

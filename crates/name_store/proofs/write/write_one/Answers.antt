@@ -1,9 +1,16 @@
 use Rattle.std.proofs.Common.{◌≡◌, ◌+◌, ◌≤◌, ap, sym, subst, ◌∙◌, refl, Option, Some, None, is_some, Bor, IfSome, All, length, arith}
 use Rattle.std.specs.Option.{option_copied}
+use Rattle.std.specs.List.{flat_map}
 use Rattle.elem_descr.specs.Items.{item_size}
+use Rattle.raw_block.specs.Bytes.{EachWithin}
+use Rattle.shape_strides.specs.Limits.{max_bytes}
+use Rattle.shape_strides.specs.Runs.{run_offsets, runs}
+use Rattle.shape_strides.specs.LayoutLaws.{length-offsets}
+use Rattle.overlap_copy.specs.RunLaws.{runs-within}
 use Rattle.name_store.specs.States.{Array}
 use Rattle.name_store.specs.Arrays.{descr_of, written}
-use Rattle.name_store.specs.Targets.{new_items, put_each}
+use Rattle.name_store.specs.Targets.{new_items}
+use Rattle.name_store.specs.inside.Puts.{put_each}
 use Rattle.name_store.specs.View.{state_of}
 use Rattle.name_store.specs.declared.slot.Slot.{Slot}
 use Rattle.name_store.specs.declared.target.Source.TheVariants.{One}
@@ -31,9 +38,13 @@ pub fill_at-requires-clause-fits : goal.fill_at-requires-clause-fits
 fill_at-requires-clause-fits c =
     let was = sym c.get.ensures.value ∙ ap option_copied c.unwrap.ensures in
     let there = found-slot c.args.names.now.entries c.args.slots.now.items c.requires.holds _ c.args.key.now.bytes.items (λ _. refl) c.unwrap.result.now was in
-    subst (λ (o : Option Slot). IfSome o (λ s. All (λ offset. offset + length c.args.item.now ≤ length s.block) c.in_ok-offsets.offsets)) (sym there.1)
-    (subst (All (λ offset. offset + length c.args.item.now ≤ length there.0.block)) (sym c.in_ok-offsets.ensures.items)
-    (inside c.args.names.now.entries c.args.slots.now.items c.requires.holds _ c.args.key.now.bytes.items (λ _. refl) c.args.layout.now c.args.item c.unwrap.result.now there.0 was there.1 c.requires.aim.array c.requires.aim.places c.requires.aim.leads c.requires.aim.source_for))
+    let len = length there.0.block in
+    let width = length c.args.item.now in
+    let ends = inside c.args.names.now.entries c.args.slots.now.items c.requires.holds _ c.args.key.now.bytes.items (λ _. refl) c.args.layout.now c.args.item c.unwrap.result.now there.0 was there.1 c.requires.aim.array c.requires.aim.places c.requires.aim.leads c.requires.aim.source_for in
+    let begin = c.in_ok-runs.ensures.lie max_bytes 1 c.args.layout.now.within_limit in
+    let within = runs-within len width (λ run. run) (runs c.args.layout.now) begin (subst (All (λ offset. offset + width ≤ len)) (sym c.in_ok-runs.ensures.offsets) ends) in
+    subst (λ (o : Option Slot). IfSome o (λ s. All (λ run. EachWithin (length s.block) run.offset run.step width run.count) c.in_ok-runs.runs)) (sym there.1)
+    (subst (All (λ run. EachWithin len run.offset run.step width run.count)) (sym c.in_ok-runs.ensures.runs) within)
 
 pub returns-clause-holds : goal.returns-clause-holds
 returns-clause-holds c =
@@ -41,7 +52,7 @@ returns-clause-holds c =
     let there = found-slot c.args.names.now.entries c.args.slots.now.items c.requires.holds _ c.args.key.now.bytes.items (λ _. refl) c.unwrap.result.now was in
     let done = c.fill_at.ensures there.0 there.1 in
     written-holds c.args.names.now.entries c.args.slots.now.items c.requires.holds _ c.args.key.now.bytes.items (λ _. refl) c.args.layout.now c.args.item c.unwrap.result.now there.0 was there.1 c.requires.aim.array c.requires.aim.places c.requires.aim.leads c.requires.aim.source_for
-    c.fill_at.new.slots.items done.0 c.in_ok-offsets.ensures.count done.1 done.2 (done.3 ∙ ap (λ os. put_each os c.args.item.now there.0.block) c.in_ok-offsets.ensures.items) done.4
+    c.fill_at.new.slots.items done.0 (length-offsets c.args.layout.now) done.1 done.2 (done.3 ∙ ap (λ os. put_each os c.args.item.now there.0.block) (ap (flat_map run_offsets) c.in_ok-runs.ensures.runs ∙ c.in_ok-runs.ensures.offsets)) done.4
 
 pub returns-clause-answers : goal.returns-clause-answers
 returns-clause-answers c = (
@@ -53,6 +64,6 @@ returns-clause-answers c = (
       let same : c.requires.aim.array ≡ array = some-same _ _ (sym c.requires.aim.leads.found ∙ leads.found) in
       written-state c.args.names.now.entries c.args.slots.now.items c.requires.holds _ c.args.key.now.bytes.items (λ _. refl) c.args.layout.now c.args.item c.unwrap.result.now there.0 was there.1 array places leads
       (c.requires.aim.source_for ∙ ap (λ (a : Array). item_size (descr_of (state_of c.args.names.now.entries c.args.slots.now.items) a)) same)
-      c.fill_at.new.slots.items done.0 c.in_ok-offsets.ensures.count done.1 done.2 (done.3 ∙ ap (λ os. put_each os c.args.item.now there.0.block) c.in_ok-offsets.ensures.items) done.4
+      c.fill_at.new.slots.items done.0 (length-offsets c.args.layout.now) done.1 done.2 (done.3 ∙ ap (λ os. put_each os c.args.item.now there.0.block) (ap (flat_map run_offsets) c.in_ok-runs.ensures.runs ∙ c.in_ok-runs.ensures.offsets)) done.4
       ∙ ap (λ n. written (state_of c.args.names.now.entries c.args.slots.now.items) array places (new_items (descr_of (state_of c.args.names.now.entries c.args.slots.now.items) array) n (One c.args.item))) (sym c.items.ensures.value),
 )

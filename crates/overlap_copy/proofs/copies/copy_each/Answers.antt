@@ -1,27 +1,30 @@
-use Rattle.std.proofs.Common.{◌+◌, ◌≤◌, length, All, ap, sym, ◌∙◌, subst}
-use Rattle.std.proofs.lemmas.List.Elements.{All-rest, All-nil}
+use Rattle.std.proofs.Common.{◌≡◌, length, ap, sym, subst, ◌∙◌}
+use Rattle.std.proofs.lemmas.List.Elements.{All-rest}
+use Rattle.raw_block.specs.Bytes.{EachWithin}
 use Rattle.overlap_copy.specs.inside.Copies.{copied_each}
-use Rattle.overlap_copy.proofs.CopyLaws.{none-from, none-to, copied-next}
+use Rattle.overlap_copy.proofs.RunCopies.{firsts, seconds, copied-pair, next}
 use Rattle.overlap_copy.proofs.copies.copy_each.Goals as goal
 
-pub loop-offset-preserved-in-Some-next : goal.loop-offset-preserved-in-Some-next
-loop-offset-preserved-in-Some-next c = record {
-  rest = copied-next _ _ _ _ _ _ _ _ _ _ _ c.in-Some-next.ensures.steps c.in-Some.ensures.steps c.copy_from.ensures.copied c.loop-offset.invariant.rest;
-  len = c.copy_from.ensures.len ∙ c.loop-offset.invariant.len;
-  to = All-rest (λ offset. offset + c.args.width ≤ length c.args.block.now) _ _ _ c.in-Some-next.ensures.steps c.loop-offset.invariant.to;
-  from = All-rest (λ offset. offset + c.args.width ≤ length c.args.other.now) _ _ _ c.in-Some.ensures.steps c.loop-offset.invariant.from;
+pub copy_run-requires : goal.copy_run-requires
+copy_run-requires c = record {
+  count = next (λ pair. pair.first.count ≡ pair.second.count) _ _ _ c.in-Some.ensures.steps c.loop-pair.invariant.counts;
+  to = subst (λ n. EachWithin n c.in-Some.pair.first.offset c.in-Some.pair.first.step c.args.width c.in-Some.pair.first.count) (sym c.loop-pair.invariant.len)
+      (next (λ pair. EachWithin (length c.args.block.now) pair.first.offset pair.first.step c.args.width pair.first.count) _ _ _ c.in-Some.ensures.steps c.loop-pair.invariant.to);
+  from = next (λ pair. EachWithin (length c.args.other.now) pair.second.offset pair.second.step c.args.width pair.second.count) _ _ _ c.in-Some.ensures.steps c.loop-pair.invariant.from;
 }
 
-pub loop-offset-preserved : goal.loop-offset-preserved
-loop-offset-preserved c = record {
-  rest = none-to _ _ _ _ _ _ _ _ c.in_default.ensures.steps.0 c.in_default.ensures.steps.1 c.loop-offset.invariant.rest;
-  len = c.loop-offset.invariant.len;
-  to = subst (All (λ offset. offset + c.args.width ≤ length c.args.block.now)) (sym c.in_default.ensures.steps.1) (All-nil (λ offset. offset + c.args.width ≤ length c.args.block.now));
-  from = All-rest (λ offset. offset + c.args.width ≤ length c.args.other.now) _ _ _ c.in-Some.ensures.steps c.loop-offset.invariant.from;
+pub loop-pair-preserved : goal.loop-pair-preserved
+loop-pair-preserved c = record {
+  rest = copied-pair _ _ _ _ _ _ _ _ c.in-Some.ensures.steps (next (λ pair. pair.first.count ≡ pair.second.count) _ _ _ c.in-Some.ensures.steps c.loop-pair.invariant.counts) c.copy_run.ensures.bytes c.loop-pair.invariant.rest;
+  len = c.copy_run.ensures.len ∙ c.loop-pair.invariant.len;
+  counts = All-rest (λ pair. pair.first.count ≡ pair.second.count) _ _ _ c.in-Some.ensures.steps c.loop-pair.invariant.counts;
+  to = All-rest (λ pair. EachWithin (length c.args.block.now) pair.first.offset pair.first.step c.args.width pair.first.count) _ _ _ c.in-Some.ensures.steps c.loop-pair.invariant.to;
+  from = All-rest (λ pair. EachWithin (length c.args.other.now) pair.second.offset pair.second.step c.args.width pair.second.count) _ _ _ c.in-Some.ensures.steps c.loop-pair.invariant.from;
 }
 
 pub returns-clause-bytes : goal.returns-clause-bytes
 returns-clause-bytes c =
-    sym (none-from c.loop-offset.to c.args.width c.args.other.now c.loop-offset.block)
-    ∙ ap (λ l. copied_each c.loop-offset.to l c.args.width c.args.other.now c.loop-offset.block) (sym c.in-None.ensures.steps.0)
-    ∙ c.loop-offset.invariant.rest
+    ap (λ pairs. copied_each (firsts pairs) (seconds pairs) c.args.width c.args.other.now c.loop-pair.block) (sym c.in-None.ensures.steps.0) ∙ c.loop-pair.invariant.rest
+
+pub returns-clause-len : goal.returns-clause-len
+returns-clause-len c = c.loop-pair.invariant.len

@@ -1,12 +1,15 @@
-use Rattle.std.proofs.Common.{◌≡◌, ◌+◌, ◌≤◌, length, All}
+use Rattle.std.proofs.Common.{◌≡◌, length, All}
+use Rattle.raw_block.specs.Bytes.{EachWithin}
 use Rattle.overlap_copy.specs.inside.Copies.{copied_each}
+use Rattle.overlap_copy.proofs.RunCopies.{firsts, seconds}
 use Rattle.overlap_copy.proofs.copies.copy_each.Given as goal
 
--- the offsets that are left lead to what all of them do
-abbrev pub invariant-loop-offset : goal.invariant-loop-offset
-invariant-loop-offset l = record {
-  rest : copied_each l.to l.offset-iterator l.width l.other l.block ≡ copied_each l.fn.to l.fn.from l.width l.other l.fn.block;
+-- the pairs that are left lead to what all of them do
+abbrev pub invariant-loop-pair : goal.invariant-loop-pair
+invariant-loop-pair l = record {
+  rest : copied_each (firsts l.pair-iterator) (seconds l.pair-iterator) l.width l.other l.block ≡ copied_each (firsts l.fn.pairs) (seconds l.fn.pairs) l.width l.other l.fn.block;
   len : length l.block ≡ length l.fn.block;
-  to : All (λ offset. offset + l.width ≤ length l.fn.block) l.to;
-  from : All (λ offset. offset + l.width ≤ length l.other) l.offset-iterator;
+  counts : All (λ pair. pair.first.count ≡ pair.second.count) l.pair-iterator;
+  to : All (λ pair. EachWithin (length l.fn.block) pair.first.offset pair.first.step l.width pair.first.count) l.pair-iterator;
+  from : All (λ pair. EachWithin (length l.other) pair.second.offset pair.second.step l.width pair.second.count) l.pair-iterator;
 }

@@ -2,9 +2,10 @@ use Rattle.std.proofs.Common.{refl, sym, ap, length, ◌∙◌, ◌<◌, ◌≡�
 use Rattle.std.proofs.lemmas.Bool.{false≢true}
 use Rattle.shape_strides.specs.Indexes.{count}
 use Rattle.shape_strides.specs.Layouts.{offsets}
-use Rattle.shape_strides.proofs.SameLaws.{no_offsets}
-use Rattle.shape_strides.proofs.ContiguityLaws.{length-printed}
-use Rattle.reshape_rule.proofs.ReshapeLaws.{exact-decided, HasUnitStrides, affine-lies, affine-offsets, offsets-affine, reshape-of}
+use Rattle.shape_strides.specs.LayoutLaws.{no_offsets, length-offsets}
+use Rattle.shape_strides.specs.ContiguityLaws.{length-printed}
+use Rattle.reshape_rule.proofs.ScaleLaws.{decided-by_places}
+use Rattle.reshape_rule.proofs.ReshapeLaws.{HasUnitStrides, affine-lies, affine-offsets, offsets-affine, reshape-of}
 use Rattle.reshape_rule.proofs.without_copy.no_copy.Goals as goal
 
 pub returns-then-items-eq0-clause-reshape : goal.returns-then-items-eq0-clause-reshape
@@ -53,13 +54,17 @@ returns-clause-exact c =
     (λ _. offsets-affine c.args.layout.now c.in-Some.reshaped c.args.shape.now (c.in-Some.ensures.shape ∙ c.in_ok-try_copy.ensures) (c.in_ok-have_same_offsets.ensures.0 c.if-not-branch.false), λ _. refl)
 
 pub returns-then-items-eq0-clause-decided : goal.returns-then-items-eq0-clause-decided
-returns-then-items-eq0-clause-decided c = exact-decided (offsets c.args.layout.now) c.args.shape.now _ (returns-then-items-eq0-clause-exact c)
+returns-then-items-eq0-clause-decided c item start places some laid =
+    decided-by_places item start places (offsets c.args.layout.now) c.args.shape.now _ some (length-offsets c.args.layout.now ∙ sym c.requires) laid (returns-then-items-eq0-clause-exact c)
 
 pub returns-in_default-clause-decided : goal.returns-in_default-clause-decided
-returns-in_default-clause-decided c = exact-decided (offsets c.args.layout.now) c.args.shape.now _ (returns-in_default-clause-exact c)
+returns-in_default-clause-decided c item start places some laid =
+    decided-by_places item start places (offsets c.args.layout.now) c.args.shape.now _ some (length-offsets c.args.layout.now ∙ sym c.requires) laid (returns-in_default-clause-exact c)
 
 pub returns-then-not-branch-clause-decided : goal.returns-then-not-branch-clause-decided
-returns-then-not-branch-clause-decided c = exact-decided (offsets c.args.layout.now) c.args.shape.now _ (returns-then-not-branch-clause-exact c)
+returns-then-not-branch-clause-decided c item start places some laid =
+    decided-by_places item start places (offsets c.args.layout.now) c.args.shape.now _ some (length-offsets c.args.layout.now ∙ sym c.requires) laid (returns-then-not-branch-clause-exact c)
 
 pub returns-clause-decided : goal.returns-clause-decided
-returns-clause-decided c = exact-decided (offsets c.args.layout.now) c.args.shape.now _ (returns-clause-exact c)
+returns-clause-decided c item start places some laid =
+    decided-by_places item start places (offsets c.args.layout.now) c.args.shape.now _ some (length-offsets c.args.layout.now ∙ sym c.requires) laid (returns-clause-exact c)

@@ -1,7 +1,7 @@
 use Rattle.std.proofs.Common.{◌≡◌, pos, ◌-ℤ◌, ◌∙◌, arith, rules, to_z, of_z, w64}
 use Rattle.std.proofs.lemmas.Int.{ints}
 use Rattle.shape_strides.specs.Layouts.{offsets}
-use Rattle.shape_strides.proofs.ContiguityLaws.{entry-first}
+use Rattle.shape_strides.specs.LayoutLaws.{entry-first}
 use Rattle.reshape_rule.proofs.RankLaws.{first_low, stride-long}
 use Rattle.reshape_rule.proofs.without_copy.unit_stride.Goals as goal
 

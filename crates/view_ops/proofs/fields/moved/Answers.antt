@@ -1,7 +1,7 @@
 use Rattle.std.proofs.Common.{◌+◌, ap, arith}
 use Rattle.shape_strides.specs.Limits.{max_bytes}
 use Rattle.shape_strides.specs.Indexes.{count}
-use Rattle.shape_strides.proofs.IndexLaws.{rank-lt}
+use Rattle.shape_strides.specs.IndexLaws.{rank-lt}
 use Rattle.view_ops.proofs.FieldLaws.{offset-within}
 use Rattle.view_ops.proofs.fields.moved.Goals as goal
 

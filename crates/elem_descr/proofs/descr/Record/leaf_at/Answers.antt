@@ -1,7 +1,8 @@
 use Rattle.std.proofs.Common.{◌<◌, length, ap, arith}
 use Rattle.elem_descr.specs.Fields.{Structure}
 use Rattle.elem_descr.specs.Items.{leaves_from}
-use Rattle.elem_descr.proofs.FieldLaws.{kept_in_order, leaf_within, leaf_begins}
+use Rattle.elem_descr.specs.ItemLaws.{leaf_within}
+use Rattle.elem_descr.proofs.FieldLaws.{kept_in_order, leaf_begins}
 use Rattle.elem_descr.proofs.descr.Record.leaf_at.Goals as goal
 
 pub returns-clause-within : goal.returns-clause-within

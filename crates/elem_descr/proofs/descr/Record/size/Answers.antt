@@ -1,4 +1,4 @@
-use Rattle.elem_descr.proofs.FieldLaws.{legal_size}
+use Rattle.elem_descr.specs.DescriptorLaws.{legal_size}
 use Rattle.elem_descr.proofs.descr.Record.size.Goals as goal
 
 pub returns-clause-not_empty : goal.returns-clause-not_empty

@@ -1,6 +1,7 @@
 use Rattle.std.proofs.Common.{◌≡◌, ◌<◌, ◌-◌, ◌∙◌, ⊎_elim, inl, inr, length, ap, arith}
 use Rattle.std.proofs.lemmas.Result.{err_from_is_err_and}
-use Rattle.elem_descr.specs.FormatTexts.{Partial, record_within}
+use Rattle.elem_descr.specs.FormatRecords.{Partial}
+use Rattle.elem_descr.specs.inside.Turns.{record_within}
 use Rattle.elem_descr.proofs.Binds.{after_ok, after_err}
 use Rattle.elem_descr.proofs.Turns.{no_levels, members_begin, members_closed, members_field}
 use Rattle.elem_descr.proofs.format_text.record.+record.Goals as goal

@@ -1,17 +1,13 @@
 -- `as_mut_slice` lends the bytes, and the owner follows them. Assumes `Logic`.
-use Rattle.std.proofs.Common.{◌≡◌, ℕ, ◌+◌, ◌*◌, ◌^◌, ◌<◌, List, [], ◌∷◌, length, refl, sym, ◌∙◌, w64, arith}
-use lib.ListN.{drop as drop_l}
-use lib.Seq.{take_at as take_front}
-use seplogic.Ra.Ura.{Ura}
+use Rattle.std.proofs.Common.{◌≡◌, ℕ, ◌*◌, ◌^◌, ◌<◌, List, [], ◌∷◌, length, refl, sym, ◌∙◌, w64, arith}
 use base.Fraction.{full_share}
-use base.Logic.{ent, sep, id⊢}
-use base.Fml.{Fml, GName, ftrue, fsep, fat, flft}
+use base.Logic.{id⊢}
+use base.Fml.{GName, ftrue, fat, flft}
 use mir.Syntax.{named}
-use mir.Val.{Val}
 use contract.Monad.{fact}
 use contract.Running.{tables}
-use types.Logic.{Logic, sem}
-use types.Kit.{‵, raw, ◌⊛◌, some, later, at_ret, ◌$◌, ◌∵◌, !, qed, done, move, keep, use1, split, join, group, pick, await, fsplit, fsplit3, fjoin, fjoin3, fpack, flt_l, flt_i, rewrite, suffices, frame}
+use types.Logic.{sem}
+use types.Kit.{‵, raw, ◌⊛◌, some, later, at_ret, ◌$◌, ◌∵◌, !, qed, done, move, keep, use1, split, join, group, pick, await, fsplit, fsplit3, fjoin, fjoin3, flt_l, rewrite, suffices, frame}
 use types.Part.{whole, sub, agg}
 use types.Run.{enter, of_opd, stop, fld, and_then, no_more, first, blocks, exec, returns}
 use types.ByLocal.{alloc_all, pass_all, free_all, look_at, get, get_in, sets, sets_last, env, take_at, give_at}
@@ -20,27 +16,23 @@ use denote.Array.{Array}
 use denote.Builtin.{u8, usize}
 use denote.Follow.{follows}
 use denote.FollowSlice.{Elements, lends_Elements}
-use denote.Index.{whole_in, whole_out}
-use denote.Memory.{mem, cell_at, part_of}
+use denote.Index.{whole_in}
+use denote.Memory.{mem}
 use denote.Param.{layout}
 use denote.Plain.{uint_vals, uint_Tells}
-use denote.RawPtr.{Ptr, block_ptr, in_a_block}
-use denote.RawPtr.Bytes.{bytes}
+use denote.RawPtr.{Ptr, in_a_block}
 use denote.Ref.{MutBor, MutRef, mut_vals, mut_Tells}
 use denote.Signature.{plain, mut_ref_to}
 use denote.Slice.{MutSlice, slice_val}
 use denote.Steps.{nothing, heard, opens}
 use denote.Struct.Laws.{vals, tells}
-use denote.Struct.Owning.{shape}
-use denote.Struct.Struct.{Struct}
 use denote.Triple.Walked.{Stays, walk_of, says, stay_dropped, Goes-dropped, Goes-spent_ref, ends_at}
 use Rattle.std.proofs.raw_atomic.Walks.{proved}
-use Rattle.std.specs.List.{refill}
 use Rattle.std_alloc.proofs.RcSteps.{word, word-Good}
 use Rattle.std_alloc.proofs.VecSteps.Shapes.{after}
-use Rattle.raw_block.specs.inside.Lends.{with_items}
-use Rattle.raw_block.specs.Ownership.{unwritten, bytes_own}
-use Rattle.raw_block.specs.contracts.base.Bytes.{the_row as R, the_type}
+use Rattle.raw_block.proofs.Writing.{written, Rest, back}
+use Rattle.raw_block.specs.Ownership.{bytes_own}
+use Rattle.raw_block.specs.contracts.base.Bytes.{the_row as R}
 use Rattle.raw_block.specs.contracts.base.Base as B
 use Rattle.raw_block.proofs.base.Base.TheLaws.{the_laws}
 use Rattle.raw_block.specs.contracts.base.Bytes.as_mut_slice as f
@@ -49,26 +41,6 @@ use Rattle.raw_block.proofs.base.Bytes.as_mut_slice.Code as code
 
 abbrev stayed : Stays f.ended.signature.params f.ended.kept
 stayed = (stay_dropped (mut_ref_to (0 ∷ []) tt (plain (λ _. R))) f.ended.kept.0, (stay_dropped (plain (λ _. B.the_row)) f.ended.kept.1.0, (stay_dropped (plain (λ _. usize)) f.ended.kept.1.1.0, tt)))
-
--- the owner, once ws is the last that was written to the slice
-abbrev written : R.Denot → List ℕ → R.Denot
-written h ws = with_items h (refill (length h.items) h.items ws)
-
--- all that the owner has but its bytes
-abbrev Rest : R.Denot → List Val → ℕ → ℕ → ℕ → ℕ → Fml
-Rest h us rb ro b o = fsep (unwritten b (o + length h.items) h.room) (fsep ((Struct (shape the_type)).own_val tt us) (cell_at full_share R.mir us rb ro))
-
-module _ {M : Type 1} {𝓤 : Ura M} (𝓛 : Logic 𝓤) (h : R.Denot) (us : List Val) (rb ro b o : ℕ) where
-  back : h.at ≡ block_ptr b o → length h.items + h.room < 2 ^ 63 → (ws : List ℕ) → length ws ≡ length h.items
-      → ent 𝓤 (sep 𝓤 (sem 𝓛 (cells (mem u8) ws b o)) (sem 𝓛 (Rest h us rb ro b o))) (sem 𝓛 ((mem R).own_at (written h ws) rb ro))
-  unfolding part_of
-  back e small ws same =
-      let all : refill (length h.items) h.items ws ≡ ws = take_front ws (drop_l (length ws) h.items) (length h.items) same in
-      qed 𝓛 (‵ (cells (mem u8) ws b o) ∷ ‵ (Rest h us rb ro b o) ∷ []) ∵ use1 𝓛 (‵ (bytes full_share ws b o)) (whole_out 𝓛 u8 ws b o) $
-      move ! (1 ∷ []) $ fsplit3 ! $ rewrite ! 0 (λ (k : ℕ). ‵ (unwritten b (o + k) h.room)) (sym same) refl $ move ! (3 ∷ 0 ∷ []) $ fjoin ! $
-      flt_i ! (length ws + h.room) (2 ^ 63) (omega arith) $ fjoin ! $ rewrite ! 0 (λ (l : List ℕ). ‵ (bytes_own (block_ptr b o) l h.room)) (sym all) refl $
-      rewrite ! 0 (λ (p : Ptr). ‵ (bytes_own p (written h ws).items h.room)) (sym e) refl $ move ! (1 ∷ 0 ∷ []) $ fjoin ! $ move ! (1 ∷ 0 ∷ []) $ fjoin ! $
-      fpack ! (List Val) (λ vs. fsep (cell_at full_share R.mir vs rb ro) (R.own_val (written h ws) vs)) us $ done !
 
 pub as_mut_slice_spec : {M : Type 1} → statement M
 as_mut_slice_spec 𝓤 𝓛 𝓜 𝓡 wired =

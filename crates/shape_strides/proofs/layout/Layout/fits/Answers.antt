@@ -1,4 +1,4 @@
-use Rattle.shape_strides.proofs.LayoutLaws.{offsets_within}
+use Rattle.shape_strides.specs.LayoutLaws.{offsets_within}
 use Rattle.shape_strides.proofs.layout.Layout.fits.Goals as goal
 
 pub returns-clause-offsets : goal.returns-clause-offsets

@@ -3,7 +3,8 @@ use Rattle.std.proofs.lemmas.Int.{to_z-of_z, fits_signed_from_abs}
 use Rattle.std.proofs.lemmas.List.{take_more}
 use Rattle.shape_strides.specs.Layouts.{offsets}
 use Rattle.shape_strides.specs.Contiguity.{printed_strides}
-use Rattle.shape_strides.proofs.ContiguityLaws.{length-printed, printed-entry, printed-small}
+use Rattle.shape_strides.specs.ContiguityLaws.{length-printed}
+use Rattle.shape_strides.proofs.ContiguityLaws.{printed-entry, printed-small}
 use Rattle.shape_strides.proofs.layout.Layout.printed_strides.Goals as goal
 
 pub loop-axis-preserved : goal.loop-axis-preserved

@@ -3,7 +3,7 @@ use Rattle.shape_strides.specs.Limits.{max_bytes}
 use Rattle.shape_strides.specs.Indexes.{count}
 use Rattle.shape_strides.specs.Layouts.{offsets}
 use Rattle.shape_strides.specs.inside.Reach.{reach_above, reach_below}
-use Rattle.shape_strides.proofs.LayoutLaws.{length-offsets}
+use Rattle.shape_strides.specs.LayoutLaws.{length-offsets}
 use Rattle.shape_strides.proofs.SpanLaws.{below_offset, end_within, none_lower, none_higher, lowest_among, highest_among}
 use Rattle.shape_strides.proofs.layout.Layout.span.Goals as goal
 

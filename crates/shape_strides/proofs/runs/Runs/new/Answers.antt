@@ -1,5 +1,5 @@
 use Rattle.std.proofs.Common.{◌≡◌, pos, IfOk, subst, arith}
-use Rattle.shape_strides.proofs.LayoutLaws.{offsets_within}
+use Rattle.shape_strides.specs.LayoutLaws.{offsets_within}
 use Rattle.shape_strides.proofs.RunLaws.{runs-offsets, runs-alone}
 use Rattle.shape_strides.proofs.FrontLaws.{runs-copied}
 use Rattle.shape_strides.proofs.PairLaws.{runs-some_each}

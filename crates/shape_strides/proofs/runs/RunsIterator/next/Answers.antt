@@ -5,7 +5,7 @@ use mir.Val.{SFits}
 use Rattle.shape_strides.specs.Indexes.{count}
 use Rattle.shape_strides.specs.Layouts.{offsets}
 use Rattle.shape_strides.specs.Runs.{run_along}
-use Rattle.shape_strides.proofs.LayoutLaws.{length-offsets}
+use Rattle.shape_strides.specs.LayoutLaws.{length-offsets}
 use Rattle.shape_strides.proofs.AdvanceLaws.{walk_step}
 use Rattle.shape_strides.proofs.runs.RunsIterator.next.Goals as goal
 

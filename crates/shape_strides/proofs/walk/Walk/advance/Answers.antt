@@ -1,5 +1,5 @@
 use Rattle.std.proofs.Common.{◌+◌, ◌-◌, ◌<◌, length, get_or, ap, ◌∙◌, arith}
-use Rattle.shape_strides.proofs.IndexLaws.{number-lt}
+use Rattle.shape_strides.specs.IndexLaws.{number-lt}
 use Rattle.shape_strides.proofs.AdvanceLaws.{starts_at, turns_at, number_is, length_is, offset-lt, step-address, step-bounds, IsIndex-stepped, rank-next, set-next, back-range, stands_before, over}
 use Rattle.shape_strides.proofs.walk.Walk.advance.Goals as goal
 

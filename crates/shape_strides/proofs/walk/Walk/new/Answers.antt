@@ -1,5 +1,5 @@
 use Rattle.std.proofs.Common.{replicate, ap, ◌∙◌}
-use Rattle.shape_strides.proofs.LayoutLaws.{length-offsets, offsets_within}
+use Rattle.shape_strides.specs.LayoutLaws.{length-offsets, offsets_within}
 use Rattle.shape_strides.proofs.AdvanceLaws.{padded-nil, walk_begins}
 use Rattle.shape_strides.proofs.walk.Walk.new.Goals as goal
 

@@ -2,7 +2,7 @@ use Rattle.std.proofs.Common.{◌≡◌, ◌-◌, [], length, drop, sym, ap, ◌
 use Rattle.std.proofs.lemmas.List.{drop_all}
 use Rattle.shape_strides.specs.Indexes.{count}
 use Rattle.shape_strides.specs.Layouts.{offsets}
-use Rattle.shape_strides.proofs.LayoutLaws.{length-offsets}
+use Rattle.shape_strides.specs.LayoutLaws.{length-offsets}
 use Rattle.shape_strides.proofs.AdvanceLaws.{walk_step}
 use Rattle.shape_strides.proofs.walk.WalkIterator.next.Goals as goal
 

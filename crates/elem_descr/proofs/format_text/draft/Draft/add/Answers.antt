@@ -1,6 +1,6 @@
 use Rattle.std.proofs.Common.{◌≡◌, ◌≤◌, false, length, ap, subst, sym, arith}
 use Rattle.elem_descr.specs.declared.descr.Field.{Field}
-use Rattle.elem_descr.specs.FormatTexts.{Partial, is_taken}
+use Rattle.elem_descr.specs.FormatRecords.{Partial, is_taken}
 use Rattle.elem_descr.specs.inside.Partials.{IsShallow}
 use Rattle.elem_descr.proofs.Drafts.{partial_push, MayFollow}
 use Rattle.elem_descr.proofs.format_text.draft.Draft.add.Goals as goal

@@ -1,5 +1,5 @@
 use Rattle.std.proofs.Common.{◌≡◌, ◌≤◌, length, rules, arith, ap}
-use Rattle.elem_descr.specs.FormatTexts.{Partial}
+use Rattle.elem_descr.specs.FormatRecords.{Partial}
 use Rattle.elem_descr.proofs.Drafts.{closed_legal}
 use Rattle.elem_descr.proofs.format_text.draft.Draft.close.Goals as goal
 

@@ -1,5 +1,5 @@
 use Rattle.std.proofs.Common.{arith}
-use Rattle.elem_descr.specs.FormatTexts.{Partial}
+use Rattle.elem_descr.specs.FormatRecords.{Partial}
 use Rattle.elem_descr.proofs.Drafts.{widened_partial}
 use Rattle.elem_descr.proofs.format_text.draft.Draft.pad.Goals as goal
 

@@ -1,0 +1,9 @@
+-- Laws of bytes that start with others.
+use Rattle.std.proofs.Common.{ℕ, ◌≤◌, List, length, take, sym, ◌∙◌, ap, arith}
+use Rattle.std.specs.Io.{StartsWith}
+use Rattle.std.proofs.lemmas.List.{take-take, length-take}
+
+pub StartsWith-trans : (xs ys zs : List ℕ) → StartsWith xs ys → StartsWith ys zs → StartsWith xs zs
+StartsWith-trans xs ys zs first second =
+    let short : length zs ≤ length ys = omega (arith, ap length second, length-take (length zs) ys) in
+    sym (take-take (length zs) (length ys) xs short) ∙ ap (λ l. take (length zs) l) first ∙ second

@@ -1,0 +1,225 @@
+-- The member at the front of a text, by its pieces and by its bytes.
+use Rattle.std.proofs.Common.{◌≡◌, ◌≤◌, ◌+◌, inl, inr, ℕ, zero, suc, Bool, true, false, ◌&&◌, List, [], ◌∷◌, ◌++◌, take, drop, codes, Option, Some, None, Result, Ok, Err, cond, is_some, if◌then◌else◌, refl, sym, ap, subst, ◌∙◌, arith}
+use Rattle.std.specs.Prelude.{unwrap_or}
+use Rattle.std.specs.Char.{is_ascii_digit}
+use Rattle.std.specs.List.{list_all, prefix_len}
+use Rattle.std.proofs.lemmas.Bool.{cases_eq, cases_Bool}
+use Rattle.std.proofs.lemmas.Bool.Decides.{nat_tests}
+use Rattle.std.proofs.lemmas.List.{take-append-drop}
+use Rattle.elem_descr.specs.declared.refusal.Refusal.{Refusal}
+use Rattle.elem_descr.specs.declared.refusal.Refusal.TheVariants.{BadDescriptor, DescriptorLeftOut}
+use Rattle.elem_descr.specs.declared.scalar.Scalar.{Scalar}
+use Rattle.elem_descr.specs.declared.descr.Descr.{Descr}
+use Rattle.elem_descr.specs.declared.format_text.mark.Mark.{Mark}
+use Rattle.elem_descr.specs.declared.format_text.mark.Mark.TheVariants.{Aligned, Native, Little as LittleMark, Big as BigMark}
+use Rattle.elem_descr.specs.declared.format_text.member.Member.{Member}
+use Rattle.elem_descr.specs.declared.format_text.member.Member.TheVariants.{Value, Pad, Opened}
+use Rattle.elem_descr.specs.Refusals.{◌>>=◌}
+use Rattle.elem_descr.specs.TypeStrings.{is_one_of}
+use Rattle.elem_descr.specs.FormatLetters.{is_empty, mark_meant, number_letter, count_of, text_member, is_left_out, lettered}
+use Rattle.elem_descr.specs.FormatPieces.{Behind, nothing, between_colons, lone_colon, Piece, letter, opening, is_colon, pieces}
+use Rattle.elem_descr.specs.FormatTexts.{Part, member, part_of}
+use Rattle.elem_descr.specs.DescrTexts.{begins_with_digit}
+use Rattle.elem_descr.specs.inside.Turns.{after, is_opened, lettered_before, after_count, member_at}
+use Rattle.elem_descr.proofs.Fronts.{front_passes}
+use Rattle.elem_descr.proofs.Pieces.{behind, pieces-colon, pieces-byte, pieces-letter, pieces-opening, pieces-digits_letter, pieces-digits_opening, CountsNothing, LastDigit, last_digit}
+
+-- ---- steps that may be refused
+
+pub bind_bind : {X Y Z : Type 0} (r : Result X Refusal) (f : X → Result Y Refusal) (g : Y → Result Z Refusal) → ((r >>= f) >>= g) ≡ (r >>= λ x. f x >>= g)
+bind_bind (Ok x) f g = refl
+bind_bind (Err e) f g = refl
+
+pub bind_same : {X Y : Type 0} (r : Result X Refusal) (f g : X → Result Y Refusal) → ((x : X) → r ≡ Ok x → f x ≡ g x) → (r >>= f) ≡ (r >>= g)
+bind_same (Ok x) f g same = same x refl
+bind_same (Err e) f g same = refl
+
+-- ---- bytes by their meaning
+
+some_left : (b : ℕ) (rest : List ℕ) → is_empty (b ∷ rest) ≡ false
+some_left b rest = grind (arith, nat_tests)
+
+pub one_of_one : (k b : ℕ) → is_one_of (k ∷ []) b ≡ true → b ≡ k
+one_of_one k b e = grind (arith, nat_tests)
+
+-- what is so of each byte that is a mark or a blank
+pub sign_cases : (P : ℕ → Mark → Type 0) (mark next : Mark) (b : ℕ) → after mark b ≡ Some next → P 32 mark → P 64 Aligned → P 94 Native → P 60 LittleMark → P 61 LittleMark → P 62 BigMark → P 33 BigMark → P b next
+sign_cases P mark next b e p32 p64 p94 p60 p61 p62 p33 =
+    by_byte 32 mark p32 (λ e. e) (λ n32.
+    by_byte 64 Aligned p64 (λ e. e) (λ n64.
+    by_byte 94 Native p94 (λ e. e) (λ n94.
+    by_byte 60 LittleMark p60 (λ e. e) (λ n60.
+    by_byte 61 LittleMark p61 (λ e. e) (λ n61.
+    by_byte 62 BigMark p62 (λ e. e) (λ n62.
+    by_byte 33 BigMark p33 (λ e. e) (λ n33. absurd (none n32 n64 n94 n60 n61 n62 n33))))))))
+  where
+    by_byte : (k : ℕ) (is : Mark) → P k is → (after mark k ≡ Some next → Some is ≡ Some next) → ((b ≡ k → ⊥) → P b next) → P b next
+    by_byte k is p same other =
+        elim (cases_eq b k) [
+          | inl at ↦
+              let there : after mark k ≡ Some next = subst (λ c. after mark c ≡ Some next) at e in
+              let equal : is ≡ next = ap (λ o. unwrap_or o is) (same there) in
+              subst (λ m. P b m) equal (subst (λ c. P c is) (sym at) p)
+          | inr away ↦ other away
+        ]
+
+    none : (b ≡ 32 → ⊥) → (b ≡ 64 → ⊥) → (b ≡ 94 → ⊥) → (b ≡ 60 → ⊥) → (b ≡ 61 → ⊥) → (b ≡ 62 → ⊥) → (b ≡ 33 → ⊥) → ⊥
+    none n32 n64 n94 n60 n61 n62 n33 = grind (arith, nat_tests)
+
+-- and of each digit
+digit_cases : (P : ℕ → Type 0) (d : ℕ) → is_ascii_digit d ≡ true → P 48 → P 49 → P 50 → P 51 → P 52 → P 53 → P 54 → P 55 → P 56 → P 57 → P d
+digit_cases P d e p0 p1 p2 p3 p4 p5 p6 p7 p8 p9 =
+    by_digit 48 p0 (λ n0. by_digit 49 p1 (λ n1. by_digit 50 p2 (λ n2. by_digit 51 p3 (λ n3. by_digit 52 p4 (λ n4. by_digit 53 p5 (λ n5. by_digit 54 p6 (λ n6. by_digit 55 p7 (λ n7. by_digit 56 p8 (λ n8. by_digit 57 p9 (λ n9. absurd (omega (arith, range d e))))))))))))
+  where
+    by_digit : (k : ℕ) → P k → ((d ≡ k → ⊥) → P d) → P d
+    by_digit k p other = elim (cases_eq d k) [ inl at ↦ subst P (sym at) p | inr away ↦ other away ]
+
+    range : (d : ℕ) → is_ascii_digit d ≡ true → (48 ≤ d) × (d ≤ 57)
+    range d e = grind (arith, nat_tests)
+
+lettered_digit : (mark : Mark) (digits : List ℕ) (d : ℕ) → is_ascii_digit d ≡ true → lettered mark digits d ≡ Err BadDescriptor
+lettered_digit mark digits d e = digit_cases (λ d. lettered mark digits d ≡ Err BadDescriptor) d e refl refl refl refl refl refl refl refl refl refl
+
+-- ---- pieces by their meaning
+
+-- a piece with digits
+part_counted : (mark : Mark) (d : ℕ) (digits : List ℕ) (b : ℕ) (behind : Behind) → part_of mark (letter (d ∷ digits) b behind) ≡ (lettered mark (d ∷ digits) b >>= λ it. Ok (member it behind))
+part_counted mark d digits b behind = rw (some_left d digits) refl
+
+digit_part : (mark : Mark) (digits : List ℕ) (d : ℕ) → is_ascii_digit d ≡ true → part_of mark (letter digits d nothing) ≡ Err BadDescriptor
+digit_part mark [] d e = digit_cases (λ d. part_of mark (letter [] d nothing) ≡ Err BadDescriptor) d e refl refl refl refl refl refl refl refl refl refl
+digit_part mark (c ∷ digits) d e = part_counted mark c digits d nothing ∙ ap (λ r. r >>= λ it. Ok (member it nothing)) (lettered_digit mark (c ∷ digits) d e)
+
+-- a piece without them, that is no mark, no blank and no closing brace
+part_single : (mark : Mark) (b : ℕ) (behind : Behind) → after mark b ≡ None → is_one_of (125 ∷ []) b ≡ false → part_of mark (letter [] b behind) ≡ (lettered mark [] b >>= λ it. Ok (member it behind))
+part_single mark b nothing unmarked unclosed =
+    let plain = by_blank (is_one_of (32 ∷ []) b) (mark_meant b) unmarked in
+    rw (unclosed, plain.0, plain.1) refl
+  where
+    by_blank : (t : Bool) (o : Option Mark) → (if t then Some mark else o) ≡ None → (t ≡ false) × (o ≡ None)
+    by_blank true o e = let never : ⊥ = cc in absurd never
+    by_blank false o e = (refl, e)
+part_single mark b (between_colons bytes) unmarked unclosed = rw unclosed refl
+part_single mark b lone_colon unmarked unclosed = rw unclosed refl
+
+-- what a list of pieces begins with, read under a mark
+abbrev pub Then : Type 0
+Then = Part → List Piece → Result Descr Refusal
+
+abbrev pub front : Mark → Then → List Piece → Result Descr Refusal
+front mark later [] = Err BadDescriptor
+front mark later (piece ∷ more) = part_of mark piece >>= λ part. later part more
+
+-- the same of a member that is read from a text
+abbrev pub met : Then → Member → List ℕ → Result Descr Refusal
+met later (Value value) rest = later (member (Value value) (behind rest).0) (pieces (behind rest).1)
+met later (Pad count) rest = later (member (Pad count) (behind rest).0) (pieces (behind rest).1)
+met later Opened rest = later (member Opened nothing) (pieces (drop 1 rest))
+
+abbrev pub meant : Then → Member × List ℕ → Result Descr Refusal
+meant later m = met later m.0 m.1
+
+-- a letter is never the begin of a record
+lettered_met : (mark : Mark) (later : Then) (digits : List ℕ) (b : ℕ) (rest : List ℕ) → ((lettered mark digits b >>= λ it. Ok (member it (behind rest).0)) >>= λ part. later part (pieces (behind rest).1)) ≡ ((lettered mark digits b >>= λ it. Ok (it, rest)) >>= meant later)
+lettered_met mark later digits b rest = by_tests (is_some (number_letter mark b)) (is_empty digits) (is_one_of (codes "s") b) (is_one_of (codes "x") b) (is_left_out b) (number_letter mark b) (count_of digits)
+  where
+    by_tests : (number single text pad out : Bool) (value : Option Scalar) (count : Option ℕ) →
+        (((if number then (if single then Ok (Value value) else Err DescriptorLeftOut) else if text then text_member count else if pad then Ok (Pad count) else if out then Err DescriptorLeftOut else Err BadDescriptor) >>= λ it. Ok (member it (behind rest).0)) >>= λ part. later part (pieces (behind rest).1))
+        ≡ (((if number then (if single then Ok (Value value) else Err DescriptorLeftOut) else if text then text_member count else if pad then Ok (Pad count) else if out then Err DescriptorLeftOut else Err BadDescriptor) >>= λ it. Ok (it, rest)) >>= meant later)
+    by_tests true true text pad out value count = refl
+    by_tests true false text pad out value count = refl
+    by_tests false single true pad out value None = refl
+    by_tests false single true pad out value (Some zero) = refl
+    by_tests false single true pad out value (Some (suc n)) = refl
+    by_tests false single false true out value count = refl
+    by_tests false single false false true value count = refl
+    by_tests false single false false false value count = refl
+
+-- ---- a member at the front
+
+-- neither a mark nor a closing brace stands at the front
+abbrev pub Plain : Mark → List ℕ → Type 0
+Plain mark [] = Unit {0}
+Plain mark (b ∷ rest) = (after mark b ≡ None) × (is_one_of (125 ∷ []) b ≡ false)
+
+last_digit_read : (mark : Mark) (later : Then) (text : List ℕ) → LastDigit text → front mark later (pieces text) ≡ Err BadDescriptor
+last_digit_read mark later text is = ap (front mark later) is.is ∙ ap (λ r. r >>= λ part. later part is.more) (digit_part mark is.digits is.last is.digit)
+
+fits_nowhere : (mark : Mark) (later : Then) (digits text : List ℕ) → list_all is_ascii_digit digits ≡ true → CountsNothing (pieces text) → front mark later (pieces text) ≡ Err BadDescriptor → front mark later (pieces (digits ++ text)) ≡ Err BadDescriptor
+fits_nowhere mark later [] text all nothing_counted bad = bad
+fits_nowhere mark later (d ∷ digits) text all nothing_counted bad = last_digit_read mark later (d ∷ (digits ++ text)) (last_digit d digits text all nothing_counted)
+
+colon_met : (mark : Mark) (later : Then) (digits rest : List ℕ) → list_all is_ascii_digit digits ≡ true → front mark later (pieces (digits ++ 58 ∷ rest)) ≡ Err BadDescriptor
+colon_met mark later digits rest all =
+    let is = pieces-colon 58 rest refl in
+    fits_nowhere mark later digits (58 ∷ rest) all (subst CountsNothing (sym is) (λ d. refl)) (ap (front mark later) is)
+
+brace_met : (mark : Mark) (later : Then) (digits rest : List ℕ) → list_all is_ascii_digit digits ≡ true → front mark later (pieces (digits ++ 123 ∷ rest)) ≡ Err BadDescriptor
+brace_met mark later digits rest all =
+    let is = pieces-byte 123 rest refl in
+    fits_nowhere mark later digits (123 ∷ rest) all (subst CountsNothing (sym is) (λ d. refl)) (ap (front mark later) is)
+
+opening_met : (mark : Mark) (later : Then) (digits text : List ℕ) → list_all is_ascii_digit digits ≡ true → front mark later (pieces (digits ++ 84 ∷ (123 ∷ text))) ≡ (after_count mark digits (84 ∷ (123 ∷ text)) >>= meant later)
+opening_met mark later digits text all = ap (front mark later) (pieces-digits_opening digits (84 ∷ (123 ∷ text)) (pieces text) all (pieces-opening text)) ∙ counted digits
+  where
+    counted : (digits : List ℕ) → front mark later (opening digits ∷ pieces text) ≡ (after_count mark digits (84 ∷ (123 ∷ text)) >>= meant later)
+    counted [] = refl
+    counted (d ∷ digits) = rw (some_left d digits) refl
+
+part_plain : (mark : Mark) (digits : List ℕ) (b : ℕ) (rest : List ℕ) (behind : Behind) → Plain mark (digits ++ b ∷ rest) → part_of mark (letter digits b behind) ≡ (lettered mark digits b >>= λ it. Ok (member it behind))
+part_plain mark [] b rest behind plain = part_single mark b behind plain.0 plain.1
+part_plain mark (d ∷ digits) b rest behind plain = part_counted mark d digits b behind
+
+letter_met : (mark : Mark) (later : Then) (digits : List ℕ) (b : ℕ) (rest : List ℕ) → list_all is_ascii_digit digits ≡ true → Plain mark (digits ++ b ∷ rest) → is_colon b ≡ false → is_one_of (123 ∷ []) b ≡ false → is_ascii_digit b ≡ false → (is_one_of (84 ∷ []) b && is_opened rest) ≡ false → front mark later (pieces (digits ++ b ∷ rest)) ≡ (after_count mark digits (b ∷ rest) >>= meant later)
+letter_met mark later digits b rest all plain colon brac digit bare =
+    let before : lettered_before mark digits b rest ≡ lettered mark digits b = rw bare refl in
+    ap (front mark later) (pieces-digits_letter digits (b ∷ rest) b (behind rest).0 (pieces (behind rest).1) all (pieces-letter b rest colon brac digit bare))
+    ∙ ap (λ r. r >>= λ part. later part (pieces (behind rest).1)) (part_plain mark digits b rest (behind rest).0 plain)
+    ∙ lettered_met mark later digits b rest
+    ∙ ap (λ r. (r >>= λ it. Ok (it, rest)) >>= meant later) (sym before)
+
+pub both : (a b : Bool) → (a && b) ≡ true → (a ≡ true) × (b ≡ true)
+both true b e = (refl, e)
+both false b e = let never : ⊥ = cc in absurd never
+
+-- digits, and what follows them
+digits_met : (mark : Mark) (later : Then) (digits text : List ℕ) → list_all is_ascii_digit digits ≡ true → begins_with_digit text ≡ false → Plain mark (digits ++ text) → front mark later (pieces (digits ++ text)) ≡ (after_count mark digits text >>= meant later)
+digits_met mark later digits [] all stops plain = fits_nowhere mark later digits [] all (λ d. refl) refl
+digits_met mark later digits (b ∷ rest) all stops plain =
+    elim (cases_Bool (is_colon b)) [
+      | inl colon ↦ at_byte 58 (one_of_one 58 b colon) (colon_met mark later digits rest all)
+      | inr other ↦
+          elim (cases_Bool (is_one_of (123 ∷ []) b)) [
+            | inl brac ↦ at_byte 123 (one_of_one 123 b brac) (brace_met mark later digits rest all)
+            | inr nor ↦
+                elim (cases_Bool (is_one_of (84 ∷ []) b && is_opened rest)) [
+                  | inl opens ↦ let h = both (is_one_of (84 ∷ []) b) (is_opened rest) opens in at_byte 84 (one_of_one 84 b h.0) (opened_at rest h.1)
+                  | inr bare ↦ letter_met mark later digits b rest all plain other nor stops bare
+                ]
+          ]
+    ]
+  where
+    at_byte : (k : ℕ) → b ≡ k → front mark later (pieces (digits ++ k ∷ rest)) ≡ (after_count mark digits (k ∷ rest) >>= meant later) → front mark later (pieces (digits ++ b ∷ rest)) ≡ (after_count mark digits (b ∷ rest) >>= meant later)
+    at_byte k is same = subst (λ c. front mark later (pieces (digits ++ c ∷ rest)) ≡ (after_count mark digits (c ∷ rest) >>= meant later)) (sym is) same
+
+    opened_at : (rest : List ℕ) → is_opened rest ≡ true → front mark later (pieces (digits ++ 84 ∷ rest)) ≡ (after_count mark digits (84 ∷ rest) >>= meant later)
+    opened_at [] e = let never : ⊥ = cc in absurd never
+    opened_at (c ∷ text) e = subst (λ k. front mark later (pieces (digits ++ 84 ∷ (k ∷ text))) ≡ (after_count mark digits (84 ∷ (k ∷ text)) >>= meant later)) (sym (one_of_one 123 c e)) (opening_met mark later digits text all)
+
+one_more : (n : ℕ) → 1 + n ≡ suc n
+one_more n = omega arith
+
+digits_stop : (text : List ℕ) → begins_with_digit (drop (prefix_len is_ascii_digit text) text) ≡ false
+digits_stop [] = refl
+digits_stop (b ∷ text) = by_first (is_ascii_digit b) refl (digits_stop text)
+  where
+    by_first : (t : Bool) → is_ascii_digit b ≡ t → begins_with_digit (drop (prefix_len is_ascii_digit text) text) ≡ false → begins_with_digit (drop (cond t (1 + prefix_len is_ascii_digit text) zero) (b ∷ text)) ≡ false
+    by_first true e later = rw (one_more (prefix_len is_ascii_digit text)) later
+    by_first false e later = e
+
+pub member_met : (mark : Mark) (later : Then) (text : List ℕ) → Plain mark text → front mark later (pieces text) ≡ (member_at mark text >>= meant later)
+member_met mark later text plain =
+    let n = prefix_len is_ascii_digit text in
+    let whole = take-append-drop n text in
+    ap (λ t. front mark later (pieces t)) (sym whole)
+    ∙ digits_met mark later (take n text) (drop n text) (front_passes is_ascii_digit text) (digits_stop text) (subst (Plain mark) (sym whole) plain)

@@ -1,0 +1,262 @@
+-- A text means the same by its pieces as it does where its members are read in turns.
+use Rattle.std.proofs.Common.{◌≡◌, ℕ, Bool, true, false, not, ◌&&◌, List, [], ◌∷◌, length, take, drop, codes, inl, inr, Option, Some, None, Result, Ok, Err, cond, is_some, if◌then◌else◌, refl, sym, ap, subst, ◌∙◌, arith}
+use Rattle.std.specs.Prelude.{find}
+use Rattle.std.specs.Char.{is_ascii_digit}
+use Rattle.std.specs.List.{list_all, prefix_len}
+use Rattle.std.specs.Option.{option_map, ok_or}
+use Rattle.std.proofs.lemmas.Bool.{cases_Bool}
+use Rattle.elem_descr.specs.declared.refusal.Refusal.{Refusal}
+use Rattle.elem_descr.specs.declared.refusal.Refusal.TheVariants.{BadDescriptor, DescriptorLeftOut, TooLarge}
+use Rattle.elem_descr.specs.declared.scalar.Scalar.{Scalar}
+use Rattle.elem_descr.specs.declared.descr.Descr.{Descr}
+use Rattle.elem_descr.specs.declared.descr.Descr.TheVariants.{Scalar as ScalarDescr, Record as RecordDescr}
+use Rattle.elem_descr.specs.declared.format_text.draft.Body.{Body}
+use Rattle.elem_descr.specs.declared.format_text.mark.Mark.{Mark}
+use Rattle.elem_descr.specs.declared.format_text.mark.Mark.TheVariants.{Aligned}
+use Rattle.elem_descr.specs.declared.format_text.member.Member.{Member}
+use Rattle.elem_descr.specs.declared.format_text.member.Member.TheVariants.{Value, Pad, Opened}
+use Rattle.elem_descr.specs.Refusals.{◌>>=◌, check}
+use Rattle.elem_descr.specs.TypeStrings.{is_one_of}
+use Rattle.elem_descr.specs.FormatLetters.{is_empty, mark_meant, letters, number_letter, count_of, text_member, is_left_out, lettered}
+use Rattle.elem_descr.specs.FormatRecords.{empty}
+use Rattle.elem_descr.specs.FormatPieces.{Behind, nothing, between_colons, lone_colon, Piece, letter, is_colon, pieces}
+use Rattle.elem_descr.specs.FormatTexts.{part_of, unnamed, Reading, begun, complete, beyond, at_begin, closed_in, at_end, step, read_on, format}
+use Rattle.elem_descr.specs.inside.Turns.{after, marked, is_named, is_opened, lettered_before, after_count, member_at, record_within, ended, scalar_alone, record_alone, alone, format_in_turns}
+use Rattle.elem_descr.proofs.Pieces.{name_end, behind_colon, behind, behind-colon, pieces-letter, some_piece}
+use Rattle.elem_descr.proofs.PieceMembers.{bind_bind, bind_same, one_of_one, sign_cases, Then, front, met, meant, member_met}
+use Rattle.elem_descr.proofs.SameMembers.{marked_none, Unmarked, unmarked, sign_letter, marks_begun, marks_beyond, marks_read, behind_bare, unnamed_same, members_same}
+
+-- ---- what follows a whole descriptor
+
+-- which letters are numbers is the same under each mark
+abbrev SameKeys : List (List ℕ × Scalar) → List (List ℕ × Scalar) → Type 0
+SameKeys [] [] = Unit {0}
+SameKeys [] (y ∷ ys) = ⊥
+SameKeys (x ∷ xs) [] = ⊥
+SameKeys (x ∷ xs) (y ∷ ys) = (x.0 ≡ y.0) × SameKeys xs ys
+
+found_same : (b : ℕ) (xs ys : List (List ℕ × Scalar)) → SameKeys xs ys → is_some (option_map (λ entry. entry.1) (find (λ entry. is_one_of entry.0 b) xs)) ≡ is_some (option_map (λ entry. entry.1) (find (λ entry. is_one_of entry.0 b) ys))
+found_same b [] [] same = refl
+found_same b [] (y ∷ ys) same = absurd same
+found_same b (x ∷ xs) [] same = absurd same
+found_same b (x ∷ xs) (y ∷ ys) same = by_key (is_one_of x.0 b) (is_one_of y.0 b) (ap (λ key. is_one_of key b) same.0) (found_same b xs ys same.1)
+  where
+    by_key : (t u : Bool) → t ≡ u → is_some (option_map (λ entry. entry.1) (find (λ entry. is_one_of entry.0 b) xs)) ≡ is_some (option_map (λ entry. entry.1) (find (λ entry. is_one_of entry.0 b) ys)) → is_some (option_map (λ entry. entry.1) (cond t (Some x) (find (λ entry. is_one_of entry.0 b) xs))) ≡ is_some (option_map (λ entry. entry.1) (cond u (Some y) (find (λ entry. is_one_of entry.0 b) ys)))
+    by_key true true e later = refl
+    by_key true false e later = let never : ⊥ = cc in absurd never
+    by_key false true e later = let never : ⊥ = cc in absurd never
+    by_key false false e later = later
+
+numbers_same : (mark other : Mark) (b : ℕ) → is_some (number_letter mark b) ≡ is_some (number_letter other b)
+numbers_same mark other b = found_same b (letters mark) (letters other) (refl, (refl, (refl, (refl, (refl, (refl, (refl, (refl, (refl, (refl, (refl, tt)))))))))))
+
+-- so a fault in a member is the same
+abbrev left_out : {X : Type 0} → X → Result Descr Refusal
+left_out x = Err DescriptorLeftOut
+
+fault_same : (mark other : Mark) (digits : List ℕ) (b : ℕ) → (lettered mark digits b >>= left_out) ≡ (lettered other digits b >>= left_out)
+fault_same mark other digits b = by_tests (is_some (number_letter mark b)) (is_some (number_letter other b)) (numbers_same mark other b) (is_empty digits) (number_letter mark b) (number_letter other b)
+  where
+    by_tests : (t u : Bool) → t ≡ u → (single : Bool) (value next : Option Scalar) →
+        ((if t then (if single then Ok (Value value) else Err DescriptorLeftOut) else if is_one_of (codes "s") b then text_member (count_of digits) else if is_one_of (codes "x") b then Ok (Pad (count_of digits)) else if is_left_out b then Err DescriptorLeftOut else Err BadDescriptor) >>= left_out)
+        ≡ ((if u then (if single then Ok (Value next) else Err DescriptorLeftOut) else if is_one_of (codes "s") b then text_member (count_of digits) else if is_one_of (codes "x") b then Ok (Pad (count_of digits)) else if is_left_out b then Err DescriptorLeftOut else Err BadDescriptor) >>= left_out)
+    by_tests true true e true value next = refl
+    by_tests true true e false value next = refl
+    by_tests true false e single value next = let never : ⊥ = cc in absurd never
+    by_tests false true e single value next = let never : ⊥ = cc in absurd never
+    by_tests false false e single value next = refl
+
+count_same : (mark other : Mark) (digits tail : List ℕ) → (after_count mark digits tail >>= left_out) ≡ (after_count other digits tail >>= left_out)
+count_same mark other digits [] = refl
+count_same mark other digits (b ∷ rest) = bind_bind (lettered_before mark digits b rest) (λ it. Ok (it, rest)) left_out ∙ by_opening (is_one_of (84 ∷ []) b && is_opened rest) ∙ sym (bind_bind (lettered_before other digits b rest) (λ it. Ok (it, rest)) left_out)
+  where
+    by_opening : (t : Bool) → ((if t then (if is_empty digits then Ok Opened else Err DescriptorLeftOut) else lettered mark digits b) >>= left_out) ≡ ((if t then (if is_empty digits then Ok Opened else Err DescriptorLeftOut) else lettered other digits b) >>= left_out)
+    by_opening true = refl
+    by_opening false = fault_same mark other digits b
+
+-- what follows under a piece that comes after a whole descriptor
+abbrev then_after : Reading → Then
+then_after now part more = at_end now part >>= λ next. read_on next more
+
+left_met : (now : Reading) (it : Member) (rest : List ℕ) → met (then_after now) it rest ≡ Err DescriptorLeftOut
+left_met now (Value value) rest = refl
+left_met now (Pad count) rest = refl
+left_met now Opened rest = refl
+
+-- a text that begins with no mark
+after_plain : (now : Reading) (text : List ℕ) → Unmarked Aligned text → front Aligned (then_after now) (pieces text) ≡ (member_at Aligned text >>= left_out)
+after_plain now [] plain = refl
+after_plain now (b ∷ rest) plain =
+    elim (cases_Bool (is_one_of (125 ∷ []) b)) [
+      | inl brac ↦ subst (λ c. front Aligned (then_after now) (pieces (c ∷ rest)) ≡ (member_at Aligned (c ∷ rest) >>= left_out)) (sym (one_of_one 125 b brac)) (ap (front Aligned (then_after now)) (pieces-letter 125 rest refl refl refl refl))
+      | inr other ↦ member_met Aligned (then_after now) (b ∷ rest) (plain, other) ∙ bind_same (member_at Aligned (b ∷ rest)) (meant (then_after now)) left_out (λ m is. left_met now m.0 m.1)
+    ]
+
+read_beyond : (some : List Piece) → read_on beyond some ≡ front Aligned (then_after beyond) some
+read_beyond [] = refl
+read_beyond (piece ∷ more) = bind_bind (part_of Aligned piece) (at_end beyond) (λ next. read_on next more)
+
+aligned_unmarked : (mark : Mark) (text : List ℕ) → Unmarked mark text → Unmarked Aligned text
+aligned_unmarked mark [] plain = tt
+aligned_unmarked mark (b ∷ rest) plain = by_blank (is_one_of (32 ∷ []) b) (mark_meant b) plain
+  where
+    by_blank : (t : Bool) (o : Option Mark) → (if t then Some mark else o) ≡ None → (if t then Some Aligned else o) ≡ None
+    by_blank true o e = let never : ⊥ = cc in absurd never
+    by_blank false o e = e
+
+beyond_same : (mark : Mark) (text : List ℕ) → read_on beyond (pieces text) ≡ (member_at (marked mark text).0 (marked mark text).1 >>= left_out)
+beyond_same mark text =
+    let now = (marked mark text).0 in
+    let rest = (marked mark text).1 in
+    let n = prefix_len is_ascii_digit rest in
+    marks_read (λ mark. beyond) marks_beyond mark text
+    ∙ read_beyond (pieces rest)
+    ∙ after_plain beyond rest (aligned_unmarked now rest (unmarked mark text))
+    ∙ count_same Aligned now (take n rest) (drop n rest)
+
+-- a mark that is no blank
+mark_beyond : (descr : Descr) (next : Mark) (b : ℕ) (rest : List ℕ) → after Aligned b ≡ Some next → is_one_of (32 ∷ []) b ≡ false → read_on (complete descr) (pieces (b ∷ rest)) ≡ read_on beyond (pieces (b ∷ rest))
+mark_beyond descr next b rest e mark_only =
+    let is = sign_letter Aligned next b rest e in
+    ap (read_on (complete descr)) is ∙ ap (λ r. r >>= λ now. read_on now (pieces (behind rest).1)) (by_name (behind rest).0) ∙ sym (ap (read_on beyond) is)
+  where
+    never : true ≡ false → ⊥
+    never e = cc
+
+    by_name : (name : Behind) → step (complete descr) (letter [] b name) ≡ step beyond (letter [] b name)
+    by_name nothing = sign_cases (λ c _. is_one_of (32 ∷ []) c ≡ false → step (complete descr) (letter [] c nothing) ≡ step beyond (letter [] c nothing)) Aligned next b e (λ f. absurd (never f)) (λ f. refl) (λ f. refl) (λ f. refl) (λ f. refl) (λ f. refl) (λ f. refl) mark_only
+    by_name (between_colons bytes) = sign_cases (λ c _. step (complete descr) (letter [] c (between_colons bytes)) ≡ step beyond (letter [] c (between_colons bytes))) Aligned next b e refl refl refl refl refl refl refl
+    by_name lone_colon = sign_cases (λ c _. step (complete descr) (letter [] c lone_colon) ≡ step beyond (letter [] c lone_colon)) Aligned next b e refl refl refl refl refl refl refl
+
+-- the descriptor, where nothing may follow
+abbrev only : Descr → Unit {0} → Result Descr Refusal
+only descr x = Ok descr
+
+ended_blank : (rest : List ℕ) → is_named rest ≡ false → ended (32 ∷ rest) ≡ ended rest
+unfolding ended
+ended_blank rest e = rw e refl
+
+ended_other : (b : ℕ) (rest : List ℕ) (descr : Descr) → is_colon b ≡ false → is_one_of (32 ∷ []) b ≡ false → (ended (b ∷ rest) >>= only descr) ≡ (member_at (marked Aligned (b ∷ rest)).0 (marked Aligned (b ∷ rest)).1 >>= left_out)
+unfolding ended
+ended_other b rest descr colon other = by_tests (is_one_of (32 ∷ []) b) (is_colon b) other colon (list_all (is_one_of (32 ∷ [])) rest) (member_at (marked Aligned (b ∷ rest)).0 (marked Aligned (b ∷ rest)).1)
+  where
+    none_of : {X : Type 0} → X → Result (Unit {0}) Refusal
+    none_of x = Err DescriptorLeftOut
+
+    by_member : (r : Result (Member × List ℕ) Refusal) → ((r >>= λ x. none_of x) >>= only descr) ≡ (r >>= left_out)
+    by_member (Ok m) = refl
+    by_member (Err e) = refl
+
+    by_tests : (t u : Bool) → t ≡ false → u ≡ false → (all : Bool) (r : Result (Member × List ℕ) Refusal) → ((if t && all then Ok tt else (check (not u) DescriptorLeftOut >>= λ _. r >>= λ x. none_of x)) >>= only descr) ≡ (r >>= left_out)
+    by_tests true u e f all r = let never : ⊥ = cc in absurd never
+    by_tests false true e f all r = let never : ⊥ = cc in absurd never
+    by_tests false false e f all r = by_member r
+
+-- a blank with a name behind it
+blank_named : (descr : Descr) (c : ℕ) (text : List ℕ) → is_colon c ≡ true → read_on (complete descr) (pieces (32 ∷ (c ∷ text))) ≡ (ended (32 ∷ (c ∷ text)) >>= only descr)
+unfolding ended
+blank_named descr c text colon =
+    ap (read_on (complete descr)) (pieces-letter 32 (c ∷ text) refl refl refl refl ∙ ap (λ s. letter [] 32 s.0 ∷ pieces s.1) (behind-colon c text colon))
+    ∙ refused (name_end text)
+    ∙ subst (λ k. Err BadDescriptor ≡ (ended (32 ∷ (k ∷ text)) >>= only descr)) (sym (one_of_one 58 c colon)) refl
+  where
+    refused : (end : Option (List ℕ × List ℕ)) → read_on (complete descr) (letter [] 32 (behind_colon end).0 ∷ pieces (behind_colon end).1) ≡ Err BadDescriptor
+    refused None = refl
+    refused (Some r) = refl
+
+blank_bare : (descr : Descr) (rest : List ℕ) → is_named rest ≡ false → read_on (complete descr) (pieces (32 ∷ rest)) ≡ read_on (complete descr) (pieces rest)
+blank_bare descr rest e = ap (read_on (complete descr)) (pieces-letter 32 rest refl refl refl refl ∙ ap (λ s. letter [] 32 s.0 ∷ pieces s.1) (behind_bare rest e))
+
+ended_same : (descr : Descr) (text : List ℕ) → is_named text ≡ false → read_on (complete descr) (pieces text) ≡ (ended text >>= only descr)
+unfolding ended
+ended_same descr [] e = refl
+ended_same descr (b ∷ rest) e = by_blank (ended_same descr rest)
+  where
+    on_blank : (rest : List ℕ) → (is_named rest ≡ false → read_on (complete descr) (pieces rest) ≡ (ended rest >>= only descr)) → read_on (complete descr) (pieces (32 ∷ rest)) ≡ (ended (32 ∷ rest) >>= only descr)
+    on_blank [] later = refl
+    on_blank (c ∷ text) later =
+        elim (cases_Bool (is_colon c)) [
+          | inl colon ↦ blank_named descr c text colon
+          | inr other ↦ blank_bare descr (c ∷ text) other ∙ later other ∙ ap (λ r. r >>= only descr) (sym (ended_blank (c ∷ text) other))
+        ]
+
+    plain : after Aligned b ≡ None → read_on (complete descr) (pieces (b ∷ rest)) ≡ (member_at Aligned (b ∷ rest) >>= left_out)
+    plain unmarked_byte =
+        let first = some_piece b rest e in
+        ap (read_on (complete descr)) first.2
+        ∙ bind_bind (part_of Aligned first.0) (at_end (complete descr)) (λ next. read_on next first.1)
+        ∙ sym (ap (front Aligned (then_after (complete descr))) first.2)
+        ∙ after_plain (complete descr) (b ∷ rest) unmarked_byte
+
+    by_mark : (o : Option Mark) → after Aligned b ≡ o → is_one_of (32 ∷ []) b ≡ false → read_on (complete descr) (pieces (b ∷ rest)) ≡ (member_at (marked Aligned (b ∷ rest)).0 (marked Aligned (b ∷ rest)).1 >>= left_out)
+    by_mark None is other = plain is ∙ ap (λ m. member_at m.0 m.1 >>= left_out) (sym (marked_none Aligned b rest is))
+    by_mark (Some next) is other = mark_beyond descr next b rest is other ∙ beyond_same Aligned (b ∷ rest)
+
+    by_blank : (is_named rest ≡ false → read_on (complete descr) (pieces rest) ≡ (ended rest >>= only descr)) → read_on (complete descr) (pieces (b ∷ rest)) ≡ (ended (b ∷ rest) >>= only descr)
+    by_blank later =
+        elim (cases_Bool (is_one_of (32 ∷ []) b)) [
+          | inl bl ↦ subst (λ c. read_on (complete descr) (pieces (c ∷ rest)) ≡ (ended (c ∷ rest) >>= only descr)) (sym (one_of_one 32 b bl)) (on_blank rest later)
+          | inr other ↦ by_mark (after Aligned b) refl other ∙ sym (ended_other b rest descr e other)
+        ]
+
+-- where nothing may follow, no name may
+ended_named : (rest : List ℕ) → is_named rest ≡ true → ended rest ≡ Err DescriptorLeftOut
+unfolding ended
+ended_named [] e = let never : ⊥ = cc in absurd never
+ended_named (c ∷ text) e = subst (λ k. ended (k ∷ text) ≡ Err DescriptorLeftOut) (sym (one_of_one 58 c e)) refl
+
+-- ---- the whole text
+
+abbrev then_begin : Mark → Then
+then_begin mark part more = at_begin mark part >>= λ next. read_on next more
+
+read_begun : (mark : Mark) (some : List Piece) → read_on (begun mark) some ≡ front mark (then_begin mark) some
+read_begun mark [] = refl
+read_begun mark (piece ∷ more) = bind_bind (part_of mark piece) (at_begin mark) (λ next. read_on next more)
+
+record_ends : (body : Body) (rest : List ℕ) → (closed_in [] body (behind rest).0 >>= λ next. read_on next (pieces (behind rest).1)) ≡ (ended rest >>= only (RecordDescr body.whole))
+record_ends body rest =
+    let descr = RecordDescr body.whole in
+    bind_bind (unnamed (behind rest).0) (λ _. Ok (complete descr)) (λ next. read_on next (pieces (behind rest).1))
+    ∙ sym (unnamed_same rest (λ r. read_on (complete descr) (pieces r)))
+    ∙ by_name (is_named rest) refl
+  where
+    by_name : (t : Bool) → is_named rest ≡ t → (check (not (is_named rest)) DescriptorLeftOut >>= λ _. read_on (complete (RecordDescr body.whole)) (pieces rest)) ≡ (ended rest >>= only (RecordDescr body.whole))
+    by_name true e = ap (λ t. check (not t) DescriptorLeftOut >>= λ _. read_on (complete (RecordDescr body.whole)) (pieces rest)) e ∙ ap (λ r. r >>= only (RecordDescr body.whole)) (sym (ended_named rest e))
+    by_name false e = ap (λ t. check (not t) DescriptorLeftOut >>= λ _. read_on (complete (RecordDescr body.whole)) (pieces rest)) e ∙ ended_same (RecordDescr body.whole) rest e
+
+scalar_ends : (mark : Mark) (value : Option Scalar) (rest : List ℕ) → met (then_begin mark) (Value value) rest ≡ scalar_alone value rest
+unfolding scalar_alone
+scalar_ends mark value rest =
+    bind_bind (unnamed (behind rest).0) (λ _. ok_or value TooLarge >>= λ scalar. Ok (complete (ScalarDescr scalar))) (λ next. read_on next (pieces (behind rest).1))
+    ∙ sym (unnamed_same rest (λ r. (ok_or value TooLarge >>= λ scalar. Ok (complete (ScalarDescr scalar))) >>= λ next. read_on next (pieces r)))
+    ∙ by_name value (is_named rest) refl
+  where
+    by_name : (value : Option Scalar) (t : Bool) → is_named rest ≡ t → (check (not (is_named rest)) DescriptorLeftOut >>= λ _. (ok_or value TooLarge >>= λ scalar. Ok (complete (ScalarDescr scalar))) >>= λ next. read_on next (pieces rest)) ≡ (check (not (is_named rest)) DescriptorLeftOut >>= λ _. ok_or value TooLarge >>= λ scalar. ended rest >>= only (ScalarDescr scalar))
+    by_name None t e = refl
+    by_name (Some scalar) true e =
+        ap (λ t. check (not t) DescriptorLeftOut >>= λ _. read_on (complete (ScalarDescr scalar)) (pieces rest)) e
+        ∙ sym (ap (λ t. check (not t) DescriptorLeftOut >>= λ _. ended rest >>= only (ScalarDescr scalar)) e)
+    by_name (Some scalar) false e = ap (λ r. check (not (is_named rest)) DescriptorLeftOut >>= λ _. r) (ended_same (ScalarDescr scalar) rest e)
+
+alone_same : (mark : Mark) (it : Member) (rest : List ℕ) → met (then_begin mark) it rest ≡ alone mark it rest
+unfolding record_alone record_within
+alone_same mark (Value value) rest = scalar_ends mark value rest
+alone_same mark (Pad count) rest = refl
+alone_same mark Opened rest =
+    let inner = drop 1 rest in
+    members_same (length inner) 3 (length inner) mark (empty 3 0) [] inner (λ body. ended body.1 >>= only (RecordDescr body.0.whole)) (omega arith) (omega arith) refl (λ body later l. record_ends body later)
+
+text_same : (mark : Mark) (text : List ℕ) → Unmarked mark text → read_on (begun mark) (pieces text) ≡ (member_at mark text >>= λ m. alone mark m.0 m.1)
+text_same mark [] plain = refl
+text_same mark (b ∷ rest) plain =
+    elim (cases_Bool (is_one_of (125 ∷ []) b)) [
+      | inl brac ↦ subst (λ c. read_on (begun mark) (pieces (c ∷ rest)) ≡ (member_at mark (c ∷ rest) >>= λ m. alone mark m.0 m.1)) (sym (one_of_one 125 b brac)) (ap (read_on (begun mark)) (pieces-letter 125 rest refl refl refl refl))
+      | inr other ↦
+          read_begun mark (pieces (b ∷ rest))
+          ∙ member_met mark (then_begin mark) (b ∷ rest) (plain, other)
+          ∙ bind_same (member_at mark (b ∷ rest)) (meant (then_begin mark)) (λ m. alone mark m.0 m.1) (λ m is. alone_same mark m.0 m.1)
+    ]
+
+pub same_format : (text : List ℕ) → format text ≡ format_in_turns text
+same_format text = marks_read begun marks_begun Aligned text ∙ text_same (marked Aligned text).0 (marked Aligned text).1 (unmarked Aligned text)

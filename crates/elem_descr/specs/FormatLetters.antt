@@ -1,0 +1,100 @@
+-- Format texts of PEP 3118: the marks, the letters, and the members that they mean.
+use Rattle.std.specs.Prelude.{ℕ, zero, suc, Bool, true, false, List, [], ◌∷◌, length, codes, find, nat_eq, nat_le, if◌then◌else◌, Option, Some, None, is_some, Result, Ok, Err}
+use Rattle.std.specs.Option.{option_map}
+use Rattle.elem_descr.specs.declared.refusal.Refusal.{Refusal}
+use Rattle.elem_descr.specs.declared.refusal.Refusal.TheVariants.{BadDescriptor, DescriptorLeftOut}
+use Rattle.elem_descr.specs.declared.scalar.Order.{Order}
+use Rattle.elem_descr.specs.declared.scalar.Order.TheVariants.{Little, Big}
+use Rattle.elem_descr.specs.declared.scalar.Width.{Width}
+use Rattle.elem_descr.specs.declared.scalar.Width.TheVariants.{Two, Four, Eight}
+use Rattle.elem_descr.specs.declared.scalar.Scalar.{Scalar}
+use Rattle.elem_descr.specs.declared.scalar.Scalar.TheVariants.{Bool as BoolScalar, Byte, Int, Bytes}
+use Rattle.elem_descr.specs.declared.format_text.mark.Mark.{Mark}
+use Rattle.elem_descr.specs.declared.format_text.mark.Mark.TheVariants.{Aligned, Native, Little as LittleMark, Big as BigMark}
+use Rattle.elem_descr.specs.declared.format_text.member.Member.{Member}
+use Rattle.elem_descr.specs.declared.format_text.member.Member.TheVariants.{Value, Pad}
+use Rattle.elem_descr.specs.Encoding.{size}
+use Rattle.elem_descr.specs.TypeStrings.{is_one_of, value_of}
+
+-- the most bytes of an item
+abbrev pub max_size : ℕ
+max_size = 65536
+
+-- nothing is left
+abbrev pub is_empty : List ℕ → Bool
+is_empty text = nat_eq (length text) 0
+
+-- the marks
+abbrev pub marks : List (List ℕ × Mark)
+marks = (codes "@", Aligned) ∷ ((codes "^", Native) ∷ ((codes "<=", LittleMark) ∷ ((codes ">!", BigMark) ∷ [])))
+
+-- the mark that a byte is
+abbrev pub mark_meant : ℕ → Option Mark
+mark_meant b = option_map (λ entry. entry.1) (find (λ entry. is_one_of entry.0 b) marks)
+
+abbrev pub order_under : Mark → Order
+order_under BigMark = Big
+order_under _ = Little
+
+-- `l` has eight bytes where sizes are native
+abbrev pub long_under : Mark → Width
+long_under Aligned = Eight
+long_under Native = Eight
+long_under _ = Four
+
+-- only `@` aligns
+abbrev pub is_aligning : Mark → Bool
+is_aligning Aligned = true
+is_aligning _ = false
+
+-- the letters of numbers
+abbrev pub letters : Mark → List (List ℕ × Scalar)
+letters mark =
+    (codes "?", BoolScalar)
+    ∷ ((codes "b", Byte true)
+    ∷ ((codes "B", Byte false)
+    ∷ ((codes "h", Int true Two (order_under mark))
+    ∷ ((codes "H", Int false Two (order_under mark))
+    ∷ ((codes "i", Int true Four (order_under mark))
+    ∷ ((codes "I", Int false Four (order_under mark))
+    ∷ ((codes "l", Int true (long_under mark) (order_under mark))
+    ∷ ((codes "L", Int false (long_under mark) (order_under mark))
+    ∷ ((codes "q", Int true Eight (order_under mark))
+    ∷ ((codes "Q", Int false Eight (order_under mark)) ∷ []))))))))))
+
+-- the number that a letter means
+abbrev pub number_letter : Mark → ℕ → Option Scalar
+number_letter mark letter = option_map (λ entry. entry.1) (find (λ entry. is_one_of entry.0 letter) (letters mark))
+
+-- a number's own alignment is its size, and a byte string has none
+abbrev pub own_alignment : Scalar → ℕ
+own_alignment (Bytes n) = 1
+own_alignment scalar = size scalar
+
+-- what the offset of a member with its own alignment is a multiple of
+abbrev pub aligned : Mark → ℕ → ℕ
+aligned mark own = if is_aligning mark then own else 1
+
+-- the count that digits spell: 1 where there are none, and none where no item has as many bytes
+abbrev pub count_of : List ℕ → Option ℕ
+count_of [] = Some 1
+count_of (d ∷ digits) = if nat_le (value_of (d ∷ digits)) max_size then Some (value_of (d ∷ digits)) else None
+
+-- a byte string of so many bytes
+abbrev pub text_member : Option ℕ → Result Member Refusal
+text_member None = Ok (Value None)
+text_member (Some zero) = Err DescriptorLeftOut
+text_member (Some (suc n)) = Ok (Value (Some (Bytes (suc n))))
+
+-- the letters that are left out
+abbrev pub is_left_out : ℕ → Bool
+is_left_out letter = is_one_of (codes "cnNPpefdgOZuwt&X(") letter
+
+-- a member by its count and its letter
+abbrev pub lettered : Mark → List ℕ → ℕ → Result Member Refusal
+lettered mark digits b =
+    if is_some (number_letter mark b) then (if is_empty digits then Ok (Value (number_letter mark b)) else Err DescriptorLeftOut)
+    else if is_one_of (codes "s") b then text_member (count_of digits)
+    else if is_one_of (codes "x") b then Ok (Pad (count_of digits))
+    else if is_left_out b then Err DescriptorLeftOut
+    else Err BadDescriptor

@@ -1,0 +1,87 @@
+-- Format texts of PEP 3118: a record as far as it is read.
+use Rattle.std.specs.Prelude.{ℕ, ◌+◌, max, Bool, not, List, [], ◌∷◌, ◌++◌, length, nat_lt, nat_le, if◌then◌else◌, Option, Result, Ok, Err}
+use Rattle.std.specs.Int.{next_multiple_of}
+use Rattle.std.specs.List.{list_any}
+use Rattle.std.specs.Option.{ok_or}
+use Rattle.std.specs.Str.{bytes_eq}
+use Rattle.elem_descr.specs.declared.refusal.Refusal.{Refusal}
+use Rattle.elem_descr.specs.declared.refusal.Refusal.TheVariants.{BadDescriptor, DescriptorLeftOut, TooLarge}
+use Rattle.elem_descr.specs.declared.descr.Field.{Field}
+use Rattle.elem_descr.specs.declared.descr.Descr.{Descr}
+use Rattle.elem_descr.specs.declared.format_text.draft.Body.{Body}
+use Rattle.elem_descr.specs.declared.format_text.mark.Mark.{Mark}
+use Rattle.elem_descr.specs.Refusals.{◌>>=◌, check}
+use Rattle.elem_descr.specs.Descriptors.{listed}
+use Rattle.elem_descr.specs.Items.{item_size, leaves_of}
+use Rattle.elem_descr.specs.FormatLetters.{max_size, is_aligning}
+
+-- how many records may lie one within another
+abbrev pub max_depth : ℕ
+max_depth = 4
+
+-- the most fields of a record, and leaves of a text
+abbrev pub max_fields : ℕ
+max_fields = 64
+
+abbrev pub max_leaves : ℕ
+max_leaves = 2048
+
+-- a record as far as it is read: its bytes so far, the greatest alignment of its members, the leaves
+-- of the whole text so far, how many levels of records may lie in it, and its fields
+pub record Partial : Type 0 where
+  pub size : ℕ
+  pub alignment : ℕ
+  pub leaves : ℕ
+  pub levels : ℕ
+  pub fields : List Field
+
+-- a record before its first member
+abbrev pub empty : ℕ → ℕ → Partial
+empty levels leaves = record { size = 0; alignment = 1; leaves = leaves; levels = levels; fields = [] }
+
+abbrev pub is_taken : List Field → List ℕ → Bool
+is_taken fields name = list_any (λ field. bytes_eq field.name name) fields
+
+-- a field after the bytes so far, at a multiple of its alignment
+abbrev pub with_field : Partial → List ℕ → ℕ → Descr → Partial
+with_field p name alignment descr =
+    let at = next_multiple_of p.size alignment in
+    record {
+      size = at + item_size descr;
+      alignment = max p.alignment alignment;
+      leaves = p.leaves + length (leaves_of descr);
+      levels = p.levels;
+      fields = p.fields ++ record { name = name; at = at; descr = descr } ∷ [];
+    }
+
+abbrev pub if_small : Partial → Result Partial Refusal
+if_small p = if nat_le p.size max_size then Ok p else Err TooLarge
+
+-- a further field may have this name
+unfoldable pub checked_name : Partial → List ℕ → Result (Unit {0}) Refusal
+checked_name p name = do
+  _ ← check (not (is_taken p.fields name)) BadDescriptor
+  check (nat_lt (length p.fields) max_fields) TooLarge
+
+-- the leaves of the text and the bytes of the record are checked with the field
+unfoldable pub added : Partial → List ℕ → ℕ → Descr → Result Partial Refusal
+added p name alignment descr = do
+  _ ← check (nat_le (p.leaves + length (leaves_of descr)) max_leaves) TooLarge
+  if_small (with_field p name alignment descr)
+
+-- so many bytes of padding are added
+unfoldable pub widened : Partial → Option ℕ → Result Partial Refusal
+widened p count = do
+  n ← ok_or count TooLarge
+  if_small (record p { size = p.size + n })
+
+-- the bytes of a record, rounded up where `@` is in force at its end
+abbrev pub closed_size : Mark → Partial → ℕ
+closed_size mark p = if is_aligning mark then next_multiple_of p.size p.alignment else p.size
+
+-- a record at its closing brace
+unfoldable pub closed_record : Mark → Partial → Result Body Refusal
+closed_record mark p = do
+  _ ← check (nat_le 1 (length p.fields)) DescriptorLeftOut
+  _ ← check (nat_le (closed_size mark p) max_size) TooLarge
+  Ok (record { whole = record { size = closed_size mark p; fields = listed p.fields }; alignment = p.alignment; mark = mark })

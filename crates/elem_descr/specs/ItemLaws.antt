@@ -1,0 +1,80 @@
+-- Laws of the leaves of an item: they are in order, and as many as are counted.
+use Rattle.std.proofs.Common.{◌≡◌, ℕ, zero, suc, ◌+◌, ◌<◌, ◌≤◌, ◌∷◌, map, length, get_or, refl, sym, ap, arith, List, [], ◌++◌, length-append}
+use Rattle.std.proofs.lemmas.List.{map-append}
+use Rattle.elem_descr.specs.declared.leaf.Leaf.{Leaf}
+use Rattle.elem_descr.specs.declared.descr.Descr.{Descr}
+use Rattle.elem_descr.specs.declared.descr.Descr.TheVariants.{Scalar as ScalarDescr, Record as RecordDescr}
+use Rattle.elem_descr.specs.Items.{leaves_of, leaves_from, moved, AreInOrder}
+use Rattle.elem_descr.specs.Encoding.{size}
+use Rattle.elem_descr.specs.Fields.{Fields, no_more, scalar_field, record_field, Structure}
+use Rattle.elem_descr.specs.Descriptors.{IsLegal, InOrder, before, leaf_count}
+
+-- leaves that may begin earlier
+pub AreInOrder-earlier : (from later : ℕ) (leaves : List Leaf) (bytes : ℕ) → from ≤ later → AreInOrder later leaves bytes → AreInOrder from leaves bytes
+AreInOrder-earlier from later [] bytes l h = omega arith
+AreInOrder-earlier from later (leaf ∷ leaves) bytes l h = (omega (arith, h.0), h.1, h.2)
+
+-- the bytes end no earlier than they begin
+pub AreInOrder-within : (from : ℕ) (leaves : List Leaf) (bytes : ℕ) → AreInOrder from leaves bytes → from ≤ bytes
+AreInOrder-within from [] bytes h = h
+AreInOrder-within from (leaf ∷ leaves) bytes h = omega (arith, h.0, AreInOrder-within (leaf.at + size leaf.scalar) leaves bytes h.2)
+
+-- leaves that lie behind others
+pub AreInOrder-append : (from middle bytes : ℕ) (front back : List Leaf) → AreInOrder from front middle → AreInOrder middle back bytes → AreInOrder from (front ++ back) bytes
+AreInOrder-append from middle bytes [] back h l = AreInOrder-earlier from middle back bytes h l
+AreInOrder-append from middle bytes (leaf ∷ front) back h l = (h.0, h.1, AreInOrder-append (leaf.at + size leaf.scalar) middle bytes front back h.2 l)
+
+pub entry_within : (from : ℕ) (leaves : List Leaf) (bytes k : ℕ) (d : Leaf) → AreInOrder from leaves bytes → k < length leaves → (get_or leaves k d).at + size (get_or leaves k d).scalar ≤ bytes
+entry_within from [] bytes k d order l = absurd (omega arith)
+entry_within from (leaf ∷ leaves) bytes zero d order l = AreInOrder-within (leaf.at + size leaf.scalar) leaves bytes order.2
+entry_within from (leaf ∷ leaves) bytes (suc k) d order l = entry_within (leaf.at + size leaf.scalar) leaves bytes k d order.2 (omega arith)
+
+-- each leaf ends within the bytes
+pub leaf_within : (from : ℕ) (leaves : List Leaf) (bytes k : ℕ) (leaf : Leaf) → AreInOrder from leaves bytes → k < length leaves → leaf ≡ get_or leaves k leaf → leaf.at + size leaf.scalar ≤ bytes
+leaf_within from leaves bytes k leaf order l e = rw (← e) at (entry_within from leaves bytes k leaf order l)
+
+-- the leaves of fields whose record begins at a byte
+pub leaves_from-in_order : (start from : ℕ) (fields : Fields) (bytes : ℕ) → InOrder from fields bytes → AreInOrder (start + from) (leaves_from start fields) (start + bytes)
+leaves_from-in_order start from no_more bytes h = omega (arith, h)
+leaves_from-in_order start from (scalar_field name at scalar rest) bytes h =
+    let later = leaves_from-in_order start (at + size scalar) rest bytes h.2 in
+    let join : start + (at + size scalar) ≡ start + at + size scalar = omega arith in
+    (omega (arith, h.0), h.1, rw join at later)
+leaves_from-in_order start from (record_field name at width inner rest) bytes h =
+    let within = leaves_from-in_order (start + at) 0 inner width h.2 in
+    let later = leaves_from-in_order start (at + width) rest bytes h.3 in
+    let join : start + (at + width) ≡ start + at + width = omega arith in
+    AreInOrder-append (start + from) (start + at + width) (start + bytes) (leaves_from (start + at) inner) (leaves_from start rest) (AreInOrder-earlier (start + from) (start + at + 0) (leaves_from (start + at) inner) (start + at + width) (omega (arith, h.0)) within) (rw join at later)
+
+pub leaves_in_order : (s : Structure) → IsLegal s → AreInOrder 0 (leaves_from 0 s.fields) s.size
+leaves_in_order s legal =
+    let none : 0 + s.size ≡ s.size = omega arith in
+    rw none at (leaves_from-in_order 0 0 s.fields s.size legal.in_order)
+
+-- a record that begins later has its leaves later
+pub leaves_from-moved : (by start : ℕ) (fields : Fields) → leaves_from (by + start) fields ≡ map (moved by) (leaves_from start fields)
+leaves_from-moved by start no_more = refl
+leaves_from-moved by start (scalar_field name at scalar rest) =
+    let join : by + start + at ≡ by + (start + at) = omega arith in
+    rw (join, leaves_from-moved by start rest) refl
+leaves_from-moved by start (record_field name at width inner rest) =
+    let join : by + start + at ≡ by + (start + at) = omega arith in
+    rw (join, leaves_from-moved by (start + at) inner, leaves_from-moved by start rest) (sym (map-append (moved by) (leaves_from (start + at) inner) (leaves_from start rest)))
+
+-- as many as are counted
+pub length-leaves_from : (start : ℕ) (fields : Fields) → length (leaves_from start fields) ≡ leaf_count fields
+length-leaves_from start no_more = refl
+length-leaves_from start (scalar_field name at scalar rest) = omega (arith, length-leaves_from start rest)
+length-leaves_from start (record_field name at size inner rest) =
+    omega (arith, length-append (leaves_from (start + at) inner) (leaves_from start rest), length-leaves_from (start + at) inner, length-leaves_from start rest)
+
+-- the leaves of a field, and those after it
+pub leaf_count-before : (name : List ℕ) (at : ℕ) (descr : Descr) (rest : Fields) → leaf_count (before name at descr rest) ≡ length (leaves_of descr) + leaf_count rest
+leaf_count-before name at (ScalarDescr scalar) rest = refl
+leaf_count-before name at (RecordDescr structure) rest = omega (arith, length-leaves_from 0 structure.fields)
+
+pub leaves_from-before : (start : ℕ) (name : List ℕ) (at : ℕ) (descr : Descr) (rest : Fields) → leaves_from start (before name at descr rest) ≡ map (moved (start + at)) (leaves_of descr) ++ leaves_from start rest
+leaves_from-before start name at (ScalarDescr scalar) rest = let join : start + at + 0 ≡ start + at = omega arith in rw join refl
+leaves_from-before start name at (RecordDescr structure) rest =
+    let join : start + at + 0 ≡ start + at = omega arith in
+    ap (λ (front : List Leaf). front ++ leaves_from start rest) (rw join at (leaves_from-moved (start + at) 0 structure.fields))

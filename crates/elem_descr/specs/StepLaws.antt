@@ -1,0 +1,170 @@
+-- Laws of numbers in steps.
+use Rattle.std.proofs.Common.{◌≡◌, ◌≢◌, ◌↔◌, ℕ, zero, suc, ◌+◌, ◌*◌, ◌/◌, ◌%◌, ◌<◌, ◌≤◌, min, Bool, true, false, ℤ, pos, negsuc, neg_ℤ, unsigned_abs, ◌+ℤ◌, ◌-ℤ◌, ◌*ℤ◌, ◌<ℤ◌, ◌≤ℤ◌, int_lt, ◌∷◌, ◌++◌, add-one, map, filter, length, get_or, inl, inr, refl, sym, ap, ◌∙◌, arith, add-mul, mul_comm, mul-le-mul_left}
+use Rattle.std.specs.Int.{int_max, div_ceil}
+use Rattle.std.specs.List.{range_with_len}
+use Rattle.std.proofs.Math.Nat.{mul-le-mul_right}
+use Rattle.std.proofs.lemmas.Bool.{cases_lt, true_from_ne_false, false_from_ne_true}
+use Rattle.std.proofs.lemmas.Grind.{div_ceil_times}
+use Rattle.std.proofs.lemmas.Int.{ints, clamps, by_lt_z}
+use Rattle.std.proofs.lemmas.List.{length-map}
+use Rattle.std.proofs.lemmas.List.FromFn.{length-range_with_len, get_or-map-range_with_len}
+use Rattle.std.proofs.Math.IntN.{*ℤ-zero, +ℤ_idr}
+use lib.IntN.{negsuc-*ℤ-pos}
+use Rattle.elem_descr.specs.Steps.{is_before, numbers_from, stepped, IsGap}
+use Rattle.elem_descr.specs.inside.Counts.{Counts}
+
+-- k steps end below a gap where k is below their number
+pub steps_end_below : (gap s k : ℕ) → 0 < s → (k < div_ceil gap s) ↔ (k * s < gap)
+steps_end_below gap s k some =
+    let q = gap / s + min 1 (gap % s) in
+    let bounds = div_ceil_times gap s some in (
+      λ low. let more : (k + 1) * s ≤ q * s = mul-le-mul_right s (omega arith) in omega (arith, add-mul k 1 s, bounds.0, bounds.1),
+      λ low. elim (cases_lt k q) [
+        | inl below ↦ below
+        | inr above ↦ let more : q * s ≤ k * s = mul-le-mul_right s above in absurd (omega (arith, bounds.0, bounds.1))
+      ],
+    )
+
+pub abs_pos : (step : ℤ) → step ≢ pos 0 → 0 < unsigned_abs step
+abs_pos (pos zero) other = absurd (other refl)
+abs_pos (pos (suc n)) other = omega arith
+abs_pos (negsuc n) other = omega arith
+
+-- ---- a product with the step's sign
+
+pub product_back : (step : ℤ) (k : ℕ) → step <ℤ pos 0 → step *ℤ pos k ≡ neg_ℤ (pos (k * unsigned_abs step))
+product_back (pos n) k below = absurd (omega (arith, ints))
+product_back (negsuc n) k below = let e = negsuc-*ℤ-pos n k in omega (arith, ints, mul_comm k (suc n))
+
+pub product_forth : (step : ℤ) (k : ℕ) → pos 0 ≤ℤ step → step *ℤ pos k ≡ pos (k * unsigned_abs step)
+product_forth (pos n) k above = ap pos (mul_comm n k)
+product_forth (negsuc n) k above = absurd (omega (arith, ints))
+
+pub product_more : (step : ℤ) (k : ℕ) → step *ℤ pos (k + 1) ≡ step *ℤ pos k +ℤ step
+product_more step k =
+    let grown : (k + 1) * unsigned_abs step ≡ k * unsigned_abs step + unsigned_abs step = omega (arith, add-mul k 1 (unsigned_abs step)) in
+    by_lt_z step (pos 0)
+    (λ below. let one = product_back step (k + 1) below in let so_far = product_back step k below in let size : step ≡ neg_ℤ (pos (unsigned_abs step)) = size_back step below in omega (arith, ints, one, so_far, size))
+    (λ above. let one = product_forth step (k + 1) above in let so_far = product_forth step k above in let size : step ≡ pos (unsigned_abs step) = size_forth step above in omega (arith, ints, one, so_far, size))
+  where
+    size_back : (z : ℤ) → z <ℤ pos 0 → z ≡ neg_ℤ (pos (unsigned_abs z))
+    size_back (pos n) below = absurd (omega (arith, ints))
+    size_back (negsuc n) below = refl
+
+    size_forth : (z : ℤ) → pos 0 ≤ℤ z → z ≡ pos (unsigned_abs z)
+    size_forth (pos n) above = refl
+    size_forth (negsuc n) above = absurd (omega (arith, ints))
+
+-- one step more
+pub next_number : (start step at : ℤ) (k : ℕ) → at ≡ start +ℤ step *ℤ pos k → at +ℤ step ≡ start +ℤ step *ℤ pos (k + 1)
+next_number start step at k is = let more : step *ℤ pos (k + 1) ≡ step *ℤ pos k +ℤ step = product_more step k in omega (arith, ints, is, more)
+
+-- ---- where k steps from the start end
+
+lt_true : (a b : ℤ) → a <ℤ b → int_lt a b ≡ true
+lt_true a b below = true_from_ne_false (int_lt a b) (λ above. omega (arith, ints))
+
+lt_false : (a b : ℤ) → b ≤ℤ a → int_lt a b ≡ false
+lt_false a b above = false_from_ne_true (int_lt a b) (λ below. omega (arith, ints))
+
+before_back : (step stop number : ℤ) → step <ℤ pos 0 → is_before step stop number ≡ int_lt stop number
+before_back step stop number below = rw (lt_true step (pos 0) below) refl
+
+before_forth : (step stop number : ℤ) → pos 0 ≤ℤ step → is_before step stop number ≡ int_lt number stop
+before_forth step stop number above = rw (lt_false step (pos 0) above) refl
+
+back_in : (start stop d : ℤ) (m gap : ℕ) → d ≡ neg_ℤ (pos m) → pos gap ≡ int_max (start -ℤ stop) (pos 0) → m < gap → (stop <ℤ (start +ℤ d)) × ((start +ℤ d) ≤ℤ start)
+back_in start stop d m gap is far low = (omega (arith, ints, clamps), omega (arith, ints, clamps))
+
+back_out : (start stop d : ℤ) (m gap : ℕ) → d ≡ neg_ℤ (pos m) → pos gap ≡ int_max (start -ℤ stop) (pos 0) → gap ≤ m → (start +ℤ d) ≤ℤ stop
+back_out start stop d m gap is far low = omega (arith, ints, clamps)
+
+forth_in : (start stop d : ℤ) (m gap : ℕ) → d ≡ pos m → pos gap ≡ int_max (stop -ℤ start) (pos 0) → m < gap → (start ≤ℤ (start +ℤ d)) × ((start +ℤ d) <ℤ stop)
+forth_in start stop d m gap is far low = (omega (arith, ints, clamps), omega (arith, ints, clamps))
+
+forth_out : (start stop d : ℤ) (m gap : ℕ) → d ≡ pos m → pos gap ≡ int_max (stop -ℤ start) (pos 0) → gap ≤ m → stop ≤ℤ (start +ℤ d)
+forth_out start stop d m gap is far low = omega (arith, ints, clamps)
+
+-- after the stop and no later than the start, where the step is negative
+pub between_back : (gap : ℕ) (start stop step : ℤ) (k : ℕ) → IsGap gap start stop step → k * unsigned_abs step < gap → step <ℤ pos 0 → (stop <ℤ (start +ℤ step *ℤ pos k)) × ((start +ℤ step *ℤ pos k) ≤ℤ start)
+between_back gap start stop step k is near below = back_in start stop (step *ℤ pos k) (k * unsigned_abs step) gap (product_back step k below) (is.back below) near
+
+-- no earlier than the start and before the stop, where it is not
+pub between_forth : (gap : ℕ) (start stop step : ℤ) (k : ℕ) → IsGap gap start stop step → k * unsigned_abs step < gap → pos 0 ≤ℤ step → (start ≤ℤ (start +ℤ step *ℤ pos k)) × ((start +ℤ step *ℤ pos k) <ℤ stop)
+between_forth gap start stop step k is near above = forth_in start stop (step *ℤ pos k) (k * unsigned_abs step) gap (product_forth step k above) (is.forth above) near
+
+pub near_before : (gap : ℕ) (start stop step : ℤ) (k : ℕ) → IsGap gap start stop step → k * unsigned_abs step < gap → is_before step stop (start +ℤ step *ℤ pos k) ≡ true
+near_before gap start stop step k is near =
+    by_lt_z step (pos 0)
+    (λ below. before_back step stop (start +ℤ step *ℤ pos k) below ∙ lt_true stop (start +ℤ step *ℤ pos k) (between_back gap start stop step k is near below).0)
+    (λ above. before_forth step stop (start +ℤ step *ℤ pos k) above ∙ lt_true (start +ℤ step *ℤ pos k) stop (between_forth gap start stop step k is near above).1)
+
+pub far_after : (gap : ℕ) (start stop step : ℤ) (k : ℕ) → IsGap gap start stop step → gap ≤ k * unsigned_abs step → is_before step stop (start +ℤ step *ℤ pos k) ≡ false
+far_after gap start stop step k is far =
+    by_lt_z step (pos 0)
+    (λ below. before_back step stop (start +ℤ step *ℤ pos k) below ∙ lt_false stop (start +ℤ step *ℤ pos k) (back_out start stop (step *ℤ pos k) (k * unsigned_abs step) gap (product_back step k below) (is.back below) far))
+    (λ above. before_forth step stop (start +ℤ step *ℤ pos k) above ∙ lt_false (start +ℤ step *ℤ pos k) stop (forth_out start stop (step *ℤ pos k) (k * unsigned_abs step) gap (product_forth step k above) (is.forth above) far))
+
+-- ---- how many numbers are before the stop
+
+pub counted_within : (count gap : ℕ) (step : ℤ) → step ≢ pos 0 → Counts count gap step → count ≤ gap
+counted_within zero gap step some counts = omega arith
+counted_within (suc c) gap step some counts =
+    let near = (counts c).0 (omega arith) in
+    let grown : c * 1 ≤ c * unsigned_abs step = mul-le-mul_left c (abs_pos step some) in
+    omega arith
+
+-- a test that holds of the first numbers alone keeps those
+filter-front : {X : Type 0} (p : X → Bool) (f : ℕ → X) (a n c : ℕ) → c ≤ n → ((k : ℕ) → a ≤ k → k < a + c → p (f k) ≡ true) → ((k : ℕ) → a + c ≤ k → p (f k) ≡ false) → filter p (map f (range_with_len a n)) ≡ map f (range_with_len a c)
+filter-front p f a zero zero few front back = refl
+filter-front p f a zero (suc c) few front back = absurd (omega arith)
+filter-front p f a (suc n) zero few front back =
+    rw (back a (omega arith)) (filter-front p f (a + 1) n zero (omega arith) (λ k low high. absurd (omega arith)) (λ k low. back k (omega arith)))
+filter-front p f a (suc n) (suc c) few front back =
+    let rest = filter-front p f (a + 1) n c (omega arith) (λ k low high. front k (omega arith) (omega arith)) (λ k low. back k (omega arith)) in
+    rw (front a (omega arith) (omega arith)) (ap (λ xs. f a ∷ xs) rest)
+
+-- the numbers before the stop are the first of all
+pub stepped_first : (n count gap : ℕ) (start stop step : ℤ) → IsGap gap start stop step → Counts count gap step → count ≤ n → stepped n start stop step ≡ numbers_from start step count
+unfolding stepped
+stepped_first n count gap start stop step is counts few =
+    filter-front (is_before step stop) (λ k. start +ℤ step *ℤ pos k) 0 n count few
+    (λ k low high. near_before gap start stop step k is ((counts k).0 (omega arith)))
+    (λ k low. far_after gap start stop step k is (elim (cases_lt (k * unsigned_abs step) gap) [ inl near ↦ absurd (omega (arith, (counts k).1 near)) | inr far ↦ far ]))
+
+-- ---- the numbers place by place
+
+pub length-numbers_from : (start step : ℤ) (n : ℕ) → length (numbers_from start step n) ≡ n
+length-numbers_from start step n = length-map (range_with_len 0 n) (λ k. start +ℤ step *ℤ pos k) ∙ length-range_with_len 0 n
+
+pub number_at : (start step z : ℤ) (n k : ℕ) → k < n → z ≡ start +ℤ step *ℤ pos k → get_or (numbers_from start step n) k z ≡ z
+number_at start step z n k low is = get_or-map-range_with_len (λ k. start +ℤ step *ℤ pos k) 0 n k k z low (omega arith) ∙ sym is
+
+-- ---- the first numbers, and those after them
+
+moved : (at s p q : ℤ) → q ≡ p +ℤ s → at +ℤ q ≡ (at +ℤ s) +ℤ p
+moved at s p q is = omega (arith, ints)
+
+-- so many steps, from one step on
+pub steps_later : (at s : ℤ) (k : ℕ) → at +ℤ s *ℤ pos (suc k) ≡ (at +ℤ s) +ℤ s *ℤ pos k
+steps_later at s k = moved at s (s *ℤ pos k) (s *ℤ pos (suc k)) (ap (λ n. s *ℤ pos n) (sym (add-one k)) ∙ product_more s k)
+
+numbers-later : (at s : ℤ) (a n : ℕ) → map (λ k. at +ℤ s *ℤ pos k) (range_with_len (a + 1) n) ≡ map (λ k. (at +ℤ s) +ℤ s *ℤ pos k) (range_with_len a n)
+numbers-later at s a zero = refl
+numbers-later at s a (suc n) =
+    ap (λ z. z ∷ map (λ k. at +ℤ s *ℤ pos k) (range_with_len (a + 1 + 1) n)) (moved at s (s *ℤ pos a) (s *ℤ pos (a + 1)) (product_more s a)) ∙ ap (λ zs. ((at +ℤ s) +ℤ s *ℤ pos a) ∷ zs) (numbers-later at s (a + 1) n)
+
+pub none_more : (at s : ℤ) → at +ℤ s *ℤ pos 0 ≡ at
+none_more at s = ap (λ z. at +ℤ z) (*ℤ-zero s) ∙ +ℤ_idr at
+
+pub numbers-suc : (at s : ℤ) (n : ℕ) → numbers_from at s (suc n) ≡ at ∷ numbers_from (at +ℤ s) s n
+numbers-suc at s n = ap (λ z. z ∷ map (λ k. at +ℤ s *ℤ pos k) (range_with_len (0 + 1) n)) (none_more at s) ∙ ap (λ zs. at ∷ zs) (numbers-later at s 0 n)
+
+-- the first m numbers, and then those after them
+pub numbers-split : (at s : ℤ) (m n : ℕ) → numbers_from at s (m + n) ≡ numbers_from at s m ++ numbers_from (at +ℤ s *ℤ pos m) s n
+numbers-split at s zero n =
+    let none : zero + n ≡ n = omega arith in
+    ap (numbers_from at s) none ∙ ap (λ z. numbers_from z s n) (sym (none_more at s))
+numbers-split at s (suc m) n =
+    let head : suc m + n ≡ suc (m + n) = omega arith in
+    ap (numbers_from at s) head ∙ numbers-suc at s (m + n) ∙ ap (λ zs. at ∷ zs) (numbers-split (at +ℤ s) s m n) ∙ ap (λ z. at ∷ numbers_from (at +ℤ s) s m ++ numbers_from z s n) (sym (steps_later at s m)) ∙ ap (λ zs. zs ++ numbers_from (at +ℤ s *ℤ pos (suc m)) s n) (sym (numbers-suc at s m))

@@ -1,0 +1,163 @@
+-- Format texts as they are read: one member after the other, each from the text that is left.
+use Rattle.std.specs.Prelude.{ℕ, zero, suc, Bool, false, ◌&&◌, not, List, [], ◌∷◌, ◌++◌, length, take, drop, codes, decimal, if◌then◌else◌, Option, Some, None, unwrap_or, Result, Ok, Err}
+use Rattle.std.specs.Char.{is_ascii_digit}
+use Rattle.std.specs.List.{list_all, prefix_len}
+use Rattle.std.specs.Option.{option_map, ok_or}
+use Rattle.elem_descr.specs.declared.refusal.Refusal.{Refusal}
+use Rattle.elem_descr.specs.declared.refusal.Refusal.TheVariants.{BadDescriptor, DescriptorLeftOut, TooLarge}
+use Rattle.elem_descr.specs.declared.scalar.Scalar.{Scalar}
+use Rattle.elem_descr.specs.declared.descr.Descr.{Descr}
+use Rattle.elem_descr.specs.declared.descr.Descr.TheVariants.{Scalar as ScalarDescr, Record as RecordDescr}
+use Rattle.elem_descr.specs.declared.format_text.draft.Body.{Body}
+use Rattle.elem_descr.specs.declared.format_text.mark.Mark.{Mark}
+use Rattle.elem_descr.specs.declared.format_text.mark.Mark.TheVariants.{Aligned}
+use Rattle.elem_descr.specs.declared.format_text.member.Member.{Member}
+use Rattle.elem_descr.specs.declared.format_text.member.Member.TheVariants.{Value, Pad, Opened}
+use Rattle.elem_descr.specs.Refusals.{◌>>=◌, check}
+use Rattle.elem_descr.specs.Names.{is_legal_name}
+use Rattle.elem_descr.specs.TypeStrings.{is_one_of}
+use Rattle.elem_descr.specs.FormatLetters.{is_empty, mark_meant, own_alignment, aligned, lettered}
+use Rattle.elem_descr.specs.FormatRecords.{max_depth, Partial, empty, checked_name, added, widened, closed_record}
+use Rattle.elem_descr.specs.FormatPieces.{is_colon}
+
+-- the mark in force after a blank or a mark
+abbrev pub after : Mark → ℕ → Option Mark
+after mark b = if is_one_of (codes " ") b then Some mark else mark_meant b
+
+-- the mark in force after the blanks and marks at the front, and what follows them
+abbrev pub marked : Mark → List ℕ → Mark × List ℕ
+marked mark [] = (mark, [])
+marked mark (b ∷ rest) = unwrap_or (option_map (λ next. marked next rest) (after mark b)) (mark, b ∷ rest)
+
+abbrev pub is_named : List ℕ → Bool
+is_named [] = false
+is_named (b ∷ rest) = is_colon b
+
+-- the text begins with an opening brace
+abbrev pub is_opened : List ℕ → Bool
+is_opened [] = false
+is_opened (b ∷ rest) = is_one_of (codes "{") b
+
+-- a member by its count and its letter, before the rest
+abbrev pub lettered_before : Mark → List ℕ → ℕ → List ℕ → Result Member Refusal
+lettered_before mark digits letter rest =
+    if is_one_of (codes "T") letter && is_opened rest then (if is_empty digits then Ok Opened else Err DescriptorLeftOut)
+    else lettered mark digits letter
+
+abbrev pub after_count : Mark → List ℕ → List ℕ → Result (Member × List ℕ) Refusal
+after_count mark digits [] = Err BadDescriptor
+after_count mark digits (letter ∷ rest) = do
+  member ← lettered_before mark digits letter rest
+  Ok (member, rest)
+
+-- a member without its name, a count and a letter, and what follows it
+abbrev pub member_at : Mark → List ℕ → Result (Member × List ℕ) Refusal
+member_at mark text = let n = prefix_len is_ascii_digit text in after_count mark (take n text) (drop n text)
+
+-- a name up to its colon, and what follows that
+abbrev pub name_at : List ℕ → Result (List ℕ × List ℕ) Refusal
+name_at text =
+    let n = prefix_len (λ b. not (is_colon b)) text in
+    if is_empty (drop n text) then Err BadDescriptor
+    else if is_legal_name (take n text) then Ok (take n text, drop 1 (drop n text))
+    else Err DescriptorLeftOut
+
+-- the name of a field: between colons, or f and its number among the fields
+abbrev pub named : ℕ → List ℕ → Result (List ℕ × List ℕ) Refusal
+named number text = if is_named text then name_at (drop 1 text) else Ok (codes "f" ++ decimal number, text)
+
+-- what reads the members of a record up to its closing brace, begun under a mark and after so many
+-- leaves of the text, and answers what follows the brace
+abbrev pub Reader : Type 0
+Reader = Mark → ℕ → List ℕ → Result (Body × List ℕ) Refusal
+
+-- a record with a member more, the mark then in force, and what follows
+abbrev pub Later : Type 0
+Later = Partial × Mark × List ℕ
+
+-- a member and what may stand after it: a name after a scalar and a record, none after padding
+unfoldable pub scalar_in : Mark → Partial → Option Scalar → List ℕ → Result Later Refusal
+scalar_in mark p value rest = do
+  name ← named (length p.fields) rest
+  _ ← checked_name p name.0
+  scalar ← ok_or value TooLarge
+  more ← added p name.0 (aligned mark (own_alignment scalar)) (ScalarDescr scalar)
+  Ok (more, mark, name.1)
+
+unfoldable pub pad_in : Mark → Partial → Option ℕ → List ℕ → Result Later Refusal
+pad_in mark p count rest = do
+  more ← widened p count
+  _ ← check (not (is_named rest)) DescriptorLeftOut
+  Ok (more, mark, rest)
+
+unfoldable pub body_in : Mark → Partial → Body → List ℕ → Result Later Refusal
+body_in mark p body rest = do
+  name ← named (length p.fields) rest
+  _ ← checked_name p name.0
+  more ← added p name.0 (aligned mark body.alignment) (RecordDescr body.whole)
+  Ok (more, body.mark, name.1)
+
+abbrev pub taken_in : Reader → Mark → Partial → Member → List ℕ → Result Later Refusal
+taken_in within mark p (Value value) rest = scalar_in mark p value rest
+taken_in within mark p (Pad count) rest = pad_in mark p count rest
+taken_in within mark p Opened rest = within mark p.leaves (drop 1 rest) >>= λ body. body_in mark p body.0 body.1
+
+-- the next member of a record
+unfoldable pub field_at : Reader → Mark → Partial → List ℕ → Result Later Refusal
+field_at within mark p text = do
+  member ← member_at mark text
+  taken_in within mark p member.0 member.1
+
+-- what follows a closing brace
+abbrev pub closing : List ℕ → Option (List ℕ)
+closing [] = None
+closing (b ∷ rest) = if is_one_of (codes "}") b then Some rest else None
+
+-- the end of the record at its closing brace, or a member and then those after it
+abbrev pub turn : Reader → Mark → Partial → Option (List ℕ) → List ℕ → (Later → Result (Body × List ℕ) Refusal) → Result (Body × List ℕ) Refusal
+turn within mark p None text later = field_at within mark p text >>= later
+turn within mark p (Some rest) text later = closed_record mark p >>= λ body. Ok (body, rest)
+
+-- the members of a record up to its closing brace, in at most so many turns
+abbrev pub members : Reader → ℕ → Mark → Partial → List ℕ → Result (Body × List ℕ) Refusal
+members within zero mark p text = Err BadDescriptor
+members within (suc turns) mark p text =
+    let m = marked mark text in turn within m.0 p (closing m.1) m.1 (λ next. members within turns next.1 next.0 next.2)
+
+-- a record in which records lie to this depth, itself counted
+unfoldable pub record_within : ℕ → Reader
+record_within zero mark leaves text = Err DescriptorLeftOut
+record_within (suc levels) mark leaves text =
+    members (record_within levels) (length text) mark (empty levels leaves) text
+
+-- nothing more may follow: a name and a second member are left out, all else does not fit
+unfoldable pub ended : List ℕ → Result (Unit {0}) Refusal
+ended text = if list_all (is_one_of (codes " ")) text then Ok tt else do
+  _ ← check (not (is_named text)) DescriptorLeftOut
+  _ ← (let m = marked Aligned text in member_at m.0 m.1)
+  Err DescriptorLeftOut
+
+-- a member alone is a scalar or a record
+unfoldable pub scalar_alone : Option Scalar → List ℕ → Result Descr Refusal
+scalar_alone value rest = do
+  _ ← check (not (is_named rest)) DescriptorLeftOut
+  scalar ← ok_or value TooLarge
+  _ ← ended rest
+  Ok (ScalarDescr scalar)
+
+unfoldable pub record_alone : Mark → List ℕ → Result Descr Refusal
+record_alone mark text = do
+  body ← record_within max_depth mark 0 text
+  _ ← ended body.1
+  Ok (RecordDescr body.0.whole)
+
+abbrev pub alone : Mark → Member → List ℕ → Result Descr Refusal
+alone mark (Value value) rest = scalar_alone value rest
+alone mark (Pad count) rest = Err DescriptorLeftOut
+alone mark Opened rest = record_alone mark (drop 1 rest)
+
+-- the descriptor that a format text means, or the fault in it
+abbrev pub format_in_turns : List ℕ → Result Descr Refusal
+format_in_turns text =
+    let m = marked Aligned text in
+    member_at m.0 m.1 >>= λ member. alone m.0 member.0 member.1

@@ -1,0 +1,45 @@
+use Rattle.std.proofs.Common.{◌≡◌, ◌*◌, length, sym, ap, subst, ◌∙◌, All, ◌+◌, ◌≤◌, arith}
+use Rattle.std.proofs.lemmas.Bool.{both_ways}
+use Rattle.shape_strides.specs.Layouts.{offsets}
+use Rattle.shape_strides.specs.LayoutLaws.{length-offsets, offsets_within}
+use Rattle.overlap_copy.specs.Assignments.{with_items, assigned}
+use Rattle.overlap_copy.specs.inside.Packed.{packed}
+use Rattle.overlap_copy.proofs.assignment.assign.Goals as goal
+
+pub assign_apart-requires-clause-dst : goal.assign_apart-requires-clause-dst
+assign_apart-requires-clause-dst c = offsets_within c.args.dst.now (length c.args.block.now) c.args.width c.requires.dst
+
+pub assign_apart-requires-clause-src : goal.assign_apart-requires-clause-src
+assign_apart-requires-clause-src c = offsets_within c.args.src.now (length c.args.block.now) c.args.width c.requires.src
+
+pub gather-requires-clause-inside : goal.gather-requires-clause-inside
+gather-requires-clause-inside c =
+    subst (λ n. All (λ offset. offset + c.args.width ≤ n) (offsets c.args.src.now)) (sym c.assign_runs.ensures.len) (offsets_within c.args.src.now (length c.args.block.now) c.args.width c.requires.src)
+
+pub returns-in_err-items-clause-runs : goal.returns-in_err-items-clause-runs
+returns-in_err-items-clause-runs c = λ step run run'. absurd (both_ways c.assign_runs.result c.if-assign_runs.false (c.assign_runs.ensures.same_step step run run'))
+
+pub returns-in_err-items-clause-turned : goal.returns-in_err-items-clause-turned
+returns-in_err-items-clause-turned c = λ step other run run' are. absurd (both_ways c.assign_runs.result c.if-assign_runs.false (c.assign_runs.ensures.turned step other run run' are))
+
+pub scatter-requires-clause-inside : goal.scatter-requires-clause-inside
+scatter-requires-clause-inside c =
+    subst (λ n. All (λ offset. offset + c.args.width ≤ n) (offsets c.args.dst.now)) (sym c.assign_runs.ensures.len) (offsets_within c.args.dst.now (length c.args.block.now) c.args.width c.requires.dst)
+
+pub scatter-requires-clause-items : goal.scatter-requires-clause-items
+scatter-requires-clause-items c =
+    let even : length (offsets c.args.dst.now) ≡ length (offsets c.args.src.now) = length-offsets c.args.dst.now ∙ c.requires.count ∙ sym (length-offsets c.args.src.now) in
+    omega (arith, ap (λ n. n * c.args.width) even, c.in_ok-items.ensures.len)
+
+pub returns-clause-written : goal.returns-clause-written
+returns-clause-written c =
+    let to = offsets c.args.dst.now in
+    let from = offsets c.args.src.now in
+    let width = c.args.width in
+    let items = c.in_ok-items.items in
+    let block = c.assign_runs.new.block in
+    let even : length to ≡ length from = length-offsets c.args.dst.now ∙ c.requires.count ∙ sym (length-offsets c.args.src.now) in
+    c.scatter.ensures.written
+    ∙ ap (λ n. with_items to (packed 0 width n items) block) even
+    ∙ ap (λ all. with_items to all block) c.in_ok-items.ensures.items
+    ∙ ap (λ b. assigned to from width b b) (c.assign_runs.ensures.kept c.if-assign_runs.false)

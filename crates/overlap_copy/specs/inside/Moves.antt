@@ -1,0 +1,47 @@
+-- Moves of items within one block, by index: the k-th item goes to one place from another.
+use Rattle.std.specs.Prelude.{◌≡◌, ℕ, ◌+◌, ◌-◌, ◌<◌, ◌≤◌, ◌⊎◌, pos, neg_ℤ, ◌+ℤ◌, ◌*ℤ◌, List, [], ◌∷◌, length, slice_index}
+use Rattle.raw_block.specs.Bytes.{item_at, place}
+use Rattle.shape_strides.specs.declared.runs.Run.{Run}
+use Rattle.shape_strides.specs.Limits.{max_items, max_bytes}
+use Rattle.shape_strides.specs.Addresses.{LieWithin}
+use Rattle.shape_strides.specs.Layouts.{distance}
+use Rattle.shape_strides.specs.Runs.{run_offsets}
+
+-- a byte lies outside of n items
+abbrev pub IsOutside : ℕ → (ℕ → ℕ) → ℕ → ℕ → Type 0
+IsOutside n to width j = (k : ℕ) → k < n → (j < to k) ⊎ (to k + width ≤ j)
+
+-- each of n items has come to its place, and all else is as it was
+pub record IsAssigned (n : ℕ) (to from : ℕ → ℕ) (width : ℕ) (other old new : List ℕ) : Type 0 where
+  pub len : length new ≡ length old
+  pub items : (k : ℕ) → k < n → item_at (to k) width new ≡ item_at (from k) width other
+  pub rest : (j : ℕ) → IsOutside n to width j → slice_index new j ≡ slice_index old j
+
+-- a run of two items or more, each of which lies in the first `len` bytes
+pub record IsLine (len item : ℕ) (run : Run) : Type 0 where
+  pub two : 2 ≤ run.count
+  pub few : run.count ≤ max_items
+  pub lies : LieWithin (run.count ∷ []) (run.step ∷ []) run.offset len item
+
+-- where the k-th item of a run lies
+abbrev pub place_in : Run → ℕ → ℕ
+place_in run k = place run.offset run.step k
+
+-- its items lie apart
+pub record AreSpaced (width : ℕ) (run : Run) : Type 0 where
+  pub apart : (j k : ℕ) → j < k → k < run.count → width ≤ distance (place_in run j) (place_in run k)
+
+-- no item meets one that moves after it and is still to be read
+pub record IsUnread (width : ℕ) (to from : Run) : Type 0 where
+  pub clear : (j k : ℕ) → j < k → k < to.count → width ≤ distance (place_in to j) (place_in from k)
+
+-- the same items from the last to the first
+pub record IsTurned (run back : Run) : Type 0 where
+  pub offset : pos back.offset ≡ pos run.offset +ℤ run.step *ℤ pos (run.count - 1)
+  pub step : back.step ≡ neg_ℤ run.step
+  pub count : back.count ≡ run.count
+
+-- a run whose items are those of a list, each within a buffer
+pub record IsRunOf (offsets : List ℕ) (run : Run) : Type 0 where
+  pub items : run_offsets run ≡ offsets
+  pub line : IsLine max_bytes 1 run

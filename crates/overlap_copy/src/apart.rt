@@ -1,0 +1,92 @@
+//! Whether two layouts in one block are apart, as the ranges of their bytes and their strides tell.
+ghost use Rattle.std.specs.Prelude.{◌≡◌, ◌↔◌, ◌+◌, ◌%◌, ◌<◌, ◌≤◌, ◌∷◌, pos, length, slice_index_or, unsigned_abs, nat_le, if◌then◌else◌, false, IsTrue};
+ghost use Rattle.std.specs.Int.{IsGcd};
+ghost use Rattle.shape_strides.specs.Limits.{max_bytes};
+ghost use Rattle.shape_strides.specs.Layouts.{offsets, Fits};
+ghost use Rattle.overlap_copy.specs.Overlaps.{have_common_byte};
+ghost use Rattle.overlap_copy.specs.Apart.{steps, IsGreatestDivisor, LieBetween, AreApart};
+
+use crate::overlap;
+use shape_strides::Layout;
+
+/// The greatest common divisor, by Euclid's steps.
+fn common_divisor(a: usize, b: usize) -> usize
+    ensures { IsGcd a b result }
+{
+    let mut divisor = a;
+    let mut rest = b;
+    while rest > 0 {
+        let next = divisor % rest;
+        divisor = rest;
+        rest = next;
+    }
+    divisor
+}
+
+/// How many bytes an axis steps over, either way: 0 where it has no two items.
+fn step_along(strides: &[isize], axis: usize, len: usize) -> usize
+    requires { axis < length strides.now }
+    ensures { result ≡ (if nat_le 2 len then unsigned_abs (slice_index_or strides.now axis (pos 0)) else 0) }
+{
+    if len < 2 {
+        return 0;
+    }
+    strides[axis].unsigned_abs()
+}
+
+/// The greatest common divisor of a number and all steps of a layout.
+fn divisor_with(number: usize, layout: &Layout) -> usize
+    ensures { IsGreatestDivisor result (number ∷ steps layout.now) }
+{
+    let lengths = layout.shape.as_slice();
+    let strides = layout.strides.as_slice();
+    let mut divisor = number;
+    for (axis, len) in lengths.iter().enumerate() {
+        divisor = common_divisor(divisor, step_along(strides, axis, *len));
+    }
+    divisor
+}
+
+/// The second number less the first, modulo so many.
+fn difference(from: usize, to: usize, modulus: usize) -> usize
+    requires { 0 < modulus }
+    ensures below { result < modulus }
+    ensures value { (from + result) % modulus ≡ to % modulus }
+{
+    let from = from % modulus;
+    let to = to % modulus;
+    if from <= to {
+        to - from
+    } else {
+        modulus - (from - to)
+    }
+}
+
+/// Whether the items of `b` lie between those of `a`, as steps by all strides lead from one to the
+/// next.
+fn lie_between(a: &Layout, a_item: usize, b: &Layout, b_item: usize) -> bool
+    ensures { IsTrue result ↔ LieBetween a.now a_item b.now b_item }
+{
+    let divisor = divisor_with(divisor_with(0, a), b);
+    if divisor == 0 {
+        return false;
+    }
+    let behind = difference(a.offset, b.offset, divisor);
+    a_item <= behind && b_item <= divisor - behind
+}
+
+/// Whether the items of two layouts, of `a_item` and `b_item` bytes, may have bytes in common. They
+/// have none where one layout is empty, where every byte of one lies below every byte of the other,
+/// or where the items of one lie between those of the other, as the strides tell. Takes no memory,
+/// and time only for the axes.
+pub fn may_overlap(a: &Layout, a_item: usize, b: &Layout, b_item: usize) -> bool
+    requires a_fits { Fits a.now max_bytes a_item }
+    requires b_fits { Fits b.now max_bytes b_item }
+    ensures exact { result ≡ false ↔ AreApart a.now a_item b.now b_item }
+    ensures sound { result ≡ false → have_common_byte (offsets a.now) a_item (offsets b.now) b_item ≡ false }
+{
+    if !overlap::ranges_meet(a, a_item, b, b_item) {
+        return false;
+    }
+    !lie_between(a, a_item, b, b_item)
+}

@@ -1,0 +1,162 @@
+//! Assignment: the items of a layout become those of another.
+ghost use Rattle.std.specs.Prelude.{◌≡◌, ◌+◌, ◌≤◌, ℤ, length, reverse, false, All, IfOk, IfErr, IfSome, IsOk, IsTrue};
+ghost use Rattle.shape_strides.specs.Limits.{max_bytes};
+ghost use Rattle.shape_strides.specs.Indexes.{count};
+ghost use Rattle.shape_strides.specs.Layouts.{offsets, Fits, IsNested};
+ghost use Rattle.overlap_copy.specs.Apart.{AreApart};
+ghost use Rattle.overlap_copy.specs.Assignments.{assigned, IsRun};
+ghost use Rattle.overlap_copy.specs.Overlaps.{have_common_byte};
+ghost use Rattle.overlap_copy.specs.inside.Moves.{IsRunOf};
+
+use crate::apart::may_overlap;
+use crate::packed::{gather, scatter};
+use crate::run_moves::{copy_run, is_same_line, move_in_turn, move_run, turn_run, turned};
+use raw_block::RawBlock;
+use shape_strides::{FixedWalk, Layout, RunPair};
+use std::alloc::{AllocError, Global};
+
+/// The runs that two layouts are, where both are runs of as many items.
+fn even_runs(dst: &Layout, src: &Layout) -> Option<RunPair>
+    ensures first { IfSome result (λ pair. IsRunOf (offsets dst.now) pair.first) }
+    ensures second { IfSome result (λ pair. IsRunOf (offsets src.now) pair.second) }
+    ensures counts { IfSome result (λ pair. pair.second.count ≡ pair.first.count) }
+{
+    let first = dst.as_run()?;
+    let second = src.as_run()?;
+    if first.count != second.count {
+        return None;
+    }
+    Some(RunPair { first, second })
+}
+
+/// Copies the items item by item.
+fn copy_items(block: &mut RawBlock, dst: &Layout, other: &RawBlock, src: &Layout, width: usize)
+    requires dst { All (λ offset. offset + width ≤ length block.old) (offsets dst.now) }
+    requires src { All (λ offset. offset + width ≤ length other.now) (offsets src.now) }
+    ensures written { block.new ≡ assigned (offsets dst.now) (offsets src.now) width other.now block.old }
+    ensures len { length block.new ≡ length block.old }
+{
+    let mut to = FixedWalk::new(dst);
+    for offset in FixedWalk::new(src) {
+        if let Some(at) = to.next() {
+            block.copy_from(at, other, offset, width);
+        }
+    }
+}
+
+/// Copies the items of `width` bytes of the layout `src` in `other` to those of the layout `dst`,
+/// each in C order, as far as both have items. Takes no memory.
+pub fn assign_from(block: &mut RawBlock, dst: &Layout, other: &RawBlock, src: &Layout, width: usize)
+    requires dst { All (λ offset. offset + width ≤ length block.old) (offsets dst.now) }
+    requires src { All (λ offset. offset + width ≤ length other.now) (offsets src.now) }
+    ensures written { block.new ≡ assigned (offsets dst.now) (offsets src.now) width other.now block.old }
+    ensures len { length block.new ≡ length block.old }
+{
+    let Some(runs) = even_runs(dst, src) else {
+        copy_items(block, dst, other, src, width);
+        return;
+    };
+    copy_run(block, runs.first, other, runs.second, width);
+}
+
+/// Moves the items item by item, where none of one layout has a byte in common with one of the
+/// other.
+fn move_items(block: &mut RawBlock, dst: &Layout, src: &Layout, width: usize)
+    requires dst { All (λ offset. offset + width ≤ length block.old) (offsets dst.now) }
+    requires src { All (λ offset. offset + width ≤ length block.old) (offsets src.now) }
+    requires apart { have_common_byte (offsets dst.now) width (offsets src.now) width ≡ false }
+    ensures written { block.new ≡ assigned (offsets dst.now) (offsets src.now) width block.old block.old }
+    ensures len { length block.new ≡ length block.old }
+{
+    let mut to = FixedWalk::new(dst);
+    for offset in FixedWalk::new(src) {
+        if let Some(at) = to.next() {
+            block.move_within(at, offset, width);
+        }
+    }
+}
+
+/// The same within one block, where no item of one layout has a byte in common with one of the
+/// other.
+fn assign_apart(block: &mut RawBlock, dst: &Layout, src: &Layout, width: usize)
+    requires dst { All (λ offset. offset + width ≤ length block.old) (offsets dst.now) }
+    requires src { All (λ offset. offset + width ≤ length block.old) (offsets src.now) }
+    requires nested { IsNested (offsets dst.now) width }
+    requires apart { have_common_byte (offsets dst.now) width (offsets src.now) width ≡ false }
+    ensures written { block.new ≡ assigned (offsets dst.now) (offsets src.now) width block.old block.old }
+    ensures len { length block.new ≡ length block.old }
+{
+    let Some(runs) = even_runs(dst, src) else {
+        move_items(block, dst, src, width);
+        return;
+    };
+    move_in_turn(block, runs.first, runs.second, width);
+}
+
+/// The same within one block, where both layouts are runs, either of the same step or each the
+/// other from its last item to its first. The answer is whether they are.
+fn assign_runs(block: &mut RawBlock, dst: &Layout, src: &Layout, width: usize) -> bool
+    requires dst { Fits dst.now (length block.old) width }
+    requires src { Fits src.now (length block.old) width }
+    requires nested { IsNested (offsets dst.now) width }
+    requires count { count dst.now.shape ≡ count src.now.shape }
+    ensures written { IsTrue result → block.new ≡ assigned (offsets dst.now) (offsets src.now) width block.old block.old }
+    ensures kept { result ≡ false → block.new ≡ block.old }
+    ensures len { length block.new ≡ length block.old }
+    ensures same_step { (step : ℤ) → IsRun step (offsets dst.now) → IsRun step (offsets src.now) → IsTrue result }
+    ensures turned { (step other : ℤ) → IsRun step (offsets dst.now) → IsRun other (offsets src.now)
+        → offsets src.now ≡ reverse (offsets dst.now) → IsTrue result }
+{
+    let Some(to) = dst.as_run() else {
+        return false;
+    };
+    let Some(from) = src.as_run() else {
+        return false;
+    };
+    if to.step == from.step {
+        move_run(block, to, from, width);
+        return true;
+    }
+    let back = turned(to);
+    if !is_same_line(from, back) {
+        return false;
+    }
+    turn_run(block, to, back, width);
+    true
+}
+
+/// The items of `width` bytes of the layout `dst` become those of `src` as they were before, each in
+/// C order, whatever bytes of the block the two have in common. Where they are apart, or are runs
+/// of the same step, or one is a run and the other the same from its last item to its first, it
+/// takes no memory; else that for the items of `src`, and an `Err` says that there was none.
+pub fn assign(
+    alloc: Global,
+    block: &mut RawBlock,
+    dst: &Layout,
+    src: &Layout,
+    width: usize,
+) -> Result<(), AllocError>
+    requires small { length block.old ≤ max_bytes }
+    requires dst { Fits dst.now (length block.old) width }
+    requires src { Fits src.now (length block.old) width }
+    requires nested { IsNested (offsets dst.now) width }
+    requires count { count dst.now.shape ≡ count src.now.shape }
+    ensures written { IfOk result (λ _. block.new ≡ assigned (offsets dst.now) (offsets src.now) width block.old block.old) }
+    ensures kept { IfErr result (λ _. block.new ≡ block.old) }
+    ensures len { length block.new ≡ length block.old }
+    ensures apart { AreApart dst.now width src.now width → IsOk result }
+    ensures runs { (step : ℤ) → IsRun step (offsets dst.now) → IsRun step (offsets src.now) → IsOk result }
+    ensures turned { (step other : ℤ) → IsRun step (offsets dst.now) → IsRun other (offsets src.now)
+        → offsets src.now ≡ reverse (offsets dst.now) → IsOk result }
+{
+    if !may_overlap(dst, width, src, width) {
+        assign_apart(block, dst, src, width);
+        return Ok(());
+    }
+    if assign_runs(block, dst, src, width) {
+        return Ok(());
+    }
+    let items = gather(alloc, block, src, width)?;
+    scatter(block, dst, &items, width);
+    Ok(())
+}

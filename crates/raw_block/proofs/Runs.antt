@@ -1,0 +1,95 @@
+-- Items that lie one right after the other: their bytes are written as one.
+use Rattle.std.proofs.Common.{◌≡◌, ℕ, zero, suc, ◌+◌, ◌-◌, ◌*◌, ◌<◌, ◌≤◌, List, [], ◌∷◌, ◌++◌, length, take, drop, get_or, refl, sym, ap, ◌∙◌, subst, arith, append_assoc, length-append, length-take, drop-cons}
+use Rattle.std.proofs.Math.Nat.{suc-mul, mul-suc, mul_comm, mul-le-mul_left}
+use Rattle.std.proofs.Math.Seq.{take-add, drop-append-add}
+use Rattle.std.proofs.lemmas.List.{take-append-drop, take_at, drop-drop, drop-take, take-take, drop_all}
+use Rattle.std.specs.List.{refill}
+use Rattle.std.specs.Simd.{first_chunks}
+use lib.IntN.{ℤ, pos}
+use Rattle.raw_block.specs.Bytes.{EachWithin, put, item_at, copied}
+use Rattle.raw_block.specs.BytesLaws.{place_within, length-item_at, length-put}
+
+-- all of the items lie within
+pub run_within : (len at : ℕ) (step : ℤ) (width n : ℕ) → 0 < n → step ≡ pos width → EachWithin len at step width n → at + n * width ≤ len
+run_within len at step width zero some is h = absurd (omega arith)
+run_within len at step width (suc m) some is h =
+    let along : EachWithin len at (pos width) width (suc m) = subst (λ s. EachWithin len at s width (suc m)) is h in
+    let last : at + m * width + width ≤ len = place_within len at (pos width) width (suc m) m along (omega arith) in
+    omega (arith, suc-mul m width)
+
+-- nothing is written
+put-nothing : (at : ℕ) (bytes : List ℕ) → put at [] bytes ≡ bytes
+put-nothing at bytes =
+    let none : at + 0 ≡ at = omega arith in let regroup : take at bytes ++ [] ++ drop at bytes ≡ take at bytes ++ drop at bytes = append_assoc (take at bytes) [] (drop at bytes) in
+    ap (λ k. take at bytes ++ [] ++ drop k bytes) none ∙ regroup ∙ take-append-drop at bytes
+
+-- one item is written right after another
+pub put_twice : (at : ℕ) (xs ys bytes : List ℕ) → at + length xs + length ys ≤ length bytes → put (at + length xs) ys (put at xs bytes) ≡ put at (xs ++ ys) bytes
+put_twice at xs ys bytes le =
+    let m = at + length xs in let front = take at bytes ++ xs in let rest = drop m bytes in
+    let long : length front ≡ m = omega (arith, length-append (take at bytes) xs, length-take at bytes) in
+    let end : m + length ys ≡ at + length (xs ++ ys) = omega (arith, length-append xs ys) in
+    let after : drop (m + length ys) (front ++ rest) ≡ drop (at + length (xs ++ ys)) bytes =
+    ap (λ k. drop (k + length ys) (front ++ rest)) (sym long) ∙ drop-append-add front rest (length ys) ∙ drop-drop (length ys) m bytes ∙ ap (λ k. drop k bytes) end in
+    (λ i. take_at front rest m long i ++ ys ++ after i) ∙ ap (λ l. l ++ drop (at + length (xs ++ ys)) bytes) (append_assoc (take at bytes) xs ys)
+
+-- two items that lie one right after the other are read as one
+item_at-add : (at m n : ℕ) (bytes : List ℕ) → item_at at m bytes ++ item_at (at + m) n bytes ≡ item_at at (m + n) bytes
+item_at-add at m n bytes = ap (λ l. item_at at m bytes ++ take n l) (sym (drop-drop m at bytes)) ∙ sym (take-add m n (drop at bytes))
+
+-- one item more, read right after those that were written
+module _ (dst src m width : ℕ) (other bytes : List ℕ) (to : dst + m + width ≤ length bytes) (from : src + m + width ≤ length other) where
+  put_next : put (dst + m) (item_at (src + m) width other) (put dst (item_at src m other) bytes) ≡ put dst (item_at src (m + width) other) bytes
+  put_next =
+      let xs = item_at src m other in let ys = item_at (src + m) width other in
+      let count : length xs ≡ m = length-item_at src m other (omega arith) in let count' : length ys ≡ width = length-item_at (src + m) width other (omega arith) in
+      ap (λ k. put (dst + k) ys (put dst xs bytes)) (sym count) ∙ put_twice dst xs ys bytes (omega arith) ∙ ap (λ l. put dst l bytes) (item_at-add src m width other)
+
+pub copied-run : (dst : ℕ) (other : List ℕ) (src width n : ℕ) (bytes : List ℕ) → dst + n * width ≤ length bytes → src + n * width ≤ length other
+    → copied dst (pos width) other src (pos width) width n bytes ≡ put dst (item_at src (n * width) other) bytes
+copied-run dst other src width zero bytes to from =
+    let none : 0 ≡ 0 * width = omega arith in sym (put-nothing dst bytes) ∙ ap (λ k. put dst (item_at src k other) bytes) none
+copied-run dst other src width (suc n) bytes to from =
+    let m = n * width in let more : suc n * width ≡ m + width = suc-mul n width ∙ omega arith in
+    ap (put (dst + m) (item_at (src + m) width other)) (copied-run dst other src width n bytes (omega (arith, more)) (omega (arith, more)))
+    ∙ put_next dst src m width other bytes (omega (arith, more)) (omega (arith, more)) ∙ ap (λ k. put dst (item_at src k other) bytes) (sym more)
+
+-- eight bytes, one by one
+front : {rest : List ℕ} (item : List ℕ) (k : ℕ) → k < length item → rest ≡ drop (suc k) item → get_or item k 0 ∷ rest ≡ drop k item
+front item k lt is = ap (λ l. get_or item k 0 ∷ l) is ∙ sym (drop-cons item k 0 lt)
+
+pub eight_bytes : (item : List ℕ) → 8 ≤ length item → length item < 9
+    → get_or item 0 0 ∷ get_or item 1 0 ∷ get_or item 2 0 ∷ get_or item 3 0 ∷ get_or item 4 0 ∷ get_or item 5 0 ∷ get_or item 6 0 ∷ get_or item 7 0 ∷ [] ≡ item
+eight_bytes item low high =
+    front item 0 (omega arith) (front item 1 (omega arith) (front item 2 (omega arith) (front item 3 (omega arith) (front item 4 (omega arith) (front item 5 (omega arith)
+    (front item 6 (omega arith) (front item 7 (omega arith) (sym (drop_all 8 item (omega arith))))))))))
+
+-- the k-th of several items that lie one right after another
+item_of_chunks : (width n k : ℕ) (bytes : List ℕ) → k < n → get_or (first_chunks width n bytes) k [] ≡ item_at (width * k) width bytes
+item_of_chunks width zero k bytes lt = absurd (omega arith)
+item_of_chunks width (suc n) zero bytes lt = let none : 0 ≡ width * 0 = omega arith in ap (λ m. take width (drop m bytes)) none
+item_of_chunks width (suc n) (suc k) bytes lt =
+    let next : width + width * k ≡ width * suc k = omega (arith, mul-suc width k) in
+    item_of_chunks width n k (drop width bytes) (omega arith) ∙ ap (take width) (drop-drop (width * k) width bytes ∙ ap (λ m. drop m bytes) next)
+
+pub item_of_run : (width at n m k : ℕ) (bytes : List ℕ) (run : List (List ℕ)) → run ≡ first_chunks width m (take (at + width * n - at) (drop at bytes)) → n ≤ m → k < n → get_or run k [] ≡ item_at (at + width * k) width bytes
+item_of_run width at n m k bytes run is enough lt =
+    let here = width * k in let left = width * n - here in let within : width * suc k ≤ width * n = mul-le-mul_left width lt in
+    let next : width * suc k ≡ here + width = omega (arith, mul-suc width k) in
+    let all : at + width * n - at ≡ here + left = omega (arith, within, next) in
+    ap (λ l. get_or l k []) is ∙ item_of_chunks width m k (take (at + width * n - at) (drop at bytes)) (omega (arith, enough, lt))
+    ∙ ap (λ j. take width (drop here (take j (drop at bytes)))) all ∙ ap (take width) (drop-take here left (drop at bytes))
+    ∙ take-take width left (drop here (drop at bytes)) (omega (arith, within, next)) ∙ ap (take width) (drop-drop here at bytes)
+
+pub item_of_arrays : (width at n k : ℕ) (bytes : List ℕ) (run : List (List ℕ)) → run ≡ first_chunks width n (take (n * width) (drop at bytes)) → k < n → get_or run k [] ≡ item_at (at + width * k) width bytes
+item_of_arrays width at n k bytes run is lt =
+    let same : n * width ≡ at + width * n - at = mul_comm n width ∙ omega arith in
+    item_of_run width at n n k bytes run (is ∙ ap (λ m. first_chunks width n (take m (drop at bytes))) same) (omega arith) lt
+
+pub length-chunks : (width n : ℕ) (bytes : List ℕ) → length (first_chunks width n bytes) ≡ n
+length-chunks width zero bytes = refl
+length-chunks width (suc n) bytes = ap suc (length-chunks width n (drop width bytes))
+
+-- an item that was written leaves the bytes as many as they were
+pub refill-put : (at : ℕ) (item bytes : List ℕ) → at + length item ≤ length bytes → refill (length bytes) bytes (put at item bytes) ≡ put at item bytes
+refill-put at item bytes le = take_at (put at item bytes) (drop (length (put at item bytes)) bytes) (length bytes) (length-put at item bytes le)

@@ -1,0 +1,43 @@
+-- The owner of the bytes, once others were written to them. Assumes `Logic`.
+use Rattle.std.proofs.Common.{◌≡◌, ℕ, ◌+◌, ◌^◌, ◌<◌, List, [], ◌∷◌, length, refl, sym, arith}
+use lib.ListN.{drop as drop_l}
+use lib.Seq.{take_at as take_front}
+use seplogic.Ra.Ura.{Ura}
+use base.Fraction.{full_share}
+use base.Logic.{ent, sep}
+use base.Fml.{Fml, fsep}
+use mir.Val.{Val}
+use types.Logic.{Logic, sem}
+use types.Kit.{‵, ◌$◌, ◌∵◌, !, qed, done, move, use1, fsplit3, fjoin, fpack, flt_i, rewrite}
+use types.SemTy.{cells}
+use denote.Builtin.{u8}
+use denote.Index.{whole_out}
+use denote.Memory.{mem, cell_at, part_of}
+use denote.RawPtr.{Ptr, block_ptr}
+use denote.RawPtr.Bytes.{bytes}
+use denote.Struct.Owning.{shape}
+use denote.Struct.Struct.{Struct}
+use Rattle.std.specs.List.{refill}
+use Rattle.raw_block.specs.inside.Lends.{with_items}
+use Rattle.raw_block.specs.Ownership.{unwritten, bytes_own}
+use Rattle.raw_block.specs.contracts.base.Bytes.{the_row as R, the_type}
+
+-- the owner, once ws is the last that was written to the slice
+abbrev pub written : R.Denot → List ℕ → R.Denot
+written h ws = with_items h (refill (length h.items) h.items ws)
+
+-- all that the owner has but its bytes
+abbrev pub Rest : R.Denot → List Val → ℕ → ℕ → ℕ → ℕ → Fml
+Rest h us rb ro b o = fsep (unwritten b (o + length h.items) h.room) (fsep ((Struct (shape the_type)).own_val tt us) (cell_at full_share R.mir us rb ro))
+
+module _ {M : Type 1} {𝓤 : Ura M} (𝓛 : Logic 𝓤) (h : R.Denot) (us : List Val) (rb ro b o : ℕ) where
+  pub back : h.at ≡ block_ptr b o → length h.items + h.room < 2 ^ 63 → (ws : List ℕ) → length ws ≡ length h.items
+      → ent 𝓤 (sep 𝓤 (sem 𝓛 (cells (mem u8) ws b o)) (sem 𝓛 (Rest h us rb ro b o))) (sem 𝓛 ((mem R).own_at (written h ws) rb ro))
+  unfolding part_of
+  back e small ws same =
+      let all : refill (length h.items) h.items ws ≡ ws = take_front ws (drop_l (length ws) h.items) (length h.items) same in
+      qed 𝓛 (‵ (cells (mem u8) ws b o) ∷ ‵ (Rest h us rb ro b o) ∷ []) ∵ use1 𝓛 (‵ (bytes full_share ws b o)) (whole_out 𝓛 u8 ws b o) $
+      move ! (1 ∷ []) $ fsplit3 ! $ rewrite ! 0 (λ (k : ℕ). ‵ (unwritten b (o + k) h.room)) (sym same) refl $ move ! (3 ∷ 0 ∷ []) $ fjoin ! $
+      flt_i ! (length ws + h.room) (2 ^ 63) (omega arith) $ fjoin ! $ rewrite ! 0 (λ (l : List ℕ). ‵ (bytes_own (block_ptr b o) l h.room)) (sym all) refl $
+      rewrite ! 0 (λ (p : Ptr). ‵ (bytes_own p (written h ws).items h.room)) (sym e) refl $ move ! (1 ∷ 0 ∷ []) $ fjoin ! $ move ! (1 ∷ 0 ∷ []) $ fjoin ! $
+      fpack ! (List Val) (λ vs. fsep (cell_at full_share R.mir vs rb ro) (R.own_val (written h ws) vs)) us $ done !

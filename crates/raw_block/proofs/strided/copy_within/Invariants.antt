@@ -1,6 +1,0 @@
-use Rattle.std.proofs.Common.{◌≡◌}
-use Rattle.raw_block.specs.Bytes.{copied_within}
-use Rattle.raw_block.proofs.strided.copy_within.Given as goal
-
-abbrev pub invariant-loop-k : goal.invariant-loop-k
-invariant-loop-k l = l.bytes ≡ copied_within l.dst l.dst_step l.src l.src_step l.width l.k l.initial.bytes

@@ -1,0 +1,101 @@
+-- Laws of layouts whose items are one run.
+use Rattle.std.proofs.Common.{◌≡◌, ℕ, zero, suc, ◌+◌, ◌-◌, ◌*◌, ◌<◌, ◌≤◌, ◌==◌, ℤ, pos, List, [], ◌∷◌, All, length, get_or, drop, refl, sym, ◌∙◌, ap, subst, arith}
+use Rattle.std.proofs.lemmas.Bool.{cond_both, cond-false, ne_eqb}
+use Rattle.std.proofs.lemmas.List.{append-nil}
+use Rattle.std.specs.List.{flat_map}
+use Rattle.shape_strides.specs.declared.layout.Layout.{Layout}
+use Rattle.shape_strides.specs.declared.joined.StridedAxis.{StridedAxis}
+use Rattle.shape_strides.specs.Limits.{max_items}
+use Rattle.shape_strides.specs.Indexes.{count}
+use Rattle.shape_strides.specs.Addresses.{LieWithin}
+use Rattle.shape_strides.specs.Layouts.{offsets, Fits}
+use Rattle.shape_strides.specs.Joined.{strided_axes, leads_over, join_outside, joined}
+use Rattle.shape_strides.specs.Runs.{run_offsets, run_along, runs_from, runs, GoesBy}
+use Rattle.shape_strides.specs.inside.Single.{if_long}
+use Rattle.shape_strides.proofs.RunLaws.{runs-some, runs-offsets, two_never, run_goes}
+use Rattle.shape_strides.specs.CountLaws.{factors_pos, count-drop}
+use Rattle.shape_strides.proofs.StartLaws.{count-later}
+use Rattle.shape_strides.proofs.RunBounds.{runs-lie}
+
+long_axis : (axis : StridedAxis) → 2 ≤ axis.len → if_long axis ≡ axis ∷ []
+long_axis axis two = cond-false (axis.len == 1) [] (axis ∷ []) (ne_eqb axis.len 1 (λ is. omega arith))
+
+-- ---- axes that stay two
+
+grows : (axis : StridedAxis) (axes : List StridedAxis) → 2 ≤ length axes → 2 ≤ length (join_outside axis axes)
+grows axis [] two = absurd (omega arith)
+grows axis (inner ∷ axes) two =
+    let merged : StridedAxis = record { len = axis.len * inner.len; stride = inner.stride } in
+    cond_both (axis.len == 1) (inner ∷ axes) _ (λ made. 2 ≤ length made) (λ _. two) (λ _.
+    cond_both (leads_over axis inner) (merged ∷ axes) (axis ∷ inner ∷ axes) (λ made. 2 ≤ length made) (λ _. omega (arith, two)) (λ _. omega (arith, two)))
+
+two_of_later : (strides : List ℤ) (shape : List ℕ) (j : ℕ) → length strides ≡ length shape → 2 ≤ length (joined (strided_axes (drop j strides) (drop j shape))) → 2 ≤ length (joined (strided_axes strides shape))
+two_of_later strides shape zero same two = two
+two_of_later [] [] (suc j) same two = two
+two_of_later [] (n ∷ shape) (suc j) same two = absurd (omega (arith, same))
+two_of_later (s ∷ strides) [] (suc j) same two = absurd (omega (arith, same))
+two_of_later (s ∷ strides) (n ∷ shape) (suc j) same two = grows (record { len = n; stride = s }) (joined (strided_axes strides shape)) (two_of_later strides shape j (omega (arith, same)) two)
+
+pub stay_two : (l : Layout) (strides : List ℤ) (lengths : List ℕ) (j : ℕ) (outer inner : StridedAxis) → strides ≡ l.strides → lengths ≡ l.shape → length strides ≡ length lengths → joined (strided_axes (drop j strides) (drop j lengths)) ≡ outer ∷ inner ∷ [] → 2 ≤ length (joined (strided_axes l.strides l.shape))
+stay_two l strides lengths j outer inner are are' same two =
+    subst (λ s. 2 ≤ length (joined (strided_axes s l.shape))) are (subst (λ s. 2 ≤ length (joined (strided_axes strides s))) are' (two_of_later strides lengths j same (omega (arith, ap length two))))
+
+-- then the layout is no run
+pub no_run : (l : Layout) (step : ℤ) → 0 < count l.shape → 2 ≤ length (joined (strided_axes l.strides l.shape)) → GoesBy step (offsets l) → ⊥
+no_run l step some two by = at (joined (strided_axes l.strides l.shape)) refl two
+  where
+    at : (axes : List StridedAxis) → joined (strided_axes l.strides l.shape) ≡ axes → 2 ≤ length axes → ⊥
+    at [] are more = absurd (omega (arith, more))
+    at (axis ∷ []) are more = absurd (omega (arith, more))
+    at (outer ∷ inner ∷ axes) are more = two_never l step outer inner axes some are by
+
+-- an axis before those that are joined to one
+pub record IsJoinedFrom (strides : List ℤ) (lengths : List ℕ) (j : ℕ) (along : StridedAxis) : Type 0 where
+  pub are : if_long along ≡ joined (strided_axes (drop j strides) (drop j lengths))
+  pub items : along.len ≡ count (drop j lengths)
+
+pub joined_before : (strides : List ℤ) (lengths : List ℕ) (k : ℕ) (along : StridedAxis) → length strides ≡ length lengths → 0 < k → k ≤ length lengths → IsJoinedFrom strides lengths k along → join_outside (record { len = get_or lengths (k - 1) 0; stride = get_or strides (k - 1) (pos 0) }) (if_long along) ≡ joined (strided_axes (drop (k - 1) strides) (drop (k - 1) lengths))
+joined_before strides lengths zero along same some most from = absurd (omega arith)
+joined_before strides lengths (suc j) along same some most from =
+    let before : suc j - 1 ≡ j = omega arith in
+    rw before (ap (join_outside (record { len = get_or lengths j 0; stride = get_or strides j (pos 0) })) from.are ∙ sym (later strides lengths j same (omega (arith, most))))
+  where
+    later : (strides : List ℤ) (lengths : List ℕ) (j : ℕ) → length strides ≡ length lengths → j < length lengths → joined (strided_axes (drop j strides) (drop j lengths)) ≡ join_outside (record { len = get_or lengths j 0; stride = get_or strides j (pos 0) }) (joined (strided_axes (drop (suc j) strides) (drop (suc j) lengths)))
+    later [] [] j same below = absurd (omega arith)
+    later [] (n ∷ lengths) j same below = absurd (omega (arith, same))
+    later (s ∷ strides) [] j same below = absurd (omega (arith, same))
+    later (s ∷ strides) (n ∷ lengths) zero same below = refl
+    later (s ∷ strides) (n ∷ lengths) (suc j) same below = later strides lengths j (omega (arith, same)) (omega (arith, below))
+
+-- where there are items, an axis and those joined behind it have some, and no more than there are
+pub joined_items : (strides : List ℤ) (lengths : List ℕ) (k : ℕ) (along : StridedAxis) → 0 < k → k ≤ length lengths → IsJoinedFrom strides lengths k along → 0 < count lengths → count lengths ≤ max_items → (1 ≤ get_or lengths (k - 1) 0) × (1 ≤ along.len) × (get_or lengths (k - 1) 0 * along.len ≤ max_items) × (get_or lengths (k - 1) 0 * along.len ≡ count (drop (k - 1) lengths))
+joined_items strides lengths k along some most from items few =
+    let next : k - 1 + 1 ≡ k = omega arith in
+    let before = count-later lengths (k - 1) items in
+    let later = count-later lengths k items in
+    let whole : count (drop (k - 1) lengths) ≡ get_or lengths (k - 1) 0 * along.len = count-drop lengths (k - 1) (omega arith) ∙ ap (λ j. get_or lengths (k - 1) 0 * count (drop j lengths)) next ∙ ap (λ n. get_or lengths (k - 1) 0 * n) (sym from.items) in
+    let both = factors_pos (get_or lengths (k - 1) 0) along.len (omega (arith, whole, before.0)) in
+    (both.0, both.1, omega (arith, whole, before.1, few), sym whole)
+
+-- ---- the run
+
+-- as the loop leaves it
+pub from_slices : (l : Layout) (strides : List ℤ) (lengths : List ℕ) (k : ℕ) (along : StridedAxis) → strides ≡ l.strides → lengths ≡ l.shape → k ≤ 0 → IsJoinedFrom strides lengths k along → IsJoinedFrom l.strides l.shape 0 along
+from_slices l strides lengths zero along are are' none from = subst (λ s. IsJoinedFrom s l.shape 0 along) are (subst (λ s. IsJoinedFrom strides s 0 along) are' from)
+from_slices l strides lengths (suc k) along are are' none from = absurd (omega arith)
+
+pub is_axis : (l : Layout) (along : StridedAxis) → 2 ≤ count l.shape → IsJoinedFrom l.strides l.shape 0 along → joined (strided_axes l.strides l.shape) ≡ along ∷ []
+is_axis l along two from = sym from.are ∙ long_axis along (omega (arith, two, from.items))
+
+pub is_run : (l : Layout) (along : StridedAxis) → 2 ≤ count l.shape → IsJoinedFrom l.strides l.shape 0 along → runs l ≡ run_along along l.offset ∷ []
+is_run l along two from = runs-some l (omega (arith, two)) ∙ ap (runs_from (pos l.offset)) (is_axis l along two from)
+
+pub run_is_all : (l : Layout) (along : StridedAxis) → 2 ≤ count l.shape → IsJoinedFrom l.strides l.shape 0 along → run_offsets (run_along along l.offset) ≡ offsets l
+run_is_all l along two from = sym (append-nil (run_offsets (run_along along l.offset))) ∙ ap (flat_map run_offsets) (sym (is_run l along two from)) ∙ runs-offsets l
+
+pub run_fits : (l : Layout) (along : StridedAxis) → 2 ≤ count l.shape → IsJoinedFrom l.strides l.shape 0 along → (len item : ℕ) → Fits l len item → LieWithin (along.len ∷ []) (along.stride ∷ []) l.offset len item
+run_fits l along two from len item fits =
+    subst (λ all. All (λ run. LieWithin (run.count ∷ []) (run.step ∷ []) run.offset len item) all) (is_run l along two from) (runs-lie l len item fits) 0 (run_along along l.offset) (omega arith)
+
+pub run_steps : (l : Layout) (along : StridedAxis) → 2 ≤ count l.shape → IsJoinedFrom l.strides l.shape 0 along → (step : ℤ) → GoesBy step (offsets l) → along.stride ≡ step
+run_steps l along two from step by = run_goes l step along (omega (arith, two, from.items)) (is_axis l along two from) by

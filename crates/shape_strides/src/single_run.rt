@@ -1,0 +1,69 @@
+//! Layouts whose items are one run.
+ghost use Rattle.std.specs.Prelude.{◌≡◌, [], ◌∷◌, ◌*◌, ◌<◌, ◌≤◌, ℕ, ℤ, length, IfSome, MatchOption};
+ghost use Rattle.shape_strides.specs.Limits.{max_items};
+ghost use Rattle.shape_strides.specs.Addresses.{LieWithin};
+ghost use Rattle.shape_strides.specs.Layouts.{offsets, Fits};
+ghost use Rattle.shape_strides.specs.Joined.{join_outside};
+ghost use Rattle.shape_strides.specs.Runs.{run_offsets, GoesBy};
+ghost use Rattle.shape_strides.specs.inside.Single.{if_long};
+
+use crate::joined::{StridedAxis, leads_over};
+use crate::layout::Layout;
+use crate::runs::Run;
+
+/// Both axes as one, or nothing where they are two. An axis of length 1 is none.
+fn one_of(outer: StridedAxis, inner: StridedAxis) -> Option<StridedAxis>
+    requires outer { 1 ≤ outer.len }
+    requires inner { 1 ≤ inner.len }
+    requires items { outer.len * inner.len ≤ max_items }
+    ensures { MatchOption result (join_outside outer (if_long inner) ≡ outer ∷ inner ∷ [])
+        (λ one. (join_outside outer (if_long inner) ≡ if_long one) × (one.len ≡ outer.len * inner.len)) }
+{
+    if outer.len == 1 {
+        return Some(inner);
+    }
+    if inner.len == 1 {
+        return Some(outer);
+    }
+    if !leads_over(outer, inner) {
+        return None;
+    }
+    Some(StridedAxis {
+        len: outer.len * inner.len,
+        stride: inner.stride,
+    })
+}
+
+impl Layout {
+    /// The run that the items are: two or more, each of them one step after the one before it. It
+    /// takes no memory.
+    pub fn as_run(&self) -> Option<Run>
+        ensures items { IfSome result (λ run. run_offsets run ≡ offsets self.now) }
+        ensures two { IfSome result (λ run. 2 ≤ run.count) }
+        ensures few { IfSome result (λ run. run.count ≤ max_items) }
+        ensures lie { (len item : ℕ) → Fits self.now len item → IfSome result (λ run. LieWithin (run.count ∷ []) (run.step ∷ []) run.offset len item) }
+        ensures found { (step : ℤ) → 2 ≤ length (offsets self.now) → GoesBy step (offsets self.now) → MatchOption result ⊥ (λ run. run.step ≡ step) }
+    {
+        if self.shape.items() < 2 {
+            return None;
+        }
+        let lengths = self.shape.as_slice();
+        let strides = self.strides.as_slice();
+        let mut along = StridedAxis { len: 1, stride: 0 };
+        for axis in (0..lengths.len()).rev() {
+            let outer = StridedAxis {
+                len: lengths[axis],
+                stride: strides[axis],
+            };
+            let Some(one) = one_of(outer, along) else {
+                return None;
+            };
+            along = one;
+        }
+        Some(Run {
+            offset: self.offset,
+            count: along.len,
+            step: along.stride,
+        })
+    }
+}
