@@ -5,34 +5,35 @@ use Rattle.std.proofs.lemmas.Bool.{le-leb, leb-true, leb-false, lt-leb, and_part
 use Rattle.std.proofs.lemmas.List.{length-map}
 use Rattle.elem_descr.specs.Refusals.{◌>>=◌, check}
 use Rattle.elem_descr.specs.declared.refusal.Refusal.TheVariants.{TooManyAxes, TooLarge}
+use Rattle.shape_strides.specs.Limits.{max_items}
 use Rattle.shape_strides.specs.Shapes.{shape_of}
 
 -- a length that is capped is as much too large
-pub capped-fits : (n : ℕ) → nat_le (min n (2 ^ 64 - 1)) (2 ^ 24) ≡ nat_le n (2 ^ 24)
-capped-fits n = elim (nat_le n (2 ^ 24)) as (λ t. nat_le n (2 ^ 24) ≡ t → nat_le (min n (2 ^ 64 - 1)) (2 ^ 24) ≡ t) [
-  | true ↦ λ e. le-leb _ _ (omega (arith, leb-true n (2 ^ 24) e))
-  | false ↦ λ e. lt-leb _ _ (omega (arith, leb-false n (2 ^ 24) e))
+pub capped-fits : (n : ℕ) → nat_le (min n (2 ^ 64 - 1)) max_items ≡ nat_le n max_items
+capped-fits n = elim (nat_le n max_items) as (λ t. nat_le n max_items ≡ t → nat_le (min n (2 ^ 64 - 1)) max_items ≡ t) [
+  | true ↦ λ e. le-leb _ _ (omega (arith, leb-true n max_items e))
+  | false ↦ λ e. lt-leb _ _ (omega (arith, leb-false n max_items e))
 ] refl
 
-all-capped : (xs : List ℕ) → list_all (λ n. nat_le n (2 ^ 24)) (map (λ n. min n (2 ^ 64 - 1)) xs) ≡ list_all (λ n. nat_le n (2 ^ 24)) xs
+all-capped : (xs : List ℕ) → list_all (λ n. nat_le n max_items) (map (λ n. min n (2 ^ 64 - 1)) xs) ≡ list_all (λ n. nat_le n max_items) xs
 all-capped [] = refl
 all-capped (x ∷ xs) = rw (capped-fits x, all-capped xs) refl
 
-capped-same : (xs : List ℕ) → list_all (λ n. nat_le n (2 ^ 24)) xs ≡ true → map (λ n. min n (2 ^ 64 - 1)) xs ≡ xs
+capped-same : (xs : List ℕ) → list_all (λ n. nat_le n max_items) xs ≡ true → map (λ n. min n (2 ^ 64 - 1)) xs ≡ xs
 capped-same [] h = refl
 capped-same (x ∷ xs) h =
-    let small : x ≤ 2 ^ 24 = leb-true x (2 ^ 24) (and_parts _ _ h).0 in
+    let small : x ≤ max_items = leb-true x max_items (and_parts _ _ h).0 in
     let same : min x (2 ^ 64 - 1) ≡ x = omega arith in
-    λ i. same i ∷ capped-same xs (and_parts (nat_le x (2 ^ 24)) _ h).1 i
+    λ i. same i ∷ capped-same xs (and_parts (nat_le x max_items) _ h).1 i
 
 -- a shape with a length that is too large
-shape_of-wide : (xs : List ℕ) → list_all (λ n. nat_le n (2 ^ 24)) xs ≡ false → shape_of xs ≡ (check (nat_le (length xs) 64) TooManyAxes >>= λ _. Err TooLarge)
+shape_of-wide : (xs : List ℕ) → list_all (λ n. nat_le n max_items) xs ≡ false → shape_of xs ≡ (check (nat_le (length xs) 64) TooManyAxes >>= λ _. Err TooLarge)
 unfolding shape_of
 shape_of-wide xs wide = rw wide refl
 
 pub shape_of-capped : (xs : List ℕ) → shape_of (map (λ n. min n (2 ^ 64 - 1)) xs) ≡ shape_of xs
 shape_of-capped xs =
-    elim (list_all (λ n. nat_le n (2 ^ 24)) xs) as (λ t. list_all (λ n. nat_le n (2 ^ 24)) xs ≡ t → shape_of (map (λ n. min n (2 ^ 64 - 1)) xs) ≡ shape_of xs) [
+    elim (list_all (λ n. nat_le n max_items) xs) as (λ t. list_all (λ n. nat_le n max_items) xs ≡ t → shape_of (map (λ n. min n (2 ^ 64 - 1)) xs) ≡ shape_of xs) [
       | true ↦ λ e. ap shape_of (capped-same xs e)
       | false ↦ λ e.
           shape_of-wide (map (λ n. min n (2 ^ 64 - 1)) xs) (all-capped xs ∙ e)

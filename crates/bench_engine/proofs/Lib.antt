@@ -17,3 +17,5 @@ mod Vectors
 pub mod Views
 pub mod Whole
 pub mod Zeros
+pub mod Stored
+pub mod Copies

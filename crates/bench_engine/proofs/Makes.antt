@@ -1,5 +1,5 @@
 -- What the commands that make an array put into it, by the ways in which they end.
-use Rattle.std.proofs.Common.{◌≡◌, ◌≢◌, ◌≤◌, ◌<◌, ◌*◌, ◌^◌, ℕ, zero, suc, ℤ, List, [], ◌∷◌, ◌++◌, length, take, drop, map, replicate, refl, sym, ap, ◌∙◌, Result, Ok, Err, IfOk, IfErr, nat_le, if◌then◌else◌, ◌⊎◌, inl, inr, arith}
+use Rattle.std.proofs.Common.{◌≡◌, ◌≢◌, ◌≤◌, ◌<◌, ◌*◌, ℕ, zero, suc, ℤ, List, [], ◌∷◌, ◌++◌, length, take, drop, map, replicate, refl, sym, ap, ◌∙◌, Result, Ok, Err, IfOk, IfErr, nat_le, if◌then◌else◌, ◌⊎◌, inl, inr, arith}
 use Rattle.std.proofs.lemmas.Bool.{le-leb, lt-leb, ne_eqb, eq-eqb}
 use Rattle.std.proofs.lemmas.List.{length-map}
 use Rattle.std.proofs.Math.Seq.{take-append_seam}
@@ -14,14 +14,20 @@ use Rattle.elem_descr.specs.Encoding.{size}
 use Rattle.elem_descr.specs.Items.{item_size, decode_item}
 use Rattle.elem_descr.specs.Blocks.{blocks, items_in}
 use Rattle.elem_descr.specs.Values.{LeafValue}
+use Rattle.shape_strides.specs.Limits.{max_bytes, max_items}
+use Rattle.shape_strides.specs.declared.memory_order.MemoryOrder.TheVariants.{C}
 use Rattle.shape_strides.specs.Indexes.{count}
+use Rattle.shape_strides.specs.Layouts.{offsets}
+use Rattle.overlap_copy.specs.Blocks.{offsets_in, places_of}
+use Rattle.std.specs.List.{range_with_len}
 use Rattle.shape_strides.specs.Shapes.{shape_of}
 use Rattle.script_lang.specs.declared.literal.Literal.{Literal}
 use Rattle.overlap_copy.specs.declared.owned.Owned.{Owned}
 use Rattle.literal_items.specs.LiteralItems.{item_value, item_values}
 use Rattle.literal_items.specs.RangeItems.{range_length, range_items}
 use Rattle.bench_engine.specs.Contents.{made, array_type, zeros_contents, full_contents, array_contents, arange_contents, integer_scalar, integer_type}
-use Rattle.bench_engine.specs.inside.OwnContents.{held}
+use Rattle.bench_engine.specs.inside.OwnContents.{held, IsInCOrder}
+use Rattle.bench_engine.proofs.Stored.{divided}
 use Rattle.bench_engine.proofs.Zeros.{items_in-zeros}
 
 -- a slice that was written to, back in its place
@@ -42,36 +48,46 @@ pub type-shape : (text lengths : List ℕ) (descr : Descr) (e : Refusal) → des
 unfolding array_type
 type-shape text lengths descr e good bad = rw (good, bad) refl
 
-pub type-large : (text lengths : List ℕ) (descr : Descr) (shape : List ℕ) → descriptor text ≡ Ok descr → shape_of lengths ≡ Ok shape → 2 ^ 28 < count shape * item_size descr → array_type text lengths ≡ Err TooLarge
+pub type-large : (text lengths : List ℕ) (descr : Descr) (shape : List ℕ) → descriptor text ≡ Ok descr → shape_of lengths ≡ Ok shape → max_bytes < count shape * item_size descr → array_type text lengths ≡ Err TooLarge
 unfolding array_type
-type-large text lengths descr shape good fits large = rw (good, fits, lt-leb (count shape * item_size descr) (2 ^ 28) large) refl
+type-large text lengths descr shape good fits large = rw (good, fits, lt-leb (count shape * item_size descr) max_bytes large) refl
 
-pub type-done : (text lengths : List ℕ) (descr : Descr) (shape : List ℕ) → descriptor text ≡ Ok descr → shape_of lengths ≡ Ok shape → count shape * item_size descr ≤ 2 ^ 28 → array_type text lengths ≡ Ok (descr, shape)
+pub type-done : (text lengths : List ℕ) (descr : Descr) (shape : List ℕ) → descriptor text ≡ Ok descr → shape_of lengths ≡ Ok shape → count shape * item_size descr ≤ max_bytes → array_type text lengths ≡ Ok (descr, shape)
 unfolding array_type
-type-done text lengths descr shape good fits small = rw (good, fits, le-leb (count shape * item_size descr) (2 ^ 28) small) refl
+type-done text lengths descr shape good fits small = rw (good, fits, le-leb (count shape * item_size descr) max_bytes small) refl
 
 -- what a block holds
-pub held-is : (o : Owned) (descr : Descr) (shape bytes : List ℕ) (items : List (List LeafValue)) → o.descr ≡ descr → o.layout.shape ≡ shape → o.block ≡ bytes → items ≡ items_in descr (count shape) bytes → made descr shape items ≡ held o
-held-is o descr shape bytes items typed shaped filled is =
-    (λ i. made (sym typed i) (sym shaped i) ((is ∙ λ j. items_in (sym typed j) (count (sym shaped j)) (sym filled j)) i))
+pub held-is : (o : Owned) (descr : Descr) (shape bytes : List ℕ) (items : List (List LeafValue)) → o.descr ≡ descr → o.layout.shape ≡ shape → o.block ≡ bytes → items ≡ items_in descr (count shape) bytes → IsInCOrder o → made descr shape items ≡ held o
+held-is o descr shape bytes items typed shaped filled is order = λ i. record {
+  shape = sym shaped i;
+  places = places i;
+  buffer = record { descr = sym typed i; items = (is ∙ λ j. items_in (sym typed j) (count (sym shaped j)) (sym filled j)) i };
+}
+  where
+    places : range_with_len 0 (count shape) ≡ places_of (item_size o.descr) (offsets o.layout)
+    places = ap (λ s. range_with_len 0 (count s)) (sym shaped) ∙ sym (ap (places_of (item_size o.descr)) order ∙ divided (item_size o.descr) (range_with_len 0 (count o.layout.shape)) (omega (arith, o.fills_block.some)))
+
+-- it stands in C order
+pub in-order : (o : Owned) (descr : Descr) (shape : List ℕ) → o.descr ≡ descr → o.layout.shape ≡ shape → offsets o.layout ≡ offsets_in C (item_size descr) shape → IsInCOrder o
+in-order o descr shape typed shaped laid = laid ∙ λ i. offsets_in C (item_size (sym typed i)) (sym shaped i)
 
 -- zeros
 pub zeros-type : (text lengths : List ℕ) (e : Refusal) → array_type text lengths ≡ Err e → zeros_contents text lengths ≡ Err e
 unfolding zeros_contents
 zeros-type text lengths e bad = rw bad refl
 
-zeros-done : (text lengths : List ℕ) (descr : Descr) (shape : List ℕ) (o : Owned) → array_type text lengths ≡ Ok (descr, shape) → o.descr ≡ descr → o.layout.shape ≡ shape → o.block ≡ replicate (count shape * item_size descr) 0 →
+zeros-done : (text lengths : List ℕ) (descr : Descr) (shape : List ℕ) (o : Owned) → array_type text lengths ≡ Ok (descr, shape) → o.descr ≡ descr → o.layout.shape ≡ shape → o.block ≡ replicate (count shape * item_size descr) 0 → offsets o.layout ≡ offsets_in C (item_size descr) shape →
     zeros_contents text lengths ≡ Ok (held o)
 unfolding zeros_contents
-zeros-done text lengths descr shape o good typed shaped filled =
-    rw good (ap Ok (held-is o descr shape (replicate (count shape * item_size descr) 0) _ typed shaped filled (sym (items_in-zeros descr (count shape) (count shape * item_size descr)))))
+zeros-done text lengths descr shape o good typed shaped filled laid =
+    rw good (ap Ok (held-is o descr shape (replicate (count shape * item_size descr) 0) _ typed shaped filled (sym (items_in-zeros descr (count shape) (count shape * item_size descr))) (in-order o descr shape typed shaped laid)))
 
-pub zeros-made : (text lengths : List ℕ) (descr : Descr) (shape : List ℕ) (owned : Result Owned Refusal) → array_type text lengths ≡ Ok (descr, shape) → count shape * item_size descr ≤ 2 ^ 28 → IfOk owned (λ o. o.descr ≡ descr) →
-    IfOk owned (λ o. o.layout.shape ≡ shape) → IfOk owned (λ o. o.block ≡ replicate (count shape * item_size descr) 0) →
-    IfErr owned (λ e. e ≡ (if nat_le (count shape * item_size descr) (2 ^ 28) then OutOfMemory else TooLarge)) → Gives held owned (zeros_contents text lengths)
-zeros-made text lengths descr shape (Ok o) good small typed shaped filled refused = zeros-done text lengths descr shape o good typed shaped filled
-zeros-made text lengths descr shape (Err e) good small typed shaped filled refused =
-    inl (refused ∙ ap (λ yes. if yes then OutOfMemory else TooLarge) (le-leb (count shape * item_size descr) (2 ^ 28) small))
+pub zeros-made : (text lengths : List ℕ) (descr : Descr) (shape : List ℕ) (owned : Result Owned Refusal) → array_type text lengths ≡ Ok (descr, shape) → count shape * item_size descr ≤ max_bytes → IfOk owned (λ o. o.descr ≡ descr) →
+    IfOk owned (λ o. o.layout.shape ≡ shape) → IfOk owned (λ o. o.block ≡ replicate (count shape * item_size descr) 0) → IfOk owned (λ o. offsets o.layout ≡ offsets_in C (item_size descr) shape) →
+    IfErr owned (λ e. e ≡ (if nat_le (count shape * item_size descr) max_bytes then OutOfMemory else TooLarge)) → Gives held owned (zeros_contents text lengths)
+zeros-made text lengths descr shape (Ok o) good small typed shaped filled laid refused = zeros-done text lengths descr shape o good typed shaped filled laid
+zeros-made text lengths descr shape (Err e) good small typed shaped filled laid refused =
+    inl (refused ∙ ap (λ yes. if yes then OutOfMemory else TooLarge) (le-leb (count shape * item_size descr) max_bytes small))
 
 -- full
 pub full-type : (text lengths : List ℕ) (literal : Literal) (e : Refusal) → array_type text lengths ≡ Err e → full_contents text lengths literal ≡ Err e
@@ -87,10 +103,10 @@ each-copy descr item zero = refl
 each-copy descr item (suc n) = ap (λ items. decode_item descr item ∷ items) (each-copy descr item n)
 
 pub full-done : (text lengths : List ℕ) (literal : Literal) (descr : Descr) (shape item bytes : List ℕ) (o : Owned) → array_type text lengths ≡ Ok (descr, shape) → item_value descr literal ≡ Ok (decode_item descr item) →
-    length item ≡ item_size descr → blocks (length item) (count shape) bytes ≡ replicate (count shape) item → o.descr ≡ descr → o.layout.shape ≡ shape → o.block ≡ bytes → full_contents text lengths literal ≡ Ok (held o)
+    length item ≡ item_size descr → blocks (length item) (count shape) bytes ≡ replicate (count shape) item → o.descr ≡ descr → o.layout.shape ≡ shape → o.block ≡ bytes → offsets o.layout ≡ offsets_in C (item_size descr) shape → full_contents text lengths literal ≡ Ok (held o)
 unfolding full_contents
-full-done text lengths literal descr shape item bytes o good value whole copies typed shaped filled =
-    rw (good, value) (ap Ok (held-is o descr shape bytes (replicate (count shape) (decode_item descr item)) typed shaped filled items))
+full-done text lengths literal descr shape item bytes o good value whole copies typed shaped filled laid =
+    rw (good, value) (ap Ok (held-is o descr shape bytes (replicate (count shape) (decode_item descr item)) typed shaped filled items (in-order o descr shape typed shaped laid)))
   where
     items : replicate (count shape) (decode_item descr item) ≡ items_in descr (count shape) bytes
     items = sym (each-copy descr item (count shape)) ∙ ap (map (decode_item descr)) (sym copies) ∙ ap (λ n. map (decode_item descr) (blocks n (count shape) bytes)) whole
@@ -109,10 +125,10 @@ unfolding array_contents
 array-values text lengths literals descr shape e good many bad = rw (good, eq-eqb (length literals) (count shape) many, bad) refl
 
 pub array-done : (text lengths : List ℕ) (literals : List Literal) (descr : Descr) (shape bytes : List ℕ) (o : Owned) → array_type text lengths ≡ Ok (descr, shape) → length literals ≡ count shape →
-    item_values descr literals ≡ Ok (map (decode_item descr) (blocks (item_size descr) (length literals) bytes)) → o.descr ≡ descr → o.layout.shape ≡ shape → o.block ≡ bytes → array_contents text lengths literals ≡ Ok (held o)
+    item_values descr literals ≡ Ok (map (decode_item descr) (blocks (item_size descr) (length literals) bytes)) → o.descr ≡ descr → o.layout.shape ≡ shape → o.block ≡ bytes → offsets o.layout ≡ offsets_in C (item_size descr) shape → array_contents text lengths literals ≡ Ok (held o)
 unfolding array_contents
-array-done text lengths literals descr shape bytes o good many values typed shaped filled =
-    rw (good, eq-eqb (length literals) (count shape) many, values) (ap Ok (held-is o descr shape bytes _ typed shaped filled (ap (λ n. items_in descr n bytes) many)))
+array-done text lengths literals descr shape bytes o good many values typed shaped filled laid =
+    rw (good, eq-eqb (length literals) (count shape) many, values) (ap Ok (held-is o descr shape bytes _ typed shaped filled (ap (λ n. items_in descr n bytes) many) (in-order o descr shape typed shaped laid)))
 
 -- arange
 pub integer-descr : (text : List ℕ) (e : Refusal) → descriptor text ≡ Err e → integer_type text ≡ Err e
@@ -140,14 +156,14 @@ unfolding arange_contents
 arange-range text start stop step scalar e kind bad = rw (kind, bad) refl
 
 -- a shape of one axis
-one_axis : (n : ℕ) → n ≤ 2 ^ 24 → shape_of (n ∷ []) ≡ Ok (n ∷ [])
+one_axis : (n : ℕ) → n ≤ max_items → shape_of (n ∷ []) ≡ Ok (n ∷ [])
 unfolding shape_of
-one_axis n few = let once : n * 1 ≤ 2 ^ 24 = omega arith in rw (le-leb n (2 ^ 24) few, le-leb (n * 1) (2 ^ 24) once) refl
+one_axis n few = let once : n * 1 ≤ max_items = omega arith in rw (le-leb n max_items few, le-leb (n * 1) max_items once) refl
 
-pub range-shape : (n : ℕ) (shape : List ℕ) → n ≤ 2 ^ 24 → shape_of (n ∷ []) ≡ Ok shape → shape ≡ n ∷ []
+pub range-shape : (n : ℕ) (shape : List ℕ) → n ≤ max_items → shape_of (n ∷ []) ≡ Ok shape → shape ≡ n ∷ []
 range-shape n shape few is = let same : Ok (n ∷ []) ≡ Ok shape = sym (one_axis n few) ∙ is in cc
 
-pub range-shape-refused : (n : ℕ) (e : Refusal) → n ≤ 2 ^ 24 → (e ≡ OutOfMemory) ⊎ (shape_of (n ∷ []) ≡ Err e) → e ≡ OutOfMemory
+pub range-shape-refused : (n : ℕ) (e : Refusal) → n ≤ max_items → (e ≡ OutOfMemory) ⊎ (shape_of (n ∷ []) ≡ Err e) → e ≡ OutOfMemory
 range-shape-refused n e few (inl lacks) = lacks
 range-shape-refused n e few (inr bad) = let no : Ok (n ∷ []) ≡ Err e = sym (one_axis n few) ∙ bad in cc
 
@@ -157,10 +173,10 @@ length-blocks width (suc n) xs = ap suc (length-blocks width n (drop width xs))
 
 pub arange-done : (text : List ℕ) (start stop step : ℤ) (scalar : Scalar) (n : ℕ) (bytes : List ℕ) (o : Owned) → integer_type text ≡ Ok scalar →
     range_items scalar start stop step ≡ Ok (map (decode_item (ScalarDescr scalar)) (blocks (size scalar) n bytes)) →
-    o.descr ≡ ScalarDescr scalar → o.layout.shape ≡ n ∷ [] → o.block ≡ bytes → arange_contents text start stop step ≡ Ok (held o)
+    o.descr ≡ ScalarDescr scalar → o.layout.shape ≡ n ∷ [] → o.block ≡ bytes → IsInCOrder o → arange_contents text start stop step ≡ Ok (held o)
 unfolding arange_contents
-arange-done text start stop step scalar n bytes o kind numbers typed shaped filled =
-    rw (kind, numbers) (ap Ok (held-is o (ScalarDescr scalar) (length items ∷ []) bytes items typed (shaped ∙ ap (λ m. m ∷ []) (sym many)) filled is))
+arange-done text start stop step scalar n bytes o kind numbers typed shaped filled laid =
+    rw (kind, numbers) (ap Ok (held-is o (ScalarDescr scalar) (length items ∷ []) bytes items typed (shaped ∙ ap (λ m. m ∷ []) (sym many)) filled is laid))
   where
     items : List (List LeafValue)
     items = map (decode_item (ScalarDescr scalar)) (blocks (size scalar) n bytes)

@@ -25,9 +25,12 @@ use Rattle.bench_engine.specs.declared.part.Part.{Part}
 use Rattle.bench_engine.specs.declared.part.PartOrCopy.{PartOrCopy}
 use Rattle.bench_engine.specs.declared.part.PartOrCopy.TheVariants as given
 use Rattle.bench_engine.specs.inside.Parts.{GivesSeen}
-use Rattle.bench_engine.specs.Contents.{made}
+use Rattle.elem_descr.specs.Refusals.{◌>>=◌}
+use Rattle.bench_engine.specs.Contents.{Contents, made}
 use Rattle.bench_engine.specs.Machine.{a_view, a_copy, duplicated, reshaped}
+use Rattle.bench_engine.proofs.Copies.{copied-large, copied-done}
 use Rattle.bench_engine.proofs.Makes.{held-is}
+use Rattle.bench_engine.proofs.Stored.{items-from}
 
 -- ---- the ways in which it ends
 
@@ -44,12 +47,10 @@ unfolding reshaped
 reshaped-copy s a numbers shape good other = rw (good, other) refl
 
 duplicated-large : (s : State) (a : Array) (shape : List ℕ) → nat_le (count shape * item_size (descr_of s a)) max_bytes ≡ false → duplicated s a shape ≡ Err TooLarge
-unfolding duplicated
-duplicated-large s a shape large = rw large refl
+duplicated-large s a shape large = ap (λ (r : Result Contents Refusal). r >>= (λ new. Ok (a_copy new))) (copied-large s a C shape large)
 
 duplicated-done : (s : State) (a : Array) (shape : List ℕ) → nat_le (count shape * item_size (descr_of s a)) max_bytes ≡ true → duplicated s a shape ≡ Ok (a_copy (made (descr_of s a) shape (read s a)))
-unfolding duplicated
-duplicated-done s a shape small = rw small refl
+duplicated-done s a shape small = ap (λ (r : Result Contents Refusal). r >>= (λ new. Ok (a_copy new))) (copied-done s a C shape small)
 
 -- ---- where they stand
 
@@ -107,42 +108,13 @@ seen-copied s a r numbers shape given shows good decides is =
 
 -- ---- copied
 
--- items one after another, from one of them on
-blocks-from : (size a n : ℕ) (bytes : List ℕ) → map (λ offset. take size (drop offset bytes)) (map (λ k. size * k) (range_with_len a n)) ≡ blocks size n (drop (size * a) bytes)
-blocks-from size a zero bytes = refl
-blocks-from size a (suc n) bytes = λ i. take size (drop (size * a) bytes) ∷ (blocks-from size (a + 1) n bytes ∙ ap (blocks size n) (ap (λ m. drop m bytes) (more size a) ∙ drop-drop (size * a) size bytes)) i
-  where
-    more : (size a : ℕ) → size * (a + 1) ≡ size * a + size
-    more size a = omega arith
-
-    nothing : (m : ℕ) → drop {A = ℕ} m [] ≡ []
-    nothing zero = refl
-    nothing (suc m) = refl
-
-    drop-drop : (n m : ℕ) (xs : List ℕ) → drop (n + m) xs ≡ drop m (drop n xs)
-    drop-drop zero m xs = let same : 0 + m ≡ m = omega arith in ap (λ k. drop k xs) same
-    drop-drop (suc n) m [] = nothing (suc n + m) ∙ sym (nothing m)
-    drop-drop (suc n) m (x ∷ xs) = let same : suc n + m ≡ suc (n + m) = omega arith in ap (λ k. drop k (x ∷ xs)) same ∙ drop-drop n m xs
-
-items-from : (descr : Descr) (n : ℕ) (bytes : List ℕ) → map (item_from descr bytes) (multiples (item_size descr) n) ≡ items_in descr n bytes
-items-from descr n bytes = sym (twice (multiples (item_size descr) n)) ∙ ap (map (decode_item descr)) (blocks-from (item_size descr) 0 n bytes ∙ ap (λ m. blocks (item_size descr) n (drop m bytes)) (none (item_size descr)))
-  where
-    twice : (list : List ℕ) → map (decode_item descr) (map (λ offset. take (item_size descr) (drop offset bytes)) list) ≡ map (item_from descr bytes) list
-    twice [] = refl
-    twice (offset ∷ list) = ap (λ items. item_from descr bytes offset ∷ items) (twice list)
-
-    none : (size : ℕ) → size * 0 ≡ 0
-    none size = omega arith
-
 pub items-duplicated : (s : State) (a : Array) (r : ArrayRef) (shape : List ℕ) (copy o : Owned) → Shows s a r → count shape ≡ count r.layout.now.shape → count r.layout.now.shape * item_size r.descr.now ≤ max_bytes →
     copy.descr ≡ r.descr.now → offsets copy.layout ≡ offsets_in C (item_size r.descr.now) r.layout.now.shape →
     map (item_from r.descr.now copy.block) (offsets copy.layout) ≡ map (item_from r.descr.now r.block.now) (offsets r.layout.now) →
     o.descr ≡ copy.descr → o.layout.shape ≡ shape → o.block ≡ copy.block → offsets o.layout ≡ offsets_in C (item_size copy.descr) shape → GivesSeen s r.number (Ok (given.Copy o)) (duplicated s a shape)
 items-duplicated s a r shape copy o shows same few typed laid items typed' shaped filled order =
-    subst (GivesSeen s r.number (Ok (given.Copy o))) (sym (duplicated-done s a shape (le-leb (count shape * item_size (descr_of s a)) max_bytes fits))) (record {
-      contents_are = held-is o (descr_of s a) shape copy.block (read s a) (typed' ∙ typed ∙ sym shows.descr) shaped filled read-is;
-      order = order ∙ λ i. offsets_in C (item_size (sym typed' i)) (sym shaped i);
-    })
+    subst (GivesSeen s r.number (Ok (given.Copy o))) (sym (duplicated-done s a shape (le-leb (count shape * item_size (descr_of s a)) max_bytes fits)))
+    (held-is o (descr_of s a) shape copy.block (read s a) (typed' ∙ typed ∙ sym shows.descr) shaped filled read-is (order ∙ λ i. offsets_in C (item_size (sym typed' i)) (sym shaped i)))
   where
     fits : count shape * item_size (descr_of s a) ≤ max_bytes
     fits = subst (λ (n : ℕ). n ≤ max_bytes) (λ i. sym same i * item_size (sym shows.descr i)) few

@@ -13,7 +13,7 @@ use Rattle.shape_strides.specs.Indexes.{indexes, rank}
 use Rattle.shape_strides.specs.Layouts.{offsets}
 use Rattle.view_ops.specs.Views.{View, view_through, IsViewOf, GivesView, KeepsNested}
 use Rattle.name_store.specs.States.{State, Array}
-use Rattle.name_store.specs.Arrays.{find_array, has_room_for, bound_to, bound_view, fresh_array, buffer_of, addresses}
+use Rattle.name_store.specs.Arrays.{find_array, has_room_for, bound_to, bound_view, buffer_of, addresses}
 use Rattle.name_store.specs.Calls.{AnswersBind}
 use Rattle.name_store.specs.Views.{IsViewIn, MayBind}
 use Rattle.name_store.specs.Parts.{start_at}
@@ -29,8 +29,10 @@ use Rattle.bench_engine.specs.declared.part.Part.{Part}
 use Rattle.bench_engine.specs.declared.part.PartOrCopy.{PartOrCopy}
 use Rattle.bench_engine.specs.declared.part.PartOrCopy.TheVariants as given
 use Rattle.bench_engine.specs.inside.Parts.{GivesSeen, bound_of, seen_text}
+use Rattle.bench_engine.specs.Contents.{array_over}
 use Rattle.bench_engine.specs.inside.Contract.{CarriesOut, IsRefused}
-use Rattle.bench_engine.specs.Replies.{view_text, copy_text}
+use Rattle.bench_engine.specs.declared.replies.Origin.TheVariants as origin
+use Rattle.bench_engine.specs.Replies.{bound_text}
 use Rattle.bench_engine.specs.Machine.{Choice, Outcome, ViewOrCopy, a_view, a_copy, viewed, bound_seen, comes_to}
 use Rattle.bench_engine.proofs.Creates.{starts, fresh-answers}
 use Rattle.bench_engine.proofs.Steps.{spare}
@@ -140,15 +142,15 @@ pub seen-answers : (s new : State) (name : List ℕ) (may : Bool) (outcome : Cho
     ((x : ViewOrCopy) → there ≡ Ok x → (choice : Choice) → outcome choice ≡ bound_seen choice s name x) → after ≡ before ++ seen_text name found → what ≡ bound_of number found → GivesSeen s number (Ok found) there →
     AnswersBind s name what result new → CarriesOut may outcome s new before after result
 seen-answers s new name may outcome what number (given.Part part) (Ok (a_view array)) result before after can room is told view in' binds =
-    view-answers s new name may outcome what number part.path part.layout part.writable array result (view_text name part.descr.now part.layout.shape) before after can room
-    (λ choice. is (a_view array) refl choice ∙ λ i. comes_to (bound_view s name array) (view_text name (in'.descr i) (sym in'.view.laid.shape i))) told view in'.view binds
+    view-answers s new name may outcome what number part.path part.layout part.writable array result (bound_text name part.descr.now part.layout.shape origin.View) before after can room
+    (λ choice. is (a_view array) refl choice ∙ λ i. comes_to (bound_view s name array) (bound_text name (in'.descr i) (sym in'.view.laid.shape i) origin.View)) told view in'.view binds
 seen-answers s new name may outcome what number (given.Part part) (Ok (a_copy contents)) result before after can room is told view in' binds = absurd in'
 seen-answers s new name may outcome what number (given.Part part) (Err e) result before after can room is told view in' binds = absurd in'
 seen-answers s new name may outcome what number (given.Copy o) (Ok (a_view array)) result before after can room is told view in' binds = absurd in'
 seen-answers s new name may outcome what number (given.Copy o) (Err e) result before after can room is told view in' binds = absurd in'
 seen-answers s new name may outcome what number (given.Copy o) (Ok (a_copy contents)) result before after can room is told view in' binds =
-    fresh-answers s new name may outcome o contents result (copy_text name o.descr o.layout.shape) before after can room in'.order in'.contents_are
-    (λ choice. is (a_copy contents) refl choice ∙ λ i. comes_to (bound_to s name (fresh_array choice.fresh contents.shape) contents.buffer) (copy_text name (in'.contents_are i).buffer.descr (in'.contents_are i).shape))
+    fresh-answers s new name may outcome o contents result (bound_text name o.descr o.layout.shape origin.Copy) before after can room in'
+    (λ choice. is (a_copy contents) refl choice ∙ λ i. comes_to (bound_to s name (array_over choice.fresh contents) contents.buffer) (bound_text name (in' i).buffer.descr (in' i).shape origin.Copy))
     told (subst (λ (b : Bound). AnswersBind s name b result new) view binds)
 
 -- what a call that gives a view answers

@@ -1,5 +1,6 @@
 -- What the commands that make an array put into it.
-use Rattle.std.specs.Prelude.{ℕ, ◌*◌, ◌^◌, ℤ, pos, List, [], ◌∷◌, length, map, replicate, Result, Ok, Err, nat_eq, nat_le}
+use Rattle.std.specs.Prelude.{ℕ, ◌*◌, ℤ, pos, true, List, [], ◌∷◌, length, get_or, map, replicate, reverse, Result, Ok, Err, nat_eq, nat_le}
+use Rattle.std.specs.List.{range_with_len}
 use Rattle.elem_descr.specs.declared.refusal.Refusal.{Refusal}
 use Rattle.elem_descr.specs.declared.refusal.Refusal.TheVariants.{TooLarge, NotForThisKind, NumberOfValues}
 use Rattle.elem_descr.specs.declared.scalar.Scalar.{Scalar}
@@ -10,22 +11,45 @@ use Rattle.elem_descr.specs.Refusals.{◌>>=◌, check}
 use Rattle.elem_descr.specs.DescrTexts.{descriptor}
 use Rattle.elem_descr.specs.Items.{item_size, leaves_of}
 use Rattle.elem_descr.specs.Values.{LeafValue, number, text}
-use Rattle.shape_strides.specs.Indexes.{count}
+use Rattle.shape_strides.specs.Limits.{max_bytes}
+use Rattle.shape_strides.specs.declared.memory_order.MemoryOrder.{MemoryOrder}
+use Rattle.shape_strides.specs.declared.memory_order.MemoryOrder.TheVariants.{C, Fortran}
+use Rattle.shape_strides.specs.Indexes.{count, indexes, rank}
 use Rattle.shape_strides.specs.Shapes.{shape_of}
 use Rattle.script_lang.specs.declared.literal.Literal.{Literal}
 use Rattle.script_lang.specs.declared.command.NewItems.{NewItems}
 use Rattle.script_lang.specs.declared.command.NewItems.TheVariants.{Zeros, Full, Arange, Array}
 use Rattle.name_store.specs.States.{Buffer}
+use Rattle.name_store.specs.States as states
 use Rattle.literal_items.specs.LiteralItems.{item_value, item_values}
 use Rattle.literal_items.specs.RangeItems.{range_items}
 
--- a shape, and a buffer with an item for each of its indices in C order
+-- a shape, for each of its indices in C order the place of an item, and a buffer in which the items stand
 pub record Contents : Type 0 where
   pub shape : List ℕ
+  pub places : List ℕ
   pub buffer : Buffer
 
+-- the places of a shape's items where these are stored in C order, or in Fortran order, where the first number of an index runs fastest
+abbrev pub places_in : MemoryOrder → List ℕ → List ℕ
+places_in C shape = range_with_len 0 (count shape)
+places_in Fortran shape = map (λ index. rank (reverse shape) (reverse index)) (indexes shape)
+
+-- items in C order of their indices, as they are stored
+abbrev pub stored : MemoryOrder → List ℕ → List (List LeafValue) → List (List LeafValue)
+stored C shape items = items
+stored Fortran shape items = map (λ index. get_or items (rank shape (reverse index)) []) (indexes (reverse shape))
+
+-- these items, one for each index of the shape in C order, stored in an order
+abbrev pub made_in : MemoryOrder → Descr → List ℕ → List (List LeafValue) → Contents
+made_in order descr shape items = record { shape = shape; places = places_in order shape; buffer = record { descr = descr; items = stored order shape items } }
+
 abbrev pub made : Descr → List ℕ → List (List LeafValue) → Contents
-made descr shape items = record { shape = shape; buffer = record { descr = descr; items = items } }
+made descr shape items = made_in C descr shape items
+
+-- a writable array over contents, in the buffer with this number
+abbrev pub array_over : ℕ → Contents → states.Array
+array_over at contents = record { buffer = at; path = []; shape = contents.shape; places = contents.places; writable = true }
 
 -- the value 0, and the byte string of no bytes
 abbrev pub zero_of : Scalar → LeafValue
@@ -40,7 +64,7 @@ unfoldable pub array_type : List ℕ → List ℕ → Result (Descr × List ℕ)
 array_type descr lengths = do
   descr ← descriptor descr
   shape ← shape_of lengths
-  _ ← check (nat_le (count shape * item_size descr) (2 ^ 28)) TooLarge
+  _ ← check (nat_le (count shape * item_size descr) max_bytes) TooLarge
   Ok (descr, shape)
 
 -- zeros D S

@@ -7,6 +7,8 @@ use Rattle.elem_descr.specs.declared.refusal.Refusal.TheVariants.{Syntax, Unknow
 use Rattle.elem_descr.specs.Refusals.{◌>>=◌, check}
 use Rattle.elem_descr.specs.Items.{item_size, field_of}
 use Rattle.shape_strides.specs.declared.index_item.IndexItem.{IndexItem}
+use Rattle.shape_strides.specs.declared.memory_order.MemoryOrder.{MemoryOrder}
+use Rattle.shape_strides.specs.declared.memory_order.MemoryOrder.TheVariants.{C}
 use Rattle.shape_strides.specs.IndexItems.{is_basic}
 use Rattle.shape_strides.specs.Limits.{max_bytes}
 use Rattle.shape_strides.specs.Indexes.{count}
@@ -21,6 +23,7 @@ use Rattle.script_lang.specs.declared.literal.Literal.{Literal}
 use Rattle.script_lang.specs.declared.command.Argument.TheVariants as argument
 use Rattle.script_lang.specs.declared.command.Viewing.{Viewing}
 use Rattle.script_lang.specs.declared.command.Viewing.TheVariants as viewing
+use Rattle.script_lang.specs.declared.command.Computation.TheVariants as computation
 use Rattle.script_lang.specs.declared.command.Value.{Value}
 use Rattle.script_lang.specs.declared.command.Value.TheVariants as value
 use Rattle.script_lang.specs.declared.command.Question.{Question}
@@ -31,11 +34,13 @@ use Rattle.literal_items.specs.LiteralItems.{item_value}
 use Rattle.array_print.specs.Printed.{array_text}
 use Rattle.name_store.specs.States.{State}
 use Rattle.name_store.specs.States as states
-use Rattle.name_store.specs.Arrays.{find_array, is_bound, has_room_for, bound_to, bound_view, unbound, fresh_array, descr_of, addresses, read, written, share_cells}
+use Rattle.name_store.specs.Arrays.{find_array, is_bound, has_room_for, bound_to, bound_view, unbound, descr_of, addresses, read, written, share_cells}
 use Rattle.name_store.specs.Calls.{IsUnused}
-use Rattle.bench_engine.specs.Contents.{Contents, made, contents_of}
+use Rattle.bench_engine.specs.Contents.{Contents, made_in, array_over, contents_of}
 use Rattle.bench_engine.specs.Indices.{basic_items}
-use Rattle.bench_engine.specs.Replies.{Reply, refusal, fresh_text, view_text, copy_text, info_text, format_text, names_text, shares_text}
+use Rattle.bench_engine.specs.declared.replies.Origin.{Origin}
+use Rattle.bench_engine.specs.declared.replies.Origin.TheVariants as origin
+use Rattle.bench_engine.specs.Replies.{Reply, refusal, bound_text, info_text, format_text, names_text, shares_text}
 
 -- what the machine is free to choose: the number of a fresh buffer
 pub record Choice : Type 0 where
@@ -84,11 +89,14 @@ broadcast_seen array lengths = do
   view ← stretched array.shape shape
   Ok (a_view (record (viewed array view) { writable = false }))
 
--- the items copied, in C order
-unfoldable pub duplicated : State → states.Array → List ℕ → Result ViewOrCopy Refusal
-duplicated s array shape = do
+-- the items copied under a shape with as many, and stored in an order
+unfoldable pub copied : State → states.Array → MemoryOrder → List ℕ → Result Contents Refusal
+copied s array order shape = do
   _ ← check (nat_le (count shape * item_size (descr_of s array)) max_bytes) TooLarge
-  Ok (a_copy (made (descr_of s array) shape (read s array)))
+  Ok (made_in order (descr_of s array) shape (read s array))
+
+abbrev pub duplicated : State → states.Array → List ℕ → Result ViewOrCopy Refusal
+duplicated s array shape = copied s array C shape >>= (λ new. Ok (a_copy new))
 
 -- the items under another shape: where they stand, if some first place and some strides lead to them so, and else copied
 unfoldable pub reshaped : State → states.Array → List ℤ → Result ViewOrCopy Refusal
@@ -110,10 +118,14 @@ abbrev pub is_carried_out : Viewing → Bool
 is_carried_out (viewing.Indexed index) = list_all is_basic index
 is_carried_out _ = true
 
+-- a name is bound to a new array
+abbrev pub bound_new : Choice → State → List ℕ → Origin → Contents → Outcome
+bound_new choice s name origin new = comes_to (bound_to s name (array_over choice.fresh new) new.buffer) (bound_text name new.buffer.descr new.shape origin)
+
 -- a name is bound to what is seen
 abbrev pub bound_seen : Choice → State → List ℕ → ViewOrCopy → Outcome
-bound_seen choice s name (a_view part) = comes_to (bound_view s name part) (view_text name (descr_of s part) part.shape)
-bound_seen choice s name (a_copy new) = comes_to (bound_to s name (fresh_array choice.fresh new.shape) new.buffer) (copy_text name new.buffer.descr new.shape)
+bound_seen choice s name (a_view part) = comes_to (bound_view s name part) (bound_text name (descr_of s part) part.shape origin.View)
+bound_seen choice s name (a_copy new) = bound_new choice s name origin.Copy new
 
 -- Commands
 
@@ -122,7 +134,15 @@ unfoldable pub creation_outcome : Choice → State → List ℕ → Result Conte
 creation_outcome choice s name contents = do
   _ ← check (has_room_for s name) TooManyNames
   new ← contents
-  comes_to (bound_to s name (fresh_array choice.fresh new.shape) new.buffer) (fresh_text name new.buffer.descr new.shape)
+  bound_new choice s name origin.New new
+
+-- X = copy Y C or F
+unfoldable pub copy_outcome : Choice → State → List ℕ → List ℕ → MemoryOrder → Outcome
+copy_outcome choice s name source order = do
+  array ← array_of s source
+  _ ← check (has_room_for s name) TooManyNames
+  new ← copied s array order array.shape
+  bound_new choice s name origin.Copy new
 
 -- X = the array of a name, seen in some way
 unfoldable pub view_outcome : Choice → State → List ℕ → List ℕ → Viewing → Outcome
@@ -181,6 +201,7 @@ shares_outcome s left right = do
 abbrev pub bind_outcome : Choice → State → List ℕ → Value → Outcome
 bind_outcome choice s name (value.Make descr items) = creation_outcome choice s name (contents_of descr items)
 bind_outcome choice s name (value.View source how) = view_outcome choice s name source how
+bind_outcome choice s name (value.Compute (computation.Duplicate source order)) = copy_outcome choice s name source order
 bind_outcome choice s name _ = Err Syntax
 
 abbrev pub question_outcome : State → Question → Outcome
@@ -211,6 +232,7 @@ Step old command new reply =
 
 abbrev pub bound_in_value : Value → List (List ℕ)
 bound_in_value (value.View source how) = source ∷ []
+bound_in_value (value.Compute (computation.Duplicate source order)) = source ∷ []
 bound_in_value _ = []
 
 abbrev pub bound_in_question : Question → List (List ℕ)
@@ -232,6 +254,7 @@ must_be_bound _ = []
 abbrev pub value_takes_memory : Value → Bool
 value_takes_memory (value.Make descr items) = true
 value_takes_memory (value.View source how) = true
+value_takes_memory (value.Compute (computation.Duplicate source order)) = true
 value_takes_memory _ = false
 
 abbrev pub takes_memory : Command → Bool

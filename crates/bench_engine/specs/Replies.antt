@@ -11,6 +11,8 @@ use Rattle.shape_strides.specs.Shapes.{shape_text}
 use Rattle.shape_strides.specs.Contiguity.{first_address, printed_strides, is_c_contiguous, is_f_contiguous, strides_text}
 use Rattle.script_lang.specs.Refusals.{refusal_text}
 use Rattle.name_store.specs.States.{State}
+use Rattle.bench_engine.specs.declared.replies.Origin.{Origin}
+use Rattle.bench_engine.specs.declared.replies.Origin.TheVariants.{New, View, Copy}
 
 -- the answer to a command, and whether it was accepted
 pub record Reply : Type 0 where
@@ -30,17 +32,14 @@ descr_text (RecordDescr structure) = written_format (RecordDescr structure)
 abbrev pub array_words : List ℕ → Descr → List ℕ → List ℕ
 array_words name descr shape = name ++ codes " " ++ descr_text descr ++ codes " " ++ shape_text shape
 
--- ok X DESCR SHAPE new
-abbrev pub fresh_text : List ℕ → Descr → List ℕ → List ℕ
-fresh_text name descr shape = codes "ok " ++ array_words name descr shape ++ codes " new"
+abbrev pub origin_word : Origin → List ℕ
+origin_word New = codes "new"
+origin_word View = codes "view"
+origin_word Copy = codes "copy"
 
--- ok X DESCR SHAPE view
-abbrev pub view_text : List ℕ → Descr → List ℕ → List ℕ
-view_text name descr shape = codes "ok " ++ array_words name descr shape ++ codes " view"
-
--- ok X DESCR SHAPE copy
-abbrev pub copy_text : List ℕ → Descr → List ℕ → List ℕ
-copy_text name descr shape = codes "ok " ++ array_words name descr shape ++ codes " copy"
+-- ok X DESCR SHAPE ORIGIN
+abbrev pub bound_text : List ℕ → Descr → List ℕ → Origin → List ℕ
+bound_text name descr shape origin = codes "ok " ++ array_words name descr shape ++ codes " " ++ origin_word origin
 
 abbrev pub yes_or_no : Bool → List ℕ
 yes_or_no is = if is then codes "yes" else codes "no"

@@ -5,12 +5,13 @@ ghost use Rattle.elem_descr.specs.Blocks.{blocks};
 ghost use Rattle.elem_descr.specs.Encoding.{IsNumber, size};
 ghost use Rattle.elem_descr.specs.Items.{item_size, decode_item};
 ghost use Rattle.elem_descr.specs.declared.descr.Descr.TheVariants.{Scalar as ScalarDescr};
+ghost use Rattle.shape_strides.specs.Limits.{max_bytes, max_items};
 ghost use Rattle.shape_strides.specs.Indexes.{count};
 ghost use Rattle.shape_strides.specs.Shapes.{shape_of};
 ghost use Rattle.literal_items.specs.LiteralItems.{item_values};
 ghost use Rattle.literal_items.specs.RangeItems.{range_count, range_items};
 ghost use Rattle.bench_engine.specs.Contents.{array_type, zeros_contents, full_contents, array_contents, arange_contents, integer_scalar, integer_type};
-ghost use Rattle.bench_engine.specs.inside.OwnContents.{held, IsInCOrder};
+ghost use Rattle.bench_engine.specs.inside.OwnContents.{held};
 
 use crate::item::item_of;
 use elem_descr::{Descr, Refusal, Scalar, descr_read};
@@ -48,7 +49,7 @@ fn array_type(
     lengths: &Lengths,
 ) -> Result<(Descr, Shape), Refusal>
     ensures value { Gives (λ t. (t.0, t.1)) result (array_type descr.now lengths.now) }
-    ensures bytes { IfOk result (λ t. count t.1 * item_size t.0 ≤ 2 ^ 28) }
+    ensures bytes { IfOk result (λ t. count t.1 * item_size t.0 ≤ max_bytes) }
 {
     let descr = descr_read(alloc, descr.as_slice())?;
     let shape = shape_of(alloc, lengths)?;
@@ -60,8 +61,7 @@ fn array_type(
 
 /// `zeros D S`
 pub fn zeros(alloc: Global, descr: &DescrText, lengths: &Lengths) -> Result<Owned, Refusal>
-    ensures value { Gives held result (zeros_contents descr.now lengths.now) }
-    ensures order { IfOk result IsInCOrder }
+    ensures { Gives held result (zeros_contents descr.now lengths.now) }
 {
     let (descr, shape) = array_type(alloc, descr, lengths)?;
     Owned::zeroed(alloc, descr, &shape)
@@ -69,7 +69,7 @@ pub fn zeros(alloc: Global, descr: &DescrText, lengths: &Lengths) -> Result<Owne
 
 /// A block of so many items, each with these bytes.
 fn filled(alloc: Global, item: &[u8], items: usize) -> Result<RawBlock, AllocError>
-    requires bytes { items * length item.now ≤ 2 ^ 28 }
+    requires bytes { items * length item.now ≤ max_bytes }
     ensures whole { IfOk result (λ block. length block ≡ items * length item.now) }
     ensures items { IfOk result (λ block. blocks (length item.now) items block ≡ replicate items item.now) }
 {
@@ -85,8 +85,7 @@ pub fn full(
     lengths: &Lengths,
     literal: &Literal,
 ) -> Result<Owned, Refusal>
-    ensures value { Gives held result (full_contents descr.now lengths.now literal.now) }
-    ensures order { IfOk result IsInCOrder }
+    ensures { Gives held result (full_contents descr.now lengths.now literal.now) }
 {
     let (descr, shape) = array_type(alloc, descr, lengths)?;
     let item = item_of(alloc, &descr, literal)?;
@@ -98,7 +97,7 @@ pub fn full(
 
 /// A block of the items that these literals are, one after another.
 fn listed(alloc: Global, descr: &Descr, literals: &[Literal]) -> Result<RawBlock, Refusal>
-    requires bytes { length literals.now * item_size descr.now ≤ 2 ^ 28 }
+    requires bytes { length literals.now * item_size descr.now ≤ max_bytes }
     ensures whole { IfOk result (λ block. length block ≡ length literals.now * item_size descr.now) }
     ensures items { Gives (λ block. map (decode_item descr.now) (blocks (item_size descr.now) (length literals.now) block)) result (item_values descr.now literals.now) }
 {
@@ -114,8 +113,7 @@ pub fn array(
     lengths: &Lengths,
     literals: &Literals,
 ) -> Result<Owned, Refusal>
-    ensures value { Gives held result (array_contents descr.now lengths.now literals.now) }
-    ensures order { IfOk result IsInCOrder }
+    ensures { Gives held result (array_contents descr.now lengths.now literals.now) }
 {
     let (descr, shape) = array_type(alloc, descr, lengths)?;
     let literals = literals.as_slice();
@@ -161,7 +159,7 @@ fn numbered(
 ) -> Result<RawBlock, Refusal>
     requires number { IsNumber scalar.now }
     requires len { len ≡ range_count start.now stop.now step.now }
-    requires few { len ≤ 2 ^ 24 }
+    requires few { len ≤ max_items }
     ensures whole { IfOk result (λ block. length block ≡ len * size scalar.now) }
     ensures items { Gives (λ block. map (decode_item (ScalarDescr scalar.now)) (blocks (size scalar.now) len block)) result (range_items scalar.now start.now stop.now step.now) }
 {
@@ -178,8 +176,7 @@ pub fn arange(
     stop: &i128,
     step: &i128,
 ) -> Result<Owned, Refusal>
-    ensures value { Gives held result (arange_contents descr.now start.now stop.now step.now) }
-    ensures order { IfOk result IsInCOrder }
+    ensures { Gives held result (arange_contents descr.now start.now stop.now step.now) }
 {
     let scalar = integer_type(alloc, descr)?;
     let len = range_len(start, stop, step)?;

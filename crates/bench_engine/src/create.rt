@@ -1,13 +1,13 @@
 //! `X = zeros ..`, `full`, `arange`, `array`: a name is bound to a new array.
-ghost use Rattle.std.specs.Prelude.{◌≡◌, ◌≤◌, true, Ok, vec_capacity};
+ghost use Rattle.std.specs.Prelude.{◌≡◌, ◌≤◌, true, vec_capacity};
 ghost use Rattle.name_store.specs.Arrays.{has_room_for};
 ghost use Rattle.bench_engine.specs.Contents.{zeros_contents, full_contents, arange_contents, array_contents, contents_of};
-ghost use Rattle.bench_engine.specs.inside.OwnContents.{held, IsInCOrder};
+ghost use Rattle.bench_engine.specs.inside.OwnContents.{held};
 ghost use Rattle.bench_engine.specs.inside.Contract.{CarriesOut};
-ghost use Rattle.bench_engine.specs.Machine.{creation_outcome};
+ghost use Rattle.bench_engine.specs.Machine.{bound_new, creation_outcome};
 
 use crate::contents;
-use crate::replies::push_fresh_text;
+use crate::replies::{Origin, push_bound_text};
 use elem_descr::Refusal;
 use name_store::{Bench, Bound};
 use overlap_copy::Owned;
@@ -16,20 +16,20 @@ use std::alloc::Global;
 
 /// Binds a name, for which there is room, to a new array. The reply is appended before the change,
 /// which is the last step that may lack memory.
-fn create(
+pub fn bind_new(
     alloc: Global,
     bench: &mut Bench,
     name: &Name,
     owned: Owned,
+    origin: Origin,
     out: &mut Vec<u8>,
 ) -> Result<(), Refusal>
     requires room { has_room_for bench.old name.now ≡ true }
-    requires order { IsInCOrder owned }
     ensures room { vec_capacity out.old ≤ vec_capacity out.new }
-    ensures answers { CarriesOut true (λ choice. creation_outcome choice bench.old name.now (Ok (held owned)))
+    ensures answers { CarriesOut true (λ choice. bound_new choice bench.old name.now origin (held owned))
         bench.old bench.new out.old.items out.new.items result }
 {
-    push_fresh_text(alloc, out, name, &owned.descr, &owned.layout.shape)?;
+    push_bound_text(alloc, out, name, &owned.descr, &owned.layout.shape, origin)?;
     bench.bind(alloc, name, Bound::Fresh(owned))
 }
 
@@ -50,7 +50,7 @@ fn zeros(
         return Err(Refusal::TooManyNames);
     }
     let owned = contents::zeros(alloc, descr, shape)?;
-    create(alloc, bench, name, owned, out)
+    bind_new(alloc, bench, name, owned, Origin::New, out)
 }
 
 /// `X = full D S L`
@@ -71,7 +71,7 @@ fn full(
         return Err(Refusal::TooManyNames);
     }
     let owned = contents::full(alloc, descr, shape, value)?;
-    create(alloc, bench, name, owned, out)
+    bind_new(alloc, bench, name, owned, Origin::New, out)
 }
 
 /// `X = arange D a b s`
@@ -93,7 +93,7 @@ fn arange(
         return Err(Refusal::TooManyNames);
     }
     let owned = contents::arange(alloc, descr, start, stop, step)?;
-    create(alloc, bench, name, owned, out)
+    bind_new(alloc, bench, name, owned, Origin::New, out)
 }
 
 /// `X = array D S L..`
@@ -114,7 +114,7 @@ fn array(
         return Err(Refusal::TooManyNames);
     }
     let owned = contents::array(alloc, descr, shape, values)?;
-    create(alloc, bench, name, owned, out)
+    bind_new(alloc, bench, name, owned, Origin::New, out)
 }
 
 /// Binds a name to a new array.

@@ -8,6 +8,7 @@ ghost use Rattle.bench_engine.specs.Replies.{Reply};
 ghost use Rattle.bench_engine.specs.Meanings.{Case, Answered};
 ghost use Rattle.bench_engine.specs.inside.ReadLines.{ReadsAs, Tells, meaning_of_read};
 
+use crate::copy::copy;
 use crate::create::make;
 use crate::delete::delete;
 use crate::format::format;
@@ -20,7 +21,7 @@ use crate::shares::shares;
 use crate::view::view;
 use elem_descr::Refusal;
 use name_store::Bench;
-use script_lang::{Argument, Command, Name, Question, Value, parse, word};
+use script_lang::{Argument, Command, Computation, Name, Question, Value, parse, word};
 use std::alloc::Global;
 
 /// The most bytes of a refusal's text.
@@ -41,7 +42,13 @@ fn bind(
     match value {
         Value::Make { descr, items } => make(alloc, bench, name, descr, items, out),
         Value::View { source, how } => view(alloc, bench, name, source, how, out),
-        Value::Compute(_) | Value::Load { .. } => Err(Refusal::Syntax),
+        Value::Compute(computation) => match computation {
+            Computation::Duplicate { source, order } => {
+                copy(alloc, bench, name, source, *order, out)
+            }
+            _ => Err(Refusal::Syntax),
+        },
+        Value::Load { .. } => Err(Refusal::Syntax),
     }
 }
 

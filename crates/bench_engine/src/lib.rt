@@ -3,6 +3,7 @@
 #![tactic(auto)]
 
 mod contents;
+mod copy;
 mod create;
 mod delete;
 mod engine;

@@ -2,7 +2,7 @@
 ghost use Rattle.std.specs.Prelude.{◌≡◌, ◌≤◌, ◌++◌, OnOk, IfOk, vec_capacity};
 ghost use Rattle.std.specs.Io.{StartsWith};
 ghost use Rattle.shape_strides.specs.Shapes.{shape_text};
-ghost use Rattle.bench_engine.specs.Replies.{descr_text, array_words, fresh_text, view_text, copy_text};
+ghost use Rattle.bench_engine.specs.Replies.{descr_text, array_words, origin_word, bound_text};
 
 use elem_descr::{Descr, format_write, typestr_write};
 use script_lang::Name;
@@ -58,53 +58,41 @@ pub fn push_array_words(
     push_shape(alloc, out, shape)
 }
 
-/// Appends `ok X DESCR SHAPE new`. Where memory runs out, some of it may stand past the old end.
-pub fn push_fresh_text(
-    alloc: Global,
-    out: &mut Vec<u8>,
-    name: &Name,
-    descr: &Descr,
-    shape: &Shape,
-) -> Result<(), AllocError>
-    ensures ok { OnOk result (out.new.items ≡ out.old.items ++ fresh_text name.now descr.now shape.now) }
-    ensures kept { StartsWith out.new.items out.old.items }
-    ensures room { vec_capacity out.old ≤ vec_capacity out.new }
-{
-    out.extend_from_slice(b"ok ")?;
-    push_array_words(alloc, out, name, descr, shape)?;
-    out.extend_from_slice(b" new")
+/// What a name is bound to: a new array, a view of another, or a copy of its items.
+#[derive(Clone, Copy)]
+pub enum Origin {
+    New,
+    View,
+    Copy,
 }
 
-/// Appends `ok X DESCR SHAPE view`. Where memory runs out, some of it may stand past the old end.
-pub fn push_view_text(
-    alloc: Global,
-    out: &mut Vec<u8>,
-    name: &Name,
-    descr: &Descr,
-    shape: &Shape,
-) -> Result<(), AllocError>
-    ensures ok { OnOk result (out.new.items ≡ out.old.items ++ view_text name.now descr.now shape.now) }
-    ensures kept { StartsWith out.new.items out.old.items }
-    ensures room { vec_capacity out.old ≤ vec_capacity out.new }
-{
-    out.extend_from_slice(b"ok ")?;
-    push_array_words(alloc, out, name, descr, shape)?;
-    out.extend_from_slice(b" view")
+impl Origin {
+    fn word(self) -> &'static [u8]
+        ensures { result.now ≡ origin_word self }
+    {
+        match self {
+            Origin::New => b"new",
+            Origin::View => b"view",
+            Origin::Copy => b"copy",
+        }
+    }
 }
 
-/// Appends `ok X DESCR SHAPE copy`. Where memory runs out, some of it may stand past the old end.
-pub fn push_copy_text(
+/// Appends `ok X DESCR SHAPE ORIGIN`. Where memory runs out, some of it may stand past the old end.
+pub fn push_bound_text(
     alloc: Global,
     out: &mut Vec<u8>,
     name: &Name,
     descr: &Descr,
     shape: &Shape,
+    origin: Origin,
 ) -> Result<(), AllocError>
-    ensures ok { OnOk result (out.new.items ≡ out.old.items ++ copy_text name.now descr.now shape.now) }
+    ensures ok { OnOk result (out.new.items ≡ out.old.items ++ bound_text name.now descr.now shape.now origin) }
     ensures kept { StartsWith out.new.items out.old.items }
     ensures room { vec_capacity out.old ≤ vec_capacity out.new }
 {
     out.extend_from_slice(b"ok ")?;
     push_array_words(alloc, out, name, descr, shape)?;
-    out.extend_from_slice(b" copy")
+    out.push(b' ')?;
+    out.extend_from_slice(origin.word())
 }

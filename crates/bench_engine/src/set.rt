@@ -1,5 +1,6 @@
 //! `set X[ix] = L`: items of an array are written.
-ghost use Rattle.std.specs.Prelude.{◌≡◌, ◌≤◌, ◌<◌, ◌+◌, ◌^◌, ◌++◌, codes, decimal, vec_len, vec_capacity};
+ghost use Rattle.std.specs.Prelude.{◌≡◌, ◌≤◌, ◌<◌, ◌+◌, ◌++◌, codes, decimal, vec_len, vec_capacity};
+ghost use Rattle.shape_strides.specs.Limits.{max_items};
 ghost use Rattle.name_store.specs.Arrays.{is_bound};
 ghost use Rattle.bench_engine.specs.inside.Contract.{CarriesOut};
 ghost use Rattle.bench_engine.specs.Machine.{set_outcome};
@@ -14,7 +15,7 @@ use std::alloc::Global;
 
 /// Appends `ok set N`. It takes no memory.
 fn push_count(out: &mut Vec<u8>, count: usize)
-    requires count { count ≤ 2 ^ 24 }
+    requires count { count ≤ max_items }
     requires room { vec_len out.old + 64 ≤ vec_capacity out.old }
     ensures told { out.new.items ≡ out.old.items ++ (codes "ok set " ++ decimal count) }
     ensures room { vec_capacity out.old ≤ vec_capacity out.new }

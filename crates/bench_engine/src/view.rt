@@ -5,12 +5,13 @@ ghost use Rattle.std.specs.Io.{StartsWith};
 ghost use Rattle.name_store.specs.Arrays.{is_bound};
 ghost use Rattle.name_store.specs.declared.bound.Bound.TheVariants.{View};
 ghost use Rattle.bench_engine.specs.inside.Contract.{CarriesOut};
-ghost use Rattle.bench_engine.specs.Replies.{view_text};
+ghost use Rattle.bench_engine.specs.declared.replies.Origin.TheVariants.{View as FromView};
+ghost use Rattle.bench_engine.specs.Replies.{bound_text};
 ghost use Rattle.bench_engine.specs.inside.Parts.{bound_of, seen_text};
 ghost use Rattle.bench_engine.specs.Machine.{view_outcome};
 
 use crate::part::{Part, PartOrCopy, is_carried_out, seen};
-use crate::replies::{push_copy_text, push_view_text};
+use crate::replies::{Origin, push_bound_text};
 use elem_descr::Refusal;
 use name_store::{Bench, Bound};
 use script_lang::{Name, Viewing};
@@ -25,11 +26,11 @@ fn told_view(
     part: Part<'_>,
 ) -> Result<Bound, AllocError>
     ensures view { IfOk result (λ view. view ≡ View number part.entry.path part.entry.layout part.entry.writable) }
-    ensures ok { OnOk result (out.new.items ≡ out.old.items ++ view_text name.now part.entry.descr.now part.entry.layout.shape) }
+    ensures ok { OnOk result (out.new.items ≡ out.old.items ++ bound_text name.now part.entry.descr.now part.entry.layout.shape FromView) }
     ensures kept { StartsWith out.new.items out.old.items }
     ensures room { vec_capacity out.old ≤ vec_capacity out.new }
 {
-    push_view_text(alloc, out, name, part.descr, &part.layout.shape)?;
+    push_bound_text(alloc, out, name, part.descr, &part.layout.shape, Origin::View)?;
     Ok(Bound::View {
         number,
         path: part.path,
@@ -55,7 +56,8 @@ fn told(
     match seen {
         PartOrCopy::Part(part) => told_view(alloc, out, name, number, part),
         PartOrCopy::Copy(owned) => {
-            push_copy_text(alloc, out, name, &owned.descr, &owned.layout.shape)?;
+            let shape = &owned.layout.shape;
+            push_bound_text(alloc, out, name, &owned.descr, shape, Origin::Copy)?;
             Ok(Bound::Fresh(owned))
         }
     }

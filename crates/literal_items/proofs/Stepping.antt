@@ -12,6 +12,7 @@ use Rattle.elem_descr.specs.Steps.{is_before, numbers_from, IsGap}
 use Rattle.elem_descr.specs.Values.{LeafValue, number}
 use Rattle.elem_descr.specs.inside.Counts.{Counts}
 use Rattle.elem_descr.specs.StepLaws.{steps_end_below, abs_pos, next_number, between_back, between_forth, near_before, far_after, counted_within, stepped_first, length-numbers_from}
+use Rattle.shape_strides.specs.Limits.{max_items}
 use Rattle.std.specs.Ordering.{int_eq}
 use Rattle.std.proofs.Math.IntN.{*ℤ_comm}
 use Rattle.std.proofs.Math.Nat.{mod-lt}
@@ -75,23 +76,23 @@ not_equal a b other = elim (cases_Bool (int_eq a b)) [ inl same ↦ absurd (othe
 equal : (a b : ℤ) → a ≡ b → not (int_eq a b) ≡ false
 equal a b same = ap not ((Decides-int_eq a b).1 same)
 
-within : (n : ℕ) → n ≤ 2 ^ 24 → nat_le n (2 ^ 24) ≡ true
+within : (n : ℕ) → n ≤ max_items → nat_le n max_items ≡ true
 within n few = grind (arith, nat_tests)
 
-beyond : (n : ℕ) → 2 ^ 24 < n → nat_le n (2 ^ 24) ≡ false
+beyond : (n : ℕ) → max_items < n → nat_le n max_items ≡ false
 beyond n many = grind (arith, nat_tests)
 
 pub range_length-zero : (start stop step : ℤ) → step ≡ pos 0 → range_length start stop step ≡ Err ZeroStep
 unfolding range_length
-range_length-zero start stop step none = decided_first (not (int_eq step (pos 0))) (nat_le (range_count start stop step) (2 ^ 24)) ZeroStep TooLarge (range_count start stop step) (equal step (pos 0) none)
+range_length-zero start stop step none = decided_first (not (int_eq step (pos 0))) (nat_le (range_count start stop step) max_items) ZeroStep TooLarge (range_count start stop step) (equal step (pos 0) none)
 
-pub range_length-large : (start stop step : ℤ) (n : ℕ) → step ≢ pos 0 → n ≡ range_count start stop step → 2 ^ 24 < n → range_length start stop step ≡ Err TooLarge
+pub range_length-large : (start stop step : ℤ) (n : ℕ) → step ≢ pos 0 → n ≡ range_count start stop step → max_items < n → range_length start stop step ≡ Err TooLarge
 unfolding range_length
-range_length-large start stop step n some is many = decided_second (not (int_eq step (pos 0))) (nat_le (range_count start stop step) (2 ^ 24)) ZeroStep TooLarge (range_count start stop step) (not_equal step (pos 0) some) (ap (λ m. nat_le m (2 ^ 24)) (sym is) ∙ beyond n many)
+range_length-large start stop step n some is many = decided_second (not (int_eq step (pos 0))) (nat_le (range_count start stop step) max_items) ZeroStep TooLarge (range_count start stop step) (not_equal step (pos 0) some) (ap (λ m. nat_le m max_items) (sym is) ∙ beyond n many)
 
-pub range_length-ok : (start stop step : ℤ) (n : ℕ) → step ≢ pos 0 → n ≡ range_count start stop step → n ≤ 2 ^ 24 → range_length start stop step ≡ Ok n
+pub range_length-ok : (start stop step : ℤ) (n : ℕ) → step ≢ pos 0 → n ≡ range_count start stop step → n ≤ max_items → range_length start stop step ≡ Ok n
 unfolding range_length
-range_length-ok start stop step n some is few = decided_ok (not (int_eq step (pos 0))) (nat_le (range_count start stop step) (2 ^ 24)) ZeroStep TooLarge (range_count start stop step) n (not_equal step (pos 0) some) (ap (λ m. nat_le m (2 ^ 24)) (sym is) ∙ within n few) (sym is)
+range_length-ok start stop step n some is few = decided_ok (not (int_eq step (pos 0))) (nat_le (range_count start stop step) max_items) ZeroStep TooLarge (range_count start stop step) n (not_equal step (pos 0) some) (ap (λ m. nat_le m max_items) (sym is) ∙ within n few) (sym is)
 
 abbrev ranged : {A : Type 0} → Result ℕ Refusal → Bool → A → Result A Refusal
 ranged length b x = length >>= λ _. (check b LiteralOutOfRange >>= λ _. Ok x)

@@ -1,5 +1,5 @@
 -- The numbers start, start + step, start + 2 * step, .. before a stop, as items of a scalar.
-use Rattle.std.specs.Prelude.{ℕ, ◌^◌, ℤ, pos, ◌-ℤ◌, unsigned_abs, not, List, [], ◌∷◌, length, map, nat_le, Result, Ok}
+use Rattle.std.specs.Prelude.{ℕ, ℤ, pos, ◌-ℤ◌, unsigned_abs, not, List, [], ◌∷◌, length, map, nat_le, Result, Ok}
 use Rattle.std.specs.Ordering.{int_eq}
 use Rattle.std.specs.List.{list_all}
 use Rattle.elem_descr.specs.declared.refusal.Refusal.{Refusal}
@@ -8,6 +8,7 @@ use Rattle.elem_descr.specs.declared.scalar.Scalar.{Scalar}
 use Rattle.elem_descr.specs.Refusals.{◌>>=◌, check}
 use Rattle.elem_descr.specs.Steps.{stepped}
 use Rattle.elem_descr.specs.Values.{LeafValue, number}
+use Rattle.shape_strides.specs.Limits.{max_items}
 use Rattle.literal_items.specs.Numbers.{is_value}
 
 -- the numbers: between the start and the stop there is room for no more than they are apart
@@ -18,11 +19,11 @@ range_numbers start stop step = stepped (unsigned_abs (stop -ℤ start)) start s
 abbrev pub range_count : ℤ → ℤ → ℤ → ℕ
 range_count start stop step = length (range_numbers start stop step)
 
--- how many numbers there are, of at most 2 ^ 24
+-- how many numbers there are, of at most as many as an array may have
 unfoldable pub range_length : ℤ → ℤ → ℤ → Result ℕ Refusal
 range_length start stop step = do
   _ ← check (not (int_eq step (pos 0))) ZeroStep
-  _ ← check (nat_le (range_count start stop step) (2 ^ 24)) TooLarge
+  _ ← check (nat_le (range_count start stop step) max_items) TooLarge
   Ok (range_count start stop step)
 
 -- the numbers as items of a scalar, each of which must be a value of it

@@ -1,5 +1,5 @@
 //! The numbers of a range as items.
-ghost use Rattle.std.specs.Prelude.{◌≡◌, ◌<◌, ◌≤◌, ◌^◌, ◌↔◌, ◌*◌, ℕ, ℤ, pos, ◌+ℤ◌, ◌*ℤ◌, FitsSigned, IsTrue, length, map, Ok, Err, ◌∷◌, [], true, IfOk, OnErr, MatchResult};
+ghost use Rattle.std.specs.Prelude.{◌≡◌, ◌<◌, ◌≤◌, ◌↔◌, ◌*◌, ℕ, ℤ, pos, ◌+ℤ◌, ◌*ℤ◌, FitsSigned, IsTrue, length, map, Ok, Err, ◌∷◌, [], true, IfOk, OnErr, MatchResult};
 ghost use Rattle.std.specs.List.{list_all};
 ghost use Rattle.std.specs.Int.{w128};
 ghost use Rattle.elem_descr.specs.declared.descr.Descr.TheVariants.{Scalar as ScalarDescr};
@@ -9,6 +9,7 @@ ghost use Rattle.elem_descr.specs.Items.{decode_item};
 ghost use Rattle.elem_descr.specs.Blocks.{blocks};
 ghost use Rattle.elem_descr.specs.Steps.{is_before, numbers_from, IsGap};
 ghost use Rattle.elem_descr.specs.Values.{number};
+ghost use Rattle.shape_strides.specs.Limits.{max_items};
 ghost use Rattle.literal_items.specs.Numbers.{is_value};
 ghost use Rattle.literal_items.specs.RangeItems.{range_numbers, range_count, range_length, range_items};
 
@@ -38,7 +39,7 @@ pub fn range_len(start: &i128, stop: &i128, step: &i128) -> Result<usize, Refusa
     ensures value { result ≡ range_length start.now stop.now step.now }
     ensures count { IfOk result (λ n. n ≡ range_count start.now stop.now step.now) }
     ensures numbers { IfOk result (λ n. range_numbers start.now stop.now step.now ≡ numbers_from start.now step.now n) }
-    ensures few { IfOk result (λ n. n ≤ 2 ^ 24) }
+    ensures few { IfOk result (λ n. n ≤ max_items) }
     ensures before { IfOk result (λ n. (k : ℕ) → (k < n) ↔ IsTrue (is_before step.now stop.now (start.now +ℤ step.now *ℤ pos k))) }
     ensures fits { IfOk result (λ n. (k : ℕ) → k < n → FitsSigned w128 (start.now +ℤ step.now *ℤ pos k)) }
 {

@@ -19,3 +19,4 @@ pub mod LayoutLaws
 pub mod ContiguityLaws
 pub mod ShapeLaws
 pub mod WalkLaws
+pub mod ReverseLaws

@@ -1,12 +1,13 @@
 -- Laws of layouts that show the items of another.
-use Rattle.std.proofs.Common.{◌≡◌, ℕ, ℤ, ◌<◌, List, All, length, get_or, sym, ap, subst, ◌∙◌, arith}
+use Rattle.std.proofs.Common.{◌≡◌, ℕ, ℤ, ◌<◌, List, [], All, length, get_or, sym, ap, subst, ◌∙◌, arith}
+use Rattle.std.proofs.lemmas.List.{get_or-map}
 use Rattle.shape_strides.specs.declared.layout.Layout.{Layout}
 use Rattle.shape_strides.specs.Addresses.{natural, LieWithin}
 use Rattle.shape_strides.specs.Layouts.{address, offsets, Fits}
-use Rattle.shape_strides.specs.Indexes.{indexes, rank}
+use Rattle.shape_strides.specs.Indexes.{indexes, rank, IsIndex}
 use Rattle.shape_strides.specs.IndexLaws.{length-indexes, rank-lt, get_or-indexes, index_at, same_on_indexes}
 use Rattle.shape_strides.specs.LayoutLaws.{length-offsets, get_or-offsets}
-use Rattle.view_ops.specs.Views.{view_through}
+use Rattle.view_ops.specs.Views.{View, view_through, IsViewOf}
 use Rattle.view_ops.specs.inside.Shows.{Shows, IsView}
 
 -- they lie within the bytes that the other fits
@@ -32,3 +33,33 @@ inside old new m view k d below =
 
 pub inside-view : (old new : Layout) (m : List ℕ → List ℕ) (shape : List ℕ) → IsView old new m → new.shape ≡ shape → All (λ index. rank old.shape (m index) < length (offsets old)) (indexes shape)
 inside-view old new m shape view same = subst (λ (s : List ℕ). All (λ index. rank old.shape (m index) < length (offsets old)) (indexes s)) same (inside old new m view)
+
+-- a view of a view is a view
+pub view-twice : (old mid new : Layout) (first second : View) → IsViewOf old mid first → IsViewOf mid new second → IsViewOf old new (record { shape = second.shape; leads = λ index. first.leads (second.leads index) })
+view-twice old mid new first second one two = record {
+  shape = two.shape;
+  leads = leads;
+  inside = λ k d below.
+      let found = index_at second.shape k (omega (arith, length-indexes second.shape)) in
+      let here : get_or (indexes second.shape) k d ≡ found.0 = ap (λ r. get_or (indexes second.shape) r d) (sym found.2) ∙ get_or-indexes second.shape found.0 d found.1 in
+      rw here (omega (arith, length-offsets old, rank-lt old.shape (first.leads (second.leads found.0)) (leads found.0 found.1)));
+  places = two.places ∙ same_on_indexes second.shape (λ index. get_or (offsets mid) (rank mid.shape (second.leads index)) 0) (λ index. get_or (offsets old) (rank old.shape (first.leads (second.leads index))) 0) each;
+  fits = λ len item fits. two.fits len item (one.fits len item fits);
+}
+  where
+    in-first : (index : List ℕ) → IsIndex second.shape index → IsIndex first.shape (second.leads index)
+    in-first index in' = subst (λ (s : List ℕ). IsIndex s (second.leads index)) one.shape (two.leads index in')
+
+    leads : (index : List ℕ) → IsIndex second.shape index → IsIndex old.shape (first.leads (second.leads index))
+    leads index in' = one.leads (second.leads index) (in-first index in')
+
+    through : List ℕ → ℕ
+    through index = get_or (offsets old) (rank old.shape (first.leads index)) 0
+
+    each : (index : List ℕ) → IsIndex second.shape index → get_or (offsets mid) (rank mid.shape (second.leads index)) 0 ≡ through (second.leads index)
+    each index in' =
+        let at = second.leads index in
+        let below : rank first.shape at < length (indexes first.shape) = omega (arith, length-indexes first.shape, rank-lt first.shape at (in-first index in')) in
+        (λ i. get_or (one.places i) (rank (one.shape i) at) 0)
+        ∙ get_or-map through (indexes first.shape) (rank first.shape at) [] 0 below
+        ∙ ap through (get_or-indexes first.shape at [] (in-first index in'))

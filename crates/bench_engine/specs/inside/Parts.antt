@@ -1,6 +1,9 @@
 -- Parts of an array that is shown: what is seen of it, in the block of its buffer.
 use Rattle.std.specs.Prelude.{◌≡◌, ◌⊎◌, ℕ, List, Result, Ok, Err}
 use Rattle.elem_descr.specs.declared.refusal.Refusal.{Refusal}
+use Rattle.elem_descr.specs.Refusals.{Gives}
+use Rattle.shape_strides.specs.declared.memory_order.MemoryOrder.{MemoryOrder}
+use Rattle.overlap_copy.specs.declared.owned.Owned.{Owned}
 use Rattle.elem_descr.specs.declared.refusal.Refusal.TheVariants.{OutOfMemory}
 use Rattle.script_lang.specs.declared.command.Viewing.{Viewing}
 use Rattle.name_store.specs.States.{State, Array}
@@ -10,14 +13,13 @@ use Rattle.name_store.specs.Views.{IsViewIn}
 use Rattle.name_store.specs.declared.array_ref.ArrayRef.{ArrayRef}
 use Rattle.name_store.specs.declared.bound.Bound.{Bound}
 use Rattle.name_store.specs.declared.bound.Bound.TheVariants as bound
-use Rattle.overlap_copy.specs.declared.owned.Owned.{Owned}
 use Rattle.bench_engine.specs.declared.part.Part.{Part}
 use Rattle.bench_engine.specs.declared.part.PartOrCopy.{PartOrCopy}
 use Rattle.bench_engine.specs.declared.part.PartOrCopy.TheVariants as given
-use Rattle.bench_engine.specs.Contents.{Contents}
-use Rattle.bench_engine.specs.inside.OwnContents.{held, IsInCOrder}
-use Rattle.bench_engine.specs.Machine.{ViewOrCopy, a_view, a_copy, duplicated, seen}
-use Rattle.bench_engine.specs.Replies.{view_text, copy_text}
+use Rattle.bench_engine.specs.inside.OwnContents.{held}
+use Rattle.bench_engine.specs.Machine.{ViewOrCopy, a_view, a_copy, copied, duplicated, seen}
+use Rattle.bench_engine.specs.declared.replies.Origin.TheVariants as origin
+use Rattle.bench_engine.specs.Replies.{bound_text}
 
 -- it is an array of some state
 abbrev pub IsShown : ArrayRef → Type 0
@@ -28,16 +30,11 @@ pub record IsPart (s : State) (number : ℕ) (part : Part) (array : Array) : Typ
   pub view : IsViewIn s number part.path part.layout part.writable array
   pub descr : descr_of s array ≡ part.descr.now
 
--- a block holds these contents, in C order
-pub record IsCopy (o : Owned) (contents : Contents) : Type 0 where
-  pub contents_are : contents ≡ held o
-  pub order : IsInCOrder o
-
 -- the part is the view that is there, or the block has the contents of the copy; a refusal is the one that is there, unless
 -- memory ran out
 abbrev pub GivesSeen : State → ℕ → Result PartOrCopy Refusal → Result ViewOrCopy Refusal → Type 0
 GivesSeen s number (Ok (given.Part part)) (Ok (a_view array)) = IsPart s number part array
-GivesSeen s number (Ok (given.Copy o)) (Ok (a_copy contents)) = IsCopy o contents
+GivesSeen s number (Ok (given.Copy o)) (Ok (a_copy contents)) = contents ≡ held o
 GivesSeen s number (Ok _) there = ⊥
 GivesSeen s number (Err refusal) there = (refusal ≡ OutOfMemory) ⊎ (there ≡ Err refusal)
 
@@ -49,6 +46,11 @@ Sees how r result = (s : State) (array : Array) → Shows s array r → GivesSee
 abbrev pub Duplicates : List ℕ → ArrayRef → Result PartOrCopy Refusal → Type 0
 Duplicates shape r result = (s : State) (array : Array) → Shows s array r → GivesSeen s r.number result (duplicated s array shape)
 
+-- what a block holds is the copy of its items in this order, in each state that has it; a refusal is the one that is there,
+-- unless memory ran out
+abbrev pub Copies : MemoryOrder → ArrayRef → Result Owned Refusal → Type 0
+Copies order r result = (s : State) (array : Array) → Shows s array r → Gives held result (copied s array order array.shape)
+
 -- what a name is bound to where this is seen of an array in the buffer with this number
 abbrev pub bound_of : ℕ → PartOrCopy → Bound
 bound_of number (given.Part part) = bound.View number part.path part.layout part.writable
@@ -56,5 +58,5 @@ bound_of number (given.Copy o) = bound.Fresh o
 
 -- the reply that binds a name to what is seen
 abbrev pub seen_text : List ℕ → PartOrCopy → List ℕ
-seen_text name (given.Part part) = view_text name part.descr.now part.layout.shape
-seen_text name (given.Copy o) = copy_text name o.descr o.layout.shape
+seen_text name (given.Part part) = bound_text name part.descr.now part.layout.shape origin.View
+seen_text name (given.Copy o) = bound_text name o.descr o.layout.shape origin.Copy

@@ -4,26 +4,26 @@ use Rattle.elem_descr.specs.Encoding.{size}
 use Rattle.shape_strides.specs.Indexes.{count}
 use Rattle.literal_items.specs.RangeItems.{range_items}
 use Rattle.bench_engine.specs.Contents.{integer_type}
-use Rattle.bench_engine.proofs.Makes.{passed, range-shape, range-shape-refused, arange-type, arange-length, arange-range, arange-done}
+use Rattle.bench_engine.proofs.Makes.{passed, range-shape, range-shape-refused, arange-type, arange-length, arange-range, arange-done, in-order}
 use Rattle.bench_engine.proofs.contents.arange.Goals as goal
 
-pub returns-in_err-scalar-clause-value : goal.returns-in_err-scalar-clause-value
-returns-in_err-scalar-clause-value c =
+pub returns-in_err-scalar : goal.returns-in_err-scalar
+returns-in_err-scalar c =
     let p = err_from_is_err_and c.from_residual.result c.from_residual.ensures.1 in
     rw (p.1, p.2) (passed (integer_type c.args.descr.now) _ _ (arange-type _ _ _ _ _) c.in_err-scalar.ensures.value)
 
-pub returns-in_err-len-clause-value : goal.returns-in_err-len-clause-value
-returns-in_err-len-clause-value c =
+pub returns-in_err-len : goal.returns-in_err-len
+returns-in_err-len c =
     let p = err_from_is_err_and c.from_residual-in_err-len.result c.from_residual-in_err-len.ensures.1 in
     rw (p.1, p.2) (inr (arange-length _ _ _ _ _ _ c.in_ok-scalar.ensures.value (sym c.in_err-len.ensures.value)))
 
-pub returns-in_err-shape-clause-value : goal.returns-in_err-shape-clause-value
-returns-in_err-shape-clause-value c =
+pub returns-in_err-shape : goal.returns-in_err-shape
+returns-in_err-shape c =
     let p = err_from_is_err_and c.from_residual-in_err-shape.result c.from_residual-in_err-shape.ensures.1 in
     rw p.1 (inl (p.2 ∙ range-shape-refused c.in_ok-len.len _ c.in_ok-len.ensures.few c.in_err-shape.ensures))
 
-pub returns-in_err-block-clause-value : goal.returns-in_err-block-clause-value
-returns-in_err-block-clause-value c =
+pub returns-in_err-block : goal.returns-in_err-block
+returns-in_err-block c =
     let p = err_from_is_err_and c.from_residual-in_err-block.result c.from_residual-in_err-block.ensures.1 in
     rw (p.1, p.2) (passed (range_items c.in_ok-scalar.scalar c.args.start.now c.args.stop.now c.args.step.now) _ _ (arange-range _ _ _ _ _ _ c.in_ok-scalar.ensures.value) c.in_err-block.ensures.items)
 
@@ -32,7 +32,8 @@ over-requires-clause-whole c =
     let once : c.in_ok-len.len ≡ c.in_ok-len.len * 1 = omega arith in
     c.in_ok-block.ensures.whole ∙ ap (λ n. n * size c.in_ok-scalar.scalar) (once ∙ sym (ap count (range-shape c.in_ok-len.len c.in_ok-shape.shape c.in_ok-len.ensures.few c.in_ok-shape.ensures)))
 
-pub returns-clause-value : goal.returns-clause-value
-returns-clause-value c =
+pub returns : goal.returns
+returns c =
     arange-done _ _ _ _ _ c.in_ok-len.len c.in_ok-block.block c.in_ok-owned.owned c.in_ok-scalar.ensures.value c.in_ok-block.ensures.items
     c.in_ok-owned.ensures.descr (c.in_ok-owned.ensures.shape ∙ range-shape c.in_ok-len.len _ c.in_ok-len.ensures.few c.in_ok-shape.ensures) c.in_ok-owned.ensures.block
+    (in-order c.in_ok-owned.owned _ _ c.in_ok-owned.ensures.descr c.in_ok-owned.ensures.shape c.in_ok-owned.ensures.order)

@@ -7,21 +7,21 @@ use Rattle.bench_engine.specs.Contents.{array_type}
 use Rattle.bench_engine.proofs.Makes.{passed, full-type, full-literal, full-done}
 use Rattle.bench_engine.proofs.contents.full.Goals as goal
 
-pub returns-in_err-descr-clause-value : goal.returns-in_err-descr-clause-value
-returns-in_err-descr-clause-value c =
+pub returns-in_err-descr : goal.returns-in_err-descr
+returns-in_err-descr c =
     let p = err_from_is_err_and c.from_residual.result c.from_residual.ensures.1 in
     rw (p.1, p.2) (passed (array_type c.args.descr.now c.args.lengths.now) _ _ (full-type _ _ _ _) c.in_err-descr.ensures.value)
 
-pub returns-in_err-item-clause-value : goal.returns-in_err-item-clause-value
-returns-in_err-item-clause-value c =
+pub returns-in_err-item : goal.returns-in_err-item
+returns-in_err-item c =
     let p = err_from_is_err_and c.from_residual-in_err-item.result c.from_residual-in_err-item.ensures.1 in
     rw (p.1, p.2) (passed (item_value c.in_ok-descr.descr c.args.literal.now) _ _ (full-literal _ _ _ _ _ _ c.in_ok-descr.ensures.value) c.in_err-item.ensures.value)
 
-pub returns-clause-value : goal.returns-clause-value
-returns-clause-value c =
+pub returns : goal.returns
+returns c =
     let item = c.as_slice.result.now in
     let whole : length item ≡ item_size c.in_ok-descr.descr = omega (arith, c.as_slice.ensures.len, c.in_ok-item.ensures.len) in
     let value = c.in_ok-item.ensures.value ∙ ap (λ bytes. Ok (decode_item c.in_ok-descr.descr bytes)) (sym c.as_slice.ensures.value) in
     full-done _ _ _ _ _ item c.in_ok-block.block c.in_ok-owned.owned c.in_ok-descr.ensures.value value whole
     (subst (λ n. blocks (length item) n c.in_ok-block.block ≡ replicate n item) c.items.ensures.value c.in_ok-block.ensures.items)
-    c.in_ok-owned.ensures.descr c.in_ok-owned.ensures.shape c.in_ok-owned.ensures.block
+    c.in_ok-owned.ensures.descr c.in_ok-owned.ensures.shape c.in_ok-owned.ensures.block c.in_ok-owned.ensures.order

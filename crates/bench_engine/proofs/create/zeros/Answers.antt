@@ -11,7 +11,7 @@ returns-then-not-has_room_for-clause-answers c = (refl, unchanged _, inr (λ cho
 pub returns-in_err-owned-clause-answers : goal.returns-in_err-owned-clause-answers
 returns-in_err-owned-clause-answers c =
     let p = err_from_is_err_and c.from_residual.result c.from_residual.ensures.1 in
-    rw (p.1, p.2) (refl, unchanged _, creation-refused _ _ (zeros_contents c.args.descr.now c.args.shape.now) _ (sym c.if-not-has_room_for.ensures) c.in_err-owned.ensures.value)
+    rw (p.1, p.2) (refl, unchanged _, creation-refused _ _ (zeros_contents c.args.descr.now c.args.shape.now) _ (sym c.if-not-has_room_for.ensures) c.in_err-owned.ensures)
 
 pub returns-clause-answers : goal.returns-clause-answers
-returns-clause-answers c = made-answers _ _ _ (zeros_contents c.args.descr.now c.args.shape.now) c.in_ok-owned.owned _ _ _ c.in_ok-owned.ensures.value c.create.ensures.answers
+returns-clause-answers c = made-answers _ _ _ (zeros_contents c.args.descr.now c.args.shape.now) c.in_ok-owned.owned _ _ _ (sym c.if-not-has_room_for.ensures) c.in_ok-owned.ensures c.bind_new.ensures.answers

@@ -6,3 +6,6 @@ returns-in-Make-clause-answers c = rw c.in-Make.is c.make.ensures.answers
 
 pub returns-in-View-clause-answers : goal.returns-in-View-clause-answers
 returns-in-View-clause-answers c = rw (c.in-View.is, and-true) c.view.ensures.answers
+
+pub returns-in-Duplicate-clause-answers : goal.returns-in-Duplicate-clause-answers
+returns-in-Duplicate-clause-answers c = rw (c.in-Compute.is, c.in-Duplicate.is, and-true) c.copy.ensures.answers
