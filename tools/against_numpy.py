@@ -96,7 +96,7 @@ class Script:
         kinds = [
             (self.make, 14), (self.index, 28), (self.alias, 5), (self.transpose, 9), (self.set, 16),
             (self.print, 12), (self.info, 8), (self.shares, 5), (self.delete, 2), (self.names, 1),
-            (self.field, 10), (self.broadcast, 9), (self.reshape, 24 if with_reshapes else 0),
+            (self.field, 10), (self.broadcast, 9), (self.reshape, 24 if with_reshapes else 0), (self.copy, 7),
         ]
         for command in rng.choices(*zip(*kinds), k=commands):
             self.add(*(command if self.bench.arrays else self.make)())
@@ -240,6 +240,16 @@ class Script:
             return self.bench.bind(name, result, start, kind)
 
         return f"{name} = reshape {source} ({','.join(map(str, numbers))})", reply
+
+    def copy(self):
+        name, source = self.rng.choice(NAMES), self.scattered()
+        order = self.rng.choice("CF")
+
+        def reply():
+            copied = self.bench.array(source).copy(order)
+            return self.bench.bind(name, copied, address(copied), "copy")
+
+        return f"{name} = copy {source} {order}", reply
 
     def field(self):
         name, source = self.rng.choice(NAMES), self.source()

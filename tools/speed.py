@@ -56,6 +56,8 @@ ROWS = [
     Row("broadcast, 4M to 3 x 4M", ITEMS, f"b = broadcast a (3,{COUNT})", NUMPY_ITEMS, f"b = np.broadcast_to(a, (3, {COUNT}))"),
     Row("reshape, 4M shared", ITEMS, "b = reshape a (2048,-1)", NUMPY_ITEMS, "b = a.reshape(2048, -1)"),
     Row("reshape, 4M transposed, copied", TRANSPOSED, "b = reshape a (-1)", NUMPY_TRANSPOSED, "b = a.reshape(-1)"),
+    Row("copy, 4M", ITEMS, "b = copy a C", NUMPY_ITEMS, "b = a.copy()"),
+    Row("copy, 4M transposed", TRANSPOSED, "b = copy a C", NUMPY_TRANSPOSED, "b = a.copy()"),
     Row("print, 100 x 100", TABLE, "print a", NUMPY_TABLE, "str(a)"),
 ]
 

@@ -30,7 +30,14 @@ fn told_view(
     ensures kept { StartsWith out.new.items out.old.items }
     ensures room { vec_capacity out.old ≤ vec_capacity out.new }
 {
-    push_bound_text(alloc, out, name, part.descr, &part.layout.shape, Origin::View)?;
+    push_bound_text(
+        alloc,
+        out,
+        name,
+        part.descr,
+        &part.layout.shape,
+        Origin::View,
+    )?;
     Ok(Bound::View {
         number,
         path: part.path,

@@ -12,7 +12,7 @@ pub struct Row {
     pub refused: u64,
 }
 
-pub const ROWS: [Row; 39] = [
+pub const ROWS: [Row; 40] = [
     Row {
         script: FIRST_RUN,
         replies: FIRST_REPLIES,
@@ -256,6 +256,13 @@ pub const ROWS: [Row; 39] = [
         replies: b"ok r T{<b:x:T{<i:y:}:s:} (2, 1) new\nok b T{<b:x:T{<i:y:}:s:} (2, 2) view\n[[(1, (2,)) (1, (2,))]\n [(3, (4,)) (3, (4,))]]\nok s T{<i:y:} (2, 2) view\nok y <i4 (2, 2) view\ninfo y <i4 (2, 2) strides (5, 0) at 1 order - write no\nno E20 read-only\nok c <i4 (2, 2) view\nno E20 read-only\nok z T{<i:y:} (2, 1) view\nok set 1\n[[2 2]\n [8 8]]\nshares yes\n",
         accepted: 11,
         refused: 2,
+    },
+    // Copies in both orders: of an array, of a transposed one, of one that may not be written, of none.
+    Row {
+        script: b"b = array <i4 (2,3) 1 2 3 4 5 6\nc = copy b F\ninfo c\nprint c\nset c[0] = 0\nprint b\nt = transpose b\nd = copy t C\ninfo d\nprint d\ne = copy t F\ninfo e\no = full |S2 () b'ab'\np = broadcast o (2)\nq = copy p F\nset q[0] = b'c'\nprint q\nz = zeros <i4 (0,3)\ny = copy z F\ninfo y\nx = copy w C\n",
+        replies: b"ok b <i4 (2, 3) new\nok c <i4 (2, 3) copy\ninfo c <i4 (2, 3) strides (4, 8) at 0 order F write yes\n[[1 2 3]\n [4 5 6]]\nok set 3\n[[1 2 3]\n [4 5 6]]\nok t <i4 (3, 2) view\nok d <i4 (3, 2) copy\ninfo d <i4 (3, 2) strides (8, 4) at 0 order C write yes\n[[1 4]\n [2 5]\n [3 6]]\nok e <i4 (3, 2) copy\ninfo e <i4 (3, 2) strides (4, 12) at 0 order F write yes\nok o |S2 () new\nok p |S2 (2,) view\nok q |S2 (2,) copy\nok set 1\n[b'c' b'ab']\nok z <i4 (0, 3) new\nok y <i4 (0, 3) copy\ninfo y <i4 (0, 3) strides (0, 0) at 0 order CF write yes\nno E06 unknown name\n",
+        accepted: 20,
+        refused: 1,
     },
     // Samples of a sensor, as `examples/samples.bench` has it.
     Row {
