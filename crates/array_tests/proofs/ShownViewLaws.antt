@@ -15,7 +15,7 @@ use Rattle.name_store.specs.Arrays.{find_array, buffer_of, descr_of}
 use Rattle.name_store.specs.Parts.{start_at}
 use Rattle.name_store.specs.Places.{offsets_of}
 use Rattle.name_store.specs.Shown.{Shows}
-use Rattle.name_store.specs.Targets.{IsAim}
+use Rattle.name_store.specs.Targets.{IsAim, MayWrite}
 use Rattle.name_store.specs.Views.{IsLaidOut, IsViewIn, MayBind}
 use Rattle.name_store.specs.declared.array_ref.ArrayRef.{ArrayRef}
 use Rattle.name_store.specs.declared.bound.Bound.TheVariants.{View}
@@ -132,5 +132,6 @@ aim-whole s name layout item array r found shows writable-is layout-is long = re
     offsets_are = ap offsets layout-is ∙ shows.view.laid.places;
     among = All-contains_itself array.places;
   };
+  may_write = subst (λ (l : Layout). MayWrite s array (target.View l)) (sym layout-is) (shows.view.laid.fits, shows.view.laid.nested writable-is);
   source_for = long ∙ ap item_size (sym shows.descr);
 }

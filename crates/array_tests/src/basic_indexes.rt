@@ -50,7 +50,7 @@ fn item(rt: &impl Abort, word: &str) -> IndexItem<usize> {
     }
 }
 
-fn items(rt: &impl Abort, alloc: Global, text: &str) -> Vec<IndexItem<usize>> {
+pub(crate) fn items(rt: &impl Abort, alloc: Global, text: &str) -> Vec<IndexItem<usize>> {
     let mut items = Vec::new(alloc);
     for word in text.split_whitespace() {
         items.push(item(rt, word)).expect(rt, "no memory");

@@ -31,6 +31,8 @@ mod shapes;
 #[cfg(test)]
 mod slices;
 #[cfg(test)]
+mod sources;
+#[cfg(test)]
 mod table;
 #[cfg(test)]
 mod transposes;

@@ -13,7 +13,7 @@ fn check_run(rt: &impl Abort, run: &Run, want: &Stretch) {
     check(rt, run.step == want.2, "step of a run");
 }
 
-fn check_runs(rt: &impl Abort, runs: Runs, want: &[Stretch]) {
+fn check_runs(rt: &impl Abort, runs: Runs<'_>, want: &[Stretch]) {
     let mut left = want;
     for run in runs {
         check(rt, !left.is_empty(), "no more runs");
@@ -60,7 +60,7 @@ const RUNS: &[(Numbers, &[Stretch])] = &[
 fn runs(rt: HostRuntime) {
     for (numbers, want) in RUNS {
         let layout = layout_of(&rt, rt.alloc(), *numbers);
-        let runs = Runs::new(rt.alloc(), &layout).expect(&rt, "no memory");
+        let runs = Runs::new(&layout);
         check_runs(&rt, runs, want);
     }
 }
@@ -75,7 +75,7 @@ const APART: Numbers = (
 #[test]
 fn many_axes(rt: HostRuntime) {
     let layout = layout_of(&rt, rt.alloc(), APART);
-    let runs = Runs::new(rt.alloc(), &layout).expect(&rt, "no memory");
+    let runs = Runs::new(&layout);
     let mut count = 0_u32;
     for run in runs {
         check(&rt, run.count == 2 && run.step == 256, "two items");
@@ -119,7 +119,7 @@ const PAIRS: &[(Numbers, Numbers, &[(Stretch, Stretch)])] = &[
     ((&[0, 2], &[0, 0], 0), (&[0, 2], &[0, 0], 0), &[]),
 ];
 
-fn check_pairs(rt: &impl Abort, pairs: RunPairs, want: &[(Stretch, Stretch)]) {
+fn check_pairs(rt: &impl Abort, pairs: RunPairs<'_>, want: &[(Stretch, Stretch)]) {
     let mut left = want;
     for pair in pairs {
         check(rt, !left.is_empty(), "no more pairs");
@@ -137,7 +137,7 @@ fn pairs(rt: HostRuntime) {
         let second = layout_of(&rt, rt.alloc(), *second);
         let same = first.shape.items() == second.shape.items();
         check(&rt, same, "as many items");
-        let pairs = RunPairs::new(rt.alloc(), &first, &second).expect(&rt, "no memory");
+        let pairs = RunPairs::new(&first, &second);
         check_pairs(&rt, pairs, want);
     }
 }

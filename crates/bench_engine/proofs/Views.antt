@@ -19,7 +19,7 @@ use Rattle.name_store.specs.Views.{IsViewIn, MayBind}
 use Rattle.name_store.specs.Parts.{start_at}
 use Rattle.name_store.specs.Places.{offsets_of}
 use Rattle.name_store.specs.Shown.{Shows}
-use Rattle.name_store.specs.Targets.{LeadsTo}
+use Rattle.name_store.specs.Targets.{LeadsTo, MayWrite}
 use Rattle.name_store.specs.declared.bound.Bound.{Bound}
 use Rattle.name_store.specs.declared.bound.Bound.TheVariants as bound
 use Rattle.name_store.specs.declared.target.Target.TheVariants as target
@@ -107,6 +107,10 @@ leads s name base r view new found shows free is = record {
   offsets_are = places-view s base r view new shows is;
   among = among-view s base r view new shows is;
 }
+
+-- they lie in the array's buffer, apart
+pub may-write : (s : State) (base : Array) (r : ArrayRef) (view : View) (new : Layout) → Shows s base r → r.writable ≡ true → IsViewOf r.layout.now new view → KeepsNested r.layout.now new → MayWrite s base (target.View new)
+may-write s base r view new shows free is kept = (is.fits _ _ shows.view.laid.fits, kept _ (shows.view.laid.nested free))
 
 -- what is bound is a view
 pub may-bind : (s : State) (what : Bound) (number : ℕ) (path : List ℕ) (layout : Layout) (writable : Bool) (array : Array) → what ≡ bound.View number path layout writable → IsViewIn s number path layout writable array → MayBind s what

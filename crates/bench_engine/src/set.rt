@@ -51,6 +51,8 @@ pub fn set(
         return Err(Refusal::ReadOnly);
     }
     let item = item_of(alloc, array.descr, literal)?;
+    // What is known of the number of items of a shape comes with this call.
+    let _items = target.shape.items();
     let count = bench.write_items(
         alloc,
         name,

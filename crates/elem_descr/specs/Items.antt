@@ -1,5 +1,5 @@
 -- The items of a descriptor: one value per leaf.
-use Rattle.std.specs.Prelude.{◌+◌, ◌-◌, ◌<◌, ◌≤◌, ℕ, List, [], ◌∷◌, ◌++◌, length, get_or, map, position, take, drop, replicate, Option}
+use Rattle.std.specs.Prelude.{◌≡◌, ◌+◌, ◌-◌, ◌<◌, ◌≤◌, ℕ, List, [], ◌∷◌, ◌++◌, length, get_or, map, position, take, drop, replicate, Option}
 use Rattle.std.specs.Str.{bytes_eq}
 use Rattle.elem_descr.specs.declared.descr.Descr.{Descr}
 use Rattle.elem_descr.specs.declared.descr.Descr.TheVariants.{Scalar as ScalarDescr, Record as RecordDescr}
@@ -48,6 +48,11 @@ pub record AreApart (descr : Descr) : Type 0 where
   pub some : (k : ℕ) → k < length (leaves_of descr) → 1 ≤ size (leaf_at descr k).scalar
   pub within : (k : ℕ) → k < length (leaves_of descr) → (leaf_at descr k).at + size (leaf_at descr k).scalar ≤ item_size descr
   pub apart : (j k : ℕ) → j < k → k < length (leaves_of descr) → (leaf_at descr j).at + size (leaf_at descr j).scalar ≤ (leaf_at descr k).at
+
+-- items of two element types lie alike in bytes: as many bytes, and the same leaves at the same offsets
+pub record AreAlike (a b : Descr) : Type 0 where
+  pub leaves : leaves_of a ≡ leaves_of b
+  pub size : item_size a ≡ item_size b
 
 -- the fields of a record; a scalar has none
 abbrev pub fields : Descr → List Field

@@ -1,7 +1,5 @@
 -- An array that fills a block of its own.
-use Rattle.std.proofs.Common.{◌≡◌, ◌+◌, ◌*◌, ◌/◌, ◌<◌, map, ℕ, true, List, [], ◌∷◌, refl, sym, ap, subst, ◌∙◌, arith}
-use Rattle.std.proofs.lemmas.Nat.{div-mul-add}
-use Rattle.std.proofs.Math.Nat.{mul_comm}
+use Rattle.std.proofs.Common.{◌≡◌, ◌+◌, ◌*◌, map, ℕ, true, List, [], ◌∷◌, refl, sym, ap, subst, ◌∙◌, arith}
 use Rattle.elem_descr.specs.Items.{item_size}
 use Rattle.shape_strides.specs.Indexes.{count}
 use Rattle.shape_strides.specs.Layouts.{offsets, Fits}
@@ -16,11 +14,6 @@ use Rattle.name_store.specs.Views.{IsLaidOut}
 use Rattle.name_store.specs.declared.entry.Entry.{Entry}
 use Rattle.name_store.specs.declared.slot.Slot.{Slot}
 use Rattle.name_store.proofs.LaidLaws.{laid-same}
-
-pub places-offsets : (item start : ℕ) (places : List ℕ) → start < item → places_of item (offsets_of item start places) ≡ places
-places-offsets item start [] less = refl
-places-offsets item start (place ∷ places) less =
-    λ i. (ap (λ at. (at + start) / item) (mul_comm item place) ∙ div-mul-add place item start less) i ∷ places-offsets item start places less i
 
 from_start : (item : ℕ) (places : List ℕ) → map (λ place. item * place) places ≡ offsets_of item 0 places
 from_start item [] = refl

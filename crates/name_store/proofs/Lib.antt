@@ -11,7 +11,10 @@ pub mod StateLaws
 pub mod FreshLaws
 pub mod BindLaws
 pub mod ShowLaws
+pub mod SourceLaws
+pub mod RewriteLaws
 pub mod WriteLaws
+pub mod AimLaws
 pub mod ViewLaws
 pub mod ShareLaws
 mod Vectors

@@ -1,14 +1,14 @@
 -- Parts of items in a block: read, and put.
-use Rattle.std.proofs.Common.{◌≡◌, ◌+◌, ◌*◌, ◌<◌, ◌≤◌, ℕ, List, [], ◌∷◌, ◌++◌, length, take, drop, map, replicate, refl, sym, ap, ◌∙◌, unwrap_or, slice_set, append_assoc, arith, length-take, length-drop}
+use Rattle.std.proofs.Common.{◌≡◌, ◌+◌, ◌*◌, ◌<◌, ◌≤◌, ℕ, List, [], ◌∷◌, ◌++◌, length, take, drop, map, refl, sym, ap, ◌∙◌, unwrap_or, slice_set, append_assoc, arith, length-take, length-drop}
 use Rattle.std.specs.List.{AllByRecursion}
 use Rattle.elem_descr.specs.declared.descr.Descr.{Descr}
 use Rattle.elem_descr.specs.Blocks.{items_in, item_from}
 use Rattle.elem_descr.specs.Items.{item_size, decode_item}
 use Rattle.raw_block.specs.Bytes.{put}
+use Rattle.overlap_copy.specs.Assignments.{with_items}
 use Rattle.name_store.specs.Arrays.{placed_item, write}
 use Rattle.name_store.specs.Parts.{IsPathOf, descr_at, start_at, span_at, part_at, with_part}
 use Rattle.name_store.specs.Places.{offsets_of, IsElementType}
-use Rattle.name_store.specs.inside.Puts.{put_each}
 use Rattle.raw_block.specs.BytesLaws.{length-put}
 use Rattle.name_store.proofs.BlockLaws.{drop-drop, put-add, put-item, item-at, item-inside}
 use Rattle.name_store.proofs.PartLaws.{put-front, part-within, part-read, part-put}
@@ -69,11 +69,12 @@ module _ (descr : Descr) (legal : IsElementType descr) (path : List ℕ) (there 
       long : length old ≡ item_size descr
       long = omega (arith, length-take (item_size descr) (drop at block), length-drop at block, inside)
 
-  -- one put in the items at places, one after the other
-  pub put_each-items : (n : ℕ) (places part bytes : List ℕ) → AllByRecursion (λ place. place < n) places → length part ≡ item_size part_descr → n * item_size descr ≤ length bytes →
-      items_in descr n (put_each (offsets_of (item_size descr) start places) part bytes) ≡ write span places (replicate (length places) (decode_item part_descr part)) (items_in descr n bytes)
-  put_each-items n [] part bytes within whole fits = refl
-  put_each-items n (place ∷ places) part bytes within whole fits =
-      let long : length (put (item_size descr * place + start) part bytes) ≡ length bytes = length-put (item_size descr * place + start) part bytes (omega (arith, whole, item-inside (item_size descr) n place within.0, part-within descr legal path there)) in
-      put_each-items n places part (put (item_size descr * place + start) part bytes) within.1 whole (omega arith)
-      ∙ ap (write span places (replicate (length places) (decode_item part_descr part))) (one-part n place part bytes within.0 whole fits)
+  -- parts put in the items at places, one after the other
+  pub with_items-items : (n : ℕ) (places : List ℕ) (parts : List (List ℕ)) (bytes : List ℕ) → AllByRecursion (λ place. place < n) places → AllByRecursion (λ part. length part ≡ item_size part_descr) parts → n * item_size descr ≤ length bytes →
+      items_in descr n (with_items (offsets_of (item_size descr) start places) parts bytes) ≡ write span places (map (decode_item part_descr) parts) (items_in descr n bytes)
+  with_items-items n [] parts bytes within whole fits = refl
+  with_items-items n (place ∷ places) [] bytes within whole fits = refl
+  with_items-items n (place ∷ places) (part ∷ parts) bytes within whole fits =
+      let long : length (put (item_size descr * place + start) part bytes) ≡ length bytes = length-put (item_size descr * place + start) part bytes (omega (arith, whole.0, item-inside (item_size descr) n place within.0, part-within descr legal path there)) in
+      with_items-items n places parts (put (item_size descr * place + start) part bytes) within.1 whole.1 (omega arith)
+      ∙ ap (write span places (map (decode_item part_descr) parts)) (one-part n place part bytes within.0 whole.0 fits)

@@ -1,5 +1,5 @@
 -- Arrays in one buffer share cells where their items have a byte in common.
-use Rattle.std.proofs.Common.{◌≡◌, ◌+◌, ◌*◌, ◌<◌, ◌≤◌, ◌^◌, ◌&&◌, ◌||◌, ◌⊎◌, inl, inr, ℕ, zero, suc, Bool, true, false, List, [], ◌∷◌, length, take, refl, sym, ap, subst, ◌∙◌, Some, nat_eq, nat_lt, arith, pos, ◌+ℤ◌, ◌≤ℤ◌}
+use Rattle.std.proofs.Common.{◌≡◌, ◌+◌, ◌*◌, ◌<◌, ◌≤◌, ◌&&◌, ◌||◌, ◌⊎◌, inl, inr, ℕ, zero, suc, Bool, true, false, List, [], ◌∷◌, length, take, refl, sym, ap, subst, ◌∙◌, Some, nat_eq, nat_lt, arith, pos, ◌+ℤ◌, ◌≤ℤ◌}
 use Rattle.std.specs.List.{list_any, range_with_len}
 use Rattle.std.specs.Map.{lookup}
 use Rattle.std.proofs.lemmas.Int.{ints}
@@ -9,6 +9,7 @@ use Rattle.std.proofs.lemmas.Bool.Decides.{same_from_decides}
 use Rattle.elem_descr.specs.declared.descr.Descr.{Descr}
 use Rattle.elem_descr.specs.Items.{item_size, leaves_of, leaves_in, fields, field_at}
 use Rattle.shape_strides.specs.declared.layout.Layout.{Layout}
+use Rattle.shape_strides.specs.Limits.{max_bytes}
 use Rattle.shape_strides.specs.Layouts.{address, offsets, Fits}
 use Rattle.overlap_copy.specs.Blocks.{places_of}
 use Rattle.overlap_copy.specs.Overlaps.{have_common_byte}
@@ -242,10 +243,10 @@ module _ (es : List (Key × Entry)) (slots : Slots) (h : Holds es slots) (test :
   pub entry-path : IsPathOf slot.descr e.path
   entry-path = lies.laid.part
 
-  pub entry-fits : Fits e.layout (2 ^ 28) width
+  pub entry-fits : Fits e.layout max_bytes width
   entry-fits =
-      let small : slot.items * item_size slot.descr ≤ 2 ^ 28 = omega (arith, slot.is_whole.whole, slot.is_whole.small) in
-      Fits-longer e.layout (slot.items * item_size slot.descr) (2 ^ 28) width small lies.laid.fits
+      let small : slot.items * item_size slot.descr ≤ max_bytes = omega (arith, slot.is_whole.whole, slot.is_whole.small) in
+      Fits-longer e.layout (slot.items * item_size slot.descr) max_bytes width small lies.laid.fits
 
   -- two arrays in one buffer
   pub shares-one : (test' : Key → Bool) (name' : List ℕ) → TestsName test' name' → (e' : Entry) → lookup test' es ≡ Some e' → e.number ≡ e'.number →

@@ -1,5 +1,5 @@
 -- What a look-up shows: an entry, and the slot that its array lies in.
-use Rattle.std.proofs.Common.{◌≡◌, ◌≤◌, ◌<◌, ◌+◌, ◌*◌, ◌^◌, ℕ, suc, All, arith, List, [], ◌∷◌, length, map, true, refl, sym, ap, subst, ◌∙◌, Option, Some, is_some, unwrap_or}
+use Rattle.std.proofs.Common.{◌≡◌, ◌≤◌, ◌<◌, ◌+◌, ◌*◌, ℕ, suc, All, arith, List, [], ◌∷◌, length, map, true, refl, sym, ap, subst, ◌∙◌, Option, Some, is_some, unwrap_or}
 use Rattle.std.specs.FinMap.{get}
 use Rattle.std.specs.List.{AllByRecursion}
 use Rattle.std.specs.Option.{option_map}
@@ -8,6 +8,7 @@ use Rattle.std.proofs.Math.Nat.{mul-suc, mul-le-mul_left}
 use Rattle.elem_descr.specs.declared.descr.Descr.{Descr}
 use Rattle.elem_descr.specs.Items.{item_size, fields}
 use Rattle.shape_strides.specs.Layouts.{offsets}
+use Rattle.shape_strides.specs.Limits.{max_bytes}
 use Rattle.name_store.specs.States.{State, Array, Buffer}
 use Rattle.name_store.specs.Arrays.{buffer_of, descr_of, placed_item, no_buffer, read}
 use Rattle.elem_descr.specs.Blocks.{items_in, item_from}
@@ -98,7 +99,8 @@ module _ (es : List (Key × Entry)) (slots : Slots) (e : Entry) (s : Slot) (r : 
     descr = own-is;
     whole = ap length block-is ∙ s.is_whole.whole ∙ λ i. sym counted i * item_size (sym type-is i);
     some = subst (λ (d : Descr). 1 ≤ item_size d) (sym type-is) (type-some s.descr s.is_whole.legal);
-    small = subst (λ (b : List ℕ). length b ≤ 2 ^ 28) (sym block-is) s.is_whole.small;
+    starts = subst (λ (d : Descr). start_at d e.path < item_size d) (sym type-is) (omega (arith, part-within s.descr s.is_whole.legal e.path lies.laid.part, part-some s.descr s.is_whole.legal e.path lies.laid.part));
+    small = subst (λ (b : List ℕ). length b ≤ max_bytes) (sym block-is) s.is_whole.small;
     items = ap (λ (b : Buffer). b.items) found ∙ λ i. items_in (sym type-is i) (sym counted i) (sym block-is i);
     reads = shown-reads;
     deeper = λ k low. let short : length e.path < 4 = part-deeper s.descr s.is_whole.legal e.path lies.laid.part k (subst (λ (d : Descr). k < length (fields d)) descr-is low) in omega (arith, short, ap length path-is);

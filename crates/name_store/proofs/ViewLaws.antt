@@ -17,7 +17,7 @@ use Rattle.name_store.specs.declared.entry.Entry.{Entry}
 use Rattle.name_store.specs.declared.entry.Key.{Key}
 use Rattle.name_store.specs.declared.slot.Slot.{Slot}
 use Rattle.name_store.proofs.BlockLaws.{length-items_in}
-use Rattle.name_store.proofs.FreshLaws.{places-offsets}
+use Rattle.name_store.specs.ArrayLaws.{places-offsets}
 use Rattle.name_store.proofs.LaidLaws.{laid-same}
 use Rattle.name_store.proofs.NameLaws.{TestsName}
 use Rattle.name_store.proofs.PartLaws.{part-some, part-within}

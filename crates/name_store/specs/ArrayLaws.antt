@@ -1,9 +1,20 @@
 -- Laws of arrays that are looked up, and of their places.
-use Rattle.std.proofs.Common.{◌≡◌, ◌+◌, ◌*◌, ◌<◌, ℕ, zero, suc, List, [], ◌∷◌, length, slice_index, Option, Some, None, refl, arith}
+use Rattle.std.proofs.Common.{◌≡◌, ◌+◌, ◌*◌, ◌/◌, ◌<◌, ℕ, zero, suc, List, [], ◌∷◌, length, slice_index, Option, Some, None, Bor, refl, ap, ◌∙◌, arith}
+use Rattle.std.proofs.lemmas.Nat.{div-mul-add}
+use Rattle.std.proofs.Math.Nat.{mul_comm}
+use Rattle.elem_descr.specs.declared.descr.Descr.{Descr}
+use Rattle.elem_descr.specs.Items.{item_size}
+use Rattle.shape_strides.specs.declared.layout.Layout.{Layout}
+use Rattle.shape_strides.specs.Layouts.{offsets}
+use Rattle.overlap_copy.specs.Blocks.{places_of}
 use Rattle.name_store.specs.States.{State, Array}
+use Rattle.name_store.specs.Arrays.{find_array, buffer_of, addresses, read}
+use Rattle.name_store.specs.Parts.{start_at}
 use Rattle.name_store.specs.Places.{offsets_of}
 use Rattle.name_store.specs.Shown.{Shows, Finds}
+use Rattle.name_store.specs.Targets.{items_of, source_items}
 use Rattle.name_store.specs.declared.array_ref.ArrayRef.{ArrayRef}
+use Rattle.name_store.specs.declared.target.Source.TheVariants.{Name}
 
 -- where an array is found there is one, and it is shown
 pub found-array : (s : State) (found : Option Array) (r : ArrayRef) → Finds s found (Some r) → (array : Array) × (found ≡ Some array) × Shows s array r
@@ -15,3 +26,16 @@ pub offset-at : (item start : ℕ) (places : List ℕ) (k : ℕ) → k < length 
 offset-at item start [] k within = absurd (omega (arith, within))
 offset-at item start (place ∷ places) zero within = refl
 offset-at item start (place ∷ places) (suc k) within = offset-at item start places k (omega (arith, within))
+
+-- the places that the offsets of a part of the items give are those that they were made of
+pub places-offsets : (item start : ℕ) (places : List ℕ) → start < item → places_of item (offsets_of item start places) ≡ places
+places-offsets item start [] less = refl
+places-offsets item start (place ∷ places) less =
+    λ i. (ap (λ at. (at + start) / item) (mul_comm item place) ∙ div-mul-add place item start less) i ∷ places-offsets item start places less i
+
+-- what is read by a name and a layout: the items at the places whose addresses are the layout's offsets
+pub named-items : (s : State) (name : Bor (List ℕ)) (layout : Layout) (descr : Descr) (n : ℕ) (array : Array) (places : List ℕ) → find_array s.names name.now ≡ Some array → offsets layout ≡ addresses s (record array { places = places }) →
+    start_at (buffer_of s array).descr array.path < item_size (buffer_of s array).descr → source_items s descr n (Name name layout) ≡ read s (record array { places = places })
+named-items s name layout descr n array places found offsets-are starts =
+    ap (λ a. items_of s a layout) found
+    ∙ ap (λ ps. read s (record array { places = ps })) (ap (places_of (item_size (buffer_of s array).descr)) offsets-are ∙ places-offsets (item_size (buffer_of s array).descr) (start_at (buffer_of s array).descr array.path) places starts)

@@ -1,5 +1,5 @@
 -- What a call that changes a bench answers.
-use Rattle.std.specs.Prelude.{◌≡◌, ◌<◌, ◌⊎◌, ◌&&◌, ℕ, Bool, true, false, List, [], Result, Ok, Err, Some, None, All}
+use Rattle.std.specs.Prelude.{◌≡◌, ◌<◌, ◌⊎◌, ◌&&◌, ℕ, Bool, true, false, List, [], length, Result, Ok, Err, Some, None, All}
 use Rattle.std.specs.FinMap.{get}
 use Rattle.elem_descr.specs.declared.refusal.Refusal.{Refusal}
 use Rattle.elem_descr.specs.declared.refusal.Refusal.TheVariants.{OutOfMemory, TooManyNames, UnknownName}
@@ -11,7 +11,7 @@ use Rattle.overlap_copy.specs.Blocks.{places_of}
 use Rattle.name_store.specs.States.{State, Array, Buffer}
 use Rattle.name_store.specs.Arrays.{is_bound, has_room_for, bound_to, bound_view, unbound, descr_of, written, find_array, share_cells}
 use Rattle.elem_descr.specs.Blocks.{items_in}
-use Rattle.name_store.specs.Targets.{layout_of, new_items, LeadsTo}
+use Rattle.name_store.specs.Targets.{target_offsets, source_items, LeadsTo}
 use Rattle.name_store.specs.declared.target.Source.{Source}
 use Rattle.name_store.specs.declared.target.Target.{Target}
 use Rattle.name_store.specs.declared.bound.Bound.{Bound}
@@ -58,8 +58,8 @@ AnswersUnbind old name (Err refusal) new = (is_bound old name ≡ false) × (ref
 -- The items of the target are written, as many as the answer says. It is refused only as out of memory, and then nothing has changed.
 abbrev pub AnswersWrite : State → List ℕ → Target → Source → Result ℕ Refusal → State → Type 0
 AnswersWrite old name target source (Ok n) new =
-    (n ≡ count (layout_of target).shape)
-    × ((array : Array) (places : List ℕ) → LeadsTo old name target array places → new ≡ written old array places (new_items (descr_of old array) n source))
+    (n ≡ length (target_offsets target))
+    × ((array : Array) (places : List ℕ) → LeadsTo old name target array places → new ≡ written old array places (source_items old (descr_of old array) n source))
 AnswersWrite old name target source (Err refusal) new = (new ≡ old) × (refusal ≡ OutOfMemory)
 
 -- Whether the arrays of two names share cells. It is refused only where a name is not bound, and as out of memory.

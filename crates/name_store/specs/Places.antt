@@ -1,10 +1,11 @@
 -- Places in a buffer, and the offsets of their items in its block.
-use Rattle.std.specs.Prelude.{◌≡◌, ◌≤◌, ℕ, ◌+◌, ◌*◌, ◌^◌, List, map, length}
+use Rattle.std.specs.Prelude.{◌≡◌, ◌≤◌, ℕ, ◌+◌, ◌*◌, List, map, length}
 use Rattle.elem_descr.specs.declared.descr.Descr.{Descr}
 use Rattle.elem_descr.specs.declared.descr.Descr.TheVariants.{Scalar as ScalarDescr, Record as RecordDescr}
 use Rattle.elem_descr.specs.Descriptors.{IsLegal}
 use Rattle.elem_descr.specs.Encoding.{size}
 use Rattle.elem_descr.specs.Items.{item_size}
+use Rattle.shape_strides.specs.Limits.{max_bytes}
 
 -- where a part of the items at these places begins, if each has so many bytes, and the part so many before it
 abbrev pub offsets_of : ℕ → ℕ → List ℕ → List ℕ
@@ -19,4 +20,4 @@ IsElementType (RecordDescr structure) = IsLegal structure
 pub record IsWhole (descr : Descr) (items : ℕ) (block : List ℕ) : Type 0 where
   pub legal : IsElementType descr
   pub whole : length block ≡ items * item_size descr
-  pub small : length block ≤ 2 ^ 28
+  pub small : length block ≤ max_bytes

@@ -1,10 +1,12 @@
 -- What a look-up shows of an array.
-use Rattle.std.specs.Prelude.{◌≡◌, ◌≢◌, ◌<◌, ℕ, ◌*◌, ◌^◌, slice_index, map, length, Option, Some, None, IsTrue, All, ◌+◌, ◌≤◌}
+use Rattle.std.specs.Prelude.{◌≡◌, ◌≢◌, ◌<◌, ℕ, ◌*◌, slice_index, map, length, Option, Some, None, IsTrue, All, ◌+◌, ◌≤◌}
 use Rattle.elem_descr.specs.Items.{item_size, fields}
 use Rattle.shape_strides.specs.Layouts.{offsets}
+use Rattle.shape_strides.specs.Limits.{max_bytes}
 use Rattle.name_store.specs.States.{State, Array}
 use Rattle.name_store.specs.Arrays.{buffer_of, descr_of, read}
 use Rattle.elem_descr.specs.Blocks.{items_in, item_from}
+use Rattle.name_store.specs.Parts.{start_at}
 use Rattle.name_store.specs.Views.{IsViewIn}
 use Rattle.name_store.specs.declared.array_ref.ArrayRef.{ArrayRef}
 
@@ -14,7 +16,8 @@ pub record Shows (s : State) (array : Array) (r : ArrayRef) : Type 0 where
   pub descr : descr_of s array ≡ r.descr.now
   pub whole : length r.block.now ≡ length (buffer_of s array).items * item_size (buffer_of s array).descr
   pub some : 1 ≤ item_size (buffer_of s array).descr
-  pub small : length r.block.now ≤ 2 ^ 28
+  pub starts : start_at (buffer_of s array).descr array.path < item_size (buffer_of s array).descr
+  pub small : length r.block.now ≤ max_bytes
   pub items : (buffer_of s array).items ≡ items_in (buffer_of s array).descr (length (buffer_of s array).items) r.block.now
   pub reads : read s array ≡ map (item_from r.descr.now r.block.now) (offsets r.layout.now)
   pub deeper : (k : ℕ) → k < length (fields r.descr.now) → length r.path.now < 4

@@ -1,6 +1,7 @@
 //! A buffer.
-ghost use Rattle.std.specs.Prelude.{◌≡◌, ◌≤◌, ◌*◌, ◌^◌, length};
+ghost use Rattle.std.specs.Prelude.{◌≡◌, ◌≤◌, ◌*◌, length};
 ghost use Rattle.elem_descr.specs.Items.{item_size};
+ghost use Rattle.shape_strides.specs.Limits.{max_bytes};
 ghost use Rattle.name_store.specs.Places.{IsWhole, IsElementType};
 ghost use Rattle.name_store.specs.inside.Props.{IsWhole-prop};
 
@@ -31,7 +32,7 @@ impl Slot {
     /// A buffer of so many items, which just fill the block.
     pub fn new(descr: Descr, items: usize, block: RawBlock) -> Slot
         requires whole { length block ≡ items * item_size descr }
-        requires small { length block ≤ 2 ^ 28 }
+        requires small { length block ≤ max_bytes }
         ensures descr { result.descr ≡ descr }
         ensures items { result.items ≡ items }
         ensures block { result.block ≡ block }

@@ -9,7 +9,7 @@ use Rattle.elem_descr.specs.declared.descr.Descr.{Descr}
 use Rattle.elem_descr.specs.Items.{item_size, decode_item}
 use Rattle.elem_descr.specs.Blocks.{item_from}
 use Rattle.shape_strides.specs.Layouts.{IsNested, distance}
-use Rattle.overlap_copy.specs.inside.Copies.{copied_each}
+use Rattle.overlap_copy.specs.Assignments.{assigned}
 
 module _ (width : ℕ) (other : List ℕ) where
   abbrev IsIn : List ℕ → ℕ → Type 0
@@ -36,7 +36,7 @@ module _ (width : ℕ) (other : List ℕ) where
       item_at-put_apart at item block place width (omega (arith, long, in_block)) there sides
 
   -- what lies apart from all that are copied is as before
-  kept : (place : ℕ) (to from block : List ℕ) → IsIn block place → All (IsIn block) to → All (IsIn other) from → All (λ at. width ≤ distance place at) to → item_at place width (copied_each to from width other block) ≡ item_at place width block
+  pub kept : (place : ℕ) (to from block : List ℕ) → IsIn block place → All (IsIn block) to → All (IsIn other) from → All (λ at. width ≤ distance place at) to → item_at place width (assigned to from width other block) ≡ item_at place width block
   kept place [] from block there in_block in_other apart = refl
   kept place (at ∷ to) [] block there in_block in_other apart = refl
   kept place (at ∷ to) (offset ∷ from) block there in_block in_other apart =
@@ -55,7 +55,7 @@ module _ (width : ℕ) (other : List ℕ) where
   nested-rest at to nested = record { apart = λ j k before inside. nested.apart (suc j) (suc k) (omega (arith, before)) (omega (arith, inside)) }
 
   -- each item that is copied is read where it was written
-  pub landed : (to from block : List ℕ) → length to ≡ length from → All (IsIn block) to → All (IsIn other) from → IsNested to width → map (λ o. item_at o width (copied_each to from width other block)) to ≡ map (λ o. item_at o width other) from
+  pub landed : (to from block : List ℕ) → length to ≡ length from → All (IsIn block) to → All (IsIn other) from → IsNested to width → map (λ o. item_at o width (assigned to from width other block)) to ≡ map (λ o. item_at o width other) from
   landed [] [] block even in_block in_other nested = refl
   landed [] (offset ∷ from) block even in_block in_other nested = absurd (omega (arith, even))
   landed (at ∷ to) [] block even in_block in_other nested = absurd (omega (arith, even))

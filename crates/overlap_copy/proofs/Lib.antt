@@ -7,6 +7,7 @@ pub mod MoveLaws
 pub mod OwnedLaws
 pub mod OverlapLaws
 pub mod RunCopies
+pub mod MovingLaws
 pub mod PackedLaws
 pub mod RunCopyLaws
 pub mod ShareLaws

@@ -2,6 +2,7 @@
 --     place-within                 each item lies within the bytes
 --     fewer, run_offsets-more      a run with one item fewer, and with one more
 --     length-run_offsets           a run has as many offsets as items
+--     place-at, run-ends           where an item lies; each ends within the bytes
 --     lie-within                   a run that lies within some bytes
 --     runs-within                  runs whose offsets lie within some bytes, with the items there
 use Rattle.std.proofs.Common.{◌≡◌, ℕ, zero, suc, ◌+◌, ◌-◌, ◌<◌, ◌≤◌, List, [], ◌∷◌, ◌++◌, All, map, length, get_or, refl, sym, ap, subst, ◌∙◌, arith, length-append}
@@ -9,7 +10,7 @@ use Rattle.std.specs.List.{flat_map, range_with_len, AllByRecursion as Each}
 use Rattle.std.proofs.Math.IntN.{*ℤ_comm, +ℤ_idr}
 use Rattle.std.proofs.lemmas.Int.{ints}
 use Rattle.std.proofs.lemmas.List.{map-append, length-map, get_or-map, get_or_append_left, get_or-append_right}
-use Rattle.std.proofs.lemmas.List.Elements.{All-head, All-tail, All-from_recursion}
+use Rattle.std.proofs.lemmas.List.Elements.{All-head, All-tail, All-from_get_or, All-from_recursion}
 use Rattle.std.proofs.lemmas.List.FromFn.{length-map-range_with_len, get_or-map-range_with_len}
 use lib.IntN.{ℤ, pos, negsuc, nat_abs, ◌+ℤ◌, ◌*ℤ◌}
 use lib.Signed.{◌≤ℤ◌}
@@ -84,6 +85,16 @@ nth-offset run k low =
     let inside : k < length (numbers_from (pos run.offset) run.step run.count) = omega (arith, length-map-range_with_len number 0 run.count) in
     get_or-map natural (numbers_from (pos run.offset) run.step run.count) k (pos 0) 0 inside
     ∙ ap natural (get_or-map-range_with_len number 0 run.count k k (pos 0) low (omega arith))
+
+-- where the item after k others lies
+pub place-at : (len width : ℕ) (run : Run) (k : ℕ) → EachWithin len run.offset run.step width run.count → k < run.count → get_or (run_offsets run) k 0 ≡ place run.offset run.step k
+place-at len width run k within low = nth-offset run k low ∙ natural-place run.offset run.step k (within.each k low).0
+
+-- each item ends within the bytes
+pub run-ends : (len width : ℕ) (run : Run) → EachWithin len run.offset run.step width run.count → All (λ offset. offset + width ≤ len) (run_offsets run)
+run-ends len width run within = All-from_get_or (λ offset. offset + width ≤ len) (run_offsets run) 0 (λ k inside.
+    let low : k < run.count = omega (arith, length-run_offsets run) in
+    subst (λ o. o + width ≤ len) (sym (place-at len width run k within low)) (place-within len run.offset run.step width run.count k within low))
 
 -- from an item of a run on
 turned' : (run : Run) (k : ℕ) → pos run.offset +ℤ (run.step *ℤ pos k +ℤ pos 0) ≡ position run.offset run.step k

@@ -1,4 +1,3 @@
-pub mod Copies
 pub mod Marks
 pub mod Moves
 pub mod Packed

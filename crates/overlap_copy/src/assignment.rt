@@ -1,33 +1,19 @@
 //! Assignment: the items of a layout become those of another.
-ghost use Rattle.std.specs.Prelude.{◌≡◌, ◌+◌, ◌≤◌, ℤ, length, reverse, false, All, IfOk, IfErr, IfSome, IsOk, IsTrue};
+ghost use Rattle.std.specs.Prelude.{◌≡◌, ◌+◌, ◌≤◌, ℤ, length, reverse, false, All, IfOk, IfErr, IsOk, IsTrue};
 ghost use Rattle.shape_strides.specs.Limits.{max_bytes};
 ghost use Rattle.shape_strides.specs.Indexes.{count};
 ghost use Rattle.shape_strides.specs.Layouts.{offsets, Fits, IsNested};
 ghost use Rattle.overlap_copy.specs.Apart.{AreApart};
 ghost use Rattle.overlap_copy.specs.Assignments.{assigned, IsRun};
 ghost use Rattle.overlap_copy.specs.Overlaps.{have_common_byte};
-ghost use Rattle.overlap_copy.specs.inside.Moves.{IsRunOf};
 
 use crate::apart::may_overlap;
 use crate::packed::{gather, scatter};
-use crate::run_moves::{copy_run, is_same_line, move_in_turn, move_run, turn_run, turned};
+use crate::run_copies::{copy_pairs, move_pairs};
+use crate::run_moves::{is_same_line, move_run, turn_run, turned};
 use raw_block::RawBlock;
-use shape_strides::{FixedWalk, Layout, RunPair};
+use shape_strides::{FixedWalk, Layout, RunPairs};
 use std::alloc::{AllocError, Global};
-
-/// The runs that two layouts are, where both are runs of as many items.
-fn even_runs(dst: &Layout, src: &Layout) -> Option<RunPair>
-    ensures first { IfSome result (λ pair. IsRunOf (offsets dst.now) pair.first) }
-    ensures second { IfSome result (λ pair. IsRunOf (offsets src.now) pair.second) }
-    ensures counts { IfSome result (λ pair. pair.second.count ≡ pair.first.count) }
-{
-    let first = dst.as_run()?;
-    let second = src.as_run()?;
-    if first.count != second.count {
-        return None;
-    }
-    Some(RunPair { first, second })
-}
 
 /// Copies the items item by item.
 fn copy_items(block: &mut RawBlock, dst: &Layout, other: &RawBlock, src: &Layout, width: usize)
@@ -52,45 +38,25 @@ pub fn assign_from(block: &mut RawBlock, dst: &Layout, other: &RawBlock, src: &L
     ensures written { block.new ≡ assigned (offsets dst.now) (offsets src.now) width other.now block.old }
     ensures len { length block.new ≡ length block.old }
 {
-    let Some(runs) = even_runs(dst, src) else {
+    if dst.shape.items() != src.shape.items() {
         copy_items(block, dst, other, src, width);
         return;
-    };
-    copy_run(block, runs.first, other, runs.second, width);
-}
-
-/// Moves the items item by item, where none of one layout has a byte in common with one of the
-/// other.
-fn move_items(block: &mut RawBlock, dst: &Layout, src: &Layout, width: usize)
-    requires dst { All (λ offset. offset + width ≤ length block.old) (offsets dst.now) }
-    requires src { All (λ offset. offset + width ≤ length block.old) (offsets src.now) }
-    requires apart { have_common_byte (offsets dst.now) width (offsets src.now) width ≡ false }
-    ensures written { block.new ≡ assigned (offsets dst.now) (offsets src.now) width block.old block.old }
-    ensures len { length block.new ≡ length block.old }
-{
-    let mut to = FixedWalk::new(dst);
-    for offset in FixedWalk::new(src) {
-        if let Some(at) = to.next() {
-            block.move_within(at, offset, width);
-        }
     }
+    copy_pairs(block, RunPairs::new(dst, src), other, width);
 }
 
 /// The same within one block, where no item of one layout has a byte in common with one of the
 /// other.
 fn assign_apart(block: &mut RawBlock, dst: &Layout, src: &Layout, width: usize)
-    requires dst { All (λ offset. offset + width ≤ length block.old) (offsets dst.now) }
-    requires src { All (λ offset. offset + width ≤ length block.old) (offsets src.now) }
+    requires dst { Fits dst.now (length block.old) width }
+    requires src { Fits src.now (length block.old) width }
     requires nested { IsNested (offsets dst.now) width }
+    requires count { count dst.now.shape ≡ count src.now.shape }
     requires apart { have_common_byte (offsets dst.now) width (offsets src.now) width ≡ false }
     ensures written { block.new ≡ assigned (offsets dst.now) (offsets src.now) width block.old block.old }
     ensures len { length block.new ≡ length block.old }
 {
-    let Some(runs) = even_runs(dst, src) else {
-        move_items(block, dst, src, width);
-        return;
-    };
-    move_in_turn(block, runs.first, runs.second, width);
+    move_pairs(block, RunPairs::new(dst, src), width);
 }
 
 /// The same within one block, where both layouts are runs, either of the same step or each the

@@ -8,6 +8,7 @@ mod copies;
 mod overlap;
 mod owned;
 mod packed;
+mod run_copies;
 mod run_moves;
 mod share;
 

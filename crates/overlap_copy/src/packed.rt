@@ -1,13 +1,64 @@
 //! The items of a layout, one after another in a block of their own.
-ghost use Rattle.std.specs.Prelude.{◌≡◌, ◌+◌, ◌*◌, ◌≤◌, length, All, IfOk};
-ghost use Rattle.shape_strides.specs.Limits.{max_bytes};
+ghost use Rattle.std.specs.Prelude.{◌≡◌, ◌+◌, ◌*◌, ◌^◌, ◌<◌, ◌≤◌, pos, length, All, IfOk};
+ghost use Rattle.std.specs.List.{flat_map};
+ghost use Rattle.raw_block.specs.Bytes.{EachWithin};
 ghost use Rattle.shape_strides.specs.Layouts.{offsets};
-ghost use Rattle.overlap_copy.specs.Assignments.{items_at, with_items};
-ghost use Rattle.overlap_copy.specs.inside.Packed.{packed};
+ghost use Rattle.shape_strides.specs.Runs.{run_offsets};
+ghost use Rattle.overlap_copy.specs.Assignments.{items_at, assigned};
+ghost use Rattle.overlap_copy.specs.inside.Packed.{row, row_offsets};
 
+use crate::run_copies::copy_run;
 use raw_block::RawBlock;
-use shape_strides::{FixedWalk, Layout};
+use shape_strides::{Layout, Run, Runs};
 use std::alloc::{AllocError, Global};
+
+/// The run of `count` items of `width` bytes that lie one after another from `at` on, in a block of
+/// `len` bytes.
+fn row(at: usize, width: usize, count: usize, len: usize) -> Run
+    requires some { 1 ≤ count }
+    requires within { at + count * width ≤ len }
+    requires small { len < 2 ^ 63 }
+    ensures row { result ≡ row at width count }
+    ensures within { EachWithin len at (pos width) width count }
+{
+    Run {
+        offset: at,
+        count,
+        step: width as isize,
+    }
+}
+
+/// Copies the items of `width` bytes of runs to a block, from its start on one after another.
+fn gather_runs(items: &mut RawBlock, runs: Runs<'_>, block: &RawBlock, width: usize)
+    requires some { All (λ run. 1 ≤ run.count) runs }
+    requires from { All (λ run. EachWithin (length block.now) run.offset run.step width run.count) runs }
+    requires room { length (flat_map run_offsets runs) * width ≤ length items.old }
+    ensures written { items.new ≡ assigned (row_offsets 0 width (length (flat_map run_offsets runs.entry))) (flat_map run_offsets runs.entry) width block.now items.old }
+    ensures len { length items.new ≡ length items.old }
+{
+    let len = items.len();
+    let mut at = 0;
+    for run in runs {
+        copy_run(items, row(at, width, run.count, len), block, run, width);
+        at += run.count * width;
+    }
+}
+
+/// Copies items that lie one after another from a block's start on to those of runs.
+fn scatter_runs(block: &mut RawBlock, runs: Runs<'_>, items: &RawBlock, width: usize)
+    requires some { All (λ run. 1 ≤ run.count) runs }
+    requires to { All (λ run. EachWithin (length block.old) run.offset run.step width run.count) runs }
+    requires room { length (flat_map run_offsets runs) * width ≤ length items.now }
+    ensures written { block.new ≡ assigned (flat_map run_offsets runs.entry) (row_offsets 0 width (length (flat_map run_offsets runs.entry))) width items.now block.old }
+    ensures len { length block.new ≡ length block.old }
+{
+    let len = items.len();
+    let mut at = 0;
+    for run in runs {
+        copy_run(block, run, items, row(at, width, run.count, len), width);
+        at += run.count * width;
+    }
+}
 
 /// A block of the items of `width` bytes that a layout leads to, in C order.
 pub(crate) fn gather(
@@ -16,18 +67,15 @@ pub(crate) fn gather(
     layout: &Layout,
     width: usize,
 ) -> Result<RawBlock, AllocError>
-    requires small { length block.now ≤ max_bytes }
     requires inside { All (λ offset. offset + width ≤ length block.now) (offsets layout.now) }
     ensures len { IfOk result (λ items. length items ≡ length (offsets layout.now) * width) }
-    ensures items { IfOk result (λ items. packed 0 width (length (offsets layout.now)) items ≡ items_at (offsets layout.now) width block.now) }
+    ensures items { IfOk result (λ items. items_at (row_offsets 0 width (length (offsets layout.now))) width items ≡ items_at (offsets layout.now) width block.now) }
 {
-    let walk = FixedWalk::new(layout);
-    let mut items = RawBlock::try_zeroed(alloc, layout.shape.items() * width)?;
-    let mut at = 0;
-    for offset in walk {
-        items.copy_from(at, block, offset, width);
-        at += width;
-    }
+    // More bytes than there can be are refused as any others.
+    let bytes = layout.shape.items().saturating_mul(width);
+    let mut items = RawBlock::try_zeroed(alloc, bytes)?;
+    let _len = items.len();
+    gather_runs(&mut items, Runs::new(layout), block, width);
     Ok(items)
 }
 
@@ -35,13 +83,8 @@ pub(crate) fn gather(
 pub(crate) fn scatter(block: &mut RawBlock, layout: &Layout, items: &RawBlock, width: usize)
     requires inside { All (λ offset. offset + width ≤ length block.old) (offsets layout.now) }
     requires items { length (offsets layout.now) * width ≤ length items.now }
-    ensures written { block.new ≡ with_items (offsets layout.now) (packed 0 width (length (offsets layout.now)) items.now) block.old }
+    ensures written { block.new ≡ assigned (offsets layout.now) (row_offsets 0 width (length (offsets layout.now))) width items.now block.old }
     ensures len { length block.new ≡ length block.old }
 {
-    let _len = items.len();
-    let mut at = 0;
-    for offset in FixedWalk::new(layout) {
-        block.copy_from(offset, items, at, width);
-        at += width;
-    }
+    scatter_runs(block, Runs::new(layout), items, width);
 }

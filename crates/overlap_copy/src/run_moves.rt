@@ -1,41 +1,16 @@
 //! Items of runs that move within one block.
 ghost use Rattle.std.specs.Prelude.{◌≡◌, ◌↔◌, ◌≤◌, pos, neg_ℤ, ◌+ℤ◌, ◌*ℤ◌, ◌≤ℤ◌, ◌<ℤ◌, length, IsTrue};
-ghost use Rattle.raw_block.specs.Bytes.{EachWithin, copied};
 ghost use Rattle.shape_strides.specs.Limits.{max_bytes, max_items};
-ghost use Rattle.overlap_copy.specs.inside.Moves.{IsAssigned, IsLine, IsTurned, IsUnread, AreSpaced, place_in};
+ghost use Rattle.overlap_copy.specs.inside.Moves.{IsAssigned, IsLine, IsTurned, AreSpaced, place_in};
 
 use raw_block::RawBlock;
 use shape_strides::Run;
 
 /// Whether the items of a run, of `width` bytes, lie one right after another.
-fn is_packed(run: Run, width: usize) -> bool
+pub(crate) fn is_packed(run: Run, width: usize) -> bool
     ensures { IsTrue result → run.step ≡ pos width }
 {
     run.step >= 0 && run.step.unsigned_abs() == width
-}
-
-/// Copies the items of a run in another block to those of a run.
-pub(crate) fn copy_run(block: &mut RawBlock, to: Run, other: &RawBlock, from: Run, width: usize)
-    requires to { EachWithin (length block.old) to.offset to.step width to.count }
-    requires from { EachWithin (length other.now) from.offset from.step width to.count }
-    requires some { 1 ≤ to.count }
-    ensures copied { block.new ≡ copied to.offset to.step other.now from.offset from.step width to.count block.old }
-    ensures len { length block.new ≡ length block.old }
-{
-    if !is_packed(to, width) || !is_packed(from, width) {
-        block.copy_strided(
-            to.offset,
-            to.step,
-            other,
-            from.offset,
-            from.step,
-            width,
-            to.count,
-        );
-        return;
-    }
-    let _len = block.len();
-    block.copy_from(to.offset, other, from.offset, to.count * width);
 }
 
 /// Where the item is that is so many steps after a run's first.
@@ -86,19 +61,6 @@ fn can_move_forwards(to: Run, from: Run) -> bool
         return from.offset <= to.offset;
     }
     to.offset <= from.offset
-}
-
-/// Moves the items of one run to those of another, one after the other, where none is written to
-/// before it is read.
-pub(crate) fn move_in_turn(block: &mut RawBlock, to: Run, from: Run, width: usize)
-    requires to { EachWithin (length block.old) to.offset to.step width to.count }
-    requires from { EachWithin (length block.old) from.offset from.step width to.count }
-    requires spaced { AreSpaced width to }
-    requires unread { IsUnread width to from }
-    ensures moved { IsAssigned to.count (place_in to) (place_in from) width block.old block.old block.new }
-    ensures len { length block.new ≡ length block.old }
-{
-    block.copy_strided_within(to.offset, to.step, from.offset, from.step, width, to.count);
 }
 
 /// Moves the items of one run to those of another with the same step.

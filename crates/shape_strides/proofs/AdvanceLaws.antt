@@ -1,19 +1,34 @@
 -- One turn of the loop that goes on to the next index in C order.
-use Rattle.std.proofs.Common.{◌≡◌, ℕ, zero, suc, ◌+◌, ◌-◌, ◌<◌, ◌≤◌, ℤ, pos, ◌+ℤ◌, ◌-ℤ◌, ◌*ℤ◌, ◌≤ℤ◌, List, [], ◌∷◌, ◌++◌, length, get_or, set, take, drop, replicate, refl, sym, ◌∙◌, ap, arith, length-take-le, length-append, take_all}
+use Rattle.std.proofs.Common.{◌≡◌, ℕ, zero, suc, ◌+◌, ◌-◌, ◌<◌, ◌≤◌, ℤ, pos, ◌+ℤ◌, ◌-ℤ◌, ◌*ℤ◌, ◌≤ℤ◌, List, [], ◌∷◌, ◌++◌, length, get_or, set, take, drop, replicate, refl, sym, ◌∙◌, ap, subst, arith, length-take-le, length-append, take_all}
 use Rattle.std.proofs.lemmas.Int.{ints}
-use Rattle.std.proofs.lemmas.List.{drop_more, drop_all}
+use Rattle.std.proofs.lemmas.List.{length-map, drop_more, drop_all}
 use lib.IntN.{+ℤ_idr}
 use Rattle.shape_strides.specs.declared.layout.Layout.{Layout}
-use Rattle.shape_strides.specs.Indexes.{count, rank, IsIndex}
+use Rattle.shape_strides.specs.Indexes.{count, indexes, rank, IsIndex}
 use Rattle.shape_strides.specs.Limits.{max_bytes}
-use Rattle.shape_strides.specs.Addresses.{dot}
+use Rattle.shape_strides.specs.Addresses.{dot, natural, address_at}
 use Rattle.shape_strides.specs.Layouts.{address, offsets}
-use Rattle.shape_strides.specs.Walks.{IsOnWalk}
-use Rattle.shape_strides.specs.AxisLaws.{IsIndex-first, dot-nil, dot-zeros, rank-zeros, *ℤ-more}
+use Rattle.shape_strides.specs.Walks.{AreAxes, IsOnWalk, offsets_at}
+use Rattle.shape_strides.specs.AxisLaws.{IsIndex-first, dot-zeros, rank-zeros, *ℤ-more}
 use Rattle.shape_strides.specs.LayoutLaws.{length-offsets, pos-offset}
-use Rattle.shape_strides.specs.IndexLaws.{length-index}
+use Rattle.shape_strides.specs.IndexLaws.{length-index, length-indexes}
 use Rattle.shape_strides.specs.inside.AxisIndexes.{padded}
 use Rattle.shape_strides.proofs.StepLaws.{length-padded, dot-padded, dot-push, dot-take_more, IsIndex-padded_push, rank-stepped, part_low, part_high, sum_start, sum_bounds, IsIndex-zeros, last-more}
+
+-- axes as a layout
+abbrev pub layout_of : (shape : List ℕ) (strides : List ℤ) (offset : ℕ) → AreAxes shape strides offset → Layout
+layout_of shape strides offset axes = record {
+  shape = shape;
+  strides = strides;
+  offset = offset;
+  one_stride_an_axis = axes.one_stride_an_axis;
+  within_limit = axes.within_limit;
+  zero_if_empty = axes.zero_if_empty;
+}
+
+pub offsets-at : (l : Layout) → offsets l ≡ offsets_at l.shape l.strides l.offset
+unfolding offsets
+offsets-at l = refl
 
 -- the number before the zeros
 pub get_or-padded_take : (shape index : List ℕ) (j : ℕ) → IsIndex shape index → j < length shape → get_or (padded shape (take (suc j) index)) j 0 ≡ get_or index j 0
@@ -42,13 +57,13 @@ padded-all (n ∷ shape) [] in' = absurd in'
 padded-all (n ∷ shape) (k ∷ index) in' = ap (λ i. k ∷ i) (padded-all shape index in'.1)
 
 -- The loop before it looks at an axis below a: the axes from a on were at their last numbers and are at 0 now.
-pub record StandsAt (l : Layout) (old index : List ℕ) (a offset : ℕ) : Type 0 where
-  pub within : a ≤ length l.shape
-  pub index_is : index ≡ padded l.shape (take a old)
-  pub offset_is : pos offset ≡ pos l.offset +ℤ dot l.strides (take a old)
-  pub last : rank (drop a l.shape) (drop a old) + 1 ≡ count (drop a l.shape)
+pub record StandsAt (shape : List ℕ) (strides : List ℤ) (start : ℕ) (old index : List ℕ) (a offset : ℕ) : Type 0 where
+  pub within : a ≤ length shape
+  pub index_is : index ≡ padded shape (take a old)
+  pub offset_is : pos offset ≡ pos start +ℤ dot strides (take a old)
+  pub last : rank (drop a shape) (drop a old) + 1 ≡ count (drop a shape)
 
-pub starts_at : (l : Layout) (index : List ℕ) (a offset : ℕ) → a ≡ length l.shape → IsIndex l.shape index → pos offset ≡ address l index → StandsAt l index index a offset
+pub starts_at : (l : Layout) (index : List ℕ) (a offset : ℕ) → a ≡ length l.shape → IsIndex l.shape index → pos offset ≡ address l index → StandsAt l.shape l.strides l.offset index index a offset
 starts_at l index a offset whole in' is =
     let size = length-index l.shape index in' in
     let all : take a index ≡ index = take_all a index (omega arith) in
@@ -69,7 +84,7 @@ pub record Turns (l : Layout) (old index : List ℕ) (j offset : ℕ) : Type 0 w
   pub offset_is : pos offset ≡ pos l.offset +ℤ dot l.strides (take (suc j) old)
   pub last : rank (drop (suc j) l.shape) (drop (suc j) old) + 1 ≡ count (drop (suc j) l.shape)
 
-pub turns_at : (l : Layout) (old index : List ℕ) (a offset : ℕ) → IsIndex l.shape old → 0 < a → StandsAt l old index a offset → Turns l old index (a - 1) offset
+pub turns_at : (l : Layout) (old index : List ℕ) (a offset : ℕ) → IsIndex l.shape old → 0 < a → StandsAt l.shape l.strides l.offset old index a offset → Turns l old index (a - 1) offset
 turns_at l old index zero offset in' some at = absurd (omega arith)
 turns_at l old index (suc j) offset in' some at =
     let before : suc j - 1 ≡ j = omega arith in
@@ -141,7 +156,7 @@ pub set-back : (l : Layout) (old index : List ℕ) (j offset : ℕ) → Turns l 
 set-back l old index j offset t = ap (λ i. set i j 0) t.index_is ∙ set-padded_zero l.shape old j t.in_shape t.below
 
 -- the axis before is at its last number too
-pub stands_before : (l : Layout) (old index : List ℕ) (j offset back : ℕ) → Turns l old index j offset → get_or l.shape j 0 ≤ get_or index j 0 + 1 → pos back ≡ pos offset -ℤ get_or l.strides j (pos 0) *ℤ pos (get_or index j 0) → StandsAt l old (set index j 0) j back
+pub stands_before : (l : Layout) (old index : List ℕ) (j offset back : ℕ) → Turns l old index j offset → get_or l.shape j 0 ≤ get_or index j 0 + 1 → pos back ≡ pos offset -ℤ get_or l.strides j (pos 0) *ℤ pos (get_or index j 0) → StandsAt l.shape l.strides l.offset old (set index j 0) j back
 stands_before l old index j offset back t top is =
     let number = number_is l old index j offset t in
     record {
@@ -159,9 +174,9 @@ pub set-next : (l : Layout) (old index : List ℕ) (j offset : ℕ) → Turns l 
 set-next l old index j offset t = ap (λ k. set index j (k + 1)) (number_is l old index j offset t) ∙ set-stepped l old index j offset t
 
 -- no axis is left: the index is the first one again
-pub over : (l : Layout) (old index : List ℕ) (a offset : ℕ) → a ≤ 0 → IsIndex l.shape old → StandsAt l old index a offset → IsIndex l.shape index × (rank l.shape old + 1 ≡ count l.shape) × (pos offset ≡ address l index)
+pub over : (l : Layout) (old index : List ℕ) (a offset : ℕ) → a ≤ 0 → IsIndex l.shape old → StandsAt l.shape l.strides l.offset old index a offset → IsIndex l.shape index × (rank l.shape old + 1 ≡ count l.shape) × (pos l.offset ≡ address l index)
 over l old index zero offset none in' at =
-    (rw at.index_is (IsIndex-zeros l.shape old in'), at.last, at.offset_is ∙ ap (λ z. pos l.offset +ℤ z) (dot-nil l.strides ∙ sym (dot-zeros l.strides l.shape) ∙ ap (dot l.strides) (sym at.index_is)))
+    (rw at.index_is (IsIndex-zeros l.shape old in'), at.last, sym (ap (λ z. pos l.offset +ℤ z) (ap (dot l.strides) at.index_is ∙ dot-zeros l.strides l.shape) ∙ +ℤ_idr (pos l.offset)))
 over l old index (suc a) offset none in' at = absurd (omega arith)
 
 -- ---- where the walk is over, or has not begun
@@ -171,19 +186,19 @@ padded-nil [] = refl
 padded-nil (n ∷ shape) = ap (λ i. 0 ∷ i) (padded-nil shape)
 
 -- a walk at the first index
-pub walk_begins : (l : Layout) (index : List ℕ) (left : ℕ) → index ≡ padded l.shape [] → left ≡ count l.shape → IsOnWalk l index l.offset left
-walk_begins l index left zeros all = record {
+pub walk_begins : (shape : List ℕ) (strides : List ℤ) (start : ℕ) (index : List ℕ) (left : ℕ) → index ≡ padded shape [] → left ≡ count shape → IsOnWalk shape strides start index start left
+walk_begins shape strides start index left zeros all = record {
   most = omega arith;
-  axes = ap length zeros ∙ length-padded l.shape [];
+  axes = ap length zeros ∙ length-padded shape [];
   next = λ some. record {
-    in_shape = rw zeros (IsIndex-first l.shape (omega arith));
-    place = omega (arith, ap (rank l.shape) zeros, rank-zeros l.shape);
-    address_is = sym (ap (λ i. pos l.offset +ℤ dot l.strides i) zeros ∙ ap (λ z. pos l.offset +ℤ z) (dot-zeros l.strides l.shape) ∙ +ℤ_idr (pos l.offset));
+    in_shape = rw zeros (IsIndex-first shape (omega arith));
+    place = omega (arith, ap (rank shape) zeros, rank-zeros shape);
+    address_is = sym (ap (λ i. pos start +ℤ dot strides i) zeros ∙ ap (λ z. pos start +ℤ z) (dot-zeros strides shape) ∙ +ℤ_idr (pos start));
   };
 }
 
 -- one item of a walk
-pub walk_step : (l : Layout) (index : List ℕ) (offset left : ℕ) → IsOnWalk l index offset left → 0 < left → drop (count l.shape - left) (offsets l) ≡ offset ∷ drop (count l.shape - (left - 1)) (offsets l)
+pub walk_step : (l : Layout) (index : List ℕ) (offset left : ℕ) → IsOnWalk l.shape l.strides l.offset index offset left → 0 < left → drop (count l.shape - left) (offsets l) ≡ offset ∷ drop (count l.shape - (left - 1)) (offsets l)
 walk_step l index offset left on some =
     let next = on.next some in
     let size = length-offsets l in
@@ -193,3 +208,14 @@ walk_step l index offset left on some =
     let entry = pos-offset l index 0 next.in_shape ∙ sym next.address_is in
     let is : get_or (offsets l) (rank l.shape index) 0 ≡ offset = omega (arith, ints, entry) in
     ap (λ k. drop k (offsets l)) place ∙ drop_more (offsets l) (rank l.shape index) 0 inside ∙ ap (λ x. x ∷ drop (rank l.shape index + 1) (offsets l)) is ∙ ap (λ k. offset ∷ drop k (offsets l)) later
+
+pub walk_step_at : (shape : List ℕ) (strides : List ℤ) (start : ℕ) (index : List ℕ) (offset left : ℕ) → AreAxes shape strides start → IsOnWalk shape strides start index offset left → 0 < left → drop (count shape - left) (offsets_at shape strides start) ≡ offset ∷ drop (count shape - (left - 1)) (offsets_at shape strides start)
+walk_step_at shape strides start index offset left axes on some =
+    let l = layout_of shape strides start axes in
+    subst (λ all. drop (count shape - left) all ≡ offset ∷ drop (count shape - (left - 1)) all) (offsets-at l) (walk_step l index offset left on some)
+
+-- none is left
+pub walk_over_at : (shape : List ℕ) (strides : List ℤ) (start left : ℕ) → left ≤ 0 → drop (count shape - left) (offsets_at shape strides start) ≡ []
+walk_over_at shape strides start left none =
+    let at = λ (index : List ℕ). natural (address_at strides start index) in
+    drop_all (count shape - left) (offsets_at shape strides start) (omega (arith, length-map (indexes shape) at, length-indexes shape))

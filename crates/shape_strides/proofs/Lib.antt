@@ -21,3 +21,4 @@ mod Vectors
 mod JoinedVectors
 mod ContiguityVectors
 pub mod SingleLaws
+pub mod LastRunLaws

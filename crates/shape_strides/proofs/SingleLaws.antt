@@ -1,5 +1,5 @@
 -- Laws of layouts whose items are one run.
-use Rattle.std.proofs.Common.{◌≡◌, ℕ, zero, suc, ◌+◌, ◌-◌, ◌*◌, ◌<◌, ◌≤◌, ◌==◌, ℤ, pos, List, [], ◌∷◌, All, length, get_or, drop, refl, sym, ◌∙◌, ap, subst, arith}
+use Rattle.std.proofs.Common.{◌≡◌, ℕ, zero, suc, ◌+◌, ◌-◌, ◌*◌, ◌<◌, ◌≤◌, ◌==◌, ℤ, pos, List, [], ◌∷◌, All, length, get_or, drop, refl, sym, ◌∙◌, ap, subst, arith, mul-le-mul_right}
 use Rattle.std.proofs.lemmas.Bool.{cond_both, cond-false, ne_eqb}
 use Rattle.std.proofs.lemmas.List.{append-nil}
 use Rattle.std.specs.List.{flat_map}
@@ -12,6 +12,7 @@ use Rattle.shape_strides.specs.Layouts.{offsets, Fits}
 use Rattle.shape_strides.specs.Joined.{strided_axes, leads_over, join_outside, joined}
 use Rattle.shape_strides.specs.Runs.{run_offsets, run_along, runs_from, runs, GoesBy}
 use Rattle.shape_strides.specs.inside.Single.{if_long}
+use Rattle.shape_strides.specs.inside.LastRuns.{AreJoinedFrom, IsLastRun}
 use Rattle.shape_strides.proofs.RunLaws.{runs-some, runs-offsets, two_never, run_goes}
 use Rattle.shape_strides.specs.CountLaws.{factors_pos, count-drop}
 use Rattle.shape_strides.proofs.StartLaws.{count-later}
@@ -29,7 +30,7 @@ grows axis (inner ∷ axes) two =
     cond_both (axis.len == 1) (inner ∷ axes) _ (λ made. 2 ≤ length made) (λ _. two) (λ _.
     cond_both (leads_over axis inner) (merged ∷ axes) (axis ∷ inner ∷ axes) (λ made. 2 ≤ length made) (λ _. omega (arith, two)) (λ _. omega (arith, two)))
 
-two_of_later : (strides : List ℤ) (shape : List ℕ) (j : ℕ) → length strides ≡ length shape → 2 ≤ length (joined (strided_axes (drop j strides) (drop j shape))) → 2 ≤ length (joined (strided_axes strides shape))
+pub two_of_later : (strides : List ℤ) (shape : List ℕ) (j : ℕ) → length strides ≡ length shape → 2 ≤ length (joined (strided_axes (drop j strides) (drop j shape))) → 2 ≤ length (joined (strided_axes strides shape))
 two_of_later strides shape zero same two = two
 two_of_later [] [] (suc j) same two = two
 two_of_later [] (n ∷ shape) (suc j) same two = absurd (omega (arith, same))
@@ -49,12 +50,9 @@ no_run l step some two by = at (joined (strided_axes l.strides l.shape)) refl tw
     at (axis ∷ []) are more = absurd (omega (arith, more))
     at (outer ∷ inner ∷ axes) are more = two_never l step outer inner axes some are by
 
--- an axis before those that are joined to one
-pub record IsJoinedFrom (strides : List ℤ) (lengths : List ℕ) (j : ℕ) (along : StridedAxis) : Type 0 where
-  pub are : if_long along ≡ joined (strided_axes (drop j strides) (drop j lengths))
-  pub items : along.len ≡ count (drop j lengths)
+-- ---- an axis before those that are joined to one
 
-pub joined_before : (strides : List ℤ) (lengths : List ℕ) (k : ℕ) (along : StridedAxis) → length strides ≡ length lengths → 0 < k → k ≤ length lengths → IsJoinedFrom strides lengths k along → join_outside (record { len = get_or lengths (k - 1) 0; stride = get_or strides (k - 1) (pos 0) }) (if_long along) ≡ joined (strided_axes (drop (k - 1) strides) (drop (k - 1) lengths))
+pub joined_before : (strides : List ℤ) (lengths : List ℕ) (k : ℕ) (along : StridedAxis) → length strides ≡ length lengths → 0 < k → k ≤ length lengths → AreJoinedFrom strides lengths k along → join_outside (record { len = get_or lengths (k - 1) 0; stride = get_or strides (k - 1) (pos 0) }) (if_long along) ≡ joined (strided_axes (drop (k - 1) strides) (drop (k - 1) lengths))
 joined_before strides lengths zero along same some most from = absurd (omega arith)
 joined_before strides lengths (suc j) along same some most from =
     let before : suc j - 1 ≡ j = omega arith in
@@ -68,7 +66,7 @@ joined_before strides lengths (suc j) along same some most from =
     later (s ∷ strides) (n ∷ lengths) (suc j) same below = later strides lengths j (omega (arith, same)) (omega (arith, below))
 
 -- where there are items, an axis and those joined behind it have some, and no more than there are
-pub joined_items : (strides : List ℤ) (lengths : List ℕ) (k : ℕ) (along : StridedAxis) → 0 < k → k ≤ length lengths → IsJoinedFrom strides lengths k along → 0 < count lengths → count lengths ≤ max_items → (1 ≤ get_or lengths (k - 1) 0) × (1 ≤ along.len) × (get_or lengths (k - 1) 0 * along.len ≤ max_items) × (get_or lengths (k - 1) 0 * along.len ≡ count (drop (k - 1) lengths))
+pub joined_items : (strides : List ℤ) (lengths : List ℕ) (k : ℕ) (along : StridedAxis) → 0 < k → k ≤ length lengths → AreJoinedFrom strides lengths k along → 0 < count lengths → count lengths ≤ max_items → (1 ≤ get_or lengths (k - 1) 0) × (1 ≤ along.len) × (get_or lengths (k - 1) 0 * along.len ≤ max_items) × (get_or lengths (k - 1) 0 * along.len ≡ count (drop (k - 1) lengths))
 joined_items strides lengths k along some most from items few =
     let next : k - 1 + 1 ≡ k = omega arith in
     let before = count-later lengths (k - 1) items in
@@ -77,25 +75,59 @@ joined_items strides lengths k along some most from items few =
     let both = factors_pos (get_or lengths (k - 1) 0) along.len (omega (arith, whole, before.0)) in
     (both.0, both.1, omega (arith, whole, before.1, few), sym whole)
 
+-- one axis more is joined, or it is not
+pub joined_more : (strides : List ℤ) (lengths : List ℕ) (k : ℕ) (along one : StridedAxis) → length strides ≡ length lengths → 0 < k → k ≤ length lengths → AreJoinedFrom strides lengths k along → 0 < count lengths → count lengths ≤ max_items → join_outside (record { len = get_or lengths (k - 1) 0; stride = get_or strides (k - 1) (pos 0) }) (if_long along) ≡ if_long one → one.len ≡ get_or lengths (k - 1) 0 * along.len → (one.len ≡ 1 → one.stride ≡ along.stride) → AreJoinedFrom strides lengths (k - 1) one
+joined_more strides lengths k along one same some most from items few is long single =
+    let sizes = joined_items strides lengths k along some most from items few in
+    record {
+      are = sym is ∙ joined_before strides lengths k along same some most from;
+      items = long ∙ sizes.3;
+      single = λ alone. single alone ∙ from.single (factor (get_or lengths (k - 1) 0) along.len sizes.0 sizes.1 (sym long ∙ alone));
+    }
+  where
+    factor : (a b : ℕ) → 1 ≤ a → 1 ≤ b → a * b ≡ 1 → b ≡ 1
+    factor (suc a) b low low' is = let grown : 1 * b ≤ suc a * b = mul-le-mul_right b low in omega (arith, is)
+    factor zero b low low' is = absurd (omega arith)
+
+pub last_apart : (strides : List ℤ) (lengths : List ℕ) (k : ℕ) (along : StridedAxis) → length strides ≡ length lengths → 0 < k → k ≤ length lengths → AreJoinedFrom strides lengths k along → 2 ≤ get_or lengths (k - 1) 0 → join_outside (record { len = get_or lengths (k - 1) 0; stride = get_or strides (k - 1) (pos 0) }) (if_long along) ≡ record { len = get_or lengths (k - 1) 0; stride = get_or strides (k - 1) (pos 0) } ∷ along ∷ [] → IsLastRun strides lengths k along
+last_apart strides lengths k along same some most from long two = record {
+  within = most;
+  inside = from;
+  long = λ _. long;
+  apart = λ _. sym (joined_before strides lengths k along same some most from) ∙ two;
+}
+
+pub last_whole : (strides : List ℤ) (lengths : List ℕ) (k : ℕ) (along : StridedAxis) → k ≤ 0 → AreJoinedFrom strides lengths k along → IsLastRun strides lengths 0 along
+last_whole strides lengths zero along none from = record { within = omega arith; inside = from; long = λ some. absurd (omega arith); apart = λ some. absurd (omega arith) }
+last_whole strides lengths (suc k) along none from = absurd (omega arith)
+
+-- where an axis is left outside, the layout is no run
+pub outside_no_run : (l : Layout) (outside : ℕ) (along : StridedAxis) (step : ℤ) → 0 < count l.shape → IsLastRun l.strides l.shape outside along → 0 < outside → GoesBy step (offsets l) → ⊥
+outside_no_run l outside along step items last some by =
+    no_run l step items (stay_two l l.strides l.shape (outside - 1) (record { len = get_or l.shape (outside - 1) 0; stride = get_or l.strides (outside - 1) (pos 0) }) along refl refl l.one_stride_an_axis (last.apart some)) by
+
 -- ---- the run
 
--- as the loop leaves it
-pub from_slices : (l : Layout) (strides : List ℤ) (lengths : List ℕ) (k : ℕ) (along : StridedAxis) → strides ≡ l.strides → lengths ≡ l.shape → k ≤ 0 → IsJoinedFrom strides lengths k along → IsJoinedFrom l.strides l.shape 0 along
-from_slices l strides lengths zero along are are' none from = subst (λ s. IsJoinedFrom s l.shape 0 along) are (subst (λ s. IsJoinedFrom strides s 0 along) are' from)
-from_slices l strides lengths (suc k) along are are' none from = absurd (omega arith)
-
-pub is_axis : (l : Layout) (along : StridedAxis) → 2 ≤ count l.shape → IsJoinedFrom l.strides l.shape 0 along → joined (strided_axes l.strides l.shape) ≡ along ∷ []
+pub is_axis : (l : Layout) (along : StridedAxis) → 2 ≤ count l.shape → AreJoinedFrom l.strides l.shape 0 along → joined (strided_axes l.strides l.shape) ≡ along ∷ []
 is_axis l along two from = sym from.are ∙ long_axis along (omega (arith, two, from.items))
 
-pub is_run : (l : Layout) (along : StridedAxis) → 2 ≤ count l.shape → IsJoinedFrom l.strides l.shape 0 along → runs l ≡ run_along along l.offset ∷ []
+pub is_run : (l : Layout) (along : StridedAxis) → 2 ≤ count l.shape → AreJoinedFrom l.strides l.shape 0 along → runs l ≡ run_along along l.offset ∷ []
 is_run l along two from = runs-some l (omega (arith, two)) ∙ ap (runs_from (pos l.offset)) (is_axis l along two from)
 
-pub run_is_all : (l : Layout) (along : StridedAxis) → 2 ≤ count l.shape → IsJoinedFrom l.strides l.shape 0 along → run_offsets (run_along along l.offset) ≡ offsets l
+pub run_is_all : (l : Layout) (along : StridedAxis) → 2 ≤ count l.shape → AreJoinedFrom l.strides l.shape 0 along → run_offsets (run_along along l.offset) ≡ offsets l
 run_is_all l along two from = sym (append-nil (run_offsets (run_along along l.offset))) ∙ ap (flat_map run_offsets) (sym (is_run l along two from)) ∙ runs-offsets l
 
-pub run_fits : (l : Layout) (along : StridedAxis) → 2 ≤ count l.shape → IsJoinedFrom l.strides l.shape 0 along → (len item : ℕ) → Fits l len item → LieWithin (along.len ∷ []) (along.stride ∷ []) l.offset len item
+pub run_fits : (l : Layout) (along : StridedAxis) → 2 ≤ count l.shape → AreJoinedFrom l.strides l.shape 0 along → (len item : ℕ) → Fits l len item → LieWithin (along.len ∷ []) (along.stride ∷ []) l.offset len item
 run_fits l along two from len item fits =
     subst (λ all. All (λ run. LieWithin (run.count ∷ []) (run.step ∷ []) run.offset len item) all) (is_run l along two from) (runs-lie l len item fits) 0 (run_along along l.offset) (omega arith)
 
-pub run_steps : (l : Layout) (along : StridedAxis) → 2 ≤ count l.shape → IsJoinedFrom l.strides l.shape 0 along → (step : ℤ) → GoesBy step (offsets l) → along.stride ≡ step
+pub run_steps : (l : Layout) (along : StridedAxis) → 2 ≤ count l.shape → AreJoinedFrom l.strides l.shape 0 along → (step : ℤ) → GoesBy step (offsets l) → along.stride ≡ step
 run_steps l along two from step by = run_goes l step along (omega (arith, two, from.items)) (is_axis l along two from) by
+
+-- as the slices of a layout have it
+pub last_of : (l : Layout) (strides : List ℤ) (lengths : List ℕ) (outside : ℕ) (along : StridedAxis) → strides ≡ l.strides → lengths ≡ l.shape → IsLastRun strides lengths outside along → IsLastRun l.strides l.shape outside along
+last_of l strides lengths outside along are are' last = subst (λ s. IsLastRun s l.shape outside along) are (subst (λ s. IsLastRun strides s outside along) are' last)
+
+pub whole_run : (l : Layout) (outside : ℕ) (along : StridedAxis) → outside ≤ 0 → IsLastRun l.strides l.shape outside along → AreJoinedFrom l.strides l.shape 0 along
+whole_run l zero along none last = last.inside
+whole_run l (suc outside) along none last = absurd (omega arith)

@@ -4,3 +4,4 @@ pub mod Heads
 pub mod Alike
 pub mod AxisIndexes
 pub mod Single
+pub mod LastRuns

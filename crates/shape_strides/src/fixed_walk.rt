@@ -2,7 +2,7 @@
 ghost use Rattle.std.specs.Prelude.{◌≡◌, ℕ, ◌+◌, ◌≤◌, length, All};
 
 use crate::layout::Layout;
-use crate::walk::Walk;
+use crate::walk::advance;
 use std::marker::Model;
 
 /// The offsets of a layout's items in C order, seen as the list of those that are left. Unlike a
@@ -26,7 +26,7 @@ impl<'a> Model for FixedWalk<'a> {
 
     ghost view = { λ w. drop (count w.layout.now.shape - w.left) (offsets w.layout.now) };
 
-    ghost invariant = { λ w. IsOnWalk w.layout.now (take (length w.layout.now.shape) w.index) w.offset w.left };
+    ghost invariant = { λ w. IsOnWalk w.layout.now.shape w.layout.now.strides w.layout.now.offset (take (length w.layout.now.shape) w.index) w.offset w.left };
 }
 
 impl<'a> FixedWalk<'a> {
@@ -65,7 +65,13 @@ impl<'a> Iterator for FixedWalk<'a> {
         let axes = self.layout.shape.rank();
         let offset = self.offset;
         self.left -= 1;
-        self.offset = Walk::advance(self.layout, &mut self.index[..axes], offset);
+        self.offset = advance(
+            self.layout.shape.as_slice(),
+            self.layout.strides.as_slice(),
+            self.layout.offset,
+            &mut self.index[..axes],
+            offset,
+        );
         Some(offset)
     }
 }

@@ -1,5 +1,5 @@
 //! The items of two layouts with as many items, run by run.
-ghost use Rattle.std.specs.Prelude.{◌≡◌, [], ◌∷◌, ◌<◌, ◌≤◌, ℕ, ℤ, pos, ◌+ℤ◌, ◌*ℤ◌, ◌≤ℤ◌, length, All, IfOk};
+ghost use Rattle.std.specs.Prelude.{◌≡◌, [], ◌∷◌, ◌<◌, ◌≤◌, ℕ, ℤ, pos, ◌+ℤ◌, ◌*ℤ◌, ◌≤ℤ◌, length, All};
 ghost use Rattle.std.specs.List.{flat_map};
 ghost use Rattle.shape_strides.specs.Limits.{max_items, max_bytes};
 ghost use Rattle.shape_strides.specs.Indexes.{count};
@@ -12,7 +12,6 @@ ghost use Rattle.shape_strides.specs.inside.Heads.{IsHead, both};
 
 use crate::layout::Layout;
 use crate::runs::{Run, Runs};
-use std::alloc::{AllocError, Global};
 use std::marker::Model;
 
 /// Runs of as many items in two layouts.
@@ -46,7 +45,7 @@ fn front(run: Run, n: usize) -> Run
 
 /// What follows the first `n` items of a run, before the other runs: the rest of it, or the next
 /// one.
-fn after(runs: &mut Runs, run: Run, n: usize) -> Option<Run>
+fn after(runs: &mut Runs<'_>, run: Run, n: usize) -> Option<Run>
     requires run { IsWhole run }
     requires n { n ≤ run.count }
     ensures { IsHead result runs.new (cut n run runs.old) }
@@ -70,15 +69,15 @@ fn both(first: Option<Run>, second: Option<Run>) -> Option<RunPair>
 }
 
 /// The items of two layouts with as many items, each in C order, seen as the list of the pairs of
-/// runs that are left. A step takes no memory.
+/// runs that are left. It takes no memory.
 #[derive(Drop)]
-pub struct RunPairs {
+pub struct RunPairs<'a> {
     at: Option<RunPair>,
-    first: Runs,
-    second: Runs,
+    first: Runs<'a>,
+    second: Runs<'a>,
 }
 
-impl Model for RunPairs {
+impl<'a> Model for RunPairs<'a> {
     ghost use Rattle.std.specs.Prelude.{List};
     ghost use Rattle.shape_strides.specs.declared.run_pairs.RunPair.{RunPair};
 
@@ -92,11 +91,11 @@ impl Model for RunPairs {
     ghost invariant = { λ r. IsAtPair r.at r.first r.second };
 }
 
-impl RunPairs {
+impl<'a> RunPairs<'a> {
     /// The pairs of runs of two layouts. A pair ends wherever a run of either layout ends.
-    pub fn new(alloc: Global, first: &Layout, second: &Layout) -> Result<RunPairs, AllocError>
+    pub fn new(first: &'a Layout, second: &'a Layout) -> RunPairs<'a>
         requires { count first.now.shape ≡ count second.now.shape }
-        ensures pairs { IfOk result (λ left. left ≡ run_pairs first.now second.now) }
+        ensures pairs { result ≡ run_pairs first.now second.now }
         ensures first { flat_map (λ pair. run_offsets pair.first) (run_pairs first.now second.now) ≡ offsets first.now }
         ensures second { flat_map (λ pair. run_offsets pair.second) (run_pairs first.now second.now) ≡ offsets second.now }
         ensures first_lie { (len item : ℕ) → Fits first.now len item → All (λ pair. LieWithin (pair.first.count ∷ []) (pair.first.step ∷ []) pair.first.offset len item) (run_pairs first.now second.now) }
@@ -105,17 +104,17 @@ impl RunPairs {
         ensures alone { (step other : ℤ) → 0 < count first.now.shape → GoesBy step (offsets first.now) → GoesBy other (offsets second.now) → length (run_pairs first.now second.now) ≡ 1 }
     {
         let _lengths = first.shape.as_slice();
-        let mut first = Runs::new(alloc, first)?;
-        let mut second = Runs::new(alloc, second)?;
-        Ok(RunPairs {
+        let mut first = Runs::new(first);
+        let mut second = Runs::new(second);
+        RunPairs {
             at: both(first.next(), second.next()),
             first,
             second,
-        })
+        }
     }
 }
 
-impl Iterator for RunPairs {
+impl<'a> Iterator for RunPairs<'a> {
     ghost use Rattle.std.specs.Iterator.{YieldsFirst, item_count};
 
     type Item = RunPair;

@@ -1,19 +1,14 @@
 //! The items of a layout, run by run.
-ghost use Rattle.std.specs.Prelude.{◌≡◌, [], ◌∷◌, ◌+◌, ◌*◌, ◌<◌, ◌≤◌, ℕ, ℤ, length, map, reverse, All, IfOk};
+ghost use Rattle.std.specs.Prelude.{◌≡◌, [], ◌∷◌, ◌+◌, ◌<◌, ◌≤◌, ℕ, ℤ, length, map, All};
 ghost use Rattle.std.specs.List.{flat_map};
 ghost use Rattle.shape_strides.specs.Indexes.{count};
 ghost use Rattle.shape_strides.specs.Addresses.{LieWithin};
 ghost use Rattle.shape_strides.specs.Layouts.{offsets, Fits};
-ghost use Rattle.shape_strides.specs.Joined.{strided_axes, joined};
-ghost use Rattle.shape_strides.specs.inside.Starts.{lengths_of, strides_of, LeadToRuns};
 
-use crate::joined::{StridedAxis, joined_axes};
+use crate::joined::StridedAxis;
 use crate::layout::Layout;
-use crate::shape::Shape;
-use crate::strides::Strides;
-use crate::walk::Walk;
-use smallvec::SmallVec;
-use std::alloc::{AllocError, Global};
+use crate::single_run::last_run;
+use crate::walk::advance;
 use std::marker::Model;
 
 /// Items in C order, each of them one step after the one before it.
@@ -29,136 +24,111 @@ pub struct Run {
 }
 
 /// The items of a layout in C order, seen as the list of the runs that are left. Each run covers
-/// the last of the layout's axes, as they are joined. A step takes no memory.
+/// the last of the layout's axes, as far as they are joined. It takes no memory, whatever the number
+/// of axes.
 #[derive(Drop)]
-pub struct Runs {
-    starts: Layout,
-    index: SmallVec<usize, 8>,
+pub struct Runs<'a> {
+    lengths: &'a [usize],
+    strides: &'a [isize],
+    start: usize,
+    index: [usize; 64],
     offset: usize,
     left: usize,
     along: StridedAxis,
 }
 
-impl Model for Runs {
-    ghost use Rattle.std.specs.Prelude.{List, map, ◌-◌, drop};
+impl<'a> Model for Runs<'a> {
+    ghost use Rattle.std.specs.Prelude.{List, map, ◌-◌, drop, take, length};
     ghost use Rattle.shape_strides.specs.declared.runs.Run.{Run};
 
     ghost Value = { List Run };
 
     ghost use Rattle.shape_strides.specs.Indexes.{count};
-    ghost use Rattle.shape_strides.specs.Layouts.{offsets};
     ghost use Rattle.shape_strides.specs.Runs.{run_along};
-    ghost use Rattle.shape_strides.specs.Walks.{IsOnWalk};
+    ghost use Rattle.shape_strides.specs.Walks.{AreAxes, IsOnWalk, offsets_at};
 
-    ghost view = { λ r. map (run_along r.along) (drop (count r.starts.shape - r.left) (offsets r.starts)) };
+    ghost view = { λ r. map (run_along r.along) (drop (count r.lengths.now - r.left) (offsets_at r.lengths.now r.strides.now r.start)) };
 
-    ghost invariant = { λ r. IsOnWalk r.starts r.index.items r.offset r.left };
+    ghost invariant = { λ r. AreAxes r.lengths.now r.strides.now r.start
+        × IsOnWalk r.lengths.now r.strides.now r.start (take (length r.lengths.now) r.index) r.offset r.left };
 }
 
-/// The lengths of axes that stand innermost first, outermost first.
-fn lengths_of(alloc: Global, axes: &[StridedAxis]) -> Result<SmallVec<usize, 8>, AllocError>
-    ensures { IfOk result (λ lengths. lengths.items ≡ lengths_of (reverse axes.now)) }
-{
-    let mut lengths = SmallVec::new(alloc);
-    for axis in (0..axes.len()).rev() {
-        lengths.push(axes[axis].len)?;
-    }
-    Ok(lengths)
-}
-
-/// The strides of axes that stand innermost first, outermost first.
-fn strides_of(alloc: Global, axes: &[StridedAxis]) -> Result<Strides, AllocError>
-    ensures { IfOk result (λ strides. strides ≡ strides_of (reverse axes.now)) }
-{
-    let mut strides = Strides::new(alloc);
-    for axis in (0..axes.len()).rev() {
-        strides.push(axes[axis].stride)?;
-    }
-    Ok(strides)
-}
-
-/// The layout of the first items of runs of `len` items, by the axes outside of the runs. They
-/// stand innermost first.
-fn layout_of_starts(
-    alloc: Global,
-    layout: &Layout,
-    axes: &[StridedAxis],
-    len: usize,
-) -> Result<Layout, AllocError>
-    requires some { 0 < count layout.now.shape }
-    requires axes { LeadToRuns layout.now (reverse axes.now) len }
-    ensures shape { IfOk result (λ starts. starts.shape ≡ lengths_of (reverse axes.now)) }
-    ensures strides { IfOk result (λ starts. starts.strides ≡ strides_of (reverse axes.now)) }
-    ensures offset { IfOk result (λ starts. starts.offset ≡ layout.now.offset) }
-{
-    let items = layout.shape.items() / len;
-    let lengths = lengths_of(alloc, axes)?;
-    let shape = Shape::from_axes(lengths, items);
-    let strides = strides_of(alloc, axes)?;
-    Ok(Layout {
-        shape,
-        strides,
-        offset: layout.offset,
-    })
-}
-
-impl Runs {
+impl<'a> Runs<'a> {
+    ghost use Rattle.shape_strides.specs.declared.layout.Layout.{Layout};
+    ghost use Rattle.shape_strides.specs.Limits.{max_axes, max_items};
     ghost use Rattle.shape_strides.specs.Runs.{run_along, run_offsets, runs, GoesBy};
+    ghost use Rattle.shape_strides.specs.Walks.{AreAxes, offsets_at};
 
     /// The runs of a layout.
-    pub fn new(alloc: Global, layout: &Layout) -> Result<Runs, AllocError>
-        ensures runs { IfOk result (λ left. left ≡ runs layout.now) }
+    pub fn new(layout: &'a Layout) -> Runs<'a>
+        ensures runs { result ≡ runs layout.now }
         ensures offsets { flat_map run_offsets (runs layout.now) ≡ offsets layout.now }
         ensures alone { (step : ℤ) → 0 < count layout.now.shape → GoesBy step (offsets layout.now) → length (runs layout.now) ≡ 1 }
         ensures within { (len item : ℕ) → Fits layout.now len item → All (λ offset. offset + item ≤ len) (offsets layout.now) }
         ensures lie { (len item : ℕ) → Fits layout.now len item → All (λ run. LieWithin (run.count ∷ []) (run.step ∷ []) run.offset len item) (runs layout.now) }
         ensures some { All (λ run. 1 ≤ run.count) (runs layout.now) }
     {
-        if layout.shape.items() == 0 {
-            let starts = Layout::try_copy(alloc, layout)?;
-            return Runs::along(alloc, starts, StridedAxis { len: 0, stride: 0 });
-        }
-        let axes = joined_axes(alloc, layout)?;
-        Runs::over(alloc, layout, axes.as_slice())
+        Runs::over(
+            layout.shape.as_slice(),
+            layout.strides.as_slice(),
+            layout.offset,
+            layout.shape.items(),
+        )
     }
 
-    /// A run along the axis from each offset of a layout.
-    fn along(alloc: Global, starts: Layout, axis: StridedAxis) -> Result<Runs, AllocError>
-        ensures { IfOk result (λ left. left ≡ map (run_along axis) (offsets starts)) }
+    /// A run along an axis from each offset that the axes lead to.
+    fn along(
+        lengths: &'a [usize],
+        strides: &'a [isize],
+        offset: usize,
+        items: usize,
+        along: StridedAxis,
+    ) -> Runs<'a>
+        requires axes { AreAxes lengths.now strides.now offset }
+        requires few { length lengths.now ≤ max_axes }
+        requires items { items ≡ count lengths.now }
+        ensures { result ≡ map (run_along along) (offsets_at lengths.now strides.now offset) }
     {
-        let index = SmallVec::from_elem(alloc, 0, starts.shape.rank())?;
-        let offset = starts.offset;
-        let left = starts.shape.items();
-        Ok(Runs {
-            starts,
-            index,
+        Runs {
+            lengths,
+            strides,
+            start: offset,
+            index: [0; 64],
             offset,
-            left,
-            along: axis,
-        })
+            left: items,
+            along,
+        }
     }
 
-    /// The runs of a layout with items, by its joined axes, which stand innermost first.
-    fn over(alloc: Global, layout: &Layout, axes: &[StridedAxis]) -> Result<Runs, AllocError>
-        requires some { 0 < count layout.now.shape }
-        requires axes { reverse axes.now ≡ joined (strided_axes layout.now.strides layout.now.shape) }
-        ensures { IfOk result (λ left. left ≡ runs layout.now) }
+    /// The runs of the layout with these axes.
+    pub(crate) fn over(
+        lengths: &'a [usize],
+        strides: &'a [isize],
+        offset: usize,
+        items: usize,
+    ) -> Runs<'a>
+        requires axes { AreAxes lengths.now strides.now offset }
+        requires few { length lengths.now ≤ max_axes }
+        requires items { items ≡ count lengths.now }
+        requires most { items ≤ max_items }
+        ensures { (l : Layout) → l.shape ≡ lengths.now → l.strides ≡ strides.now → l.offset ≡ offset → result ≡ runs l }
     {
-        let _lengths = layout.shape.as_slice();
-        match axes {
-            [] => {
-                let starts = layout_of_starts(alloc, layout, axes, 1)?;
-                Runs::along(alloc, starts, StridedAxis { len: 1, stride: 0 })
-            }
-            [last, outer @ ..] => {
-                let starts = layout_of_starts(alloc, layout, outer, last.len)?;
-                Runs::along(alloc, starts, *last)
-            }
+        if items == 0 {
+            let none = StridedAxis { len: 0, stride: 0 };
+            return Runs::along(lengths, strides, offset, 0, none);
         }
+        let last = last_run(lengths, strides);
+        Runs::along(
+            &lengths[..last.outside],
+            &strides[..last.outside],
+            offset,
+            items / last.along.len,
+            last.along,
+        )
     }
 }
 
-impl Iterator for Runs {
+impl<'a> Iterator for Runs<'a> {
     ghost use Rattle.std.specs.Iterator.{YieldsFirst, item_count};
 
     type Item = Run;
@@ -171,9 +141,16 @@ impl Iterator for Runs {
         if self.left == 0 {
             return None;
         }
+        let axes = self.lengths.len();
         let offset = self.offset;
         self.left -= 1;
-        self.offset = Walk::advance(&self.starts, self.index.as_mut_slice(), offset);
+        self.offset = advance(
+            self.lengths,
+            self.strides,
+            self.start,
+            &mut self.index[..axes],
+            offset,
+        );
         Some(Run {
             offset,
             count: self.along.len,

@@ -78,15 +78,6 @@ impl Shape {
         Ok(Shape { axes, items })
     }
 
-    /// The shape of lengths that are within the limits.
-    pub(crate) fn from_axes(axes: SmallVec<usize, 8>, items: usize) -> Shape
-        requires limits { IsShape axes.items }
-        requires items { items ≡ count axes.items }
-        ensures { result ≡ axes.items }
-    {
-        Shape { axes, items }
-    }
-
     /// The lengths of the axes.
     pub fn as_slice(&self) -> &[usize]
         ensures value { result.now ≡ self.now }

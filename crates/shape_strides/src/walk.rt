@@ -1,5 +1,8 @@
 //! The offsets of a layout's items, one after the other in C order.
 ghost use Rattle.std.specs.Prelude.{◌≡◌, ℕ, ◌+◌, ◌<◌, ◌≤◌, pos, length, All, IfOk};
+ghost use Rattle.shape_strides.specs.Indexes.{count, rank, IsIndex};
+ghost use Rattle.shape_strides.specs.Addresses.{address_at};
+ghost use Rattle.shape_strides.specs.Walks.{AreAxes};
 
 use crate::layout::Layout;
 use crate::steps::{back, forward};
@@ -28,12 +31,11 @@ impl<'a> Model for Walk<'a> {
 
     ghost view = { λ w. drop (count w.layout.now.shape - w.left) (offsets w.layout.now) };
 
-    ghost invariant = { λ w. IsOnWalk w.layout.now w.index.items w.offset w.left };
+    ghost invariant = { λ w. IsOnWalk w.layout.now.shape w.layout.now.strides w.layout.now.offset w.index.items w.offset w.left };
 }
 
 impl<'a> Walk<'a> {
-    ghost use Rattle.shape_strides.specs.Indexes.{count, rank, IsIndex};
-    ghost use Rattle.shape_strides.specs.Layouts.{address, offsets, Fits};
+    ghost use Rattle.shape_strides.specs.Layouts.{offsets, Fits};
 
     /// A walk over all items of a layout.
     pub fn new(alloc: Global, layout: &'a Layout) -> Result<Walk<'a>, AllocError>
@@ -49,33 +51,37 @@ impl<'a> Walk<'a> {
             left: layout.shape.items(),
         })
     }
+}
 
-    /// Goes on to the next index in C order, and from the last one back to the first. The result is
-    /// the offset there.
-    pub(crate) fn advance(layout: &Layout, index: &mut [usize], offset: usize) -> usize
-        requires index { IsIndex layout.now.shape index.old }
-        requires offset { pos offset ≡ address layout.now index.old }
-        ensures index { IsIndex layout.now.shape index.new }
-        ensures rank { rank layout.now.shape index.old + 1 < count layout.now.shape
-            → rank layout.now.shape index.new ≡ rank layout.now.shape index.old + 1 }
-        ensures offset { pos result ≡ address layout.now index.new }
-    {
-        let lengths = layout.shape.as_slice();
-        let strides = layout.strides.as_slice();
-        let mut offset = offset;
-        let mut axis = lengths.len();
-        while axis > 0 {
-            axis -= 1;
-            let number = index[axis];
-            if number + 1 < lengths[axis] {
-                index[axis] = number + 1;
-                return forward(offset, strides, axis, 1);
-            }
-            index[axis] = 0;
-            offset = back(offset, strides, axis, number);
+/// Goes on to the next index in C order, and from the last one back to the first. The result is the
+/// offset there.
+pub(crate) fn advance(
+    lengths: &[usize],
+    strides: &[isize],
+    start: usize,
+    index: &mut [usize],
+    offset: usize,
+) -> usize
+    requires axes { AreAxes lengths.now strides.now start }
+    requires index { IsIndex lengths.now index.old }
+    requires offset { pos offset ≡ address_at strides.now start index.old }
+    ensures index { IsIndex lengths.now index.new }
+    ensures rank { rank lengths.now index.old + 1 < count lengths.now → rank lengths.now index.new ≡ rank lengths.now index.old + 1 }
+    ensures offset { pos result ≡ address_at strides.now start index.new }
+{
+    let mut offset = offset;
+    let mut axis = lengths.len();
+    while axis > 0 {
+        axis -= 1;
+        let number = index[axis];
+        if number + 1 < lengths[axis] {
+            index[axis] = number + 1;
+            return forward(offset, strides, axis, 1);
         }
-        offset
+        index[axis] = 0;
+        offset = back(offset, strides, axis, number);
     }
+    start
 }
 
 impl<'a> Iterator for Walk<'a> {
@@ -93,7 +99,13 @@ impl<'a> Iterator for Walk<'a> {
         }
         let offset = self.offset;
         self.left -= 1;
-        self.offset = Walk::advance(self.layout, self.index.as_mut_slice(), offset);
+        self.offset = advance(
+            self.layout.shape.as_slice(),
+            self.layout.strides.as_slice(),
+            self.layout.offset,
+            self.index.as_mut_slice(),
+            offset,
+        );
         Some(offset)
     }
 }

@@ -1,5 +1,6 @@
 -- Moves of items within one block, by index: the k-th item goes to one place from another.
 use Rattle.std.specs.Prelude.{◌≡◌, ℕ, ◌+◌, ◌-◌, ◌<◌, ◌≤◌, ◌⊎◌, pos, neg_ℤ, ◌+ℤ◌, ◌*ℤ◌, List, [], ◌∷◌, length, slice_index}
+use Rattle.std.specs.List.{AllByRecursion as Each}
 use Rattle.raw_block.specs.Bytes.{item_at, place}
 use Rattle.shape_strides.specs.declared.runs.Run.{Run}
 use Rattle.shape_strides.specs.Limits.{max_items, max_bytes}
@@ -31,10 +32,6 @@ place_in run k = place run.offset run.step k
 pub record AreSpaced (width : ℕ) (run : Run) : Type 0 where
   pub apart : (j k : ℕ) → j < k → k < run.count → width ≤ distance (place_in run j) (place_in run k)
 
--- no item meets one that moves after it and is still to be read
-pub record IsUnread (width : ℕ) (to from : Run) : Type 0 where
-  pub clear : (j k : ℕ) → j < k → k < to.count → width ≤ distance (place_in to j) (place_in from k)
-
 -- the same items from the last to the first
 pub record IsTurned (run back : Run) : Type 0 where
   pub offset : pos back.offset ≡ pos run.offset +ℤ run.step *ℤ pos (run.count - 1)
@@ -45,3 +42,11 @@ pub record IsTurned (run back : Run) : Type 0 where
 pub record IsRunOf (offsets : List ℕ) (run : Run) : Type 0 where
   pub items : run_offsets run ≡ offsets
   pub line : IsLine max_bytes 1 run
+
+-- an item at this offset lies apart from the items at all of these
+abbrev pub LiesApart : ℕ → ℕ → List ℕ → Type 0
+LiesApart width at from = Each (λ offset. width ≤ distance offset at) from
+
+-- and so does each of these
+abbrev pub LieApart : ℕ → List ℕ → List ℕ → Type 0
+LieApart width to from = Each (λ at. LiesApart width at from) to

@@ -3,6 +3,7 @@ use Rattle.std.proofs.lemmas.Result.{err_from_is_err_and}
 use Rattle.elem_descr.specs.declared.descr.Descr.{Descr}
 use Rattle.elem_descr.specs.Items.{item_size, decode_item}
 use Rattle.shape_strides.specs.Indexes.{count}
+use Rattle.shape_strides.specs.LayoutLaws.{length-offsets}
 use Rattle.view_ops.specs.Basics.{basic}
 use Rattle.literal_items.specs.LiteralItems.{item_value}
 use Rattle.name_store.specs.Arrays.{descr_of, written}
@@ -12,7 +13,7 @@ use Rattle.name_store.specs.ArrayLaws.{found-array as found}
 use Rattle.bench_engine.proofs.Looks.{unchanged, not_found, bound}
 use Rattle.bench_engine.proofs.Outcomes.{set-syntax, set-unknown, set-index, set-read_only, set-literal, set-done}
 use Rattle.bench_engine.proofs.Steps.{spare}
-use Rattle.bench_engine.proofs.Views.{leads, given-view, view-refused, refused-or}
+use Rattle.bench_engine.proofs.Views.{leads, may-write, given-view, view-refused, refused-or}
 use Rattle.bench_engine.proofs.set.set.Goals as goal
 
 pub returns-then-not-are_plain-clause-answers : goal.returns-then-not-are_plain-clause-answers
@@ -71,6 +72,7 @@ write_items-requires c =
         array = it.0;
         places = (viewed it.0 view.0).places;
         leads = leads _ _ it.0 c.in-Some.array view.0 c.in_ok-target.target it.1 it.2 c.if-not-array.false view.2;
+        may_write = may-write _ it.0 c.in-Some.array view.0 c.in_ok-target.target it.2 c.if-not-array.false view.2 c.in_ok-target.ensures.nested;
         source_for = whole ∙ ap item_size (sym it.2.descr);
       };
     }
@@ -91,7 +93,7 @@ returns-clause-answers c =
     let there = (λ i. basic (sym it.2.view.laid.shape i) (items i)) ∙ view.1 in
     let places = (viewed it.0 view.0).places in
     let aim = leads _ _ it.0 c.in-Some.array view.0 c.in_ok-target.target it.1 it.2 c.if-not-array.false view.2 in
-    let n = c.in_ok-count.ensures.0 ∙ ap count view.2.shape in
+    let n = c.in_ok-count.ensures.0 ∙ length-offsets c.in_ok-target.target ∙ ap count view.2.shape in
     let value = ap (λ (d : Descr). item_value d c.args.literal.now) it.2.descr ∙ c.in_ok-item.ensures.value ∙ λ i. Ok (decode_item (sym it.2.descr i) (sym c.as_slice-3.ensures.value i)) in
     let item = decode_item (descr_of s it.0) c.as_slice-3.result.now in
     let done : c.write_items.new.self ≡ written s it.0 places (replicate (count view.0.shape) item) = c.in_ok-count.ensures.1 it.0 places aim ∙ ap (λ n. written s it.0 places (replicate n item)) n in
@@ -102,3 +104,6 @@ returns-clause-answers c =
       set-done s _ _ _ _ it.0 view.0 item plain it.1 there (sym it.2.view.laid.writable_is ∙ c.if-not-array.false) value ∙ (λ i. comes_to (sym done i) (codes "ok set " ++ decimal (count view.0.shape))),
       c.push_count.ensures.told ∙ ap (λ n. c.args.out.now.items ++ (codes "ok set " ++ decimal n)) n,
     )
+
+pub push_count-requires-clause-count : goal.push_count-requires-clause-count
+push_count-requires-clause-count c = omega (arith, c.in_ok-count.ensures.0, length-offsets c.in_ok-target.target, c.items-items.ensures.value, c.items-items.ensures.limit)

@@ -1,7 +1,8 @@
-use Rattle.std.proofs.Common.{◌≡◌, ◌^◌, ◌&&◌, Bool, true, false, refl, sym, ap, subst, ◌∙◌, is_some, inl, inr}
+use Rattle.std.proofs.Common.{◌≡◌, ◌&&◌, Bool, true, false, refl, sym, ap, subst, ◌∙◌, is_some, inl, inr}
 use Rattle.std.proofs.lemmas.Result.{err_from_is_err_and}
 use Rattle.std.specs.Option.{option_copied}
 use Rattle.elem_descr.specs.Items.{item_size}
+use Rattle.shape_strides.specs.Limits.{max_bytes}
 use Rattle.shape_strides.specs.Layouts.{offsets, Fits}
 use Rattle.overlap_copy.specs.Overlaps.{have_common_byte}
 use Rattle.name_store.specs.View.{array_at, slot_at}
@@ -57,13 +58,13 @@ descr_in-requires-2 c =
 
 pub share_cell-requires-clause-a_fits : goal.share_cell-requires-clause-a_fits
 share_cell-requires-clause-a_fits c =
-    subst (Fits c.in-Some.first.now.layout (2 ^ 28)) (sym (c.size.ensures.value ∙ ap item_size c.descr_in.ensures))
+    subst (Fits c.in-Some.first.now.layout max_bytes) (sym (c.size.ensures.value ∙ ap item_size c.descr_in.ensures))
     (entry-fits _ c.args.slots.now c.requires.holds _ c.args.left.now.bytes.items (λ _. refl) c.in-Some.first.now (sym c.get.ensures.value ∙ ap option_copied c.in-Some.is) c.slot_of.result.now c.slot_of.ensures)
 
 pub share_cell-requires-clause-b_fits : goal.share_cell-requires-clause-b_fits
 share_cell-requires-clause-b_fits c =
     let same = ap (slot_at c.args.slots.now) (sym c.if-first-second.false) ∙ c.slot_of.ensures in
-    subst (Fits c.in-Some-get.second.now.layout (2 ^ 28)) (sym (c.size-2.ensures.value ∙ ap item_size c.descr_in-2.ensures))
+    subst (Fits c.in-Some-get.second.now.layout max_bytes) (sym (c.size-2.ensures.value ∙ ap item_size c.descr_in-2.ensures))
     (entry-fits _ c.args.slots.now c.requires.holds _ c.args.right.now.bytes.items (λ _. refl) c.in-Some-get.second.now (sym c.get-2.ensures.value ∙ ap option_copied c.in-Some-get.is) c.slot_of.result.now same)
 
 pub returns-in_err-has_common : goal.returns-in_err-has_common

@@ -3,18 +3,13 @@ use Rattle.std.proofs.lemmas.Bool.{both_ways}
 use Rattle.shape_strides.specs.Layouts.{offsets}
 use Rattle.shape_strides.specs.LayoutLaws.{length-offsets, offsets_within}
 use Rattle.overlap_copy.specs.Assignments.{with_items, assigned}
-use Rattle.overlap_copy.specs.inside.Packed.{packed}
+use Rattle.overlap_copy.specs.inside.Packed.{row_offsets}
 use Rattle.overlap_copy.proofs.assignment.assign.Goals as goal
 
-pub assign_apart-requires-clause-dst : goal.assign_apart-requires-clause-dst
-assign_apart-requires-clause-dst c = offsets_within c.args.dst.now (length c.args.block.now) c.args.width c.requires.dst
-
-pub assign_apart-requires-clause-src : goal.assign_apart-requires-clause-src
-assign_apart-requires-clause-src c = offsets_within c.args.src.now (length c.args.block.now) c.args.width c.requires.src
-
-pub gather-requires-clause-inside : goal.gather-requires-clause-inside
-gather-requires-clause-inside c =
-    subst (λ n. All (λ offset. offset + c.args.width ≤ n) (offsets c.args.src.now)) (sym c.assign_runs.ensures.len) (offsets_within c.args.src.now (length c.args.block.now) c.args.width c.requires.src)
+pub gather-requires : goal.gather-requires
+gather-requires c = record {
+  inside = subst (λ n. All (λ offset. offset + c.args.width ≤ n) (offsets c.args.src.now)) (sym c.assign_runs.ensures.len) (offsets_within c.args.src.now (length c.args.block.now) c.args.width c.requires.src);
+}
 
 pub returns-in_err-items-clause-runs : goal.returns-in_err-items-clause-runs
 returns-in_err-items-clause-runs c = λ step run run'. absurd (both_ways c.assign_runs.result c.if-assign_runs.false (c.assign_runs.ensures.same_step step run run'))
@@ -40,6 +35,6 @@ returns-clause-written c =
     let block = c.assign_runs.new.block in
     let even : length to ≡ length from = length-offsets c.args.dst.now ∙ c.requires.count ∙ sym (length-offsets c.args.src.now) in
     c.scatter.ensures.written
-    ∙ ap (λ n. with_items to (packed 0 width n items) block) even
+    ∙ ap (λ n. assigned to (row_offsets 0 width n) width items block) even
     ∙ ap (λ all. with_items to all block) c.in_ok-items.ensures.items
     ∙ ap (λ b. assigned to from width b b) (c.assign_runs.ensures.kept c.if-assign_runs.false)

@@ -1,23 +1,51 @@
-use Rattle.std.proofs.Common.{◌≡◌, ◌*◌, length, ap, sym, subst, ◌∙◌, arith}
+use Rattle.std.proofs.Common.{◌≡◌, ◌+◌, ◌*◌, ◌≤◌, length, All, sym, ap, subst, ◌∙◌, arith}
+use Rattle.std.specs.List.{flat_map}
 use Rattle.std.proofs.lemmas.List.{length-replicate}
+use Rattle.raw_block.specs.Bytes.{EachWithin}
+use Rattle.shape_strides.specs.Limits.{max_bytes}
 use Rattle.shape_strides.specs.Layouts.{offsets}
-use Rattle.overlap_copy.proofs.PackedLaws.{IsGathering, few_bytes, gather_begins, gather_next, room_for_next}
+use Rattle.shape_strides.specs.Runs.{run_offsets, runs}
+use Rattle.shape_strides.specs.LayoutLaws.{length-offsets}
+use Rattle.overlap_copy.specs.RunLaws.{runs-within}
+use Rattle.overlap_copy.specs.Assignments.{items_at, assigned}
+use Rattle.overlap_copy.specs.inside.Packed.{row_offsets}
+use Rattle.overlap_copy.proofs.CopyLaws.{landed}
+use Rattle.overlap_copy.proofs.PackedLaws.{length-row, row-within, row-nested}
+use Rattle.overlap_copy.specs.RunLaws.{run-ends}
 use Rattle.overlap_copy.proofs.packed.gather.Goals as goal
 
-pub overflow_mul-items : goal.overflow_mul-items
-overflow_mul-items c =
-    let few = few_bytes (offsets c.args.layout.now) c.items.result c.args.width (length c.args.block.now) (c.new-walk.ensures.count ∙ sym c.items.ensures.value) c.items.ensures.limit c.requires.small c.requires.inside in
-    record { fits = omega (arith, few) }
+pub gather_runs-requires-clause-from : goal.gather_runs-requires-clause-from
+gather_runs-requires-clause-from c =
+    let l = c.args.layout.now in
+    let len = length c.args.block.now in
+    let width = c.args.width in
+    let ends = subst (All (λ offset. offset + width ≤ len)) (sym c.new.ensures.offsets) c.requires.inside in
+    subst (All (λ run. EachWithin len run.offset run.step width run.count)) (sym c.new.ensures.runs) (runs-within len width (λ run. run) (runs l) (c.new.ensures.lie max_bytes 1 l.within_limit) ends)
 
-pub loop-offset-init : goal.loop-offset-init
-loop-offset-init c =
-    let all = offsets c.args.layout.now in
-    let items = c.in_ok-items.items in
-    let long : length items ≡ length all * c.args.width = ap length c.in_ok-items.ensures ∙ length-replicate (c.items.result * c.args.width) 0 ∙ ap (λ n. n * c.args.width) (c.items.ensures.value ∙ sym c.new-walk.ensures.count) in
-    subst (λ l. IsGathering all l 0 c.args.width c.args.block.now items) (sym (c.into_iter-offset-iterator.ensures.into_iter_gives ∙ c.new-walk.ensures.items)) (gather_begins all c.args.width c.args.block.now items c.requires.inside long)
+pub gather_runs-requires-clause-room : goal.gather_runs-requires-clause-room
+gather_runs-requires-clause-room c =
+    let l = c.args.layout.now in
+    let long : length (flat_map run_offsets c.new.result) ≡ c.items.result = ap (λ rs. length (flat_map run_offsets rs)) c.new.ensures.runs ∙ ap length c.new.ensures.offsets ∙ length-offsets l ∙ sym c.items.ensures.value in
+    let bytes : length c.in_ok-items.items ≡ c.saturating_mul-bytes.result = ap length c.in_ok-items.ensures ∙ length-replicate c.saturating_mul-bytes.result 0 in
+    omega (arith, ap (λ n. n * c.args.width) long, bytes, c.saturating_mul-bytes.ensures, c.len-len.ensures.len, c.len-len.ensures.small)
 
-pub copy_from-requires-clause-dst : goal.copy_from-requires-clause-dst
-copy_from-requires-clause-dst c = room_for_next _ _ _ _ _ _ _ _ c.in-Some.ensures.steps c.loop-offset.invariant
+pub returns-clause-len : goal.returns-clause-len
+returns-clause-len c =
+    let l = c.args.layout.now in
+    let long : length (offsets l) ≡ c.items.result = length-offsets l ∙ sym c.items.ensures.value in
+    let bytes : length c.in_ok-items.items ≡ c.saturating_mul-bytes.result = ap length c.in_ok-items.ensures ∙ length-replicate c.saturating_mul-bytes.result 0 in
+    omega (arith, c.gather_runs.ensures.len, ap (λ n. n * c.args.width) long, bytes, c.saturating_mul-bytes.ensures, c.len-len.ensures.len, c.len-len.ensures.small)
 
-pub loop-offset-preserved : goal.loop-offset-preserved
-loop-offset-preserved c = gather_next _ _ _ _ _ _ _ _ _ c.in-Some.ensures.steps c.copy_from.ensures.copied c.loop-offset.invariant
+pub returns-clause-items : goal.returns-clause-items
+returns-clause-items c =
+    let l = c.args.layout.now in
+    let width = c.args.width in
+    let all : flat_map run_offsets c.new.result ≡ offsets l = ap (flat_map run_offsets) c.new.ensures.runs ∙ c.new.ensures.offsets in
+    let n = length (offsets l) in
+    let to = row_offsets 0 width n in
+    let long : n ≡ c.items.result = length-offsets l ∙ sym c.items.ensures.value in
+    let bytes : length c.in_ok-items.items ≡ c.saturating_mul-bytes.result = ap length c.in_ok-items.ensures ∙ length-replicate c.saturating_mul-bytes.result 0 in
+    let room : 0 + n * width ≤ length c.in_ok-items.items = omega (arith, ap (λ m. m * width) long, bytes, c.saturating_mul-bytes.ensures, c.len-len.ensures.len, c.len-len.ensures.small) in
+    let is : c.gather_runs.new.items ≡ assigned to (offsets l) width c.args.block.now c.in_ok-items.items = c.gather_runs.ensures.written ∙ (λ i. assigned (row_offsets 0 width (length (all i))) (all i) width c.args.block.now c.in_ok-items.items) in
+    ap (items_at to width) is
+    ∙ landed width c.args.block.now to (offsets l) c.in_ok-items.items (length-row 0 width n) (run-ends (length c.in_ok-items.items) width _ (row-within (length c.in_ok-items.items) 0 width n room)) c.requires.inside (row-nested (length c.in_ok-items.items) 0 width n room)

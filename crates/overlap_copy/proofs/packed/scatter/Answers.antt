@@ -1,5 +1,14 @@
-use Rattle.overlap_copy.proofs.PackedLaws.{scatter_next}
+use Rattle.std.proofs.Common.{◌+◌, ◌≤◌, length, All, sym, subst}
+use Rattle.raw_block.specs.Bytes.{EachWithin}
+use Rattle.shape_strides.specs.Limits.{max_bytes}
+use Rattle.shape_strides.specs.Runs.{runs}
+use Rattle.overlap_copy.specs.RunLaws.{runs-within}
 use Rattle.overlap_copy.proofs.packed.scatter.Goals as goal
 
-pub loop-offset-preserved : goal.loop-offset-preserved
-loop-offset-preserved c = scatter_next _ _ _ _ _ _ _ _ _ _ c.in-Some.ensures.steps c.copy_from.ensures.copied c.loop-offset.invariant
+pub scatter_runs-requires-clause-to : goal.scatter_runs-requires-clause-to
+scatter_runs-requires-clause-to c =
+    let l = c.args.layout.now in
+    let len = length c.args.block.now in
+    let width = c.args.width in
+    let ends = subst (All (λ offset. offset + width ≤ len)) (sym c.new.ensures.offsets) c.requires.inside in
+    subst (All (λ run. EachWithin len run.offset run.step width run.count)) (sym c.new.ensures.runs) (runs-within len width (λ run. run) (runs l) (c.new.ensures.lie max_bytes 1 l.within_limit) ends)

@@ -1,0 +1,113 @@
+-- Arrays in an index list: which are masks, which axes an item takes, and what is refused.
+use Rattle.std.specs.Prelude.{ℕ, ◌-◌, Bool, true, false, ℤ, List, [], ◌∷◌, map, take, drop, length, sum_by, get_or}
+use Rattle.std.specs.Str.{bytes_eq}
+use Rattle.std.specs.List.{list_all}
+use Rattle.elem_descr.specs.declared.descr.Descr.{Descr}
+use Rattle.elem_descr.specs.declared.descr.Descr.TheVariants.{Scalar as ScalarDescr}
+use Rattle.elem_descr.specs.declared.scalar.Scalar.TheVariants.{Bool as BoolScalar, Byte, Int}
+use Rattle.shape_strides.specs.declared.index_item.IndexItem.{IndexItem}
+use Rattle.shape_strides.specs.declared.index_item.IndexItem.TheVariants.{Integer, Slice, Ellipsis, NewAxis, Array}
+use Rattle.view_ops.specs.Slices.{is_place}
+use Rattle.view_ops.specs.Basics.{Placed, is_on_axis}
+use Rattle.fancy_index.specs.declared.kind.Kind.{Kind}
+use Rattle.fancy_index.specs.declared.kind.Kind.TheVariants.{Integers, Mask, NoIndex}
+
+-- an array in an index list, by its items in C order: a bool is 0 or 1
+pub record IndexArray : Type 0 where
+  pub descr : Descr
+  pub shape : List ℕ
+  pub numbers : List ℤ
+
+-- Integers index one axis. Bools of an axis or more are a mask of as many axes. Nothing else is an index.
+abbrev pub kind_of : Descr → List ℕ → Kind
+kind_of (ScalarDescr (Byte signed)) shape = Integers
+kind_of (ScalarDescr (Int signed width order)) shape = Integers
+kind_of (ScalarDescr BoolScalar) (n ∷ shape) = Mask
+kind_of _ _ = NoIndex
+
+abbrev pub kind : IndexArray → Kind
+kind array = kind_of array.descr array.shape
+
+-- ---- arrays by their numbers
+
+-- what stands for a number that no array has: no index
+abbrev pub no_array : IndexArray
+no_array = record { descr = ScalarDescr BoolScalar; shape = []; numbers = [] }
+
+abbrev pub with_array : List IndexArray → IndexItem ℕ → IndexItem IndexArray
+with_array arrays (Integer at) = Integer at
+with_array arrays (Slice start stop step) = Slice start stop step
+with_array arrays Ellipsis = Ellipsis
+with_array arrays NewAxis = NewAxis
+with_array arrays (Array k) = Array (get_or arrays k no_array)
+
+-- the items of an index, with the arrays in the place of their numbers
+abbrev pub with_arrays : List IndexArray → List (IndexItem ℕ) → List (IndexItem IndexArray)
+with_arrays arrays items = map (with_array arrays) items
+
+-- ---- which axes an item takes
+
+abbrev pub axes_of_kind : Kind → List ℕ → ℕ
+axes_of_kind Mask shape = length shape
+axes_of_kind _ shape = 1
+
+-- as many as it stands for, beside those of `...`
+abbrev pub axes_of : IndexItem IndexArray → ℕ
+axes_of Ellipsis = 0
+axes_of NewAxis = 0
+axes_of (Array array) = axes_of_kind (kind array) array.shape
+axes_of _ = 1
+
+abbrev pub taken : List (IndexItem IndexArray) → ℕ
+taken items = sum_by axes_of items
+
+-- how many of the axes that are left an item takes: `...` takes all but those of the items after it
+abbrev pub width : ℕ → IndexItem IndexArray → List (IndexItem IndexArray) → ℕ
+width left Ellipsis later = left - taken later
+width left item later = axes_of item
+
+-- the items of an index with the axes that they take, and the axes after the last item
+abbrev pub placed : List ℕ → List (IndexItem IndexArray) → List (Placed IndexArray)
+placed shape [] = []
+placed shape (item ∷ items) =
+    let n = width (length shape) item items in
+    record { item = item; axes = take n shape } ∷ placed (drop n shape) items
+
+-- the axes that no item takes
+abbrev pub left_over : List ℕ → List (IndexItem IndexArray) → List ℕ
+left_over shape [] = shape
+left_over shape (item ∷ items) = left_over (drop (width (length shape) item items) shape) items
+
+-- ---- what is refused
+
+abbrev pub is_kind_of_index : Kind → Bool
+is_kind_of_index NoIndex = false
+is_kind_of_index _ = true
+
+abbrev pub is_index : IndexItem IndexArray → Bool
+is_index (Array array) = is_kind_of_index (kind array)
+is_index _ = true
+
+-- a mask is as long as the axes that it stands for
+abbrev pub covers_kind : Kind → List ℕ → List ℕ → Bool
+covers_kind Mask shape axes = bytes_eq shape axes
+covers_kind _ shape axes = true
+
+abbrev pub covers : List ℕ → IndexItem IndexArray → Bool
+covers axes (Array array) = covers_kind (kind array) array.shape axes
+covers axes _ = true
+
+abbrev pub cover : List ℕ → List (IndexItem IndexArray) → Bool
+cover shape items = list_all (λ p. covers p.axes p.item) (placed shape items)
+
+-- each number of an array of integers is within the axis, whatever it broadcasts to
+abbrev pub are_places : Kind → List ℕ → List ℤ → Bool
+are_places Integers (n ∷ axes) numbers = list_all (is_place n) numbers
+are_places _ axes numbers = true
+
+abbrev pub is_within : List ℕ → IndexItem IndexArray → Bool
+is_within axes (Array array) = are_places (kind array) axes array.numbers
+is_within axes item = is_on_axis axes item
+
+abbrev pub are_within : List ℕ → List (IndexItem IndexArray) → Bool
+are_within shape items = list_all (λ p. is_within p.axes p.item) (placed shape items)

@@ -1,0 +1,3 @@
+pub mod IndexArrays
+pub mod Parts
+pub mod Indexed

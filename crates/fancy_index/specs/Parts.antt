@@ -1,0 +1,106 @@
+-- The parts that an index list with arrays comes to.
+use Rattle.std.specs.Prelude.{ℕ, ◌+◌, Bool, true, false, not, if◌then◌else◌, ℤ, pos, List, [], ◌∷◌, ◌++◌, map, length, slice_index, get_or}
+use Rattle.std.specs.Ordering.{int_eq}
+use Rattle.std.specs.List.{list_any, flat_map}
+use Rattle.shape_strides.specs.declared.index_item.IndexItem.{IndexItem}
+use Rattle.shape_strides.specs.declared.index_item.IndexItem.TheVariants.{Integer, Ellipsis, Array}
+use Rattle.shape_strides.specs.Addresses.{natural}
+use Rattle.shape_strides.specs.Indexes.{indexes, rank}
+use Rattle.view_ops.specs.Slices.{from_front}
+use Rattle.view_ops.specs.Basics.{Pick, At, Along, New, whole, picks_of, axis_of}
+use Rattle.broadcasting.specs.Broadcasts.{broadcast_index}
+use Rattle.fancy_index.specs.IndexArrays.{IndexArray, kind, placed, left_over}
+use Rattle.fancy_index.specs.declared.kind.Kind.{Kind}
+use Rattle.fancy_index.specs.declared.kind.Kind.TheVariants.{Integers, Mask}
+
+-- An axis that is picked as in a basic index, or a new one; points of one or more axes, in a shape of their own: the numbers
+-- of each on its axes; or a `...` that is written, which stands between what is before and after it.
+pub data Part : Type 0 where
+  Axis : Pick → Part
+  Points : List ℕ → List (List ℕ) → Part
+  Between : Part
+
+-- the indexes at which a mask is true, in C order
+abbrev pub true_indexes : List (List ℕ) → List ℤ → List (List ℕ)
+true_indexes (index ∷ indexes) (number ∷ numbers) = if int_eq number (pos 0) then true_indexes indexes numbers else index ∷ true_indexes indexes numbers
+true_indexes _ _ = []
+
+-- a point on one axis
+abbrev pub point_at : ℕ → ℤ → List ℕ
+point_at n at = natural (from_front n at) ∷ []
+
+abbrev pub points_along : List (List ℕ) → Part
+points_along points = Points (length points ∷ []) points
+
+abbrev pub points_of : Kind → List ℕ → List ℕ → List ℤ → List Part
+points_of Integers (n ∷ axes) shape numbers = Points shape (map (point_at n) numbers) ∷ []
+points_of Mask axes shape numbers = points_along (true_indexes (indexes shape) numbers) ∷ []
+points_of _ axes shape numbers = []
+
+abbrev pub wholes : List ℕ → List Part
+wholes axes = map (λ n. Axis (whole n)) axes
+
+-- what an item comes to on the axes that it takes: an integer is one point
+abbrev pub parts_of : List ℕ → IndexItem IndexArray → List Part
+parts_of axes Ellipsis = Between ∷ wholes axes
+parts_of (n ∷ axes) (Integer at) = Points [] (point_at n at ∷ []) ∷ []
+parts_of axes (Array array) = points_of (kind array) axes array.shape array.numbers
+parts_of axes item = map Axis (picks_of axes item)
+
+-- the axes after the last item are whole, with nothing between
+abbrev pub parts : List ℕ → List (IndexItem IndexArray) → List Part
+parts shape items = flat_map (λ p. parts_of p.axes p.item) (placed shape items) ++ wholes (left_over shape items)
+
+-- ---- the axes of the result
+
+abbrev pub shapes_of_part : Part → List (List ℕ)
+shapes_of_part (Points shape points) = shape ∷ []
+shapes_of_part _ = []
+
+-- the shapes of the points, which broadcast together
+abbrev pub point_shapes : List Part → List (List ℕ)
+point_shapes parts = flat_map shapes_of_part parts
+
+abbrev pub axes_of_part : Part → List ℕ
+axes_of_part (Axis pick) = axis_of pick
+axes_of_part _ = []
+
+-- the lengths of all other axes
+abbrev pub other_axes : List Part → List ℕ
+other_axes parts = flat_map axes_of_part parts
+
+abbrev pub are_points : Part → Bool
+are_points (Points shape points) = true
+are_points _ = false
+
+-- no points stand behind what comes after the first of these
+abbrev pub go_on : List Part → Bool
+go_on (Points shape points ∷ parts) = go_on parts
+go_on parts = not (list_any are_points parts)
+
+-- all points stand side by side
+abbrev pub side_by_side : List Part → Bool
+side_by_side [] = true
+side_by_side (Points shape points ∷ parts) = go_on parts
+side_by_side (part ∷ parts) = side_by_side parts
+
+-- how many other axes stand before the first points
+abbrev pub axes_before : List Part → ℕ
+axes_before [] = 0
+axes_before (Points shape points ∷ parts) = 0
+axes_before (part ∷ parts) = length (axes_of_part part) + axes_before parts
+
+-- how many other axes stand before those of the points: where the points are not side by side, theirs come first
+abbrev pub points_place : List Part → ℕ
+points_place parts = if side_by_side parts then axes_before parts else 0
+
+-- ---- where an index leads
+
+-- by its numbers on the axes of the points, and those on the other axes
+abbrev pub leads : List ℕ → List Part → List ℕ → List ℕ
+leads point (Points shape points ∷ parts) rest = get_or points (rank shape (broadcast_index shape point)) [] ++ leads point parts rest
+leads point (Between ∷ parts) rest = leads point parts rest
+leads point (Axis (At number) ∷ parts) rest = number ∷ leads point parts rest
+leads point (Axis (Along numbers) ∷ parts) (k ∷ rest) = slice_index numbers k ∷ leads point parts rest
+leads point (Axis New ∷ parts) (k ∷ rest) = leads point parts rest
+leads _ _ _ = []

@@ -1,0 +1,39 @@
+-- The bytes of items that are written, and the items that they are.
+use Rattle.std.proofs.Common.{◌≡◌, ◌+◌, ◌≤◌, ℕ, zero, suc, List, [], ◌∷◌, length, take, drop, map, replicate, refl, sym, ap, ◌∙◌, arith, length-take, length-drop}
+use Rattle.std.specs.List.{AllByRecursion}
+use Rattle.elem_descr.specs.declared.descr.Descr.{Descr}
+use Rattle.elem_descr.specs.Blocks.{item_from}
+use Rattle.elem_descr.specs.Encoding.{size, decode}
+use Rattle.elem_descr.specs.Items.{item_size, decode_item, AreAlike}
+use Rattle.elem_descr.specs.Values.{LeafValue}
+use Rattle.raw_block.specs.Bytes.{put}
+use Rattle.overlap_copy.specs.Assignments.{items_at, with_items}
+use Rattle.name_store.specs.inside.Puts.{put_each}
+
+-- one item is put, as often as there are offsets
+pub put_each-items : (os item block : List ℕ) → put_each os item block ≡ with_items os (replicate (length os) item) block
+put_each-items [] item block = refl
+put_each-items (o ∷ os) item block = put_each-items os item (put o item block)
+
+pub all-replicated : (P : List ℕ → Type 0) (n : ℕ) (item : List ℕ) → P item → AllByRecursion P (replicate n item)
+all-replicated P zero item holds = tt
+all-replicated P (suc n) item holds = (holds, all-replicated P n item holds)
+
+pub map-replicated : (f : List ℕ → List LeafValue) (n : ℕ) (item : List ℕ) → map f (replicate n item) ≡ replicate n (f item)
+map-replicated f zero item = refl
+map-replicated f (suc n) item = ap (λ rest. f item ∷ rest) (map-replicated f n item)
+
+-- items that lie within a block have as many bytes as were asked for
+pub items-whole : (os : List ℕ) (width : ℕ) (block : List ℕ) → AllByRecursion (λ o. o + width ≤ length block) os → AllByRecursion (λ part. length part ≡ width) (items_at os width block)
+items-whole [] width block within = tt
+items-whole (o ∷ os) width block within = (omega (arith, length-take width (drop o block), length-drop o block, within.0), items-whole os width block within.1)
+
+-- bytes are the same item of element types that are alike
+pub alike-items : (a b : Descr) (width : ℕ) (block os : List ℕ) → AreAlike a b → item_size b ≡ width → map (decode_item b) (items_at os width block) ≡ map (item_from a block) os
+alike-items a b width block [] alike sized = refl
+alike-items a b width block (o ∷ os) alike sized = λ i. one i ∷ alike-items a b width block os alike sized i
+  where
+    one : decode_item b (take width (drop o block)) ≡ item_from a block o
+    one =
+        ap (λ n. decode_item b (take n (drop o block))) (sym sized ∙ sym alike.size)
+        ∙ ap (map (λ leaf. decode leaf.scalar (take (size leaf.scalar) (drop leaf.at (take (item_size a) (drop o block)))))) (sym alike.leaves)

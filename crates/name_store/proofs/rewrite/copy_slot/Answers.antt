@@ -1,0 +1,18 @@
+use Rattle.std.proofs.Common.{◌≡◌, ap, sym, ◌∙◌, refl}
+use Rattle.shape_strides.specs.Layouts.{offsets}
+use Rattle.overlap_copy.specs.Assignments.{assigned}
+use Rattle.name_store.specs.declared.slot.Slot.{Slot}
+use Rattle.name_store.proofs.WriteLaws.{some-same}
+use Rattle.name_store.proofs.rewrite.copy_slot.Goals as goal
+
+pub returns-in-Some : goal.returns-in-Some
+returns-in-Some c old is =
+    let same : c.in-Some.slot ≡ old = some-same _ _ (sym c.in-Some.is ∙ is) in (
+      _,
+      refl,
+      record {
+        descr = ap (λ (s : Slot). s.descr) same;
+        items = ap (λ (s : Slot). s.items) same;
+        block = c.assign_from.ensures.written ∙ ap (λ (s : Slot). assigned (offsets c.args.to.now) (offsets c.args.from.now) c.args.width c.args.other.now s.block) same;
+      },
+    )

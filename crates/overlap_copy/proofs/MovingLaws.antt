@@ -1,0 +1,148 @@
+-- Runs that move within one block, one after the other.
+use Rattle.std.proofs.Common.{◌≡◌, ◌+◌, ◌-◌, ◌<◌, ◌≤◌, ℕ, suc, List, [], ◌∷◌, ◌++◌, length, get_or, All, refl, sym, ap, subst, ◌∙◌, arith, length-append}
+use Rattle.std.specs.List.{AllByRecursion as Each}
+use Rattle.std.proofs.lemmas.List.{get_or_append_left, get_or-append_right}
+use Rattle.std.proofs.lemmas.List.Elements.{All-from_recursion}
+use Rattle.raw_block.specs.Bytes.{item_at, EachWithin, copied_within}
+use Rattle.shape_strides.specs.declared.runs.Run.{Run}
+use Rattle.shape_strides.specs.Layouts.{IsNested, distance}
+use Rattle.shape_strides.specs.Runs.{run_offsets}
+use Rattle.overlap_copy.specs.RunLaws.{length-run_offsets, place-at, run-ends}
+use Rattle.overlap_copy.specs.Assignments.{items_at, with_items, assigned}
+use Rattle.overlap_copy.specs.inside.Moves.{IsAssigned, LiesApart, LieApart, place_in}
+use Rattle.overlap_copy.proofs.CopyLaws.{kept}
+use Rattle.overlap_copy.proofs.MoveLaws.{same_assigned, retold, assigned_is, passed}
+use Rattle.overlap_copy.proofs.RunCopies.{assigned-append}
+
+-- ---- parts of lists
+
+pub Each-front : (P : ℕ → Type 0) (xs ys : List ℕ) → Each P (xs ++ ys) → Each P xs
+Each-front P [] ys each = tt
+Each-front P (x ∷ xs) ys each = (each.0, Each-front P xs ys each.1)
+
+pub Each-back : (P : ℕ → Type 0) (xs ys : List ℕ) → Each P (xs ++ ys) → Each P ys
+Each-back P [] ys each = each
+Each-back P (x ∷ xs) ys each = Each-back P xs ys each.1
+
+All-front : (P : ℕ → Type 0) (xs ys : List ℕ) → All P (xs ++ ys) → All P xs
+All-front P xs ys all = λ k d below. subst P (get_or_append_left xs ys d k below) (all k d (omega (arith, length-append xs ys)))
+
+right : (xs ys : List ℕ) (k d : ℕ) → k < length ys → get_or (xs ++ ys) (length xs + k) d ≡ get_or ys k d
+right xs ys k d below =
+    let after : length xs + k - length xs ≡ k = omega arith in
+    get_or-append_right xs ys (length xs) (length xs + k) d refl (omega arith) ∙ ap (λ m. get_or ys m d) after
+
+All-back : (P : ℕ → Type 0) (xs ys : List ℕ) → All P (xs ++ ys) → All P ys
+All-back P xs ys all = λ k d below. subst P (right xs ys k d below) (all (length xs + k) d (omega (arith, length-append xs ys)))
+
+pub nested-front : (xs ys : List ℕ) (width : ℕ) → IsNested (xs ++ ys) width → IsNested xs width
+nested-front xs ys width nested = record {
+  apart = λ j k before below.
+      let far = nested.apart j k before (omega (arith, length-append xs ys)) in
+      omega (arith, far, get_or_append_left xs ys 0 j (omega arith), get_or_append_left xs ys 0 k below);
+}
+
+pub nested-back : (xs ys : List ℕ) (width : ℕ) → IsNested (xs ++ ys) width → IsNested ys width
+nested-back xs ys width nested = record {
+  apart = λ j k before below.
+      let far = nested.apart (length xs + j) (length xs + k) (omega arith) (omega (arith, length-append xs ys)) in
+      omega (arith, far, right xs ys j 0 (omega arith), right xs ys k 0 below);
+}
+
+-- targets that lie apart from sources, fewer of either
+pub fewer-targets : (width : ℕ) (xs ys from : List ℕ) → LieApart width (xs ++ ys) from → LieApart width xs from × LieApart width ys from
+fewer-targets width xs ys from apart = (Each-front (λ at. LiesApart width at from) xs ys apart, Each-back (λ at. LiesApart width at from) xs ys apart)
+
+pub fewer-sources : (width : ℕ) (to us vs : List ℕ) → LieApart width to (us ++ vs) → LieApart width to us × LieApart width to vs
+fewer-sources width [] us vs apart = (tt, tt)
+fewer-sources width (at ∷ to) us vs apart =
+    let rest = fewer-sources width to us vs apart.1 in
+    let near = λ (offset : ℕ). width ≤ distance offset at in
+    ((Each-front near us vs apart.0, rest.0), (Each-back near us vs apart.0, rest.1))
+
+-- ---- what is left to do, in a block where the items that are left to read are as they were
+
+pub record IsMoving (to from : List ℕ) (width : ℕ) (old block whole : List ℕ) : Type 0 where
+  pub rest : assigned to from width old block ≡ whole
+  pub len : length block ≡ length old
+  pub to_in : All (λ at. at + width ≤ length old) to
+  pub from_in : All (λ offset. offset + width ≤ length old) from
+  pub kept : Each (λ offset. item_at offset width block ≡ item_at offset width old) from
+
+pub moving_begins : (to from : List ℕ) (width : ℕ) (old : List ℕ) → All (λ at. at + width ≤ length old) to → All (λ offset. offset + width ≤ length old) from → IsMoving to from width old old (assigned to from width old old)
+moving_begins to from width old to_in from_in = record { rest = refl; len = refl; to_in = to_in; from_in = from_in; kept = same from }
+  where
+    same : (from : List ℕ) → Each (λ offset. item_at offset width old ≡ item_at offset width old) from
+    same [] = tt
+    same (offset ∷ from) = (refl, same from)
+
+same_items : (from : List ℕ) (width : ℕ) (block old : List ℕ) → Each (λ offset. item_at offset width block ≡ item_at offset width old) from → items_at from width block ≡ items_at from width old
+same_items [] width block old same = refl
+same_items (offset ∷ from) width block old same = λ i. same.0 i ∷ same_items from width block old same.1 i
+
+-- one source lies apart from all targets
+apart_from : (width offset : ℕ) (to from : List ℕ) → LieApart width to (offset ∷ from) → Each (λ at. width ≤ distance offset at) to × LieApart width to from
+apart_from width offset [] from apart = (tt, tt)
+apart_from width offset (at ∷ to) from apart = let rest = apart_from width offset to from apart.1 in ((apart.0.0, rest.0), (apart.0.1, rest.1))
+
+-- what is read later is as it was
+kept_later : (later to from : List ℕ) (width : ℕ) (old block : List ℕ) → length block ≡ length old → All (λ at. at + width ≤ length old) to → All (λ offset. offset + width ≤ length old) from → All (λ offset. offset + width ≤ length old) later → LieApart width to later → Each (λ offset. item_at offset width block ≡ item_at offset width old) later → Each (λ offset. item_at offset width (assigned to from width old block) ≡ item_at offset width old) later
+kept_later [] to from width old block len to_in from_in in' apart same = tt
+kept_later (offset ∷ later) to from width old block len to_in from_in in' apart same =
+    let one = apart_from width offset to later apart in
+    let block_in : All (λ at. at + width ≤ length block) to = subst (λ n. All (λ at. at + width ≤ n) to) (sym len) to_in in
+    let here = subst (λ n. offset + width ≤ n) (sym len) (in' 0 0 (omega arith)) in (
+      kept width old offset to from block here block_in from_in (All-from_recursion (λ at. width ≤ distance offset at) to one.0) ∙ same.0,
+      kept_later later to from width old block len to_in from_in (λ k d below. in' (suc k) d (omega arith)) one.1 same.1,
+    )
+
+-- some items have moved
+pub moving_on : (to to' from from' : List ℕ) (width : ℕ) (old block block' whole : List ℕ) → length to ≡ length from → LieApart width to from' → block' ≡ assigned to from width block block → length block' ≡ length block → IsMoving (to ++ to') (from ++ from') width old block whole → IsMoving to' from' width old block' whole
+moving_on to to' from from' width old block block' whole even apart moved long m =
+    let same = Each-front (λ offset. item_at offset width block ≡ item_at offset width old) from from' m.kept in
+    let is : block' ≡ assigned to from width old block = moved ∙ ap (λ items. with_items to items block) (same_items from width block old same) in
+    let in_front = λ (o : ℕ). o + width ≤ length old in
+    record {
+      rest = ap (assigned to' from' width old) is ∙ sym (assigned-append to from to' from' width old block even) ∙ m.rest;
+      len = long ∙ m.len;
+      to_in = All-back in_front to to' m.to_in;
+      from_in = All-back in_front from from' m.from_in;
+      kept = subst (λ b. Each (λ offset. item_at offset width b ≡ item_at offset width old) from') (sym is)
+          (kept_later from' to from width old block m.len (All-front in_front to to' m.to_in) (All-front in_front from from' m.from_in) (All-back in_front from from' m.from_in) apart
+          (Each-back (λ offset. item_at offset width block ≡ item_at offset width old) from from' m.kept));
+    }
+
+pub moving_over : (to from : List ℕ) (width : ℕ) (old block whole : List ℕ) → to ≡ [] → IsMoving to from width old block whole → block ≡ whole
+moving_over to from width old block whole none m = ap (λ l. assigned l from width old block) (sym none) ∙ m.rest
+
+-- ---- one run
+
+-- what moves by index is assigned
+pub assigned_from_moves : (to from : Run) (width : ℕ) (old new : List ℕ) → to.count ≡ from.count → EachWithin (length old) to.offset to.step width to.count → EachWithin (length old) from.offset from.step width from.count → IsNested (run_offsets to) width → IsAssigned to.count (place_in to) (place_in from) width old old new → new ≡ assigned (run_offsets to) (run_offsets from) width old old
+assigned_from_moves to from width old new even to_in from_in nested a =
+    let tos = run_offsets to in
+    let froms = run_offsets from in
+    let len = length old in
+    let long = length-run_offsets to in
+    let long' = length-run_offsets from in
+    let by_place : IsAssigned (length tos) (λ k. get_or tos k 0) (λ k. get_or froms k 0) width old old new =
+    retold (length tos) (λ k. get_or tos k 0) (λ k. get_or froms k 0) (place_in to) (place_in from) width old old new (λ k below. (place-at len width to k to_in (omega (arith, below, long)), place-at len width from k from_in (omega (arith, below, long, even)))) (subst (λ m. IsAssigned m (place_in to) (place_in from) width old old new) (sym long) a) in
+    same_assigned (length tos) (λ k. get_or tos k 0) (λ k. get_or froms k 0) width old old new (assigned tos froms width old old) by_place (assigned_is width old tos froms old (omega (arith, long, long', even)) (run-ends len width to to_in) (run-ends len width from from_in) nested)
+
+-- the items of a run that lie apart from those that are read move one after the other
+pub apart_passed : (to from : Run) (width : ℕ) (old : List ℕ) → to.count ≡ from.count → EachWithin (length old) to.offset to.step width to.count → EachWithin (length old) from.offset from.step width from.count → IsNested (run_offsets to) width → LieApart width (run_offsets to) (run_offsets from) → IsAssigned to.count (place_in to) (place_in from) width old old (copied_within to.offset to.step from.offset from.step width to.count old)
+apart_passed to from width old even to_in from_in nested apart =
+    let len = length old in
+    let tos = run_offsets to in
+    let froms = run_offsets from in
+    let long = length-run_offsets to in
+    let long' = length-run_offsets from in
+    passed to.offset to.step from.offset from.step width old to.count to_in (subst (EachWithin len from.offset from.step width) (sym even) from_in) (record {
+      apart = λ j k before below.
+          let far = nested.apart j k before (omega (arith, below, long)) in
+          omega (arith, far, place-at len width to j to_in (omega (arith, before, below)), place-at len width to k to_in below);
+      unread = λ j k before below.
+          let row = All-from_recursion (λ at. LiesApart width at froms) tos apart j 0 (omega (arith, before, below, long)) in
+          let far = All-from_recursion (λ offset. width ≤ distance offset (get_or tos j 0)) froms row k 0 (omega (arith, below, even, long')) in
+          omega (arith, far, place-at len width to j to_in (omega (arith, before, below)), place-at len width from k from_in (omega (arith, below, even)));
+    })

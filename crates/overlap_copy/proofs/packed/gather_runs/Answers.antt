@@ -1,0 +1,31 @@
+use Rattle.std.proofs.Common.{◌≤◌, length, ◌∙◌, arith}
+use Rattle.std.proofs.lemmas.List.Elements.{All-rest}
+use Rattle.raw_block.specs.Bytes.{EachWithin}
+use Rattle.overlap_copy.proofs.PackedLaws.{room-next, gathered-next}
+use Rattle.overlap_copy.proofs.packed.gather_runs.Goals as goal
+
+pub row-requires-clause-within : goal.row-requires-clause-within
+row-requires-clause-within c =
+    (room-next _ _ c.in-Some.run' c.loop-run.at c.args.width c.len-len.result c.in-Some.ensures.steps c.loop-run.invariant.room).0
+
+pub overflow_mul-at : goal.overflow_mul-at
+overflow_mul-at c =
+    let room = (room-next _ _ c.in-Some.run' c.loop-run.at c.args.width c.len-len.result c.in-Some.ensures.steps c.loop-run.invariant.room).0 in
+    record { fits = omega (arith, room, c.len-len.ensures.small) }
+
+pub overflow_add-at : goal.overflow_add-at
+overflow_add-at c =
+    let room = (room-next _ _ c.in-Some.run' c.loop-run.at c.args.width c.len-len.result c.in-Some.ensures.steps c.loop-run.invariant.room).0 in
+    record { fits = omega (arith, room, c.len-len.ensures.small) }
+
+pub loop-run-preserved : goal.loop-run-preserved
+loop-run-preserved c =
+    let inv = c.loop-run.invariant in
+    let steps = c.in-Some.ensures.steps in
+    record {
+      rest = gathered-next _ _ c.in-Some.run' c.row.result c.loop-run.at c.args.width _ c.loop-run.items _ _ steps c.row.ensures.row c.copy_run.ensures.written inv.rest;
+      len = c.copy_run.ensures.len ∙ inv.len;
+      room = (room-next _ _ c.in-Some.run' c.loop-run.at c.args.width c.len-len.result steps inv.room).1;
+      some = All-rest (λ run. 1 ≤ run.count) _ _ _ steps inv.some;
+      from = All-rest (λ run. EachWithin (length c.args.block.now) run.offset run.step c.args.width run.count) _ _ _ steps inv.from;
+    }
