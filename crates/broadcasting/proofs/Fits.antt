@@ -12,6 +12,7 @@ use Rattle.elem_descr.specs.declared.refusal.Refusal.{Refusal}
 use Rattle.elem_descr.specs.Refusals.{Gives, ◌>>=◌}
 use Rattle.shape_strides.specs.Shapes.{shape_of}
 use Rattle.broadcasting.specs.Broadcasts.{aligned, go_together, common_length, all_go_together, common_lengths, common_of_two, common_with, common_shape, stretches, all_stretch, can_stretch}
+use Rattle.broadcasting.specs.BroadcastLaws.{can-itself}
 use Rattle.broadcasting.proofs.AlignedLaws.{length-aligned, common-none, common-some, few-axes}
 
 -- ---- one axis
@@ -21,9 +22,6 @@ left-fits m n = grind (arith, nat_tests)
 
 right-fits : (m n : ℕ) → go_together m n ≡ true → stretches n (common_length m n) ≡ true
 right-fits m n together = grind (arith, nat_tests)
-
-fits-itself : (n : ℕ) → stretches n n ≡ true
-fits-itself n = grind (arith, nat_tests)
 
 fits-on : (k m n : ℕ) → stretches k m ≡ true → stretches m n ≡ true → stretches k n ≡ true
 fits-on k m n first second = grind (arith, nat_tests)
@@ -49,10 +47,6 @@ length-common [] [] same = refl
 length-common [] (n ∷ right) same = absurd (omega arith)
 length-common (m ∷ left) [] same = absurd (omega arith)
 length-common (m ∷ left) (n ∷ right) same = ap suc (length-common left right (omega arith))
-
-all-itself : (shape : List ℕ) → all_stretch shape shape ≡ true
-all-itself [] = refl
-all-itself (n ∷ shape) = λ i. fits-itself n i && all-itself shape i
 
 all-on : (first middle last : List ℕ) → all_stretch first middle ≡ true → all_stretch middle last ≡ true → all_stretch first last ≡ true
 all-on [] [] last one two = two
@@ -83,11 +77,6 @@ can-on : (first middle last : List ℕ) → can_stretch first middle ≡ true �
 can-on first middle last one two =
     sym (ap (λ shape. all_stretch shape last) (aligned-twice first (length middle) (length last) (few-axes first middle one) (few-axes middle last two)))
     ∙ all-behind (length last - length middle) (aligned (length middle) first) middle last one two
-
-can-itself : (shape : List ℕ) → can_stretch shape shape ≡ true
-can-itself shape =
-    let none : length shape - length shape ≡ 0 = omega arith in
-    ap (λ k. all_stretch (replicate k 1 ++ shape) shape) none ∙ all-itself shape
 
 -- ---- the shapes
 

@@ -1,5 +1,7 @@
 pub mod AlignedLaws
 pub mod StretchLaws
+pub mod FewerLaws
+pub mod IntoLaws
 pub mod CommonLaws
 pub mod Fits
 mod Vectors

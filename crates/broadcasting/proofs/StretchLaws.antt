@@ -122,15 +122,14 @@ shows-numbers old new shape strides offset m shows has = record {
       ap (λ s. address_at s new.offset index) (has.strides_are some) ∙ ap (λ o. address_at strides o index) (has.offset_is some) ∙ shows.same index in-shape;
 }
 
-pub stretched-is : (old new : Layout) (target : List ℕ) (strides : List ℤ) → IsStretched old target strides → HasNumbers new target strides old.offset → IsViewOf old new (record { shape = target; leads = broadcast_index old.shape })
-stretched-is old new target strides made has =
-    let m = broadcast_index old.shape in
-    let shows = stretched-shows old target strides made in
-    let view : IsView old new m = shows-numbers old new target strides old.offset m shows has in
+-- is a view
+pub numbers-view : (old new : Layout) (shape : List ℕ) (strides : List ℤ) (offset : ℕ) (m : List ℕ → List ℕ) → Shows old shape strides offset m → HasNumbers new shape strides offset → IsViewOf old new (record { shape = shape; leads = m })
+numbers-view old new shape strides offset m shows has =
+    let view : IsView old new m = shows-numbers old new shape strides offset m shows has in
     record {
       shape = has.shape_is;
       leads = shows.leads;
-      inside = inside-view old new m target view has.shape_is;
+      inside = inside-view old new m shape view has.shape_is;
       places = offsets-view old new m view ∙ ap (λ s. view_through (offsets old) old.shape s m) has.shape_is;
       fits = λ len item fits. LieWithin-view old new.shape new.strides new.offset m len item view fits;
     }
@@ -149,11 +148,11 @@ made_numbers result new shape target strides offset is same shape-is strides-are
   offset_is = λ some. subst (λ r. IfSome r (λ l. 0 < count shape → l.offset ≡ offset)) is offset-is (omega (arith, ap count same));
 }
 
-stretched-ok : (shape target : List ℕ) → can_stretch shape target ≡ true → stretched shape target ≡ Ok (record { shape = target; leads = broadcast_index shape })
+pub stretched-ok : (shape target : List ℕ) → can_stretch shape target ≡ true → stretched shape target ≡ Ok (record { shape = target; leads = broadcast_index shape })
 unfolding stretched
 stretched-ok shape target can = rw can
 
-stretched-err : (shape target : List ℕ) → can_stretch shape target ≡ false → stretched shape target ≡ Err ShapesDoNotBroadcast
+pub stretched-err : (shape target : List ℕ) → can_stretch shape target ≡ false → stretched shape target ≡ Err ShapesDoNotBroadcast
 unfolding stretched
 stretched-err shape target cannot = rw cannot
 
@@ -162,4 +161,5 @@ not_stretched shape lengths target seen-target can is target-is tested bad =
     stretched-err shape target (ap (λ s. can_stretch s target) (sym is) ∙ ap (can_stretch lengths) (sym target-is) ∙ sym tested ∙ bad)
 
 pub gives_stretched : (old new : Layout) (target : List ℕ) (strides : List ℤ) → IsStretched old target strides → HasNumbers new target strides old.offset → GivesView old (Ok new) (stretched old.shape target)
-gives_stretched old new target strides made has = rw (stretched-ok old.shape target made.can) (stretched-is old new target strides made has)
+gives_stretched old new target strides made has =
+    rw (stretched-ok old.shape target made.can) (numbers-view old new target strides old.offset (broadcast_index old.shape) (stretched-shows old target strides made) has)

@@ -3,7 +3,7 @@ use Rattle.std.proofs.Common.{◌≡◌, true, false, [], ◌∷◌, Ok, Err, re
 use Rattle.elem_descr.specs.declared.refusal.Refusal.TheVariants.{TooLarge, ShapesDoNotBroadcast}
 use Rattle.shape_strides.specs.Shapes.{shape_of}
 use Rattle.view_ops.specs.Views.{view_through}
-use Rattle.broadcasting.specs.Broadcasts.{common_of_two, common_shape, can_stretch, broadcast_index, stretched}
+use Rattle.broadcasting.specs.Broadcasts.{common_of_two, common_shape, can_stretch, broadcast_index, stretched, stretched_into}
 
 -- `numpy.broadcast_shapes((8, 1, 6, 1), (7, 1, 5))`
 four_axes : common_shape ((8 ∷ 1 ∷ 6 ∷ 1 ∷ []) ∷ (7 ∷ 1 ∷ 5 ∷ []) ∷ []) ≡ Ok (8 ∷ 7 ∷ 6 ∷ 5 ∷ [])
@@ -102,3 +102,38 @@ column_view = refl
 no_view : stretched (3 ∷ []) (3 ∷ 1 ∷ []) ≡ Err ShapesDoNotBroadcast
 unfolding stretched
 no_view = refl
+
+-- what `a[...] = b` shows of b: of the shape (1, 1, 2) in an `a` of the shape (2,), of `()` in one of (2, 3)
+into_fewer : stretched_into (1 ∷ 1 ∷ 2 ∷ []) (2 ∷ []) ≡ Ok (record { shape = 2 ∷ []; leads = λ index. 0 ∷ 0 ∷ broadcast_index (2 ∷ []) index })
+unfolding stretched_into stretched
+into_fewer = refl
+
+into_fewer_offsets : view_through (0 ∷ 4 ∷ []) (1 ∷ 1 ∷ 2 ∷ []) (2 ∷ []) (λ index. 0 ∷ 0 ∷ broadcast_index (2 ∷ []) index) ≡ 0 ∷ 4 ∷ []
+into_fewer_offsets = refl
+
+into_more : stretched_into [] (2 ∷ 3 ∷ []) ≡ Ok (record { shape = 2 ∷ 3 ∷ []; leads = broadcast_index [] })
+unfolding stretched_into stretched
+into_more = refl
+
+-- of (1, 3) in one of (2, 3), of (1, 1) in one of ()
+into_longer : stretched_into (1 ∷ 3 ∷ []) (2 ∷ 3 ∷ []) ≡ Ok (record { shape = 2 ∷ 3 ∷ []; leads = broadcast_index (1 ∷ 3 ∷ []) })
+unfolding stretched_into stretched
+into_longer = refl
+
+into_single : stretched_into (1 ∷ 1 ∷ []) [] ≡ Ok (record { shape = []; leads = λ index. 0 ∷ 0 ∷ broadcast_index [] index })
+unfolding stretched_into stretched
+into_single = refl
+
+-- of (2, 1) and of (2, 2) in one of (2,): the first axis is none of length 1
+not_into : stretched_into (2 ∷ 1 ∷ []) (2 ∷ []) ≡ Err ShapesDoNotBroadcast
+unfolding stretched_into
+not_into = refl
+
+not_into_square : stretched_into (2 ∷ 2 ∷ []) (2 ∷ []) ≡ Err ShapesDoNotBroadcast
+unfolding stretched_into
+not_into_square = refl
+
+-- of (1, 3) in one of (2,): what is left doesn't stretch
+not_left : stretched_into (1 ∷ 3 ∷ []) (2 ∷ []) ≡ Err ShapesDoNotBroadcast
+unfolding stretched_into stretched
+not_left = refl

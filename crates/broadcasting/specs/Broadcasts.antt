@@ -1,5 +1,6 @@
 -- Broadcasting, as NumPy has it: shapes are lined up at the last axis, and axes of length 1 are stretched.
-use Rattle.std.specs.Prelude.{ℕ, ◌-◌, max, ◌==◌, Bool, true, false, ◌&&◌, ◌||◌, if◌then◌else◌, List, [], ◌∷◌, ◌++◌, length, drop, replicate, Result, Ok}
+use Rattle.std.specs.Prelude.{ℕ, ◌-◌, max, ◌==◌, Bool, true, false, ◌&&◌, ◌||◌, if◌then◌else◌, List, [], ◌∷◌, ◌++◌, length, take, drop, replicate, Result, Ok}
+use Rattle.std.specs.List.{list_all}
 use Rattle.elem_descr.specs.declared.refusal.Refusal.{Refusal}
 use Rattle.elem_descr.specs.declared.refusal.Refusal.TheVariants.{ShapesDoNotBroadcast}
 use Rattle.elem_descr.specs.Refusals.{◌>>=◌, check}
@@ -76,3 +77,17 @@ unfoldable pub stretched : List ℕ → List ℕ → Result View Refusal
 stretched shape target = do
   _ ← check (can_stretch shape target) ShapesDoNotBroadcast
   Ok (record { shape = target; leads = broadcast_index shape })
+
+-- ---- stretching into a target, as an assignment does
+
+-- the axes that a shape has beyond so many, which come first
+abbrev pub axes_beyond : ℕ → List ℕ → ℕ
+axes_beyond rank shape = length shape - rank
+
+-- the view of an array of the first shape that has the second one: axes of length 1 beyond those of the target fall away
+unfoldable pub stretched_into : List ℕ → List ℕ → Result View Refusal
+stretched_into shape target = do
+  let more = axes_beyond (length target) shape
+  _ ← check (list_all (λ n. n == 1) (take more shape)) ShapesDoNotBroadcast
+  view ← stretched (drop more shape) target
+  Ok (record { shape = target; leads = λ index. replicate more 0 ++ view.leads index })

@@ -1,2 +1,3 @@
 pub mod Broadcasts
+pub mod BroadcastLaws
 pub mod inside

@@ -21,8 +21,9 @@ fn common_length(left: usize, right: usize) -> usize
     if left == 1 { right } else { left }
 }
 
-/// The common lengths of two shapes.
-fn common_of_two(
+/// The common lengths of two shapes, whatever their number of items. Two different lengths of an axis of
+/// which none is 1 are refused as `ShapesDoNotBroadcast`.
+pub fn common_of_two(
     alloc: Global,
     left: &[usize],
     right: &[usize],

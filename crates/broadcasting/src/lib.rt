@@ -5,5 +5,5 @@ mod aligned;
 pub mod common_shape;
 pub mod stretching;
 
-pub use common_shape::common;
-pub use stretching::stretch;
+pub use common_shape::{common, common_of_two};
+pub use stretching::{stretch, stretch_into};

@@ -1,7 +1,9 @@
 //! Layouts that are stretched to a larger shape.
-ghost use Rattle.std.specs.Prelude.{◌≡◌, ◌<◌, pos, ◌++◌, length, replicate, slice_index, slice_index_or, IfOk};
-ghost use Rattle.view_ops.specs.Views.{GivesView};
-ghost use Rattle.broadcasting.specs.Broadcasts.{stretches, can_stretch, stretched};
+ghost use Rattle.std.specs.Prelude.{◌≡◌, ◌==◌, ◌<◌, ◌≤◌, true, pos, ◌++◌, length, take, drop, replicate, slice_index, slice_index_or, IfOk, IfErr};
+ghost use Rattle.std.specs.List.{list_all};
+ghost use Rattle.elem_descr.specs.declared.refusal.Refusal.TheVariants.{OutOfMemory};
+ghost use Rattle.view_ops.specs.Views.{IsViewOf, GivesView};
+ghost use Rattle.broadcasting.specs.Broadcasts.{stretches, can_stretch, stretched, stretched_into};
 ghost use Rattle.broadcasting.specs.inside.Stretches.{kept_stride, kept_strides};
 
 use crate::aligned::length_at;
@@ -85,4 +87,38 @@ pub fn stretch(alloc: Global, layout: &Layout, target: &Shape) -> Result<Layout,
     let strides = stretched_strides(alloc, lengths, layout.strides.as_slice(), more)?;
     let shape = Shape::try_copy(alloc, target)?;
     Ok(Layout::new(shape, strides, layout.offset).unwrap())
+}
+
+/// Whether each axis has one item.
+fn are_single(lengths: &[usize]) -> bool
+    ensures { result ≡ list_all (λ n. n == 1) lengths.now }
+{
+    lengths.iter().all(|len| *len == 1)
+}
+
+/// The layout without so many axes in front, each of which has length 1.
+fn without_first(alloc: Global, layout: &Layout, count: usize) -> Result<Layout, Refusal>
+    requires count { count ≤ length layout.now.shape }
+    requires single { list_all (λ n. n == 1) (take count layout.now.shape) ≡ true }
+    ensures ok { IfOk result (λ rest. IsViewOf layout.now rest (record { shape = drop count layout.now.shape; leads = λ index. replicate count 0 ++ index })) }
+    ensures err { IfErr result (λ refusal. refusal ≡ OutOfMemory) }
+{
+    let shape = Shape::try_new(alloc, &layout.shape.as_slice()[count..])?;
+    let strides = Strides::from_slice(alloc, &layout.strides.as_slice()[count..])?;
+    Ok(Layout::new(shape, strides, layout.offset).unwrap())
+}
+
+/// The layout stretched into a target, as an assignment does: axes of length 1 beyond those of `target`,
+/// which come first, fall away, and then it is stretched to exactly `target`. A longer axis beyond
+/// those is refused as `ShapesDoNotBroadcast`, too.
+pub fn stretch_into(alloc: Global, layout: &Layout, target: &Shape) -> Result<Layout, Refusal>
+    ensures { GivesView layout.now result (stretched_into layout.now.shape target.now) }
+{
+    let lengths = layout.shape.as_slice();
+    let beyond = lengths.len().saturating_sub(target.rank());
+    if !are_single(&lengths[..beyond]) {
+        return Err(Refusal::ShapesDoNotBroadcast);
+    }
+    let rest = without_first(alloc, layout, beyond)?;
+    stretch(alloc, &rest, target)
 }

@@ -1,5 +1,5 @@
 -- Items are written to places of a name's array, and read at places of one.
-use Rattle.std.proofs.Common.{◌≡◌, ◌*◌, ◌<◌, ℕ, Bool, true, false, List, [], ◌∷◌, length, map, refl, sym, ap, subst, ◌∙◌, cond, Option, Some, None, is_some, nat_eq, All, Contains, arith}
+use Rattle.std.proofs.Common.{◌≡◌, ◌*◌, ◌<◌, ◌≤◌, ℕ, Bool, true, false, List, [], ◌∷◌, length, map, refl, sym, ap, subst, ◌∙◌, cond, Option, Some, None, is_some, nat_eq, All, Contains, arith}
 use Rattle.std.specs.FinMap.{get, insert, get-insert, same_map, nat_cmp-IsAntisymmetric}
 use Rattle.std.specs.Cmp.{nat_cmp_total}
 use Rattle.std.specs.List.{AllByRecursion}
@@ -67,6 +67,9 @@ module _ (es : List (Key × Entry)) (slots : Slots) (name : List ℕ) (number wi
 
   pub home-within : number < length slots
   home-within = slot_at-within slots number s home.there
+
+  pub home-some : 1 ≤ width
+  home-some = subst (λ n. 1 ≤ n) (sym home.width_is) (part-some s.descr s.is_whole.legal e.path home.lies.laid.part)
 
   -- the name's array
   module _ (array : Array) (found : find_array (map named_array es) name ≡ Some array) where

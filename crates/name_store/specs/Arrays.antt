@@ -1,6 +1,6 @@
 -- Names, arrays and buffers of a state: looked up, bound, removed, read and written.
 use Rattle.std.specs.Prelude.{ℕ, Bool, true, List, [], ◌∷◌, length, map, Option, Some, None, slice_get, slice_set, is_some, nat_eq, nat_lt, if◌then◌else◌, unwrap_or, ◌||◌, ◌&&◌}
-use Rattle.std.specs.List.{list_any, range_with_len}
+use Rattle.std.specs.List.{list_any}
 use Rattle.std.specs.Str.{bytes_eq}
 use Rattle.std.specs.FinMap.{get, insert, retain_keys}
 use Rattle.elem_descr.specs.declared.descr.Descr.{Descr}
@@ -10,7 +10,6 @@ use Rattle.elem_descr.specs.declared.scalar.Width.TheVariants.{Four}
 use Rattle.elem_descr.specs.declared.scalar.Order.TheVariants.{Little}
 use Rattle.elem_descr.specs.Items.{item_size}
 use Rattle.elem_descr.specs.Values.{LeafValue}
-use Rattle.shape_strides.specs.Indexes.{count}
 use Rattle.name_store.specs.Parts.{descr_at, start_at, span_at, part_at, with_part, have_common, share_leaves}
 use Rattle.name_store.specs.Places.{offsets_of}
 use Rattle.name_store.specs.States.{Buffer, Array, State}
@@ -61,10 +60,6 @@ unbound s name =
     record s { names = names; buffers = retain_keys s.buffers (is_in_use names) }
 
 -- Arrays
-
--- a writable array over a buffer of its own, stored in C order
-abbrev pub fresh_array : ℕ → List ℕ → Array
-fresh_array buffer shape = record { buffer = buffer; path = []; shape = shape; places = range_with_len 0 (count shape); writable = true }
 
 abbrev pub no_buffer : Buffer
 no_buffer = record { descr = ScalarDescr (Int true Four Little); items = [] }

@@ -8,6 +8,7 @@ pub mod Places
 pub mod Shown
 pub mod States
 pub mod Targets
+pub mod Memory
 pub mod View
 pub mod Views
 pub mod inside

@@ -1,5 +1,5 @@
 //! The bench.
-ghost use Rattle.std.specs.Prelude.{◌≡◌, ◌≤◌, ◌<◌, length, map, Some, slice_get, IfOk};
+ghost use Rattle.std.specs.Prelude.{◌≡◌, ◌≤◌, ◌<◌, length, map, Some, slice_get, IfOk, IsOk};
 ghost use Rattle.std.specs.Option.{option_map};
 
 use crate::array_ref::ArrayRef;
@@ -48,6 +48,7 @@ impl Bench {
     ghost use Rattle.name_store.specs.States.{start};
     ghost use Rattle.name_store.specs.Arrays.{find_array, has_room_for};
     ghost use Rattle.name_store.specs.Calls.{AnswersBind, AnswersUnbind, AnswersWrite, AnswersShares};
+    ghost use Rattle.name_store.specs.Memory.{NeedsNoMemory};
     ghost use Rattle.name_store.specs.Shown.{Finds};
     ghost use Rattle.name_store.specs.Targets.{IsAim};
     ghost use Rattle.name_store.specs.Views.{MayBind};
@@ -109,7 +110,8 @@ impl Bench {
         source: Source<'_>,
     ) -> Result<usize, Refusal>
         requires aim { IsAim self.old name.now target source }
-        ensures { AnswersWrite self.old name.now target source.entry result self.new }
+        ensures answers { AnswersWrite self.old name.now target source.entry result self.new }
+        ensures no_memory { NeedsNoMemory self.old name.now target source.entry → IsOk result }
     {
         let key = Key::of(alloc, name);
         write_in(alloc, &self.names, &mut self.slots, &key, target, source)

@@ -1,7 +1,8 @@
 //! The bytes of a buffer are written: those of one item, or of the items of another layout.
-ghost use Rattle.std.specs.Prelude.{◌≡◌, ◌≢◌, ◌+◌, ◌≤◌, ◌<◌, ℕ, length, All, IfSome, Some, is_some, is_ok, if◌then◌else◌, true, vec_len};
+ghost use Rattle.std.specs.Prelude.{◌≡◌, ◌≢◌, ◌+◌, ◌≤◌, ◌<◌, ℕ, length, All, IfSome, IfOk, IfErr, IsOk, IsTrue, Some, is_some, is_ok, if◌then◌else◌, true, vec_len};
 ghost use Rattle.std.specs.List.{flat_map};
 ghost use Rattle.raw_block.specs.Bytes.{EachWithin};
+ghost use Rattle.shape_strides.specs.Limits.{max_bytes};
 ghost use Rattle.shape_strides.specs.Indexes.{count};
 ghost use Rattle.shape_strides.specs.Layouts.{offsets, Fits, IsNested};
 ghost use Rattle.shape_strides.specs.Runs.{run_offsets};
@@ -9,11 +10,12 @@ ghost use Rattle.overlap_copy.specs.Assignments.{assigned};
 ghost use Rattle.name_store.specs.declared.slot.Slot.{Slot};
 ghost use Rattle.name_store.specs.inside.Homes.{IsRewritten, HasNew};
 ghost use Rattle.name_store.specs.inside.Puts.{put_each};
+ghost use Rattle.name_store.specs.Memory.{AreShifted, MoveInPlace};
 ghost use Rattle.name_store.specs.View.{slot_at};
 
 use crate::slot::Slot;
 use crate::slots::slot_of;
-use overlap_copy::{assign, assign_from};
+use overlap_copy::{assign, assign_from, assign_shifted};
 use raw_block::RawBlock;
 use shape_strides::{Layout, Runs};
 use std::alloc::{AllocError, Global};
@@ -109,6 +111,51 @@ pub(crate) fn copy_across(
     slots[number] = taken;
 }
 
+/// Whether the items of one layout lie as those of the other do, some bytes further on or back.
+fn have_same_strides(to: &Layout, from: &Layout) -> bool
+    ensures shape { IsTrue result → from.now.shape ≡ to.now.shape }
+    ensures strides { IsTrue result → from.now.strides ≡ to.now.strides }
+    ensures found { from.now.shape ≡ to.now.shape → from.now.strides ≡ to.now.strides → IsTrue result }
+{
+    from.shape.as_slice() == to.shape.as_slice() && from.strides.as_slice() == to.strides.as_slice()
+}
+
+/// Whether, besides, no axis steps into what the others reach.
+fn are_shifted(to: &Layout, from: &Layout, width: usize) -> bool
+    requires { 1 ≤ width }
+    ensures sound { IsTrue result → AreShifted to.now from.now width }
+    ensures found { AreShifted to.now from.now width → IsTrue result }
+{
+    have_same_strides(to, from) && to.is_stacked(width)
+}
+
+/// The items of a layout become those of another in the same block as they were before. All memory
+/// is asked for before the first change.
+fn assign_within(
+    alloc: Global,
+    block: &mut RawBlock,
+    to: &Layout,
+    from: &Layout,
+    width: usize,
+) -> Result<(), AllocError>
+    requires small { length block.old ≤ max_bytes }
+    requires item { 1 ≤ width }
+    requires to { Fits to.now (length block.old) width }
+    requires from { Fits from.now (length block.old) width }
+    requires nested { IsNested (offsets to.now) width }
+    requires count { count to.now.shape ≡ count from.now.shape }
+    ensures written { IfOk result (λ _. block.new ≡ assigned (offsets to.now) (offsets from.now) width block.old block.old) }
+    ensures kept { IfErr result (λ _. block.new ≡ block.old) }
+    ensures len { length block.new ≡ length block.old }
+    ensures in_place { MoveInPlace to.now from.now width → IsOk result }
+{
+    if are_shifted(to, from, width) {
+        assign_shifted(block, to, from, width);
+        return Ok(());
+    }
+    assign(alloc, block, to, from, width)
+}
+
 /// The items of a layout in a slot that is occupied become those of another in the same block as
 /// they were before.
 fn assign_slot(
@@ -118,15 +165,17 @@ fn assign_slot(
     from: &Layout,
     width: usize,
 ) -> Result<(), AllocError>
+    requires item { 1 ≤ width }
     requires to { IfSome slot.old (λ s. Fits to.now (length s.block) width) }
     requires from { IfSome slot.old (λ s. Fits from.now (length s.block) width) }
     requires nested { IsNested (offsets to.now) width }
     requires count { count to.now.shape ≡ count from.now.shape }
-    ensures { (old : Slot) → slot.old ≡ Some old → (new : Slot) × (slot.new ≡ Some new)
+    ensures rewritten { (old : Slot) → slot.old ≡ Some old → (new : Slot) × (slot.new ≡ Some new)
         × IsRewritten old (if is_ok result then assigned (offsets to.now) (offsets from.now) width old.block old.block else old.block) new }
+    ensures in_place { MoveInPlace to.now from.now width → IsOk result }
 {
     if let Some(slot) = slot {
-        return assign(alloc, &mut slot.block, to, from, width);
+        return assign_within(alloc, &mut slot.block, to, from, width);
     }
     Ok(())
 }
@@ -143,10 +192,12 @@ pub(crate) fn assign_at(
     requires within { number < vec_len slots.old }
     requires to { IfSome (slot_at slots.old.items number) (λ s. Fits to.now (length s.block) width) }
     requires from { IfSome (slot_at slots.old.items number) (λ s. Fits from.now (length s.block) width) }
+    requires item { 1 ≤ width }
     requires nested { IsNested (offsets to.now) width }
     requires count { count to.now.shape ≡ count from.now.shape }
-    ensures { (old : Slot) → slot_at slots.old.items number ≡ Some old
+    ensures rewritten { (old : Slot) → slot_at slots.old.items number ≡ Some old
         → HasNew slots.old.items number old (if is_ok result then assigned (offsets to.now) (offsets from.now) width old.block old.block else old.block) slots.new.items }
+    ensures in_place { MoveInPlace to.now from.now width → IsOk result }
 {
     assign_slot(alloc, &mut slots[number], to, from, width)
 }

@@ -1,6 +1,8 @@
 //! Items of a name's array are written.
+ghost use Rattle.std.specs.Prelude.{IsOk};
 ghost use Rattle.name_store.specs.Calls.{AnswersWrite};
 ghost use Rattle.name_store.specs.Invariants.{Holds};
+ghost use Rattle.name_store.specs.Memory.{NeedsNoMemory};
 ghost use Rattle.name_store.specs.Targets.{IsAim};
 ghost use Rattle.name_store.specs.View.{state_of};
 ghost use Rattle.name_store.specs.declared.target.Source.TheVariants.{One, Block, Name};
@@ -64,7 +66,8 @@ fn write_block(
 }
 
 /// Writes items of the array of another name, or of the same, to the places of a layout. Only where
-/// both lie in one buffer may memory be asked for, and before the first change.
+/// both lie in one buffer, and the items cannot move in place, is memory asked for, and before the
+/// first change.
 fn write_named(
     alloc: Global,
     names: &IndexMap<Key, Entry>,
@@ -79,6 +82,7 @@ fn write_named(
     ensures holds { Holds names.now.entries slots.new.items }
     ensures answers { AnswersWrite (state_of names.now.entries slots.old.items) key.now.bytes.items (View layout.now) (Name name.entry from.now) result
         (state_of names.now.entries slots.new.items) }
+    ensures no_memory { NeedsNoMemory (state_of names.now.entries slots.old.items) key.now.bytes.items (View layout.now) (Name name.entry from.now) → IsOk result }
 {
     let home = home_of(names, slots.as_slice(), key);
     let other = home_of(names, slots.as_slice(), &Key::of(alloc, name));
@@ -104,6 +108,7 @@ pub(crate) fn write_in(
     ensures holds { Holds names.now.entries slots.new.items }
     ensures answers { AnswersWrite (state_of names.now.entries slots.old.items) key.now.bytes.items target source.entry result
         (state_of names.now.entries slots.new.items) }
+    ensures no_memory { NeedsNoMemory (state_of names.now.entries slots.old.items) key.now.bytes.items target source.entry → IsOk result }
 {
     match target {
         Target::View(layout) => match source {

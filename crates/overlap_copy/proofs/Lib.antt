@@ -13,4 +13,6 @@ pub mod RunCopyLaws
 pub mod ShareLaws
 pub mod SwapLaws
 pub mod TurnLaws
+pub mod ShiftLaws
+pub mod ComeLaws
 mod Vectors

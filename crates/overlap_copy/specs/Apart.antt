@@ -3,7 +3,8 @@ use Rattle.std.specs.Prelude.{◌≡◌, ◌+◌, ◌%◌, ◌<◌, ◌≤◌, �
 use Rattle.std.specs.Int.{◌∣◌}
 use Rattle.shape_strides.specs.declared.layout.Layout.{Layout}
 use Rattle.shape_strides.specs.Layouts.{offsets}
-use Rattle.shape_strides.specs.Stacks.{Axis, axes}
+use Rattle.shape_strides.specs.declared.stacked.Axis.{Axis}
+use Rattle.shape_strides.specs.Stacks.{axes}
 use Rattle.overlap_copy.specs.Overlaps.{do_ranges_meet}
 
 -- g divides each of the numbers, and what divides each of them divides g

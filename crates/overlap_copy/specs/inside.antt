@@ -1,3 +1,4 @@
 pub mod Marks
 pub mod Moves
 pub mod Packed
+pub mod Shifts

@@ -11,9 +11,11 @@ mod packed;
 mod run_copies;
 mod run_moves;
 mod share;
+mod shifted;
 
 pub use apart::may_overlap;
 pub use assignment::{assign, assign_from};
 pub use copies::copy;
 pub use owned::Owned;
 pub use share::share_cell;
+pub use shifted::assign_shifted;

@@ -9,6 +9,9 @@ pub mod ContiguityLaws
 pub mod FortranLaws
 pub mod StackLaws
 pub mod StackedLaws
+pub mod PermutationLaws
+pub mod OrderLaws
+pub mod AddressOrderLaws
 pub mod JoinedLaws
 pub mod UniqueLaws
 pub mod RunLaws

@@ -10,6 +10,7 @@ pub mod RunPairs
 pub mod PairWalks
 pub mod Contiguity
 pub mod Stacks
+pub mod AddressOrders
 pub mod IndexItems
 pub mod inside
 pub mod CountLaws

@@ -5,3 +5,4 @@ pub mod Alike
 pub mod AxisIndexes
 pub mod Single
 pub mod LastRuns
+pub mod Orders

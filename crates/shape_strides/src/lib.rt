@@ -2,6 +2,7 @@
 //! each of them lies; and what arrays are indexed by.
 #![tactic(auto)]
 
+pub mod address_order;
 pub mod contiguous;
 pub mod fixed_walk;
 mod index_item;
@@ -19,6 +20,7 @@ mod steps;
 pub mod strides;
 pub mod walk;
 
+pub use address_order::AddressOrder;
 pub use fixed_walk::FixedWalk;
 pub use index_item::IndexItem;
 pub use joined::StridedAxis;
@@ -28,5 +30,6 @@ pub use run_pairs::{RunPair, RunPairs};
 pub use runs::{Run, Runs};
 pub use same_offsets::have_same_offsets;
 pub use shape::{MAX_AXES, MAX_ITEMS, Shape};
+pub use stacked::Axis;
 pub use strides::Strides;
 pub use walk::Walk;

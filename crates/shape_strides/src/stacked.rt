@@ -7,6 +7,15 @@ ghost use Rattle.shape_strides.specs.Stacks.{IsStacked};
 
 use crate::layout::Layout;
 
+/// An axis without its direction.
+#[derive(Clone, Copy, Drop)]
+pub struct Axis {
+    /// How many bytes lie between the starts of one item and the next, either way.
+    pub step: usize,
+    /// How many items there are.
+    pub len: usize,
+}
+
 /// How far an axis reaches from its first item to its last, if it steps over so many bytes at most.
 fn axis_within(strides: &[isize], axis: usize, len: usize, step: usize) -> u128
     requires axis { axis < length strides.now }

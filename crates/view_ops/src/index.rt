@@ -54,7 +54,7 @@ fn has_step<A>(item: &IndexItem<A>) -> bool
 }
 
 /// Whether no slice has a step of 0.
-pub(crate) fn have_steps<A>(items: &[IndexItem<A>]) -> bool
+pub fn have_steps<A>(items: &[IndexItem<A>]) -> bool
     ensures { result ≡ list_all has_step items.now }
 {
     items.iter().all(|item| has_step(item))

@@ -12,6 +12,8 @@ pub mod transposition;
 
 pub use basic_index::basic;
 pub use fields::field;
-pub use index::are_basic;
-pub use slice::{Progression, slice_of};
+pub use index::{are_basic, have_steps};
+pub use pick::AxisPick;
+pub use picked::with_picks;
+pub use slice::{Progression, from_front, is_place, slice_of};
 pub use transposition::transpose;

@@ -5,7 +5,8 @@ ghost use Rattle.elem_descr.specs.declared.refusal.Refusal.TheVariants.{OutOfMem
 ghost use Rattle.shape_strides.specs.declared.index_item.IndexItem.TheVariants.{NewAxis};
 ghost use Rattle.shape_strides.specs.IndexItems.{is_basic};
 ghost use Rattle.view_ops.specs.Basics.{takes_axis, taken, has_step, is_on_axis, are_on_axes, whole, picks_of, picks};
-ghost use Rattle.view_ops.specs.inside.Picks.{shown, ArePicks, AddsPicks};
+ghost use Rattle.view_ops.specs.inside.Picks.{AddsPicks};
+ghost use Rattle.view_ops.specs.Picks.{shown, ArePicks};
 
 use crate::index::axes_end;
 use crate::slice::{Progression, from_front, is_place, slice_of};
@@ -16,7 +17,7 @@ use std::alloc::{AllocError, Global};
 
 /// What is picked of an axis: one number, or the numbers of a run; or an axis that is new.
 #[derive(Clone, Copy, Debug, PartialEq, Eq, Default)]
-pub(crate) enum AxisPick {
+pub enum AxisPick {
     At(usize),
     Along(Progression),
     #[default]

@@ -4,7 +4,8 @@ ghost use Rattle.std.specs.List.{flat_map};
 ghost use Rattle.elem_descr.specs.Refusals.{Gives};
 ghost use Rattle.shape_strides.specs.Limits.{max_axes};
 ghost use Rattle.view_ops.specs.Basics.{axis_of, picked_shape, shape_picked, picked_view};
-ghost use Rattle.view_ops.specs.inside.Picks.{shown, ArePicks, first_of, axes_taken, run_stride, stride_of, picked_strides, IsSmallStep, IsSmallPick, HaveSmallSteps};
+ghost use Rattle.view_ops.specs.inside.Picks.{first_of, axes_taken, run_stride, stride_of, picked_strides, IsSmallStep, IsSmallPick, HaveSmallSteps};
+ghost use Rattle.view_ops.specs.Picks.{shown, ArePicks};
 ghost use Rattle.view_ops.specs.Views.{GivesView, KeepsNested};
 
 use crate::pick::AxisPick;
@@ -122,12 +123,9 @@ fn shape_picked(alloc: Global, shape: &Shape, picks: &[AxisPick]) -> Result<Shap
     Shape::try_new(alloc, lengths.as_slice())
 }
 
-/// The view of what is picked.
-pub(crate) fn with_picks(
-    alloc: Global,
-    layout: &Layout,
-    picks: &[AxisPick],
-) -> Result<Layout, Refusal>
+/// The view of what is picked. One of more than 64 axes is refused as `TooManyAxes`. A view without items
+/// has strides and offset 0, and an axis of less than two items has stride 0.
+pub fn with_picks(alloc: Global, layout: &Layout, picks: &[AxisPick]) -> Result<Layout, Refusal>
     requires { ArePicks layout.now.shape picks.now }
     ensures view { GivesView layout.now result (picked_view (map shown picks.now)) }
     ensures nested { IfOk result (KeepsNested layout.now) }

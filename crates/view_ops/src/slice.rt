@@ -28,14 +28,14 @@ fn highest(n: usize, step: i128) -> i128
 }
 
 /// A bound as counted from the front.
-pub(crate) fn from_front(n: usize, at: i128) -> i128
+pub fn from_front(n: usize, at: i128) -> i128
     ensures { result ≡ from_front n at }
 {
     if at < 0 { at + n as i128 } else { at }
 }
 
 /// Whether a number names one of `n` places.
-pub(crate) fn is_place(n: usize, at: i128) -> bool
+pub fn is_place(n: usize, at: i128) -> bool
     ensures { result ≡ is_place n at }
 {
     let at = from_front(n, at);

@@ -1,24 +1,11 @@
--- What the items of a basic index pick, with slices as runs.
-use Rattle.std.specs.Prelude.{◌≡◌, ◌<◌, ◌≤◌, ℕ, nat_lt, if◌then◌else◌, ℤ, pos, neg_ℤ, ◌*ℤ◌, ◌≤ℤ◌, List, [], ◌∷◌, ◌++◌, map}
+-- How the items of a basic index are picked, with slices as runs.
+use Rattle.std.specs.Prelude.{◌≡◌, ◌≤◌, ℕ, nat_lt, if◌then◌else◌, ℤ, pos, neg_ℤ, ◌*ℤ◌, ◌≤ℤ◌, List, [], ◌∷◌, ◌++◌, map}
 use Rattle.shape_strides.specs.Limits.{max_bytes}
 use Rattle.view_ops.specs.declared.pick.AxisPick.{AxisPick}
 use Rattle.view_ops.specs.declared.pick.AxisPick.TheVariants.{At as AtAxis, Along as AlongAxis, New as NewAxis}
 use Rattle.view_ops.specs.declared.slice.Progression.{Progression}
-use Rattle.view_ops.specs.Slices.{run_numbers, IsRunWithin}
-use Rattle.view_ops.specs.Basics.{Pick, At, Along, New}
-
-abbrev pub shown : AxisPick → Pick
-shown (AtAxis number) = At number
-shown (AlongAxis run) = Along (run_numbers run)
-shown NewAxis = New
-
--- picks of the axes of a shape, each within its axis
-abbrev pub ArePicks : List ℕ → List AxisPick → Type 0
-ArePicks shape (NewAxis ∷ picks) = ArePicks shape picks
-ArePicks [] [] = Unit {0}
-ArePicks (n ∷ shape) (AtAxis number ∷ picks) = (number < n) × ArePicks shape picks
-ArePicks (n ∷ shape) (AlongAxis run ∷ picks) = IsRunWithin run n × ArePicks shape picks
-ArePicks _ _ = ⊥
+pub use Rattle.view_ops.specs.Picks.{shown, ArePicks}
+use Rattle.view_ops.specs.Basics.{Pick}
 
 -- these picks of these axes come after the old ones
 pub record AddsPicks (old new : List AxisPick) (axes : List ℕ) (picks : List Pick) : Type 0 where

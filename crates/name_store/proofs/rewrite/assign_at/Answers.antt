@@ -15,8 +15,8 @@ assign_slot-requires-clause-from c =
     let inside : c.args.number < length c.args.slots.now.items = omega (arith, c.args.slots.now.ok.0, c.requires.within) in
     subst (λ (o : Option Slot). IfSome o (λ s. Fits c.args.from.now (length s.block) c.args.width)) (sym (c.index_mut.ensures.value ∙ slot_at-get_or c.args.slots.now.items c.args.number _ inside)) c.requires.from
 
-pub returns : goal.returns
-returns c old is =
+pub returns-clause-rewritten : goal.returns-clause-rewritten
+returns-clause-rewritten c = λ old is.
     let inside : c.args.number < length c.args.slots.now.items = omega (arith, c.args.slots.now.ok.0, c.requires.within) in
-    let done = c.assign_slot.ensures old (c.index_mut.ensures.value ∙ slot_at-get_or c.args.slots.now.items c.args.number _ inside ∙ is) in
+    let done = c.assign_slot.ensures.rewritten old (c.index_mut.ensures.value ∙ slot_at-get_or c.args.slots.now.items c.args.number _ inside ∙ is) in
     slot-set c.args.slots.now.items c.args.number c.assign_slot.new.slot old done.0 _ inside done.1 done.2

@@ -1,13 +1,16 @@
-use Rattle.std.proofs.Common.{◌+◌, ◌≤◌, sym, subst, refl, Option, IfSome, All, length, arith}
+use Rattle.std.proofs.Common.{◌+◌, ◌≤◌, sym, subst, refl, ◌∙◌, Option, IfSome, All, length, arith}
+use Rattle.std.proofs.lemmas.Bool.{false≢true}
 use Rattle.std.proofs.lemmas.Result.{err_from_is_err_and}
 use Rattle.shape_strides.specs.Layouts.{offsets, Fits}
 use Rattle.overlap_copy.specs.Assignments.{assigned}
+use Rattle.name_store.specs.Memory.{MoveInPlace}
+use Rattle.name_store.specs.View.{array_at}
 use Rattle.name_store.specs.inside.Homes.{IsHome, HasNew}
 use Rattle.name_store.specs.declared.slot.Slot.{Slot}
 use Rattle.name_store.specs.declared.target.Source.TheVariants.{Name}
 use Rattle.name_store.proofs.AimLaws.{target-fits, target-within, target-nested, named-fits, named-within, named-count, named-same, named-answers}
 use Rattle.name_store.proofs.StateLaws.{Slots}
-use Rattle.name_store.proofs.WriteLaws.{home-within, written-holds, kept-state}
+use Rattle.name_store.proofs.WriteLaws.{home-within, home-some, size-is, written-holds, kept-state}
 use Rattle.name_store.proofs.write.write_named.Goals as goal
 
 pub copy_across-requires-clause-within : goal.copy_across-requires-clause-within
@@ -81,18 +84,18 @@ assign_at-requires-clause-count c =
 pub returns-in_err-assign_at-clause-holds : goal.returns-in_err-assign_at-clause-holds
 returns-in_err-assign_at-clause-holds c =
     let home = subst (λ (slots : Slots). IsHome c.args.names.now.entries slots c.args.key.now.bytes.items c.home_of-home.result.number c.home_of-home.result.width) c.as_slice.ensures.value c.home_of-home.ensures in
-    written-holds c.args.names.now.entries c.args.slots.now.items _ c.home_of-home.result.number c.home_of-home.result.width home c.requires.holds _ c.assign_at.new.slots.items (c.in_err-assign_at.ensures home.slot home.there)
+    written-holds c.args.names.now.entries c.args.slots.now.items _ c.home_of-home.result.number c.home_of-home.result.width home c.requires.holds _ c.assign_at.new.slots.items (c.in_err-assign_at.ensures.rewritten home.slot home.there)
 
 pub returns-in_err-assign_at-clause-answers : goal.returns-in_err-assign_at-clause-answers
 returns-in_err-assign_at-clause-answers c =
     let home = subst (λ (slots : Slots). IsHome c.args.names.now.entries slots c.args.key.now.bytes.items c.home_of-home.result.number c.home_of-home.result.width) c.as_slice.ensures.value c.home_of-home.ensures in
     let p = err_from_is_err_and c.from_residual.result c.from_residual.ensures.1 in
-    rw (p.1, p.2) (kept-state c.args.names.now.entries c.args.slots.now.items _ c.home_of-home.result.number c.home_of-home.result.width home c.requires.holds home.slot.block c.assign_at.new.slots.items (c.in_err-assign_at.ensures home.slot home.there) refl, refl)
+    rw (p.1, p.2) (kept-state c.args.names.now.entries c.args.slots.now.items _ c.home_of-home.result.number c.home_of-home.result.width home c.requires.holds home.slot.block c.assign_at.new.slots.items (c.in_err-assign_at.ensures.rewritten home.slot home.there) refl, refl)
 
 pub returns-clause-holds : goal.returns-clause-holds
 returns-clause-holds c =
     let home = subst (λ (slots : Slots). IsHome c.args.names.now.entries slots c.args.key.now.bytes.items c.home_of-home.result.number c.home_of-home.result.width) c.as_slice.ensures.value c.home_of-home.ensures in
-    written-holds c.args.names.now.entries c.args.slots.now.items _ c.home_of-home.result.number c.home_of-home.result.width home c.requires.holds _ c.assign_at.new.slots.items (c.in_ok-assign_at.ensures home.slot home.there)
+    written-holds c.args.names.now.entries c.args.slots.now.items _ c.home_of-home.result.number c.home_of-home.result.width home c.requires.holds _ c.assign_at.new.slots.items (c.in_ok-assign_at.ensures.rewritten home.slot home.there)
 
 pub returns-clause-answers : goal.returns-clause-answers
 returns-clause-answers c =
@@ -101,5 +104,19 @@ returns-clause-answers c =
     (subst (λ (slots : Slots). IsHome c.args.names.now.entries slots c.of.result.bytes.items c.home_of-other.result.number c.home_of-other.result.width) c.as_slice-2.ensures.value c.home_of-other.ensures) in
     let same = named-same c.args.names.now.entries c.args.slots.now.items _ c.home_of-home.result.number c.home_of-home.result.width home c.args.layout.now c.args.name c.args.from.now c.requires.aim c.home_of-other.result.number c.home_of-other.result.width other c.if-other-home.false in
     let done = subst (λ (s : Slot). HasNew c.args.slots.now.items c.home_of-home.result.number home.slot (assigned (offsets c.args.layout.now) (offsets c.args.from.now) c.home_of-home.result.width s.block home.slot.block) c.assign_at.new.slots.items)
-    (sym same) (c.in_ok-assign_at.ensures home.slot home.there) in
+    (sym same) (c.in_ok-assign_at.ensures.rewritten home.slot home.there) in
     named-answers c.args.names.now.entries c.args.slots.now.items _ c.home_of-home.result.number c.home_of-home.result.width home c.args.layout.now c.args.name c.args.from.now c.requires.aim c.home_of-other.result.number c.home_of-other.result.width other c.requires.holds c.assign_at.new.slots.items done c.items-2.result c.items-2.ensures.value
+
+pub assign_at-requires-clause-item : goal.assign_at-requires-clause-item
+assign_at-requires-clause-item c =
+    let home = subst (λ (slots : Slots). IsHome c.args.names.now.entries slots c.args.key.now.bytes.items c.home_of-home.result.number c.home_of-home.result.width) c.as_slice.ensures.value c.home_of-home.ensures in
+    home-some c.args.names.now.entries c.args.slots.now.items _ c.home_of-home.result.number c.home_of-home.result.width home
+
+pub returns-in_err-assign_at-clause-no_memory : goal.returns-in_err-assign_at-clause-no_memory
+returns-in_err-assign_at-clause-no_memory c = λ free.
+    let home = subst (λ (slots : Slots). IsHome c.args.names.now.entries slots c.args.key.now.bytes.items c.home_of-home.result.number c.home_of-home.result.width) c.as_slice.ensures.value c.home_of-home.ensures in
+    let other = subst (λ n. IsHome c.args.names.now.entries c.args.slots.now.items n c.home_of-other.result.number c.home_of-other.result.width) c.of.ensures
+    (subst (λ (slots : Slots). IsHome c.args.names.now.entries slots c.of.result.bytes.items c.home_of-other.result.number c.home_of-other.result.width) c.as_slice-2.ensures.value c.home_of-other.ensures) in
+    let same = sym home.number_is ∙ sym c.if-other-home.false ∙ other.number_is in
+    let move = free (array_at home.entry) (array_at other.entry) home.found other.found same in
+    absurd (false≢true (c.in_err-assign_at.ensures.in_place (subst (MoveInPlace c.args.layout.now c.args.from.now) (size-is c.args.names.now.entries c.args.slots.now.items _ c.home_of-home.result.number c.home_of-home.result.width home (array_at home.entry) home.found) move)))

@@ -1,0 +1,71 @@
+-- Laws of broadcasting: a shape stretches to itself as it is, and what is stretched into a target has its shape.
+use Rattle.std.proofs.Common.{◌≡◌, Result, Ok, Err, ℕ, ◌-◌, ◌<◌, ◌==◌, ◌&&◌, true, false, if◌then◌else◌, List, [], ◌∷◌, ◌++◌, length, take, drop, replicate, refl, sym, ap, ◌∙◌, arith}
+use Rattle.std.specs.List.{list_all}
+use Rattle.std.specs.Result.{is_ok}
+use Rattle.std.proofs.lemmas.Bool.{false≢true, eqb-true}
+use Rattle.std.proofs.lemmas.Bool.Decides.{nat_tests}
+use Rattle.elem_descr.specs.declared.refusal.Refusal.{Refusal}
+use Rattle.elem_descr.specs.declared.refusal.Refusal.TheVariants.{ShapesDoNotBroadcast}
+use Rattle.elem_descr.specs.Refusals.{◌>>=◌}
+use Rattle.elem_descr.specs.RefusalLaws.{same_answer, check_passed}
+use Rattle.shape_strides.specs.Indexes.{IsIndex}
+use Rattle.shape_strides.specs.IndexLaws.{length-index}
+use Rattle.view_ops.specs.Views.{View}
+use Rattle.broadcasting.specs.Broadcasts.{stretches, all_stretch, can_stretch, within_axes, broadcast_index, stretched, axes_beyond, stretched_into}
+
+-- ---- a shape and itself
+
+fits-itself : (n : ℕ) → stretches n n ≡ true
+fits-itself n = grind (arith, nat_tests)
+
+all-itself : (shape : List ℕ) → all_stretch shape shape ≡ true
+all-itself [] = refl
+all-itself (n ∷ shape) = λ i. fits-itself n i && all-itself shape i
+
+none-beyond : (shape : List ℕ) → length shape - length shape ≡ 0
+none-beyond shape = omega arith
+
+pub can-itself : (shape : List ℕ) → can_stretch shape shape ≡ true
+can-itself shape = ap (λ k. all_stretch (replicate k 1 ++ shape) shape) (none-beyond shape) ∙ all-itself shape
+
+number-itself : (n k : ℕ) → k < n → (if n == 1 then 0 else k) ≡ k
+number-itself n k below =
+    elim (n == 1) as (λ t. (n == 1) ≡ t → (if t then 0 else k) ≡ k) [
+      | true ↦ λ one. omega (arith, eqb-true n 1 one)
+      | false ↦ λ other. refl
+    ] refl
+
+within-itself : (shape index : List ℕ) → IsIndex shape index → within_axes shape index ≡ index
+within-itself [] [] in' = refl
+within-itself [] (k ∷ index) in' = absurd in'
+within-itself (n ∷ shape) [] in' = absurd in'
+within-itself (n ∷ shape) (k ∷ index) in' = λ i. number-itself n k in'.0 i ∷ within-itself shape index in'.1 i
+
+-- each index leads to itself
+pub broadcast_index-itself : (shape index : List ℕ) → IsIndex shape index → broadcast_index shape index ≡ index
+broadcast_index-itself shape index in' =
+    ap (λ n. within_axes shape (drop (n - length shape) index)) (length-index shape index in') ∙ ap (λ k. within_axes shape (drop k index)) (none-beyond shape) ∙ within-itself shape index in'
+
+pub stretched-itself : (shape : List ℕ) → stretched shape shape ≡ Ok (record { shape = shape; leads = broadcast_index shape })
+unfolding stretched
+stretched-itself shape = rw (can-itself shape)
+
+into-none : (shape target : List ℕ) (k : ℕ) → k ≡ axes_beyond (length target) shape → k ≡ 0 → stretched_into shape target ≡ stretched shape target >>= (λ view. Ok (record { shape = target; leads = λ index. view.leads index }))
+unfolding stretched_into
+into-none shape target k is none = rw (sym is ∙ none)
+
+pub into-itself : (shape : List ℕ) → stretched_into shape shape ≡ Ok (record { shape = shape; leads = broadcast_index shape })
+into-itself shape =
+    into-none shape shape (length shape - length shape) refl (none-beyond shape) ∙ ap (λ r. r >>= (λ view. Ok (record { shape = shape; leads = λ index. view.leads index }))) (stretched-itself shape)
+
+-- ---- the shape of what is stretched
+
+with-shape : (target : List ℕ) (m : View → List ℕ → List ℕ) (there : Result View Refusal) (view : View) → there >>= (λ seen. Ok (record { shape = target; leads = m seen })) ≡ Ok view → view.shape ≡ target
+with-shape target m (Ok seen) view found = sym (ap (λ v. v.shape) (same_answer (record { shape = target; leads = m seen }) view found))
+with-shape target m (Err e) view found = absurd (false≢true (ap is_ok found))
+
+pub into-shape : (shape target : List ℕ) (view : View) → stretched_into shape target ≡ Ok view → view.shape ≡ target
+unfolding stretched_into
+into-shape shape target view found =
+    let more = axes_beyond (length target) shape in
+    with-shape target (λ seen index. replicate more 0 ++ seen.leads index) (stretched (drop more shape) target) view (check_passed (list_all (λ n. n == 1) (take more shape)) ShapesDoNotBroadcast _ view found)

@@ -1,0 +1,45 @@
+-- Writes that take no memory.
+use Rattle.std.specs.Prelude.{◌≡◌, ◌⊎◌, ℕ, ℤ, List, Some, reverse}
+use Rattle.elem_descr.specs.Items.{item_size}
+use Rattle.shape_strides.specs.declared.layout.Layout.{Layout}
+use Rattle.shape_strides.specs.Layouts.{offsets}
+use Rattle.shape_strides.specs.Stacks.{IsStacked}
+use Rattle.overlap_copy.specs.Apart.{AreApart}
+use Rattle.overlap_copy.specs.Assignments.{IsRun}
+use Rattle.name_store.specs.States.{State, Array}
+use Rattle.name_store.specs.Arrays.{find_array, descr_of}
+use Rattle.name_store.specs.declared.target.Source.{Source}
+use Rattle.name_store.specs.declared.target.Source.TheVariants.{One, Block, Name}
+use Rattle.name_store.specs.declared.target.Target.{Target}
+use Rattle.name_store.specs.declared.target.Target.TheVariants.{View}
+
+-- both are runs of the same step
+pub record AreRuns (to from : Layout) : Type 0 where
+  pub step : ℤ
+  pub to_run : IsRun step (offsets to)
+  pub from_run : IsRun step (offsets from)
+
+-- both are runs, each of them the other from its last item to its first
+pub record AreReversed (to from : Layout) : Type 0 where
+  pub step : ℤ
+  pub other : ℤ
+  pub to_run : IsRun step (offsets to)
+  pub from_run : IsRun other (offsets from)
+  pub reversed : offsets from ≡ reverse (offsets to)
+
+-- both have the same shape and the same strides, and each axis steps clear of the others
+pub record AreShifted (to from : Layout) (item : ℕ) : Type 0 where
+  pub shape : from.shape ≡ to.shape
+  pub strides : from.strides ≡ to.strides
+  pub stacked : IsStacked to item
+
+-- the items of a layout can come from those of another in the same buffer, one by one
+abbrev pub MoveInPlace : Layout → Layout → ℕ → Type 0
+MoveInPlace to from item = AreApart to item from item ⊎ (AreRuns to from ⊎ (AreReversed to from ⊎ AreShifted to from item))
+
+-- One item, the items of a block and those of another buffer are written without memory, and so are items of the same buffer that can move in place.
+abbrev pub NeedsNoMemory : State → List ℕ → Target → Source → Type 0
+NeedsNoMemory s name target (One bytes) = Unit {0}
+NeedsNoMemory s name target (Block owned) = Unit {0}
+NeedsNoMemory s name (View to) (Name other from) =
+    (a b : Array) → find_array s.names name ≡ Some a → find_array s.names other.now ≡ Some b → a.buffer ≡ b.buffer → MoveInPlace to from (item_size (descr_of s a))

@@ -1,0 +1,287 @@
+-- Items that move by as many bytes each, in the order of their addresses.
+use Rattle.std.proofs.Common.{◌≡◌, ◌+◌, ◌-◌, ◌*◌, ◌<◌, ◌≤◌, ◌⊎◌, inl, inr, ℕ, zero, suc, ℤ, pos, negsuc, ◌+ℤ◌, ◌*ℤ◌, ◌≤ℤ◌, List, [], ◌∷◌, ◌++◌, map, length, get_or, All, Contains, refl, sym, ap, subst, ◌∙◌, arith, length-append, get_or-append-add, one-mul}
+use Rattle.std.specs.Prelude.{nat_abs}
+use Rattle.std.specs.List.{flat_map, AllByRecursion as Each}
+use Rattle.std.proofs.Math.IntN.{*ℤ_comm, +ℤ_idr}
+use Rattle.std.proofs.lemmas.Bool.{cases_lt}
+use Rattle.std.proofs.lemmas.Int.{ints}
+use Rattle.std.proofs.lemmas.List.{length-map, get_or-map, map-append, get_or_append_left, same_lists}
+use Rattle.std.proofs.lemmas.List.Elements.{recursion_from_All, All-head}
+use Rattle.raw_block.specs.Bytes.{position, place, item_at, put, EachWithin}
+use Rattle.raw_block.specs.BytesLaws.{not_negative}
+use Rattle.shape_strides.specs.declared.layout.Layout.{Layout}
+use Rattle.shape_strides.specs.declared.runs.Run.{Run}
+use Rattle.shape_strides.specs.Limits.{max_bytes, max_items}
+use Rattle.shape_strides.specs.Addresses.{LieWithin, address_at}
+use Rattle.shape_strides.specs.Indexes.{rank, IsIndex, count}
+use Rattle.shape_strides.specs.Layouts.{offsets, Fits, IsNested, distance, dot}
+use Rattle.shape_strides.specs.Runs.{run_offsets}
+use Rattle.shape_strides.specs.AddressOrders.{IsRising, IsFalling}
+use Rattle.shape_strides.specs.IndexLaws.{index_at}
+use Rattle.shape_strides.specs.LayoutLaws.{length-offsets, pos-offset, offsets_within}
+use Rattle.overlap_copy.specs.RunLaws.{length-run_offsets, place-at, run-ends, lie-within, runs-within}
+use Rattle.overlap_copy.specs.Assignments.{assigned}
+use Rattle.overlap_copy.specs.inside.Moves.{IsAssigned, IsLine, IsTurned, AreSpaced, LiesApart, LieApart, place_in}
+use Rattle.overlap_copy.specs.inside.Shifts.{source, sources, source_run, MayCome}
+use Rattle.overlap_copy.proofs.MoveLaws.{reordered, retold, same_assigned, assigned_is}
+use Rattle.overlap_copy.proofs.MovingLaws.{nested-front, nested-back, IsMoving, moving_on}
+use Rattle.overlap_copy.proofs.RunCopyLaws.{whole_moved}
+use Rattle.overlap_copy.proofs.TurnLaws.{line_within, turned_place, turned_within}
+
+-- ---- a run, from its first item to its last and back
+
+add-nothing : (at z y : ℤ) → z ≡ y → at +ℤ (z +ℤ pos 0) ≡ at +ℤ y
+add-nothing at z y same = omega (arith, ints, same)
+
+pub lies-from : (len item : ℕ) (run : Run) → EachWithin len run.offset run.step item run.count → LieWithin (run.count ∷ []) (run.step ∷ []) run.offset len item
+lies-from len item run within = record {
+  from_zero = λ index in'. let one = single index in' in subst (λ z. pos 0 ≤ℤ z) (sym one.2) (within.each one.0 one.1).0;
+  within = λ index in'. let one = single index in' in subst (λ z. (z +ℤ pos item) ≤ℤ pos len) (sym one.2) (within.each one.0 one.1).1;
+}
+  where
+    single : (index : List ℕ) → IsIndex (run.count ∷ []) index → (k : ℕ) × (k < run.count) × (address_at (run.step ∷ []) run.offset index ≡ position run.offset run.step k)
+    single [] in' = absurd in'
+    single (k ∷ []) in' = (k, in'.0, add-nothing (pos run.offset) (run.step *ℤ pos k) (pos k *ℤ run.step) (*ℤ_comm run.step (pos k)))
+    single (k ∷ j ∷ index) in' = absurd in'.1
+
+pub line-of : (len item : ℕ) (run : Run) → 2 ≤ run.count → run.count ≤ max_items → EachWithin len run.offset run.step item run.count → IsLine len item run
+line-of len item run two few within = record { two = two; few = few; lies = lies-from len item run within }
+
+pub back-line : (len item : ℕ) (run back : Run) → IsTurned run back → 2 ≤ run.count → run.count ≤ max_items → EachWithin len run.offset run.step item run.count → IsLine len item back
+back-line len item run back t two few within =
+    line-of len item back (omega (arith, two, t.count)) (omega (arith, few, t.count)) (subst (λ n. EachWithin len back.offset back.step item n) (sym t.count) (turned_within len item run back t within))
+
+pub spaced : (len width : ℕ) (run : Run) → EachWithin len run.offset run.step width run.count → IsNested (run_offsets run) width → AreSpaced width run
+spaced len width run within nested = record {
+  apart = λ j k before below.
+      let far = nested.apart j k before (omega (arith, below, length-run_offsets run)) in
+      omega (arith, far, place-at len width run j within (omega (arith, before, below)), place-at len width run k within below);
+}
+
+pub back-spaced : (width : ℕ) (run back : Run) → IsTurned run back → AreSpaced width run → AreSpaced width back
+back-spaced width run back t s = record {
+  apart = λ j k before below.
+      let n = run.count in
+      let low : k < n = omega (arith, below, t.count) in
+      let far = s.apart (n - 1 - k) (n - 1 - j) (omega (arith, before, low)) (omega (arith, before, low)) in
+      omega (arith, far, turned_place run back j t (omega (arith, before, low)), turned_place run back k t low);
+}
+
+pub back-moved : (to to' from from' : Run) (width : ℕ) (old new : List ℕ) → IsTurned to to' → IsTurned from from' → from.count ≡ to.count → IsAssigned to'.count (place_in to') (place_in from') width old old new → IsAssigned to.count (place_in to) (place_in from) width old old new
+back-moved to to' from from' width old new t t' even moved =
+    let n = to.count in
+    reordered n (λ k. n - 1 - k) (place_in to) (place_in from) (place_in to') (place_in from') width old old new (λ k below. (omega (arith, below), omega (arith, below)))
+    (λ k below.
+    let j = n - 1 - k in
+    let low : j < n = omega (arith, below) in
+    let back : n - 1 - j ≡ k = omega (arith, below) in
+    let back' : from.count - 1 - j ≡ k = omega (arith, below, even) in
+    (sym (turned_place to to' j t low ∙ ap (place_in to) back), sym (turned_place from from' j t' (omega (arith, low, even)) ∙ ap (place_in from) back')))
+    (subst (λ m. IsAssigned m (place_in to') (place_in from') width old old new) t.count moved)
+
+-- a run of one item
+first-place : (run : Run) → place_in run 0 ≡ run.offset
+first-place run = ap nat_abs (add-zero (pos run.offset) (pos 0 *ℤ run.step) (*ℤ_comm (pos 0) run.step ∙ none run.step))
+  where
+    add-zero : (at z : ℤ) → z ≡ pos 0 → at +ℤ z ≡ at
+    add-zero at z is = omega (arith, ints, is)
+
+    none : (s : ℤ) → s *ℤ pos 0 ≡ pos 0
+    none (pos n) = omega (arith, ints)
+    none (negsuc n) = omega (arith, ints)
+
+pub one-within : (len width : ℕ) (run : Run) → 1 ≤ run.count → EachWithin len run.offset run.step width run.count → run.offset + width ≤ len
+one-within len width run some within =
+    let first = place-at len width run 0 within (omega (arith, some)) in
+    let ends = run-ends len width run within 0 0 (omega (arith, some, length-run_offsets run)) in
+    omega (arith, ends, first, first-place run)
+
+pub one-moved : (to from : Run) (width : ℕ) (old new : List ℕ) → to.count ≡ 1 → to.offset + width ≤ length old → from.offset + width ≤ length old → new ≡ put to.offset (item_at from.offset width old) old → IsAssigned to.count (place_in to) (place_in from) width old old new
+one-moved to from width old new single in_to in_from moved =
+    let wide : 1 * width ≡ width = one-mul width in
+    let whole = whole_moved to.offset from.offset width 1 old (omega (arith, in_to, wide)) (omega (arith, in_from, wide)) in
+    let here = subst (IsAssigned 1 (place to.offset (pos width)) (place from.offset (pos width)) width old old) (ap (λ w. put to.offset (item_at from.offset w old) old) wide ∙ sym moved) whole in
+    let row = λ (at : ℕ). first-place (record { offset = at; count = 1; step = pos width }) in
+    subst (λ n. IsAssigned n (place_in to) (place_in from) width old old new) (sym single)
+    (retold 1 (place_in to) (place_in from) (place to.offset (pos width)) (place from.offset (pos width)) width old old new (λ k below.
+    let none : k ≡ 0 = omega (arith, below) in (
+      ap (place_in to) none ∙ first-place to ∙ sym (row to.offset) ∙ ap (place to.offset (pos width)) (sym none),
+      ap (place_in from) none ∙ first-place from ∙ sym (row from.offset) ∙ ap (place from.offset (pos width)) (sym none),
+    )) here)
+
+-- ---- where the items of a run come from
+
+moved-place : (at to from : ℕ) (z p q : ℤ) → to ≤ at + from → pos 0 ≤ℤ (pos at +ℤ z) → to ≤ nat_abs (pos at +ℤ z) + from → nat_abs (pos (at + from - to) +ℤ z) ≡ nat_abs (pos at +ℤ z) + from - to
+moved-place at to from z p q low none low' =
+    let there = not_negative (pos at +ℤ z) none in
+    let sum = together at to from z (nat_abs (pos at +ℤ z)) low there low' in
+    ap nat_abs sum
+  where
+    together : (at to from : ℕ) (z : ℤ) (n : ℕ) → to ≤ at + from → pos n ≡ pos at +ℤ z → to ≤ n + from → pos (at + from - to) +ℤ z ≡ pos (n + from - to)
+    together at to from z n low is low' = omega (arith, ints, low, is, low')
+
+module _ (len width to from : ℕ) (run : Run) (some : 1 ≤ run.count) (within : EachWithin len run.offset run.step width run.count) (come : MayCome len width to from (run_offsets run)) where
+  place-of : (k : ℕ) → k < run.count → get_or (run_offsets run) k 0 ≡ place_in run k
+  place-of k below = place-at len width run k within below
+
+  listed : (k : ℕ) → k < run.count → k < length (run_offsets run)
+  listed k below = omega (arith, below, length-run_offsets run)
+
+  pub low-first : to ≤ run.offset + from
+  low-first = omega (arith, come.low 0 0 (listed 0 (omega (arith, some))), place-of 0 (omega (arith, some)), first-place run)
+
+  source-place : (k : ℕ) → k < run.count → place_in (source_run to from run) k ≡ source to from (place_in run k)
+  source-place k below =
+      moved-place run.offset to from (pos k *ℤ run.step) (pos 0) (pos 0) low-first (within.each k below).0 (omega (arith, come.low k 0 (listed k below), place-of k below))
+
+  source-low : (k : ℕ) → k < run.count → pos 0 ≤ℤ position (source to from run.offset) run.step k
+  source-low k below =
+      let there = not_negative (position run.offset run.step k) (within.each k below).0 in
+      sum run.offset (pos k *ℤ run.step) (place_in run k) low-first there (omega (arith, come.low k 0 (listed k below), place-of k below))
+    where
+      sum : (at : ℕ) (z : ℤ) (n : ℕ) → to ≤ at + from → pos n ≡ pos at +ℤ z → to ≤ n + from → pos 0 ≤ℤ (pos (at + from - to) +ℤ z)
+      sum at z n low is low' = omega (arith, ints, low, is, low')
+
+  source-each : (limit item : ℕ) → All (λ offset. source to from offset + item ≤ limit) (run_offsets run) → EachWithin limit (source to from run.offset) run.step item run.count
+  source-each limit item ends = record {
+    each = λ k below.
+        let low = source-low k below in
+        let there = not_negative (position (source to from run.offset) run.step k) low in
+        let end = ends k 0 (listed k below) in
+        (low, high (position (source to from run.offset) run.step k) (place_in (source_run to from run) k) there (omega (arith, end, source-place k below, ap (source to from) (place-of k below))));
+  }
+    where
+      high : (z : ℤ) (n : ℕ) → pos n ≡ z → n + item ≤ limit → (z +ℤ pos item) ≤ℤ pos limit
+      high z n is low = omega (arith, ints, is, low)
+
+  pub source-within : EachWithin len (source to from run.offset) run.step width run.count
+  source-within = source-each len width come.sources_are
+
+  pub source-lies : LieWithin (run.count ∷ []) (run.step ∷ []) (source to from run.offset) max_bytes 1
+  source-lies = lies-from max_bytes 1 (source_run to from run) (source-each max_bytes 1 come.begin)
+
+  pub source-offsets : run_offsets (source_run to from run) ≡ sources to from (run_offsets run)
+  source-offsets =
+      same_lists (run_offsets (source_run to from run)) (sources to from (run_offsets run)) (length-run_offsets (source_run to from run) ∙ sym (length-run_offsets run) ∙ sym (length-map (run_offsets run) (source to from))) (λ k d below.
+      let inside : k < run.count = omega (arith, below, length-run_offsets (source_run to from run)) in
+      default (run_offsets (source_run to from run)) k d below
+      ∙ place-at len width (source_run to from run) k source-within inside
+      ∙ source-place k inside
+      ∙ ap (source to from) (sym (place-of k inside))
+      ∙ sym (get_or-map (source to from) (run_offsets run) k 0 d (listed k inside)))
+    where
+      default : (l : List ℕ) (k d : ℕ) → k < length l → get_or l k d ≡ get_or l k 0
+      default [] k d below = absurd (omega (arith, below))
+      default (x ∷ l) zero d below = refl
+      default (x ∷ l) (suc k) d below = default l k d (omega (arith, below))
+
+-- ---- fewer items
+
+at-front : (xs ys : List ℕ) (k : ℕ) → k < length xs → (k < length (xs ++ ys)) × (get_or (xs ++ ys) k 0 ≡ get_or xs k 0)
+at-front xs ys k below = (omega (arith, below, length-append xs ys), get_or_append_left xs ys 0 k below)
+
+at-back : (xs ys : List ℕ) (k d : ℕ) → k < length ys → (length xs + k < length (xs ++ ys)) × (get_or (xs ++ ys) (length xs + k) d ≡ get_or ys k d)
+at-back xs ys k d below = (omega (arith, below, length-append xs ys), get_or-append-add xs ys k d)
+
+all-front : (P : ℕ → Type 0) (xs ys : List ℕ) → All P (xs ++ ys) → All P xs
+all-front P xs ys all = λ k d below. subst P (get_or_append_left xs ys d k below) (all k d (at-front xs ys k below).0)
+
+all-back : (P : ℕ → Type 0) (xs ys : List ℕ) → All P (xs ++ ys) → All P ys
+all-back P xs ys all = λ k d below. subst P (at-back xs ys k d below).1 (all (length xs + k) d (at-back xs ys k d below).0)
+
+pub come-front : (len width to from : ℕ) (xs ys : List ℕ) → MayCome len width to from (xs ++ ys) → MayCome len width to from xs
+come-front len width to from xs ys come = record {
+  few = omega (arith, come.few, length-append xs ys);
+  targets = all-front (λ o. o + width ≤ len) xs ys come.targets;
+  low = all-front (λ o. to ≤ o + from) xs ys come.low;
+  sources_are = all-front (λ o. source to from o + width ≤ len) xs ys come.sources_are;
+  begin = all-front (λ o. source to from o + 1 ≤ max_bytes) xs ys come.begin;
+  nested = nested-front xs ys width come.nested;
+  unread = λ j k before below.
+      let first = at-front xs ys j (omega (arith, before, below)) in
+      let second = at-front xs ys k below in
+      subst (λ a. width ≤ distance (source to from (get_or xs k 0)) a) first.1 (subst (λ b. width ≤ distance (source to from b) (get_or (xs ++ ys) j 0)) second.1 (come.unread j k before second.0));
+}
+
+pub come-back : (len width to from : ℕ) (xs ys : List ℕ) → MayCome len width to from (xs ++ ys) → MayCome len width to from ys
+come-back len width to from xs ys come = record {
+  few = omega (arith, come.few, length-append xs ys);
+  targets = all-back (λ o. o + width ≤ len) xs ys come.targets;
+  low = all-back (λ o. to ≤ o + from) xs ys come.low;
+  sources_are = all-back (λ o. source to from o + width ≤ len) xs ys come.sources_are;
+  begin = all-back (λ o. source to from o + 1 ≤ max_bytes) xs ys come.begin;
+  nested = nested-back xs ys width come.nested;
+  unread = λ j k before below.
+      let first = at-back xs ys j 0 (omega (arith, before, below)) in
+      let second = at-back xs ys k 0 below in
+      subst (λ a. width ≤ distance (source to from (get_or ys k 0)) a) first.1 (subst (λ b. width ≤ distance (source to from b) (get_or (xs ++ ys) (length xs + j) 0)) second.1 (come.unread (length xs + j) (length xs + k) (omega (arith, before)) second.0));
+}
+
+pub sources-end : (len width to from : ℕ) (offsets : List ℕ) → MayCome len width to from offsets → All (λ o. o + width ≤ len) (sources to from offsets)
+sources-end len width to from offsets come = λ k d below.
+    let low : k < length offsets = omega (arith, below, length-map offsets (source to from)) in
+    subst (λ o. o + width ≤ len) (sym (get_or-map (source to from) offsets k 0 d low)) (come.sources_are k 0 low)
+
+-- what is written first lies apart from what is read later
+pub apart-later : (len width to from : ℕ) (xs ys : List ℕ) → MayCome len width to from (xs ++ ys) → LieApart width xs (sources to from ys)
+apart-later len width to from xs ys come =
+    recursion_from_All (λ at. LiesApart width at (sources to from ys)) xs (λ j d below.
+    recursion_from_All (λ offset. width ≤ distance offset (get_or xs j d)) (sources to from ys) (λ k e inside.
+    let low : k < length ys = omega (arith, inside, length-map ys (source to from)) in
+    let second = at-back xs ys k 0 low in
+    let far = come.unread j (length xs + k) (omega (arith, below)) second.0 in
+    let is = get_or-map (source to from) ys k 0 e low in
+    subst (λ o. width ≤ distance o (get_or xs j d)) (sym is)
+    (subst (λ a. width ≤ distance (source to from (get_or ys k 0)) a) (get_or_append_left xs ys 0 j below ∙ default xs j d below)
+    (subst (λ b. width ≤ distance (source to from b) (get_or (xs ++ ys) j 0)) second.1 far))))
+  where
+    default : (l : List ℕ) (k d : ℕ) → k < length l → get_or l k 0 ≡ get_or l k d
+    default [] k d below = absurd (omega (arith, below))
+    default (x ∷ l) zero d below = refl
+    default (x ∷ l) (suc k) d below = default l k d (omega (arith, below))
+
+-- ---- run after run
+
+module _ (len width to from : ℕ) (left rest : List Run) (run : Run) (is : left ≡ run ∷ rest) (some : All (λ r. 1 ≤ r.count) left) (begin : All (λ r. LieWithin (r.count ∷ []) (r.step ∷ []) r.offset max_bytes 1) left) (come : MayCome len width to from (flat_map run_offsets left)) where
+  all-come : MayCome len width to from (run_offsets run ++ flat_map run_offsets rest)
+  all-come = subst (λ l. MayCome len width to from (flat_map run_offsets l)) is come
+
+  pub next-some : 1 ≤ run.count
+  next-some = All-head (λ r. 1 ≤ r.count) run rest (subst (All (λ r. 1 ≤ r.count)) is some)
+
+  pub next-come : MayCome len width to from (run_offsets run)
+  next-come = come-front len width to from (run_offsets run) (flat_map run_offsets rest) all-come
+
+  pub later-come : MayCome len width to from (flat_map run_offsets rest)
+  later-come = come-back len width to from (run_offsets run) (flat_map run_offsets rest) all-come
+
+  pub next-lies : LieWithin (run.count ∷ []) (run.step ∷ []) run.offset max_bytes 1
+  next-lies = All-head (λ r. LieWithin (r.count ∷ []) (r.step ∷ []) r.offset max_bytes 1) run rest (subst (All (λ r. LieWithin (r.count ∷ []) (r.step ∷ []) r.offset max_bytes 1)) is begin)
+
+  pub next-within : EachWithin len run.offset run.step width run.count
+  next-within =
+      All-head (λ r. EachWithin len r.offset r.step width r.count) run rest (subst (All (λ r. EachWithin len r.offset r.step width r.count)) is (runs-within len width (λ r. r) left begin come.targets))
+
+  pub next-start : run.offset ≤ max_bytes
+  next-start = omega (arith, one-within max_bytes 1 run next-some (lie-within max_bytes 1 run next-lies))
+
+  pub next-low : to ≤ run.offset + from
+  next-low = low-first len width to from run next-some next-within next-come
+
+  pub next-few : run.count ≤ max_items
+  next-few = omega (arith, next-come.few, length-run_offsets run)
+
+  pub next-source-lies : LieWithin (run.count ∷ []) (run.step ∷ []) (source to from run.offset) max_bytes 1
+  next-source-lies = source-lies len width to from run next-some next-within next-come
+
+  pub next-source-within : EachWithin len (source to from run.offset) run.step width run.count
+  next-source-within = source-within len width to from run next-some next-within next-come
+
+  -- the run has moved
+  pub run-moved : (old block block' whole : List ℕ) → block' ≡ assigned (run_offsets run) (run_offsets (source_run to from run)) width block block → length block' ≡ length block → IsMoving (flat_map run_offsets left) (sources to from (flat_map run_offsets left)) width old block whole → IsMoving (flat_map run_offsets rest) (sources to from (flat_map run_offsets rest)) width old block' whole
+  run-moved old block block' whole moved long m =
+      let xs = run_offsets run in
+      let ys = flat_map run_offsets rest in
+      let here = moved ∙ ap (λ os. assigned xs os width block block) (source-offsets len width to from run next-some next-within next-come) in
+      let both = subst (λ l. IsMoving (flat_map run_offsets l) (sources to from (flat_map run_offsets l)) width old block whole) is m in
+      moving_on xs ys (sources to from xs) (sources to from ys) width old block block' whole (sym (length-map xs (source to from))) (apart-later len width to from xs ys all-come) here long (subst (λ os. IsMoving (xs ++ ys) os width old block whole) (map-append (source to from) xs ys) both)

@@ -1,0 +1,19 @@
+-- What is picked of the axes of a layout, with slices as runs.
+use Rattle.std.specs.Prelude.{◌<◌, ℕ, List, [], ◌∷◌}
+use Rattle.view_ops.specs.declared.pick.AxisPick.{AxisPick}
+use Rattle.view_ops.specs.declared.pick.AxisPick.TheVariants.{At as AtAxis, Along as AlongAxis, New as NewAxis}
+use Rattle.view_ops.specs.Slices.{run_numbers, IsRunWithin}
+use Rattle.view_ops.specs.Basics.{Pick, At, Along, New}
+
+abbrev pub shown : AxisPick → Pick
+shown (AtAxis number) = At number
+shown (AlongAxis run) = Along (run_numbers run)
+shown NewAxis = New
+
+-- picks of the axes of a shape, each within its axis
+abbrev pub ArePicks : List ℕ → List AxisPick → Type 0
+ArePicks shape (NewAxis ∷ picks) = ArePicks shape picks
+ArePicks [] [] = Unit {0}
+ArePicks (n ∷ shape) (AtAxis number ∷ picks) = (number < n) × ArePicks shape picks
+ArePicks (n ∷ shape) (AlongAxis run ∷ picks) = IsRunWithin run n × ArePicks shape picks
+ArePicks _ _ = ⊥
