@@ -1,0 +1,76 @@
+-- Casts that leave items as they are.
+use Rattle.std.proofs.Common.{◌≡◌, ◌+◌, ◌*◌, ◌^◌, ◌<◌, ◌≤◌, inl, inr, ℕ, true, false, cond, pos, List, [], ◌∷◌, map, length, get_or, take, drop, refl, sym, ap, subst, ◌∙◌, arith, length-take}
+use Rattle.std.specs.Prelude.{nat_eq}
+use Rattle.std.proofs.lemmas.Bool.{cases_lt}
+use Rattle.std.proofs.lemmas.List.{get_or-take, get_or-drop, ext_get_or, get_or_past}
+use Rattle.byteorder.specs.Numbers.{big_from-lt, little_from-lt}
+use Rattle.byteorder.proofs.Bytes.{pow256}
+use Rattle.elem_descr.specs.declared.leaf.Leaf.{Leaf}
+use Rattle.elem_descr.specs.declared.scalar.Order.{Order}
+use Rattle.elem_descr.specs.declared.scalar.Order.TheVariants.{Little, Big}
+use Rattle.elem_descr.specs.declared.scalar.Scalar.{Scalar}
+use Rattle.elem_descr.specs.declared.scalar.Scalar.TheVariants.{Bool as BoolScalar, Byte, Int, Bytes}
+use Rattle.elem_descr.specs.declared.descr.Descr.{Descr}
+use Rattle.elem_descr.specs.declared.descr.Descr.TheVariants.{Scalar as ScalarDescr, Record as RecordDescr}
+use Rattle.elem_descr.specs.Values.{LeafValue, number, text}
+use Rattle.elem_descr.specs.Encoding.{size, decode, integer, number_in, truth, width_size}
+use Rattle.elem_descr.specs.EncodingLaws.{low_bits-integer}
+use Rattle.elem_descr.specs.Items.{item_size, leaves_of, leaf_at, no_leaf, AreAlike}
+use Rattle.elem_descr.specs.Blocks.{item_from}
+use Rattle.elementwise.specs.Casts.{cast_value, cast_values, cast_item}
+use Rattle.elementwise.proofs.NulLaws.{text_stays}
+
+-- the same leaves, one by one
+pub alike : (a b : Descr) (k : ℕ) → item_size a ≡ item_size b → length (leaves_of a) ≡ length (leaves_of b) → length (leaves_of a) ≤ k → ((i : ℕ) → i < k → leaf_at a i ≡ leaf_at b i) → AreAlike a b
+alike a b k sized even whole same = record { leaves = ext_get_or no_leaf (leaves_of a) (leaves_of b) even (λ i low. same i (omega (arith, low, whole))); size = sized }
+
+-- ---- bytes
+
+abbrev AreBytes : List ℕ → Type 0
+AreBytes bytes = (i : ℕ) → get_or bytes i 0 < 256
+
+bytes-drop : (n : ℕ) (bytes : List ℕ) → AreBytes bytes → AreBytes (drop n bytes)
+bytes-drop n bytes are i = subst (λ b. b < 256) (sym (get_or-drop n bytes i 0)) (are (n + i))
+
+bytes-take : (n : ℕ) (bytes : List ℕ) → AreBytes bytes → AreBytes (take n bytes)
+bytes-take n bytes are i = elim (cases_lt i n) [
+  | inl low ↦ subst (λ b. b < 256) (sym (get_or-take n bytes i 0 low)) (are i)
+  | inr high ↦ subst (λ b. b < 256) (sym (get_or_past (take n bytes) i 0 (omega (arith, high, length-take n bytes)))) (omega arith)
+]
+
+number-lt : (order : Order) (n : ℕ) (bytes : List ℕ) → AreBytes bytes → number_in order n bytes < 2 ^ (8 * n)
+number-lt Little n bytes are = subst (λ m. number_in Little n bytes < m) (pow256 n) (little_from-lt 0 n bytes are)
+number-lt Big n bytes are = subst (λ m. number_in Big n bytes < m) (pow256 n) (big_from-lt 0 n bytes are)
+
+truth-twice : (n : ℕ) → truth (truth n) ≡ truth n
+truth-twice n = elim (nat_eq n 0) as (λ t. truth (cond t 0 1) ≡ cond t 0 1) [ true ↦ refl | false ↦ refl ]
+
+-- a value that was read is one of its scalar
+value_stays : (scalar : Scalar) (bytes : List ℕ) → AreBytes bytes → length bytes ≤ size scalar → cast_value scalar (decode scalar bytes) ≡ decode scalar bytes
+value_stays BoolScalar bytes are few = ap (λ n. number (pos n)) (truth-twice (number_in Little 1 bytes))
+value_stays (Byte signed) bytes are few = ap (λ bits. number (integer signed 1 bits)) (low_bits-integer signed 1 (number_in Little 1 bytes) (number-lt Little 1 bytes are))
+value_stays (Int signed width order) bytes are few = ap (λ bits. number (integer signed (width_size width) bits)) (low_bits-integer signed (width_size width) (number_in order (width_size width) bytes) (number-lt order (width_size width) bytes are))
+value_stays (Bytes n) bytes are few = ap text (text_stays n bytes few)
+
+abbrev value_from : ℕ → List ℕ → ℕ → Leaf → LeafValue
+value_from item bytes o leaf = decode leaf.scalar (take (size leaf.scalar) (drop leaf.at (take item (drop o bytes))))
+
+read_stays : (item o : ℕ) (bytes : List ℕ) (leaf : Leaf) → AreBytes bytes → cast_value leaf.scalar (value_from item bytes o leaf) ≡ value_from item bytes o leaf
+read_stays item o bytes leaf are =
+    let rest = drop leaf.at (take item (drop o bytes)) in
+    value_stays leaf.scalar (take (size leaf.scalar) rest) (bytes-take (size leaf.scalar) rest (bytes-drop leaf.at (take item (drop o bytes)) (bytes-take item (drop o bytes) (bytes-drop o bytes are)))) (omega (arith, length-take (size leaf.scalar) rest))
+
+all_stay : (read : Leaf → LeafValue) (leaves : List Leaf) → ((leaf : Leaf) → cast_value leaf.scalar (read leaf) ≡ read leaf) → cast_values leaves (map read leaves) ≡ map read leaves
+all_stay read [] stays = refl
+all_stay read (leaf ∷ leaves) stays = λ i. stays leaf i ∷ all_stay read leaves stays i
+
+pub item_stays : (from to : Descr) (bytes : List ℕ) (o : ℕ) → AreBytes bytes → AreAlike from to → cast_item from to (item_from from bytes o) ≡ item_from to bytes o
+item_stays (ScalarDescr from) to bytes o are is =
+    let one : Leaf = record { scalar = from; at = 0 } in
+    ap (map (λ leaf. cast_value leaf.scalar (value_from (size from) bytes o one))) (sym is.leaves)
+    ∙ (λ i. read_stays (size from) o bytes one are i ∷ [])
+    ∙ (λ i. map (value_from (is.size i) bytes o) (is.leaves i))
+item_stays (RecordDescr from) to bytes o are is =
+    ap (λ leaves. cast_values leaves (item_from (RecordDescr from) bytes o)) (sym is.leaves)
+    ∙ all_stay (value_from from.size bytes o) (leaves_of (RecordDescr from)) (λ leaf. read_stays from.size o bytes leaf are)
+    ∙ (λ i. map (value_from (is.size i) bytes o) (is.leaves i))

@@ -1,0 +1,79 @@
+-- Fields and the fields that they are cast to, one by one.
+use Rattle.std.proofs.Common.{◌≡◌, ◌+◌, ◌<◌, ◌≤◌, ℕ, Bool, true, false, List, [], ◌∷◌, length, get_or, drop, refl, sym, ap, ◌∙◌, arith}
+use Rattle.std.specs.Prelude.{◌&&◌}
+use Rattle.std.proofs.lemmas.List.{drop_all}
+use Rattle.std.proofs.lemmas.Bool.{and_parts}
+use Rattle.elem_descr.specs.declared.descr.Descr.{Descr}
+use Rattle.elem_descr.specs.declared.descr.Descr.TheVariants.{Scalar as ScalarDescr, Record as RecordDescr}
+use Rattle.elem_descr.specs.declared.descr.Field.{Field}
+use Rattle.elem_descr.specs.Fields.{Fields, no_more, Structure}
+use Rattle.elem_descr.specs.Descriptors.{before, listed, fields_of}
+use Rattle.elem_descr.specs.DescriptorLaws.{rest_at, listed-fields_of}
+use Rattle.elementwise.specs.Casts.{can_cast_fields}
+use Rattle.elementwise.specs.inside.FieldCasts.{can_cast_field}
+
+fields-before : (name name' : List ℕ) (at at' : ℕ) (from to : Descr) (rest others : Fields) → can_cast_fields (before name at from rest) (before name' at' to others) ≡ (can_cast_field from to && can_cast_fields rest others)
+fields-before name name' at at' (ScalarDescr from) (ScalarDescr to) rest others = refl
+fields-before name name' at at' (ScalarDescr from) (RecordDescr to) rest others = refl
+fields-before name name' at at' (RecordDescr from) (ScalarDescr to) rest others = refl
+fields-before name name' at at' (RecordDescr from) (RecordDescr to) rest others = refl
+
+-- a loop has come to a field and the field at its place
+pub record IsTurn (from to : List Field) (k : ℕ) (field other : Field) : Type 0 where
+  pub low : k < length from
+  pub near : k < length to
+  pub is : field ≡ get_or from k field
+  pub there : other ≡ get_or to k other
+
+-- whether what is left can be cast
+abbrev pub left : List Field → List Field → ℕ → Bool
+left from to k = can_cast_fields (listed (drop k from)) (listed (drop k to))
+
+-- those two, and those after them
+at-turn : (from to : List Field) (k : ℕ) (field other : Field) → IsTurn from to k field other → left from to k ≡ (can_cast_field field.descr other.descr && left from to (k + 1))
+at-turn from to k field other turn =
+    (λ i. can_cast_fields (listed (rest_at from field k turn.low turn.is i)) (listed (rest_at to other k turn.near turn.there i)))
+    ∙ fields-before field.name other.name field.at other.at field.descr other.descr (listed (drop (k + 1) from)) (listed (drop (k + 1) to))
+
+pub turn_fails : (from to : List Field) (k : ℕ) (field other : Field) → IsTurn from to k field other → can_cast_field field.descr other.descr ≡ false → left from to k ≡ false
+turn_fails from to k field other turn fails = at-turn from to k field other turn ∙ ap (λ first. first && left from to (k + 1)) fails
+
+pub turn_passes : (from to : List Field) (k : ℕ) (field other : Field) → IsTurn from to k field other → can_cast_field field.descr other.descr ≡ true → left from to (k + 1) ≡ left from to k
+turn_passes from to k field other turn passes = sym (at-turn from to k field other turn ∙ ap (λ first. first && left from to (k + 1)) passes)
+
+pub none_left : (from to : List Field) (k : ℕ) → length from ≤ k → length to ≤ k → left from to k ≡ true
+none_left from to k past over = λ i. can_cast_fields (listed (drop_all k from past i)) (listed (drop_all k to over i))
+
+-- the fields of a record, seen one by one
+pub seen_fields : (fields : List Field) (all : Fields) → fields ≡ fields_of all → listed fields ≡ all
+seen_fields fields all are = ap listed are ∙ listed-fields_of all
+
+pub records : (from to : Descr) (structure other : Structure) (fields others : List Field) → from ≡ RecordDescr structure → to ≡ RecordDescr other → fields ≡ fields_of structure.fields → others ≡ fields_of other.fields → can_cast_fields (listed fields) (listed others) ≡ can_cast_field from to
+records from to structure other fields others is there are have =
+    (λ i. can_cast_fields (seen_fields fields structure.fields are i) (seen_fields others other.fields have i))
+    ∙ sym (λ i. can_cast_field (is i) (there i))
+
+none-before : (name : List ℕ) (at : ℕ) (to : Descr) (others : Fields) → can_cast_fields no_more (before name at to others) ≡ false
+none-before name at (ScalarDescr to) others = refl
+none-before name at (RecordDescr to) others = refl
+
+before-none : (name : List ℕ) (at : ℕ) (from : Descr) (rest : Fields) → can_cast_fields (before name at from rest) no_more ≡ false
+before-none name at (ScalarDescr from) rest = refl
+before-none name at (RecordDescr from) rest = refl
+
+-- there are as many
+pub even : (from to : List Field) → can_cast_fields (listed from) (listed to) ≡ true → length from ≡ length to
+even [] [] can = refl
+even [] (other ∷ to) can = let none = none-before other.name other.at other.descr (listed to) in cc
+even (field ∷ from) [] can = let none = before-none field.name field.at field.descr (listed from) in cc
+even (field ∷ from) (other ∷ to) can =
+    let both = sym (fields-before field.name other.name field.at other.at field.descr other.descr (listed from) (listed to)) ∙ can in
+    let more = even from to (and_parts (can_cast_field field.descr other.descr) (can_cast_fields (listed from) (listed to)) both).1 in
+    omega (arith, more)
+
+pub uneven : (from to : List Field) → (length from ≡ length to → ⊥) → can_cast_fields (listed from) (listed to) ≡ false
+uneven from to never = decided (can_cast_fields (listed from) (listed to)) (λ can. never (even from to can))
+  where
+    decided : (b : Bool) → (b ≡ true → ⊥) → b ≡ false
+    decided true no_way = absurd (no_way refl)
+    decided false no_way = refl

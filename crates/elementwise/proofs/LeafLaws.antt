@@ -1,0 +1,87 @@
+-- Values of leaves that are cast, and their bytes.
+use Rattle.std.proofs.Common.{◌≡◌, ◌-◌, ℕ, Bool, false, List, length, take, replicate, refl, sym, ap, ◌∙◌, arith, length-take, length-append}
+use Rattle.std.specs.Prelude.{ℤ}
+use Rattle.elem_descr.specs.declared.scalar.Order.{Order}
+use Rattle.elem_descr.specs.declared.scalar.Order.TheVariants.{Little, Big}
+use Rattle.elem_descr.specs.declared.scalar.Width.{Width}
+use Rattle.elem_descr.specs.declared.scalar.Scalar.{Scalar}
+use Rattle.elem_descr.specs.declared.scalar.Scalar.TheVariants.{Bool as BoolScalar, Byte, Int, Bytes}
+use Rattle.elem_descr.specs.Values.{LeafValue, number, text}
+use Rattle.elem_descr.specs.Encoding.{IsNumber, size, padded, width_size, low_bits, bytes_of, wrap, number_of, text_of, decode, encode}
+use Rattle.std.proofs.lemmas.List.{length-replicate}
+use Rattle.byteorder.specs.Numbers.{length-bytes_low_first, length-bytes_high_first}
+use Rattle.elem_descr.specs.EncodingLaws.{decode_encode}
+use Rattle.elem_descr.specs.NumberLaws.{encode_wrap}
+use Rattle.elementwise.specs.Casts.{cast_value}
+use Rattle.elementwise.proofs.NulLaws.{text_encoded, text_read_back}
+use Rattle.elementwise.specs.inside.Passes.{leaf_cast}
+
+-- a value as a number
+pub cast_number : (to : Scalar) (value : LeafValue) → IsNumber to → cast_value to value ≡ number (wrap to (number_of value))
+cast_number BoolScalar value is = refl
+cast_number (Byte signed) value is = refl
+cast_number (Int signed width order) value is = refl
+cast_number (Bytes n) value never = absurd never
+
+pub converted : (from to : Scalar) (item new : List ℕ) (read written : ℤ) → IsNumber to → decode from item ≡ number read → written ≡ wrap to read → new ≡ encode to (number written) → new ≡ leaf_cast from to item
+converted from to item new read written is reads wraps writes =
+    writes
+    ∙ ap (λ z. encode to (number z)) wraps
+    ∙ ap (λ value. encode to (number (wrap to (number_of value)))) (sym reads)
+    ∙ ap (encode to) (sym (cast_number to (decode from item) is))
+
+-- ---- a sign makes no difference to the bytes
+
+abbrev read_as : Scalar → List ℕ → ℤ
+read_as from item = number_of (decode from item)
+
+byte_alike : (from : Scalar) (signed : Bool) (item : List ℕ) → leaf_cast from (Byte false) item ≡ leaf_cast from (Byte signed) item
+byte_alike from signed item = encode_wrap false Little 1 (read_as from item) ∙ sym (encode_wrap signed Little 1 (read_as from item))
+
+int_alike : (from : Scalar) (signed : Bool) (width : Width) (order : Order) (item : List ℕ) → leaf_cast from (Int false width order) item ≡ leaf_cast from (Int signed width order) item
+int_alike from signed width order item = encode_wrap false order (width_size width) (read_as from item) ∙ sym (encode_wrap signed order (width_size width) (read_as from item))
+
+pub to_byte : (from to : Scalar) (signed : Bool) → to ≡ Byte signed → leaf_cast from (Byte false) ≡ leaf_cast from to
+to_byte from to signed is = (λ i item. byte_alike from signed item i) ∙ ap (leaf_cast from) (sym is)
+
+pub to_int : (from to : Scalar) (signed : Bool) (width width' : Width) (order order' : Order) → to ≡ Int signed width order → width ≡ width' → order ≡ order' → leaf_cast from (Int false width' order') ≡ leaf_cast from to
+to_int from to signed width width' order order' is wide ordered =
+    (λ i item. int_alike from signed width' order' item i)
+    ∙ ap (leaf_cast from) ((λ i. Int signed (sym wide i) (sym ordered i)) ∙ sym is)
+
+-- ---- byte strings
+
+pub to_text : (from to : Scalar) (m n : ℕ) → from ≡ Bytes m → to ≡ Bytes n → (width : ℕ) → width ≡ n → padded width ≡ leaf_cast from to
+to_text from to m n is there width wide = ap padded wide ∙ (λ i bytes. text_encoded n bytes i) ∙ (λ i. leaf_cast (sym is i) (sym there i))
+
+pub text_size : (from : Scalar) (m : ℕ) → from ≡ Bytes m → (width : ℕ) → width ≡ m → width ≡ size from
+text_size from m is width wide = wide ∙ ap size (sym is)
+
+-- ---- read again
+
+length-bytes_of : (order : Order) (n bits : ℕ) → length (bytes_of order n bits) ≡ n
+length-bytes_of Little n bits = length-bytes_low_first 0 n bits
+length-bytes_of Big n bits = length-bytes_high_first n bits
+
+length-padded : (n : ℕ) (bytes : List ℕ) → length (padded n bytes) ≡ n
+length-padded n bytes =
+    let zeros : length {A = ℕ} (replicate (n - length bytes) 0) ≡ n - length bytes = length-replicate (n - length bytes) 0 in
+    omega (arith, zeros, length-take n bytes, length-append (take n bytes) (replicate (n - length bytes) 0))
+
+length-encode : (to : Scalar) (value : LeafValue) → length (encode to value) ≡ size to
+length-encode BoolScalar value = refl
+length-encode (Byte signed) value = refl
+length-encode (Int signed width order) value = length-bytes_of order (width_size width) (low_bits (width_size width) (number_of value))
+length-encode (Bytes n) value = length-padded n (text_of value)
+
+pub length-leaf_cast : (from to : Scalar) (item : List ℕ) → length (leaf_cast from to item) ≡ size to
+length-leaf_cast from to item = length-encode to (cast_value to (decode from item))
+
+read_back : (to : Scalar) (value : LeafValue) → decode to (encode to (cast_value to value)) ≡ cast_value to value
+read_back BoolScalar value = decode_encode BoolScalar (number_of value) tt
+read_back (Byte signed) value = decode_encode (Byte signed) (number_of value) tt
+read_back (Int signed width order) value = decode_encode (Int signed width order) (number_of value) tt
+read_back (Bytes n) value = ap text (text_read_back n (take n (text_of value)) (omega (arith, length-take n (text_of value))))
+
+pub cast_read_back : (from to : Scalar) (item : List ℕ) → decode to (leaf_cast from to item) ≡ cast_value to (decode from item)
+cast_read_back from to item = read_back to (decode from item)

@@ -1,0 +1,11 @@
+use Rattle.std.proofs.Common.{◌≡◌, ◌<◌, ℕ, length}
+use Rattle.shape_strides.specs.Layouts.{offsets}
+use Rattle.elementwise.specs.inside.LeafCasts.{IsLeafCast}
+use Rattle.elementwise.proofs.casts.cast_all.Given as goal
+
+-- the leaves so far are cast
+abbrev pub invariant-loop-k : goal.invariant-loop-k
+invariant-loop-k l = record {
+  len : length l.bytes ≡ length l.fn.bytes;
+  done : (k : ℕ) → k < l.k → IsLeafCast l.from l.to l.other (offsets l.layout) l.bytes k;
+}

@@ -1,0 +1,4 @@
+pub mod FieldCasts
+pub mod Bits
+pub mod Passes
+pub mod LeafCasts

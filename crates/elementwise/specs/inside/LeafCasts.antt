@@ -1,0 +1,23 @@
+-- The leaves of items that are cast, one by one.
+use Rattle.std.specs.Prelude.{◌≡◌, ℕ, ◌<◌, List, length, map}
+use Rattle.elem_descr.specs.declared.descr.Descr.{Descr}
+use Rattle.elem_descr.specs.declared.descr.Descr.TheVariants.{Scalar as ScalarDescr, Record as RecordDescr}
+use Rattle.elem_descr.specs.declared.leaf.Leaf.{Leaf}
+use Rattle.elem_descr.specs.Encoding.{size}
+use Rattle.elem_descr.specs.Items.{item_size, leaves_of, leaf_at}
+use Rattle.raw_block.specs.Bytes.{item_at}
+use Rattle.elementwise.specs.inside.Passes.{row_offsets, leaf_from}
+
+-- the leaf that is cast to the k-th one: a scalar is each time the same
+abbrev pub source : Descr → ℕ → Leaf
+source (ScalarDescr scalar) k = record { scalar = scalar; at = 0 }
+source (RecordDescr structure) k = leaf_at (RecordDescr structure) k
+
+-- there is one
+abbrev pub HasSource : Descr → ℕ → Type 0
+HasSource (ScalarDescr scalar) k = Unit {0}
+HasSource (RecordDescr structure) k = k < length (leaves_of (RecordDescr structure))
+
+-- the k-th leaf of all items is cast from the items at these offsets
+pub record IsLeafCast (from to : Descr) (other offsets bytes : List ℕ) (k : ℕ) : Type 0 where
+  pub written : map (λ o. item_at o (size (leaf_at to k).scalar) bytes) (row_offsets (leaf_at to k).at (item_size to) (length offsets)) ≡ map (leaf_from (source from k) (leaf_at to k) other) offsets

@@ -1,0 +1,57 @@
+//! Element types whose items lie alike in bytes.
+ghost use Rattle.std.specs.Prelude.{◌≡◌, ◌+◌, ◌<◌, ◌≤◌, ◌↔◌, ℕ, length, IsTrue};
+ghost use Rattle.elem_descr.specs.Items.{item_size, leaves_of, leaf_at, AreAlike};
+ghost use Rattle.elem_descr.specs.Blocks.{item_from};
+ghost use Rattle.elementwise.specs.Casts.{cast_item};
+
+use crate::casts::leaf_of;
+use elem_descr::Descr;
+use raw_block::RawBlock;
+
+/// Whether two leaves with a number are the same.
+fn is_same_leaf(a: &Descr, b: &Descr, k: usize) -> bool
+    requires a { k < length (leaves_of a.now) }
+    requires b { k < length (leaves_of b.now) }
+    ensures { IsTrue result ↔ leaf_at a.now k ≡ leaf_at b.now k }
+{
+    let leaf = leaf_of(a, k);
+    let other = leaf_of(b, k);
+    leaf == other
+}
+
+/// Whether items of two element types lie alike in bytes.
+pub fn are_alike(a: &Descr, b: &Descr) -> bool
+    ensures { IsTrue result ↔ AreAlike a.now b.now }
+{
+    if a.size() != b.size() {
+        return false;
+    }
+    let count = a.leaf_count();
+    if count != b.leaf_count() {
+        return false;
+    }
+    for k in 0..count {
+        if !is_same_leaf(a, b, k) {
+            return false;
+        }
+    }
+    true
+}
+
+/// Whether a cast leaves the items in bytes as they are, byte for byte.
+fn keeps_bytes(bytes: &[u8], from: &Descr, to: &Descr) -> bool
+    ensures alike { IsTrue result → AreAlike from.now to.now }
+    ensures items { IsTrue result → (offset : ℕ) → cast_item from.now to.now (item_from from.now bytes.now offset) ≡ item_from to.now bytes.now offset }
+{
+    let _len = bytes.len();
+    are_alike(from, to)
+}
+
+/// Whether a cast leaves the items of a block as they are, byte for byte.
+pub fn keeps_items(block: &RawBlock, from: &Descr, to: &Descr) -> bool
+    ensures alike { IsTrue result → AreAlike from.now to.now }
+    ensures items { IsTrue result → (offset : ℕ) → offset + item_size from.now ≤ length block.now
+        → cast_item from.now to.now (item_from from.now block.now offset) ≡ item_from to.now block.now offset }
+{
+    keeps_bytes(block.bytes(), from, to)
+}

@@ -1,0 +1,100 @@
+//! The two orders of an integer's bytes.
+ghost use Rattle.std.specs.Prelude.{◌≡◌, length};
+ghost use Rattle.elem_descr.specs.declared.scalar.Order.{Order};
+ghost use Rattle.elem_descr.specs.declared.scalar.Order.TheVariants.{Little, Big};
+ghost use Rattle.elem_descr.specs.Encoding.{number_in, bytes_of};
+
+use byteorder::{BigEndian, ByteOrder, LittleEndian};
+
+/// An order of the bytes of an integer: how it is read, and written over as many bytes.
+pub(crate) trait Ordered {
+    ghost order: { Order };
+
+    fn read_two(bytes: &[u8]) -> u16
+        requires { length bytes.now ≡ 2 }
+        ensures { result ≡ number_in order 2 bytes.now };
+
+    fn read_four(bytes: &[u8]) -> u32
+        requires { length bytes.now ≡ 4 }
+        ensures { result ≡ number_in order 4 bytes.now };
+
+    fn read_eight(bytes: &[u8]) -> u64
+        requires { length bytes.now ≡ 8 }
+        ensures { result ≡ number_in order 8 bytes.now };
+
+    fn write_two(bits: u16, bytes: &mut [u8])
+        requires { length bytes.old ≡ 2 }
+        ensures { bytes.new ≡ bytes_of order 2 bits };
+
+    fn write_four(bits: u32, bytes: &mut [u8])
+        requires { length bytes.old ≡ 4 }
+        ensures { bytes.new ≡ bytes_of order 4 bits };
+
+    fn write_eight(bits: u64, bytes: &mut [u8])
+        requires { length bytes.old ≡ 8 }
+        ensures { bytes.new ≡ bytes_of order 8 bits };
+}
+
+/// The lowest byte first.
+pub(crate) struct LowFirst;
+
+/// The highest byte first.
+pub(crate) struct HighFirst;
+
+#[tactic(auto, using(crate::proofs::ByteLaws::over_all))]
+impl Ordered for LowFirst {
+    ghost order = { Little };
+
+    fn read_two(bytes: &[u8]) -> u16 {
+        LittleEndian::read_u16(bytes)
+    }
+
+    fn read_four(bytes: &[u8]) -> u32 {
+        LittleEndian::read_u32(bytes)
+    }
+
+    fn read_eight(bytes: &[u8]) -> u64 {
+        LittleEndian::read_u64(bytes)
+    }
+
+    fn write_two(bits: u16, bytes: &mut [u8]) {
+        LittleEndian::write_u16(bytes, bits);
+    }
+
+    fn write_four(bits: u32, bytes: &mut [u8]) {
+        LittleEndian::write_u32(bytes, bits);
+    }
+
+    fn write_eight(bits: u64, bytes: &mut [u8]) {
+        LittleEndian::write_u64(bytes, bits);
+    }
+}
+
+#[tactic(auto, using(crate::proofs::ByteLaws::over_all))]
+impl Ordered for HighFirst {
+    ghost order = { Big };
+
+    fn read_two(bytes: &[u8]) -> u16 {
+        BigEndian::read_u16(bytes)
+    }
+
+    fn read_four(bytes: &[u8]) -> u32 {
+        BigEndian::read_u32(bytes)
+    }
+
+    fn read_eight(bytes: &[u8]) -> u64 {
+        BigEndian::read_u64(bytes)
+    }
+
+    fn write_two(bits: u16, bytes: &mut [u8]) {
+        BigEndian::write_u16(bytes, bits);
+    }
+
+    fn write_four(bits: u32, bytes: &mut [u8]) {
+        BigEndian::write_u32(bytes, bits);
+    }
+
+    fn write_eight(bits: u64, bytes: &mut [u8]) {
+        BigEndian::write_u64(bytes, bits);
+    }
+}

@@ -1,0 +1,16 @@
+//! Operations item by item: casts from one element type to another.
+#![tactic(auto)]
+
+mod alike;
+mod byte_orders;
+mod castable;
+mod casts;
+mod leaves;
+mod numbers;
+mod passes;
+mod runs_of_leaves;
+mod texts;
+
+pub use alike::{are_alike, keeps_items};
+pub use castable::can_cast;
+pub use casts::cast;

@@ -1,0 +1,336 @@
+//! Machine numbers: what they mean, how they are stored, and how one is made of another.
+ghost use Rattle.std.specs.Prelude.{◌≡◌, ◌≤◌, ℕ, ℤ, pos, true, false, length, if◌then◌else◌, refl};
+ghost use Rattle.elem_descr.specs.declared.scalar.Order.{Order};
+ghost use Rattle.elem_descr.specs.declared.scalar.Scalar.{Scalar};
+ghost use Rattle.elem_descr.specs.declared.scalar.Width.TheVariants.{Two, Four, Eight};
+ghost use Rattle.elem_descr.specs.declared.scalar.Scalar.TheVariants.{Bool as BoolScalar, Byte, Int};
+ghost use Rattle.elem_descr.specs.Values.{number};
+ghost use Rattle.elem_descr.specs.Encoding.{IsNumber, size, decode, encode, wrap};
+ghost use Rattle.std.proofs.Common.{arith};
+ghost use Rattle.elementwise.specs.inside.Bits.{AreBits};
+
+use crate::byte_orders::Ordered;
+
+/// A number that the processor computes with: a bool, or an integer of 1, 2, 4 or 8 bytes.
+pub(crate) trait Number: Copy {
+    ghost value: { Self → ℤ };
+
+    // The scalar whose values these numbers are, in a byte order. One byte has none.
+    ghost scalar: { Order → Scalar };
+
+    /// The bytes of a number.
+    const WIDTH: usize;
+
+    ghost WIDTH: { ℕ };
+
+    fn read<O: Ordered>(bytes: &[u8]) -> Self
+        requires { length bytes.now ≡ WIDTH }
+        ensures { decode (scalar O.order) bytes.now ≡ number (value result) };
+
+    /// Writes a number over as many bytes as it has.
+    fn write<O: Ordered>(self, bytes: &mut [u8])
+        requires { length bytes.old ≡ WIDTH }
+        ensures { bytes.new ≡ encode (scalar O.order) (number (value self)) };
+
+    /// The lowest 64 bits, those above its own as its sign says.
+    fn bits(self) -> u64
+        ensures { AreBits result (value self) };
+
+    /// The number that has the lowest of these bits, or whether there are any.
+    fn of_bits(bits: u64) -> Self
+        ensures { (order : Order) (z : ℤ) → AreBits bits z → value result ≡ wrap (scalar order) z };
+
+    ghost is_number: { (order : Order) → IsNumber (scalar order) };
+
+    ghost has_width: { (order : Order) → size (scalar order) ≡ WIDTH };
+
+    ghost is_small: { (1 ≤ WIDTH) × (WIDTH ≤ 8) };
+}
+
+impl Number for bool {
+    ghost value = { λ b. if b then pos 1 else pos 0 };
+
+    ghost scalar = { λ order. BoolScalar };
+
+    const WIDTH: usize = 1;
+
+    ghost WIDTH = { 1 };
+
+    ghost is_number = { λ order. tt };
+
+    ghost has_width = { λ order. refl };
+
+    ghost is_small = { (Prim.omega arith, Prim.omega arith) };
+
+    fn read<O: Ordered>(bytes: &[u8]) -> bool {
+        bytes[0] != 0
+    }
+
+    fn write<O: Ordered>(self, bytes: &mut [u8]) {
+        bytes[0] = u8::from(self);
+    }
+
+    fn bits(self) -> u64 {
+        u64::from(self)
+    }
+
+    fn of_bits(bits: u64) -> bool {
+        bits != 0
+    }
+}
+
+impl Number for u8 {
+    ghost value = { λ n. pos n };
+
+    ghost scalar = { λ order. Byte false };
+
+    const WIDTH: usize = 1;
+
+    ghost WIDTH = { 1 };
+
+    ghost is_number = { λ order. tt };
+
+    ghost has_width = { λ order. refl };
+
+    ghost is_small = { (Prim.omega arith, Prim.omega arith) };
+
+    fn read<O: Ordered>(bytes: &[u8]) -> u8 {
+        bytes[0]
+    }
+
+    fn write<O: Ordered>(self, bytes: &mut [u8]) {
+        bytes[0] = self;
+    }
+
+    fn bits(self) -> u64 {
+        u64::from(self)
+    }
+
+    fn of_bits(bits: u64) -> u8 {
+        (bits % 256) as u8
+    }
+}
+
+impl Number for i8 {
+    ghost value = { λ z. z };
+
+    ghost scalar = { λ order. Byte true };
+
+    const WIDTH: usize = 1;
+
+    ghost WIDTH = { 1 };
+
+    ghost is_number = { λ order. tt };
+
+    ghost has_width = { λ order. refl };
+
+    ghost is_small = { (Prim.omega arith, Prim.omega arith) };
+
+    fn read<O: Ordered>(bytes: &[u8]) -> i8 {
+        bytes[0].cast_signed()
+    }
+
+    fn write<O: Ordered>(self, bytes: &mut [u8]) {
+        bytes[0] = self.cast_unsigned();
+    }
+
+    fn bits(self) -> u64 {
+        i64::from(self).cast_unsigned()
+    }
+
+    fn of_bits(bits: u64) -> i8 {
+        ((bits % 256) as u8).cast_signed()
+    }
+}
+
+impl Number for u16 {
+    ghost value = { λ n. pos n };
+
+    ghost scalar = { λ order. Int false Two order };
+
+    const WIDTH: usize = 2;
+
+    ghost WIDTH = { 2 };
+
+    ghost is_number = { λ order. tt };
+
+    ghost has_width = { λ order. refl };
+
+    ghost is_small = { (Prim.omega arith, Prim.omega arith) };
+
+    fn read<O: Ordered>(bytes: &[u8]) -> u16 {
+        O::read_two(bytes)
+    }
+
+    fn write<O: Ordered>(self, bytes: &mut [u8]) {
+        O::write_two(self, bytes);
+    }
+
+    fn bits(self) -> u64 {
+        u64::from(self)
+    }
+
+    fn of_bits(bits: u64) -> u16 {
+        (bits % 65_536) as u16
+    }
+}
+
+impl Number for i16 {
+    ghost value = { λ z. z };
+
+    ghost scalar = { λ order. Int true Two order };
+
+    const WIDTH: usize = 2;
+
+    ghost WIDTH = { 2 };
+
+    ghost is_number = { λ order. tt };
+
+    ghost has_width = { λ order. refl };
+
+    ghost is_small = { (Prim.omega arith, Prim.omega arith) };
+
+    fn read<O: Ordered>(bytes: &[u8]) -> i16 {
+        O::read_two(bytes).cast_signed()
+    }
+
+    fn write<O: Ordered>(self, bytes: &mut [u8]) {
+        O::write_two(self.cast_unsigned(), bytes);
+    }
+
+    fn bits(self) -> u64 {
+        i64::from(self).cast_unsigned()
+    }
+
+    fn of_bits(bits: u64) -> i16 {
+        ((bits % 65_536) as u16).cast_signed()
+    }
+}
+
+impl Number for u32 {
+    ghost value = { λ n. pos n };
+
+    ghost scalar = { λ order. Int false Four order };
+
+    const WIDTH: usize = 4;
+
+    ghost WIDTH = { 4 };
+
+    ghost is_number = { λ order. tt };
+
+    ghost has_width = { λ order. refl };
+
+    ghost is_small = { (Prim.omega arith, Prim.omega arith) };
+
+    fn read<O: Ordered>(bytes: &[u8]) -> u32 {
+        O::read_four(bytes)
+    }
+
+    fn write<O: Ordered>(self, bytes: &mut [u8]) {
+        O::write_four(self, bytes);
+    }
+
+    fn bits(self) -> u64 {
+        u64::from(self)
+    }
+
+    fn of_bits(bits: u64) -> u32 {
+        (bits % 4_294_967_296) as u32
+    }
+}
+
+impl Number for i32 {
+    ghost value = { λ z. z };
+
+    ghost scalar = { λ order. Int true Four order };
+
+    const WIDTH: usize = 4;
+
+    ghost WIDTH = { 4 };
+
+    ghost is_number = { λ order. tt };
+
+    ghost has_width = { λ order. refl };
+
+    ghost is_small = { (Prim.omega arith, Prim.omega arith) };
+
+    fn read<O: Ordered>(bytes: &[u8]) -> i32 {
+        O::read_four(bytes).cast_signed()
+    }
+
+    fn write<O: Ordered>(self, bytes: &mut [u8]) {
+        O::write_four(self.cast_unsigned(), bytes);
+    }
+
+    fn bits(self) -> u64 {
+        i64::from(self).cast_unsigned()
+    }
+
+    fn of_bits(bits: u64) -> i32 {
+        ((bits % 4_294_967_296) as u32).cast_signed()
+    }
+}
+
+impl Number for u64 {
+    ghost value = { λ n. pos n };
+
+    ghost scalar = { λ order. Int false Eight order };
+
+    const WIDTH: usize = 8;
+
+    ghost WIDTH = { 8 };
+
+    ghost is_number = { λ order. tt };
+
+    ghost has_width = { λ order. refl };
+
+    ghost is_small = { (Prim.omega arith, Prim.omega arith) };
+
+    fn read<O: Ordered>(bytes: &[u8]) -> u64 {
+        O::read_eight(bytes)
+    }
+
+    fn write<O: Ordered>(self, bytes: &mut [u8]) {
+        O::write_eight(self, bytes);
+    }
+
+    fn bits(self) -> u64 {
+        self
+    }
+
+    fn of_bits(bits: u64) -> u64 {
+        bits
+    }
+}
+
+impl Number for i64 {
+    ghost value = { λ z. z };
+
+    ghost scalar = { λ order. Int true Eight order };
+
+    const WIDTH: usize = 8;
+
+    ghost WIDTH = { 8 };
+
+    ghost is_number = { λ order. tt };
+
+    ghost has_width = { λ order. refl };
+
+    ghost is_small = { (Prim.omega arith, Prim.omega arith) };
+
+    fn read<O: Ordered>(bytes: &[u8]) -> i64 {
+        O::read_eight(bytes).cast_signed()
+    }
+
+    fn write<O: Ordered>(self, bytes: &mut [u8]) {
+        O::write_eight(self.cast_unsigned(), bytes);
+    }
+
+    fn bits(self) -> u64 {
+        self.cast_unsigned()
+    }
+
+    fn of_bits(bits: u64) -> i64 {
+        bits.cast_signed()
+    }
+}
