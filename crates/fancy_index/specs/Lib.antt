@@ -1,3 +1,6 @@
 pub mod IndexArrays
 pub mod Parts
 pub mod Indexed
+pub mod Sources
+pub mod Plans
+pub mod inside

@@ -1,0 +1,249 @@
+-- Passes over the offsets of a plan: what is left to be done leads to what all of it does.
+use Rattle.std.proofs.Common.{◌≡◌, ℕ, ◌+◌, ◌-◌, ◌*◌, ◌<◌, ◌≤◌, List, [], ◌∷◌, ◌++◌, map, length, get_or, drop, All, refl, sym, ap, subst, ◌∙◌, arith, add-mul, length-append}
+use Rattle.std.specs.List.{flat_map}
+use Rattle.std.proofs.lemmas.List.{get_or_append_left, get_or-append_right, get_or-map, length-map, map-append, drop_more}
+use Rattle.std.proofs.lemmas.List.Elements.{All-head, All-tail}
+use Rattle.shape_strides.specs.declared.runs.Run.{Run}
+use Rattle.shape_strides.specs.Addresses.{LieWithin}
+use Rattle.shape_strides.specs.Limits.{max_bytes}
+use Rattle.shape_strides.specs.Runs.{run_offsets}
+use Rattle.overlap_copy.specs.Assignments.{assigned}
+use Rattle.overlap_copy.specs.RunLaws.{length-run_offsets}
+use lib.IntN.{pos}
+use Rattle.fancy_index.specs.Plans.{moved, shifted_all, moved_all, put_each}
+use Rattle.fancy_index.specs.inside.Kept.{IsMoved}
+use Rattle.fancy_index.specs.inside.Packed.{packed}
+use Rattle.fancy_index.proofs.RunLaws.{length-packed, packed-append, assigned-append, put_each-append}
+
+pub All-front : (P : ℕ → Type 0) (xs ys : List ℕ) → All P (xs ++ ys) → All P xs
+All-front P xs ys all = λ k d below. subst P (get_or_append_left xs ys d k below) (all k d (omega (arith, length-append xs ys)))
+
+pub All-back : (P : ℕ → Type 0) (xs ys : List ℕ) → All P (xs ++ ys) → All P ys
+All-back P xs ys all = λ k d below.
+    let after : length xs + k - length xs ≡ k = omega arith in
+    subst P (get_or-append_right xs ys (length xs) (length xs + k) d refl (omega arith) ∙ ap (λ m. get_or ys m d) after) (all (length xs + k) d (omega (arith, length-append xs ys)))
+
+pub All-unmap : (P : ℕ → Type 0) (f : ℕ → ℕ) (xs : List ℕ) → All P (map f xs) → All (λ x. P (f x)) xs
+All-unmap P f xs all = λ k d below. subst P (get_or-map f xs k d (f d) below) (all k (f d) (omega (arith, length-map xs f)))
+
+-- ---- the runs that are left
+
+pub record RunsLeft (base start : ℕ) (left : List Run) : Type 0 where
+  pub some : All (λ run. 1 ≤ run.count) left
+  pub lie : All (λ run. LieWithin (run.count ∷ []) (run.step ∷ []) run.offset max_bytes 1) left
+  pub moved : All (IsMoved base start) (flat_map run_offsets left)
+
+-- the next run
+pub record CanMoveRun (base start : ℕ) (run : Run) : Type 0 where
+  pub some : 1 ≤ run.count
+  pub lies : LieWithin (run.count ∷ []) (run.step ∷ []) run.offset max_bytes 1
+  pub moved : All (IsMoved base start) (run_offsets run)
+
+pub next_run : (base start : ℕ) (run : Run) (left : List Run) → RunsLeft base start (run ∷ left) → CanMoveRun base start run
+next_run base start run left have = record {
+  some = All-head (λ run. 1 ≤ run.count) run left have.some;
+  lies = All-head (λ run. LieWithin (run.count ∷ []) (run.step ∷ []) run.offset max_bytes 1) run left have.lie;
+  moved = All-front (IsMoved base start) (run_offsets run) (flat_map run_offsets left) have.moved;
+}
+
+pub later_runs : (base start : ℕ) (run : Run) (left : List Run) → RunsLeft base start (run ∷ left) → RunsLeft base start left
+later_runs base start run left have = record {
+  some = All-tail (λ run. 1 ≤ run.count) run left have.some;
+  lie = All-tail (λ run. LieWithin (run.count ∷ []) (run.step ∷ []) run.offset max_bytes 1) run left have.lie;
+  moved = All-back (IsMoved base start) (run_offsets run) (flat_map run_offsets left) have.moved;
+}
+
+-- their offsets, where they are moved to
+abbrev pub moved_runs : ℕ → ℕ → List Run → List ℕ
+moved_runs base start left = map (moved base start) (flat_map run_offsets left)
+
+pub moved_next : (base start : ℕ) (run : Run) (left : List Run) → moved_runs base start (run ∷ left) ≡ map (moved base start) (run_offsets run) ++ moved_runs base start left
+moved_next base start run left = map-append (moved base start) (run_offsets run) (flat_map run_offsets left)
+
+-- ---- items that are scattered
+
+pub record Scattering (left : List ℕ) (at width end : ℕ) (items block whole : List ℕ) : Type 0 where
+  pub rest : assigned left (packed at width (length left)) width items block ≡ whole
+  pub inside : All (λ offset. offset + width ≤ length block) left
+  pub ends : at + length left * width ≡ end
+  pub room : end ≤ length items
+
+pub scattering : (left : List ℕ) (at width : ℕ) (items block : List ℕ) → All (λ offset. offset + width ≤ length block) left → at + length left * width ≤ length items →
+    Scattering left at width (at + length left * width) items block (assigned left (packed at width (length left)) width items block)
+scattering left at width items block inside room = record { rest = refl; inside = inside; ends = refl; room = room }
+
+-- what comes next may be scattered
+pub record CanScatter (left : List ℕ) (at width : ℕ) (items block : List ℕ) : Type 0 where
+  pub inside : All (λ offset. offset + width ≤ length block) left
+  pub room : at + length left * width ≤ length items
+
+longer : (xs ys : List ℕ) (at width : ℕ) → at + length (xs ++ ys) * width ≡ at + length xs * width + length ys * width
+longer xs ys at width = omega (arith, ap (λ n. n * width) (length-append xs ys), add-mul (length xs) (length ys) width)
+
+scatter_next : (xs ys : List ℕ) (at width end : ℕ) (items block whole : List ℕ) → Scattering (xs ++ ys) at width end items block whole → CanScatter xs at width items block
+scatter_next xs ys at width end items block whole have = record {
+  inside = All-front (λ offset. offset + width ≤ length block) xs ys have.inside;
+  room = omega (arith, have.ends, have.room, longer xs ys at width);
+}
+
+scattered_next : (xs ys : List ℕ) (at at' width end : ℕ) (items block block' whole : List ℕ) → block' ≡ assigned xs (packed at width (length xs)) width items block → length block' ≡ length block → at' ≡ at + length xs * width →
+    Scattering (xs ++ ys) at width end items block whole → Scattering ys at' width end items block' whole
+scattered_next xs ys at at' width end items block block' whole written same next have = record {
+  rest =
+      ap (λ a. assigned ys (packed a width (length ys)) width items block') next
+      ∙ ap (assigned ys (packed (at + length xs * width) width (length ys)) width items) written
+      ∙ sym (assigned-append xs (packed at width (length xs)) ys (packed (at + length xs * width) width (length ys)) width items block (sym (length-packed at width (length xs))))
+      ∙ ap (λ from. assigned (xs ++ ys) from width items block) (sym (packed-append at width (length xs) (length ys)))
+      ∙ ap (λ n. assigned (xs ++ ys) (packed at width n) width items block) (sym (length-append xs ys))
+      ∙ have.rest;
+  inside = subst (λ n. All (λ offset. offset + width ≤ n) ys) (sym same) (All-back (λ offset. offset + width ≤ length block) xs ys have.inside);
+  ends = omega (arith, have.ends, longer xs ys at width, next);
+  room = have.room;
+}
+
+-- ---- items that are gathered
+
+pub record Gathering (left : List ℕ) (at width end : ℕ) (block items whole : List ℕ) : Type 0 where
+  pub rest : assigned (packed at width (length left)) left width block items ≡ whole
+  pub inside : All (λ offset. offset + width ≤ length block) left
+  pub ends : at + length left * width ≡ end
+  pub room : end ≤ length items
+
+pub gathering : (left : List ℕ) (at width : ℕ) (block items : List ℕ) → All (λ offset. offset + width ≤ length block) left → at + length left * width ≤ length items →
+    Gathering left at width (at + length left * width) block items (assigned (packed at width (length left)) left width block items)
+gathering left at width block items inside room = record { rest = refl; inside = inside; ends = refl; room = room }
+
+gather_next : (xs ys : List ℕ) (at width end : ℕ) (block items whole : List ℕ) → Gathering (xs ++ ys) at width end block items whole → CanScatter xs at width items block
+gather_next xs ys at width end block items whole have = record {
+  inside = All-front (λ offset. offset + width ≤ length block) xs ys have.inside;
+  room = omega (arith, have.ends, have.room, longer xs ys at width);
+}
+
+gathered_next : (xs ys : List ℕ) (at at' width end : ℕ) (block items items' whole : List ℕ) → items' ≡ assigned (packed at width (length xs)) xs width block items → length items' ≡ length items → at' ≡ at + length xs * width →
+    Gathering (xs ++ ys) at width end block items whole → Gathering ys at' width end block items' whole
+gathered_next xs ys at at' width end block items items' whole written same next have = record {
+  rest =
+      ap (λ a. assigned (packed a width (length ys)) ys width block items') next
+      ∙ ap (assigned (packed (at + length xs * width) width (length ys)) ys width block) written
+      ∙ sym (assigned-append (packed at width (length xs)) xs (packed (at + length xs * width) width (length ys)) ys width block items (length-packed at width (length xs)))
+      ∙ ap (λ to. assigned to (xs ++ ys) width block items) (sym (packed-append at width (length xs) (length ys)))
+      ∙ ap (λ n. assigned (packed at width n) (xs ++ ys) width block items) (sym (length-append xs ys))
+      ∙ have.rest;
+  inside = All-back (λ offset. offset + width ≤ length block) xs ys have.inside;
+  ends = omega (arith, have.ends, longer xs ys at width, next);
+  room = omega (arith, have.room, same);
+}
+
+-- ---- items that are filled
+
+pub record Filling (left item block whole : List ℕ) : Type 0 where
+  pub rest : put_each left item block ≡ whole
+  pub inside : All (λ offset. offset + length item ≤ length block) left
+
+filled_next : (xs ys item block block' whole : List ℕ) → block' ≡ put_each xs item block → length block' ≡ length block → Filling (xs ++ ys) item block whole → Filling ys item block' whole
+filled_next xs ys item block block' whole written same have = record {
+  rest = ap (put_each ys item) written ∙ sym (put_each-append xs ys item block) ∙ have.rest;
+  inside = subst (λ n. All (λ offset. offset + length item ≤ n) ys) (sym same) (All-back (λ offset. offset + length item ≤ length block) xs ys have.inside);
+}
+
+-- ---- the same of a list that is split
+
+pub scatter_front : (left xs ys : List ℕ) (at width end : ℕ) (items block whole : List ℕ) → left ≡ xs ++ ys → Scattering left at width end items block whole → CanScatter xs at width items block
+scatter_front left xs ys at width end items block whole split have =
+    scatter_next xs ys at width end items block whole (subst (λ l. Scattering l at width end items block whole) split have)
+
+pub scattered_front : (left xs ys : List ℕ) (at at' width end : ℕ) (items block block' whole : List ℕ) → left ≡ xs ++ ys → block' ≡ assigned xs (packed at width (length xs)) width items block → length block' ≡ length block → at' ≡ at + length xs * width →
+    Scattering left at width end items block whole → Scattering ys at' width end items block' whole
+scattered_front left xs ys at at' width end items block block' whole split written same next have =
+    scattered_next xs ys at at' width end items block block' whole written same next (subst (λ l. Scattering l at width end items block whole) split have)
+
+pub gather_front : (left xs ys : List ℕ) (at width end : ℕ) (block items whole : List ℕ) → left ≡ xs ++ ys → Gathering left at width end block items whole → CanScatter xs at width items block
+gather_front left xs ys at width end block items whole split have =
+    gather_next xs ys at width end block items whole (subst (λ l. Gathering l at width end block items whole) split have)
+
+pub gathered_front : (left xs ys : List ℕ) (at at' width end : ℕ) (block items items' whole : List ℕ) → left ≡ xs ++ ys → items' ≡ assigned (packed at width (length xs)) xs width block items → length items' ≡ length items → at' ≡ at + length xs * width →
+    Gathering left at width end block items whole → Gathering ys at' width end block items' whole
+gathered_front left xs ys at at' width end block items items' whole split written same next have =
+    gathered_next xs ys at at' width end block items items' whole written same next (subst (λ l. Gathering l at width end block items whole) split have)
+
+pub fill_front : (left xs ys item block whole : List ℕ) → left ≡ xs ++ ys → Filling left item block whole → All (λ offset. offset + length item ≤ length block) xs
+fill_front left xs ys item block whole split have =
+    All-front (λ offset. offset + length item ≤ length block) xs ys (subst (All (λ offset. offset + length item ≤ length block)) split have.inside)
+
+pub filled_front : (left xs ys item block block' whole : List ℕ) → left ≡ xs ++ ys → block' ≡ put_each xs item block → length block' ≡ length block → Filling left item block whole → Filling ys item block' whole
+filled_front left xs ys item block block' whole split written same have =
+    filled_next xs ys item block block' whole written same (subst (λ l. Filling l item block whole) split have)
+
+-- ---- run after run
+
+long-run : (base start : ℕ) (run : Run) → length (map (moved base start) (run_offsets run)) ≡ run.count
+long-run base start run = length-map (run_offsets run) (moved base start) ∙ length-run_offsets run
+
+split-runs : (base start : ℕ) (run : Run) (left left' : List Run) → left ≡ run ∷ left' → moved_runs base start left ≡ map (moved base start) (run_offsets run) ++ moved_runs base start left'
+split-runs base start run left left' walked = ap (moved_runs base start) walked ∙ moved_next base start run left'
+
+pub record CanScatterRun (base start at width : ℕ) (run : Run) (items block : List ℕ) : Type 0 where
+  pub inside : All (λ offset. moved base start offset + width ≤ length block) (run_offsets run)
+  pub room : at + run.count * width ≤ length items
+
+can_run : (base start at width : ℕ) (run : Run) (items block : List ℕ) → CanScatter (map (moved base start) (run_offsets run)) at width items block → CanScatterRun base start at width run items block
+can_run base start at width run items block can = record {
+  inside = All-unmap (λ offset. offset + width ≤ length block) (moved base start) (run_offsets run) can.inside;
+  room = subst (λ n. at + n * width ≤ length items) (long-run base start run) can.room;
+}
+
+pub scatter_run : (base start at width end : ℕ) (run : Run) (left left' : List Run) (items block whole : List ℕ) → left ≡ run ∷ left' → Scattering (moved_runs base start left) at width end items block whole → CanScatterRun base start at width run items block
+scatter_run base start at width end run left left' items block whole walked have =
+    can_run base start at width run items block (scatter_next (map (moved base start) (run_offsets run)) (moved_runs base start left') at width end items block whole
+    (subst (λ l. Scattering l at width end items block whole) (split-runs base start run left left' walked) have))
+
+pub scattered_run : (base start at width end : ℕ) (run to from : Run) (left left' : List Run) (items block block' whole : List ℕ) → left ≡ run ∷ left' →
+    run_offsets to ≡ map (moved base start) (run_offsets run) → from ≡ record { offset = at; count = run.count; step = pos width } →
+    block' ≡ assigned (run_offsets to) (run_offsets from) width items block → length block' ≡ length block →
+    Scattering (moved_runs base start left) at width end items block whole → Scattering (moved_runs base start left') (at + run.count * width) width end items block' whole
+scattered_run base start at width end run to from left left' items block block' whole walked to_is from_is written same have =
+    scattered_next (map (moved base start) (run_offsets run)) (moved_runs base start left') at (at + run.count * width) width end items block block' whole
+    (written ∙ (λ i. assigned (to_is i) (run_offsets (from_is i)) width items block) ∙ ap (λ n. assigned (map (moved base start) (run_offsets run)) (packed at width n) width items block) (sym (long-run base start run)))
+    same
+    (ap (λ n. at + n * width) (sym (long-run base start run)))
+    (subst (λ l. Scattering l at width end items block whole) (split-runs base start run left left' walked) have)
+
+pub gather_run : (base start at width end : ℕ) (run : Run) (left left' : List Run) (block items whole : List ℕ) → left ≡ run ∷ left' → Gathering (moved_runs base start left) at width end block items whole → CanScatterRun base start at width run items block
+gather_run base start at width end run left left' block items whole walked have =
+    can_run base start at width run items block (gather_next (map (moved base start) (run_offsets run)) (moved_runs base start left') at width end block items whole
+    (subst (λ l. Gathering l at width end block items whole) (split-runs base start run left left' walked) have))
+
+pub gathered_run : (base start at width end : ℕ) (run to from : Run) (left left' : List Run) (block items items' whole : List ℕ) → left ≡ run ∷ left' →
+    run_offsets from ≡ map (moved base start) (run_offsets run) → to ≡ record { offset = at; count = run.count; step = pos width } →
+    items' ≡ assigned (run_offsets to) (run_offsets from) width block items → length items' ≡ length items →
+    Gathering (moved_runs base start left) at width end block items whole → Gathering (moved_runs base start left') (at + run.count * width) width end block items' whole
+gathered_run base start at width end run to from left left' block items items' whole walked from_is to_is written same have =
+    gathered_next (map (moved base start) (run_offsets run)) (moved_runs base start left') at (at + run.count * width) width end block items items' whole
+    (written ∙ (λ i. assigned (run_offsets (to_is i)) (from_is i) width block items) ∙ ap (λ n. assigned (packed at width n) (map (moved base start) (run_offsets run)) width block items) (sym (long-run base start run)))
+    same
+    (ap (λ n. at + n * width) (sym (long-run base start run)))
+    (subst (λ l. Gathering l at width end block items whole) (split-runs base start run left left' walked) have)
+
+pub fill_run : (base start : ℕ) (run : Run) (left left' : List Run) (item block whole : List ℕ) → left ≡ run ∷ left' → Filling (moved_runs base start left) item block whole → All (λ offset. moved base start offset + length item ≤ length block) (run_offsets run)
+fill_run base start run left left' item block whole walked have =
+    let ends = subst (All (λ offset. offset + length item ≤ length block)) (split-runs base start run left left' walked) have.inside in
+    All-unmap (λ offset. offset + length item ≤ length block) (moved base start) (run_offsets run) (All-front (λ offset. offset + length item ≤ length block) (map (moved base start) (run_offsets run)) (moved_runs base start left') ends)
+
+pub filled_run : (base start : ℕ) (run to : Run) (left left' : List Run) (item block block' whole : List ℕ) → left ≡ run ∷ left' →
+    run_offsets to ≡ map (moved base start) (run_offsets run) → block' ≡ put_each (run_offsets to) item block → length block' ≡ length block →
+    Filling (moved_runs base start left) item block whole → Filling (moved_runs base start left') item block' whole
+filled_run base start run to left left' item block block' whole walked to_is written same have =
+    filled_next (map (moved base start) (run_offsets run)) (moved_runs base start left') item block block' whole
+    (written ∙ ap (λ l. put_each l item block) to_is) same
+    (subst (λ l. Filling l item block whole) (split-runs base start run left left' walked) have)
+
+-- ---- shift after shift, and place after place
+
+pub split-shifts : (base : ℕ) (inner : List ℕ) (place : ℕ) (shifts : List ℕ) (k start : ℕ) → k < length shifts → start ≡ moved base place (get_or shifts k 0) →
+    shifted_all base (drop k shifts) inner place ≡ map (moved base start) inner ++ shifted_all base (drop (k + 1) shifts) inner place
+split-shifts base inner place shifts k start low is =
+    ap (λ l. shifted_all base l inner place) (drop_more shifts k 0 low) ∙ ap (λ s. map (moved base s) inner ++ shifted_all base (drop (k + 1) shifts) inner place) (sym is)
+
+pub split-places : (base : ℕ) (inner shifts left left' : List ℕ) (place : ℕ) → left ≡ place ∷ left' →
+    moved_all base left shifts inner ≡ shifted_all base shifts inner place ++ moved_all base left' shifts inner
+split-places base inner shifts left left' place walked = ap (λ l. moved_all base l shifts inner) walked

@@ -1,0 +1,74 @@
+-- The index that has a rank, number by number from the last axis on.
+use Rattle.std.proofs.Common.{◌≡◌, ℕ, zero, suc, ◌+◌, ◌*◌, ◌/◌, ◌%◌, ◌<◌, ◌≤◌, List, [], ◌∷◌, length, get_or, set, take, drop, sym, ap, ◌∙◌, arith, add-mul, take_all}
+use Rattle.std.proofs.lemmas.List.{drop_more, drop_all, drop-set, take_more, length-set}
+use Rattle.std.proofs.lemmas.Nat.{div-add-mod', div_below}
+use Rattle.std.proofs.Math.Nat.{mod-lt, mul_assoc}
+use Rattle.shape_strides.specs.Indexes.{count, rank, IsIndex}
+use Rattle.shape_strides.specs.CountLaws.{factors_pos}
+use Rattle.shape_strides.specs.ReverseLaws.{count-append}
+
+-- the numbers from an axis on are found, and `left` is the rank along the axes before it
+pub record IsFound (shape index : List ℕ) (at left axis : ℕ) : Type 0 where
+  pub within : axis ≤ length shape
+  pub size : length index ≡ length shape
+  pub later : IsIndex (drop axis shape) (drop axis index)
+  pub low : left < count (take axis shape)
+  pub is : left * count (drop axis shape) + rank (drop axis shape) (drop axis index) ≡ at
+
+pub found_none : (shape index : List ℕ) (at : ℕ) → length index ≡ length shape → at < count shape → IsFound shape index at at (length shape)
+found_none shape index at size low =
+    let none : drop (length shape) shape ≡ [] = drop_all (length shape) shape (omega arith) in
+    let none' : drop (length shape) index ≡ [] = drop_all (length shape) index (omega arith) in
+    let all : take (length shape) shape ≡ shape = take_all (length shape) shape (omega arith) in
+    record {
+      within = omega arith;
+      size = size;
+      later = rw (none, none') tt;
+      low = rw all low;
+      is = rw none (omega arith);
+    }
+
+count-front : (shape : List ℕ) (axis : ℕ) → axis < length shape → count (take (axis + 1) shape) ≡ count (take axis shape) * get_or shape axis 0
+count-front shape axis below =
+    ap count (take_more shape axis 0 below) ∙ count-append (take axis shape) (get_or shape axis 0 ∷ []) ∙ one
+  where
+    one : count (take axis shape) * (get_or shape axis 0 * 1) ≡ count (take axis shape) * get_or shape axis 0
+    one = ap (λ n. count (take axis shape) * n) (omega arith)
+
+-- the axis is not empty
+pub long_axis : (shape index : List ℕ) (at left axis : ℕ) → axis < length shape → IsFound shape index at left (axis + 1) → 0 < get_or shape axis 0
+long_axis shape index at left axis below found =
+    (factors_pos (count (take axis shape)) (get_or shape axis 0) (omega (arith, found.low, count-front shape axis below))).1
+
+regroup : (q r n c k : ℕ) → q * n + r ≡ k → (t : ℕ) → q * (n * c) + (r * c + t) ≡ k * c + t
+regroup q r n c k is t =
+    let one : q * (n * c) ≡ (q * n) * c = sym (mul_assoc q n c) in
+    let two : (q * n + r) * c ≡ (q * n) * c + r * c = add-mul (q * n) r c in
+    let three : (q * n + r) * c ≡ k * c = ap (λ m. m * c) is in
+    omega (arith, one, two, three)
+
+pub found_more : (shape index : List ℕ) (at left axis : ℕ) → axis < length shape → IsFound shape index at left (axis + 1) →
+    IsFound shape (set index axis (left % get_or shape axis 0)) at (left / get_or shape axis 0) axis
+found_more shape index at left axis below found =
+    let n = get_or shape axis 0 in
+    let some = long_axis shape index at left axis below found in
+    let inside : axis < length index = omega (arith, found.size) in
+    let here : drop axis shape ≡ n ∷ drop (axis + 1) shape = drop_more shape axis 0 below in
+    let there : drop axis (set index axis (left % n)) ≡ left % n ∷ drop (axis + 1) index = drop-set index axis (left % n) inside in
+    record {
+      within = omega arith;
+      size = length-set index axis (left % n) ∙ found.size;
+      later = rw (here, there) (mod-lt left some, found.later);
+      low = div_below left n (count (take axis shape)) some (omega (arith, found.low, count-front shape axis below));
+      is = rw (here, there) (regroup (left / n) (left % n) n (count (drop (axis + 1) shape)) left (div-add-mod' left n) (rank (drop (axis + 1) shape) (drop (axis + 1) index)) ∙ found.is);
+    }
+
+-- all numbers are found
+pub found_all : (shape index : List ℕ) (at left axis : ℕ) → axis ≡ 0 → IsFound shape index at left axis → IsIndex shape index × (rank shape index ≡ at)
+found_all shape index at left axis none found =
+    let f : IsFound shape index at left 0 = rw none at found in
+    (f.later, only left (count shape) (rank shape index) at f.low f.is)
+  where
+    only : (l c r a : ℕ) → l < 1 → l * c + r ≡ a → r ≡ a
+    only zero c r a low is = omega arith
+    only (suc l) c r a low is = absurd (omega arith)

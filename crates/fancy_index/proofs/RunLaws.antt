@@ -1,0 +1,140 @@
+-- Runs that are moved, and runs of items that are copied and filled.
+use Rattle.std.proofs.Common.{◌≡◌, ℕ, zero, suc, ◌+◌, ◌-◌, ◌*◌, ◌<◌, ◌≤◌, List, [], ◌∷◌, ◌++◌, map, length, get_or, All, refl, sym, ap, subst, ◌∙◌, arith, suc-mul, mul_comm, mul-le-mul_right}
+use Rattle.std.proofs.lemmas.Int.{ints}
+use Rattle.std.proofs.lemmas.List.{length-map, get_or-map, get_or_default, map-append, same_lists}
+use Rattle.std.proofs.lemmas.List.Elements.{All-get_or}
+use lib.IntN.{ℤ, pos, nat_abs, ◌+ℤ◌, ◌*ℤ◌, zero-*ℤ, +ℤ_idr}
+use Rattle.elem_descr.specs.Steps.{numbers_from}
+use Rattle.elem_descr.specs.StepLaws.{numbers-split}
+use Rattle.raw_block.specs.Bytes.{put, item_at, position, place, EachWithin, copied, filled}
+use Rattle.raw_block.specs.BytesLaws.{not_negative}
+use Rattle.shape_strides.specs.declared.runs.Run.{Run}
+use Rattle.shape_strides.specs.Addresses.{natural, LieWithin}
+use Rattle.shape_strides.specs.Limits.{max_bytes}
+use Rattle.shape_strides.specs.Runs.{run_offsets}
+use Rattle.overlap_copy.specs.RunLaws.{fewer, run_offsets-more, length-run_offsets, place-at, lie-within}
+use Rattle.overlap_copy.specs.Assignments.{assigned}
+use Rattle.fancy_index.specs.Plans.{moved, put_each}
+use Rattle.fancy_index.specs.inside.Kept.{IsMoved}
+use Rattle.fancy_index.specs.inside.Packed.{packed}
+
+-- ---- a run that is moved
+
+-- the k-th item of a run, and of the run that is moved
+module _ (run : Run) (base start : ℕ) (lies : LieWithin (run.count ∷ []) (run.step ∷ []) run.offset max_bytes 1) (moves : All (IsMoved base start) (run_offsets run)) where
+  within : EachWithin max_bytes run.offset run.step 1 run.count
+  within = lie-within max_bytes 1 run lies
+
+  entry : (k : ℕ) → k < run.count → get_or (run_offsets run) k 0 ≡ place run.offset run.step k
+  entry k low = place-at max_bytes 1 run k within low
+
+  pub moved_at : (k : ℕ) → k < run.count → IsMoved base start (place run.offset run.step k)
+  moved_at k low = subst (IsMoved base start) (entry k low) (All-get_or (IsMoved base start) (run_offsets run) k 0 (omega (arith, length-run_offsets run)) moves)
+
+  pub first_moved : 1 ≤ run.count → IsMoved base start run.offset
+  first_moved some =
+      let zero_th : place run.offset run.step 0 ≡ run.offset = place-zero run.offset run.step in
+      subst (IsMoved base start) zero_th (moved_at 0 some)
+    where
+      place-zero : (at : ℕ) (step : ℤ) → place at step 0 ≡ at
+      place-zero at step = ap (λ z. nat_abs (pos at +ℤ z)) (zero-*ℤ step) ∙ ap nat_abs (+ℤ_idr (pos at))
+
+  -- the position of an item moves as the run does
+  position-moved : 1 ≤ run.count → (k : ℕ) → k < run.count → position (moved base start run.offset) run.step k ≡ pos (moved base start (place run.offset run.step k))
+  position-moved some k low =
+      let is : pos (place run.offset run.step k) ≡ position run.offset run.step k = not_negative (position run.offset run.step k) ((within.each k low).0) in
+      let there = moved_at k low in
+      let first = first_moved some in
+      slide run.offset (place run.offset run.step k) base start (pos k *ℤ run.step) is first.from there.from
+    where
+      slide : (a p b s : ℕ) (z : ℤ) → pos p ≡ pos a +ℤ z → b ≤ s + a → b ≤ s + p → pos (s + a - b) +ℤ z ≡ pos (s + p - b)
+      slide a p b s z is low low' = omega (arith, ints)
+
+  pub each-moved : 1 ≤ run.count → (len width : ℕ) → All (λ offset. moved base start offset + width ≤ len) (run_offsets run) → EachWithin len (moved base start run.offset) run.step width run.count
+  each-moved some len width ends = record {
+    each = λ k low.
+        let here : moved base start (place run.offset run.step k) + width ≤ len =
+        subst (λ o. moved base start o + width ≤ len) (entry k low) (All-get_or (λ o. moved base start o + width ≤ len) (run_offsets run) k 0 (omega (arith, length-run_offsets run)) ends) in
+        rw (position-moved some k low) (omega (arith, ints), omega (arith, ints));
+  }
+
+  pub offsets-moved : 1 ≤ run.count → run_offsets (record { offset = moved base start run.offset; count = run.count; step = run.step }) ≡ map (moved base start) (run_offsets run)
+  offsets-moved some =
+      let new : Run = record { offset = moved base start run.offset; count = run.count; step = run.step } in
+      same_lists (run_offsets new) (map (moved base start) (run_offsets run)) (length-run_offsets new ∙ sym (length-map (run_offsets run) (moved base start) ∙ length-run_offsets run)) (λ k d below.
+      let low : k < run.count = omega (arith, below, length-run_offsets new) in
+      let ends : All (λ offset. moved base start offset + 1 ≤ max_bytes) (run_offsets run) = λ j e inside. omega (arith, (moves j e inside).from, (moves j e inside).below) in
+      let old : k < length (run_offsets run) = omega (arith, length-run_offsets run) in
+      default (run_offsets new) k d below
+      ∙ place-at max_bytes 1 new k (each-moved some max_bytes 1 ends) low
+      ∙ ap abs (position-moved some k low)
+      ∙ sym (get_or-map (moved base start) (run_offsets run) k 0 d old ∙ ap (moved base start) (entry k low)))
+    where
+      abs : ℤ → ℕ
+      abs z = nat_abs z
+
+      default : (xs : List ℕ) (k d : ℕ) → k < length xs → get_or xs k d ≡ get_or xs k 0
+      default xs k d low = get_or_default xs k d 0 low
+
+-- ---- items one after another
+
+pub packed-within : (len at width n : ℕ) → at + n * width ≤ len → EachWithin len at (pos width) width n
+packed-within len at width n ends = record {
+  each = λ k low.
+      let most : suc k * width ≤ n * width = mul-le-mul_right width low in
+      (omega (arith, ints), omega (arith, ints, most, suc-mul k width));
+}
+
+pub length-packed : (at width n : ℕ) → length (packed at width n) ≡ n
+length-packed at width n = length-run_offsets (record { offset = at; count = n; step = pos width })
+
+-- so many items, and so many after them
+pub packed-append : (at width n m : ℕ) → packed at width (n + m) ≡ packed at width n ++ packed (at + n * width) width m
+packed-append at width n m =
+    let next : pos at +ℤ pos width *ℤ pos n ≡ pos (at + n * width) = ap (λ k. pos (at + k)) (mul_comm width n) in
+    ap (map natural) (numbers-split (pos at) (pos width) n m)
+    ∙ map-append natural (numbers_from (pos at) (pos width) n) (numbers_from (pos at +ℤ pos width *ℤ pos n) (pos width) m)
+    ∙ ap (λ z. packed at width n ++ map natural (numbers_from z (pos width) m)) next
+
+-- ---- runs that are copied and filled
+
+-- first these items, then those
+pub assigned-append : (to from to' from' : List ℕ) (width : ℕ) (other block : List ℕ) → length to ≡ length from →
+    assigned (to ++ to') (from ++ from') width other block ≡ assigned to' from' width other (assigned to from width other block)
+assigned-append [] [] to' from' width other block even = refl
+assigned-append [] (offset ∷ from) to' from' width other block even = absurd (omega (arith, even))
+assigned-append (at ∷ to) [] to' from' width other block even = absurd (omega (arith, even))
+assigned-append (at ∷ to) (offset ∷ from) to' from' width other block even =
+    assigned-append to from to' from' width other (put at (item_at offset width other) block) (omega (arith, even))
+
+pub put_each-append : (to to' item block : List ℕ) → put_each (to ++ to') item block ≡ put_each to' item (put_each to item block)
+put_each-append [] to' item block = refl
+put_each-append (at ∷ to) to' item block = put_each-append to to' item (put at item block)
+
+copied-run : (len other_len dst : ℕ) (dst_step : ℤ) (src : ℕ) (src_step : ℤ) (width n : ℕ) (other block : List ℕ) → EachWithin len dst dst_step width n → EachWithin other_len src src_step width n →
+    copied dst dst_step other src src_step width n block
+    ≡ assigned (run_offsets (record { offset = dst; count = n; step = dst_step })) (run_offsets (record { offset = src; count = n; step = src_step })) width other block
+copied-run len other_len dst dst_step src src_step width zero other block to from = refl
+copied-run len other_len dst dst_step src src_step width (suc n) other block to from =
+    let here : Run = record { offset = dst; count = n; step = dst_step } in
+    let there : Run = record { offset = src; count = n; step = src_step } in
+    let last = place dst dst_step n in
+    let source = place src src_step n in
+    ap (put last (item_at source width other)) (copied-run len other_len dst dst_step src src_step width n other block (fewer len dst dst_step width n to) (fewer other_len src src_step width n from))
+    ∙ sym (assigned-append (run_offsets here) (run_offsets there) (last ∷ []) (source ∷ []) width other block (length-run_offsets here ∙ sym (length-run_offsets there)))
+    ∙ λ i. assigned (sym (run_offsets-more len dst dst_step width n to) i) (sym (run_offsets-more other_len src src_step width n from) i) width other block
+
+pub copied-even : (to from : Run) (width : ℕ) (other block : List ℕ) → to.count ≡ from.count → EachWithin (length block) to.offset to.step width to.count → EachWithin (length other) from.offset from.step width from.count →
+    copied to.offset to.step other from.offset from.step width to.count block ≡ assigned (run_offsets to) (run_offsets from) width other block
+copied-even to from width other block even lies lies' =
+    copied-run (length block) (length other) to.offset to.step from.offset from.step width to.count other block lies (subst (EachWithin (length other) from.offset from.step width) (sym even) lies')
+    ∙ ap (λ n. assigned (run_offsets to) (run_offsets (record { offset = from.offset; count = n; step = from.step })) width other block) even
+
+pub filled-run : (len at : ℕ) (step : ℤ) (item : List ℕ) (n : ℕ) (block : List ℕ) → EachWithin len at step (length item) n →
+    filled at step item n block ≡ put_each (run_offsets (record { offset = at; count = n; step = step })) item block
+filled-run len at step item zero block to = refl
+filled-run len at step item (suc n) block to =
+    let here : Run = record { offset = at; count = n; step = step } in
+    ap (put (place at step n) item) (filled-run len at step item n block (fewer len at step (length item) n to))
+    ∙ sym (put_each-append (run_offsets here) (place at step n ∷ []) item block)
+    ∙ λ i. put_each (sym (run_offsets-more len at step (length item) n to) i) item block

@@ -1,0 +1,8 @@
+use Rattle.fancy_index.proofs.RankLaws.{IsFound}
+use Rattle.fancy_index.proofs.rank.index_at.Given as goal
+
+abbrev pub invariant-loop-axis : goal.invariant-loop-axis
+invariant-loop-axis l = IsFound l.lengths l.index l.at l.left l.axis
+
+abbrev pub decreases-loop-axis : goal.decreases-loop-axis
+decreases-loop-axis l = l.axis

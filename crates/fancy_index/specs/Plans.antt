@@ -1,0 +1,47 @@
+-- Plans: the items of a buffer to which an index list with arrays leads.
+use Rattle.std.specs.Prelude.{◌≡◌, ◌⊎◌, ℕ, ◌+◌, ◌-◌, List, [], ◌∷◌, map, Result, Ok, Err}
+use Rattle.std.specs.List.{flat_map}
+use Rattle.raw_block.specs.Bytes.{put}
+use Rattle.elem_descr.specs.declared.refusal.Refusal.{Refusal}
+use Rattle.elem_descr.specs.declared.refusal.Refusal.TheVariants.{OutOfMemory}
+use Rattle.shape_strides.specs.declared.layout.Layout.{Layout}
+use Rattle.shape_strides.specs.Indexes.{IsIndex}
+use Rattle.shape_strides.specs.Layouts.{offsets}
+use Rattle.view_ops.specs.Views.{View, view_through}
+
+-- what a plan shows: its shape, and the offsets of its items in C order
+pub record Planned : Type 0 where
+  pub shape : List ℕ
+  pub offsets : List ℕ
+
+-- an offset, where what began at `base` begins at `start`
+abbrev pub moved : ℕ → ℕ → ℕ → ℕ
+moved base start offset = start + offset - base
+
+-- where the items of the inner axes lie from a place on that is shifted, by one shift and by each
+abbrev pub shifted : ℕ → List ℕ → ℕ → ℕ → List ℕ
+shifted base inner place shift = map (moved base (moved base place shift)) inner
+
+abbrev pub shifted_all : ℕ → List ℕ → List ℕ → ℕ → List ℕ
+shifted_all base shifts inner place = flat_map (shifted base inner place) shifts
+
+-- and from each place of the outer axes on
+abbrev pub moved_all : ℕ → List ℕ → List ℕ → List ℕ → List ℕ
+moved_all base outer shifts inner = flat_map (shifted_all base shifts inner) outer
+
+-- bytes, with the item put at each of the offsets, one after the other
+abbrev pub put_each : List ℕ → List ℕ → List ℕ → List ℕ
+put_each [] item bytes = bytes
+put_each (offset ∷ offsets) item bytes = put_each offsets item (put offset item bytes)
+
+-- a plan leads to the items of a layout that a view shows
+pub record IsPlanOf (layout : Layout) (plan : Planned) (view : View) : Type 0 where
+  pub shape : plan.shape ≡ view.shape
+  pub leads : (index : List ℕ) → IsIndex view.shape index → IsIndex layout.shape (view.leads index)
+  pub places : plan.offsets ≡ view_through (offsets layout) layout.shape view.shape view.leads
+
+-- the plan is of the view that is there, and a refusal is the one that is there, unless memory ran out
+abbrev pub GivesPlan : Layout → Result Planned Refusal → Result View Refusal → Type 0
+GivesPlan layout (Ok plan) (Ok view) = IsPlanOf layout plan view
+GivesPlan layout (Ok plan) (Err refusal) = ⊥
+GivesPlan layout (Err refusal) there = (refusal ≡ OutOfMemory) ⊎ (there ≡ Err refusal)

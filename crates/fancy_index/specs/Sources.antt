@@ -1,0 +1,51 @@
+-- The arrays of an index list, as their items lie in blocks.
+use Rattle.std.specs.Prelude.{ℕ, ◌+◌, ◌<◌, ◌≤◌, ℤ, pos, List, [], ◌∷◌, map, length, All}
+use Rattle.elem_descr.specs.declared.descr.Descr.{Descr}
+use Rattle.elem_descr.specs.Values.{LeafValue}
+use Rattle.elem_descr.specs.Encoding.{number_of}
+use Rattle.elem_descr.specs.Items.{item_size}
+use Rattle.elem_descr.specs.Blocks.{item_from}
+use Rattle.shape_strides.specs.declared.index_item.IndexItem.{IndexItem}
+use Rattle.shape_strides.specs.declared.index_item.IndexItem.TheVariants.{Integer, Slice, Ellipsis, NewAxis, Array}
+use Rattle.shape_strides.specs.Layouts.{offsets}
+use Rattle.fancy_index.specs.declared.source.Indices.{Indices}
+use Rattle.fancy_index.specs.IndexArrays.{IndexArray, with_arrays}
+
+-- the number that is the first value of an item
+abbrev pub first_number : List LeafValue → ℤ
+first_number (value ∷ values) = number_of value
+first_number [] = pos 0
+
+-- the number of the item at an offset
+abbrev pub number_from : Descr → List ℕ → ℕ → ℤ
+number_from descr bytes offset = first_number (item_from descr bytes offset)
+
+-- an array by its items
+abbrev pub array_of : Indices → IndexArray
+array_of a = record { descr = a.descr.now; shape = a.layout.now.shape; numbers = map (number_from a.descr.now a.block.now) (offsets a.layout.now) }
+
+-- each item lies in the block
+abbrev pub LiesInBlock : Indices → Type 0
+LiesInBlock a = All (λ offset. offset + item_size a.descr.now ≤ length a.block.now) (offsets a.layout.now)
+
+-- an item with its array, by the items of the array
+abbrev pub item_of : IndexItem Indices → IndexItem IndexArray
+item_of (Integer at) = Integer at
+item_of (Slice start stop step) = Slice start stop step
+item_of Ellipsis = Ellipsis
+item_of NewAxis = NewAxis
+item_of (Array a) = Array (array_of a)
+
+-- the array that stands in an item lies in its block
+abbrev pub HasItems : IndexItem Indices → Type 0
+HasItems (Array a) = LiesInBlock a
+HasItems _ = Unit {0}
+
+-- an item names one of so many arrays
+abbrev pub IsNamed : ℕ → IndexItem ℕ → Type 0
+IsNamed n (Array k) = k < n
+IsNamed n _ = Unit {0}
+
+-- the items of an index list, with arrays in the place of their numbers
+abbrev pub items_of : List Indices → List (IndexItem ℕ) → List (IndexItem IndexArray)
+items_of arrays items = with_arrays (map array_of arrays) items

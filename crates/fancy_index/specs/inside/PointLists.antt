@@ -1,0 +1,35 @@
+-- Points on axes as the code holds them: by their ranks along these.
+use Rattle.std.specs.Prelude.{◌≡◌, ◌<◌, ℕ, ◌+◌, if◌then◌else◌, ℤ, pos, List, [], ◌∷◌, map, length, get_or, All}
+use Rattle.std.specs.Ordering.{int_eq}
+use Rattle.shape_strides.specs.Indexes.{count, indexes}
+use Rattle.shape_strides.specs.Addresses.{natural}
+use Rattle.view_ops.specs.Slices.{from_front}
+use Rattle.fancy_index.specs.declared.points.PointList.{PointList}
+use Rattle.fancy_index.specs.Parts.{Part, Points}
+
+-- the place of n that a number names
+abbrev pub place_of : ℕ → ℤ → ℕ
+place_of n at = natural (from_front n at)
+
+-- the ranks of the numbers that are not 0, the first of which has this one
+abbrev pub true_ranks : ℕ → List ℤ → List ℕ
+true_ranks rank [] = []
+true_ranks rank (number ∷ numbers) = if int_eq number (pos 0) then true_ranks (rank + 1) numbers else rank ∷ true_ranks (rank + 1) numbers
+
+-- the index with a rank
+abbrev pub tuple : List ℕ → ℕ → List ℕ
+tuple axes rank = get_or (indexes axes) rank []
+
+abbrev pub shown_points : PointList → Part
+shown_points p = Points p.lengths.items (map (tuple p.axes.items) p.ranks.items)
+
+-- a point for each item of their shape, each within the axes
+pub record IsPointList (p : PointList) : Type 0 where
+  pub within : All (λ rank. rank < count p.axes.items) p.ranks.items
+  pub many : length p.ranks.items ≡ count p.lengths.items
+
+-- points on these axes are the part that is there
+pub record IsPart (taken : List ℕ) (p : PointList) (parts : List Part) : Type 0 where
+  pub axes : p.axes.items ≡ taken
+  pub list : IsPointList p
+  pub shows : parts ≡ shown_points p ∷ []

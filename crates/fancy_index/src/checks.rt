@@ -1,0 +1,191 @@
+//! What is refused of an index list with arrays, each over the whole list.
+ghost use Rattle.std.specs.Prelude.{◌≡◌, ◌≢◌, ◌+◌, ◌-◌, ◌<◌, ◌≤◌, length, drop, nat_le, map, pos, slice_index_or, true, All};
+ghost use Rattle.std.specs.List.{list_all};
+ghost use Rattle.shape_strides.specs.declared.index_item.IndexItem.TheVariants.{Integer};
+ghost use Rattle.shape_strides.specs.Limits.{max_axes};
+ghost use Rattle.fancy_index.specs.declared.kind.Kind.TheVariants.{NoIndex};
+ghost use Rattle.view_ops.specs.Slices.{is_place};
+ghost use Rattle.fancy_index.specs.IndexArrays.{kind, with_array, is_index, axes_of, taken, width, covers, cover, is_within, are_within};
+ghost use Rattle.fancy_index.specs.Sources.{array_of, LiesInBlock, item_of, HasItems, IsNamed, items_of};
+
+use crate::kind::Kind;
+use crate::source::{Indices, kind, number_at, resolved};
+use shape_strides::{FixedWalk, IndexItem};
+use view_ops::is_place;
+
+fn is_index(item: IndexItem<Indices<'_>>) -> bool
+    ensures { result ≡ is_index (item_of item.entry) }
+{
+    match item {
+        IndexItem::Array(array) => kind(array) != Kind::NoIndex,
+        _ => true,
+    }
+}
+
+/// Whether each array in the list stands for some index.
+pub(crate) fn are_indexes(items: &[IndexItem<usize>], arrays: &[Indices<'_>]) -> bool
+    requires named { All (IsNamed (length arrays.now)) items.now }
+    requires lie { All LiesInBlock arrays.now }
+    ensures { result ≡ list_all is_index (items_of arrays.now items.now) }
+{
+    for item in items {
+        if !is_index(resolved(item, arrays)) {
+            return false;
+        }
+    }
+    true
+}
+
+/// How many axes an item takes, beside those of `...`.
+fn axes_of(item: IndexItem<Indices<'_>>) -> usize
+    ensures value { result ≡ axes_of (item_of item.entry) }
+    ensures few { result ≤ max_axes }
+{
+    match item {
+        IndexItem::Ellipsis | IndexItem::NewAxis => 0,
+        IndexItem::Array(array) => match kind(array) {
+            Kind::Mask => array.layout.shape.rank(),
+            _ => 1,
+        },
+        _ => 1,
+    }
+}
+
+/// Whether the items take no more axes than there are.
+pub(crate) fn have_axes(items: &[IndexItem<usize>], arrays: &[Indices<'_>], rank: usize) -> bool
+    requires named { All (IsNamed (length arrays.now)) items.now }
+    requires lie { All LiesInBlock arrays.now }
+    ensures { result ≡ nat_le (taken (items_of arrays.now items.now)) rank }
+{
+    let mut left = rank;
+    for item in items {
+        let axes = axes_of(resolved(item, arrays));
+        if left < axes {
+            return false;
+        }
+        left -= axes;
+    }
+    true
+}
+
+/// How many axes the items take, beside those of `...`.
+fn taken(items: &[IndexItem<usize>], arrays: &[Indices<'_>]) -> usize
+    requires named { All (IsNamed (length arrays.now)) items.now }
+    requires lie { All LiesInBlock arrays.now }
+    requires few { taken (items_of arrays.now items.now) ≤ max_axes }
+    ensures { result ≡ taken (items_of arrays.now items.now) }
+{
+    let mut axes = 0;
+    for item in items {
+        axes += axes_of(resolved(item, arrays));
+    }
+    axes
+}
+
+/// The axis after those that the item at place k takes, from `axis` on.
+pub(crate) fn axes_end(
+    rank: usize,
+    axis: usize,
+    items: &[IndexItem<usize>],
+    arrays: &[Indices<'_>],
+    k: usize,
+) -> usize
+    requires named { All (IsNamed (length arrays.now)) items.now }
+    requires lie { All LiesInBlock arrays.now }
+    requires item { k < length items.now }
+    requires rank { rank ≤ max_axes }
+    requires axis { axis ≤ rank }
+    requires enough { taken (items_of arrays.now (drop k items.now)) ≤ rank - axis }
+    ensures value { result ≡ axis + width (rank - axis) (with_array (map array_of arrays.now) (slice_index_or items.now k (Integer (pos 0)))) (items_of arrays.now (drop (k + 1) items.now)) }
+    ensures from { axis ≤ result }
+    ensures within { result ≤ rank }
+    ensures enough { taken (items_of arrays.now (drop (k + 1) items.now)) ≤ rank - result }
+{
+    let item = resolved(&items[k], arrays);
+    match item {
+        IndexItem::Ellipsis => rank - taken(&items[k + 1..], arrays),
+        _ => axis + axes_of(item),
+    }
+}
+
+fn covers(axes: &[usize], item: IndexItem<Indices<'_>>) -> bool
+    ensures { result ≡ covers axes.now (item_of item.entry) }
+{
+    match item {
+        IndexItem::Array(array) => match kind(array) {
+            Kind::Mask => array.layout.shape.as_slice() == axes,
+            _ => true,
+        },
+        _ => true,
+    }
+}
+
+/// Whether each mask is as long as the axes that it stands for.
+pub(crate) fn cover(lengths: &[usize], items: &[IndexItem<usize>], arrays: &[Indices<'_>]) -> bool
+    requires named { All (IsNamed (length arrays.now)) items.now }
+    requires lie { All LiesInBlock arrays.now }
+    requires rank { length lengths.now ≤ max_axes }
+    requires enough { taken (items_of arrays.now items.now) ≤ length lengths.now }
+    ensures { result ≡ cover lengths.now (items_of arrays.now items.now) }
+{
+    let mut axis = 0;
+    for k in 0..items.len() {
+        let end = axes_end(lengths.len(), axis, items, arrays, k);
+        if !covers(&lengths[axis..end], resolved(&items[k], arrays)) {
+            return false;
+        }
+        axis = end;
+    }
+    true
+}
+
+/// Whether each number of an array is one of `n` places, whatever the array broadcasts to.
+fn are_places(array: Indices<'_>, n: usize) -> bool
+    requires kind { kind (array_of array) ≢ NoIndex }
+    requires lies { LiesInBlock array }
+    ensures { result ≡ list_all (is_place n) (array_of array.entry).numbers }
+{
+    for offset in FixedWalk::new(array.layout) {
+        if !is_place(n, number_at(array, offset)) {
+            return false;
+        }
+    }
+    true
+}
+
+fn is_within(axes: &[usize], item: IndexItem<Indices<'_>>) -> bool
+    requires { HasItems item }
+    ensures { result ≡ is_within axes.now (item_of item.entry) }
+{
+    match (item, axes) {
+        (IndexItem::Integer(at), [n, ..]) => is_place(*n, at),
+        (IndexItem::Array(array), [n, ..]) => match kind(array) {
+            Kind::Integers => are_places(array, *n),
+            _ => true,
+        },
+        _ => true,
+    }
+}
+
+/// Whether each integer, and each number of each array, is within its axis.
+pub(crate) fn are_within(
+    lengths: &[usize],
+    items: &[IndexItem<usize>],
+    arrays: &[Indices<'_>],
+) -> bool
+    requires named { All (IsNamed (length arrays.now)) items.now }
+    requires lie { All LiesInBlock arrays.now }
+    requires rank { length lengths.now ≤ max_axes }
+    requires enough { taken (items_of arrays.now items.now) ≤ length lengths.now }
+    ensures { result ≡ are_within lengths.now (items_of arrays.now items.now) }
+{
+    let mut axis = 0;
+    for k in 0..items.len() {
+        let end = axes_end(lengths.len(), axis, items, arrays, k);
+        if !is_within(&lengths[axis..end], resolved(&items[k], arrays)) {
+            return false;
+        }
+        axis = end;
+    }
+    true
+}

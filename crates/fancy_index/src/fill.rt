@@ -1,0 +1,58 @@
+//! One item, written to where a plan leads.
+ghost use Rattle.std.specs.Prelude.{◌≡◌, ◌+◌, ◌≤◌, length, map, All};
+ghost use Rattle.shape_strides.specs.Limits.{max_bytes};
+ghost use Rattle.shape_strides.specs.Layouts.{offsets};
+ghost use Rattle.fancy_index.specs.Plans.{moved, shifted_all, moved_all, put_each};
+ghost use Rattle.fancy_index.specs.inside.Kept.{IsMoved, AreStarts};
+
+use crate::plan::moved;
+use crate::run_moves::{fill_run, moved_run};
+use raw_block::RawBlock;
+use shape_strides::{FixedWalk, Layout, Runs};
+
+/// Writes the item to those of a layout, where what began at its offset begins at `start`.
+fn fill_from(block: &mut RawBlock, inner: &Layout, start: usize, item: &[u8])
+    requires base { inner.now.offset ≤ max_bytes }
+    requires moved { All (IsMoved inner.now.offset start) (offsets inner.now) }
+    requires inside { All (λ offset. offset + length item.now ≤ length block.old) (map (moved inner.now.offset start) (offsets inner.now)) }
+    ensures written { block.new ≡ put_each (map (moved inner.now.offset start) (offsets inner.now)) item.now block.old }
+    ensures len { length block.new ≡ length block.old }
+{
+    for run in Runs::new(inner) {
+        let to = moved_run(run, inner.offset, start);
+        fill_run(block, to, item);
+    }
+}
+
+/// The same from a place that is shifted by each shift.
+fn fill_shifts(block: &mut RawBlock, shifts: &[usize], inner: &Layout, place: usize, item: &[u8])
+    requires base { inner.now.offset ≤ max_bytes }
+    requires starts { AreStarts inner.now.offset (offsets inner.now) shifts.now place }
+    requires inside { All (λ offset. offset + length item.now ≤ length block.old) (shifted_all inner.now.offset shifts.now (offsets inner.now) place) }
+    ensures written { block.new ≡ put_each (shifted_all inner.now.offset shifts.now (offsets inner.now) place) item.now block.old }
+    ensures len { length block.new ≡ length block.old }
+{
+    for shift in shifts {
+        let start = moved(inner.offset, place, *shift);
+        fill_from(block, inner, start, item);
+    }
+}
+
+/// The same from each place of the outer axes.
+pub(crate) fn fill(
+    block: &mut RawBlock,
+    outer: &Layout,
+    shifts: &[usize],
+    inner: &Layout,
+    item: &[u8],
+)
+    requires base { inner.now.offset ≤ max_bytes }
+    requires starts { All (AreStarts inner.now.offset (offsets inner.now) shifts.now) (offsets outer.now) }
+    requires inside { All (λ offset. offset + length item.now ≤ length block.old) (moved_all inner.now.offset (offsets outer.now) shifts.now (offsets inner.now)) }
+    ensures written { block.new ≡ put_each (moved_all inner.now.offset (offsets outer.now) shifts.now (offsets inner.now)) item.now block.old }
+    ensures len { length block.new ≡ length block.old }
+{
+    for place in FixedWalk::new(outer) {
+        fill_shifts(block, shifts, inner, place, item);
+    }
+}

@@ -1,0 +1,144 @@
+//! Points on some axes: those of an integer, of an array of integers and of a mask.
+ghost use Rattle.std.specs.Prelude.{◌≡◌, ◌≢◌, [], ◌∷◌, length, map, pos, true, IfOk};
+ghost use Rattle.std.specs.Ordering.{int_eq};
+ghost use Rattle.std.specs.List.{list_all};
+ghost use Rattle.view_ops.specs.Slices.{is_place};
+ghost use Rattle.fancy_index.specs.declared.kind.Kind.TheVariants.{NoIndex};
+ghost use Rattle.fancy_index.specs.IndexArrays.{kind, axes_of_kind, covers_kind, are_places};
+ghost use Rattle.fancy_index.specs.Parts.{points_of};
+ghost use Rattle.fancy_index.specs.Sources.{array_of, LiesInBlock};
+ghost use Rattle.fancy_index.specs.inside.PointLists.{place_of, true_ranks, IsPart};
+
+use crate::kind::Kind;
+use crate::source::{Indices, kind, number_at};
+use shape_strides::FixedWalk;
+use smallvec::SmallVec;
+use std::alloc::{AllocError, Global};
+use view_ops::from_front;
+
+/// Points in a shape of their own, each on the same axes: its rank along these.
+#[derive(Drop)]
+pub(crate) struct PointList {
+    pub lengths: SmallVec<usize, 8>,
+    pub axes: SmallVec<usize, 8>,
+    pub ranks: Vec<usize>,
+}
+
+/// The place of `n` that a number names.
+fn place_of(n: usize, at: i128) -> usize
+    requires { is_place n at ≡ true }
+    ensures { result ≡ place_of n at }
+{
+    from_front(n, at) as usize
+}
+
+/// The places of `n` that the numbers of an array name.
+fn places(alloc: Global, array: Indices<'_>, n: usize) -> Result<Vec<usize>, AllocError>
+    requires kind { kind (array_of array) ≢ NoIndex }
+    requires lies { LiesInBlock array }
+    requires within { list_all (is_place n) (array_of array).numbers ≡ true }
+    ensures { IfOk result (λ v. v.items ≡ map (place_of n) (array_of array.entry).numbers) }
+{
+    let mut places = Vec::new(alloc);
+    for offset in FixedWalk::new(array.layout) {
+        places.push(place_of(n, number_at(array, offset)))?;
+    }
+    Ok(places)
+}
+
+fn is_zero(number: i128) -> bool
+    ensures { result ≡ int_eq number (pos 0) }
+{
+    number == 0
+}
+
+/// The ranks at which a mask is true.
+fn true_ranks(alloc: Global, array: Indices<'_>) -> Result<Vec<usize>, AllocError>
+    requires kind { kind (array_of array) ≢ NoIndex }
+    requires lies { LiesInBlock array }
+    ensures { IfOk result (λ v. v.items ≡ true_ranks 0 (array_of array.entry).numbers) }
+{
+    let _items = array.layout.shape.items();
+    let mut ranks = Vec::new(alloc);
+    let mut rank: usize = 0;
+    for offset in FixedWalk::new(array.layout) {
+        if !is_zero(number_at(array, offset)) {
+            ranks.push(rank)?;
+        }
+        rank += 1;
+    }
+    Ok(ranks)
+}
+
+/// The one point of an integer.
+pub(crate) fn integer_point(alloc: Global, n: usize, at: i128) -> Result<PointList, AllocError>
+    requires { is_place n at ≡ true }
+    ensures lengths { IfOk result (λ p. p.lengths.items ≡ []) }
+    ensures axes { IfOk result (λ p. p.axes.items ≡ n ∷ []) }
+    ensures ranks { IfOk result (λ p. p.ranks.items ≡ place_of n at ∷ []) }
+{
+    let axes = SmallVec::from_slice(alloc, &[n])?;
+    let mut ranks = Vec::new(alloc);
+    ranks.push(place_of(n, at))?;
+    Ok(PointList {
+        lengths: SmallVec::new(alloc),
+        axes,
+        ranks,
+    })
+}
+
+/// The points of an array of integers along an axis of `n`.
+fn integer_points(alloc: Global, n: usize, array: Indices<'_>) -> Result<PointList, AllocError>
+    requires kind { kind (array_of array) ≢ NoIndex }
+    requires lies { LiesInBlock array }
+    requires within { list_all (is_place n) (array_of array).numbers ≡ true }
+    ensures lengths { IfOk result (λ p. p.lengths.items ≡ (array_of array.entry).shape) }
+    ensures axes { IfOk result (λ p. p.axes.items ≡ n ∷ []) }
+    ensures ranks { IfOk result (λ p. p.ranks.items ≡ map (place_of n) (array_of array.entry).numbers) }
+{
+    let lengths = SmallVec::from_slice(alloc, array.layout.shape.as_slice())?;
+    let axes = SmallVec::from_slice(alloc, &[n])?;
+    let ranks = places(alloc, array, n)?;
+    Ok(PointList {
+        lengths,
+        axes,
+        ranks,
+    })
+}
+
+/// The points at which a mask is true.
+fn mask_points(alloc: Global, array: Indices<'_>) -> Result<PointList, AllocError>
+    requires kind { kind (array_of array) ≢ NoIndex }
+    requires lies { LiesInBlock array }
+    ensures lengths { IfOk result (λ p. p.lengths.items ≡ length p.ranks.items ∷ []) }
+    ensures axes { IfOk result (λ p. p.axes.items ≡ (array_of array.entry).shape) }
+    ensures ranks { IfOk result (λ p. p.ranks.items ≡ true_ranks 0 (array_of array.entry).numbers) }
+{
+    let axes = SmallVec::from_slice(alloc, array.layout.shape.as_slice())?;
+    let ranks = true_ranks(alloc, array)?;
+    let lengths = SmallVec::from_slice(alloc, &[ranks.len()])?;
+    Ok(PointList {
+        lengths,
+        axes,
+        ranks,
+    })
+}
+
+/// The points of an array on the axes that it takes.
+pub(crate) fn array_points(
+    alloc: Global,
+    axes: &[usize],
+    array: Indices<'_>,
+) -> Result<PointList, AllocError>
+    requires kind { kind (array_of array) ≢ NoIndex }
+    requires lies { LiesInBlock array }
+    requires axes { length axes.now ≡ axes_of_kind (kind (array_of array)) (array_of array).shape }
+    requires covers { covers_kind (kind (array_of array)) (array_of array).shape axes.now ≡ true }
+    requires within { are_places (kind (array_of array)) axes.now (array_of array).numbers ≡ true }
+    ensures { IfOk result (λ p. IsPart axes.now p (points_of (kind (array_of array.entry)) axes.now (array_of array.entry).shape (array_of array.entry).numbers)) }
+{
+    match kind(array) {
+        Kind::Mask => Ok(mask_points(alloc, array)?),
+        _ => Ok(integer_points(alloc, axes[0], array)?),
+    }
+}

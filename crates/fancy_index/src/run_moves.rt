@@ -1,0 +1,74 @@
+//! Items of runs that are moved to another start: read, written and filled, run by run.
+ghost use Rattle.std.specs.Prelude.{◌≡◌, [], ◌∷◌, ◌+◌, ◌*◌, ◌^◌, ◌<◌, ◌≤◌, ℕ, pos, length, map, All};
+ghost use Rattle.raw_block.specs.Bytes.{EachWithin};
+ghost use Rattle.shape_strides.specs.Addresses.{LieWithin};
+ghost use Rattle.shape_strides.specs.Limits.{max_bytes};
+ghost use Rattle.shape_strides.specs.Runs.{run_offsets};
+ghost use Rattle.overlap_copy.specs.Assignments.{assigned};
+ghost use Rattle.fancy_index.specs.Plans.{moved, put_each};
+ghost use Rattle.fancy_index.specs.inside.Kept.{IsMoved};
+
+use crate::plan::moved;
+use raw_block::RawBlock;
+use shape_strides::Run;
+
+/// A run, where what began at `base` begins at `start`.
+pub(crate) fn moved_run(run: Run, base: usize, start: usize) -> Run
+    requires base { base ≤ max_bytes }
+    requires some { 1 ≤ run.count }
+    requires lies { LieWithin (run.count ∷ []) (run.step ∷ []) run.offset max_bytes 1 }
+    requires moved { All (IsMoved base start) (run_offsets run) }
+    ensures count { result.count ≡ run.count }
+    ensures offsets { run_offsets result ≡ map (moved base start) (run_offsets run) }
+    ensures within { (len width : ℕ) → All (λ offset. moved base start offset + width ≤ len) (run_offsets run) → EachWithin len result.offset result.step width result.count }
+{
+    Run {
+        offset: moved(base, start, run.offset),
+        count: run.count,
+        step: run.step,
+    }
+}
+
+/// The run of `count` items of `width` bytes that lie one after another from `at` on, in a block of
+/// `len` bytes.
+pub(crate) fn packed_run(at: usize, width: usize, count: usize, len: usize) -> Run
+    requires some { 1 ≤ count }
+    requires within { at + count * width ≤ len }
+    requires small { len < 2 ^ 63 }
+    ensures run { result ≡ record { offset = at; count = count; step = pos width } }
+    ensures within { EachWithin len at (pos width) width count }
+{
+    Run {
+        offset: at,
+        count,
+        step: width as isize,
+    }
+}
+
+/// Copies the items of `width` bytes of a run of `other` to those of a run of the block, as many.
+pub(crate) fn copy_run(block: &mut RawBlock, to: Run, other: &RawBlock, from: Run, width: usize)
+    requires count { to.count ≡ from.count }
+    requires to { EachWithin (length block.old) to.offset to.step width to.count }
+    requires from { EachWithin (length other.now) from.offset from.step width from.count }
+    ensures written { block.new ≡ assigned (run_offsets to) (run_offsets from) width other.now block.old }
+    ensures len { length block.new ≡ length block.old }
+{
+    block.copy_strided(
+        to.offset,
+        to.step,
+        other,
+        from.offset,
+        from.step,
+        width,
+        to.count,
+    );
+}
+
+/// Writes the item to each of a run.
+pub(crate) fn fill_run(block: &mut RawBlock, to: Run, item: &[u8])
+    requires { EachWithin (length block.old) to.offset to.step (length item.now) to.count }
+    ensures written { block.new ≡ put_each (run_offsets to) item.now block.old }
+    ensures len { length block.new ≡ length block.old }
+{
+    block.fill_strided(to.offset, to.step, item, to.count);
+}

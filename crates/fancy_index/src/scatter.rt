@@ -1,0 +1,95 @@
+//! Items that lie one after another, copied to where a plan leads, strictly one after the other.
+ghost use Rattle.std.specs.Prelude.{◌≡◌, ◌+◌, ◌*◌, ◌≤◌, length, map, All};
+ghost use Rattle.shape_strides.specs.Limits.{max_bytes};
+ghost use Rattle.shape_strides.specs.Layouts.{offsets};
+ghost use Rattle.overlap_copy.specs.Assignments.{assigned};
+ghost use Rattle.fancy_index.specs.Plans.{moved, shifted_all, moved_all};
+ghost use Rattle.fancy_index.specs.inside.Kept.{IsMoved, AreStarts};
+ghost use Rattle.fancy_index.specs.inside.Packed.{packed};
+
+use crate::plan::moved;
+use crate::run_moves::{copy_run, moved_run, packed_run};
+use raw_block::RawBlock;
+use shape_strides::{FixedWalk, Layout, Runs};
+
+/// Copies items of `width` bytes that lie one after another from `at` on to those of a layout, where
+/// what began at its offset begins at `start`. The result is where they end.
+fn scatter_from(
+    block: &mut RawBlock,
+    inner: &Layout,
+    start: usize,
+    items: &RawBlock,
+    at: usize,
+    width: usize,
+) -> usize
+    requires base { inner.now.offset ≤ max_bytes }
+    requires moved { All (IsMoved inner.now.offset start) (offsets inner.now) }
+    requires inside { All (λ offset. offset + width ≤ length block.old) (map (moved inner.now.offset start) (offsets inner.now)) }
+    requires room { at + length (map (moved inner.now.offset start) (offsets inner.now)) * width ≤ length items.now }
+    ensures written { let to = map (moved inner.now.offset start) (offsets inner.now) in block.new ≡ assigned to (packed at width (length to)) width items.now block.old }
+    ensures len { length block.new ≡ length block.old }
+    ensures end { result ≡ at + length (map (moved inner.now.offset start) (offsets inner.now)) * width }
+{
+    let len = items.len();
+    let mut at = at;
+    for run in Runs::new(inner) {
+        let to = moved_run(run, inner.offset, start);
+        copy_run(
+            block,
+            to,
+            items,
+            packed_run(at, width, run.count, len),
+            width,
+        );
+        at += run.count * width;
+    }
+    at
+}
+
+/// The same from a place that is shifted by each shift.
+fn scatter_shifts(
+    block: &mut RawBlock,
+    shifts: &[usize],
+    inner: &Layout,
+    place: usize,
+    items: &RawBlock,
+    at: usize,
+    width: usize,
+) -> usize
+    requires base { inner.now.offset ≤ max_bytes }
+    requires starts { AreStarts inner.now.offset (offsets inner.now) shifts.now place }
+    requires inside { All (λ offset. offset + width ≤ length block.old) (shifted_all inner.now.offset shifts.now (offsets inner.now) place) }
+    requires room { at + length (shifted_all inner.now.offset shifts.now (offsets inner.now) place) * width ≤ length items.now }
+    ensures written { let to = shifted_all inner.now.offset shifts.now (offsets inner.now) place in block.new ≡ assigned to (packed at width (length to)) width items.now block.old }
+    ensures len { length block.new ≡ length block.old }
+    ensures end { result ≡ at + length (shifted_all inner.now.offset shifts.now (offsets inner.now) place) * width }
+{
+    let mut at = at;
+    for shift in shifts {
+        let start = moved(inner.offset, place, *shift);
+        at = scatter_from(block, inner, start, items, at, width);
+    }
+    at
+}
+
+/// The same from each place of the outer axes, from the items' start on.
+pub(crate) fn scatter(
+    block: &mut RawBlock,
+    outer: &Layout,
+    shifts: &[usize],
+    inner: &Layout,
+    items: &RawBlock,
+    width: usize,
+)
+    requires base { inner.now.offset ≤ max_bytes }
+    requires starts { All (AreStarts inner.now.offset (offsets inner.now) shifts.now) (offsets outer.now) }
+    requires inside { All (λ offset. offset + width ≤ length block.old) (moved_all inner.now.offset (offsets outer.now) shifts.now (offsets inner.now)) }
+    requires room { length (moved_all inner.now.offset (offsets outer.now) shifts.now (offsets inner.now)) * width ≤ length items.now }
+    ensures written { let to = moved_all inner.now.offset (offsets outer.now) shifts.now (offsets inner.now) in block.new ≡ assigned to (packed 0 width (length to)) width items.now block.old }
+    ensures len { length block.new ≡ length block.old }
+{
+    let mut at = 0;
+    for place in FixedWalk::new(outer) {
+        at = scatter_shifts(block, shifts, inner, place, items, at, width);
+    }
+}
