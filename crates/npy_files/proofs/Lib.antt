@@ -1,0 +1,8 @@
+pub mod StoreLaws
+pub mod TokenLaws
+pub mod ValueLaws
+pub mod EntryLaws
+pub mod RecordListLaws
+mod Vectors
+pub mod FileLaws
+pub mod WrittenEntries

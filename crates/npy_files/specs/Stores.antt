@@ -1,0 +1,66 @@
+-- What a store of files is, and what its calls answer.
+use Rattle.std.specs.Prelude.{◌≡◌, ◌≢◌, ◌⊎◌, ◌<◌, ◌≤◌, ℕ, Bool, true, false, List, length, Option, Some, None, Result, Ok, Err}
+use Rattle.std.specs.Cmp.Lexicographic.{slice_cmp}
+use Rattle.std.specs.FinMap.{FinMap, empty, get, insert}
+use Rattle.std.specs.Ordering.{nat_cmp}
+use Rattle.npy_files.specs.declared.store.StoreFault.{StoreFault}
+use Rattle.npy_files.specs.declared.store.StoreFault.TheVariants.{Device, TooLong, Memory}
+
+-- the bytes of each file, by its name
+abbrev pub Files : Type 0
+Files = FinMap (slice_cmp nat_cmp) (List ℕ)
+
+-- A store: its files, how often its device has failed, the most bytes of a file, and whether it is
+-- honest. Of a store that is not, nothing is known but its limit and its failures.
+pub record Shelf : Type 0 where
+  pub files : Files
+  pub failures : ℕ
+  pub limit : ℕ
+  pub honest : Bool
+
+-- an honest store without files, which has never failed
+abbrev pub empty_shelf : ℕ → Shelf
+empty_shelf limit = record { files = empty; failures = 0; limit = limit; honest = true }
+
+-- the most bytes of a file in a folder
+abbrev pub max_file : ℕ
+max_file = 536870912
+
+-- a folder, of which no contract tells what it holds
+abbrev pub folder_shelf : ℕ → Shelf
+folder_shelf failures = record { files = empty; failures = failures; limit = max_file; honest = false }
+
+-- a count at its greatest value, where it stays
+abbrev pub last_count : ℕ
+last_count = 18446744073709551615
+
+-- no call changes the limit or the honesty, or forgets a failure
+pub record IsSameStore (old new : Shelf) : Type 0 where
+  pub honest : new.honest ≡ old.honest
+  pub limit : new.limit ≡ old.limit
+  pub failures : old.failures ≤ new.failures
+
+-- the device has failed since
+abbrev pub HasFailed : Shelf → Shelf → Type 0
+HasFailed old new = (old.failures < new.failures) ⊎ (old.failures ≡ last_count)
+
+-- a fault of the device has a cause
+abbrev pub HasCause : {X : Type 0} → Shelf → Shelf → Result X StoreFault → Type 0
+HasCause old new (Err Device) = HasFailed old new
+HasCause old new answer = Unit {0}
+
+-- what is read of a file that may be there: its bytes, as the view shows them, unless they pass the limit
+abbrev pub IsRead : {V : Type 0} → (V → List ℕ) → ℕ → Option (List ℕ) → Result (Option V) StoreFault → Type 0
+IsRead view limit there (Ok None) = there ≡ None
+IsRead view limit there (Ok (Some bytes)) = (there ≡ Some (view bytes)) × (length (view bytes) ≤ limit)
+IsRead view limit there (Err TooLong) = (bytes : List ℕ) × (there ≡ Some bytes) × (limit < length bytes)
+IsRead view limit there (Err Device) = Unit {0}
+IsRead view limit there (Err Memory) = Unit {0}
+
+-- the files that a write leaves: with Ok they have these bytes under the name and all else as it was;
+-- after a fault of the device nothing is known of that one name
+abbrev pub IsWritten : Shelf → List ℕ → List ℕ → Result (Unit {0}) StoreFault → Files → Type 0
+IsWritten old name bytes (Ok _) files = (files ≡ insert old.files name bytes) × (length bytes ≤ old.limit)
+IsWritten old name bytes (Err TooLong) files = (files ≡ old.files) × (old.limit < length bytes)
+IsWritten old name bytes (Err Device) files = (other : List ℕ) → other ≢ name → get files other ≡ get old.files other
+IsWritten old name bytes (Err Memory) files = files ≡ old.files

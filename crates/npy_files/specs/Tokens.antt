@@ -1,0 +1,87 @@
+-- The tokens of a header: those of Python, as far as its literals need them.
+use Rattle.std.specs.Prelude.{ℕ, zero, suc, ◌+◌, min, Bool, true, false, not, ◌&&◌, ◌||◌, List, [], ◌∷◌, length, take, drop, codes, nat_eq, nat_le, if◌then◌else◌}
+use Rattle.std.specs.Char.{is_ascii_digit, is_ascii_alphabetic}
+use Rattle.std.specs.List.{prefix_len}
+use Rattle.std.specs.Str.{bytes_eq}
+use Rattle.elem_descr.specs.TypeStrings.{value_of}
+use Rattle.shape_strides.specs.Limits.{max_items}
+use Rattle.npy_files.specs.declared.token.Token.{Token}
+use Rattle.npy_files.specs.declared.token.Token.TheVariants.{Text, Integer, Truth, Nothing, Symbol, Stray}
+
+-- a space, a tab, a newline or a carriage return
+abbrev pub is_space : ℕ → Bool
+is_space b = nat_eq b 32 || nat_eq b 9 || nat_eq b 10 || nat_eq b 13
+
+-- an apostrophe or a quotation mark
+abbrev pub is_quote : ℕ → Bool
+is_quote b = nat_eq b 39 || nat_eq b 34
+
+-- a byte of a string between these quotes: 32 to 126, and neither the quote nor a backslash
+abbrev pub is_plain : ℕ → ℕ → Bool
+is_plain quote b = nat_le 32 b && nat_le b 126 && not (nat_eq b quote) && not (nat_eq b 92)
+
+-- behind the bytes of a string: its end is the quote
+abbrev pub ended_text : List ℕ → ℕ → List ℕ → Token × List ℕ
+ended_text plain quote [] = (Stray, [])
+ended_text plain quote (b ∷ rest) = if nat_eq b quote then (Text plain, rest) else (Stray, rest)
+
+-- behind a quote: a string, and what follows it
+abbrev pub text_token : ℕ → List ℕ → Token × List ℕ
+text_token quote bytes = let n = prefix_len (is_plain quote) bytes in ended_text (take n bytes) quote (drop n bytes)
+
+-- the length of an axis; all above the greatest that there may be count as one above it
+abbrev pub capped : ℕ → ℕ
+capped n = min n (max_items + 1)
+
+-- 0, or digits that begin with no 0
+abbrev pub is_integer : List ℕ → Bool
+is_integer [] = false
+is_integer (b ∷ digits) = not (nat_eq b 48) || nat_eq (length digits) 0
+
+-- behind the digits of an integer there may be an L
+abbrev pub behind_long : List ℕ → List ℕ
+behind_long [] = []
+behind_long (b ∷ rest) = if nat_eq b 76 then rest else b ∷ rest
+
+-- an integer, and what follows it
+abbrev pub integer_token : List ℕ → Token × List ℕ
+integer_token bytes =
+    let n = prefix_len is_ascii_digit bytes in
+    (if is_integer (take n bytes) then Integer (capped (value_of (take n bytes))) else Stray, behind_long (drop n bytes))
+
+-- the words that are values
+abbrev pub word : List ℕ → Token
+word letters =
+    if bytes_eq letters (codes "True") then Truth true
+    else if bytes_eq letters (codes "False") then Truth false
+    else if bytes_eq letters (codes "None") then Nothing
+    else Stray
+
+abbrev pub word_token : List ℕ → Token × List ℕ
+word_token bytes = let n = prefix_len is_ascii_alphabetic bytes in (word (take n bytes), drop n bytes)
+
+-- the token that begins with a byte, which is no space, and what follows it
+abbrev pub token_from : ℕ → List ℕ → Token × List ℕ
+token_from b rest =
+    if is_quote b then text_token b rest
+    else if is_ascii_digit b then integer_token (b ∷ rest)
+    else if is_ascii_alphabetic b then word_token (b ∷ rest)
+    else (Symbol b, rest)
+
+-- a text without the spaces at its front
+abbrev pub unspaced : List ℕ → List ℕ
+unspaced bytes = drop (prefix_len is_space bytes) bytes
+
+-- the first token, and those that are read behind it
+abbrev pub first_token : (List ℕ → List Token) → List ℕ → List Token
+first_token later [] = []
+first_token later (b ∷ rest) = let t = token_from b rest in t.0 ∷ later t.1
+
+-- the tokens in so many turns, each of which takes a byte or more; spaces may stand between them, before and after
+abbrev pub tokens_in : ℕ → List ℕ → List Token
+tokens_in zero bytes = []
+tokens_in (suc turns) bytes = first_token (tokens_in turns) (unspaced bytes)
+
+-- the tokens of a text
+unfoldable pub tokens : List ℕ → List Token
+tokens text = tokens_in (length text) text

@@ -1,0 +1,4 @@
+pub mod Shelves
+pub mod ValueCodes
+pub mod ValueCounts
+pub mod Entries

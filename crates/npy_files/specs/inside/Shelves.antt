@@ -1,0 +1,45 @@
+-- What the stores hold.
+use Rattle.std.specs.Prelude.{◌≡◌, ◌⊎◌, ◌<◌, ◌≤◌, ℕ, zero, suc, Bool, true, List, map, Option, Some, None, Result, Ok, Err}
+use Rattle.std.specs.FinMap.{from_entries}
+use Rattle.std.specs.Str.{bytes_eq}
+use Rattle.npy_files.specs.declared.mem_store.StoredFile.{StoredFile}
+use Rattle.npy_files.specs.declared.store.StoreFault.{StoreFault}
+use Rattle.npy_files.specs.declared.store.StoreFault.TheVariants.{Device, TooLong, Memory}
+use Rattle.npy_files.specs.Stores.{Files, Shelf, last_count}
+
+abbrev pub named_bytes : StoredFile → List ℕ × List ℕ
+named_bytes file = (file.name.items, file.bytes.items)
+
+-- the file has this name
+abbrev pub is_called : List ℕ → StoredFile → Bool
+is_called name file = bytes_eq name file.name.items
+
+-- the files of a list, no two of which have one name
+abbrev pub files_of : List StoredFile → Files
+files_of files = from_entries (map named_bytes files)
+
+-- files in memory, whose device fails only where it is made to
+abbrev pub shelf_of : List StoredFile → ℕ → ℕ → Shelf
+shelf_of files limit failures = record { files = files_of files; failures = failures; limit = limit; honest = true }
+
+-- how often a device has failed that fails once, after so many calls
+abbrev pub failures_of : Option ℕ → ℕ
+failures_of (Some calls) = 0
+failures_of None = 1
+
+-- what such a device answers, and the calls that are then left
+abbrev pub answer_by : Option ℕ → Result (Unit {0}) StoreFault
+answer_by None = Ok tt
+answer_by (Some zero) = Err Device
+answer_by (Some (suc calls)) = Ok tt
+
+abbrev pub calls_after : Option ℕ → Option ℕ
+calls_after None = None
+calls_after (Some zero) = None
+calls_after (Some (suc calls)) = Some calls
+
+-- a count after a fault, which a fault of the device raises unless it stands at its last value
+abbrev pub HasCount : ℕ → ℕ → StoreFault → Type 0
+HasCount old new Device = (old ≤ new) × ((old < new) ⊎ (old ≡ last_count))
+HasCount old new TooLong = new ≡ old
+HasCount old new Memory = new ≡ old

@@ -1,0 +1,69 @@
+//! A store whose device fails once.
+ghost use Rattle.std.specs.Prelude.{◌≡◌};
+ghost use Rattle.npy_files.specs.inside.Shelves.{answer_by, calls_after};
+
+use crate::mem_store::MemStore;
+use crate::store::{NpyStore, StoreFault};
+use std::alloc::Global;
+
+/// A store in memory of which one call answers `Device` and leaves the files as they are, for tests of
+/// what happens then. All others are those of a `MemStore`. It is honest.
+#[derive(Drop)]
+pub struct FuseStore {
+    store: MemStore,
+    calls_left: Option<usize>,
+}
+
+impl FuseStore {
+    ghost use Rattle.npy_files.specs.Stores.{empty_shelf};
+
+    /// A store without files, of which the call with this number fails, reads and writes counted
+    /// together from 0.
+    pub fn new(alloc: Global, limit: usize, failing: usize) -> FuseStore
+        ensures { ⟦<FuseStore as NpyStore>⟧.shelf result ≡ empty_shelf limit }
+    {
+        FuseStore {
+            store: MemStore::new(alloc, limit),
+            calls_left: Some(failing),
+        }
+    }
+
+    /// Counts a call, until the one that fails.
+    fn count_call(&mut self) -> Result<(), StoreFault>
+        ensures store { self.new.store ≡ self.old.store }
+        ensures answer { result ≡ answer_by self.old.calls_left }
+        ensures counted { self.new.calls_left ≡ calls_after self.old.calls_left }
+    {
+        match self.calls_left {
+            None => Ok(()),
+            Some(0) => {
+                self.calls_left = None;
+                Err(StoreFault::Device)
+            }
+            Some(calls) => {
+                self.calls_left = Some(calls - 1);
+                Ok(())
+            }
+        }
+    }
+}
+
+impl NpyStore for FuseStore {
+    ghost use Rattle.npy_files.specs.inside.Shelves.{shelf_of, failures_of};
+
+    ghost shelf = { λ s. shelf_of s.store.files.items s.store.limit (failures_of s.calls_left) };
+
+    fn limit(&self) -> usize {
+        self.store.limit()
+    }
+
+    fn read(&mut self, alloc: Global, name: &[u8]) -> Result<Option<Vec<u8>>, StoreFault> {
+        self.count_call()?;
+        self.store.read(alloc, name)
+    }
+
+    fn write(&mut self, alloc: Global, name: &[u8], bytes: &[u8]) -> Result<(), StoreFault> {
+        self.count_call()?;
+        self.store.write(alloc, name, bytes)
+    }
+}

@@ -1,0 +1,142 @@
+//! Files that are read.
+ghost use Rattle.std.specs.Prelude.{◌≡◌, ◌≤◌, ◌^◌, length, IfOk};
+ghost use Rattle.elem_descr.specs.Refusals.{Answers, Gives};
+ghost use Rattle.shape_strides.specs.Limits.{max_bytes};
+ghost use Rattle.npy_files.specs.Files.{split_front, begins_well, length_bytes, text_behind, split_header, data_size, order_of, load, HasItems, Loads};
+
+use crate::header::{Header, header_read};
+use byteorder::{ByteOrder, LittleEndian};
+use elem_descr::Refusal;
+use overlap_copy::Owned;
+use raw_block::RawBlock;
+use shape_strides::{MAX_BYTES, MemoryOrder};
+use std::alloc::{AllocError, Global};
+
+/// The bytes that every file begins with.
+pub(crate) const MAGIC: [u8; 6] = *b"\x93NUMPY";
+
+/// The longest header that is read.
+pub const MAX_HEADER: usize = 1 << 20;
+
+/// The first `n` bytes and those behind them.
+fn split_front(n: usize, bytes: &[u8]) -> Result<(&[u8], &[u8]), Refusal>
+    ensures answers { Answers (λ parts. (parts.0.now, parts.1.now)) result (split_front n bytes.now) }
+    ensures len { IfOk result (λ parts. length parts.0.now ≡ n) }
+{
+    if n > bytes.len() {
+        return Err(Refusal::Truncated);
+    }
+    Ok(bytes.split_at(n))
+}
+
+/// Whether a file begins as it must. What is no such file has fewer bytes, or others.
+fn begins_well(file: &[u8]) -> bool
+    ensures { result ≡ begins_well file.now }
+{
+    match file {
+        [0x93, b'N', b'U', b'M', b'P', b'Y', ..] => true,
+        _ => false,
+    }
+}
+
+/// How many bytes tell the length of the header.
+fn length_bytes(version: &[u8]) -> Result<usize, Refusal>
+    ensures value { result ≡ length_bytes version.now }
+    ensures few { IfOk result (λ n. (1 ≤ n) × (n ≤ 4)) }
+{
+    match version {
+        [1, 0] => Ok(2),
+        [2, 0] => Ok(4),
+        _ => Err(Refusal::BadVersion),
+    }
+}
+
+/// The text of the header whose length stands in these bytes, and what follows it.
+fn text_behind<'a>(field: &[u8], behind: &'a [u8]) -> Result<(&'a [u8], &'a [u8]), Refusal>
+    requires some { 1 ≤ length field.now }
+    requires few { length field.now ≤ 4 }
+    ensures { Answers (λ parts. (parts.0.now, parts.1.now)) result (text_behind field.now behind.now) }
+{
+    let len = LittleEndian::read_uint(field, field.len());
+    if len > MAX_HEADER as u64 {
+        return Err(Refusal::TooLarge);
+    }
+    split_front(len as usize, behind)
+}
+
+/// The text of a file's header, and what follows it.
+#[tactic(auto, unfolding(crate::specs::Files::split_header))]
+fn split_header(file: &[u8]) -> Result<(&[u8], &[u8]), Refusal>
+    ensures { Answers (λ parts. (parts.0.now, parts.1.now)) result (split_header file.now) }
+{
+    if !begins_well(file) {
+        return Err(Refusal::BadMagic);
+    }
+    let (version, rest) = split_front(2, file.split_at(6).1)?;
+    let width = length_bytes(version)?;
+    let (field, behind) = split_front(width, rest)?;
+    text_behind(field, behind)
+}
+
+fn order_of(fortran: bool) -> MemoryOrder
+    ensures { result ≡ order_of fortran }
+{
+    if fortran {
+        MemoryOrder::Fortran
+    } else {
+        MemoryOrder::C
+    }
+}
+
+/// What a file holds: its header, the bytes of its items, and those left over.
+#[tactic(auto, unfolding(crate::specs::Files::load))]
+fn contents(alloc: Global, file: &[u8]) -> Result<(Header, &[u8], &[u8]), Refusal>
+    ensures gives { Gives (λ c. record { head = c.0; items = c.1.now; rest = length c.2.now }) result (load file.now) }
+    ensures whole { IfOk result (λ c. length c.1.now ≡ data_size c.0) }
+    ensures small { IfOk result (λ c. length c.1.now ≤ max_bytes) }
+{
+    let (text, behind) = split_header(file)?;
+    let header = header_read(alloc, text)?;
+    let size = header.shape.items() * header.descr.size();
+    if size > MAX_BYTES {
+        return Err(Refusal::TooLarge);
+    }
+    let (items, rest) = split_front(size, behind)?;
+    Ok((header, items, rest))
+}
+
+/// A block of these bytes.
+fn filled(alloc: Global, bytes: &[u8]) -> Result<RawBlock, AllocError>
+    ensures { IfOk result (λ block. block ≡ bytes.now) }
+{
+    let mut block = RawBlock::try_zeroed(alloc, bytes.len())?;
+    block.put(0, bytes);
+    Ok(block)
+}
+
+/// The array whose items have these bytes.
+fn array(alloc: Global, header: Header, items: &[u8]) -> Result<Owned, AllocError>
+    requires whole { length items.now ≡ data_size header }
+    requires small { length items.now ≤ max_bytes }
+    ensures { IfOk result (λ array. HasItems array header items.now) }
+{
+    let block = filled(alloc, items)?;
+    let order = order_of(header.fortran);
+    Owned::over(alloc, header.descr, &header.shape, order, block)
+}
+
+/// Reads a file of version 1.0 or 2.0: the array in it, whose items lie as they do in the file, and how
+/// many bytes are left over behind them. The bytes of the items are taken over as they are: padding
+/// keeps what it holds, and a bool whose byte is not 0 is true.
+///
+/// What is no such file is `BadMagic`, one of another version `BadVersion`, and one that ends too early
+/// `Truncated`; a header of more than 2^20 bytes, and more than 2^28 bytes of items, are `TooLarge`. The
+/// other refusals are those of `header_read`. The first fault from the left decides, and the limit on
+/// the items goes before their absence.
+pub fn npy_read(alloc: Global, file: &[u8]) -> Result<(Owned, usize), Refusal>
+    ensures { Loads result (load file.now) }
+{
+    let (header, items, rest) = contents(alloc, file)?;
+    let array = array(alloc, header, items)?;
+    Ok((array, rest.len()))
+}
