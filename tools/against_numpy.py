@@ -13,6 +13,11 @@ Where a reshape shares and where it copies is worked out in `reshapes.py` from t
 items, and what NumPy does is held against that too; differences are counted. A program that answers
 `no E03 syntax` to a reshape is tried without any. With --alone the scripts are made and no program
 runs, which tries the rule against NumPy.
+
+An array that is assigned to another, or to itself, is copied first on NumPy's side, and casts go by
+the rule in `casts.py`; where NumPy does otherwise by itself is counted. Byte strings have no `'`, no
+`\\` and no byte with a short escape, which the two print differently. With --without set or --without
+cast a program is tried that has no such command.
 """
 import argparse
 import math
@@ -25,12 +30,15 @@ from itertools import zip_longest
 import numpy as np
 from numpy.core._internal import _dtype_from_pep3118
 
+import casts
+import overlaps
 import reshapes
 from expected import FAR, MOST_AXES, MOST_ITEMS, Bench, Refused, address, fields, format_text, leaves, type_text, view_of
 from limits import Limits
 
 PROGRAM = pathlib.Path(__file__).resolve().parent.parent / "crates/bench_main/out/bench_main"
 SCALARS = ["<i4", ">i2", "|u1", "|i1", "<u8", ">i8", "|b1", "<i8", ">u4", "<u2"]
+STRINGS = ["|S1", "|S2", "|S5"]
 INNER = np.dtype([("y", "<i4")])
 PAIR = np.dtype({"names": ["n", "s"], "formats": [">u2", "|i1"], "offsets": [1, 3], "itemsize": 5})
 RECORDS = [
@@ -41,22 +49,46 @@ RECORDS = [
     np.dtype([("s", INNER)]),
     np.dtype([("p", PAIR), ("x", "|b1"), ("q", PAIR)]),
     np.dtype([("x", "|u1"), ("s", [("p", PAIR), ("t", [("u", [("y", ">i8"), ("z", "|b1")]), ("y", "<u2")])])]),
+    np.dtype([("t", "|S3"), ("x", ">i4")]),
+    np.dtype([("n", "|i1"), ("s", [("t", "|S2"), ("u", "|S4")])]),
 ]
 NAMES = "abcdefg"
+BYTES = b"abzQ09 \x00\x80\xff"
+UNKNOWN_TYPES = {"<i3": "E04 bad descriptor", "<f4": "E05 descriptor left out", "|S65537": "E09 too large"}
 
 
-def random_value(rng, dtype, low, top):
-    """A value of a type: a number, or for a record a tuple with one for each field."""
-    if dtype.names is None:
-        return rng.randint(low, 1 if dtype.kind == "b" and low == 0 else top)
-    return tuple(random_value(rng, inner, low, top) for _, inner, _ in fields(dtype))
+def random_bytes(rng, length):
+    return bytes(rng.choice(BYTES) for _ in range(rng.randint(0, length + 1)))
+
+
+def edge_value(rng, dtype):
+    """A value at an end of an integer type, or of a narrower one."""
+    if dtype.kind == "b":
+        return rng.randint(0, 1)
+    ends = [dtype.itemsize * 8 - (dtype.kind == "i"), *range(7, dtype.itemsize * 8, 8), *range(8, dtype.itemsize * 8, 8)]
+    value = 2 ** rng.choice(ends) + rng.choice([-1, -1, 0, 1])
+    value = rng.choice([0, value, -value])
+    return value if np.iinfo(dtype).min <= value <= np.iinfo(dtype).max else np.iinfo(dtype).max
+
+
+def random_value(rng, dtype, low, top, edges=False):
+    """A value of a type: a number, a byte string, or for a record a tuple with one for each field."""
+    if dtype.names is not None:
+        return tuple(random_value(rng, inner, low, top, edges) for _, inner, _ in fields(dtype))
+    if dtype.kind == "S":
+        return random_bytes(rng, dtype.itemsize)
+    if edges and rng.random() < 0.5:
+        return edge_value(rng, dtype)
+    return rng.randint(low, 1 if dtype.kind == "b" and low == 0 else top)
 
 
 def stands_for(value, dtype):
-    """Whether a tuple has a value for each field of a record, and for no scalar."""
+    """Whether a tuple has a value for each field of a record, and for no scalar; byte strings stand for such alone."""
     if isinstance(value, tuple) != (dtype.names is not None):
         return False
-    return dtype.names is None or (
+    if dtype.names is None:
+        return isinstance(value, bytes) == (dtype.kind == "S")
+    return (
         len(value) == len(dtype.names)
         and all(stands_for(v, inner) for v, (_, inner, _) in zip(value, fields(dtype)))
     )
@@ -71,8 +103,14 @@ def filled(value, dtype):
     return value if dtype.names is None else tuple(filled(value, inner) for _, inner, _ in fields(dtype))
 
 
+def bytes_text(value):
+    return "b'" + "".join(chr(byte) if 32 <= byte < 127 else f"\\x{byte:02x}" for byte in value) + "'"
+
+
 def literal_text(value):
-    return f"({','.join(map(literal_text, value))})" if isinstance(value, tuple) else str(value)
+    if isinstance(value, tuple):
+        return f"({','.join(map(literal_text, value))})"
+    return bytes_text(value) if isinstance(value, bytes) else str(value)
 
 
 def item_text(item):
@@ -87,7 +125,7 @@ def item_text(item):
 class Script:
     """A random script, with the replies that NumPy gives. In a roomy one, arrays seldom become small."""
 
-    def __init__(self, rng, commands, with_reshapes):
+    def __init__(self, rng, commands, left_out):
         self.rng = rng
         self.bench = Bench()
         self.roomy = rng.random() < 0.5
@@ -96,7 +134,9 @@ class Script:
         kinds = [
             (self.make, 14), (self.index, 28), (self.alias, 5), (self.transpose, 9), (self.set, 16),
             (self.print, 12), (self.info, 8), (self.shares, 5), (self.delete, 2), (self.names, 1),
-            (self.field, 10), (self.broadcast, 9), (self.reshape, 24 if with_reshapes else 0), (self.copy, 7),
+            (self.field, 10), (self.broadcast, 9), (self.copy, 7),
+            (self.reshape, 0 if "reshape" in left_out else 24), (self.assign, 0 if "set" in left_out else 30),
+            (self.cast, 0 if "cast" in left_out else 14),
         ]
         for command in rng.choices(*zip(*kinds), k=commands):
             self.add(*(command if self.bench.arrays else self.make)())
@@ -148,13 +188,15 @@ class Script:
             items.insert(self.rng.randint(0, len(items)), Ellipsis)
         return items
 
+    def dtype(self):
+        return self.rng.choice(RECORDS) if self.rng.random() < 0.5 else np.dtype(self.rng.choice(SCALARS + STRINGS))
+
     def make(self):
-        name = self.rng.choice(NAMES)
-        dtype = self.rng.choice(RECORDS) if self.rng.random() < 0.5 else np.dtype(self.rng.choice(SCALARS))
+        name, dtype, edges = self.rng.choice(NAMES), self.dtype(), self.rng.random() < 0.4
         text = type_text(dtype)
         lengths, ranks = ([1, 2, 3, 4, 6], [2, 2, 3, 4]) if self.roomy else ([0, 1, 2, 3, 4], [0, 1, 1, 2, 2, 3, 4])
         shape = [self.rng.choice(lengths) for _ in range(self.rng.choice(ranks))]
-        values = [random_value(self.rng, dtype, 0, 99) for _ in range(int(np.prod(shape)))]
+        values = [random_value(self.rng, dtype, 0, 99, edges) for _ in range(int(np.prod(shape)))]
         lengths, literals = ",".join(map(str, shape)), " ".join(map(literal_text, values))
         array = np.array(values, dtype=dtype).reshape(shape)
         line = f"{name} = array {text} ({lengths}) {literals}"
@@ -270,6 +312,8 @@ class Script:
         dtype = self.bench.arrays[source].dtype if source in self.bench.arrays else np.dtype("<i4")
         if self.rng.random() < 0.05:
             dtype = self.rng.choice(RECORDS)
+        if dtype.kind == "S" or self.rng.random() < 0.03:
+            return random_bytes(self.rng, 3)
         if dtype.names is None or self.rng.random() < 0.3:
             return self.rng.randint(-3, 120)
         return random_value(self.rng, dtype, -3, 120)
@@ -288,12 +332,73 @@ class Script:
             if not stands_for(whole, target.dtype):
                 raise Refused("E33 no such cast")
             for leaf, number in zip(leaves(target.dtype), numbers(whole)):
-                if leaf.kind != "b" and not np.iinfo(leaf).min <= number <= np.iinfo(leaf).max:
+                if leaf.kind not in "bS" and not np.iinfo(leaf).min <= number <= np.iinfo(leaf).max:
                     raise Refused("E23 literal out of range")
             target[...] = np.array(whole, dtype=target.dtype)
             return f"ok set {target.size}"
 
         return line, reply
+
+    def related(self, target):
+        """A name, mostly of an array in the same buffer."""
+        if target not in self.bench.arrays or self.rng.random() < 0.2:
+            return self.source()
+        whole = self.bench.arrays[target]
+        return self.rng.choice([
+            name for name, array in self.bench.arrays.items() if array is whole or np.may_share_memory(array, whole)
+        ])
+
+    def operand(self, target, items):
+        """A source for some items of a target, with other items of the target."""
+        source = self.related(target)
+        if self.rng.random() < 0.1:
+            return source, items, self.items(self.shape_of(source))
+        pair = overlaps.index_lists(self.rng, self.shape_of(target), self.shape_of(source))
+        whole = self.shape_of(source) == self.shape_of(target) and self.rng.random() < 0.2
+        return (source, [Ellipsis], None) if whole else (source, *pair)
+
+    def assign(self):
+        target = self.source()
+        source, items, taken = self.operand(target, self.items(self.shape_of(target)))
+        text = source if taken is None else f"{source}[{','.join(map(item_text, taken))}]"
+
+        def reply():
+            array, given = self.bench.array(target), self.bench.array(source)
+            aim = view_of(array, items)
+            if not aim.flags.writeable:
+                raise Refused("E20 read-only")
+            given = given if taken is None else view_of(given, taken)
+            shown = np.zeros(aim.shape, given.dtype)
+            try:
+                shown[...] = given
+            except ValueError:
+                raise Refused("E16 shapes do not broadcast") from None
+            if not casts.can_cast(given.dtype, aim.dtype):
+                raise Refused("E33 no such cast")
+            casts.assign(aim, given, shown)
+            return f"ok set {aim.size}"
+
+        return f"set {target}[{','.join(map(item_text, items))}] = {text}", reply
+
+    def cast(self):
+        name, source, dtype = self.rng.choice(NAMES), self.source(), self.dtype()
+        if source in self.bench.arrays and self.rng.random() < 0.8:
+            old = self.bench.arrays[source].dtype
+            types = [np.dtype(text) for text in SCALARS + STRINGS] + RECORDS
+            dtype = self.rng.choice([old, *(new for new in types if casts.can_cast(old, new))])
+        known = self.rng.random() < 0.95
+        text = type_text(dtype) if known else self.rng.choice(list(UNKNOWN_TYPES))
+
+        def reply():
+            array = self.bench.array(source)
+            if not known:
+                raise Refused(UNKNOWN_TYPES[text])
+            if not casts.can_cast(array.dtype, dtype):
+                raise Refused("E33 no such cast")
+            made = casts.cast(array, dtype)
+            return self.bench.bind(name, made, address(made), "new")
+
+        return f"{name} = cast {source} {text}", reply
 
     def print(self):
         source = self.source()
@@ -366,12 +471,12 @@ def first_difference(expected, replied):
     return f"-- first difference\nNumPy: {numpys}\nbench: {bench}"
 
 
-def script_of(rng, number, with_reshapes):
+def script_of(rng, number, left_out):
     if number % 5 == 4:
         return Formats(rng, 20)
-    if with_reshapes and number % 500 == 1:
-        return Limits(rng)
-    return Script(rng, rng.randint(5, 40), with_reshapes)
+    if "reshape" not in left_out and number % 500 == 1:
+        return Limits(rng, "cast" not in left_out)
+    return Script(rng, rng.randint(5, 40), left_out)
 
 
 def words():
@@ -380,6 +485,9 @@ def words():
     parser.add_argument("seed", type=int, nargs="?", default=1)
     parser.add_argument("scripts", type=int, nargs="?", default=1000)
     parser.add_argument("--program", type=pathlib.Path, default=PROGRAM, help="the program, if not the built one")
+    parser.add_argument(
+        "--without", action="append", default=[], choices=["set", "cast"], help="no sets from arrays, or no casts"
+    )
     parser.add_argument("--alone", action="store_true", help="make the scripts and run no program")
     return parser.parse_args()
 
@@ -387,9 +495,11 @@ def words():
 def main():
     given = words()
     rng, commands = random.Random(given.seed), 0
-    with_reshapes = given.alone or "no E03" not in runs(given.program, "a = zeros |u1 ()\nb = reshape a (1)\n")
+    left_out = set(given.without)
+    if not given.alone and "no E03" in runs(given.program, "a = zeros |u1 ()\nb = reshape a (1)\n"):
+        left_out.add("reshape")
     for number in range(given.scripts):
-        script = script_of(rng, number, with_reshapes)
+        script = script_of(rng, number, left_out)
         text, expected = ("".join(f"{line}\n" for line in lines) for lines in (script.lines, script.replies))
         commands += len(script.lines)
         replied = expected if given.alone else runs(given.program, text)
@@ -398,8 +508,9 @@ def main():
             return 1
     said = "made alone" if given.alone else f"the same as NumPy {np.__version__}"
     print(f"{given.scripts} scripts, {commands} commands: {said}")
-    told = ", ".join(f"{count} {what}" for what, count in reshapes.TALLY.items())
-    print(f"reshapes: {told}" if with_reshapes else "reshapes left out: the program has none")
+    print(", ".join(f"{count} {kind}" for kind, count in {**reshapes.TALLY, **casts.TALLY}.items()))
+    if left_out:
+        print(f"left out: {', '.join(sorted(left_out))}")
     return 0
 
 

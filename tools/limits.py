@@ -1,4 +1,4 @@
-"""A script at the limits of reshapes, with its replies."""
+"""A script at the limits of reshapes and casts, with its replies."""
 import numpy as np
 
 import reshapes
@@ -6,12 +6,13 @@ from expected import MOST_BYTES, MOST_ITEMS, tuple_text, type_text
 
 
 class Limits:
-    """A script at the limits of reshapes: arrays that are too large to copy, and no room for a name."""
+    """A script at the limits of reshapes and casts: arrays that are too large to copy, and no room for a name."""
 
     ITEM = np.dtype([("x", "<i8"), ("y", ">i8"), ("z", "|b1")])
     AT_LIMIT = MOST_BYTES // 2**16
 
-    def __init__(self, rng):
+    def __init__(self, rng, with_casts):
+        self.with_casts = with_casts
         self.lines = []
         self.replies = []
         self.make("a", np.zeros((2, 1), self.ITEM))
@@ -22,6 +23,9 @@ class Limits:
             shared = reshapes.without_copy(wide, shape) is not None
             reply = f"ok b {type_text(self.ITEM)} {tuple_text(shape)} view" if shared else "no E09 too large"
             self.add(f"b = reshape w ({','.join(map(str, shape))})", reply)
+        self.add_cast("w", "T{<q:x:>q:y:?:z:}", "no E09 too large")
+        self.add_cast("w", "T{<q:x:>q:y:<20000s:z:}", "no E33 no such cast")
+        self.add_cast("w", "<i4", "no E33 no such cast")
         self.add_long_items()
         self.add_axes()
         self.add_names(rng)
@@ -29,6 +33,10 @@ class Limits:
     def add(self, line, reply):
         self.lines.append(line)
         self.replies.append(reply)
+
+    def add_cast(self, source, text, reply):
+        if self.with_casts:
+            self.add(f"b = cast {source} {text}", reply)
 
     def make(self, name, array):
         text, lengths = type_text(array.dtype), ",".join(map(str, array.shape))
@@ -41,6 +49,9 @@ class Limits:
             kind = f"ok b |S65536 ({count},) copy" if count <= self.AT_LIMIT else "no E09 too large"
             self.add(f"w = broadcast a (2,{count // 2})", f"ok w |S65536 (2, {count // 2}) view")
             self.add("b = reshape w (-1)", kind)
+        self.add_cast("w", "|S65536", "no E09 too large")
+        self.add_cast("w", "<i4", "no E33 no such cast")
+        self.add_cast("w", "|S1", f"ok b |S1 (2, {self.AT_LIMIT // 2 + 1}) new")
         self.add("b = reshape w (1,-2)", "no E18 bad reshape")
 
     def add_axes(self):
@@ -61,6 +72,13 @@ class Limits:
             self.add(f"x = reshape y ({lengths})", "no E06 unknown name")
             self.add(f"n8 = reshape y ({lengths})", "no E06 unknown name")
             self.add(f"n8 = reshape n7 ({lengths})", self.small(numbers))
+
+        if self.with_casts:
+            self.add("x = cast n7 <f4", "no E07 too many names")
+            self.add("x = cast y <f4", "no E06 unknown name")
+            self.add("n8 = cast y <f4", "no E06 unknown name")
+            self.add("n8 = cast n7 <f4", "no E05 descriptor left out")
+            self.add("n8 = cast n7 >i8", "ok n8 >i8 (6,) new")
 
     def small(self, numbers):
         fault = reshapes.refusal(6, numbers)

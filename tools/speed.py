@@ -6,10 +6,12 @@
 BENCH is the program that `./bench` builds. A script has the set-up of a row and then its line again and again. The
 time of the line is the difference between a run with many repeats of it and a run with a quarter of them, divided by
 the repeats between, so that neither the start of the program nor the set-up counts. NumPy's time is that of `timeit`.
-Both are processor time, the least of several runs; what the program writes goes nowhere. A ratio above 1 says that the
-program takes longer than NumPy. A later command is one more row.
+Both are processor time, the least of several runs; what the program writes goes nowhere. The program runs with the
+environment that `./bench` gives it. A ratio above 1 says that the program takes longer than NumPy. A later command is
+one more row.
 """
 import argparse
+import os
 import pathlib
 import resource
 import subprocess
@@ -21,6 +23,7 @@ import typing
 
 import numpy as np
 
+ENVIRONMENT = {"GLIBC_TUNABLES": "glibc.malloc.hugetlb=1", **os.environ}
 COUNT = 2**22
 MOST_REPEATS = 2**18
 LONG_ENOUGH = 0.25
@@ -39,6 +42,12 @@ class Row(typing.NamedTuple):
 
 ITEMS = [f"a = full <i4 ({COUNT}) 7"]
 NUMPY_ITEMS = f"a = np.full({COUNT}, 7, '<i4')"
+MANY = [f"a = full <i4 ({4 * COUNT}) 7"]
+NUMPY_MANY = f"a = np.full({4 * COUNT}, 7, '<i4')"
+FEWER = [f"a = arange <i4 0 {COUNT // 4} 1"]
+NUMPY_FEWER = f"a = np.arange(0, {COUNT // 4}, 1, '<i4')"
+ROW = ["r = arange <i4 0 1024 1", "a = zeros <i4 (1024,1024)"]
+NUMPY_ROW = "r = np.arange(1024, dtype='<i4'); a = np.zeros((1024, 1024), '<i4')"
 TRANSPOSED = ["m = full <i4 (2048,2048) 7", "a = transpose m"]
 NUMPY_TRANSPOSED = "a = np.full((2048, 2048), 7, '<i4').T"
 TABLE = ["a = array <i4 (100,100) " + " ".join(map(str, range(10000)))]
@@ -57,7 +66,12 @@ ROWS = [
     Row("reshape, 4M shared", ITEMS, "b = reshape a (2048,-1)", NUMPY_ITEMS, "b = a.reshape(2048, -1)"),
     Row("reshape, 4M transposed, copied", TRANSPOSED, "b = reshape a (-1)", NUMPY_TRANSPOSED, "b = a.reshape(-1)"),
     Row("copy, 4M", ITEMS, "b = copy a C", NUMPY_ITEMS, "b = a.copy()"),
-    Row("copy, 4M transposed", TRANSPOSED, "b = copy a C", NUMPY_TRANSPOSED, "b = a.copy()"),
+    Row("copy, 16M", MANY, "b = copy a C", NUMPY_MANY, "b = a.copy()"),
+    Row("copy, 2048 x 2048 transposed", TRANSPOSED, "b = copy a C", NUMPY_TRANSPOSED, "b = a.copy()"),
+    Row("set, 4M shifted by one", ITEMS, "set a[1:] = a[:-1]", NUMPY_ITEMS, "a[1:] = a[:-1]"),
+    Row("set, 1M reversed", FEWER, "set a[:] = a[::-1]", NUMPY_FEWER, "a[:] = a[::-1]"),
+    Row("set, one row to 1024 rows", ROW, "set a[:] = r", NUMPY_ROW, "a[:] = r"),
+    Row("cast, 4M of 4 bytes to 8", ITEMS, "x = cast a <i8", NUMPY_ITEMS, "x = a.astype('<i8')"),
     Row("print, 100 x 100", TABLE, "print a", NUMPY_TABLE, "str(a)"),
 ]
 
@@ -69,7 +83,7 @@ def seconds(program, row, repeats):
         script.write(f"{row.line}\n".encode() * repeats)
         script.seek(0)
         before = resource.getrusage(resource.RUSAGE_CHILDREN)
-        subprocess.run([program], stdin=script, stdout=subprocess.DEVNULL, check=True)
+        subprocess.run([program], stdin=script, stdout=subprocess.DEVNULL, env=ENVIRONMENT, check=True)
         after = resource.getrusage(resource.RUSAGE_CHILDREN)
     return after.ru_utime + after.ru_stime - before.ru_utime - before.ru_stime
 
@@ -77,7 +91,7 @@ def seconds(program, row, repeats):
 def is_refused(program, row):
     """Whether the program refuses the row's line, or one before it."""
     text = "".join(f"{line}\n" for line in [*row.setup, row.line])
-    ran = subprocess.run([program], input=text.encode(), stdout=subprocess.PIPE)
+    ran = subprocess.run([program], input=text.encode(), stdout=subprocess.PIPE, env=ENVIRONMENT)
     return any(reply.startswith(b"no E") for reply in ran.stdout.split(b"\n"))
 
 

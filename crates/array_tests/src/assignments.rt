@@ -1,7 +1,7 @@
 //! Items that become others of the same block, as NumPy assigns them.
 use crate::check::{check, check_bytes};
-use crate::made::{Numbers, layout_of};
-use overlap_copy::assign;
+use crate::made::{Numbers, are_shifted, layout_of};
+use overlap_copy::{assign, assign_shifted};
 use raw_block::RawBlock;
 use shape_strides::Layout;
 use std::alloc::Global;
@@ -46,6 +46,105 @@ fn items_become_others_of_their_block(rt: HostRuntime) {
         let to = layout_of(&rt, rt.alloc(), *to);
         let from = layout_of(&rt, rt.alloc(), *from);
         let block = assigned(&rt, rt.alloc(), &to, &from);
+        check_bytes(&rt, block.bytes(), wanted);
+    }
+}
+
+/// The lengths and strides of two layouts, where the one to write begins and the one to read, and
+/// what becomes of the bytes 0 to 15.
+const SHIFTS: &[(&[usize], &[isize], usize, usize, &[u8])] = &[
+    (
+        &[3, 3],
+        &[4, 1],
+        5,
+        0,
+        &[0, 1, 2, 3, 4, 0, 1, 2, 8, 4, 5, 6, 12, 8, 9, 10],
+    ),
+    (
+        &[3, 4],
+        &[-4, 1],
+        8,
+        12,
+        &[4, 5, 6, 7, 8, 9, 10, 11, 12, 13, 14, 15, 12, 13, 14, 15],
+    ),
+    (
+        &[3, 4],
+        &[-4, 1],
+        12,
+        8,
+        &[0, 1, 2, 3, 0, 1, 2, 3, 4, 5, 6, 7, 8, 9, 10, 11],
+    ),
+    (
+        &[3, 3],
+        &[1, 4],
+        0,
+        5,
+        &[5, 6, 7, 3, 9, 10, 11, 7, 13, 14, 15, 11, 12, 13, 14, 15],
+    ),
+    (
+        &[3, 3],
+        &[-4, -1],
+        15,
+        10,
+        &[0, 1, 2, 3, 4, 0, 1, 2, 8, 4, 5, 6, 12, 8, 9, 10],
+    ),
+    (
+        &[2, 3],
+        &[8, 2],
+        2,
+        0,
+        &[0, 1, 0, 3, 2, 5, 4, 7, 8, 9, 8, 11, 10, 13, 12, 15],
+    ),
+    (
+        &[2, 1, 1, 1, 2, 1, 1, 1, 2],
+        &[1, 99, -99, 0, 4, 7, 7, 7, 8],
+        1,
+        0,
+        &[0, 0, 1, 3, 4, 4, 5, 7, 8, 8, 9, 11, 12, 12, 13, 15],
+    ),
+    (
+        &[15],
+        &[1],
+        1,
+        0,
+        &[0, 0, 1, 2, 3, 4, 5, 6, 7, 8, 9, 10, 11, 12, 13, 14],
+    ),
+    (
+        &[],
+        &[],
+        3,
+        9,
+        &[0, 1, 2, 9, 4, 5, 6, 7, 8, 9, 10, 11, 12, 13, 14, 15],
+    ),
+    (
+        &[0, 4],
+        &[4, 1],
+        9,
+        0,
+        &[0, 1, 2, 3, 4, 5, 6, 7, 8, 9, 10, 11, 12, 13, 14, 15],
+    ),
+];
+
+/// The block's bytes once the items of one layout have become those of another, some bytes further
+/// on or back.
+fn shifted(rt: &impl Abort, alloc: Global, to: &Layout, from: &Layout) -> RawBlock {
+    let mut block = RawBlock::try_zeroed(alloc, 16).expect(rt, "no memory");
+    for (at, byte) in block.bytes_mut().iter_mut().enumerate() {
+        *byte = at as u8;
+    }
+    check(rt, block.len() == 16, "sixteen bytes");
+    check(rt, to.fits(16, 1) && from.fits(16, 1), "items of the block");
+    check(rt, are_shifted(to, from), "the same strides");
+    assign_shifted(&mut block, to, from, 1);
+    block
+}
+
+#[test]
+fn items_become_those_further_on_or_back(rt: HostRuntime) {
+    for (lengths, strides, to, from, wanted) in SHIFTS {
+        let to = layout_of(&rt, rt.alloc(), (*lengths, *strides, *to));
+        let from = layout_of(&rt, rt.alloc(), (*lengths, *strides, *from));
+        let block = shifted(&rt, rt.alloc(), &to, &from);
         check_bytes(&rt, block.bytes(), wanted);
     }
 }

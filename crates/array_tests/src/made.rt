@@ -1,4 +1,7 @@
 //! Layouts for tests.
+ghost use Rattle.std.specs.Prelude.{◌≡◌, IsTrue};
+ghost use Rattle.name_store.specs.Memory.{AreShifted};
+
 use crate::check::check;
 use shape_strides::{Layout, Shape, Strides};
 use std::alloc::Global;
@@ -40,4 +43,19 @@ pub(crate) fn has(
     check(rt, layout.shape.as_slice() == lengths, "lengths");
     check(rt, layout.strides.as_slice() == strides, "strides");
     check(rt, layout.offset == offset, "offset");
+}
+
+/// Whether two layouts have the same shape and strides.
+fn have_same_strides(to: &Layout, from: &Layout) -> bool
+    ensures shape { IsTrue result → from.now.shape ≡ to.now.shape }
+    ensures strides { IsTrue result → from.now.strides ≡ to.now.strides }
+{
+    from.shape.as_slice() == to.shape.as_slice() && from.strides.as_slice() == to.strides.as_slice()
+}
+
+/// Whether besides no axis steps into what the others reach, with items of one byte.
+pub(crate) fn are_shifted(to: &Layout, from: &Layout) -> bool
+    ensures { IsTrue result → AreShifted to.now from.now 1 }
+{
+    have_same_strides(to, from) && to.is_stacked(1)
 }

@@ -7,6 +7,7 @@ ghost use Rattle.shape_strides.specs.IndexItems.{is_basic};
 
 use crate::basic_indexes::items;
 use crate::check::check;
+use crate::made::are_shifted;
 use crate::table::{has_bytes, name};
 use broadcasting::stretch;
 use elem_descr::{Descr, Refusal, Scalar};
@@ -66,6 +67,33 @@ fn set_named(
         return Err(Refusal::ShapesDoNotBroadcast);
     }
     bench.write_items(alloc, to, Target::View(places), Source::Name(from, items))
+}
+
+/// `set X[ix] = X[iy]`, where both show items that lie alike, some bytes further on or back. It asks
+/// for no memory once it knows them, so that it is never refused.
+fn set_shifted(
+    alloc: Global,
+    bench: &mut Bench,
+    name: &Name,
+    to_index: &[IndexItem<usize>],
+    from_index: &[IndexItem<usize>],
+) -> Result<usize, Refusal>
+    requires to { list_all is_basic to_index.now ≡ true }
+    requires from { list_all is_basic from_index.now ≡ true }
+{
+    let Some(array) = bench.get(name) else {
+        return Err(Refusal::UnknownName);
+    };
+    if !array.writable || !are_bytes(array.descr) {
+        return Err(Refusal::ReadOnly);
+    }
+    let places = basic(alloc, array.layout, to_index)?;
+    let items = basic(alloc, array.layout, from_index)?;
+    if !are_shifted(&places, &items) {
+        return Err(Refusal::ShapesDoNotBroadcast);
+    }
+    let count = bench.write_items(alloc, name, Target::View(places), Source::Name(name, items));
+    Ok(count.unwrap())
 }
 
 /// `set X[ix] = ..`, with the items of a block.
@@ -180,6 +208,29 @@ fn assign_grid(rt: &impl Abort, alloc: Global, row: (&str, &str, &[u8])) {
 fn items_that_move_within_a_grid(rt: HostRuntime) {
     for row in GRIDS {
         assign_grid(&rt, rt.alloc(), *row);
+    }
+}
+
+/// The same by `set_shifted`.
+fn shift_grid(rt: &impl Abort, alloc: Global, row: (&str, &str, &[u8])) {
+    let (to, from, wanted) = row;
+    let bytes = [0, 1, 2, 3, 4, 5, 6, 7, 8, 9, 10, 11, 12, 13, 14, 15];
+    let mut bench = Bench::try_new(alloc, 0).expect(rt, "no memory");
+    let grid = name(alloc, b"a");
+    let fresh = Bound::Fresh(array_of(rt, alloc, &[4, 4], &bytes));
+    bench.bind(alloc, &grid, fresh).expect(rt, "no memory");
+    let to = items(rt, alloc, to);
+    let from = items(rt, alloc, from);
+    let is_plain = are_basic(to.as_slice()) && are_basic(from.as_slice());
+    check(rt, is_plain, "no index array");
+    set_shifted(alloc, &mut bench, &grid, to.as_slice(), from.as_slice()).expect(rt, "refused");
+    has_bytes(rt, alloc, &bench, b'a', wanted);
+}
+
+#[test]
+fn items_that_move_within_a_grid_without_memory(rt: HostRuntime) {
+    for row in GRIDS {
+        shift_grid(&rt, rt.alloc(), *row);
     }
 }
 

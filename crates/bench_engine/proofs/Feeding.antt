@@ -10,6 +10,8 @@ use Rattle.bench_engine.specs.Meanings.{AnswersLine}
 use Rattle.bench_engine.specs.Replies.{Reply}
 use Rattle.bench_engine.specs.Lines.{ended, unended, trimmed, whole_lines, lines}
 use Rattle.bench_engine.specs.Runs.{Run, Cut, output, reply_line, accepted_count, refused_count}
+use Rattle.npy_files.specs.Stores.{Shelf}
+use Rattle.bench_engine.specs.Worlds.{world}
 use Rattle.bench_engine.specs.inside.Sessions.{HoldsPiece, HoldsBytes, Fed, HasTold, Told, ToldInPart, AnswersHeld}
 use Rattle.bench_engine.proofs.Known.{appends_then, appends_none}
 use Rattle.bench_engine.proofs.Lines.{whole_lines-piece, whole_lines-split, unended-newline, unended-piece, lines-last}
@@ -24,12 +26,12 @@ held-some [] false piece some holds = cc
 held-some (b ∷ bytes) false piece some holds = omega (arith, ap length holds)
 
 -- a reply that stands in out, and a part of it that has gone out
-pub told-in-part : (old new : Session) (answered : Option Bool) (written written' : Option (List ℕ)) → true ≡ is_some answered → AnswersHeld old new answered →
-    ((gone missing : List ℕ) × (new.out.items ++ 10 ∷ [] ≡ gone ++ missing) × (0 < length missing) × Appends written written' gone) → ToldInPart AnswersLine old.bench new.bench written written' old
-told-in-part old new None written written' some held part = cc
-told-in-part old new (Some accepted) written written' some held part = record {
+pub told-in-part : (shelf shelf' : Shelf) (old new : Session) (answered : Option Bool) (written written' : Option (List ℕ)) → true ≡ is_some answered → AnswersHeld shelf shelf' old new answered →
+    ((gone missing : List ℕ) × (new.out.items ++ 10 ∷ [] ≡ gone ++ missing) × (0 < length missing) × Appends written written' gone) → ToldInPart AnswersLine (world old.bench shelf) (world new.bench shelf') written written' old
+told-in-part shelf shelf' old new None written written' some held part = cc
+told-in-part shelf shelf' old new (Some accepted) written written' some held part = record {
   reply = held.tells.0;
-  answers = λ piece holds. subst (λ (replies : List Reply). AnswersLine old.bench (trimmed piece) new.bench replies) held.tells.1 (held.answers piece holds);
+  answers = λ piece holds. subst (λ (replies : List Reply). AnswersLine (world old.bench shelf) (trimmed piece) (world new.bench shelf') replies) held.tells.1 (held.answers piece holds);
   gone = part.0;
   missing = part.1;
   cut = ap (λ text. text ++ 10 ∷ []) (sym held.tells.3) ∙ part.2;
@@ -80,7 +82,7 @@ module _ {World : Type 0} (Answer : World → List ℕ → World → List Reply 
 
     -- one line more, its reply cut
     cut-line : (mid to : World) (written written' : Option (List ℕ)) (all later : List (List ℕ)) (piece : List ℕ) (old : Session) → HoldsPiece old.line piece → ToldInPart Answer mid to written written' old →
-        HasTold Answer start mid before written all old → Cut Answer start before written' ((all ++ trimmed piece ∷ []) ++ later)
+        HasTold Answer start mid before written all old → Cut Answer start to before written' ((all ++ trimmed piece ∷ []) ++ later)
     cut-line mid to written written' all later piece old holds part told = record {
       answered = all ++ trimmed piece ∷ [];
       later = later;
@@ -88,7 +90,6 @@ module _ {World : Type 0} (Answer : World → List ℕ → World → List Reply 
       last = part.reply;
       gone = part.gone;
       missing = part.missing;
-      state = to;
       front = refl;
       run = run_more start mid to all (trimmed piece) told.replies (part.reply ∷ []) told.run (part.answers piece holds);
       cut = part.cut;
@@ -106,7 +107,7 @@ module _ {World : Type 0} (Answer : World → List ℕ → World → List Reply 
 
     -- a newline, its reply cut
     pub cut-newline : (mid to : World) (written written' : Option (List ℕ)) (read more : List ℕ) (old : Session) → ToldInPart Answer mid to written written' old →
-        Fed Answer start mid before written read old → Cut Answer start before written' (whole_lines (read ++ 10 ∷ more))
+        Fed Answer start mid before written read old → Cut Answer start to before written' (whole_lines (read ++ 10 ∷ more))
     cut-newline mid to written written' read more old part fed =
         rw (whole_lines-split read more, sym (append_assoc (whole_lines read) (trimmed (unended read) ∷ []) (whole_lines more)))
         (cut-line mid to written written' (whole_lines read) (whole_lines more) (unended read) old fed.held part fed.told)
@@ -118,12 +119,12 @@ module _ {World : Type 0} (Answer : World → List ℕ → World → List Reply 
 
     -- a last line, its reply cut
     pub cut-last : (mid to : World) (written written' : Option (List ℕ)) (read : List ℕ) (old : Session) → 0 < length (unended read) → ToldInPart Answer mid to written written' old →
-        Fed Answer start mid before written read old → Cut Answer start before written' (lines read)
+        Fed Answer start mid before written read old → Cut Answer start to before written' (lines read)
     cut-last mid to written written' read old some part fed =
         rw (lines-last read some, sym (append-nil (whole_lines read ++ trimmed (unended read) ∷ []))) (cut-line mid to written written' (whole_lines read) [] (unended read) old fed.held part fed.told)
 
     pub fed_along : (to : World) (written : Option (List ℕ)) (xs ys : List ℕ) (s : Session) → xs ≡ ys → Fed Answer start to before written xs s → Fed Answer start to before written ys s
     fed_along to written xs ys s same fed = subst (λ bytes. Fed Answer start to before written bytes s) same fed
 
-    pub cut_along : (written : Option (List ℕ)) (xs ys : List ℕ) → xs ≡ ys → Cut Answer start before written (whole_lines xs) → Cut Answer start before written (whole_lines ys)
-    cut_along written xs ys same cut = subst (λ bytes. Cut Answer start before written (whole_lines bytes)) same cut
+    pub cut_along : (to : World) (written : Option (List ℕ)) (xs ys : List ℕ) → xs ≡ ys → Cut Answer start to before written (whole_lines xs) → Cut Answer start to before written (whole_lines ys)
+    cut_along to written xs ys same cut = subst (λ bytes. Cut Answer start to before written (whole_lines bytes)) same cut

@@ -2,9 +2,13 @@ pub mod Capped
 pub mod Creates
 pub mod Deletes
 pub mod Feeding
-pub mod Indices
+pub mod Assigns
+pub mod Casts
+pub mod Nested
+pub mod Sets
 pub mod Known
 pub mod Lines
+pub mod LoadedFiles
 pub mod Listings
 pub mod Looks
 pub mod Makes

@@ -14,7 +14,6 @@ use Rattle.name_store.specs.States.{State, Array}
 use Rattle.name_store.specs.Arrays.{find_array, is_bound, has_room_for, descr_of, addresses, written, share_cells}
 use Rattle.name_store.specs.Calls.{AnswersShares}
 use Rattle.bench_engine.specs.inside.Contract.{IsRefused}
-use Rattle.bench_engine.specs.Indices.{basic_items}
 use Rattle.bench_engine.specs.Machine.{Choice, ViewOrCopy, viewed, seen, is_carried_out, view_outcome, bound_seen, set_outcome, info_outcome, shares_outcome, comes_to}
 use Rattle.bench_engine.specs.Replies.{info_text, shares_text}
 
@@ -39,35 +38,6 @@ pub view-done : (choice : Choice) (s : State) (name source : List ℕ) (how : Vi
     view_outcome choice s name source how ≡ bound_seen choice s name found
 unfolding view_outcome
 view-done choice s name source how a found carried is room good = rw (carried, is, room, good) refl
-
--- set X[ix] = L
-pub set-syntax : (s : State) (name : List ℕ) (index : List (IndexItem (List ℕ))) (literal : Literal) → basic_items index ≡ Err Syntax → set_outcome s name index literal ≡ Err Syntax
-unfolding set_outcome
-set-syntax s name index literal bad = rw bad refl
-
-pub set-unknown : (s : State) (name : List ℕ) (index : List (IndexItem (List ℕ))) (literal : Literal) (items : List (IndexItem (List ℕ))) → basic_items index ≡ Ok items → find_array s.names name ≡ None → set_outcome s name index literal ≡ Err UnknownName
-unfolding set_outcome
-set-unknown s name index literal items plain none = rw (plain, none) refl
-
-pub set-index : (s : State) (name : List ℕ) (index : List (IndexItem (List ℕ))) (literal : Literal) (items : List (IndexItem (List ℕ))) (a : Array) (e : Refusal) → basic_items index ≡ Ok items → find_array s.names name ≡ Some a → basic a.shape items ≡ Err e → set_outcome s name index literal ≡ Err e
-unfolding set_outcome
-set-index s name index literal items a e plain is bad = rw (plain, is, bad) refl
-
-pub set-read_only : (s : State) (name : List ℕ) (index : List (IndexItem (List ℕ))) (literal : Literal) (items : List (IndexItem (List ℕ))) (a : Array) (view : View) → basic_items index ≡ Ok items → find_array s.names name ≡ Some a → basic a.shape items ≡ Ok view → a.writable ≡ false →
-    set_outcome s name index literal ≡ Err ReadOnly
-unfolding set_outcome
-set-read_only s name index literal items a view plain is good fixed = rw (plain, is, good, fixed) refl
-
-pub set-literal : (s : State) (name : List ℕ) (index : List (IndexItem (List ℕ))) (literal : Literal) (items : List (IndexItem (List ℕ))) (a : Array) (view : View) (e : Refusal) → basic_items index ≡ Ok items → find_array s.names name ≡ Some a → basic a.shape items ≡ Ok view →
-    a.writable ≡ true → item_value (descr_of s a) literal ≡ Err e → set_outcome s name index literal ≡ Err e
-unfolding set_outcome
-set-literal s name index literal items a view e plain is good free bad = rw (plain, is, good, free, bad) refl
-
-pub set-done : (s : State) (name : List ℕ) (index : List (IndexItem (List ℕ))) (literal : Literal) (items : List (IndexItem (List ℕ))) (a : Array) (view : View) (item : List LeafValue) → basic_items index ≡ Ok items → find_array s.names name ≡ Some a → basic a.shape items ≡ Ok view →
-    a.writable ≡ true → item_value (descr_of s a) literal ≡ Ok item →
-    set_outcome s name index literal ≡ comes_to (written s a (viewed a view).places (replicate (count view.shape) item)) (codes "ok set " ++ decimal (count view.shape))
-unfolding set_outcome
-set-done s name index literal items a view item plain is good free value = rw (plain, is, good, free, value) refl
 
 -- info
 pub info-unknown : (s : State) (name : List ℕ) → find_array s.names name ≡ None → info_outcome s name ≡ Err UnknownName

@@ -5,7 +5,6 @@ use Rattle.std.specs.declared.cmp.Ordering.TheVariants.{Less, Equal, Greater}
 use Rattle.std.specs.List.{AllByRecursion}
 use Rattle.std.specs.FinMap.{FinMap, get, get-entries, find, entries, nat_cmp-IsAntisymmetric}
 use Rattle.std.proofs.lemmas.List.Elements.{All-from_recursion}
-use Rattle.std.proofs.lemmas.Bool.{or_left, or_right}
 use Rattle.elem_descr.specs.declared.refusal.Refusal.{Refusal}
 use Rattle.elem_descr.specs.declared.refusal.Refusal.TheVariants.{LineTooLong, OutOfMemory}
 use Rattle.script_lang.specs.declared.command.Command.{Command}
@@ -15,7 +14,8 @@ use Rattle.name_store.specs.States.{State, Array, Buffer}
 use Rattle.bench_engine.specs.Replies.{Reply, refusal}
 use Rattle.bench_engine.specs.Machine.{Choice, IsAllowed, outcome, settled, may_lack_memory}
 use Rattle.bench_engine.specs.inside.Contract.{IsRefused}
-use Rattle.bench_engine.specs.Meanings.{Meaning, too_long, says, Case, Answered}
+use Rattle.bench_engine.specs.Meanings.{Meaning, too_long, says, Case, WorldCase, Answered}
+use Rattle.bench_engine.specs.Worlds.{World}
 use Rattle.bench_engine.specs.inside.ReadLines.{ReadsAs}
 
 apart : (q k : ℕ) → k ≢ q → eq_by_cmp nat_cmp q k ≡ false
@@ -63,35 +63,33 @@ refused old new command r same (inr is) =
     inl (any.0, any.1, ap (settled old) (is any.0) ∙ ap (λ (s : State). (s, refusal r)) (sym same))
 
 -- a line that asks for a command
-asked : (old new : State) (line : Line) (command : Command) (reply : Reply) → line ≡ asks command → Case old command new reply → Answered old (says line) new (reply ∷ [])
-asked old new line command reply is (inl step) = subst (λ (l : Line). Answered old (says l) new (reply ∷ [])) (sym is) (reply, refl, inl step)
-asked old new line command reply is (inr lacks) =
-    subst (λ (l : Line). Answered old (says l) new (reply ∷ [])) (sym is) (reply, refl, inr (or_left (may_lack_memory old command) (needs_room command) lacks.0, lacks.1))
+asked : (old new : World) (line : Line) (command : Command) (reply : Reply) → line ≡ asks command → WorldCase old command new reply → Answered old (says line) new (reply ∷ [])
+asked old new line command reply is done = subst (λ (l : Line). Answered old (says l) new (reply ∷ [])) (sym is) (reply, refl, inl done)
 
-pub answered : (old new : State) (meaning : Meaning) (command : Command) (reply : Reply) → ReadsAs (Ok (Some command)) meaning → Case old command new reply → Answered old meaning new (reply ∷ [])
+pub answered : (old new : World) (meaning : Meaning) (command : Command) (reply : Reply) → ReadsAs (Ok (Some command)) meaning → WorldCase old command new reply → Answered old meaning new (reply ∷ [])
 answered old new too_long command reply is done = cc
 answered old new (says line) command reply is done = asked old new line command reply is done
 
-lacking : (old : State) (line : Line) → MayLackRoom line → Answered old (says line) old (refusal OutOfMemory ∷ [])
+lacking : (old : World) (line : Line) → MayLackRoom line → Answered old (says line) old (refusal OutOfMemory ∷ [])
 lacking old silent h = absurd h
 lacking old bad_byte h = absurd h
 lacking old misspelt h = (refusal OutOfMemory, refl, inr (refl, refl))
-lacking old (asks command) h = (refusal OutOfMemory, refl, inr (or_right (may_lack_memory old command) (needs_room command) h, (refl, refl)))
+lacking old (asks command) h = (refusal OutOfMemory, refl, inr (h, (refl, refl)))
 
 -- a line that is refused
-misread : (old : State) (line : Line) (r : Refusal) → Says (Err r) line → Answered old (says line) old (refusal r ∷ [])
+misread : (old : World) (line : Line) (r : Refusal) → Says (Err r) line → Answered old (says line) old (refusal r ∷ [])
 misread old line r (inl p) = subst (λ (l : Line). Answered old (says l) old (refusal r ∷ [])) (sym p.1) (refusal r, refl, inl (refl, ap refusal p.0))
 misread old line r (inr (inl p)) = subst (λ (l : Line). Answered old (says l) old (refusal r ∷ [])) (sym p.1) (refl, ap (λ e. refusal e ∷ []) p.0)
 misread old line r (inr (inr p)) = subst (λ (e : Refusal). Answered old (says line) old (refusal e ∷ [])) (sym p.0) (lacking old line p.1)
 
-pub refused_line : (old : State) (meaning : Meaning) (r : Refusal) → ReadsAs (Err r) meaning → Answered old meaning old (refusal r ∷ [])
+pub refused_line : (old : World) (meaning : Meaning) (r : Refusal) → ReadsAs (Err r) meaning → Answered old meaning old (refusal r ∷ [])
 refused_line old too_long r is = let which : r ≡ LineTooLong = cc in (refl, ap (λ e. refusal e ∷ []) which)
 refused_line old (says line) r is = misread old line r is
 
 -- a line that asks for nothing
-nothing_asked : (old : State) (line : Line) → line ≡ silent → Answered old (says line) old []
+nothing_asked : (old : World) (line : Line) → line ≡ silent → Answered old (says line) old []
 nothing_asked old line is = subst (λ (l : Line). Answered old (says l) old []) (sym is) (refl, refl)
 
-pub silent_line : (old : State) (meaning : Meaning) → ReadsAs (Ok None) meaning → Answered old meaning old []
+pub silent_line : (old : World) (meaning : Meaning) → ReadsAs (Ok None) meaning → Answered old meaning old []
 silent_line old too_long is = cc
 silent_line old (says line) is = nothing_asked old line is

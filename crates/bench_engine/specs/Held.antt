@@ -1,45 +1,48 @@
--- What a run stands for: at its end, and where a read or a write failed.
+-- What a run stands for: at its end, and where a read or a write failed. The store goes from one shelf to another.
 use Rattle.std.specs.Prelude.{◌≡◌, ◌⊎◌, ℕ, List, Option}
 use Rattle.std.specs.Io.KnownBytes.{Appends, Consumes, IsAtEnd}
 use Rattle.bench_engine.specs.declared.session.Summary.{Summary}
-use Rattle.name_store.specs.States.{State, start}
+use Rattle.name_store.specs.States.{State}
+use Rattle.npy_files.specs.Stores.{Shelf}
 use Rattle.bench_engine.specs.Replies.{Reply}
 use Rattle.bench_engine.specs.Lines.{lines, whole_lines}
 use Rattle.bench_engine.specs.Meanings.{AnswersLine}
+use Rattle.bench_engine.specs.Worlds.{world, start_with}
 use Rattle.bench_engine.specs.Runs.{Run, Cut, output, accepted_count, refused_count}
 
 -- The script is known: its lines are answered by a run of the machine from the empty state to the
--- summary's bench, all replies and nothing else have gone out, and the summary counts them.
-pub record AnswersAll (script : List ℕ) (written written' : Option (List ℕ)) (summary : Summary) : Type 0 where
+-- summary's bench and to the files that are left, all replies and nothing else have gone out, and the summary counts them.
+pub record AnswersAll (script : List ℕ) (shelf shelf' : Shelf) (written written' : Option (List ℕ)) (summary : Summary) : Type 0 where
   pub replies : List Reply
-  pub run : Run AnswersLine start (lines script) replies summary.bench
+  pub run : Run AnswersLine (start_with shelf) (lines script) replies (world summary.bench shelf')
   pub told : Appends written written' (output replies)
   pub accepted : summary.accepted ≡ accepted_count replies
   pub refused : summary.refused ≡ refused_count replies
 
 -- The same of the bytes that were read, after which the reader is at its end.
-pub record Finished (unread unread' written written' : Option (List ℕ)) (summary : Summary) : Type 0 where
+pub record Finished (shelf shelf' : Shelf) (unread unread' written written' : Option (List ℕ)) (summary : Summary) : Type 0 where
   pub input : List ℕ
   pub consumes : Consumes unread unread' input
   pub at_end : IsAtEnd unread'
-  pub answers : AnswersAll input written written' summary
+  pub answers : AnswersAll input shelf shelf' written written' summary
 
 -- The lines that newlines end, among the bytes that were read, are answered.
-pub record StoppedReading (unread unread' written written' : Option (List ℕ)) : Type 0 where
+pub record StoppedReading (shelf shelf' : Shelf) (unread unread' written written' : Option (List ℕ)) : Type 0 where
   pub input : List ℕ
   pub replies : List Reply
   pub state : State
   pub consumes : Consumes unread unread' input
-  pub run : Run AnswersLine start (whole_lines input) replies state
+  pub run : Run AnswersLine (start_with shelf) (whole_lines input) replies (world state shelf')
   pub told : Appends written written' (output replies)
 
--- Some first ones of these lines are answered, but a last part, not empty, of the last reply has not gone out.
-abbrev pub AnswersInPart : List (List ℕ) → Option (List ℕ) → Option (List ℕ) → Type 0
-AnswersInPart all written written' = Cut AnswersLine start written written' all
+-- Some first ones of these lines are answered, and the files are as they leave them, but a last part, not empty, of the last
+-- reply has not gone out.
+abbrev pub AnswersInPart : List (List ℕ) → Shelf → Shelf → Option (List ℕ) → Option (List ℕ) → Type 0
+AnswersInPart all shelf shelf' written written' = (state : State) × Cut AnswersLine (start_with shelf) (world state shelf') written written' all
 
 -- Some first lines are answered, but for a last part of the last reply: of the bytes that were read the
 -- lines that newlines end, and all lines only where the reader is at its end.
-pub record StoppedWriting (unread unread' written written' : Option (List ℕ)) : Type 0 where
+pub record StoppedWriting (shelf shelf' : Shelf) (unread unread' written written' : Option (List ℕ)) : Type 0 where
   pub input : List ℕ
   pub consumes : Consumes unread unread' input
-  pub cut : AnswersInPart (whole_lines input) written written' ⊎ (IsAtEnd unread' × AnswersInPart (lines input) written written')
+  pub cut : AnswersInPart (whole_lines input) shelf shelf' written written' ⊎ (IsAtEnd unread' × AnswersInPart (lines input) shelf shelf' written written')

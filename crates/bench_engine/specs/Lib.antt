@@ -1,9 +1,10 @@
 pub mod Contents
 pub mod Held
-pub mod Indices
 pub mod Lines
+pub mod Loads
 pub mod Machine
 pub mod Meanings
 pub mod Replies
 pub mod Runs
+pub mod Worlds
 pub mod inside

@@ -1,12 +1,17 @@
 -- The machine: one step of it, for each command and each choice that it is free to make.
-use Rattle.std.specs.Prelude.{◌≡◌, ℕ, ◌*◌, nat_le, ℤ, Bool, true, false, ◌&&◌, if◌then◌else◌, List, [], ◌∷◌, ◌++◌, replicate, codes, decimal, Result, Ok, Err}
+use Rattle.std.specs.Prelude.{◌≡◌, ℕ, ◌*◌, nat_le, ℤ, Bool, true, false, ◌&&◌, if◌then◌else◌, List, [], ◌∷◌, ◌++◌, map, replicate, codes, decimal, Option, unwrap_or, Result, Ok, Err}
 use Rattle.std.specs.List.{list_all}
 use Rattle.std.specs.Option.{ok_or}
 use Rattle.elem_descr.specs.declared.refusal.Refusal.{Refusal}
-use Rattle.elem_descr.specs.declared.refusal.Refusal.TheVariants.{Syntax, UnknownName, TooManyNames, NoSuchField, ReadOnly, TooLarge}
+use Rattle.elem_descr.specs.declared.refusal.Refusal.TheVariants.{Syntax, UnknownName, TooManyNames, NoSuchField, NoSuchCast, ReadOnly, TooLarge}
 use Rattle.elem_descr.specs.Refusals.{◌>>=◌, check}
+use Rattle.elem_descr.specs.declared.descr.Descr.{Descr}
+use Rattle.elem_descr.specs.DescrTexts.{descriptor}
 use Rattle.elem_descr.specs.Items.{item_size, field_of}
+use Rattle.elem_descr.specs.Values.{LeafValue}
+use Rattle.elementwise.specs.Casts.{can_cast, cast_item}
 use Rattle.shape_strides.specs.declared.index_item.IndexItem.{IndexItem}
+use Rattle.shape_strides.specs.declared.index_item.IndexItem.TheVariants.{Ellipsis}
 use Rattle.shape_strides.specs.declared.memory_order.MemoryOrder.{MemoryOrder}
 use Rattle.shape_strides.specs.declared.memory_order.MemoryOrder.TheVariants.{C}
 use Rattle.shape_strides.specs.IndexItems.{is_basic}
@@ -16,10 +21,10 @@ use Rattle.shape_strides.specs.Shapes.{shape_of}
 use Rattle.view_ops.specs.Views.{View, view_through}
 use Rattle.view_ops.specs.Basics.{basic}
 use Rattle.view_ops.specs.Transposes.{transposed}
-use Rattle.broadcasting.specs.Broadcasts.{stretched}
+use Rattle.broadcasting.specs.Broadcasts.{stretched, stretched_into}
 use Rattle.reshape_rule.specs.Targets.{target_of}
 use Rattle.reshape_rule.specs.Reshapes.{is_affine}
-use Rattle.script_lang.specs.declared.literal.Literal.{Literal}
+use Rattle.script_lang.specs.declared.command.Argument.{Argument}
 use Rattle.script_lang.specs.declared.command.Argument.TheVariants as argument
 use Rattle.script_lang.specs.declared.command.Viewing.{Viewing}
 use Rattle.script_lang.specs.declared.command.Viewing.TheVariants as viewing
@@ -36,8 +41,7 @@ use Rattle.name_store.specs.States.{State}
 use Rattle.name_store.specs.States as states
 use Rattle.name_store.specs.Arrays.{find_array, is_bound, has_room_for, bound_to, bound_view, unbound, descr_of, addresses, read, written, share_cells}
 use Rattle.name_store.specs.Calls.{IsUnused}
-use Rattle.bench_engine.specs.Contents.{Contents, made_in, array_over, contents_of}
-use Rattle.bench_engine.specs.Indices.{basic_items}
+use Rattle.bench_engine.specs.Contents.{Contents, made, made_in, array_over, contents_of}
 use Rattle.bench_engine.specs.declared.replies.Origin.{Origin}
 use Rattle.bench_engine.specs.declared.replies.Origin.TheVariants as origin
 use Rattle.bench_engine.specs.Replies.{Reply, refusal, bound_text, info_text, format_text, names_text, shares_text}
@@ -118,6 +122,12 @@ abbrev pub is_carried_out : Viewing → Bool
 is_carried_out (viewing.Indexed index) = list_all is_basic index
 is_carried_out _ = true
 
+-- the items of an array as items of an element type
+unfoldable pub cast_items : State → states.Array → Descr → Result (List (List LeafValue)) Refusal
+cast_items s array descr = do
+  _ ← check (can_cast (descr_of s array) descr) NoSuchCast
+  Ok (map (cast_item (descr_of s array) descr) (read s array))
+
 -- a name is bound to a new array
 abbrev pub bound_new : Choice → State → List ℕ → Origin → Contents → Outcome
 bound_new choice s name origin new = comes_to (bound_to s name (array_over choice.fresh new) new.buffer) (bound_text name new.buffer.descr new.shape origin)
@@ -144,6 +154,22 @@ copy_outcome choice s name source order = do
   new ← copied s array order array.shape
   bound_new choice s name origin.Copy new
 
+-- what X = cast Y D makes: the items as items of an element type
+unfoldable pub cast_contents : State → states.Array → List ℕ → Result Contents Refusal
+cast_contents s array text = do
+  descr ← descriptor text
+  items ← cast_items s array descr
+  _ ← check (nat_le (count array.shape * item_size descr) max_bytes) TooLarge
+  Ok (made descr array.shape items)
+
+-- X = cast Y D
+unfoldable pub cast_outcome : Choice → State → List ℕ → List ℕ → List ℕ → Outcome
+cast_outcome choice s name source text = do
+  array ← array_of s source
+  _ ← check (has_room_for s name) TooManyNames
+  new ← cast_contents s array text
+  bound_new choice s name origin.New new
+
 -- X = the array of a name, seen in some way
 unfoldable pub view_outcome : Choice → State → List ℕ → List ℕ → Viewing → Outcome
 view_outcome choice s name source how = do
@@ -153,16 +179,51 @@ view_outcome choice s name source how = do
   found ← seen how s array
   bound_seen choice s name found
 
--- set X[ix] = L
-unfoldable pub set_outcome : State → List ℕ → List (IndexItem (List ℕ)) → Literal → Outcome
-set_outcome s name index literal = do
-  items ← basic_items index
-  array ← array_of s name
-  view ← basic array.shape items
+-- set X[ix] = Z
+
+-- the items of an array that an index list names, to be written
+unfoldable pub target_part : states.Array → List (IndexItem (List ℕ)) → Result states.Array Refusal
+target_part array index = do
+  view ← basic array.shape index
   _ ← check array.writable ReadOnly
-  item ← item_value (descr_of s array) literal
-  let n = count view.shape
-  comes_to (written s array (viewed array view).places (replicate n item)) (codes "ok set " ++ decimal n)
+  Ok (viewed array view)
+
+-- those of an operand's array, `Y` being `Y[...]`, stretched into a shape
+unfoldable pub source_part : states.Array → Option (List (IndexItem (List ℕ))) → List ℕ → Result states.Array Refusal
+source_part array index shape = do
+  view ← basic array.shape (unwrap_or index (Ellipsis ∷ []))
+  let part = viewed array view
+  wide ← stretched_into part.shape shape
+  Ok (viewed part wide)
+
+-- an item of an element type for each index of a shape: those of an operand, or a literal for all of them
+abbrev pub argument_items : State → Argument → Descr → List ℕ → Result (List (List LeafValue)) Refusal
+argument_items s (argument.Operand operand) descr shape = do
+  array ← array_of s operand.name
+  source ← source_part array operand.index shape
+  cast_items s source descr
+argument_items s (argument.Literal literal) descr shape = do
+  item ← item_value descr literal
+  Ok (replicate (count shape) item)
+
+-- the names of an argument
+abbrev pub names_in_argument : Argument → List (List ℕ)
+names_in_argument (argument.Operand operand) = operand.name ∷ []
+names_in_argument (argument.Literal literal) = []
+
+-- no index list of an argument names an array
+abbrev pub is_plain : Argument → Bool
+is_plain (argument.Operand operand) = list_all is_basic (unwrap_or operand.index [])
+is_plain (argument.Literal literal) = true
+
+unfoldable pub set_outcome : State → List ℕ → List (IndexItem (List ℕ)) → Argument → Outcome
+set_outcome s name index argument = do
+  _ ← check (list_all is_basic index && is_plain argument) Syntax
+  array ← array_of s name
+  _ ← check (list_all (is_bound s) (names_in_argument argument)) UnknownName
+  target ← target_part array index
+  items ← argument_items s argument (descr_of s array) target.shape
+  comes_to (written s array target.places items) (codes "ok set " ++ decimal (count target.shape))
 
 -- del X
 unfoldable pub delete_outcome : State → List ℕ → Outcome
@@ -202,6 +263,7 @@ abbrev pub bind_outcome : Choice → State → List ℕ → Value → Outcome
 bind_outcome choice s name (value.Make descr items) = creation_outcome choice s name (contents_of descr items)
 bind_outcome choice s name (value.View source how) = view_outcome choice s name source how
 bind_outcome choice s name (value.Compute (computation.Duplicate source order)) = copy_outcome choice s name source order
+bind_outcome choice s name (value.Compute (computation.Cast source descr)) = cast_outcome choice s name source descr
 bind_outcome choice s name _ = Err Syntax
 
 abbrev pub question_outcome : State → Question → Outcome
@@ -213,7 +275,7 @@ question_outcome s (question.Shares left right) = shares_outcome s left right
 
 abbrev pub outcome : Choice → State → Command → Outcome
 outcome choice s (command.Bind name value) = bind_outcome choice s name value
-outcome choice s (command.Set name index (argument.Literal literal)) = set_outcome s name index literal
+outcome choice s (command.Set name index argument) = set_outcome s name index argument
 outcome choice s (command.Delete name) = delete_outcome s name
 outcome choice s (command.Ask question) = question_outcome s question
 outcome choice s _ = Err Syntax
@@ -233,6 +295,7 @@ Step old command new reply =
 abbrev pub bound_in_value : Value → List (List ℕ)
 bound_in_value (value.View source how) = source ∷ []
 bound_in_value (value.Compute (computation.Duplicate source order)) = source ∷ []
+bound_in_value (value.Compute (computation.Cast source descr)) = source ∷ []
 bound_in_value _ = []
 
 abbrev pub bound_in_question : Question → List (List ℕ)
@@ -244,7 +307,7 @@ bound_in_question (question.Shares left right) = left ∷ right ∷ []
 
 abbrev pub must_be_bound : Command → List (List ℕ)
 must_be_bound (command.Bind name value) = bound_in_value value
-must_be_bound (command.Set name index value) = name ∷ []
+must_be_bound (command.Set name index argument) = name ∷ names_in_argument argument
 must_be_bound (command.Delete name) = name ∷ []
 must_be_bound (command.Ask question) = bound_in_question question
 must_be_bound _ = []
@@ -255,11 +318,12 @@ abbrev pub value_takes_memory : Value → Bool
 value_takes_memory (value.Make descr items) = true
 value_takes_memory (value.View source how) = true
 value_takes_memory (value.Compute (computation.Duplicate source order)) = true
+value_takes_memory (value.Compute (computation.Cast source descr)) = true
 value_takes_memory _ = false
 
 abbrev pub takes_memory : Command → Bool
 takes_memory (command.Bind name value) = value_takes_memory value
-takes_memory (command.Set name index (argument.Literal literal)) = true
+takes_memory (command.Set name index argument) = true
 takes_memory (command.Ask question) = true
 takes_memory _ = false
 

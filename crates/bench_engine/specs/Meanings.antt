@@ -1,12 +1,16 @@
 -- What a line means, and what it may be answered.
-use Rattle.std.specs.Prelude.{◌≡◌, ◌⊎◌, ℕ, Bool, ◌||◌, IsTrue, List, [], ◌∷◌, length, nat_lt, if◌then◌else◌}
-use Rattle.elem_descr.specs.declared.refusal.Refusal.TheVariants.{LineTooLong, ByteNotAllowed, Syntax, OutOfMemory}
+use Rattle.std.specs.Prelude.{◌≡◌, ◌⊎◌, ℕ, Bool, true, false, IsTrue, List, [], ◌∷◌, length, nat_lt, if◌then◌else◌}
+use Rattle.elem_descr.specs.declared.refusal.Refusal.TheVariants.{LineTooLong, ByteNotAllowed, Syntax, TooManyNames, OutOfMemory}
 use Rattle.script_lang.specs.declared.command.Command.{Command}
 use Rattle.script_lang.specs.Lines.{Line, line_of, silent, bad_byte, misspelt, asks}
 use Rattle.script_lang.specs.Reading.{needs_room}
 use Rattle.name_store.specs.States.{State}
+use Rattle.name_store.specs.Arrays.{has_room_for}
+use Rattle.npy_files.specs.Stores.{IsSameStore}
 use Rattle.bench_engine.specs.Replies.{Reply, refusal}
-use Rattle.bench_engine.specs.Machine.{Step, may_lack_memory}
+use Rattle.bench_engine.specs.Machine.{Choice, IsAllowed, settled, Step, may_lack_memory}
+use Rattle.bench_engine.specs.Loads.{Found, MayFind, load_outcome}
+use Rattle.bench_engine.specs.Worlds.{World}
 
 -- the most bytes of a line
 abbrev pub limit : ℕ
@@ -21,27 +25,44 @@ unfoldable pub meaning_of : List ℕ → Meaning
 meaning_of line = if nat_lt limit (length line) then too_long else says (line_of line)
 
 -- nothing changed, and this reply
-abbrev pub Refuses : State → State → Reply → Reply → Type 0
+abbrev pub Refuses : {X : Type 0} → X → X → Reply → Reply → Type 0
 Refuses old new reply with_reply = (new ≡ old) × (reply ≡ with_reply)
 
 -- refused as out of memory, with nothing changed, where that may be
-abbrev pub LacksMemory : Bool → State → State → Reply → Type 0
+abbrev pub LacksMemory : {X : Type 0} → Bool → X → X → Reply → Type 0
 LacksMemory may old new reply = IsTrue may × Refuses old new reply (refusal OutOfMemory)
 
 -- A command is a step of the machine, or refused as out of memory, where it may ask for some.
 abbrev pub Case : State → Command → State → Reply → Type 0
 Case old command new reply = Step old command new reply ⊎ LacksMemory (may_lack_memory old command) old new reply
 
+-- X = load "f" with an answer that the store may give
+abbrev pub LoadStep : World → List ℕ → List ℕ → World → Reply → Type 0
+LoadStep old name file new reply =
+    (choice : Choice) × IsAllowed old.state choice × (found : Found) × MayFind old.shelf new.shelf file found
+    × (settled old.state (load_outcome choice old.state name found) ≡ (new.state, reply))
+
+-- X = load "f" leaves all files as they are. Where there is no room for the name the store is not asked.
+abbrev pub LoadCase : World → List ℕ → List ℕ → World → Reply → Type 0
+LoadCase old name file new reply =
+    ((has_room_for old.state name ≡ false) × Refuses old new reply (refusal TooManyNames))
+    ⊎ ((has_room_for old.state name ≡ true) × IsSameStore old.shelf new.shelf × (new.shelf.files ≡ old.shelf.files)
+    × (LoadStep old name file new reply ⊎ LacksMemory true old.state new.state reply))
+
+-- so it is in a world: a command leaves the store as it is
+abbrev pub WorldCase : World → Command → World → Reply → Type 0
+WorldCase old command new reply = (new.shelf ≡ old.shelf) × Case old.state command new.state reply
+
 -- what a meaning may be answered, and where it leads
-abbrev pub Answered : State → Meaning → State → List Reply → Type 0
+abbrev pub Answered : World → Meaning → World → List Reply → Type 0
 Answered old too_long new replies = (new ≡ old) × (replies ≡ refusal LineTooLong ∷ [])
 Answered old (says silent) new replies = (new ≡ old) × (replies ≡ [])
 Answered old (says bad_byte) new replies = (new ≡ old) × (replies ≡ refusal ByteNotAllowed ∷ [])
 Answered old (says misspelt) new replies =
     (reply : Reply) × (replies ≡ reply ∷ []) × (Refuses old new reply (refusal Syntax) ⊎ Refuses old new reply (refusal OutOfMemory))
 Answered old (says (asks command)) new replies =
-    (reply : Reply) × (replies ≡ reply ∷ []) × (Step old command new reply ⊎ LacksMemory (may_lack_memory old command || needs_room command) old new reply)
+    (reply : Reply) × (replies ≡ reply ∷ []) × (WorldCase old command new reply ⊎ LacksMemory (needs_room command) old new reply)
 
 -- what the machine may answer a line
-abbrev pub AnswersLine : State → List ℕ → State → List Reply → Type 0
+abbrev pub AnswersLine : World → List ℕ → World → List Reply → Type 0
 AnswersLine old line new replies = Answered old (meaning_of line) new replies

@@ -25,17 +25,16 @@ abbrev pub refused_count : List Reply → ℕ
 refused_count replies = count_by (λ r. not r.accepted) replies
 
 -- Some first ones of these lines are answered, all their replies have gone out but for a last part of the last one,
--- and that part is not empty.
-pub record Cut {World : Type 0} (Answer : World → List ℕ → World → List Reply → Type 0) (start : World) (written written' : Option (List ℕ)) (all : List (List ℕ)) : Type 0 where
+-- and that part is not empty. No later line has led anywhere.
+pub record Cut {World : Type 0} (Answer : World → List ℕ → World → List Reply → Type 0) (start end : World) (written written' : Option (List ℕ)) (all : List (List ℕ)) : Type 0 where
   pub answered : List (List ℕ)
   pub later : List (List ℕ)
   pub replies : List Reply
   pub last : Reply
   pub gone : List ℕ
   pub missing : List ℕ
-  pub state : World
   pub front : all ≡ answered ++ later
-  pub run : Run Answer start answered (replies ++ last ∷ []) state
+  pub run : Run Answer start answered (replies ++ last ∷ []) end
   pub cut : reply_line last ≡ gone ++ missing
   pub short : 0 < length missing
   pub told : Appends written written' (output replies ++ gone)

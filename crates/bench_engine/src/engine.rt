@@ -5,9 +5,11 @@ ghost use Rattle.name_store.specs.Arrays.{is_bound};
 ghost use Rattle.bench_engine.specs.inside.Contract.{CarriesOut};
 ghost use Rattle.bench_engine.specs.Machine.{outcome, bind_outcome, question_outcome, value_takes_memory, bound_in_value, bound_in_question, may_lack_memory};
 ghost use Rattle.bench_engine.specs.Replies.{Reply};
-ghost use Rattle.bench_engine.specs.Meanings.{Case, Answered};
+ghost use Rattle.bench_engine.specs.Meanings.{WorldCase, Answered};
+ghost use Rattle.bench_engine.specs.Worlds.{world};
 ghost use Rattle.bench_engine.specs.inside.ReadLines.{ReadsAs, Tells, meaning_of_read};
 
+use crate::cast::cast;
 use crate::copy::copy;
 use crate::create::make;
 use crate::delete::delete;
@@ -21,7 +23,8 @@ use crate::shares::shares;
 use crate::view::view;
 use elem_descr::Refusal;
 use name_store::Bench;
-use script_lang::{Argument, Command, Computation, Name, Question, Value, parse, word};
+use npy_files::NpyStore;
+use script_lang::{Command, Computation, Name, Question, Value, parse, word};
 use std::alloc::Global;
 
 /// The most bytes of a refusal's text.
@@ -46,6 +49,7 @@ fn bind(
             Computation::Duplicate { source, order } => {
                 copy(alloc, bench, name, source, *order, out)
             }
+            Computation::Cast { source, descr } => cast(alloc, bench, name, source, descr, out),
             _ => Err(Refusal::Syntax),
         },
         Value::Load { .. } => Err(Refusal::Syntax),
@@ -88,10 +92,7 @@ fn perform(
 {
     match command {
         Command::Bind { name, value } => bind(alloc, bench, name, value, out),
-        Command::Set { name, index, value } => match value {
-            Argument::Literal(literal) => set(alloc, bench, name, index, literal, out),
-            Argument::Operand(_) => Err(Refusal::Syntax),
-        },
+        Command::Set { name, index, value } => set(alloc, bench, name, index, value, out),
         Command::Delete { name } => delete(bench, name, out),
         Command::Ask(question) => reply(alloc, bench, question, out),
         Command::Update { .. } | Command::Undo | Command::Save { .. } => Err(Refusal::Syntax),
@@ -101,10 +102,17 @@ fn perform(
 /// Carries out a command, appends its reply, and answers whether it was accepted. A refused
 /// command changes nothing. Out of memory is never the answer where a name is unknown, nor for a
 /// command that is not carried out so far, which is refused as `Syntax`.
-pub fn execute(alloc: Global, bench: &mut Bench, command: &Command, out: &mut Vec<u8>) -> bool
+pub fn execute<N: NpyStore>(
+    alloc: Global,
+    bench: &mut Bench,
+    store: &mut N,
+    command: &Command,
+    out: &mut Vec<u8>,
+) -> bool
     requires room { vec_len out.old + 64 ≤ vec_capacity out.old }
     ensures case { (reply : Reply) × (out.new.items ≡ out.old.items ++ reply.text)
-        × (reply.accepted ≡ result) × Case bench.old command.now bench.new reply }
+        × (reply.accepted ≡ result)
+        × WorldCase (world bench.old (N.shelf store.old)) command.now (world bench.new (N.shelf store.new)) reply }
     ensures room { vec_capacity out.old ≤ vec_capacity out.new }
 {
     let before = out.len();
@@ -132,17 +140,23 @@ fn read_line(alloc: Global, line: Line<'_>) -> Result<Option<Command>, Refusal>
 }
 
 /// Answers a line: whether its command was accepted, or nothing where it asks for nothing.
-pub fn answer(alloc: Global, bench: &mut Bench, line: Line<'_>, out: &mut Vec<u8>) -> Option<bool>
+pub fn answer<N: NpyStore>(
+    alloc: Global,
+    bench: &mut Bench,
+    store: &mut N,
+    line: Line<'_>,
+    out: &mut Vec<u8>,
+) -> Option<bool>
     requires empty { out.old.items ≡ [] }
     requires room { 64 ≤ vec_capacity out.old }
     ensures answered { (replies : List Reply) × Tells replies result out.new.items
-        × Answered bench.old (meaning_of_read line.entry) bench.new replies }
+        × Answered (world bench.old (N.shelf store.old)) (meaning_of_read line.entry) (world bench.new (N.shelf store.new)) replies }
     ensures room { vec_capacity out.old ≤ vec_capacity out.new }
 {
     match read_line(alloc, line) {
         Ok(None) => None,
         Ok(Some(command)) => {
-            let accepted = execute(alloc, bench, &command, out);
+            let accepted = execute(alloc, bench, store, &command, out);
             drop(command);
             Some(accepted)
         }

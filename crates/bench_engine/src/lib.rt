@@ -2,6 +2,8 @@
 //! from what is read to what is written.
 #![tactic(auto)]
 
+mod assign;
+mod cast;
 mod contents;
 mod copy;
 mod create;
@@ -12,6 +14,7 @@ mod index;
 mod info;
 mod item;
 mod line;
+mod load;
 mod names;
 mod part;
 mod print;

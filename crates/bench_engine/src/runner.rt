@@ -2,12 +2,14 @@
 ghost use Rattle.std.specs.Prelude.{◌≡◌, ◌≤◌, ◌<◌, ◌+◌, ◌^◌, List, ℕ, Option, length, IfOk, IfSome, IsErrOf};
 ghost use Rattle.bench_engine.specs.Held.{Finished, AnswersAll, AnswersInPart, StoppedReading, StoppedWriting};
 ghost use Rattle.bench_engine.specs.Lines.{lines};
+ghost use Rattle.npy_files.specs.Stores.{Shelf};
 ghost use Rattle.bench_engine.specs.inside.Sessions.{HasRoom, Reading, Turned};
 ghost use Rattle.bench_engine.specs.declared.runner.RunFault.TheVariants.{Write, Memory};
 
 use crate::send::WriteFault;
 use crate::session::{Session, Summary};
 use crate::source::ScriptSource;
+use npy_files::NpyStore;
 use std::alloc::{AllocError, Global};
 use std::io::Write;
 
@@ -45,10 +47,11 @@ const READ_SIZE: usize = 65_538;
 const MAX_READS: u64 = 1 << 32;
 
 /// Takes what one read gives, and answers whether that is the end.
-fn take_turn<S: ScriptSource, W: Write>(
+fn take_turn<S: ScriptSource, W: Write, N: NpyStore>(
     alloc: Global,
     source: &mut S,
     writer: &mut W,
+    store: &mut N,
     session: &mut Session,
     chunk: &mut [u8],
 ) -> Result<bool, RunFault>
@@ -58,47 +61,55 @@ fn take_turn<S: ScriptSource, W: Write>(
     ensures room { HasRoom session.new }
     ensures few { session.new.accepted + session.new.refused ≤ session.old.accepted + session.old.refused + length chunk.old }
     ensures counted { S.reads source.new ≤ S.reads source.old + 1 }
-    ensures ok { IfOk result (λ ended. (unread written : Option (List ℕ)) →
-        Reading unread (S.remaining source.old) written (W.contents writer.old) session.old →
-        Turned ended unread (S.remaining source.new) written (W.contents writer.new) session.new) }
-    ensures read { IsErrOf result RunFault.Read → (unread written : Option (List ℕ)) →
-        Reading unread (S.remaining source.old) written (W.contents writer.old) session.old →
-        StoppedReading unread (S.remaining source.new) written (W.contents writer.new) }
-    ensures write { IsErrOf result RunFault.Write → (unread written : Option (List ℕ)) →
-        Reading unread (S.remaining source.old) written (W.contents writer.old) session.old →
-        StoppedWriting unread (S.remaining source.new) written (W.contents writer.new) }
+    ensures ok { IfOk result (λ ended. (first : Shelf) (unread written : Option (List ℕ)) →
+        Reading first (N.shelf store.old) unread (S.remaining source.old) written (W.contents writer.old) session.old →
+        Turned ended first (N.shelf store.new) unread (S.remaining source.new) written (W.contents writer.new) session.new) }
+    ensures read { IsErrOf result RunFault.Read → (first : Shelf) (unread written : Option (List ℕ)) →
+        Reading first (N.shelf store.old) unread (S.remaining source.old) written (W.contents writer.old) session.old →
+        StoppedReading first (N.shelf store.new) unread (S.remaining source.new) written (W.contents writer.new) }
+    ensures write { IsErrOf result RunFault.Write → (first : Shelf) (unread written : Option (List ℕ)) →
+        Reading first (N.shelf store.old) unread (S.remaining source.old) written (W.contents writer.old) session.old →
+        StoppedWriting first (N.shelf store.new) unread (S.remaining source.new) written (W.contents writer.new) }
     ensures memory { ¬ IsErrOf result RunFault.Memory }
 {
     let count = source.read_some(chunk).ok_or(RunFault::Read)?;
     if count == 0 {
-        session.end(alloc, writer)?;
+        session.end(alloc, writer, store)?;
         return Ok(true);
     }
-    session.feed(alloc, writer, &chunk[..count])?;
+    session.feed(alloc, writer, store, &chunk[..count])?;
     Ok(false)
 }
 
 /// A run of at most so many reads, each of which asks for so many bytes.
-pub fn run_within<S: ScriptSource, W: Write>(
+pub fn run_within<S: ScriptSource, W: Write, N: NpyStore>(
     alloc: Global,
     source: &mut S,
     writer: &mut W,
+    store: &mut N,
     reads: u64,
     size: usize,
 ) -> Result<Summary, RunFault>
     requires reads { reads ≤ 2 ^ 32 }
     requires some { 1 ≤ size }
     requires size { size ≤ 65538 }
-    ensures ok { IfOk result (Finished (S.remaining source.old) (S.remaining source.new) (W.contents writer.old) (W.contents writer.new)) }
-    ensures read { IsErrOf result RunFault.Read → StoppedReading (S.remaining source.old) (S.remaining source.new) (W.contents writer.old) (W.contents writer.new) }
-    ensures write { IsErrOf result RunFault.Write → StoppedWriting (S.remaining source.old) (S.remaining source.new) (W.contents writer.old) (W.contents writer.new) }
-    ensures memory { IsErrOf result RunFault.Memory → (source.new ≡ source.old) × (writer.new ≡ writer.old) }
+    ensures ok { IfOk result (Finished (N.shelf store.old) (N.shelf store.new) (S.remaining source.old) (S.remaining source.new) (W.contents writer.old) (W.contents writer.new)) }
+    ensures read { IsErrOf result RunFault.Read → StoppedReading (N.shelf store.old) (N.shelf store.new) (S.remaining source.old) (S.remaining source.new) (W.contents writer.old) (W.contents writer.new) }
+    ensures write { IsErrOf result RunFault.Write → StoppedWriting (N.shelf store.old) (N.shelf store.new) (S.remaining source.old) (S.remaining source.new) (W.contents writer.old) (W.contents writer.new) }
+    ensures memory { IsErrOf result RunFault.Memory → (source.new ≡ source.old) × (writer.new ≡ writer.old) × (store.new ≡ store.old) }
     ensures reads { S.reads source.new ≤ S.reads source.old + reads }
 {
     let mut session = Session::new(alloc)?;
     let mut chunk = vec![in alloc; 0u8; size]?;
     for turn in 0..reads {
-        if take_turn(alloc, source, writer, &mut session, chunk.as_mut_slice())? {
+        if take_turn(
+            alloc,
+            source,
+            writer,
+            store,
+            &mut session,
+            chunk.as_mut_slice(),
+        )? {
             return Ok(session.into_summary());
         }
     }
@@ -106,26 +117,27 @@ pub fn run_within<S: ScriptSource, W: Write>(
 }
 
 /// Runs the script that is read, and writes the replies: for every script the bytes that are
-/// written and the state that is left are those of the machine, in which each command is the
+/// written, the state and the files that are left are those of the machine, in which each command is the
 /// machine's step or is refused as out of memory with nothing changed.
 ///
 /// A script ends where a read gives no byte. Each reply is written whole before the next line is
 /// looked at. `RunFault::Memory` comes before the first read.
-pub fn run<S: ScriptSource, W: Write>(
+pub fn run<S: ScriptSource, W: Write, N: NpyStore>(
     alloc: Global,
     source: &mut S,
     writer: &mut W,
+    store: &mut N,
 ) -> Result<Summary, RunFault>
     // The whole script is known before it is read.
     ensures script { IfOk result (λ summary. IfSome (S.remaining source.old) (λ script.
-        AnswersAll script (W.contents writer.old) (W.contents writer.new) summary)) }
+        AnswersAll script (N.shelf store.old) (N.shelf store.new) (W.contents writer.old) (W.contents writer.new) summary)) }
     ensures part { IsErrOf result RunFault.Write → IfSome (S.remaining source.old) (λ script.
-        AnswersInPart (lines script) (W.contents writer.old) (W.contents writer.new)) }
-    ensures ok { IfOk result (Finished (S.remaining source.old) (S.remaining source.new) (W.contents writer.old) (W.contents writer.new)) }
-    ensures read { IsErrOf result RunFault.Read → StoppedReading (S.remaining source.old) (S.remaining source.new) (W.contents writer.old) (W.contents writer.new) }
-    ensures write { IsErrOf result RunFault.Write → StoppedWriting (S.remaining source.old) (S.remaining source.new) (W.contents writer.old) (W.contents writer.new) }
-    ensures memory { IsErrOf result RunFault.Memory → (source.new ≡ source.old) × (writer.new ≡ writer.old) }
+        AnswersInPart (lines script) (N.shelf store.old) (N.shelf store.new) (W.contents writer.old) (W.contents writer.new)) }
+    ensures ok { IfOk result (Finished (N.shelf store.old) (N.shelf store.new) (S.remaining source.old) (S.remaining source.new) (W.contents writer.old) (W.contents writer.new)) }
+    ensures read { IsErrOf result RunFault.Read → StoppedReading (N.shelf store.old) (N.shelf store.new) (S.remaining source.old) (S.remaining source.new) (W.contents writer.old) (W.contents writer.new) }
+    ensures write { IsErrOf result RunFault.Write → StoppedWriting (N.shelf store.old) (N.shelf store.new) (S.remaining source.old) (S.remaining source.new) (W.contents writer.old) (W.contents writer.new) }
+    ensures memory { IsErrOf result RunFault.Memory → (source.new ≡ source.old) × (writer.new ≡ writer.old) × (store.new ≡ store.old) }
     ensures reads { S.reads source.new ≤ S.reads source.old + 2 ^ 32 }
 {
-    run_within(alloc, source, writer, MAX_READS, READ_SIZE)
+    run_within(alloc, source, writer, store, MAX_READS, READ_SIZE)
 }

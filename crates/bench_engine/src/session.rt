@@ -5,12 +5,14 @@ ghost use Rattle.bench_engine.specs.Held.{AnswersInPart};
 ghost use Rattle.bench_engine.specs.Lines.{ended, lines, whole_lines};
 ghost use Rattle.bench_engine.specs.Meanings.{AnswersLine};
 ghost use Rattle.bench_engine.specs.inside.Sessions.{HoldsPiece, HasRoom, FedMachine, Told, ToldInPart, AnswersHeld, HasTold, IsNew};
-ghost use Rattle.name_store.specs.States.{start};
+ghost use Rattle.npy_files.specs.Stores.{Shelf};
+ghost use Rattle.bench_engine.specs.Worlds.{world, start_with};
 
 use crate::engine::{MAX_REFUSAL_LEN, answer};
 use crate::line::HeldLine;
 use crate::send::{WriteFault, send_line};
 use name_store::Bench;
+use npy_files::NpyStore;
 use std::alloc::{AllocError, Global};
 use std::io::Write;
 
@@ -35,16 +37,22 @@ pub struct Session {
 
 impl Session {
     /// Answers the line, and begins the next one. What is answered stands in `out`.
-    fn answer_line(&mut self, alloc: Global) -> Option<bool>
+    fn answer_line<N: NpyStore>(&mut self, alloc: Global, store: &mut N) -> Option<bool>
         requires room { HasRoom self.old }
         requires few { self.old.accepted + self.old.refused < 2 ^ 50 }
         ensures room { HasRoom self.new }
         ensures next { HoldsPiece self.new.line [] }
         ensures few { self.new.accepted + self.new.refused ≤ self.old.accepted + self.old.refused + 1 }
-        ensures answered { AnswersHeld self.old self.new result }
+        ensures answered { AnswersHeld (N.shelf store.old) (N.shelf store.new) self.old self.new result }
     {
         self.out.clear();
-        let answered = answer(alloc, &mut self.bench, self.line.line(), &mut self.out);
+        let answered = answer(
+            alloc,
+            &mut self.bench,
+            store,
+            self.line.line(),
+            &mut self.out,
+        );
         self.line.clear();
         match answered {
             Some(true) => self.accepted += 1,
@@ -55,26 +63,32 @@ impl Session {
     }
 
     /// Answers the line, begins the next one, and sends the reply.
-    fn finish_line<W: Write>(&mut self, alloc: Global, writer: &mut W) -> Result<(), WriteFault>
+    fn finish_line<W: Write, N: NpyStore>(
+        &mut self,
+        alloc: Global,
+        writer: &mut W,
+        store: &mut N,
+    ) -> Result<(), WriteFault>
         requires room { HasRoom self.old }
         requires few { self.old.accepted + self.old.refused < 2 ^ 50 }
         ensures room { HasRoom self.new }
         ensures next { HoldsPiece self.new.line [] }
         ensures few { self.new.accepted + self.new.refused ≤ self.old.accepted + self.old.refused + 1 }
-        ensures ok { OnOk result (Told AnswersLine self.old.bench self.new.bench (W.contents writer.old) (W.contents writer.new) self.old self.new) }
-        ensures err { OnErr result (ToldInPart AnswersLine self.old.bench self.new.bench (W.contents writer.old) (W.contents writer.new) self.old) }
+        ensures ok { OnOk result (Told AnswersLine (world self.old.bench (N.shelf store.old)) (world self.new.bench (N.shelf store.new)) (W.contents writer.old) (W.contents writer.new) self.old self.new) }
+        ensures err { OnErr result (ToldInPart AnswersLine (world self.old.bench (N.shelf store.old)) (world self.new.bench (N.shelf store.new)) (W.contents writer.old) (W.contents writer.new) self.old) }
     {
-        if self.answer_line(alloc).is_none() {
+        if self.answer_line(alloc, store).is_none() {
             return Ok(());
         }
         send_line(writer, &mut self.out)
     }
 
     /// Takes the last piece of a line, which a newline ends.
-    fn take_line<W: Write>(
+    fn take_line<W: Write, N: NpyStore>(
         &mut self,
         alloc: Global,
         writer: &mut W,
+        store: &mut N,
         piece: &[u8],
     ) -> Result<(), WriteFault>
         requires room { HasRoom self.old }
@@ -82,38 +96,39 @@ impl Session {
         requires one { ended piece.now ≡ [] }
         ensures room { HasRoom self.new }
         ensures few { self.new.accepted + self.new.refused ≤ self.old.accepted + self.old.refused + 1 }
-        ensures ok { OnOk result ((before : Option (List ℕ)) (read : List ℕ) →
-            FedMachine before (W.contents writer.old) read self.old →
-            FedMachine before (W.contents writer.new) (read ++ piece.now ++ 10 ∷ []) self.new) }
-        ensures err { OnErr result ((before : Option (List ℕ)) (read more : List ℕ) →
-            FedMachine before (W.contents writer.old) read self.old →
-            AnswersInPart (whole_lines (read ++ piece.now ++ 10 ∷ more)) before (W.contents writer.new)) }
+        ensures ok { OnOk result ((first : Shelf) (before : Option (List ℕ)) (read : List ℕ) →
+            FedMachine first (N.shelf store.old) before (W.contents writer.old) read self.old →
+            FedMachine first (N.shelf store.new) before (W.contents writer.new) (read ++ piece.now ++ 10 ∷ []) self.new) }
+        ensures err { OnErr result ((first : Shelf) (before : Option (List ℕ)) (read more : List ℕ) →
+            FedMachine first (N.shelf store.old) before (W.contents writer.old) read self.old →
+            AnswersInPart (whole_lines (read ++ piece.now ++ 10 ∷ more)) first (N.shelf store.new) before (W.contents writer.new)) }
     {
         self.line.hold(piece);
-        self.finish_line(alloc, writer)
+        self.finish_line(alloc, writer, store)
     }
 
     /// Takes the next bytes that were read.
-    pub fn feed<W: Write>(
+    pub fn feed<W: Write, N: NpyStore>(
         &mut self,
         alloc: Global,
         writer: &mut W,
+        store: &mut N,
         bytes: &[u8],
     ) -> Result<(), WriteFault>
         requires room { HasRoom self.old }
         requires few { self.old.accepted + self.old.refused + length bytes.now < 2 ^ 50 }
         ensures room { HasRoom self.new }
         ensures few { self.new.accepted + self.new.refused ≤ self.old.accepted + self.old.refused + length bytes.now }
-        ensures ok { OnOk result ((before : Option (List ℕ)) (read : List ℕ) →
-            FedMachine before (W.contents writer.old) read self.old →
-            FedMachine before (W.contents writer.new) (read ++ bytes.now) self.new) }
-        ensures err { OnErr result ((before : Option (List ℕ)) (read : List ℕ) →
-            FedMachine before (W.contents writer.old) read self.old →
-            AnswersInPart (whole_lines (read ++ bytes.now)) before (W.contents writer.new)) }
+        ensures ok { OnOk result ((first : Shelf) (before : Option (List ℕ)) (read : List ℕ) →
+            FedMachine first (N.shelf store.old) before (W.contents writer.old) read self.old →
+            FedMachine first (N.shelf store.new) before (W.contents writer.new) (read ++ bytes.now) self.new) }
+        ensures err { OnErr result ((first : Shelf) (before : Option (List ℕ)) (read : List ℕ) →
+            FedMachine first (N.shelf store.old) before (W.contents writer.old) read self.old →
+            AnswersInPart (whole_lines (read ++ bytes.now)) first (N.shelf store.new) before (W.contents writer.new)) }
     {
         let mut rest = bytes;
         while let Some(end) = newline(rest) {
-            self.take_line(alloc, writer, &rest[..end])?;
+            self.take_line(alloc, writer, store, &rest[..end])?;
             rest = &rest[end + 1..];
         }
         self.line.hold(rest);
@@ -138,22 +153,27 @@ impl Session {
     }
 
     /// Answers a last line that no newline ends, if there is one.
-    pub fn end<W: Write>(&mut self, alloc: Global, writer: &mut W) -> Result<(), WriteFault>
+    pub fn end<W: Write, N: NpyStore>(
+        &mut self,
+        alloc: Global,
+        writer: &mut W,
+        store: &mut N,
+    ) -> Result<(), WriteFault>
         requires room { HasRoom self.old }
         requires few { self.old.accepted + self.old.refused < 2 ^ 50 }
         ensures room { HasRoom self.new }
         ensures few { self.new.accepted + self.new.refused ≤ self.old.accepted + self.old.refused + 1 }
-        ensures ok { OnOk result ((before : Option (List ℕ)) (read : List ℕ) →
-            FedMachine before (W.contents writer.old) read self.old →
-            HasTold AnswersLine start self.new.bench before (W.contents writer.new) (lines read) self.new) }
-        ensures err { OnErr result ((before : Option (List ℕ)) (read : List ℕ) →
-            FedMachine before (W.contents writer.old) read self.old →
-            AnswersInPart (lines read) before (W.contents writer.new)) }
+        ensures ok { OnOk result ((first : Shelf) (before : Option (List ℕ)) (read : List ℕ) →
+            FedMachine first (N.shelf store.old) before (W.contents writer.old) read self.old →
+            HasTold AnswersLine (start_with first) (world self.new.bench (N.shelf store.new)) before (W.contents writer.new) (lines read) self.new) }
+        ensures err { OnErr result ((first : Shelf) (before : Option (List ℕ)) (read : List ℕ) →
+            FedMachine first (N.shelf store.old) before (W.contents writer.old) read self.old →
+            AnswersInPart (lines read) first (N.shelf store.new) before (W.contents writer.new)) }
     {
         if self.line.is_empty() {
             return Ok(());
         }
-        self.finish_line(alloc, writer)
+        self.finish_line(alloc, writer, store)
     }
 
     /// What all came to.

@@ -7,6 +7,7 @@ mod words;
 
 use bench_engine::{RunFault, Summary, run};
 use command_line::options;
+use npy_files::DirStore;
 use status::{FAULT, NO_MEMORY, NO_SCRIPT, outcome};
 use std::process::ExitCode;
 use std::rt::Files;
@@ -33,13 +34,19 @@ fn run_script<R: Files + Input + Print + Eprint + AllocGlobal>(
     rt: &R,
     options: &Options,
 ) -> ExitCode {
+    let Ok(mut store) = DirStore::try_new(rt, rt.alloc(), ".") else {
+        return stop(rt, FAULT, NO_MEMORY);
+    };
     let mut writer = io::writer(rt);
     match &options.script {
         Some(path) => match fs::open(rt, path.as_str()) {
-            Ok(mut file) => finish(rt, &run(rt.alloc(), &mut file, &mut writer)),
+            Ok(mut file) => finish(rt, &run(rt.alloc(), &mut file, &mut writer, &mut store)),
             Err(_) => stop(rt, FAULT, NO_SCRIPT),
         },
-        None => finish(rt, &run(rt.alloc(), &mut rt.reader(), &mut writer)),
+        None => finish(
+            rt,
+            &run(rt.alloc(), &mut rt.reader(), &mut writer, &mut store),
+        ),
     }
 }
 

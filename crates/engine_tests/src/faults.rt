@@ -4,6 +4,7 @@ use crate::rows::{FIRST_REPLIES, FIRST_RUN};
 use crate::runs::{check_fault, counts};
 use bench_engine::RunFault;
 use bench_engine::runner::run_within;
+use npy_files::MemStore;
 
 #[test]
 fn a_full_writer_stops_the_run(rt: HostRuntime) {
@@ -40,7 +41,8 @@ fn a_run_makes_few_reads(rt: HostRuntime) {
     let script: &[u8] = b"print q\nprint q\n";
     let mut reader = in_pieces(script, 1);
     let mut writer = Vec::new(rt.alloc());
-    let fault = run_within(rt.alloc(), &mut reader, &mut writer, 10, 1).err();
+    let mut store = MemStore::new(rt.alloc(), 0);
+    let fault = run_within(rt.alloc(), &mut reader, &mut writer, &mut store, 10, 1).err();
     assert_eq!(rt; fault, Some(RunFault::Read));
     assert_eq!(rt; writer.as_slice(), b"no E06 unknown name\n".as_slice());
 }

@@ -2,6 +2,10 @@
 #![tactic(auto)]
 
 #[cfg(test)]
+mod assignments;
+#[cfg(test)]
+mod casts;
+#[cfg(test)]
 mod fakes;
 #[cfg(test)]
 mod faults;

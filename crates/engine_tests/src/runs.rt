@@ -1,17 +1,23 @@
 //! What a run came to, in a few numbers.
 use crate::rows::Row;
 use bench_engine::{RunFault, ScriptSource, run};
+use npy_files::MemStore;
 use std::alloc::Global;
 use std::io::Write;
 use std::process::Abort;
 
-/// How many replies accept a command and how many refuse one, or why the run stopped.
+/// The most bytes of a file.
+const FILE_LIMIT: usize = 1 << 16;
+
+/// How many replies accept a command and how many refuse one, or why the run stopped. The store is
+/// empty at first.
 pub fn counts<S: ScriptSource, W: Write>(
     alloc: Global,
     source: &mut S,
     writer: &mut W,
 ) -> Result<(u64, u64), RunFault> {
-    let summary = run(alloc, source, writer)?;
+    let mut store = MemStore::new(alloc, FILE_LIMIT);
+    let summary = run(alloc, source, writer, &mut store)?;
     Ok((summary.accepted, summary.refused))
 }
 

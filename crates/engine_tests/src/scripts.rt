@@ -1,14 +1,24 @@
 //! Scripts with their replies.
+use crate::assignments::ASSIGNMENTS;
+use crate::casts::CASTS;
 use crate::fakes::in_pieces;
-use crate::rows::ROWS;
+use crate::rows::{ROWS, Row};
 use crate::runs::check_row;
+use std::alloc::Global;
+use std::process::Abort;
+
+fn check_rows(rt: &impl Abort, alloc: Global, rows: &[Row]) {
+    for row in rows {
+        let mut reader = row.script;
+        check_row(rt, alloc, &mut reader, row);
+    }
+}
 
 #[test]
 fn rows_reply(rt: HostRuntime) {
-    for row in &ROWS {
-        let mut reader = row.script;
-        check_row(&rt, rt.alloc(), &mut reader, row);
-    }
+    check_rows(&rt, rt.alloc(), &ROWS);
+    check_rows(&rt, rt.alloc(), &ASSIGNMENTS);
+    check_rows(&rt, rt.alloc(), &CASTS);
 }
 
 #[test]

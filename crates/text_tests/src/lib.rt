@@ -4,7 +4,11 @@
 #[cfg(test)]
 mod descriptors;
 #[cfg(test)]
+mod files;
+#[cfg(test)]
 mod formats;
+#[cfg(test)]
+mod headers;
 #[cfg(test)]
 mod lines;
 #[cfg(test)]

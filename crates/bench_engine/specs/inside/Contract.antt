@@ -1,9 +1,10 @@
 -- What a call that carries out a command answers.
-use Rattle.std.specs.Prelude.{◌≡◌, ◌⊎◌, ℕ, Bool, IsTrue, List, ◌++◌, Result, Ok, Err}
+use Rattle.std.specs.Prelude.{◌≡◌, ◌⊎◌, ℕ, Bool, true, IsTrue, List, ◌++◌, Result, Ok, Err}
 use Rattle.std.specs.Io.{StartsWith}
 use Rattle.elem_descr.specs.declared.refusal.Refusal.{Refusal}
 use Rattle.elem_descr.specs.declared.refusal.Refusal.TheVariants.{OutOfMemory}
 use Rattle.name_store.specs.States.{State}
+use Rattle.bench_engine.specs.Replies.{Reply, refusal}
 use Rattle.bench_engine.specs.Machine.{Choice, Outcome, IsAllowed, comes_to}
 
 -- a refusal is that of the machine, whatever it chooses, or out of memory, where that may be
@@ -17,3 +18,8 @@ CarriesOut may_lack outcome old new before after (Ok _) =
     (choice : Choice) × IsAllowed old choice × (reply : List ℕ) × (outcome choice ≡ comes_to new reply) × (after ≡ before ++ reply)
 CarriesOut may_lack outcome old new before after (Err refusal) =
     (new ≡ old) × StartsWith after before × IsRefused may_lack outcome refusal
+
+-- Carried out with a reply, which stands at the end of out, or refused.
+abbrev pub Carried : (Reply → Type 0) → List ℕ → List ℕ → Result (Unit {0}) Refusal → Type 0
+Carried Done before after (Ok _) = (text : List ℕ) × Done (record { text = text; accepted = true }) × (after ≡ before ++ text)
+Carried Done before after (Err refused) = StartsWith after before × Done (refusal refused)

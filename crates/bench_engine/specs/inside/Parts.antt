@@ -17,7 +17,7 @@ use Rattle.bench_engine.specs.declared.part.Part.{Part}
 use Rattle.bench_engine.specs.declared.part.PartOrCopy.{PartOrCopy}
 use Rattle.bench_engine.specs.declared.part.PartOrCopy.TheVariants as given
 use Rattle.bench_engine.specs.inside.OwnContents.{held}
-use Rattle.bench_engine.specs.Machine.{ViewOrCopy, a_view, a_copy, copied, duplicated, seen}
+use Rattle.bench_engine.specs.Machine.{ViewOrCopy, a_view, a_copy, cast_contents, copied, duplicated, seen}
 use Rattle.bench_engine.specs.declared.replies.Origin.TheVariants as origin
 use Rattle.bench_engine.specs.Replies.{bound_text}
 
@@ -50,6 +50,11 @@ Duplicates shape r result = (s : State) (array : Array) → Shows s array r → 
 -- unless memory ran out
 abbrev pub Copies : MemoryOrder → ArrayRef → Result Owned Refusal → Type 0
 Copies order r result = (s : State) (array : Array) → Shows s array r → Gives held result (copied s array order array.shape)
+
+-- what a block holds is what its items are as those of another element type, in each state that has it; a refusal is the one that
+-- is there, unless memory ran out
+abbrev pub Casts : List ℕ → ArrayRef → Result Owned Refusal → Type 0
+Casts text r result = (s : State) (array : Array) → Shows s array r → Gives held result (cast_contents s array text)
 
 -- what a name is bound to where this is seen of an array in the buffer with this number
 abbrev pub bound_of : ℕ → PartOrCopy → Bound

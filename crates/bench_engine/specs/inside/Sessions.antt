@@ -7,6 +7,8 @@ use Rattle.bench_engine.specs.declared.session.Session.{Session}
 use Rattle.bench_engine.specs.Replies.{Reply}
 use Rattle.bench_engine.specs.Lines.{lines, whole_lines, unended, trimmed}
 use Rattle.bench_engine.specs.Meanings.{limit, AnswersLine}
+use Rattle.npy_files.specs.Stores.{Shelf}
+use Rattle.bench_engine.specs.Worlds.{world, start_with}
 use Rattle.bench_engine.specs.inside.ReadLines.{Tells}
 use Rattle.bench_engine.specs.Runs.{Run, output, reply_line, accepted_count, refused_count}
 
@@ -28,10 +30,10 @@ pub record HasRoom (s : Session) : Type 0 where
   pub out : 64 ≤ vec_capacity s.out
 
 -- The line that is held is answered, what is answered stands in out, and the next line is empty.
-pub record AnswersHeld (old new : Session) (answered : Option Bool) : Type 0 where
+pub record AnswersHeld (shelf shelf' : Shelf) (old new : Session) (answered : Option Bool) : Type 0 where
   pub replies : List Reply
   pub tells : Tells replies answered new.out.items
-  pub answers : (piece : List ℕ) → HoldsPiece old.line piece → AnswersLine old.bench (trimmed piece) new.bench replies
+  pub answers : (piece : List ℕ) → HoldsPiece old.line piece → AnswersLine (world old.bench shelf) (trimmed piece) (world new.bench shelf') replies
   pub accepted : new.accepted ≡ old.accepted + accepted_count replies
   pub refused : new.refused ≡ old.refused + refused_count replies
 
@@ -67,23 +69,23 @@ pub record Fed {World : Type 0} (Answer : World → List ℕ → World → List 
   pub held : HoldsPiece s.line (unended bytes)
 
 -- The same of the machine, from the empty state.
-abbrev pub FedMachine : Option (List ℕ) → Option (List ℕ) → List ℕ → Session → Type 0
-FedMachine written written' bytes s = Fed AnswersLine start s.bench written written' bytes s
+abbrev pub FedMachine : Shelf → Shelf → Option (List ℕ) → Option (List ℕ) → List ℕ → Session → Type 0
+FedMachine shelf shelf' written written' bytes s = Fed AnswersLine (start_with shelf) (world s.bench shelf') written written' bytes s
 
 -- What was read so far is fed to the session.
-pub record Reading (unread unread' written written' : Option (List ℕ)) (s : Session) : Type 0 where
+pub record Reading (shelf shelf' : Shelf) (unread unread' written written' : Option (List ℕ)) (s : Session) : Type 0 where
   pub input : List ℕ
   pub consumes : Consumes unread unread' input
-  pub fed : FedMachine written written' input s
+  pub fed : FedMachine shelf shelf' written written' input s
 
 -- All lines of what was read are answered, and nothing is left.
-pub record Ended (unread unread' written written' : Option (List ℕ)) (s : Session) : Type 0 where
+pub record Ended (shelf shelf' : Shelf) (unread unread' written written' : Option (List ℕ)) (s : Session) : Type 0 where
   pub input : List ℕ
   pub consumes : Consumes unread unread' input
   pub at_end : IsAtEnd unread'
-  pub told : HasTold AnswersLine start s.bench written written' (lines input) s
+  pub told : HasTold AnswersLine (start_with shelf) (world s.bench shelf') written written' (lines input) s
 
-abbrev pub Turned : Bool → Option (List ℕ) → Option (List ℕ) → Option (List ℕ) → Option (List ℕ) → Session → Type 0
+abbrev pub Turned : Bool → Shelf → Shelf → Option (List ℕ) → Option (List ℕ) → Option (List ℕ) → Option (List ℕ) → Session → Type 0
 Turned true = Ended
 Turned false = Reading
 

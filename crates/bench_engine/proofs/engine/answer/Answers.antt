@@ -6,14 +6,14 @@ use Rattle.bench_engine.proofs.Steps.{answered, silent_line, refused_line}
 use Rattle.bench_engine.proofs.engine.answer.Goals as goal
 
 pub returns-in-Ok-None-clause-answered : goal.returns-in-Ok-None-clause-answered
-returns-in-Ok-None-clause-answered c = ([], (refl, c.requires.empty), silent_line _ _ (rw c.in-Ok-None.field-0-is at c.in-Ok-None.ensures))
+returns-in-Ok-None-clause-answered g c = ([], (refl, c.requires.empty), silent_line _ _ (rw c.in-Ok-None.field-0-is at c.in-Ok-None.ensures))
 
 pub returns-in-Ok-Some-clause-answered : goal.returns-in-Ok-Some-clause-answered
-returns-in-Ok-Some-clause-answered c =
+returns-in-Ok-Some-clause-answered g c =
     let done = c.execute-accepted.ensures.case in
     (done.0 ∷ [], (done.0, refl, done.2, done.1 ∙ ap (λ before. before ++ done.0.text) c.requires.empty), answered _ _ _ _ _ (rw c.in-Ok-Some.field-0-is at c.in-Ok-Some.ensures) done.3)
 
 pub returns-in-Err-clause-answered : goal.returns-in-Err-clause-answered
-returns-in-Err-clause-answered c =
+returns-in-Err-clause-answered g c =
     let text : c.extend_from_slice.new.self.items ≡ refusal_text c.in-Err.refusal = grind (arith, common_steps, c.requires.empty, c.word.ensures.text) in
     (refusal c.in-Err.refusal ∷ [], (refusal c.in-Err.refusal, refl, refl, text), refused_line _ _ _ c.in-Err.ensures)

@@ -9,3 +9,6 @@ returns-in-View-clause-answers c = rw (c.in-View.is, and-true) c.view.ensures.an
 
 pub returns-in-Duplicate-clause-answers : goal.returns-in-Duplicate-clause-answers
 returns-in-Duplicate-clause-answers c = rw (c.in-Compute.is, c.in-Duplicate.is, and-true) c.copy.ensures.answers
+
+pub returns-in-Cast-clause-answers : goal.returns-in-Cast-clause-answers
+returns-in-Cast-clause-answers c = rw (c.in-Compute.is, c.in-Cast.is, and-true) c.cast.ensures.answers

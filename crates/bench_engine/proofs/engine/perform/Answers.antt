@@ -1,11 +1,10 @@
-use Rattle.std.proofs.Math.Bool.{and-true}
 use Rattle.bench_engine.proofs.engine.perform.Goals as goal
 
 pub returns-in-Bind-clause-answers : goal.returns-in-Bind-clause-answers
 returns-in-Bind-clause-answers c = rw c.in-Bind.is c.bind.ensures.answers
 
-pub returns-in-Literal-clause-answers : goal.returns-in-Literal-clause-answers
-returns-in-Literal-clause-answers c = rw (c.in-Set.is, c.in-Literal.is, and-true) c.set.ensures.answers
+pub returns-in-Set-clause-answers : goal.returns-in-Set-clause-answers
+returns-in-Set-clause-answers c = rw c.in-Set.is c.set.ensures.answers
 
 pub returns-in-Delete-clause-answers : goal.returns-in-Delete-clause-answers
 returns-in-Delete-clause-answers c = rw c.in-Delete.is c.delete.ensures.answers

@@ -9,5 +9,5 @@ invariant-loop-turn g l = record {
   few : l.session.accepted + l.session.refused ≤ 65538 * l.turn;
   chunk : vec_len l.chunk ≡ l.size;
   counted : g.S.ScriptSource.reads l.source ≤ g.S.ScriptSource.reads l.fn.source + l.turn;
-  fed : Reading (g.S.ScriptSource.remaining l.fn.source) (g.S.ScriptSource.remaining l.source) (g.W.Write.contents l.fn.writer) (g.W.Write.contents l.writer) l.session;
+  fed : Reading (g.N.NpyStore.shelf l.fn.store) (g.N.NpyStore.shelf l.store) (g.S.ScriptSource.remaining l.fn.source) (g.S.ScriptSource.remaining l.source) (g.W.Write.contents l.fn.writer) (g.W.Write.contents l.writer) l.session;
 }

@@ -5,4 +5,4 @@ use Rattle.bench_engine.proofs.session.Session.finish_line.Goals as goal
 
 pub returns-clause-err : goal.returns-clause-err
 returns-clause-err g c =
-    on_err_weaker c.send_line.result (λ part. told-in-part c.args.self.now c.answer_line.new.self c.answer_line.result _ _ (sym c.if-is_none.ensures) c.answer_line.ensures.answered part) c.send_line.ensures.err
+    on_err_weaker c.send_line.result (λ part. told-in-part _ _ c.args.self.now c.answer_line.new.self c.answer_line.result _ _ (sym c.if-is_none.ensures) c.answer_line.ensures.answered part) c.send_line.ensures.err

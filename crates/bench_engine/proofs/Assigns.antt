@@ -1,0 +1,172 @@
+-- Items that are written to a name's array, and where they come from.
+use Rattle.std.proofs.Common.{◌≡◌, ◌⊎◌, ◌<◌, ◌≤◌, ◌+◌, ◌*◌, ℕ, zero, suc, ◌==◌, Bool, true, false, List, [], ◌∷◌, ◌++◌, length, take, drop, replicate, IfOk, is_ok, map, Option, unwrap_or, refl, sym, ap, ◌∙◌, subst, get_or, slice_index, All, Result, Ok, Err, inl, inr, arith}
+use Rattle.std.specs.List.{Contains, list_all}
+use Rattle.std.proofs.lemmas.List.{length-map}
+use Rattle.std.proofs.lemmas.List.Elements.{All-map, Contains-get_or}
+use Rattle.elem_descr.specs.declared.refusal.Refusal.{Refusal}
+use Rattle.elem_descr.specs.declared.refusal.Refusal.TheVariants.{OutOfMemory, ReadOnly, ShapesDoNotBroadcast}
+use Rattle.elem_descr.specs.Refusals.{◌>>=◌, check}
+use Rattle.elem_descr.specs.declared.descr.Descr.{Descr}
+use Rattle.elem_descr.specs.Items.{item_size, AreAlike}
+use Rattle.elem_descr.specs.declared.leaf.Leaf.{Leaf}
+use Rattle.elem_descr.specs.Encoding.{size, decode}
+use Rattle.elem_descr.specs.Blocks.{item_from}
+use Rattle.elementwise.specs.Casts.{cast_item}
+use Rattle.shape_strides.specs.declared.index_item.IndexItem.{IndexItem}
+use Rattle.shape_strides.specs.declared.index_item.IndexItem.TheVariants.{Ellipsis}
+use Rattle.view_ops.specs.Basics.{basic}
+use Rattle.broadcasting.specs.Broadcasts.{axes_beyond, stretched, stretched_into}
+use Rattle.shape_strides.specs.declared.layout.Layout.{Layout}
+use Rattle.shape_strides.specs.Indexes.{indexes, rank}
+use Rattle.shape_strides.specs.Layouts.{offsets, IsNested}
+use Rattle.view_ops.specs.Views.{View, view_through, IsViewOf, GivesView, KeepsNested}
+use Rattle.name_store.specs.States.{State, Array}
+use Rattle.name_store.specs.Arrays.{buffer_of, descr_of, addresses}
+use Rattle.name_store.specs.Parts.{start_at}
+use Rattle.name_store.specs.Places.{offsets_of}
+use Rattle.name_store.specs.Shown.{Shows}
+use Rattle.name_store.specs.declared.array_ref.ArrayRef.{ArrayRef}
+use Rattle.bench_engine.specs.Machine.{viewed, target_part, source_part}
+use Rattle.bench_engine.specs.inside.Assigns.{LiesIn, GivesPart}
+use Rattle.bench_engine.proofs.Views.{offsets-view, given-view, given-refusal}
+
+-- an array that is shown is a part of itself
+pub lies-whole : (s : State) (a : Array) (r : ArrayRef) → Shows s a r → LiesIn s a a r.layout.now
+lies-whole s a r shows = record {
+  places = a.places;
+  shape = a.shape;
+  part_is = refl;
+  shape_is = shows.view.laid.shape;
+  offsets_are = shows.view.laid.places;
+  among = λ k d below. Contains-get_or a.places k d below;
+  fits = shows.view.laid.fits;
+}
+
+-- a view of a part is a part
+pub lies-viewed : (s : State) (a part : Array) (old new : Layout) (view : View) → LiesIn s a part old → IsViewOf old new view → LiesIn s a (viewed part view) new
+lies-viewed s a part old new view lies is = record {
+  places = view_through lies.places lies.shape view.shape view.leads;
+  shape = view.shape;
+  part_is = λ i. viewed (lies.part_is i) view;
+  shape_is = is.shape;
+  offsets_are = is.places ∙ (λ j. view_through (lies.offsets_are j) (lies.shape_is j) view.shape view.leads)
+      ∙ offsets-view (item_size (buffer_of s a).descr) (start_at (buffer_of s a).descr a.path) lies.places lies.shape view.shape view.leads inside;
+  among = All-map (Contains a.places) (λ index. slice_index lies.places (rank lies.shape (view.leads index))) (indexes view.shape)
+      (λ k d below. lies.among (rank lies.shape (view.leads (get_or (indexes view.shape) k d))) 0 (inside k d below));
+  fits = is.fits _ _ lies.fits;
+}
+  where
+    counted : length (offsets old) ≡ length lies.places
+    counted = ap length lies.offsets_are ∙ length-map lies.places (λ place. item_size (buffer_of s a).descr * place + start_at (buffer_of s a).descr a.path)
+
+    inside : All (λ index. rank lies.shape (view.leads index) < length lies.places) (indexes view.shape)
+    inside = λ k d below.
+        let index : List ℕ = get_or (indexes view.shape) k d in
+        let here : rank old.shape (view.leads index) < length (offsets old) = is.inside k d below in
+        subst (λ (n : ℕ). rank lies.shape (view.leads index) < n) counted (subst (λ (l : List ℕ). rank l (view.leads index) < length (offsets old)) lies.shape_is here)
+
+-- what a call that gives a view of a part answers
+pub view-part : (s : State) (a part : Array) (old : Layout) (result : Result Layout Refusal) (there : Result View Refusal) → LiesIn s a part old → GivesView old result there → GivesPart s a result (there >>= (λ view. Ok (viewed part view)))
+view-part s a part old (Ok new) (Ok view) lies is = lies-viewed s a part old new view lies is
+view-part s a part old (Ok new) (Err e) lies is = absurd is
+view-part s a part old (Err e) (Ok view) lies (inl lacks) = inl lacks
+view-part s a part old (Err e) (Ok view) lies (inr same) = let none : true ≡ false = ap is_ok same in absurd cc
+view-part s a part old (Err e) (Err e') lies (inl lacks) = inl lacks
+view-part s a part old (Err e) (Err e') lies (inr same) = inr (let there : e' ≡ e = cc in ap Err there)
+
+-- ---- the shape of what is stretched
+
+shape-then : (can : Bool) (e : Refusal) (there : Result View Refusal) (f : View → View) (target : List ℕ) → ((view : View) → (f view).shape ≡ target) → IfOk (check can e >>= (λ _. there >>= (λ view. Ok (f view)))) (λ view. view.shape ≡ target)
+shape-then true e (Ok view) f target is = is view
+shape-then true e (Err e') f target is = tt
+shape-then false e there f target is = tt
+
+into-shape : (shape target : List ℕ) → IfOk (stretched_into shape target) (λ view. view.shape ≡ target)
+unfolding stretched_into
+into-shape shape target =
+    shape-then (list_all (λ n. n == 1) (take (axes_beyond (length target) shape) shape)) ShapesDoNotBroadcast (stretched (drop (axes_beyond (length target) shape) shape) target)
+    (λ view. record { shape = target; leads = λ index. replicate (axes_beyond (length target) shape) 0 ++ view.leads index }) target (λ view. refl)
+
+view-shape : (old : Layout) (result : Result Layout Refusal) (there : Result View Refusal) (target : List ℕ) → GivesView old result there → IfOk there (λ view. view.shape ≡ target) → IfOk result (λ l. l.shape ≡ target)
+view-shape old (Ok new) (Ok view) target is shaped = is.shape ∙ shaped
+view-shape old (Ok new) (Err e) target is shaped = absurd is
+view-shape old (Err e) there target is shaped = tt
+
+pub stretched-shape : (old : Layout) (result : Result Layout Refusal) (target : List ℕ) → GivesView old result (stretched_into old.shape target) → IfOk result (λ l. l.shape ≡ target)
+stretched-shape old result target is = view-shape old result (stretched_into old.shape target) target is (into-shape old.shape target)
+
+-- ---- where items are written
+
+pub target-bad : (a : Array) (index : List (IndexItem (List ℕ))) (e : Refusal) → basic a.shape index ≡ Err e → target_part a index ≡ Err e
+unfolding target_part
+target-bad a index e bad = rw bad refl
+
+pub target-fixed : (a : Array) (index : List (IndexItem (List ℕ))) (view : View) → basic a.shape index ≡ Ok view → a.writable ≡ false → target_part a index ≡ Err ReadOnly
+unfolding target_part
+target-fixed a index view good fixed = rw (good, fixed) refl
+
+pub target-done : (a : Array) (index : List (IndexItem (List ℕ))) (view : View) → basic a.shape index ≡ Ok view → a.writable ≡ true → target_part a index ≡ Ok (viewed a view)
+unfolding target_part
+target-done a index view good free = rw (good, free) refl
+
+pub given-target : (s : State) (a : Array) (r : ArrayRef) (index : List (IndexItem (List ℕ))) (new : Layout) → Shows s a r → GivesView r.layout.now (Ok new) (basic r.layout.now.shape index) → r.writable ≡ true → GivesPart s a (Ok new) (target_part a index)
+given-target s a r index new shows given free =
+    let view = given-view r.layout.now new (basic r.layout.now.shape index) given in
+    subst (GivesPart s a (Ok new)) (sym (target-done a index view.0 ((λ i. basic (sym shows.view.laid.shape i) index) ∙ view.1) (sym shows.view.laid.writable_is ∙ free)))
+    (lies-viewed s a a r.layout.now new view.0 (lies-whole s a r shows) view.2)
+
+pub refused-target : (s : State) (a : Array) (r : ArrayRef) (index : List (IndexItem (List ℕ))) (e : Refusal) → Shows s a r → GivesView r.layout.now (Err e) (basic r.layout.now.shape index) → GivesPart s a (Err e) (target_part a index)
+refused-target s a r index e shows given =
+    elim (given-refusal r.layout.now e (basic r.layout.now.shape index) given) as (λ _. (e ≡ OutOfMemory) ⊎ (target_part a index ≡ Err e)) [
+      | inl lacks ↦ inl lacks
+      | inr bad ↦ inr (target-bad a index e ((λ i. basic (sym shows.view.laid.shape i) index) ∙ bad))
+    ]
+
+pub fixed-target : (s : State) (a : Array) (r : ArrayRef) (index : List (IndexItem (List ℕ))) (new : Layout) → Shows s a r → GivesView r.layout.now (Ok new) (basic r.layout.now.shape index) → r.writable ≡ false → target_part a index ≡ Err ReadOnly
+fixed-target s a r index new shows given fixed =
+    let view = given-view r.layout.now new (basic r.layout.now.shape index) given in
+    target-fixed a index view.0 ((λ i. basic (sym shows.view.laid.shape i) index) ∙ view.1) (sym shows.view.laid.writable_is ∙ fixed)
+
+-- they lie apart, where the array may be written
+pub nested-target : (s : State) (a : Array) (r : ArrayRef) (new : Layout) → Shows s a r → KeepsNested r.layout.now new → r.writable ≡ true → IsNested (offsets new) (item_size r.descr.now)
+nested-target s a r new shows kept free = kept _ (subst (λ (d : Descr). IsNested (offsets r.layout.now) (item_size d)) shows.descr (shows.view.laid.nested free))
+
+-- ---- where they come from
+
+pub source-bad : (a : Array) (index : Option (List (IndexItem (List ℕ)))) (shape : List ℕ) (e : Refusal) → basic a.shape (unwrap_or index (Ellipsis ∷ [])) ≡ Err e → source_part a index shape ≡ Err e
+unfolding source_part
+source-bad a index shape e bad = rw bad refl
+
+pub source-then : (a : Array) (index : Option (List (IndexItem (List ℕ)))) (shape : List ℕ) (view : View) → basic a.shape (unwrap_or index (Ellipsis ∷ [])) ≡ Ok view →
+    source_part a index shape ≡ (stretched_into view.shape shape >>= (λ wide. Ok (viewed (viewed a view) wide)))
+unfolding source_part
+source-then a index shape view good = rw good refl
+
+pub refused-source : (s : State) (a : Array) (r : ArrayRef) (index : Option (List (IndexItem (List ℕ)))) (shape : List ℕ) (e : Refusal) → Shows s a r → GivesView r.layout.now (Err e) (basic r.layout.now.shape (unwrap_or index (Ellipsis ∷ []))) →
+    GivesPart s a (Err e) (source_part a index shape)
+refused-source s a r index shape e shows given =
+    elim (given-refusal r.layout.now e (basic r.layout.now.shape (unwrap_or index (Ellipsis ∷ []))) given) as (λ _. (e ≡ OutOfMemory) ⊎ (source_part a index shape ≡ Err e)) [
+      | inl lacks ↦ inl lacks
+      | inr bad ↦ inr (source-bad a index shape e ((λ i. basic (sym shows.view.laid.shape i) (unwrap_or index (Ellipsis ∷ []))) ∙ bad))
+    ]
+
+pub given-source : (s : State) (a : Array) (r : ArrayRef) (index : Option (List (IndexItem (List ℕ)))) (shape : List ℕ) (named : Layout) (result : Result Layout Refusal) → Shows s a r → GivesView r.layout.now (Ok named) (basic r.layout.now.shape (unwrap_or index (Ellipsis ∷ []))) →
+    GivesView named result (stretched_into named.shape shape) → GivesPart s a result (source_part a index shape)
+given-source s a r index shape named result shows given wide =
+    let view = given-view r.layout.now named (basic r.layout.now.shape (unwrap_or index (Ellipsis ∷ []))) given in
+    subst (GivesPart s a result) (sym (source-then a index shape view.0 ((λ i. basic (sym shows.view.laid.shape i) (unwrap_or index (Ellipsis ∷ []))) ∙ view.1)))
+    (view-part s a (viewed a view.0) named result (stretched_into view.0.shape shape) (lies-viewed s a a r.layout.now named view.0 (lies-whole s a r shows) view.2)
+    (subst (λ (l : List ℕ). GivesView named result (stretched_into l shape)) view.2.shape wide))
+
+-- ---- items that a cast leaves as they are
+
+-- items of types that lie alike
+alike-item : (a b : Descr) (block : List ℕ) (offset : ℕ) → AreAlike a b → item_from a block offset ≡ item_from b block offset
+alike-item a b block offset alike = λ i. map (λ leaf. decode leaf.scalar (take (size leaf.scalar) (drop leaf.at (take (alike.size i) (drop offset block))))) (alike.leaves i)
+
+pub kept-items : (a b : Descr) (block offsets : List ℕ) → AreAlike a b → ((offset : ℕ) → offset + item_size a ≤ length block → cast_item a b (item_from a block offset) ≡ item_from b block offset) →
+    All (λ offset. offset + item_size a ≤ length block) offsets → map (item_from a block) offsets ≡ map (λ offset. cast_item a b (item_from a block offset)) offsets
+kept-items a b block [] alike same inside = refl
+kept-items a b block (offset ∷ offsets) alike same inside = λ i.
+    (alike-item a b block offset alike ∙ sym (same offset (inside zero offset (omega arith)))) i
+    ∷ kept-items a b block offsets alike same (λ k d below. inside (suc k) d (omega (arith, below))) i

@@ -1,0 +1,108 @@
+-- Arrays that are cast.
+use Rattle.std.proofs.Common.{◌≡◌, ◌⊎◌, ◌≤◌, ◌*◌, ℕ, nat_le, Bool, true, false, List, map, refl, sym, ap, ◌∙◌, subst, if◌then◌else◌, Some, Result, Ok, Err, IfOk, IfErr, None, inl, inr, arith}
+use Rattle.std.proofs.lemmas.Bool.{le-leb}
+use Rattle.std.proofs.lemmas.Simd.{map-map}
+use Rattle.elem_descr.specs.declared.refusal.Refusal.{Refusal}
+use Rattle.elem_descr.specs.declared.refusal.Refusal.TheVariants.{OutOfMemory, TooLarge, NoSuchCast, UnknownName, TooManyNames}
+use Rattle.elem_descr.specs.Refusals.{Gives}
+use Rattle.elem_descr.specs.DescrTexts.{descriptor}
+use Rattle.elem_descr.specs.declared.descr.Descr.{Descr}
+use Rattle.elem_descr.specs.Items.{item_size}
+use Rattle.elem_descr.specs.Blocks.{item_from}
+use Rattle.elem_descr.specs.Values.{LeafValue}
+use Rattle.elementwise.specs.Casts.{can_cast, cast_item}
+use Rattle.shape_strides.specs.declared.memory_order.MemoryOrder.TheVariants.{C}
+use Rattle.shape_strides.specs.Limits.{max_bytes}
+use Rattle.shape_strides.specs.Indexes.{count}
+use Rattle.shape_strides.specs.Layouts.{offsets}
+use Rattle.overlap_copy.specs.declared.owned.Owned.{Owned}
+use Rattle.overlap_copy.specs.Blocks.{offsets_in}
+use Rattle.name_store.specs.States.{State, Array}
+use Rattle.name_store.specs.Arrays.{find_array, has_room_for, descr_of, read}
+use Rattle.name_store.specs.Shown.{Shows}
+use Rattle.name_store.specs.declared.array_ref.ArrayRef.{ArrayRef}
+use Rattle.bench_engine.specs.declared.replies.Origin.TheVariants as origin
+use Rattle.bench_engine.specs.Contents.{Contents, made}
+use Rattle.bench_engine.specs.inside.OwnContents.{held}
+use Rattle.bench_engine.specs.Machine.{Choice, cast_items, cast_contents, cast_outcome, bound_new}
+use Rattle.bench_engine.proofs.Copies.{made-held}
+
+-- ---- what is made
+
+cast-none : (s : State) (a : Array) (descr : Descr) → can_cast (descr_of s a) descr ≡ false → cast_items s a descr ≡ Err NoSuchCast
+unfolding cast_items
+cast-none s a descr none = rw none refl
+
+cast-some : (s : State) (a : Array) (descr : Descr) → can_cast (descr_of s a) descr ≡ true → cast_items s a descr ≡ Ok (map (cast_item (descr_of s a) descr) (read s a))
+unfolding cast_items
+cast-some s a descr can = rw can refl
+
+pub contents-bad : (s : State) (a : Array) (text : List ℕ) (e : Refusal) → descriptor text ≡ Err e → cast_contents s a text ≡ Err e
+unfolding cast_contents
+contents-bad s a text e bad = rw bad refl
+
+contents-none : (s : State) (a : Array) (text : List ℕ) (descr : Descr) (e : Refusal) → descriptor text ≡ Ok descr → cast_items s a descr ≡ Err e → cast_contents s a text ≡ Err e
+unfolding cast_contents
+contents-none s a text descr e good bad = rw (good, bad) refl
+
+contents-large : (s : State) (a : Array) (text : List ℕ) (descr : Descr) (items : List (List LeafValue)) → descriptor text ≡ Ok descr → cast_items s a descr ≡ Ok items → nat_le (count a.shape * item_size descr) max_bytes ≡ false → cast_contents s a text ≡ Err TooLarge
+unfolding cast_contents
+contents-large s a text descr items good there large = rw (good, there, large) refl
+
+contents-done : (s : State) (a : Array) (text : List ℕ) (descr : Descr) (items : List (List LeafValue)) → descriptor text ≡ Ok descr → cast_items s a descr ≡ Ok items → nat_le (count a.shape * item_size descr) max_bytes ≡ true → cast_contents s a text ≡ Ok (made descr a.shape items)
+unfolding cast_contents
+contents-done s a text descr items good there small = rw (good, there, small) refl
+
+cast-held : (s : State) (a : Array) (r : ArrayRef) (text : List ℕ) (descr : Descr) (o : Owned) → Shows s a r → descriptor text ≡ Ok descr → can_cast r.descr.now descr ≡ true → count r.layout.now.shape * item_size descr ≤ max_bytes → o.descr ≡ descr → o.layout.shape ≡ r.layout.now.shape →
+    offsets o.layout ≡ offsets_in C (item_size descr) r.layout.now.shape → map (item_from descr o.block) (offsets o.layout) ≡ map (λ offset. cast_item r.descr.now descr (item_from r.descr.now r.block.now offset)) (offsets r.layout.now) →
+    cast_contents s a text ≡ Ok (held o)
+cast-held s a r text descr o shows good can few typed shaped laid items =
+    contents-done s a text descr (map (cast_item (descr_of s a) descr) (read s a)) good (cast-some s a descr (ap (λ (d : Descr). can_cast d descr) shows.descr ∙ can)) (le-leb (count a.shape * item_size descr) max_bytes fits)
+    ∙ ap Ok ((λ i. made descr (sym shows.view.laid.shape i) (map (cast_item (shows.descr i) descr) (shows.reads i)))
+    ∙ ap (made descr r.layout.now.shape) (map-map (cast_item r.descr.now descr) (item_from r.descr.now r.block.now) (offsets r.layout.now))
+    ∙ made-held C descr r.layout.now.shape (map (λ offset. cast_item r.descr.now descr (item_from r.descr.now r.block.now offset)) (offsets r.layout.now)) o typed shaped laid items)
+  where
+    fits : count a.shape * item_size descr ≤ max_bytes
+    fits = subst (λ (l : List ℕ). count l * item_size descr ≤ max_bytes) shows.view.laid.shape few
+
+cast-refused : (s : State) (a : Array) (r : ArrayRef) (text : List ℕ) (descr : Descr) (e : Refusal) → Shows s a r → descriptor text ≡ Ok descr →
+    e ≡ (if can_cast r.descr.now descr then (if nat_le (count r.layout.now.shape * item_size descr) max_bytes then OutOfMemory else TooLarge) else NoSuchCast) → (e ≡ OutOfMemory) ⊎ (cast_contents s a text ≡ Err e)
+cast-refused s a r text descr e shows good is =
+    elim (can_cast r.descr.now descr) as (λ b. can_cast r.descr.now descr ≡ b → e ≡ (if b then (if nat_le (count r.layout.now.shape * item_size descr) max_bytes then OutOfMemory else TooLarge) else NoSuchCast) → (e ≡ OutOfMemory) ⊎ (cast_contents s a text ≡ Err e)) [
+      | true ↦ λ can told. too-large can told
+      | false ↦ λ none bad. inr (contents-none s a text descr NoSuchCast good (cast-none s a descr (ap (λ (d : Descr). can_cast d descr) shows.descr ∙ none)) ∙ ap Err (sym bad))
+    ] refl is
+  where
+    too-large : can_cast r.descr.now descr ≡ true → e ≡ (if nat_le (count r.layout.now.shape * item_size descr) max_bytes then OutOfMemory else TooLarge) → (e ≡ OutOfMemory) ⊎ (cast_contents s a text ≡ Err e)
+    too-large can told =
+        elim (nat_le (count r.layout.now.shape * item_size descr) max_bytes) as (λ b. nat_le (count r.layout.now.shape * item_size descr) max_bytes ≡ b → e ≡ (if b then OutOfMemory else TooLarge) → (e ≡ OutOfMemory) ⊎ (cast_contents s a text ≡ Err e)) [
+          | true ↦ λ _ lacks. inl lacks
+          | false ↦ λ large bad. inr (contents-large s a text descr (map (cast_item (descr_of s a) descr) (read s a)) good (cast-some s a descr (ap (λ (d : Descr). can_cast d descr) shows.descr ∙ can))
+              (ap (λ (l : List ℕ). nat_le (count l * item_size descr) max_bytes) (sym shows.view.laid.shape) ∙ large) ∙ ap Err (sym bad))
+        ] refl told
+
+pub cast-gives : (s : State) (a : Array) (r : ArrayRef) (text : List ℕ) (descr : Descr) (result : Result Owned Refusal) → Shows s a r → descriptor text ≡ Ok descr → IfOk result (λ o. o.descr ≡ descr) → IfOk result (λ o. o.layout.shape ≡ r.layout.now.shape) →
+    IfOk result (λ o. offsets o.layout ≡ offsets_in C (item_size descr) r.layout.now.shape) →
+    IfOk result (λ o. map (item_from descr o.block) (offsets o.layout) ≡ map (λ offset. cast_item r.descr.now descr (item_from r.descr.now r.block.now offset)) (offsets r.layout.now)) → IfOk result (λ _. can_cast r.descr.now descr ≡ true) →
+    IfOk result (λ _. count r.layout.now.shape * item_size descr ≤ max_bytes) →
+    IfErr result (λ e. e ≡ (if can_cast r.descr.now descr then (if nat_le (count r.layout.now.shape * item_size descr) max_bytes then OutOfMemory else TooLarge) else NoSuchCast)) → Gives held result (cast_contents s a text)
+cast-gives s a r text descr (Ok o) shows good typed shaped laid items can few refused = cast-held s a r text descr o shows good can few typed shaped laid items
+cast-gives s a r text descr (Err e) shows good typed shaped laid items can few refused = cast-refused s a r text descr e shows good refused
+
+-- ---- the command
+
+pub cast-unknown : (choice : Choice) (s : State) (name source text : List ℕ) → find_array s.names source ≡ None → cast_outcome choice s name source text ≡ Err UnknownName
+unfolding cast_outcome
+cast-unknown choice s name source text none = rw none refl
+
+pub cast-many : (choice : Choice) (s : State) (name source text : List ℕ) (a : Array) → find_array s.names source ≡ Some a → has_room_for s name ≡ false → cast_outcome choice s name source text ≡ Err TooManyNames
+unfolding cast_outcome
+cast-many choice s name source text a is full = rw (is, full) refl
+
+pub cast-bad : (choice : Choice) (s : State) (name source text : List ℕ) (a : Array) (e : Refusal) → find_array s.names source ≡ Some a → has_room_for s name ≡ true → cast_contents s a text ≡ Err e → cast_outcome choice s name source text ≡ Err e
+unfolding cast_outcome
+cast-bad choice s name source text a e is room bad = rw (is, room, bad) refl
+
+pub cast-done : (choice : Choice) (s : State) (name source text : List ℕ) (a : Array) (new : Contents) → find_array s.names source ≡ Some a → has_room_for s name ≡ true → cast_contents s a text ≡ Ok new → cast_outcome choice s name source text ≡ bound_new choice s name origin.New new
+unfolding cast_outcome
+cast-done choice s name source text a new is room good = rw (is, room, good) refl

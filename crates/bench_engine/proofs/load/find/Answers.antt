@@ -1,0 +1,25 @@
+use Rattle.std.proofs.Common.{refl, ap, ◌∙◌, inl, inr, subst, Ok, Err, Some, None, List, ℕ}
+use Rattle.npy_files.specs.Files.{Loads, load}
+use Rattle.bench_engine.proofs.LoadedFiles.{finds}
+use Rattle.bench_engine.proofs.load.find.Goals as goal
+
+pub returns-in-Ok-Some-clause-finds : goal.returns-in-Ok-Some-clause-finds
+returns-in-Ok-Some-clause-finds g c =
+    finds (λ bytes. bytes.items) _ _ _ _ c.read.result (Ok (Some c.in-Ok-Some.bytes)) _ c.as_slice.ensures.value (c.in-Ok-Some.is ∙ ap Ok c.in-Ok-Some.field-0-is) c.read.ensures.cause c.read.ensures.found
+    (subst (λ (bytes : List ℕ). Loads c.npy_read.result (load bytes)) c.as_slice-in-Ok-Some.ensures.value c.npy_read.ensures)
+
+pub returns-in-Ok-None-clause-finds : goal.returns-in-Ok-None-clause-finds
+returns-in-Ok-None-clause-finds g c =
+    finds (λ bytes. bytes.items) _ _ _ _ c.read.result _ _ c.as_slice.ensures.value (c.in-Ok-None.is ∙ ap Ok c.in-Ok-None.field-0-is) c.read.ensures.cause c.read.ensures.found (inr refl)
+
+pub returns-in-Err-Device-clause-finds : goal.returns-in-Err-Device-clause-finds
+returns-in-Err-Device-clause-finds g c =
+    finds (λ bytes. bytes.items) _ _ _ _ c.read.result _ _ c.as_slice.ensures.value (c.in-Err-Device.is ∙ ap Err c.in-Err-Device.field-0-is) c.read.ensures.cause c.read.ensures.found (inr refl)
+
+pub returns-in-Err-TooLong-clause-finds : goal.returns-in-Err-TooLong-clause-finds
+returns-in-Err-TooLong-clause-finds g c =
+    finds (λ bytes. bytes.items) _ _ _ _ c.read.result _ _ c.as_slice.ensures.value (c.in-Err-TooLong.is ∙ ap Err c.in-Err-TooLong.field-0-is) c.read.ensures.cause c.read.ensures.found (inr refl)
+
+pub returns-in-Err-Memory-clause-finds : goal.returns-in-Err-Memory-clause-finds
+returns-in-Err-Memory-clause-finds g c =
+    finds (λ bytes. bytes.items) _ _ _ _ c.read.result _ _ c.as_slice.ensures.value (c.in-Err-Memory.is ∙ ap Err c.in-Err-Memory.field-0-is) c.read.ensures.cause c.read.ensures.found (inl refl)

@@ -1,0 +1,14 @@
+-- The world of the machine: the state of the names, and a store of files.
+use Rattle.name_store.specs.States.{State, start}
+use Rattle.npy_files.specs.Stores.{Shelf}
+
+pub record World : Type 0 where
+  pub state : State
+  pub shelf : Shelf
+
+abbrev pub world : State → Shelf → World
+world state shelf = record { state = state; shelf = shelf }
+
+-- no name is bound yet
+abbrev pub start_with : Shelf → World
+start_with shelf = world start shelf

@@ -1,0 +1,113 @@
+//! `X = load "f"`: a name is bound to the array in a file.
+ghost use Rattle.std.specs.Prelude.{◌≡◌, ◌≤◌, ◌++◌, OnOk, codes, decimal, true, vec_capacity};
+ghost use Rattle.std.specs.Io.{StartsWith};
+ghost use Rattle.name_store.specs.Arrays.{has_room_for};
+ghost use Rattle.npy_files.specs.Stores.{IsSameStore};
+ghost use Rattle.bench_engine.specs.declared.replies.Origin.TheVariants as origin;
+ghost use Rattle.bench_engine.specs.Replies.{bound_text};
+ghost use Rattle.bench_engine.specs.Worlds.{world};
+ghost use Rattle.bench_engine.specs.Loads.{bound_loaded};
+ghost use Rattle.bench_engine.specs.Meanings.{LoadCase};
+ghost use Rattle.bench_engine.specs.inside.OwnContents.{held};
+ghost use Rattle.bench_engine.specs.inside.Contract.{CarriesOut, Carried};
+ghost use Rattle.bench_engine.specs.inside.LoadedFiles.{Finds};
+
+use crate::replies::{Origin, push_bound_text};
+use elem_descr::Refusal;
+use name_store::{Bench, Bound};
+use npy_files::{NpyStore, StoreFault, npy_read};
+use overlap_copy::Owned;
+use script_lang::{FileName, Name};
+use std::alloc::{AllocError, Global};
+
+/// The array in a file, and how many bytes are left over behind it.
+fn find<N: NpyStore>(
+    alloc: Global,
+    store: &mut N,
+    file: &FileName,
+) -> Result<(Owned, usize), Refusal>
+    ensures same { IsSameStore (N.shelf store.old) (N.shelf store.new) }
+    ensures files { (N.shelf store.new).files ≡ (N.shelf store.old).files }
+    ensures finds { Finds (N.shelf store.old) (N.shelf store.new) file.now result }
+{
+    match store.read(alloc, file.as_slice()) {
+        Ok(Some(bytes)) => npy_read(alloc, bytes.as_slice()),
+        Ok(None) => Err(Refusal::NoSuchFile),
+        Err(StoreFault::Device) => Err(Refusal::StoreFault),
+        Err(StoreFault::TooLong) => Err(Refusal::FileTooLong),
+        Err(StoreFault::Memory) => Err(Refusal::OutOfMemory),
+    }
+}
+
+/// Appends ` rest N`. Where memory runs out, nothing is appended.
+fn push_rest(alloc: Global, out: &mut Vec<u8>, rest: usize) -> Result<(), AllocError>
+    ensures ok { OnOk result (out.new.items ≡ out.old.items ++ (codes " rest " ++ decimal rest)) }
+    ensures kept { StartsWith out.new.items out.old.items }
+    ensures room { vec_capacity out.old ≤ vec_capacity out.new }
+{
+    let text = format!(in alloc; " rest {rest}")?;
+    out.extend_from_slice(text.as_bytes())
+}
+
+/// Appends `ok X DESCR SHAPE new rest N`. Where memory runs out, some of it may stand past the old end.
+fn push_loaded_text(
+    alloc: Global,
+    out: &mut Vec<u8>,
+    name: &Name,
+    owned: &Owned,
+    rest: usize,
+) -> Result<(), AllocError>
+    ensures ok { OnOk result (out.new.items ≡ out.old.items
+        ++ (bound_text name.now owned.now.descr owned.now.layout.shape origin.New ++ (codes " rest " ++ decimal rest))) }
+    ensures kept { StartsWith out.new.items out.old.items }
+    ensures room { vec_capacity out.old ≤ vec_capacity out.new }
+{
+    push_bound_text(
+        alloc,
+        out,
+        name,
+        &owned.descr,
+        &owned.layout.shape,
+        Origin::New,
+    )?;
+    push_rest(alloc, out, rest)
+}
+
+/// Binds a name, for which there is room, to an array that was loaded. The reply is appended before
+/// the change, which is the last step that may lack memory.
+fn bind_loaded(
+    alloc: Global,
+    bench: &mut Bench,
+    name: &Name,
+    owned: Owned,
+    rest: usize,
+    out: &mut Vec<u8>,
+) -> Result<(), Refusal>
+    requires room { has_room_for bench.old name.now ≡ true }
+    ensures room { vec_capacity out.old ≤ vec_capacity out.new }
+    ensures answers { CarriesOut true (λ choice. bound_loaded choice bench.old name.now rest (held owned))
+        bench.old bench.new out.old.items out.new.items result }
+{
+    push_loaded_text(alloc, out, name, &owned, rest)?;
+    bench.bind(alloc, name, Bound::Fresh(owned))
+}
+
+/// Binds a name to the array in a file. The store is asked only where there is room for the name.
+pub fn load<N: NpyStore>(
+    alloc: Global,
+    bench: &mut Bench,
+    store: &mut N,
+    name: &Name,
+    file: &FileName,
+    out: &mut Vec<u8>,
+) -> Result<(), Refusal>
+    ensures room { vec_capacity out.old ≤ vec_capacity out.new }
+    ensures answers { Carried (LoadCase (world bench.old (N.shelf store.old)) name.now file.now (world bench.new (N.shelf store.new)))
+        out.old.items out.new.items result }
+{
+    if !bench.has_room_for(name) {
+        return Err(Refusal::TooManyNames);
+    }
+    let (owned, rest) = find(alloc, store, file)?;
+    bind_loaded(alloc, bench, name, owned, rest, out)
+}
