@@ -107,7 +107,8 @@ fn cut_files_are_refused(rt: HostRuntime) -> Result<(), Fail> {
     ];
     for (len, reply) in rows {
         let mut store = MemStore::new(rt.alloc(), LIMIT);
-        store.write(rt.alloc(), b"f", &THREE[..len])?;
+        let cut = THREE.get(..len).ok_or("longer than the file")?;
+        store.write(rt.alloc(), b"f", cut)?;
         check_replies(&rt, rt.alloc(), &mut store, b"x = load \"f\"\n", reply);
     }
     Ok(())
