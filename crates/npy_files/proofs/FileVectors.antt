@@ -6,10 +6,9 @@ use Rattle.elem_descr.specs.declared.refusal.Refusal.TheVariants.{TooLarge}
 use Rattle.elem_descr.specs.declared.scalar.Order.TheVariants.{Little, Big}
 use Rattle.elem_descr.specs.declared.scalar.Width.TheVariants.{Two, Four}
 use Rattle.elem_descr.specs.declared.scalar.Scalar.{Scalar}
-use Rattle.elem_descr.specs.declared.scalar.Scalar.TheVariants.{Bool as BoolScalar, Byte, Int, Bytes}
-use Rattle.elem_descr.specs.declared.descr.Descr.{Descr}
+use Rattle.elem_descr.specs.declared.scalar.Scalar.TheVariants.{Byte, Int, Bytes}
 use Rattle.elem_descr.specs.declared.descr.Descr.TheVariants.{Scalar as ScalarDescr, Record as RecordDescr}
-use Rattle.elem_descr.specs.Fields.{Fields, no_more, scalar_field, record_field}
+use Rattle.elem_descr.specs.Fields.{no_more, scalar_field, record_field}
 use Rattle.elem_descr.specs.Values.{LeafValue, number}
 use Rattle.npy_files.specs.WrittenFiles.{is_fortran, saved}
 

@@ -7,3 +7,7 @@ mod Vectors
 mod FileVectors
 pub mod FileLaws
 pub mod WrittenEntries
+pub mod ScalarBytes
+pub mod WrittenItemLaws
+pub mod GatherLaws
+pub mod WriterLaws
