@@ -20,11 +20,13 @@ mod part;
 mod print;
 mod replies;
 pub mod runner;
+mod save;
 mod send;
 mod session;
 mod set;
 mod shares;
 mod source;
+mod store_fault;
 mod view;
 
 pub use engine::execute;
