@@ -8,3 +8,7 @@ pub mod SourceLaws
 pub mod NumberLoops
 pub mod PointLaws
 pub mod PartLaws
+pub mod IndexedLaws
+pub mod PlaceLaws
+pub mod RestLaws
+pub mod CutLaws

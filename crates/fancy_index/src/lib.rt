@@ -1,14 +1,18 @@
 //! Index arrays and masks: which items of an array an index list with arrays takes.
 #![tactic(auto)]
 
+mod axes;
 mod checks;
+mod common;
 mod fill;
 mod gather;
 pub mod kind;
 pub mod plans;
 mod parts;
+mod place;
 mod points;
 mod rank;
+mod rest;
 mod run_moves;
 mod scatter;
 pub mod source;

@@ -2,18 +2,20 @@
 use Rattle.std.specs.Prelude.{◌≡◌, ◌<◌, ◌≤◌, true, ℕ, List, [], ◌∷◌, ◌++◌, map, length, get_or}
 use Rattle.std.specs.List.{list_all, flat_map}
 use Rattle.shape_strides.specs.declared.index_item.IndexItem.{IndexItem}
-use Rattle.shape_strides.specs.Indexes.{rank}
+use Rattle.shape_strides.specs.declared.layout.Layout.{Layout}
+use Rattle.shape_strides.specs.Indexes.{rank, IsIndex}
+use Rattle.shape_strides.specs.Layouts.{address}
 use Rattle.shape_strides.specs.Limits.{max_axes}
 use Rattle.view_ops.specs.declared.pick.AxisPick.{AxisPick}
 use Rattle.view_ops.specs.declared.pick.AxisPick.TheVariants.{At as AtAxis, Along as AlongAxis, New as NewAxis}
 use Rattle.view_ops.specs.Slices.{IsRunWithin}
-use Rattle.view_ops.specs.Basics.{has_step}
+use Rattle.view_ops.specs.Basics.{has_step, picked_index}
 use Rattle.view_ops.specs.Picks.{shown}
 use Rattle.broadcasting.specs.Broadcasts.{can_stretch, broadcast_index}
 use Rattle.fancy_index.specs.declared.parts.IndexPart.{IndexPart}
 use Rattle.fancy_index.specs.declared.parts.IndexPart.TheVariants.{Axis as AxisPart, Points as PointsPart, Between as BetweenPart}
 use Rattle.fancy_index.specs.IndexArrays.{IndexArray, is_index, taken, cover, are_within}
-use Rattle.fancy_index.specs.Parts.{Part, Axis, Between}
+use Rattle.fancy_index.specs.Parts.{Part, Axis, Between, other_axes}
 use Rattle.fancy_index.specs.inside.PointLists.{tuple, shown_points, IsPointList}
 
 -- an index list of which nothing is refused
@@ -70,3 +72,9 @@ rest_of BetweenPart = []
 
 abbrev pub rest_picks : List IndexPart → List AxisPick
 rest_picks parts = flat_map rest_of parts
+
+-- a layout shows what is picked so
+pub record IsRest (layout : Layout) (parts : List IndexPart) (rest : Layout) : Type 0 where
+  pub shape : rest.shape ≡ other_axes (map shown_part parts)
+  pub leads : (index : List ℕ) → IsIndex rest.shape index → IsIndex layout.shape (picked_index (map shown (rest_picks parts)) index)
+  pub same : (index : List ℕ) → IsIndex rest.shape index → address rest index ≡ address layout (picked_index (map shown (rest_picks parts)) index)
