@@ -12,3 +12,4 @@ pub mod IndexedLaws
 pub mod PlaceLaws
 pub mod RestLaws
 pub mod CutLaws
+pub mod ShiftLaws

@@ -46,15 +46,6 @@ fn other_axes(alloc: Global, parts: &[IndexPart]) -> Result<SmallVec<usize, 8>, 
     Ok(lengths)
 }
 
-fn push_all(lengths: &mut SmallVec<usize, 8>, more: &[usize]) -> Result<(), AllocError>
-    ensures { OnOk result (lengths.new.items ≡ lengths.old.items ++ more.now) }
-{
-    for len in more {
-        lengths.push(*len)?;
-    }
-    Ok(())
-}
-
 /// The lengths of all axes: those of the points at their place among the others.
 fn all_axes(
     alloc: Global,
@@ -66,8 +57,8 @@ fn all_axes(
     let others = other_axes(alloc, parts)?;
     let place = points_place(parts);
     let mut lengths = SmallVec::from_slice(alloc, &others.as_slice()[..place])?;
-    push_all(&mut lengths, points)?;
-    push_all(&mut lengths, &others.as_slice()[place..])?;
+    lengths.extend_from_slice(points)?;
+    lengths.extend_from_slice(&others.as_slice()[place..])?;
     Ok(lengths)
 }
 

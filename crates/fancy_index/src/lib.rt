@@ -15,6 +15,7 @@ mod rank;
 mod rest;
 mod run_moves;
 mod scatter;
+mod shifts;
 pub mod source;
 
 pub use kind::{Kind, kind_of};
