@@ -13,3 +13,6 @@ pub mod PlaceLaws
 pub mod RestLaws
 pub mod CutLaws
 pub mod ShiftLaws
+pub mod LeadLaws
+pub mod IndexSplits
+pub mod LaidLaws

@@ -7,6 +7,7 @@ mod common;
 mod fill;
 mod gather;
 pub mod kind;
+mod planning;
 pub mod plans;
 mod parts;
 mod place;
@@ -19,5 +20,6 @@ mod shifts;
 pub mod source;
 
 pub use kind::{Kind, kind_of};
+pub use planning::plan;
 pub use plans::Plan;
 pub use source::Indices;

@@ -1,6 +1,7 @@
 //! Plans: where in a buffer the items are that an index list with arrays takes.
 ghost use Rattle.std.specs.Prelude.{◌≡◌, ◌+◌, ◌*◌, ◌<◌, ◌≤◌, length, slice_index, All, IfOk};
 ghost use Rattle.shape_strides.specs.Limits.{max_bytes};
+ghost use Rattle.shape_strides.specs.Indexes.{count};
 ghost use Rattle.shape_strides.specs.Layouts.{offsets, multiples};
 ghost use Rattle.overlap_copy.specs.Assignments.{items_at, assigned};
 ghost use Rattle.fancy_index.specs.Plans.{moved, moved_all, put_each};
@@ -92,6 +93,23 @@ fn offset_in(outer: &Layout, shifts: &[usize], inner: &Layout, rank: usize) -> u
 }
 
 impl Plan {
+    /// The plan of a shape, with the axes before those of the arrays, where the first item with each of
+    /// their points lies, and the axes behind.
+    pub(crate) fn new(shape: Shape, outer: Layout, shifts: Vec<usize>, inner: Layout) -> Plan
+        requires count { length (moved_all inner.offset (offsets outer) shifts.items (offsets inner)) ≡ count shape }
+        requires small { inner.offset ≤ max_bytes }
+        requires starts { All (AreStarts inner.offset (offsets inner) shifts.items) (offsets outer) }
+        ensures shape { result.shape ≡ shape }
+        ensures offsets { result.offsets ≡ moved_all inner.offset (offsets outer) shifts.items (offsets inner) }
+    {
+        Plan {
+            shape,
+            outer,
+            shifts,
+            inner,
+        }
+    }
+
     /// The shape of the items.
     pub fn shape(&self) -> &Shape
         ensures shape { result.now ≡ self.now.shape }
