@@ -16,3 +16,4 @@ pub mod ShiftLaws
 pub mod LeadLaws
 pub mod IndexSplits
 pub mod LaidLaws
+pub mod AnswerLaws
