@@ -1,19 +1,17 @@
 -- Which answer each exit of a plan has to give.
-use Rattle.std.proofs.Common.{◌≡◌, ◌⊎◌, inl, inr, Result, Ok, Err, ℕ, ◌<◌, ◌≤◌, IsTrue, List, [], map, length, get_or, All, refl, sym, ap, subst, ◌∙◌, arith}
+use Rattle.std.proofs.Common.{◌≡◌, ◌⊎◌, inl, inr, Result, Ok, Err, ℕ, ◌≤◌, IsTrue, List, [], map, length, get_or, All, refl, sym, ap, subst, ◌∙◌, arith}
 use Rattle.std.specs.Result.{is_ok, IfOk, IfErr}
 use Rattle.std.proofs.lemmas.Bool.{false≢true}
 use Rattle.std.proofs.lemmas.List.{nil_from_length, length-map}
 use Rattle.elem_descr.specs.declared.refusal.Refusal.{Refusal}
 use Rattle.elem_descr.specs.declared.refusal.Refusal.TheVariants.{OutOfMemory}
-use Rattle.elem_descr.specs.RefusalLaws.{same_answer}
 use Rattle.shape_strides.specs.declared.layout.Layout.{Layout}
 use Rattle.shape_strides.specs.Limits.{max_axes}
-use Rattle.shape_strides.specs.Indexes.{count, indexes, rank, IsIndex}
+use Rattle.shape_strides.specs.Indexes.{count, indexes, rank}
 use Rattle.shape_strides.specs.Shapes.{shape_of}
 use Rattle.shape_strides.specs.ShapeLaws.{shape_of-same}
 use Rattle.shape_strides.specs.Layouts.{offsets}
 use Rattle.shape_strides.specs.IndexLaws.{length-indexes, rank-lt}
-use Rattle.view_ops.specs.Views.{View}
 use Rattle.broadcasting.specs.Broadcasts.{common_with, can_stretch}
 use Rattle.broadcasting.specs.FitLaws.{with-fits}
 use Rattle.fancy_index.specs.declared.parts.IndexPart.{IndexPart}

@@ -1,5 +1,5 @@
 -- A layout that is cut between two axes: the first axes where the others are 0, and the others where the first are 0.
-use Rattle.std.proofs.Common.{◌≡◌, ◌⊎◌, inl, inr, Result, Ok, Err, ℕ, ◌+◌, ◌-◌, ◌*◌, ◌<◌, ◌≤◌, nat_le, true, List, [], ◌∷◌, ◌++◌, length, get_or, take, drop, All, refl, sym, ap, subst, ◌∙◌, arith, length-drop, length-take-le, take_all, mul-le-mul_left, mul-le-mul_right, mul-one, one-mul}
+use Rattle.std.proofs.Common.{◌≡◌, ◌⊎◌, inl, inr, Result, Ok, Err, ℕ, ◌-◌, ◌*◌, ◌<◌, ◌≤◌, nat_le, true, List, [], ◌∷◌, ◌++◌, length, get_or, take, drop, All, refl, sym, ap, subst, ◌∙◌, arith, length-drop, length-take-le, take_all, mul-le-mul_left, mul-le-mul_right, mul-one, one-mul}
 use Rattle.std.specs.List.{list_all}
 use Rattle.std.specs.Result.{is_ok}
 use Rattle.std.proofs.lemmas.Bool.{false≢true, le-leb}
@@ -20,7 +20,7 @@ use Rattle.shape_strides.specs.Layouts.{address}
 use Rattle.shape_strides.specs.inside.AxisIndexes.{padded}
 use Rattle.shape_strides.specs.CountLaws.{factors_pos}
 use Rattle.shape_strides.specs.IndexLaws.{length-index, IsIndex-append}
-use Rattle.shape_strides.specs.AxisLaws.{dot-nil, dot-zeros, IsIndex-first}
+use Rattle.shape_strides.specs.AxisLaws.{dot-zeros, IsIndex-first}
 use Rattle.shape_strides.specs.ReverseLaws.{count-append}
 use Rattle.shape_strides.specs.ShapeLaws.{shape_of-ok}
 use Rattle.view_ops.specs.inside.Shows.{Shows}

@@ -1,14 +1,14 @@
 -- Indexes of axes that are joined, and lists over them.
-use Rattle.std.proofs.Common.{◌≡◌, ℕ, zero, suc, ◌+◌, ◌<◌, List, [], ◌∷◌, ◌++◌, map, length, get_or, take, drop, All, refl, sym, ap, ◌∙◌, arith, append-nil}
+use Rattle.std.proofs.Common.{◌≡◌, ℕ, List, [], ◌∷◌, ◌++◌, map, length, get_or, take, drop, All, refl, sym, ap, ◌∙◌, arith, append-nil}
 use Rattle.std.specs.List.{flat_map, range_with_len}
-use Rattle.std.proofs.lemmas.List.{length-map, map-append}
+use Rattle.std.proofs.lemmas.List.{map-append}
 use Rattle.std.proofs.lemmas.List.Concat.{flat_map-append}
 use Rattle.std.proofs.lemmas.List.Elements.{All-map, All-head, All-tail}
 use Rattle.std.proofs.lemmas.List.Folds.{flat_map-map}
 use Rattle.std.proofs.lemmas.Simd.{map-map}
 use Rattle.shape_strides.specs.declared.layout.Layout.{Layout}
 use Rattle.shape_strides.specs.Addresses.{natural}
-use Rattle.shape_strides.specs.Indexes.{count, indexes, rank, IsIndex}
+use Rattle.shape_strides.specs.Indexes.{indexes, IsIndex}
 use Rattle.shape_strides.specs.Layouts.{address, offsets}
 use Rattle.shape_strides.specs.IndexLaws.{length-indexes, get_or-indexes, index_at, same_on_indexes}
 use Rattle.fancy_index.specs.Plans.{moved, shifted, shifted_all, moved_all}

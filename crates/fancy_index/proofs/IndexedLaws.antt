@@ -1,5 +1,5 @@
 -- Which answer each check of an index list gives.
-use Rattle.std.proofs.Common.{◌≡◌, Err, ℕ, ◌≤◌, nat_le, Bool, true, false, ◌&&◌, List, [], ◌∷◌, map, length, ap, refl, arith}
+use Rattle.std.proofs.Common.{◌≡◌, Err, ℕ, ◌≤◌, nat_le, true, false, ◌&&◌, List, [], ◌∷◌, map, length, refl, arith}
 use Rattle.std.specs.List.{list_all}
 use Rattle.std.proofs.lemmas.Bool.Decides.{nat_tests}
 use Rattle.elem_descr.specs.declared.refusal.Refusal.TheVariants.{NotAnIndexType, TooManyIndices, MaskLengths, ZeroStep, IndexOutOfRange}

@@ -1,5 +1,5 @@
 -- A plan that is made of the other axes and of the first item with each point.
-use Rattle.std.proofs.Common.{◌≡◌, ℕ, zero, suc, ◌+◌, ◌-◌, ◌*◌, ◌/◌, ◌<◌, ◌≤◌, ◌≤ℤ◌, Bool, true, false, cond, List, [], ◌∷◌, ◌++◌, map, length, get_or, take, drop, All, refl, sym, ap, subst, ◌∙◌, arith, append_assoc, mul_assoc, mul_comm, length-append, length-take-le, length-drop}
+use Rattle.std.proofs.Common.{◌≡◌, ℕ, zero, suc, ◌+◌, ◌*◌, ◌/◌, ◌<◌, ◌≤◌, ◌≤ℤ◌, Bool, true, false, cond, List, [], ◌++◌, map, length, get_or, take, drop, All, sym, ap, subst, ◌∙◌, arith, append_assoc, mul_assoc, mul_comm, length-take-le}
 use Rattle.std.proofs.lemmas.Int.{ints}
 use Rattle.std.proofs.lemmas.Nat.{div-mul-add}
 use Rattle.std.proofs.lemmas.List.{length-map, drop-drop, take-append-drop}
@@ -18,7 +18,7 @@ use Rattle.shape_strides.specs.AxisLaws.{dot-zeros, IsIndex-first}
 use Rattle.shape_strides.specs.LayoutLaws.{pos-natural, get_or-offsets}
 use Rattle.shape_strides.specs.ReverseLaws.{count-append}
 use Rattle.view_ops.specs.Basics.{picked_index}
-use Rattle.view_ops.specs.Views.{View, view_through}
+use Rattle.view_ops.specs.Views.{view_through}
 use Rattle.fancy_index.specs.declared.parts.IndexPart.{IndexPart}
 use Rattle.fancy_index.specs.Parts.{Part, other_axes, side_by_side, axes_before, points_place, leads}
 use Rattle.fancy_index.specs.Indexed.{all_axes, indexed_leads}

@@ -1,6 +1,5 @@
 -- Where the indexes of the result lead, part by part.
-use Rattle.std.proofs.Common.{◌≡◌, ℕ, suc, ◌+◌, ◌<◌, ◌≤◌, true, IsTrue, List, [], ◌∷◌, ◌++◌, map, length, get_or, take, drop, All, refl, sym, ap, subst, ◌∙◌, arith, length-append}
-use Rattle.std.specs.List.{flat_map}
+use Rattle.std.proofs.Common.{◌≡◌, ℕ, ◌+◌, ◌<◌, ◌≤◌, IsTrue, List, [], ◌∷◌, ◌++◌, map, length, get_or, take, drop, All, refl, sym, ap, subst, ◌∙◌, arith, length-append}
 use Rattle.std.proofs.lemmas.Int.{ints}
 use Rattle.std.proofs.lemmas.List.{get_or-map}
 use Rattle.std.proofs.lemmas.List.Elements.{All-head, All-tail, All-cons, All-nil}
@@ -22,8 +21,8 @@ use Rattle.fancy_index.specs.declared.points.PointList.{PointList}
 use Rattle.fancy_index.specs.declared.parts.IndexPart.{IndexPart}
 use Rattle.fancy_index.specs.declared.parts.IndexPart.TheVariants.{Axis as AxisPart, Points as PointsPart, Between as BetweenPart}
 use Rattle.fancy_index.specs.Parts.{point_shapes, other_axes, leads}
-use Rattle.fancy_index.specs.inside.PointLists.{tuple, IsPointList}
-use Rattle.fancy_index.specs.inside.PartLists.{shown_part, AreParts, IsReady, HasPointAt, IsReadyAt, point_of, numbers_at, first_at, rest_picks}
+use Rattle.fancy_index.specs.inside.PointLists.{tuple}
+use Rattle.fancy_index.specs.inside.PartLists.{shown_part, AreParts, IsReady, HasPointAt, IsReadyAt, point_of, first_at, rest_picks}
 use Rattle.fancy_index.proofs.CutLaws.{dot-cut}
 use Rattle.fancy_index.proofs.ShiftLaws.{rank-low, point-low, tuple-in}
 

@@ -1,9 +1,7 @@
 -- What is picked where all points are 0.
-use Rattle.std.proofs.Common.{◌≡◌, ◌⊎◌, inl, inr, Result, Ok, Err, ℕ, suc, ◌+◌, ◌*◌, ◌<◌, ◌≤◌, nat_le, Bool, true, ℤ, pos, List, [], ◌∷◌, ◌++◌, map, length, get_or, take, drop, All, refl, sym, ap, subst, ◌∙◌, arith, take_all, length-drop, length-append, append_assoc}
-use Rattle.std.specs.List.{list_all, flat_map}
+use Rattle.std.proofs.Common.{◌≡◌, ◌⊎◌, inl, inr, Result, Ok, Err, ℕ, ◌+◌, ◌<◌, ◌≤◌, nat_le, true, pos, List, [], ◌∷◌, ◌++◌, map, length, get_or, drop, refl, sym, ap, subst, ◌∙◌, arith, append_assoc}
 use Rattle.std.specs.Result.{is_ok, IfOk, IfErr}
 use Rattle.std.proofs.lemmas.Bool.{false≢true, le-leb}
-use Rattle.std.proofs.lemmas.Bool.Decides.{nat_tests}
 use Rattle.std.proofs.lemmas.List.{get_or-map, drop_more}
 use Rattle.elem_descr.specs.declared.refusal.Refusal.{Refusal}
 use Rattle.elem_descr.specs.declared.refusal.Refusal.TheVariants.{OutOfMemory}
@@ -14,14 +12,14 @@ use Rattle.shape_strides.specs.Layouts.{address, offsets}
 use Rattle.shape_strides.specs.IndexLaws.{length-indexes, rank-lt, get_or-indexes}
 use Rattle.shape_strides.specs.LayoutLaws.{pos-offset}
 use Rattle.view_ops.specs.declared.pick.AxisPick.{AxisPick}
-use Rattle.view_ops.specs.declared.pick.AxisPick.TheVariants.{At as AtAxis, Along as AlongAxis, New as NewAxis}
+use Rattle.view_ops.specs.declared.pick.AxisPick.TheVariants.{At as AtAxis}
 use Rattle.view_ops.specs.Basics.{axis_of, picked_shape, picked_index, shape_picked, picked_view}
 use Rattle.view_ops.specs.Picks.{shown}
-use Rattle.view_ops.specs.Views.{View, view_through, IsViewOf, GivesView}
+use Rattle.view_ops.specs.Views.{View, IsViewOf, GivesView}
 use Rattle.fancy_index.specs.declared.parts.IndexPart.{IndexPart}
 use Rattle.fancy_index.specs.declared.parts.IndexPart.TheVariants.{Axis as AxisPart, Points as PointsPart, Between as BetweenPart}
-use Rattle.fancy_index.specs.Parts.{other_axes, axes_of_part}
-use Rattle.fancy_index.specs.inside.PartLists.{shown_part, rest_of, rest_picks, IsRest}
+use Rattle.fancy_index.specs.Parts.{other_axes}
+use Rattle.fancy_index.specs.inside.PartLists.{shown_part, rest_picks, IsRest}
 
 -- ---- the shape
 
@@ -52,9 +50,9 @@ address-view old new view is index in' =
     let below : rank view.shape index < length (indexes view.shape) = omega (arith, length-indexes view.shape, rank-lt view.shape index in-view) in
     sym (pos-offset new index 0 in')
     ∙ ap pos (
-        (λ i. get_or (is.places i) (rank (is.shape i) index) 0)
-        ∙ get_or-map through (indexes view.shape) (rank view.shape index) [] 0 below
-        ∙ ap through (get_or-indexes view.shape index [] in-view)
+    (λ i. get_or (is.places i) (rank (is.shape i) index) 0)
+    ∙ get_or-map through (indexes view.shape) (rank view.shape index) [] 0 below
+    ∙ ap through (get_or-indexes view.shape index [] in-view)
     )
     ∙ pos-offset old (view.leads index) 0 (is.leads index in-view)
 

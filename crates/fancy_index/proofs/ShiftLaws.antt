@@ -1,19 +1,18 @@
 -- Points of an index of the common lengths, and the first item with each.
-use Rattle.std.proofs.Common.{◌≡◌, ℕ, zero, suc, ◌+◌, ◌-◌, ◌*◌, ◌<◌, ◌≤◌, ◌==◌, true, if◌then◌else◌, List, [], ◌∷◌, ◌++◌, map, length, get_or, take, drop, All, refl, sym, ap, subst, ◌∙◌, arith, add-mul, mul_assoc, mul-le-mul_left, mul-one, length-drop}
-use Rattle.std.proofs.lemmas.List.{drop_more, drop_all, get_or-map, take_more, map-append, get_or-drop, get_or_default}
+use Rattle.std.proofs.Common.{◌≡◌, ℕ, zero, suc, ◌+◌, ◌-◌, ◌*◌, ◌<◌, ◌≤◌, ◌==◌, if◌then◌else◌, List, [], ◌∷◌, ◌++◌, map, length, get_or, take, drop, All, refl, sym, ap, subst, ◌∙◌, arith, add-mul, mul_assoc, mul-le-mul_left, mul-one, length-drop}
+use Rattle.std.proofs.lemmas.List.{drop_more, drop_all, take_more, map-append, get_or-drop, get_or_default}
 use Rattle.std.proofs.Math.Seq.{take-append_seam}
 use Rattle.shape_strides.specs.declared.layout.Layout.{Layout}
-use Rattle.shape_strides.specs.Limits.{max_axes}
 use Rattle.shape_strides.specs.Indexes.{count, indexes, rank, IsIndex}
 use Rattle.shape_strides.specs.IndexLaws.{length-index, length-indexes, rank-lt, get_or-indexes, index_at}
-use Rattle.broadcasting.specs.Broadcasts.{can_stretch, within_axes, broadcast_index}
+use Rattle.broadcasting.specs.Broadcasts.{within_axes, broadcast_index}
 use Rattle.broadcasting.specs.BroadcastLaws.{IsIndex-broadcast}
 use Rattle.broadcasting.specs.FitLaws.{few-axes}
 use Rattle.fancy_index.specs.declared.points.PointList.{PointList}
 use Rattle.fancy_index.specs.declared.parts.IndexPart.{IndexPart}
 use Rattle.fancy_index.specs.declared.parts.IndexPart.TheVariants.{Axis as AxisPart, Points as PointsPart, Between as BetweenPart}
-use Rattle.fancy_index.specs.inside.PointLists.{tuple, IsPointList}
-use Rattle.fancy_index.specs.inside.PartLists.{IsReady, HasPointAt, IsReadyAt, point_of, first_at, first_offset}
+use Rattle.fancy_index.specs.inside.PointLists.{tuple}
+use Rattle.fancy_index.specs.inside.PartLists.{IsReady, HasPointAt, IsReadyAt, point_of, first_offset}
 
 -- ---- the rank of a point, axis by axis
 

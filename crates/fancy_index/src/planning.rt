@@ -78,11 +78,7 @@ fn plan_of_some(
 }
 
 /// The plan of what parts show, or its refusal.
-fn plan_of_parts(
-    alloc: Global,
-    layout: &Layout,
-    parts: &[IndexPart],
-) -> Result<Plan, Refusal>
+fn plan_of_parts(alloc: Global, layout: &Layout, parts: &[IndexPart]) -> Result<Plan, Refusal>
     requires { AreParts layout.now.shape parts.now }
     ensures { GivesPlan layout.now result (parts_view (map shown_part parts.now)) }
 {

@@ -45,11 +45,7 @@ fn rest_picks(alloc: Global, parts: &[IndexPart]) -> Result<SmallVec<AxisPick, 8
 }
 
 /// What is picked of the axes of a layout where all points are 0.
-pub(crate) fn rest(
-    alloc: Global,
-    layout: &Layout,
-    parts: &[IndexPart],
-) -> Result<Layout, Refusal>
+pub(crate) fn rest(alloc: Global, layout: &Layout, parts: &[IndexPart]) -> Result<Layout, Refusal>
     requires picks { ArePicks layout.now.shape (rest_picks parts.now) }
     requires few { length (other_axes (map shown_part parts.now)) ≤ max_axes }
     ensures ok { IfOk result (λ rest. IsRest layout.now parts.now rest) }

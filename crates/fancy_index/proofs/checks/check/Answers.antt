@@ -1,4 +1,4 @@
-use Rattle.std.proofs.Common.{◌≡◌, ◌≤◌, nat_le, true, length, map, sym, ◌∙◌, arith}
+use Rattle.std.proofs.Common.{◌≡◌, nat_le, true, length, map, sym, ◌∙◌, arith}
 use Rattle.std.proofs.lemmas.Bool.Decides.{nat_tests}
 use Rattle.fancy_index.specs.IndexArrays.{taken}
 use Rattle.fancy_index.specs.Sources.{array_of, items_of}

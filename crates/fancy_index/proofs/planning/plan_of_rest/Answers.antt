@@ -1,11 +1,10 @@
-use Rattle.std.proofs.Common.{◌≡◌, ◌<◌, ◌≤◌, ◌/◌, ℕ, List, map, length, take, drop, All, sym, ap, subst, ◌∙◌, arith}
-use Rattle.shape_strides.specs.Indexes.{count, indexes, IsIndex}
+use Rattle.std.proofs.Common.{◌<◌, ◌/◌, ℕ, List, map, length, take, drop, All, sym, ap, subst, ◌∙◌, arith}
+use Rattle.shape_strides.specs.Indexes.{count}
 use Rattle.shape_strides.specs.Layouts.{offsets}
-use Rattle.fancy_index.specs.Parts.{other_axes, points_place}
-use Rattle.fancy_index.specs.Indexed.{all_axes}
+use Rattle.fancy_index.specs.Parts.{other_axes}
 use Rattle.fancy_index.specs.Plans.{moved_all}
 use Rattle.fancy_index.specs.inside.Kept.{AreStarts}
-use Rattle.fancy_index.specs.inside.PartLists.{shown_part, first_offset}
+use Rattle.fancy_index.specs.inside.PartLists.{shown_part}
 use Rattle.fancy_index.proofs.LaidLaws.{IsLaid, some_others, points_many, first-in, starts, is-plan, count-is, small-offset}
 use Rattle.fancy_index.proofs.planning.plan_of_rest.Goals as goal
 use Rattle.fancy_index.proofs.planning.plan_of_rest.Goals.{Start, After-items-2, In_ok-inner}

@@ -1,4 +1,4 @@
-use Rattle.std.proofs.Common.{ap, ◌∙◌, arith, []}
+use Rattle.std.proofs.Common.{ap, arith, []}
 use Rattle.shape_strides.specs.Indexes.{count}
 use Rattle.shape_strides.specs.inside.AxisIndexes.{padded}
 use Rattle.shape_strides.specs.AxisLaws.{IsIndex-first}

@@ -1,6 +1,6 @@
-use Rattle.std.proofs.Common.{◌≡◌, ◌<◌, ◌++◌, List, ℕ, length, get_or, sym, ap, subst, ◌∙◌, arith}
+use Rattle.std.proofs.Common.{◌≡◌, ◌++◌, List, ℕ, length, get_or, ap, subst, ◌∙◌, arith}
 use Rattle.std.specs.Result.{OnOk}
-use Rattle.shape_strides.specs.Indexes.{count, rank}
+use Rattle.shape_strides.specs.Indexes.{rank}
 use Rattle.shape_strides.specs.IndexLaws.{length-index}
 use Rattle.broadcasting.specs.Broadcasts.{broadcast_index}
 use Rattle.fancy_index.specs.inside.PointLists.{tuple}

@@ -1,4 +1,4 @@
-use Rattle.std.proofs.Common.{◌≡◌, ◌+◌, get_or, refl, sym, ◌∙◌, arith}
+use Rattle.std.proofs.Common.{◌+◌, get_or, refl, sym, ◌∙◌, arith}
 use Rattle.broadcasting.specs.Broadcasts.{broadcast_index}
 use Rattle.fancy_index.proofs.ShiftLaws.{number-broadcast, ranked_more, ranked_small}
 use Rattle.fancy_index.proofs.shifts.rank_at.Goals as goal

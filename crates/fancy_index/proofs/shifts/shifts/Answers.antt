@@ -1,4 +1,4 @@
-use Rattle.std.proofs.Common.{◌≡◌, map, length, take, sym, ap, subst, ◌∙◌, arith, take_all}
+use Rattle.std.proofs.Common.{map, sym, ap, subst, ◌∙◌, arith, take_all}
 use Rattle.shape_strides.specs.Addresses.{natural}
 use Rattle.shape_strides.specs.Layouts.{address}
 use Rattle.shape_strides.specs.Indexes.{indexes, IsIndex}
