@@ -1,9 +1,14 @@
 //! Plans: where in a buffer the items are that an index list with arrays takes.
-ghost use Rattle.std.specs.Prelude.{◌≡◌, ◌+◌, ◌*◌, ◌<◌, ◌≤◌, length, slice_index, All, IfOk};
-ghost use Rattle.shape_strides.specs.Limits.{max_bytes};
+ghost use Rattle.std.specs.Prelude.{◌≡◌, ◌+◌, ◌*◌, ◌<◌, ◌≤◌, length, map, nat_le, slice_index, if◌then◌else◌, All, IfOk, IfErr};
+ghost use Rattle.elem_descr.specs.declared.refusal.Refusal.TheVariants.{OutOfMemory, TooLarge};
+ghost use Rattle.elem_descr.specs.Blocks.{item_from};
+ghost use Rattle.elem_descr.specs.Items.{item_size};
+ghost use Rattle.shape_strides.specs.declared.memory_order.MemoryOrder.TheVariants.{C};
+ghost use Rattle.shape_strides.specs.Limits.{max_bytes, max_items};
 ghost use Rattle.shape_strides.specs.Indexes.{count};
 ghost use Rattle.shape_strides.specs.Layouts.{offsets, multiples};
 ghost use Rattle.overlap_copy.specs.Assignments.{items_at, assigned};
+ghost use Rattle.overlap_copy.specs.Blocks.{offsets_in};
 ghost use Rattle.fancy_index.specs.Plans.{moved, moved_all, put_each};
 ghost use Rattle.fancy_index.specs.inside.Kept.{IsMoved, AreStarts};
 
@@ -11,8 +16,10 @@ use crate::fill::fill;
 use crate::gather::gather;
 use crate::rank::offset_at;
 use crate::scatter::scatter;
+use elem_descr::{Descr, Refusal};
+use overlap_copy::Owned;
 use raw_block::RawBlock;
-use shape_strides::{Layout, Shape};
+use shape_strides::{Layout, MAX_BYTES, MemoryOrder, Shape};
 use std::alloc::{AllocError, Global};
 use std::marker::Model;
 
@@ -117,6 +124,15 @@ impl Plan {
         &self.shape
     }
 
+    /// The number of items.
+    pub fn len(&self) -> usize
+        ensures value { result ≡ length self.now.offsets }
+        ensures count { result ≡ count self.now.shape }
+        ensures limit { result ≤ max_items }
+    {
+        self.shape.items()
+    }
+
     /// The offset of the item at a rank.
     pub fn offset(&self, rank: usize) -> usize
         requires { rank < length self.now.offsets }
@@ -143,6 +159,38 @@ impl Plan {
         let shifts = self.shifts.as_slice();
         gather(&mut items, block, &self.outer, shifts, &self.inner, width);
         Ok(items)
+    }
+
+    /// The items at the offsets in a block of their own, in C order, which they just fill. More than
+    /// `MAX_BYTES` bytes of them are too many.
+    pub fn gather_owned(
+        &self,
+        alloc: Global,
+        block: &RawBlock,
+        descr: &Descr,
+    ) -> Result<Owned, Refusal>
+        requires { All (λ offset. offset + item_size descr.now ≤ length block.now) self.now.offsets }
+        ensures descr { IfOk result (λ o. o.descr ≡ descr.now) }
+        ensures shape { IfOk result (λ o. o.layout.shape ≡ self.now.shape) }
+        ensures order { IfOk result (λ o. offsets o.layout ≡ offsets_in C (item_size descr.now) self.now.shape) }
+        ensures items { IfOk result (λ o. map (item_from descr.now o.block) (offsets o.layout) ≡ map (item_from descr.now block.now) self.now.offsets) }
+        ensures within { IfOk result (λ _. count self.now.shape * item_size descr.now ≤ max_bytes) }
+        ensures refused { IfErr result (λ refusal. refusal
+            ≡ (if nat_le (count self.now.shape * item_size descr.now) max_bytes then OutOfMemory else TooLarge)) }
+    {
+        let item = descr.size();
+        if self.len() * item > MAX_BYTES {
+            return Err(Refusal::TooLarge);
+        }
+        let descr = Descr::try_copy(alloc, descr)?;
+        let items = self.gather(alloc, block, item)?;
+        Ok(Owned::over(
+            alloc,
+            descr,
+            &self.shape,
+            MemoryOrder::C,
+            items,
+        )?)
     }
 
     /// Writes the items of `width` bytes that lie one after another in `items` to the offsets, strictly
