@@ -1,5 +1,5 @@
 //! Plans: where in a buffer the items are that an index list with arrays takes.
-ghost use Rattle.std.specs.Prelude.{◌≡◌, ◌+◌, ◌*◌, ◌<◌, ◌≤◌, length, map, nat_le, slice_index, if◌then◌else◌, All, IfOk, IfErr};
+ghost use Rattle.std.specs.Prelude.{◌≡◌, ◌+◌, ◌*◌, ◌<◌, ◌≤◌, length, map, nat_le, pos, slice_index, if◌then◌else◌, All, IfOk, IfErr, IsTrue};
 ghost use Rattle.elem_descr.specs.declared.refusal.Refusal.TheVariants.{OutOfMemory, TooLarge};
 ghost use Rattle.elem_descr.specs.Blocks.{item_from};
 ghost use Rattle.elem_descr.specs.Items.{item_size};
@@ -19,7 +19,7 @@ use crate::scatter::scatter;
 use elem_descr::{Descr, Refusal};
 use overlap_copy::Owned;
 use raw_block::RawBlock;
-use shape_strides::{Layout, MAX_BYTES, MemoryOrder, Shape};
+use shape_strides::{FixedWalk, Layout, MAX_BYTES, MemoryOrder, Shape};
 use std::alloc::{AllocError, Global};
 use std::marker::Model;
 
@@ -97,6 +97,25 @@ fn offset_in(outer: &Layout, shifts: &[usize], inner: &Layout, rank: usize) -> u
     let place = offset_at(outer, at.place);
     let start = moved(inner.offset, place, shifts[at.shift]);
     moved(inner.offset, start, offset_at(inner, at.item))
+}
+
+fn is_step(step: isize, width: usize) -> bool
+    ensures { IsTrue result → step ≡ pos width }
+{
+    step >= 0 && step.unsigned_abs() == width
+}
+
+/// Whether two items or more of `width` bytes lie one after another from the block's start on.
+fn is_packed(layout: &Layout, width: usize) -> bool
+    ensures { IsTrue result → offsets layout.now ≡ multiples width (length (offsets layout.now)) }
+{
+    let Some(run) = layout.as_run() else {
+        return false;
+    };
+    if run.offset > 0 {
+        return false;
+    }
+    is_step(run.step, width)
 }
 
 impl Plan {
@@ -184,13 +203,7 @@ impl Plan {
         }
         let descr = Descr::try_copy(alloc, descr)?;
         let items = self.gather(alloc, block, item)?;
-        Ok(Owned::over(
-            alloc,
-            descr,
-            &self.shape,
-            MemoryOrder::C,
-            items,
-        )?)
+        Ok(Owned::over(alloc, descr, &self.shape, MemoryOrder::C, items)?)
     }
 
     /// Writes the items of `width` bytes that lie one after another in `items` to the offsets, strictly
@@ -203,6 +216,27 @@ impl Plan {
     {
         let shifts = self.shifts.as_slice();
         scatter(block, &self.outer, shifts, &self.inner, items, width);
+    }
+
+    /// Copies the items of `width` bytes of a layout in another block, as many, to the offsets, strictly
+    /// in order of rank.
+    pub fn assign(&self, block: &mut RawBlock, other: &RawBlock, from: &Layout, width: usize)
+        requires inside { All (λ offset. offset + width ≤ length block.old) self.now.offsets }
+        requires from { All (λ offset. offset + width ≤ length other.now) (offsets from.now) }
+        requires count { length (offsets from.now) ≡ length self.now.offsets }
+        ensures written { block.new ≡ assigned self.now.offsets (offsets from.now) width other.now block.old }
+        ensures len { length block.new ≡ length block.old }
+    {
+        if is_packed(from, width) {
+            self.scatter(block, other, width);
+            return;
+        }
+        let _items = self.len();
+        let mut rank = 0;
+        for source in FixedWalk::new(from) {
+            block.copy_from(self.offset(rank), other, source, width);
+            rank += 1;
+        }
     }
 
     /// Writes the item to each of the offsets.
