@@ -7,3 +7,13 @@ pub mod GatherLaws
 pub mod SourceLaws
 pub mod NumberLoops
 pub mod PointLaws
+pub mod PartLaws
+pub mod IndexedLaws
+pub mod PlaceLaws
+pub mod RestLaws
+pub mod CutLaws
+pub mod ShiftLaws
+pub mod LeadLaws
+pub mod IndexSplits
+pub mod LaidLaws
+pub mod AnswerLaws

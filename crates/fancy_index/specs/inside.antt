@@ -1,3 +1,5 @@
 pub mod Kept
 pub mod Packed
 pub mod PointLists
+pub mod PartLists
+pub mod Places

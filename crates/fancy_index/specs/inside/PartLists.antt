@@ -1,0 +1,103 @@
+-- Parts as the code holds them: slices as runs, points by their ranks.
+use Rattle.std.specs.Prelude.{◌≡◌, ◌<◌, ◌≤◌, true, ℕ, List, [], ◌∷◌, ◌++◌, map, length, get_or}
+use Rattle.std.specs.List.{list_all, flat_map}
+use Rattle.shape_strides.specs.declared.index_item.IndexItem.{IndexItem}
+use Rattle.shape_strides.specs.declared.layout.Layout.{Layout}
+use Rattle.shape_strides.specs.Indexes.{rank, IsIndex}
+use Rattle.shape_strides.specs.Addresses.{natural}
+use Rattle.shape_strides.specs.Layouts.{address}
+use Rattle.shape_strides.specs.Limits.{max_axes}
+use Rattle.view_ops.specs.declared.pick.AxisPick.{AxisPick}
+use Rattle.view_ops.specs.declared.pick.AxisPick.TheVariants.{At as AtAxis, Along as AlongAxis, New as NewAxis}
+use Rattle.view_ops.specs.Slices.{IsRunWithin}
+use Rattle.view_ops.specs.Basics.{has_step, picked_index}
+use Rattle.view_ops.specs.Picks.{shown}
+use Rattle.view_ops.specs.inside.Picks.{first_of}
+use Rattle.broadcasting.specs.Broadcasts.{can_stretch, broadcast_index}
+use Rattle.fancy_index.specs.declared.points.PointList.{PointList}
+use Rattle.fancy_index.specs.declared.parts.IndexPart.{IndexPart}
+use Rattle.fancy_index.specs.declared.parts.IndexPart.TheVariants.{Axis as AxisPart, Points as PointsPart, Between as BetweenPart}
+use Rattle.fancy_index.specs.IndexArrays.{IndexArray, is_index, taken, cover, are_within}
+use Rattle.fancy_index.specs.Parts.{Part, Axis, Between, other_axes}
+use Rattle.fancy_index.specs.inside.PointLists.{tuple, shown_points, IsPointList}
+
+-- an index list of which nothing is refused
+pub record IsChecked (shape : List ℕ) (items : List (IndexItem IndexArray)) : Type 0 where
+  pub index : list_all is_index items ≡ true
+  pub enough : taken items ≤ length shape
+  pub covers : cover shape items ≡ true
+  pub steps : list_all has_step items ≡ true
+  pub within : are_within shape items ≡ true
+
+abbrev pub shown_part : IndexPart → Part
+shown_part (AxisPart pick) = Axis (shown pick)
+shown_part (PointsPart p) = shown_points p
+shown_part BetweenPart = Between
+
+-- parts that take the axes of a shape, each within its axes
+abbrev pub AreParts : List ℕ → List IndexPart → Type 0
+AreParts shape (BetweenPart ∷ parts) = AreParts shape parts
+AreParts shape (PointsPart p ∷ parts) = IsPointList p × (rest : List ℕ) × (shape ≡ p.axes.items ++ rest) × AreParts rest parts
+AreParts shape (AxisPart NewAxis ∷ parts) = AreParts shape parts
+AreParts [] [] = Unit {0}
+AreParts (n ∷ shape) (AxisPart (AtAxis number) ∷ parts) = (number < n) × AreParts shape parts
+AreParts (n ∷ shape) (AxisPart (AlongAxis run) ∷ parts) = IsRunWithin run n × AreParts shape parts
+AreParts _ _ = ⊥
+
+-- these parts of these axes come after the old ones
+pub record AddsParts (old new : List IndexPart) (axes : List ℕ) (parts : List Part) : Type 0 where
+  pub added : List IndexPart
+  pub after : new ≡ old ++ added
+  pub are : AreParts axes added
+  pub show : map shown_part added ≡ parts
+
+-- points of a part that stretch to a shape
+abbrev pub IsReady : List ℕ → IndexPart → Type 0
+IsReady points (PointsPart p) = IsPointList p × (can_stretch p.lengths.items points ≡ true) × (length p.axes.items ≤ max_axes)
+IsReady points _ = Unit {0}
+
+-- points that have one for an index of the common lengths
+pub record HasPointAt (at : List ℕ) (p : PointList) : Type 0 where
+  pub list : IsPointList p
+  pub few : length p.lengths.items ≤ length at
+  pub within : IsIndex p.lengths.items (broadcast_index p.lengths.items at)
+  pub axes : length p.axes.items ≤ max_axes
+
+abbrev pub IsReadyAt : List ℕ → IndexPart → Type 0
+IsReadyAt at (PointsPart p) = HasPointAt at p
+IsReadyAt at _ = Unit {0}
+
+-- the point of an index of the common lengths
+abbrev pub point_of : PointList → List ℕ → List ℕ
+point_of p at = tuple p.axes.items (get_or p.ranks.items (rank p.lengths.items (broadcast_index p.lengths.items at)) 0)
+
+-- the numbers of that point on the axes of a part, or the first number that is picked there
+abbrev pub numbers_at : List ℕ → IndexPart → List ℕ
+numbers_at at (AxisPart pick) = first_of pick
+numbers_at at (PointsPart p) = point_of p at
+numbers_at at BetweenPart = []
+
+-- the index of the first item with that point, and its offset
+abbrev pub first_at : List IndexPart → List ℕ → List ℕ
+first_at parts at = flat_map (numbers_at at) parts
+
+abbrev pub first_offset : Layout → List IndexPart → List ℕ → ℕ
+first_offset layout parts at = natural (address layout (first_at parts at))
+
+abbrev pub LeadInto : Layout → List ℕ → List IndexPart → Type 0
+LeadInto layout points parts = (at : List ℕ) → IsIndex points at → IsIndex layout.shape (first_at parts at)
+
+-- what is picked where all points are 0
+abbrev pub rest_of : IndexPart → List AxisPick
+rest_of (AxisPart pick) = pick ∷ []
+rest_of (PointsPart p) = map (λ _. AtAxis 0) p.axes.items
+rest_of BetweenPart = []
+
+abbrev pub rest_picks : List IndexPart → List AxisPick
+rest_picks parts = flat_map rest_of parts
+
+-- a layout shows what is picked so
+pub record IsRest (layout : Layout) (parts : List IndexPart) (rest : Layout) : Type 0 where
+  pub shape : rest.shape ≡ other_axes (map shown_part parts)
+  pub leads : (index : List ℕ) → IsIndex rest.shape index → IsIndex layout.shape (picked_index (map shown (rest_picks parts)) index)
+  pub same : (index : List ℕ) → IsIndex rest.shape index → address rest index ≡ address layout (picked_index (map shown (rest_picks parts)) index)

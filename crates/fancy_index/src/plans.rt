@@ -1,0 +1,251 @@
+//! Plans: where in a buffer the items are that an index list with arrays takes.
+ghost use Rattle.std.specs.Prelude.{◌≡◌, ◌+◌, ◌*◌, ◌<◌, ◌≤◌, length, map, nat_le, pos, slice_index, if◌then◌else◌, All, IfOk, IfErr, IsTrue};
+ghost use Rattle.elem_descr.specs.declared.refusal.Refusal.TheVariants.{OutOfMemory, TooLarge};
+ghost use Rattle.elem_descr.specs.Blocks.{item_from};
+ghost use Rattle.elem_descr.specs.Items.{item_size};
+ghost use Rattle.shape_strides.specs.declared.memory_order.MemoryOrder.TheVariants.{C};
+ghost use Rattle.shape_strides.specs.Limits.{max_bytes, max_items};
+ghost use Rattle.shape_strides.specs.Indexes.{count};
+ghost use Rattle.shape_strides.specs.Layouts.{offsets, multiples};
+ghost use Rattle.overlap_copy.specs.Assignments.{items_at, assigned};
+ghost use Rattle.overlap_copy.specs.Blocks.{offsets_in};
+ghost use Rattle.fancy_index.specs.Plans.{moved, moved_all, put_each};
+ghost use Rattle.fancy_index.specs.inside.Kept.{IsMoved, AreStarts};
+
+use crate::fill::fill;
+use crate::gather::gather;
+use crate::rank::offset_at;
+use crate::scatter::scatter;
+use elem_descr::{Descr, Refusal};
+use overlap_copy::Owned;
+use raw_block::RawBlock;
+use shape_strides::{FixedWalk, Layout, MAX_BYTES, MemoryOrder, Shape};
+use std::alloc::{AllocError, Global};
+use std::marker::Model;
+
+/// Where in a buffer the items are that an index list with arrays takes, seen as a shape with the
+/// offsets of its items in C order. It holds one number for each item of the broadcast arrays, and
+/// the strides of the other axes.
+#[derive(Drop)]
+pub struct Plan {
+    shape: Shape,
+    /// The axes before those of the arrays.
+    outer: Layout,
+    /// For each item of the broadcast arrays, where the first of the result's items with it lies.
+    shifts: Vec<usize>,
+    /// The axes after those of the arrays. Both layouts begin where the first item would lie with
+    /// all arrays 0.
+    inner: Layout,
+}
+
+impl Model for Plan {
+    ghost use Rattle.fancy_index.specs.Plans.{Planned, moved_all};
+    ghost use Rattle.shape_strides.specs.Layouts.{offsets};
+
+    ghost Value = { Planned };
+
+    ghost use Rattle.fancy_index.specs.inside.Kept.{IsPlan};
+
+    ghost view = { λ p. record { shape = p.shape; offsets = moved_all p.inner.offset (offsets p.outer) p.shifts.items (offsets p.inner) } };
+
+    ghost invariant = { IsPlan };
+}
+
+/// An offset, where what began at `base` begins at `start`.
+pub(crate) fn moved(base: usize, start: usize, offset: usize) -> usize
+    requires base { base ≤ max_bytes }
+    requires moved { IsMoved base start offset }
+    ensures value { result ≡ moved base start offset }
+    ensures bound { result < max_bytes }
+{
+    start + offset - base
+}
+
+/// Where the item at a rank is, along the outer axes, the shifts and the inner axes.
+#[derive(Clone, Copy)]
+struct Spot {
+    place: usize,
+    shift: usize,
+    item: usize,
+}
+
+/// Where the item at a rank is among so many shifts of so many inner items.
+fn spot_at(rank: usize, shifts: usize, inner: usize) -> Spot
+    requires shifts { 0 < shifts }
+    requires inner { 0 < inner }
+    ensures shift { result.shift < shifts }
+    ensures item { result.item < inner }
+    ensures rank { rank ≡ result.place * (shifts * inner) + (result.shift * inner + result.item) }
+{
+    let row = rank / inner;
+    Spot {
+        place: row / shifts,
+        shift: row % shifts,
+        item: rank % inner,
+    }
+}
+
+/// The offset at a rank of all items of the inner axes, from each place of the outer axes that is
+/// shifted by each shift.
+fn offset_in(outer: &Layout, shifts: &[usize], inner: &Layout, rank: usize) -> usize
+    requires rank { rank < length (moved_all inner.now.offset (offsets outer.now) shifts.now (offsets inner.now)) }
+    requires small { inner.now.offset ≤ max_bytes }
+    requires starts { All (AreStarts inner.now.offset (offsets inner.now) shifts.now) (offsets outer.now) }
+    ensures { result ≡ slice_index (moved_all inner.now.offset (offsets outer.now) shifts.now (offsets inner.now)) rank }
+{
+    let at = spot_at(rank, shifts.len(), inner.shape.items());
+    let place = offset_at(outer, at.place);
+    let start = moved(inner.offset, place, shifts[at.shift]);
+    moved(inner.offset, start, offset_at(inner, at.item))
+}
+
+fn is_step(step: isize, width: usize) -> bool
+    ensures { IsTrue result → step ≡ pos width }
+{
+    step >= 0 && step.unsigned_abs() == width
+}
+
+/// Whether two items or more of `width` bytes lie one after another from the block's start on.
+fn is_packed(layout: &Layout, width: usize) -> bool
+    ensures { IsTrue result → offsets layout.now ≡ multiples width (length (offsets layout.now)) }
+{
+    let Some(run) = layout.as_run() else {
+        return false;
+    };
+    if run.offset > 0 {
+        return false;
+    }
+    is_step(run.step, width)
+}
+
+impl Plan {
+    /// The plan of a shape, with the axes before those of the arrays, where the first item with each of
+    /// their points lies, and the axes behind.
+    pub(crate) fn new(shape: Shape, outer: Layout, shifts: Vec<usize>, inner: Layout) -> Plan
+        requires count { length (moved_all inner.offset (offsets outer) shifts.items (offsets inner)) ≡ count shape }
+        requires small { inner.offset ≤ max_bytes }
+        requires starts { All (AreStarts inner.offset (offsets inner) shifts.items) (offsets outer) }
+        ensures shape { result.shape ≡ shape }
+        ensures offsets { result.offsets ≡ moved_all inner.offset (offsets outer) shifts.items (offsets inner) }
+    {
+        Plan {
+            shape,
+            outer,
+            shifts,
+            inner,
+        }
+    }
+
+    /// The shape of the items.
+    pub fn shape(&self) -> &Shape
+        ensures shape { result.now ≡ self.now.shape }
+    {
+        &self.shape
+    }
+
+    /// The number of items.
+    pub fn len(&self) -> usize
+        ensures value { result ≡ length self.now.offsets }
+        ensures count { result ≡ count self.now.shape }
+        ensures limit { result ≤ max_items }
+    {
+        self.shape.items()
+    }
+
+    /// The offset of the item at a rank.
+    pub fn offset(&self, rank: usize) -> usize
+        requires { rank < length self.now.offsets }
+        ensures { result ≡ slice_index self.now.offsets rank }
+    {
+        offset_in(&self.outer, self.shifts.as_slice(), &self.inner, rank)
+    }
+
+    /// The items of `width` bytes at the offsets, one after another in a block of their own.
+    pub fn gather(
+        &self,
+        alloc: Global,
+        block: &RawBlock,
+        width: usize,
+    ) -> Result<RawBlock, AllocError>
+        requires { All (λ offset. offset + width ≤ length block.now) self.now.offsets }
+        ensures len { IfOk result (λ items. length items ≡ length self.now.offsets * width) }
+        ensures items { IfOk result (λ items. items_at (multiples width (length self.now.offsets)) width items ≡ items_at self.now.offsets width block.now) }
+    {
+        // More bytes than there can be are refused as any others.
+        let bytes = self.shape.items().saturating_mul(width);
+        let mut items = RawBlock::try_zeroed(alloc, bytes)?;
+        let _len = items.len();
+        let shifts = self.shifts.as_slice();
+        gather(&mut items, block, &self.outer, shifts, &self.inner, width);
+        Ok(items)
+    }
+
+    /// The items at the offsets in a block of their own, in C order, which they just fill. More than
+    /// `MAX_BYTES` bytes of them are too many.
+    pub fn gather_owned(
+        &self,
+        alloc: Global,
+        block: &RawBlock,
+        descr: &Descr,
+    ) -> Result<Owned, Refusal>
+        requires { All (λ offset. offset + item_size descr.now ≤ length block.now) self.now.offsets }
+        ensures descr { IfOk result (λ o. o.descr ≡ descr.now) }
+        ensures shape { IfOk result (λ o. o.layout.shape ≡ self.now.shape) }
+        ensures order { IfOk result (λ o. offsets o.layout ≡ offsets_in C (item_size descr.now) self.now.shape) }
+        ensures items { IfOk result (λ o. map (item_from descr.now o.block) (offsets o.layout) ≡ map (item_from descr.now block.now) self.now.offsets) }
+        ensures within { IfOk result (λ _. count self.now.shape * item_size descr.now ≤ max_bytes) }
+        ensures refused { IfErr result (λ refusal. refusal
+            ≡ (if nat_le (count self.now.shape * item_size descr.now) max_bytes then OutOfMemory else TooLarge)) }
+    {
+        let item = descr.size();
+        if self.len() * item > MAX_BYTES {
+            return Err(Refusal::TooLarge);
+        }
+        let descr = Descr::try_copy(alloc, descr)?;
+        let items = self.gather(alloc, block, item)?;
+        Ok(Owned::over(alloc, descr, &self.shape, MemoryOrder::C, items)?)
+    }
+
+    /// Writes the items of `width` bytes that lie one after another in `items` to the offsets, strictly
+    /// in order of rank: where two items have bytes in common, those of the later one stand.
+    pub fn scatter(&self, block: &mut RawBlock, items: &RawBlock, width: usize)
+        requires inside { All (λ offset. offset + width ≤ length block.old) self.now.offsets }
+        requires items { length self.now.offsets * width ≤ length items.now }
+        ensures written { block.new ≡ assigned self.now.offsets (multiples width (length self.now.offsets)) width items.now block.old }
+        ensures len { length block.new ≡ length block.old }
+    {
+        let shifts = self.shifts.as_slice();
+        scatter(block, &self.outer, shifts, &self.inner, items, width);
+    }
+
+    /// Copies the items of `width` bytes of a layout in another block, as many, to the offsets, strictly
+    /// in order of rank.
+    pub fn assign(&self, block: &mut RawBlock, other: &RawBlock, from: &Layout, width: usize)
+        requires inside { All (λ offset. offset + width ≤ length block.old) self.now.offsets }
+        requires from { All (λ offset. offset + width ≤ length other.now) (offsets from.now) }
+        requires count { length (offsets from.now) ≡ length self.now.offsets }
+        ensures written { block.new ≡ assigned self.now.offsets (offsets from.now) width other.now block.old }
+        ensures len { length block.new ≡ length block.old }
+    {
+        if is_packed(from, width) {
+            self.scatter(block, other, width);
+            return;
+        }
+        let _items = self.len();
+        let mut rank = 0;
+        for source in FixedWalk::new(from) {
+            block.copy_from(self.offset(rank), other, source, width);
+            rank += 1;
+        }
+    }
+
+    /// Writes the item to each of the offsets.
+    pub fn fill(&self, block: &mut RawBlock, item: &[u8])
+        requires { All (λ offset. offset + length item.now ≤ length block.old) self.now.offsets }
+        ensures written { block.new ≡ put_each self.now.offsets item.now block.old }
+        ensures len { length block.new ≡ length block.old }
+    {
+        let shifts = self.shifts.as_slice();
+        fill(block, &self.outer, shifts, &self.inner, item);
+    }
+}
