@@ -6,4 +6,7 @@ pub mod PassLaws
 pub mod RowLaws
 pub mod CastLaws
 pub mod AlikeLaws
+pub mod BitLaws
 mod Vectors
+mod PromotionVectors
+mod OperationVectors

@@ -1,12 +1,15 @@
-//! Operations item by item: casts from one element type to another.
+//! Operations item by item: casts from one element type to another, arithmetic, and comparisons.
 #![tactic(auto)]
 
 mod alike;
+mod bits;
 mod byte_orders;
 mod castable;
 mod casts;
 mod leaves;
 mod numbers;
+mod operands;
+mod operation;
 mod passes;
 mod runs_of_leaves;
 mod texts;
@@ -14,3 +17,5 @@ mod texts;
 pub use alike::{are_alike, keeps_items};
 pub use castable::can_cast;
 pub use casts::cast;
+pub use operands::Items;
+pub use operation::{BinOp, Comparison, UnOp};
