@@ -99,11 +99,13 @@ abbrev pub literal_type : Scalar → Scalar
 literal_type BoolScalar = Int true Eight Little
 literal_type scalar = little scalar
 
+-- which operations there are of one number
+abbrev pub serves_one : UnOp → Scalar → Bool
+serves_one Negate scalar = not (is_text scalar) && not (is_bool scalar)
+serves_one Invert scalar = not (is_text scalar)
+
 -- the type of what an operation gives on one scalar
 unfoldable pub promote_one : UnOp → Scalar → Result Scalar Refusal
-promote_one Negate scalar = do
-  _ ← check (not (is_text scalar || is_bool scalar)) NotForThisKind
-  Ok (little scalar)
-promote_one Invert scalar = do
-  _ ← check (not (is_text scalar)) NotForThisKind
+promote_one op scalar = do
+  _ ← check (serves_one op scalar) NotForThisKind
   Ok (little scalar)

@@ -11,6 +11,7 @@ mod numbers;
 mod operands;
 mod operation;
 mod passes;
+mod promotion;
 mod runs_of_leaves;
 mod texts;
 
@@ -19,3 +20,4 @@ pub use castable::can_cast;
 pub use casts::cast;
 pub use operands::Items;
 pub use operation::{BinOp, Comparison, UnOp};
+pub use promotion::{literal_type, promote, promote_one, same_kind, scalar_of};
