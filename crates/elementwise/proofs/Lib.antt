@@ -6,7 +6,9 @@ pub mod PassLaws
 pub mod RowLaws
 pub mod CastLaws
 pub mod AlikeLaws
+pub mod PairLaws
 pub mod BitLaws
+pub mod WordLaws
 mod Vectors
 mod PromotionVectors
 mod OperationVectors

@@ -10,6 +10,8 @@ mod leaves;
 mod numbers;
 mod operands;
 mod operation;
+mod operations;
+mod pair_passes;
 mod passes;
 mod promotion;
 mod runs_of_leaves;
