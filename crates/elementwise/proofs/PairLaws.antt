@@ -1,5 +1,5 @@
 -- Passes over pairs of items at equal steps.
-use Rattle.std.proofs.Common.{◌≡◌, ◌+◌, ◌-◌, ◌*◌, ◌≤◌, ◌<◌, ℕ, zero, suc, List, [], ◌∷◌, ◌++◌, map, length, take, drop, refl, sym, ap, ◌∙◌, arith, add-one}
+use Rattle.std.proofs.Common.{◌≡◌, ◌+◌, ◌-◌, ◌*◌, ◌≤◌, ◌<◌, ℕ, zero, suc, List, [], ◌∷◌, ◌++◌, map, length, take, drop, refl, sym, ap, ◌∙◌, arith, add-one, Bool}
 use Rattle.std.specs.Prelude.{ℤ, pos}
 use Rattle.raw_block.specs.Bytes.{place, put, item_at, EachWithin}
 use Rattle.shape_strides.specs.declared.runs.Run.{Run}
@@ -7,7 +7,14 @@ use Rattle.shape_strides.specs.Runs.{run_offsets}
 use Rattle.overlap_copy.specs.RunLaws.{fewer, run_offsets-more, length-run_offsets}
 use Rattle.elementwise.specs.Results.{pairwise}
 use Rattle.elementwise.specs.inside.Passes.{put_all}
-use Rattle.elementwise.specs.inside.PairPasses.{made_of_pairs}
+use Rattle.elementwise.specs.inside.PairPasses.{made_of_pairs, number_pair}
+use Rattle.elem_descr.specs.declared.scalar.Order.TheVariants.{Little}
+use Rattle.elem_descr.specs.declared.scalar.Width.{Width}
+use Rattle.elem_descr.specs.declared.scalar.Scalar.{Scalar}
+use Rattle.elem_descr.specs.declared.scalar.Scalar.TheVariants.{Int}
+use Rattle.elem_descr.specs.Encoding.{width_size}
+use Rattle.elementwise.specs.declared.operation.BinOp.{BinOp}
+use Rattle.elementwise.specs.Operations.{binary}
 use Rattle.elementwise.proofs.PassLaws.{put_all-append}
 
 -- one pair more
@@ -69,3 +76,13 @@ made-offsets f width width' wide len len' len'' dst a b dst_step a_step b_step m
     ∙ sym (put_all-append (run_offsets here) (last ∷ []) (pairwise make xs ys) (make x y ∷ []) bytes even)
     ∙ ap (λ items. put_all (run_offsets here ++ last ∷ []) items bytes) (sym (pairwise-append make xs ys (x ∷ []) (y ∷ []) same))
     ∙ λ i. put_all (sym (run_offsets-more len dst dst_step wide n to) i) (pairwise make (sym (run_offsets-more len' a a_step width n first) i) (sym (run_offsets-more len'' b b_step width' n second) i)) bytes
+
+-- ---- integers of a sign and a width
+
+abbrev of_type : BinOp → Bool → Width → List ℕ → List ℕ → Run → Run → Run → List ℕ → List ℕ
+of_type op signed width left right to first second bytes =
+    let scalar = Int signed width Little in
+    made_of_pairs (number_pair scalar scalar scalar (binary op scalar)) (width_size width) (width_size width) left right to first second to.count bytes
+
+pub of_integers : (op : BinOp) (signed signed' : Bool) (width width' : Width) (left right : List ℕ) (to first second : Run) (bytes : List ℕ) → signed ≡ signed' → width ≡ width' → of_type op signed' width' left right to first second bytes ≡ of_type op signed width left right to first second bytes
+of_integers op signed signed' width width' left right to first second bytes sign wide = λ i. of_type op (sym sign i) (sym wide i) left right to first second bytes

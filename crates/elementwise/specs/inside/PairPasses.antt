@@ -1,8 +1,12 @@
 -- Passes over pairs of items that lie at equal steps.
-use Rattle.std.specs.Prelude.{ℕ, zero, suc, ℤ, List}
+use Rattle.std.specs.Prelude.{◌≡◌, ℕ, zero, suc, ℤ, List}
+use Rattle.elem_descr.specs.declared.scalar.Order.TheVariants.{Little}
 use Rattle.elem_descr.specs.declared.scalar.Scalar.{Scalar}
-use Rattle.elem_descr.specs.Values.{number}
+use Rattle.elem_descr.specs.declared.scalar.Scalar.TheVariants.{Bool as BoolScalar, Byte, Int, Bytes}
+use Rattle.elem_descr.specs.Values.{LeafValue, number}
 use Rattle.elem_descr.specs.Encoding.{number_of, decode, encode}
+use Rattle.elementwise.specs.declared.operation.BinOp.{BinOp}
+use Rattle.elementwise.specs.Operations.{binary}
 use Rattle.raw_block.specs.Bytes.{place, put, item_at}
 use Rattle.shape_strides.specs.declared.runs.Run.{Run}
 
@@ -16,3 +20,18 @@ made_of_pairs f width width' left right to first second (suc n) bytes =
 -- the bytes of what f gives on the numbers that bytes of two scalars mean
 abbrev pub number_pair : Scalar → Scalar → Scalar → (ℤ → ℤ → ℤ) → List ℕ → List ℕ → List ℕ
 number_pair left right to f x y = encode to (number (f (number_of (decode left x)) (number_of (decode right y))))
+
+-- numbers in little-endian order
+abbrev pub IsNative : Scalar → Type 0
+IsNative BoolScalar = Unit {0}
+IsNative (Byte signed) = Unit {0}
+IsNative (Int signed width order) = order ≡ Little
+IsNative (Bytes n) = ⊥
+
+-- the bytes of what f gives on the values that bytes of two scalars mean
+abbrev pub value_pair : Scalar → Scalar → Scalar → (LeafValue → LeafValue → LeafValue) → List ℕ → List ℕ → List ℕ
+value_pair left right to f x y = encode to (f (decode left x) (decode right y))
+
+-- an operation on the values of two items
+abbrev pub binary_value : BinOp → Scalar → LeafValue → LeafValue → LeafValue
+binary_value op scalar x y = number (binary op scalar (number_of x) (number_of y))

@@ -1,0 +1,88 @@
+//! What is made of the items of two arrays, pair by pair.
+ghost use Rattle.std.specs.Prelude.{◌≡◌, ◌^◌, ◌<◌, ◌≤◌, pos, false, length};
+ghost use Rattle.elem_descr.specs.declared.scalar.Scalar.{Scalar};
+ghost use Rattle.elem_descr.specs.Values.{LeafValue};
+ghost use Rattle.elem_descr.specs.Encoding.{size, decode, encode};
+ghost use Rattle.raw_block.specs.Bytes.{EachWithin};
+ghost use Rattle.elementwise.specs.Promotion.{is_division};
+ghost use Rattle.elementwise.specs.inside.PairPasses.{made_of_pairs, value_pair, binary_value, IsNative};
+ghost use Rattle.elementwise.specs.inside.PairLaws.{binary_reads_back};
+
+use crate::combining::combine_run;
+use crate::operation::BinOp;
+use elem_descr::Scalar;
+use shape_strides::Run;
+
+/// What is made of pairs of values of two scalars.
+pub(crate) trait Pairing {
+    ghost left_scalar: { Self → Scalar };
+
+    ghost right_scalar: { Self → Scalar };
+
+    ghost target_scalar: { Self → Scalar };
+
+    ghost gives: { Self → LeafValue → LeafValue → LeafValue };
+
+    // What must hold, so that a pass can be made.
+    ghost Can: { Self → Type 0 };
+
+    /// The scalar of what is made.
+    fn target(&self) -> Scalar
+        ensures { result ≡ target_scalar self.now };
+
+    /// Writes what is made of the pairs of two runs to items that lie one right after the other.
+    fn make_run(
+        &self,
+        bytes: &mut [u8],
+        to: Run,
+        left: &[u8],
+        first: Run,
+        right: &[u8],
+        second: Run,
+    )
+        requires can { Can self.now }
+        requires few { to.count < 2 ^ 63 }
+        requires step { to.step ≡ pos (size (target_scalar self.now)) }
+        requires to { EachWithin (length bytes.old) to.offset to.step (size (target_scalar self.now)) to.count }
+        requires first { EachWithin (length left.now) first.offset first.step (size (left_scalar self.now)) to.count }
+        requires second { EachWithin (length right.now) second.offset second.step (size (right_scalar self.now)) to.count }
+        ensures { bytes.new ≡ made_of_pairs (value_pair (left_scalar self.now) (right_scalar self.now) (target_scalar self.now) (gives self.now)) (size (left_scalar self.now)) (size (right_scalar self.now)) left.now right.now to first second to.count bytes.old };
+
+    ghost reads_back: { (pairing : Self) (x y : LeafValue) → Can pairing → decode (target_scalar pairing) (encode (target_scalar pairing) (gives pairing x y)) ≡ gives pairing x y };
+}
+
+/// An operation on numbers of a little-endian scalar.
+pub(crate) struct Combining {
+    pub(crate) op: BinOp,
+    pub(crate) scalar: Scalar,
+}
+
+impl Pairing for Combining {
+    ghost left_scalar = { λ c. c.scalar };
+
+    ghost right_scalar = { λ c. c.scalar };
+
+    ghost target_scalar = { λ c. c.scalar };
+
+    ghost gives = { λ c. binary_value c.op c.scalar };
+
+    ghost Can = { λ c. IsNative c.scalar × (is_division c.op ≡ false) };
+
+    ghost reads_back = { λ c x y can. binary_reads_back c.op c.scalar x y can.0 };
+
+    fn target(&self) -> Scalar {
+        self.scalar
+    }
+
+    fn make_run(
+        &self,
+        bytes: &mut [u8],
+        to: Run,
+        left: &[u8],
+        first: Run,
+        right: &[u8],
+        second: Run,
+    ) {
+        combine_run(self.op, &self.scalar, bytes, to, left, first, right, second);
+    }
+}
