@@ -7,6 +7,8 @@ pub mod RowLaws
 pub mod CastLaws
 pub mod AlikeLaws
 pub mod PairLaws
+pub mod PairedLaws
+pub mod StretchedLaws
 pub mod BitLaws
 pub mod WordLaws
 mod Vectors

@@ -6,7 +6,7 @@ ghost use Rattle.elem_descr.specs.Encoding.{size, decode, encode};
 ghost use Rattle.raw_block.specs.Bytes.{EachWithin};
 ghost use Rattle.elementwise.specs.Promotion.{is_division};
 ghost use Rattle.elementwise.specs.inside.PairPasses.{made_of_pairs, value_pair, binary_value, IsNative};
-ghost use Rattle.elementwise.specs.inside.PairLaws.{binary_reads_back};
+ghost use Rattle.elementwise.specs.inside.PairLaws.{binary_reads_back, native_small};
 
 use crate::combining::combine_run;
 use crate::operation::BinOp;
@@ -49,6 +49,8 @@ pub(crate) trait Pairing {
         ensures { bytes.new ≡ made_of_pairs (value_pair (left_scalar self.now) (right_scalar self.now) (target_scalar self.now) (gives self.now)) (size (left_scalar self.now)) (size (right_scalar self.now)) left.now right.now to first second to.count bytes.old };
 
     ghost reads_back: { (pairing : Self) (x y : LeafValue) → Can pairing → decode (target_scalar pairing) (encode (target_scalar pairing) (gives pairing x y)) ≡ gives pairing x y };
+
+    ghost is_small: { (pairing : Self) → Can pairing → size (target_scalar pairing) ≤ 8 };
 }
 
 /// An operation on numbers of a little-endian scalar.
@@ -69,6 +71,8 @@ impl Pairing for Combining {
     ghost Can = { λ c. IsNative c.scalar × (is_division c.op ≡ false) };
 
     ghost reads_back = { λ c x y can. binary_reads_back c.op c.scalar x y can.0 };
+
+    ghost is_small = { λ c can. native_small c.scalar can.0 };
 
     fn target(&self) -> Scalar {
         self.scalar

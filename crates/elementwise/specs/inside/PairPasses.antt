@@ -35,3 +35,7 @@ value_pair left right to f x y = encode to (f (decode left x) (decode right y))
 -- an operation on the values of two items
 abbrev pub binary_value : BinOp → Scalar → LeafValue → LeafValue → LeafValue
 binary_value op scalar x y = number (binary op scalar (number_of x) (number_of y))
+
+-- what f makes of the items at two offsets
+abbrev pub pair_from : (List ℕ → List ℕ → List ℕ) → ℕ → ℕ → List ℕ → List ℕ → ℕ → ℕ → List ℕ
+pair_from f width width' left right o o' = f (item_at o width left) (item_at o' width' right)
