@@ -9,6 +9,9 @@ pub mod AlikeLaws
 pub mod PairLaws
 pub mod PairedLaws
 pub mod StretchedLaws
+pub mod TypedLaws
+pub mod PromotedLaws
+pub mod AppliedLaws
 pub mod BitLaws
 pub mod WordLaws
 mod Vectors

@@ -90,7 +90,9 @@ fn combine_numbers<F: Operation>(
     ensures { bytes.new ≡ made_of_pairs (number_pair scalar.now scalar.now scalar.now (binary F.word scalar.now)) (size scalar.now) (size scalar.now) left.now right.now to first second to.count bytes.old }
 {
     match scalar {
-        Scalar::Bool => make_run::<Done<F>, bool, bool, bool>(bytes, to, left, first, right, second),
+        Scalar::Bool => make_run::<Done<F>, bool, bool, bool>(
+            bytes, to, left, first, right, second,
+        ),
         Scalar::Byte { signed: false } => make_run::<Done<F>, u8, u8, u8>(
             bytes, to, left, first, right, second,
         ),
@@ -140,15 +142,11 @@ pub(crate) fn combine_run(
         BinOp::Modulo => combine_numbers::<LeavingRests>(
             scalar, bytes, to, left, first, right, second,
         ),
-        BinOp::And => combine_numbers::<KeepingBoth>(
-            scalar, bytes, to, left, first, right, second,
-        ),
+        BinOp::And => combine_numbers::<KeepingBoth>(scalar, bytes, to, left, first, right, second),
         BinOp::Or => combine_numbers::<KeepingEither>(
             scalar, bytes, to, left, first, right, second,
         ),
-        BinOp::Xor => combine_numbers::<KeepingOne>(
-            scalar, bytes, to, left, first, right, second,
-        ),
+        BinOp::Xor => combine_numbers::<KeepingOne>(scalar, bytes, to, left, first, right, second),
         BinOp::ShiftLeft => combine_numbers::<MovingUp>(
             scalar, bytes, to, left, first, right, second,
         ),

@@ -2,6 +2,7 @@
 #![tactic(auto)]
 
 mod alike;
+mod applied;
 mod bits;
 mod byte_orders;
 mod castable;
@@ -14,14 +15,16 @@ mod operation;
 mod operations;
 mod pair_passes;
 mod pair_runs;
-mod pairing;
 mod paired;
+mod pairing;
 mod passes;
 mod promotion;
 mod runs_of_leaves;
 mod texts;
+mod typed;
 
 pub use alike::{are_alike, keeps_items};
+pub use applied::apply2;
 pub use castable::can_cast;
 pub use casts::cast;
 pub use operands::Items;

@@ -122,11 +122,6 @@ impl Operation for MovingDown {
 
     #[inline(always)]
     fn apply<N: Number>(left: N, right: N) -> N {
-        N::of_bits(bits::moved_down(
-            N::SIGNED,
-            8 * N::WIDTH as u64,
-            left.bits(),
-            right.bits(),
-        ))
+        N::of_bits(bits::moved_down(N::SIGNED, 8 * N::WIDTH as u64, left.bits(), right.bits()))
     }
 }

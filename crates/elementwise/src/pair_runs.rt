@@ -54,7 +54,7 @@ pub(crate) fn make_pairs<P: Pairing>(
     requires room { length (flat_map (λ pair. run_offsets pair.first) pairs) * size (P.target_scalar pairing.now) ≤ length bytes.old }
     ensures written { bytes.new ≡ put_all (row_offsets 0 (size (P.target_scalar pairing.now)) (length (flat_map (λ pair. run_offsets pair.first) pairs.entry)))
         (pairwise (pair_from (value_pair (P.left_scalar pairing.now) (P.right_scalar pairing.now) (P.target_scalar pairing.now) (P.gives pairing.now)) (size (P.left_scalar pairing.now)) (size (P.right_scalar pairing.now)) left.now right.now)
-            (flat_map (λ pair. run_offsets pair.first) pairs.entry) (flat_map (λ pair. run_offsets pair.second) pairs.entry)) bytes.old }
+        (flat_map (λ pair. run_offsets pair.first) pairs.entry) (flat_map (λ pair. run_offsets pair.second) pairs.entry)) bytes.old }
     ensures len { length bytes.new ≡ length bytes.old }
 {
     let _len = bytes.len();

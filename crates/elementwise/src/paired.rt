@@ -1,18 +1,15 @@
 //! What is made of the items of two arrays, in a block of its own.
-ghost use Rattle.std.specs.Prelude.{◌≡◌, ℕ, [], ◌∷◌, ◌+◌, ◌*◌, ◌≤◌, length, map, All, IfOk, IfErr, IsTrue};
+ghost use Rattle.std.specs.Prelude.{◌≡◌, [], ◌∷◌, ◌+◌, ◌*◌, ◌≤◌, length, map, All, IfOk, IfErr};
 ghost use Rattle.elem_descr.specs.declared.refusal.Refusal.TheVariants.{OutOfMemory};
 ghost use Rattle.elem_descr.specs.declared.descr.Descr.TheVariants.{Scalar as ScalarDescr};
 ghost use Rattle.elem_descr.specs.Encoding.{size};
 ghost use Rattle.elem_descr.specs.Blocks.{item_from};
 ghost use Rattle.shape_strides.specs.Indexes.{count};
 ghost use Rattle.shape_strides.specs.Layouts.{offsets, multiples};
-ghost use Rattle.elementwise.specs.Results.{pairwise, value_in, stretched_items};
-ghost use Rattle.broadcasting.specs.Broadcasts.{can_stretch, broadcast_index};
-ghost use Rattle.view_ops.specs.Views.{view_through};
+ghost use Rattle.elementwise.specs.Results.{pairwise, value_in};
 
 use crate::pair_runs::make_pairs;
 use crate::pairing::Pairing;
-use broadcasting::stretch;
 use elem_descr::{Descr, Refusal};
 use overlap_copy::Owned;
 use raw_block::RawBlock;
@@ -35,8 +32,8 @@ fn make_all<P: Pairing>(
     requires room { length bytes.old ≡ count first.now.shape * size (P.target_scalar pairing.now) }
     ensures items { map (item_from (ScalarDescr (P.target_scalar pairing.now)) bytes.new) (multiples (size (P.target_scalar pairing.now)) (count first.now.shape))
         ≡ pairwise (λ x y. P.gives pairing.now (value_in x) (value_in y) ∷ [])
-            (map (item_from (ScalarDescr (P.left_scalar pairing.now)) left.now) (offsets first.now))
-            (map (item_from (ScalarDescr (P.right_scalar pairing.now)) right.now) (offsets second.now)) }
+        (map (item_from (ScalarDescr (P.left_scalar pairing.now)) left.now) (offsets first.now))
+        (map (item_from (ScalarDescr (P.right_scalar pairing.now)) right.now) (offsets second.now)) }
     ensures len { length bytes.new ≡ length bytes.old }
 {
     make_pairs::<P>(pairing, bytes, left, right, RunPairs::new(first, second));
@@ -58,55 +55,23 @@ fn make_block<P: Pairing>(
     ensures len { IfOk result (λ b. length b ≡ count first.now.shape * size (P.target_scalar pairing.now)) }
     ensures items { IfOk result (λ b. map (item_from (ScalarDescr (P.target_scalar pairing.now)) b) (multiples (size (P.target_scalar pairing.now)) (count first.now.shape))
         ≡ pairwise (λ x y. P.gives pairing.now (value_in x) (value_in y) ∷ [])
-            (map (item_from (ScalarDescr (P.left_scalar pairing.now)) left.now) (offsets first.now))
-            (map (item_from (ScalarDescr (P.right_scalar pairing.now)) right.now) (offsets second.now))) }
+        (map (item_from (ScalarDescr (P.left_scalar pairing.now)) left.now) (offsets first.now))
+        (map (item_from (ScalarDescr (P.right_scalar pairing.now)) right.now) (offsets second.now))) }
 {
     let scalar = pairing.target();
     let mut block = RawBlock::try_zeroed(alloc, first.shape.items() * scalar.size())?;
-    make_all::<P>(pairing, block.bytes_mut(), left.bytes(), first, right.bytes(), second);
+    make_all::<P>(
+        pairing,
+        block.bytes_mut(),
+        left.bytes(),
+        first,
+        right.bytes(),
+        second,
+    );
     Ok(block)
 }
 
-/// A layout that is stretched to a shape to which it can be.
-fn stretched_to(alloc: Global, layout: &Layout, shape: &Shape) -> Result<Layout, Refusal>
-    requires { IsTrue (can_stretch layout.now.shape shape.now) }
-    ensures shape { IfOk result (λ l. l.shape ≡ shape.now) }
-    ensures offsets { IfOk result (λ l. offsets l ≡ view_through (offsets layout.now) layout.now.shape shape.now (broadcast_index layout.now.shape)) }
-    ensures inside { IfOk result (λ l. (len width : ℕ) → All (λ offset. offset + width ≤ len) (offsets layout.now) → All (λ offset. offset + width ≤ len) (offsets l)) }
-    ensures refused { IfErr result (λ refusal. refusal ≡ OutOfMemory) }
-{
-    stretch(alloc, layout, shape)
-}
-
-/// A block of what is made of the items of two arrays that are stretched to a shape.
-fn make_stretched<P: Pairing>(
-    alloc: Global,
-    pairing: &P,
-    left: &RawBlock,
-    first: &Layout,
-    right: &RawBlock,
-    second: &Layout,
-    shape: &Shape,
-) -> Result<RawBlock, Refusal>
-    requires can { P.Can pairing.now }
-    requires left { All (λ offset. offset + size (P.left_scalar pairing.now) ≤ length left.now) (offsets first.now) }
-    requires right { All (λ offset. offset + size (P.right_scalar pairing.now) ≤ length right.now) (offsets second.now) }
-    requires stretches { IsTrue (can_stretch first.now.shape shape.now) }
-    requires also { IsTrue (can_stretch second.now.shape shape.now) }
-    ensures len { IfOk result (λ b. length b ≡ count shape.now * size (P.target_scalar pairing.now)) }
-    ensures items { IfOk result (λ b. map (item_from (ScalarDescr (P.target_scalar pairing.now)) b) (multiples (size (P.target_scalar pairing.now)) (count shape.now))
-        ≡ pairwise (λ x y. P.gives pairing.now (value_in x) (value_in y) ∷ [])
-            (stretched_items (ScalarDescr (P.left_scalar pairing.now)) left.now first.now shape.now)
-            (stretched_items (ScalarDescr (P.right_scalar pairing.now)) right.now second.now shape.now)) }
-    ensures refused { IfErr result (λ refusal. refusal ≡ OutOfMemory) }
-{
-    let first = stretched_to(alloc, first, shape)?;
-    let second = stretched_to(alloc, second, shape)?;
-    let block = make_block::<P>(alloc, pairing, left, &first, right, &second)?;
-    Ok(block)
-}
-
-/// What is made of the items of two arrays that are stretched to a shape.
+/// What is made of the items of two layouts of one shape, as an array of this shape.
 pub(crate) fn make_owned<P: Pairing>(
     alloc: Global,
     pairing: &P,
@@ -119,19 +84,19 @@ pub(crate) fn make_owned<P: Pairing>(
     requires can { P.Can pairing.now }
     requires left { All (λ offset. offset + size (P.left_scalar pairing.now) ≤ length left.now) (offsets first.now) }
     requires right { All (λ offset. offset + size (P.right_scalar pairing.now) ≤ length right.now) (offsets second.now) }
-    requires stretches { IsTrue (can_stretch first.now.shape shape.now) }
-    requires also { IsTrue (can_stretch second.now.shape shape.now) }
+    requires first { first.now.shape ≡ shape.now }
+    requires second { second.now.shape ≡ shape.now }
     ensures descr { IfOk result (λ o. o.descr ≡ ScalarDescr (P.target_scalar pairing.now)) }
     ensures shape { IfOk result (λ o. o.layout.shape ≡ shape.now) }
     ensures order { IfOk result (λ o. offsets o.layout ≡ multiples (size (P.target_scalar pairing.now)) (count shape.now)) }
     ensures items { IfOk result (λ o. map (item_from (ScalarDescr (P.target_scalar pairing.now)) o.block) (offsets o.layout)
         ≡ pairwise (λ x y. P.gives pairing.now (value_in x) (value_in y) ∷ [])
-            (stretched_items (ScalarDescr (P.left_scalar pairing.now)) left.now first.now shape.now)
-            (stretched_items (ScalarDescr (P.right_scalar pairing.now)) right.now second.now shape.now)) }
+        (map (item_from (ScalarDescr (P.left_scalar pairing.now)) left.now) (offsets first.now))
+        (map (item_from (ScalarDescr (P.right_scalar pairing.now)) right.now) (offsets second.now))) }
     ensures refused { IfErr result (λ refusal. refusal ≡ OutOfMemory) }
 {
     let _items = shape.items();
-    let block = make_stretched::<P>(alloc, pairing, left, first, right, second, shape)?;
+    let block = make_block::<P>(alloc, pairing, left, first, right, second)?;
     let descr = Descr::Scalar(pairing.target());
     let owned = Owned::over(alloc, descr, shape, MemoryOrder::C, block)?;
     Ok(owned)

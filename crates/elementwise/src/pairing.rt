@@ -54,6 +54,7 @@ pub(crate) trait Pairing {
 }
 
 /// An operation on numbers of a little-endian scalar.
+#[derive(Clone, Copy)]
 pub(crate) struct Combining {
     pub(crate) op: BinOp,
     pub(crate) scalar: Scalar,

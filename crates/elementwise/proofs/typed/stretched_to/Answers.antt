@@ -1,5 +1,5 @@
 use Rattle.elementwise.proofs.StretchedLaws.{given_shape, given_offsets, given_inside, given_refusal}
-use Rattle.elementwise.proofs.paired.stretched_to.Goals as goal
+use Rattle.elementwise.proofs.typed.stretched_to.Goals as goal
 
 pub returns-clause-shape : goal.returns-clause-shape
 returns-clause-shape c = given_shape c.args.layout.now c.args.shape.now c.stretch.result c.requires c.stretch.ensures
