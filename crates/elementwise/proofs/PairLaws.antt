@@ -17,8 +17,6 @@ use Rattle.elem_descr.specs.declared.scalar.Width.{Width}
 use Rattle.elem_descr.specs.declared.scalar.Scalar.{Scalar}
 use Rattle.elem_descr.specs.declared.scalar.Scalar.TheVariants.{Int}
 use Rattle.elem_descr.specs.Encoding.{width_size}
-use Rattle.elementwise.specs.declared.operation.BinOp.{BinOp}
-use Rattle.elementwise.specs.Operations.{binary}
 use Rattle.elementwise.proofs.PassLaws.{put_all-append, row-split, length-row}
 
 -- one pair more
@@ -137,10 +135,10 @@ written-next make left left' pair at item bytes bytes' whole walked same wrote s
 
 -- ---- integers of a sign and a width
 
-abbrev of_type : BinOp → Bool → Width → List ℕ → List ℕ → Run → Run → Run → List ℕ → List ℕ
-of_type op signed width left right to first second bytes =
+abbrev of_type : (Scalar → ℤ → ℤ → ℤ) → Bool → Width → List ℕ → List ℕ → Run → Run → Run → List ℕ → List ℕ
+of_type f signed width left right to first second bytes =
     let scalar = Int signed width Little in
-    made_of_pairs (number_pair scalar scalar scalar (binary op scalar)) (width_size width) (width_size width) left right to first second to.count bytes
+    made_of_pairs (number_pair scalar scalar scalar (f scalar)) (width_size width) (width_size width) left right to first second to.count bytes
 
-pub of_integers : (op : BinOp) (signed signed' : Bool) (width width' : Width) (left right : List ℕ) (to first second : Run) (bytes : List ℕ) → signed ≡ signed' → width ≡ width' → of_type op signed' width' left right to first second bytes ≡ of_type op signed width left right to first second bytes
-of_integers op signed signed' width width' left right to first second bytes sign wide = λ i. of_type op (sym sign i) (sym wide i) left right to first second bytes
+pub of_integers : (f : Scalar → ℤ → ℤ → ℤ) (signed signed' : Bool) (width width' : Width) (left right : List ℕ) (to first second : Run) (bytes : List ℕ) → signed ≡ signed' → width ≡ width' → of_type f signed' width' left right to first second bytes ≡ of_type f signed width left right to first second bytes
+of_integers f signed signed' width width' left right to first second bytes sign wide = λ i. of_type f (sym sign i) (sym wide i) left right to first second bytes

@@ -1,6 +1,6 @@
 -- Operations that are done on the lowest 64 bits, and what is kept of them.
 use Rattle.std.proofs.Common.{◌≡◌, ◌⊎◌, ℕ, zero, suc, ◌+◌, ◌-◌, ◌*◌, ◌%◌, ◌^◌, ◌<◌, ◌≤◌, inl, inr, Bool, true, false, refl, sym, ap, subst, ◌∙◌, arith, mul_assoc}
-use Rattle.std.specs.Prelude.{ℤ, pos, negsuc, ◌+ℤ◌, unsigned_abs, nat_lt}
+use Rattle.std.specs.Prelude.{ℤ, pos, negsuc, ◌+ℤ◌, ◌-ℤ◌, unsigned_abs, nat_lt}
 use Rattle.std.specs.Int.{int_rem_euclid}
 use Rattle.std.proofs.Math.Nat.{mod-lt, mod-mod, mod-eq_of_lt}
 use Rattle.std.proofs.Math.Pow.{mod-mod-pow}
@@ -102,6 +102,17 @@ applied_low op (Bytes n) a b never truth-a truth-b = absurd never
 -- a number that has the lowest bits of a result
 pub applied : (op : BinOp) (s : Scalar) (a b v : ℤ) (r : ℕ) → IsNumber s → (is_bool s ≡ true → IsTruth a) → (is_bool s ≡ true → IsTruth b) → v ≡ wrap s (pos r) → r ≡ low_bits 8 (exact op s a b) → v ≡ binary op s a b
 applied op s a b v r is truth-a truth-b made low = made ∙ ap (λ n. wrap s (pos n)) low ∙ applied_low op s a b is truth-a truth-b
+
+-- the same of one number that is not far from 0 where it is a bool
+pub applied_one : (s : Scalar) (z v : ℤ) (r : ℕ) → IsNumber s → (is_bool s ≡ true → unsigned_abs z < 2 ^ 64) → v ≡ wrap s (pos r) → r ≡ low_bits 8 z → v ≡ wrap s z
+applied_one BoolScalar z v r is small made low = made ∙ ap (λ n. wrap BoolScalar (pos n)) low ∙ ap pos (truth-low z (small refl))
+applied_one (Byte signed) z v r is small made low = made ∙ ap (λ n. wrap (Byte signed) (pos n)) low ∙ wrap-low (Byte signed) z is refl
+applied_one (Int signed width order) z v r is small made low = made ∙ ap (λ n. wrap (Int signed width order) (pos n)) low ∙ wrap-low (Int signed width order) z is refl
+applied_one (Bytes n) z v r never small made low = absurd never
+
+pub near_zero : (c b : ℤ) → IsTruth b → (unsigned_abs (c -ℤ pos 0) < 2 ^ 64) × (unsigned_abs (c -ℤ pos 1) < 2 ^ 64) → unsigned_abs (c -ℤ b) < 2 ^ 64
+near_zero c b (inl is) small = subst (λ z. unsigned_abs (c -ℤ z) < 2 ^ 64) (sym is) small.0
+near_zero c b (inr is) small = subst (λ z. unsigned_abs (c -ℤ z) < 2 ^ 64) (sym is) small.1
 
 -- ---- bits of both
 

@@ -23,7 +23,7 @@ use std::marker::PhantomData;
 struct Done<F>(PhantomData<F>);
 
 impl<F: Operation, N: Number> Kernel<N, N, N> for Done<F> {
-    ghost makes = { λ a b. binary F.word (N.scalar Little) a b };
+    ghost makes = { λ a b. F.meaning (N.scalar Little) a b };
 
     #[inline(always)]
     fn make(left: N, right: N) -> N {
@@ -47,7 +47,7 @@ fn combine_integers<F: Operation>(
     requires to { EachWithin (length bytes.old) to.offset to.step (width_size width) to.count }
     requires first { EachWithin (length left.now) first.offset first.step (width_size width) to.count }
     requires second { EachWithin (length right.now) second.offset second.step (width_size width) to.count }
-    ensures { bytes.new ≡ made_of_pairs (number_pair (Int signed width Little) (Int signed width Little) (Int signed width Little) (binary F.word (Int signed width Little))) (width_size width) (width_size width) left.now right.now to first second to.count bytes.old }
+    ensures { bytes.new ≡ made_of_pairs (number_pair (Int signed width Little) (Int signed width Little) (Int signed width Little) (F.meaning (Int signed width Little))) (width_size width) (width_size width) left.now right.now to first second to.count bytes.old }
 {
     match (signed, width) {
         (false, Width::Two) => make_run::<Done<F>, u16, u16, u16>(
@@ -72,7 +72,7 @@ fn combine_integers<F: Operation>(
 }
 
 /// An operation on numbers of a little-endian scalar.
-fn combine_numbers<F: Operation>(
+pub(crate) fn combine_numbers<F: Operation>(
     scalar: &Scalar,
     bytes: &mut [u8],
     to: Run,
@@ -87,7 +87,7 @@ fn combine_numbers<F: Operation>(
     requires to { EachWithin (length bytes.old) to.offset to.step (size scalar.now) to.count }
     requires first { EachWithin (length left.now) first.offset first.step (size scalar.now) to.count }
     requires second { EachWithin (length right.now) second.offset second.step (size scalar.now) to.count }
-    ensures { bytes.new ≡ made_of_pairs (number_pair scalar.now scalar.now scalar.now (binary F.word scalar.now)) (size scalar.now) (size scalar.now) left.now right.now to first second to.count bytes.old }
+    ensures { bytes.new ≡ made_of_pairs (number_pair scalar.now scalar.now scalar.now (F.meaning scalar.now)) (size scalar.now) (size scalar.now) left.now right.now to first second to.count bytes.old }
 {
     match scalar {
         Scalar::Bool => make_run::<Done<F>, bool, bool, bool>(

@@ -1,8 +1,9 @@
 //! Operations on machine numbers: each is done on the lowest 64 bits, of which a number keeps its own.
-ghost use Rattle.std.specs.Prelude.{◌≡◌};
+ghost use Rattle.std.specs.Prelude.{◌≡◌, ℤ, pos, negsuc, ◌-ℤ◌};
 ghost use Rattle.elem_descr.specs.declared.scalar.Order.{Order};
-ghost use Rattle.elementwise.specs.declared.operation.BinOp.{BinOp};
 ghost use Rattle.elementwise.specs.declared.operation.BinOp.TheVariants.{Add, Subtract, Multiply, FloorDivide, Modulo, And, Or, Xor, ShiftLeft, ShiftRight};
+ghost use Rattle.elem_descr.specs.declared.scalar.Scalar.{Scalar};
+ghost use Rattle.elem_descr.specs.Encoding.{wrap};
 ghost use Rattle.elementwise.specs.Operations.{binary};
 
 use crate::bits;
@@ -10,16 +11,16 @@ use crate::numbers::Number;
 
 /// An operation on two numbers of one type.
 pub(crate) trait Operation {
-    ghost word: { BinOp };
+    ghost meaning: { Scalar → ℤ → ℤ → ℤ };
 
     fn apply<N: Number>(left: N, right: N) -> N
-        ensures { (order : Order) → N.value result ≡ binary word (N.scalar order) (N.value left) (N.value right) };
+        ensures { (order : Order) → N.value result ≡ meaning (N.scalar order) (N.value left) (N.value right) };
 }
 
 pub(crate) struct Adding;
 
 impl Operation for Adding {
-    ghost word = { Add };
+    ghost meaning = { binary Add };
 
     #[inline(always)]
     fn apply<N: Number>(left: N, right: N) -> N {
@@ -30,7 +31,7 @@ impl Operation for Adding {
 pub(crate) struct Subtracting;
 
 impl Operation for Subtracting {
-    ghost word = { Subtract };
+    ghost meaning = { binary Subtract };
 
     #[inline(always)]
     fn apply<N: Number>(left: N, right: N) -> N {
@@ -41,7 +42,7 @@ impl Operation for Subtracting {
 pub(crate) struct Multiplying;
 
 impl Operation for Multiplying {
-    ghost word = { Multiply };
+    ghost meaning = { binary Multiply };
 
     #[inline(always)]
     fn apply<N: Number>(left: N, right: N) -> N {
@@ -52,7 +53,7 @@ impl Operation for Multiplying {
 pub(crate) struct Dividing;
 
 impl Operation for Dividing {
-    ghost word = { FloorDivide };
+    ghost meaning = { binary FloorDivide };
 
     #[inline(always)]
     fn apply<N: Number>(left: N, right: N) -> N {
@@ -63,7 +64,7 @@ impl Operation for Dividing {
 pub(crate) struct LeavingRests;
 
 impl Operation for LeavingRests {
-    ghost word = { Modulo };
+    ghost meaning = { binary Modulo };
 
     #[inline(always)]
     fn apply<N: Number>(left: N, right: N) -> N {
@@ -74,7 +75,7 @@ impl Operation for LeavingRests {
 pub(crate) struct KeepingBoth;
 
 impl Operation for KeepingBoth {
-    ghost word = { And };
+    ghost meaning = { binary And };
 
     #[inline(always)]
     fn apply<N: Number>(left: N, right: N) -> N {
@@ -85,7 +86,7 @@ impl Operation for KeepingBoth {
 pub(crate) struct KeepingEither;
 
 impl Operation for KeepingEither {
-    ghost word = { Or };
+    ghost meaning = { binary Or };
 
     #[inline(always)]
     fn apply<N: Number>(left: N, right: N) -> N {
@@ -96,7 +97,7 @@ impl Operation for KeepingEither {
 pub(crate) struct KeepingOne;
 
 impl Operation for KeepingOne {
-    ghost word = { Xor };
+    ghost meaning = { binary Xor };
 
     #[inline(always)]
     fn apply<N: Number>(left: N, right: N) -> N {
@@ -107,7 +108,7 @@ impl Operation for KeepingOne {
 pub(crate) struct MovingUp;
 
 impl Operation for MovingUp {
-    ghost word = { ShiftLeft };
+    ghost meaning = { binary ShiftLeft };
 
     #[inline(always)]
     fn apply<N: Number>(left: N, right: N) -> N {
@@ -118,10 +119,46 @@ impl Operation for MovingUp {
 pub(crate) struct MovingDown;
 
 impl Operation for MovingDown {
-    ghost word = { ShiftRight };
+    ghost meaning = { binary ShiftRight };
 
     #[inline(always)]
     fn apply<N: Number>(left: N, right: N) -> N {
         N::of_bits(bits::moved_down(N::SIGNED, 8 * N::WIDTH as u64, left.bits(), right.bits()))
+    }
+}
+
+/// The second number, negated.
+pub(crate) struct Negating;
+
+impl Operation for Negating {
+    ghost meaning = { λ s a b. wrap s (pos 0 -ℤ b) };
+
+    #[inline(always)]
+    fn apply<N: Number>(_left: N, right: N) -> N {
+        N::of_bits(bits::difference(0, right.bits()))
+    }
+}
+
+/// All bits of the second number, complemented.
+pub(crate) struct Complementing;
+
+impl Operation for Complementing {
+    ghost meaning = { λ s a b. wrap s (negsuc 0 -ℤ b) };
+
+    #[inline(always)]
+    fn apply<N: Number>(_left: N, right: N) -> N {
+        N::of_bits(bits::complement(right.bits()))
+    }
+}
+
+/// The lowest bit of the second number, complemented: the other bool.
+pub(crate) struct Flipping;
+
+impl Operation for Flipping {
+    ghost meaning = { λ s a b. wrap s (pos 1 -ℤ b) };
+
+    #[inline(always)]
+    fn apply<N: Number>(_left: N, right: N) -> N {
+        N::of_bits(bits::difference(1, right.bits()))
     }
 }
