@@ -2,7 +2,7 @@
 use Rattle.std.proofs.Common.{◌≡◌, ◌*◌, ◌≤◌, ℕ, max, nat_le, Bool, true, false, cond, Result, Ok, Err, List, [], ◌∷◌, refl, sym, ap, subst, ◌∙◌, arith, inl, inr}
 use Rattle.std.specs.Prelude.{not, ◌&&◌, ◌||◌, ◌==◌, pos}
 use Rattle.std.specs.Result.{is_ok}
-use Rattle.std.proofs.lemmas.Bool.{false≢true}
+use Rattle.std.proofs.lemmas.Bool.{false≢true, and_parts}
 use Rattle.elem_descr.specs.declared.refusal.Refusal.{Refusal}
 use Rattle.elem_descr.specs.declared.refusal.Refusal.TheVariants.{OutOfMemory, NotForThisKind, NeedsFloats}
 use Rattle.elem_descr.specs.declared.scalar.Order.TheVariants.{Little}
@@ -16,9 +16,11 @@ use Rattle.elem_descr.specs.RefusalLaws.{same_answer, check_passed}
 use Rattle.elem_descr.specs.Encoding.{size}
 use Rattle.broadcasting.specs.Broadcasts.{common_shape}
 use Rattle.elementwise.specs.declared.operation.BinOp.{BinOp}
+use Rattle.elementwise.specs.declared.operation.UnOp.{UnOp}
+use Rattle.elementwise.specs.declared.operation.UnOp.TheVariants.{Negate, Invert}
 use Rattle.elementwise.specs.Casts.{can_cast_scalar, can_cast}
-use Rattle.elementwise.specs.Promotion.{is_bool, is_text, is_signed, integer_type, little, mixed_type, common_integers, common_type, serves_bools, is_division, promote}
-use Rattle.elementwise.specs.Results.{scalar_of, binary_result}
+use Rattle.elementwise.specs.Promotion.{is_bool, is_text, is_signed, integer_type, little, mixed_type, common_integers, common_type, serves_bools, is_division, promote, serves_one, promote_one}
+use Rattle.elementwise.specs.Results.{scalar_of, binary_result, unary_result}
 use Rattle.elementwise.specs.inside.PairPasses.{IsNative}
 
 -- ---- native types
@@ -137,3 +139,28 @@ module _ (op : BinOp) (l : Descr) (shape : List ℕ) (r : Descr) (other : List �
   pub all_given : (a b s : Scalar) (c : List ℕ) → scalar_of l ≡ Ok a → scalar_of r ≡ Ok b → promote op a b ≡ Ok s → common_shape (shape ∷ other ∷ []) ≡ Ok c → binary_result op l shape r other ≡ Ok (ScalarDescr s, c)
   unfolding binary_result
   all_given a b s c is is' there common = rw (is, is', there, common) refl
+
+-- ---- of one operand
+
+serves-number : (op : UnOp) (s : Scalar) → serves_one op s ≡ true → is_text s ≡ false
+serves-number Negate s is = not-true (is_text s) (and_parts (not (is_text s)) (not (is_bool s)) is).0
+serves-number Invert s is = not-true (is_text s) is
+
+pub promoted_one : (op : UnOp) (a s : Scalar) → promote_one op a ≡ Ok s → IsNative s × (is_text a ≡ false)
+unfolding promote_one
+promoted_one op a s found =
+    let is = serves-number op a (check_test (serves_one op a) NotForThisKind (Ok (little a)) s found) in
+    (subst IsNative (same_answer (little a) s (check_passed (serves_one op a) NotForThisKind (Ok (little a)) s found)) (little-native a is), is)
+
+module _ (op : UnOp) (d : Descr) (shape : List ℕ) where
+  pub operand_refused : (e : Refusal) → scalar_of d ≡ Err e → unary_result op d shape ≡ Err e
+  unfolding unary_result
+  operand_refused e is = rw is refl
+
+  pub kind_refused : (a : Scalar) (e : Refusal) → scalar_of d ≡ Ok a → promote_one op a ≡ Err e → unary_result op d shape ≡ Err e
+  unfolding unary_result
+  kind_refused a e is there = rw (is, there) refl
+
+  pub one_given : (a s : Scalar) → scalar_of d ≡ Ok a → promote_one op a ≡ Ok s → unary_result op d shape ≡ Ok (ScalarDescr s, shape)
+  unfolding unary_result
+  one_given a s is there = rw (is, there) refl

@@ -2,12 +2,12 @@
 use Rattle.std.specs.Prelude.{ℕ, zero, suc, ◌*◌, ◌^◌, nat_lt, ℤ, pos, negsuc, ◌+ℤ◌, ◌-ℤ◌, ◌*ℤ◌, neg_ℤ, if◌then◌else◌, bit_and, bit_or, bit_xor}
 use Rattle.std.specs.Int.{int_div_euclid}
 use Rattle.elem_descr.specs.declared.scalar.Scalar.{Scalar}
-use Rattle.elem_descr.specs.declared.scalar.Scalar.TheVariants.{Bool as BoolScalar}
 use Rattle.elem_descr.specs.Encoding.{size, wrap, low_bits}
 use Rattle.elementwise.specs.declared.operation.BinOp.{BinOp}
 use Rattle.elementwise.specs.declared.operation.BinOp.TheVariants.{Add, Subtract, Multiply, FloorDivide, Modulo, And, Or, Xor, ShiftLeft, ShiftRight, Divide}
 use Rattle.elementwise.specs.declared.operation.UnOp.{UnOp}
 use Rattle.elementwise.specs.declared.operation.UnOp.TheVariants.{Negate, Invert}
+use Rattle.elementwise.specs.Promotion.{is_bool}
 
 -- ---- division
 
@@ -61,8 +61,7 @@ exact Divide scalar a b = pos 0
 abbrev pub binary : BinOp → Scalar → ℤ → ℤ → ℤ
 binary op scalar a b = wrap scalar (exact op scalar a b)
 
--- on one number of the scalar
+-- on one number of the scalar: its distance from 0 the other way, and all its bits complemented; of a bool the other bool
 abbrev pub unary : UnOp → Scalar → ℤ → ℤ
-unary Negate scalar a = wrap scalar (neg_ℤ a)
-unary Invert BoolScalar a = wrap BoolScalar (pos 1 -ℤ a)
-unary Invert scalar a = wrap scalar (negsuc 0 -ℤ a)
+unary Negate scalar a = wrap scalar (pos 0 -ℤ a)
+unary Invert scalar a = wrap scalar ((if is_bool scalar then pos 1 else negsuc 0) -ℤ a)

@@ -11,13 +11,13 @@ ghost use Rattle.overlap_copy.specs.Blocks.{offsets_in};
 ghost use Rattle.broadcasting.specs.Broadcasts.{can_stretch};
 ghost use Rattle.elementwise.specs.Casts.{can_cast};
 ghost use Rattle.elementwise.specs.Promotion.{is_division};
-ghost use Rattle.elementwise.specs.Results.{binary_result, binary_item, stretched_items, pairwise};
+ghost use Rattle.elementwise.specs.Results.{binary_result, unary_result, binary_item, unary_item, stretched_items, pairwise};
 ghost use Rattle.elementwise.specs.inside.PairPasses.{IsNative};
 
 use crate::operands::Items;
-use crate::operation::BinOp;
-use crate::pairing::Combining;
-use crate::promotion::{promote, scalar_of};
+use crate::operation::{BinOp, UnOp};
+use crate::pairing::{Changing, Combining};
+use crate::promotion::{promote, promote_one, scalar_of};
 use crate::typed::make_stretched;
 use broadcasting::common;
 use elem_descr::{Descr, Refusal, Scalar};
@@ -75,4 +75,39 @@ pub fn apply2(alloc: Global, op: BinOp, left: Items<'_>, right: Items<'_>) -> Re
     let scalar = promote(op, from, other)?;
     let shape = common(alloc, &[&left.layout.shape, &right.layout.shape])?;
     combine(alloc, op, &scalar, left, right, &shape)
+}
+
+/// An operation on an array of numbers, with results of a scalar.
+fn change(alloc: Global, op: UnOp, scalar: &Scalar, operand: Items<'_>) -> Result<Owned, Refusal>
+    requires native { IsNative scalar.now }
+    requires cast { can_cast operand.descr.now (ScalarDescr scalar.now) ≡ true }
+    requires inside { All (λ offset. offset + item_size operand.descr.now ≤ length operand.block.now) (offsets operand.layout.now) }
+    ensures descr { IfOk result (λ o. o.descr ≡ ScalarDescr scalar.now) }
+    ensures shape { IfOk result (λ o. o.layout.shape ≡ operand.entry.layout.now.shape) }
+    ensures order { IfOk result (λ o. offsets o.layout ≡ offsets_in C (item_size o.descr) o.layout.shape) }
+    ensures items { IfOk result (λ o. map (item_from o.descr o.block) (offsets o.layout)
+        ≡ map (λ offset. unary_item op o.descr (item_from operand.entry.descr.now operand.entry.block.now offset)) (offsets operand.entry.layout.now)) }
+    ensures refused { IfErr result (λ refusal. refusal ≡ OutOfMemory) }
+{
+    let to = Descr::Scalar(*scalar);
+    let pairing = Changing {
+        op,
+        scalar: *scalar,
+    };
+    let shape = &operand.layout.shape;
+    make_stretched::<Changing>(alloc, &pairing, operand, &to, operand, &to, shape)
+}
+
+/// What an operation gives on the items of an array, in a block of their own in C order. Refused as
+/// `promote_one` refuses, and records as `NotForThisKind`.
+pub fn apply1(alloc: Global, op: UnOp, operand: Items<'_>) -> Result<Owned, Refusal>
+    requires inside { All (λ offset. offset + item_size operand.descr.now ≤ length operand.block.now) (offsets operand.layout.now) }
+    ensures gives { Gives (λ o. (o.descr, o.layout.shape)) result (unary_result op operand.entry.descr.now operand.entry.layout.now.shape) }
+    ensures order { IfOk result (λ o. offsets o.layout ≡ offsets_in C (item_size o.descr) o.layout.shape) }
+    ensures items { IfOk result (λ o. map (item_from o.descr o.block) (offsets o.layout)
+        ≡ map (λ offset. unary_item op o.descr (item_from operand.entry.descr.now operand.entry.block.now offset)) (offsets operand.entry.layout.now)) }
+{
+    let from = scalar_of(operand.descr)?;
+    let scalar = promote_one(op, from)?;
+    change(alloc, op, &scalar, operand)
 }

@@ -5,16 +5,17 @@ ghost use Rattle.elem_descr.specs.declared.scalar.Scalar.TheVariants.{Int};
 ghost use Rattle.elem_descr.specs.Encoding.{size, width_size};
 ghost use Rattle.raw_block.specs.Bytes.{EachWithin};
 ghost use Rattle.elementwise.specs.Promotion.{is_division};
-ghost use Rattle.elementwise.specs.Operations.{binary};
+ghost use Rattle.elementwise.specs.Operations.{binary, unary};
 ghost use Rattle.elementwise.specs.inside.PairPasses.{made_of_pairs, number_pair, IsNative};
 
 use crate::numbers::Number;
-use crate::operation::BinOp;
+use crate::operation::{BinOp, UnOp};
 use crate::operations::{
-    Adding, Dividing, KeepingBoth, KeepingEither, KeepingOne, LeavingRests, MovingDown, MovingUp,
-    Multiplying, Operation, Subtracting,
+    Adding, Complementing, Dividing, Flipping, KeepingBoth, KeepingEither, KeepingOne,
+    LeavingRests, MovingDown, MovingUp, Multiplying, Negating, Operation, Subtracting,
 };
 use crate::pair_passes::{Kernel, make_run};
+use crate::promotion::is_bool;
 use elem_descr::{Order, Scalar, Width};
 use shape_strides::Run;
 use std::marker::PhantomData;
@@ -72,7 +73,7 @@ fn combine_integers<F: Operation>(
 }
 
 /// An operation on numbers of a little-endian scalar.
-pub(crate) fn combine_numbers<F: Operation>(
+fn combine_numbers<F: Operation>(
     scalar: &Scalar,
     bytes: &mut [u8],
     to: Run,
@@ -154,5 +155,36 @@ pub(crate) fn combine_run(
             scalar, bytes, to, left, first, right, second,
         ),
         BinOp::Divide => unreachable!(),
+    }
+}
+
+/// An operation on the second of two numbers of a little-endian scalar, by its word.
+pub(crate) fn change_run(
+    op: UnOp,
+    scalar: &Scalar,
+    bytes: &mut [u8],
+    to: Run,
+    left: &[u8],
+    first: Run,
+    right: &[u8],
+    second: Run,
+)
+    requires native { IsNative scalar.now }
+    requires few { to.count < 2 ^ 63 }
+    requires step { to.step ≡ pos (size scalar.now) }
+    requires to { EachWithin (length bytes.old) to.offset to.step (size scalar.now) to.count }
+    requires first { EachWithin (length left.now) first.offset first.step (size scalar.now) to.count }
+    requires second { EachWithin (length right.now) second.offset second.step (size scalar.now) to.count }
+    ensures { bytes.new ≡ made_of_pairs (number_pair scalar.now scalar.now scalar.now (λ _ b. unary op scalar.now b)) (size scalar.now) (size scalar.now) left.now right.now to first second to.count bytes.old }
+{
+    match op {
+        UnOp::Negate => combine_numbers::<Negating>(scalar, bytes, to, left, first, right, second),
+        UnOp::Invert => {
+            if is_bool(scalar) {
+                combine_numbers::<Flipping>(scalar, bytes, to, left, first, right, second);
+            } else {
+                combine_numbers::<Complementing>(scalar, bytes, to, left, first, right, second);
+            }
+        }
     }
 }

@@ -24,7 +24,7 @@ mod texts;
 mod typed;
 
 pub use alike::{are_alike, keeps_items};
-pub use applied::apply2;
+pub use applied::{apply1, apply2};
 pub use castable::can_cast;
 pub use casts::cast;
 pub use operands::Items;

@@ -5,11 +5,11 @@ ghost use Rattle.elem_descr.specs.Values.{LeafValue};
 ghost use Rattle.elem_descr.specs.Encoding.{size, decode, encode};
 ghost use Rattle.raw_block.specs.Bytes.{EachWithin};
 ghost use Rattle.elementwise.specs.Promotion.{is_division};
-ghost use Rattle.elementwise.specs.inside.PairPasses.{made_of_pairs, value_pair, binary_value, IsNative};
-ghost use Rattle.elementwise.specs.inside.PairLaws.{binary_reads_back, native_small};
+ghost use Rattle.elementwise.specs.inside.PairPasses.{made_of_pairs, value_pair, binary_value, unary_value, IsNative};
+ghost use Rattle.elementwise.specs.inside.PairLaws.{binary_reads_back, unary_reads_back, native_small};
 
-use crate::combining::combine_run;
-use crate::operation::BinOp;
+use crate::combining::{change_run, combine_run};
+use crate::operation::{BinOp, UnOp};
 use elem_descr::Scalar;
 use shape_strides::Run;
 
@@ -89,5 +89,44 @@ impl Pairing for Combining {
         second: Run,
     ) {
         combine_run(self.op, &self.scalar, bytes, to, left, first, right, second);
+    }
+}
+
+/// An operation on the second of two numbers of a little-endian scalar.
+#[derive(Clone, Copy)]
+pub(crate) struct Changing {
+    pub(crate) op: UnOp,
+    pub(crate) scalar: Scalar,
+}
+
+impl Pairing for Changing {
+    ghost left_scalar = { λ c. c.scalar };
+
+    ghost right_scalar = { λ c. c.scalar };
+
+    ghost target_scalar = { λ c. c.scalar };
+
+    ghost gives = { λ c. unary_value c.op c.scalar };
+
+    ghost Can = { λ c. IsNative c.scalar };
+
+    ghost reads_back = { λ c x y can. unary_reads_back c.op c.scalar x y can };
+
+    ghost is_small = { λ c can. native_small c.scalar can };
+
+    fn target(&self) -> Scalar {
+        self.scalar
+    }
+
+    fn make_run(
+        &self,
+        bytes: &mut [u8],
+        to: Run,
+        left: &[u8],
+        first: Run,
+        right: &[u8],
+        second: Run,
+    ) {
+        change_run(self.op, &self.scalar, bytes, to, left, first, right, second);
     }
 }

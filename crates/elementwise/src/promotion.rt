@@ -7,7 +7,7 @@ ghost use Rattle.elementwise.specs.Results.{scalar_of};
 use crate::operation::{BinOp, UnOp};
 use elem_descr::{Descr, Order, Refusal, Scalar, Width};
 
-fn is_bool(scalar: &Scalar) -> bool
+pub(crate) fn is_bool(scalar: &Scalar) -> bool
     ensures { result ≡ is_bool scalar.now }
 {
     matches!(scalar, Scalar::Bool)

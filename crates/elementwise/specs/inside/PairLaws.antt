@@ -1,5 +1,6 @@
 -- What is made of two values is read back.
-use Rattle.std.proofs.Common.{◌≡◌, ◌≤◌, arith}
+use Rattle.std.proofs.Common.{◌≡◌, ◌≤◌, cond, arith}
+use Rattle.std.specs.Prelude.{pos, negsuc, ◌-ℤ◌}
 use Rattle.elem_descr.specs.declared.scalar.Width.{Width}
 use Rattle.elem_descr.specs.declared.scalar.Width.TheVariants.{Two, Four, Eight}
 use Rattle.elem_descr.specs.declared.scalar.Scalar.{Scalar}
@@ -8,8 +9,11 @@ use Rattle.elem_descr.specs.Values.{LeafValue}
 use Rattle.elem_descr.specs.Encoding.{IsNumber, size, width_size, number_of, decode, encode}
 use Rattle.elem_descr.specs.EncodingLaws.{decode_encode}
 use Rattle.elementwise.specs.declared.operation.BinOp.{BinOp}
+use Rattle.elementwise.specs.declared.operation.UnOp.{UnOp}
+use Rattle.elementwise.specs.declared.operation.UnOp.TheVariants.{Negate, Invert}
+use Rattle.elementwise.specs.Promotion.{is_bool}
 use Rattle.elementwise.specs.Operations.{exact}
-use Rattle.elementwise.specs.inside.PairPasses.{IsNative, binary_value}
+use Rattle.elementwise.specs.inside.PairPasses.{IsNative, binary_value, unary_value}
 
 pub native_number : (scalar : Scalar) → IsNative scalar → IsNumber scalar
 native_number BoolScalar native = tt
@@ -30,3 +34,7 @@ native_small BoolScalar native = omega arith
 native_small (Byte signed) native = omega arith
 native_small (Int signed width order) native = small_width width
 native_small (Bytes n) never = absurd never
+
+pub unary_reads_back : (op : UnOp) (scalar : Scalar) (x y : LeafValue) → IsNative scalar → decode scalar (encode scalar (unary_value op scalar x y)) ≡ unary_value op scalar x y
+unary_reads_back Negate scalar x y native = decode_encode scalar (pos 0 -ℤ number_of y) (native_number scalar native)
+unary_reads_back Invert scalar x y native = decode_encode scalar (cond (is_bool scalar) (pos 1) (negsuc 0) -ℤ number_of y) (native_number scalar native)

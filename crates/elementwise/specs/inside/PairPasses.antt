@@ -6,7 +6,8 @@ use Rattle.elem_descr.specs.declared.scalar.Scalar.TheVariants.{Bool as BoolScal
 use Rattle.elem_descr.specs.Values.{LeafValue, number}
 use Rattle.elem_descr.specs.Encoding.{number_of, decode, encode}
 use Rattle.elementwise.specs.declared.operation.BinOp.{BinOp}
-use Rattle.elementwise.specs.Operations.{binary}
+use Rattle.elementwise.specs.declared.operation.UnOp.{UnOp}
+use Rattle.elementwise.specs.Operations.{binary, unary}
 use Rattle.raw_block.specs.Bytes.{place, put, item_at}
 use Rattle.shape_strides.specs.declared.runs.Run.{Run}
 
@@ -39,3 +40,7 @@ binary_value op scalar x y = number (binary op scalar (number_of x) (number_of y
 -- what f makes of the items at two offsets
 abbrev pub pair_from : (List ℕ → List ℕ → List ℕ) → ℕ → ℕ → List ℕ → List ℕ → ℕ → ℕ → List ℕ
 pair_from f width width' left right o o' = f (item_at o width left) (item_at o' width' right)
+
+-- an operation on the value of the second item
+abbrev pub unary_value : UnOp → Scalar → LeafValue → LeafValue → LeafValue
+unary_value op scalar x y = number (unary op scalar (number_of y))
