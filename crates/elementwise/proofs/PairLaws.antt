@@ -11,11 +11,12 @@ use Rattle.shape_strides.specs.Runs.{run_offsets}
 use Rattle.overlap_copy.specs.RunLaws.{fewer, run_offsets-more, length-run_offsets}
 use Rattle.elementwise.specs.Results.{pairwise}
 use Rattle.elementwise.specs.inside.Passes.{put_all, row_offsets}
-use Rattle.elementwise.specs.inside.PairPasses.{made_of_pairs, number_pair, pair_from}
+use Rattle.elementwise.specs.inside.PairPasses.{made_of_pairs, number_pair, pair_from, says_number}
+use Rattle.elementwise.specs.declared.operation.Comparison.{Comparison}
 use Rattle.elem_descr.specs.declared.scalar.Order.TheVariants.{Little}
 use Rattle.elem_descr.specs.declared.scalar.Width.{Width}
 use Rattle.elem_descr.specs.declared.scalar.Scalar.{Scalar}
-use Rattle.elem_descr.specs.declared.scalar.Scalar.TheVariants.{Int}
+use Rattle.elem_descr.specs.declared.scalar.Scalar.TheVariants.{Bool as BoolScalar, Int}
 use Rattle.elem_descr.specs.Encoding.{width_size}
 use Rattle.elementwise.proofs.PassLaws.{put_all-append, row-split, length-row}
 
@@ -142,3 +143,11 @@ of_type f signed width left right to first second bytes =
 
 pub of_integers : (f : Scalar → ℤ → ℤ → ℤ) (signed signed' : Bool) (width width' : Width) (left right : List ℕ) (to first second : Run) (bytes : List ℕ) → signed ≡ signed' → width ≡ width' → of_type f signed' width' left right to first second bytes ≡ of_type f signed width left right to first second bytes
 of_integers f signed signed' width width' left right to first second bytes sign wide = λ i. of_type f (sym sign i) (sym wide i) left right to first second bytes
+
+abbrev compared_type : Comparison → Bool → Width → List ℕ → List ℕ → Run → Run → Run → List ℕ → List ℕ
+compared_type word signed width left right to first second bytes =
+    let scalar = Int signed width Little in
+    made_of_pairs (number_pair scalar scalar BoolScalar (says_number word)) (width_size width) (width_size width) left right to first second to.count bytes
+
+pub of_compared : (word : Comparison) (signed signed' : Bool) (width width' : Width) (left right : List ℕ) (to first second : Run) (bytes : List ℕ) → signed ≡ signed' → width ≡ width' → compared_type word signed' width' left right to first second bytes ≡ compared_type word signed width left right to first second bytes
+of_compared word signed signed' width width' left right to first second bytes sign wide = λ i. compared_type word (sym sign i) (sym wide i) left right to first second bytes

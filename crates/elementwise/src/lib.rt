@@ -8,6 +8,7 @@ mod byte_orders;
 mod castable;
 mod casts;
 mod combining;
+mod comparing;
 mod leaves;
 mod numbers;
 mod operands;

@@ -1,5 +1,5 @@
 -- Passes over pairs of items that lie at equal steps.
-use Rattle.std.specs.Prelude.{◌≡◌, ℕ, zero, suc, ℤ, List}
+use Rattle.std.specs.Prelude.{◌≡◌, ℕ, zero, suc, ℤ, pos, int_lt, if◌then◌else◌, List}
 use Rattle.elem_descr.specs.declared.scalar.Order.TheVariants.{Little}
 use Rattle.elem_descr.specs.declared.scalar.Scalar.{Scalar}
 use Rattle.elem_descr.specs.declared.scalar.Scalar.TheVariants.{Bool as BoolScalar, Byte, Int, Bytes}
@@ -7,7 +7,9 @@ use Rattle.elem_descr.specs.Values.{LeafValue, number}
 use Rattle.elem_descr.specs.Encoding.{number_of, decode, encode}
 use Rattle.elementwise.specs.declared.operation.BinOp.{BinOp}
 use Rattle.elementwise.specs.declared.operation.UnOp.{UnOp}
+use Rattle.elementwise.specs.declared.operation.Comparison.{Comparison}
 use Rattle.elementwise.specs.Operations.{binary, unary}
+use Rattle.elementwise.specs.Comparisons.{says}
 use Rattle.raw_block.specs.Bytes.{place, put, item_at}
 use Rattle.shape_strides.specs.declared.runs.Run.{Run}
 
@@ -44,3 +46,11 @@ pair_from f width width' left right o o' = f (item_at o width left) (item_at o' 
 -- an operation on the value of the second item
 abbrev pub unary_value : UnOp → Scalar → LeafValue → LeafValue → LeafValue
 unary_value op scalar x y = number (unary op scalar (number_of y))
+
+-- what a comparison says of two numbers, as 0 or 1
+abbrev pub says_number : Comparison → ℤ → ℤ → ℤ
+says_number comparison a b = if says comparison (int_lt a b) (int_lt b a) then pos 1 else pos 0
+
+-- the same of the values of two items
+abbrev pub compared_value : Comparison → LeafValue → LeafValue → LeafValue
+compared_value comparison x y = number (says_number comparison (number_of x) (number_of y))
