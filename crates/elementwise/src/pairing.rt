@@ -1,15 +1,19 @@
 //! What is made of the items of two arrays, pair by pair.
-ghost use Rattle.std.specs.Prelude.{◌≡◌, ◌^◌, ◌<◌, ◌≤◌, pos, false, length};
+ghost use Rattle.std.specs.Prelude.{◌≡◌, ◌^◌, ◌<◌, ◌≤◌, pos, false, not, length};
+ghost use Rattle.elem_descr.specs.declared.scalar.Order.TheVariants.{Little};
+ghost use Rattle.elem_descr.specs.declared.scalar.Width.TheVariants.{Eight};
+ghost use Rattle.elem_descr.specs.declared.scalar.Scalar.TheVariants.{Bool as BoolScalar, Int};
 ghost use Rattle.elem_descr.specs.declared.scalar.Scalar.{Scalar};
 ghost use Rattle.elem_descr.specs.Values.{LeafValue};
 ghost use Rattle.elem_descr.specs.Encoding.{size, decode, encode};
 ghost use Rattle.raw_block.specs.Bytes.{EachWithin};
 ghost use Rattle.elementwise.specs.Promotion.{is_division};
-ghost use Rattle.elementwise.specs.inside.PairPasses.{made_of_pairs, value_pair, binary_value, unary_value, IsNative};
-ghost use Rattle.elementwise.specs.inside.PairLaws.{binary_reads_back, unary_reads_back, native_small};
+ghost use Rattle.elementwise.specs.inside.PairPasses.{made_of_pairs, value_pair, binary_value, unary_value, compared_value, IsNative};
+ghost use Rattle.elementwise.specs.inside.PairLaws.{binary_reads_back, unary_reads_back, compared_reads_back, native_small};
 
 use crate::combining::{change_run, combine_run};
-use crate::operation::{BinOp, UnOp};
+use crate::comparing::{compare_mixed_run, compare_run};
+use crate::operation::{BinOp, Comparison, UnOp};
 use elem_descr::Scalar;
 use shape_strides::Run;
 
@@ -128,5 +132,102 @@ impl Pairing for Changing {
         second: Run,
     ) {
         change_run(self.op, &self.scalar, bytes, to, left, first, right, second);
+    }
+}
+
+/// A comparison of numbers of one little-endian scalar.
+#[derive(Clone, Copy)]
+pub(crate) struct Comparing {
+    pub(crate) comparison: Comparison,
+    pub(crate) scalar: Scalar,
+}
+
+impl Pairing for Comparing {
+    ghost left_scalar = { λ c. c.scalar };
+
+    ghost right_scalar = { λ c. c.scalar };
+
+    ghost target_scalar = { λ c. BoolScalar };
+
+    ghost gives = { λ c. compared_value c.comparison };
+
+    ghost Can = { λ c. IsNative c.scalar };
+
+    ghost reads_back = { λ c x y can. compared_reads_back c.comparison x y };
+
+    ghost is_small = { λ c can. native_small BoolScalar tt };
+
+    fn target(&self) -> Scalar {
+        Scalar::Bool
+    }
+
+    fn make_run(
+        &self,
+        bytes: &mut [u8],
+        to: Run,
+        left: &[u8],
+        first: Run,
+        right: &[u8],
+        second: Run,
+    ) {
+        compare_run(
+            self.comparison,
+            &self.scalar,
+            bytes,
+            to,
+            left,
+            first,
+            right,
+            second,
+        );
+    }
+}
+
+/// A comparison of little-endian integers of eight bytes, the first of which have a sign where the
+/// second have none.
+#[derive(Clone, Copy)]
+pub(crate) struct ComparingSigns {
+    pub(crate) comparison: Comparison,
+    pub(crate) left_signed: bool,
+}
+
+impl Pairing for ComparingSigns {
+    ghost left_scalar = { λ c. Int c.left_signed Eight Little };
+
+    ghost right_scalar = { λ c. Int (not c.left_signed) Eight Little };
+
+    ghost target_scalar = { λ c. BoolScalar };
+
+    ghost gives = { λ c. compared_value c.comparison };
+
+    ghost Can = { λ c. Unit {0} };
+
+    ghost reads_back = { λ c x y can. compared_reads_back c.comparison x y };
+
+    ghost is_small = { λ c can. native_small BoolScalar tt };
+
+    fn target(&self) -> Scalar {
+        Scalar::Bool
+    }
+
+    fn make_run(
+        &self,
+        bytes: &mut [u8],
+        to: Run,
+        left: &[u8],
+        first: Run,
+        right: &[u8],
+        second: Run,
+    ) {
+        compare_mixed_run(
+            self.comparison,
+            self.left_signed,
+            bytes,
+            to,
+            left,
+            first,
+            right,
+            second,
+        );
     }
 }
