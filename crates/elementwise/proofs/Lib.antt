@@ -12,6 +12,7 @@ pub mod StretchedLaws
 pub mod TypedLaws
 pub mod PromotedLaws
 pub mod AppliedLaws
+pub mod HeldLaws
 pub mod BitLaws
 pub mod WordLaws
 mod Vectors

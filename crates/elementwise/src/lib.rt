@@ -8,6 +8,7 @@ mod byte_orders;
 mod castable;
 mod casts;
 mod combining;
+mod compared;
 mod comparing;
 mod leaves;
 mod numbers;

@@ -4,7 +4,7 @@ use Rattle.elem_descr.specs.declared.scalar.Order.TheVariants.{Little}
 use Rattle.elem_descr.specs.declared.scalar.Scalar.{Scalar}
 use Rattle.elem_descr.specs.declared.scalar.Scalar.TheVariants.{Bool as BoolScalar, Byte, Int, Bytes}
 use Rattle.elem_descr.specs.Values.{LeafValue, number}
-use Rattle.elem_descr.specs.Encoding.{number_of, decode, encode}
+use Rattle.elem_descr.specs.Encoding.{IsValueOf, number_of, decode, encode}
 use Rattle.elementwise.specs.declared.operation.BinOp.{BinOp}
 use Rattle.elementwise.specs.declared.operation.UnOp.{UnOp}
 use Rattle.elementwise.specs.declared.operation.Comparison.{Comparison}
@@ -54,3 +54,7 @@ says_number comparison a b = if says comparison (int_lt a b) (int_lt b a) then p
 -- the same of the values of two items
 abbrev pub compared_value : Comparison → LeafValue → LeafValue → LeafValue
 compared_value comparison x y = number (says_number comparison (number_of x) (number_of y))
+
+-- each value of the first scalar is one of the second
+abbrev pub Holds : Scalar → Scalar → Type 0
+Holds from to = (z : ℤ) → IsValueOf from z → IsValueOf to z

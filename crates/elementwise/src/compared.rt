@@ -1,0 +1,74 @@
+//! Comparisons of all items of arrays of numbers.
+ghost use Rattle.std.specs.Prelude.{◌≡◌, ℕ, [], ◌+◌, ◌<◌, ◌≤◌, not, length, map, slice_index_or, All, IfOk, IfErr, IsTrue};
+ghost use Rattle.elem_descr.specs.declared.refusal.Refusal.TheVariants.{OutOfMemory};
+ghost use Rattle.elem_descr.specs.declared.descr.Descr.TheVariants.{Scalar as ScalarDescr};
+ghost use Rattle.elem_descr.specs.declared.scalar.Order.TheVariants.{Little};
+ghost use Rattle.elem_descr.specs.declared.scalar.Width.TheVariants.{Eight};
+ghost use Rattle.elem_descr.specs.declared.scalar.Scalar.TheVariants.{Bool as BoolScalar, Int};
+ghost use Rattle.elem_descr.specs.Encoding.{IsNumber};
+ghost use Rattle.elem_descr.specs.Items.{item_size};
+ghost use Rattle.elem_descr.specs.Blocks.{item_from};
+ghost use Rattle.shape_strides.specs.Indexes.{count};
+ghost use Rattle.shape_strides.specs.Layouts.{offsets, multiples};
+ghost use Rattle.broadcasting.specs.Broadcasts.{can_stretch};
+ghost use Rattle.elementwise.specs.Results.{compared_item, stretched_items, pairwise};
+ghost use Rattle.elementwise.specs.inside.PairPasses.{IsNative, Holds};
+
+use crate::operands::Items;
+use crate::operation::Comparison;
+use crate::pairing::Comparing;
+use crate::typed::make_stretched;
+use elem_descr::{Descr, Refusal, Scalar};
+use overlap_copy::Owned;
+use raw_block::RawBlock;
+use shape_strides::Shape;
+use std::alloc::Global;
+
+/// A block holds bytes.
+fn note_bytes(block: &RawBlock)
+    ensures { (k : ℕ) → slice_index_or block.now k 0 < 256 }
+{
+    let bytes = block.bytes();
+    let _len = bytes.len();
+}
+
+/// A comparison of two arrays of numbers that are stretched to a shape, by way of a scalar that holds the
+/// numbers of both.
+pub(crate) fn compare_held(
+    alloc: Global,
+    comparison: Comparison,
+    scalar: &Scalar,
+    from: &Scalar,
+    left: Items<'_>,
+    other: &Scalar,
+    right: Items<'_>,
+    shape: &Shape,
+) -> Result<Owned, Refusal>
+    requires native { IsNative scalar.now }
+    requires from { left.descr.now ≡ ScalarDescr from.now }
+    requires other { right.descr.now ≡ ScalarDescr other.now }
+    requires left_number { IsNumber from.now }
+    requires right_number { IsNumber other.now }
+    requires left_held { Holds from.now scalar.now }
+    requires right_held { Holds other.now scalar.now }
+    requires left { All (λ offset. offset + item_size left.descr.now ≤ length left.block.now) (offsets left.layout.now) }
+    requires right { All (λ offset. offset + item_size right.descr.now ≤ length right.block.now) (offsets right.layout.now) }
+    requires stretches { IsTrue (can_stretch left.layout.now.shape shape.now) }
+    requires also { IsTrue (can_stretch right.layout.now.shape shape.now) }
+    ensures descr { IfOk result (λ o. o.descr ≡ ScalarDescr BoolScalar) }
+    ensures shape { IfOk result (λ o. o.layout.shape ≡ shape.now) }
+    ensures order { IfOk result (λ o. offsets o.layout ≡ multiples 1 (count shape.now)) }
+    ensures items { IfOk result (λ o. map (item_from o.descr o.block) (offsets o.layout)
+        ≡ pairwise (compared_item comparison) (stretched_items left.entry.descr.now left.entry.block.now left.entry.layout.now o.layout.shape)
+        (stretched_items right.entry.descr.now right.entry.block.now right.entry.layout.now o.layout.shape)) }
+    ensures refused { IfErr result (λ refusal. refusal ≡ OutOfMemory) }
+{
+    note_bytes(left.block);
+    note_bytes(right.block);
+    let to = Descr::Scalar(*scalar);
+    let pairing = Comparing {
+        comparison,
+        scalar: *scalar,
+    };
+    make_stretched::<Comparing>(alloc, &pairing, left, &to, right, &to, shape)
+}
