@@ -16,9 +16,10 @@ ghost use Rattle.elementwise.specs.inside.PairPasses.{IsNative, Holds};
 
 use crate::operands::Items;
 use crate::operation::Comparison;
-use crate::pairing::Comparing;
+use crate::pairing::{Comparing, ComparingSigns};
+use crate::promotion::{is_signed, little};
 use crate::typed::make_stretched;
-use elem_descr::{Descr, Refusal, Scalar};
+use elem_descr::{Descr, Order, Refusal, Scalar, Width};
 use overlap_copy::Owned;
 use raw_block::RawBlock;
 use shape_strides::Shape;
@@ -32,9 +33,20 @@ fn note_bytes(block: &RawBlock)
     let _len = bytes.len();
 }
 
+/// The little-endian integers of eight bytes.
+fn eight_bytes(signed: bool) -> Scalar
+    ensures { result ≡ Int signed Eight Little }
+{
+    Scalar::Int {
+        signed,
+        width: Width::Eight,
+        order: Order::Little,
+    }
+}
+
 /// A comparison of two arrays of numbers that are stretched to a shape, by way of a scalar that holds the
 /// numbers of both.
-pub(crate) fn compare_held(
+fn compare_held(
     alloc: Global,
     comparison: Comparison,
     scalar: &Scalar,
@@ -71,4 +83,83 @@ pub(crate) fn compare_held(
         scalar: *scalar,
     };
     make_stretched::<Comparing>(alloc, &pairing, left, &to, right, &to, shape)
+}
+
+/// The same by way of integers of eight bytes, the first of which have a sign where the second have none.
+fn compare_signs(
+    alloc: Global,
+    comparison: Comparison,
+    left_signed: bool,
+    from: &Scalar,
+    left: Items<'_>,
+    other: &Scalar,
+    right: Items<'_>,
+    shape: &Shape,
+) -> Result<Owned, Refusal>
+    requires from { left.descr.now ≡ ScalarDescr from.now }
+    requires other { right.descr.now ≡ ScalarDescr other.now }
+    requires left_number { IsNumber from.now }
+    requires right_number { IsNumber other.now }
+    requires left_held { Holds from.now (Int left_signed Eight Little) }
+    requires right_held { Holds other.now (Int (not left_signed) Eight Little) }
+    requires left { All (λ offset. offset + item_size left.descr.now ≤ length left.block.now) (offsets left.layout.now) }
+    requires right { All (λ offset. offset + item_size right.descr.now ≤ length right.block.now) (offsets right.layout.now) }
+    requires stretches { IsTrue (can_stretch left.layout.now.shape shape.now) }
+    requires also { IsTrue (can_stretch right.layout.now.shape shape.now) }
+    ensures descr { IfOk result (λ o. o.descr ≡ ScalarDescr BoolScalar) }
+    ensures shape { IfOk result (λ o. o.layout.shape ≡ shape.now) }
+    ensures order { IfOk result (λ o. offsets o.layout ≡ multiples 1 (count shape.now)) }
+    ensures items { IfOk result (λ o. map (item_from o.descr o.block) (offsets o.layout)
+        ≡ pairwise (compared_item comparison) (stretched_items left.entry.descr.now left.entry.block.now left.entry.layout.now o.layout.shape)
+        (stretched_items right.entry.descr.now right.entry.block.now right.entry.layout.now o.layout.shape)) }
+    ensures refused { IfErr result (λ refusal. refusal ≡ OutOfMemory) }
+{
+    note_bytes(left.block);
+    note_bytes(right.block);
+    let to = Descr::Scalar(eight_bytes(left_signed));
+    let other_to = Descr::Scalar(eight_bytes(!left_signed));
+    let pairing = ComparingSigns {
+        comparison,
+        left_signed,
+    };
+    make_stretched::<ComparingSigns>(alloc, &pairing, left, &to, right, &other_to, shape)
+}
+
+/// A comparison of two arrays of numbers that are stretched to a shape, by value: by way of their common
+/// type where they have one, and else of integers of eight bytes, which hold them.
+pub(crate) fn compare_numbers(
+    alloc: Global,
+    comparison: Comparison,
+    from: &Scalar,
+    left: Items<'_>,
+    other: &Scalar,
+    right: Items<'_>,
+    shape: &Shape,
+) -> Result<Owned, Refusal>
+    requires from { left.descr.now ≡ ScalarDescr from.now }
+    requires other { right.descr.now ≡ ScalarDescr other.now }
+    requires left_number { IsNumber from.now }
+    requires right_number { IsNumber other.now }
+    requires left { All (λ offset. offset + item_size left.descr.now ≤ length left.block.now) (offsets left.layout.now) }
+    requires right { All (λ offset. offset + item_size right.descr.now ≤ length right.block.now) (offsets right.layout.now) }
+    requires stretches { IsTrue (can_stretch left.layout.now.shape shape.now) }
+    requires also { IsTrue (can_stretch right.layout.now.shape shape.now) }
+    ensures descr { IfOk result (λ o. o.descr ≡ ScalarDescr BoolScalar) }
+    ensures shape { IfOk result (λ o. o.layout.shape ≡ shape.now) }
+    ensures order { IfOk result (λ o. offsets o.layout ≡ multiples 1 (count shape.now)) }
+    ensures items { IfOk result (λ o. map (item_from o.descr o.block) (offsets o.layout)
+        ≡ pairwise (compared_item comparison) (stretched_items left.entry.descr.now left.entry.block.now left.entry.layout.now o.layout.shape)
+        (stretched_items right.entry.descr.now right.entry.block.now right.entry.layout.now o.layout.shape)) }
+    ensures refused { IfErr result (λ refusal. refusal ≡ OutOfMemory) }
+{
+    let native = little(from);
+    if native == little(other) {
+        return compare_held(alloc, comparison, &native, from, left, other, right, shape);
+    }
+    let signed = is_signed(from);
+    if signed == is_signed(other) {
+        let wide = eight_bytes(signed);
+        return compare_held(alloc, comparison, &wide, from, left, other, right, shape);
+    }
+    compare_signs(alloc, comparison, signed, from, left, other, right, shape)
 }

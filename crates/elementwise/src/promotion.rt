@@ -80,7 +80,7 @@ fn integer_type(signed: bool, bytes: usize) -> Scalar
     }
 }
 
-fn little(scalar: &Scalar) -> Scalar
+pub(crate) fn little(scalar: &Scalar) -> Scalar
     ensures { result ≡ little scalar.now }
 {
     match scalar {
