@@ -1,9 +1,8 @@
 -- Numbers that are compared as those of a larger scalar, which holds them.
-use Rattle.std.proofs.Common.{◌≡◌, ◌≤◌, ◌<◌, ◌*◌, ◌^◌, inl, inr, ℕ, zero, suc, true, false, Bool, cond, Result, Ok, Err, List, [], ◌∷◌, map, take, drop, IfOk, refl, sym, ap, subst, ◌∙◌, arith}
-use Rattle.std.specs.Prelude.{ℤ, pos, int_lt}
+use Rattle.std.proofs.Common.{◌≡◌, ◌≤◌, inl, inr, ℕ, zero, suc, true, false, Bool, cond, Result, Ok, Err, List, [], ◌∷◌, map, take, drop, IfOk, refl, sym, ap, ◌∙◌, arith}
+use Rattle.std.specs.Prelude.{ℤ, pos}
 use Rattle.std.proofs.lemmas.Int.{ints}
 use Rattle.elem_descr.specs.declared.refusal.Refusal.{Refusal}
-use Rattle.elem_descr.specs.declared.scalar.Order.{Order}
 use Rattle.elem_descr.specs.declared.scalar.Order.TheVariants.{Little}
 use Rattle.elem_descr.specs.declared.scalar.Width.{Width}
 use Rattle.elem_descr.specs.declared.scalar.Width.TheVariants.{Two, Four, Eight}
@@ -12,7 +11,7 @@ use Rattle.elem_descr.specs.declared.scalar.Scalar.TheVariants.{Bool as BoolScal
 use Rattle.elem_descr.specs.declared.descr.Descr.{Descr}
 use Rattle.elem_descr.specs.declared.descr.Descr.TheVariants.{Scalar as ScalarDescr}
 use Rattle.elem_descr.specs.Values.{LeafValue, number}
-use Rattle.elem_descr.specs.Encoding.{IsNumber, IsValueOf, FitsBytes, size, width_size, number_in, truth, wrap, number_of, decode}
+use Rattle.elem_descr.specs.Encoding.{IsNumber, IsValueOf, FitsBytes, size, width_size, number_in, truth, number_of, decode}
 use Rattle.elem_descr.specs.NumberLaws.{wrap_stays}
 use Rattle.elem_descr.specs.WrapLaws.{integer-fits}
 use Rattle.elem_descr.specs.EncodingLaws.{truth_suc}
@@ -25,7 +24,7 @@ use Rattle.overlap_copy.specs.declared.owned.Owned.{Owned}
 use Rattle.elementwise.specs.declared.operation.Comparison.{Comparison}
 use Rattle.elementwise.specs.Casts.{cast_item}
 use Rattle.elementwise.specs.Promotion.{is_signed, is_text, little}
-use Rattle.elementwise.specs.Comparisons.{says, compared}
+use Rattle.elementwise.specs.Comparisons.{compared}
 use Rattle.elementwise.specs.Results.{value_in, compared_item, stretched_items, pairwise}
 use Rattle.elementwise.specs.inside.PairPasses.{compared_value, Holds}
 use Rattle.elementwise.proofs.AlikeLaws.{AreBytes, bytes-take, bytes-drop, number-lt}

@@ -1,6 +1,6 @@
 -- What is made of the items of two layouts, item by item.
-use Rattle.std.proofs.Common.{◌≡◌, ◌+◌, ◌*◌, ◌≤◌, ◌<◌, ℕ, List, [], ◌∷◌, map, length, get_or, take, drop, All, refl, sym, ap, subst, ◌∙◌, arith, mul_comm}
-use Rattle.std.specs.List.{range_with_len, AllByRecursion as Each}
+use Rattle.std.proofs.Common.{◌≡◌, ◌+◌, ◌*◌, ◌≤◌, ◌<◌, ℕ, List, [], ◌∷◌, map, length, drop, sym, ap, ◌∙◌, arith, mul_comm}
+use Rattle.std.specs.List.{AllByRecursion as Each}
 use Rattle.std.proofs.lemmas.List.{take-take, get_or_default, same_lists}
 use Rattle.std.proofs.lemmas.Simd.{map-map}
 use Rattle.std.proofs.lemmas.List.Elements.{All-from_recursion}

@@ -1,10 +1,10 @@
 -- What is promoted, and what results there are.
-use Rattle.std.proofs.Common.{◌≡◌, ◌*◌, ◌≤◌, ℕ, max, nat_le, Bool, true, false, cond, Result, Ok, Err, List, [], ◌∷◌, refl, sym, ap, subst, ◌∙◌, arith, inl, inr}
-use Rattle.std.specs.Prelude.{not, ◌&&◌, ◌||◌, ◌==◌, pos}
+use Rattle.std.proofs.Common.{◌≡◌, ◌*◌, ℕ, max, nat_le, Bool, true, false, cond, Result, Ok, Err, List, [], ◌∷◌, refl, sym, ap, subst}
+use Rattle.std.specs.Prelude.{not, ◌&&◌, ◌||◌, ◌==◌}
 use Rattle.std.specs.Result.{is_ok}
 use Rattle.std.proofs.lemmas.Bool.{false≢true, and_parts}
 use Rattle.elem_descr.specs.declared.refusal.Refusal.{Refusal}
-use Rattle.elem_descr.specs.declared.refusal.Refusal.TheVariants.{OutOfMemory, NotForThisKind, NeedsFloats}
+use Rattle.elem_descr.specs.declared.refusal.Refusal.TheVariants.{NotForThisKind, NeedsFloats}
 use Rattle.elem_descr.specs.declared.scalar.Order.TheVariants.{Little}
 use Rattle.elem_descr.specs.declared.scalar.Width.TheVariants.{Two, Four, Eight}
 use Rattle.elem_descr.specs.declared.scalar.Scalar.{Scalar}
@@ -18,7 +18,7 @@ use Rattle.broadcasting.specs.Broadcasts.{common_shape}
 use Rattle.elementwise.specs.declared.operation.BinOp.{BinOp}
 use Rattle.elementwise.specs.declared.operation.UnOp.{UnOp}
 use Rattle.elementwise.specs.declared.operation.UnOp.TheVariants.{Negate, Invert}
-use Rattle.elementwise.specs.Casts.{can_cast_scalar, can_cast}
+use Rattle.elementwise.specs.Casts.{can_cast}
 use Rattle.elementwise.specs.Promotion.{is_bool, is_text, is_signed, integer_type, little, mixed_type, common_integers, common_type, serves_bools, is_division, promote, serves_one, promote_one}
 use Rattle.elementwise.specs.Results.{scalar_of, binary_result, unary_result}
 use Rattle.elementwise.specs.inside.PairPasses.{IsNative}

@@ -1,5 +1,5 @@
 -- Operands that are cast, and what is made of them.
-use Rattle.std.proofs.Common.{◌≡◌, ◌+◌, ◌≤◌, ℕ, Result, Ok, Err, List, [], ◌∷◌, map, length, All, IfOk, refl, sym, ap, subst, ◌∙◌, arith}
+use Rattle.std.proofs.Common.{◌≡◌, ◌+◌, ◌≤◌, ℕ, Result, Ok, Err, List, [], ◌∷◌, map, length, All, IfOk, refl, subst, ◌∙◌}
 use Rattle.std.proofs.lemmas.List.Elements.{All-head, All-rest}
 use Rattle.elem_descr.specs.declared.refusal.Refusal.{Refusal}
 use Rattle.elem_descr.specs.declared.descr.Descr.{Descr}

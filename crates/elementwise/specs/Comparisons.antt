@@ -1,5 +1,5 @@
 -- Comparisons: of numbers by their values, and of byte strings byte by byte.
-use Rattle.std.specs.Prelude.{ℕ, nat_lt, ◌==◌, ℤ, int_lt, Bool, true, false, not, ◌&&◌, ◌||◌, List, [], ◌∷◌}
+use Rattle.std.specs.Prelude.{ℕ, nat_lt, ◌==◌, int_lt, Bool, true, false, not, ◌&&◌, ◌||◌, List, [], ◌∷◌}
 use Rattle.elem_descr.specs.Values.{LeafValue, number, text}
 use Rattle.elementwise.specs.declared.operation.Comparison.{Comparison}
 use Rattle.elementwise.specs.declared.operation.Comparison.TheVariants.{Equal, NotEqual, Less, LessOrEqual, Greater, GreaterOrEqual}

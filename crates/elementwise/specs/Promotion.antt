@@ -1,5 +1,5 @@
 -- The type of a result, as NumPy 2 promotes the types of two operands.
-use Rattle.std.specs.Prelude.{ℕ, ◌*◌, max, ◌==◌, nat_le, Bool, true, false, not, ◌&&◌, ◌||◌, if◌then◌else◌, Result, Ok, Err}
+use Rattle.std.specs.Prelude.{ℕ, ◌*◌, max, ◌==◌, nat_le, Bool, true, false, not, ◌&&◌, ◌||◌, if◌then◌else◌, Result, Ok}
 use Rattle.elem_descr.specs.declared.refusal.Refusal.{Refusal}
 use Rattle.elem_descr.specs.declared.refusal.Refusal.TheVariants.{NotForThisKind, NeedsFloats, NotSameKind}
 use Rattle.elem_descr.specs.declared.scalar.Order.TheVariants.{Little}
@@ -9,7 +9,7 @@ use Rattle.elem_descr.specs.declared.scalar.Scalar.TheVariants.{Bool as BoolScal
 use Rattle.elem_descr.specs.Encoding.{size}
 use Rattle.elem_descr.specs.Refusals.{◌>>=◌, check}
 use Rattle.elementwise.specs.declared.operation.BinOp.{BinOp}
-use Rattle.elementwise.specs.declared.operation.BinOp.TheVariants.{Add, Subtract, Multiply, FloorDivide, Modulo, And, Or, Xor, ShiftLeft, ShiftRight, Divide}
+use Rattle.elementwise.specs.declared.operation.BinOp.TheVariants.{Subtract, FloorDivide, Modulo, ShiftLeft, ShiftRight, Divide}
 use Rattle.elementwise.specs.declared.operation.UnOp.{UnOp}
 use Rattle.elementwise.specs.declared.operation.UnOp.TheVariants.{Negate, Invert}
 

@@ -1,5 +1,5 @@
 -- Results of operations and comparisons, of all items of arrays.
-use Rattle.std.specs.Prelude.{ℕ, ℤ, pos, Bool, if◌then◌else◌, not, ◌&&◌, ◌||◌, List, [], ◌∷◌, get_or, map, Result, Ok, Err}
+use Rattle.std.specs.Prelude.{ℕ, ℤ, pos, Bool, if◌then◌else◌, not, List, [], ◌∷◌, get_or, map, Result, Ok, Err}
 use Rattle.elem_descr.specs.declared.refusal.Refusal.{Refusal}
 use Rattle.elem_descr.specs.declared.refusal.Refusal.TheVariants.{NotForThisKind}
 use Rattle.elem_descr.specs.declared.descr.Descr.{Descr}

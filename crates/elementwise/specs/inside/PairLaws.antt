@@ -15,7 +15,7 @@ use Rattle.elementwise.specs.declared.operation.Comparison.{Comparison}
 use Rattle.elementwise.specs.Comparisons.{says}
 use Rattle.elementwise.specs.Promotion.{is_bool}
 use Rattle.elementwise.specs.Operations.{exact}
-use Rattle.elementwise.specs.inside.PairPasses.{IsNative, binary_value, unary_value, says_number, compared_value}
+use Rattle.elementwise.specs.inside.PairPasses.{IsNative, binary_value, unary_value, compared_value}
 
 pub native_number : (scalar : Scalar) → IsNative scalar → IsNumber scalar
 native_number BoolScalar native = tt

@@ -1,4 +1,3 @@
-use Rattle.std.proofs.Common.{ap, sym, ◌∙◌}
 use Rattle.elementwise.proofs.BitLaws.{rest_low}
 use Rattle.elementwise.proofs.bits.rest.Goals as goal
 

@@ -1,4 +1,4 @@
-use Rattle.std.proofs.Common.{◌≡◌, pos, w64, sym, ap, subst, ◌∙◌, ◌+◌, ◌*◌, ◌≤◌, arith, length}
+use Rattle.std.proofs.Common.{◌≡◌, pos, w64, ap, ◌∙◌, arith}
 use Rattle.std.proofs.lemmas.Int.{ints}
 use mir.Val.{to_z}
 use Rattle.elem_descr.specs.Encoding.{size}

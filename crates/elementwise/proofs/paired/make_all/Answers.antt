@@ -1,12 +1,10 @@
 use Rattle.std.proofs.Common.{◌≡◌, ◌+◌, ◌*◌, ◌≤◌, All, length, sym, ap, subst, ◌∙◌, arith}
-use Rattle.std.specs.List.{flat_map}
 use Rattle.elem_descr.specs.Encoding.{size}
 use Rattle.raw_block.specs.Bytes.{EachWithin}
 use Rattle.shape_strides.specs.Indexes.{count}
 use Rattle.shape_strides.specs.Limits.{max_bytes}
 use Rattle.shape_strides.specs.Layouts.{offsets}
 use Rattle.shape_strides.specs.LayoutLaws.{length-offsets}
-use Rattle.shape_strides.specs.Runs.{run_offsets}
 use Rattle.shape_strides.specs.RunPairs.{run_pairs}
 use Rattle.overlap_copy.specs.RunLaws.{runs-within}
 use Rattle.elementwise.specs.Results.{pairwise}

@@ -1,6 +1,6 @@
-use Rattle.std.proofs.Common.{◌≡◌, true, false, refl, sym, ◌∙◌, arith}
+use Rattle.std.proofs.Common.{sym, ◌∙◌, arith}
 use Rattle.std.specs.Prelude.{pos, negsuc, ◌-ℤ◌}
-use Rattle.elem_descr.specs.Encoding.{integer, low_bits}
+use Rattle.elem_descr.specs.Encoding.{low_bits}
 use Rattle.elementwise.proofs.WordLaws.{are_bits, applied_one, near_zero}
 use Rattle.elementwise.proofs.operations.ComplementingOperation.apply.Goals as goal
 

@@ -1,4 +1,4 @@
-use Rattle.std.proofs.Common.{sym, ap, ◌∙◌}
+use Rattle.std.proofs.Common.{sym, ◌∙◌}
 use Rattle.std.specs.Prelude.{pos, ◌*◌}
 use Rattle.elem_descr.specs.Encoding.{low_bits}
 use Rattle.elementwise.specs.declared.operation.BinOp.TheVariants.{ShiftLeft}

@@ -1,5 +1,5 @@
 use Rattle.std.proofs.Common.{◌≡◌, true, false, refl, sym, ◌∙◌, arith}
-use Rattle.std.specs.Prelude.{pos, negsuc, ◌-ℤ◌}
+use Rattle.std.specs.Prelude.{pos, ◌-ℤ◌}
 use Rattle.elem_descr.specs.Encoding.{integer, low_bits}
 use Rattle.elementwise.proofs.WordLaws.{are_bits, applied_one, near_zero}
 use Rattle.elementwise.proofs.operations.NegatingOperation.apply.Goals as goal
