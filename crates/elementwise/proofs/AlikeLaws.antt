@@ -26,19 +26,19 @@ alike a b k sized even whole same = record { leaves = ext_get_or no_leaf (leaves
 
 -- ---- bytes
 
-abbrev AreBytes : List ℕ → Type 0
+abbrev pub AreBytes : List ℕ → Type 0
 AreBytes bytes = (i : ℕ) → get_or bytes i 0 < 256
 
-bytes-drop : (n : ℕ) (bytes : List ℕ) → AreBytes bytes → AreBytes (drop n bytes)
+pub bytes-drop : (n : ℕ) (bytes : List ℕ) → AreBytes bytes → AreBytes (drop n bytes)
 bytes-drop n bytes are i = subst (λ b. b < 256) (sym (get_or-drop n bytes i 0)) (are (n + i))
 
-bytes-take : (n : ℕ) (bytes : List ℕ) → AreBytes bytes → AreBytes (take n bytes)
+pub bytes-take : (n : ℕ) (bytes : List ℕ) → AreBytes bytes → AreBytes (take n bytes)
 bytes-take n bytes are i = elim (cases_lt i n) [
   | inl low ↦ subst (λ b. b < 256) (sym (get_or-take n bytes i 0 low)) (are i)
   | inr high ↦ subst (λ b. b < 256) (sym (get_or_past (take n bytes) i 0 (omega (arith, high, length-take n bytes)))) (omega arith)
 ]
 
-number-lt : (order : Order) (n : ℕ) (bytes : List ℕ) → AreBytes bytes → number_in order n bytes < 2 ^ (8 * n)
+pub number-lt : (order : Order) (n : ℕ) (bytes : List ℕ) → AreBytes bytes → number_in order n bytes < 2 ^ (8 * n)
 number-lt Little n bytes are = subst (λ m. number_in Little n bytes < m) (pow256 n) (little_from-lt 0 n bytes are)
 number-lt Big n bytes are = subst (λ m. number_in Big n bytes < m) (pow256 n) (big_from-lt 0 n bytes are)
 

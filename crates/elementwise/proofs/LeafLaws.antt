@@ -68,7 +68,7 @@ length-padded n bytes =
     let zeros : length {A = ℕ} (replicate (n - length bytes) 0) ≡ n - length bytes = length-replicate (n - length bytes) 0 in
     omega (arith, zeros, length-take n bytes, length-append (take n bytes) (replicate (n - length bytes) 0))
 
-length-encode : (to : Scalar) (value : LeafValue) → length (encode to value) ≡ size to
+pub length-encode : (to : Scalar) (value : LeafValue) → length (encode to value) ≡ size to
 length-encode BoolScalar value = refl
 length-encode (Byte signed) value = refl
 length-encode (Int signed width order) value = length-bytes_of order (width_size width) (low_bits (width_size width) (number_of value))

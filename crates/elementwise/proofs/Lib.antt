@@ -6,4 +6,15 @@ pub mod PassLaws
 pub mod RowLaws
 pub mod CastLaws
 pub mod AlikeLaws
+pub mod PairLaws
+pub mod PairedLaws
+pub mod StretchedLaws
+pub mod TypedLaws
+pub mod PromotedLaws
+pub mod AppliedLaws
+pub mod HeldLaws
+pub mod BitLaws
+pub mod WordLaws
 mod Vectors
+mod PromotionVectors
+mod OperationVectors

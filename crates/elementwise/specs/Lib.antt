@@ -1,2 +1,6 @@
 pub mod Casts
+pub mod Promotion
+pub mod Operations
+pub mod Comparisons
+pub mod Results
 pub mod inside

@@ -1,16 +1,34 @@
-//! Operations item by item: casts from one element type to another.
+//! Operations item by item: casts from one element type to another, arithmetic, and comparisons.
 #![tactic(auto)]
 
 mod alike;
+mod applied;
+mod bits;
 mod byte_orders;
 mod castable;
 mod casts;
+mod combining;
+mod compared;
+mod comparing;
 mod leaves;
 mod numbers;
+mod operands;
+mod operation;
+mod operations;
+mod pair_passes;
+mod pair_runs;
+mod paired;
+mod pairing;
 mod passes;
+mod promotion;
 mod runs_of_leaves;
 mod texts;
+mod typed;
 
 pub use alike::{are_alike, keeps_items};
+pub use applied::{apply1, apply2};
 pub use castable::can_cast;
 pub use casts::cast;
+pub use operands::Items;
+pub use operation::{BinOp, Comparison, UnOp};
+pub use promotion::{literal_type, promote, promote_one, same_kind, scalar_of};

@@ -1,12 +1,14 @@
 //! Machine numbers: what they mean, how they are stored, and how one is made of another.
-ghost use Rattle.std.specs.Prelude.{◌≡◌, ◌≤◌, ℕ, ℤ, pos, true, false, length, if◌then◌else◌, refl};
+ghost use Rattle.std.specs.Prelude.{◌≡◌, ◌≤◌, ◌⊎◌, ℕ, ℤ, pos, Bool, true, false, length, if◌then◌else◌, refl};
 ghost use Rattle.elem_descr.specs.declared.scalar.Order.{Order};
 ghost use Rattle.elem_descr.specs.declared.scalar.Scalar.{Scalar};
 ghost use Rattle.elem_descr.specs.declared.scalar.Width.TheVariants.{Two, Four, Eight};
 ghost use Rattle.elem_descr.specs.declared.scalar.Scalar.TheVariants.{Bool as BoolScalar, Byte, Int};
 ghost use Rattle.elem_descr.specs.Values.{number};
-ghost use Rattle.elem_descr.specs.Encoding.{IsNumber, size, decode, encode, wrap};
-ghost use Rattle.std.proofs.Common.{arith};
+ghost use Rattle.elem_descr.specs.Encoding.{IsNumber, size, decode, encode, wrap, integer};
+ghost use Rattle.std.proofs.Common.{arith, inl, inr};
+ghost use Rattle.std.proofs.lemmas.Bool.{false≢true};
+ghost use Rattle.elementwise.specs.Promotion.{is_bool};
 ghost use Rattle.elementwise.specs.inside.Bits.{AreBits};
 
 use crate::byte_orders::Ordered;
@@ -23,6 +25,11 @@ pub(crate) trait Number: Copy {
 
     ghost WIDTH: { ℕ };
 
+    /// Whether there are numbers below 0.
+    const SIGNED: bool;
+
+    ghost SIGNED: { Bool };
+
     fn read<O: Ordered>(bytes: &[u8]) -> Self
         requires { length bytes.now ≡ WIDTH }
         ensures { decode (scalar O.order) bytes.now ≡ number (value result) };
@@ -34,7 +41,8 @@ pub(crate) trait Number: Copy {
 
     /// The lowest 64 bits, those above its own as its sign says.
     fn bits(self) -> u64
-        ensures { AreBits result (value self) };
+        ensures lowest { AreBits result (value self) }
+        ensures exact { value self ≡ integer SIGNED 8 result };
 
     /// The number that has the lowest of these bits, or whether there are any.
     fn of_bits(bits: u64) -> Self
@@ -45,6 +53,8 @@ pub(crate) trait Number: Copy {
     ghost has_width: { (order : Order) → size (scalar order) ≡ WIDTH };
 
     ghost is_small: { (1 ≤ WIDTH) × (WIDTH ≤ 8) };
+
+    ghost is_truth: { (order : Order) (x : Self) → is_bool (scalar order) ≡ true → (value x ≡ pos 0) ⊎ (value x ≡ pos 1) };
 }
 
 impl Number for bool {
@@ -56,11 +66,17 @@ impl Number for bool {
 
     ghost WIDTH = { 1 };
 
+    const SIGNED: bool = false;
+
+    ghost SIGNED = { false };
+
     ghost is_number = { λ order. tt };
 
     ghost has_width = { λ order. refl };
 
     ghost is_small = { (Prim.omega arith, Prim.omega arith) };
+
+    ghost is_truth = { λ order. elim [ true ↦ λ _. inr refl | false ↦ λ _. inl refl ] };
 
     fn read<O: Ordered>(bytes: &[u8]) -> bool {
         bytes[0] != 0
@@ -88,11 +104,17 @@ impl Number for u8 {
 
     ghost WIDTH = { 1 };
 
+    const SIGNED: bool = false;
+
+    ghost SIGNED = { false };
+
     ghost is_number = { λ order. tt };
 
     ghost has_width = { λ order. refl };
 
     ghost is_small = { (Prim.omega arith, Prim.omega arith) };
+
+    ghost is_truth = { λ order x is. absurd (false≢true is) };
 
     fn read<O: Ordered>(bytes: &[u8]) -> u8 {
         bytes[0]
@@ -120,11 +142,17 @@ impl Number for i8 {
 
     ghost WIDTH = { 1 };
 
+    const SIGNED: bool = true;
+
+    ghost SIGNED = { true };
+
     ghost is_number = { λ order. tt };
 
     ghost has_width = { λ order. refl };
 
     ghost is_small = { (Prim.omega arith, Prim.omega arith) };
+
+    ghost is_truth = { λ order x is. absurd (false≢true is) };
 
     fn read<O: Ordered>(bytes: &[u8]) -> i8 {
         bytes[0].cast_signed()
@@ -152,11 +180,17 @@ impl Number for u16 {
 
     ghost WIDTH = { 2 };
 
+    const SIGNED: bool = false;
+
+    ghost SIGNED = { false };
+
     ghost is_number = { λ order. tt };
 
     ghost has_width = { λ order. refl };
 
     ghost is_small = { (Prim.omega arith, Prim.omega arith) };
+
+    ghost is_truth = { λ order x is. absurd (false≢true is) };
 
     fn read<O: Ordered>(bytes: &[u8]) -> u16 {
         O::read_two(bytes)
@@ -184,11 +218,17 @@ impl Number for i16 {
 
     ghost WIDTH = { 2 };
 
+    const SIGNED: bool = true;
+
+    ghost SIGNED = { true };
+
     ghost is_number = { λ order. tt };
 
     ghost has_width = { λ order. refl };
 
     ghost is_small = { (Prim.omega arith, Prim.omega arith) };
+
+    ghost is_truth = { λ order x is. absurd (false≢true is) };
 
     fn read<O: Ordered>(bytes: &[u8]) -> i16 {
         O::read_two(bytes).cast_signed()
@@ -216,11 +256,17 @@ impl Number for u32 {
 
     ghost WIDTH = { 4 };
 
+    const SIGNED: bool = false;
+
+    ghost SIGNED = { false };
+
     ghost is_number = { λ order. tt };
 
     ghost has_width = { λ order. refl };
 
     ghost is_small = { (Prim.omega arith, Prim.omega arith) };
+
+    ghost is_truth = { λ order x is. absurd (false≢true is) };
 
     fn read<O: Ordered>(bytes: &[u8]) -> u32 {
         O::read_four(bytes)
@@ -248,11 +294,17 @@ impl Number for i32 {
 
     ghost WIDTH = { 4 };
 
+    const SIGNED: bool = true;
+
+    ghost SIGNED = { true };
+
     ghost is_number = { λ order. tt };
 
     ghost has_width = { λ order. refl };
 
     ghost is_small = { (Prim.omega arith, Prim.omega arith) };
+
+    ghost is_truth = { λ order x is. absurd (false≢true is) };
 
     fn read<O: Ordered>(bytes: &[u8]) -> i32 {
         O::read_four(bytes).cast_signed()
@@ -280,11 +332,17 @@ impl Number for u64 {
 
     ghost WIDTH = { 8 };
 
+    const SIGNED: bool = false;
+
+    ghost SIGNED = { false };
+
     ghost is_number = { λ order. tt };
 
     ghost has_width = { λ order. refl };
 
     ghost is_small = { (Prim.omega arith, Prim.omega arith) };
+
+    ghost is_truth = { λ order x is. absurd (false≢true is) };
 
     fn read<O: Ordered>(bytes: &[u8]) -> u64 {
         O::read_eight(bytes)
@@ -312,11 +370,17 @@ impl Number for i64 {
 
     ghost WIDTH = { 8 };
 
+    const SIGNED: bool = true;
+
+    ghost SIGNED = { true };
+
     ghost is_number = { λ order. tt };
 
     ghost has_width = { λ order. refl };
 
     ghost is_small = { (Prim.omega arith, Prim.omega arith) };
+
+    ghost is_truth = { λ order x is. absurd (false≢true is) };
 
     fn read<O: Ordered>(bytes: &[u8]) -> i64 {
         O::read_eight(bytes).cast_signed()

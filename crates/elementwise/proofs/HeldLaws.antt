@@ -1,0 +1,139 @@
+-- Numbers that are compared as those of a larger scalar, which holds them.
+use Rattle.std.proofs.Common.{◌≡◌, ◌≤◌, inl, inr, ℕ, zero, suc, true, false, Bool, cond, Result, Ok, Err, List, [], ◌∷◌, map, take, drop, IfOk, refl, sym, ap, ◌∙◌, arith}
+use Rattle.std.specs.Prelude.{ℤ, pos}
+use Rattle.std.proofs.lemmas.Int.{ints}
+use Rattle.elem_descr.specs.declared.refusal.Refusal.{Refusal}
+use Rattle.elem_descr.specs.declared.scalar.Order.TheVariants.{Little}
+use Rattle.elem_descr.specs.declared.scalar.Width.{Width}
+use Rattle.elem_descr.specs.declared.scalar.Width.TheVariants.{Two, Four, Eight}
+use Rattle.elem_descr.specs.declared.scalar.Scalar.{Scalar}
+use Rattle.elem_descr.specs.declared.scalar.Scalar.TheVariants.{Bool as BoolScalar, Byte, Int, Bytes}
+use Rattle.elem_descr.specs.declared.descr.Descr.{Descr}
+use Rattle.elem_descr.specs.declared.descr.Descr.TheVariants.{Scalar as ScalarDescr}
+use Rattle.elem_descr.specs.Values.{LeafValue, number}
+use Rattle.elem_descr.specs.Encoding.{IsNumber, IsValueOf, FitsBytes, size, width_size, number_in, truth, number_of, decode}
+use Rattle.elem_descr.specs.NumberLaws.{wrap_stays}
+use Rattle.elem_descr.specs.WrapLaws.{integer-fits}
+use Rattle.elem_descr.specs.EncodingLaws.{truth_suc}
+use Rattle.elem_descr.specs.Blocks.{item_from}
+use Rattle.shape_strides.specs.declared.layout.Layout.{Layout}
+use Rattle.shape_strides.specs.Layouts.{offsets}
+use Rattle.view_ops.specs.Views.{view_through}
+use Rattle.broadcasting.specs.Broadcasts.{broadcast_index}
+use Rattle.overlap_copy.specs.declared.owned.Owned.{Owned}
+use Rattle.elementwise.specs.declared.operation.Comparison.{Comparison}
+use Rattle.elementwise.specs.Casts.{cast_item}
+use Rattle.elementwise.specs.Promotion.{is_signed, is_text, little}
+use Rattle.elementwise.specs.Comparisons.{compared}
+use Rattle.elementwise.specs.Results.{value_in, compared_item, stretched_items, pairwise}
+use Rattle.elementwise.specs.inside.PairPasses.{compared_value, Holds}
+use Rattle.elementwise.proofs.AlikeLaws.{AreBytes, bytes-take, bytes-drop, number-lt}
+use Rattle.elementwise.proofs.LeafLaws.{cast_number}
+use Rattle.elementwise.proofs.PairLaws.{pairwise-map}
+
+-- ---- values of a scalar
+
+truth-is : (n : ℕ) → IsValueOf BoolScalar (pos (truth n))
+truth-is zero = inl refl
+truth-is (suc n) = inr (ap pos (truth_suc n))
+
+some_width : (width : Width) → 1 ≤ width_size width
+some_width Two = omega arith
+some_width Four = omega arith
+some_width Eight = omega arith
+
+-- what is read is a value of its scalar
+value-of : (s : Scalar) (bytes : List ℕ) → AreBytes bytes → IsNumber s → IsValueOf s (number_of (decode s bytes))
+value-of BoolScalar bytes are is = truth-is (number_in Little 1 bytes)
+value-of (Byte signed) bytes are is = integer-fits signed 1 (number_in Little 1 bytes) (omega arith) (number-lt Little 1 bytes are)
+value-of (Int signed width order) bytes are is = integer-fits signed (width_size width) (number_in order (width_size width) bytes) (some_width width) (number-lt order (width_size width) bytes are)
+value-of (Bytes n) bytes are never = absurd never
+
+-- in little-endian order there are the same, and integers of eight bytes hold those of their sign
+pub holds-little : (s : Scalar) → IsNumber s → Holds s (little s)
+holds-little BoolScalar is z fits = fits
+holds-little (Byte signed) is z fits = fits
+holds-little (Int signed width order) is z fits = fits
+holds-little (Bytes n) never z fits = absurd never
+
+widened : (signed : Bool) (width : Width) (z : ℤ) → FitsBytes signed (width_size width) z → FitsBytes signed 8 z
+widened false Two z fits = (fits.0, omega (arith, ints, fits.1))
+widened false Four z fits = (fits.0, omega (arith, ints, fits.1))
+widened false Eight z fits = fits
+widened true Two z fits = (omega (arith, ints, fits.0), omega (arith, ints, fits.1))
+widened true Four z fits = (omega (arith, ints, fits.0), omega (arith, ints, fits.1))
+widened true Eight z fits = fits
+
+widened-byte : (signed : Bool) (z : ℤ) → FitsBytes signed 1 z → FitsBytes signed 8 z
+widened-byte false z fits = (fits.0, omega (arith, ints, fits.1))
+widened-byte true z fits = (omega (arith, ints, fits.0), omega (arith, ints, fits.1))
+
+pub holds-wide : (s : Scalar) → IsNumber s → Holds s (Int (is_signed s) Eight Little)
+holds-wide BoolScalar is z (inl e) = (omega (arith, ints, e), omega (arith, ints, e))
+holds-wide BoolScalar is z (inr e) = (omega (arith, ints, e), omega (arith, ints, e))
+holds-wide (Byte signed) is z fits = widened-byte signed z fits
+holds-wide (Int signed width order) is z fits = widened signed width z fits
+holds-wide (Bytes n) never z fits = absurd never
+
+-- ---- items
+
+is-number : (s : Scalar) (bytes : List ℕ) → IsNumber s → number (number_of (decode s bytes)) ≡ decode s bytes
+is-number BoolScalar bytes is = refl
+is-number (Byte signed) bytes is = refl
+is-number (Int signed width order) bytes is = refl
+is-number (Bytes n) bytes never = absurd never
+
+-- an item that is cast has the value that it had
+kept-value : (s t : Scalar) (block : List ℕ) (o : ℕ) → AreBytes block → IsNumber s → IsNumber t → Holds s t → value_in (cast_item (ScalarDescr s) (ScalarDescr t) (item_from (ScalarDescr s) block o)) ≡ value_in (item_from (ScalarDescr s) block o)
+kept-value s t block o are is is' holds =
+    let bytes = take (size s) (drop 0 (take (size s) (drop o block))) in
+    let all : AreBytes bytes = bytes-take (size s) (drop 0 (take (size s) (drop o block))) (bytes-drop 0 (take (size s) (drop o block)) (bytes-take (size s) (drop o block) (bytes-drop o block are))) in
+    let z = number_of (decode s bytes) in
+    cast_number t (decode s bytes) is' ∙ ap number (wrap_stays t z (holds z (value-of s bytes all is))) ∙ is-number s bytes is
+
+compared-numbers : (comparison : Comparison) (s s' : Scalar) (bytes bytes' : List ℕ) → IsNumber s → IsNumber s' → compared_value comparison (decode s bytes) (decode s' bytes') ≡ number (cond (compared comparison (decode s bytes) (decode s' bytes')) (pos 1) (pos 0))
+compared-numbers comparison s s' bytes bytes' is is' =
+    λ i. number (cond (compared comparison (is-number s bytes is i) (is-number s' bytes' is' i)) (pos 1) (pos 0))
+
+-- ---- all items
+
+pub number-no_text : (s : Scalar) → IsNumber s → is_text s ≡ false
+number-no_text BoolScalar is = refl
+number-no_text (Byte signed) is = refl
+number-no_text (Int signed width order) is = refl
+number-no_text (Bytes n) never = absurd never
+
+one_pair : (comparison : Comparison) (s s' t t' : Scalar) (block block' : List ℕ) (o o' : ℕ) → IsNumber s → IsNumber s' → IsNumber t → IsNumber t' → Holds s t → Holds s' t' → AreBytes block → AreBytes block' →
+    compared_value comparison (value_in (cast_item (ScalarDescr s) (ScalarDescr t) (item_from (ScalarDescr s) block o))) (value_in (cast_item (ScalarDescr s') (ScalarDescr t') (item_from (ScalarDescr s') block' o'))) ∷ []
+    ≡ compared_item comparison (item_from (ScalarDescr s) block o) (item_from (ScalarDescr s') block' o')
+one_pair comparison s s' t t' block block' o o' is is' isn isn' holds holds' are are' =
+    (λ i. compared_value comparison (kept-value s t block o are is isn holds i) (kept-value s' t' block' o' are' is' isn' holds' i) ∷ [])
+    ∙ ap (λ value. value ∷ []) (compared-numbers comparison s s' _ _ is is')
+
+-- the items of two arrays, as they were before they were cast
+pub compared_all : (comparison : Comparison) (s s' t t' : Scalar) (d d' : Descr) (result : Result Owned Refusal) (block block' : List ℕ) (l l' : Layout) (shape : List ℕ) → d ≡ ScalarDescr s → d' ≡ ScalarDescr s' →
+    IsNumber s → IsNumber s' → IsNumber t → IsNumber t' → Holds s t → Holds s' t' → AreBytes block → AreBytes block' → IfOk result (λ o. o.descr ≡ ScalarDescr BoolScalar) → IfOk result (λ o. o.layout.shape ≡ shape) →
+    IfOk result (λ o. map (item_from (ScalarDescr BoolScalar) o.block) (offsets o.layout) ≡ pairwise (λ x y. compared_value comparison (value_in (cast_item d (ScalarDescr t) x)) (value_in (cast_item d' (ScalarDescr t') y)) ∷ []) (stretched_items d block l shape) (stretched_items d' block' l' shape)) →
+    IfOk result (λ o. map (item_from o.descr o.block) (offsets o.layout) ≡ pairwise (compared_item comparison) (stretched_items d block l o.layout.shape) (stretched_items d' block' l' o.layout.shape))
+compared_all comparison s s' t t' d d' (Ok o) block block' l l' shape one two is is' isn isn' holds holds' are are' descr same items =
+    let xs = view_through (offsets l) l.shape shape (broadcast_index l.shape) in
+    let ys = view_through (offsets l') l'.shape shape (broadcast_index l'.shape) in
+    let read = item_from (ScalarDescr s) block in
+    let read' = item_from (ScalarDescr s') block' in
+    let cast = λ (x y : List LeafValue). compared_value comparison (value_in (cast_item (ScalarDescr s) (ScalarDescr t) x)) (value_in (cast_item (ScalarDescr s') (ScalarDescr t') y)) ∷ [] in
+    (λ i. map (item_from (descr i) o.block) (offsets o.layout))
+    ∙ items
+    ∙ (λ i. pairwise (λ x y. compared_value comparison (value_in (cast_item (one i) (ScalarDescr t) x)) (value_in (cast_item (two i) (ScalarDescr t') y)) ∷ []) (map (item_from (one i) block) xs) (map (item_from (two i) block') ys))
+    ∙ pairwise-map cast read read' xs ys
+    ∙ (λ i. pairwise (λ a b. one_pair comparison s s' t t' block block' a b is is' isn isn' holds holds' are are' i) xs ys)
+    ∙ sym (pairwise-map (compared_item comparison) read read' xs ys)
+    ∙ (λ i. pairwise (compared_item comparison) (stretched_items (sym one i) block l (sym same i)) (stretched_items (sym two i) block' l' (sym same i)))
+compared_all comparison s s' t t' d d' (Err e) block block' l l' shape one two is is' isn isn' holds holds' are are' descr same items = tt
+
+-- by way of these scalars, as the code has them
+pub compared_moved : (comparison : Comparison) (a s b t : Scalar) (d d' : Descr) (result : Result Owned Refusal) (block block' : List ℕ) (l l' : Layout) (shape : List ℕ) → a ≡ s → b ≡ t →
+    IfOk result (λ o. map (item_from (ScalarDescr BoolScalar) o.block) (offsets o.layout) ≡ pairwise (λ x y. compared_value comparison (value_in (cast_item d (ScalarDescr a) x)) (value_in (cast_item d' (ScalarDescr b) y)) ∷ []) (stretched_items d block l shape) (stretched_items d' block' l' shape)) →
+    IfOk result (λ o. map (item_from (ScalarDescr BoolScalar) o.block) (offsets o.layout) ≡ pairwise (λ x y. compared_value comparison (value_in (cast_item d (ScalarDescr s) x)) (value_in (cast_item d' (ScalarDescr t) y)) ∷ []) (stretched_items d block l shape) (stretched_items d' block' l' shape))
+compared_moved comparison a s b t d d' (Ok o) block block' l l' shape is is' items =
+    items ∙ (λ i. pairwise (λ x y. compared_value comparison (value_in (cast_item d (ScalarDescr (is i)) x)) (value_in (cast_item d' (ScalarDescr (is' i)) y)) ∷ []) (stretched_items d block l shape) (stretched_items d' block' l' shape))
+compared_moved comparison a s b t d d' (Err e) block block' l l' shape is is' items = tt

@@ -1,0 +1,64 @@
+-- What is made of the items of two layouts, item by item.
+use Rattle.std.proofs.Common.{◌≡◌, ◌+◌, ◌*◌, ◌≤◌, ◌<◌, ℕ, List, [], ◌∷◌, map, length, drop, sym, ap, ◌∙◌, arith, mul_comm}
+use Rattle.std.specs.List.{AllByRecursion as Each}
+use Rattle.std.proofs.lemmas.List.{take-take, get_or_default, same_lists}
+use Rattle.std.proofs.lemmas.Simd.{map-map}
+use Rattle.std.proofs.lemmas.List.Elements.{All-from_recursion}
+use Rattle.std.proofs.lemmas.List.FromFn.{length-map-range_with_len, get_or-map-range_with_len}
+use Rattle.elem_descr.specs.declared.descr.Descr.TheVariants.{Scalar as ScalarDescr}
+use Rattle.elem_descr.specs.declared.scalar.Scalar.{Scalar}
+use Rattle.elem_descr.specs.Values.{LeafValue}
+use Rattle.elem_descr.specs.Encoding.{size, decode, encode}
+use Rattle.elem_descr.specs.Blocks.{item_from}
+use Rattle.raw_block.specs.Bytes.{item_at}
+use Rattle.shape_strides.specs.Layouts.{multiples}
+use Rattle.elementwise.specs.Results.{pairwise, value_in}
+use Rattle.elementwise.specs.inside.Passes.{put_all, row_offsets}
+use Rattle.elementwise.specs.inside.PairPasses.{value_pair, pair_from}
+use Rattle.elementwise.proofs.PassLaws.{length-row}
+use Rattle.elementwise.proofs.RowLaws.{row-entry, landed, rows-in, rows-lie}
+use Rattle.elementwise.proofs.LeafLaws.{length-encode}
+use Rattle.elementwise.proofs.PairLaws.{length-pairwise, map-pairwise, pairwise-map}
+
+-- where items lie one after another
+rows-are : (item n : ℕ) → row_offsets 0 item n ≡ multiples item n
+rows-are item n =
+    let place = λ (k : ℕ). item * k in
+    let counted : length (multiples item n) ≡ n = length-map-range_with_len place 0 n in
+    same_lists (row_offsets 0 item n) (multiples item n) (length-row 0 item n ∙ sym counted) (λ k d inside.
+    let low : k < n = omega (arith, inside, length-row 0 item n) in
+    let here : 0 + k * item ≡ item * k = omega (arith, mul_comm item k) in
+    get_or_default (row_offsets 0 item n) k d 0 inside ∙ row-entry 0 item n k low ∙ here ∙ sym (get_or-map-range_with_len place 0 n k k d low (omega arith)))
+
+-- the item of a scalar is its value
+scalar-item : (scalar : Scalar) (bytes : List ℕ) (o : ℕ) → item_from (ScalarDescr scalar) bytes o ≡ decode scalar (item_at o (size scalar) bytes) ∷ []
+scalar-item scalar bytes o = ap (λ b. decode scalar b ∷ []) (take-take (size scalar) (size scalar) (drop o bytes) (omega arith))
+
+each-wide : (left right to : Scalar) (gives : LeafValue → LeafValue → LeafValue) (a b xs ys : List ℕ) → Each (λ item. length item ≡ size to) (pairwise (pair_from (value_pair left right to gives) (size left) (size right) a b) xs ys)
+each-wide left right to gives a b [] ys = tt
+each-wide left right to gives a b (x ∷ xs) [] = tt
+each-wide left right to gives a b (x ∷ xs) (y ∷ ys) = (length-encode to (gives (decode left (item_at x (size left) a)) (decode right (item_at y (size right) b))), each-wide left right to gives a b xs ys)
+
+pub all_made : (left right to : Scalar) (gives : LeafValue → LeafValue → LeafValue) (a b xs ys bytes bytes' : List ℕ) (n m : ℕ) → length xs ≡ n → length ys ≡ n → m ≡ n → n * size to ≤ length bytes →
+    ((x y : LeafValue) → decode to (encode to (gives x y)) ≡ gives x y) →
+    bytes' ≡ put_all (row_offsets 0 (size to) m) (pairwise (pair_from (value_pair left right to gives) (size left) (size right) a b) xs ys) bytes →
+    map (item_from (ScalarDescr to) bytes') (multiples (size to) n) ≡ pairwise (λ x y. gives (value_in x) (value_in y) ∷ []) (map (item_from (ScalarDescr left) a) xs) (map (item_from (ScalarDescr right) b) ys)
+all_made left right to gives a b xs ys bytes bytes' n m many many' counted room back wrote =
+    let wide = size to in
+    let make = pair_from (value_pair left right to gives) (size left) (size right) a b in
+    let rows = row_offsets 0 wide n in
+    let even : length rows ≡ length (pairwise make xs ys) = length-row 0 wide n ∙ sym (length-pairwise make xs ys (many ∙ sym many') ∙ many) in
+    let read = λ (o : ℕ). item_at o wide bytes' in
+    let value = λ (item : List ℕ). decode to item ∷ [] in
+    let written : bytes' ≡ put_all rows (pairwise make xs ys) bytes = wrote ∙ ap (λ k. put_all (row_offsets 0 wide k) (pairwise make xs ys) bytes) counted in
+    let there : map read rows ≡ pairwise make xs ys =
+    ap (λ all. map (λ o. item_at o wide all) rows) written
+    ∙ landed wide rows (pairwise make xs ys) bytes even (rows-in wide n (length bytes) room 0 wide (omega arith)) (All-from_recursion (λ item. length item ≡ wide) (pairwise make xs ys) (each-wide left right to gives a b xs ys)) (rows-lie wide n (length bytes) room 0 wide (omega arith)) in
+    ap (map (item_from (ScalarDescr to) bytes')) (sym (rows-are wide n))
+    ∙ (λ i. map (λ o. scalar-item to bytes' o i) rows)
+    ∙ sym (map-map value read rows)
+    ∙ ap (map value) there
+    ∙ map-pairwise value make xs ys
+    ∙ (λ i. pairwise (λ o o'. back (decode left (item_at o (size left) a)) (decode right (item_at o' (size right) b)) i ∷ []) xs ys)
+    ∙ sym (pairwise-map (λ x y. gives (value_in x) (value_in y) ∷ []) (item_from (ScalarDescr left) a) (item_from (ScalarDescr right) b) xs ys
+    ∙ λ i. pairwise (λ o o'. gives (value_in (scalar-item left a o i)) (value_in (scalar-item right b o' i)) ∷ []) xs ys)

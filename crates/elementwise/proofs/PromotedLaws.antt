@@ -1,0 +1,166 @@
+-- What is promoted, and what results there are.
+use Rattle.std.proofs.Common.{◌≡◌, ◌*◌, ℕ, max, nat_le, Bool, true, false, cond, Result, Ok, Err, List, [], ◌∷◌, refl, sym, ap, subst}
+use Rattle.std.specs.Prelude.{not, ◌&&◌, ◌||◌, ◌==◌}
+use Rattle.std.specs.Result.{is_ok}
+use Rattle.std.proofs.lemmas.Bool.{false≢true, and_parts}
+use Rattle.elem_descr.specs.declared.refusal.Refusal.{Refusal}
+use Rattle.elem_descr.specs.declared.refusal.Refusal.TheVariants.{NotForThisKind, NeedsFloats}
+use Rattle.elem_descr.specs.declared.scalar.Order.TheVariants.{Little}
+use Rattle.elem_descr.specs.declared.scalar.Width.TheVariants.{Two, Four, Eight}
+use Rattle.elem_descr.specs.declared.scalar.Scalar.{Scalar}
+use Rattle.elem_descr.specs.declared.scalar.Scalar.TheVariants.{Bool as BoolScalar, Byte, Int, Bytes}
+use Rattle.elem_descr.specs.declared.descr.Descr.{Descr}
+use Rattle.elem_descr.specs.declared.descr.Descr.TheVariants.{Scalar as ScalarDescr, Record as RecordDescr}
+use Rattle.elem_descr.specs.Refusals.{◌>>=◌, check}
+use Rattle.elem_descr.specs.RefusalLaws.{same_answer, check_passed}
+use Rattle.elem_descr.specs.Encoding.{size}
+use Rattle.broadcasting.specs.Broadcasts.{common_shape}
+use Rattle.elementwise.specs.declared.operation.BinOp.{BinOp}
+use Rattle.elementwise.specs.declared.operation.UnOp.{UnOp}
+use Rattle.elementwise.specs.declared.operation.UnOp.TheVariants.{Negate, Invert}
+use Rattle.elementwise.specs.Casts.{can_cast}
+use Rattle.elementwise.specs.Promotion.{is_bool, is_text, is_signed, integer_type, little, mixed_type, common_integers, common_type, serves_bools, is_division, promote, serves_one, promote_one}
+use Rattle.elementwise.specs.Results.{scalar_of, binary_result, unary_result}
+use Rattle.elementwise.specs.inside.PairPasses.{IsNative}
+
+-- ---- native types
+
+integer-native : (signed : Bool) (n : ℕ) → IsNative (integer_type signed n)
+integer-native signed n = elim (n == 1) as (λ t. IsNative (cond t (Byte signed) (cond (n == 2) (Int signed Two Little) (cond (n == 4) (Int signed Four Little) (Int signed Eight Little))))) [
+  | true ↦ tt
+  | false ↦ elim (n == 2) as (λ t. IsNative (cond t (Int signed Two Little) (cond (n == 4) (Int signed Four Little) (Int signed Eight Little)))) [
+    | true ↦ refl
+    | false ↦ elim (n == 4) as (λ t. IsNative (cond t (Int signed Four Little) (Int signed Eight Little))) [ true ↦ refl | false ↦ refl ]
+  ]
+]
+
+pub little-native : (s : Scalar) → is_text s ≡ false → IsNative (little s)
+little-native BoolScalar is = tt
+little-native (Byte signed) is = tt
+little-native (Int signed width order) is = refl
+little-native (Bytes n) is = absurd (false≢true (sym is))
+
+-- an answer is native
+abbrev AnswersNative : Result Scalar Refusal → Type 0
+AnswersNative (Ok s) = IsNative s
+AnswersNative (Err e) = Unit {0}
+
+mixed-native : (m n : ℕ) → AnswersNative (mixed_type m n)
+mixed-native m n = elim (nat_le (2 * m) 8) as (λ t. AnswersNative (check t NeedsFloats >>= (λ _. Ok (integer_type true (max (2 * m) n))))) [ true ↦ integer-native true (max (2 * m) n) | false ↦ tt ]
+
+integers-native : (l r : Scalar) → AnswersNative (common_integers l r)
+integers-native l r = elim (is_signed l) as (λ t. AnswersNative (cond t (cond (is_signed r) (Ok (integer_type true (max (size l) (size r)))) (mixed_type (size r) (size l))) (cond (is_signed r) (mixed_type (size l) (size r)) (Ok (integer_type false (max (size l) (size r))))))) [
+  | true ↦ elim (is_signed r) as (λ t. AnswersNative (cond t (Ok (integer_type true (max (size l) (size r)))) (mixed_type (size r) (size l)))) [ true ↦ integer-native true (max (size l) (size r)) | false ↦ mixed-native (size r) (size l) ]
+  | false ↦ elim (is_signed r) as (λ t. AnswersNative (cond t (mixed_type (size l) (size r)) (Ok (integer_type false (max (size l) (size r)))))) [ true ↦ mixed-native (size l) (size r) | false ↦ integer-native false (max (size l) (size r)) ]
+]
+
+common-native : (l r : Scalar) → is_text l ≡ false → is_text r ≡ false → AnswersNative (common_type l r)
+common-native l r is is' = elim (is_bool l) as (λ t. AnswersNative (cond t (Ok (little r)) (cond (is_bool r) (Ok (little l)) (common_integers l r)))) [
+  | true ↦ little-native r is'
+  | false ↦ elim (is_bool r) as (λ t. AnswersNative (cond t (Ok (little l)) (common_integers l r))) [ true ↦ little-native l is | false ↦ integers-native l r ]
+]
+
+-- ---- what was checked
+
+check_test : {X : Type 0} (test : Bool) (refusal : Refusal) (rest : Result X Refusal) (x : X) → check test refusal >>= (λ _. rest) ≡ Ok x → test ≡ true
+check_test true refusal rest x found = refl
+check_test false refusal rest x found = absurd (false≢true (ap is_ok found))
+
+not-true : (b : Bool) → not b ≡ true → b ≡ false
+not-true false is = refl
+not-true true is = absurd (false≢true is)
+
+neither : (a b : Bool) → (a || b) ≡ false → (a ≡ false) × (b ≡ false)
+neither false b is = (refl, is)
+neither true b is = absurd (false≢true (sym is))
+
+-- a promoted type
+pub record IsPromoted (op : BinOp) (l r s : Scalar) : Type 0 where
+  pub native : IsNative s
+  pub no_division : is_division op ≡ false
+  pub left : is_text l ≡ false
+  pub right : is_text r ≡ false
+
+pub promoted : (op : BinOp) (l r s : Scalar) → promote op l r ≡ Ok s → IsPromoted op l r s
+unfolding promote
+promoted op l r s found =
+    let texts = not (is_text l || is_text r) in
+    let bools = serves_bools op || not (is_bool l && is_bool r) in
+    let after = check bools NotForThisKind >>= (λ _. check (not (is_division op)) NeedsFloats >>= (λ _. common_type l r)) in
+    let next = check_passed texts NotForThisKind after s found in
+    let last = check_passed bools NotForThisKind (check (not (is_division op)) NeedsFloats >>= (λ _. common_type l r)) s next in
+    let is = check_passed (not (is_division op)) NeedsFloats (common_type l r) s last in
+    let both = neither (is_text l) (is_text r) (not-true (is_text l || is_text r) (check_test texts NotForThisKind after s found)) in
+    record {
+      native = subst AnswersNative is (common-native l r both.0 both.1);
+      no_division = not-true (is_division op) (check_test (not (is_division op)) NeedsFloats (common_type l r) s last);
+      left = both.0;
+      right = both.1;
+    }
+
+-- a number is cast to a native scalar
+pub can_scalar : (from to : Scalar) → is_text from ≡ false → IsNative to → can_cast (ScalarDescr from) (ScalarDescr to) ≡ true
+can_scalar (Bytes n) to is native = absurd (false≢true (sym is))
+can_scalar from (Bytes n) is never = absurd never
+can_scalar BoolScalar BoolScalar is native = refl
+can_scalar BoolScalar (Byte signed) is native = refl
+can_scalar BoolScalar (Int signed width order) is native = refl
+can_scalar (Byte sign) BoolScalar is native = refl
+can_scalar (Byte sign) (Byte signed) is native = refl
+can_scalar (Byte sign) (Int signed width order) is native = refl
+can_scalar (Int sign w o) BoolScalar is native = refl
+can_scalar (Int sign w o) (Byte signed) is native = refl
+can_scalar (Int sign w o) (Int signed width order) is native = refl
+
+-- the scalar of an operand
+pub is_scalar : (d : Descr) (s : Scalar) → scalar_of d ≡ Ok s → d ≡ ScalarDescr s
+is_scalar (ScalarDescr a) s found = ap ScalarDescr (same_answer a s found)
+is_scalar (RecordDescr r) s found = absurd (false≢true (ap is_ok found))
+
+-- ---- results
+
+module _ (op : BinOp) (l : Descr) (shape : List ℕ) (r : Descr) (other : List ℕ) where
+  pub left_refused : (e : Refusal) → scalar_of l ≡ Err e → binary_result op l shape r other ≡ Err e
+  unfolding binary_result
+  left_refused e is = rw is refl
+
+  pub right_refused : (a : Scalar) (e : Refusal) → scalar_of l ≡ Ok a → scalar_of r ≡ Err e → binary_result op l shape r other ≡ Err e
+  unfolding binary_result
+  right_refused a e is is' = rw (is, is') refl
+
+  pub promotion_refused : (a b : Scalar) (e : Refusal) → scalar_of l ≡ Ok a → scalar_of r ≡ Ok b → promote op a b ≡ Err e → binary_result op l shape r other ≡ Err e
+  unfolding binary_result
+  promotion_refused a b e is is' there = rw (is, is', there) refl
+
+  pub shapes_refused : (a b s : Scalar) (e : Refusal) → scalar_of l ≡ Ok a → scalar_of r ≡ Ok b → promote op a b ≡ Ok s → common_shape (shape ∷ other ∷ []) ≡ Err e → binary_result op l shape r other ≡ Err e
+  unfolding binary_result
+  shapes_refused a b s e is is' there common = rw (is, is', there, common) refl
+
+  pub all_given : (a b s : Scalar) (c : List ℕ) → scalar_of l ≡ Ok a → scalar_of r ≡ Ok b → promote op a b ≡ Ok s → common_shape (shape ∷ other ∷ []) ≡ Ok c → binary_result op l shape r other ≡ Ok (ScalarDescr s, c)
+  unfolding binary_result
+  all_given a b s c is is' there common = rw (is, is', there, common) refl
+
+-- ---- of one operand
+
+serves-number : (op : UnOp) (s : Scalar) → serves_one op s ≡ true → is_text s ≡ false
+serves-number Negate s is = not-true (is_text s) (and_parts (not (is_text s)) (not (is_bool s)) is).0
+serves-number Invert s is = not-true (is_text s) is
+
+pub promoted_one : (op : UnOp) (a s : Scalar) → promote_one op a ≡ Ok s → IsNative s × (is_text a ≡ false)
+unfolding promote_one
+promoted_one op a s found =
+    let is = serves-number op a (check_test (serves_one op a) NotForThisKind (Ok (little a)) s found) in
+    (subst IsNative (same_answer (little a) s (check_passed (serves_one op a) NotForThisKind (Ok (little a)) s found)) (little-native a is), is)
+
+module _ (op : UnOp) (d : Descr) (shape : List ℕ) where
+  pub operand_refused : (e : Refusal) → scalar_of d ≡ Err e → unary_result op d shape ≡ Err e
+  unfolding unary_result
+  operand_refused e is = rw is refl
+
+  pub kind_refused : (a : Scalar) (e : Refusal) → scalar_of d ≡ Ok a → promote_one op a ≡ Err e → unary_result op d shape ≡ Err e
+  unfolding unary_result
+  kind_refused a e is there = rw (is, there) refl
+
+  pub one_given : (a s : Scalar) → scalar_of d ≡ Ok a → promote_one op a ≡ Ok s → unary_result op d shape ≡ Ok (ScalarDescr s, shape)
+  unfolding unary_result
+  one_given a s is there = rw (is, there) refl

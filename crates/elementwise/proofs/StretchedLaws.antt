@@ -1,0 +1,59 @@
+-- Layouts that are stretched to a shape to which they can be.
+use Rattle.std.proofs.Common.{◌≡◌, ◌+◌, ◌<◌, ◌≤◌, inl, inr, ℕ, true, Result, Ok, Err, List, [], length, get_or, All, IfOk, IfErr, IsTrue, refl, sym, ap, subst, ◌∙◌, arith}
+use Rattle.std.specs.Result.{is_ok}
+use Rattle.std.proofs.lemmas.Bool.{false≢true}
+use Rattle.std.proofs.lemmas.List.{length-map, get_or-map}
+use Rattle.elem_descr.specs.declared.refusal.Refusal.{Refusal}
+use Rattle.elem_descr.specs.declared.refusal.Refusal.TheVariants.{OutOfMemory}
+use Rattle.shape_strides.specs.declared.layout.Layout.{Layout}
+use Rattle.shape_strides.specs.Indexes.{indexes, rank}
+use Rattle.shape_strides.specs.Addresses.{natural}
+use Rattle.shape_strides.specs.Layouts.{address, offsets}
+use Rattle.shape_strides.specs.IndexLaws.{same_on_indexes}
+use Rattle.shape_strides.specs.LayoutLaws.{get_or-offsets}
+use Rattle.broadcasting.specs.BroadcastLaws.{broadcast_index-itself}
+use Rattle.view_ops.specs.Views.{View, view_through, IsViewOf, GivesView}
+use Rattle.broadcasting.specs.Broadcasts.{can_stretch, broadcast_index, stretched}
+
+-- the view that there is
+abbrev wide : Layout → List ℕ → View
+wide old shape = record { shape = shape; leads = broadcast_index old.shape }
+
+stretched-is : (from target : List ℕ) → can_stretch from target ≡ true → stretched from target ≡ Ok (record { shape = target; leads = broadcast_index from })
+unfolding stretched
+stretched-is from target can = rw can refl
+
+seen : (old new : Layout) (shape : List ℕ) → IsTrue (can_stretch old.shape shape) → GivesView old (Ok new) (stretched old.shape shape) → IsViewOf old new (wide old shape)
+seen old new shape can gives = subst (GivesView old (Ok new)) (stretched-is old.shape shape can) gives
+
+pub given_shape : (old : Layout) (shape : List ℕ) (result : Result Layout Refusal) → IsTrue (can_stretch old.shape shape) → GivesView old result (stretched old.shape shape) → IfOk result (λ l. l.shape ≡ shape)
+given_shape old shape (Ok new) can gives = (seen old new shape can gives).shape
+given_shape old shape (Err e) can gives = tt
+
+pub given_offsets : (old : Layout) (shape : List ℕ) (result : Result Layout Refusal) → IsTrue (can_stretch old.shape shape) → GivesView old result (stretched old.shape shape) → IfOk result (λ l. offsets l ≡ view_through (offsets old) old.shape shape (broadcast_index old.shape))
+given_offsets old shape (Ok new) can gives = (seen old new shape can gives).places
+given_offsets old shape (Err e) can gives = tt
+
+inside : (old new : Layout) (view : View) (len width : ℕ) → IsViewOf old new view → All (λ offset. offset + width ≤ len) (offsets old) → All (λ offset. offset + width ≤ len) (offsets new)
+inside old new view len width is ends k d below =
+    let through = λ (index : List ℕ). get_or (offsets old) (rank old.shape (view.leads index)) 0 in
+    let low : k < length (indexes view.shape) = omega (arith, below, ap length is.places, length-map (indexes view.shape) through) in
+    let there = get_or (indexes view.shape) k [] in
+    subst (λ o. o + width ≤ len) (sym (ap (λ os. get_or os k d) is.places ∙ get_or-map through (indexes view.shape) k [] d low)) (ends (rank old.shape (view.leads there)) 0 (is.inside k [] low))
+
+pub given_inside : (old : Layout) (shape : List ℕ) (result : Result Layout Refusal) → IsTrue (can_stretch old.shape shape) → GivesView old result (stretched old.shape shape) →
+    IfOk result (λ l. (len width : ℕ) → All (λ offset. offset + width ≤ len) (offsets old) → All (λ offset. offset + width ≤ len) (offsets l))
+given_inside old shape (Ok new) can gives = λ len width ends. inside old new (wide old shape) len width (seen old new shape can gives) ends
+given_inside old shape (Err e) can gives = tt
+
+pub given_refusal : (old : Layout) (shape : List ℕ) (result : Result Layout Refusal) → IsTrue (can_stretch old.shape shape) → GivesView old result (stretched old.shape shape) → IfErr result (λ refusal. refusal ≡ OutOfMemory)
+given_refusal old shape (Ok new) can gives = tt
+given_refusal old shape (Err e) can (inl is) = is
+given_refusal old shape (Err e) can (inr there) = absurd (false≢true (sym (ap is_ok there) ∙ ap is_ok (stretched-is old.shape shape can)))
+
+-- an array that is stretched to its own shape
+pub stretched-self : (l : Layout) → view_through (offsets l) l.shape l.shape (broadcast_index l.shape) ≡ offsets l
+unfolding offsets
+stretched-self l =
+    same_on_indexes l.shape (λ index. get_or (offsets l) (rank l.shape (broadcast_index l.shape index)) 0) (λ index. natural (address l index))
+    (λ index in'. ap (λ j. get_or (offsets l) (rank l.shape j) 0) (broadcast_index-itself l.shape index in') ∙ get_or-offsets l index 0 in')

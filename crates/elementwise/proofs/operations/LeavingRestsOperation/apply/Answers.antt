@@ -1,0 +1,15 @@
+use Rattle.std.proofs.Common.{sym, ◌∙◌}
+use Rattle.std.specs.Prelude.{pos}
+use Rattle.elem_descr.specs.Encoding.{low_bits, integer}
+use Rattle.elementwise.specs.declared.operation.BinOp.TheVariants.{Modulo}
+use Rattle.elementwise.specs.Operations.{modulo}
+use Rattle.elementwise.proofs.WordLaws.{are_bits, applied}
+use Rattle.elementwise.proofs.operations.LeavingRestsOperation.apply.Goals as goal
+
+pub returns : goal.returns
+returns g c = λ order.
+    applied Modulo (g.N.Number.scalar order) _ _ _ c.rest.result (g.met.N.Number.is_number order) (g.met.N.Number.is_truth order c.args.left) (g.met.N.Number.is_truth order c.args.right)
+    (c.of_bits.ensures order (pos c.rest.result) (are_bits c.rest.result c.rest.type_inv))
+    (c.rest.ensures
+    ∙ (λ i. low_bits 8 (modulo (integer (c.SIGNED.ensures i) 8 c.bits.result) (integer (c.SIGNED.ensures i) 8 c.bits-2.result)))
+    ∙ λ i. low_bits 8 (modulo (sym c.bits.ensures.exact i) (sym c.bits-2.ensures.exact i)))

@@ -1,0 +1,30 @@
+-- Comparisons: of numbers by their values, and of byte strings byte by byte.
+use Rattle.std.specs.Prelude.{ℕ, nat_lt, ◌==◌, int_lt, Bool, true, false, not, ◌&&◌, ◌||◌, List, [], ◌∷◌}
+use Rattle.elem_descr.specs.Values.{LeafValue, number, text}
+use Rattle.elementwise.specs.declared.operation.Comparison.{Comparison}
+use Rattle.elementwise.specs.declared.operation.Comparison.TheVariants.{Equal, NotEqual, Less, LessOrEqual, Greater, GreaterOrEqual}
+
+-- the first byte in which they differ decides, and a byte string is below a longer one that begins with it
+abbrev pub text_below : List ℕ → List ℕ → Bool
+text_below [] [] = false
+text_below [] (b ∷ ys) = true
+text_below (a ∷ xs) [] = false
+text_below (a ∷ xs) (b ∷ ys) = nat_lt a b || (a == b && text_below xs ys)
+
+-- a value is below another of its kind
+abbrev pub below : LeafValue → LeafValue → Bool
+below (number a) (number b) = int_lt a b
+below (text a) (text b) = text_below a b
+below _ _ = false
+
+-- what a comparison says where the first value is below the second, and where it is above; else they are equal
+abbrev pub says : Comparison → Bool → Bool → Bool
+says Equal is_below is_above = not (is_below || is_above)
+says NotEqual is_below is_above = is_below || is_above
+says Less is_below is_above = is_below
+says LessOrEqual is_below is_above = not is_above
+says Greater is_below is_above = is_above
+says GreaterOrEqual is_below is_above = not is_below
+
+abbrev pub compared : Comparison → LeafValue → LeafValue → Bool
+compared comparison x y = says comparison (below x y) (below y x)

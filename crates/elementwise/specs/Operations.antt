@@ -1,0 +1,67 @@
+-- Operations on numbers by their values, whose results are wrapped to a scalar.
+use Rattle.std.specs.Prelude.{ℕ, zero, suc, ◌*◌, ◌^◌, nat_lt, ℤ, pos, negsuc, ◌+ℤ◌, ◌-ℤ◌, ◌*ℤ◌, neg_ℤ, if◌then◌else◌, bit_and, bit_or, bit_xor}
+use Rattle.std.specs.Int.{int_div_euclid}
+use Rattle.elem_descr.specs.declared.scalar.Scalar.{Scalar}
+use Rattle.elem_descr.specs.Encoding.{size, wrap, low_bits}
+use Rattle.elementwise.specs.declared.operation.BinOp.{BinOp}
+use Rattle.elementwise.specs.declared.operation.BinOp.TheVariants.{Add, Subtract, Multiply, FloorDivide, Modulo, And, Or, Xor, ShiftLeft, ShiftRight, Divide}
+use Rattle.elementwise.specs.declared.operation.UnOp.{UnOp}
+use Rattle.elementwise.specs.declared.operation.UnOp.TheVariants.{Negate, Invert}
+use Rattle.elementwise.specs.Promotion.{is_bool}
+
+-- ---- division
+
+-- the greatest integer that is not above a / b, which is that of -a / -b; by 0 it is 0
+abbrev pub floor_quotient : ℤ → ℤ → ℤ
+floor_quotient a (pos zero) = pos 0
+floor_quotient a (pos (suc b)) = int_div_euclid a (pos (suc b))
+floor_quotient a (negsuc b) = int_div_euclid (neg_ℤ a) (pos (suc b))
+
+-- what is left of a, so that it is 0 or has the sign of b; by 0 it is 0
+abbrev pub modulo : ℤ → ℤ → ℤ
+modulo a (pos zero) = pos 0
+modulo a b = a -ℤ b *ℤ floor_quotient a b
+
+-- ---- bits
+
+-- f of the bits of both in two's complement, as many as the scalar has
+abbrev pub of_bits : (ℕ → ℕ → ℕ) → Scalar → ℤ → ℤ → ℤ
+of_bits f scalar a b = pos (f (low_bits (size scalar) a) (low_bits (size scalar) b))
+
+-- all bits of a sign
+abbrev pub sign_bits : ℤ → ℤ
+sign_bits (pos a) = pos 0
+sign_bits (negsuc a) = negsuc 0
+
+-- a moved up or down by b of so many bits; where that is all of them or more, no bit of a is left
+abbrev pub shifted_left : ℕ → ℤ → ℤ → ℤ
+shifted_left bits a (pos b) = if nat_lt b bits then a *ℤ pos (2 ^ b) else pos 0
+shifted_left bits a (negsuc b) = pos 0
+
+abbrev pub shifted_right : ℕ → ℤ → ℤ → ℤ
+shifted_right bits a (pos b) = if nat_lt b bits then floor_quotient a (pos (2 ^ b)) else sign_bits a
+shifted_right bits a (negsuc b) = sign_bits a
+
+-- ---- all operations
+
+-- on two numbers of the scalar; of bools, as 0 and 1, a sum is not 0 where either is true; true division gives no number
+abbrev pub exact : BinOp → Scalar → ℤ → ℤ → ℤ
+exact Add scalar a b = a +ℤ b
+exact Subtract scalar a b = a -ℤ b
+exact Multiply scalar a b = a *ℤ b
+exact FloorDivide scalar a b = floor_quotient a b
+exact Modulo scalar a b = modulo a b
+exact And scalar a b = of_bits bit_and scalar a b
+exact Or scalar a b = of_bits bit_or scalar a b
+exact Xor scalar a b = of_bits bit_xor scalar a b
+exact ShiftLeft scalar a b = shifted_left (8 * size scalar) a b
+exact ShiftRight scalar a b = shifted_right (8 * size scalar) a b
+exact Divide scalar a b = pos 0
+
+abbrev pub binary : BinOp → Scalar → ℤ → ℤ → ℤ
+binary op scalar a b = wrap scalar (exact op scalar a b)
+
+-- on one number of the scalar: its distance from 0 the other way, and all its bits complemented; of a bool the other bool
+abbrev pub unary : UnOp → Scalar → ℤ → ℤ
+unary Negate scalar a = wrap scalar (pos 0 -ℤ a)
+unary Invert scalar a = wrap scalar ((if is_bool scalar then pos 1 else negsuc 0) -ℤ a)

@@ -1,0 +1,111 @@
+-- The type of a result, as NumPy 2 promotes the types of two operands.
+use Rattle.std.specs.Prelude.{ℕ, ◌*◌, max, ◌==◌, nat_le, Bool, true, false, not, ◌&&◌, ◌||◌, if◌then◌else◌, Result, Ok}
+use Rattle.elem_descr.specs.declared.refusal.Refusal.{Refusal}
+use Rattle.elem_descr.specs.declared.refusal.Refusal.TheVariants.{NotForThisKind, NeedsFloats, NotSameKind}
+use Rattle.elem_descr.specs.declared.scalar.Order.TheVariants.{Little}
+use Rattle.elem_descr.specs.declared.scalar.Width.TheVariants.{Two, Four, Eight}
+use Rattle.elem_descr.specs.declared.scalar.Scalar.{Scalar}
+use Rattle.elem_descr.specs.declared.scalar.Scalar.TheVariants.{Bool as BoolScalar, Byte, Int, Bytes}
+use Rattle.elem_descr.specs.Encoding.{size}
+use Rattle.elem_descr.specs.Refusals.{◌>>=◌, check}
+use Rattle.elementwise.specs.declared.operation.BinOp.{BinOp}
+use Rattle.elementwise.specs.declared.operation.BinOp.TheVariants.{Subtract, FloorDivide, Modulo, ShiftLeft, ShiftRight, Divide}
+use Rattle.elementwise.specs.declared.operation.UnOp.{UnOp}
+use Rattle.elementwise.specs.declared.operation.UnOp.TheVariants.{Negate, Invert}
+
+-- ---- kinds
+
+abbrev pub is_bool : Scalar → Bool
+is_bool BoolScalar = true
+is_bool _ = false
+
+abbrev pub is_text : Scalar → Bool
+is_text (Bytes n) = true
+is_text _ = false
+
+abbrev pub is_signed : Scalar → Bool
+is_signed (Byte signed) = signed
+is_signed (Int signed width order) = signed
+is_signed _ = false
+
+-- the kinds of numbers in their order: bools, integers without sign, integers with one
+abbrev pub rank_of_kind : Scalar → ℕ
+rank_of_kind scalar = if is_bool scalar then 0 else (if is_signed scalar then 2 else 1)
+
+-- a result may be written where numbers of another scalar stand unless its kind is above theirs, whatever the widths; byte strings have no kind
+unfoldable pub same_kind : Scalar → Scalar → Result (Unit {0}) Refusal
+same_kind from to = check (not (is_text from || is_text to) && nat_le (rank_of_kind from) (rank_of_kind to)) NotSameKind
+
+-- ---- the common type
+
+-- the little-endian integers of 1, 2, 4 or 8 bytes
+abbrev pub integer_type : Bool → ℕ → Scalar
+integer_type signed bytes =
+    if bytes == 1 then Byte signed
+    else (if bytes == 2 then Int signed Two Little
+    else (if bytes == 4 then Int signed Four Little
+    else Int signed Eight Little))
+
+-- a scalar in little-endian order
+abbrev pub little : Scalar → Scalar
+little (Int signed width order) = Int signed width Little
+little scalar = scalar
+
+-- the smallest integers with a sign that hold those of so many bytes without one, and those of so many with one
+abbrev pub mixed_type : ℕ → ℕ → Result Scalar Refusal
+mixed_type unsigned signed = do
+  _ ← check (nat_le (2 * unsigned) 8) NeedsFloats
+  Ok (integer_type true (max (2 * unsigned) signed))
+
+-- of two integer types: of one signedness the wider one
+abbrev pub common_integers : Scalar → Scalar → Result Scalar Refusal
+common_integers left right =
+    if is_signed left
+    then (if is_signed right then Ok (integer_type true (max (size left) (size right))) else mixed_type (size right) (size left))
+    else (if is_signed right then mixed_type (size left) (size right) else Ok (integer_type false (max (size left) (size right))))
+
+-- of two types of numbers: with a bool the other one
+abbrev pub common_type : Scalar → Scalar → Result Scalar Refusal
+common_type left right =
+    if is_bool left then Ok (little right)
+    else (if is_bool right then Ok (little left)
+    else common_integers left right)
+
+-- ---- the type of a result
+
+-- which operations there are of two bools
+abbrev pub serves_bools : BinOp → Bool
+serves_bools Subtract = false
+serves_bools FloorDivide = false
+serves_bools Modulo = false
+serves_bools ShiftLeft = false
+serves_bools ShiftRight = false
+serves_bools _ = true
+
+abbrev pub is_division : BinOp → Bool
+is_division Divide = true
+is_division _ = false
+
+-- the type of what an operation gives on two scalars
+unfoldable pub promote : BinOp → Scalar → Scalar → Result Scalar Refusal
+promote op left right = do
+  _ ← check (not (is_text left || is_text right)) NotForThisKind
+  _ ← check (serves_bools op || not (is_bool left && is_bool right)) NotForThisKind
+  _ ← check (not (is_division op)) NeedsFloats
+  common_type left right
+
+-- the type that an integer literal has beside a scalar: that of an integer, and beside a bool one of eight bytes
+abbrev pub literal_type : Scalar → Scalar
+literal_type BoolScalar = Int true Eight Little
+literal_type scalar = little scalar
+
+-- which operations there are of one number
+abbrev pub serves_one : UnOp → Scalar → Bool
+serves_one Negate scalar = not (is_text scalar) && not (is_bool scalar)
+serves_one Invert scalar = not (is_text scalar)
+
+-- the type of what an operation gives on one scalar
+unfoldable pub promote_one : UnOp → Scalar → Result Scalar Refusal
+promote_one op scalar = do
+  _ ← check (serves_one op scalar) NotForThisKind
+  Ok (little scalar)

@@ -1,0 +1,95 @@
+-- Results of operations and comparisons, of all items of arrays.
+use Rattle.std.specs.Prelude.{ℕ, ℤ, pos, Bool, if◌then◌else◌, not, List, [], ◌∷◌, get_or, map, Result, Ok, Err}
+use Rattle.elem_descr.specs.declared.refusal.Refusal.{Refusal}
+use Rattle.elem_descr.specs.declared.refusal.Refusal.TheVariants.{NotForThisKind}
+use Rattle.elem_descr.specs.declared.descr.Descr.{Descr}
+use Rattle.elem_descr.specs.declared.descr.Descr.TheVariants.{Scalar as ScalarDescr, Record as RecordDescr}
+use Rattle.elem_descr.specs.declared.scalar.Scalar.{Scalar}
+use Rattle.elem_descr.specs.declared.scalar.Scalar.TheVariants.{Bool as BoolScalar}
+use Rattle.elem_descr.specs.Values.{LeafValue, number}
+use Rattle.elem_descr.specs.Encoding.{wrap, number_of}
+use Rattle.elem_descr.specs.Refusals.{◌>>=◌, check}
+use Rattle.elem_descr.specs.Blocks.{item_from}
+use Rattle.shape_strides.specs.declared.layout.Layout.{Layout}
+use Rattle.shape_strides.specs.Layouts.{offsets}
+use Rattle.view_ops.specs.Views.{view_through}
+use Rattle.broadcasting.specs.Broadcasts.{common_shape, broadcast_index}
+use Rattle.elementwise.specs.declared.operation.BinOp.{BinOp}
+use Rattle.elementwise.specs.declared.operation.UnOp.{UnOp}
+use Rattle.elementwise.specs.declared.operation.Comparison.{Comparison}
+use Rattle.elementwise.specs.Promotion.{is_text, promote, promote_one}
+use Rattle.elementwise.specs.Operations.{binary, unary}
+use Rattle.elementwise.specs.Comparisons.{compared}
+
+-- ---- the type and the shape of a result
+
+-- records are no operands
+abbrev pub scalar_of : Descr → Result Scalar Refusal
+scalar_of (ScalarDescr scalar) = Ok scalar
+scalar_of (RecordDescr structure) = Err NotForThisKind
+
+unfoldable pub binary_result : BinOp → Descr → List ℕ → Descr → List ℕ → Result (Descr × List ℕ) Refusal
+binary_result op left shape right other = do
+  from ← scalar_of left
+  from' ← scalar_of right
+  scalar ← promote op from from'
+  common ← common_shape (shape ∷ other ∷ [])
+  Ok (ScalarDescr scalar, common)
+
+unfoldable pub unary_result : UnOp → Descr → List ℕ → Result (Descr × List ℕ) Refusal
+unary_result op operand shape = do
+  from ← scalar_of operand
+  scalar ← promote_one op from
+  Ok (ScalarDescr scalar, shape)
+
+-- numbers are compared with numbers, and byte strings with byte strings
+abbrev pub are_comparable : Scalar → Scalar → Bool
+are_comparable left right = if is_text left then is_text right else not (is_text right)
+
+unfoldable pub compared_result : Descr → List ℕ → Descr → List ℕ → Result (Descr × List ℕ) Refusal
+compared_result left shape right other = do
+  from ← scalar_of left
+  from' ← scalar_of right
+  _ ← check (are_comparable from from') NotForThisKind
+  common ← common_shape (shape ∷ other ∷ [])
+  Ok (ScalarDescr BoolScalar, common)
+
+-- numbers alone are compared with an integer
+unfoldable pub integer_compared_result : Descr → List ℕ → Result (Descr × List ℕ) Refusal
+integer_compared_result left shape = do
+  from ← scalar_of left
+  _ ← check (not (is_text from)) NotForThisKind
+  Ok (ScalarDescr BoolScalar, shape)
+
+-- ---- its items
+
+-- the value in an item of a scalar
+abbrev pub value_in : List LeafValue → LeafValue
+value_in item = get_or item 0 (number (pos 0))
+
+-- the same as a number of another scalar: the operands are cast to the type of the result first
+abbrev pub number_as : Scalar → List LeafValue → ℤ
+number_as scalar item = wrap scalar (number_of (value_in item))
+
+abbrev pub binary_item : BinOp → Descr → List LeafValue → List LeafValue → List LeafValue
+binary_item op (ScalarDescr scalar) left right = number (binary op scalar (number_as scalar left) (number_as scalar right)) ∷ []
+binary_item op (RecordDescr structure) left right = []
+
+abbrev pub unary_item : UnOp → Descr → List LeafValue → List LeafValue
+unary_item op (ScalarDescr scalar) item = number (unary op scalar (number_as scalar item)) ∷ []
+unary_item op (RecordDescr structure) item = []
+
+abbrev pub truth_item : Bool → List LeafValue
+truth_item holds = number (if holds then pos 1 else pos 0) ∷ []
+
+abbrev pub compared_item : Comparison → List LeafValue → List LeafValue → List LeafValue
+compared_item comparison left right = truth_item (compared comparison (value_in left) (value_in right))
+
+-- the items of an array that is stretched to a shape
+abbrev pub stretched_items : Descr → List ℕ → Layout → List ℕ → List (List LeafValue)
+stretched_items descr block layout shape = map (item_from descr block) (view_through (offsets layout) layout.shape shape (broadcast_index layout.shape))
+
+-- what f gives on the items at each place of two lists
+abbrev pub pairwise : {A B : Type 0} → (A → A → B) → List A → List A → List B
+pairwise f (x ∷ xs) (y ∷ ys) = f x y ∷ pairwise f xs ys
+pairwise f _ _ = []

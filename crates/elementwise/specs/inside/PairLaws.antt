@@ -1,0 +1,46 @@
+-- What is made of two values is read back.
+use Rattle.std.proofs.Common.{◌≡◌, ◌≤◌, true, false, cond, refl, arith}
+use Rattle.std.specs.Prelude.{pos, negsuc, ◌-ℤ◌, int_lt}
+use Rattle.elem_descr.specs.declared.scalar.Width.{Width}
+use Rattle.elem_descr.specs.declared.scalar.Width.TheVariants.{Two, Four, Eight}
+use Rattle.elem_descr.specs.declared.scalar.Scalar.{Scalar}
+use Rattle.elem_descr.specs.declared.scalar.Scalar.TheVariants.{Bool as BoolScalar, Byte, Int, Bytes}
+use Rattle.elem_descr.specs.Values.{LeafValue, number}
+use Rattle.elem_descr.specs.Encoding.{IsNumber, size, width_size, number_of, decode, encode}
+use Rattle.elem_descr.specs.EncodingLaws.{decode_encode}
+use Rattle.elementwise.specs.declared.operation.BinOp.{BinOp}
+use Rattle.elementwise.specs.declared.operation.UnOp.{UnOp}
+use Rattle.elementwise.specs.declared.operation.UnOp.TheVariants.{Negate, Invert}
+use Rattle.elementwise.specs.declared.operation.Comparison.{Comparison}
+use Rattle.elementwise.specs.Comparisons.{says}
+use Rattle.elementwise.specs.Promotion.{is_bool}
+use Rattle.elementwise.specs.Operations.{exact}
+use Rattle.elementwise.specs.inside.PairPasses.{IsNative, binary_value, unary_value, compared_value}
+
+pub native_number : (scalar : Scalar) → IsNative scalar → IsNumber scalar
+native_number BoolScalar native = tt
+native_number (Byte signed) native = tt
+native_number (Int signed width order) native = tt
+native_number (Bytes n) never = never
+
+pub binary_reads_back : (op : BinOp) (scalar : Scalar) (x y : LeafValue) → IsNative scalar → decode scalar (encode scalar (binary_value op scalar x y)) ≡ binary_value op scalar x y
+binary_reads_back op scalar x y native = decode_encode scalar (exact op scalar (number_of x) (number_of y)) (native_number scalar native)
+
+small_width : (width : Width) → width_size width ≤ 8
+small_width Two = omega arith
+small_width Four = omega arith
+small_width Eight = omega arith
+
+pub native_small : (scalar : Scalar) → IsNative scalar → size scalar ≤ 8
+native_small BoolScalar native = omega arith
+native_small (Byte signed) native = omega arith
+native_small (Int signed width order) native = small_width width
+native_small (Bytes n) never = absurd never
+
+pub unary_reads_back : (op : UnOp) (scalar : Scalar) (x y : LeafValue) → IsNative scalar → decode scalar (encode scalar (unary_value op scalar x y)) ≡ unary_value op scalar x y
+unary_reads_back Negate scalar x y native = decode_encode scalar (pos 0 -ℤ number_of y) (native_number scalar native)
+unary_reads_back Invert scalar x y native = decode_encode scalar (cond (is_bool scalar) (pos 1) (negsuc 0) -ℤ number_of y) (native_number scalar native)
+
+pub compared_reads_back : (comparison : Comparison) (x y : LeafValue) → decode BoolScalar (encode BoolScalar (compared_value comparison x y)) ≡ compared_value comparison x y
+compared_reads_back comparison x y =
+    elim (says comparison (int_lt (number_of x) (number_of y)) (int_lt (number_of y) (number_of x))) as (λ t. decode BoolScalar (encode BoolScalar (number (cond t (pos 1) (pos 0)))) ≡ number (cond t (pos 1) (pos 0))) [ true ↦ refl | false ↦ refl ]

@@ -1,0 +1,60 @@
+-- Passes over pairs of items that lie at equal steps.
+use Rattle.std.specs.Prelude.{◌≡◌, ℕ, zero, suc, ℤ, pos, int_lt, if◌then◌else◌, List}
+use Rattle.elem_descr.specs.declared.scalar.Order.TheVariants.{Little}
+use Rattle.elem_descr.specs.declared.scalar.Scalar.{Scalar}
+use Rattle.elem_descr.specs.declared.scalar.Scalar.TheVariants.{Bool as BoolScalar, Byte, Int, Bytes}
+use Rattle.elem_descr.specs.Values.{LeafValue, number}
+use Rattle.elem_descr.specs.Encoding.{IsValueOf, number_of, decode, encode}
+use Rattle.elementwise.specs.declared.operation.BinOp.{BinOp}
+use Rattle.elementwise.specs.declared.operation.UnOp.{UnOp}
+use Rattle.elementwise.specs.declared.operation.Comparison.{Comparison}
+use Rattle.elementwise.specs.Operations.{binary, unary}
+use Rattle.elementwise.specs.Comparisons.{says}
+use Rattle.raw_block.specs.Bytes.{place, put, item_at}
+use Rattle.shape_strides.specs.declared.runs.Run.{Run}
+
+-- what f makes of the first n pairs of items of two runs, of `width` bytes of `left` and `width'` of `right`, is written to the items of a run, one after the other
+abbrev pub made_of_pairs : (List ℕ → List ℕ → List ℕ) → ℕ → ℕ → List ℕ → List ℕ → Run → Run → Run → ℕ → List ℕ → List ℕ
+made_of_pairs f width width' left right to first second zero bytes = bytes
+made_of_pairs f width width' left right to first second (suc n) bytes =
+    put (place to.offset to.step n) (f (item_at (place first.offset first.step n) width left) (item_at (place second.offset second.step n) width' right))
+    (made_of_pairs f width width' left right to first second n bytes)
+
+-- the bytes of what f gives on the numbers that bytes of two scalars mean
+abbrev pub number_pair : Scalar → Scalar → Scalar → (ℤ → ℤ → ℤ) → List ℕ → List ℕ → List ℕ
+number_pair left right to f x y = encode to (number (f (number_of (decode left x)) (number_of (decode right y))))
+
+-- numbers in little-endian order
+abbrev pub IsNative : Scalar → Type 0
+IsNative BoolScalar = Unit {0}
+IsNative (Byte signed) = Unit {0}
+IsNative (Int signed width order) = order ≡ Little
+IsNative (Bytes n) = ⊥
+
+-- the bytes of what f gives on the values that bytes of two scalars mean
+abbrev pub value_pair : Scalar → Scalar → Scalar → (LeafValue → LeafValue → LeafValue) → List ℕ → List ℕ → List ℕ
+value_pair left right to f x y = encode to (f (decode left x) (decode right y))
+
+-- an operation on the values of two items
+abbrev pub binary_value : BinOp → Scalar → LeafValue → LeafValue → LeafValue
+binary_value op scalar x y = number (binary op scalar (number_of x) (number_of y))
+
+-- what f makes of the items at two offsets
+abbrev pub pair_from : (List ℕ → List ℕ → List ℕ) → ℕ → ℕ → List ℕ → List ℕ → ℕ → ℕ → List ℕ
+pair_from f width width' left right o o' = f (item_at o width left) (item_at o' width' right)
+
+-- an operation on the value of the second item
+abbrev pub unary_value : UnOp → Scalar → LeafValue → LeafValue → LeafValue
+unary_value op scalar x y = number (unary op scalar (number_of y))
+
+-- what a comparison says of two numbers, as 0 or 1
+abbrev pub says_number : Comparison → ℤ → ℤ → ℤ
+says_number comparison a b = if says comparison (int_lt a b) (int_lt b a) then pos 1 else pos 0
+
+-- the same of the values of two items
+abbrev pub compared_value : Comparison → LeafValue → LeafValue → LeafValue
+compared_value comparison x y = number (says_number comparison (number_of x) (number_of y))
+
+-- each value of the first scalar is one of the second
+abbrev pub Holds : Scalar → Scalar → Type 0
+Holds from to = (z : ℤ) → IsValueOf from z → IsValueOf to z

@@ -1,0 +1,132 @@
+//! Operations on numbers that are given by their lowest 64 bits, above which the bits are those of their sign.
+ghost use Rattle.std.specs.Prelude.{◌≡◌, ◌≤◌, ◌/◌, ◌^◌, nat_lt, if◌then◌else◌, negsuc, ◌+ℤ◌, ◌-ℤ◌, ◌*ℤ◌, Bool, int_lt};
+ghost use Rattle.elem_descr.specs.Encoding.{integer, low_bits};
+ghost use Rattle.elementwise.specs.Operations.{floor_quotient, modulo, shifted_left, shifted_right};
+ghost use Rattle.elementwise.specs.inside.Bits.{is_negative, magnitude_of};
+
+/// The bits of a sum.
+#[inline(always)]
+pub(crate) fn sum(left: u64, right: u64) -> u64
+    ensures { (signed : Bool) → result ≡ low_bits 8 (integer signed 8 left +ℤ integer signed 8 right) }
+{
+    left.wrapping_add(right)
+}
+
+/// The bits of a difference.
+#[inline(always)]
+pub(crate) fn difference(left: u64, right: u64) -> u64
+    ensures { (signed : Bool) → result ≡ low_bits 8 (integer signed 8 left -ℤ integer signed 8 right) }
+{
+    left.wrapping_sub(right)
+}
+
+/// The bits of -1 less a number.
+#[inline(always)]
+pub(crate) fn complement(bits: u64) -> u64
+    ensures { (signed : Bool) → result ≡ low_bits 8 (negsuc 0 -ℤ integer signed 8 bits) }
+{
+    u64::MAX - bits
+}
+
+/// The bits of a product.
+#[inline(always)]
+pub(crate) fn product(left: u64, right: u64) -> u64
+    ensures { (signed : Bool) → result ≡ low_bits 8 (integer signed 8 left *ℤ integer signed 8 right) }
+{
+    left.wrapping_mul(right)
+}
+
+/// Whether bits are those of a number below 0.
+#[inline(always)]
+fn is_negative(signed: bool, bits: u64) -> bool
+    ensures { result ≡ is_negative signed bits }
+{
+    signed && bits >= 1 << 63
+}
+
+/// How far a number is from 0.
+#[inline(always)]
+fn magnitude(negative: bool, bits: u64) -> u64
+    ensures { result ≡ magnitude_of negative bits }
+{
+    if negative { bits.wrapping_neg() } else { bits }
+}
+
+/// The bits of a quotient that is rounded down, 0 by 0.
+#[inline(always)]
+pub(crate) fn quotient(signed: bool, left: u64, right: u64) -> u64
+    ensures { result ≡ low_bits 8 (floor_quotient (integer signed 8 left) (integer signed 8 right)) }
+{
+    let below = is_negative(signed, left);
+    let over = is_negative(signed, right);
+    let size = magnitude(below, left);
+    let divisor = magnitude(over, right);
+    if size == 0 || divisor == 0 {
+        return 0;
+    }
+    if below == over {
+        return size / divisor;
+    }
+    !((size - 1) / divisor)
+}
+
+/// The bits of what is left of a number by another, 0 by 0.
+#[inline(always)]
+pub(crate) fn rest(signed: bool, left: u64, right: u64) -> u64
+    ensures { result ≡ low_bits 8 (modulo (integer signed 8 left) (integer signed 8 right)) }
+{
+    let below = is_negative(signed, left);
+    let over = is_negative(signed, right);
+    let size = magnitude(below, left);
+    let divisor = magnitude(over, right);
+    if size == 0 || divisor == 0 {
+        return 0;
+    }
+    if below == over {
+        return magnitude(over, size % divisor);
+    }
+    magnitude(over, divisor - 1 - (size - 1) % divisor)
+}
+
+/// The bits of a number that is moved up by so many of the `width` bits of a scalar.
+#[inline(always)]
+pub(crate) fn moved_up(width: u64, left: u64, right: u64) -> u64
+    requires { width ≤ 64 }
+    ensures { (signed : Bool) → result ≡ low_bits 8 (shifted_left width (integer signed 8 left) (integer signed 8 right)) }
+{
+    if right < width { left << right } else { 0 }
+}
+
+/// Bits that are moved down by so many of `width`.
+#[inline(always)]
+fn kept_bits(width: u64, bits: u64, by: u64) -> u64
+    requires { width ≤ 64 }
+    ensures { result ≡ (if nat_lt by width then bits / 2 ^ by else 0) }
+{
+    if by < width { bits >> by } else { 0 }
+}
+
+/// The bits of a number that is moved down by so many of the `width` bits of a scalar.
+#[inline(always)]
+pub(crate) fn moved_down(signed: bool, width: u64, left: u64, right: u64) -> u64
+    requires { width ≤ 64 }
+    ensures { result ≡ low_bits 8 (shifted_right width (integer signed 8 left) (integer signed 8 right)) }
+{
+    if is_negative(signed, left) {
+        return !kept_bits(width, !left, right);
+    }
+    kept_bits(width, left, right)
+}
+
+/// Whether a number is below another.
+#[inline(always)]
+pub(crate) fn is_below(left_signed: bool, left: u64, right_signed: bool, right: u64) -> bool
+    ensures { result ≡ int_lt (integer left_signed 8 left) (integer right_signed 8 right) }
+{
+    let below = is_negative(left_signed, left);
+    if below == is_negative(right_signed, right) {
+        left < right
+    } else {
+        below
+    }
+}

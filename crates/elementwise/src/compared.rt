@@ -1,0 +1,165 @@
+//! Comparisons of all items of arrays of numbers.
+ghost use Rattle.std.specs.Prelude.{◌≡◌, ℕ, [], ◌+◌, ◌<◌, ◌≤◌, not, length, map, slice_index_or, All, IfOk, IfErr, IsTrue};
+ghost use Rattle.elem_descr.specs.declared.refusal.Refusal.TheVariants.{OutOfMemory};
+ghost use Rattle.elem_descr.specs.declared.descr.Descr.TheVariants.{Scalar as ScalarDescr};
+ghost use Rattle.elem_descr.specs.declared.scalar.Order.TheVariants.{Little};
+ghost use Rattle.elem_descr.specs.declared.scalar.Width.TheVariants.{Eight};
+ghost use Rattle.elem_descr.specs.declared.scalar.Scalar.TheVariants.{Bool as BoolScalar, Int};
+ghost use Rattle.elem_descr.specs.Encoding.{IsNumber};
+ghost use Rattle.elem_descr.specs.Items.{item_size};
+ghost use Rattle.elem_descr.specs.Blocks.{item_from};
+ghost use Rattle.shape_strides.specs.Indexes.{count};
+ghost use Rattle.shape_strides.specs.Layouts.{offsets, multiples};
+ghost use Rattle.broadcasting.specs.Broadcasts.{can_stretch};
+ghost use Rattle.elementwise.specs.Results.{compared_item, stretched_items, pairwise};
+ghost use Rattle.elementwise.specs.inside.PairPasses.{IsNative, Holds};
+
+use crate::operands::Items;
+use crate::operation::Comparison;
+use crate::pairing::{Comparing, ComparingSigns};
+use crate::promotion::{is_signed, little};
+use crate::typed::make_stretched;
+use elem_descr::{Descr, Order, Refusal, Scalar, Width};
+use overlap_copy::Owned;
+use raw_block::RawBlock;
+use shape_strides::Shape;
+use std::alloc::Global;
+
+/// A block holds bytes.
+fn note_bytes(block: &RawBlock)
+    ensures { (k : ℕ) → slice_index_or block.now k 0 < 256 }
+{
+    let bytes = block.bytes();
+    let _len = bytes.len();
+}
+
+/// The little-endian integers of eight bytes.
+fn eight_bytes(signed: bool) -> Scalar
+    ensures { result ≡ Int signed Eight Little }
+{
+    Scalar::Int {
+        signed,
+        width: Width::Eight,
+        order: Order::Little,
+    }
+}
+
+/// A comparison of two arrays of numbers that are stretched to a shape, by way of a scalar that holds the
+/// numbers of both.
+fn compare_held(
+    alloc: Global,
+    comparison: Comparison,
+    scalar: &Scalar,
+    from: &Scalar,
+    left: Items<'_>,
+    other: &Scalar,
+    right: Items<'_>,
+    shape: &Shape,
+) -> Result<Owned, Refusal>
+    requires native { IsNative scalar.now }
+    requires from { left.descr.now ≡ ScalarDescr from.now }
+    requires other { right.descr.now ≡ ScalarDescr other.now }
+    requires left_number { IsNumber from.now }
+    requires right_number { IsNumber other.now }
+    requires left_held { Holds from.now scalar.now }
+    requires right_held { Holds other.now scalar.now }
+    requires left { All (λ offset. offset + item_size left.descr.now ≤ length left.block.now) (offsets left.layout.now) }
+    requires right { All (λ offset. offset + item_size right.descr.now ≤ length right.block.now) (offsets right.layout.now) }
+    requires stretches { IsTrue (can_stretch left.layout.now.shape shape.now) }
+    requires also { IsTrue (can_stretch right.layout.now.shape shape.now) }
+    ensures descr { IfOk result (λ o. o.descr ≡ ScalarDescr BoolScalar) }
+    ensures shape { IfOk result (λ o. o.layout.shape ≡ shape.now) }
+    ensures order { IfOk result (λ o. offsets o.layout ≡ multiples 1 (count shape.now)) }
+    ensures items { IfOk result (λ o. map (item_from o.descr o.block) (offsets o.layout)
+        ≡ pairwise (compared_item comparison) (stretched_items left.entry.descr.now left.entry.block.now left.entry.layout.now o.layout.shape)
+        (stretched_items right.entry.descr.now right.entry.block.now right.entry.layout.now o.layout.shape)) }
+    ensures refused { IfErr result (λ refusal. refusal ≡ OutOfMemory) }
+{
+    note_bytes(left.block);
+    note_bytes(right.block);
+    let to = Descr::Scalar(*scalar);
+    let pairing = Comparing {
+        comparison,
+        scalar: *scalar,
+    };
+    make_stretched::<Comparing>(alloc, &pairing, left, &to, right, &to, shape)
+}
+
+/// The same by way of integers of eight bytes, the first of which have a sign where the second have none.
+fn compare_signs(
+    alloc: Global,
+    comparison: Comparison,
+    left_signed: bool,
+    from: &Scalar,
+    left: Items<'_>,
+    other: &Scalar,
+    right: Items<'_>,
+    shape: &Shape,
+) -> Result<Owned, Refusal>
+    requires from { left.descr.now ≡ ScalarDescr from.now }
+    requires other { right.descr.now ≡ ScalarDescr other.now }
+    requires left_number { IsNumber from.now }
+    requires right_number { IsNumber other.now }
+    requires left_held { Holds from.now (Int left_signed Eight Little) }
+    requires right_held { Holds other.now (Int (not left_signed) Eight Little) }
+    requires left { All (λ offset. offset + item_size left.descr.now ≤ length left.block.now) (offsets left.layout.now) }
+    requires right { All (λ offset. offset + item_size right.descr.now ≤ length right.block.now) (offsets right.layout.now) }
+    requires stretches { IsTrue (can_stretch left.layout.now.shape shape.now) }
+    requires also { IsTrue (can_stretch right.layout.now.shape shape.now) }
+    ensures descr { IfOk result (λ o. o.descr ≡ ScalarDescr BoolScalar) }
+    ensures shape { IfOk result (λ o. o.layout.shape ≡ shape.now) }
+    ensures order { IfOk result (λ o. offsets o.layout ≡ multiples 1 (count shape.now)) }
+    ensures items { IfOk result (λ o. map (item_from o.descr o.block) (offsets o.layout)
+        ≡ pairwise (compared_item comparison) (stretched_items left.entry.descr.now left.entry.block.now left.entry.layout.now o.layout.shape)
+        (stretched_items right.entry.descr.now right.entry.block.now right.entry.layout.now o.layout.shape)) }
+    ensures refused { IfErr result (λ refusal. refusal ≡ OutOfMemory) }
+{
+    note_bytes(left.block);
+    note_bytes(right.block);
+    let to = Descr::Scalar(eight_bytes(left_signed));
+    let other_to = Descr::Scalar(eight_bytes(!left_signed));
+    let pairing = ComparingSigns {
+        comparison,
+        left_signed,
+    };
+    make_stretched::<ComparingSigns>(alloc, &pairing, left, &to, right, &other_to, shape)
+}
+
+/// A comparison of two arrays of numbers that are stretched to a shape, by value: by way of their common
+/// type where they have one, and else of integers of eight bytes, which hold them.
+pub(crate) fn compare_numbers(
+    alloc: Global,
+    comparison: Comparison,
+    from: &Scalar,
+    left: Items<'_>,
+    other: &Scalar,
+    right: Items<'_>,
+    shape: &Shape,
+) -> Result<Owned, Refusal>
+    requires from { left.descr.now ≡ ScalarDescr from.now }
+    requires other { right.descr.now ≡ ScalarDescr other.now }
+    requires left_number { IsNumber from.now }
+    requires right_number { IsNumber other.now }
+    requires left { All (λ offset. offset + item_size left.descr.now ≤ length left.block.now) (offsets left.layout.now) }
+    requires right { All (λ offset. offset + item_size right.descr.now ≤ length right.block.now) (offsets right.layout.now) }
+    requires stretches { IsTrue (can_stretch left.layout.now.shape shape.now) }
+    requires also { IsTrue (can_stretch right.layout.now.shape shape.now) }
+    ensures descr { IfOk result (λ o. o.descr ≡ ScalarDescr BoolScalar) }
+    ensures shape { IfOk result (λ o. o.layout.shape ≡ shape.now) }
+    ensures order { IfOk result (λ o. offsets o.layout ≡ multiples 1 (count shape.now)) }
+    ensures items { IfOk result (λ o. map (item_from o.descr o.block) (offsets o.layout)
+        ≡ pairwise (compared_item comparison) (stretched_items left.entry.descr.now left.entry.block.now left.entry.layout.now o.layout.shape)
+        (stretched_items right.entry.descr.now right.entry.block.now right.entry.layout.now o.layout.shape)) }
+    ensures refused { IfErr result (λ refusal. refusal ≡ OutOfMemory) }
+{
+    let native = little(from);
+    if native == little(other) {
+        return compare_held(alloc, comparison, &native, from, left, other, right, shape);
+    }
+    let signed = is_signed(from);
+    if signed == is_signed(other) {
+        let wide = eight_bytes(signed);
+        return compare_held(alloc, comparison, &wide, from, left, other, right, shape);
+    }
+    compare_signs(alloc, comparison, signed, from, left, other, right, shape)
+}

@@ -1,0 +1,224 @@
+//! The types of results, as NumPy 2 promotes the types of operands.
+ghost use Rattle.std.specs.Prelude.{◌≡◌, ◌≤◌, not, ◌&&◌, ◌||◌};
+ghost use Rattle.elem_descr.specs.Refusals.{Answers};
+ghost use Rattle.elementwise.specs.Promotion.{is_bool, is_text, is_signed, rank_of_kind, same_kind, integer_type, little, mixed_type, common_integers, common_type, serves_bools, is_division, promote, literal_type, serves_one, promote_one};
+ghost use Rattle.elementwise.specs.Results.{scalar_of};
+
+use crate::operation::{BinOp, UnOp};
+use elem_descr::{Descr, Order, Refusal, Scalar, Width};
+
+pub(crate) fn is_bool(scalar: &Scalar) -> bool
+    ensures { result ≡ is_bool scalar.now }
+{
+    matches!(scalar, Scalar::Bool)
+}
+
+/// Whether the values are byte strings.
+pub(crate) fn is_text(scalar: &Scalar) -> bool
+    ensures { result ≡ is_text scalar.now }
+{
+    matches!(scalar, Scalar::Bytes(_))
+}
+
+pub(crate) fn is_signed(scalar: &Scalar) -> bool
+    ensures { result ≡ is_signed scalar.now }
+{
+    match scalar {
+        Scalar::Byte { signed } => *signed,
+        Scalar::Int { signed, .. } => *signed,
+        _ => false,
+    }
+}
+
+/// The place of a kind of numbers in their order.
+fn rank_of_kind(scalar: &Scalar) -> usize
+    ensures { result ≡ rank_of_kind scalar.now }
+{
+    if is_bool(scalar) {
+        return 0;
+    }
+    if is_signed(scalar) { 2 } else { 1 }
+}
+
+/// Whether either is a scalar of byte strings.
+fn has_text(left: &Scalar, right: &Scalar) -> bool
+    ensures { result ≡ (is_text left.now || is_text right.now) }
+{
+    is_text(left) || is_text(right)
+}
+
+/// Whether a result of one type may be written to items of another: its kind must not be above theirs in
+/// the order bool, unsigned, signed, whatever the widths. `NotSameKind` where it is, and for byte
+/// strings on either side.
+#[tactic(auto, unfolding(crate::specs::Promotion::same_kind))]
+pub fn same_kind(from: Scalar, to: Scalar) -> Result<(), Refusal>
+    ensures { Answers (λ _. tt) result (same_kind from to) }
+{
+    if has_text(&from, &to) {
+        return Err(Refusal::NotSameKind);
+    }
+    if rank_of_kind(&from) > rank_of_kind(&to) {
+        return Err(Refusal::NotSameKind);
+    }
+    Ok(())
+}
+
+/// The little-endian integers of so many bytes.
+fn integer_type(signed: bool, bytes: usize) -> Scalar
+    ensures { result ≡ integer_type signed bytes }
+{
+    let width = match bytes {
+        1 => return Scalar::Byte { signed },
+        2 => Width::Two,
+        4 => Width::Four,
+        _ => Width::Eight,
+    };
+    Scalar::Int {
+        signed,
+        width,
+        order: Order::Little,
+    }
+}
+
+pub(crate) fn little(scalar: &Scalar) -> Scalar
+    ensures { result ≡ little scalar.now }
+{
+    match scalar {
+        Scalar::Int { signed, width, .. } => Scalar::Int {
+            signed: *signed,
+            width: *width,
+            order: Order::Little,
+        },
+        _ => *scalar,
+    }
+}
+
+/// The smallest integers with a sign that hold those of so many bytes without one, and those of so
+/// many with one.
+fn mixed_type(unsigned: usize, signed: usize) -> Result<Scalar, Refusal>
+    requires { unsigned ≤ 65536 }
+    ensures { Answers (λ s. s) result (mixed_type unsigned signed) }
+{
+    if unsigned * 2 > 8 {
+        return Err(Refusal::NeedsFloats);
+    }
+    Ok(integer_type(true, signed.max(unsigned * 2)))
+}
+
+fn common_integers(left: &Scalar, right: &Scalar) -> Result<Scalar, Refusal>
+    ensures { Answers (λ s. s) result (common_integers left.now right.now) }
+{
+    let first = left.size();
+    let second = right.size();
+    match (is_signed(left), is_signed(right)) {
+        (false, true) => mixed_type(first, second),
+        (true, false) => mixed_type(second, first),
+        (signed, _) => Ok(integer_type(signed, first.max(second))),
+    }
+}
+
+fn common_type(left: &Scalar, right: &Scalar) -> Result<Scalar, Refusal>
+    ensures { Answers (λ s. s) result (common_type left.now right.now) }
+{
+    if is_bool(left) {
+        return Ok(little(right));
+    }
+    if is_bool(right) {
+        return Ok(little(left));
+    }
+    common_integers(left, right)
+}
+
+/// Whether there is an operation of two bools.
+fn serves_bools(op: BinOp) -> bool
+    ensures { result ≡ serves_bools op }
+{
+    match op {
+        BinOp::Subtract
+        | BinOp::FloorDivide
+        | BinOp::Modulo
+        | BinOp::ShiftLeft
+        | BinOp::ShiftRight => false,
+        _ => true,
+    }
+}
+
+fn is_division(op: BinOp) -> bool
+    ensures { result ≡ is_division op }
+{
+    matches!(op, BinOp::Divide)
+}
+
+fn are_bools(left: &Scalar, right: &Scalar) -> bool
+    ensures { result ≡ (is_bool left.now && is_bool right.now) }
+{
+    is_bool(left) && is_bool(right)
+}
+
+/// Whether there is an operation of items of two types, as far as bools go.
+fn serves(op: BinOp, left: &Scalar, right: &Scalar) -> bool
+    ensures { result ≡ (serves_bools op || not (is_bool left.now && is_bool right.now)) }
+{
+    serves_bools(op) || !are_bools(left, right)
+}
+
+/// The type of what an operation gives on items of two types: of bools and integers the smallest that
+/// holds both, little-endian. `NotForThisKind` for byte strings, and for two bools where there is no
+/// such operation; then `NeedsFloats` for `Divide`, and for integers that no integer type holds.
+#[tactic(auto, unfolding(crate::specs::Promotion::promote))]
+pub fn promote(op: BinOp, left: Scalar, right: Scalar) -> Result<Scalar, Refusal>
+    ensures { Answers (λ s. s) result (promote op left right) }
+{
+    if has_text(&left, &right) {
+        return Err(Refusal::NotForThisKind);
+    }
+    if !serves(op, &left, &right) {
+        return Err(Refusal::NotForThisKind);
+    }
+    if is_division(op) {
+        return Err(Refusal::NeedsFloats);
+    }
+    common_type(&left, &right)
+}
+
+/// The type of an integer literal beside items of a type: theirs, little-endian, and beside bools `<i8`.
+pub fn literal_type(scalar: Scalar) -> Scalar
+    ensures { result ≡ literal_type scalar }
+{
+    match scalar {
+        Scalar::Bool => integer_type(true, 8),
+        _ => little(&scalar),
+    }
+}
+
+/// Whether there is an operation of items of a type.
+fn serves_one(op: UnOp, scalar: &Scalar) -> bool
+    ensures { result ≡ serves_one op scalar.now }
+{
+    match op {
+        UnOp::Negate => !is_text(scalar) && !is_bool(scalar),
+        UnOp::Invert => !is_text(scalar),
+    }
+}
+
+/// The type of what an operation gives on items of one type. `NotForThisKind` for byte strings, and
+/// for `Negate` of bools.
+#[tactic(auto, unfolding(crate::specs::Promotion::promote_one))]
+pub fn promote_one(op: UnOp, scalar: Scalar) -> Result<Scalar, Refusal>
+    ensures { Answers (λ s. s) result (promote_one op scalar) }
+{
+    if !serves_one(op, &scalar) {
+        return Err(Refusal::NotForThisKind);
+    }
+    Ok(little(&scalar))
+}
+
+/// The scalar of an operand. `NotForThisKind` for a record.
+pub fn scalar_of(descr: &Descr) -> Result<Scalar, Refusal>
+    ensures { Answers (λ s. s) result (scalar_of descr.now) }
+{
+    match descr {
+        Descr::Scalar(scalar) => Ok(*scalar),
+        Descr::Record(_) => Err(Refusal::NotForThisKind),
+    }
+}
