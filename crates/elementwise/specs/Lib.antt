@@ -1,2 +1,3 @@
 pub mod Casts
+pub mod Bits
 pub mod inside

@@ -1,4 +1,3 @@
 pub mod FieldCasts
-pub mod Bits
 pub mod Passes
 pub mod LeafCasts

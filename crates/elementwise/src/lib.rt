@@ -12,5 +12,7 @@ mod runs_of_leaves;
 mod texts;
 
 pub use alike::{are_alike, keeps_items};
+pub use byte_orders::{HighFirst, LowFirst, Ordered};
 pub use castable::can_cast;
 pub use casts::cast;
+pub use numbers::Number;

@@ -1,3 +1,4 @@
 pub mod Lists
 pub mod Reductions
 pub mod Outcomes
+pub mod inside

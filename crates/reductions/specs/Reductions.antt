@@ -44,6 +44,12 @@ result_scalar ArgMax scalar = Int true Eight Little
 abbrev pub is_true : ℤ → Bool
 is_true value = not (int_eq value (pos 0))
 
+abbrev pub sum_of : List ℤ → ℤ
+sum_of numbers = fold (λ sum value. sum +ℤ value) (pos 0) numbers
+
+abbrev pub product_of : List ℤ → ℤ
+product_of numbers = fold (λ product value. product *ℤ value) (pos 1) numbers
+
 -- the least and the greatest of some numbers; 0 of none
 abbrev pub least : List ℤ → ℤ
 least [] = pos 0
@@ -60,8 +66,8 @@ first_place value (first ∷ numbers) = if int_eq first value then 0 else suc (f
 
 -- what a reduction makes of numbers, as a value of the result's type
 abbrev pub reduced : Reduction → Scalar → List ℤ → ℤ
-reduced Sum scalar numbers = wrap scalar (fold (λ sum value. sum +ℤ value) (pos 0) numbers)
-reduced Product scalar numbers = wrap scalar (fold (λ product value. product *ℤ value) (pos 1) numbers)
+reduced Sum scalar numbers = wrap scalar (sum_of numbers)
+reduced Product scalar numbers = wrap scalar (product_of numbers)
 reduced Minimum scalar numbers = least numbers
 reduced Maximum scalar numbers = greatest numbers
 reduced Any scalar numbers = if list_any is_true numbers then pos 1 else pos 0
