@@ -2,4 +2,5 @@
 //! along one of its axes.
 #![tactic(auto)]
 
+mod folds;
 mod values;
