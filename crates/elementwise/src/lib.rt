@@ -16,3 +16,4 @@ pub use byte_orders::{HighFirst, LowFirst, Ordered};
 pub use castable::can_cast;
 pub use casts::cast;
 pub use numbers::Number;
+pub use passes::place;

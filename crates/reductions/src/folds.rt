@@ -42,8 +42,8 @@ pub(crate) trait Fold<S: Value> {
     fn finish(held: Self::Held) -> Self::Total
         ensures { (first : ℤ) (rest : List ℤ) → holds held first (first ∷ rest) → Self.Total.value result ≡ meaning (first ∷ rest) };
 
-    ghost gives: { (order : Order) (bytes : List ℕ) (first : ℤ) (rest : List ℤ) → length (first ∷ rest) < 2 ^ 63
-        → decode (Self.Total.scalar Little) bytes ≡ number (meaning (first ∷ rest)) → IsReduced reduction (S.scalar order) (first ∷ rest) bytes };
+    ghost gives: { (order : Order) (bytes : List ℕ) (numbers : List ℤ) → length numbers < 2 ^ 63
+        → decode (Self.Total.scalar Little) bytes ≡ number (meaning numbers) → IsReduced reduction (S.scalar order) numbers bytes };
 
     ghost has_size: { (order : Order) → size (result_scalar reduction (S.scalar order)) ≡ Self.Total.WIDTH };
 }
@@ -61,7 +61,7 @@ impl<S: Value> Fold<S> for SumOf {
 
     ghost meaning = { λ numbers. pos (low_bits 8 (sum_of numbers)) };
 
-    ghost gives = { λ order bytes first rest few is. sum_is (S.scalar order) bytes (first ∷ rest) is };
+    ghost gives = { λ order bytes numbers few is. sum_is (S.scalar order) bytes numbers is };
 
     ghost has_size = { λ order. wide_size (S.scalar order) };
 
@@ -91,7 +91,7 @@ impl<S: Value> Fold<S> for ProductOf {
 
     ghost meaning = { λ numbers. pos (low_bits 8 (product_of numbers)) };
 
-    ghost gives = { λ order bytes first rest few is. product_is (S.scalar order) bytes (first ∷ rest) is };
+    ghost gives = { λ order bytes numbers few is. product_is (S.scalar order) bytes numbers is };
 
     ghost has_size = { λ order. wide_size (S.scalar order) };
 
@@ -121,7 +121,7 @@ impl<S: Value> Fold<S> for Least {
 
     ghost meaning = { least };
 
-    ghost gives = { λ order bytes first rest few is. kept_is (S.scalar order) (S.scalar Little) bytes (least (first ∷ rest)) (S.is_little order) is };
+    ghost gives = { λ order bytes numbers few is. kept_is (S.scalar order) (S.scalar Little) bytes (least numbers) (S.is_little order) is };
 
     ghost has_size = { λ order. kept_size (S.scalar order) S.WIDTH (S.has_width order) };
 
@@ -151,7 +151,7 @@ impl<S: Value> Fold<S> for Greatest {
 
     ghost meaning = { greatest };
 
-    ghost gives = { λ order bytes first rest few is. kept_is (S.scalar order) (S.scalar Little) bytes (greatest (first ∷ rest)) (S.is_little order) is };
+    ghost gives = { λ order bytes numbers few is. kept_is (S.scalar order) (S.scalar Little) bytes (greatest numbers) (S.is_little order) is };
 
     ghost has_size = { λ order. kept_size (S.scalar order) S.WIDTH (S.has_width order) };
 
@@ -181,7 +181,7 @@ impl<S: Value> Fold<S> for AnyTrue {
 
     ghost meaning = { λ numbers. if list_any is_true numbers then pos 1 else pos 0 };
 
-    ghost gives = { λ order bytes first rest few is. is };
+    ghost gives = { λ order bytes numbers few is. is };
 
     ghost has_size = { λ order. refl };
 
@@ -211,7 +211,7 @@ impl<S: Value> Fold<S> for AllTrue {
 
     ghost meaning = { λ numbers. if list_all is_true numbers then pos 1 else pos 0 };
 
-    ghost gives = { λ order bytes first rest few is. is };
+    ghost gives = { λ order bytes numbers few is. is };
 
     ghost has_size = { λ order. refl };
 
@@ -248,7 +248,7 @@ impl<S: Value> Fold<S> for PlaceOfLeast {
 
     ghost meaning = { λ numbers. pos (first_place (least numbers) numbers) };
 
-    ghost gives = { λ order bytes first rest few is. place_is bytes (first_place (least (first ∷ rest)) (first ∷ rest)) (first_place-lt (least (first ∷ rest)) (first ∷ rest) few) is };
+    ghost gives = { λ order bytes numbers few is. place_is bytes (first_place (least numbers) numbers) (first_place-lt (least numbers) numbers few) is };
 
     ghost has_size = { λ order. refl };
 
@@ -284,7 +284,7 @@ impl<S: Value> Fold<S> for PlaceOfGreatest {
 
     ghost meaning = { λ numbers. pos (first_place (greatest numbers) numbers) };
 
-    ghost gives = { λ order bytes first rest few is. place_is bytes (first_place (greatest (first ∷ rest)) (first ∷ rest)) (first_place-lt (greatest (first ∷ rest)) (first ∷ rest) few) is };
+    ghost gives = { λ order bytes numbers few is. place_is bytes (first_place (greatest numbers) numbers) (first_place-lt (greatest numbers) numbers few) is };
 
     ghost has_size = { λ order. refl };
 

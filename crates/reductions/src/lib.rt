@@ -3,4 +3,5 @@
 #![tactic(auto)]
 
 mod folds;
+mod lines;
 mod values;
