@@ -1,2 +1,3 @@
 mod Vectors
 pub mod LineLaws
+pub mod RunLaws

@@ -1,15 +1,16 @@
 -- Runs that a reduction goes over, item by item.
-use Rattle.std.proofs.Common.{◌≡◌, ◌+◌, ◌-◌, ◌*◌, ◌≤◌, ◌<◌, ℕ, zero, suc, List, [], ◌∷◌, ◌++◌, map, length, refl, sym, ap, subst, ◌∙◌, arith, add-one, append_assoc, take, drop, ◌⊎◌, inl, inr, suc-mul, mul-le-mul_right}
+use Rattle.std.proofs.Common.{◌≡◌, ◌+◌, ◌-◌, ◌*◌, ◌≤◌, ◌<◌, ℕ, zero, suc, List, [], ◌∷◌, ◌++◌, map, length, refl, sym, ap, subst, ◌∙◌, arith, add-one, append_assoc, take, drop, ◌⊎◌, inl, inr, suc-mul, add-mul, mul-le-mul_right, get_or, get_or-append-add, length-take, length-append}
 use Rattle.std.specs.Prelude.{ℤ, pos, ◌+ℤ◌, ◌*ℤ◌}
 use Rattle.std.proofs.lemmas.Int.{ints}
-use Rattle.std.proofs.lemmas.List.{map-append, length-map, drop-drop}
+use Rattle.std.proofs.lemmas.List.{map-append, length-map, drop-drop, get_or-take, get_or-drop, ext_get_or, get_or_append_left}
+use Rattle.std.proofs.lemmas.Bool.{cases_lt}
 use Rattle.std.proofs.Math.IntN.{zero-*ℤ}
 use Rattle.elem_descr.specs.declared.scalar.Scalar.{Scalar}
 use Rattle.elem_descr.specs.Steps.{numbers_from}
 use Rattle.elem_descr.specs.StepLaws.{numbers-suc}
 use Rattle.shape_strides.specs.Addresses.{natural}
 use Rattle.raw_block.specs.Bytes.{position, place, item_at, EachWithin}
-use Rattle.raw_block.specs.BytesLaws.{item_at-put_apart}
+use Rattle.raw_block.specs.BytesLaws.{item_at-put_apart, length-item_at}
 use Rattle.shape_strides.specs.declared.runs.Run.{Run}
 use Rattle.shape_strides.specs.Runs.{run_offsets}
 use Rattle.overlap_copy.specs.RunLaws.{fewer, run_offsets-more, length-run_offsets}
@@ -71,3 +72,43 @@ beside at n width other new row whole wide within within' apart =
 -- a result that lies before another one
 pub before_next : (j k width : ℕ) → j < k → j * width + width ≤ k * width
 before_next j k width low = let most : suc j * width ≤ k * width = mul-le-mul_right width low in omega (arith, most, suc-mul j width)
+
+-- the bytes of an item, one by one
+read : (o w i : ℕ) (bytes : List ℕ) → i < w → get_or (item_at o w bytes) i 0 ≡ get_or bytes (o + i) 0
+read o w i bytes low = get_or-take w (drop o bytes) i 0 low ∙ get_or-drop o bytes i 0
+
+-- what lies in a row that is put among others
+pub amid : (at n o width : ℕ) (row out : List ℕ) → at ≤ length out → o + width ≤ length row → item_at (at + o) width (take at out ++ (row ++ drop n (drop at out))) ≡ item_at o width row
+amid at n o width row out low fits =
+    let rest = drop n (drop at out) in
+    let long : length (take at out) ≡ at = omega (arith, length-take at out) in
+    let whole = take at out ++ (row ++ rest) in
+    let far : at + o + width ≤ length whole = omega (arith, long, length-append (take at out) (row ++ rest), length-append row rest) in
+    ext_get_or 0 (item_at (at + o) width whole) (item_at o width row) (length-item_at (at + o) width whole far ∙ sym (length-item_at o width row fits)) (λ i inside.
+    let here : i < width = omega (arith, inside, length-item_at (at + o) width whole far) in
+    let on : at + o + i ≡ length (take at out) + (o + i) = omega (arith, long) in
+    read (at + o) width i whole here
+    ∙ ap (λ p. get_or whole p 0) on
+    ∙ get_or-append-add (take at out) (row ++ rest) (o + i) 0
+    ∙ get_or_append_left row rest 0 (o + i) (omega (arith, here, fits))
+    ∙ sym (read o width i row here))
+
+-- what lies before such a row is as it was
+pub front_kept : (at n m o width : ℕ) (row out : List ℕ) → length row ≡ n → m ≡ n → at + n ≤ length out → o + width ≤ at → item_at o width (take at out ++ (row ++ drop m (drop at out))) ≡ item_at o width out
+front_kept at n m o width row out long same room low =
+    ap (λ bytes. item_at o width bytes) (sym (append_assoc (take at out) row (drop m (drop at out))))
+    ∙ ap (λ rest. item_at o width (take at out ++ row ++ rest)) (drop-drop m at out)
+    ∙ ap (λ k. item_at o width (take at out ++ row ++ drop (at + k) out)) (same ∙ sym long)
+    ∙ item_at-put_apart at row out o width (omega (arith, long, room)) (omega (arith, low, room)) (inl low)
+
+-- results so far, and those of one run more
+pub in_turn : (P : ℕ → List ℕ → Type 0) (width m n : ℕ) (out new : List ℕ) → ((o : ℕ) → o + width ≤ m * width → item_at o width new ≡ item_at o width out) →
+    ((k : ℕ) → k < m → P k (item_at (k * width) width out)) → ((j : ℕ) → j < n → P (m + j) (item_at (m * width + j * width) width new)) → (k : ℕ) → k < m + n → P k (item_at (k * width) width new)
+in_turn P width m n out new kept before here k low =
+    elim (cases_lt k m) as (λ _. P k (item_at (k * width) width new)) [
+      | inl early ↦ subst (P k) (sym (kept (k * width) (before_next k m width early))) (before k early)
+      | inr late ↦
+          let is : m + (k - m) ≡ k = omega (arith, late) in
+          let at : m * width + (k - m) * width ≡ k * width = sym (add-mul m (k - m) width) ∙ ap (λ i. i * width) is in
+          subst (λ o. P k (item_at o width new)) at (subst (λ i. P i (item_at (m * width + (k - m) * width) width new)) is (here (k - m) (omega (arith, low, late))))
+    ]

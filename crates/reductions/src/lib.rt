@@ -2,6 +2,8 @@
 //! along one of its axes.
 #![tactic(auto)]
 
+mod fills;
 mod folds;
+mod kinds;
 mod lines;
 mod values;
