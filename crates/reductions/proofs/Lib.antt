@@ -1,3 +1,4 @@
 mod Vectors
 pub mod LineLaws
+pub mod AxisLaws
 pub mod RunLaws

@@ -2,6 +2,7 @@
 //! along one of its axes.
 #![tactic(auto)]
 
+mod axes;
 mod fills;
 mod folds;
 mod kinds;
