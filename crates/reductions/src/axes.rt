@@ -5,7 +5,7 @@ ghost use Rattle.elem_descr.specs.declared.refusal.Refusal.TheVariants.{BadAxis,
 ghost use Rattle.shape_strides.specs.Indexes.{count};
 ghost use Rattle.shape_strides.specs.Limits.{max_axes};
 ghost use Rattle.reductions.specs.Lists.{named_axis, is_axis, reduced_shape, list_length};
-ghost use Rattle.reductions.specs.inside.Axes.{IsAxisOf};
+ghost use Rattle.reductions.specs.inside.Axes.{IsAxisOf, AreStarts, IsUnlessMemory};
 
 use elem_descr::Refusal;
 use shape_strides::{Layout, Shape, Strides};
@@ -83,21 +83,40 @@ pub(crate) fn list_length(shape: &Shape, axis: Option<usize>) -> usize
     }
 }
 
+/// A shape without an axis of 1 item or more.
+fn shape_without(alloc: Global, shape: &Shape, axis: usize) -> Result<Shape, Refusal>
+    requires axis { axis < length shape.now }
+    requires some { 1 ≤ slice_index shape.now axis }
+    ensures { IsUnlessMemory (remove shape.now axis) result }
+{
+    let mut lengths = SmallVec::<usize, 8>::from_slice(alloc, shape.as_slice())?;
+    lengths.remove(axis);
+    Shape::try_new(alloc, lengths.as_slice())
+}
+
+/// The strides without the one of an axis.
+fn strides_without(
+    alloc: Global,
+    strides: &[isize],
+    axis: usize,
+) -> Result<Strides, AllocError>
+    requires { axis < length strides.now }
+    ensures { IfOk result (λ s. s ≡ remove strides.now axis) }
+{
+    let mut others = SmallVec::<isize, 8>::from_slice(alloc, strides)?;
+    others.remove(axis);
+    Strides::from_slice(alloc, others.as_slice())
+}
+
 /// The items where the lists along an axis begin: those at 0 on it.
 pub(crate) fn starts_of(alloc: Global, layout: &Layout, axis: usize) -> Result<Layout, Refusal>
     requires axis { axis < length layout.now.shape }
     requires some { 1 ≤ slice_index layout.now.shape axis }
-    ensures shape { IfOk result (λ l. l.shape ≡ remove layout.now.shape axis) }
-    ensures strides { IfOk result (λ l. l.strides ≡ remove layout.now.strides axis) }
-    ensures offset { IfOk result (λ l. l.offset ≡ layout.now.offset) }
+    ensures starts { IfOk result (AreStarts layout.now axis) }
     ensures err { IfErr result (λ refusal. refusal ≡ OutOfMemory) }
 {
-    let mut lengths = SmallVec::<usize, 8>::from_slice(alloc, layout.shape.as_slice())?;
-    lengths.remove(axis);
-    let shape = Shape::try_new(alloc, lengths.as_slice())?;
-    let mut strides = SmallVec::<isize, 8>::from_slice(alloc, layout.strides.as_slice())?;
-    strides.remove(axis);
-    let strides = Strides::from_slice(alloc, strides.as_slice())?;
+    let shape = shape_without(alloc, &layout.shape, axis)?;
+    let strides = strides_without(alloc, layout.strides.as_slice(), axis)?;
     Ok(Layout {
         shape,
         strides,

@@ -7,4 +7,5 @@ mod fills;
 mod folds;
 mod kinds;
 mod lines;
+mod outcomes;
 mod values;
