@@ -2,3 +2,4 @@ mod Vectors
 pub mod LineLaws
 pub mod AxisLaws
 pub mod RunLaws
+pub mod OutcomeLaws

@@ -112,3 +112,12 @@ in_turn P width m n out new kept before here k low =
           let at : m * width + (k - m) * width ≡ k * width = sym (add-mul m (k - m) width) ∙ ap (λ i. i * width) is in
           subst (λ o. P k (item_at o width new)) at (subst (λ i. P i (item_at (m * width + (k - m) * width) width new)) is (here (k - m) (omega (arith, low, late))))
     ]
+
+-- results so far, and one more
+pub one_done : (P : ℕ → List ℕ → Type 0) (width m : ℕ) (out new : List ℕ) → ((o : ℕ) → o + width ≤ m * width → item_at o width new ≡ item_at o width out) →
+    ((k : ℕ) → k < m → P k (item_at (k * width) width out)) → P m (item_at (m * width) width new) → (k : ℕ) → k < m + 1 → P k (item_at (k * width) width new)
+one_done P width m out new kept before here k low =
+    elim (cases_lt k m) as (λ _. P k (item_at (k * width) width new)) [
+      | inl early ↦ subst (P k) (sym (kept (k * width) (before_next k m width early))) (before k early)
+      | inr late ↦ subst (λ n. P n (item_at (n * width) width new)) (omega (arith, low, late)) here
+    ]

@@ -3,9 +3,13 @@
 #![tactic(auto)]
 
 mod axes;
+mod empties;
 mod fills;
 mod folds;
 mod kinds;
 mod lines;
 mod outcomes;
+mod reducing;
 mod values;
+
+pub use reducing::reduce;
