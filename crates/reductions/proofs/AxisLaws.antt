@@ -1,5 +1,5 @@
 -- Lists along an axis, and the items where they begin.
-use Rattle.std.proofs.Common.{◌≡◌, ◌+◌, ◌-◌, ◌*◌, ◌<◌, ◌≤◌, ◌^◌, ℕ, zero, suc, ℤ, pos, ◌+ℤ◌, ◌*ℤ◌, true, Bool, Some, None, List, [], ◌∷◌, ◌++◌, map, take, drop, replicate, length, get_or, All, refl, sym, ap, subst, ◌∙◌, arith, mul_comm, mul_assoc, mul-zero, mul-le-mul_right, nat_le, false, inl, inr, Ok, Err}
+use Rattle.std.proofs.Common.{◌≡◌, ◌+◌, ◌*◌, ◌<◌, ◌≤◌, ℕ, zero, suc, ℤ, pos, ◌+ℤ◌, ◌*ℤ◌, true, Some, List, [], ◌∷◌, map, replicate, length, get_or, All, refl, sym, ap, subst, ◌∙◌, arith, mul_comm, mul_assoc, mul-zero, mul-le-mul_right, nat_le, false, inl, inr, Ok, Err}
 use Rattle.std.specs.Prelude.{◌≤ℤ◌, slice_set, Result, is_ok}
 use Rattle.std.specs.List.{insert, remove, range_with_len, list_all}
 use Rattle.std.proofs.lemmas.Bool.{le-leb}
@@ -21,7 +21,7 @@ use Rattle.shape_strides.specs.Addresses.{dot, natural, address_at, LieWithin}
 use Rattle.shape_strides.specs.Indexes.{count, indexes, rank, IsIndex}
 use Rattle.shape_strides.specs.IndexLaws.{length-indexes, length-index, rank-lt, get_or-indexes, index_at}
 use Rattle.shape_strides.specs.Layouts.{address, offsets}
-use Rattle.shape_strides.specs.LayoutLaws.{length-offsets, get_or-offsets, pos-offset, pos-natural}
+use Rattle.shape_strides.specs.LayoutLaws.{length-offsets, pos-offset}
 use Rattle.shape_strides.specs.Limits.{max_axes, max_items, max_bytes}
 use Rattle.shape_strides.specs.Runs.{run_along, run_offsets}
 use Rattle.reductions.specs.Lists.{lists}
@@ -212,14 +212,16 @@ module _ (l : Layout) (a : ℕ) (starts : Layout) (low : a < length l.shape) (ar
       let others = remove l.shape a in
       let small : r < count others = omega (arith, below, length-offsets starts, ap count are.shape) in
       let found = index_at others r small in
-      subst (λ k. EachWithin len (get_or (offsets starts) k 0) axis_at.stride width n) found.2 (record { each = λ k low'.
-          let o = get_or (offsets starts) (rank others found.0) 0 in
-          let at = get_or (offsets l) (rank l.shape (insert found.0 a k)) 0 in
-          let ends : at + width ≤ len = inside (rank l.shape (insert found.0 a k)) 0 (omega (arith, length-offsets l, rank-lt l.shape (insert found.0 a k) (IsIndex-insert l.shape found.0 a k low found.1 low'))) in
-          let is : position o axis_at.stride k ≡ pos at = ap (λ z. pos o +ℤ z) (*ℤ_comm (pos k) axis_at.stride) ∙ sym (lies found.0 k found.1 low') in (
-            subst (λ z. pos 0 ≤ℤ z) (sym is) (omega (arith, ints)),
-            subst (λ z. (z +ℤ pos width) ≤ℤ pos len) (sym is) (omega (arith, ints, ends)),
-          ) }))
+      subst (λ k. EachWithin len (get_or (offsets starts) k 0) axis_at.stride width n) found.2 (record {
+        each = λ k low'.
+            let o = get_or (offsets starts) (rank others found.0) 0 in
+            let at = get_or (offsets l) (rank l.shape (insert found.0 a k)) 0 in
+            let ends : at + width ≤ len = inside (rank l.shape (insert found.0 a k)) 0 (omega (arith, length-offsets l, rank-lt l.shape (insert found.0 a k) (IsIndex-insert l.shape found.0 a k low found.1 low'))) in
+            let is : position o axis_at.stride k ≡ pos at = ap (λ z. pos o +ℤ z) (*ℤ_comm (pos k) axis_at.stride) ∙ sym (lies found.0 k found.1 low') in (
+              subst (λ z. pos 0 ≤ℤ z) (sym is) (omega (arith, ints)),
+              subst (λ z. (z +ℤ pos width) ≤ℤ pos len) (sym is) (omega (arith, ints, ends)),
+            );
+      }))
 
   -- and each begins within them
   pub starts_within : (len width : ℕ) → 0 < n → All (λ offset. offset + width ≤ len) (offsets l) → All (λ offset. offset + width ≤ len) (offsets starts)

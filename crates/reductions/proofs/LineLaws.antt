@@ -1,6 +1,6 @@
 -- Runs that a reduction goes over, item by item.
-use Rattle.std.proofs.Common.{◌≡◌, ◌+◌, ◌-◌, ◌*◌, ◌≤◌, ◌<◌, ℕ, zero, suc, List, [], ◌∷◌, ◌++◌, map, length, refl, sym, ap, subst, ◌∙◌, arith, add-one, append_assoc, take, drop, ◌⊎◌, inl, inr, suc-mul, add-mul, mul-le-mul_right, get_or, get_or-append-add, length-take, length-append}
-use Rattle.std.specs.Prelude.{ℤ, pos, ◌+ℤ◌, ◌*ℤ◌}
+use Rattle.std.proofs.Common.{◌≡◌, ◌+◌, ◌-◌, ◌*◌, ◌≤◌, ◌<◌, ℕ, suc, List, [], ◌∷◌, ◌++◌, map, length, sym, ap, subst, ◌∙◌, arith, add-one, append_assoc, take, drop, ◌⊎◌, inl, inr, suc-mul, add-mul, mul-le-mul_right, get_or, get_or-append-add, length-take, length-append}
+use Rattle.std.specs.Prelude.{ℤ, pos, ◌+ℤ◌}
 use Rattle.std.proofs.lemmas.Int.{ints}
 use Rattle.std.proofs.lemmas.List.{map-append, length-map, drop-drop, get_or-take, get_or-drop, ext_get_or, get_or_append_left}
 use Rattle.std.proofs.lemmas.Bool.{cases_lt}
@@ -9,11 +9,11 @@ use Rattle.elem_descr.specs.declared.scalar.Scalar.{Scalar}
 use Rattle.elem_descr.specs.Steps.{numbers_from}
 use Rattle.elem_descr.specs.StepLaws.{numbers-suc}
 use Rattle.shape_strides.specs.Addresses.{natural}
-use Rattle.raw_block.specs.Bytes.{position, place, item_at, EachWithin}
+use Rattle.raw_block.specs.Bytes.{place, item_at, EachWithin}
 use Rattle.raw_block.specs.BytesLaws.{item_at-put_apart, length-item_at}
 use Rattle.shape_strides.specs.declared.runs.Run.{Run}
 use Rattle.shape_strides.specs.Runs.{run_offsets}
-use Rattle.overlap_copy.specs.RunLaws.{fewer, run_offsets-more, length-run_offsets}
+use Rattle.overlap_copy.specs.RunLaws.{run_offsets-more, length-run_offsets}
 use Rattle.reductions.specs.inside.Numbers.{number_at, numbers_at}
 
 -- a run begins within the bytes

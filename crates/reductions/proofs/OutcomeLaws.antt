@@ -1,5 +1,5 @@
 -- What is refused, and what a result is.
-use Rattle.std.proofs.Common.{◌≡◌, ◌+◌, ◌*◌, ◌<◌, ◌≤◌, ℕ, zero, suc, ℤ, pos, true, false, Bool, Option, Some, None, List, [], ◌∷◌, map, take, drop, length, get_or, Ok, Err, refl, sym, ap, subst, ◌∙◌, arith, zero-mul, mul_comm, mul-one, one-mul}
+use Rattle.std.proofs.Common.{◌≡◌, ◌*◌, ◌<◌, ◌≤◌, ℕ, zero, suc, ℤ, true, false, Bool, Option, Some, None, List, [], ◌∷◌, map, drop, length, get_or, Ok, Err, refl, sym, ap, ◌∙◌, arith, zero-mul, mul_comm, one-mul}
 use Rattle.std.proofs.lemmas.Bool.{ne_eqb}
 use Rattle.std.specs.Prelude.{nat_eq, Result, ◌&&◌, not, ◌==◌, slice_set, is_ok}
 use Rattle.std.specs.List.{range_with_len, insert, remove}
@@ -18,7 +18,7 @@ use Rattle.elem_descr.specs.RefusalLaws.{check_passed}
 use Rattle.shape_strides.specs.ShapeLaws.{shape_of-same}
 use Rattle.script_lang.specs.declared.operation.Reduction.TheVariants.{Sum, Product, Minimum, Maximum, Any, All, ArgMin, ArgMax}
 use Rattle.reductions.specs.inside.FoldLaws.{wide_size, little_size}
-use Rattle.elem_descr.specs.Values.{LeafValue, number}
+use Rattle.elem_descr.specs.Values.{number}
 use Rattle.elem_descr.specs.Blocks.{item_from}
 use Rattle.raw_block.specs.Bytes.{item_at}
 use Rattle.shape_strides.specs.declared.layout.Layout.{Layout}
@@ -32,8 +32,8 @@ use Rattle.reductions.specs.Lists.{lists, reduced_shape, list_length, named_axis
 use Rattle.reductions.specs.Outcomes.{needs_items, has_empty_list, number_scalar, outcome, Outcome}
 use Rattle.reductions.specs.Reductions.{result_scalar, reduced, reduced_item, reduced_items, item_number}
 use Rattle.reductions.specs.inside.Axes.{IsAxisOf, shape_after}
-use Rattle.reductions.specs.inside.Numbers.{number_at, numbers_at, IsReduced, AreReduced}
-use Rattle.reductions.proofs.AxisLaws.{count-remove, put_back}
+use Rattle.reductions.specs.inside.Numbers.{number_at, numbers_at, AreReduced}
+use Rattle.reductions.proofs.AxisLaws.{count-remove}
 
 -- ---- lengths
 
@@ -156,12 +156,12 @@ items_are reduction scalar to block out ls n is many are =
     get_or-map f (multiples (size to) n) k 0 d (omega (arith, low, long))
     ∙ ap f (get_or-map-range_with_len at 0 n k k 0 low (omega arith))
     ∙ ap (λ value. value ∷ []) (
-      ap (decode to) (take-take (size to) (size to) (drop (size to * k) out) (omega arith))
-      ∙ ap (λ o. decode to (item_at o (size to) out)) (mul_comm (size to) k)
-      ∙ ap (λ s. decode s (item_at (k * size to) (size to) out)) is
-      ∙ are k (omega (arith, low, many))
-      ∙ ap (λ s. number (reduced reduction s (numbers_at scalar block list))) (sym is)
-      ∙ ap (λ numbers. number (reduced reduction to numbers)) (sym (numbers_are scalar block list))
+    ap (decode to) (take-take (size to) (size to) (drop (size to * k) out) (omega arith))
+    ∙ ap (λ o. decode to (item_at o (size to) out)) (mul_comm (size to) k)
+    ∙ ap (λ s. decode s (item_at (k * size to) (size to) out)) is
+    ∙ are k (omega (arith, low, many))
+    ∙ ap (λ s. number (reduced reduction s (numbers_at scalar block list))) (sym is)
+    ∙ ap (λ numbers. number (reduced reduction to numbers)) (sym (numbers_are scalar block list))
     )
     ∙ sym (get_or-map g ls k [] d (omega (arith, low, many))))
 

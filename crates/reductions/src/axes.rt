@@ -95,11 +95,7 @@ fn shape_without(alloc: Global, shape: &Shape, axis: usize) -> Result<Shape, Ref
 }
 
 /// The strides without the one of an axis.
-fn strides_without(
-    alloc: Global,
-    strides: &[isize],
-    axis: usize,
-) -> Result<Strides, AllocError>
+fn strides_without(alloc: Global, strides: &[isize], axis: usize) -> Result<Strides, AllocError>
     requires { axis < length strides.now }
     ensures { IfOk result (λ s. s ≡ remove strides.now axis) }
 {

@@ -147,9 +147,7 @@ pub(crate) fn reduce_scalars(
             signed,
             width,
             order,
-        } => reduce_integers(
-            *signed, *width, *order, reduction, out, starts, axis, bytes,
-        ),
+        } => reduce_integers(*signed, *width, *order, reduction, out, starts, axis, bytes),
         Scalar::Bytes(_) => unreachable!(),
     }
 }

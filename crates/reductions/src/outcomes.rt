@@ -95,12 +95,7 @@ fn have_items(lengths: &[usize]) -> bool
 }
 
 /// Whether some item of the result would be made of no items, though a reduction needs some.
-fn lacks_items(
-    reduction: Reduction,
-    shape: &Shape,
-    axis: Option<usize>,
-    lengths: &[usize],
-) -> bool
+fn lacks_items(reduction: Reduction, shape: &Shape, axis: Option<usize>, lengths: &[usize]) -> bool
     requires { IsAxisOf (length shape.now) axis }
     ensures { result ≡ (needs_items reduction && has_empty_list shape.now axis lengths.now) }
 {

@@ -1,8 +1,7 @@
 -- Reductions that are made number by number.
-use Rattle.std.proofs.Common.{◌≡◌, ◌+◌, ◌*◌, ◌%◌, ◌<◌, ◌≤◌, ◌^◌, ◌⊎◌, inl, inr, ℕ, zero, suc, ℤ, pos, ◌+ℤ◌, ◌*ℤ◌, true, false, cond, Bool, List, [], ◌∷◌, ◌++◌, All, length, refl, sym, ap, subst, ◌∙◌, arith}
-use Rattle.std.specs.Prelude.{◌<ℤ◌, ◌≤ℤ◌, int_lt, if◌then◌else◌}
+use Rattle.std.proofs.Common.{◌≡◌, ◌+◌, ◌*◌, ◌%◌, ◌<◌, ◌≤◌, ◌^◌, ℕ, suc, ℤ, pos, ◌+ℤ◌, ◌*ℤ◌, true, false, cond, Bool, List, [], ◌∷◌, length, refl, sym, ap, ◌∙◌, arith}
 use Rattle.std.specs.Int.{int_wrap, cast_signed, cast_unsigned, int_min, int_max}
-use Rattle.std.specs.List.{fold, Contains}
+use Rattle.std.specs.List.{fold}
 use Rattle.std.specs.Ordering.{int_eq}
 use Rattle.std.proofs.lemmas.Int.{ints, clamps, of_z-to_z, int_wrap-add_left, int_wrap-add_right, int_wrap-mul_left, int_wrap-mul_right, wrapping_add-bits, wrapping_mul-bits}
 use Rattle.std.proofs.Math.Nat.{mod-lt}
@@ -19,7 +18,7 @@ use Rattle.elem_descr.specs.declared.scalar.Scalar.TheVariants.{Bool as BoolScal
 use Rattle.elem_descr.specs.Values.{number}
 use Rattle.elem_descr.specs.Encoding.{size, decode, number_of, number_in, integer, low_bits, wrap}
 use Rattle.elem_descr.specs.EncodingLaws.{low_bits-lt}
-use Rattle.script_lang.specs.declared.operation.Reduction.TheVariants.{Sum, Product, Minimum, Maximum, Any, All as AllTrue, ArgMin, ArgMax}
+use Rattle.script_lang.specs.declared.operation.Reduction.TheVariants.{Sum, Product}
 use Rattle.reductions.specs.Reductions.{wide, little, sum_of, product_of, least, greatest, first_place, is_true}
 use Rattle.reductions.specs.inside.Numbers.{IsReduced}
 

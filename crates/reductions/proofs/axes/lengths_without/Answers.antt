@@ -1,4 +1,4 @@
-use Rattle.std.proofs.Common.{◌≡◌, Some, true, sym, ap, ◌∙◌}
+use Rattle.std.proofs.Common.{Some, sym, ap, ◌∙◌}
 use Rattle.std.specs.List.{insert, remove}
 use Rattle.reductions.specs.Lists.{reduced_shape}
 use Rattle.reductions.proofs.AxisLaws.{put_back}

@@ -1,7 +1,5 @@
 use Rattle.std.proofs.Common.{◌≡◌, ◌*◌, ◌<◌, ◌^◌, zero, suc, length, sym, ap, subst, ◌∙◌, arith, zero-mul}
 use Rattle.std.proofs.lemmas.List.{length-map}
-use Rattle.elem_descr.specs.declared.scalar.Order.TheVariants.{Little}
-use Rattle.elem_descr.specs.Encoding.{decode}
 use Rattle.elem_descr.specs.Values.{number}
 use Rattle.raw_block.specs.Bytes.{item_at}
 use Rattle.shape_strides.specs.Layouts.{offsets}

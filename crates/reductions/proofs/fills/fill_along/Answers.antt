@@ -4,7 +4,6 @@ use Rattle.raw_block.specs.Bytes.{EachWithin}
 use Rattle.overlap_copy.specs.RunLaws.{runs-within}
 use Rattle.shape_strides.specs.Indexes.{count}
 use Rattle.shape_strides.specs.Limits.{max_bytes}
-use Rattle.shape_strides.specs.Layouts.{offsets}
 use Rattle.shape_strides.specs.LayoutLaws.{length-offsets}
 use Rattle.shape_strides.specs.Runs.{run_offsets, runs}
 use Rattle.reductions.proofs.fills.fill_along.Goals as goal

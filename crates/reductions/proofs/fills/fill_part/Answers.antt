@@ -1,4 +1,4 @@
-use Rattle.std.proofs.Common.{◌≡◌, ◌*◌, subst, sym, arith}
+use Rattle.std.proofs.Common.{◌*◌, subst, sym, arith}
 use Rattle.shape_strides.specs.Runs.{run_along, run_offsets}
 use Rattle.raw_block.specs.Bytes.{place}
 use Rattle.reductions.specs.inside.Numbers.{numbers_at, IsReduced}

@@ -1,10 +1,10 @@
-use Rattle.std.proofs.Common.{◌≡◌, ◌+◌, ◌*◌, ◌<◌, ◌≤◌, ℕ, List, All, length, get_or, sym, ap, subst, ◌∙◌, arith, mul-le-mul_right, add-mul}
+use Rattle.std.proofs.Common.{◌≡◌, ◌+◌, ◌*◌, ℕ, All, length, get_or, sym, ap, subst, ◌∙◌, arith}
 use Rattle.std.proofs.lemmas.List.Elements.{All-head, All-rest}
 use Rattle.raw_block.specs.Bytes.{place, item_at, EachWithin}
 use Rattle.shape_strides.specs.Runs.{run_along, run_offsets}
 use Rattle.reductions.specs.inside.Numbers.{numbers_at, IsReduced}
 use Rattle.reductions.proofs.LineLaws.{in_turn}
-use Rattle.reductions.proofs.RunLaws.{all_of, AreLeft, room_for, run_fits, entry, after}
+use Rattle.reductions.proofs.RunLaws.{all_of, room_for, run_fits, entry, after}
 use Rattle.reductions.proofs.fills.fill_runs.Goals as goal
 
 pub overflow_mul-run : goal.overflow_mul-run
@@ -65,5 +65,5 @@ loop-run-preserved g c =
           (λ o low. c.fill_part.ensures.before o (omega (arith, low, at)))
           c.loop-run.invariant.items
           (λ j low. subst (λ o. IsReduced g.F.Fold.reduction scalar (numbers o) (item_at (done * size + j * size) size new)) (sym (entry all done run c.next.new.self c.loop-run.run-iterator left steps len width j within low))
-              (subst (λ o. IsReduced g.F.Fold.reduction scalar (numbers (place run.offset run.step j)) (item_at (o + j * size) size new)) at (c.fill_part.ensures.items j low)));
+          (subst (λ o. IsReduced g.F.Fold.reduction scalar (numbers (place run.offset run.step j)) (item_at (o + j * size) size new)) at (c.fill_part.ensures.items j low)));
     }

@@ -1,4 +1,4 @@
-use Rattle.std.proofs.Common.{◌≡◌, ◌+◌, ◌*◌, ◌<◌, ℕ, All, length, get_or}
+use Rattle.std.proofs.Common.{◌≡◌, ◌*◌, ◌<◌, ℕ, All, length, get_or}
 use Rattle.raw_block.specs.Bytes.{item_at, EachWithin}
 use Rattle.shape_strides.specs.Runs.{run_along, run_offsets}
 use Rattle.reductions.specs.inside.Numbers.{numbers_at, IsReduced}

@@ -1,4 +1,4 @@
-use Rattle.std.proofs.Common.{◌≡◌, ◌+◌, ◌<◌, ◌≤◌, ℤ, List, ◌∷◌, All, length, drop, get_or, sym, ap, subst, ◌∙◌, arith}
+use Rattle.std.proofs.Common.{◌≡◌, ◌+◌, ◌≤◌, ℤ, List, ◌∷◌, All, length, drop, sym, ap, subst, ◌∙◌, arith}
 use Rattle.std.specs.List.{flat_map}
 use Rattle.raw_block.specs.Bytes.{EachWithin}
 use Rattle.overlap_copy.specs.RunLaws.{runs-within}
@@ -38,8 +38,8 @@ returns g c =
     let first = g.S.Number.value c.number_at-first.result in
     let rest = numbers_at scalar bytes (drop 1 (offsets l)) in
     let all : numbers_at scalar bytes (offsets l) ≡ first ∷ rest =
-        ap (numbers_at scalar bytes) (headed (offsets l) (omega (arith, length-offsets l, c.requires.some)))
-        ∙ ap (λ z. z ∷ rest) (ap (number_at scalar bytes) (entry-first l c.requires.some) ∙ sym c.number_at-first.ensures) in
+    ap (numbers_at scalar bytes) (headed (offsets l) (omega (arith, length-offsets l, c.requires.some)))
+    ∙ ap (λ z. z ∷ rest) (ap (number_at scalar bytes) (entry-first l c.requires.some) ∙ sym c.number_at-first.ensures) in
     let gone : flat_map run_offsets c.new.result ≡ offsets l = ap (flat_map run_offsets) c.new.ensures.runs ∙ c.new.ensures.offsets in
     c.finish.ensures first rest (subst (λ (numbers : List ℤ). g.F.Fold.holds c.fold_runs-held.result first numbers) (ap (numbers_at scalar bytes) gone ∙ all) (c.fold_runs-held.ensures first c.start.ensures))
     ∙ ap g.F.Fold.meaning (sym all)

@@ -1,10 +1,10 @@
-use Rattle.std.proofs.Common.{◌≡◌, ◌+◌, ◌<◌, ◌≤◌, ◌++◌, ℕ, List, [], All, length, map, take, sym, ap, subst, ◌∙◌, arith, length-take}
+use Rattle.std.proofs.Common.{◌≡◌, ◌+◌, ◌++◌, length, take, sym, ap, subst, ◌∙◌, arith, length-take}
 use Rattle.std.proofs.lemmas.List.{map-append, length-map}
-use Rattle.std.proofs.lemmas.List.Elements.{All-head, All-rest}
+use Rattle.std.proofs.lemmas.List.Elements.{All-rest}
 use Rattle.raw_block.specs.Bytes.{EachWithin}
 use Rattle.shape_strides.specs.Runs.{run_offsets}
 use Rattle.reductions.specs.inside.Numbers.{number_at, numbers_at}
-use Rattle.reductions.proofs.RunLaws.{all_of, AreLeft, run_fits, taken_more, after, start, ended}
+use Rattle.reductions.proofs.RunLaws.{all_of, run_fits, taken_more, after}
 use Rattle.reductions.proofs.fills.fold_runs.Goals as goal
 
 pub fold_run-held-requires-clause-few : goal.fold_run-held-requires-clause-few
@@ -24,7 +24,7 @@ loop-run-preserved g c =
     let before = numbers_at scalar bytes (take seen all) in
     let long : seen ≡ length before = omega (arith, length-map (take seen all) (number_at scalar bytes), length-take seen all, fits) in
     let more : before ++ numbers_at scalar bytes (run_offsets run) ≡ numbers_at scalar bytes (take (seen + run.count) all) =
-        sym (ap (numbers_at scalar bytes) (taken_more all seen run c.next.new.self c.loop-run.run-iterator left steps) ∙ map-append (number_at scalar bytes) (take seen all) (run_offsets run)) in
+    sym (ap (numbers_at scalar bytes) (taken_more all seen run c.next.new.self c.loop-run.run-iterator left steps) ∙ map-append (number_at scalar bytes) (take seen all) (run_offsets run)) in
     record {
       left = after all seen run c.next.new.self c.loop-run.run-iterator left steps;
       within = All-rest (λ run. EachWithin (length bytes) run.offset run.step g.S.Number.WIDTH run.count) _ _ _ steps c.loop-run.invariant.within;

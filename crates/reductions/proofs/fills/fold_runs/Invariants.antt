@@ -1,4 +1,4 @@
-use Rattle.std.proofs.Common.{◌≡◌, ◌+◌, ◌<◌, ℕ, ℤ, [], All, length, take}
+use Rattle.std.proofs.Common.{ℤ, [], All, length, take}
 use Rattle.raw_block.specs.Bytes.{EachWithin}
 use Rattle.reductions.specs.inside.Numbers.{numbers_at}
 use Rattle.reductions.proofs.RunLaws.{all_of, AreLeft}

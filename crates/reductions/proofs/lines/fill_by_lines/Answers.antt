@@ -19,12 +19,12 @@ loop-j-preserved g c =
     let at : j * c.WIDTH.result ≡ j * width = ap (λ w. j * w) c.WIDTH.ensures in
     let few : length (numbers_at scalar bytes (run_offsets (line j))) < 2 ^ 63 = omega (arith, c.requires.few.0, length-numbers scalar bytes (line j)) in
     let is : decode (g.F.Total.Number.scalar Little) (item_at (j * width) width c.store_at.new.row) ≡ number (g.F.Fold.meaning (numbers_at scalar bytes (run_offsets (line j)))) =
-        ap (λ o. decode (g.F.Total.Number.scalar Little) (item_at o width c.store_at.new.row)) (sym at)
-        ∙ c.store_at.ensures.value
-        ∙ ap number c.fold_line-total.ensures
-        ∙ ap (λ run. number (g.F.Fold.meaning (numbers_at scalar bytes (run_offsets run)))) (c.line_along.ensures ∙ ap (run_along c.args.axis) c.place.ensures) in
+    ap (λ o. decode (g.F.Total.Number.scalar Little) (item_at o width c.store_at.new.row)) (sym at)
+    ∙ c.store_at.ensures.value
+    ∙ ap number c.fold_line-total.ensures
+    ∙ ap (λ run. number (g.F.Fold.meaning (numbers_at scalar bytes (run_offsets run)))) (c.line_along.ensures ∙ ap (run_along c.args.axis) c.place.ensures) in
     let here : IsReduced g.F.Fold.reduction scalar (numbers_at scalar bytes (run_offsets (line j))) (item_at (j * width) width c.store_at.new.row) =
-        g.met.F.Fold.gives g.O.Ordered.order (item_at (j * width) width c.store_at.new.row) (numbers_at scalar bytes (run_offsets (line j))) few is in
+    g.met.F.Fold.gives g.O.Ordered.order (item_at (j * width) width c.store_at.new.row) (numbers_at scalar bytes (run_offsets (line j))) few is in
     record {
       len = c.store_at.ensures.len ∙ c.loop-j.invariant.len;
       done = λ k low. elim (cases_lt k j) as (λ _. IsReduced g.F.Fold.reduction scalar (numbers_at scalar bytes (run_offsets (line k))) (item_at (k * width) width c.store_at.new.row)) [

@@ -1,4 +1,4 @@
-use Rattle.std.proofs.Common.{◌≡◌, ◌+◌, ℤ, List, ◌++◌, length, sym, subst, arith, append-nil, length-append}
+use Rattle.std.proofs.Common.{ℤ, List, ◌++◌, length, sym, subst, arith, append-nil, length-append}
 use Rattle.overlap_copy.specs.RunLaws.{place-within}
 use Rattle.shape_strides.specs.Runs.{run_offsets}
 use Rattle.reductions.specs.inside.Numbers.{numbers_at}

@@ -1,4 +1,4 @@
-use Rattle.std.proofs.Common.{◌≡◌, ℕ, ℤ, List, ◌++◌, length}
+use Rattle.std.proofs.Common.{◌≡◌, ℤ, List, ◌++◌, length}
 use Rattle.shape_strides.specs.Runs.{run_offsets}
 use Rattle.reductions.specs.inside.Numbers.{numbers_at}
 use Rattle.reductions.proofs.LineLaws.{front}

@@ -1,9 +1,9 @@
-use Rattle.std.proofs.Common.{◌≡◌, ◌-◌, suc, ℤ, List, [], ◌∷◌, pos, refl, sym, ap, subst, ◌∙◌, arith, map}
+use Rattle.std.proofs.Common.{◌≡◌, ◌-◌, ℤ, List, [], ◌∷◌, pos, refl, sym, ap, subst, ◌∙◌, arith, map}
 use Rattle.std.specs.Prelude.{◌+ℤ◌}
 use Rattle.elem_descr.specs.Steps.{numbers_from}
 use Rattle.shape_strides.specs.Addresses.{natural}
 use Rattle.shape_strides.specs.Runs.{run_offsets}
-use Rattle.reductions.specs.inside.Numbers.{number_at, numbers_at}
+use Rattle.reductions.specs.inside.Numbers.{numbers_at}
 use Rattle.reductions.proofs.LineLaws.{numbers-first}
 use Rattle.reductions.proofs.lines.fold_line.Goals as goal
 

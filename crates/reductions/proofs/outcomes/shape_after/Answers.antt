@@ -1,4 +1,4 @@
-use Rattle.std.proofs.Common.{◌≡◌, List, ℕ, inr, sym, ap, subst, ◌∙◌}
+use Rattle.std.proofs.Common.{inr, sym, ap, subst, ◌∙◌}
 use Rattle.std.specs.Prelude.{◌&&◌}
 use Rattle.elem_descr.specs.Refusals.{Gives}
 use Rattle.shape_strides.specs.Shapes.{shape_of}

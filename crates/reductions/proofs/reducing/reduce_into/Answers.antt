@@ -1,4 +1,4 @@
-use Rattle.std.proofs.Common.{◌≡◌, ◌*◌, sym, subst, ◌∙◌, arith}
+use Rattle.std.proofs.Common.{◌*◌, sym, subst, ◌∙◌, arith}
 use Rattle.elem_descr.specs.Encoding.{size}
 use Rattle.raw_block.specs.Bytes.{item_at}
 use Rattle.reductions.specs.Reductions.{result_scalar}

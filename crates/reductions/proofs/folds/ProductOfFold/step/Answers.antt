@@ -1,4 +1,4 @@
-use Rattle.std.proofs.Common.{◌≡◌, ◌*◌, ◌%◌, ◌^◌, ℕ, ℤ, ◌*ℤ◌, ◌++◌, [], ◌∷◌, List, pos, sym, ap, ◌∙◌}
+use Rattle.std.proofs.Common.{◌*◌, ◌%◌, ◌^◌, ◌*ℤ◌, [], ◌∷◌, pos, sym, ap, ◌∙◌}
 use Rattle.std.proofs.lemmas.List.Sums.{fold-append}
 use Rattle.elem_descr.specs.Encoding.{low_bits}
 use Rattle.reductions.specs.Reductions.{product_of}
