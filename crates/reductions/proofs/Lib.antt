@@ -3,3 +3,4 @@ pub mod LineLaws
 pub mod AxisLaws
 pub mod RunLaws
 pub mod OutcomeLaws
+pub mod RowLaws

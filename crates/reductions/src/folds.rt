@@ -1,5 +1,5 @@
 //! Reductions that go over numbers one by one.
-ghost use Rattle.std.specs.Prelude.{◌≡◌, ◌+◌, ◌<◌, ◌^◌, ℕ, ℤ, pos, true, false, [], ◌∷◌, ◌++◌, List, length, if◌then◌else◌, refl};
+ghost use Rattle.std.specs.Prelude.{◌≡◌, ◌+◌, ◌<◌, ◌^◌, ℕ, ℤ, pos, Bool, true, false, [], ◌∷◌, ◌++◌, List, length, if◌then◌else◌, refl};
 ghost use Rattle.std.specs.Int.{int_min, int_max};
 ghost use Rattle.std.specs.List.{fold, list_any, list_all};
 ghost use Rattle.elem_descr.specs.declared.scalar.Order.{Order};
@@ -32,6 +32,11 @@ pub(crate) trait Fold<S: Value> {
 
     ghost meaning: { List ℤ → ℤ };
 
+    /// Whether what is held is known from what came of the numbers so far.
+    const RESUMES: bool;
+
+    ghost RESUMES: { Bool };
+
     fn start(first: S) -> Self::Held
         ensures { holds result (S.value first) [] };
 
@@ -41,6 +46,11 @@ pub(crate) trait Fold<S: Value> {
 
     fn finish(held: Self::Held) -> Self::Total
         ensures { (first : ℤ) (rest : List ℤ) → holds held first (first ∷ rest) → Self.Total.value result ≡ meaning (first ∷ rest) };
+
+    /// What is held once this came of the numbers so far.
+    fn resume(total: Self::Total) -> Self::Held
+        requires { RESUMES ≡ true }
+        ensures { (first : ℤ) (rest : List ℤ) → Self.Total.value total ≡ meaning (first ∷ rest) → holds result first (first ∷ rest) };
 
     ghost gives: { (order : Order) (bytes : List ℕ) (numbers : List ℤ) → length numbers < 2 ^ 63
         → decode (Self.Total.scalar Little) bytes ≡ number (meaning numbers) → IsReduced reduction (S.scalar order) numbers bytes };
@@ -61,6 +71,10 @@ impl<S: Value> Fold<S> for SumOf {
 
     ghost meaning = { λ numbers. pos (low_bits 8 (sum_of numbers)) };
 
+    const RESUMES: bool = true;
+
+    ghost RESUMES = { true };
+
     ghost gives = { λ order bytes numbers few is. sum_is (S.scalar order) bytes numbers is };
 
     ghost has_size = { λ order. wide_size (S.scalar order) };
@@ -75,6 +89,10 @@ impl<S: Value> Fold<S> for SumOf {
 
     fn finish(held: u64) -> u64 {
         held
+    }
+
+    fn resume(total: u64) -> u64 {
+        total
     }
 }
 
@@ -91,6 +109,10 @@ impl<S: Value> Fold<S> for ProductOf {
 
     ghost meaning = { λ numbers. pos (low_bits 8 (product_of numbers)) };
 
+    const RESUMES: bool = true;
+
+    ghost RESUMES = { true };
+
     ghost gives = { λ order bytes numbers few is. product_is (S.scalar order) bytes numbers is };
 
     ghost has_size = { λ order. wide_size (S.scalar order) };
@@ -105,6 +127,10 @@ impl<S: Value> Fold<S> for ProductOf {
 
     fn finish(held: u64) -> u64 {
         held
+    }
+
+    fn resume(total: u64) -> u64 {
+        total
     }
 }
 
@@ -121,6 +147,10 @@ impl<S: Value> Fold<S> for Least {
 
     ghost meaning = { least };
 
+    const RESUMES: bool = true;
+
+    ghost RESUMES = { true };
+
     ghost gives = { λ order bytes numbers few is. kept_is (S.scalar order) (S.scalar Little) bytes (least numbers) (S.is_little order) is };
 
     ghost has_size = { λ order. kept_size (S.scalar order) S.WIDTH (S.has_width order) };
@@ -135,6 +165,10 @@ impl<S: Value> Fold<S> for Least {
 
     fn finish(held: S) -> S {
         held
+    }
+
+    fn resume(total: S) -> S {
+        total
     }
 }
 
@@ -151,6 +185,10 @@ impl<S: Value> Fold<S> for Greatest {
 
     ghost meaning = { greatest };
 
+    const RESUMES: bool = true;
+
+    ghost RESUMES = { true };
+
     ghost gives = { λ order bytes numbers few is. kept_is (S.scalar order) (S.scalar Little) bytes (greatest numbers) (S.is_little order) is };
 
     ghost has_size = { λ order. kept_size (S.scalar order) S.WIDTH (S.has_width order) };
@@ -165,6 +203,10 @@ impl<S: Value> Fold<S> for Greatest {
 
     fn finish(held: S) -> S {
         held
+    }
+
+    fn resume(total: S) -> S {
+        total
     }
 }
 
@@ -181,6 +223,10 @@ impl<S: Value> Fold<S> for AnyTrue {
 
     ghost meaning = { λ numbers. if list_any is_true numbers then pos 1 else pos 0 };
 
+    const RESUMES: bool = true;
+
+    ghost RESUMES = { true };
+
     ghost gives = { λ order bytes numbers few is. is };
 
     ghost has_size = { λ order. refl };
@@ -195,6 +241,10 @@ impl<S: Value> Fold<S> for AnyTrue {
 
     fn finish(held: bool) -> bool {
         held
+    }
+
+    fn resume(total: bool) -> bool {
+        total
     }
 }
 
@@ -211,6 +261,10 @@ impl<S: Value> Fold<S> for AllTrue {
 
     ghost meaning = { λ numbers. if list_all is_true numbers then pos 1 else pos 0 };
 
+    const RESUMES: bool = true;
+
+    ghost RESUMES = { true };
+
     ghost gives = { λ order bytes numbers few is. is };
 
     ghost has_size = { λ order. refl };
@@ -225,6 +279,10 @@ impl<S: Value> Fold<S> for AllTrue {
 
     fn finish(held: bool) -> bool {
         held
+    }
+
+    fn resume(total: bool) -> bool {
+        total
     }
 }
 
@@ -248,6 +306,10 @@ impl<S: Value> Fold<S> for PlaceOfLeast {
 
     ghost meaning = { λ numbers. pos (first_place (least numbers) numbers) };
 
+    const RESUMES: bool = false;
+
+    ghost RESUMES = { false };
+
     ghost gives = { λ order bytes numbers few is. place_is bytes (first_place (least numbers) numbers) (first_place-lt (least numbers) numbers few) is };
 
     ghost has_size = { λ order. refl };
@@ -269,6 +331,10 @@ impl<S: Value> Fold<S> for PlaceOfLeast {
     fn finish(held: Found<S>) -> u64 {
         held.place as u64
     }
+
+    fn resume(total: u64) -> Found<S> {
+        unreachable!()
+    }
 }
 
 pub(crate) struct PlaceOfGreatest;
@@ -283,6 +349,10 @@ impl<S: Value> Fold<S> for PlaceOfGreatest {
     ghost holds = { λ held first seen. HasFound int_max (S.value held.best) held.place first seen };
 
     ghost meaning = { λ numbers. pos (first_place (greatest numbers) numbers) };
+
+    const RESUMES: bool = false;
+
+    ghost RESUMES = { false };
 
     ghost gives = { λ order bytes numbers few is. place_is bytes (first_place (greatest numbers) numbers) (first_place-lt (greatest numbers) numbers few) is };
 
@@ -304,5 +374,9 @@ impl<S: Value> Fold<S> for PlaceOfGreatest {
 
     fn finish(held: Found<S>) -> u64 {
         held.place as u64
+    }
+
+    fn resume(total: u64) -> Found<S> {
+        unreachable!()
     }
 }

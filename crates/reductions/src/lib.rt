@@ -10,6 +10,7 @@ mod kinds;
 mod lines;
 mod outcomes;
 mod reducing;
+mod rows;
 mod values;
 
 pub use reducing::reduce;

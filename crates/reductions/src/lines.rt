@@ -78,7 +78,7 @@ fn fold_line<S: Value, O: Ordered, F: Fold<S>>(bytes: &[u8], line: Run) -> F::To
 
 /// The items that an axis leads to from an offset on.
 #[inline(always)]
-fn line_along(axis: StridedAxis, offset: usize) -> Run
+pub(crate) fn line_along(axis: StridedAxis, offset: usize) -> Run
     ensures { result ≡ run_along axis offset }
 {
     Run {
