@@ -1,5 +1,5 @@
 -- Items at steps along two axes.
-use Rattle.std.proofs.Common.{◌≡◌, ◌+◌, ◌<◌, ◌≤◌, ℕ, ℤ, pos, refl, sym, ap, subst, ◌∙◌, arith}
+use Rattle.std.proofs.Common.{◌≡◌, ◌<◌, ◌≤◌, ℕ, ℤ, pos, sym, ap, subst, ◌∙◌, arith}
 use Rattle.std.specs.Prelude.{◌+ℤ◌, ◌*ℤ◌, ◌≤ℤ◌, nat_abs}
 use Rattle.std.proofs.Math.IntN.{zero-*ℤ, +ℤ_idr}
 use Rattle.std.proofs.lemmas.Int.{ints}
@@ -22,7 +22,7 @@ at_first : (o : ℕ) (s : ℤ) → place o s 0 ≡ o
 at_first o s = ap nat_abs (ap (λ z. pos o +ℤ z) (zero-*ℤ s) ∙ +ℤ_idr (pos o))
 
 module _ (len width : ℕ) (starts : Run) (axis : StridedAxis) (some : 1 ≤ starts.count) (within : EachWithin len starts.offset starts.step width starts.count)
-  (lines : (j : ℕ) → j < starts.count → EachWithin len (place starts.offset starts.step j) axis.stride width axis.len) where
+    (lines : (j : ℕ) → j < starts.count → EachWithin len (place starts.offset starts.step j) axis.stride width axis.len) where
   -- the first line
   pub first_line : EachWithin len starts.offset axis.stride width axis.len
   first_line = subst (λ o. EachWithin len o axis.stride width axis.len) (at_first starts.offset starts.step) (lines 0 some)

@@ -8,7 +8,8 @@ ghost use Rattle.shape_strides.specs.Runs.{run_along, run_offsets};
 ghost use Rattle.reductions.specs.inside.Numbers.{numbers_at, lines, IsReduced, AreReduced};
 
 use crate::folds::Fold;
-use crate::lines::{fill_by_lines, fold_run, number_at, store_at};
+use crate::lines::{fold_run, number_at, store_at};
+use crate::rows::fill_row;
 use crate::values::Value;
 use elementwise::{Number, Ordered};
 use shape_strides::{Layout, Run, Runs, StridedAxis};
@@ -35,7 +36,7 @@ fn fill_part<S: Value, O: Ordered, F: Fold<S>>(
     ensures len { length out.new ≡ length out.old }
 {
     let _len = out.len();
-    fill_by_lines::<S, O, F>(&mut out[at..at + size], run, axis, bytes);
+    fill_row::<S, O, F>(&mut out[at..at + size], run, axis, bytes);
 }
 
 /// Writes what comes of the lines along an axis from the items of runs on.

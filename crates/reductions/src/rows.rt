@@ -1,5 +1,5 @@
 //! Rows of items that are taken into a row of results.
-ghost use Rattle.std.specs.Prelude.{◌≡◌, ◌+◌, ◌*◌, ◌^◌, ◌<◌, ◌≤◌, ◌⊎◌, ℕ, ℤ, List, [], ◌∷◌, ◌++◌, true, length};
+ghost use Rattle.std.specs.Prelude.{◌≡◌, ◌+◌, ◌*◌, ◌^◌, ◌<◌, ◌≤◌, ◌⊎◌, ℕ, ℤ, List, [], ◌∷◌, ◌++◌, true, pos, length, IsTrue};
 ghost use Rattle.elem_descr.specs.declared.scalar.Order.TheVariants.{Little};
 ghost use Rattle.elem_descr.specs.Encoding.{decode};
 ghost use Rattle.elem_descr.specs.Values.{number};
@@ -8,7 +8,7 @@ ghost use Rattle.shape_strides.specs.Runs.{run_along, run_offsets};
 ghost use Rattle.reductions.specs.inside.Numbers.{number_at, numbers_at, IsReduced};
 
 use crate::folds::Fold;
-use crate::lines::{line_along, number_at, store_at};
+use crate::lines::{fill_by_lines, line_along, number_at, store_at};
 use crate::values::Value;
 use elementwise::{LowFirst, Number, Ordered, place};
 use shape_strides::{Run, StridedAxis};
@@ -39,13 +39,35 @@ fn add_each<S: Value, O: Ordered, F: Fold<S>>(row: &mut [u8], run: Run, bytes: &
     ensures values { (j : ℕ) (first : ℤ) (rest : List ℤ) → j < run.count → seen ≡ length (first ∷ rest)
         → decode (F.Total.scalar Little) (item_at (j * F.Total.WIDTH) F.Total.WIDTH row.old) ≡ number (F.meaning (first ∷ rest))
         → decode (F.Total.scalar Little) (item_at (j * F.Total.WIDTH) F.Total.WIDTH row.new)
-            ≡ number (F.meaning (first ∷ (rest ++ number_at (S.scalar O.order) bytes.now (place run.offset run.step j) ∷ []))) }
+        ≡ number (F.meaning (first ∷ (rest ++ number_at (S.scalar O.order) bytes.now (place run.offset run.step j) ∷ []))) }
     ensures len { length row.new ≡ length row.old }
 {
     let _len = row.len();
     for j in 0..run.count {
         let item = number_at::<S, O>(bytes, place(run, j));
         add_at::<S, F>(row, j * <F::Total as Number>::WIDTH, item, seen);
+    }
+}
+
+/// Whether the items of a run, of `width` bytes, lie one right after the other.
+fn is_near(run: Run, width: usize) -> bool
+    requires { width ≤ 8 }
+    ensures { IsTrue result → run.step ≡ pos width }
+{
+    run.step == width as isize
+}
+
+/// Such a run, with its step told by the width of its items.
+#[inline(always)]
+fn near(run: Run, width: usize) -> Run
+    requires small { width ≤ 8 }
+    requires near { run.step ≡ pos width }
+    ensures { result ≡ run }
+{
+    Run {
+        offset: run.offset,
+        count: run.count,
+        step: width as isize,
     }
 }
 
@@ -58,19 +80,14 @@ fn add_row<S: Value, O: Ordered, F: Fold<S>>(row: &mut [u8], run: Run, bytes: &[
     ensures values { (j : ℕ) (first : ℤ) (rest : List ℤ) → j < run.count → seen ≡ length (first ∷ rest)
         → decode (F.Total.scalar Little) (item_at (j * F.Total.WIDTH) F.Total.WIDTH row.old) ≡ number (F.meaning (first ∷ rest))
         → decode (F.Total.scalar Little) (item_at (j * F.Total.WIDTH) F.Total.WIDTH row.new)
-            ≡ number (F.meaning (first ∷ (rest ++ number_at (S.scalar O.order) bytes.now (place run.offset run.step j) ∷ []))) }
+        ≡ number (F.meaning (first ∷ (rest ++ number_at (S.scalar O.order) bytes.now (place run.offset run.step j) ∷ []))) }
     ensures len { length row.new ≡ length row.old }
 {
-    if run.step == S::WIDTH as isize {
-        let near = Run {
-            offset: run.offset,
-            count: run.count,
-            step: S::WIDTH as isize,
-        };
-        add_each::<S, O, F>(row, near, bytes, seen);
-    } else {
-        add_each::<S, O, F>(row, run, bytes, seen);
+    if is_near(run, S::WIDTH) {
+        add_each::<S, O, F>(row, near(run, S::WIDTH), bytes, seen);
+        return;
     }
+    add_each::<S, O, F>(row, run, bytes, seen);
 }
 
 /// Writes what comes of each number of a run alone.
@@ -124,4 +141,35 @@ pub(crate) fn fill_by_rows<S: Value, O: Ordered, F: Fold<S>>(
         let offset = place(line_along(axis, starts.offset), k);
         add_row::<S, O, F>(row, moved(starts, offset), bytes, k);
     }
+}
+
+/// Whether a reduction goes by rows: where they lie closer together than what stands on a line.
+fn goes_by_rows(resumes: bool, starts: Run, axis: StridedAxis) -> bool
+    ensures { IsTrue result → (resumes ≡ true) × (1 ≤ starts.count) }
+{
+    resumes && starts.count > 3 && starts.step.unsigned_abs() < axis.stride.unsigned_abs()
+}
+
+/// Writes what comes of the line along an axis from each item of a run on.
+pub(crate) fn fill_row<S: Value, O: Ordered, F: Fold<S>>(
+    row: &mut [u8],
+    starts: Run,
+    axis: StridedAxis,
+    bytes: &[u8],
+)
+    requires room { length row.old ≡ starts.count * F.Total.WIDTH }
+    requires some { 1 ≤ axis.len }
+    requires few { (axis.len < 2 ^ 63) × (starts.count < 2 ^ 63) }
+    requires starts { EachWithin (length bytes.now) starts.offset starts.step S.WIDTH starts.count }
+    requires lines { (j : ℕ) → j < starts.count → EachWithin (length bytes.now) (place starts.offset starts.step j) axis.stride S.WIDTH axis.len }
+    ensures items { (j : ℕ) → j < starts.count → IsReduced F.reduction (S.scalar O.order)
+        (numbers_at (S.scalar O.order) bytes.now (run_offsets (run_along axis (place starts.offset starts.step j))))
+        (item_at (j * F.Total.WIDTH) F.Total.WIDTH row.new) }
+    ensures len { length row.new ≡ length row.old }
+{
+    if goes_by_rows(F::RESUMES, starts, axis) {
+        fill_by_rows::<S, O, F>(row, starts, axis, bytes);
+        return;
+    }
+    fill_by_lines::<S, O, F>(row, starts, axis, bytes);
 }

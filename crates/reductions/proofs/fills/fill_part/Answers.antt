@@ -11,9 +11,9 @@ returns-clause-items g c j low =
     let width = g.F.Total.Number.WIDTH in
     let fits = before_next j c.args.run.count width low in
     subst (IsReduced g.F.Fold.reduction scalar (numbers_at scalar c.args.bytes.now (run_offsets (run_along c.args.axis (place c.args.run.offset c.args.run.step j)))))
-    (sym (amid c.args.at _ (j * width) width c.fill_by_lines.new.row c.args.out.now (omega (arith, c.requires.room)) (omega (arith, fits, c.fill_by_lines.ensures.len, c.requires.size, c.requires.room))))
-    (c.fill_by_lines.ensures.items j low)
+    (sym (amid c.args.at _ (j * width) width c.fill_row.new.row c.args.out.now (omega (arith, c.requires.room)) (omega (arith, fits, c.fill_row.ensures.len, c.requires.size, c.requires.room))))
+    (c.fill_row.ensures.items j low)
 
 pub returns-clause-before : goal.returns-clause-before
 returns-clause-before g c offset low =
-    front_kept c.args.at c.args.size _ offset g.F.Total.Number.WIDTH c.fill_by_lines.new.row c.args.out.now (omega (arith, c.fill_by_lines.ensures.len, c.requires.room)) (omega arith) c.requires.room low
+    front_kept c.args.at c.args.size _ offset g.F.Total.Number.WIDTH c.fill_row.new.row c.args.out.now (omega (arith, c.fill_row.ensures.len, c.requires.room)) (omega arith) c.requires.room low

@@ -13,6 +13,6 @@ invariant-loop-j g l = record {
   done : (i : ℕ) (first : ℤ) (rest : List ℤ) → i < l.j → l.seen ≡ length (first ∷ rest)
       → decode (g.F.Total.Number.scalar Little) (item_at (i * g.F.Total.Number.WIDTH) g.F.Total.Number.WIDTH l.initial.row) ≡ number (g.F.Fold.meaning (first ∷ rest))
       → decode (g.F.Total.Number.scalar Little) (item_at (i * g.F.Total.Number.WIDTH) g.F.Total.Number.WIDTH l.row)
-          ≡ number (g.F.Fold.meaning (first ∷ (rest ++ number_at (g.S.Number.scalar g.O.Ordered.order) l.bytes (place l.run.offset l.run.step i) ∷ [])));
+      ≡ number (g.F.Fold.meaning (first ∷ (rest ++ number_at (g.S.Number.scalar g.O.Ordered.order) l.bytes (place l.run.offset l.run.step i) ∷ [])));
   later : (i : ℕ) → l.j ≤ i → i < l.run.count → item_at (i * g.F.Total.Number.WIDTH) g.F.Total.Number.WIDTH l.row ≡ item_at (i * g.F.Total.Number.WIDTH) g.F.Total.Number.WIDTH l.initial.row;
 }

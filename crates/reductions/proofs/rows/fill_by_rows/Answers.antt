@@ -1,15 +1,14 @@
-use Rattle.std.proofs.Common.{◌≡◌, ◌+◌, ◌-◌, ◌*◌, ◌<◌, ◌≤◌, ◌^◌, ℕ, suc, List, [], ◌∷◌, ◌++◌, pos, ℤ, length, map, refl, sym, ap, subst, ◌∙◌, arith}
-use Rattle.std.specs.Prelude.{◌+ℤ◌}
+use Rattle.std.proofs.Common.{◌≡◌, ◌-◌, ◌*◌, ◌<◌, ◌^◌, List, [], ◌∷◌, ◌++◌, pos, ℤ, length, map, refl, sym, ap, subst, ◌∙◌, arith}
+use Rattle.std.specs.Prelude.{◌+ℤ◌, ◌≤ℤ◌, ◌<ℤ◌}
 use Rattle.std.proofs.lemmas.Int.{ints}
 use Rattle.elem_descr.specs.declared.scalar.Order.TheVariants.{Little}
-use Rattle.elem_descr.specs.Encoding.{decode}
 use Rattle.elem_descr.specs.Values.{number}
 use Rattle.elem_descr.specs.Steps.{numbers_from}
-use Rattle.raw_block.specs.Bytes.{place, item_at, EachWithin}
+use Rattle.raw_block.specs.Bytes.{position, place, item_at, EachWithin}
 use Rattle.shape_strides.specs.Addresses.{natural}
 use Rattle.shape_strides.specs.Runs.{run_along, run_offsets}
-use Rattle.reductions.specs.inside.Numbers.{number_at, numbers_at, IsReduced}
-use Rattle.reductions.proofs.LineLaws.{front, numbers-first, numbers-more, length-numbers}
+use Rattle.reductions.specs.inside.Numbers.{number_at, numbers_at}
+use Rattle.reductions.proofs.LineLaws.{begins as begins_within, front, numbers-first, numbers-more, length-numbers}
 use Rattle.reductions.proofs.RowLaws.{first_line, row_place, row_within}
 use Rattle.reductions.proofs.rows.fill_by_rows.Goals as goal
 
@@ -21,6 +20,21 @@ loop-k-init g c =
       len = c.start_row.ensures.len;
       done = λ j low. c.start_row.ensures.values j low ∙ ap (λ numbers. number (g.F.Fold.meaning numbers)) (sym (numbers-first scalar bytes (front 1 (run_along c.args.axis (place c.args.starts.offset c.args.starts.step j))) 0 refl));
     }
+
+pub place-offset-requires-clause-start : goal.place-offset-requires-clause-start
+place-offset-requires-clause-start g c =
+    omega (arith, begins_within _ _ _ _ _ _ c.requires.starts c.requires.some.1, ap (λ run. run.offset) c.line_along.ensures)
+
+pub place-offset-requires-clause-low : goal.place-offset-requires-clause-low
+place-offset-requires-clause-low g c =
+    let line = first_line (length c.args.bytes.now) g.S.Number.WIDTH c.args.starts c.args.axis c.requires.some.1 c.requires.starts c.requires.lines in
+    subst (λ run. pos 0 ≤ℤ position run.offset run.step c.loop-k.k) (sym c.line_along.ensures) ((line.each c.loop-k.k c.loop-k-test.true).0)
+
+pub place-offset-requires-clause-high : goal.place-offset-requires-clause-high
+place-offset-requires-clause-high g c =
+    let line = first_line (length c.args.bytes.now) g.S.Number.WIDTH c.args.starts c.args.axis c.requires.some.1 c.requires.starts c.requires.lines in
+    let high = (line.each c.loop-k.k c.loop-k-test.true).1 in
+    subst (λ run. position run.offset run.step c.loop-k.k <ℤ pos (2 ^ 63)) (sym c.line_along.ensures) (omega (arith, ints, high))
 
 pub add_row-requires-clause-within : goal.add_row-requires-clause-within
 add_row-requires-clause-within g c =
