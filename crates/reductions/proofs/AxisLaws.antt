@@ -24,6 +24,7 @@ use Rattle.shape_strides.specs.Layouts.{address, offsets}
 use Rattle.shape_strides.specs.LayoutLaws.{length-offsets, pos-offset}
 use Rattle.shape_strides.specs.Limits.{max_axes, max_items, max_bytes}
 use Rattle.shape_strides.specs.Runs.{run_along, run_offsets}
+use Rattle.reductions.specs.ListLaws.{IsIndex-insert}
 use Rattle.reductions.specs.Lists.{lists}
 use Rattle.reductions.specs.inside.Numbers.{lines}
 
@@ -68,12 +69,6 @@ small-remove (n ∷ shape) zero small = all-small shape (All-tail (λ n. n ≤ m
 small-remove (n ∷ shape) (suc a) small = rw (le-leb n max_items (All-head (λ n. n ≤ max_items) n shape small)) (small-remove shape a (All-tail (λ n. n ≤ max_items) n shape small))
 
 -- ---- indexes, and addresses
-
-pub IsIndex-insert : (shape index : List ℕ) (a k : ℕ) → a < length shape → IsIndex (remove shape a) index → k < get_or shape a 0 → IsIndex shape (insert index a k)
-IsIndex-insert [] index a k low in' below = absurd (omega (arith, low))
-IsIndex-insert (n ∷ shape) index zero k low in' below = (below, in')
-IsIndex-insert (n ∷ shape) [] (suc a) k low in' below = absurd in'
-IsIndex-insert (n ∷ shape) (i ∷ index) (suc a) k low in' below = (in'.0, IsIndex-insert shape index a k (omega (arith, low)) in'.1 below)
 
 swapped : (x y z : ℤ) → x +ℤ (y +ℤ z) ≡ y +ℤ (x +ℤ z)
 swapped x y z = omega (arith, ints)
