@@ -11,7 +11,7 @@ use Rattle.std.proofs.Math.Bool.{beq}
 use Rattle.elem_descr.specs.Encoding.{integer, low_bits}
 use Rattle.elem_descr.specs.EncodingLaws.{low_bits-lt, low_bits-integer}
 use Rattle.elementwise.specs.Operations.{modulo, shifted_left}
-use Rattle.elementwise.specs.inside.Bits.{is_negative, magnitude_of}
+use Rattle.elementwise.specs.Bits.{is_negative, magnitude_of}
 
 wrap_is : (z : ℤ) → int_wrap w64 z ≡ cast_signed w64 (low_bits 8 z)
 unfolding int_wrap

@@ -17,7 +17,7 @@ use Rattle.elementwise.specs.declared.operation.BinOp.{BinOp}
 use Rattle.elementwise.specs.declared.operation.BinOp.TheVariants.{Add, Subtract, Multiply, FloorDivide, Modulo, And, Or, Xor, ShiftLeft, ShiftRight, Divide}
 use Rattle.elementwise.specs.Promotion.{is_bool}
 use Rattle.elementwise.specs.Operations.{exact, binary, of_bits}
-use Rattle.elementwise.specs.inside.Bits.{AreBits}
+use Rattle.elementwise.specs.Bits.{AreBits}
 
 -- bits are those of the number that they are
 pub are_bits : (r : ℕ) → r < 2 ^ 64 → AreBits r (pos r)

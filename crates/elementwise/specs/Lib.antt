@@ -3,4 +3,5 @@ pub mod Promotion
 pub mod Operations
 pub mod Comparisons
 pub mod Results
+pub mod Bits
 pub mod inside

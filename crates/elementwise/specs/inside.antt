@@ -1,5 +1,4 @@
 pub mod FieldCasts
-pub mod Bits
 pub mod Passes
 pub mod LeafCasts
 pub mod PairPasses

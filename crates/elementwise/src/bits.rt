@@ -2,7 +2,7 @@
 ghost use Rattle.std.specs.Prelude.{◌≡◌, ◌≤◌, ◌/◌, ◌^◌, nat_lt, if◌then◌else◌, negsuc, ◌+ℤ◌, ◌-ℤ◌, ◌*ℤ◌, Bool, int_lt};
 ghost use Rattle.elem_descr.specs.Encoding.{integer, low_bits};
 ghost use Rattle.elementwise.specs.Operations.{floor_quotient, modulo, shifted_left, shifted_right};
-ghost use Rattle.elementwise.specs.inside.Bits.{is_negative, magnitude_of};
+ghost use Rattle.elementwise.specs.Bits.{is_negative, magnitude_of};
 
 /// The bits of a sum.
 #[inline(always)]

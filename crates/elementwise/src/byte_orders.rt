@@ -7,7 +7,7 @@ ghost use Rattle.elem_descr.specs.Encoding.{number_in, bytes_of};
 use byteorder::{BigEndian, ByteOrder, LittleEndian};
 
 /// An order of the bytes of an integer: how it is read, and written over as many bytes.
-pub(crate) trait Ordered {
+pub trait Ordered {
     ghost order: { Order };
 
     fn read_two(bytes: &[u8]) -> u16
@@ -36,10 +36,10 @@ pub(crate) trait Ordered {
 }
 
 /// The lowest byte first.
-pub(crate) struct LowFirst;
+pub struct LowFirst;
 
 /// The highest byte first.
-pub(crate) struct HighFirst;
+pub struct HighFirst;
 
 #[tactic(auto, using(crate::proofs::ByteLaws::over_all))]
 impl Ordered for LowFirst {

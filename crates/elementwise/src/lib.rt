@@ -27,8 +27,11 @@ mod typed;
 
 pub use alike::{are_alike, keeps_items};
 pub use applied::{apply1, apply2};
+pub use byte_orders::{HighFirst, LowFirst, Ordered};
 pub use castable::can_cast;
 pub use casts::cast;
+pub use numbers::Number;
 pub use operands::Items;
 pub use operation::{BinOp, Comparison, UnOp};
+pub use passes::place;
 pub use promotion::{literal_type, promote, promote_one, same_kind, scalar_of};

@@ -9,12 +9,12 @@ ghost use Rattle.elem_descr.specs.Encoding.{IsNumber, size, decode, encode, wrap
 ghost use Rattle.std.proofs.Common.{arith, inl, inr};
 ghost use Rattle.std.proofs.lemmas.Bool.{false≢true};
 ghost use Rattle.elementwise.specs.Promotion.{is_bool};
-ghost use Rattle.elementwise.specs.inside.Bits.{AreBits};
+ghost use Rattle.elementwise.specs.Bits.{AreBits};
 
 use crate::byte_orders::Ordered;
 
 /// A number that the processor computes with: a bool, or an integer of 1, 2, 4 or 8 bytes.
-pub(crate) trait Number: Copy {
+pub trait Number: Copy {
     ghost value: { Self → ℤ };
 
     // The scalar whose values these numbers are, in a byte order. One byte has none.

@@ -9,7 +9,7 @@ use shape_strides::Run;
 
 /// Where the `k`-th item of a run lies.
 #[inline(always)]
-pub(crate) fn place(run: Run, k: usize) -> usize
+pub fn place(run: Run, k: usize) -> usize
     requires few { k < 2 ^ 63 }
     requires start { run.offset < 2 ^ 63 }
     requires low { pos 0 ≤ℤ position run.offset run.step k }

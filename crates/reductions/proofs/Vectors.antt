@@ -1,0 +1,206 @@
+-- Reductions as NumPy has them.
+use Rattle.std.proofs.Common.{◌≡◌, true, false, pos, negsuc, [], ◌∷◌, Some, None, Ok, Err, refl}
+use Rattle.elem_descr.specs.declared.descr.Descr.{Descr}
+use Rattle.elem_descr.specs.declared.descr.Descr.TheVariants.{Scalar as ScalarDescr}
+use Rattle.elem_descr.specs.declared.refusal.Refusal.TheVariants.{TooLarge, BadAxis, NotForThisKind, EmptyReduction}
+use Rattle.elem_descr.specs.declared.scalar.Order.TheVariants.{Little, Big}
+use Rattle.elem_descr.specs.declared.scalar.Width.TheVariants.{Two, Four, Eight}
+use Rattle.elem_descr.specs.declared.scalar.Scalar.{Scalar}
+use Rattle.elem_descr.specs.declared.scalar.Scalar.TheVariants.{Bool as BoolScalar, Byte, Int, Bytes}
+use Rattle.elem_descr.specs.Values.{number}
+use Rattle.shape_strides.specs.Shapes.{shape_of}
+use Rattle.script_lang.specs.declared.operation.Reduction.TheVariants.{Sum, Product, Minimum, Maximum, Any, All, ArgMin, ArgMax}
+use Rattle.reductions.specs.Lists.{lists}
+use Rattle.reductions.specs.Reductions.{reduced, reduced_item}
+use Rattle.reductions.specs.Outcomes.{outcome}
+
+abbrev int : Descr
+int = ScalarDescr (Int true Four Little)
+
+abbrev long : Scalar
+long = Int true Eight Little
+
+-- ---- lists
+
+-- the places of `numpy.arange(6).reshape(2, 3)`: all of them, down the columns, along the rows
+all_items : lists (2 ∷ 3 ∷ []) None (0 ∷ 1 ∷ 2 ∷ 3 ∷ 4 ∷ 5 ∷ []) ≡ (0 ∷ 1 ∷ 2 ∷ 3 ∷ 4 ∷ 5 ∷ []) ∷ []
+all_items = refl
+
+columns : lists (2 ∷ 3 ∷ []) (Some 0) (0 ∷ 1 ∷ 2 ∷ 3 ∷ 4 ∷ 5 ∷ []) ≡ (0 ∷ 3 ∷ []) ∷ (1 ∷ 4 ∷ []) ∷ (2 ∷ 5 ∷ []) ∷ []
+columns = refl
+
+rows : lists (2 ∷ 3 ∷ []) (Some 1) (0 ∷ 1 ∷ 2 ∷ 3 ∷ 4 ∷ 5 ∷ []) ≡ (0 ∷ 1 ∷ 2 ∷ []) ∷ (3 ∷ 4 ∷ 5 ∷ []) ∷ []
+rows = refl
+
+-- along the middle axis of `numpy.arange(8).reshape(2, 2, 2)`
+middle : lists (2 ∷ 2 ∷ 2 ∷ []) (Some 1) (0 ∷ 1 ∷ 2 ∷ 3 ∷ 4 ∷ 5 ∷ 6 ∷ 7 ∷ []) ≡ (0 ∷ 2 ∷ []) ∷ (1 ∷ 3 ∷ []) ∷ (4 ∷ 6 ∷ []) ∷ (5 ∷ 7 ∷ []) ∷ []
+middle = refl
+
+-- `numpy.zeros((0, 3))` along both axes
+three_empty : lists (0 ∷ 3 ∷ []) (Some 0) [] ≡ [] ∷ [] ∷ [] ∷ []
+three_empty = refl
+
+no_lists : lists (0 ∷ 3 ∷ []) (Some 1) [] ≡ []
+no_lists = refl
+
+-- ---- values
+
+-- `numpy.array([[1, 2, 3], [4, 5, 6]], '<i4').sum(0)`: 5 of 1 and 4
+column_sum : reduced Sum long (pos 1 ∷ pos 4 ∷ []) ≡ pos 5
+column_sum = refl
+
+-- `numpy.full(2, 200, 'u1').sum()`
+wide_sum : reduced_item Sum (ScalarDescr (Int false Eight Little)) ((number (pos 200) ∷ []) ∷ (number (pos 200) ∷ []) ∷ []) ≡ number (pos 400) ∷ []
+wide_sum = refl
+
+-- `numpy.array([2 ** 63 - 1, 1]).sum()`, `numpy.array([2 ** 64 - 1, 2], 'u8').sum()`
+wrapped_sum : reduced Sum long (pos 9223372036854775807 ∷ pos 1 ∷ []) ≡ negsuc 9223372036854775807
+wrapped_sum = refl
+
+wrapped_unsigned : reduced Sum (Int false Eight Little) (pos 18446744073709551615 ∷ pos 2 ∷ []) ≡ pos 1
+wrapped_unsigned = refl
+
+-- `numpy.array([-3, 5, 7]).prod()`, `numpy.array([2 ** 62, 3]).prod()`
+product : reduced Product long (negsuc 2 ∷ pos 5 ∷ pos 7 ∷ []) ≡ negsuc 104
+product = refl
+
+wrapped_product : reduced Product long (pos 4611686018427387904 ∷ pos 3 ∷ []) ≡ negsuc 4611686018427387903
+wrapped_product = refl
+
+-- `numpy.array([]).sum()`, `.prod()`, `.any()`, `.all()`, of integers and bools
+empty_sum : reduced Sum long [] ≡ pos 0
+empty_sum = refl
+
+empty_product : reduced Product long [] ≡ pos 1
+empty_product = refl
+
+empty_any : reduced Any BoolScalar [] ≡ pos 0
+empty_any = refl
+
+empty_all : reduced All BoolScalar [] ≡ pos 1
+empty_all = refl
+
+-- `numpy.array([3, -7, 5]).min()`, `.max()`, `.argmin()`, `.argmax()`
+least_of : reduced Minimum (Int true Four Little) (pos 3 ∷ negsuc 6 ∷ pos 5 ∷ []) ≡ negsuc 6
+least_of = refl
+
+greatest_of : reduced Maximum (Int true Four Little) (pos 3 ∷ negsuc 6 ∷ pos 5 ∷ []) ≡ pos 5
+greatest_of = refl
+
+place_of_least : reduced ArgMin long (pos 3 ∷ negsuc 6 ∷ pos 5 ∷ []) ≡ pos 1
+place_of_least = refl
+
+place_of_greatest : reduced ArgMax long (pos 3 ∷ negsuc 6 ∷ pos 5 ∷ []) ≡ pos 2
+place_of_greatest = refl
+
+-- the first of several: `numpy.array([1, 4, 0, 4, 0]).argmax()`, `.argmin()`
+first_greatest : reduced ArgMax long (pos 1 ∷ pos 4 ∷ pos 0 ∷ pos 4 ∷ pos 0 ∷ []) ≡ pos 1
+first_greatest = refl
+
+first_least : reduced ArgMin long (pos 1 ∷ pos 4 ∷ pos 0 ∷ pos 4 ∷ pos 0 ∷ []) ≡ pos 2
+first_least = refl
+
+-- `numpy.array([0, -2]).any()`, `.all()`, `numpy.array([3, -2]).all()`
+some_true : reduced Any BoolScalar (pos 0 ∷ negsuc 1 ∷ []) ≡ pos 1
+some_true = refl
+
+not_all_true : reduced All BoolScalar (pos 0 ∷ negsuc 1 ∷ []) ≡ pos 0
+not_all_true = refl
+
+all_true : reduced All BoolScalar (pos 3 ∷ negsuc 1 ∷ []) ≡ pos 1
+all_true = refl
+
+-- ---- types and shapes
+
+-- `numpy.zeros((2, 3), 'i4').sum(0)`, `.max(1, keepdims=True)`, `.argmax()`, `.sum(-1)`, `.min(keepdims=True)`
+sum_down : outcome Sum int (2 ∷ 3 ∷ []) (Some (pos 0)) false ≡ Ok (record { descr = ScalarDescr long; shape = 3 ∷ [] })
+unfolding outcome shape_of
+sum_down = refl
+
+kept : outcome Maximum int (2 ∷ 3 ∷ []) (Some (pos 1)) true ≡ Ok (record { descr = int; shape = 2 ∷ 1 ∷ [] })
+unfolding outcome shape_of
+kept = refl
+
+place : outcome ArgMax int (2 ∷ 3 ∷ []) None false ≡ Ok (record { descr = ScalarDescr long; shape = [] })
+unfolding outcome shape_of
+place = refl
+
+from_end : outcome Sum int (2 ∷ 3 ∷ []) (Some (negsuc 0)) false ≡ Ok (record { descr = ScalarDescr long; shape = 2 ∷ [] })
+unfolding outcome shape_of
+from_end = refl
+
+all_kept : outcome Minimum int (2 ∷ 3 ∷ []) None true ≡ Ok (record { descr = int; shape = 1 ∷ 1 ∷ [] })
+unfolding outcome shape_of
+all_kept = refl
+
+-- types: `numpy.zeros(2, 'u1').sum()`, `numpy.zeros(2, '?').sum()`, `numpy.zeros(2, '>i2').max()`, `numpy.zeros(2, '?').min()`, `numpy.zeros(2, 'u8').all()`
+unsigned_sum : outcome Sum (ScalarDescr (Byte false)) (2 ∷ []) None false ≡ Ok (record { descr = ScalarDescr (Int false Eight Little); shape = [] })
+unfolding outcome shape_of
+unsigned_sum = refl
+
+bool_sum : outcome Sum (ScalarDescr BoolScalar) (2 ∷ []) None false ≡ Ok (record { descr = ScalarDescr long; shape = [] })
+unfolding outcome shape_of
+bool_sum = refl
+
+big_maximum : outcome Maximum (ScalarDescr (Int true Two Big)) (2 ∷ []) None false ≡ Ok (record { descr = ScalarDescr (Int true Two Little); shape = [] })
+unfolding outcome shape_of
+big_maximum = refl
+
+bool_minimum : outcome Minimum (ScalarDescr BoolScalar) (2 ∷ []) None false ≡ Ok (record { descr = ScalarDescr BoolScalar; shape = [] })
+unfolding outcome shape_of
+bool_minimum = refl
+
+unsigned_all : outcome All (ScalarDescr (Int false Eight Little)) (2 ∷ []) None false ≡ Ok (record { descr = ScalarDescr BoolScalar; shape = [] })
+unfolding outcome shape_of
+unsigned_all = refl
+
+-- ---- refusals, of which the first met is told
+
+-- byte strings, also along an axis that is none
+byte_strings : outcome Any (ScalarDescr (Bytes 3)) (2 ∷ []) (Some (pos 5)) false ≡ Err NotForThisKind
+unfolding outcome
+byte_strings = refl
+
+-- `numpy.zeros((2, 3)).sum(2)`, `.sum(-3)`, and an axis of an array of no axes, also of no items
+high_axis : outcome Sum int (2 ∷ 3 ∷ []) (Some (pos 2)) false ≡ Err BadAxis
+unfolding outcome
+high_axis = refl
+
+low_axis : outcome Sum int (2 ∷ 3 ∷ []) (Some (negsuc 2)) false ≡ Err BadAxis
+unfolding outcome
+low_axis = refl
+
+no_axes : outcome Maximum int [] (Some (pos 0)) false ≡ Err BadAxis
+unfolding outcome
+no_axes = refl
+
+axis_first : outcome Maximum int (0 ∷ []) (Some (pos 1)) false ≡ Err BadAxis
+unfolding outcome
+axis_first = refl
+
+-- `numpy.zeros(0).max()`, `numpy.zeros((0, 3)).max(0)`, and `numpy.zeros((0, 3)).max(1)`, which has no items
+empty_maximum : outcome Maximum int (0 ∷ []) None false ≡ Err EmptyReduction
+unfolding outcome
+empty_maximum = refl
+
+empty_columns : outcome ArgMin int (0 ∷ 3 ∷ []) (Some (pos 0)) true ≡ Err EmptyReduction
+unfolding outcome
+empty_columns = refl
+
+no_rows : outcome Maximum int (0 ∷ 3 ∷ []) (Some (pos 1)) false ≡ Ok (record { descr = int; shape = 0 ∷ [] })
+unfolding outcome shape_of
+no_rows = refl
+
+-- `numpy.zeros((0, 3)).sum(0)`
+empty_sums : outcome Sum int (0 ∷ 3 ∷ []) (Some (pos 0)) false ≡ Ok (record { descr = ScalarDescr long; shape = 3 ∷ [] })
+unfolding outcome shape_of
+empty_sums = refl
+
+-- more than 2^24 items, of lists that are empty
+large_sum : outcome Sum int (0 ∷ 16777216 ∷ 16777216 ∷ []) (Some (pos 0)) false ≡ Err TooLarge
+unfolding outcome shape_of
+large_sum = refl
+
+large_maximum : outcome Maximum int (0 ∷ 16777216 ∷ 16777216 ∷ []) (Some (pos 0)) false ≡ Err EmptyReduction
+unfolding outcome
+large_maximum = refl

@@ -1,0 +1,38 @@
+use Rattle.std.proofs.Common.{◌≡◌, ◌+◌, ◌*◌, ◌≤◌, inl, [], ◌∷◌, length, refl, sym, ap, ◌∙◌, arith}
+use Rattle.elem_descr.specs.declared.scalar.Order.TheVariants.{Little}
+use Rattle.elem_descr.specs.Encoding.{decode}
+use Rattle.elem_descr.specs.Values.{number}
+use Rattle.overlap_copy.specs.RunLaws.{place-within}
+use Rattle.raw_block.specs.Bytes.{place, item_at}
+use Rattle.reductions.specs.inside.Numbers.{number_at}
+use Rattle.reductions.proofs.LineLaws.{begins, before_next, one_done}
+use Rattle.reductions.proofs.rows.start_row.Goals as goal
+
+pub place-requires-clause-start : goal.place-requires-clause-start
+place-requires-clause-start g c = omega (arith, begins _ _ _ _ _ _ c.requires.within c.loop-j-test.true)
+
+pub number_at-item-requires : goal.number_at-item-requires
+number_at-item-requires g c = omega (arith, c.place.ensures, place-within _ _ _ _ _ _ c.requires.within c.loop-j-test.true)
+
+pub loop-j-preserved : goal.loop-j-preserved
+loop-j-preserved g c =
+    let scalar = g.S.Number.scalar g.O.Ordered.order in
+    let bytes = c.args.bytes.now in
+    let total = g.F.Total.Number.scalar Little in
+    let width = g.F.Total.Number.WIDTH in
+    let j = c.loop-j.j in
+    let at : j * c.WIDTH.result ≡ j * width = ap (λ w. j * w) c.WIDTH.ensures in
+    let last : j * width + width ≤ length c.loop-j.row = omega (arith, before_next j c.args.run.count width c.loop-j-test.true, c.requires.room, c.loop-j.invariant.len) in
+    let new = c.store_at.new.row in
+    let v = g.S.Number.value c.number_at-item.result in
+    let item = c.number_at-item.ensures ∙ ap (number_at scalar bytes) c.place.ensures in
+    record {
+      len = c.store_at.ensures.len ∙ c.loop-j.invariant.len;
+      done = one_done (λ k bytes'. decode total bytes' ≡ number (g.F.Fold.meaning (number_at scalar bytes (place c.args.run.offset c.args.run.step k) ∷ []))) width j c.loop-j.row new
+          (λ o low. c.store_at.ensures.others o (omega (arith, low, last)) (inl (omega (arith, low, at))))
+          c.loop-j.invariant.done
+          (ap (λ o. decode total (item_at o width new)) (sym at)
+          ∙ c.store_at.ensures.value
+          ∙ ap number (c.finish.ensures v [] (c.step-held.ensures v [] refl c.start.ensures))
+          ∙ ap (λ z. number (g.F.Fold.meaning (z ∷ []))) item);
+    }

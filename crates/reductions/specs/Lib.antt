@@ -1,0 +1,5 @@
+pub mod Lists
+pub mod Reductions
+pub mod Outcomes
+pub mod ListLaws
+pub mod inside

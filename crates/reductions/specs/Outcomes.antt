@@ -1,0 +1,55 @@
+-- The array that a reduction gives, or what is refused.
+use Rattle.std.specs.Prelude.{ℕ, ℤ, Bool, true, false, not, ◌&&◌, ◌==◌, Option, List, length, Result, Ok, Err}
+use Rattle.elem_descr.specs.declared.descr.Descr.{Descr}
+use Rattle.elem_descr.specs.declared.descr.Descr.TheVariants.{Scalar as ScalarDescr, Record as RecordDescr}
+use Rattle.elem_descr.specs.declared.refusal.Refusal.{Refusal}
+use Rattle.elem_descr.specs.declared.refusal.Refusal.TheVariants.{NotForThisKind, BadAxis, EmptyReduction}
+use Rattle.elem_descr.specs.declared.scalar.Scalar.{Scalar}
+use Rattle.elem_descr.specs.declared.scalar.Scalar.TheVariants.{Bool as BoolScalar, Byte, Int, Bytes}
+use Rattle.elem_descr.specs.Refusals.{◌>>=◌, check}
+use Rattle.shape_strides.specs.Indexes.{count}
+use Rattle.shape_strides.specs.Shapes.{shape_of}
+use Rattle.overlap_copy.specs.declared.owned.Owned.{Owned}
+use Rattle.script_lang.specs.declared.operation.Reduction.{Reduction}
+use Rattle.script_lang.specs.declared.operation.Reduction.TheVariants.{Minimum, Maximum, ArgMin, ArgMax}
+use Rattle.reductions.specs.Lists.{named_axis, is_axis, reduced_shape, list_length}
+use Rattle.reductions.specs.Reductions.{result_scalar}
+
+-- the scalar of items that are numbers
+abbrev pub number_scalar : Descr → Result Scalar Refusal
+number_scalar (ScalarDescr BoolScalar) = Ok BoolScalar
+number_scalar (ScalarDescr (Byte signed)) = Ok (Byte signed)
+number_scalar (ScalarDescr (Int signed width order)) = Ok (Int signed width order)
+number_scalar (ScalarDescr (Bytes n)) = Err NotForThisKind
+number_scalar (RecordDescr structure) = Err NotForThisKind
+
+-- whether a reduction is one of some items at least
+abbrev pub needs_items : Reduction → Bool
+needs_items Minimum = true
+needs_items Maximum = true
+needs_items ArgMin = true
+needs_items ArgMax = true
+needs_items _ = false
+
+-- whether some item of the result would be made of no items
+abbrev pub has_empty_list : List ℕ → Option ℕ → List ℕ → Bool
+has_empty_list shape axis result = (list_length shape axis == 0) && not (count result == 0)
+
+-- the type of an array's items, and its shape
+pub record Outcome : Type 0 where
+  pub descr : Descr
+  pub shape : List ℕ
+
+abbrev pub outcome_of : Owned → Outcome
+outcome_of owned = record { descr = owned.descr; shape = owned.layout.shape }
+
+-- the array that a reduction of items of a type in a shape gives, or the first refusal
+unfoldable pub outcome : Reduction → Descr → List ℕ → Option ℤ → Bool → Result Outcome Refusal
+outcome reduction descr shape named keep = do
+  let axis = named_axis (length shape) named
+  let result = reduced_shape shape axis keep
+  scalar ← number_scalar descr
+  _ ← check (is_axis (length shape) named) BadAxis
+  _ ← check (not (needs_items reduction && has_empty_list shape axis result)) EmptyReduction
+  _ ← shape_of result
+  Ok (record { descr = ScalarDescr (result_scalar reduction scalar); shape = result })

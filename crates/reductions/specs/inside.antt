@@ -1,0 +1,4 @@
+pub mod Numbers
+pub mod FoldLaws
+pub mod FoundLaws
+pub mod Axes

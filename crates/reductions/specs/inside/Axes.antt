@@ -1,0 +1,34 @@
+-- Axes by their numbers.
+use Rattle.std.specs.Prelude.{◌≡◌, ℕ, ◌<◌, Bool, not, ◌&&◌, List, Option, Some, None, Result, Ok, Err}
+use Rattle.std.specs.List.{remove}
+use Rattle.elem_descr.specs.declared.refusal.Refusal.{Refusal}
+use Rattle.elem_descr.specs.declared.refusal.Refusal.TheVariants.{OutOfMemory, EmptyReduction}
+use Rattle.elem_descr.specs.Refusals.{◌>>=◌, check}
+use Rattle.shape_strides.specs.Shapes.{shape_of}
+use Rattle.script_lang.specs.declared.operation.Reduction.{Reduction}
+use Rattle.reductions.specs.Lists.{reduced_shape}
+use Rattle.reductions.specs.Outcomes.{needs_items, has_empty_list}
+use Rattle.shape_strides.specs.declared.layout.Layout.{Layout}
+
+-- one of so many, or none
+abbrev pub IsAxisOf : ℕ → Option ℕ → Type 0
+IsAxisOf rank None = Unit {0}
+IsAxisOf rank (Some axis) = axis < rank
+
+-- a layout of the items at 0 on an axis, without it
+pub record AreStarts (layout : Layout) (axis : ℕ) (starts : Layout) : Type 0 where
+  pub shape : starts.shape ≡ remove layout.shape axis
+  pub strides : starts.strides ≡ remove layout.strides axis
+  pub offset : starts.offset ≡ layout.offset
+
+-- an answer is this, unless memory ran out
+abbrev pub IsUnlessMemory : {X : Type 0} → X → Result X Refusal → Type 0
+IsUnlessMemory x (Ok y) = y ≡ x
+IsUnlessMemory x (Err refusal) = refusal ≡ OutOfMemory
+
+-- the shape of the result, or the first refusal once the axis is found
+unfoldable pub shape_after : Reduction → List ℕ → Option ℕ → Bool → Result (List ℕ) Refusal
+shape_after reduction shape axis keep = do
+  let result = reduced_shape shape axis keep
+  _ ← check (not (needs_items reduction && has_empty_list shape axis result)) EmptyReduction
+  shape_of result

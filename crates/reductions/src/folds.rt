@@ -1,0 +1,382 @@
+//! Reductions that go over numbers one by one.
+ghost use Rattle.std.specs.Prelude.{◌≡◌, ◌+◌, ◌<◌, ◌^◌, ℕ, ℤ, pos, Bool, true, false, [], ◌∷◌, ◌++◌, List, length, if◌then◌else◌, refl};
+ghost use Rattle.std.specs.Int.{int_min, int_max};
+ghost use Rattle.std.specs.List.{fold, list_any, list_all};
+ghost use Rattle.elem_descr.specs.declared.scalar.Order.{Order};
+ghost use Rattle.elem_descr.specs.declared.scalar.Order.TheVariants.{Little};
+ghost use Rattle.elem_descr.specs.Encoding.{decode, low_bits, size};
+ghost use Rattle.elem_descr.specs.Values.{number};
+ghost use Rattle.script_lang.specs.declared.operation.Reduction.{Reduction};
+ghost use Rattle.script_lang.specs.declared.operation.Reduction.TheVariants.{Sum, Product, Minimum, Maximum, Any, All, ArgMin, ArgMax};
+ghost use Rattle.reductions.specs.Reductions.{is_true, sum_of, product_of, least, greatest, first_place, result_scalar};
+ghost use Rattle.reductions.specs.inside.Numbers.{IsReduced};
+ghost use Rattle.reductions.specs.inside.FoldLaws.{sum_bits, product_bits, sum_is, product_is, wide_size, least_from, greatest_from, place_is, first_place-lt, is_true_bits, kept_is, kept_size};
+ghost use Rattle.reductions.specs.inside.FoundLaws.{HasFound, less_taken, less_passed, greater_taken, greater_passed};
+
+use crate::values::Value;
+use elementwise::Number;
+
+/// A reduction of numbers of a type, as it goes over them. It is given the first of them when it starts, and
+/// then all of them, that one too.
+pub(crate) trait Fold<S: Value> {
+    /// What is known of the numbers so far.
+    type Held: Copy;
+
+    /// What comes of them.
+    type Total: Value;
+
+    ghost reduction: { Reduction };
+
+    // What is held belongs to a first number and the numbers so far.
+    ghost holds: { Self.Held → ℤ → List ℤ → Type 0 };
+
+    ghost meaning: { List ℤ → ℤ };
+
+    /// Whether what is held is known from what came of the numbers so far.
+    const RESUMES: bool;
+
+    ghost RESUMES: { Bool };
+
+    fn start(first: S) -> Self::Held
+        ensures { holds result (S.value first) [] };
+
+    /// One number more, which has so many before it.
+    fn step(held: Self::Held, item: S, place: usize) -> Self::Held
+        ensures { (first : ℤ) (seen : List ℤ) → place ≡ length seen → holds held first seen → holds result first (seen ++ S.value item ∷ []) };
+
+    fn finish(held: Self::Held) -> Self::Total
+        ensures { (first : ℤ) (rest : List ℤ) → holds held first (first ∷ rest) → Self.Total.value result ≡ meaning (first ∷ rest) };
+
+    /// What is held once this came of the numbers so far.
+    fn resume(total: Self::Total) -> Self::Held
+        requires { RESUMES ≡ true }
+        ensures { (first : ℤ) (rest : List ℤ) → Self.Total.value total ≡ meaning (first ∷ rest) → holds result first (first ∷ rest) };
+
+    ghost gives: { (order : Order) (bytes : List ℕ) (numbers : List ℤ) → length numbers < 2 ^ 63
+        → decode (Self.Total.scalar Little) bytes ≡ number (meaning numbers) → IsReduced reduction (S.scalar order) numbers bytes };
+
+    ghost has_size: { (order : Order) → size (result_scalar reduction (S.scalar order)) ≡ Self.Total.WIDTH };
+}
+
+pub(crate) struct SumOf;
+
+impl<S: Value> Fold<S> for SumOf {
+    type Held = u64;
+
+    type Total = u64;
+
+    ghost reduction = { Sum };
+
+    ghost holds = { λ held first seen. held ≡ low_bits 8 (sum_of seen) };
+
+    ghost meaning = { λ numbers. pos (low_bits 8 (sum_of numbers)) };
+
+    const RESUMES: bool = true;
+
+    ghost RESUMES = { true };
+
+    ghost gives = { λ order bytes numbers few is. sum_is (S.scalar order) bytes numbers is };
+
+    ghost has_size = { λ order. wide_size (S.scalar order) };
+
+    fn start(first: S) -> u64 {
+        0
+    }
+
+    fn step(held: u64, item: S, place: usize) -> u64 {
+        held.wrapping_add(item.bits())
+    }
+
+    fn finish(held: u64) -> u64 {
+        held
+    }
+
+    fn resume(total: u64) -> u64 {
+        total
+    }
+}
+
+pub(crate) struct ProductOf;
+
+impl<S: Value> Fold<S> for ProductOf {
+    type Held = u64;
+
+    type Total = u64;
+
+    ghost reduction = { Product };
+
+    ghost holds = { λ held first seen. held ≡ low_bits 8 (product_of seen) };
+
+    ghost meaning = { λ numbers. pos (low_bits 8 (product_of numbers)) };
+
+    const RESUMES: bool = true;
+
+    ghost RESUMES = { true };
+
+    ghost gives = { λ order bytes numbers few is. product_is (S.scalar order) bytes numbers is };
+
+    ghost has_size = { λ order. wide_size (S.scalar order) };
+
+    fn start(first: S) -> u64 {
+        1
+    }
+
+    fn step(held: u64, item: S, place: usize) -> u64 {
+        held.wrapping_mul(item.bits())
+    }
+
+    fn finish(held: u64) -> u64 {
+        held
+    }
+
+    fn resume(total: u64) -> u64 {
+        total
+    }
+}
+
+pub(crate) struct Least;
+
+impl<S: Value> Fold<S> for Least {
+    type Held = S;
+
+    type Total = S;
+
+    ghost reduction = { Minimum };
+
+    ghost holds = { λ held first seen. S.value held ≡ fold int_min first seen };
+
+    ghost meaning = { least };
+
+    const RESUMES: bool = true;
+
+    ghost RESUMES = { true };
+
+    ghost gives = { λ order bytes numbers few is. kept_is (S.scalar order) (S.scalar Little) bytes (least numbers) (S.is_little order) is };
+
+    ghost has_size = { λ order. kept_size (S.scalar order) S.WIDTH (S.has_width order) };
+
+    fn start(first: S) -> S {
+        first
+    }
+
+    fn step(held: S, item: S, place: usize) -> S {
+        if item.is_less(held) { item } else { held }
+    }
+
+    fn finish(held: S) -> S {
+        held
+    }
+
+    fn resume(total: S) -> S {
+        total
+    }
+}
+
+pub(crate) struct Greatest;
+
+impl<S: Value> Fold<S> for Greatest {
+    type Held = S;
+
+    type Total = S;
+
+    ghost reduction = { Maximum };
+
+    ghost holds = { λ held first seen. S.value held ≡ fold int_max first seen };
+
+    ghost meaning = { greatest };
+
+    const RESUMES: bool = true;
+
+    ghost RESUMES = { true };
+
+    ghost gives = { λ order bytes numbers few is. kept_is (S.scalar order) (S.scalar Little) bytes (greatest numbers) (S.is_little order) is };
+
+    ghost has_size = { λ order. kept_size (S.scalar order) S.WIDTH (S.has_width order) };
+
+    fn start(first: S) -> S {
+        first
+    }
+
+    fn step(held: S, item: S, place: usize) -> S {
+        if item.is_less(held) { held } else { item }
+    }
+
+    fn finish(held: S) -> S {
+        held
+    }
+
+    fn resume(total: S) -> S {
+        total
+    }
+}
+
+pub(crate) struct AnyTrue;
+
+impl<S: Value> Fold<S> for AnyTrue {
+    type Held = bool;
+
+    type Total = bool;
+
+    ghost reduction = { Any };
+
+    ghost holds = { λ held first seen. held ≡ list_any is_true seen };
+
+    ghost meaning = { λ numbers. if list_any is_true numbers then pos 1 else pos 0 };
+
+    const RESUMES: bool = true;
+
+    ghost RESUMES = { true };
+
+    ghost gives = { λ order bytes numbers few is. is };
+
+    ghost has_size = { λ order. refl };
+
+    fn start(first: S) -> bool {
+        false
+    }
+
+    fn step(held: bool, item: S, place: usize) -> bool {
+        held | (item.bits() != 0)
+    }
+
+    fn finish(held: bool) -> bool {
+        held
+    }
+
+    fn resume(total: bool) -> bool {
+        total
+    }
+}
+
+pub(crate) struct AllTrue;
+
+impl<S: Value> Fold<S> for AllTrue {
+    type Held = bool;
+
+    type Total = bool;
+
+    ghost reduction = { All };
+
+    ghost holds = { λ held first seen. held ≡ list_all is_true seen };
+
+    ghost meaning = { λ numbers. if list_all is_true numbers then pos 1 else pos 0 };
+
+    const RESUMES: bool = true;
+
+    ghost RESUMES = { true };
+
+    ghost gives = { λ order bytes numbers few is. is };
+
+    ghost has_size = { λ order. refl };
+
+    fn start(first: S) -> bool {
+        true
+    }
+
+    fn step(held: bool, item: S, place: usize) -> bool {
+        held & (item.bits() != 0)
+    }
+
+    fn finish(held: bool) -> bool {
+        held
+    }
+
+    fn resume(total: bool) -> bool {
+        total
+    }
+}
+
+/// The best number so far, and where it stands first.
+#[derive(Clone, Copy)]
+pub(crate) struct Found<S> {
+    best: S,
+    place: usize,
+}
+
+pub(crate) struct PlaceOfLeast;
+
+impl<S: Value> Fold<S> for PlaceOfLeast {
+    type Held = Found<S>;
+
+    type Total = u64;
+
+    ghost reduction = { ArgMin };
+
+    ghost holds = { λ held first seen. HasFound int_min (S.value held.best) held.place first seen };
+
+    ghost meaning = { λ numbers. pos (first_place (least numbers) numbers) };
+
+    const RESUMES: bool = false;
+
+    ghost RESUMES = { false };
+
+    ghost gives = { λ order bytes numbers few is. place_is bytes (first_place (least numbers) numbers) (first_place-lt (least numbers) numbers few) is };
+
+    ghost has_size = { λ order. refl };
+
+    fn start(first: S) -> Found<S> {
+        Found {
+            best: first,
+            place: 0,
+        }
+    }
+
+    fn step(held: Found<S>, item: S, place: usize) -> Found<S> {
+        if item.is_less(held.best) {
+            return Found { best: item, place };
+        }
+        held
+    }
+
+    fn finish(held: Found<S>) -> u64 {
+        held.place as u64
+    }
+
+    fn resume(total: u64) -> Found<S> {
+        unreachable!()
+    }
+}
+
+pub(crate) struct PlaceOfGreatest;
+
+impl<S: Value> Fold<S> for PlaceOfGreatest {
+    type Held = Found<S>;
+
+    type Total = u64;
+
+    ghost reduction = { ArgMax };
+
+    ghost holds = { λ held first seen. HasFound int_max (S.value held.best) held.place first seen };
+
+    ghost meaning = { λ numbers. pos (first_place (greatest numbers) numbers) };
+
+    const RESUMES: bool = false;
+
+    ghost RESUMES = { false };
+
+    ghost gives = { λ order bytes numbers few is. place_is bytes (first_place (greatest numbers) numbers) (first_place-lt (greatest numbers) numbers few) is };
+
+    ghost has_size = { λ order. refl };
+
+    fn start(first: S) -> Found<S> {
+        Found {
+            best: first,
+            place: 0,
+        }
+    }
+
+    fn step(held: Found<S>, item: S, place: usize) -> Found<S> {
+        if held.best.is_less(item) {
+            return Found { best: item, place };
+        }
+        held
+    }
+
+    fn finish(held: Found<S>) -> u64 {
+        held.place as u64
+    }
+
+    fn resume(total: u64) -> Found<S> {
+        unreachable!()
+    }
+}

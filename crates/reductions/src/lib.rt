@@ -1,0 +1,16 @@
+//! Reductions: sums and products, least and greatest items and their places, of all items of an array or
+//! along one of its axes.
+#![tactic(auto)]
+
+mod axes;
+mod empties;
+mod fills;
+mod folds;
+mod kinds;
+mod lines;
+mod outcomes;
+mod reducing;
+mod rows;
+mod values;
+
+pub use reducing::reduce;

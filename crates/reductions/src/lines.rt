@@ -1,0 +1,123 @@
+//! Items along a line, and what comes of them.
+ghost use Rattle.std.specs.Prelude.{◌≡◌, ◌+◌, ◌*◌, ◌^◌, ◌<◌, ◌≤◌, ◌⊎◌, ℕ, ℤ, List, ◌++◌, pos, length, IsTrue};
+ghost use Rattle.elem_descr.specs.declared.scalar.Order.TheVariants.{Little};
+ghost use Rattle.elem_descr.specs.Encoding.{decode};
+ghost use Rattle.elem_descr.specs.Values.{number};
+ghost use Rattle.raw_block.specs.Bytes.{place, item_at, EachWithin};
+ghost use Rattle.shape_strides.specs.Runs.{run_along, run_offsets};
+ghost use Rattle.reductions.specs.inside.Numbers.{number_at, numbers_at, IsReduced};
+
+use crate::folds::Fold;
+use crate::values::Value;
+use elementwise::{Number, Ordered, place};
+use shape_strides::{Run, StridedAxis};
+
+/// The number at an offset.
+#[inline(always)]
+pub(crate) fn number_at<S: Number, O: Ordered>(bytes: &[u8], at: usize) -> S
+    requires { at + S.WIDTH ≤ length bytes.now }
+    ensures { S.value result ≡ number_at (S.scalar O.order) bytes.now at }
+{
+    S::read::<O>(&bytes[at..at + S::WIDTH])
+}
+
+/// Goes over the numbers of a run, which have `seen` before them.
+#[inline(always)]
+fn fold_each<S: Value, O: Ordered, F: Fold<S>>(
+    held: F::Held,
+    seen: usize,
+    bytes: &[u8],
+    run: Run,
+) -> F::Held
+    requires few { seen + run.count < 2 ^ 63 }
+    requires within { EachWithin (length bytes.now) run.offset run.step S.WIDTH run.count }
+    ensures { (first : ℤ) (before : List ℤ) → seen ≡ length before → F.holds held first before
+        → F.holds result first (before ++ numbers_at (S.scalar O.order) bytes.now (run_offsets run)) }
+{
+    let mut held = held;
+    for k in 0..run.count {
+        held = F::step(held, number_at::<S, O>(bytes, place(run, k)), seen + k);
+    }
+    held
+}
+
+/// The same, with a loop of its own for numbers that lie one right after the other.
+pub(crate) fn fold_run<S: Value, O: Ordered, F: Fold<S>>(
+    held: F::Held,
+    seen: usize,
+    bytes: &[u8],
+    run: Run,
+) -> F::Held
+    requires few { seen + run.count < 2 ^ 63 }
+    requires within { EachWithin (length bytes.now) run.offset run.step S.WIDTH run.count }
+    ensures { (first : ℤ) (before : List ℤ) → seen ≡ length before → F.holds held first before
+        → F.holds result first (before ++ numbers_at (S.scalar O.order) bytes.now (run_offsets run)) }
+{
+    if run.step == S::WIDTH as isize {
+        let near = Run {
+            offset: run.offset,
+            count: run.count,
+            step: S::WIDTH as isize,
+        };
+        return fold_each::<S, O, F>(held, seen, bytes, near);
+    }
+    fold_each::<S, O, F>(held, seen, bytes, run)
+}
+
+/// What comes of the numbers of a run.
+fn fold_line<S: Value, O: Ordered, F: Fold<S>>(bytes: &[u8], line: Run) -> F::Total
+    requires some { 1 ≤ line.count }
+    requires few { line.count < 2 ^ 63 }
+    requires within { EachWithin (length bytes.now) line.offset line.step S.WIDTH line.count }
+    ensures { F.Total.value result ≡ F.meaning (numbers_at (S.scalar O.order) bytes.now (run_offsets line)) }
+{
+    let first = number_at::<S, O>(bytes, line.offset);
+    let held = fold_run::<S, O, F>(F::start(first), 0, bytes, line);
+    F::finish(held)
+}
+
+/// The items that an axis leads to from an offset on.
+#[inline(always)]
+pub(crate) fn line_along(axis: StridedAxis, offset: usize) -> Run
+    ensures { result ≡ run_along axis offset }
+{
+    Run {
+        offset,
+        count: axis.len,
+        step: axis.stride,
+    }
+}
+
+/// Writes a number to the bytes from `at` on, the lowest first.
+#[inline(always)]
+pub(crate) fn store_at<T: Value>(total: T, row: &mut [u8], at: usize)
+    requires { at + T.WIDTH ≤ length row.old }
+    ensures value { decode (T.scalar Little) (item_at at T.WIDTH row.new) ≡ number (T.value total) }
+    ensures others { (other : ℕ) → other + T.WIDTH ≤ length row.old → (other + T.WIDTH ≤ at) ⊎ (at + T.WIDTH ≤ other) → item_at other T.WIDTH row.new ≡ item_at other T.WIDTH row.old }
+    ensures len { length row.new ≡ length row.old }
+{
+    total.store(&mut row[at..at + T::WIDTH]);
+}
+
+/// Writes what comes of the line along an axis from each item of a run on.
+pub(crate) fn fill_by_lines<S: Value, O: Ordered, F: Fold<S>>(
+    row: &mut [u8],
+    starts: Run,
+    axis: StridedAxis,
+    bytes: &[u8],
+)
+    requires room { length row.old ≡ starts.count * F.Total.WIDTH }
+    requires some { 1 ≤ axis.len }
+    requires few { (axis.len < 2 ^ 63) × (starts.count < 2 ^ 63) }
+    requires starts { EachWithin (length bytes.now) starts.offset starts.step S.WIDTH starts.count }
+    requires lines { (j : ℕ) → j < starts.count → EachWithin (length bytes.now) (place starts.offset starts.step j) axis.stride S.WIDTH axis.len }
+    ensures items { (j : ℕ) → j < starts.count → IsReduced F.reduction (S.scalar O.order)
+        (numbers_at (S.scalar O.order) bytes.now (run_offsets (run_along axis (place starts.offset starts.step j))))
+        (item_at (j * F.Total.WIDTH) F.Total.WIDTH row.new) }
+    ensures len { length row.new ≡ length row.old }
+{
+    for j in 0..starts.count {
+        let total = fold_line::<S, O, F>(bytes, line_along(axis, place(starts, j)));
+        store_at(total, row, j * <F::Total as Number>::WIDTH);
+    }
+}
