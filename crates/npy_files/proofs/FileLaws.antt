@@ -18,7 +18,7 @@ low_bytes width n rest (inr four) = rw four refl
 pub spaces : (n b : ℕ) → n ≤ 64 → take n (replicate 64 b) ≡ replicate n b
 spaces n b few = take-replicate n 64 b few
 
-length-padded : (before : ℕ) (text : List ℕ) → length (padded_text before text) ≡ length text + spaces_after (before + length text) + 1
+pub length-padded : (before : ℕ) (text : List ℕ) → length (padded_text before text) ≡ length text + spaces_after (before + length text) + 1
 length-padded before text =
     let n = spaces_after (before + length text) in
     omega (arith, length-append text (replicate n 32 ++ codes "\n"), length-append (replicate n 32) (codes "\n"), length-replicate {A = ℕ} n 32)

@@ -11,3 +11,11 @@ pub mod ScalarBytes
 pub mod WrittenItemLaws
 pub mod GatherLaws
 pub mod WriterLaws
+pub mod ReadTokens
+pub mod ReadValues
+pub mod Spellings
+pub mod ReadRecords
+pub mod ReadHeaders
+pub mod LoadLaws
+pub mod TextLengths
+pub mod RoundTrip

@@ -122,7 +122,7 @@ scalar_again (Int signed width order) bytes other long are =
     ap (bytes_of order n) (low_bits-integer signed n (number_in order n bytes) (number-lt order n bytes are)) ∙ again order n bytes long are
 scalar_again (Bytes n) bytes other long are = text_again n bytes long
 
-truth-twice : (n : ℕ) → truth (truth n) ≡ truth n
+pub truth-twice : (n : ℕ) → truth (truth n) ≡ truth n
 truth-twice n = elim (nat_eq n 0) as (λ t. truth (cond t 0 1) ≡ cond t 0 1) [ true ↦ refl | false ↦ refl ]
 
 -- the byte of a bool

@@ -40,7 +40,7 @@ length-gathered width (offset ∷ offsets) bytes inside =
     omega (arith, length-append (item_at offset width bytes) (gathered width bytes offsets), length-item_at offset width bytes (All-head (λ o. o + width ≤ length bytes) offset offsets inside), length-gathered width offsets bytes (All-tail (λ o. o + width ≤ length bytes) offset offsets inside), suc-mul (length offsets) width)
 
 -- items in the order of the file, whether of their addresses or of their values
-ordered-items : (g : ℕ → List LeafValue) (fortran : Bool) (shape offsets : List ℕ) → length offsets ≡ count shape → ordered (order_of fortran) shape (map g offsets) ≡ map g (if fortran then fortran_order shape offsets else offsets)
+pub ordered-items : (g : ℕ → List LeafValue) (fortran : Bool) (shape offsets : List ℕ) → length offsets ≡ count shape → ordered (order_of fortran) shape (map g offsets) ≡ map g (if fortran then fortran_order shape offsets else offsets)
 ordered-items g false shape offsets long = refl
 ordered-items g true shape offsets long =
     let all = indexes (reverse shape) in

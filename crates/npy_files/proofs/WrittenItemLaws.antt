@@ -39,7 +39,7 @@ put_again at n bytes within =
 
 -- ---- leaves
 
-length-encode : (scalar : Scalar) (value : LeafValue) → length (encode scalar value) ≡ size scalar
+pub length-encode : (scalar : Scalar) (value : LeafValue) → length (encode scalar value) ≡ size scalar
 length-encode BoolScalar value = refl
 length-encode (Byte signed) value = length-bytes_low_first 0 1 (low_bits 1 (number_of value))
 length-encode (Int signed width Little) value = length-bytes_low_first 0 (width_size width) (low_bits (width_size width) (number_of value))
@@ -128,7 +128,7 @@ item_written end i leaves item item' whole done low cleared rest =
     ∙ sym (ap (λ left. take end item ++ encode_from end left (map (read_leaf item) left) (length item)) (drop_all i leaves done))
     ∙ rest
 
-length-written : (from : ℕ) (leaves : List Leaf) (item : List ℕ) (bytes : ℕ) → AreInOrder from leaves bytes → length (encode_from from leaves (map (read_leaf item) leaves) bytes) ≡ bytes - from
+pub length-written : (from : ℕ) (leaves : List Leaf) (item : List ℕ) (bytes : ℕ) → AreInOrder from leaves bytes → length (encode_from from leaves (map (read_leaf item) leaves) bytes) ≡ bytes - from
 length-written from [] item bytes order = length-replicate (bytes - from) 0
 length-written from (leaf ∷ leaves) item bytes order =
     let gap : List ℕ = replicate (leaf.at - from) 0 in

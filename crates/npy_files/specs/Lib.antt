@@ -8,4 +8,5 @@ pub mod Headers
 pub mod Files
 pub mod WrittenHeaders
 pub mod WrittenFiles
+pub mod SavedFiles
 pub mod inside

@@ -3,3 +3,4 @@ pub mod ValueCodes
 pub mod ValueCounts
 pub mod Entries
 pub mod WrittenItems
+pub mod Sound

@@ -1,5 +1,5 @@
 //! Files that are written.
-ghost use Rattle.std.specs.Prelude.{◌≡◌, ◌+◌, ◌*◌, ◌<◌, ◌≤◌, ◌++◌, length, map, take, drop, All, IfOk, Err};
+ghost use Rattle.std.specs.Prelude.{◌≡◌, Bool, ◌+◌, ◌*◌, ◌<◌, ◌≤◌, ◌++◌, length, map, take, drop, All, IfOk, Err};
 ghost use Rattle.std.specs.List.{flat_map};
 ghost use Rattle.elem_descr.specs.declared.refusal.Refusal.TheVariants.{TooLarge};
 ghost use Rattle.elem_descr.specs.Refusals.{Gives};
@@ -10,6 +10,8 @@ ghost use Rattle.shape_strides.specs.Indexes.{count};
 ghost use Rattle.shape_strides.specs.Layouts.{offsets};
 ghost use Rattle.npy_files.specs.WrittenHeaders.{written_text, written_header};
 ghost use Rattle.npy_files.specs.WrittenFiles.{is_fortran, file_of, saved};
+ghost use Rattle.npy_files.specs.SavedFiles.{LoadsAs};
+ghost use Rattle.npy_files.specs.inside.Sound.{IsSound};
 
 use crate::file_header::file_header;
 use crate::header_text::header_text;
@@ -67,11 +69,33 @@ fn written(
     Ok(file)
 }
 
+/// What holds of an element type.
+fn look_at(descr: &Descr)
+    ensures { IsSound descr.now }
+{
+    let _bytes = match descr {
+        Descr::Scalar(scalar) => scalar.size(),
+        Descr::Record(whole) => whole.size(),
+    };
+}
+
+/// What is written of the items of a layout is loaded again.
+fn will_load(bytes: &[u8], layout: &Layout, descr: &Descr)
+    requires inside { All (λ offset. offset + item_size descr.now ≤ length bytes.now) (offsets layout.now) }
+    requires small { count layout.now.shape * item_size descr.now ≤ max_bytes }
+    ensures { (fortran : Bool) → let items = map (item_from descr.now bytes.now) (offsets layout.now) in LoadsAs (file_of descr.now fortran layout.now.shape items) descr.now layout.now.shape items }
+{
+    look_at(descr);
+    let _bytes = bytes.len();
+    let _lengths = layout.shape.as_slice();
+}
+
 /// The file of the items of a layout: of version 1.0, or of 2.0 where the header is too long for that.
 /// The items are in Fortran order where they lie so and not in C order, and else in C order; their
 /// padding is zero, and a bool 0 or 1, whatever the block holds there.
 ///
-/// More than 2^28 bytes of items are `TooLarge`.
+/// More than 2^28 bytes of items are `TooLarge`. Every other file loads as an array of the same element
+/// type, shape and items.
 pub fn npy_write(
     alloc: Global,
     block: &RawBlock,
@@ -81,10 +105,13 @@ pub fn npy_write(
     requires inside { All (λ offset. offset + item_size descr.now ≤ length block.now) (offsets layout.now) }
     ensures gives { Gives (λ file. file.items) result (saved descr.now layout.now.shape (offsets layout.now) (map (item_from descr.now block.now) (offsets layout.now))) }
     ensures large { max_bytes < count layout.now.shape * item_size descr.now → result ≡ Err TooLarge }
+    ensures loads { IfOk result (λ file. LoadsAs file.items descr.now layout.now.shape (map (item_from descr.now block.now) (offsets layout.now))) }
 {
     let len = layout.shape.items() * descr.size();
     if len > MAX_BYTES {
         return Err(Refusal::TooLarge);
     }
-    Ok(written(alloc, block.bytes(), layout, descr, len)?)
+    let bytes = block.bytes();
+    will_load(bytes, layout, descr);
+    Ok(written(alloc, bytes, layout, descr, len)?)
 }

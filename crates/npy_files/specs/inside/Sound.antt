@@ -1,0 +1,11 @@
+-- What holds of every element type.
+use Rattle.std.specs.Prelude.{◌≤◌}
+use Rattle.elem_descr.specs.declared.descr.Descr.{Descr}
+use Rattle.elem_descr.specs.declared.descr.Descr.TheVariants.{Scalar as ScalarDescr, Record as RecordDescr}
+use Rattle.elem_descr.specs.Encoding.{size}
+use Rattle.elem_descr.specs.Descriptors.{IsLegal}
+
+-- a scalar of 1 to 65,536 bytes, or a legal record
+abbrev pub IsSound : Descr → Type 0
+IsSound (ScalarDescr scalar) = (1 ≤ size scalar) × (size scalar ≤ 65536)
+IsSound (RecordDescr structure) = IsLegal structure
