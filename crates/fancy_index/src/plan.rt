@@ -99,6 +99,13 @@ impl Plan {
         &self.shape
     }
 
+    /// The number of items.
+    pub fn len(&self) -> usize
+        ensures { result ≡ length self.now.offsets }
+    {
+        self.shape.items()
+    }
+
     /// The offset of the item at a rank.
     pub fn offset(&self, rank: usize) -> usize
         requires { rank < length self.now.offsets }
