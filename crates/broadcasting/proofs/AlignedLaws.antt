@@ -1,16 +1,13 @@
 -- Laws of shapes that are lined up, axis by axis.
-use Rattle.std.proofs.Common.{◌≡◌, ℕ, suc, ◌+◌, ◌-◌, ◌<◌, ◌≤◌, ◌&&◌, max, Bool, true, false, Ok, Err, ℤ, pos, List, [], ◌∷◌, ◌++◌, length, drop, get_or, replicate, refl, sym, ap, ◌∙◌, arith, length-append, append-nil}
+use Rattle.std.proofs.Common.{◌≡◌, ℕ, ◌+◌, ◌<◌, ◌≤◌, ◌&&◌, max, Bool, true, false, Ok, Err, ℤ, pos, List, [], ◌∷◌, ◌++◌, length, drop, get_or, refl, sym, ap, ◌∙◌, arith, append-nil}
 use Rattle.std.proofs.Math.Nat.{le-max_left, le-max_right}
 use Rattle.std.proofs.Math.ListN.{drop_of_length-le}
-use Rattle.std.proofs.lemmas.Bool.{false≢true, false_from_ne_true, and_left, and_parts}
-use Rattle.std.proofs.lemmas.List.{drop_more, length-replicate}
+use Rattle.std.proofs.lemmas.Bool.{false_from_ne_true, and_left}
+use Rattle.std.proofs.lemmas.List.{drop_more}
 use Rattle.elem_descr.specs.declared.refusal.Refusal.TheVariants.{ShapesDoNotBroadcast}
 use Rattle.broadcasting.specs.Broadcasts.{aligned, go_together, common_length, all_go_together, common_lengths, common_of_two, stretches, all_stretch, can_stretch}
+use Rattle.broadcasting.specs.FitLaws.{length-aligned, common-none, common-some, few-axes}
 use Rattle.broadcasting.specs.inside.Stretches.{kept_stride, kept_strides}
-
-pub length-aligned : (rank : ℕ) (shape : List ℕ) → length shape ≤ rank → length (aligned rank shape) ≡ rank
-length-aligned rank shape few =
-    omega (arith, length-append (replicate (rank - length shape) 1) shape, length-replicate {A = ℕ} (rank - length shape) 1)
 
 -- ---- the common lengths of two shapes
 
@@ -19,16 +16,6 @@ together-drop left right k in-left in-right = rw (drop_more left k 0 in-left, dr
 
 pub common-drop : (left right : List ℕ) (k : ℕ) → k < length left → k < length right → common_lengths (drop k left) (drop k right) ≡ common_length (get_or left k 0) (get_or right k 0) ∷ common_lengths (drop (k + 1) left) (drop (k + 1) right)
 common-drop left right k in-left in-right = rw (drop_more left k 0 in-left, drop_more right k 0 in-right) refl
-
-pub common-none : (left right : List ℕ) (rank : ℕ) → rank ≡ max (length left) (length right) → all_go_together (aligned rank left) (aligned rank right) ≡ false → common_of_two left right ≡ Err ShapesDoNotBroadcast
-unfolding common_of_two
-common-none left right rank is none = let found = ap (λ r. all_go_together (aligned r left) (aligned r right)) (sym is) ∙ none in rw found
-
-pub common-some : (left right : List ℕ) (rank : ℕ) → rank ≡ max (length left) (length right) → all_go_together (aligned rank left) (aligned rank right) ≡ true → common_of_two left right ≡ Ok (common_lengths (aligned rank left) (aligned rank right))
-unfolding common_of_two
-common-some left right rank is all =
-    let found = ap (λ r. all_go_together (aligned r left) (aligned r right)) (sym is) ∙ all in
-    rw found (ap (λ r. Ok (common_lengths (aligned r left) (aligned r right))) (sym is))
 
 -- the shapes do not go together at this axis
 pub refused-at : (left right : List ℕ) (rank axis first second : ℕ) (together : Bool) → rank ≡ max (length left) (length right) → axis < rank → first ≡ get_or (aligned rank left) axis 0 → second ≡ get_or (aligned rank right) axis 0 → together ≡ go_together first second → together ≡ false → all_go_together (drop axis (aligned rank left)) (drop axis (aligned rank right)) ≡ all_go_together (aligned rank left) (aligned rank right) → common_of_two left right ≡ Err ShapesDoNotBroadcast
@@ -53,17 +40,6 @@ found-all left right rank axis lengths is past together are =
 
 pub stretch-drop : (shape target : List ℕ) (k : ℕ) → k < length shape → k < length target → all_stretch (drop k shape) (drop k target) ≡ stretches (get_or shape k 0) (get_or target k 0) && all_stretch (drop (k + 1) shape) (drop (k + 1) target)
 stretch-drop shape target k in-shape in-target = rw (drop_more shape k 0 in-shape, drop_more target k 0 in-target) refl
-
-pub length-all_stretch : (shape target : List ℕ) → all_stretch shape target ≡ true → length shape ≡ length target
-length-all_stretch [] [] all = refl
-length-all_stretch [] (n ∷ target) all = absurd (false≢true all)
-length-all_stretch (m ∷ shape) [] all = absurd (false≢true all)
-length-all_stretch (m ∷ shape) (n ∷ target) all = ap suc (length-all_stretch shape target (and_parts (stretches m n) (all_stretch shape target) all).1)
-
--- no shape stretches to one of fewer axes
-pub few-axes : (shape target : List ℕ) → can_stretch shape target ≡ true → length shape ≤ length target
-few-axes shape target can =
-    omega (arith, length-all_stretch (aligned (length target) shape) target can, length-append (replicate (length target - length shape) 1) shape, length-replicate {A = ℕ} (length target - length shape) 1)
 
 pub too-many-axes : (shape target : List ℕ) → length target < length shape → can_stretch shape target ≡ false
 too-many-axes shape target many = false_from_ne_true (can_stretch shape target) (λ can. omega (arith, few-axes shape target can))

@@ -3,5 +3,4 @@ pub mod StretchLaws
 pub mod FewerLaws
 pub mod IntoLaws
 pub mod CommonLaws
-pub mod Fits
 mod Vectors

@@ -1,7 +1,6 @@
 -- A stretched layout is a view.
-use Rattle.std.proofs.Common.{◌≡◌, Option, Some, Ok, Err, ℕ, zero, suc, ◌-◌, ◌<◌, ◌==◌, ◌||◌, Bool, true, false, if◌then◌else◌, ℤ, pos, ◌+ℤ◌, ◌*ℤ◌, List, [], ◌∷◌, ◌++◌, length, drop, replicate, refl, sym, ap, subst, ◌∙◌, arith, zero-mul, length-append}
+use Rattle.std.proofs.Common.{◌≡◌, Option, Some, Ok, Err, ℕ, zero, suc, ◌-◌, ◌<◌, ◌==◌, Bool, true, false, if◌then◌else◌, ℤ, pos, ◌+ℤ◌, ◌*ℤ◌, List, [], ◌∷◌, ◌++◌, length, drop, replicate, refl, sym, ap, subst, ◌∙◌, arith, zero-mul, length-append}
 use Rattle.std.specs.Option.{IfSome}
-use Rattle.std.proofs.lemmas.Bool.{false≢true, eqb-true, and_parts}
 use Rattle.std.proofs.lemmas.List.{length-replicate}
 use lib.IntN.{+ℤ_idl, *ℤ-zero}
 use Rattle.elem_descr.specs.declared.refusal.Refusal.TheVariants.{ShapesDoNotBroadcast}
@@ -10,48 +9,15 @@ use Rattle.shape_strides.specs.Limits.{max_bytes}
 use Rattle.shape_strides.specs.Indexes.{count, IsIndex}
 use Rattle.shape_strides.specs.Addresses.{dot, address_at, LieWithin}
 use Rattle.shape_strides.specs.Layouts.{offsets}
-use Rattle.shape_strides.specs.IndexLaws.{length-index, rank-lt}
+use Rattle.shape_strides.specs.IndexLaws.{rank-lt}
 use Rattle.shape_strides.specs.AxisLaws.{dot-nil}
 use Rattle.view_ops.specs.Views.{view_through, IsViewOf, GivesView}
 use Rattle.view_ops.specs.inside.Shows.{Shows, IsView}
 use Rattle.view_ops.specs.ViewLaws.{LieWithin-view, inside-view, offsets-view}
-use Rattle.broadcasting.specs.Broadcasts.{stretches, all_stretch, can_stretch, within_axes, broadcast_index, stretched}
+use Rattle.broadcasting.specs.Broadcasts.{can_stretch, within_axes, broadcast_index, stretched}
 use Rattle.broadcasting.specs.inside.Stretches.{kept_strides}
-use Rattle.broadcasting.proofs.AlignedLaws.{few-axes}
-
--- ---- where an index leads
-
-number-within : (m n k : ℕ) → stretches m n ≡ true → k < n → (if m == 1 then 0 else k) < m
-number-within m n k can below =
-    elim (m == 1) as (λ t. (m == 1) ≡ t → ((m == n) || t) ≡ true → (if t then 0 else k) < m) [
-      | true ↦ λ one can. omega (arith, eqb-true m 1 one)
-      | false ↦ λ other can. grind (arith, eqb-true m n)
-    ] refl can
-
-IsIndex-within : (shape target index : List ℕ) → all_stretch shape target ≡ true → IsIndex target index → IsIndex shape (within_axes shape index)
-IsIndex-within [] [] [] all in' = tt
-IsIndex-within [] [] (k ∷ index) all in' = absurd in'
-IsIndex-within [] (n ∷ target) index all in' = absurd (false≢true all)
-IsIndex-within (m ∷ shape) [] index all in' = absurd (false≢true all)
-IsIndex-within (m ∷ shape) (n ∷ target) [] all in' = absurd in'
-IsIndex-within (m ∷ shape) (n ∷ target) (k ∷ index) all in' =
-    let can = and_parts (stretches m n) (all_stretch shape target) all in
-    (number-within m n k can.0 in'.0, IsIndex-within shape target index can.1 in'.1)
-
--- behind so many new axes
-IsIndex-behind : (more : ℕ) (shape target index : List ℕ) → all_stretch (replicate more 1 ++ shape) target ≡ true → IsIndex target index → IsIndex shape (within_axes shape (drop more index))
-IsIndex-behind zero shape target index all in' = IsIndex-within shape target index all in'
-IsIndex-behind (suc more) shape [] index all in' = absurd (false≢true all)
-IsIndex-behind (suc more) shape (n ∷ target) [] all in' = absurd in'
-IsIndex-behind (suc more) shape (n ∷ target) (k ∷ index) all in' =
-    IsIndex-behind more shape target index (and_parts (stretches 1 n) (all_stretch (replicate more 1 ++ shape) target) all).1 in'.1
-
-broadcast_index-is : (shape target index : List ℕ) → IsIndex target index → broadcast_index shape index ≡ within_axes shape (drop (length target - length shape) index)
-broadcast_index-is shape target index in' = ap (λ n. within_axes shape (drop (n - length shape) index)) (length-index target index in')
-
-leads : (shape target index : List ℕ) → can_stretch shape target ≡ true → IsIndex target index → IsIndex shape (broadcast_index shape index)
-leads shape target index can in' =
-    rw (broadcast_index-is shape target index in') (IsIndex-behind (length target - length shape) shape target index can in')
+use Rattle.broadcasting.specs.BroadcastLaws.{broadcast_index-is, IsIndex-broadcast}
+use Rattle.broadcasting.specs.FitLaws.{few-axes}
 
 -- ---- addresses
 
@@ -87,7 +53,7 @@ stretched-dot old target strides index made in' =
 
 pub stretched-shows : (old : Layout) (target : List ℕ) (strides : List ℤ) → IsStretched old target strides → Shows old target strides old.offset (broadcast_index old.shape)
 stretched-shows old target strides made = record {
-  leads = λ index in'. leads old.shape target index made.can in';
+  leads = λ index in'. IsIndex-broadcast old.shape target index made.can in';
   same = λ index in'. ap (λ z. pos old.offset +ℤ z) (stretched-dot old target strides index made in');
 }
 

@@ -1,8 +1,8 @@
 -- Laws of broadcasting: a shape stretches to itself as it is, and what is stretched into a target has its shape.
-use Rattle.std.proofs.Common.{◌≡◌, Result, Ok, Err, ℕ, ◌-◌, ◌<◌, ◌==◌, ◌&&◌, true, false, if◌then◌else◌, List, [], ◌∷◌, ◌++◌, length, take, drop, replicate, refl, sym, ap, ◌∙◌, arith}
+use Rattle.std.proofs.Common.{◌≡◌, Result, Ok, Err, ℕ, zero, suc, ◌-◌, ◌<◌, ◌==◌, ◌&&◌, ◌||◌, true, false, if◌then◌else◌, List, [], ◌∷◌, ◌++◌, length, take, drop, replicate, refl, sym, ap, ◌∙◌, arith}
 use Rattle.std.specs.List.{list_all}
 use Rattle.std.specs.Result.{is_ok}
-use Rattle.std.proofs.lemmas.Bool.{false≢true, eqb-true}
+use Rattle.std.proofs.lemmas.Bool.{false≢true, eqb-true, and_parts}
 use Rattle.std.proofs.lemmas.Bool.Decides.{nat_tests}
 use Rattle.elem_descr.specs.declared.refusal.Refusal.{Refusal}
 use Rattle.elem_descr.specs.declared.refusal.Refusal.TheVariants.{ShapesDoNotBroadcast}
@@ -57,6 +57,40 @@ into-none shape target k is none = rw (sym is ∙ none)
 pub into-itself : (shape : List ℕ) → stretched_into shape shape ≡ Ok (record { shape = shape; leads = broadcast_index shape })
 into-itself shape =
     into-none shape shape (length shape - length shape) refl (none-beyond shape) ∙ ap (λ r. r >>= (λ view. Ok (record { shape = shape; leads = λ index. view.leads index }))) (stretched-itself shape)
+
+-- ---- where an index of a larger shape leads
+
+number-within : (m n k : ℕ) → stretches m n ≡ true → k < n → (if m == 1 then 0 else k) < m
+number-within m n k can below =
+    elim (m == 1) as (λ t. (m == 1) ≡ t → ((m == n) || t) ≡ true → (if t then 0 else k) < m) [
+      | true ↦ λ one can. omega (arith, eqb-true m 1 one)
+      | false ↦ λ other can. grind (arith, eqb-true m n)
+    ] refl can
+
+IsIndex-within : (shape target index : List ℕ) → all_stretch shape target ≡ true → IsIndex target index → IsIndex shape (within_axes shape index)
+IsIndex-within [] [] [] all in' = tt
+IsIndex-within [] [] (k ∷ index) all in' = absurd in'
+IsIndex-within [] (n ∷ target) index all in' = absurd (false≢true all)
+IsIndex-within (m ∷ shape) [] index all in' = absurd (false≢true all)
+IsIndex-within (m ∷ shape) (n ∷ target) [] all in' = absurd in'
+IsIndex-within (m ∷ shape) (n ∷ target) (k ∷ index) all in' =
+    let can = and_parts (stretches m n) (all_stretch shape target) all in
+    (number-within m n k can.0 in'.0, IsIndex-within shape target index can.1 in'.1)
+
+-- behind so many new axes
+IsIndex-behind : (more : ℕ) (shape target index : List ℕ) → all_stretch (replicate more 1 ++ shape) target ≡ true → IsIndex target index → IsIndex shape (within_axes shape (drop more index))
+IsIndex-behind zero shape target index all in' = IsIndex-within shape target index all in'
+IsIndex-behind (suc more) shape [] index all in' = absurd (false≢true all)
+IsIndex-behind (suc more) shape (n ∷ target) [] all in' = absurd in'
+IsIndex-behind (suc more) shape (n ∷ target) (k ∷ index) all in' =
+    IsIndex-behind more shape target index (and_parts (stretches 1 n) (all_stretch (replicate more 1 ++ shape) target) all).1 in'.1
+
+pub broadcast_index-is : (shape target index : List ℕ) → IsIndex target index → broadcast_index shape index ≡ within_axes shape (drop (length target - length shape) index)
+broadcast_index-is shape target index in' = ap (λ n. within_axes shape (drop (n - length shape) index)) (length-index target index in')
+
+pub IsIndex-broadcast : (shape target index : List ℕ) → can_stretch shape target ≡ true → IsIndex target index → IsIndex shape (broadcast_index shape index)
+IsIndex-broadcast shape target index can in' =
+    rw (broadcast_index-is shape target index in') (IsIndex-behind (length target - length shape) shape target index can in')
 
 -- ---- the shape of what is stretched
 

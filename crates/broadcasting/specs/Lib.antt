@@ -1,3 +1,4 @@
 pub mod Broadcasts
 pub mod BroadcastLaws
+pub mod FitLaws
 pub mod inside

@@ -7,3 +7,4 @@ pub mod GatherLaws
 pub mod SourceLaws
 pub mod NumberLoops
 pub mod PointLaws
+pub mod PartLaws

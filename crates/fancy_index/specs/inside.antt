@@ -1,3 +1,4 @@
 pub mod Kept
 pub mod Packed
 pub mod PointLists
+pub mod PartLists

@@ -1,17 +1,20 @@
 //! What is refused of an index list with arrays, each over the whole list.
-ghost use Rattle.std.specs.Prelude.{◌≡◌, ◌≢◌, ◌+◌, ◌-◌, ◌<◌, ◌≤◌, length, drop, nat_le, map, pos, slice_index_or, true, All};
+ghost use Rattle.std.specs.Prelude.{◌≡◌, ◌≢◌, ◌+◌, ◌-◌, ◌<◌, ◌≤◌, length, drop, nat_le, map, pos, slice_index_or, true, All, IfOk, IfErr, Err};
 ghost use Rattle.std.specs.List.{list_all};
 ghost use Rattle.shape_strides.specs.declared.index_item.IndexItem.TheVariants.{Integer};
 ghost use Rattle.shape_strides.specs.Limits.{max_axes};
 ghost use Rattle.fancy_index.specs.declared.kind.Kind.TheVariants.{NoIndex};
 ghost use Rattle.view_ops.specs.Slices.{is_place};
 ghost use Rattle.fancy_index.specs.IndexArrays.{kind, with_array, is_index, axes_of, taken, width, covers, cover, is_within, are_within};
+ghost use Rattle.fancy_index.specs.Indexed.{indexed};
+ghost use Rattle.fancy_index.specs.inside.PartLists.{IsChecked};
 ghost use Rattle.fancy_index.specs.Sources.{array_of, LiesInBlock, item_of, HasItems, IsNamed, items_of};
 
 use crate::kind::Kind;
 use crate::source::{Indices, kind, number_at, resolved};
+use elem_descr::Refusal;
 use shape_strides::{FixedWalk, IndexItem};
-use view_ops::is_place;
+use view_ops::{have_steps, is_place};
 
 fn is_index(item: IndexItem<Indices<'_>>) -> bool
     ensures { result ≡ is_index (item_of item.entry) }
@@ -23,7 +26,7 @@ fn is_index(item: IndexItem<Indices<'_>>) -> bool
 }
 
 /// Whether each array in the list stands for some index.
-pub(crate) fn are_indexes(items: &[IndexItem<usize>], arrays: &[Indices<'_>]) -> bool
+fn are_indexes(items: &[IndexItem<usize>], arrays: &[Indices<'_>]) -> bool
     requires named { All (IsNamed (length arrays.now)) items.now }
     requires lie { All LiesInBlock arrays.now }
     ensures { result ≡ list_all is_index (items_of arrays.now items.now) }
@@ -52,7 +55,7 @@ fn axes_of(item: IndexItem<Indices<'_>>) -> usize
 }
 
 /// Whether the items take no more axes than there are.
-pub(crate) fn have_axes(items: &[IndexItem<usize>], arrays: &[Indices<'_>], rank: usize) -> bool
+fn have_axes(items: &[IndexItem<usize>], arrays: &[Indices<'_>], rank: usize) -> bool
     requires named { All (IsNamed (length arrays.now)) items.now }
     requires lie { All LiesInBlock arrays.now }
     ensures { result ≡ nat_le (taken (items_of arrays.now items.now)) rank }
@@ -121,7 +124,7 @@ fn covers(axes: &[usize], item: IndexItem<Indices<'_>>) -> bool
 }
 
 /// Whether each mask is as long as the axes that it stands for.
-pub(crate) fn cover(lengths: &[usize], items: &[IndexItem<usize>], arrays: &[Indices<'_>]) -> bool
+fn cover(lengths: &[usize], items: &[IndexItem<usize>], arrays: &[Indices<'_>]) -> bool
     requires named { All (IsNamed (length arrays.now)) items.now }
     requires lie { All LiesInBlock arrays.now }
     requires rank { length lengths.now ≤ max_axes }
@@ -168,7 +171,7 @@ fn is_within(axes: &[usize], item: IndexItem<Indices<'_>>) -> bool
 }
 
 /// Whether each integer, and each number of each array, is within its axis.
-pub(crate) fn are_within(
+fn are_within(
     lengths: &[usize],
     items: &[IndexItem<usize>],
     arrays: &[Indices<'_>],
@@ -188,4 +191,34 @@ pub(crate) fn are_within(
         axis = end;
     }
     true
+}
+
+/// The first refusal of an index list, before its shapes.
+pub(crate) fn check(
+    lengths: &[usize],
+    items: &[IndexItem<usize>],
+    arrays: &[Indices<'_>],
+) -> Result<(), Refusal>
+    requires named { All (IsNamed (length arrays.now)) items.now }
+    requires lie { All LiesInBlock arrays.now }
+    requires rank { length lengths.now ≤ max_axes }
+    ensures ok { IfOk result (λ _. IsChecked lengths.now (items_of arrays.now items.now)) }
+    ensures err { IfErr result (λ refusal. indexed lengths.now (items_of arrays.now items.now) ≡ Err refusal) }
+{
+    if !are_indexes(items, arrays) {
+        return Err(Refusal::NotAnIndexType);
+    }
+    if !have_axes(items, arrays, lengths.len()) {
+        return Err(Refusal::TooManyIndices);
+    }
+    if !cover(lengths, items, arrays) {
+        return Err(Refusal::MaskLengths);
+    }
+    if !have_steps(items) {
+        return Err(Refusal::ZeroStep);
+    }
+    if !are_within(lengths, items, arrays) {
+        return Err(Refusal::IndexOutOfRange);
+    }
+    Ok(())
 }

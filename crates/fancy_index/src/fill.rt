@@ -5,7 +5,7 @@ ghost use Rattle.shape_strides.specs.Layouts.{offsets};
 ghost use Rattle.fancy_index.specs.Plans.{moved, shifted_all, moved_all, put_each};
 ghost use Rattle.fancy_index.specs.inside.Kept.{IsMoved, AreStarts};
 
-use crate::plan::moved;
+use crate::plans::moved;
 use crate::run_moves::{fill_run, moved_run};
 use raw_block::RawBlock;
 use shape_strides::{FixedWalk, Layout, Runs};

@@ -5,7 +5,8 @@ mod checks;
 mod fill;
 mod gather;
 pub mod kind;
-pub mod plan;
+pub mod plans;
+mod parts;
 mod points;
 mod rank;
 mod run_moves;
@@ -13,5 +14,5 @@ mod scatter;
 pub mod source;
 
 pub use kind::{Kind, kind_of};
-pub use plan::Plan;
+pub use plans::Plan;
 pub use source::Indices;

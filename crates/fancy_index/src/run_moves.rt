@@ -8,7 +8,7 @@ ghost use Rattle.overlap_copy.specs.Assignments.{assigned};
 ghost use Rattle.fancy_index.specs.Plans.{moved, put_each};
 ghost use Rattle.fancy_index.specs.inside.Kept.{IsMoved};
 
-use crate::plan::moved;
+use crate::plans::moved;
 use raw_block::RawBlock;
 use shape_strides::Run;
 

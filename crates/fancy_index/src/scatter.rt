@@ -7,7 +7,7 @@ ghost use Rattle.fancy_index.specs.Plans.{moved, shifted_all, moved_all};
 ghost use Rattle.fancy_index.specs.inside.Kept.{IsMoved, AreStarts};
 ghost use Rattle.fancy_index.specs.inside.Packed.{packed};
 
-use crate::plan::moved;
+use crate::plans::moved;
 use crate::run_moves::{copy_run, moved_run, packed_run};
 use raw_block::RawBlock;
 use shape_strides::{FixedWalk, Layout, Runs};

@@ -69,12 +69,12 @@ within-whole n = record {
 }
 
 -- one more whole axis
-pub whole_more : (old new : List AxisPick) (axes : List ℕ) (n : ℕ) → AddsPicks old new axes (map whole axes) → AddsPicks old (new ++ AlongAxis (whole_run n) ∷ []) (axes ++ n ∷ []) (map whole (axes ++ n ∷ []))
-whole_more old new axes n adds = record {
-  added = adds.added ++ AlongAxis (whole_run n) ∷ [];
-  after = ap (λ l. l ++ AlongAxis (whole_run n) ∷ []) adds.after ∙ append_assoc old adds.added (AlongAxis (whole_run n) ∷ []);
-  are = ArePicks-append axes (n ∷ []) adds.added (AlongAxis (whole_run n) ∷ []) adds.are (within-whole n, tt);
-  show = map-append shown adds.added (AlongAxis (whole_run n) ∷ []) ∙ ap (λ l. l ++ shown (AlongAxis (whole_run n)) ∷ []) adds.show ∙ ap (λ p. map whole axes ++ p ∷ []) (shown-whole n) ∙ sym (map-append whole axes (n ∷ []));
+pub whole_more : (old new : List AxisPick) (axes : List ℕ) (n : ℕ) (pick : AxisPick) → ArePicks (n ∷ []) (pick ∷ []) → shown pick ≡ whole n → AddsPicks old new axes (map whole axes) → AddsPicks old (new ++ pick ∷ []) (axes ++ n ∷ []) (map whole (axes ++ n ∷ []))
+whole_more old new axes n pick within is adds = record {
+  added = adds.added ++ pick ∷ [];
+  after = ap (λ l. l ++ pick ∷ []) adds.after ∙ append_assoc old adds.added (pick ∷ []);
+  are = ArePicks-append axes (n ∷ []) adds.added (pick ∷ []) adds.are within;
+  show = map-append shown adds.added (pick ∷ []) ∙ ap (λ l. l ++ shown pick ∷ []) adds.show ∙ ap (λ p. map whole axes ++ p ∷ []) is ∙ sym (map-append whole axes (n ∷ []));
 }
 
 pub adds_new : {A : Type 0} (old new : List AxisPick) (axes : List ℕ) (item : IndexItem A) → item ≡ NewItem → axes ≡ [] → new ≡ old ++ NewAxis ∷ [] → AddsPicks old new axes (picks_of axes item)

@@ -7,13 +7,12 @@ use Rattle.std.proofs.lemmas.Bool.Decides.{nat_tests}
 use Rattle.std.proofs.lemmas.Int.{ints}
 use Rattle.std.proofs.lemmas.List.{drop_more, drop_all, take_more, append-nil, map-append}
 use Rattle.std.proofs.lemmas.List.Concat.{flat_map-append}
-use Rattle.std.proofs.lemmas.List.FromFn.{length-map-range_with_len, get_or-map-range_with_len}
-use lib.IntN.{*ℤ-zero, zero-*ℤ, +ℤ_assoc, +ℤ_idl, +ℤ_idr}
+use lib.IntN.{zero-*ℤ, +ℤ_assoc, +ℤ_idl, +ℤ_idr}
 use Rattle.shape_strides.specs.declared.layout.Layout.{Layout}
 use Rattle.shape_strides.specs.Indexes.{count, IsIndex}
 use Rattle.shape_strides.specs.Shapes.{shape_of}
 use Rattle.shape_strides.specs.Limits.{max_axes, max_items, max_bytes}
-use Rattle.shape_strides.specs.Addresses.{dot, address_at, natural, LieWithin}
+use Rattle.shape_strides.specs.Addresses.{dot, address_at, LieWithin}
 use Rattle.shape_strides.specs.Layouts.{address, offsets}
 use Rattle.shape_strides.specs.IndexLaws.{rank-lt}
 use Rattle.shape_strides.specs.CountLaws.{factors_pos}
@@ -27,6 +26,7 @@ use Rattle.view_ops.specs.Basics.{axis_of, picked_shape, picked_index}
 use Rattle.view_ops.specs.inside.Picks.{shown, ArePicks, first_of, axes_taken, run_stride, stride_of, picked_strides, IsSmallStep, IsSmallPick, HaveSmallSteps}
 use Rattle.view_ops.specs.Views.{view_through, IsViewOf, KeepsNested}
 use Rattle.view_ops.specs.inside.Shows.{Shows}
+use Rattle.view_ops.specs.PickLaws.{length-run, number_at, first_number}
 use Rattle.view_ops.specs.ViewLaws.{LieWithin-view, inside-view, offsets-view}
 use Rattle.view_ops.proofs.ViewLaws.{IsNested-view}
 use Rattle.view_ops.proofs.StrideLaws.{stride_along, run_number-is, run-one}
@@ -40,12 +40,6 @@ leads_of_picks picks = picked_index (map shown picks)
 
 abbrev pub firsts : List AxisPick → List ℕ
 firsts picks = flat_map first_of picks
-
-pub length-run : (run : Progression) → length (run_numbers run) ≡ run.count
-length-run run = length-map-range_with_len (run_number run) 0 run.count
-
-number_at : (run : Progression) (k : ℕ) → k < run.count → get_or (run_numbers run) k 0 ≡ run_number run k
-number_at run k low = get_or-map-range_with_len (run_number run) 0 run.count k k 0 low (omega arith)
 
 -- ---- the shape
 
@@ -96,9 +90,6 @@ leads-picks (n ∷ shape) (AlongAxis run ∷ picks) [] are in' = absurd in'
 leads-picks (n ∷ shape) (AlongAxis run ∷ picks) (k ∷ index) are in' =
     let low : k < run.count = omega (arith, length-run run, in'.0) in
     (rw (number_at run k low) (are.0.below k low), leads-picks shape picks index are.1 in'.1)
-
-first_number : (run : Progression) → run_number run 0 ≡ run.first
-first_number run = ap (λ z. natural (pos run.first +ℤ z)) (*ℤ-zero run.step) ∙ ap natural (+ℤ_idr (pos run.first))
 
 -- the first item that is picked, where there is one
 pub IsIndex-firsts : (shape : List ℕ) (picks : List AxisPick) → ArePicks shape picks → 0 < count (shape_of_picks picks) → IsIndex shape (firsts picks)

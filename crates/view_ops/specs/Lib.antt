@@ -6,3 +6,4 @@ pub mod Picks
 pub mod FieldViews
 pub mod inside
 pub mod ViewLaws
+pub mod PickLaws

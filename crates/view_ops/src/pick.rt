@@ -49,8 +49,8 @@ pub(crate) fn are_in_range<A>(lengths: &[usize], items: &[IndexItem<A>]) -> bool
     true
 }
 
-/// What an item picks of the axis that it takes.
-fn pick_of<A>(n: usize, item: &IndexItem<A>) -> Result<AxisPick, Refusal>
+/// What an integer or a slice picks of the axis that it takes.
+pub fn pick_of<A>(n: usize, item: &IndexItem<A>) -> Result<AxisPick, Refusal>
     requires axis { takes_axis item.now ≡ true }
     requires basic { is_basic item.now ≡ true }
     requires step { has_step item.now ≡ true }
@@ -67,15 +67,23 @@ fn pick_of<A>(n: usize, item: &IndexItem<A>) -> Result<AxisPick, Refusal>
     }
 }
 
+/// All numbers of an axis.
+pub fn whole_axis(n: usize) -> AxisPick
+    ensures within { ArePicks (n ∷ []) (result ∷ []) }
+    ensures whole { shown result ≡ whole n }
+{
+    AxisPick::Along(Progression {
+        first: 0,
+        step: 1,
+        count: n,
+    })
+}
+
 fn push_whole(picks: &mut SmallVec<AxisPick, 8>, axes: &[usize]) -> Result<(), AllocError>
     ensures { OnOk result (AddsPicks picks.old.items picks.new.items axes.now (map whole axes.now)) }
 {
     for n in axes {
-        picks.push(AxisPick::Along(Progression {
-            first: 0,
-            step: 1,
-            count: *n,
-        }))?;
+        picks.push(whole_axis(*n))?;
     }
     Ok(())
 }

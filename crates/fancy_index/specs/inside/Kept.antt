@@ -3,7 +3,7 @@ use Rattle.std.specs.Prelude.{◌≡◌, ◌<◌, ◌≤◌, ℕ, ◌+◌, List,
 use Rattle.shape_strides.specs.Limits.{max_bytes}
 use Rattle.shape_strides.specs.Indexes.{count}
 use Rattle.shape_strides.specs.Layouts.{offsets}
-use Rattle.fancy_index.specs.declared.plan.Plan.TheInside.{Inside}
+use Rattle.fancy_index.specs.declared.plans.Plan.TheInside.{Inside}
 use Rattle.fancy_index.specs.Plans.{moved, moved_all}
 
 -- an offset that began at `base` lies within the limit of a buffer where it begins at `start`

@@ -1,5 +1,5 @@
 use Rattle.std.proofs.Common.{◌∙◌, ap, sym, inr, length, arith}
-use Rattle.broadcasting.proofs.AlignedLaws.{few-axes}
+use Rattle.broadcasting.specs.FitLaws.{few-axes}
 use Rattle.broadcasting.proofs.StretchLaws.{stretched-length, stretched-lies, made_stretched, made_numbers, not_stretched, gives_stretched}
 use Rattle.broadcasting.proofs.stretching.stretch.Goals as goal
 

@@ -1,5 +1,5 @@
 use Rattle.std.proofs.Common.{◌++◌, ◌∷◌, [], sym, ap, ◌∙◌}
-use Rattle.view_ops.proofs.PickViews.{length-run}
+use Rattle.view_ops.specs.PickLaws.{length-run}
 use Rattle.view_ops.proofs.picked.push_length.Goals as goal
 
 pub returns-in_ok-push-in-Along : goal.returns-in_ok-push-in-Along

@@ -4,8 +4,8 @@ use Rattle.shape_strides.specs.LayoutLaws.{length-offsets}
 use Rattle.fancy_index.specs.Plans.{moved}
 use Rattle.fancy_index.specs.inside.Kept.{IsMoved}
 use Rattle.fancy_index.proofs.PlanLaws.{some_of, place_low, get_or-moved_all, start_at, item_at}
-use Rattle.fancy_index.proofs.plan.offset_in.Goals as goal
-use Rattle.fancy_index.proofs.plan.offset_in.Goals.{After-spot_at-at}
+use Rattle.fancy_index.proofs.plans.offset_in.Goals as goal
+use Rattle.fancy_index.proofs.plans.offset_in.Goals.{After-spot_at-at}
 
 pub spot_at-at-requires-clause-shifts : goal.spot_at-at-requires-clause-shifts
 spot_at-at-requires-clause-shifts c =

@@ -3,7 +3,7 @@ use Rattle.shape_strides.specs.Layouts.{offsets}
 use Rattle.overlap_copy.specs.Assignments.{assigned}
 use Rattle.fancy_index.specs.Plans.{Planned, moved_all}
 use Rattle.fancy_index.proofs.GatherLaws.{packed-multiples}
-use Rattle.fancy_index.proofs.plan.Plan.scatter.Goals as goal
+use Rattle.fancy_index.proofs.plans.Plan.scatter.Goals as goal
 
 pub returns-clause-written : goal.returns-clause-written
 returns-clause-written c =

@@ -5,7 +5,7 @@ use Rattle.overlap_copy.specs.Assignments.{assigned}
 use Rattle.fancy_index.specs.Plans.{Planned, moved_all}
 use Rattle.fancy_index.specs.inside.Packed.{packed}
 use Rattle.fancy_index.proofs.GatherLaws.{gathered}
-use Rattle.fancy_index.proofs.plan.Plan.gather.Goals as goal
+use Rattle.fancy_index.proofs.plans.Plan.gather.Goals as goal
 
 pub returns-clause-items : goal.returns-clause-items
 returns-clause-items c =

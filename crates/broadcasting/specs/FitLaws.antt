@@ -1,19 +1,46 @@
 -- Shapes stretch to the shape that they have in common.
-use Rattle.std.proofs.Common.{◌≡◌, inl, inr, Result, Ok, Err, ℕ, zero, suc, ◌-◌, ◌+◌, ◌≤◌, ◌&&◌, max, true, IsTrue, List, [], ◌∷◌, ◌++◌, All, length, replicate, refl, sym, ap, ◌∙◌, arith}
+use Rattle.std.proofs.Common.{◌≡◌, inl, inr, Result, Ok, Err, ℕ, zero, suc, ◌-◌, ◌+◌, ◌≤◌, ◌&&◌, max, true, false, IsTrue, List, [], ◌∷◌, ◌++◌, All, length, replicate, refl, sym, ap, ◌∙◌, arith, length-append}
 use Rattle.std.specs.Result.{is_ok, IfOk}
 use Rattle.std.proofs.Math.Nat.{le-max_left, le-max_right}
 use Rattle.std.proofs.lemmas.Bool.{false≢true, cases_Bool, and_parts}
 use Rattle.std.proofs.lemmas.Bool.Decides.{nat_tests}
-use Rattle.std.proofs.lemmas.List.{append_assoc, replicate-append-replicate}
+use Rattle.std.proofs.lemmas.List.{append_assoc, replicate-append-replicate, length-replicate}
 use Rattle.std.proofs.lemmas.List.Elements.{All-cons, All-nil}
 use Rattle.elem_descr.specs.RefusalLaws.{same_answer}
-use Rattle.shape_strides.specs.ShapeLaws.{shape_of-same}
 use Rattle.elem_descr.specs.declared.refusal.Refusal.{Refusal}
+use Rattle.elem_descr.specs.declared.refusal.Refusal.TheVariants.{ShapesDoNotBroadcast}
 use Rattle.elem_descr.specs.Refusals.{Gives, ◌>>=◌}
 use Rattle.shape_strides.specs.Shapes.{shape_of}
+use Rattle.shape_strides.specs.ShapeLaws.{shape_of-same}
 use Rattle.broadcasting.specs.Broadcasts.{aligned, go_together, common_length, all_go_together, common_lengths, common_of_two, common_with, common_shape, stretches, all_stretch, can_stretch}
 use Rattle.broadcasting.specs.BroadcastLaws.{can-itself}
-use Rattle.broadcasting.proofs.AlignedLaws.{length-aligned, common-none, common-some, few-axes}
+
+-- ---- shapes that are lined up
+
+pub length-aligned : (rank : ℕ) (shape : List ℕ) → length shape ≤ rank → length (aligned rank shape) ≡ rank
+length-aligned rank shape few =
+    omega (arith, length-append (replicate (rank - length shape) 1) shape, length-replicate {A = ℕ} (rank - length shape) 1)
+
+pub common-none : (left right : List ℕ) (rank : ℕ) → rank ≡ max (length left) (length right) → all_go_together (aligned rank left) (aligned rank right) ≡ false → common_of_two left right ≡ Err ShapesDoNotBroadcast
+unfolding common_of_two
+common-none left right rank is none = let found = ap (λ r. all_go_together (aligned r left) (aligned r right)) (sym is) ∙ none in rw found
+
+pub common-some : (left right : List ℕ) (rank : ℕ) → rank ≡ max (length left) (length right) → all_go_together (aligned rank left) (aligned rank right) ≡ true → common_of_two left right ≡ Ok (common_lengths (aligned rank left) (aligned rank right))
+unfolding common_of_two
+common-some left right rank is all =
+    let found = ap (λ r. all_go_together (aligned r left) (aligned r right)) (sym is) ∙ all in
+    rw found (ap (λ r. Ok (common_lengths (aligned r left) (aligned r right))) (sym is))
+
+pub length-all_stretch : (shape target : List ℕ) → all_stretch shape target ≡ true → length shape ≡ length target
+length-all_stretch [] [] all = refl
+length-all_stretch [] (n ∷ target) all = absurd (false≢true all)
+length-all_stretch (m ∷ shape) [] all = absurd (false≢true all)
+length-all_stretch (m ∷ shape) (n ∷ target) all = ap suc (length-all_stretch shape target (and_parts (stretches m n) (all_stretch shape target) all).1)
+
+-- no shape stretches to one of fewer axes
+pub few-axes : (shape target : List ℕ) → can_stretch shape target ≡ true → length shape ≤ length target
+few-axes shape target can =
+    omega (arith, length-all_stretch (aligned (length target) shape) target can, length-append (replicate (length target - length shape) 1) shape, length-replicate {A = ℕ} (length target - length shape) 1)
 
 -- ---- one axis
 
@@ -98,7 +125,7 @@ both-fit left right common found =
     ]
 
 -- what the first shapes have in common stretches to what all have, and so does each of the others
-abbrev AllFit : List ℕ → List (List ℕ) → List ℕ → Type 0
+abbrev pub AllFit : List ℕ → List (List ℕ) → List ℕ → Type 0
 AllFit lengths shapes common = IsTrue (can_stretch lengths common) × All (λ shape. IsTrue (can_stretch shape common)) shapes
 
 fits-next : (lengths shape common : List ℕ) (shapes : List (List ℕ)) (r : Result (List ℕ) Refusal) → ((next : List ℕ) → common_with next shapes ≡ Ok common → AllFit next shapes common) → common_of_two lengths shape ≡ r → r >>= (λ next. common_with next shapes) ≡ Ok common → AllFit lengths (shape ∷ shapes) common
@@ -110,7 +137,7 @@ fits-next lengths shape common shapes (Ok next) rest is found =
       All-cons (λ shape. IsTrue (can_stretch shape common)) shape shapes (can-on shape next common fit.1 later.0) later.1,
     )
 
-with-fits : (lengths : List ℕ) (shapes : List (List ℕ)) (common : List ℕ) → common_with lengths shapes ≡ Ok common → AllFit lengths shapes common
+pub with-fits : (lengths : List ℕ) (shapes : List (List ℕ)) (common : List ℕ) → common_with lengths shapes ≡ Ok common → AllFit lengths shapes common
 with-fits lengths [] common found =
     (ap (can_stretch lengths) (sym (same_answer lengths common found)) ∙ can-itself lengths, All-nil (λ shape. IsTrue (can_stretch shape common)))
 with-fits lengths (shape ∷ shapes) common found =
