@@ -10,6 +10,7 @@ mod create;
 mod delete;
 mod engine;
 mod format;
+mod given;
 mod index;
 mod info;
 mod item;
@@ -25,6 +26,7 @@ mod session;
 mod set;
 mod shares;
 mod source;
+mod taken;
 mod view;
 
 pub use engine::execute;
