@@ -1,5 +1,5 @@
 -- Items that are gathered: each lies where it was written.
-use Rattle.std.proofs.Common.{◌≡◌, ℕ, suc, ◌+◌, ◌*◌, ◌≤◌, List, [], ◌∷◌, ◌++◌, map, length, take, drop, All, refl, sym, ap, ◌∙◌, arith, append_assoc, suc-mul, length-append, length-drop}
+use Rattle.std.proofs.Common.{◌≡◌, ℕ, zero, suc, ◌+◌, ◌*◌, ◌≤◌, List, [], ◌∷◌, ◌++◌, map, length, get_or, take, drop, All, refl, sym, ap, ◌∙◌, arith, append_assoc, zero-mul, suc-mul, mul_comm, length-append, length-drop}
 use Rattle.std.specs.List.{flat_map, range_with_len}
 use Rattle.std.proofs.lemmas.List.{drop-drop}
 use Rattle.std.proofs.lemmas.List.Elements.{All-head, All-tail}
@@ -8,6 +8,10 @@ use Rattle.std.proofs.Math.Seq.{take-append_seam, drop-append_seam}
 use lib.IntN.{pos, ◌+ℤ◌, ◌*ℤ◌}
 use Rattle.raw_block.specs.Bytes.{put, item_at}
 use Rattle.raw_block.specs.BytesLaws.{length-item_at}
+use Rattle.std.proofs.lemmas.List.FromFn.{length-map-range_with_len, get_or-map-range_with_len}
+use Rattle.shape_strides.specs.declared.runs.Run.{Run}
+use Rattle.shape_strides.specs.Runs.{run_offsets}
+use Rattle.overlap_copy.specs.RunLaws.{length-run_offsets}
 use Rattle.shape_strides.specs.Addresses.{natural}
 use Rattle.shape_strides.specs.Layouts.{multiples}
 use Rattle.overlap_copy.specs.Assignments.{items_at, assigned}
@@ -83,3 +87,16 @@ gathered width block items items' from inside long is =
     (λ i. items_at (sym (packed-multiples width (length from)) i) width (is i))
     ∙ ap (items_at (packed 0 width (length from)) width) (gathered-bytes width block from [] items 0 refl inside long)
     ∙ items-there width block from [] 0 refl inside
+
+-- a run from the start on whose step is the items' size
+pub packed-run : (run : Run) (width : ℕ) (offsets : List ℕ) → run_offsets run ≡ offsets → run.offset ≡ 0 → run.step ≡ pos width → offsets ≡ multiples width (length offsets)
+packed-run run width offsets is begin step =
+    let same : offsets ≡ multiples width run.count = sym is ∙ (λ i. run_offsets (record { offset = begin i; count = run.count; step = step i })) ∙ packed-multiples width run.count in
+    same ∙ ap (multiples width) (sym (length-run_offsets run) ∙ ap length is)
+
+-- they end within the bytes in which each of them does
+pub packed-end : (width len n : ℕ) → All (λ offset. offset + width ≤ len) (multiples width n) → n * width ≤ len
+packed-end width len zero within = omega (arith, zero-mul width)
+packed-end width len (suc n) within =
+    let last : get_or (multiples width (suc n)) n 0 ≡ width * n = get_or-map-range_with_len (λ k. width * k) 0 (suc n) n n 0 (omega arith) (omega arith) in
+    omega (arith, within n 0 (omega (arith, length-map-range_with_len (λ k. width * k) 0 (suc n))), last, suc-mul n width, mul_comm width n)

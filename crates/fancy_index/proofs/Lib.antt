@@ -8,3 +8,12 @@ pub mod SourceLaws
 pub mod NumberLoops
 pub mod PointLaws
 pub mod PartLaws
+pub mod IndexedLaws
+pub mod PlaceLaws
+pub mod RestLaws
+pub mod CutLaws
+pub mod ShiftLaws
+pub mod LeadLaws
+pub mod IndexSplits
+pub mod LaidLaws
+pub mod AnswerLaws

@@ -1,5 +1,5 @@
 -- The parts that items come to, item by item.
-use Rattle.std.proofs.Common.{◌≡◌, ℕ, ℤ, suc, ◌+◌, ◌-◌, ◌<◌, ◌≤◌, Bool, true, false, ◌&&◌, pos, List, [], ◌∷◌, ◌++◌, map, length, get_or, take, drop, slice_range, refl, sym, ap, subst, ◌∙◌, arith, length-drop, length-take-le, append_assoc, append-nil}
+use Rattle.std.proofs.Common.{◌≡◌, ℕ, ℤ, ◌+◌, ◌-◌, ◌<◌, ◌≤◌, Bool, true, false, pos, List, [], ◌∷◌, ◌++◌, map, length, get_or, take, drop, slice_range, refl, sym, ap, subst, ◌∙◌, arith, length-drop, length-take-le, append_assoc, append-nil}
 use Rattle.std.specs.List.{list_all, flat_map}
 use Rattle.std.proofs.lemmas.Bool.{and_parts, false≢true}
 use Rattle.std.proofs.lemmas.List.{drop-drop, drop_more, drop_all, map-append}
@@ -9,7 +9,6 @@ use Rattle.shape_strides.specs.declared.index_item.IndexItem.TheVariants.{Intege
 use Rattle.shape_strides.specs.IndexItems.{is_ellipsis}
 use Rattle.view_ops.specs.declared.pick.AxisPick.{AxisPick}
 use Rattle.view_ops.specs.declared.pick.AxisPick.TheVariants.{At as AtAxis, Along as AlongAxis, New as NewAxis}
-use Rattle.view_ops.specs.Slices.{is_place}
 use Rattle.view_ops.specs.Basics.{whole, has_step, is_on_axis}
 use Rattle.view_ops.specs.Picks.{shown, ArePicks}
 use Rattle.fancy_index.specs.declared.points.PointList.{PointList}
@@ -199,9 +198,9 @@ module _ (f : IndexItem ℕ → IndexItem IndexArray) (shape : List ℕ) (items 
   -- after the last item
   pub parts_all : (done new : List IndexPart) (k axis : ℕ) → length items ≤ k → HaveParts done k axis → AddsParts done new (drop axis shape) (wholes (drop axis shape)) → AreParts shape new × (map shown_part new ≡ parts shape (map f items))
   parts_all done new k axis over have adds = (
-      subst (AreParts shape) (sym adds.after) (have.are adds.added adds.are),
-      ap (map shown_part) adds.after ∙ map-append shown_part done adds.added ∙ ap (λ l. map shown_part done ++ l) (adds.show ∙ sym (ap (λ l. parts (drop axis shape) (map f l)) (drop_all k items over))) ∙ have.show,
-    )
+    subst (AreParts shape) (sym adds.after) (have.are adds.added adds.are),
+    ap (map shown_part) adds.after ∙ map-append shown_part done adds.added ∙ ap (λ l. map shown_part done ++ l) (adds.show ∙ sym (ap (λ l. parts (drop axis shape) (map f l)) (drop_all k items over))) ∙ have.show,
+  )
 
 -- ---- one item
 

@@ -3,6 +3,7 @@ use Rattle.std.proofs.Common.{◌≡◌, ℕ, ◌+◌, ◌-◌, ◌*◌, ◌<◌
 use Rattle.std.specs.List.{flat_map}
 use Rattle.std.proofs.lemmas.List.{get_or_append_left, get_or-append_right, get_or-map, length-map, map-append, drop_more}
 use Rattle.std.proofs.lemmas.List.Elements.{All-head, All-tail}
+use Rattle.raw_block.specs.Bytes.{put, item_at}
 use Rattle.shape_strides.specs.declared.runs.Run.{Run}
 use Rattle.shape_strides.specs.Addresses.{LieWithin}
 use Rattle.shape_strides.specs.Limits.{max_bytes}
@@ -247,3 +248,26 @@ split-shifts base inner place shifts k start low is =
 pub split-places : (base : ℕ) (inner shifts left left' : List ℕ) (place : ℕ) → left ≡ place ∷ left' →
     moved_all base left shifts inner ≡ shifted_all base shifts inner place ++ moved_all base left' shifts inner
 split-places base inner shifts left left' place walked = ap (λ l. moved_all base l shifts inner) walked
+
+-- ---- items that are copied from a layout, one by one
+
+pub record Copying (to left : List ℕ) (rank width : ℕ) (other block whole : List ℕ) : Type 0 where
+  pub rest : assigned (drop rank to) left width other block ≡ whole
+  pub many : rank + length left ≡ length to
+  pub inside : All (λ offset. offset + width ≤ length block) to
+  pub from : All (λ offset. offset + width ≤ length other) left
+
+pub copied_one : (to left left' : List ℕ) (rank width source at : ℕ) (other block block' whole : List ℕ) → left ≡ source ∷ left' → at ≡ get_or to rank 0 → block' ≡ put at (item_at source width other) block → length block' ≡ length block →
+    Copying to left rank width other block whole → Copying to left' (rank + 1) width other block' whole
+copied_one to left left' rank width source at other block block' whole steps is written same have =
+    let low : rank < length to = omega (arith, have.many, ap length steps) in
+    record {
+      rest =
+          ap (assigned (drop (rank + 1) to) left' width other) (written ∙ ap (λ a. put a (item_at source width other) block) is)
+          ∙ ap (λ t. assigned t (source ∷ left') width other block) (sym (drop_more to rank 0 low))
+          ∙ ap (λ l. assigned (drop rank to) l width other block) (sym steps)
+          ∙ have.rest;
+      many = omega (arith, have.many, ap length steps);
+      inside = λ k d below. omega (arith, have.inside k d below, same);
+      from = All-tail (λ offset. offset + width ≤ length other) source left' (subst (All (λ offset. offset + width ≤ length other)) steps have.from);
+    }

@@ -2,3 +2,4 @@ pub mod Kept
 pub mod Packed
 pub mod PointLists
 pub mod PartLists
+pub mod Places

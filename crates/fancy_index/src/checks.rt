@@ -171,11 +171,7 @@ fn is_within(axes: &[usize], item: IndexItem<Indices<'_>>) -> bool
 }
 
 /// Whether each integer, and each number of each array, is within its axis.
-fn are_within(
-    lengths: &[usize],
-    items: &[IndexItem<usize>],
-    arrays: &[Indices<'_>],
-) -> bool
+fn are_within(lengths: &[usize], items: &[IndexItem<usize>], arrays: &[Indices<'_>]) -> bool
     requires named { All (IsNamed (length arrays.now)) items.now }
     requires lie { All LiesInBlock arrays.now }
     requires rank { length lengths.now ≤ max_axes }

@@ -1,8 +1,14 @@
 //! Plans: where in a buffer the items are that an index list with arrays takes.
-ghost use Rattle.std.specs.Prelude.{◌≡◌, ◌+◌, ◌*◌, ◌<◌, ◌≤◌, length, slice_index, All, IfOk};
-ghost use Rattle.shape_strides.specs.Limits.{max_bytes};
+ghost use Rattle.std.specs.Prelude.{◌≡◌, ◌+◌, ◌*◌, ◌<◌, ◌≤◌, length, map, nat_le, pos, slice_index, if◌then◌else◌, All, IfOk, IfErr, IsTrue};
+ghost use Rattle.elem_descr.specs.declared.refusal.Refusal.TheVariants.{OutOfMemory, TooLarge};
+ghost use Rattle.elem_descr.specs.Blocks.{item_from};
+ghost use Rattle.elem_descr.specs.Items.{item_size};
+ghost use Rattle.shape_strides.specs.declared.memory_order.MemoryOrder.TheVariants.{C};
+ghost use Rattle.shape_strides.specs.Limits.{max_bytes, max_items};
+ghost use Rattle.shape_strides.specs.Indexes.{count};
 ghost use Rattle.shape_strides.specs.Layouts.{offsets, multiples};
 ghost use Rattle.overlap_copy.specs.Assignments.{items_at, assigned};
+ghost use Rattle.overlap_copy.specs.Blocks.{offsets_in};
 ghost use Rattle.fancy_index.specs.Plans.{moved, moved_all, put_each};
 ghost use Rattle.fancy_index.specs.inside.Kept.{IsMoved, AreStarts};
 
@@ -10,8 +16,10 @@ use crate::fill::fill;
 use crate::gather::gather;
 use crate::rank::offset_at;
 use crate::scatter::scatter;
+use elem_descr::{Descr, Refusal};
+use overlap_copy::Owned;
 use raw_block::RawBlock;
-use shape_strides::{Layout, Shape};
+use shape_strides::{FixedWalk, Layout, MAX_BYTES, MemoryOrder, Shape};
 use std::alloc::{AllocError, Global};
 use std::marker::Model;
 
@@ -91,7 +99,43 @@ fn offset_in(outer: &Layout, shifts: &[usize], inner: &Layout, rank: usize) -> u
     moved(inner.offset, start, offset_at(inner, at.item))
 }
 
+fn is_step(step: isize, width: usize) -> bool
+    ensures { IsTrue result → step ≡ pos width }
+{
+    step >= 0 && step.unsigned_abs() == width
+}
+
+/// Whether two items or more of `width` bytes lie one after another from the block's start on.
+fn is_packed(layout: &Layout, width: usize) -> bool
+    ensures { IsTrue result → offsets layout.now ≡ multiples width (length (offsets layout.now)) }
+{
+    let Some(run) = layout.as_run() else {
+        return false;
+    };
+    if run.offset > 0 {
+        return false;
+    }
+    is_step(run.step, width)
+}
+
 impl Plan {
+    /// The plan of a shape, with the axes before those of the arrays, where the first item with each of
+    /// their points lies, and the axes behind.
+    pub(crate) fn new(shape: Shape, outer: Layout, shifts: Vec<usize>, inner: Layout) -> Plan
+        requires count { length (moved_all inner.offset (offsets outer) shifts.items (offsets inner)) ≡ count shape }
+        requires small { inner.offset ≤ max_bytes }
+        requires starts { All (AreStarts inner.offset (offsets inner) shifts.items) (offsets outer) }
+        ensures shape { result.shape ≡ shape }
+        ensures offsets { result.offsets ≡ moved_all inner.offset (offsets outer) shifts.items (offsets inner) }
+    {
+        Plan {
+            shape,
+            outer,
+            shifts,
+            inner,
+        }
+    }
+
     /// The shape of the items.
     pub fn shape(&self) -> &Shape
         ensures shape { result.now ≡ self.now.shape }
@@ -101,7 +145,9 @@ impl Plan {
 
     /// The number of items.
     pub fn len(&self) -> usize
-        ensures { result ≡ length self.now.offsets }
+        ensures value { result ≡ length self.now.offsets }
+        ensures count { result ≡ count self.now.shape }
+        ensures limit { result ≤ max_items }
     {
         self.shape.items()
     }
@@ -134,6 +180,32 @@ impl Plan {
         Ok(items)
     }
 
+    /// The items at the offsets in a block of their own, in C order, which they just fill. More than
+    /// `MAX_BYTES` bytes of them are too many.
+    pub fn gather_owned(
+        &self,
+        alloc: Global,
+        block: &RawBlock,
+        descr: &Descr,
+    ) -> Result<Owned, Refusal>
+        requires { All (λ offset. offset + item_size descr.now ≤ length block.now) self.now.offsets }
+        ensures descr { IfOk result (λ o. o.descr ≡ descr.now) }
+        ensures shape { IfOk result (λ o. o.layout.shape ≡ self.now.shape) }
+        ensures order { IfOk result (λ o. offsets o.layout ≡ offsets_in C (item_size descr.now) self.now.shape) }
+        ensures items { IfOk result (λ o. map (item_from descr.now o.block) (offsets o.layout) ≡ map (item_from descr.now block.now) self.now.offsets) }
+        ensures within { IfOk result (λ _. count self.now.shape * item_size descr.now ≤ max_bytes) }
+        ensures refused { IfErr result (λ refusal. refusal
+            ≡ (if nat_le (count self.now.shape * item_size descr.now) max_bytes then OutOfMemory else TooLarge)) }
+    {
+        let item = descr.size();
+        if self.len() * item > MAX_BYTES {
+            return Err(Refusal::TooLarge);
+        }
+        let descr = Descr::try_copy(alloc, descr)?;
+        let items = self.gather(alloc, block, item)?;
+        Ok(Owned::over(alloc, descr, &self.shape, MemoryOrder::C, items)?)
+    }
+
     /// Writes the items of `width` bytes that lie one after another in `items` to the offsets, strictly
     /// in order of rank: where two items have bytes in common, those of the later one stand.
     pub fn scatter(&self, block: &mut RawBlock, items: &RawBlock, width: usize)
@@ -144,6 +216,27 @@ impl Plan {
     {
         let shifts = self.shifts.as_slice();
         scatter(block, &self.outer, shifts, &self.inner, items, width);
+    }
+
+    /// Copies the items of `width` bytes of a layout in another block, as many, to the offsets, strictly
+    /// in order of rank.
+    pub fn assign(&self, block: &mut RawBlock, other: &RawBlock, from: &Layout, width: usize)
+        requires inside { All (λ offset. offset + width ≤ length block.old) self.now.offsets }
+        requires from { All (λ offset. offset + width ≤ length other.now) (offsets from.now) }
+        requires count { length (offsets from.now) ≡ length self.now.offsets }
+        ensures written { block.new ≡ assigned self.now.offsets (offsets from.now) width other.now block.old }
+        ensures len { length block.new ≡ length block.old }
+    {
+        if is_packed(from, width) {
+            self.scatter(block, other, width);
+            return;
+        }
+        let _items = self.len();
+        let mut rank = 0;
+        for source in FixedWalk::new(from) {
+            block.copy_from(self.offset(rank), other, source, width);
+            rank += 1;
+        }
     }
 
     /// Writes the item to each of the offsets.

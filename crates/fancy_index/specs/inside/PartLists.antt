@@ -2,18 +2,23 @@
 use Rattle.std.specs.Prelude.{◌≡◌, ◌<◌, ◌≤◌, true, ℕ, List, [], ◌∷◌, ◌++◌, map, length, get_or}
 use Rattle.std.specs.List.{list_all, flat_map}
 use Rattle.shape_strides.specs.declared.index_item.IndexItem.{IndexItem}
-use Rattle.shape_strides.specs.Indexes.{rank}
+use Rattle.shape_strides.specs.declared.layout.Layout.{Layout}
+use Rattle.shape_strides.specs.Indexes.{rank, IsIndex}
+use Rattle.shape_strides.specs.Addresses.{natural}
+use Rattle.shape_strides.specs.Layouts.{address}
 use Rattle.shape_strides.specs.Limits.{max_axes}
 use Rattle.view_ops.specs.declared.pick.AxisPick.{AxisPick}
 use Rattle.view_ops.specs.declared.pick.AxisPick.TheVariants.{At as AtAxis, Along as AlongAxis, New as NewAxis}
 use Rattle.view_ops.specs.Slices.{IsRunWithin}
-use Rattle.view_ops.specs.Basics.{has_step}
+use Rattle.view_ops.specs.Basics.{has_step, picked_index}
 use Rattle.view_ops.specs.Picks.{shown}
+use Rattle.view_ops.specs.inside.Picks.{first_of}
 use Rattle.broadcasting.specs.Broadcasts.{can_stretch, broadcast_index}
+use Rattle.fancy_index.specs.declared.points.PointList.{PointList}
 use Rattle.fancy_index.specs.declared.parts.IndexPart.{IndexPart}
 use Rattle.fancy_index.specs.declared.parts.IndexPart.TheVariants.{Axis as AxisPart, Points as PointsPart, Between as BetweenPart}
 use Rattle.fancy_index.specs.IndexArrays.{IndexArray, is_index, taken, cover, are_within}
-use Rattle.fancy_index.specs.Parts.{Part, Axis, Between}
+use Rattle.fancy_index.specs.Parts.{Part, Axis, Between, other_axes}
 use Rattle.fancy_index.specs.inside.PointLists.{tuple, shown_points, IsPointList}
 
 -- an index list of which nothing is refused
@@ -51,16 +56,36 @@ abbrev pub IsReady : List ℕ → IndexPart → Type 0
 IsReady points (PointsPart p) = IsPointList p × (can_stretch p.lengths.items points ≡ true) × (length p.axes.items ≤ max_axes)
 IsReady points _ = Unit {0}
 
--- the numbers of a point on the axes of a part, or the first number that is picked there
-abbrev pub numbers_at : List ℕ → IndexPart → List ℕ
-numbers_at point (AxisPart (AtAxis number)) = number ∷ []
-numbers_at point (AxisPart (AlongAxis run)) = run.first ∷ []
-numbers_at point (PointsPart p) = tuple p.axes.items (get_or p.ranks.items (rank p.lengths.items (broadcast_index p.lengths.items point)) 0)
-numbers_at point _ = []
+-- points that have one for an index of the common lengths
+pub record HasPointAt (at : List ℕ) (p : PointList) : Type 0 where
+  pub list : IsPointList p
+  pub few : length p.lengths.items ≤ length at
+  pub within : IsIndex p.lengths.items (broadcast_index p.lengths.items at)
+  pub axes : length p.axes.items ≤ max_axes
 
--- the index of the first item with a point
+abbrev pub IsReadyAt : List ℕ → IndexPart → Type 0
+IsReadyAt at (PointsPart p) = HasPointAt at p
+IsReadyAt at _ = Unit {0}
+
+-- the point of an index of the common lengths
+abbrev pub point_of : PointList → List ℕ → List ℕ
+point_of p at = tuple p.axes.items (get_or p.ranks.items (rank p.lengths.items (broadcast_index p.lengths.items at)) 0)
+
+-- the numbers of that point on the axes of a part, or the first number that is picked there
+abbrev pub numbers_at : List ℕ → IndexPart → List ℕ
+numbers_at at (AxisPart pick) = first_of pick
+numbers_at at (PointsPart p) = point_of p at
+numbers_at at BetweenPart = []
+
+-- the index of the first item with that point, and its offset
 abbrev pub first_at : List IndexPart → List ℕ → List ℕ
-first_at parts point = flat_map (numbers_at point) parts
+first_at parts at = flat_map (numbers_at at) parts
+
+abbrev pub first_offset : Layout → List IndexPart → List ℕ → ℕ
+first_offset layout parts at = natural (address layout (first_at parts at))
+
+abbrev pub LeadInto : Layout → List ℕ → List IndexPart → Type 0
+LeadInto layout points parts = (at : List ℕ) → IsIndex points at → IsIndex layout.shape (first_at parts at)
 
 -- what is picked where all points are 0
 abbrev pub rest_of : IndexPart → List AxisPick
@@ -70,3 +95,9 @@ rest_of BetweenPart = []
 
 abbrev pub rest_picks : List IndexPart → List AxisPick
 rest_picks parts = flat_map rest_of parts
+
+-- a layout shows what is picked so
+pub record IsRest (layout : Layout) (parts : List IndexPart) (rest : Layout) : Type 0 where
+  pub shape : rest.shape ≡ other_axes (map shown_part parts)
+  pub leads : (index : List ℕ) → IsIndex rest.shape index → IsIndex layout.shape (picked_index (map shown (rest_picks parts)) index)
+  pub same : (index : List ℕ) → IsIndex rest.shape index → address rest index ≡ address layout (picked_index (map shown (rest_picks parts)) index)

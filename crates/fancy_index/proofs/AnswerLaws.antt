@@ -1,0 +1,80 @@
+-- Which answer each exit of a plan has to give.
+use Rattle.std.proofs.Common.{◌≡◌, ◌⊎◌, inl, inr, Result, Ok, Err, ℕ, ◌≤◌, IsTrue, List, [], map, length, get_or, All, refl, sym, ap, subst, ◌∙◌, arith}
+use Rattle.std.specs.Result.{is_ok, IfOk, IfErr}
+use Rattle.std.proofs.lemmas.Bool.{false≢true}
+use Rattle.std.proofs.lemmas.List.{nil_from_length, length-map}
+use Rattle.elem_descr.specs.declared.refusal.Refusal.{Refusal}
+use Rattle.elem_descr.specs.declared.refusal.Refusal.TheVariants.{OutOfMemory}
+use Rattle.shape_strides.specs.declared.layout.Layout.{Layout}
+use Rattle.shape_strides.specs.Limits.{max_axes}
+use Rattle.shape_strides.specs.Indexes.{count, indexes, rank}
+use Rattle.shape_strides.specs.Shapes.{shape_of}
+use Rattle.shape_strides.specs.ShapeLaws.{shape_of-same}
+use Rattle.shape_strides.specs.Layouts.{offsets}
+use Rattle.shape_strides.specs.IndexLaws.{length-indexes, rank-lt}
+use Rattle.broadcasting.specs.Broadcasts.{common_with, can_stretch}
+use Rattle.broadcasting.specs.FitLaws.{with-fits}
+use Rattle.fancy_index.specs.declared.parts.IndexPart.{IndexPart}
+use Rattle.fancy_index.specs.Parts.{Part, point_shapes}
+use Rattle.fancy_index.specs.Indexed.{told_of_indexes, points_shape, all_axes, indexed_leads, parts_view}
+use Rattle.fancy_index.specs.Plans.{Planned, IsPlanOf, GivesPlan}
+use Rattle.fancy_index.specs.inside.PartLists.{shown_part, AreParts, IsReady}
+use Rattle.fancy_index.proofs.LeadLaws.{all_ready}
+
+-- ---- the definition, by cases
+
+no-points : (parts : List Part) (e : Refusal) → points_shape parts ≡ Err e → parts_view parts ≡ Err e
+unfolding parts_view
+no-points parts e there = rw there
+
+no-shape : (parts : List Part) (points : List ℕ) (e : Refusal) → points_shape parts ≡ Ok points → shape_of (all_axes points parts) ≡ Err e → parts_view parts ≡ Err e
+unfolding parts_view
+no-shape parts points e found there = rw (found, there)
+
+seen : (parts : List Part) (points shape : List ℕ) → points_shape parts ≡ Ok points → shape_of (all_axes points parts) ≡ Ok shape → parts_view parts ≡ Ok (record { shape = shape; leads = indexed_leads (length points) parts })
+unfolding parts_view
+seen parts points shape found there = rw (found, there)
+
+-- ---- refusals
+
+pub gives_no_points : (layout : Layout) (parts : List Part) (e : Refusal) → (e ≡ OutOfMemory) ⊎ (points_shape parts ≡ Err e) → GivesPlan layout (Err e) (parts_view parts)
+gives_no_points layout parts e (inl memory) = inl memory
+gives_no_points layout parts e (inr there) = inr (no-points parts e there)
+
+pub gives_no_shape : (layout : Layout) (parts : List Part) (points used : List ℕ) (e : Refusal) → points_shape parts ≡ Ok points → used ≡ points → (e ≡ OutOfMemory) ⊎ (shape_of (all_axes used parts) ≡ Err e) → GivesPlan layout (Err e) (parts_view parts)
+gives_no_shape layout parts points used e found is (inl memory) = inl memory
+gives_no_shape layout parts points used e found is (inr there) = inr (no-shape parts points e found (ap (λ p. shape_of (all_axes p parts)) (sym is) ∙ there))
+
+-- ---- plans
+
+-- the shape of the result, as it was made
+pub shape-made : (parts : List Part) (used shape : List ℕ) → shape_of (all_axes used parts) ≡ Ok shape → shape ≡ all_axes used parts
+shape-made parts used shape there = sym (shape_of-same (all_axes used parts) shape there)
+
+-- nothing is taken
+pub gives_none : (layout : Layout) (parts : List Part) (points used shape : List ℕ) (plan : Planned) → points_shape parts ≡ Ok points → used ≡ points → shape_of (all_axes used parts) ≡ Ok shape → count shape ≡ 0 → plan.shape ≡ shape → plan.offsets ≡ [] → GivesPlan layout (Ok plan) (parts_view parts)
+gives_none layout parts points used shape plan found is there none shape-is offsets-are =
+    let view = seen parts points shape found (ap (λ p. shape_of (all_axes p parts)) (sym is) ∙ there) in
+    subst (GivesPlan layout (Ok plan)) (sym view) (record {
+      shape = shape-is;
+      leads = λ index in'. absurd (omega (arith, rank-lt shape index in', none));
+      places = offsets-are ∙ sym (nil_from_length _ (length-map (indexes shape) (λ index. get_or (offsets layout) (rank layout.shape (indexed_leads (length points) parts index)) 0) ∙ length-indexes shape ∙ none));
+    })
+
+-- the plan of the items
+pub gives_some : (layout : Layout) (parts : List Part) (points used shape : List ℕ) (result : Result Planned Refusal) → points_shape parts ≡ Ok points → used ≡ points → shape_of (all_axes used parts) ≡ Ok shape →
+    IfOk result (λ plan. IsPlanOf layout plan (record { shape = all_axes used parts; leads = indexed_leads (length used) parts })) → IfErr result (λ e. e ≡ OutOfMemory) → GivesPlan layout result (parts_view parts)
+gives_some layout parts points used shape (Ok plan) found is there ok err =
+    let view = seen parts points (all_axes used parts) found (ap (λ p. shape_of (all_axes p parts)) (sym is) ∙ there ∙ ap Ok (shape-made parts used shape there)) in
+    subst (GivesPlan layout (Ok plan)) (sym view) (subst (λ p. IsPlanOf layout plan (record { shape = all_axes used parts; leads = indexed_leads (length p) parts })) is ok)
+gives_some layout parts points used shape (Err e) found is there ok err = inl err
+
+-- ---- points that stretch to what they have in common
+
+common_of_points : (shapes : List (List ℕ)) (points : List ℕ) (r : Result (List ℕ) Refusal) → common_with [] shapes ≡ r → told_of_indexes r ≡ Ok points → All (λ s. IsTrue (can_stretch s points)) shapes
+common_of_points shapes points (Ok lengths) found told = (with-fits [] shapes points (found ∙ told)).1
+common_of_points shapes points (Err e) found told = absurd (false≢true (ap is_ok told))
+
+pub points-ready : (shape points used : List ℕ) (parts : List IndexPart) → AreParts shape parts → length shape ≤ max_axes → points_shape (map shown_part parts) ≡ Ok points → used ≡ points → All (IsReady used) parts
+points-ready shape points used parts are few found is =
+    subst (λ (p : List ℕ). All (IsReady p) parts) (sym is) (all_ready shape points parts are few (common_of_points (point_shapes (map shown_part parts)) points _ refl found))

@@ -1,0 +1,138 @@
+-- A layout that is cut between two axes: the first axes where the others are 0, and the others where the first are 0.
+use Rattle.std.proofs.Common.{◌≡◌, ◌⊎◌, inl, inr, Result, Ok, Err, ℕ, ◌-◌, ◌*◌, ◌<◌, ◌≤◌, nat_le, true, List, [], ◌∷◌, ◌++◌, length, get_or, take, drop, All, refl, sym, ap, subst, ◌∙◌, arith, length-drop, length-take-le, take_all, mul-le-mul_left, mul-le-mul_right, mul-one, one-mul}
+use Rattle.std.specs.List.{list_all}
+use Rattle.std.specs.Result.{is_ok}
+use Rattle.std.proofs.lemmas.Bool.{false≢true, le-leb}
+use Rattle.std.proofs.lemmas.Int.{ints}
+use Rattle.std.proofs.lemmas.List.{take-append-drop}
+use Rattle.std.proofs.lemmas.List.Elements.{All-take, All-drop}
+use Rattle.std.proofs.lemmas.List.Sums.{list_all-from_AllPass}
+use lib.IntN.{ℤ, pos, ◌+ℤ◌, ◌*ℤ◌, +ℤ_idl, +ℤ_idr, +ℤ_assoc}
+use Rattle.elem_descr.specs.declared.refusal.Refusal.{Refusal}
+use Rattle.elem_descr.specs.declared.refusal.Refusal.TheVariants.{OutOfMemory}
+use Rattle.elem_descr.specs.RefusalLaws.{same_answer}
+use Rattle.shape_strides.specs.declared.layout.Layout.{Layout}
+use Rattle.shape_strides.specs.Limits.{max_axes, max_items, max_bytes}
+use Rattle.shape_strides.specs.Indexes.{count, IsIndex}
+use Rattle.shape_strides.specs.Shapes.{shape_of}
+use Rattle.shape_strides.specs.Addresses.{dot, address_at, LieWithin}
+use Rattle.shape_strides.specs.Layouts.{address}
+use Rattle.shape_strides.specs.inside.AxisIndexes.{padded}
+use Rattle.shape_strides.specs.CountLaws.{factors_pos}
+use Rattle.shape_strides.specs.IndexLaws.{length-index, IsIndex-append}
+use Rattle.shape_strides.specs.AxisLaws.{dot-zeros, IsIndex-first}
+use Rattle.shape_strides.specs.ReverseLaws.{count-append}
+use Rattle.shape_strides.specs.ShapeLaws.{shape_of-ok}
+use Rattle.view_ops.specs.inside.Shows.{Shows}
+use Rattle.view_ops.specs.ViewLaws.{LieWithin-view}
+
+-- ---- sums
+
+pub dot-cut : (strides : List ℤ) (i j : List ℕ) → dot strides (i ++ j) ≡ dot (take (length i) strides) i +ℤ dot (drop (length i) strides) j
+dot-cut strides [] j = sym (+ℤ_idl (dot strides j))
+dot-cut [] (k ∷ i) j = refl
+dot-cut (s ∷ strides) (k ∷ i) j =
+    ap (λ z. s *ℤ pos k +ℤ z) (dot-cut strides i j) ∙ sym (+ℤ_assoc (s *ℤ pos k) (dot (take (length i) strides) i) (dot (drop (length i) strides) j))
+
+-- ---- shapes
+
+module _ (shape : List ℕ) (k : ℕ) (some : 0 < count shape) where
+  whole : take k shape ++ drop k shape ≡ shape
+  whole = take-append-drop k shape
+
+  counts : count (take k shape) * count (drop k shape) ≡ count shape
+  counts = sym (count-append (take k shape) (drop k shape)) ∙ ap count whole
+
+  pub some-before : 0 < count (take k shape)
+  some-before = (factors_pos (count (take k shape)) (count (drop k shape)) (omega (arith, counts, some))).0
+
+  pub some-behind : 0 < count (drop k shape)
+  some-behind = (factors_pos (count (take k shape)) (count (drop k shape)) (omega (arith, counts, some))).1
+
+  few-before : count (take k shape) ≤ count shape
+  few-before = omega (arith, counts, mul-le-mul_left (count (take k shape)) some-behind, mul-one (count (take k shape)))
+
+  few-behind : count (drop k shape) ≤ count shape
+  few-behind = omega (arith, counts, mul-le-mul_right (count (drop k shape)) some-before, one-mul (count (drop k shape)))
+
+  all_short : (axes : List ℕ) → All (λ n. n ≤ max_items) axes → list_all (λ n. nat_le n max_items) axes ≡ true
+  all_short axes short = list_all-from_AllPass (λ n. nat_le n max_items) axes (λ k d below. le-leb (get_or axes k d) max_items (short k d below))
+
+  pub shape-before : k ≤ length shape → length shape ≤ max_axes → All (λ n. n ≤ max_items) shape → count shape ≤ max_items → shape_of (take k shape) ≡ Ok (take k shape)
+  shape-before within few short small =
+      shape_of-ok (take k shape) (omega (arith, length-take-le k shape within)) (all_short (take k shape) (All-take (λ n. n ≤ max_items) k shape short)) (omega (arith, few-before))
+
+  pub shape-behind : k ≤ length shape → length shape ≤ max_axes → All (λ n. n ≤ max_items) shape → count shape ≤ max_items → shape_of (drop k shape) ≡ Ok (drop k shape)
+  shape-behind within few short small =
+      shape_of-ok (drop k shape) (omega (arith, length-drop k shape)) (all_short (drop k shape) (All-drop (λ n. n ≤ max_items) k shape short)) (omega (arith, few-behind))
+
+  pub IsIndex-whole : (i j : List ℕ) → IsIndex (take k shape) i → IsIndex (drop k shape) j → IsIndex shape (i ++ j)
+  IsIndex-whole i j in-i in-j = subst (λ (s : List ℕ). IsIndex s (i ++ j)) whole (IsIndex-append (take k shape) (drop k shape) i j in-i in-j)
+
+pub only-memory : (made : Result (List ℕ) Refusal) (shape : List ℕ) (e : Refusal) → made ≡ Ok shape → (e ≡ OutOfMemory) ⊎ (made ≡ Err e) → e ≡ OutOfMemory
+only-memory made shape e is (inl memory) = memory
+only-memory made shape e is (inr there) = absurd (false≢true (ap is_ok (sym there ∙ is)))
+
+-- ---- layouts
+
+module _ (rest : Layout) (k : ℕ) (within : k ≤ length rest.shape) (some : 0 < count rest.shape) where
+  abbrev zeros-before : List ℕ
+  zeros-before = padded (take k rest.shape) []
+
+  abbrev zeros-behind : List ℕ
+  zeros-behind = padded (drop k rest.shape) []
+
+  in-before : IsIndex (take k rest.shape) zeros-before
+  in-before = IsIndex-first (take k rest.shape) (some-before rest.shape k some)
+
+  in-behind : IsIndex (drop k rest.shape) zeros-behind
+  in-behind = IsIndex-first (drop k rest.shape) (some-behind rest.shape k some)
+
+  size : (i : List ℕ) → IsIndex (take k rest.shape) i → length i ≡ k
+  size i in-i = length-index (take k rest.shape) i in-i ∙ length-take-le k rest.shape within
+
+  -- the sum over all axes
+  both : (i j : List ℕ) → IsIndex (take k rest.shape) i → dot rest.strides (i ++ j) ≡ dot (take k rest.strides) i +ℤ dot (drop k rest.strides) j
+  both i j in-i = dot-cut rest.strides i j ∙ ap (λ n. dot (take n rest.strides) i +ℤ dot (drop n rest.strides) j) (size i in-i)
+
+  pub address-both : (i j : List ℕ) → IsIndex (take k rest.shape) i → address rest (i ++ j) +ℤ pos rest.offset ≡ address_at (take k rest.strides) rest.offset i +ℤ address_at (drop k rest.strides) rest.offset j
+  address-both i j in-i = regroup (pos rest.offset) (dot rest.strides (i ++ j)) (dot (take k rest.strides) i) (dot (drop k rest.strides) j) (both i j in-i)
+    where
+      regroup : (b s x y : ℤ) → s ≡ x +ℤ y → (b +ℤ s) +ℤ b ≡ (b +ℤ x) +ℤ (b +ℤ y)
+      regroup b s x y is = omega (arith, ints, is)
+
+  pub before-shows : Shows rest (take k rest.shape) (take k rest.strides) rest.offset (λ i. i ++ zeros-behind)
+  before-shows = record {
+    leads = λ i in-i. IsIndex-whole rest.shape k some i zeros-behind in-i in-behind;
+    same = λ i in-i. ap (λ z. pos rest.offset +ℤ z) (sym (both i zeros-behind in-i ∙ ap (λ z. dot (take k rest.strides) i +ℤ z) (dot-zeros (drop k rest.strides) (drop k rest.shape)) ∙ +ℤ_idr (dot (take k rest.strides) i)));
+  }
+
+  pub behind-shows : Shows rest (drop k rest.shape) (drop k rest.strides) rest.offset (λ j. zeros-before ++ j)
+  behind-shows = record {
+    leads = λ j in-j. IsIndex-whole rest.shape k some zeros-before j in-before in-j;
+    same = λ j in-j. ap (λ z. pos rest.offset +ℤ z) (sym (both zeros-before j in-before ∙ ap (λ z. z +ℤ dot (drop k rest.strides) j) (dot-zeros (take k rest.strides) (take k rest.shape)) ∙ +ℤ_idl (dot (drop k rest.strides) j)));
+  }
+
+  pub lies-before : LieWithin (take k rest.shape) (take k rest.strides) rest.offset max_bytes 1
+  lies-before = LieWithin-view rest (take k rest.shape) (take k rest.strides) rest.offset (λ i. i ++ zeros-behind) max_bytes 1 before-shows rest.within_limit
+
+  pub lies-behind : LieWithin (drop k rest.shape) (drop k rest.strides) rest.offset max_bytes 1
+  lies-behind = LieWithin-view rest (drop k rest.shape) (drop k rest.strides) rest.offset (λ j. zeros-before ++ j) max_bytes 1 behind-shows rest.within_limit
+
+  pub strides-before : length (take k rest.strides) ≡ length (take k rest.shape)
+  strides-before = length-take-le k rest.strides (omega (arith, within, rest.one_stride_an_axis)) ∙ sym (length-take-le k rest.shape within)
+
+  pub strides-behind : length (drop k rest.strides) ≡ length (drop k rest.shape)
+  strides-behind = omega (arith, length-drop k rest.strides, length-drop k rest.shape, rest.one_stride_an_axis)
+
+-- a slice from a place on
+pub slice-rest : {X : Type 0} (k : ℕ) (whole : List X) → take (length whole - k) (drop k whole) ≡ drop k whole
+slice-rest k whole = take_all (length whole - k) (drop k whole) (omega (arith, length-drop k whole))
+
+pub made-before : (shape seen made : List ℕ) (k : ℕ) → 0 < count shape → k ≤ length shape → length shape ≤ max_axes → All (λ n. n ≤ max_items) shape → count shape ≤ max_items → seen ≡ shape → shape_of (take k seen) ≡ Ok made → made ≡ take k shape
+made-before shape seen made k some within few short small is there =
+    same_answer made (take k shape) (sym there ∙ ap (λ s. shape_of (take k s)) is ∙ shape-before shape k some within few short small)
+
+pub made-behind : (shape seen made : List ℕ) (k : ℕ) → 0 < count shape → k ≤ length shape → length shape ≤ max_axes → All (λ n. n ≤ max_items) shape → count shape ≤ max_items → seen ≡ shape → shape_of (take (length seen - k) (drop k seen)) ≡ Ok made → made ≡ drop k shape
+made-behind shape seen made k some within few short small is there =
+    same_answer made (drop k shape) (sym there ∙ ap shape_of (slice-rest k seen ∙ ap (drop k) is) ∙ shape-behind shape k some within few short small)

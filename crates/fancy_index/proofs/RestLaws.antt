@@ -1,0 +1,86 @@
+-- What is picked where all points are 0.
+use Rattle.std.proofs.Common.{◌≡◌, ◌⊎◌, inl, inr, Result, Ok, Err, ℕ, ◌+◌, ◌<◌, ◌≤◌, nat_le, true, pos, List, [], ◌∷◌, ◌++◌, map, length, get_or, drop, refl, sym, ap, subst, ◌∙◌, arith, append_assoc}
+use Rattle.std.specs.Result.{is_ok, IfOk, IfErr}
+use Rattle.std.proofs.lemmas.Bool.{false≢true, le-leb}
+use Rattle.std.proofs.lemmas.List.{get_or-map, drop_more}
+use Rattle.elem_descr.specs.declared.refusal.Refusal.{Refusal}
+use Rattle.elem_descr.specs.declared.refusal.Refusal.TheVariants.{OutOfMemory}
+use Rattle.shape_strides.specs.declared.layout.Layout.{Layout}
+use Rattle.shape_strides.specs.Limits.{max_axes}
+use Rattle.shape_strides.specs.Indexes.{indexes, rank, IsIndex}
+use Rattle.shape_strides.specs.Layouts.{address, offsets}
+use Rattle.shape_strides.specs.IndexLaws.{length-indexes, rank-lt, get_or-indexes}
+use Rattle.shape_strides.specs.LayoutLaws.{pos-offset}
+use Rattle.view_ops.specs.declared.pick.AxisPick.{AxisPick}
+use Rattle.view_ops.specs.declared.pick.AxisPick.TheVariants.{At as AtAxis}
+use Rattle.view_ops.specs.Basics.{axis_of, picked_shape, picked_index, shape_picked, picked_view}
+use Rattle.view_ops.specs.Picks.{shown}
+use Rattle.view_ops.specs.Views.{View, IsViewOf, GivesView}
+use Rattle.fancy_index.specs.declared.parts.IndexPart.{IndexPart}
+use Rattle.fancy_index.specs.declared.parts.IndexPart.TheVariants.{Axis as AxisPart, Points as PointsPart, Between as BetweenPart}
+use Rattle.fancy_index.specs.Parts.{other_axes}
+use Rattle.fancy_index.specs.inside.PartLists.{shown_part, rest_picks, IsRest}
+
+-- ---- the shape
+
+zeros-gone : (axes : List ℕ) (picks : List AxisPick) → picked_shape (map shown (map (λ _. AtAxis 0) axes ++ picks)) ≡ picked_shape (map shown picks)
+zeros-gone [] picks = refl
+zeros-gone (n ∷ axes) picks = zeros-gone axes picks
+
+pub rest-shape : (parts : List IndexPart) → picked_shape (map shown (rest_picks parts)) ≡ other_axes (map shown_part parts)
+rest-shape [] = refl
+rest-shape (AxisPart pick ∷ parts) = ap (λ l. axis_of (shown pick) ++ l) (rest-shape parts)
+rest-shape (PointsPart p ∷ parts) = zeros-gone p.axes.items (rest_picks parts) ∙ rest-shape parts
+rest-shape (BetweenPart ∷ parts) = rest-shape parts
+
+-- ---- the layout
+
+view-ok : (parts : List IndexPart) → length (other_axes (map shown_part parts)) ≤ max_axes →
+    picked_view (map shown (rest_picks parts)) ≡ Ok (record { shape = picked_shape (map shown (rest_picks parts)); leads = picked_index (map shown (rest_picks parts)) })
+unfolding picked_view shape_picked
+view-ok parts few =
+    let test : nat_le (length (picked_shape (map shown (rest_picks parts)))) max_axes ≡ true = le-leb (length (picked_shape (map shown (rest_picks parts)))) max_axes (omega (arith, few, ap length (rest-shape parts))) in
+    rw test refl
+
+-- an address of a view is one of the layout that it shows
+pub address-view : (old new : Layout) (view : View) → IsViewOf old new view → (index : List ℕ) → IsIndex new.shape index → address new index ≡ address old (view.leads index)
+address-view old new view is index in' =
+    let in-view : IsIndex view.shape index = subst (λ (s : List ℕ). IsIndex s index) is.shape in' in
+    let through : List ℕ → ℕ = λ i. get_or (offsets old) (rank old.shape (view.leads i)) 0 in
+    let below : rank view.shape index < length (indexes view.shape) = omega (arith, length-indexes view.shape, rank-lt view.shape index in-view) in
+    sym (pos-offset new index 0 in')
+    ∙ ap pos (
+    (λ i. get_or (is.places i) (rank (is.shape i) index) 0)
+    ∙ get_or-map through (indexes view.shape) (rank view.shape index) [] 0 below
+    ∙ ap through (get_or-indexes view.shape index [] in-view)
+    )
+    ∙ pos-offset old (view.leads index) 0 (is.leads index in-view)
+
+is-rest : (layout rest : Layout) (parts : List IndexPart) → IsViewOf layout rest (record { shape = picked_shape (map shown (rest_picks parts)); leads = picked_index (map shown (rest_picks parts)) }) → IsRest layout parts rest
+is-rest layout rest parts view = record {
+  shape = view.shape ∙ rest-shape parts;
+  leads = λ index in'. view.leads index (subst (λ (s : List ℕ). IsIndex s index) view.shape in');
+  same = address-view layout rest _ view;
+}
+
+pub gives_rest : (layout : Layout) (parts : List IndexPart) (picks : List AxisPick) (result : Result Layout Refusal) → picks ≡ rest_picks parts → length (other_axes (map shown_part parts)) ≤ max_axes → GivesView layout result (picked_view (map shown picks)) → IfOk result (IsRest layout parts)
+gives_rest layout parts picks (Ok rest) is few given =
+    is-rest layout rest parts (subst (GivesView layout (Ok rest)) (ap (λ p. picked_view (map shown p)) is ∙ view-ok parts few) given)
+gives_rest layout parts picks (Err e) is few given = tt
+
+only-memory : (e : Refusal) (view : View) → (e ≡ OutOfMemory) ⊎ (Ok view ≡ Err e) → e ≡ OutOfMemory
+only-memory e view (inl memory) = memory
+only-memory e view (inr other) = absurd (false≢true (sym (ap is_ok other)))
+
+pub gives_memory : (layout : Layout) (parts : List IndexPart) (picks : List AxisPick) (result : Result Layout Refusal) → picks ≡ rest_picks parts → length (other_axes (map shown_part parts)) ≤ max_axes → GivesView layout result (picked_view (map shown picks)) → IfErr result (λ e. e ≡ OutOfMemory)
+gives_memory layout parts picks (Ok rest) is few given = tt
+gives_memory layout parts picks (Err e) is few given =
+    only-memory e _ (subst (GivesView layout (Err e)) (ap (λ p. picked_view (map shown p)) is ∙ view-ok parts few) given)
+
+-- one more axis of points
+pub zero_more : (axes : List ℕ) (k : ℕ) (picks picks' whole : List AxisPick) → k < length axes → picks' ≡ picks ++ AtAxis 0 ∷ [] → picks ++ map (λ _. AtAxis 0) (drop k axes) ≡ whole → picks' ++ map (λ _. AtAxis 0) (drop (k + 1) axes) ≡ whole
+zero_more axes k picks picks' whole low is so_far =
+    ap (λ p. p ++ map (λ _. AtAxis 0) (drop (k + 1) axes)) is
+    ∙ append_assoc picks (AtAxis 0 ∷ []) (map (λ _. AtAxis 0) (drop (k + 1) axes))
+    ∙ ap (λ l. picks ++ map (λ _. AtAxis 0) l) (sym (drop_more axes k 0 low))
+    ∙ so_far

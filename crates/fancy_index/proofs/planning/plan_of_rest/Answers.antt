@@ -1,0 +1,71 @@
+use Rattle.std.proofs.Common.{◌<◌, ◌/◌, ℕ, List, map, length, take, drop, All, sym, ap, subst, ◌∙◌, arith}
+use Rattle.shape_strides.specs.Indexes.{count}
+use Rattle.shape_strides.specs.Layouts.{offsets}
+use Rattle.fancy_index.specs.Parts.{other_axes}
+use Rattle.fancy_index.specs.Plans.{moved_all}
+use Rattle.fancy_index.specs.inside.Kept.{AreStarts}
+use Rattle.fancy_index.specs.inside.PartLists.{shown_part}
+use Rattle.fancy_index.proofs.LaidLaws.{IsLaid, some_others, points_many, first-in, starts, is-plan, count-is, small-offset}
+use Rattle.fancy_index.proofs.planning.plan_of_rest.Goals as goal
+use Rattle.fancy_index.proofs.planning.plan_of_rest.Goals.{Start, After-items-2, In_ok-inner}
+
+-- there are other axes with items
+others : (c : Start) → 0 < count (other_axes (map shown_part c.args.parts.now))
+others c = (some_others c.args.parts.now c.args.points.now (omega (arith, ap count c.requires.shape, c.requires.some))).0
+
+some : (c : Start) → 0 < count c.args.rest.now.shape
+some c = omega (arith, others c, ap count c.requires.rest.shape)
+
+laid : (c : In_ok-inner) → IsLaid c.args.layout.now c.args.rest.now c.in_ok-outer.outer c.in_ok-inner.inner c.args.parts.now c.args.points.now
+laid c =
+    let rest = c.args.rest.now in
+    let place = c.points_place-place.ensures.value in
+    record {
+      are = c.requires.are;
+      ready = c.requires.ready;
+      is_rest = c.requires.rest;
+      some = (some_others c.args.parts.now c.args.points.now (omega (arith, ap count c.requires.shape, c.requires.some))).0;
+      outer_shape = c.in_ok-outer.ensures.shape ∙ ap (λ k. take k rest.shape) place;
+      outer_strides = c.in_ok-outer.ensures.strides ∙ ap (λ k. take k rest.strides) place;
+      outer_offset = c.in_ok-outer.ensures.offset;
+      inner_shape = c.in_ok-inner.ensures.shape ∙ ap (λ k. drop k rest.shape) place;
+      inner_strides = c.in_ok-inner.ensures.strides ∙ ap (λ k. drop k rest.strides) place;
+      inner_offset = c.in_ok-inner.ensures.offset;
+    }
+
+pub nonzero_div-many : goal.nonzero_div-many
+nonzero_div-many c = omega (arith, some (goal.at.nonzero_div-many c).Start, c.items-2.ensures.value)
+
+pub front-requires-clause-some : goal.front-requires-clause-some
+front-requires-clause-some c = some (goal.at.front-requires-clause-some c).Start
+
+pub back-requires-clause-some : goal.back-requires-clause-some
+back-requires-clause-some c = some (goal.at.back-requires-clause-some c).Start
+
+pub shifts-requires-clause-leads : goal.shifts-requires-clause-leads
+shifts-requires-clause-leads c = first-in c.args.layout.now c.args.rest.now c.in_ok-outer.outer c.in_ok-inner.inner c.args.parts.now c.args.points.now (laid (goal.at.shifts-requires-clause-leads c).In_ok-inner)
+
+pub shifts-requires-clause-many : goal.shifts-requires-clause-many
+shifts-requires-clause-many c =
+    (λ i. c.items.ensures.value i / c.items-2.ensures.value i)
+    ∙ (λ i. count (c.requires.shape i) / count (c.requires.rest.shape i))
+    ∙ points_many c.args.parts.now c.args.points.now (others (goal.at.shifts-requires-clause-many c).Start)
+
+pub new-requires-clause-count : goal.new-requires-clause-count
+new-requires-clause-count c =
+    ap (λ s. length (moved_all c.in_ok-inner.inner.offset (offsets c.in_ok-outer.outer) s (offsets c.in_ok-inner.inner))) c.in_ok-shifts.ensures
+    ∙ count-is c.args.layout.now c.args.rest.now c.in_ok-outer.outer c.in_ok-inner.inner c.args.parts.now c.args.points.now (laid (goal.at.new-requires-clause-count c).In_ok-inner)
+    ∙ sym (ap count c.requires.shape)
+
+pub new-requires-clause-small : goal.new-requires-clause-small
+new-requires-clause-small c = small-offset c.args.layout.now c.args.rest.now c.in_ok-outer.outer c.in_ok-inner.inner c.args.parts.now c.args.points.now (laid (goal.at.new-requires-clause-small c).In_ok-inner)
+
+pub new-requires-clause-starts : goal.new-requires-clause-starts
+new-requires-clause-starts c =
+    subst (λ (s : List ℕ). All (AreStarts c.in_ok-inner.inner.offset (offsets c.in_ok-inner.inner) s) (offsets c.in_ok-outer.outer)) (sym c.in_ok-shifts.ensures) (starts c.args.layout.now c.args.rest.now c.in_ok-outer.outer c.in_ok-inner.inner c.args.parts.now c.args.points.now (laid (goal.at.new-requires-clause-starts c).In_ok-inner))
+
+pub returns-clause-ok : goal.returns-clause-ok
+returns-clause-ok c =
+    is-plan c.args.layout.now c.args.rest.now c.in_ok-outer.outer c.in_ok-inner.inner c.args.parts.now c.args.points.now (laid (goal.at.returns-clause-ok c).In_ok-inner) c.new.result
+    (c.new.ensures.shape ∙ c.requires.shape)
+    (c.new.ensures.offsets ∙ ap (λ s. moved_all c.in_ok-inner.inner.offset (offsets c.in_ok-outer.outer) s (offsets c.in_ok-inner.inner)) c.in_ok-shifts.ensures)
