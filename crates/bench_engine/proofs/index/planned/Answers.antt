@@ -14,10 +14,10 @@ returns-in_err-plan-clause-plan c a shows =
 pub returns-then-len-size-gt-MAX_BYTES-clause-plan : goal.returns-then-len-size-gt-MAX_BYTES-clause-plan
 returns-then-len-size-gt-MAX_BYTES-clause-plan c a shows =
     let many : max_bytes < length c.in_ok-plan.plan.offsets * item_size c.args.array.now.descr.now =
-    subst (λ n. max_bytes < n) (λ i. c.len.ensures i * c.size.ensures.value i) c.if-len-size-gt-MAX_BYTES.true in
+    subst (λ n. max_bytes < n) (λ i. c.len.ensures.value i * c.size.ensures.value i) c.if-len-size-gt-MAX_BYTES.true in
     inr (too-large c.args.bench.now a c.args.array.now shows c.args.index.now _ ((λ i. items_of (c.as_slice.ensures.value i) (c.as_slice-items.ensures.value i)) ∙ c.in_ok-list.ensures.items) c.in_ok-plan.plan c.in_ok-plan.ensures many)
 
 pub returns-clause-plan : goal.returns-clause-plan
 returns-clause-plan c a shows =
     gathers c.args.bench.now a c.args.array.now shows c.args.index.now _ ((λ i. items_of (c.as_slice.ensures.value i) (c.as_slice-items.ensures.value i)) ∙ c.in_ok-list.ensures.items) c.in_ok-plan.plan c.in_ok-plan.ensures
-    (subst (λ n. n ≤ max_bytes) (λ i. c.len.ensures i * c.size.ensures.value i) c.if-len-size-gt-MAX_BYTES.false)
+    (subst (λ n. n ≤ max_bytes) (λ i. c.len.ensures.value i * c.size.ensures.value i) c.if-len-size-gt-MAX_BYTES.false)

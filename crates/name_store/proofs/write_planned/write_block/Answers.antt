@@ -40,7 +40,7 @@ returns-then-is_c-clause-answers c =
     let test : is_c_contiguous c.home_of-home.result.width (offsets c.args.owned.now.layout) ≡ true = sym c.if-is_c.ensures in
     let new = packed-new c.args.names.now.entries c.args.slots.now.items _ c.home_of-home.result.number c.home_of-home.result.width home c.args.plan.now c.scatter_at.new.slots.items c.args.owned.now.block c.args.owned.now.block (offsets c.args.owned.now.layout) (c.scatter_at.ensures home.slot home.there)
     (block-packed c.args.names.now.entries c.args.slots.now.items _ c.home_of-home.result.number c.home_of-home.result.width home c.args.plan.now c.args.owned c.requires.aim test) in
-    block-answers c.args.names.now.entries c.args.slots.now.items _ c.home_of-home.result.number c.home_of-home.result.width home (target.Plan c.args.plan.now) c.args.owned c.requires.aim c.requires.holds c.scatter_at.new.slots.items new c.len.result c.len.ensures
+    block-answers c.args.names.now.entries c.args.slots.now.items _ c.home_of-home.result.number c.home_of-home.result.width home (target.Plan c.args.plan.now) c.args.owned c.requires.aim c.requires.holds c.scatter_at.new.slots.items new c.len.result c.len.ensures.value
 
 pub copy-requires : goal.copy-requires
 copy-requires c = record { inside = offsets_within c.args.owned.now.layout _ _ c.args.owned.now.fills_block.fits }
@@ -85,4 +85,4 @@ returns-clause-answers c =
     let same = copy-packed c.args.names.now.entries c.args.slots.now.items _ c.home_of-home.result.number c.home_of-home.result.width home c.args.plan.now c.in_ok-packed.packed c.args.owned.now.descr c.args.owned.now.layout c.args.owned.now.block (block-size c.args.names.now.entries c.args.slots.now.items _ c.home_of-home.result.number c.home_of-home.result.width home c.args.plan.now c.args.owned c.requires.aim) (block-count c.args.names.now.entries c.args.slots.now.items _ c.home_of-home.result.number c.home_of-home.result.width home c.args.plan.now c.args.owned c.requires.aim)
     c.in_ok-packed.ensures.order c.in_ok-packed.ensures.bytes in
     let new = packed-new c.args.names.now.entries c.args.slots.now.items _ c.home_of-home.result.number c.home_of-home.result.width home c.args.plan.now c.scatter_at-2.new.slots.items c.in_ok-packed.packed.block c.args.owned.now.block (offsets c.args.owned.now.layout) (c.scatter_at-2.ensures home.slot home.there) same in
-    block-answers c.args.names.now.entries c.args.slots.now.items _ c.home_of-home.result.number c.home_of-home.result.width home (target.Plan c.args.plan.now) c.args.owned c.requires.aim c.requires.holds c.scatter_at-2.new.slots.items new c.len-2.result c.len-2.ensures
+    block-answers c.args.names.now.entries c.args.slots.now.items _ c.home_of-home.result.number c.home_of-home.result.width home (target.Plan c.args.plan.now) c.args.owned c.requires.aim c.requires.holds c.scatter_at-2.new.slots.items new c.len-2.result c.len-2.ensures.value

@@ -61,4 +61,4 @@ returns-clause-answers c =
     c.in_ok-packed.ensures.order c.in_ok-packed.ensures.bytes
     ∙ ap (λ (b : List ℕ). items_at (offsets c.args.from.now) c.home_of-home.result.width b) lent.block_is in
     let new = packed-new c.args.names.now.entries c.args.slots.now.items _ c.home_of-home.result.number c.home_of-home.result.width home c.args.plan.now c.scatter_at.new.slots.items c.in_ok-packed.packed.block lent.home.slot.block (offsets c.args.from.now) (c.scatter_at.ensures home.slot home.there) same in
-    named-answers c.args.names.now.entries c.args.slots.now.items _ c.home_of-home.result.number c.home_of-home.result.width home (target.Plan c.args.plan.now) c.args.name c.args.from.now c.requires.aim lent.number lent.width lent.home c.requires.holds c.scatter_at.new.slots.items new c.len.result c.len.ensures
+    named-answers c.args.names.now.entries c.args.slots.now.items _ c.home_of-home.result.number c.home_of-home.result.width home (target.Plan c.args.plan.now) c.args.name c.args.from.now c.requires.aim lent.number lent.width lent.home c.requires.holds c.scatter_at.new.slots.items new c.len.result c.len.ensures.value

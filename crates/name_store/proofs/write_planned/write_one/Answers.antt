@@ -29,4 +29,4 @@ returns-clause-holds c =
 pub returns-clause-answers : goal.returns-clause-answers
 returns-clause-answers c =
     let home = subst (λ (slots : Slots). IsHome c.args.names.now.entries slots c.args.key.now.bytes.items c.home_of-home.result.number c.home_of-home.result.width) c.as_slice.ensures.value c.home_of-home.ensures in
-    one-answers c.args.names.now.entries c.args.slots.now.items _ c.home_of-home.result.number c.home_of-home.result.width home (target.Plan c.args.plan.now) c.args.item c.requires.aim c.requires.holds c.fill_at.new.slots.items (c.fill_at.ensures home.slot home.there) c.len.result c.len.ensures
+    one-answers c.args.names.now.entries c.args.slots.now.items _ c.home_of-home.result.number c.home_of-home.result.width home (target.Plan c.args.plan.now) c.args.item c.requires.aim c.requires.holds c.fill_at.new.slots.items (c.fill_at.ensures home.slot home.there) c.len.result c.len.ensures.value
