@@ -1,7 +1,9 @@
 //! Items that become others of the same block, as NumPy assigns them.
+ghost use Rattle.std.specs.Prelude.{◌≡◌, length};
+
 use crate::check::{check, check_bytes};
 use crate::made::{Numbers, are_shifted, layout_of};
-use overlap_copy::{assign, assign_shifted};
+use overlap_copy::{assign, assign_shifted, may_overlap};
 use raw_block::RawBlock;
 use shape_strides::Layout;
 use std::alloc::Global;
@@ -46,6 +48,76 @@ fn items_become_others_of_their_block(rt: HostRuntime) {
         let to = layout_of(&rt, rt.alloc(), *to);
         let from = layout_of(&rt, rt.alloc(), *from);
         let block = assigned(&rt, rt.alloc(), &to, &from);
+        check_bytes(&rt, block.bytes(), wanted);
+    }
+}
+
+/// Items to write and items to read, of which none has a byte in common with the others, and what
+/// becomes of the bytes 0 to 15.
+const APART: &[(Numbers, Numbers, &[u8])] = &[
+    (
+        (
+            &[2, 1, 1, 1, 2, 1, 1, 1, 2],
+            &[8, 3, 3, 3, 4, 3, 3, 3, 2],
+            0,
+        ),
+        (
+            &[2, 1, 1, 1, 2, 1, 1, 1, 2],
+            &[2, 5, 5, 5, 4, 5, 5, 5, 8],
+            1,
+        ),
+        &[1, 1, 9, 3, 5, 5, 13, 7, 3, 9, 11, 11, 7, 13, 15, 15],
+    ),
+    (
+        (
+            &[2, 1, 1, 1, 2, 1, 1, 1, 2],
+            &[4, 3, 3, 3, 2, 3, 3, 3, 1],
+            0,
+        ),
+        (
+            &[2, 1, 1, 1, 2, 1, 1, 1, 2],
+            &[-1, 5, 5, 5, 2, 5, 5, 5, 4],
+            9,
+        ),
+        &[9, 13, 11, 15, 8, 12, 10, 14, 8, 9, 10, 11, 12, 13, 14, 15],
+    ),
+    (
+        (&[4], &[4], 1),
+        (&[4], &[-4], 14),
+        &[0, 14, 2, 3, 4, 10, 6, 7, 8, 6, 10, 11, 12, 2, 14, 15],
+    ),
+];
+
+/// A block with the bytes 0 to 15.
+fn sixteen(rt: &impl Abort, alloc: Global) -> RawBlock
+    ensures { length result ≡ 16 }
+{
+    let mut block = RawBlock::try_zeroed(alloc, 16).expect(rt, "no memory");
+    for (at, byte) in block.bytes_mut().iter_mut().enumerate() {
+        *byte = at as u8;
+    }
+    check(rt, block.len() == 16, "sixteen bytes");
+    block
+}
+
+/// The block's bytes once the items of one layout have become those of another, which are apart. It
+/// asks for no memory, so that it is never refused.
+fn assigned_apart(rt: &impl Abort, alloc: Global, to: &Layout, from: &Layout) -> RawBlock {
+    let mut block = sixteen(rt, alloc);
+    check(rt, to.fits(16, 1) && from.fits(16, 1), "items of the block");
+    check(rt, to.is_stacked(1), "items that lie apart");
+    check(rt, to.shape.items() == from.shape.items(), "as many items");
+    check(rt, !may_overlap(to, 1, from, 1), "no byte in common");
+    assign(alloc, &mut block, to, from, 1).unwrap();
+    block
+}
+
+#[test]
+fn items_that_are_apart_are_assigned_without_memory(rt: HostRuntime) {
+    for (to, from, wanted) in APART {
+        let to = layout_of(&rt, rt.alloc(), *to);
+        let from = layout_of(&rt, rt.alloc(), *from);
+        let block = assigned_apart(&rt, rt.alloc(), &to, &from);
         check_bytes(&rt, block.bytes(), wanted);
     }
 }
@@ -128,11 +200,7 @@ const SHIFTS: &[(&[usize], &[isize], usize, usize, &[u8])] = &[
 /// The block's bytes once the items of one layout have become those of another, some bytes further
 /// on or back.
 fn shifted(rt: &impl Abort, alloc: Global, to: &Layout, from: &Layout) -> RawBlock {
-    let mut block = RawBlock::try_zeroed(alloc, 16).expect(rt, "no memory");
-    for (at, byte) in block.bytes_mut().iter_mut().enumerate() {
-        *byte = at as u8;
-    }
-    check(rt, block.len() == 16, "sixteen bytes");
+    let mut block = sixteen(rt, alloc);
     check(rt, to.fits(16, 1) && from.fits(16, 1), "items of the block");
     check(rt, are_shifted(to, from), "the same strides");
     assign_shifted(&mut block, to, from, 1);

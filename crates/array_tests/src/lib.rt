@@ -13,6 +13,8 @@ mod blocks;
 #[cfg(test)]
 mod broadcasts;
 #[cfg(test)]
+mod casts;
+#[cfg(test)]
 mod check;
 #[cfg(test)]
 mod fields;

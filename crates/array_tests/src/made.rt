@@ -1,9 +1,12 @@
-//! Layouts for tests.
+//! Layouts and arrays for tests.
 ghost use Rattle.std.specs.Prelude.{◌≡◌, IsTrue};
 ghost use Rattle.name_store.specs.Memory.{AreShifted};
 
 use crate::check::check;
-use shape_strides::{Layout, Shape, Strides};
+use elem_descr::Descr;
+use overlap_copy::Owned;
+use raw_block::RawBlock;
+use shape_strides::{Layout, MAX_BYTES, MemoryOrder, Shape, Strides};
 use std::alloc::Global;
 use std::process::Abort;
 
@@ -43,6 +46,22 @@ pub(crate) fn has(
     check(rt, layout.shape.as_slice() == lengths, "lengths");
     check(rt, layout.strides.as_slice() == strides, "strides");
     check(rt, layout.offset == offset, "offset");
+}
+
+/// An array of these lengths over items with these bytes.
+pub(crate) fn array_of(
+    rt: &impl Abort,
+    alloc: Global,
+    descr: Descr,
+    lengths: &[usize],
+    bytes: &[u8],
+) -> Owned {
+    let shape = Shape::try_new(alloc, lengths).expect(rt, "no shape");
+    let mut block = RawBlock::try_zeroed(alloc, bytes.len()).expect(rt, "no memory");
+    block.bytes_mut().copy_from_slice(bytes);
+    let is_whole = shape.items() * descr.size() == block.len() && block.len() <= MAX_BYTES;
+    check(rt, is_whole, "a block that the items fill");
+    Owned::over(alloc, descr, &shape, MemoryOrder::C, block).expect(rt, "no memory")
 }
 
 /// Whether two layouts have the same shape and strides.

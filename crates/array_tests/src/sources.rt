@@ -7,28 +7,22 @@ ghost use Rattle.shape_strides.specs.IndexItems.{is_basic};
 
 use crate::basic_indexes::items;
 use crate::check::check;
-use crate::made::are_shifted;
+use crate::made::{are_shifted, array_of};
 use crate::table::{has_bytes, name};
 use broadcasting::stretch;
 use elem_descr::{Descr, Refusal, Scalar};
 use name_store::{Bench, Bound, Source, Target};
 use overlap_copy::Owned;
-use raw_block::RawBlock;
 use script_lang::Name;
-use shape_strides::{IndexItem, MAX_BYTES, MemoryOrder, Shape};
+use shape_strides::IndexItem;
 use std::alloc::Global;
 use std::process::Abort;
 use view_ops::{are_basic, basic};
 
-/// An array of these bytes and lengths.
-fn array_of(rt: &impl Abort, alloc: Global, lengths: &[usize], bytes: &[u8]) -> Owned {
+/// An array of these unsigned bytes.
+fn bytes_of(rt: &impl Abort, alloc: Global, lengths: &[usize], bytes: &[u8]) -> Owned {
     let descr = Descr::Scalar(Scalar::Byte { signed: false });
-    let shape = Shape::try_new(alloc, lengths).expect(rt, "no shape");
-    let mut block = RawBlock::try_zeroed(alloc, bytes.len()).expect(rt, "no memory");
-    block.bytes_mut().copy_from_slice(bytes);
-    let is_whole = shape.items() * descr.size() == block.len() && block.len() <= MAX_BYTES;
-    check(rt, is_whole, "a block that the items fill");
-    Owned::over(alloc, descr, &shape, MemoryOrder::C, block).expect(rt, "no memory")
+    array_of(rt, alloc, descr, lengths, bytes)
 }
 
 /// Whether items are unsigned bytes.
@@ -120,7 +114,7 @@ fn set_block(
 }
 
 fn bind(rt: &impl Abort, alloc: Global, bench: &mut Bench, key: u8, bytes: &[u8]) {
-    let fresh = Bound::Fresh(array_of(rt, alloc, &[bytes.len()], bytes));
+    let fresh = Bound::Fresh(bytes_of(rt, alloc, &[bytes.len()], bytes));
     bench
         .bind(alloc, &name(alloc, &[key]), fresh)
         .expect(rt, "no memory");
@@ -198,7 +192,7 @@ fn assign_grid(rt: &impl Abort, alloc: Global, row: (&str, &str, &[u8])) {
     let bytes = [0, 1, 2, 3, 4, 5, 6, 7, 8, 9, 10, 11, 12, 13, 14, 15];
     let mut bench = Bench::try_new(alloc, 0).expect(rt, "no memory");
     let grid = name(alloc, b"a");
-    let fresh = Bound::Fresh(array_of(rt, alloc, &[4, 4], &bytes));
+    let fresh = Bound::Fresh(bytes_of(rt, alloc, &[4, 4], &bytes));
     bench.bind(alloc, &grid, fresh).expect(rt, "no memory");
     assign(rt, alloc, &mut bench, to, &grid, from);
     has_bytes(rt, alloc, &bench, b'a', wanted);
@@ -217,7 +211,7 @@ fn shift_grid(rt: &impl Abort, alloc: Global, row: (&str, &str, &[u8])) {
     let bytes = [0, 1, 2, 3, 4, 5, 6, 7, 8, 9, 10, 11, 12, 13, 14, 15];
     let mut bench = Bench::try_new(alloc, 0).expect(rt, "no memory");
     let grid = name(alloc, b"a");
-    let fresh = Bound::Fresh(array_of(rt, alloc, &[4, 4], &bytes));
+    let fresh = Bound::Fresh(bytes_of(rt, alloc, &[4, 4], &bytes));
     bench.bind(alloc, &grid, fresh).expect(rt, "no memory");
     let to = items(rt, alloc, to);
     let from = items(rt, alloc, from);
@@ -246,7 +240,7 @@ fn assign_block(rt: &impl Abort, alloc: Global, row: (&str, &[u8], &[u8])) {
     let (to, bytes, wanted) = row;
     let mut bench = bench_of_two(rt, alloc);
     let to = items(rt, alloc, to);
-    let owned = array_of(rt, alloc, &[bytes.len()], bytes);
+    let owned = bytes_of(rt, alloc, &[bytes.len()], bytes);
     check(rt, are_basic(to.as_slice()), "no index array");
     set_block(alloc, &mut bench, &name(alloc, b"a"), to.as_slice(), &owned).expect(rt, "refused");
     has_bytes(rt, alloc, &bench, b'a', wanted);

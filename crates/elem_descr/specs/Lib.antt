@@ -22,3 +22,4 @@ pub mod EncodingLaws
 pub mod RefusalLaws
 pub mod WrapLaws
 pub mod NumberLaws
+pub mod NulLaws

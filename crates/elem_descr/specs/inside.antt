@@ -6,3 +6,4 @@ pub mod Weights
 pub mod Counts
 pub mod Signs
 pub mod Turns
+pub mod Nuls

@@ -1,5 +1,5 @@
 -- Items of a layout that come from as many bytes further on or back, in the order of their addresses.
-use Rattle.std.proofs.Common.{◌≡◌, ◌+◌, ◌-◌, ◌<◌, ◌≤◌, ◌⊎◌, inl, inr, ℕ, ℤ, pos, ◌+ℤ◌, List, map, length, get_or, All, Contains, refl, sym, ap, subst, ◌∙◌, arith}
+use Rattle.std.proofs.Common.{◌≡◌, ◌+◌, ◌-◌, ◌<◌, ◌≤◌, ◌⊎◌, inl, inr, ℕ, ℤ, pos, ◌+ℤ◌, List, length, get_or, All, Contains, sym, ap, subst, ◌∙◌, arith}
 use Rattle.std.proofs.lemmas.Bool.{cases_lt}
 use Rattle.std.proofs.lemmas.Int.{ints}
 use Rattle.std.proofs.lemmas.List.{length-map, get_or-map, get_or_default}
@@ -7,12 +7,12 @@ use Rattle.raw_block.specs.Bytes.{item_at}
 use Rattle.shape_strides.specs.declared.layout.Layout.{Layout}
 use Rattle.shape_strides.specs.Limits.{max_bytes, max_items}
 use Rattle.shape_strides.specs.Indexes.{rank, IsIndex, count}
-use Rattle.shape_strides.specs.Layouts.{offsets, Fits, IsNested, distance, dot, address}
+use Rattle.shape_strides.specs.Layouts.{offsets, Fits, IsNested, distance, dot}
 use Rattle.shape_strides.specs.AddressOrders.{IsRising, IsFalling}
 use Rattle.shape_strides.specs.IndexLaws.{index_at}
 use Rattle.shape_strides.specs.LayoutLaws.{length-offsets, pos-offset, offsets_within, entry-first}
 use Rattle.overlap_copy.specs.Assignments.{assigned}
-use Rattle.overlap_copy.specs.inside.Moves.{IsAssigned, IsOutside}
+use Rattle.overlap_copy.specs.inside.Moves.{IsAssigned}
 use Rattle.overlap_copy.specs.inside.Shifts.{source, sources, MayCome}
 use Rattle.overlap_copy.proofs.MoveLaws.{same_assigned, assigned_is}
 

@@ -1,32 +1,27 @@
 -- Items that move by as many bytes each, in the order of their addresses.
-use Rattle.std.proofs.Common.{◌≡◌, ◌+◌, ◌-◌, ◌*◌, ◌<◌, ◌≤◌, ◌⊎◌, inl, inr, ℕ, zero, suc, ℤ, pos, negsuc, ◌+ℤ◌, ◌*ℤ◌, ◌≤ℤ◌, List, [], ◌∷◌, ◌++◌, map, length, get_or, All, Contains, refl, sym, ap, subst, ◌∙◌, arith, length-append, get_or-append-add, one-mul}
+use Rattle.std.proofs.Common.{◌≡◌, ◌+◌, ◌-◌, ◌*◌, ◌<◌, ◌≤◌, ℕ, zero, suc, ℤ, pos, negsuc, ◌+ℤ◌, ◌*ℤ◌, ◌≤ℤ◌, List, [], ◌∷◌, ◌++◌, length, get_or, All, refl, sym, ap, subst, ◌∙◌, arith, length-append, get_or-append-add, one-mul}
 use Rattle.std.specs.Prelude.{nat_abs}
-use Rattle.std.specs.List.{flat_map, AllByRecursion as Each}
-use Rattle.std.proofs.Math.IntN.{*ℤ_comm, +ℤ_idr}
-use Rattle.std.proofs.lemmas.Bool.{cases_lt}
+use Rattle.std.specs.List.{flat_map}
+use Rattle.std.proofs.Math.IntN.{*ℤ_comm}
 use Rattle.std.proofs.lemmas.Int.{ints}
 use Rattle.std.proofs.lemmas.List.{length-map, get_or-map, map-append, get_or_append_left, same_lists}
 use Rattle.std.proofs.lemmas.List.Elements.{recursion_from_All, All-head}
 use Rattle.raw_block.specs.Bytes.{position, place, item_at, put, EachWithin}
 use Rattle.raw_block.specs.BytesLaws.{not_negative}
-use Rattle.shape_strides.specs.declared.layout.Layout.{Layout}
 use Rattle.shape_strides.specs.declared.runs.Run.{Run}
 use Rattle.shape_strides.specs.Limits.{max_bytes, max_items}
 use Rattle.shape_strides.specs.Addresses.{LieWithin, address_at}
-use Rattle.shape_strides.specs.Indexes.{rank, IsIndex, count}
-use Rattle.shape_strides.specs.Layouts.{offsets, Fits, IsNested, distance, dot}
+use Rattle.shape_strides.specs.Indexes.{IsIndex}
+use Rattle.shape_strides.specs.Layouts.{offsets, IsNested, distance}
 use Rattle.shape_strides.specs.Runs.{run_offsets}
-use Rattle.shape_strides.specs.AddressOrders.{IsRising, IsFalling}
-use Rattle.shape_strides.specs.IndexLaws.{index_at}
-use Rattle.shape_strides.specs.LayoutLaws.{length-offsets, pos-offset, offsets_within}
 use Rattle.overlap_copy.specs.RunLaws.{length-run_offsets, place-at, run-ends, lie-within, runs-within}
 use Rattle.overlap_copy.specs.Assignments.{assigned}
 use Rattle.overlap_copy.specs.inside.Moves.{IsAssigned, IsLine, IsTurned, AreSpaced, LiesApart, LieApart, place_in}
 use Rattle.overlap_copy.specs.inside.Shifts.{source, sources, source_run, MayCome}
-use Rattle.overlap_copy.proofs.MoveLaws.{reordered, retold, same_assigned, assigned_is}
+use Rattle.overlap_copy.proofs.MoveLaws.{reordered, retold}
 use Rattle.overlap_copy.proofs.MovingLaws.{nested-front, nested-back, IsMoving, moving_on}
 use Rattle.overlap_copy.proofs.RunCopyLaws.{whole_moved}
-use Rattle.overlap_copy.proofs.TurnLaws.{line_within, turned_place, turned_within}
+use Rattle.overlap_copy.proofs.TurnLaws.{turned_place, turned_within}
 
 -- ---- a run, from its first item to its last and back
 

@@ -95,6 +95,8 @@ fn assign_runs(block: &mut RawBlock, dst: &Layout, src: &Layout, width: usize) -
 /// C order, whatever bytes of the block the two have in common. Where they are apart, or are runs
 /// of the same step, or one is a run and the other the same from its last item to its first, it
 /// takes no memory; else that for the items of `src`, and an `Err` says that there was none.
+/// The block is within the limit of buffers: items of a layout begin within it, but in a longer block
+/// they could end beyond, and the ranges of bytes that are compared are those within.
 pub fn assign(
     alloc: Global,
     block: &mut RawBlock,

@@ -5,7 +5,7 @@ ghost use Rattle.raw_block.specs.Bytes.{EachWithin};
 ghost use Rattle.shape_strides.specs.Layouts.{offsets};
 ghost use Rattle.shape_strides.specs.Runs.{run_offsets};
 ghost use Rattle.overlap_copy.specs.Assignments.{items_at, assigned};
-ghost use Rattle.overlap_copy.specs.inside.Packed.{row, row_offsets};
+ghost use Rattle.overlap_copy.specs.inside.Packed.{row_offsets};
 
 use crate::run_copies::copy_run;
 use raw_block::RawBlock;
@@ -14,11 +14,11 @@ use std::alloc::{AllocError, Global};
 
 /// The run of `count` items of `width` bytes that lie one after another from `at` on, in a block of
 /// `len` bytes.
-fn row(at: usize, width: usize, count: usize, len: usize) -> Run
+pub fn packed_run(at: usize, width: usize, count: usize, len: usize) -> Run
     requires some { 1 ≤ count }
     requires within { at + count * width ≤ len }
     requires small { len < 2 ^ 63 }
-    ensures row { result ≡ row at width count }
+    ensures run { result ≡ record { offset = at; count = count; step = pos width } }
     ensures within { EachWithin len at (pos width) width count }
 {
     Run {
@@ -39,7 +39,13 @@ fn gather_runs(items: &mut RawBlock, runs: Runs<'_>, block: &RawBlock, width: us
     let len = items.len();
     let mut at = 0;
     for run in runs {
-        copy_run(items, row(at, width, run.count, len), block, run, width);
+        copy_run(
+            items,
+            packed_run(at, width, run.count, len),
+            block,
+            run,
+            width,
+        );
         at += run.count * width;
     }
 }
@@ -55,7 +61,13 @@ fn scatter_runs(block: &mut RawBlock, runs: Runs<'_>, items: &RawBlock, width: u
     let len = items.len();
     let mut at = 0;
     for run in runs {
-        copy_run(block, run, items, row(at, width, run.count, len), width);
+        copy_run(
+            block,
+            run,
+            items,
+            packed_run(at, width, run.count, len),
+            width,
+        );
         at += run.count * width;
     }
 }

@@ -12,7 +12,7 @@ use raw_block::RawBlock;
 use shape_strides::{Run, RunPairs};
 
 /// Copies the items of `width` bytes of a run of `other` to those of a run of the block, as many.
-pub(crate) fn copy_run(block: &mut RawBlock, to: Run, other: &RawBlock, from: Run, width: usize)
+pub fn copy_run(block: &mut RawBlock, to: Run, other: &RawBlock, from: Run, width: usize)
     requires count { to.count ≡ from.count }
     requires to { EachWithin (length block.old) to.offset to.step width to.count }
     requires from { EachWithin (length other.now) from.offset from.step width from.count }

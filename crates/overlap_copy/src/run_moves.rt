@@ -13,17 +13,6 @@ pub(crate) fn is_packed(run: Run, width: usize) -> bool
     run.step >= 0 && run.step.unsigned_abs() == width
 }
 
-/// Where the item is that is so many steps after a run's first.
-fn offset_after(run: Run, steps: usize) -> usize
-    requires start { run.offset ≤ max_bytes }
-    requires steps { steps ≤ max_items }
-    requires low { pos 0 ≤ℤ (pos run.offset +ℤ run.step *ℤ pos steps) }
-    requires high { (pos run.offset +ℤ run.step *ℤ pos steps) ≤ℤ pos max_bytes }
-    ensures { pos result ≡ pos run.offset +ℤ run.step *ℤ pos steps }
-{
-    (run.offset as isize + run.step * steps as isize) as usize
-}
-
 /// A step back in place of a step on.
 fn opposite(step: isize) -> isize
     requires { pos 0 ≤ℤ (step +ℤ pos max_bytes) }
@@ -38,7 +27,7 @@ pub(crate) fn turned(run: Run) -> Run
     ensures { IsTurned run result }
 {
     Run {
-        offset: offset_after(run, run.count - 1),
+        offset: run.offset_after(run.count - 1),
         count: run.count,
         step: opposite(run.step),
     }

@@ -1,5 +1,6 @@
 pub mod Carving
 pub mod Copies
+pub mod Exchanges
 pub mod Laws
 pub mod Numbers
 pub mod Places

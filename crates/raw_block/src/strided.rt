@@ -1,8 +1,9 @@
 //! Items that lie in a slice of bytes at equal steps: copied, filled and exchanged, one after the other.
-ghost use Rattle.std.specs.Prelude.{◌≡◌, ◌⊎◌, ◌+◌, ◌*◌, ◌^◌, ◌<◌, ◌≤◌, pos, ◌≤ℤ◌, ◌<ℤ◌, IsTrue, length};
+ghost use Rattle.std.specs.Prelude.{◌≡◌, ◌⊎◌, ◌+◌, ◌*◌, ◌^◌, ◌<◌, ◌≤◌, pos, ◌≤ℤ◌, ◌<ℤ◌, max, min, IsTrue, length};
 ghost use Rattle.raw_block.specs.Bytes.{position, place, EachWithin, copied, copied_within, filled, swapped};
+ghost use Rattle.raw_block.specs.inside.Pairs.{LieApart};
 
-use crate::item::{move_array, move_item, put_item, swap_items};
+use crate::item::{move_array, move_item, put_item, swap_apart, swap_items};
 
 /// Where the `k`-th item lies. The sum wraps to it also where the step is below 0.
 fn place(at: usize, step: isize, k: usize) -> usize
@@ -214,8 +215,8 @@ pub(crate) fn fill(bytes: &mut [u8], dst: usize, step: isize, item: &[u8], n: us
     }
 }
 
-/// Exchanges `n` pairs of items.
-pub(crate) fn swap(
+/// Exchanges `n` pairs of items byte by byte.
+fn swap_each(
     bytes: &mut [u8],
     a: usize,
     a_step: isize,
@@ -230,5 +231,82 @@ pub(crate) fn swap(
 {
     for k in 0..n {
         swap_items(bytes, place(a, a_step, k), place(b, b_step, k), width);
+    }
+}
+
+/// Exchanges `n` pairs of items of `N` bytes, those of each pair at once.
+fn swap_each_apart<const N: usize>(
+    bytes: &mut [u8],
+    a: usize,
+    a_step: isize,
+    b: usize,
+    b_step: isize,
+    n: usize,
+)
+    requires a { EachWithin (length bytes.old) a a_step N n }
+    requires b { EachWithin (length bytes.old) b b_step N n }
+    requires apart { LieApart a a_step b b_step N n }
+    ensures { bytes.new ≡ swapped a a_step b b_step N n bytes.old }
+{
+    for k in 0..n {
+        swap_apart::<N>(bytes, place(a, a_step, k), place(b, b_step, k));
+    }
+}
+
+/// Whether the items of one run all end before those of the other begin, by the first and the last
+/// item of each.
+fn are_beside(a: usize, last_a: usize, b: usize, last_b: usize, width: usize) -> bool
+    requires { (max a last_a + width < 2 ^ 64) × (max b last_b + width < 2 ^ 64) }
+    ensures { IsTrue result → (max a last_a + width ≤ min b last_b) ⊎ (max b last_b + width ≤ min a last_a) }
+{
+    a.max(last_a) + width <= b.min(last_b) || b.max(last_b) + width <= a.min(last_a)
+}
+
+/// Exchanges `n` pairs of items of `N` bytes, those of each pair at once where the runs lie beside
+/// one another.
+fn swap_arrays<const N: usize>(
+    bytes: &mut [u8],
+    a: usize,
+    a_step: isize,
+    b: usize,
+    b_step: isize,
+    n: usize,
+)
+    requires a { EachWithin (length bytes.old) a a_step N n }
+    requires b { EachWithin (length bytes.old) b b_step N n }
+    ensures { bytes.new ≡ swapped a a_step b b_step N n bytes.old }
+{
+    if n == 0 {
+        return;
+    }
+    let last_a = place(a, a_step, n - 1);
+    let last_b = place(b, b_step, n - 1);
+    if are_beside(a, last_a, b, last_b, N) {
+        swap_each_apart::<N>(bytes, a, a_step, b, b_step, n);
+    } else {
+        swap_each(bytes, a, a_step, b, b_step, N, n);
+    }
+}
+
+/// Exchanges `n` pairs of items, with a loop of its own for each usual width.
+pub(crate) fn swap(
+    bytes: &mut [u8],
+    a: usize,
+    a_step: isize,
+    b: usize,
+    b_step: isize,
+    width: usize,
+    n: usize,
+)
+    requires a { EachWithin (length bytes.old) a a_step width n }
+    requires b { EachWithin (length bytes.old) b b_step width n }
+    ensures { bytes.new ≡ swapped a a_step b b_step width n bytes.old }
+{
+    match width {
+        1 => swap_arrays::<1>(bytes, a, a_step, b, b_step, n),
+        2 => swap_arrays::<2>(bytes, a, a_step, b, b_step, n),
+        4 => swap_arrays::<4>(bytes, a, a_step, b, b_step, n),
+        8 => swap_arrays::<8>(bytes, a, a_step, b, b_step, n),
+        _ => swap_each(bytes, a, a_step, b, b_step, width, n),
     }
 }

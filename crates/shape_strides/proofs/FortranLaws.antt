@@ -1,10 +1,9 @@
 -- Laws of Fortran order: the axes in reverse.
-use Rattle.std.proofs.Common.{◌≡◌, ℕ, zero, suc, ◌+◌, ◌*◌, ◌^◌, ◌-◌, ◌<◌, ◌≤◌, ◌≢◌, true, false, ℤ, pos, ◌+ℤ◌, ◌*ℤ◌, List, [], ◌∷◌, ◌++◌, map, reverse, length, get_or, take, drop, refl, sym, ◌∙◌, ap, arith, mul_comm, mul_assoc, mul-one, one-mul, mul-le-mul_left, length-drop, take_all, inl, inr}
+use Rattle.std.proofs.Common.{◌≡◌, ℕ, zero, suc, ◌+◌, ◌*◌, ◌^◌, ◌-◌, ◌<◌, ◌≤◌, ◌≢◌, true, false, ℤ, pos, ◌+ℤ◌, ◌*ℤ◌, List, [], ◌∷◌, ◌++◌, map, reverse, length, get_or, take, drop, refl, sym, ◌∙◌, ap, arith, mul_comm, mul-one, one-mul, mul-le-mul_left, length-drop, take_all, inl, inr}
 use Rattle.std.proofs.lemmas.Bool.{cases_order}
 use Rattle.std.proofs.lemmas.Int.{ints}
 use Rattle.std.proofs.lemmas.List.{drop_more, length-reverse, reverse-reverse, reverse-append, take_more, get_or-reverse, take-append-drop, map-append}
 use Rattle.std.proofs.Math.Seq.{drop-append_seam}
-use Rattle.std.proofs.lemmas.Grind.{reverse_onto}
 use lib.IntN.{+ℤ_idl, +ℤ_assoc}
 use Rattle.shape_strides.specs.declared.layout.Layout.{Layout}
 use Rattle.shape_strides.specs.Indexes.{count, rank, IsIndex}
@@ -12,7 +11,7 @@ use Rattle.shape_strides.specs.Limits.{max_items, max_bytes}
 use Rattle.shape_strides.specs.Addresses.{dot, address_at, natural, LieWithin}
 use Rattle.shape_strides.specs.Layouts.{address, offsets, IsNested, distance, multiples, c_strides, f_strides, f_multiples}
 use Rattle.shape_strides.specs.Contiguity.{fortran_order, is_c_contiguous, is_f_contiguous}
-use Rattle.shape_strides.specs.IndexLaws.{same_on_indexes, rank-same, index_at, rank-lt, length-index, IsIndex-append}
+use Rattle.shape_strides.specs.IndexLaws.{same_on_indexes, rank-same, index_at, rank-lt, length-index}
 use Rattle.shape_strides.specs.LayoutLaws.{length-offsets, get_or-offsets}
 use Rattle.shape_strides.specs.CountLaws.{mul-step, factors_pos, count-drop}
 use Rattle.shape_strides.proofs.LayoutLaws.{dot-c_strides, address-made, StandsInCOrder, offsets-c_order}

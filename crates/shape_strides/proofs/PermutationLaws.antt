@@ -1,5 +1,5 @@
 -- Axes in another order: as many items, and as many bytes from the first to each.
-use Rattle.std.proofs.Common.{◌≡◌, ℕ, zero, suc, ◌+◌, ◌*◌, ◌<◌, ◌≤◌, List, [], ◌∷◌, map, sum_by, length, get_or, set, Contains, inl, inr, refl, sym, ◌∙◌, ap, subst, arith, mul_comm, mul_assoc, mul-zero, zero-mul}
+use Rattle.std.proofs.Common.{◌≡◌, ℕ, zero, suc, ◌+◌, ◌*◌, ◌<◌, List, [], ◌∷◌, map, sum_by, length, get_or, set, Contains, inl, inr, refl, sym, ◌∙◌, ap, subst, arith, mul_comm, mul_assoc, mul-zero, zero-mul}
 use Rattle.std.specs.List.{swap, AllByRecursion as Each}
 use Rattle.std.specs.List.Sorted.{IsPermutation}
 use Rattle.std.proofs.lemmas.Bool.{cases_lt, cases_eq}

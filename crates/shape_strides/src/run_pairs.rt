@@ -21,17 +21,6 @@ pub struct RunPair {
     pub second: Run,
 }
 
-/// Where the item is that is so many steps after a run's first.
-fn offset_after(run: Run, steps: usize) -> usize
-    requires start { run.offset ≤ max_bytes }
-    requires steps { steps ≤ max_items }
-    requires low { pos 0 ≤ℤ (pos run.offset +ℤ run.step *ℤ pos steps) }
-    requires high { (pos run.offset +ℤ run.step *ℤ pos steps) ≤ℤ pos max_bytes }
-    ensures { pos result ≡ pos run.offset +ℤ run.step *ℤ pos steps }
-{
-    (run.offset as isize + run.step * steps as isize) as usize
-}
-
 /// The first `n` items of a run.
 fn front(run: Run, n: usize) -> Run
     ensures { result ≡ run_front n run }
@@ -54,7 +43,7 @@ fn after(runs: &mut Runs<'_>, run: Run, n: usize) -> Option<Run>
         return runs.next();
     }
     Some(Run {
-        offset: offset_after(run, n),
+        offset: run.offset_after(n),
         count: run.count - n,
         step: run.step,
     })

@@ -23,6 +23,22 @@ pub struct Run {
     pub step: isize,
 }
 
+impl Run {
+    ghost use Rattle.std.specs.Prelude.{pos, ◌+ℤ◌, ◌*ℤ◌, ◌≤ℤ◌};
+    ghost use Rattle.shape_strides.specs.Limits.{max_items, max_bytes};
+
+    /// Where the item lies that is so many steps after the first.
+    pub fn offset_after(self, steps: usize) -> usize
+        requires start { self.offset ≤ max_bytes }
+        requires steps { steps ≤ max_items }
+        requires low { pos 0 ≤ℤ (pos self.offset +ℤ self.step *ℤ pos steps) }
+        requires high { (pos self.offset +ℤ self.step *ℤ pos steps) ≤ℤ pos max_bytes }
+        ensures { pos result ≡ pos self.offset +ℤ self.step *ℤ pos steps }
+    {
+        (self.offset as isize + self.step * steps as isize) as usize
+    }
+}
+
 /// The items of a layout in C order, seen as the list of the runs that are left. Each run covers
 /// the last of the layout's axes, as far as they are joined. It takes no memory, whatever the number
 /// of axes.

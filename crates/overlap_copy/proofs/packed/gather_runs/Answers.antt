@@ -4,8 +4,8 @@ use Rattle.raw_block.specs.Bytes.{EachWithin}
 use Rattle.overlap_copy.proofs.PackedLaws.{room-next, gathered-next}
 use Rattle.overlap_copy.proofs.packed.gather_runs.Goals as goal
 
-pub row-requires-clause-within : goal.row-requires-clause-within
-row-requires-clause-within c =
+pub packed_run-requires-clause-within : goal.packed_run-requires-clause-within
+packed_run-requires-clause-within c =
     (room-next _ _ c.in-Some.run' c.loop-run.at c.args.width c.len-len.result c.in-Some.ensures.steps c.loop-run.invariant.room).0
 
 pub overflow_mul-at : goal.overflow_mul-at
@@ -23,7 +23,7 @@ loop-run-preserved c =
     let inv = c.loop-run.invariant in
     let steps = c.in-Some.ensures.steps in
     record {
-      rest = gathered-next _ _ c.in-Some.run' c.row.result c.loop-run.at c.args.width _ c.loop-run.items _ _ steps c.row.ensures.row c.copy_run.ensures.written inv.rest;
+      rest = gathered-next _ _ c.in-Some.run' c.packed_run.result c.loop-run.at c.args.width _ c.loop-run.items _ _ steps c.packed_run.ensures.run c.copy_run.ensures.written inv.rest;
       len = c.copy_run.ensures.len ∙ inv.len;
       room = (room-next _ _ c.in-Some.run' c.loop-run.at c.args.width c.len-len.result steps inv.room).1;
       some = All-rest (λ run. 1 ≤ run.count) _ _ _ steps inv.some;

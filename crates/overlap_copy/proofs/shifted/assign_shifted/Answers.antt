@@ -1,5 +1,4 @@
-use Rattle.std.proofs.Common.{◌≤◌, length, ap, ◌∙◌, sym, subst, arith}
-use Rattle.shape_strides.specs.Layouts.{offsets}
+use Rattle.std.proofs.Common.{length, ap, ◌∙◌, sym, subst, arith}
 use Rattle.overlap_copy.specs.Assignments.{assigned}
 use Rattle.overlap_copy.specs.inside.Shifts.{sources, MayCome}
 use Rattle.overlap_copy.proofs.ComeLaws.{offset-within, assigned-order, come-rising, come-falling, nested-rising, nested-falling}

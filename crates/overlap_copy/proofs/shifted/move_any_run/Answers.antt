@@ -1,5 +1,4 @@
-use Rattle.std.proofs.Common.{◌≡◌, ◌≤◌, length, sym, subst, ◌∙◌, arith}
-use Rattle.raw_block.specs.Bytes.{EachWithin}
+use Rattle.std.proofs.Common.{length, sym, arith}
 use Rattle.shape_strides.specs.Limits.{max_bytes}
 use Rattle.overlap_copy.specs.RunLaws.{lie-within}
 use Rattle.overlap_copy.proofs.MovingLaws.{assigned_from_moves}

@@ -1,6 +1,6 @@
 use Rattle.std.proofs.Common.{◌≡◌}
 use Rattle.raw_block.specs.Bytes.{swapped}
-use Rattle.raw_block.proofs.strided.swap.Given as goal
+use Rattle.raw_block.proofs.strided.swap_each.Given as goal
 
 abbrev pub invariant-loop-k : goal.invariant-loop-k
 invariant-loop-k l = l.bytes ≡ swapped l.a l.a_step l.b l.b_step l.width l.k l.initial.bytes

@@ -1,0 +1,7 @@
+-- The NULs at the end of a byte string.
+use Rattle.std.specs.Prelude.{ℕ, nat_eq, List}
+use Rattle.std.specs.List.{suffix_len}
+
+-- how many there are
+abbrev pub nuls : List ℕ → ℕ
+nuls bytes = suffix_len (λ b. nat_eq b 0) bytes
