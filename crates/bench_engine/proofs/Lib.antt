@@ -1,4 +1,5 @@
 pub mod Capped
+pub mod Cases
 pub mod Creates
 pub mod Deletes
 pub mod Feeding

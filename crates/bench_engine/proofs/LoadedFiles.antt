@@ -1,26 +1,24 @@
 -- Arrays that are loaded.
-use Rattle.std.proofs.Common.{◌≡◌, ◌⊎◌, ◌∙◌, ◌*◌, ◌<◌, ℕ, true, false, List, ◌++◌, append_assoc, refl, sym, ap, subst, inl, inr, arith, Option, Some, None, Result, Ok, Err}
+use Rattle.std.proofs.Common.{◌≡◌, ◌∙◌, ℕ, true, List, ◌++◌, append_assoc, refl, sym, ap, subst, inl, inr, arith, Option, Some, None, Result, Ok, Err}
 use Rattle.std.specs.FinMap.{get}
 use Rattle.elem_descr.specs.declared.refusal.Refusal.{Refusal}
-use Rattle.elem_descr.specs.declared.refusal.Refusal.TheVariants.{OutOfMemory}
 use Rattle.elem_descr.specs.Items.{item_size}
 use Rattle.elem_descr.specs.Blocks.{items_in}
 use Rattle.shape_strides.specs.Indexes.{count}
 use Rattle.overlap_copy.specs.declared.owned.Owned.{Owned}
-use Rattle.overlap_copy.specs.Blocks.{places_of, offsets_in}
+use Rattle.overlap_copy.specs.Blocks.{places_of}
 use Rattle.npy_files.specs.Stores.{Shelf, IsSameStore, HasCause, IsRead}
 use Rattle.npy_files.specs.declared.store.StoreFault.{StoreFault}
 use Rattle.npy_files.specs.declared.store.StoreFault.TheVariants.{Device, TooLong, Memory}
 use Rattle.npy_files.specs.Files.{Loaded, Loads, HasItems, order_of}
 use Rattle.name_store.specs.States.{State}
 use Rattle.name_store.specs.Arrays.{has_room_for}
-use Rattle.bench_engine.specs.Contents.{Contents}
 use Rattle.bench_engine.specs.inside.OwnContents.{held}
-use Rattle.bench_engine.specs.inside.Contract.{CarriesOut, Carried, IsRefused}
+use Rattle.bench_engine.specs.inside.Contract.{CarriesOut, Carried}
 use Rattle.bench_engine.specs.inside.LoadedFiles.{Finds}
-use Rattle.bench_engine.specs.Replies.{Reply, refusal}
+use Rattle.bench_engine.specs.Replies.{refusal}
 use Rattle.bench_engine.specs.Machine.{Choice, settled}
-use Rattle.bench_engine.specs.Worlds.{World, world}
+use Rattle.bench_engine.specs.Worlds.{world}
 use Rattle.bench_engine.specs.Meanings.{LoadCase}
 use Rattle.bench_engine.specs.Loads.{Found, MayFind, loaded, loaded_contents, bound_loaded, load_outcome}
 use Rattle.bench_engine.proofs.Stored.{places-stored}

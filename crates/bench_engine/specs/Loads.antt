@@ -1,5 +1,5 @@
 -- X = load "f": what it comes to, by what a store answers.
-use Rattle.std.specs.Prelude.{◌≡◌, ◌⊎◌, ℕ, true, false, List, ◌++◌, codes, decimal, Option, Some, None, Result, Ok, Err}
+use Rattle.std.specs.Prelude.{◌≡◌, ℕ, true, List, ◌++◌, codes, decimal, Option, Some, None, Result, Ok, Err}
 use Rattle.std.specs.FinMap.{get}
 use Rattle.elem_descr.specs.declared.refusal.Refusal.{Refusal}
 use Rattle.elem_descr.specs.declared.refusal.Refusal.TheVariants.{TooManyNames, NoSuchFile, FileTooLong, OutOfMemory, StoreFault as StoreFailed}
@@ -8,15 +8,14 @@ use Rattle.elem_descr.specs.Blocks.{items_in}
 use Rattle.shape_strides.specs.Indexes.{count}
 use Rattle.name_store.specs.States.{State}
 use Rattle.name_store.specs.Arrays.{has_room_for, bound_to}
-use Rattle.npy_files.specs.Stores.{Shelf, IsSameStore, HasCause, IsRead}
+use Rattle.npy_files.specs.Stores.{Shelf, HasCause, IsRead}
 use Rattle.npy_files.specs.Files.{Loaded, load, order_of}
 use Rattle.npy_files.specs.declared.store.StoreFault.{StoreFault}
 use Rattle.npy_files.specs.declared.store.StoreFault.TheVariants.{Device, TooLong, Memory}
 use Rattle.bench_engine.specs.Contents.{Contents, places_in, array_over}
 use Rattle.bench_engine.specs.declared.replies.Origin.TheVariants as origin
-use Rattle.bench_engine.specs.Replies.{Reply, refusal, bound_text}
-use Rattle.bench_engine.specs.Machine.{Choice, IsAllowed, Outcome, comes_to, settled}
-use Rattle.bench_engine.specs.Worlds.{World}
+use Rattle.bench_engine.specs.Replies.{bound_text}
+use Rattle.bench_engine.specs.Machine.{Choice, Outcome, comes_to}
 
 -- what a store answers that is asked for a file
 abbrev pub Found : Type 0

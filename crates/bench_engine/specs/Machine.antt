@@ -257,7 +257,7 @@ shares_outcome s left right = do
   b ← array_of s right
   comes_to s (shares_text (share_cells s a b))
 
--- What is not carried out so far is refused before all other checks.
+-- What is not carried out so far is refused before all other checks. What asks for a file has a case of its own, in a world.
 
 -- X = ..
 abbrev pub bind_outcome : Choice → State → List ℕ → Value → Outcome

@@ -1,7 +1,10 @@
 -- What a line means, and what it may be answered.
 use Rattle.std.specs.Prelude.{◌≡◌, ◌⊎◌, ℕ, Bool, true, false, IsTrue, List, [], ◌∷◌, length, nat_lt, if◌then◌else◌}
 use Rattle.elem_descr.specs.declared.refusal.Refusal.TheVariants.{LineTooLong, ByteNotAllowed, Syntax, TooManyNames, OutOfMemory}
+use Rattle.script_lang.specs.declared.command.Value.{Value}
+use Rattle.script_lang.specs.declared.command.Value.TheVariants.{Load}
 use Rattle.script_lang.specs.declared.command.Command.{Command}
+use Rattle.script_lang.specs.declared.command.Command.TheVariants.{Bind}
 use Rattle.script_lang.specs.Lines.{Line, line_of, silent, bad_byte, misspelt, asks}
 use Rattle.script_lang.specs.Reading.{needs_room}
 use Rattle.name_store.specs.States.{State}
@@ -49,9 +52,19 @@ LoadCase old name file new reply =
     ⊎ ((has_room_for old.state name ≡ true) × IsSameStore old.shelf new.shelf × (new.shelf.files ≡ old.shelf.files)
     × (LoadStep old name file new reply ⊎ LacksMemory true old.state new.state reply))
 
--- so it is in a world: a command leaves the store as it is
+-- A command that asks for no file leaves the store as it is.
+abbrev pub StateCase : World → Command → World → Reply → Type 0
+StateCase old command new reply = (new.shelf ≡ old.shelf) × Case old.state command new.state reply
+
+-- X = ..
+abbrev pub BindCase : World → List ℕ → Value → World → Reply → Type 0
+BindCase old name (Load file) new reply = LoadCase old name file new reply
+BindCase old name value new reply = StateCase old (Bind name value) new reply
+
+-- so it is in a world
 abbrev pub WorldCase : World → Command → World → Reply → Type 0
-WorldCase old command new reply = (new.shelf ≡ old.shelf) × Case old.state command new.state reply
+WorldCase old (Bind name value) new reply = BindCase old name value new reply
+WorldCase old command new reply = StateCase old command new reply
 
 -- what a meaning may be answered, and where it leads
 abbrev pub Answered : World → Meaning → World → List Reply → Type 0

@@ -2,10 +2,12 @@
 ghost use Rattle.std.specs.Prelude.{◌≡◌, ◌≤◌, ◌+◌, ◌++◌, ◌&&◌, [], List, vec_len, vec_capacity};
 ghost use Rattle.std.specs.List.{list_all};
 ghost use Rattle.name_store.specs.Arrays.{is_bound};
-ghost use Rattle.bench_engine.specs.inside.Contract.{CarriesOut};
-ghost use Rattle.bench_engine.specs.Machine.{outcome, bind_outcome, question_outcome, value_takes_memory, bound_in_value, bound_in_question, may_lack_memory};
+ghost use Rattle.script_lang.specs.declared.command.Value.TheVariants.{Compute};
+ghost use Rattle.script_lang.specs.declared.command.Command.TheVariants.{Bind};
+ghost use Rattle.bench_engine.specs.inside.Contract.{CarriesOut, Carried};
+ghost use Rattle.bench_engine.specs.Machine.{bind_outcome, question_outcome, bound_in_question, may_lack_memory};
 ghost use Rattle.bench_engine.specs.Replies.{Reply};
-ghost use Rattle.bench_engine.specs.Meanings.{WorldCase, Answered};
+ghost use Rattle.bench_engine.specs.Meanings.{BindCase, WorldCase, Answered};
 ghost use Rattle.bench_engine.specs.Worlds.{world};
 ghost use Rattle.bench_engine.specs.inside.ReadLines.{ReadsAs, Tells, meaning_of_read};
 
@@ -16,6 +18,7 @@ use crate::delete::delete;
 use crate::format::format;
 use crate::info::info;
 use crate::line::{Line, MAX_LINE_LEN};
+use crate::load::load;
 use crate::names::names;
 use crate::print::print;
 use crate::set::set;
@@ -30,29 +33,43 @@ use std::alloc::Global;
 /// The most bytes of a refusal's text.
 pub const MAX_REFUSAL_LEN: usize = 64;
 
-/// Binds a name, and appends the reply.
-fn bind(
+/// Binds a name to what is computed, and appends the reply.
+fn compute(
     alloc: Global,
     bench: &mut Bench,
+    name: &Name,
+    computation: &Computation,
+    out: &mut Vec<u8>,
+) -> Result<(), Refusal>
+    ensures answers { CarriesOut (may_lack_memory bench.old (Bind name.now (Compute computation.now)))
+        (λ choice. bind_outcome choice bench.old name.now (Compute computation.now)) bench.old bench.new out.old.items out.new.items result }
+    ensures room { vec_capacity out.old ≤ vec_capacity out.new }
+{
+    match computation {
+        Computation::Duplicate { source, order } => copy(alloc, bench, name, source, *order, out),
+        Computation::Cast { source, descr } => cast(alloc, bench, name, source, descr, out),
+        _ => Err(Refusal::Syntax),
+    }
+}
+
+/// Binds a name, and appends the reply.
+fn bind<N: NpyStore>(
+    alloc: Global,
+    bench: &mut Bench,
+    store: &mut N,
     name: &Name,
     value: &Value,
     out: &mut Vec<u8>,
 ) -> Result<(), Refusal>
-    ensures answers { CarriesOut (value_takes_memory value.now && list_all (is_bound bench.old) (bound_in_value value.now))
-        (λ choice. bind_outcome choice bench.old name.now value.now) bench.old bench.new out.old.items out.new.items result }
+    ensures answers { Carried (BindCase (world bench.old (N.shelf store.old)) name.now value.now (world bench.new (N.shelf store.new)))
+        out.old.items out.new.items result }
     ensures room { vec_capacity out.old ≤ vec_capacity out.new }
 {
     match value {
         Value::Make { descr, items } => make(alloc, bench, name, descr, items, out),
         Value::View { source, how } => view(alloc, bench, name, source, how, out),
-        Value::Compute(computation) => match computation {
-            Computation::Duplicate { source, order } => {
-                copy(alloc, bench, name, source, *order, out)
-            }
-            Computation::Cast { source, descr } => cast(alloc, bench, name, source, descr, out),
-            _ => Err(Refusal::Syntax),
-        },
-        Value::Load { .. } => Err(Refusal::Syntax),
+        Value::Compute(computation) => compute(alloc, bench, name, computation, out),
+        Value::Load { file } => load(alloc, bench, store, name, file, out),
     }
 }
 
@@ -79,19 +96,20 @@ fn reply(
 
 /// Carries out a command and appends its reply. A refusal changes nothing, but for what stands past
 /// the old end of `out`.
-fn perform(
+fn perform<N: NpyStore>(
     alloc: Global,
     bench: &mut Bench,
+    store: &mut N,
     command: &Command,
     out: &mut Vec<u8>,
 ) -> Result<(), Refusal>
     requires room { vec_len out.old + 64 ≤ vec_capacity out.old }
-    ensures answers { CarriesOut (may_lack_memory bench.old command.now) (λ choice. outcome choice bench.old command.now)
-        bench.old bench.new out.old.items out.new.items result }
+    ensures answers { Carried (WorldCase (world bench.old (N.shelf store.old)) command.now (world bench.new (N.shelf store.new)))
+        out.old.items out.new.items result }
     ensures room { vec_capacity out.old ≤ vec_capacity out.new }
 {
     match command {
-        Command::Bind { name, value } => bind(alloc, bench, name, value, out),
+        Command::Bind { name, value } => bind(alloc, bench, store, name, value, out),
         Command::Set { name, index, value } => set(alloc, bench, name, index, value, out),
         Command::Delete { name } => delete(bench, name, out),
         Command::Ask(question) => reply(alloc, bench, question, out),
@@ -116,7 +134,7 @@ pub fn execute<N: NpyStore>(
     ensures room { vec_capacity out.old ≤ vec_capacity out.new }
 {
     let before = out.len();
-    match perform(alloc, bench, command, out) {
+    match perform(alloc, bench, store, command, out) {
         Ok(()) => true,
         Err(refusal) => {
             out.truncate(before);

@@ -19,7 +19,11 @@ const COMMANDS: &str = "Commands, one a line:
   X = transpose Y (..)  to the same items with the axes in this order, or reversed
   X = reshape Y S       to the same items in another shape, or a copy, as m = reshape a (2,-1)
   X = broadcast Y S     to the same items, repeated in a larger shape and read-only
+  X = copy Y C, or F    to a copy of the items, in C order or in Fortran order
+  X = cast Y D          to the items as items of type D
+  X = load \"f\"          to the array in the NPY file f
   set X[ix] = L         writes a literal to the items that ix names, as set a[1,-1] = 7
+  set X[ix] = Y[iy]     writes items of Y, as they were before
   del X                 unbinds X
   names                 lists the names in the order in which they were first bound
   print X, format X     shows the array, or the format text of its type
@@ -33,8 +37,16 @@ L is an integer, True, False, bytes as b'a\\x00', or a record of these, as (1,b'
 A refused command replies `no`, a code and its meaning, and changes nothing.
 Status: 0 all commands were accepted, 1 one was refused, 2 bad words, 3 the run stopped.";
 
+/// The folder where no other is named.
+const THIS_FOLDER: &str = ".";
+
 /// The command line of the program.
 fn command<'a>(alloc: Global) -> Result<Command<'a>, AllocError> {
+    let dir = Arg::new(alloc, "dir")
+        .long("dir")
+        .value_name("DIR")
+        .default_value(THIS_FOLDER)
+        .help("The folder of the files that load names");
     let script = Arg::new(alloc, "script").value_name("SCRIPT").help(
         "The script, one command a line; standard input where it is left out",
     );
@@ -42,6 +54,7 @@ fn command<'a>(alloc: Global) -> Result<Command<'a>, AllocError> {
         .bin_name("bench")?
         .about("Runs a script of commands on named arrays, and prints a reply to each")
         .after_help(COMMANDS)
+        .arg(dir)?
         .arg(script)
 }
 
@@ -64,11 +77,15 @@ pub fn options(alloc: Global, words: &[String]) -> Result<Options, OptionsFault>
         Ok(matches) => matches,
         Err(error) => return Err(fault_of(error)),
     };
+    let dir = matches.get_str("dir").unwrap_or(THIS_FOLDER);
     let script = match matches.get_str("script") {
         Some(text) => Some(String::from_str(alloc, text)?),
         None => None,
     };
-    Ok(Options { script })
+    Ok(Options {
+        dir: String::from_str(alloc, dir)?,
+        script,
+    })
 }
 
 #[cfg(test)]
@@ -98,11 +115,30 @@ mod tests {
     }
 
     #[test]
+    fn a_folder_is_named_or_the_one_where_it_runs(rt: HostRuntime) -> Result<(), Fail> {
+        let rows: [(&[&str], &str); 4] = [
+            (&["bench"], "."),
+            (&["bench", "--dir", "files"], "files"),
+            (&["bench", "--dir=/tmp/a b", "first.bench"], "/tmp/a b"),
+            (&["bench", "first.bench", "--dir", ""], ""),
+        ];
+        for (line, dir) in rows {
+            let words = given(rt.alloc(), line)?;
+            let read = options(rt.alloc(), words.as_slice()).map_err(|_| "refused")?;
+            assert_eq!(rt; read.dir.as_str(), dir);
+            assert_eq!(rt; read.script.is_some(), line.contains(&"first.bench"));
+        }
+        Ok(())
+    }
+
+    #[test]
     fn other_words_are_refused(rt: HostRuntime) -> Result<(), Fail> {
-        let rows: [(&[&str], i32); 4] = [
+        let rows: [(&[&str], i32); 6] = [
             (&["bench", "--help"], 0),
             (&["bench", "one", "two"], 2),
             (&["bench", "--unknown"], 2),
+            (&["bench", "--dir"], 2),
+            (&["bench", "--dir", "one", "--dir", "two"], 2),
             (&["bench", "--undo", "65"], 2),
         ];
         for (line, status) in rows {

@@ -1,11 +1,11 @@
-//! `bench [SCRIPT]`: runs a script of commands on named arrays.
+//! `bench [--dir DIR] [SCRIPT]`: runs a script of commands on named arrays.
 #![tactic(auto)]
 
 mod command_line;
 mod status;
 mod words;
 
-use bench_engine::{RunFault, Summary, run};
+use bench_engine::{RunFault, ScriptSource, Summary, run};
 use command_line::options;
 use npy_files::DirStore;
 use status::{FAULT, NO_MEMORY, NO_SCRIPT, outcome};
@@ -29,24 +29,31 @@ fn finish(rt: &impl Eprint, run: &Result<Summary, RunFault>) -> ExitCode {
     stop(rt, status, text)
 }
 
+/// Runs a script over the files of a folder.
+fn run_over<R: Files + Print + Eprint + AllocGlobal, S: ScriptSource>(
+    rt: &R,
+    source: &mut S,
+    dir: &str,
+) -> ExitCode {
+    let Ok(mut store) = DirStore::try_new(rt, rt.alloc(), dir) else {
+        return stop(rt, FAULT, NO_MEMORY);
+    };
+    let mut writer = io::writer(rt);
+    finish(rt, &run(rt.alloc(), source, &mut writer, &mut store))
+}
+
 /// Runs the script that the options name.
 fn run_script<R: Files + Input + Print + Eprint + AllocGlobal>(
     rt: &R,
     options: &Options,
 ) -> ExitCode {
-    let Ok(mut store) = DirStore::try_new(rt, rt.alloc(), ".") else {
-        return stop(rt, FAULT, NO_MEMORY);
-    };
-    let mut writer = io::writer(rt);
+    let dir = options.dir.as_str();
     match &options.script {
         Some(path) => match fs::open(rt, path.as_str()) {
-            Ok(mut file) => finish(rt, &run(rt.alloc(), &mut file, &mut writer, &mut store)),
+            Ok(mut file) => run_over(rt, &mut file, dir),
             Err(_) => stop(rt, FAULT, NO_SCRIPT),
         },
-        None => finish(
-            rt,
-            &run(rt.alloc(), &mut rt.reader(), &mut writer, &mut store),
-        ),
+        None => run_over(rt, &mut rt.reader(), dir),
     }
 }
 

@@ -1,13 +1,25 @@
+use Rattle.script_lang.specs.declared.command.Command.TheVariants.{Set, Delete, Ask}
+use Rattle.bench_engine.proofs.Cases.{carried, not_carried_out}
 use Rattle.bench_engine.proofs.engine.perform.Goals as goal
 
 pub returns-in-Bind-clause-answers : goal.returns-in-Bind-clause-answers
-returns-in-Bind-clause-answers c = rw c.in-Bind.is c.bind.ensures.answers
+returns-in-Bind-clause-answers g c = rw c.in-Bind.is c.bind.ensures.answers
 
 pub returns-in-Set-clause-answers : goal.returns-in-Set-clause-answers
-returns-in-Set-clause-answers c = rw c.in-Set.is c.set.ensures.answers
+returns-in-Set-clause-answers g c =
+    rw c.in-Set.is (carried _ _ _ (Set c.in-Set.name c.in-Set.index c.in-Set.value) _ _ _ c.set.ensures.answers)
 
 pub returns-in-Delete-clause-answers : goal.returns-in-Delete-clause-answers
-returns-in-Delete-clause-answers c = rw c.in-Delete.is c.delete.ensures.answers
+returns-in-Delete-clause-answers g c = rw c.in-Delete.is (carried _ _ _ (Delete c.in-Delete.name) _ _ _ c.delete.ensures.answers)
 
 pub returns-in-Ask-clause-answers : goal.returns-in-Ask-clause-answers
-returns-in-Ask-clause-answers c = rw c.in-Ask.is c.reply.ensures.answers
+returns-in-Ask-clause-answers g c = rw c.in-Ask.is (carried _ _ _ (Ask c.in-Ask.question) _ _ _ c.reply.ensures.answers)
+
+pub returns-in-Update-clause-answers : goal.returns-in-Update-clause-answers
+returns-in-Update-clause-answers g c = not_carried_out _ _ _ _ c.in-Update.is
+
+pub returns-in-Update-2-clause-answers : goal.returns-in-Update-2-clause-answers
+returns-in-Update-2-clause-answers g c = not_carried_out _ _ _ _ c.in-Update.is
+
+pub returns-in-Update-3-clause-answers : goal.returns-in-Update-3-clause-answers
+returns-in-Update-3-clause-answers g c = not_carried_out _ _ _ _ c.in-Update.is

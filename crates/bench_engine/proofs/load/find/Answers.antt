@@ -1,4 +1,4 @@
-use Rattle.std.proofs.Common.{refl, ap, ◌∙◌, inl, inr, subst, Ok, Err, Some, None, List, ℕ}
+use Rattle.std.proofs.Common.{refl, ap, ◌∙◌, inl, inr, subst, Ok, Err, Some, List, ℕ}
 use Rattle.npy_files.specs.Files.{Loads, load}
 use Rattle.bench_engine.proofs.LoadedFiles.{finds}
 use Rattle.bench_engine.proofs.load.find.Goals as goal
