@@ -7,4 +7,5 @@ pub mod RecordLists
 pub mod Headers
 pub mod Files
 pub mod WrittenHeaders
+pub mod WrittenFiles
 pub mod inside

@@ -2,3 +2,4 @@ pub mod Shelves
 pub mod ValueCodes
 pub mod ValueCounts
 pub mod Entries
+pub mod WrittenItems

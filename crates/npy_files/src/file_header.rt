@@ -12,7 +12,7 @@ const MAX_SHORT_TEXT: usize = 65_525;
 
 /// How many spaces go before the newline, so that so many bytes and both fill whole blocks of 64.
 fn spaces_after(bytes: usize) -> usize
-    requires { bytes < 2 ^ 63 }
+    requires { bytes + 1 < 2 ^ 64 }
     ensures value { result ≡ spaces_after bytes }
     ensures few { result ≤ 64 }
 {
@@ -42,7 +42,7 @@ fn push_length(out: &mut Vec<u8>, width: usize, len: usize) -> Result<(), AllocE
 /// many bytes, and the header, which is the text, spaces and a newline.
 fn push_header(out: &mut Vec<u8>, version: u8, width: usize, text: &[u8]) -> Result<(), AllocError>
     requires width { (width ≡ 2) ⊎ (width ≡ 4) }
-    requires short { length text.now < 2 ^ 62 }
+    requires short { length text.now < 2 ^ 63 }
     ensures { OnOk result (out.new.items ≡ out.old.items ++ (magic ++ (version ∷ (0 ∷ with_length width (padded_text (8 + width) text.now))))) }
 {
     let spaces = spaces_after(8 + width + text.len());
@@ -58,7 +58,7 @@ fn push_header(out: &mut Vec<u8>, version: u8, width: usize, text: &[u8]) -> Res
 
 /// The bytes of a file before its items: version 1.0, or 2.0 where the text is too long for it.
 pub fn file_header(alloc: Global, text: &[u8]) -> Result<Vec<u8>, AllocError>
-    requires { length text.now < 2 ^ 62 }
+    requires { length text.now < 2 ^ 63 }
     ensures { IfOk result (λ out. out.items ≡ written_header text.now) }
 {
     let mut out = Vec::new(alloc);

@@ -22,4 +22,6 @@ mod ranges;
 #[cfg(test)]
 mod refusals;
 #[cfg(test)]
+mod saved;
+#[cfg(test)]
 mod type_strings;
