@@ -16,24 +16,32 @@ runs, which tries the rule against NumPy.
 
 An array that is assigned to another, or to itself, is copied first on NumPy's side, and casts go by
 the rule in `casts.py`; where NumPy does otherwise by itself is counted. Byte strings have no `'`, no
-`\\` and no byte with a short escape, which the two print differently. With --without set or --without
-cast a program is tried that has no such command.
+`\\` and no byte with a short escape, which the two print differently. With --without set, --without
+cast or --without files a program is tried that has no such command.
+
+Each script has a folder of its own, with files that NumPy writes of random arrays, of both versions and
+orders, and some that are cut. What is saved there is compared byte for byte with what `files.py` says of
+the array, and NumPy loads it. Files whose headers are altered are loaded too: each gets a reply.
 """
 import argparse
+import collections
 import math
 import pathlib
 import random
+import re
 import subprocess
 import sys
+import tempfile
 from itertools import zip_longest
 
 import numpy as np
-from numpy.core._internal import _dtype_from_pep3118
 
 import casts
+import files
 import overlaps
 import reshapes
-from expected import FAR, MOST_AXES, MOST_ITEMS, Bench, Refused, address, fields, format_text, leaves, type_text, view_of
+from expected import FAR, MOST_AXES, MOST_ITEMS, Bench, Refused, address, fields, leaves, type_text, view_of
+from formats import Formats
 from limits import Limits
 
 PROGRAM = pathlib.Path(__file__).resolve().parent.parent / "crates/bench_main/out/bench_main"
@@ -53,6 +61,8 @@ RECORDS = [
     np.dtype([("n", "|i1"), ("s", [("t", "|S2"), ("u", "|S4")])]),
 ]
 NAMES = "abcdefg"
+FILES = ["a.npy", "b.npy", "_", "9-.x"]
+TALLY = collections.Counter(dict.fromkeys(["files saved", "saved files that NumPy loads otherwise", "files loaded", "altered files"], 0))
 BYTES = b"abzQ09 \x00\x80\xff"
 UNKNOWN_TYPES = {"<i3": "E04 bad descriptor", "<f4": "E05 descriptor left out", "|S65537": "E09 too large"}
 
@@ -131,12 +141,16 @@ class Script:
         self.roomy = rng.random() < 0.5
         self.lines = []
         self.replies = []
+        self.first = {}
+        self.files = {}
+        self.loads = {}
         kinds = [
             (self.make, 14), (self.index, 28), (self.alias, 5), (self.transpose, 9), (self.set, 16),
             (self.print, 12), (self.info, 8), (self.shares, 5), (self.delete, 2), (self.names, 1),
             (self.field, 10), (self.broadcast, 9), (self.copy, 7),
             (self.reshape, 0 if "reshape" in left_out else 24), (self.assign, 0 if "set" in left_out else 30),
             (self.cast, 0 if "cast" in left_out else 14),
+            (self.save, 0 if "files" in left_out else 8), (self.load, 0 if "files" in left_out else 10),
         ]
         for command in rng.choices(*zip(*kinds), k=commands):
             self.add(*(command if self.bench.arrays else self.make)())
@@ -191,15 +205,22 @@ class Script:
     def dtype(self):
         return self.rng.choice(RECORDS) if self.rng.random() < 0.5 else np.dtype(self.rng.choice(SCALARS + STRINGS))
 
-    def make(self):
-        name, dtype, edges = self.rng.choice(NAMES), self.dtype(), self.rng.random() < 0.4
-        text = type_text(dtype)
+    def values(self):
+        """A type, a shape, and a value for each item."""
+        dtype, edges = self.dtype(), self.rng.random() < 0.4
         lengths, ranks = ([1, 2, 3, 4, 6], [2, 2, 3, 4]) if self.roomy else ([0, 1, 2, 3, 4], [0, 1, 1, 2, 2, 3, 4])
         shape = [self.rng.choice(lengths) for _ in range(self.rng.choice(ranks))]
-        values = [random_value(self.rng, dtype, 0, 99, edges) for _ in range(int(np.prod(shape)))]
+        return dtype, shape, [random_value(self.rng, dtype, 0, 99, edges) for _ in range(int(np.prod(shape)))]
+
+    def array(self):
+        dtype, shape, values = self.values()
+        return np.array(values, dtype=dtype).reshape(shape)
+
+    def make(self):
+        name, (dtype, shape, values) = self.rng.choice(NAMES), self.values()
         lengths, literals = ",".join(map(str, shape)), " ".join(map(literal_text, values))
         array = np.array(values, dtype=dtype).reshape(shape)
-        line = f"{name} = array {text} ({lengths}) {literals}"
+        line = f"{name} = array {type_text(dtype)} ({lengths}) {literals}"
         return line, lambda: self.bench.bind(name, array, address(array), "new")
 
     def index(self):
@@ -400,6 +421,45 @@ class Script:
 
         return f"{name} = cast {source} {text}", reply
 
+    def save(self):
+        source, file = self.source(), self.rng.choice(FILES)
+
+        def reply():
+            array = self.bench.array(source)
+            self.files[file] = files.saved(array)
+            self.loads[file] = (casts.made(array, array.dtype).copy("F" if files.is_fortran(array) else "C"), 0)
+            TALLY["files saved"] += 1
+            TALLY["saved files that NumPy loads otherwise"] += not files.is_loaded_as(self.files[file], array)
+            return f"ok save {len(self.files[file])}"
+
+        return f'save {source} "{file}"', reply
+
+    def new_file(self):
+        """A file that NumPy writes, in the folder from the start."""
+        file = f"p{len(self.first)}.npy"
+        bytes_, array, rest = files.numpys(self.rng, self.array())
+        self.loads[file] = (array, rest)
+        if self.rng.random() < 0.1 and rest == 0:
+            bytes_, self.loads[file] = files.cut(self.rng, bytes_)
+        self.first[file] = self.files[file] = bytes_
+        return file
+
+    def load(self):
+        name, chosen = self.rng.choice(NAMES), self.rng.random()
+        file = self.new_file() if chosen < 0.6 else self.rng.choice(list(self.loads) or FILES) if chosen < 0.9 else "none.npy"
+
+        def reply():
+            if file not in self.loads:
+                raise Refused("E34 no such file")
+            if isinstance(self.loads[file], str):
+                raise Refused(self.loads[file])
+            array, rest = self.loads[file]
+            array = array.copy("F" if files.is_fortran(array) else "C")
+            TALLY["files loaded"] += 1
+            return f"{self.bench.bind(name, array, address(array), 'new')} rest {rest}"
+
+        return f'{name} = load "{file}"', reply
+
     def print(self):
         source = self.source()
         return f"print {source}", lambda: self.bench.printed(source)
@@ -431,37 +491,40 @@ class Script:
         return "names", lambda: " ".join(["names", *self.bench.arrays])
 
 
-class Formats:
-    """A script of random format texts, with what NumPy reads them as."""
+class Altered(Script):
+    """A script that loads files with altered headers: each is loaded or refused, and no more is known of it."""
 
-    def __init__(self, rng, texts):
-        self.rng = rng
-        self.lines = []
-        self.replies = []
-        for _ in range(texts):
-            mark = rng.choice(["", "@", "^", "<", ">", "=", "!", None])
-            text = (mark or "") + self.record(mark is None, 4)
-            dtype = _dtype_from_pep3118(text)
-            self.lines.append(f"a = zeros {text} ()")
-            self.replies.append(f"ok a {format_text(dtype)} () new")
+    REPLY = re.compile(r"ok x \S.* new rest \d+|no E(04|05|08|09|28|29|30|31) [a-z ]+")
 
-    def record(self, marks, levels):
-        """The text of a record, where `marks` with marks other than `@` in it."""
-        members = "".join(self.member(marks, levels - 1, k) for k in range(self.rng.randint(1, 4)))
-        return ("^" if marks else "") + "T{" + members + "}"
+    def __init__(self, rng, number):
+        super().__init__(rng, 0, set())
+        for k in range(number):
+            self.first[f"{k}.npy"] = files.altered(rng, files.numpys(rng, self.array())[0])
+        self.files = self.first
+        self.lines = [f'x = load "{k}.npy"' for k in range(number)]
+        TALLY["altered files"] += number
 
-    def member(self, marks, levels, k):
-        rng = self.rng
-        pad = rng.choice(["", "", "", "x", "3x"])
-        if levels and rng.random() < 0.3:
-            return f"{pad}{self.record(marks, levels)}:n{k}:"
-        letter = rng.choice("?bBhHiIlLqQ") if rng.random() < 0.9 else rng.choice(["s", "5s"])
-        return f"{pad}{rng.choice('^<>=!') if marks else ''}{letter}:n{k}:"
+    def expected(self, replied):
+        """The replies, where each is one that may come."""
+        replies = replied.split("\n")
+        alike = len(replies) == len(self.lines) + 1 and all(map(self.REPLY.fullmatch, replies[:-1]))
+        return replied if alike else "a reply to each line\n"
 
 
-def runs(program, text):
-    """What the program replies to a script."""
-    return subprocess.run([program], input=text.encode(), stdout=subprocess.PIPE).stdout.decode()
+def runs(program, text, words=()):
+    """What the program replies to a script. It ends by itself."""
+    ran = subprocess.run([program, *words], input=text.encode(), stdout=subprocess.PIPE)
+    return ran.stdout.decode() if ran.returncode in (0, 1) else f"ended with {ran.returncode}"
+
+
+def runs_over(program, text, script):
+    """What the program replies to a script over a folder of its own, and whether it leaves the files there that it should."""
+    with tempfile.TemporaryDirectory() as folder:
+        for name, file in script.first.items():
+            pathlib.Path(folder, name).write_bytes(file)
+        replied = runs(program, text, ["--dir", folder])
+        left = {path.name: path.read_bytes() for path in pathlib.Path(folder).iterdir()}
+    return replied, left == script.files
 
 
 def first_difference(expected, replied):
@@ -476,6 +539,8 @@ def script_of(rng, number, left_out):
         return Formats(rng, 20)
     if "reshape" not in left_out and number % 500 == 1:
         return Limits(rng, "cast" not in left_out)
+    if "files" not in left_out and number % 40 == 2:
+        return Altered(rng, 20)
     return Script(rng, rng.randint(5, 40), left_out)
 
 
@@ -486,7 +551,7 @@ def words():
     parser.add_argument("scripts", type=int, nargs="?", default=1000)
     parser.add_argument("--program", type=pathlib.Path, default=PROGRAM, help="the program, if not the built one")
     parser.add_argument(
-        "--without", action="append", default=[], choices=["set", "cast"], help="no sets from arrays, or no casts"
+        "--without", action="append", default=[], choices=["set", "cast", "files"], help="no sets from arrays, no casts, or no files"
     )
     parser.add_argument("--alone", action="store_true", help="make the scripts and run no program")
     return parser.parse_args()
@@ -502,13 +567,22 @@ def main():
         script = script_of(rng, number, left_out)
         text, expected = ("".join(f"{line}\n" for line in lines) for lines in (script.lines, script.replies))
         commands += len(script.lines)
-        replied = expected if given.alone else runs(given.program, text)
+        if given.alone:
+            continue
+        if "files" in left_out or not isinstance(script, Script):
+            replied, are_left = runs(given.program, text), True
+        else:
+            replied, are_left = runs_over(given.program, text, script)
+        expected = script.expected(replied) if isinstance(script, Altered) else expected
         if replied != expected:
             print(text, "-- NumPy", expected, "-- bench", replied, first_difference(expected, replied), sep="\n")
             return 1
+        if not are_left:
+            print(text, "-- other files are left than NumPy would leave", sep="\n")
+            return 1
     said = "made alone" if given.alone else f"the same as NumPy {np.__version__}"
     print(f"{given.scripts} scripts, {commands} commands: {said}")
-    print(", ".join(f"{count} {kind}" for kind, count in {**reshapes.TALLY, **casts.TALLY}.items()))
+    print(", ".join(f"{count} {kind}" for kind, count in {**reshapes.TALLY, **casts.TALLY, **TALLY}.items()))
     if left_out:
         print(f"left out: {', '.join(sorted(left_out))}")
     return 0

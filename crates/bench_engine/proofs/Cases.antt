@@ -6,7 +6,7 @@ use Rattle.shape_strides.specs.declared.index_item.IndexItem.{IndexItem}
 use Rattle.script_lang.specs.declared.operation.Operation.{Operation}
 use Rattle.script_lang.specs.declared.command.Argument.{Argument}
 use Rattle.script_lang.specs.declared.command.Command.{Command}
-use Rattle.script_lang.specs.declared.command.Command.TheVariants.{Update, Undo, Save}
+use Rattle.script_lang.specs.declared.command.Command.TheVariants.{Update, Undo}
 use Rattle.name_store.specs.States.{State}
 use Rattle.npy_files.specs.Stores.{Shelf}
 use Rattle.bench_engine.specs.Machine.{Choice, outcome, settled, may_lack_memory}
@@ -28,7 +28,6 @@ no_command s shelf command before is = carried s s shelf command before before (
 -- the commands that are not carried out so far
 pub not_carried_out : (s : State) (shelf : Shelf) (command : Command) (before : List ℕ) →
     ((name : List ℕ) × (index : List (IndexItem (List ℕ))) × (operation : Operation) × (value : Argument) × (command ≡ Update name index operation value))
-    ⊎ ((command ≡ Undo) ⊎ ((name file : List ℕ) × (command ≡ Save name file))) → Carried (WorldCase (world s shelf) command (world s shelf)) before before (Err Syntax)
+    ⊎ (command ≡ Undo) → Carried (WorldCase (world s shelf) command (world s shelf)) before before (Err Syntax)
 not_carried_out s shelf command before (inl (name, index, operation, value, is)) = rw is (no_command s shelf (Update name index operation value) before (λ choice. refl))
-not_carried_out s shelf command before (inr (inl is)) = rw is (no_command s shelf Undo before (λ choice. refl))
-not_carried_out s shelf command before (inr (inr (name, file, is))) = rw is (no_command s shelf (Save name file) before (λ choice. refl))
+not_carried_out s shelf command before (inr is) = rw is (no_command s shelf Undo before (λ choice. refl))

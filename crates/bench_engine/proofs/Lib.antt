@@ -17,6 +17,7 @@ pub mod Meanings
 pub mod Outcomes
 pub mod Parts
 pub mod Reshapes
+pub mod SavedFiles
 pub mod Steps
 mod Vectors
 pub mod Views

@@ -7,5 +7,7 @@ pub mod Machine
 pub mod Meanings
 pub mod Replies
 pub mod Runs
+pub mod Saves
+pub mod StoreFaults
 pub mod Worlds
 pub mod inside

@@ -2,7 +2,7 @@
 use Rattle.std.specs.Prelude.{◌≡◌, ℕ, true, List, ◌++◌, codes, decimal, Option, Some, None, Result, Ok, Err}
 use Rattle.std.specs.FinMap.{get}
 use Rattle.elem_descr.specs.declared.refusal.Refusal.{Refusal}
-use Rattle.elem_descr.specs.declared.refusal.Refusal.TheVariants.{TooManyNames, NoSuchFile, FileTooLong, OutOfMemory, StoreFault as StoreFailed}
+use Rattle.elem_descr.specs.declared.refusal.Refusal.TheVariants.{TooManyNames, NoSuchFile}
 use Rattle.elem_descr.specs.Refusals.{◌>>=◌, check}
 use Rattle.elem_descr.specs.Blocks.{items_in}
 use Rattle.shape_strides.specs.Indexes.{count}
@@ -11,10 +11,10 @@ use Rattle.name_store.specs.Arrays.{has_room_for, bound_to}
 use Rattle.npy_files.specs.Stores.{Shelf, HasCause, IsRead}
 use Rattle.npy_files.specs.Files.{Loaded, load, order_of}
 use Rattle.npy_files.specs.declared.store.StoreFault.{StoreFault}
-use Rattle.npy_files.specs.declared.store.StoreFault.TheVariants.{Device, TooLong, Memory}
 use Rattle.bench_engine.specs.Contents.{Contents, places_in, array_over}
 use Rattle.bench_engine.specs.declared.replies.Origin.TheVariants as origin
 use Rattle.bench_engine.specs.Replies.{bound_text}
+use Rattle.bench_engine.specs.StoreFaults.{store_refusal}
 use Rattle.bench_engine.specs.Machine.{Choice, Outcome, comes_to}
 
 -- what a store answers that is asked for a file
@@ -30,9 +30,7 @@ pub record MayFind (old new : Shelf) (file : List ℕ) (found : Found) : Type 0 
 abbrev pub loaded : Found → Result Loaded Refusal
 loaded (Ok (Some bytes)) = load bytes
 loaded (Ok None) = Err NoSuchFile
-loaded (Err TooLong) = Err FileTooLong
-loaded (Err Device) = Err StoreFailed
-loaded (Err Memory) = Err OutOfMemory
+loaded (Err fault) = Err (store_refusal fault)
 
 -- the items stand in the new buffer as they lie in the file
 abbrev pub loaded_contents : Loaded → Contents

@@ -1,18 +1,20 @@
 -- What a line means, and what it may be answered.
-use Rattle.std.specs.Prelude.{◌≡◌, ◌⊎◌, ℕ, Bool, true, false, IsTrue, List, [], ◌∷◌, length, nat_lt, if◌then◌else◌}
+use Rattle.std.specs.Prelude.{◌≡◌, ◌⊎◌, ℕ, Bool, true, false, IsTrue, List, [], ◌∷◌, length, nat_lt, if◌then◌else◌, Result, Ok, Err}
+use Rattle.elem_descr.specs.declared.refusal.Refusal.{Refusal}
 use Rattle.elem_descr.specs.declared.refusal.Refusal.TheVariants.{LineTooLong, ByteNotAllowed, Syntax, TooManyNames, OutOfMemory}
 use Rattle.script_lang.specs.declared.command.Value.{Value}
 use Rattle.script_lang.specs.declared.command.Value.TheVariants.{Load}
 use Rattle.script_lang.specs.declared.command.Command.{Command}
-use Rattle.script_lang.specs.declared.command.Command.TheVariants.{Bind}
+use Rattle.script_lang.specs.declared.command.Command.TheVariants.{Bind, Save}
 use Rattle.script_lang.specs.Lines.{Line, line_of, silent, bad_byte, misspelt, asks}
 use Rattle.script_lang.specs.Reading.{needs_room}
 use Rattle.name_store.specs.States.{State}
-use Rattle.name_store.specs.Arrays.{has_room_for}
+use Rattle.name_store.specs.Arrays.{is_bound, has_room_for}
 use Rattle.npy_files.specs.Stores.{IsSameStore}
 use Rattle.bench_engine.specs.Replies.{Reply, refusal}
 use Rattle.bench_engine.specs.Machine.{Choice, IsAllowed, settled, Step, may_lack_memory}
 use Rattle.bench_engine.specs.Loads.{Found, MayFind, load_outcome}
+use Rattle.bench_engine.specs.Saves.{Stored, MayStore, file_of_name, save_reply}
 use Rattle.bench_engine.specs.Worlds.{World}
 
 -- the most bytes of a line
@@ -52,6 +54,19 @@ LoadCase old name file new reply =
     ⊎ ((has_room_for old.state name ≡ true) × IsSameStore old.shelf new.shelf × (new.shelf.files ≡ old.shelf.files)
     × (LoadStep old name file new reply ⊎ LacksMemory true old.state new.state reply))
 
+-- a file that the store is given, with an answer that it may give
+abbrev pub SaveStep : World → List ℕ → List ℕ → World → Reply → Type 0
+SaveStep old file bytes new reply =
+    (new.state ≡ old.state) × IsSameStore old.shelf new.shelf
+    × (stored : Stored) × MayStore old.shelf new.shelf file bytes stored × (reply ≡ save_reply (length bytes) stored)
+
+-- save X "f": what can be refused without the store is refused before it is asked, with nothing changed.
+abbrev pub SaveCase : World → List ℕ → List ℕ → World → Reply → Type 0
+SaveCase old name file new reply =
+    ((refused : Refusal) × (file_of_name old.state name ≡ Err refused) × Refuses old new reply (refusal refused))
+    ⊎ (LacksMemory (is_bound old.state name) old new reply
+    ⊎ ((bytes : List ℕ) × (file_of_name old.state name ≡ Ok bytes) × SaveStep old file bytes new reply))
+
 -- A command that asks for no file leaves the store as it is.
 abbrev pub StateCase : World → Command → World → Reply → Type 0
 StateCase old command new reply = (new.shelf ≡ old.shelf) × Case old.state command new.state reply
@@ -64,6 +79,7 @@ BindCase old name value new reply = StateCase old (Bind name value) new reply
 -- so it is in a world
 abbrev pub WorldCase : World → Command → World → Reply → Type 0
 WorldCase old (Bind name value) new reply = BindCase old name value new reply
+WorldCase old (Save name file) new reply = SaveCase old name file new reply
 WorldCase old command new reply = StateCase old command new reply
 
 -- what a meaning may be answered, and where it leads

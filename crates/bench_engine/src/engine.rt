@@ -21,6 +21,7 @@ use crate::line::{Line, MAX_LINE_LEN};
 use crate::load::load;
 use crate::names::names;
 use crate::print::print;
+use crate::save::save;
 use crate::set::set;
 use crate::shares::shares;
 use crate::view::view;
@@ -113,7 +114,8 @@ fn perform<N: NpyStore>(
         Command::Set { name, index, value } => set(alloc, bench, name, index, value, out),
         Command::Delete { name } => delete(bench, name, out),
         Command::Ask(question) => reply(alloc, bench, question, out),
-        Command::Update { .. } | Command::Undo | Command::Save { .. } => Err(Refusal::Syntax),
+        Command::Save { name, file } => save(alloc, bench, store, name, file, out),
+        Command::Update { .. } | Command::Undo => Err(Refusal::Syntax),
     }
 }
 

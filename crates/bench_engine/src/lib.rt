@@ -21,11 +21,13 @@ mod part;
 mod print;
 mod replies;
 pub mod runner;
+mod save;
 mod send;
 mod session;
 mod set;
 mod shares;
 mod source;
+mod store_fault;
 mod taken;
 mod view;
 

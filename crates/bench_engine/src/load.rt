@@ -13,9 +13,10 @@ ghost use Rattle.bench_engine.specs.inside.Contract.{CarriesOut, Carried};
 ghost use Rattle.bench_engine.specs.inside.LoadedFiles.{Finds};
 
 use crate::replies::{Origin, push_bound_text};
+use crate::store_fault::refusal_of;
 use elem_descr::Refusal;
 use name_store::{Bench, Bound};
-use npy_files::{NpyStore, StoreFault, npy_read};
+use npy_files::{NpyStore, npy_read};
 use overlap_copy::Owned;
 use script_lang::{FileName, Name};
 use std::alloc::{AllocError, Global};
@@ -33,9 +34,7 @@ fn find<N: NpyStore>(
     match store.read(alloc, file.as_slice()) {
         Ok(Some(bytes)) => npy_read(alloc, bytes.as_slice()),
         Ok(None) => Err(Refusal::NoSuchFile),
-        Err(StoreFault::Device) => Err(Refusal::StoreFault),
-        Err(StoreFault::TooLong) => Err(Refusal::FileTooLong),
-        Err(StoreFault::Memory) => Err(Refusal::OutOfMemory),
+        Err(fault) => Err(refusal_of(fault)),
     }
 }
 

@@ -22,6 +22,7 @@ const COMMANDS: &str = "Commands, one a line:
   X = copy Y C, or F    to a copy of the items, in C order or in Fortran order
   X = cast Y D          to the items as items of type D
   X = load \"f\"          to the array in the NPY file f
+  save X \"f\"            writes the array to the NPY file f
   set X[ix] = L         writes a literal to the items that ix names, as set a[1,-1] = 7
   set X[ix] = Y[iy]     writes items of Y, as they were before
   del X                 unbinds X
@@ -46,7 +47,7 @@ fn command<'a>(alloc: Global) -> Result<Command<'a>, AllocError> {
         .long("dir")
         .value_name("DIR")
         .default_value(THIS_FOLDER)
-        .help("The folder of the files that load names");
+        .help("The folder of the files that load and save name");
     let script = Arg::new(alloc, "script").value_name("SCRIPT").help(
         "The script, one command a line; standard input where it is left out",
     );

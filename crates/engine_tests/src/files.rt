@@ -1,6 +1,6 @@
-//! Scripts that load files, over stores in memory.
+//! Scripts that load and save files, over stores in memory.
 use bench_engine::run;
-use npy_files::{MemStore, NpyStore};
+use npy_files::{FuseStore, MemStore, NpyStore};
 use std::alloc::Global;
 use std::process::Abort;
 use std::test::Fail;
@@ -69,6 +69,51 @@ const LOADED: [Loaded; 6] = [
     },
 ];
 
+/// `numpy.save` of `numpy.array([(0, 258)], [('x', '<i4'), ('y', '>i2')])`
+const RECORD: &[u8] =
+    b"\x93NUMPY\x01\x00v\x00{'descr': [('x', '<i4'), ('y', '>i2')], 'fortran_order': False, 'shape': (1,), }                                     \n\x00\x00\x00\x00\x01\x02";
+
+/// The record with a byte of padding, as it is saved.
+const UNPADDED: &[u8] =
+    b"\x93NUMPY\x01\x00v\x00{'descr': [('x', '|i1'), ('', '|V1')], 'fortran_order': False, 'shape': (1,), }                                      \n\x01\x00";
+
+/// A script with its replies, and the files that it saves as `f` and `g`.
+struct Saved {
+    script: &'static [u8],
+    replies: &'static [u8],
+    f: Option<&'static [u8]>,
+    g: Option<&'static [u8]>,
+}
+
+const SAVED: [Saved; 4] = [
+    Saved {
+        script: b"a = array <i4 (3) 1 2 3\nsave a \"f\"\nb = array <i4 (2,3) 1 2 3 4 5 6\nc = copy b F\nsave c \"g\"\nx = load \"g\"\nshares x c\nprint x\n",
+        replies: b"ok a <i4 (3,) new\nok save 140\nok b <i4 (2, 3) new\nok c <i4 (2, 3) copy\nok save 152\nok x <i4 (2, 3) new rest 0\nshares no\n[[1 2 3]\n [4 5 6]]\n",
+        f: Some(THREE),
+        g: Some(FORTRAN),
+    },
+    Saved {
+        script: b"a = zeros T{<i:x:>h:y:} (1)\ny = field a \"y\"\nset y[0] = 258\nsave a \"g\"\nsave q \"f\"\n",
+        replies: b"ok a T{<i:x:>h:y:} (1,) new\nok y >i2 (1,) view\nok set 1\nok save 134\nno E06 unknown name\n",
+        f: None,
+        g: Some(RECORD),
+    },
+    // The items are checked before the file's length, and the file that is there stays.
+    Saved {
+        script: b"a = arange <i4 1 4 1\nsave a \"f\"\no = full |S65536 (1) b'x'\nb = broadcast o (4097)\nsave b \"f\"\nsave o \"f\"\n",
+        replies: b"ok a <i4 (3,) new\nok save 140\nok o |S65536 (1,) new\nok b |S65536 (4097,) view\nno E09 too large\nno E35 file too long\n",
+        f: Some(THREE),
+        g: None,
+    },
+    // A file that is saved again, of other items.
+    Saved {
+        script: b"a = arange <i4 3 0 -1\nsave a \"f\"\nr = a[::-1]\nsave r \"f\"\nset a[...] = 0\nx = load \"f\"\nprint x\n",
+        replies: b"ok a <i4 (3,) new\nok save 140\nok r <i4 (3,) view\nok save 140\nok set 3\nok x <i4 (3,) new rest 0\n[1 2 3]\n",
+        f: Some(THREE),
+        g: None,
+    },
+];
+
 /// The most bytes of a file.
 const LIMIT: usize = 1 << 16;
 
@@ -110,6 +155,78 @@ fn cut_files_are_refused(rt: HostRuntime) -> Result<(), Fail> {
         let cut = THREE.get(..len).ok_or("longer than the file")?;
         store.write(rt.alloc(), b"f", cut)?;
         check_replies(&rt, rt.alloc(), &mut store, b"x = load \"f\"\n", reply);
+    }
+    Ok(())
+}
+
+/// Compares what a store has under a name.
+fn check_file<N: NpyStore>(
+    rt: &impl Abort,
+    alloc: Global,
+    store: &mut N,
+    name: &[u8],
+    bytes: Option<&[u8]>,
+) -> Result<(), Fail> {
+    let found = store.read(alloc, name)?;
+    match (&found, bytes) {
+        (Some(file), Some(bytes)) => assert_eq!(rt; file.as_slice(), bytes),
+        (found, bytes) => assert_eq!(rt; found.is_some(), bytes.is_some()),
+    }
+    Ok(())
+}
+
+#[test]
+fn files_are_saved(rt: HostRuntime) -> Result<(), Fail> {
+    for row in &SAVED {
+        let mut store = MemStore::new(rt.alloc(), LIMIT);
+        check_replies(&rt, rt.alloc(), &mut store, row.script, row.replies);
+        check_file(&rt, rt.alloc(), &mut store, b"f", row.f)?;
+        check_file(&rt, rt.alloc(), &mut store, b"g", row.g)?;
+    }
+    Ok(())
+}
+
+#[test]
+fn padding_is_saved_as_zero(rt: HostRuntime) -> Result<(), Fail> {
+    let mut store = MemStore::new(rt.alloc(), LIMIT);
+    store.write(rt.alloc(), b"f", PADDED)?;
+    let script: &[u8] = b"x = load \"f\"\nsave x \"g\"\n";
+    let replies: &[u8] = b"ok x T{<b:x:1x} (1,) new rest 0\nok save 130\n";
+    check_replies(&rt, rt.alloc(), &mut store, script, replies);
+    check_file(&rt, rt.alloc(), &mut store, b"f", Some(PADDED))?;
+    check_file(&rt, rt.alloc(), &mut store, b"g", Some(UNPADDED))
+}
+
+#[test]
+fn long_files_are_refused(rt: HostRuntime) -> Result<(), Fail> {
+    let mut store = MemStore::new(rt.alloc(), 100);
+    let script: &[u8] = b"a = array <i4 (3) 1 2 3\nsave a \"f\"\nx = load \"none.npy\"\nnames\n";
+    let replies: &[u8] = b"ok a <i4 (3,) new\nno E35 file too long\nno E34 no such file\nnames a\n";
+    check_replies(&rt, rt.alloc(), &mut store, script, replies);
+    check_file(&rt, rt.alloc(), &mut store, b"f", None)
+}
+
+/// Three saves and two loads, of which one meets a fault of the device.
+const FIVE_CALLS: &[u8] =
+    b"a = array <i4 (3) 1 2 3\nsave a \"f\"\nsave a \"f\"\nx = load \"f\"\nsave a \"g\"\ny = load \"f\"\nnames\n";
+
+const FIVE_REPLIES: [&[u8]; 6] = [
+    b"ok a <i4 (3,) new\nno E27 store fault\nok save 140\nok x <i4 (3,) new rest 0\nok save 140\nok y <i4 (3,) new rest 0\nnames a x y\n",
+    b"ok a <i4 (3,) new\nok save 140\nno E27 store fault\nok x <i4 (3,) new rest 0\nok save 140\nok y <i4 (3,) new rest 0\nnames a x y\n",
+    b"ok a <i4 (3,) new\nok save 140\nok save 140\nno E27 store fault\nok save 140\nok y <i4 (3,) new rest 0\nnames a y\n",
+    b"ok a <i4 (3,) new\nok save 140\nok save 140\nok x <i4 (3,) new rest 0\nno E27 store fault\nok y <i4 (3,) new rest 0\nnames a x y\n",
+    b"ok a <i4 (3,) new\nok save 140\nok save 140\nok x <i4 (3,) new rest 0\nok save 140\nno E27 store fault\nnames a x\n",
+    b"ok a <i4 (3,) new\nok save 140\nok save 140\nok x <i4 (3,) new rest 0\nok save 140\nok y <i4 (3,) new rest 0\nnames a x y\n",
+];
+
+#[test]
+fn faults_of_the_device_are_told(rt: HostRuntime) -> Result<(), Fail> {
+    for (failing, replies) in FIVE_REPLIES.iter().enumerate() {
+        let mut store = FuseStore::new(rt.alloc(), LIMIT, failing);
+        check_replies(&rt, rt.alloc(), &mut store, FIVE_CALLS, replies);
+        if failing < 5 {
+            check_file(&rt, rt.alloc(), &mut store, b"f", Some(THREE))?;
+        }
     }
     Ok(())
 }

@@ -10,7 +10,7 @@ struct ShortRun {
     replies: &'static [&'static [u8]],
 }
 
-const SHORT_RUNS: [ShortRun; 9] = [
+const SHORT_RUNS: [ShortRun; 10] = [
     ShortRun {
         script: FIRST_RUN,
         replies: &[
@@ -98,6 +98,17 @@ const SHORT_RUNS: [ShortRun; 9] = [
             b"ok a |u1 (2, 2) new\nok t |u1 (2, 2) view\nno E40 out of memory\nno E06 unknown name\n[[1 2]\n [3 4]]\n",
             b"ok a |u1 (2, 2) new\nok t |u1 (2, 2) view\nok c |u1 (4,) copy\nno E40 out of memory\n[[1 2]\n [3 4]]\n",
             b"ok a |u1 (2, 2) new\nok t |u1 (2, 2) view\nok c |u1 (4,) copy\nok set 1\nno E40 out of memory\n",
+        ],
+    },
+    // Files: a store has none that was not saved.
+    ShortRun {
+        script: b"a = array |u1 (2) 1 2\nsave a \"f\"\nb = load \"f\"\nprint b\n",
+        replies: &[
+            b"ok a |u1 (2,) new\nok save 130\nok b |u1 (2,) new rest 0\n[1 2]\n",
+            b"no E40 out of memory\nno E06 unknown name\nno E34 no such file\nno E06 unknown name\n",
+            b"ok a |u1 (2,) new\nno E40 out of memory\nno E34 no such file\nno E06 unknown name\n",
+            b"ok a |u1 (2,) new\nok save 130\nno E40 out of memory\nno E06 unknown name\n",
+            b"ok a |u1 (2,) new\nok save 130\nok b |u1 (2,) new rest 0\nno E40 out of memory\n",
         ],
     },
     // A field: the records are not touched by one that is not bound.

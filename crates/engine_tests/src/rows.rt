@@ -87,10 +87,10 @@ pub const ROWS: [Row; 40] = [
     },
     // Commands that are not carried out yet.
     Row {
-        script: b"a = zeros <i4 (1)\nundo\nb = a[i]\nset a[0] = a[i]\nupd a[0] add 1\nc = add a 1\nd = sum a\nsave a \"a.npy\"\nset q[i] = 1\nset a[i,0] = 1\n",
-        replies: b"ok a <i4 (1,) new\nno E03 syntax\nno E03 syntax\nno E03 syntax\nno E03 syntax\nno E03 syntax\nno E03 syntax\nno E03 syntax\nno E03 syntax\nno E03 syntax\n",
+        script: b"a = zeros <i4 (1)\nundo\nb = a[i]\nset a[0] = a[i]\nupd a[0] add 1\nc = add a 1\nd = sum a\nset q[i] = 1\nset a[i,0] = 1\n",
+        replies: b"ok a <i4 (1,) new\nno E03 syntax\nno E03 syntax\nno E03 syntax\nno E03 syntax\nno E03 syntax\nno E03 syntax\nno E03 syntax\nno E03 syntax\n",
         accepted: 1,
-        refused: 9,
+        refused: 8,
     },
     // A write through a view is seen by the array, and by each of its views.
     Row {

@@ -15,11 +15,11 @@ returns-in-Delete-clause-answers g c = rw c.in-Delete.is (carried _ _ _ (Delete 
 pub returns-in-Ask-clause-answers : goal.returns-in-Ask-clause-answers
 returns-in-Ask-clause-answers g c = rw c.in-Ask.is (carried _ _ _ (Ask c.in-Ask.question) _ _ _ c.reply.ensures.answers)
 
+pub returns-in-Save-clause-answers : goal.returns-in-Save-clause-answers
+returns-in-Save-clause-answers g c = rw c.in-Save.is c.save.ensures.answers
+
 pub returns-in-Update-clause-answers : goal.returns-in-Update-clause-answers
 returns-in-Update-clause-answers g c = not_carried_out _ _ _ _ c.in-Update.is
 
 pub returns-in-Update-2-clause-answers : goal.returns-in-Update-2-clause-answers
 returns-in-Update-2-clause-answers g c = not_carried_out _ _ _ _ c.in-Update.is
-
-pub returns-in-Update-3-clause-answers : goal.returns-in-Update-3-clause-answers
-returns-in-Update-3-clause-answers g c = not_carried_out _ _ _ _ c.in-Update.is

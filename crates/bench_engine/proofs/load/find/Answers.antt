@@ -1,4 +1,4 @@
-use Rattle.std.proofs.Common.{refl, ap, ◌∙◌, inl, inr, subst, Ok, Err, Some, List, ℕ}
+use Rattle.std.proofs.Common.{refl, sym, ap, ◌∙◌, inr, subst, Ok, Err, Some, List, ℕ}
 use Rattle.npy_files.specs.Files.{Loads, load}
 use Rattle.bench_engine.proofs.LoadedFiles.{finds}
 use Rattle.bench_engine.proofs.load.find.Goals as goal
@@ -12,14 +12,6 @@ pub returns-in-Ok-None-clause-finds : goal.returns-in-Ok-None-clause-finds
 returns-in-Ok-None-clause-finds g c =
     finds (λ bytes. bytes.items) _ _ _ _ c.read.result _ _ c.as_slice.ensures.value (c.in-Ok-None.is ∙ ap Ok c.in-Ok-None.field-0-is) c.read.ensures.cause c.read.ensures.found (inr refl)
 
-pub returns-in-Err-Device-clause-finds : goal.returns-in-Err-Device-clause-finds
-returns-in-Err-Device-clause-finds g c =
-    finds (λ bytes. bytes.items) _ _ _ _ c.read.result _ _ c.as_slice.ensures.value (c.in-Err-Device.is ∙ ap Err c.in-Err-Device.field-0-is) c.read.ensures.cause c.read.ensures.found (inr refl)
-
-pub returns-in-Err-TooLong-clause-finds : goal.returns-in-Err-TooLong-clause-finds
-returns-in-Err-TooLong-clause-finds g c =
-    finds (λ bytes. bytes.items) _ _ _ _ c.read.result _ _ c.as_slice.ensures.value (c.in-Err-TooLong.is ∙ ap Err c.in-Err-TooLong.field-0-is) c.read.ensures.cause c.read.ensures.found (inr refl)
-
-pub returns-in-Err-Memory-clause-finds : goal.returns-in-Err-Memory-clause-finds
-returns-in-Err-Memory-clause-finds g c =
-    finds (λ bytes. bytes.items) _ _ _ _ c.read.result _ _ c.as_slice.ensures.value (c.in-Err-Memory.is ∙ ap Err c.in-Err-Memory.field-0-is) c.read.ensures.cause c.read.ensures.found (inl refl)
+pub returns-in-Err-clause-finds : goal.returns-in-Err-clause-finds
+returns-in-Err-clause-finds g c =
+    finds (λ bytes. bytes.items) _ _ _ _ c.read.result _ _ c.as_slice.ensures.value c.in-Err.is c.read.ensures.cause c.read.ensures.found (inr (ap Err (sym c.refusal_of.ensures)))
