@@ -26,8 +26,8 @@ use Rattle.name_store.specs.Parts.{start_at}
 use Rattle.name_store.specs.Places.{offsets_of}
 use Rattle.name_store.specs.Shown.{Shows}
 use Rattle.name_store.specs.declared.array_ref.ArrayRef.{ArrayRef}
-use Rattle.bench_engine.specs.Machine.{viewed, target_part, source_part}
-use Rattle.bench_engine.specs.inside.Assigns.{LiesIn, GivesPart}
+use Rattle.bench_engine.specs.Machine.{viewed}
+use Rattle.bench_engine.specs.inside.Assigns.{LiesIn}
 use Rattle.bench_engine.proofs.Views.{offsets-view, given-view, given-refusal}
 
 -- an array that is shown is a part of itself
@@ -65,15 +65,6 @@ lies-viewed s a part old new view lies is = record {
         let here : rank old.shape (view.leads index) < length (offsets old) = is.inside k d below in
         subst (λ (n : ℕ). rank lies.shape (view.leads index) < n) counted (subst (λ (l : List ℕ). rank l (view.leads index) < length (offsets old)) lies.shape_is here)
 
--- what a call that gives a view of a part answers
-pub view-part : (s : State) (a part : Array) (old : Layout) (result : Result Layout Refusal) (there : Result View Refusal) → LiesIn s a part old → GivesView old result there → GivesPart s a result (there >>= (λ view. Ok (viewed part view)))
-view-part s a part old (Ok new) (Ok view) lies is = lies-viewed s a part old new view lies is
-view-part s a part old (Ok new) (Err e) lies is = absurd is
-view-part s a part old (Err e) (Ok view) lies (inl lacks) = inl lacks
-view-part s a part old (Err e) (Ok view) lies (inr same) = let none : true ≡ false = ap is_ok same in absurd cc
-view-part s a part old (Err e) (Err e') lies (inl lacks) = inl lacks
-view-part s a part old (Err e) (Err e') lies (inr same) = inr (let there : e' ≡ e = cc in ap Err there)
-
 -- ---- the shape of what is stretched
 
 shape-then : (can : Bool) (e : Refusal) (there : Result View Refusal) (f : View → View) (target : List ℕ) → ((view : View) → (f view).shape ≡ target) → IfOk (check can e >>= (λ _. there >>= (λ view. Ok (f view)))) (λ view. view.shape ≡ target)
@@ -94,69 +85,6 @@ view-shape old (Err e) there target is shaped = tt
 
 pub stretched-shape : (old : Layout) (result : Result Layout Refusal) (target : List ℕ) → GivesView old result (stretched_into old.shape target) → IfOk result (λ l. l.shape ≡ target)
 stretched-shape old result target is = view-shape old result (stretched_into old.shape target) target is (into-shape old.shape target)
-
--- ---- where items are written
-
-pub target-bad : (a : Array) (index : List (IndexItem (List ℕ))) (e : Refusal) → basic a.shape index ≡ Err e → target_part a index ≡ Err e
-unfolding target_part
-target-bad a index e bad = rw bad refl
-
-pub target-fixed : (a : Array) (index : List (IndexItem (List ℕ))) (view : View) → basic a.shape index ≡ Ok view → a.writable ≡ false → target_part a index ≡ Err ReadOnly
-unfolding target_part
-target-fixed a index view good fixed = rw (good, fixed) refl
-
-pub target-done : (a : Array) (index : List (IndexItem (List ℕ))) (view : View) → basic a.shape index ≡ Ok view → a.writable ≡ true → target_part a index ≡ Ok (viewed a view)
-unfolding target_part
-target-done a index view good free = rw (good, free) refl
-
-pub given-target : (s : State) (a : Array) (r : ArrayRef) (index : List (IndexItem (List ℕ))) (new : Layout) → Shows s a r → GivesView r.layout.now (Ok new) (basic r.layout.now.shape index) → r.writable ≡ true → GivesPart s a (Ok new) (target_part a index)
-given-target s a r index new shows given free =
-    let view = given-view r.layout.now new (basic r.layout.now.shape index) given in
-    subst (GivesPart s a (Ok new)) (sym (target-done a index view.0 ((λ i. basic (sym shows.view.laid.shape i) index) ∙ view.1) (sym shows.view.laid.writable_is ∙ free)))
-    (lies-viewed s a a r.layout.now new view.0 (lies-whole s a r shows) view.2)
-
-pub refused-target : (s : State) (a : Array) (r : ArrayRef) (index : List (IndexItem (List ℕ))) (e : Refusal) → Shows s a r → GivesView r.layout.now (Err e) (basic r.layout.now.shape index) → GivesPart s a (Err e) (target_part a index)
-refused-target s a r index e shows given =
-    elim (given-refusal r.layout.now e (basic r.layout.now.shape index) given) as (λ _. (e ≡ OutOfMemory) ⊎ (target_part a index ≡ Err e)) [
-      | inl lacks ↦ inl lacks
-      | inr bad ↦ inr (target-bad a index e ((λ i. basic (sym shows.view.laid.shape i) index) ∙ bad))
-    ]
-
-pub fixed-target : (s : State) (a : Array) (r : ArrayRef) (index : List (IndexItem (List ℕ))) (new : Layout) → Shows s a r → GivesView r.layout.now (Ok new) (basic r.layout.now.shape index) → r.writable ≡ false → target_part a index ≡ Err ReadOnly
-fixed-target s a r index new shows given fixed =
-    let view = given-view r.layout.now new (basic r.layout.now.shape index) given in
-    target-fixed a index view.0 ((λ i. basic (sym shows.view.laid.shape i) index) ∙ view.1) (sym shows.view.laid.writable_is ∙ fixed)
-
--- they lie apart, where the array may be written
-pub nested-target : (s : State) (a : Array) (r : ArrayRef) (new : Layout) → Shows s a r → KeepsNested r.layout.now new → r.writable ≡ true → IsNested (offsets new) (item_size r.descr.now)
-nested-target s a r new shows kept free = kept _ (subst (λ (d : Descr). IsNested (offsets r.layout.now) (item_size d)) shows.descr (shows.view.laid.nested free))
-
--- ---- where they come from
-
-pub source-bad : (a : Array) (index : Option (List (IndexItem (List ℕ)))) (shape : List ℕ) (e : Refusal) → basic a.shape (unwrap_or index (Ellipsis ∷ [])) ≡ Err e → source_part a index shape ≡ Err e
-unfolding source_part
-source-bad a index shape e bad = rw bad refl
-
-pub source-then : (a : Array) (index : Option (List (IndexItem (List ℕ)))) (shape : List ℕ) (view : View) → basic a.shape (unwrap_or index (Ellipsis ∷ [])) ≡ Ok view →
-    source_part a index shape ≡ (stretched_into view.shape shape >>= (λ wide. Ok (viewed (viewed a view) wide)))
-unfolding source_part
-source-then a index shape view good = rw good refl
-
-pub refused-source : (s : State) (a : Array) (r : ArrayRef) (index : Option (List (IndexItem (List ℕ)))) (shape : List ℕ) (e : Refusal) → Shows s a r → GivesView r.layout.now (Err e) (basic r.layout.now.shape (unwrap_or index (Ellipsis ∷ []))) →
-    GivesPart s a (Err e) (source_part a index shape)
-refused-source s a r index shape e shows given =
-    elim (given-refusal r.layout.now e (basic r.layout.now.shape (unwrap_or index (Ellipsis ∷ []))) given) as (λ _. (e ≡ OutOfMemory) ⊎ (source_part a index shape ≡ Err e)) [
-      | inl lacks ↦ inl lacks
-      | inr bad ↦ inr (source-bad a index shape e ((λ i. basic (sym shows.view.laid.shape i) (unwrap_or index (Ellipsis ∷ []))) ∙ bad))
-    ]
-
-pub given-source : (s : State) (a : Array) (r : ArrayRef) (index : Option (List (IndexItem (List ℕ)))) (shape : List ℕ) (named : Layout) (result : Result Layout Refusal) → Shows s a r → GivesView r.layout.now (Ok named) (basic r.layout.now.shape (unwrap_or index (Ellipsis ∷ []))) →
-    GivesView named result (stretched_into named.shape shape) → GivesPart s a result (source_part a index shape)
-given-source s a r index shape named result shows given wide =
-    let view = given-view r.layout.now named (basic r.layout.now.shape (unwrap_or index (Ellipsis ∷ []))) given in
-    subst (GivesPart s a result) (sym (source-then a index shape view.0 ((λ i. basic (sym shows.view.laid.shape i) (unwrap_or index (Ellipsis ∷ []))) ∙ view.1)))
-    (view-part s a (viewed a view.0) named result (stretched_into view.0.shape shape) (lies-viewed s a a r.layout.now named view.0 (lies-whole s a r shows) view.2)
-    (subst (λ (l : List ℕ). GivesView named result (stretched_into l shape)) view.2.shape wide))
 
 -- ---- items that a cast leaves as they are
 

@@ -21,6 +21,11 @@ pub mod SavedFiles
 pub mod Steps
 mod Vectors
 pub mod Views
+pub mod IndexLaws
+pub mod TargetLaws
+pub mod GivenLaws
+pub mod PartLaws
+pub mod SetOutcomes
 pub mod Whole
 pub mod Zeros
 pub mod Stored

@@ -1,5 +1,6 @@
 -- What the commands over views come to.
 use Rattle.std.proofs.Common.{◌≡◌, ℕ, true, false, ◌&&◌, is_some, inl, inr, List, ◌++◌, refl, sym, ap, ◌∙◌, codes, decimal, replicate, Option, Some, None, Ok, Err}
+use Rattle.std.specs.List.{list_all}
 use Rattle.elem_descr.specs.declared.refusal.Refusal.{Refusal}
 use Rattle.elem_descr.specs.declared.refusal.Refusal.TheVariants.{Syntax, UnknownName, TooManyNames, ReadOnly}
 use Rattle.elem_descr.specs.Values.{LeafValue}
@@ -14,30 +15,30 @@ use Rattle.name_store.specs.States.{State, Array}
 use Rattle.name_store.specs.Arrays.{find_array, is_bound, has_room_for, descr_of, addresses, written, share_cells}
 use Rattle.name_store.specs.Calls.{AnswersShares}
 use Rattle.bench_engine.specs.inside.Contract.{IsRefused}
-use Rattle.bench_engine.specs.Machine.{Choice, ViewOrCopy, viewed, seen, is_carried_out, view_outcome, bound_seen, set_outcome, info_outcome, shares_outcome, comes_to}
+use Rattle.bench_engine.specs.Machine.{Choice, ViewOrCopy, viewed, seen, names_in_viewing, view_outcome, bound_seen, set_outcome, info_outcome, shares_outcome, comes_to}
 use Rattle.bench_engine.specs.Replies.{info_text, shares_text}
 
 -- X = Y, seen in some way
-pub view-syntax : (choice : Choice) (s : State) (name source : List ℕ) (how : Viewing) → is_carried_out how ≡ false → view_outcome choice s name source how ≡ Err Syntax
+pub view-unknown : (choice : Choice) (s : State) (name source : List ℕ) (how : Viewing) → find_array s.names source ≡ None → view_outcome choice s name source how ≡ Err UnknownName
 unfolding view_outcome
-view-syntax choice s name source how other = rw other refl
+view-unknown choice s name source how none = rw none refl
 
-pub view-unknown : (choice : Choice) (s : State) (name source : List ℕ) (how : Viewing) → is_carried_out how ≡ true → find_array s.names source ≡ None → view_outcome choice s name source how ≡ Err UnknownName
+pub view-unbound : (choice : Choice) (s : State) (name source : List ℕ) (how : Viewing) (a : Array) → find_array s.names source ≡ Some a → list_all (is_bound s) (names_in_viewing how) ≡ false → view_outcome choice s name source how ≡ Err UnknownName
 unfolding view_outcome
-view-unknown choice s name source how carried none = rw (carried, none) refl
+view-unbound choice s name source how a is none = rw (is, none) refl
 
-pub view-many : (choice : Choice) (s : State) (name source : List ℕ) (how : Viewing) (a : Array) → is_carried_out how ≡ true → find_array s.names source ≡ Some a → has_room_for s name ≡ false → view_outcome choice s name source how ≡ Err TooManyNames
+pub view-many : (choice : Choice) (s : State) (name source : List ℕ) (how : Viewing) (a : Array) → list_all (is_bound s) (names_in_viewing how) ≡ true → find_array s.names source ≡ Some a → has_room_for s name ≡ false → view_outcome choice s name source how ≡ Err TooManyNames
 unfolding view_outcome
-view-many choice s name source how a carried is full = rw (carried, is, full) refl
+view-many choice s name source how a named is full = rw (is, named, full) refl
 
-pub view-bad : (choice : Choice) (s : State) (name source : List ℕ) (how : Viewing) (a : Array) (e : Refusal) → is_carried_out how ≡ true → find_array s.names source ≡ Some a → has_room_for s name ≡ true → seen how s a ≡ Err e → view_outcome choice s name source how ≡ Err e
+pub view-bad : (choice : Choice) (s : State) (name source : List ℕ) (how : Viewing) (a : Array) (e : Refusal) → list_all (is_bound s) (names_in_viewing how) ≡ true → find_array s.names source ≡ Some a → has_room_for s name ≡ true → seen how s a ≡ Err e → view_outcome choice s name source how ≡ Err e
 unfolding view_outcome
-view-bad choice s name source how a e carried is room bad = rw (carried, is, room, bad) refl
+view-bad choice s name source how a e named is room bad = rw (is, named, room, bad) refl
 
-pub view-done : (choice : Choice) (s : State) (name source : List ℕ) (how : Viewing) (a : Array) (found : ViewOrCopy) → is_carried_out how ≡ true → find_array s.names source ≡ Some a → has_room_for s name ≡ true → seen how s a ≡ Ok found →
+pub view-done : (choice : Choice) (s : State) (name source : List ℕ) (how : Viewing) (a : Array) (found : ViewOrCopy) → list_all (is_bound s) (names_in_viewing how) ≡ true → find_array s.names source ≡ Some a → has_room_for s name ≡ true → seen how s a ≡ Ok found →
     view_outcome choice s name source how ≡ bound_seen choice s name found
 unfolding view_outcome
-view-done choice s name source how a found carried is room good = rw (carried, is, room, good) refl
+view-done choice s name source how a found named is room good = rw (is, named, room, good) refl
 
 -- info
 pub info-unknown : (s : State) (name : List ℕ) → find_array s.names name ≡ None → info_outcome s name ≡ Err UnknownName

@@ -1,5 +1,6 @@
 pub mod Contents
 pub mod Held
+pub mod IndexLists
 pub mod Lines
 pub mod Loads
 pub mod Machine

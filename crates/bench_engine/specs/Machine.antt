@@ -19,7 +19,6 @@ use Rattle.shape_strides.specs.Limits.{max_bytes}
 use Rattle.shape_strides.specs.Indexes.{count}
 use Rattle.shape_strides.specs.Shapes.{shape_of}
 use Rattle.view_ops.specs.Views.{View, view_through}
-use Rattle.view_ops.specs.Basics.{basic}
 use Rattle.view_ops.specs.Transposes.{transposed}
 use Rattle.broadcasting.specs.Broadcasts.{stretched, stretched_into}
 use Rattle.reshape_rule.specs.Targets.{target_of}
@@ -42,6 +41,7 @@ use Rattle.name_store.specs.States as states
 use Rattle.name_store.specs.Arrays.{find_array, is_bound, has_room_for, bound_to, bound_view, unbound, descr_of, addresses, read, written, share_cells}
 use Rattle.name_store.specs.Calls.{IsUnused}
 use Rattle.bench_engine.specs.Contents.{Contents, made, made_in, array_over, contents_of}
+use Rattle.bench_engine.specs.IndexLists.{names_in_index, taken}
 use Rattle.bench_engine.specs.declared.replies.Origin.{Origin}
 use Rattle.bench_engine.specs.declared.replies.Origin.TheVariants as origin
 use Rattle.bench_engine.specs.Replies.{Reply, refusal, bound_text, info_text, format_text, names_text, shares_text}
@@ -108,19 +108,26 @@ reshaped s array numbers = do
   shape ← target_of (count array.shape) numbers
   if is_affine array.places shape then Ok (a_view (record array { shape = shape })) else duplicated s array shape
 
+-- the items that an index list takes, in a copy where it names an array
+abbrev pub part_seen : State → states.Array → List (IndexItem (List ℕ)) → Result ViewOrCopy Refusal
+part_seen s array index = do
+  view ← taken s array index
+  let part = viewed array view
+  Ok (if list_all is_basic index then a_view part else a_copy (made (descr_of s array) part.shape (read s part)))
+
 -- an array, seen in some way
 abbrev pub seen : Viewing → State → states.Array → Result ViewOrCopy Refusal
 seen viewing.Whole s array = Ok (a_view array)
-seen (viewing.Indexed index) s array = basic array.shape index >>= (λ view. Ok (a_view (viewed array view)))
+seen (viewing.Indexed index) s array = part_seen s array index
 seen (viewing.Transposed axes) s array = transposed array.shape axes >>= (λ view. Ok (a_view (viewed array view)))
 seen (viewing.Field field) s array = field_seen s array field
 seen (viewing.Reshaped numbers) s array = reshaped s array numbers
 seen (viewing.Broadcast lengths) s array = broadcast_seen array lengths
 
--- the ways that are carried out so far
-abbrev pub is_carried_out : Viewing → Bool
-is_carried_out (viewing.Indexed index) = list_all is_basic index
-is_carried_out _ = true
+-- the names in a way of seeing an array
+abbrev pub names_in_viewing : Viewing → List (List ℕ)
+names_in_viewing (viewing.Indexed index) = names_in_index index
+names_in_viewing _ = []
 
 -- the items of an array as items of an element type
 unfoldable pub cast_items : State → states.Array → Descr → Result (List (List LeafValue)) Refusal
@@ -173,8 +180,8 @@ cast_outcome choice s name source text = do
 -- X = the array of a name, seen in some way
 unfoldable pub view_outcome : Choice → State → List ℕ → List ℕ → Viewing → Outcome
 view_outcome choice s name source how = do
-  _ ← check (is_carried_out how) Syntax
   array ← array_of s source
+  _ ← check (list_all (is_bound s) (names_in_viewing how)) UnknownName
   _ ← check (has_room_for s name) TooManyNames
   found ← seen how s array
   bound_seen choice s name found
@@ -182,16 +189,16 @@ view_outcome choice s name source how = do
 -- set X[ix] = Z
 
 -- the items of an array that an index list names, to be written
-unfoldable pub target_part : states.Array → List (IndexItem (List ℕ)) → Result states.Array Refusal
-target_part array index = do
-  view ← basic array.shape index
+unfoldable pub target_part : State → states.Array → List (IndexItem (List ℕ)) → Result states.Array Refusal
+target_part s array index = do
+  view ← taken s array index
   _ ← check array.writable ReadOnly
   Ok (viewed array view)
 
 -- those of an operand's array, `Y` being `Y[...]`, stretched into a shape
-unfoldable pub source_part : states.Array → Option (List (IndexItem (List ℕ))) → List ℕ → Result states.Array Refusal
-source_part array index shape = do
-  view ← basic array.shape (unwrap_or index (Ellipsis ∷ []))
+unfoldable pub source_part : State → states.Array → Option (List (IndexItem (List ℕ))) → List ℕ → Result states.Array Refusal
+source_part s array index shape = do
+  view ← taken s array (unwrap_or index (Ellipsis ∷ []))
   let part = viewed array view
   wide ← stretched_into part.shape shape
   Ok (viewed part wide)
@@ -200,7 +207,7 @@ source_part array index shape = do
 abbrev pub argument_items : State → Argument → Descr → List ℕ → Result (List (List LeafValue)) Refusal
 argument_items s (argument.Operand operand) descr shape = do
   array ← array_of s operand.name
-  source ← source_part array operand.index shape
+  source ← source_part s array operand.index shape
   cast_items s source descr
 argument_items s (argument.Literal literal) descr shape = do
   item ← item_value descr literal
@@ -208,20 +215,14 @@ argument_items s (argument.Literal literal) descr shape = do
 
 -- the names of an argument
 abbrev pub names_in_argument : Argument → List (List ℕ)
-names_in_argument (argument.Operand operand) = operand.name ∷ []
+names_in_argument (argument.Operand operand) = operand.name ∷ names_in_index (unwrap_or operand.index [])
 names_in_argument (argument.Literal literal) = []
-
--- no index list of an argument names an array
-abbrev pub is_plain : Argument → Bool
-is_plain (argument.Operand operand) = list_all is_basic (unwrap_or operand.index [])
-is_plain (argument.Literal literal) = true
 
 unfoldable pub set_outcome : State → List ℕ → List (IndexItem (List ℕ)) → Argument → Outcome
 set_outcome s name index argument = do
-  _ ← check (list_all is_basic index && is_plain argument) Syntax
   array ← array_of s name
-  _ ← check (list_all (is_bound s) (names_in_argument argument)) UnknownName
-  target ← target_part array index
+  _ ← check (list_all (is_bound s) (names_in_index index ++ names_in_argument argument)) UnknownName
+  target ← target_part s array index
   items ← argument_items s argument (descr_of s array) target.shape
   comes_to (written s array target.places items) (codes "ok set " ++ decimal (count target.shape))
 
@@ -293,7 +294,7 @@ Step old command new reply =
 -- The names that must be bound, from the left.
 
 abbrev pub bound_in_value : Value → List (List ℕ)
-bound_in_value (value.View source how) = source ∷ []
+bound_in_value (value.View source how) = source ∷ names_in_viewing how
 bound_in_value (value.Compute (computation.Duplicate source order)) = source ∷ []
 bound_in_value (value.Compute (computation.Cast source descr)) = source ∷ []
 bound_in_value _ = []
@@ -307,7 +308,7 @@ bound_in_question (question.Shares left right) = left ∷ right ∷ []
 
 abbrev pub must_be_bound : Command → List (List ℕ)
 must_be_bound (command.Bind name value) = bound_in_value value
-must_be_bound (command.Set name index argument) = name ∷ names_in_argument argument
+must_be_bound (command.Set name index argument) = name ∷ names_in_index index ++ names_in_argument argument
 must_be_bound (command.Delete name) = name ∷ []
 must_be_bound (command.Ask question) = bound_in_question question
 must_be_bound _ = []

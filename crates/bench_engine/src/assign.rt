@@ -1,47 +1,51 @@
-//! Items of an array that are written to items of another, or of the same one: where the ones and the
-//! others lie, and casts between their element types.
-ghost use Rattle.std.specs.Prelude.{◌≡◌, ◌⊎◌, ◌≤◌, ◌+◌, ◌*◌, ◌∷◌, [], ℕ, List, true, false, length, unwrap_or, All, IfOk, IfErr};
+//! Items of a name's array that are to be written: where they lie, and that they are.
+ghost use Rattle.std.specs.Prelude.{◌≡◌, ℕ, List, true, length, Some, IfOk, IfErr};
 ghost use Rattle.std.specs.List.{list_all};
-ghost use Rattle.elem_descr.specs.declared.refusal.Refusal.TheVariants.{OutOfMemory, NoSuchCast};
-ghost use Rattle.elem_descr.specs.Items.{item_size};
-ghost use Rattle.elementwise.specs.Casts.{can_cast};
-ghost use Rattle.shape_strides.specs.IndexItems.{is_basic};
-ghost use Rattle.shape_strides.specs.Indexes.{count};
-ghost use Rattle.shape_strides.specs.Limits.{max_bytes};
-ghost use Rattle.shape_strides.specs.Layouts.{offsets, IsNested};
-ghost use Rattle.shape_strides.specs.declared.index_item.IndexItem.TheVariants.{Ellipsis};
-ghost use Rattle.view_ops.specs.Basics.{basic};
-ghost use Rattle.view_ops.specs.Views.{GivesView};
-ghost use Rattle.name_store.specs.Arrays.{descr_of, written};
+ghost use Rattle.elem_descr.specs.declared.refusal.Refusal.TheVariants.{OutOfMemory};
+ghost use Rattle.name_store.specs.Arrays.{find_array, is_bound, descr_of, written};
+ghost use Rattle.name_store.specs.Shown.{Shows};
 ghost use Rattle.name_store.specs.States.{Array};
-ghost use Rattle.name_store.specs.Targets.{LeadsTo, MayWrite};
-ghost use Rattle.name_store.specs.declared.target.Target.TheVariants.{View};
-ghost use Rattle.bench_engine.specs.Machine.{source_part, target_part};
-ghost use Rattle.bench_engine.specs.inside.Assigns.{IsPartOf, AreCast, AreFor, assigned_items};
-ghost use Rattle.bench_engine.specs.inside.Parts.{IsShown};
+ghost use Rattle.name_store.specs.Targets.{LeadsTo, MayWrite, target_offsets};
+ghost use Rattle.bench_engine.specs.IndexLists.{names_in_index, taken};
+ghost use Rattle.bench_engine.specs.Machine.{target_part};
+ghost use Rattle.bench_engine.specs.inside.Assigns.{GivesTarget, GivesAim, AreFor, given_items};
 
-use crate::index::named_items;
-use elem_descr::{Descr, Refusal};
+use crate::given::Given;
+use crate::index::{are_plain, named_items, planned};
+use elem_descr::Refusal;
 use name_store::{ArrayRef, Bench, Source, Target};
-use overlap_copy::Owned;
-use script_lang::{Index, Name};
-use shape_strides::{IndexItem, Layout, Shape};
+use script_lang::Name;
+use shape_strides::IndexItem;
 use std::alloc::Global;
 
-/// Where the items of an array lie that an index list names, which are to be written.
-pub fn target_part(
+/// Where the items lie that an index list takes of an array.
+fn named_target(
     alloc: Global,
+    bench: &Bench,
     array: &ArrayRef<'_>,
     index: &[IndexItem<Name>],
-) -> Result<Layout, Refusal>
-    requires shown { IsShown array.now }
-    requires plain { list_all is_basic index.now ≡ true }
-    ensures part { IsPartOf array.now result (λ a. target_part a index.now) }
-    ensures nested { IfOk result (λ l. IsNested (offsets l) (item_size array.now.descr.now)) }
-    ensures few { IfOk result (λ l. count l.shape * item_size array.now.descr.now ≤ max_bytes) }
-    ensures writable { IfOk result (λ _. array.now.writable ≡ true) }
+) -> Result<Target, Refusal>
+    requires bound { list_all (is_bound bench.now) (names_in_index index.now) ≡ true }
+    ensures { (a : Array) → Shows bench.now a array.now → GivesAim bench.now a array.now result (taken bench.now a index.now) }
 {
-    let target = named_items(alloc, array.layout, index)?;
+    if are_plain(index) {
+        return Ok(Target::View(named_items(alloc, array.layout, index)?));
+    }
+    Ok(Target::Plan(planned(alloc, bench, array, index)?))
+}
+
+/// Where the items lie that an index list takes of an array, which are to be written.
+pub fn target_of(
+    alloc: Global,
+    bench: &Bench,
+    array: &ArrayRef<'_>,
+    index: &[IndexItem<Name>],
+) -> Result<Target, Refusal>
+    requires bound { list_all (is_bound bench.now) (names_in_index index.now) ≡ true }
+    ensures { (name : List ℕ) (a : Array) → find_array bench.now.names name ≡ Some a → Shows bench.now a array.now
+        → GivesTarget bench.now name a result (target_part bench.now a index.now) }
+{
+    let target = named_target(alloc, bench, array, index)?;
     if !array.writable {
         return Err(Refusal::ReadOnly);
     }
@@ -50,82 +54,26 @@ pub fn target_part(
     Ok(target)
 }
 
-/// The view of a layout that the index list of an operand names, and all of it where there is none.
-fn operand_items(alloc: Global, layout: &Layout, index: &Option<Index>) -> Result<Layout, Refusal>
-    requires { list_all is_basic (unwrap_or index.now []) ≡ true }
-    ensures { GivesView layout.now result (basic layout.now.shape (unwrap_or index.now (Ellipsis ∷ []))) }
-{
-    match index {
-        Some(index) => named_items(alloc, layout, index.as_slice()),
-        None => named_items(alloc, layout, &[IndexItem::Ellipsis]),
-    }
-}
-
-/// Where the items of an operand's array lie, stretched into a shape.
-pub fn source_part(
-    alloc: Global,
-    array: &ArrayRef<'_>,
-    index: &Option<Index>,
-    shape: &Shape,
-) -> Result<Layout, Refusal>
-    requires shown { IsShown array.now }
-    requires plain { list_all is_basic (unwrap_or index.now []) ≡ true }
-    ensures part { IsPartOf array.now result (λ a. source_part a index.now shape.now) }
-    ensures shape { IfOk result (λ l. l.shape ≡ shape.now) }
-{
-    let named = operand_items(alloc, array.layout, index)?;
-    broadcasting::stretch_into(alloc, &named, shape)
-}
-
-/// The items of an array that a layout has, cast to an element type: in a block of their own, unless
-/// they are of that type as they stand.
-pub fn cast_part(
-    alloc: Global,
-    array: &ArrayRef<'_>,
-    part: &Layout,
-    descr: &Descr,
-) -> Result<Option<Owned>, Refusal>
-    requires inside { All (λ offset. offset + item_size array.now.descr.now ≤ length array.now.block.now) (offsets part.now) }
-    requires few { count part.now.shape * item_size descr.now ≤ max_bytes }
-    ensures can { IfOk result (λ _. can_cast array.now.descr.now descr.now ≡ true) }
-    ensures cast { IfOk result (AreCast array.now part.now descr.now) }
-    ensures refused { IfErr result (λ e. (e ≡ OutOfMemory) ⊎ ((e ≡ NoSuchCast) × (can_cast array.now.descr.now descr.now ≡ false))) }
-{
-    if !elementwise::can_cast(array.descr, descr) {
-        return Err(Refusal::NoSuchCast);
-    }
-    if elementwise::keeps_items(array.block, array.descr, descr) {
-        return Ok(None);
-    }
-    let owned = elementwise::cast(alloc, array.block, part, array.descr, descr)?;
-    Ok(Some(owned))
-}
-
-/// Writes items to a target in a name's array, and answers how many: those that were cast, or where
-/// none were those of the array `source` that a layout has.
+/// Writes items to a target in a name's array, and answers how many.
 pub fn assign(
     alloc: Global,
     bench: &mut Bench,
     name: &Name,
-    target: Layout,
-    source: &Name,
-    part: Layout,
-    cast: Option<Owned>,
+    target: Target,
+    given: Given<'_>,
 ) -> Result<usize, Refusal>
-    requires aim { (array : Array) × (places : List ℕ) × LeadsTo bench.old name.now (View target) array places
-        × MayWrite bench.old array (View target) × AreFor bench.old (descr_of bench.old array) (length (offsets target)) source.now part cast }
-    ensures count { IfOk result (λ n. n ≡ length (offsets target)) }
-    ensures written { IfOk result (λ _. (array : Array) (places : List ℕ) → LeadsTo bench.old name.now (View target) array places
-        → bench.new ≡ written bench.old array places (assigned_items bench.old source.now part cast)) }
+    requires aim { (array : Array) × (places : List ℕ) × LeadsTo bench.old name.now target array places
+        × MayWrite bench.old array target × AreFor bench.old (descr_of bench.old array) (length (target_offsets target)) given }
+    ensures count { IfOk result (λ n. n ≡ length (target_offsets target)) }
+    ensures written { IfOk result (λ n. (array : Array) (places : List ℕ) → LeadsTo bench.old name.now target array places
+        → bench.new ≡ written bench.old array places (given_items bench.old (descr_of bench.old array) n given.entry)) }
     ensures refused { IfErr result (λ e. (bench.new ≡ bench.old) × (e ≡ OutOfMemory)) }
 {
-    let Some(owned) = cast else {
-        return bench.write_items(
-            alloc,
-            name,
-            Target::View(target),
-            Source::Name(source, part),
-        );
-    };
-    bench.write_items(alloc, name, Target::View(target), Source::Block(&owned))
+    match given {
+        Given::One(item) => bench.write_items(alloc, name, target, Source::One(item.as_slice())),
+        Given::Named(source, items) => {
+            bench.write_items(alloc, name, target, Source::Name(source, items))
+        }
+        Given::Own(owned) => bench.write_items(alloc, name, target, Source::Block(&owned)),
+    }
 }

@@ -10,6 +10,7 @@ mod create;
 mod delete;
 mod engine;
 mod format;
+mod given;
 mod index;
 mod info;
 mod item;
@@ -27,6 +28,7 @@ mod set;
 mod shares;
 mod source;
 mod store_fault;
+mod taken;
 mod view;
 
 pub use engine::execute;

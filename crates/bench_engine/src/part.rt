@@ -4,15 +4,19 @@
 ghost use Rattle.std.specs.Prelude.{◌≡◌, true, option_copied};
 ghost use Rattle.std.specs.List.{list_all};
 ghost use Rattle.shape_strides.specs.Indexes.{count};
-ghost use Rattle.shape_strides.specs.IndexItems.{is_basic};
 ghost use Rattle.script_lang.specs.declared.command.Viewing.TheVariants.{Whole, Indexed, Field, Transposed, Reshaped, Broadcast};
-ghost use Rattle.bench_engine.specs.Machine.{is_carried_out};
-ghost use Rattle.bench_engine.specs.inside.Parts.{IsShown, Sees, Duplicates};
+ghost use Rattle.name_store.specs.Arrays.{is_bound};
+ghost use Rattle.name_store.specs.Shown.{Shows};
+ghost use Rattle.name_store.specs.States.{Array};
+ghost use Rattle.bench_engine.specs.IndexLists.{names_in_index};
+ghost use Rattle.bench_engine.specs.Machine.{names_in_viewing};
+ghost use Rattle.bench_engine.specs.inside.Parts.{IsShown, Sees, SeesIn, Duplicates};
 
 use crate::contents::shape_of;
-use crate::index::{are_plain, named_items};
+use crate::index::are_bound;
+use crate::taken::{Taken, take};
 use elem_descr::{Descr, Refusal};
-use name_store::{ArrayRef, Path};
+use name_store::{ArrayRef, Bench, Path};
 use overlap_copy::Owned;
 use script_lang::{FieldText, Index, Lengths, Viewing};
 use shape_strides::{Layout, MemoryOrder, Shape};
@@ -58,17 +62,21 @@ fn whole<'a>(alloc: Global, array: &ArrayRef<'a>) -> Result<PartOrCopy<'a>, Refu
     Ok(PartOrCopy::Part(items(array, layout, array.writable)))
 }
 
-/// `Y[ix]`
+/// `Y[ix]`, which is a copy where the list names an array.
 fn indexed<'a>(
     alloc: Global,
+    bench: &Bench,
     array: &ArrayRef<'a>,
     index: &Index,
 ) -> Result<PartOrCopy<'a>, Refusal>
-    requires plain { list_all is_basic index.now ≡ true }
-    ensures { Sees (Indexed index.now) array.now result }
+    requires bound { list_all (is_bound bench.now) (names_in_index index.now) ≡ true }
+    requires shown { (a : Array) × Shows bench.now a array.now }
+    ensures { SeesIn bench.now (Indexed index.now) array.now result }
 {
-    let layout = named_items(alloc, array.layout, index.as_slice())?;
-    Ok(PartOrCopy::Part(items(array, layout, array.writable)))
+    match take(alloc, bench, array, index.as_slice())? {
+        Taken::View(layout) => Ok(PartOrCopy::Part(items(array, layout, array.writable))),
+        Taken::Copy(owned) => Ok(PartOrCopy::Copy(owned)),
+    }
 }
 
 /// `transpose Y [(axes)]`
@@ -154,12 +162,12 @@ fn reshaped<'a>(
     duplicate(alloc, array, &shape)
 }
 
-/// Whether an array can be seen so: not with an index list that names an array.
-pub fn is_carried_out(how: &Viewing) -> bool
-    ensures { result ≡ is_carried_out how.now }
+/// Whether the names in a way of seeing an array are bound.
+pub fn has_bound(bench: &Bench, how: &Viewing) -> bool
+    ensures { result ≡ list_all (is_bound bench.now) (names_in_viewing how.now) }
 {
     match how {
-        Viewing::Indexed(index) => are_plain(index.as_slice()),
+        Viewing::Indexed(index) => are_bound(bench, index.as_slice()),
         _ => true,
     }
 }
@@ -167,16 +175,17 @@ pub fn is_carried_out(how: &Viewing) -> bool
 /// What is seen of an array. The refusals are those of the way it is seen.
 pub fn seen<'a>(
     alloc: Global,
+    bench: &Bench,
     array: &ArrayRef<'a>,
     how: &Viewing,
 ) -> Result<PartOrCopy<'a>, Refusal>
-    requires shown { IsShown array.now }
-    requires carried_out { is_carried_out how.now ≡ true }
-    ensures { Sees how.now array.now result }
+    requires shown { (a : Array) × Shows bench.now a array.now }
+    requires bound { list_all (is_bound bench.now) (names_in_viewing how.now) ≡ true }
+    ensures { SeesIn bench.now how.now array.now result }
 {
     match how {
         Viewing::Whole => whole(alloc, array),
-        Viewing::Indexed(index) => indexed(alloc, array, index),
+        Viewing::Indexed(index) => indexed(alloc, bench, array, index),
         Viewing::Field(part) => field(alloc, array, part),
         Viewing::Transposed(axes) => match axes {
             None => transposed(alloc, array, None),

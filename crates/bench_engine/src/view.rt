@@ -1,6 +1,7 @@
 //! `X = Y`, `X = Y[ix]`, `X = transpose Y`, `X = reshape Y S`, `X = broadcast Y S`, `X = field Y "f"`: a
 //! name is bound to items of another name's array, to one field of each, or to a copy of them.
-ghost use Rattle.std.specs.Prelude.{◌≡◌, ◌≤◌, ◌++◌, IfOk, OnOk, vec_capacity};
+ghost use Rattle.std.specs.Prelude.{◌≡◌, ◌≤◌, ◌++◌, ◌∷◌, IfOk, OnOk, vec_capacity};
+ghost use Rattle.std.specs.List.{list_all};
 ghost use Rattle.std.specs.Io.{StartsWith};
 ghost use Rattle.name_store.specs.Arrays.{is_bound};
 ghost use Rattle.name_store.specs.declared.bound.Bound.TheVariants.{View};
@@ -8,9 +9,9 @@ ghost use Rattle.bench_engine.specs.inside.Contract.{CarriesOut};
 ghost use Rattle.bench_engine.specs.declared.replies.Origin.TheVariants.{View as FromView};
 ghost use Rattle.bench_engine.specs.Replies.{bound_text};
 ghost use Rattle.bench_engine.specs.inside.Parts.{bound_of, seen_text};
-ghost use Rattle.bench_engine.specs.Machine.{view_outcome};
+ghost use Rattle.bench_engine.specs.Machine.{view_outcome, names_in_viewing};
 
-use crate::part::{Part, PartOrCopy, is_carried_out, seen};
+use crate::part::{Part, PartOrCopy, has_bound, seen};
 use crate::replies::{Origin, push_bound_text};
 use elem_descr::Refusal;
 use name_store::{Bench, Bound};
@@ -81,19 +82,19 @@ pub fn view(
     out: &mut Vec<u8>,
 ) -> Result<(), Refusal>
     ensures room { vec_capacity out.old ≤ vec_capacity out.new }
-    ensures answers { CarriesOut (is_bound bench.old source.now) (λ choice. view_outcome choice bench.old name.now source.now how.now)
+    ensures answers { CarriesOut (list_all (is_bound bench.old) (source.now ∷ names_in_viewing how.now)) (λ choice. view_outcome choice bench.old name.now source.now how.now)
         bench.old bench.new out.old.items out.new.items result }
 {
-    if !is_carried_out(how) {
-        return Err(Refusal::Syntax);
-    }
     let Some(array) = bench.get(source) else {
         return Err(Refusal::UnknownName);
     };
+    if !has_bound(bench, how) {
+        return Err(Refusal::UnknownName);
+    }
     if !bench.has_room_for(name) {
         return Err(Refusal::TooManyNames);
     }
-    let part = seen(alloc, &array, how)?;
+    let part = seen(alloc, bench, &array, how)?;
     let bound = told(alloc, out, name, array.number, part)?;
     bench.bind(alloc, name, bound)
 }

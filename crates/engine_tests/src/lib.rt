@@ -12,6 +12,8 @@ mod faults;
 #[cfg(test)]
 mod files;
 #[cfg(test)]
+mod gathers;
+#[cfg(test)]
 mod memory;
 #[cfg(test)]
 mod replies;

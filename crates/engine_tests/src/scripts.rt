@@ -2,6 +2,7 @@
 use crate::assignments::ASSIGNMENTS;
 use crate::casts::CASTS;
 use crate::fakes::in_pieces;
+use crate::gathers::GATHERS;
 use crate::rows::{ROWS, Row};
 use crate::runs::check_row;
 use std::alloc::Global;
@@ -19,6 +20,7 @@ fn rows_reply(rt: HostRuntime) {
     check_rows(&rt, rt.alloc(), &ROWS);
     check_rows(&rt, rt.alloc(), &ASSIGNMENTS);
     check_rows(&rt, rt.alloc(), &CASTS);
+    check_rows(&rt, rt.alloc(), &GATHERS);
 }
 
 #[test]

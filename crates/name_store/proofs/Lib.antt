@@ -14,7 +14,9 @@ pub mod ShowLaws
 pub mod SourceLaws
 pub mod RewriteLaws
 pub mod WriteLaws
+pub mod AnswerLaws
 pub mod AimLaws
+pub mod PlanAims
 pub mod ViewLaws
 pub mod ShareLaws
 mod Vectors

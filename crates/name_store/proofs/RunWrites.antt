@@ -6,7 +6,7 @@ use Rattle.raw_block.specs.Bytes.{put, place, filled, EachWithin}
 use Rattle.shape_strides.specs.declared.runs.Run.{Run}
 use Rattle.shape_strides.specs.Runs.{run_offsets}
 use Rattle.overlap_copy.specs.RunLaws.{fewer, run_offsets-more}
-use Rattle.name_store.specs.inside.Puts.{put_each}
+use Rattle.fancy_index.specs.Plans.{put_each}
 
 -- first at these offsets, then at those
 put_each-append : (xs ys item block : List ℕ) → put_each (xs ++ ys) item block ≡ put_each ys item (put_each xs item block)

@@ -8,7 +8,7 @@ use Rattle.elem_descr.specs.Items.{item_size, decode_item, AreAlike}
 use Rattle.elem_descr.specs.Values.{LeafValue}
 use Rattle.raw_block.specs.Bytes.{put}
 use Rattle.overlap_copy.specs.Assignments.{items_at, with_items}
-use Rattle.name_store.specs.inside.Puts.{put_each}
+use Rattle.fancy_index.specs.Plans.{put_each}
 
 -- one item is put, as often as there are offsets
 pub put_each-items : (os item block : List ℕ) → put_each os item block ≡ with_items os (replicate (length os) item) block

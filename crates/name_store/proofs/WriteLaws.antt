@@ -104,12 +104,12 @@ module _ (es : List (Key × Entry)) (slots : Slots) (name : List ℕ) (number wi
         len : length (buffer_of state array).items * item_size (buffer_of state array).descr ≡ length s.block
         len = (λ i. counted i * item_size (type-is i)) ∙ sym s.is_whole.whole
 
-    within : (places : List ℕ) → All (Contains array.places) places → AllByRecursion (λ place. place < s.items) places
+    pub within : (places : List ℕ) → All (Contains array.places) places → AllByRecursion (λ place. place < s.items) places
     within places among =
         all-among (λ place. place < s.items) (places_of e.item (offsets e.layout)) places
         (places-within s.descr s.items (array_at e) e.layout e.writable home.lies.laid (part-some s.descr s.is_whole.legal e.path home.lies.laid.part)) (subst (λ (a : Array). All (Contains a.places) places) same among)
 
-    spread : (os places : List ℕ) → os ≡ addresses state (record array { places = places }) → os ≡ offsets_of (item_size s.descr) (start_at s.descr e.path) places
+    pub spread : (os places : List ℕ) → os ≡ addresses state (record array { places = places }) → os ≡ offsets_of (item_size s.descr) (start_at s.descr e.path) places
     spread os places is = is ∙ λ i. offsets_of (item_size (type-is i)) (start-is i) places
 
     -- the items that a layout has there are those of their bytes

@@ -1,7 +1,8 @@
 -- Writes that take no memory.
-use Rattle.std.specs.Prelude.{◌≡◌, ◌⊎◌, ℕ, ℤ, List, Some, reverse}
+use Rattle.std.specs.Prelude.{◌≡◌, ◌⊎◌, ℕ, ℤ, List, Some, reverse, IsTrue}
 use Rattle.elem_descr.specs.Items.{item_size}
 use Rattle.shape_strides.specs.declared.layout.Layout.{Layout}
+use Rattle.shape_strides.specs.Contiguity.{is_c_contiguous}
 use Rattle.shape_strides.specs.Layouts.{offsets}
 use Rattle.shape_strides.specs.Stacks.{IsStacked}
 use Rattle.overlap_copy.specs.Apart.{AreApart}
@@ -11,7 +12,7 @@ use Rattle.name_store.specs.Arrays.{find_array, descr_of}
 use Rattle.name_store.specs.declared.target.Source.{Source}
 use Rattle.name_store.specs.declared.target.Source.TheVariants.{One, Block, Name}
 use Rattle.name_store.specs.declared.target.Target.{Target}
-use Rattle.name_store.specs.declared.target.Target.TheVariants.{View}
+use Rattle.name_store.specs.declared.target.Target.TheVariants.{View, Plan}
 
 -- both are runs of the same step
 pub record AreRuns (to from : Layout) : Type 0 where
@@ -37,9 +38,19 @@ pub record AreShifted (to from : Layout) (item : ℕ) : Type 0 where
 abbrev pub MoveInPlace : Layout → Layout → ℕ → Type 0
 MoveInPlace to from item = AreApart to item from item ⊎ (AreRuns to from ⊎ (AreReversed to from ⊎ AreShifted to from item))
 
--- One item, the items of a block and those of another buffer are written without memory, and so are items of the same buffer that can move in place.
-abbrev pub NeedsNoMemory : State → List ℕ → Target → Source → Type 0
-NeedsNoMemory s name target (One bytes) = Unit {0}
-NeedsNoMemory s name target (Block owned) = Unit {0}
-NeedsNoMemory s name (View to) (Name other from) =
+-- Into a view, one item, the items of a block and those of another buffer are written without memory, and so are items of the same buffer that can move in place.
+abbrev pub NeedsNoneInView : State → List ℕ → Layout → Source → Type 0
+NeedsNoneInView s name to (One bytes) = Unit {0}
+NeedsNoneInView s name to (Block owned) = Unit {0}
+NeedsNoneInView s name to (Name other from) =
     (a b : Array) → find_array s.names name ≡ Some a → find_array s.names other.now ≡ Some b → a.buffer ≡ b.buffer → MoveInPlace to from (item_size (descr_of s a))
+
+-- Where a plan leads, one item is, and the items of a block in C order.
+abbrev pub NeedsNoneInPlan : Source → Type 0
+NeedsNoneInPlan (One bytes) = Unit {0}
+NeedsNoneInPlan (Block owned) = IsTrue (is_c_contiguous (item_size owned.now.descr) (offsets owned.now.layout))
+NeedsNoneInPlan (Name other from) = ⊥
+
+abbrev pub NeedsNoMemory : State → List ℕ → Target → Source → Type 0
+NeedsNoMemory s name (View to) source = NeedsNoneInView s name to source
+NeedsNoMemory s name (Plan plan) source = NeedsNoneInPlan source

@@ -1,5 +1,5 @@
 -- Places of an array to be written, and what is written to them.
-use Rattle.std.specs.Prelude.{◌≡◌, ◌*◌, ℕ, true, List, [], length, map, replicate, Option, Some, None, All}
+use Rattle.std.specs.Prelude.{◌≡◌, ◌≤◌, ◌*◌, ℕ, true, List, [], length, map, replicate, Option, Some, None, All}
 use Rattle.std.specs.List.{Contains}
 use Rattle.elem_descr.specs.declared.descr.Descr.{Descr}
 use Rattle.elem_descr.specs.Items.{item_size, decode_item, AreAlike}
@@ -7,6 +7,7 @@ use Rattle.elem_descr.specs.Blocks.{item_from}
 use Rattle.elem_descr.specs.Values.{LeafValue}
 use Rattle.shape_strides.specs.declared.layout.Layout.{Layout}
 use Rattle.shape_strides.specs.Layouts.{offsets, Fits, IsNested}
+use Rattle.shape_strides.specs.Limits.{max_bytes}
 use Rattle.overlap_copy.specs.declared.owned.Owned.{Owned}
 use Rattle.overlap_copy.specs.Blocks.{places_of}
 use Rattle.name_store.specs.States.{State, Array}
@@ -14,21 +15,28 @@ use Rattle.name_store.specs.Arrays.{find_array, buffer_of, descr_of, addresses, 
 use Rattle.name_store.specs.declared.target.Source.{Source}
 use Rattle.name_store.specs.declared.target.Source.TheVariants.{One, Block, Name}
 use Rattle.name_store.specs.declared.target.Target.{Target}
-use Rattle.name_store.specs.declared.target.Target.TheVariants.{View}
+use Rattle.name_store.specs.declared.target.Target.TheVariants.{View, Plan}
 
 -- Targets
 
 -- where the target's items begin, in bytes from the start of the buffer, one after the other
 abbrev pub target_offsets : Target → List ℕ
 target_offsets (View layout) = offsets layout
+target_offsets (Plan plan) = plan.offsets
+
+-- and their shape
+abbrev pub target_shape : Target → List ℕ
+target_shape (View layout) = layout.shape
+target_shape (Plan plan) = plan.shape
 
 -- a layout whose items lie in the buffer of an array: all of them, each of the size of the array's items
 abbrev pub FitsBuffer : State → Array → Layout → Type 0
 FitsBuffer s array layout = Fits layout (length (buffer_of s array).items * item_size (buffer_of s array).descr) (item_size (descr_of s array))
 
--- the items of a view lie in the array's buffer, and no two of them have a byte in common
+-- the items of a view lie in the array's buffer, and no two of them have a byte in common; those of a plan have at most 2^28 bytes
 abbrev pub MayWrite : State → Array → Target → Type 0
 MayWrite s array (View layout) = FitsBuffer s array layout × IsNested (offsets layout) (item_size (descr_of s array))
+MayWrite s array (Plan plan) = length plan.offsets * item_size (descr_of s array) ≤ max_bytes
 
 -- the name's array is writable, and the target's items lie at these of its places
 pub record LeadsTo (s : State) (name : List ℕ) (target : Target) (array : Array) (places : List ℕ) : Type 0 where

@@ -1,5 +1,4 @@
 pub mod KeptPaths
 pub mod Props
 pub mod Codes
-pub mod Puts
 pub mod Homes

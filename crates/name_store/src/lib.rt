@@ -12,12 +12,14 @@ mod look;
 mod names;
 mod path;
 mod rewrite;
+mod rewrite_planned;
 mod shares;
 mod slot;
 mod slots;
 mod target;
 mod unbind;
 mod write;
+mod write_planned;
 
 pub use array_ref::ArrayRef;
 pub use bench::Bench;

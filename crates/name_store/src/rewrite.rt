@@ -9,7 +9,7 @@ ghost use Rattle.shape_strides.specs.Runs.{run_offsets};
 ghost use Rattle.overlap_copy.specs.Assignments.{assigned};
 ghost use Rattle.name_store.specs.declared.slot.Slot.{Slot};
 ghost use Rattle.name_store.specs.inside.Homes.{IsRewritten, HasNew};
-ghost use Rattle.name_store.specs.inside.Puts.{put_each};
+ghost use Rattle.fancy_index.specs.Plans.{put_each};
 ghost use Rattle.name_store.specs.Memory.{AreShifted, MoveInPlace};
 ghost use Rattle.name_store.specs.View.{slot_at};
 

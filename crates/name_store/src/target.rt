@@ -1,12 +1,32 @@
 //! What is written, and where.
+ghost use Rattle.std.specs.Prelude.{◌≡◌};
+ghost use Rattle.name_store.specs.Targets.{target_shape};
+
+use fancy_index::Plan;
 use overlap_copy::Owned;
 use script_lang::Name;
-use shape_strides::Layout;
+use shape_strides::{Layout, Shape};
 
-/// Where in a name's array items are written: a layout whose items are items of the array.
+/// Where in a name's array items are written.
 #[derive(Drop)]
 pub enum Target {
+    /// A layout whose items are items of the array.
     View(Layout),
+    /// The items that an index list with arrays takes of it. Where one of them is taken more than
+    /// once, the last that is written stands.
+    Plan(Plan),
+}
+
+impl Target {
+    /// The shape of the items.
+    pub fn shape(&self) -> &Shape
+        ensures { result.now ≡ target_shape self.now }
+    {
+        match self {
+            Target::View(layout) => &layout.shape,
+            Target::Plan(plan) => plan.shape(),
+        }
+    }
 }
 
 /// What is written. An item of a block or of an array is of the same bytes as one of the target.

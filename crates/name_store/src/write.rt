@@ -13,6 +13,7 @@ use crate::home::home_of;
 use crate::rewrite::{assign_at, copy_across, copy_at, fill_at};
 use crate::slot::Slot;
 use crate::target::{Source, Target};
+use crate::write_planned::write_planned;
 use elem_descr::Refusal;
 use indexmap::IndexMap;
 use overlap_copy::Owned;
@@ -94,6 +95,29 @@ fn write_named(
     Ok(layout.shape.items())
 }
 
+/// Writes the source's items to the places of a layout.
+fn write_view(
+    alloc: Global,
+    names: &IndexMap<Key, Entry>,
+    slots: &mut Vec<Option<Slot>>,
+    key: &Key,
+    layout: &Layout,
+    source: Source<'_>,
+) -> Result<usize, Refusal>
+    requires holds { Holds names.now.entries slots.old.items }
+    requires aim { IsAim (state_of names.now.entries slots.old.items) key.now.bytes.items (View layout.now) source }
+    ensures holds { Holds names.now.entries slots.new.items }
+    ensures answers { AnswersWrite (state_of names.now.entries slots.old.items) key.now.bytes.items (View layout.now) source.entry result
+        (state_of names.now.entries slots.new.items) }
+    ensures no_memory { NeedsNoMemory (state_of names.now.entries slots.old.items) key.now.bytes.items (View layout.now) source.entry → IsOk result }
+{
+    match source {
+        Source::One(item) => Ok(write_one(names, slots, key, layout, item)),
+        Source::Block(owned) => Ok(write_block(names, slots, key, layout, owned)),
+        Source::Name(name, from) => write_named(alloc, names, slots, key, layout, name, &from),
+    }
+}
+
 /// Writes the source's items to the target's places.
 pub(crate) fn write_in(
     alloc: Global,
@@ -111,10 +135,7 @@ pub(crate) fn write_in(
     ensures no_memory { NeedsNoMemory (state_of names.now.entries slots.old.items) key.now.bytes.items target source.entry → IsOk result }
 {
     match target {
-        Target::View(layout) => match source {
-            Source::One(item) => Ok(write_one(names, slots, key, &layout, item)),
-            Source::Block(owned) => Ok(write_block(names, slots, key, &layout, owned)),
-            Source::Name(name, from) => write_named(alloc, names, slots, key, &layout, name, &from),
-        },
+        Target::View(layout) => write_view(alloc, names, slots, key, &layout, source),
+        Target::Plan(plan) => write_planned(alloc, names, slots, key, &plan, source),
     }
 }

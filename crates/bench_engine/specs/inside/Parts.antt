@@ -42,6 +42,10 @@ GivesSeen s number (Err refusal) there = (refusal ≡ OutOfMemory) ⊎ (there �
 abbrev pub Sees : Viewing → ArrayRef → Result PartOrCopy Refusal → Type 0
 Sees how r result = (s : State) (array : Array) → Shows s array r → GivesSeen s r.number result (seen how s array)
 
+-- so it is in this state
+abbrev pub SeesIn : State → Viewing → ArrayRef → Result PartOrCopy Refusal → Type 0
+SeesIn s how r result = (array : Array) → Shows s array r → GivesSeen s r.number result (seen how s array)
+
 -- so it is the copy of its items under this shape
 abbrev pub Duplicates : List ℕ → ArrayRef → Result PartOrCopy Refusal → Type 0
 Duplicates shape r result = (s : State) (array : Array) → Shows s array r → GivesSeen s r.number result (duplicated s array shape)

@@ -3,26 +3,28 @@ use Rattle.std.proofs.lemmas.Result.{err_from_is_err_and}
 use Rattle.bench_engine.specs.Machine.{seen}
 use Rattle.name_store.specs.ArrayLaws.{found-array as found}
 use Rattle.bench_engine.proofs.Looks.{unchanged, not_found, bound}
-use Rattle.bench_engine.proofs.Outcomes.{view-syntax, view-unknown, view-many, view-bad, view-done}
+use Rattle.bench_engine.proofs.Outcomes.{view-unbound, view-unknown, view-many, view-bad, view-done}
 use Rattle.bench_engine.proofs.Views.{refused-or, may-bind-seen, seen-answers}
 use Rattle.bench_engine.proofs.view.view.Goals as goal
 
-pub returns-then-not-is_carried_out-clause-answers : goal.returns-then-not-is_carried_out-clause-answers
-returns-then-not-is_carried_out-clause-answers c = (refl, unchanged _, inr (λ choice. view-syntax choice _ _ _ _ (sym c.if-not-is_carried_out.ensures)))
-
 pub returns-in_default-clause-answers : goal.returns-in_default-clause-answers
 returns-in_default-clause-answers c =
-    (refl, unchanged _, inr (λ choice. view-unknown choice _ _ _ _ (sym c.if-not-is_carried_out.ensures) (not_found _ _ c.in_default.ensures)))
+    (refl, unchanged _, inr (λ choice. view-unknown choice _ _ _ _ (not_found _ _ c.in_default.ensures)))
+
+pub returns-then-not-has_bound-clause-answers : goal.returns-then-not-has_bound-clause-answers
+returns-then-not-has_bound-clause-answers c =
+    let it = found c.args.bench.now _ c.in-Some.array c.in-Some.ensures in
+    (refl, unchanged _, inr (λ choice. view-unbound choice _ _ _ _ it.0 it.1 (sym c.if-not-has_bound.ensures)))
 
 pub returns-then-not-has_room_for-clause-answers : goal.returns-then-not-has_room_for-clause-answers
 returns-then-not-has_room_for-clause-answers c =
     let it = found c.args.bench.now _ c.in-Some.array c.in-Some.ensures in
-    (refl, unchanged _, inr (λ choice. view-many choice _ _ _ _ it.0 (sym c.if-not-is_carried_out.ensures) it.1 (sym c.if-not-has_room_for.ensures)))
+    (refl, unchanged _, inr (λ choice. view-many choice _ _ _ _ it.0 (sym c.if-not-has_bound.ensures) it.1 (sym c.if-not-has_room_for.ensures)))
 
 pub seen-requires-clause-shown : goal.seen-requires-clause-shown
 seen-requires-clause-shown c =
     let it = found c.args.bench.now _ c.in-Some.array c.in-Some.ensures in
-    (c.args.bench.now, it.0, it.2)
+    (it.0, it.2)
 
 pub returns-in_err-part-clause-answers : goal.returns-in_err-part-clause-answers
 returns-in_err-part-clause-answers c =
@@ -31,20 +33,20 @@ returns-in_err-part-clause-answers c =
     rw (p.1, p.2) (
       refl,
       unchanged _,
-      refused-or _ _ _ _ (bound c.args.bench.now c.args.source.now it.0 it.1) (c.in_err-part.ensures c.args.bench.now it.0 it.2)
-          (λ bad choice. view-bad choice _ _ _ _ it.0 _ (sym c.if-not-is_carried_out.ensures) it.1 (sym c.if-not-has_room_for.ensures) bad),
+      refused-or _ _ _ _ (rw (bound c.args.bench.now c.args.source.now it.0 it.1, sym c.if-not-has_bound.ensures) refl) (c.in_err-part.ensures it.0 it.2)
+          (λ bad choice. view-bad choice _ _ _ _ it.0 _ (sym c.if-not-has_bound.ensures) it.1 (sym c.if-not-has_room_for.ensures) bad),
     )
 
 pub bind-requires : goal.bind-requires
 bind-requires c =
     let it = found c.args.bench.now _ c.in-Some.array c.in-Some.ensures in
-    may-bind-seen _ _ _ c.in_ok-part.part (seen c.args.how.now c.args.bench.now it.0) c.in_ok-bound.ensures.bound (c.in_ok-part.ensures c.args.bench.now it.0 it.2)
+    may-bind-seen _ _ _ c.in_ok-part.part (seen c.args.how.now c.args.bench.now it.0) c.in_ok-bound.ensures.bound (c.in_ok-part.ensures it.0 it.2)
 
 pub returns-clause-answers : goal.returns-clause-answers
 returns-clause-answers c =
     let it = found c.args.bench.now _ c.in-Some.array c.in-Some.ensures in
     let s = c.args.bench.now in
     seen-answers s c.bind.new.self c.args.name.now _ _ c.in_ok-bound.bound c.in-Some.array.number c.in_ok-part.part (seen c.args.how.now s it.0) c.bind.result c.args.out.now.items c.told.new.out.items
-    (bound s c.args.source.now it.0 it.1) (sym c.if-not-has_room_for.ensures)
-    (λ x good choice. view-done choice s c.args.name.now c.args.source.now c.args.how.now it.0 x (sym c.if-not-is_carried_out.ensures) it.1 (sym c.if-not-has_room_for.ensures) good)
-    c.in_ok-bound.ensures.ok c.in_ok-bound.ensures.bound (c.in_ok-part.ensures s it.0 it.2) c.bind.ensures
+    (rw (bound s c.args.source.now it.0 it.1, sym c.if-not-has_bound.ensures) refl) (sym c.if-not-has_room_for.ensures)
+    (λ x good choice. view-done choice s c.args.name.now c.args.source.now c.args.how.now it.0 x (sym c.if-not-has_bound.ensures) it.1 (sym c.if-not-has_room_for.ensures) good)
+    c.in_ok-bound.ensures.ok c.in_ok-bound.ensures.bound (c.in_ok-part.ensures it.0 it.2) c.bind.ensures

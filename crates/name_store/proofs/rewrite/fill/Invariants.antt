@@ -2,7 +2,7 @@ use Rattle.std.proofs.Common.{◌≡◌, length, All}
 use Rattle.std.specs.List.{flat_map}
 use Rattle.raw_block.specs.Bytes.{EachWithin}
 use Rattle.shape_strides.specs.Runs.{run_offsets}
-use Rattle.name_store.specs.inside.Puts.{put_each}
+use Rattle.fancy_index.specs.Plans.{put_each}
 use Rattle.name_store.proofs.rewrite.fill.Given as goal
 
 -- the runs that are left lead to what all of them do

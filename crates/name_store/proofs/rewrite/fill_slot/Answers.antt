@@ -1,7 +1,7 @@
 use Rattle.std.proofs.Common.{◌≡◌, ap, sym, ◌∙◌, refl}
 use Rattle.std.specs.List.{flat_map}
 use Rattle.shape_strides.specs.Runs.{run_offsets}
-use Rattle.name_store.specs.inside.Puts.{put_each}
+use Rattle.fancy_index.specs.Plans.{put_each}
 use Rattle.name_store.specs.declared.slot.Slot.{Slot}
 use Rattle.name_store.proofs.WriteLaws.{some-same}
 use Rattle.name_store.proofs.rewrite.fill_slot.Goals as goal

@@ -1,9 +1,12 @@
-use Rattle.std.proofs.Common.{◌+◌, ◌≤◌, sym, subst, Option, IfSome, All, length, arith}
+use Rattle.std.proofs.Common.{◌∙◌, ◌+◌, ◌≤◌, sym, subst, Option, IfSome, All, length, arith}
+use Rattle.shape_strides.specs.LayoutLaws.{length-offsets}
 use Rattle.shape_strides.specs.Layouts.{offsets}
 use Rattle.name_store.specs.inside.Homes.{IsHome}
 use Rattle.name_store.specs.declared.slot.Slot.{Slot}
+use Rattle.name_store.specs.declared.target.Target.TheVariants.{View}
 use Rattle.name_store.specs.declared.target.Source.TheVariants.{Block}
-use Rattle.name_store.proofs.AimLaws.{target-within, block-within, block-answers}
+use Rattle.name_store.proofs.AimLaws.{target-within}
+use Rattle.name_store.proofs.AnswerLaws.{block-within, block-answers}
 use Rattle.name_store.proofs.StateLaws.{Slots}
 use Rattle.name_store.proofs.WriteLaws.{home-within, written-holds}
 use Rattle.name_store.proofs.write.write_block.Goals as goal
@@ -22,7 +25,7 @@ copy_at-requires-clause-to c =
 pub copy_at-requires-clause-from : goal.copy_at-requires-clause-from
 copy_at-requires-clause-from c =
     let home = subst (λ (slots : Slots). IsHome c.args.names.now.entries slots c.args.key.now.bytes.items c.home_of-home.result.number c.home_of-home.result.width) c.as_slice.ensures.value c.home_of-home.ensures in
-    block-within c.args.names.now.entries c.args.slots.now.items _ c.home_of-home.result.number c.home_of-home.result.width home c.args.layout.now c.args.owned c.requires.aim
+    block-within c.args.names.now.entries c.args.slots.now.items _ c.home_of-home.result.number c.home_of-home.result.width home (View c.args.layout.now) c.args.owned c.requires.aim
 
 pub returns-clause-holds : goal.returns-clause-holds
 returns-clause-holds c =
@@ -32,4 +35,4 @@ returns-clause-holds c =
 pub returns-clause-answers : goal.returns-clause-answers
 returns-clause-answers c =
     let home = subst (λ (slots : Slots). IsHome c.args.names.now.entries slots c.args.key.now.bytes.items c.home_of-home.result.number c.home_of-home.result.width) c.as_slice.ensures.value c.home_of-home.ensures in
-    block-answers c.args.names.now.entries c.args.slots.now.items _ c.home_of-home.result.number c.home_of-home.result.width home c.args.layout.now c.args.owned c.requires.aim c.requires.holds c.copy_at.new.slots.items (c.copy_at.ensures home.slot home.there) c.items.result c.items.ensures.value
+    block-answers c.args.names.now.entries c.args.slots.now.items _ c.home_of-home.result.number c.home_of-home.result.width home (View c.args.layout.now) c.args.owned c.requires.aim c.requires.holds c.copy_at.new.slots.items (c.copy_at.ensures home.slot home.there) c.items.result (c.items.ensures.value ∙ sym (length-offsets c.args.layout.now))

@@ -1,14 +1,17 @@
 use Rattle.std.proofs.Common.{◌+◌, ◌≤◌, sym, subst, refl, ◌∙◌, Option, IfSome, All, length, arith}
 use Rattle.std.proofs.lemmas.Bool.{false≢true}
 use Rattle.std.proofs.lemmas.Result.{err_from_is_err_and}
+use Rattle.shape_strides.specs.LayoutLaws.{length-offsets}
 use Rattle.shape_strides.specs.Layouts.{offsets, Fits}
 use Rattle.overlap_copy.specs.Assignments.{assigned}
 use Rattle.name_store.specs.Memory.{MoveInPlace}
 use Rattle.name_store.specs.View.{array_at}
 use Rattle.name_store.specs.inside.Homes.{IsHome, HasNew}
 use Rattle.name_store.specs.declared.slot.Slot.{Slot}
+use Rattle.name_store.specs.declared.target.Target.TheVariants.{View}
 use Rattle.name_store.specs.declared.target.Source.TheVariants.{Name}
-use Rattle.name_store.proofs.AimLaws.{target-fits, target-within, target-nested, named-fits, named-within, named-count, named-same, named-answers}
+use Rattle.name_store.proofs.AimLaws.{target-fits, target-within, target-nested, named-count}
+use Rattle.name_store.proofs.AnswerLaws.{named-fits, named-within, named-same, named-answers}
 use Rattle.name_store.proofs.StateLaws.{Slots}
 use Rattle.name_store.proofs.WriteLaws.{home-within, home-some, size-is, written-holds, kept-state}
 use Rattle.name_store.proofs.write.write_named.Goals as goal
@@ -34,7 +37,7 @@ copy_across-requires-clause-from c =
     let home = subst (λ (slots : Slots). IsHome c.args.names.now.entries slots c.args.key.now.bytes.items c.home_of-home.result.number c.home_of-home.result.width) c.as_slice.ensures.value c.home_of-home.ensures in
     let other = subst (λ n. IsHome c.args.names.now.entries c.args.slots.now.items n c.home_of-other.result.number c.home_of-other.result.width) c.of.ensures
     (subst (λ (slots : Slots). IsHome c.args.names.now.entries slots c.of.result.bytes.items c.home_of-other.result.number c.home_of-other.result.width) c.as_slice-2.ensures.value c.home_of-other.ensures) in
-    subst (λ (o : Option Slot). IfSome o (λ s. All (λ offset. offset + c.home_of-home.result.width ≤ length s.block) (offsets c.args.from.now))) (sym other.there) (named-within c.args.names.now.entries c.args.slots.now.items _ c.home_of-home.result.number c.home_of-home.result.width home c.args.layout.now c.args.name c.args.from.now c.requires.aim c.home_of-other.result.number c.home_of-other.result.width other)
+    subst (λ (o : Option Slot). IfSome o (λ s. All (λ offset. offset + c.home_of-home.result.width ≤ length s.block) (offsets c.args.from.now))) (sym other.there) (named-within c.args.names.now.entries c.args.slots.now.items _ c.home_of-home.result.number c.home_of-home.result.width home (View c.args.layout.now) c.args.name c.args.from.now c.requires.aim c.home_of-other.result.number c.home_of-other.result.width other)
 
 pub returns-then-other-home-clause-holds : goal.returns-then-other-home-clause-holds
 returns-then-other-home-clause-holds c =
@@ -48,7 +51,7 @@ returns-then-other-home-clause-answers c =
     let home = subst (λ (slots : Slots). IsHome c.args.names.now.entries slots c.args.key.now.bytes.items c.home_of-home.result.number c.home_of-home.result.width) c.as_slice.ensures.value c.home_of-home.ensures in
     let other = subst (λ n. IsHome c.args.names.now.entries c.args.slots.now.items n c.home_of-other.result.number c.home_of-other.result.width) c.of.ensures
     (subst (λ (slots : Slots). IsHome c.args.names.now.entries slots c.of.result.bytes.items c.home_of-other.result.number c.home_of-other.result.width) c.as_slice-2.ensures.value c.home_of-other.ensures) in
-    named-answers c.args.names.now.entries c.args.slots.now.items _ c.home_of-home.result.number c.home_of-home.result.width home c.args.layout.now c.args.name c.args.from.now c.requires.aim c.home_of-other.result.number c.home_of-other.result.width other c.requires.holds c.copy_across.new.slots.items (c.copy_across.ensures home.slot other.slot home.there other.there) c.items.result c.items.ensures.value
+    named-answers c.args.names.now.entries c.args.slots.now.items _ c.home_of-home.result.number c.home_of-home.result.width home (View c.args.layout.now) c.args.name c.args.from.now c.requires.aim c.home_of-other.result.number c.home_of-other.result.width other c.requires.holds c.copy_across.new.slots.items (c.copy_across.ensures home.slot other.slot home.there other.there) c.items.result (c.items.ensures.value ∙ sym (length-offsets c.args.layout.now))
 
 pub assign_at-requires-clause-within : goal.assign_at-requires-clause-within
 assign_at-requires-clause-within c =
@@ -65,9 +68,9 @@ assign_at-requires-clause-from c =
     let home = subst (λ (slots : Slots). IsHome c.args.names.now.entries slots c.args.key.now.bytes.items c.home_of-home.result.number c.home_of-home.result.width) c.as_slice.ensures.value c.home_of-home.ensures in
     let other = subst (λ n. IsHome c.args.names.now.entries c.args.slots.now.items n c.home_of-other.result.number c.home_of-other.result.width) c.of.ensures
     (subst (λ (slots : Slots). IsHome c.args.names.now.entries slots c.of.result.bytes.items c.home_of-other.result.number c.home_of-other.result.width) c.as_slice-2.ensures.value c.home_of-other.ensures) in
-    let same = named-same c.args.names.now.entries c.args.slots.now.items _ c.home_of-home.result.number c.home_of-home.result.width home c.args.layout.now c.args.name c.args.from.now c.requires.aim c.home_of-other.result.number c.home_of-other.result.width other c.if-other-home.false in
+    let same = named-same c.args.names.now.entries c.args.slots.now.items _ c.home_of-home.result.number c.home_of-home.result.width home (View c.args.layout.now) c.args.name c.args.from.now c.requires.aim c.home_of-other.result.number c.home_of-other.result.width other c.if-other-home.false in
     subst (λ (o : Option Slot). IfSome o (λ s. Fits c.args.from.now (length s.block) c.home_of-home.result.width)) (sym home.there)
-    (subst (λ (s : Slot). Fits c.args.from.now (length s.block) c.home_of-home.result.width) same (named-fits c.args.names.now.entries c.args.slots.now.items _ c.home_of-home.result.number c.home_of-home.result.width home c.args.layout.now c.args.name c.args.from.now c.requires.aim c.home_of-other.result.number c.home_of-other.result.width other))
+    (subst (λ (s : Slot). Fits c.args.from.now (length s.block) c.home_of-home.result.width) same (named-fits c.args.names.now.entries c.args.slots.now.items _ c.home_of-home.result.number c.home_of-home.result.width home (View c.args.layout.now) c.args.name c.args.from.now c.requires.aim c.home_of-other.result.number c.home_of-other.result.width other))
 
 pub assign_at-requires-clause-nested : goal.assign_at-requires-clause-nested
 assign_at-requires-clause-nested c =
@@ -79,7 +82,7 @@ assign_at-requires-clause-count c =
     let home = subst (λ (slots : Slots). IsHome c.args.names.now.entries slots c.args.key.now.bytes.items c.home_of-home.result.number c.home_of-home.result.width) c.as_slice.ensures.value c.home_of-home.ensures in
     let other = subst (λ n. IsHome c.args.names.now.entries c.args.slots.now.items n c.home_of-other.result.number c.home_of-other.result.width) c.of.ensures
     (subst (λ (slots : Slots). IsHome c.args.names.now.entries slots c.of.result.bytes.items c.home_of-other.result.number c.home_of-other.result.width) c.as_slice-2.ensures.value c.home_of-other.ensures) in
-    named-count c.args.names.now.entries c.args.slots.now.items _ c.home_of-home.result.number c.home_of-home.result.width home c.args.layout.now c.args.name c.args.from.now c.requires.aim c.home_of-other.result.number c.home_of-other.result.width other
+    named-count c.args.names.now.entries c.args.slots.now.items _ c.home_of-home.result.number c.home_of-home.result.width home c.args.layout.now c.args.name c.args.from.now c.requires.aim
 
 pub returns-in_err-assign_at-clause-holds : goal.returns-in_err-assign_at-clause-holds
 returns-in_err-assign_at-clause-holds c =
@@ -102,10 +105,10 @@ returns-clause-answers c =
     let home = subst (λ (slots : Slots). IsHome c.args.names.now.entries slots c.args.key.now.bytes.items c.home_of-home.result.number c.home_of-home.result.width) c.as_slice.ensures.value c.home_of-home.ensures in
     let other = subst (λ n. IsHome c.args.names.now.entries c.args.slots.now.items n c.home_of-other.result.number c.home_of-other.result.width) c.of.ensures
     (subst (λ (slots : Slots). IsHome c.args.names.now.entries slots c.of.result.bytes.items c.home_of-other.result.number c.home_of-other.result.width) c.as_slice-2.ensures.value c.home_of-other.ensures) in
-    let same = named-same c.args.names.now.entries c.args.slots.now.items _ c.home_of-home.result.number c.home_of-home.result.width home c.args.layout.now c.args.name c.args.from.now c.requires.aim c.home_of-other.result.number c.home_of-other.result.width other c.if-other-home.false in
+    let same = named-same c.args.names.now.entries c.args.slots.now.items _ c.home_of-home.result.number c.home_of-home.result.width home (View c.args.layout.now) c.args.name c.args.from.now c.requires.aim c.home_of-other.result.number c.home_of-other.result.width other c.if-other-home.false in
     let done = subst (λ (s : Slot). HasNew c.args.slots.now.items c.home_of-home.result.number home.slot (assigned (offsets c.args.layout.now) (offsets c.args.from.now) c.home_of-home.result.width s.block home.slot.block) c.assign_at.new.slots.items)
     (sym same) (c.in_ok-assign_at.ensures.rewritten home.slot home.there) in
-    named-answers c.args.names.now.entries c.args.slots.now.items _ c.home_of-home.result.number c.home_of-home.result.width home c.args.layout.now c.args.name c.args.from.now c.requires.aim c.home_of-other.result.number c.home_of-other.result.width other c.requires.holds c.assign_at.new.slots.items done c.items-2.result c.items-2.ensures.value
+    named-answers c.args.names.now.entries c.args.slots.now.items _ c.home_of-home.result.number c.home_of-home.result.width home (View c.args.layout.now) c.args.name c.args.from.now c.requires.aim c.home_of-other.result.number c.home_of-other.result.width other c.requires.holds c.assign_at.new.slots.items done c.items-2.result (c.items-2.ensures.value ∙ sym (length-offsets c.args.layout.now))
 
 pub assign_at-requires-clause-item : goal.assign_at-requires-clause-item
 assign_at-requires-clause-item c =

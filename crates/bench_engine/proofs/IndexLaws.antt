@@ -1,0 +1,234 @@
+-- Index lists whose names stand for arrays.
+use Rattle.std.proofs.Common.{◌≡◌, ◌⊎◌, ◌<◌, ◌≤◌, ◌+◌, ◌*◌, ◌&&◌, ℕ, zero, suc, Bool, true, false, nat_le, List, [], ◌∷◌, ◌++◌, length, map, take, drop, get_or, slice_index, Option, Some, None, refl, sym, ap, ◌∙◌, subst, All, Bor, Result, Ok, Err, IfOk, inl, inr, arith}
+use Rattle.std.specs.List.{Contains, list_all, flat_map}
+use Rattle.std.proofs.lemmas.Bool.{le-leb, lt-leb, and_parts}
+use Rattle.std.proofs.lemmas.List.{take_more}
+use Rattle.std.proofs.lemmas.List.Elements.{All-map, All-append, Contains-get_or}
+use Rattle.std.proofs.lemmas.List.Folds.{list_all-append}
+use Rattle.std.proofs.lemmas.Simd.{map-map}
+use Rattle.elem_descr.specs.declared.refusal.Refusal.{Refusal}
+use Rattle.elem_descr.specs.declared.refusal.Refusal.TheVariants.{OutOfMemory, TooLarge}
+use Rattle.elem_descr.specs.Blocks.{item_from}
+use Rattle.elem_descr.specs.Items.{item_size}
+use Rattle.shape_strides.specs.declared.index_item.IndexItem.{IndexItem}
+use Rattle.shape_strides.specs.declared.index_item.IndexItem.TheVariants.{Integer, Slice, Ellipsis, NewAxis, Array as ArrayItem}
+use Rattle.shape_strides.specs.declared.layout.Layout.{Layout}
+use Rattle.shape_strides.specs.Indexes.{count, indexes, rank, IsIndex}
+use Rattle.shape_strides.specs.IndexLaws.{length-indexes, rank-lt, get_or-indexes, index_at}
+use Rattle.shape_strides.specs.LayoutLaws.{length-offsets}
+use Rattle.shape_strides.specs.Layouts.{offsets}
+use Rattle.shape_strides.specs.Limits.{max_bytes}
+use Rattle.view_ops.specs.Views.{View, view_through}
+use Rattle.fancy_index.specs.IndexArrays.{IndexArray, no_array, with_array, with_arrays}
+use Rattle.fancy_index.specs.Indexed.{indexed}
+use Rattle.fancy_index.specs.Plans.{Planned, IsPlanOf, GivesPlan}
+use Rattle.fancy_index.specs.Sources.{array_of, first_number, LiesInBlock, IsNamed}
+use Rattle.fancy_index.specs.declared.source.Indices.{Indices}
+use Rattle.name_store.specs.States.{State, Array}
+use Rattle.name_store.specs.Arrays.{find_array, is_bound, buffer_of, descr_of, addresses, read}
+use Rattle.name_store.specs.Parts.{start_at}
+use Rattle.name_store.specs.Shown.{Shows}
+use Rattle.name_store.specs.declared.array_ref.ArrayRef.{ArrayRef}
+use Rattle.bench_engine.specs.IndexLists.{names_in_item, names_in_index, by_items, with_items, gathered}
+use Rattle.bench_engine.specs.Machine.{viewed}
+use Rattle.bench_engine.proofs.Views.{offsets-view}
+
+-- ---- names that are bound
+
+pub all-bound : (s : State) (item : IndexItem (List ℕ)) (index : List (IndexItem (List ℕ))) → list_all (is_bound s) (names_in_index (item ∷ index)) ≡ (list_all (is_bound s) (names_in_item item) && list_all (is_bound s) (names_in_index index))
+all-bound s item index = list_all-append (is_bound s) (names_in_item item) (names_in_index index)
+
+and-none : (b : Bool) → (b && false) ≡ false
+and-none true = refl
+and-none false = refl
+
+pub bound-more : (s : State) (index : List (IndexItem (List ℕ))) (item : IndexItem (List ℕ)) → list_all (is_bound s) (names_in_index index) ≡ true → list_all (is_bound s) (names_in_item item) ≡ true → list_all (is_bound s) (names_in_index (index ++ item ∷ [])) ≡ true
+bound-more s [] item all one = all-bound s item [] ∙ ap (λ b. b && true) one
+bound-more s (first ∷ index) item all one =
+    let parts = and_parts (list_all (is_bound s) (names_in_item first)) (list_all (is_bound s) (names_in_index index)) (sym (all-bound s first index) ∙ all) in
+    all-bound s first (index ++ item ∷ []) ∙ λ i. parts.0 i && bound-more s index item parts.1 one i
+
+pub none-bound : (s : State) (index : List (IndexItem (List ℕ))) (k : ℕ) (item : IndexItem (List ℕ)) → k < length index → item ≡ get_or index k item → list_all (is_bound s) (names_in_item item) ≡ false → list_all (is_bound s) (names_in_index index) ≡ false
+none-bound s index k item below is none = here s index k item below (ap (λ (i : IndexItem (List ℕ)). list_all (is_bound s) (names_in_item i)) (sym is) ∙ none)
+  where
+    here : (s : State) (index : List (IndexItem (List ℕ))) (k : ℕ) (d : IndexItem (List ℕ)) → k < length index → list_all (is_bound s) (names_in_item (get_or index k d)) ≡ false → list_all (is_bound s) (names_in_index index) ≡ false
+    here s [] k d below none = absurd (omega arith)
+    here s (item ∷ index) zero d below none = all-bound s item index ∙ ap (λ b. b && list_all (is_bound s) (names_in_index index)) none
+    here s (item ∷ index) (suc k) d below none = all-bound s item index ∙ ap (λ b. list_all (is_bound s) (names_in_item item) && b) (here s index k d (omega arith) none) ∙ and-none (list_all (is_bound s) (names_in_item item))
+
+-- ---- arrays in the place of names
+
+pub array-is : (s : State) (a : Array) (r : ArrayRef) (indices : Indices) → Shows s a r → indices.descr.now ≡ r.descr.now → indices.layout.now ≡ r.layout.now → indices.block.now ≡ r.block.now → array_of indices ≡ by_items s (Some a)
+array-is s a r indices shows descr layout block = λ i. record {
+  descr = (descr ∙ sym shows.descr) i;
+  shape = (ap (λ (l : Layout). l.shape) layout ∙ shows.view.laid.shape) i;
+  numbers = numbers i;
+}
+  where
+    numbers : (array_of indices).numbers ≡ map first_number (read s a)
+    numbers =
+        (λ i. map (λ offset. first_number (item_from (descr i) (block i) offset)) (offsets (layout i)))
+        ∙ sym (map-map first_number (item_from r.descr.now r.block.now) (offsets r.layout.now))
+        ∙ ap (map first_number) (sym shows.reads)
+
+pub next-array : (arrays : List Indices) (x : Indices) → get_or (map array_of (arrays ++ x ∷ [])) (length arrays) no_array ≡ array_of x
+next-array [] x = refl
+next-array (a ∷ arrays) x = next-array arrays x
+
+-- one more array lies in its block
+pub all-lie : (arrays : List Indices) (x : Indices) → All LiesInBlock arrays → LiesInBlock x → All LiesInBlock (arrays ++ x ∷ [])
+all-lie arrays x lie lies = All-append LiesInBlock arrays (x ∷ []) lie (λ k d below. one k d below)
+  where
+    one : (k : ℕ) (d : Indices) → k < 1 → LiesInBlock (get_or (x ∷ []) k d)
+    one zero d below = lies
+    one (suc k) d below = absurd (omega (arith, below))
+
+get_or-more : {A : Type 0} (xs more : List A) (k : ℕ) (d : A) → k < length xs → get_or (xs ++ more) k d ≡ get_or xs k d
+get_or-more [] more k d below = absurd (omega arith)
+get_or-more (x ∷ xs) more zero d below = refl
+get_or-more (x ∷ xs) more (suc k) d below = get_or-more xs more k d (omega arith)
+
+map-more : {A B : Type 0} (f : A → B) (xs more : List A) → map f (xs ++ more) ≡ map f xs ++ map f more
+map-more f [] more = refl
+map-more f (x ∷ xs) more = ap (λ l. f x ∷ l) (map-more f xs more)
+
+length-map' : {A B : Type 0} (f : A → B) (xs : List A) → length (map f xs) ≡ length xs
+length-map' f [] = refl
+length-map' f (x ∷ xs) = ap suc (length-map' f xs)
+
+-- an item names the same array where more stand behind
+with-more : (arrays more : List Indices) (item : IndexItem ℕ) → IsNamed (length arrays) item → with_array (map array_of (arrays ++ more)) item ≡ with_array (map array_of arrays) item
+with-more arrays more (Integer at) named = refl
+with-more arrays more (Slice start stop step) named = refl
+with-more arrays more Ellipsis named = refl
+with-more arrays more NewAxis named = refl
+with-more arrays more (ArrayItem k) named =
+    ap ArrayItem (ap (λ l. get_or l k no_array) (map-more array_of arrays more) ∙ get_or-more (map array_of arrays) (map array_of more) k no_array (subst (λ n. k < n) (sym (length-map' array_of arrays)) named))
+
+pub all-with-more : (arrays more : List Indices) (items : List (IndexItem ℕ)) → All (IsNamed (length arrays)) items → with_arrays (map array_of (arrays ++ more)) items ≡ with_arrays (map array_of arrays) items
+all-with-more arrays more [] named = refl
+all-with-more arrays more (item ∷ items) named = λ i. with-more arrays more item (named 0 item (omega arith)) i ∷ all-with-more arrays more items (λ k d below. named (suc k) d (omega (arith, below))) i
+
+length-more : (arrays more : List Indices) → length arrays ≤ length (arrays ++ more)
+length-more [] more = omega arith
+length-more (a ∷ arrays) more = let rest = length-more arrays more in omega (arith, rest)
+
+named-more : (arrays more : List Indices) (item : IndexItem ℕ) → IsNamed (length arrays) item → IsNamed (length (arrays ++ more)) item
+named-more arrays more (Integer at) named = tt
+named-more arrays more (Slice start stop step) named = tt
+named-more arrays more Ellipsis named = tt
+named-more arrays more NewAxis named = tt
+named-more arrays more (ArrayItem k) named = omega (arith, named, length-more arrays more)
+
+pub all-named-more : (arrays more : List Indices) (items : List (IndexItem ℕ)) → All (IsNamed (length arrays)) items → All (IsNamed (length (arrays ++ more))) items
+all-named-more arrays more items named = λ k d below. named-more arrays more (get_or items k d) (named k d below)
+
+-- one more item, with its array behind the others
+pub item-added : (s : State) (arrays more now : List Indices) (items pushed : List (IndexItem ℕ)) (index : List (IndexItem (List ℕ))) (k : ℕ) (item : IndexItem ℕ) (d : IndexItem (List ℕ)) → now ≡ arrays ++ more → pushed ≡ items ++ item ∷ [] → k < length index →
+    All (IsNamed (length arrays)) items → with_arrays (map array_of arrays) items ≡ map (with_items s) (take k index) → with_array (map array_of now) item ≡ with_items s (get_or index k d) → with_arrays (map array_of now) pushed ≡ map (with_items s) (take (k + 1) index)
+item-added s arrays more now items pushed index k item d grown put below named before is =
+    (λ i. with_arrays (map array_of now) (put i))
+    ∙ map-more (with_array (map array_of now)) items (item ∷ [])
+    ∙ (λ i. ((λ j. with_arrays (map array_of (grown j)) items) ∙ all-with-more arrays more items named ∙ before) i ++ is i ∷ [])
+    ∙ sym (map-more (with_items s) (take k index) (get_or index k d ∷ []))
+    ∙ ap (map (with_items s)) (sym (take_more index k d below))
+
+pub names-added : (arrays more now : List Indices) (items pushed : List (IndexItem ℕ)) (item : IndexItem ℕ) → now ≡ arrays ++ more → pushed ≡ items ++ item ∷ [] → All (IsNamed (length arrays)) items → IsNamed (length now) item → All (IsNamed (length now)) pushed
+names-added arrays more now items pushed item grown put named is =
+    subst (All (IsNamed (length now))) (sym put)
+    (All-append (IsNamed (length now)) items (item ∷ []) (subst (λ (l : List Indices). All (IsNamed (length l)) items) (sym grown) (all-named-more arrays more items named)) (λ k d below. one k d below))
+  where
+    one : (k : ℕ) (d : IndexItem ℕ) → k < 1 → IsNamed (length now) (get_or (item ∷ []) k d)
+    one zero d below = is
+    one (suc k) d below = absurd (omega (arith, below))
+
+-- the names in each item are bound
+pub each-bound : (s : State) (index : List (IndexItem (List ℕ))) (k : ℕ) (d : IndexItem (List ℕ)) → list_all (is_bound s) (names_in_index index) ≡ true → k < length index → list_all (is_bound s) (names_in_item (get_or index k d)) ≡ true
+each-bound s [] k d all below = absurd (omega arith)
+each-bound s (item ∷ index) zero d all below = (and_parts (list_all (is_bound s) (names_in_item item)) (list_all (is_bound s) (names_in_index index)) (sym (all-bound s item index) ∙ all)).0
+each-bound s (item ∷ index) (suc k) d all below = each-bound s index k d (and_parts (list_all (is_bound s) (names_in_item item)) (list_all (is_bound s) (names_in_index index)) (sym (all-bound s item index) ∙ all)).1 (omega arith)
+
+-- ---- where a plan leads
+
+-- the array as a plan of its layout leads
+pub plan-inside : (layout : Layout) (plan : Planned) (view : View) → IsPlanOf layout plan view → All (λ index. rank layout.shape (view.leads index) < length (offsets layout)) (indexes view.shape)
+plan-inside layout plan view is k d below =
+    let found = index_at view.shape k (omega (arith, length-indexes view.shape)) in
+    let here : get_or (indexes view.shape) k d ≡ found.0 = ap (λ r. get_or (indexes view.shape) r d) (sym found.2) ∙ get_or-indexes view.shape found.0 d found.1 in
+    rw here (omega (arith, length-offsets layout, rank-lt layout.shape (view.leads found.0) (is.leads found.0 found.1)))
+
+pub plan-counted : (layout : Layout) (plan : Planned) (view : View) → IsPlanOf layout plan view → length plan.offsets ≡ count plan.shape
+plan-counted layout plan view is = ap length is.places ∙ length-map' (λ index. slice_index (offsets layout) (rank layout.shape (view.leads index))) (indexes view.shape) ∙ length-indexes view.shape ∙ ap count (sym is.shape)
+
+module _ (s : State) (a : Array) (r : ArrayRef) (shows : Shows s a r) (plan : Planned) (view : View) (is : IsPlanOf r.layout.now plan view) where
+  counted : length (offsets r.layout.now) ≡ length a.places
+  counted = ap length shows.view.laid.places ∙ length-map' (λ place. item_size (buffer_of s a).descr * place + start_at (buffer_of s a).descr a.path) a.places
+
+  inside : All (λ index. rank a.shape (view.leads index) < length a.places) (indexes view.shape)
+  inside = λ k d below.
+      let index : List ℕ = get_or (indexes view.shape) k d in
+      let here : rank r.layout.now.shape (view.leads index) < length (offsets r.layout.now) = plan-inside r.layout.now plan view is k d below in
+      subst (λ (n : ℕ). rank a.shape (view.leads index) < n) counted (subst (λ (l : List ℕ). rank l (view.leads index) < length (offsets r.layout.now)) shows.view.laid.shape here)
+
+  pub plan-addresses : plan.offsets ≡ addresses s (viewed a view)
+  plan-addresses =
+      is.places ∙ (λ j. view_through (shows.view.laid.places j) (shows.view.laid.shape j) view.shape view.leads)
+      ∙ offsets-view (item_size (buffer_of s a).descr) (start_at (buffer_of s a).descr a.path) a.places a.shape view.shape view.leads inside
+
+  pub plan-among : All (Contains a.places) (viewed a view).places
+  plan-among = All-map (Contains a.places) (λ index. slice_index a.places (rank a.shape (view.leads index))) (indexes view.shape)
+      (λ k d below. contains a.places (rank a.shape (view.leads (get_or (indexes view.shape) k d))) (inside k d below))
+    where
+      contains : (xs : List ℕ) (k : ℕ) → k < length xs → Contains xs (slice_index xs k)
+      contains xs k below = Contains-get_or xs k 0 below
+
+-- ---- what is gathered
+
+pub given-plan : (layout : Layout) (plan : Planned) (there : Result View Refusal) → GivesPlan layout (Ok plan) there → (view : View) × (there ≡ Ok view) × IsPlanOf layout plan view
+given-plan layout plan (Ok view) is = (view, refl, is)
+given-plan layout plan (Err e) is = absurd is
+
+pub given-no_plan : (layout : Layout) (e : Refusal) (there : Result View Refusal) → GivesPlan layout (Err e) there → (e ≡ OutOfMemory) ⊎ (there ≡ Err e)
+given-no_plan layout e (Ok view) is = is
+given-no_plan layout e (Err e') is = is
+
+pub gathered-bad : (s : State) (a : Array) (index : List (IndexItem (List ℕ))) (e : Refusal) → indexed a.shape (map (with_items s) index) ≡ Err e → gathered s a index ≡ Err e
+unfolding gathered
+gathered-bad s a index e bad = rw bad refl
+
+pub gathered-large : (s : State) (a : Array) (index : List (IndexItem (List ℕ))) (view : View) → indexed a.shape (map (with_items s) index) ≡ Ok view → nat_le (count view.shape * item_size (descr_of s a)) max_bytes ≡ false → gathered s a index ≡ Err TooLarge
+unfolding gathered
+gathered-large s a index view good large = rw (good, large) refl
+
+pub gathered-done : (s : State) (a : Array) (index : List (IndexItem (List ℕ))) (view : View) → indexed a.shape (map (with_items s) index) ≡ Ok view → nat_le (count view.shape * item_size (descr_of s a)) max_bytes ≡ true → gathered s a index ≡ Ok view
+unfolding gathered
+gathered-done s a index view good small = rw (good, small) refl
+
+-- a plan of at most 2^28 bytes, and one of more
+module _ (s : State) (a : Array) (r : ArrayRef) (shows : Shows s a r) (index : List (IndexItem (List ℕ))) (items : List (IndexItem IndexArray)) (items-are : items ≡ map (with_items s) index) where
+  there-is : {X : Result View Refusal} → indexed r.layout.now.shape items ≡ X → indexed a.shape (map (with_items s) index) ≡ X
+  there-is is = (λ i. indexed (sym shows.view.laid.shape i) (sym items-are i)) ∙ is
+
+  pub gathers : (plan : Planned) → GivesPlan r.layout.now (Ok plan) (indexed r.layout.now.shape items) → length plan.offsets * item_size r.descr.now ≤ max_bytes → GivesPlan r.layout.now (Ok plan) (gathered s a index)
+  gathers plan gives few =
+      let given = given-plan r.layout.now plan (indexed r.layout.now.shape items) gives in
+      let counted : length plan.offsets ≡ count given.0.shape = plan-counted r.layout.now plan given.0 given.2 ∙ ap count given.2.shape in
+      let small : count given.0.shape * item_size (descr_of s a) ≤ max_bytes = subst (λ n. n ≤ max_bytes) (λ i. counted i * item_size (sym shows.descr i)) few in
+      subst (GivesPlan r.layout.now (Ok plan)) (sym (gathered-done s a index given.0 (there-is given.1) (le-leb (count given.0.shape * item_size (descr_of s a)) max_bytes small))) given.2
+
+  pub refuses : (e : Refusal) → GivesPlan r.layout.now (Err e) (indexed r.layout.now.shape items) → GivesPlan r.layout.now (Err e) (gathered s a index)
+  refuses e gives =
+      elim (given-no_plan r.layout.now e (indexed r.layout.now.shape items) gives) as (λ _. GivesPlan r.layout.now (Err e) (gathered s a index)) [
+        | inl lacks ↦ no_plan (gathered s a index) (inl lacks)
+        | inr bad ↦ no_plan (gathered s a index) (inr (gathered-bad s a index e (there-is bad)))
+      ]
+    where
+      no_plan : (there : Result View Refusal) → (e ≡ OutOfMemory) ⊎ (there ≡ Err e) → GivesPlan r.layout.now (Err e) there
+      no_plan there is = is
+
+  pub too-large : (plan : Planned) → GivesPlan r.layout.now (Ok plan) (indexed r.layout.now.shape items) → max_bytes < length plan.offsets * item_size r.descr.now → gathered s a index ≡ Err TooLarge
+  too-large plan gives many =
+      let given = given-plan r.layout.now plan (indexed r.layout.now.shape items) gives in
+      let counted : length plan.offsets ≡ count given.0.shape = plan-counted r.layout.now plan given.0 given.2 ∙ ap count given.2.shape in
+      let large : max_bytes < count given.0.shape * item_size (descr_of s a) = subst (λ n. max_bytes < n) (λ i. counted i * item_size (sym shows.descr i)) many in
+      gathered-large s a index given.0 (there-is given.1) (lt-leb (count given.0.shape * item_size (descr_of s a)) max_bytes large)

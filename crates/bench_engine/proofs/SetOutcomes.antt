@@ -1,0 +1,55 @@
+-- The exits of `set X[ix] = Z`.
+use Rattle.std.proofs.Common.{◌≡◌, ◌⊎◌, ◌++◌, ◌∷◌, ◌&&◌, ℕ, Bool, true, false, List, Option, Some, None, codes, decimal, refl, sym, ap, ◌∙◌, Result, Ok, Err, inl, inr}
+use Rattle.std.specs.List.{list_all}
+use Rattle.std.proofs.lemmas.List.Folds.{list_all-append}
+use Rattle.elem_descr.specs.declared.refusal.Refusal.{Refusal}
+use Rattle.elem_descr.specs.declared.refusal.Refusal.TheVariants.{UnknownName, OutOfMemory}
+use Rattle.elem_descr.specs.declared.descr.Descr.{Descr}
+use Rattle.elem_descr.specs.Values.{LeafValue}
+use Rattle.shape_strides.specs.declared.index_item.IndexItem.{IndexItem}
+use Rattle.shape_strides.specs.Indexes.{count}
+use Rattle.script_lang.specs.declared.command.Argument.{Argument}
+use Rattle.name_store.specs.States.{State, Array}
+use Rattle.name_store.specs.Arrays.{find_array, is_bound, descr_of, written}
+use Rattle.name_store.specs.declared.target.Target.{Target}
+use Rattle.bench_engine.specs.IndexLists.{names_in_index}
+use Rattle.bench_engine.specs.Machine.{target_part, argument_items, names_in_argument, set_outcome, comes_to}
+use Rattle.bench_engine.specs.declared.given.Given.{Given}
+use Rattle.bench_engine.specs.inside.Assigns.{IsTarget, GivesTarget, AreFor, given_items, GivesItems}
+
+module _ (s : State) (name : List ℕ) (index : List (IndexItem (List ℕ))) (value : Argument) where
+  pub set-unknown : find_array s.names name ≡ None → set_outcome s name index value ≡ Err UnknownName
+  unfolding set_outcome
+  set-unknown none = rw none refl
+
+  pub set-unbound : (a : Array) → find_array s.names name ≡ Some a → list_all (is_bound s) (names_in_index index ++ names_in_argument value) ≡ false → set_outcome s name index value ≡ Err UnknownName
+  unfolding set_outcome
+  set-unbound a is none = rw (is, none) refl
+
+  pub set-target : (a : Array) (e : Refusal) → find_array s.names name ≡ Some a → list_all (is_bound s) (names_in_index index ++ names_in_argument value) ≡ true → target_part s a index ≡ Err e → set_outcome s name index value ≡ Err e
+  unfolding set_outcome
+  set-target a e is named bad = rw (is, named, bad) refl
+
+  pub set-items : (a part : Array) (e : Refusal) → find_array s.names name ≡ Some a → list_all (is_bound s) (names_in_index index ++ names_in_argument value) ≡ true → target_part s a index ≡ Ok part → argument_items s value (descr_of s a) part.shape ≡ Err e →
+      set_outcome s name index value ≡ Err e
+  unfolding set_outcome
+  set-items a part e is named good bad = rw (is, named, good, bad) refl
+
+  pub set-done : (a part : Array) (items : List (List LeafValue)) → find_array s.names name ≡ Some a → list_all (is_bound s) (names_in_index index ++ names_in_argument value) ≡ true → target_part s a index ≡ Ok part → argument_items s value (descr_of s a) part.shape ≡ Ok items →
+      set_outcome s name index value ≡ comes_to (written s a part.places items) (codes "ok set " ++ decimal (count part.shape))
+  unfolding set_outcome
+  set-done a part items is named good given = rw (is, named, good, given) refl
+
+  pub both-bound : (first second : Bool) → list_all (is_bound s) (names_in_index index) ≡ first → list_all (is_bound s) (names_in_argument value) ≡ second → list_all (is_bound s) (names_in_index index ++ names_in_argument value) ≡ (first && second)
+  both-bound first second left right = list_all-append (is_bound s) (names_in_index index) (names_in_argument value) ∙ λ i. left i && right i
+
+  pub all-bound : (a : Array) → find_array s.names name ≡ Some a → list_all (is_bound s) (names_in_index index) ≡ true → list_all (is_bound s) (names_in_argument value) ≡ true → list_all (is_bound s) (name ∷ names_in_index index ++ names_in_argument value) ≡ true
+  all-bound a is left right = rw (is, both-bound true true left right) refl
+
+pub given-target : (s : State) (name : List ℕ) (a : Array) (t : Target) (there : Result Array Refusal) → GivesTarget s name a (Ok t) there → (part : Array) × (there ≡ Ok part) × IsTarget s name a part t
+given-target s name a t (Ok part) is = (part, refl, is)
+given-target s name a t (Err e) is = absurd is
+
+pub given-given : (s : State) (descr : Descr) (n : ℕ) (g : Given) (there : Result (List (List LeafValue)) Refusal) → GivesItems s descr n (Ok g) there → (items : List (List LeafValue)) × (there ≡ Ok items) × AreFor s descr n g × (given_items s descr n g ≡ items)
+given-given s descr n g (Ok items) is = (items, refl, is.0, is.1)
+given-given s descr n g (Err e) is = absurd is

@@ -1,0 +1,208 @@
+-- What an index list takes of an array, to be read or to be written.
+use Rattle.std.proofs.Common.{Some, get_or, slice_index, ◌≡◌, ◌⊎◌, ◌≤◌, ◌+◌, ◌*◌, ℕ, Bool, true, false, List, length, map, refl, sym, ap, ◌∙◌, subst, All, Result, Ok, Err, IfOk, inl, inr, arith}
+use Rattle.std.specs.List.{list_all}
+use Rattle.std.proofs.lemmas.List.Elements.{All-map}
+use Rattle.std.proofs.lemmas.Simd.{map-map}
+use Rattle.elem_descr.specs.declared.refusal.Refusal.{Refusal}
+use Rattle.elem_descr.specs.declared.refusal.Refusal.TheVariants.{OutOfMemory, ReadOnly}
+use Rattle.elem_descr.specs.declared.descr.Descr.{Descr}
+use Rattle.elem_descr.specs.Blocks.{item_from}
+use Rattle.elem_descr.specs.Items.{item_size, decode_item}
+use Rattle.raw_block.specs.Bytes.{item_at}
+use Rattle.shape_strides.specs.declared.index_item.IndexItem.{IndexItem}
+use Rattle.shape_strides.specs.declared.layout.Layout.{Layout}
+use Rattle.shape_strides.specs.IndexItems.{is_basic}
+use Rattle.shape_strides.specs.Indexes.{count, indexes, rank}
+use Rattle.shape_strides.specs.LayoutLaws.{length-offsets}
+use Rattle.shape_strides.specs.declared.memory_order.MemoryOrder.TheVariants.{C}
+use Rattle.shape_strides.specs.Layouts.{offsets, multiples, IsNested}
+use Rattle.overlap_copy.specs.Blocks.{offsets_in}
+use Rattle.shape_strides.specs.Limits.{max_bytes}
+use Rattle.view_ops.specs.Views.{View, view_through, IsViewOf, GivesView, KeepsNested}
+use Rattle.view_ops.specs.Basics.{basic}
+use Rattle.overlap_copy.specs.declared.owned.Owned.{Owned}
+use Rattle.overlap_copy.specs.Assignments.{items_at}
+use Rattle.fancy_index.specs.Plans.{Planned, IsPlanOf, GivesPlan}
+use Rattle.name_store.specs.States.{State, Array}
+use Rattle.name_store.specs.Arrays.{find_array, buffer_of, descr_of, read}
+use Rattle.name_store.specs.Shown.{Shows}
+use Rattle.name_store.specs.Targets.{LeadsTo, MayWrite, target_offsets, target_shape}
+use Rattle.name_store.specs.declared.array_ref.ArrayRef.{ArrayRef}
+use Rattle.name_store.specs.declared.target.Target.{Target}
+use Rattle.name_store.specs.declared.target.Target.TheVariants as target
+use Rattle.bench_engine.specs.IndexLists.{taken, gathered}
+use Rattle.bench_engine.specs.Machine.{viewed, target_part}
+use Rattle.bench_engine.specs.declared.taken.Taken.TheVariants as took
+use Rattle.bench_engine.specs.inside.Assigns.{Holds, GivesTaken, LiesIn, LiesApart, IsAimed, GivesAim, IsTarget, GivesTarget}
+use Rattle.bench_engine.specs.inside.OwnContents.{IsInCOrder}
+use Rattle.bench_engine.proofs.Assigns.{lies-whole, lies-viewed}
+use Rattle.bench_engine.proofs.IndexLaws.{given-plan, given-no_plan, plan-counted, plan-inside, plan-addresses, plan-among}
+use Rattle.bench_engine.proofs.Sets.{items-at, part-inside, target-few}
+use Rattle.bench_engine.proofs.Views.{given-view, given-refusal}
+
+-- the items of a block are decoded from their bytes
+pub items-from : (d : Descr) (block os : List ℕ) → map (decode_item d) (items_at os (item_size d) block) ≡ map (item_from d block) os
+items-from d block os = map-map (decode_item d) (λ offset. item_at offset (item_size d) block) os
+
+-- what is gathered one after another are the items of the block at the offsets
+pub gathered-items : (d : Descr) (block : List ℕ) (plan : Planned) (items : List ℕ) {E : Type 0} (result : Result Owned E) (width : ℕ) → width ≡ item_size d → length plan.offsets ≡ count plan.shape → items_at (multiples width (length plan.offsets)) width items ≡ items_at plan.offsets width block →
+    IfOk result (λ o. o.descr ≡ d) → IfOk result (λ o. offsets o.layout ≡ offsets_in C (item_size d) plan.shape) → IfOk result (λ o. o.block ≡ items) → IfOk result (λ o. map (item_from o.descr o.block) (offsets o.layout) ≡ map (item_from d block) plan.offsets)
+gathered-items d block plan items (Err e) width sized counted same typed laid is = tt
+gathered-items d block plan items (Ok o) width sized counted same typed laid is =
+    (λ i. map (item_from (typed i) (is i)) (laid i))
+    ∙ sym (items-from d items (multiples (item_size d) (count plan.shape)))
+    ∙ (λ i. map (decode_item d) (items_at (multiples (sym sized i) (sym counted i)) (sym sized i) items))
+    ∙ ap (map (decode_item d)) same
+    ∙ (λ i. map (decode_item d) (items_at plan.offsets (sized i) block))
+    ∙ items-from d block plan.offsets
+
+pub taken-plain : (s : State) (a : Array) (index : List (IndexItem (List ℕ))) → list_all is_basic index ≡ true → taken s a index ≡ basic a.shape index
+taken-plain s a index plain = rw plain refl
+
+pub taken-arrays : (s : State) (a : Array) (index : List (IndexItem (List ℕ))) → list_all is_basic index ≡ false → taken s a index ≡ gathered s a index
+taken-arrays s a index arrays = rw arrays refl
+
+module _ (s : State) (a : Array) (r : ArrayRef) (shows : Shows s a r) (index : List (IndexItem (List ℕ))) where
+  plain-view : (l : Layout) → list_all is_basic index ≡ true → GivesView r.layout.now (Ok l) (basic r.layout.now.shape index) → (view : View) × (taken s a index ≡ Ok view) × IsViewOf r.layout.now l view
+  plain-view l plain gives =
+      let view = given-view r.layout.now l (basic r.layout.now.shape index) gives in
+      (view.0, taken-plain s a index plain ∙ (λ i. basic (sym shows.view.laid.shape i) index) ∙ view.1, view.2)
+
+  pub plain-refused : (e : Refusal) → list_all is_basic index ≡ true → GivesView r.layout.now (Err e) (basic r.layout.now.shape index) → (e ≡ OutOfMemory) ⊎ (taken s a index ≡ Err e)
+  plain-refused e plain gives =
+      elim (given-refusal r.layout.now e (basic r.layout.now.shape index) gives) as (λ _. (e ≡ OutOfMemory) ⊎ (taken s a index ≡ Err e)) [
+        | inl lacks ↦ inl lacks
+        | inr bad ↦ inr (taken-plain s a index plain ∙ (λ i. basic (sym shows.view.laid.shape i) index) ∙ bad)
+      ]
+
+  plan-view : (plan : Planned) → list_all is_basic index ≡ false → GivesPlan r.layout.now (Ok plan) (gathered s a index) → (view : View) × (taken s a index ≡ Ok view) × IsPlanOf r.layout.now plan view
+  plan-view plan arrays gives =
+      let view = given-plan r.layout.now plan (gathered s a index) gives in
+      (view.0, taken-arrays s a index arrays ∙ view.1, view.2)
+
+  pub plan-refused : (e : Refusal) → list_all is_basic index ≡ false → GivesPlan r.layout.now (Err e) (gathered s a index) → (e ≡ OutOfMemory) ⊎ (taken s a index ≡ Err e)
+  plan-refused e arrays gives =
+      elim (given-no_plan r.layout.now e (gathered s a index) gives) as (λ _. (e ≡ OutOfMemory) ⊎ (taken s a index ≡ Err e)) [
+        | inl lacks ↦ inl lacks
+        | inr bad ↦ inr (taken-arrays s a index arrays ∙ bad)
+      ]
+
+  -- ---- read
+
+  pub takes-view : (l : Layout) → list_all is_basic index ≡ true → GivesView r.layout.now (Ok l) (basic r.layout.now.shape index) → KeepsNested r.layout.now l → GivesTaken s a r (list_all is_basic index) (Ok (took.View l)) (taken s a index)
+  takes-view l plain gives kept =
+      let view = plain-view l plain gives in
+      subst (GivesTaken s a r (list_all is_basic index) (Ok (took.View l))) (sym view.1) (plain, view.2, kept)
+
+  pub plan-read : (plan : Planned) (view : View) → IsPlanOf r.layout.now plan view → map (item_from r.descr.now r.block.now) plan.offsets ≡ read s (viewed a view)
+  plan-read plan view is =
+      ap (map (item_from r.descr.now r.block.now)) (plan-addresses s a r shows plan view is)
+      ∙ sym (items-at s a r (viewed a view).places shows (plan-among s a r shows plan view is))
+
+  pub takes-copy : (plan : Planned) (o : Owned) → list_all is_basic index ≡ false → GivesPlan r.layout.now (Ok plan) (gathered s a index) → o.descr ≡ r.descr.now → o.layout.shape ≡ plan.shape → IsInCOrder o →
+      map (item_from o.descr o.block) (offsets o.layout) ≡ map (item_from r.descr.now r.block.now) plan.offsets → GivesTaken s a r (list_all is_basic index) (Ok (took.Copy o)) (taken s a index)
+  takes-copy plan o arrays gives typed shaped order items =
+      let view = plan-view plan arrays gives in
+      subst (GivesTaken s a r (list_all is_basic index) (Ok (took.Copy o))) (sym view.1) (arrays, record {
+        descr = typed ∙ sym shows.descr;
+        shape = shaped ∙ view.2.shape;
+        order = order;
+        items = items ∙ plan-read plan view.0 view.2;
+      })
+
+  -- the items to which a plan leads lie in the block
+  pub plan-within : (plan : Planned) → GivesPlan r.layout.now (Ok plan) (gathered s a index) → All (λ offset. offset + item_size r.descr.now ≤ length r.block.now) plan.offsets
+  plan-within plan gives =
+      let view = given-plan r.layout.now plan (gathered s a index) gives in
+      subst (All (λ offset. offset + item_size r.descr.now ≤ length r.block.now)) (sym view.2.places) (through view.0 view.2)
+    where
+      through : (view : View) → IsPlanOf r.layout.now plan view → All (λ offset. offset + item_size r.descr.now ≤ length r.block.now) (view_through (offsets r.layout.now) r.layout.now.shape view.shape view.leads)
+      through view is = All-map (λ offset. offset + item_size r.descr.now ≤ length r.block.now) (λ index. slice_index (offsets r.layout.now) (rank r.layout.now.shape (view.leads index))) (indexes view.shape)
+          (λ k d below. shows.inside (rank r.layout.now.shape (view.leads (get_or (indexes view.shape) k d))) 0 (plan-inside r.layout.now plan view is k d below))
+
+  pub plan-count : (plan : Planned) → GivesPlan r.layout.now (Ok plan) (gathered s a index) → length plan.offsets ≡ count plan.shape
+  plan-count plan gives =
+      let view = given-plan r.layout.now plan (gathered s a index) gives in
+      plan-counted r.layout.now plan view.0 view.2
+
+  -- ---- written
+
+  pub aims-view : (l : Layout) → list_all is_basic index ≡ true → GivesView r.layout.now (Ok l) (basic r.layout.now.shape index) → KeepsNested r.layout.now l → GivesAim s a r (Ok (target.View l)) (taken s a index)
+  aims-view l plain gives kept =
+      let view = plain-view l plain gives in
+      let lies = lies-viewed s a a r.layout.now l view.0 (lies-whole s a r shows) view.2 in
+      subst (GivesAim s a r (Ok (target.View l))) (sym view.1) (record {
+        places = lies.places;
+        part_is = lies.part_is ∙ ap (λ shape. record a { shape = shape; places = lies.places }) (sym lies.shape_is);
+        counted = length-offsets l;
+        offsets_are = lies.offsets_are;
+        among = lies.among;
+        apart = (lies.fits, kept);
+      })
+
+  pub aims-plan : (plan : Planned) → list_all is_basic index ≡ false → GivesPlan r.layout.now (Ok plan) (gathered s a index) → length plan.offsets * item_size r.descr.now ≤ max_bytes → GivesAim s a r (Ok (target.Plan plan)) (taken s a index)
+  aims-plan plan arrays gives few =
+      let view = plan-view plan arrays gives in
+      subst (GivesAim s a r (Ok (target.Plan plan))) (sym view.1) (record {
+        places = (viewed a view.0).places;
+        part_is = ap (λ shape. record a { shape = shape; places = (viewed a view.0).places }) (sym view.2.shape);
+        counted = plan-counted r.layout.now plan view.0 view.2;
+        offsets_are = plan-addresses s a r shows plan view.0 view.2;
+        among = plan-among s a r shows plan view.0 view.2;
+        apart = subst (λ (d : Descr). length plan.offsets * item_size d ≤ max_bytes) (sym shows.descr) few;
+      })
+
+  given-aim : (t : Target) (there : Result View Refusal) → GivesAim s a r (Ok t) there → (view : View) × (there ≡ Ok view) × IsAimed s a (viewed a view) r t
+  given-aim t (Ok view) is = (view, refl, is)
+  given-aim t (Err e) is = absurd is
+
+  pub given-no_aim : (e : Refusal) (there : Result View Refusal) → GivesAim s a r (Err e) there → (e ≡ OutOfMemory) ⊎ (there ≡ Err e)
+  given-no_aim e there is = is
+
+  target-bad : (e : Refusal) → taken s a index ≡ Err e → target_part s a index ≡ Err e
+  unfolding target_part
+  target-bad e bad = rw bad refl
+
+  target-fixed : (view : View) → taken s a index ≡ Ok view → a.writable ≡ false → target_part s a index ≡ Err ReadOnly
+  unfolding target_part
+  target-fixed view good fixed = rw (good, fixed) refl
+
+  target-done : (view : View) → taken s a index ≡ Ok view → a.writable ≡ true → target_part s a index ≡ Ok (viewed a view)
+  unfolding target_part
+  target-done view good free = rw (good, free) refl
+
+  pub refused-target : (e : Refusal) → GivesAim s a r (Err e) (taken s a index) → (e ≡ OutOfMemory) ⊎ (target_part s a index ≡ Err e)
+  refused-target e gives =
+      elim (given-no_aim e (taken s a index) gives) as (λ _. (e ≡ OutOfMemory) ⊎ (target_part s a index ≡ Err e)) [
+        | inl lacks ↦ inl lacks
+        | inr bad ↦ inr (target-bad e bad)
+      ]
+
+  pub fixed-target : (t : Target) → GivesAim s a r (Ok t) (taken s a index) → r.writable ≡ false → target_part s a index ≡ Err ReadOnly
+  fixed-target t gives fixed =
+      let aim = given-aim t (taken s a index) gives in
+      target-fixed aim.0 aim.1 (sym shows.view.laid.writable_is ∙ fixed)
+
+  may-write : (t : Target) (part : Array) → IsAimed s a part r t → r.writable ≡ true → MayWrite s a t
+  may-write (target.View l) part aim free = (aim.apart.0, subst (λ (d : Descr). IsNested (offsets l) (item_size d)) (sym shows.descr)
+      (aim.apart.1 _ (subst (λ (d : Descr). IsNested (offsets r.layout.now) (item_size d)) shows.descr (shows.view.laid.nested free))))
+  may-write (target.Plan plan) part aim free = aim.apart
+
+  few-items : (t : Target) (part : Array) → 1 ≤ item_size r.descr.now → IsAimed s a part r t → r.writable ≡ true → length (target_offsets t) * item_size (descr_of s a) ≤ max_bytes
+  few-items (target.Plan plan) part some aim free = aim.apart
+  few-items (target.View l) part some aim free =
+      let nested : IsNested (offsets l) (item_size r.descr.now) = subst (λ (d : Descr). IsNested (offsets l) (item_size d)) shows.descr (may-write (target.View l) part aim free).1 in
+      let lies : LiesIn s a part l = record { places = aim.places; shape = l.shape; part_is = aim.part_is; shape_is = refl; offsets_are = aim.offsets_are; among = aim.among; fits = aim.apart.0 } in
+      subst (λ n. n ≤ max_bytes) (λ i. sym (length-offsets l) i * item_size (sym shows.descr i)) (target-few s a part r l shows lies some nested)
+
+  pub given-target : (name : List ℕ) (t : Target) → 1 ≤ item_size r.descr.now → find_array s.names name ≡ Some a → GivesAim s a r (Ok t) (taken s a index) → r.writable ≡ true → GivesTarget s name a (Ok t) (target_part s a index)
+  given-target name t some found gives free =
+      let aim = given-aim t (taken s a index) gives in
+      subst (GivesTarget s name a (Ok t)) (sym (target-done aim.0 aim.1 (sym shows.view.laid.writable_is ∙ free))) (record {
+        places = aim.2.places;
+        part_is = aim.2.part_is;
+        counted = aim.2.counted;
+        leads = record { found = found; writable = sym shows.view.laid.writable_is ∙ free; offsets_are = aim.2.offsets_are; among = aim.2.among };
+        may_write = may-write t (viewed a aim.0) aim.2 free;
+        few = few-items t (viewed a aim.0) some aim.2 free;
+      })

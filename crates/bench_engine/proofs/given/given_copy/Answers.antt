@@ -1,0 +1,32 @@
+use Rattle.std.proofs.Common.{sym, ap, ◌∙◌, ◌≡◌, refl, inl, inr, map, subst}
+use Rattle.std.proofs.lemmas.Result.{err_from_is_err_and}
+use Rattle.shape_strides.specs.Layouts.{offsets}
+use Rattle.elem_descr.specs.declared.descr.Descr.{Descr}
+use Rattle.elem_descr.specs.Blocks.{item_from}
+use Rattle.elem_descr.specs.Items.{item_size}
+use Rattle.shape_strides.specs.LayoutLaws.{offsets_within}
+use Rattle.bench_engine.proofs.GivenLaws.{stretches, wide-shape, wide-inside, cast-lacks}
+use Rattle.bench_engine.proofs.given.given_copy.Goals as goal
+
+pub returns-then-not-can_cast : goal.returns-then-not-can_cast
+returns-then-not-can_cast c name = inr (inr (refl, c.in_ok-wide.wide, stretches c.args.copy.now.layout c.in_ok-wide.wide c.args.shape.now c.in_ok-wide.ensures, sym c.if-not-can_cast.ensures))
+
+pub cast-requires : goal.cast-requires
+cast-requires c = record { inside = wide-inside c.args.copy.now.block (item_size c.args.copy.now.descr) c.args.copy.now.layout c.in_ok-wide.wide c.args.shape.now c.in_ok-wide.ensures (offsets_within c.args.copy.now.layout _ _ c.args.copy.now.fills_block.fits) }
+
+pub returns-in_err-owned : goal.returns-in_err-owned
+returns-in_err-owned c name =
+    let p = err_from_is_err_and c.from_residual-in_err-owned.result c.from_residual-in_err-owned.ensures.1 in
+    rw (p.1, p.2) (inl (cast-lacks _ c.args.shape.now c.in_ok-wide.wide.shape (item_size c.args.descr.now) _ (sym c.if-not-can_cast.ensures) (wide-shape c.args.copy.now.layout c.in_ok-wide.wide c.args.shape.now c.in_ok-wide.ensures)
+    c.requires.few c.in_err-owned.ensures.refused))
+
+pub returns : goal.returns
+returns c name =
+    let e = c.in_ok-owned.ensures in (
+      c.in_ok-wide.wide,
+      stretches c.args.copy.now.layout c.in_ok-wide.wide c.args.shape.now c.in_ok-wide.ensures,
+      sym c.if-not-can_cast.ensures,
+      e.descr,
+      e.shape ∙ wide-shape c.args.copy.now.layout c.in_ok-wide.wide c.args.shape.now c.in_ok-wide.ensures,
+      ap (λ (d : Descr). map (item_from d c.in_ok-owned.owned.block) (offsets c.in_ok-owned.owned.layout)) e.descr ∙ e.items,
+    )

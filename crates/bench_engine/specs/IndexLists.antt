@@ -1,0 +1,52 @@
+-- What an index list takes of an array of a state, where the names in it stand for arrays of the state.
+use Rattle.std.specs.Prelude.{ℕ, ◌*◌, if◌then◌else◌, List, [], ◌∷◌, map, Option, Some, None, Result, Ok, Err, nat_le}
+use Rattle.std.specs.List.{list_all, flat_map}
+use Rattle.elem_descr.specs.declared.refusal.Refusal.{Refusal}
+use Rattle.elem_descr.specs.declared.refusal.Refusal.TheVariants.{TooLarge}
+use Rattle.elem_descr.specs.Refusals.{◌>>=◌, check}
+use Rattle.elem_descr.specs.Items.{item_size}
+use Rattle.shape_strides.specs.declared.index_item.IndexItem.{IndexItem}
+use Rattle.shape_strides.specs.declared.index_item.IndexItem.TheVariants.{Integer, Slice, Ellipsis, NewAxis, Array}
+use Rattle.shape_strides.specs.IndexItems.{is_basic}
+use Rattle.shape_strides.specs.Limits.{max_bytes}
+use Rattle.shape_strides.specs.Indexes.{count}
+use Rattle.view_ops.specs.Views.{View}
+use Rattle.view_ops.specs.Basics.{basic}
+use Rattle.fancy_index.specs.IndexArrays.{IndexArray, no_array}
+use Rattle.fancy_index.specs.Indexed.{indexed}
+use Rattle.fancy_index.specs.Sources.{first_number}
+use Rattle.name_store.specs.States.{State}
+use Rattle.name_store.specs.States as states
+use Rattle.name_store.specs.Arrays.{find_array, descr_of, read}
+
+-- the names in an index list
+abbrev pub names_in_item : IndexItem (List ℕ) → List (List ℕ)
+names_in_item (Array name) = name ∷ []
+names_in_item item = []
+
+abbrev pub names_in_index : List (IndexItem (List ℕ)) → List (List ℕ)
+names_in_index index = flat_map names_in_item index
+
+-- the array that a name stands for, by its items
+abbrev pub by_items : State → Option states.Array → IndexArray
+by_items s None = no_array
+by_items s (Some array) = record { descr = descr_of s array; shape = array.shape; numbers = map first_number (read s array) }
+
+-- an item with the array in the place of its name
+abbrev pub with_items : State → IndexItem (List ℕ) → IndexItem IndexArray
+with_items s (Integer at) = Integer at
+with_items s (Slice start stop step) = Slice start stop step
+with_items s Ellipsis = Ellipsis
+with_items s NewAxis = NewAxis
+with_items s (Array name) = Array (by_items s (find_array s.names name))
+
+-- those that arrays lead to, of at most 2^28 bytes
+unfoldable pub gathered : State → states.Array → List (IndexItem (List ℕ)) → Result View Refusal
+gathered s array index = do
+  view ← indexed array.shape (map (with_items s) index)
+  _ ← check (nat_le (count view.shape * item_size (descr_of s array)) max_bytes) TooLarge
+  Ok view
+
+-- the items that an index list takes of an array
+abbrev pub taken : State → states.Array → List (IndexItem (List ℕ)) → Result View Refusal
+taken s array index = if list_all is_basic index then basic array.shape index else gathered s array index

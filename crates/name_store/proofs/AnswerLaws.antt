@@ -1,0 +1,105 @@
+-- What a write to any target answers, and what it needs of its source.
+use Rattle.std.proofs.Common.{◌≡◌, ◌+◌, ◌≤◌, ℕ, List, length, map, replicate, refl, sym, ap, subst, ◌∙◌, Some, Bor, All, Ok}
+use Rattle.std.specs.List.{AllByRecursion}
+use Rattle.elem_descr.specs.Items.{decode_item}
+use Rattle.shape_strides.specs.declared.layout.Layout.{Layout}
+use Rattle.shape_strides.specs.LayoutLaws.{offsets_within}
+use Rattle.shape_strides.specs.Layouts.{offsets, Fits}
+use Rattle.overlap_copy.specs.declared.owned.Owned.{Owned}
+use Rattle.overlap_copy.specs.Assignments.{items_at, with_items, assigned}
+use Rattle.fancy_index.specs.Plans.{put_each}
+use Rattle.name_store.specs.States.{State, Array}
+use Rattle.name_store.specs.Arrays.{find_array, descr_of, written}
+use Rattle.name_store.specs.Calls.{AnswersWrite}
+use Rattle.name_store.specs.Invariants.{Holds}
+use Rattle.name_store.specs.Targets.{IsAim, IsFor, target_offsets, source_items, items_of}
+use Rattle.name_store.specs.inside.Homes.{IsHome, HasNew}
+use Rattle.name_store.specs.View.{named_array, slot_at, state_of}
+use Rattle.name_store.specs.declared.entry.Entry.{Entry}
+use Rattle.name_store.specs.declared.entry.Key.{Key}
+use Rattle.name_store.specs.declared.slot.Slot.{Slot}
+use Rattle.name_store.specs.declared.target.Source.{Source}
+use Rattle.name_store.specs.declared.target.Source.TheVariants.{One, Block, Name}
+use Rattle.name_store.specs.declared.target.Target.{Target}
+use Rattle.name_store.proofs.LaidLaws.{offsets-within}
+use Rattle.name_store.proofs.SourceLaws.{put_each-items, all-replicated, map-replicated, items-whole, alike-items}
+use Rattle.name_store.proofs.StateLaws.{Slots}
+use Rattle.name_store.proofs.WriteLaws.{some-same, size-is, home-fits, home-reads, written-state}
+
+module _ (es : List (Key × Entry)) (slots : Slots) (name : List ℕ) (number width : ℕ) (home : IsHome es slots name number width) (target : Target) where
+  abbrev state : State
+  state = state_of es slots
+
+  abbrev s : Slot
+  s = home.slot
+
+  abbrev places : List ℕ
+  places = target_offsets target
+
+  module _ (source : Source) (aim : IsAim state name target source) where
+    source-for : (array : Array) → find_array (map named_array es) name ≡ Some array → IsFor state (descr_of state array) (length places) source
+    source-for array found = subst (λ (a : Array). IsFor state (descr_of state a) (length places) source) (some-same aim.array array (sym aim.leads.found ∙ found)) aim.source_for
+
+    answers : (h : Holds es slots) (bytes : List ℕ) (after : Slots) → HasNew slots number s bytes after → (parts : List (List ℕ)) → AllByRecursion (λ part. length part ≡ width) parts → bytes ≡ with_items places parts s.block → (n : ℕ) → n ≡ length places →
+        ((array : Array) → find_array (map named_array es) name ≡ Some array → map (decode_item (descr_of state array)) parts ≡ source_items state (descr_of state array) n source) → AnswersWrite state name target source (Ok n) (state_of es after)
+    answers h bytes after new parts whole put-is n counted items-are = (
+      counted,
+      λ array at leads.
+          written-state es slots name number width home h bytes after new target array at leads parts whole put-is
+          ∙ ap (written state array at) (items-are array leads.found),
+    )
+
+  -- one item
+  module _ (item : Bor (List ℕ)) (aim : IsAim state name target (One item)) where
+    pub one-size : length item.now ≡ width
+    one-size = aim.source_for ∙ size-is es slots name number width home aim.array aim.leads.found
+
+    pub one-answers : (h : Holds es slots) (after : Slots) → HasNew slots number s (put_each places item.now s.block) after → (n : ℕ) → n ≡ length places → AnswersWrite state name target (One item) (Ok n) (state_of es after)
+    one-answers h after new n counted =
+        answers (One item) aim h (put_each places item.now s.block) after new (replicate (length places) item.now)
+        (all-replicated (λ part. length part ≡ width) (length places) item.now one-size) (put_each-items places item.now s.block) n counted
+        (λ array found. map-replicated (decode_item (descr_of state array)) (length places) item.now ∙ ap (λ m. replicate m (decode_item (descr_of state array) item.now)) (sym counted))
+
+  -- the items of a block
+  module _ (owned : Bor Owned) (aim : IsAim state name target (Block owned)) where
+    pub block-fits : Fits owned.now.layout (length owned.now.block) width
+    block-fits = subst (Fits owned.now.layout (length owned.now.block)) (aim.source_for.alike.size ∙ size-is es slots name number width home aim.array aim.leads.found) owned.now.fills_block.fits
+
+    pub block-within : All (λ offset. offset + width ≤ length owned.now.block) (offsets owned.now.layout)
+    block-within = offsets_within owned.now.layout (length owned.now.block) width block-fits
+
+    pub block-answers : (h : Holds es slots) (after : Slots) → HasNew slots number s (assigned places (offsets owned.now.layout) width owned.now.block s.block) after → (n : ℕ) → n ≡ length places → AnswersWrite state name target (Block owned) (Ok n) (state_of es after)
+    block-answers h after new n counted =
+        answers (Block owned) aim h (assigned places (offsets owned.now.layout) width owned.now.block s.block) after new (items_at (offsets owned.now.layout) width owned.now.block)
+        (items-whole (offsets owned.now.layout) width owned.now.block (offsets-within owned.now.layout (length owned.now.block) width block-fits)) refl n counted
+        (λ array found. alike-items owned.now.descr (descr_of state array) width owned.now.block (offsets owned.now.layout) ((source-for (Block owned) aim array found).alike) (size-is es slots name number width home array found))
+
+  -- the items of an array
+  module _ (name' : Bor (List ℕ)) (from : Layout) (aim : IsAim state name target (Name name' from)) (number' width' : ℕ) (other : IsHome es slots name'.now number' width') where
+    pub same-size : width' ≡ width
+    same-size =
+        sym (size-is es slots name'.now number' width' other aim.source_for.array aim.source_for.found)
+        ∙ aim.source_for.alike.size
+        ∙ size-is es slots name number width home aim.array aim.leads.found
+
+    pub named-fits : Fits from (length other.slot.block) width
+    named-fits = subst (Fits from (length other.slot.block)) same-size (home-fits es slots name'.now number' width' other aim.source_for.array aim.source_for.found from aim.source_for.fits)
+
+    pub named-within : All (λ offset. offset + width ≤ length other.slot.block) (offsets from)
+    named-within = offsets_within from (length other.slot.block) width named-fits
+
+    pub named-answers : (h : Holds es slots) (after : Slots) → HasNew slots number s (assigned places (offsets from) width other.slot.block s.block) after → (n : ℕ) → n ≡ length places → AnswersWrite state name target (Name name' from) (Ok n) (state_of es after)
+    named-answers h after new n counted =
+        answers (Name name' from) aim h (assigned places (offsets from) width other.slot.block s.block) after new (items_at (offsets from) width other.slot.block)
+        (items-whole (offsets from) width other.slot.block (offsets-within from (length other.slot.block) width named-fits)) refl n counted items-are
+      where
+        items-are : (array : Array) → find_array (map named_array es) name ≡ Some array → map (decode_item (descr_of state array)) (items_at (offsets from) width other.slot.block) ≡ items_of state (find_array (map named_array es) name'.now) from
+        items-are array found =
+            let r = source-for (Name name' from) aim array found in
+            alike-items (descr_of state r.array) (descr_of state array) width other.slot.block (offsets from) r.alike (size-is es slots name number width home array found)
+            ∙ sym (home-reads es slots name'.now number' width' other r.array r.found from r.places r.offsets_are r.among)
+            ∙ ap (λ a. items_of state a from) (sym r.found)
+
+    -- both in one slot
+    pub named-same : number' ≡ number → other.slot ≡ s
+    named-same is = some-same other.slot s (sym other.there ∙ ap (slot_at slots) is ∙ home.there)
