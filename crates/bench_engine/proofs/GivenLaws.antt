@@ -155,21 +155,22 @@ module _ (s : State) (operand : Operand) (descr : Descr) (shape : List ℕ) (b :
         let part = lies-wide wide is.seen is.is in
         let there : find_array s.names name.now ≡ Some b = ap (find_array s.names) named ∙ found in
         let few : length (offsets wide) ≡ count shape = length-offsets wide ∙ ap count (stretched-shape layout (Ok wide) shape (subst (GivesView layout (Ok wide)) (sym is.there) is.is)) in
-        subst (GivesItems s descr (count shape) (Ok (given.Named name wide))) (sym (items-done view is.seen good (fits view good r.block.now r.descr.now layout (sym shows.descr) is-view.shape reads-wide wide is) (ap (λ d. can_cast d descr) shows.descr ∙ can)))
-        (record {
-          array = b;
-          places = part.places;
-          found = there;
-          alike = subst (λ (d : Descr). AreAlike d descr) (sym shows.descr) alike;
-          offsets_are = part.offsets_are;
-          among = part.among;
-          fits = part.fits;
-          count = few;
-        },
-        ap (λ a. items_of s a wide) there
-        ∙ ap (λ ps. read s (record b { places = ps })) (ap (places_of (item_size (buffer_of s b).descr)) part.offsets_are ∙ places-offsets (item_size (buffer_of s b).descr) (start_at (buffer_of s b).descr b.path) part.places shows.starts)
-        ∙ ap (read s) (sym part.part_is) ∙ sym (reads-wide wide is.seen is.is) ∙ items
-        ∙ cast-read view good r.block.now r.descr.now layout (sym shows.descr) is-view.shape reads-wide wide is)
+        subst (GivesItems s descr (count shape) (Ok (given.Named name wide))) (sym (items-done view is.seen good (fits view good r.block.now r.descr.now layout (sym shows.descr) is-view.shape reads-wide wide is) (ap (λ d. can_cast d descr) shows.descr ∙ can))) (
+          record {
+            array = b;
+            places = part.places;
+            found = there;
+            alike = subst (λ (d : Descr). AreAlike d descr) (sym shows.descr) alike;
+            offsets_are = part.offsets_are;
+            among = part.among;
+            fits = part.fits;
+            count = few;
+          },
+          ap (λ a. items_of s a wide) there
+              ∙ ap (λ ps. read s (record b { places = ps })) (ap (places_of (item_size (buffer_of s b).descr)) part.offsets_are ∙ places-offsets (item_size (buffer_of s b).descr) (start_at (buffer_of s b).descr b.path) part.places shows.starts)
+              ∙ ap (read s) (sym part.part_is) ∙ sym (reads-wide wide is.seen is.is) ∙ items
+              ∙ cast-read view good r.block.now r.descr.now layout (sym shows.descr) is-view.shape reads-wide wide is,
+        )
 
     pub view-given : (result : Result Given Refusal) → Fitted r.block.now r.descr.now layout shape descr operand.name result → GivesItems s descr (count shape) result (argument_items s (argument.Operand operand) descr shape)
     view-given (Ok (given.One item)) is = absurd is

@@ -103,12 +103,15 @@ module _ (s : State) (a : Array) (r : ArrayRef) (shows : Shows s a r) (index : L
       map (item_from o.descr o.block) (offsets o.layout) ≡ map (item_from r.descr.now r.block.now) plan.offsets → GivesTaken s a r (list_all is_basic index) (Ok (took.Copy o)) (taken s a index)
   takes-copy plan o arrays gives typed shaped order items =
       let view = plan-view plan arrays gives in
-      subst (GivesTaken s a r (list_all is_basic index) (Ok (took.Copy o))) (sym view.1) (arrays, record {
-        descr = typed ∙ sym shows.descr;
-        shape = shaped ∙ view.2.shape;
-        order = order;
-        items = items ∙ plan-read plan view.0 view.2;
-      })
+      subst (GivesTaken s a r (list_all is_basic index) (Ok (took.Copy o))) (sym view.1) (
+        arrays,
+        record {
+          descr = typed ∙ sym shows.descr;
+          shape = shaped ∙ view.2.shape;
+          order = order;
+          items = items ∙ plan-read plan view.0 view.2;
+        },
+      )
 
   -- the items to which a plan leads lie in the block
   pub plan-within : (plan : Planned) → GivesPlan r.layout.now (Ok plan) (gathered s a index) → All (λ offset. offset + item_size r.descr.now ≤ length r.block.now) plan.offsets
@@ -184,8 +187,11 @@ module _ (s : State) (a : Array) (r : ArrayRef) (shows : Shows s a r) (index : L
       target-fixed aim.0 aim.1 (sym shows.view.laid.writable_is ∙ fixed)
 
   may-write : (t : Target) (part : Array) → IsAimed s a part r t → r.writable ≡ true → MayWrite s a t
-  may-write (target.View l) part aim free = (aim.apart.0, subst (λ (d : Descr). IsNested (offsets l) (item_size d)) (sym shows.descr)
-      (aim.apart.1 _ (subst (λ (d : Descr). IsNested (offsets r.layout.now) (item_size d)) shows.descr (shows.view.laid.nested free))))
+  may-write (target.View l) part aim free = (
+    aim.apart.0,
+    subst (λ (d : Descr). IsNested (offsets l) (item_size d)) (sym shows.descr)
+        (aim.apart.1 _ (subst (λ (d : Descr). IsNested (offsets r.layout.now) (item_size d)) shows.descr (shows.view.laid.nested free))),
+  )
   may-write (target.Plan plan) part aim free = aim.apart
 
   few-items : (t : Target) (part : Array) → 1 ≤ item_size r.descr.now → IsAimed s a part r t → r.writable ≡ true → length (target_offsets t) * item_size (descr_of s a) ≤ max_bytes

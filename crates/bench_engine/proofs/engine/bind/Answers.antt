@@ -1,4 +1,3 @@
-use Rattle.std.proofs.Math.Bool.{and-true}
 use Rattle.script_lang.specs.declared.command.Value.TheVariants.{Make, View, Compute}
 use Rattle.script_lang.specs.declared.command.Command.TheVariants.{Bind}
 use Rattle.bench_engine.proofs.Cases.{carried}
@@ -10,7 +9,7 @@ returns-in-Make-clause-answers g c =
 
 pub returns-in-View-clause-answers : goal.returns-in-View-clause-answers
 returns-in-View-clause-answers g c =
-    rw c.in-View.is (carried _ _ _ (Bind c.args.name.now (View c.in-View.source c.in-View.how)) _ _ _ (rw and-true c.view.ensures.answers))
+    rw c.in-View.is (carried _ _ _ (Bind c.args.name.now (View c.in-View.source c.in-View.how)) _ _ _ c.view.ensures.answers)
 
 pub returns-in-Compute-clause-answers : goal.returns-in-Compute-clause-answers
 returns-in-Compute-clause-answers g c =
