@@ -8,6 +8,6 @@ use Rattle.reductions.proofs.folds.ProductOfFold.step.Goals as goal
 pub returns : goal.returns
 returns g c first seen is held =
     let z = g.S.Number.value c.args.item in
-    (λ i. held i * sym c.bits.ensures.low i % 2 ^ 64)
+    (λ i. held i * sym c.bits.ensures.lowest.low i % 2 ^ 64)
     ∙ sym (product_bits (product_of seen) z)
     ∙ ap (low_bits 8) (sym (fold-append (λ product value. product *ℤ value) (pos 1) seen (z ∷ [])))
