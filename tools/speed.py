@@ -28,6 +28,7 @@ COUNT = 2**22
 MOST_REPEATS = 2**18
 LONG_ENOUGH = 0.25
 HIGH = 2
+FOLDER = tempfile.TemporaryDirectory()
 
 
 class Row(typing.NamedTuple):
@@ -52,6 +53,12 @@ TRANSPOSED = ["m = full <i4 (2048,2048) 7", "a = transpose m"]
 NUMPY_TRANSPOSED = "a = np.full((2048, 2048), 7, '<i4').T"
 TABLE = ["a = array <i4 (100,100) " + " ".join(map(str, range(10000)))]
 NUMPY_TABLE = "a = np.arange(10000, dtype='<i4').reshape(100, 100)"
+EVERY_FOURTH = [f"a = full <i4 ({COUNT}) 7", f"i = arange <i8 0 {COUNT} 4", f"v = arange <i4 0 {COUNT // 4} 1"]
+NUMPY_EVERY_FOURTH = f"a = np.full({COUNT}, 7, '<i4'); i = np.arange(0, {COUNT}, 4); v = np.arange({COUNT // 4}, dtype='<i4')"
+MASKED = [f"a = full <i4 ({COUNT // 2}) 7", f"m = zeros |b1 ({COUNT // 2})", "set m[::2] = True"]
+NUMPY_MASKED = f"a = np.full({COUNT // 2}, 7, '<i4'); m = np.zeros({COUNT // 2}, bool); m[::2] = True"
+ROWS_OF = ["a = full <i4 (1024,1024) 7", "i = arange <i8 0 1024 1", "i = i[::-1]"]
+NUMPY_ROWS_OF = "a = np.full((1024, 1024), 7, '<i4'); i = np.arange(1024)[::-1]"
 
 ROWS = [
     Row("zeros, 4M of 4 bytes", [], f"x = zeros <i4 ({COUNT})", "", f"x = np.zeros({COUNT}, '<i4')"),
@@ -72,6 +79,12 @@ ROWS = [
     Row("set, 1M reversed", FEWER, "set a[:] = a[::-1]", NUMPY_FEWER, "a[:] = a[::-1]"),
     Row("set, one row to 1024 rows", ROW, "set a[:] = r", NUMPY_ROW, "a[:] = r"),
     Row("cast, 4M of 4 bytes to 8", ITEMS, "x = cast a <i8", NUMPY_ITEMS, "x = a.astype('<i8')"),
+    Row("gather, 1M of 4M", EVERY_FOURTH, "x = a[i]", NUMPY_EVERY_FOURTH, "x = a[i]"),
+    Row("mask, 1M of 2M", MASKED, "x = a[m]", NUMPY_MASKED, "x = a[m]"),
+    Row("scatter, 1M to 4M", EVERY_FOURTH, "set a[i] = v", NUMPY_EVERY_FOURTH, "a[i] = v"),
+    Row("rows, 1024 of 1024 x 1024", ROWS_OF, "x = a[i]", NUMPY_ROWS_OF, "x = a[i]"),
+    Row("save, 16 MB", ITEMS, 'save a "a.npy"', NUMPY_ITEMS + f"; f = '{FOLDER.name}/n.npy'", "np.save(f, a)"),
+    Row("load, 16 MB", [*ITEMS, 'save a "a.npy"'], 'x = load "a.npy"', NUMPY_ITEMS + f"; f = '{FOLDER.name}/n.npy'; np.save(f, a)", "x = np.load(f)"),
     Row("print, 100 x 100", TABLE, "print a", NUMPY_TABLE, "str(a)"),
 ]
 
@@ -83,7 +96,7 @@ def seconds(program, row, repeats):
         script.write(f"{row.line}\n".encode() * repeats)
         script.seek(0)
         before = resource.getrusage(resource.RUSAGE_CHILDREN)
-        subprocess.run([program], stdin=script, stdout=subprocess.DEVNULL, env=ENVIRONMENT, check=True)
+        subprocess.run([program], stdin=script, stdout=subprocess.DEVNULL, env=ENVIRONMENT, cwd=FOLDER.name, check=True)
         after = resource.getrusage(resource.RUSAGE_CHILDREN)
     return after.ru_utime + after.ru_stime - before.ru_utime - before.ru_stime
 
@@ -91,7 +104,7 @@ def seconds(program, row, repeats):
 def is_refused(program, row):
     """Whether the program refuses the row's line, or one before it."""
     text = "".join(f"{line}\n" for line in [*row.setup, row.line])
-    ran = subprocess.run([program], input=text.encode(), stdout=subprocess.PIPE, env=ENVIRONMENT)
+    ran = subprocess.run([program], input=text.encode(), stdout=subprocess.PIPE, env=ENVIRONMENT, cwd=FOLDER.name)
     return any(reply.startswith(b"no E") for reply in ran.stdout.split(b"\n"))
 
 
