@@ -88,7 +88,7 @@ pub const ROWS: [Row; 40] = [
     // Commands that are not carried out yet.
     Row {
         script: b"a = zeros <i4 (1)\nundo\nb = a[i]\nset a[0] = a[i]\nupd a[0] add 1\nc = add a 1\nd = sum a\nset q[i] = 1\nset a[i,0] = 1\n",
-        replies: b"ok a <i4 (1,) new\nno E03 syntax\nno E03 syntax\nno E03 syntax\nno E03 syntax\nno E03 syntax\nno E03 syntax\nno E03 syntax\nno E03 syntax\n",
+        replies: b"ok a <i4 (1,) new\nno E03 syntax\nno E06 unknown name\nno E06 unknown name\nno E03 syntax\nno E03 syntax\nno E03 syntax\nno E06 unknown name\nno E06 unknown name\n",
         accepted: 1,
         refused: 8,
     },

@@ -1,5 +1,5 @@
 //! Reductions that go over numbers one by one.
-ghost use Rattle.std.specs.Prelude.{◌≡◌, ◌+◌, ◌<◌, ◌^◌, ℕ, ℤ, pos, Bool, true, false, [], ◌∷◌, ◌++◌, List, length, if◌then◌else◌, refl};
+ghost use Rattle.std.specs.Prelude.{◌≡◌, ◌+◌, ◌<◌, ◌^◌, ℕ, ℤ, pos, Bool, true, false, [], ◌∷◌, ◌++◌, List, length, if◌then◌else◌, is_some, IfSome, refl};
 ghost use Rattle.std.specs.Int.{int_min, int_max};
 ghost use Rattle.std.specs.List.{fold, list_any, list_all};
 ghost use Rattle.elem_descr.specs.declared.scalar.Order.{Order};
@@ -47,10 +47,10 @@ pub(crate) trait Fold<S: Value> {
     fn finish(held: Self::Held) -> Self::Total
         ensures { (first : ℤ) (rest : List ℤ) → holds held first (first ∷ rest) → Self.Total.value result ≡ meaning (first ∷ rest) };
 
-    /// What is held once this came of the numbers so far.
-    fn resume(total: Self::Total) -> Self::Held
-        requires { RESUMES ≡ true }
-        ensures { (first : ℤ) (rest : List ℤ) → Self.Total.value total ≡ meaning (first ∷ rest) → holds result first (first ∷ rest) };
+    /// What is held once this came of the numbers so far, where that can be told.
+    fn resume(total: Self::Total) -> Option<Self::Held>
+        ensures some { RESUMES ≡ true → is_some result ≡ true }
+        ensures held { IfSome result (λ held. (first : ℤ) (rest : List ℤ) → Self.Total.value total ≡ meaning (first ∷ rest) → holds held first (first ∷ rest)) };
 
     ghost gives: { (order : Order) (bytes : List ℕ) (numbers : List ℤ) → length numbers < 2 ^ 63
         → decode (Self.Total.scalar Little) bytes ≡ number (meaning numbers) → IsReduced reduction (S.scalar order) numbers bytes };
@@ -91,8 +91,8 @@ impl<S: Value> Fold<S> for SumOf {
         held
     }
 
-    fn resume(total: u64) -> u64 {
-        total
+    fn resume(total: u64) -> Option<u64> {
+        Some(total)
     }
 }
 
@@ -129,8 +129,8 @@ impl<S: Value> Fold<S> for ProductOf {
         held
     }
 
-    fn resume(total: u64) -> u64 {
-        total
+    fn resume(total: u64) -> Option<u64> {
+        Some(total)
     }
 }
 
@@ -167,8 +167,8 @@ impl<S: Value> Fold<S> for Least {
         held
     }
 
-    fn resume(total: S) -> S {
-        total
+    fn resume(total: S) -> Option<S> {
+        Some(total)
     }
 }
 
@@ -205,8 +205,8 @@ impl<S: Value> Fold<S> for Greatest {
         held
     }
 
-    fn resume(total: S) -> S {
-        total
+    fn resume(total: S) -> Option<S> {
+        Some(total)
     }
 }
 
@@ -243,8 +243,8 @@ impl<S: Value> Fold<S> for AnyTrue {
         held
     }
 
-    fn resume(total: bool) -> bool {
-        total
+    fn resume(total: bool) -> Option<bool> {
+        Some(total)
     }
 }
 
@@ -281,8 +281,8 @@ impl<S: Value> Fold<S> for AllTrue {
         held
     }
 
-    fn resume(total: bool) -> bool {
-        total
+    fn resume(total: bool) -> Option<bool> {
+        Some(total)
     }
 }
 
@@ -332,8 +332,8 @@ impl<S: Value> Fold<S> for PlaceOfLeast {
         held.place as u64
     }
 
-    fn resume(total: u64) -> Found<S> {
-        unreachable!()
+    fn resume(total: u64) -> Option<Found<S>> {
+        None
     }
 }
 
@@ -376,7 +376,7 @@ impl<S: Value> Fold<S> for PlaceOfGreatest {
         held.place as u64
     }
 
-    fn resume(total: u64) -> Found<S> {
-        unreachable!()
+    fn resume(total: u64) -> Option<Found<S>> {
+        None
     }
 }

@@ -25,7 +25,7 @@ fn add_at<S: Value, F: Fold<S>>(row: &mut [u8], at: usize, item: S, seen: usize)
     ensures len { length row.new ≡ length row.old }
 {
     let total = number_at::<F::Total, LowFirst>(row, at);
-    let held = F::step(F::resume(total), item, seen);
+    let held = F::step(F::resume(total).unwrap(), item, seen);
     store_at(F::finish(held), row, at);
 }
 

@@ -8,5 +8,5 @@ use Rattle.reductions.proofs.rows.add_at.Goals as goal
 pub returns-clause-value : goal.returns-clause-value
 returns-clause-value g c first rest seen before =
     let value = c.number_at-total.ensures ∙ ap (λ w. number_of (decode (g.F.Total.Number.scalar Little) (item_at c.args.at w c.args.row.now))) (g.met.F.Total.Number.has_width Little) ∙ ap number_of before in
-    let held = c.step-held.ensures first (first ∷ rest) seen (c.resume.ensures first rest value) in
+    let held = c.step-held.ensures first (first ∷ rest) seen ((rw c.unwrap.ensures at c.resume.ensures.held) first rest value) in
     c.store_at.ensures.value ∙ ap number (c.finish.ensures first (rest ++ g.S.Number.value c.args.item ∷ []) held)
