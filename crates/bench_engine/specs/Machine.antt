@@ -1,15 +1,24 @@
 -- The machine: one step of it, for each command and each choice that it is free to make.
-use Rattle.std.specs.Prelude.{◌≡◌, ℕ, ◌*◌, nat_le, ℤ, Bool, true, false, ◌&&◌, if◌then◌else◌, List, [], ◌∷◌, ◌++◌, map, replicate, codes, decimal, Option, unwrap_or, Result, Ok, Err}
+use Rattle.std.specs.Prelude.{◌≡◌, ℕ, ◌*◌, nat_le, ℤ, Bool, true, false, ◌&&◌, if◌then◌else◌, List, [], ◌∷◌, ◌++◌, length, map, replicate, codes, decimal, Option, unwrap_or, Result, Ok, Err}
 use Rattle.std.specs.List.{list_all}
 use Rattle.std.specs.Option.{ok_or}
 use Rattle.elem_descr.specs.declared.refusal.Refusal.{Refusal}
-use Rattle.elem_descr.specs.declared.refusal.Refusal.TheVariants.{Syntax, UnknownName, TooManyNames, NoSuchField, NoSuchCast, ReadOnly, TooLarge}
+use Rattle.elem_descr.specs.declared.refusal.Refusal.TheVariants.{Syntax, UnknownName, TooManyNames, NoSuchField, NoSuchCast, NotForThisKind, ReadOnly, TooLarge}
 use Rattle.elem_descr.specs.Refusals.{◌>>=◌, check}
 use Rattle.elem_descr.specs.declared.descr.Descr.{Descr}
+use Rattle.elem_descr.specs.declared.descr.Descr.TheVariants.{Scalar as ScalarDescr}
+use Rattle.elem_descr.specs.declared.scalar.Scalar.{Scalar}
+use Rattle.elem_descr.specs.declared.scalar.Scalar.TheVariants.{Bool as BoolScalar}
 use Rattle.elem_descr.specs.DescrTexts.{descriptor}
 use Rattle.elem_descr.specs.Items.{item_size, field_of}
-use Rattle.elem_descr.specs.Values.{LeafValue}
+use Rattle.elem_descr.specs.Values.{LeafValue, number, text}
+use Rattle.elem_descr.specs.Encoding.{without_nuls}
 use Rattle.elementwise.specs.Casts.{can_cast, cast_item}
+use Rattle.elementwise.specs.Promotion.{promote, compared_type, literal_type, same_kind}
+use Rattle.elementwise.specs.Results.{scalar_of, binary_result, compared_result, unary_result, binary_item, compared_item, unary_item, pairwise}
+use Rattle.reductions.specs.Lists.{lists, named_axis}
+use Rattle.reductions.specs.Reductions.{reduced_item}
+use Rattle.reductions.specs.Outcomes as reductions
 use Rattle.shape_strides.specs.declared.index_item.IndexItem.{IndexItem}
 use Rattle.shape_strides.specs.declared.index_item.IndexItem.TheVariants.{Ellipsis}
 use Rattle.shape_strides.specs.declared.memory_order.MemoryOrder.{MemoryOrder}
@@ -20,9 +29,19 @@ use Rattle.shape_strides.specs.Indexes.{count}
 use Rattle.shape_strides.specs.Shapes.{shape_of}
 use Rattle.view_ops.specs.Views.{View, view_through}
 use Rattle.view_ops.specs.Transposes.{transposed}
-use Rattle.broadcasting.specs.Broadcasts.{stretched, stretched_into}
+use Rattle.broadcasting.specs.Broadcasts.{broadcast_index, stretched, stretched_into}
 use Rattle.reshape_rule.specs.Targets.{target_of}
 use Rattle.reshape_rule.specs.Reshapes.{is_affine}
+use Rattle.script_lang.specs.declared.literal.ScalarLiteral.{ScalarLiteral}
+use Rattle.script_lang.specs.declared.literal.ScalarLiteral.TheVariants.{Integer, Boolean, Bytes}
+use Rattle.script_lang.specs.declared.literal.Literal.{Literal}
+use Rattle.script_lang.specs.declared.literal.Literal.TheVariants as literal
+use Rattle.script_lang.specs.declared.operation.BinaryOperation.{BinaryOperation}
+use Rattle.script_lang.specs.declared.operation.UnaryOperation.{UnaryOperation}
+use Rattle.script_lang.specs.declared.operation.Reduction.{Reduction}
+use Rattle.script_lang.specs.declared.operation.Operation.{Operation}
+use Rattle.script_lang.specs.declared.operation.Operation.TheVariants as operation
+use Rattle.script_lang.specs.declared.command.Operand.{Operand}
 use Rattle.script_lang.specs.declared.command.Argument.{Argument}
 use Rattle.script_lang.specs.declared.command.Argument.TheVariants as argument
 use Rattle.script_lang.specs.declared.command.Viewing.{Viewing}
@@ -34,7 +53,7 @@ use Rattle.script_lang.specs.declared.command.Question.{Question}
 use Rattle.script_lang.specs.declared.command.Question.TheVariants as question
 use Rattle.script_lang.specs.declared.command.Command.{Command}
 use Rattle.script_lang.specs.declared.command.Command.TheVariants as command
-use Rattle.literal_items.specs.LiteralItems.{item_value}
+use Rattle.literal_items.specs.LiteralItems.{item_value, is_castable, literal_number}
 use Rattle.array_print.specs.Printed.{array_text}
 use Rattle.name_store.specs.States.{State}
 use Rattle.name_store.specs.States as states
@@ -213,9 +232,12 @@ argument_items s (argument.Literal literal) descr shape = do
   item ← item_value descr literal
   Ok (replicate (count shape) item)
 
--- the names of an argument
+-- the names of an operand, and of an argument
+abbrev pub names_in_operand : Operand → List (List ℕ)
+names_in_operand operand = operand.name ∷ names_in_index (unwrap_or operand.index [])
+
 abbrev pub names_in_argument : Argument → List (List ℕ)
-names_in_argument (argument.Operand operand) = operand.name ∷ names_in_index (unwrap_or operand.index [])
+names_in_argument (argument.Operand operand) = names_in_operand operand
 names_in_argument (argument.Literal literal) = []
 
 unfoldable pub set_outcome : State → List ℕ → List (IndexItem (List ℕ)) → Argument → Outcome
@@ -225,6 +247,138 @@ set_outcome s name index argument = do
   target ← target_part s array index
   items ← argument_items s argument (descr_of s array) target.shape
   comes_to (written s array target.places items) (codes "ok set " ++ decimal (count target.shape))
+
+-- Operands of operations and comparisons
+
+-- an operand: an element type, a shape, and its items once they are stretched to another shape
+pub record Values : Type 0 where
+  pub descr : Descr
+  pub shape : List ℕ
+  pub stretched_to : List ℕ → List (List LeafValue)
+
+-- the items of an array
+abbrev pub values_of : State → states.Array → Values
+values_of s array = record {
+  descr = descr_of s array;
+  shape = array.shape;
+  stretched_to = λ shape. read s (viewed array (record { shape = shape; leads = broadcast_index array.shape }));
+}
+
+-- one item, without axes
+abbrev pub one_item : Descr → List LeafValue → Values
+one_item descr item = record { descr = descr; shape = []; stretched_to = λ shape. replicate (count shape) item }
+
+-- the part of an array that an operand is, `Y` being `Y[...]`
+unfoldable pub operand_part : State → Operand → Result states.Array Refusal
+operand_part s operand = do
+  array ← array_of s operand.name
+  view ← taken s array (unwrap_or operand.index (Ellipsis ∷ []))
+  Ok (viewed array view)
+
+-- the type that a literal has beside a scalar: with byte strings and records there are no operations
+abbrev pub literal_scalar : Scalar → Literal → Result Scalar Refusal
+literal_scalar beside (literal.Scalar (Integer value)) = Ok (literal_type beside)
+literal_scalar beside (literal.Scalar (Boolean value)) = Ok BoolScalar
+literal_scalar beside _ = Err NotForThisKind
+
+-- a literal beside an element type in an operation
+unfoldable pub worked_literal : BinaryOperation → Descr → Literal → Result Values Refusal
+worked_literal op descr literal = do
+  beside ← scalar_of descr
+  scalar ← literal_scalar beside literal
+  _ ← promote op beside scalar
+  item ← item_value (ScalarDescr scalar) literal
+  Ok (one_item (ScalarDescr scalar) item)
+
+-- the value of a literal, whatever the numbers of a type are
+abbrev pub literal_value : ScalarLiteral → LeafValue
+literal_value (Bytes bytes) = text (without_nuls bytes)
+literal_value literal = number (literal_number literal)
+
+-- a literal beside an element type in a comparison: numbers are compared with numbers, and byte strings with byte strings
+unfoldable pub compared_literal : Descr → Literal → Result Values Refusal
+compared_literal descr (literal.Record values) = Err NotForThisKind
+compared_literal descr (literal.Scalar literal) = do
+  beside ← scalar_of descr
+  _ ← check (is_castable beside literal) NotForThisKind
+  Ok (one_item descr (literal_value literal ∷ []))
+
+abbrev pub literal_values : Operation → Descr → Literal → Result Values Refusal
+literal_values (operation.Binary op) descr literal = worked_literal op descr literal
+literal_values (operation.Compare comparison) descr literal = compared_literal descr literal
+
+-- Z beside an element type
+abbrev pub argument_values : State → Operation → Descr → Argument → Result Values Refusal
+argument_values s op descr (argument.Operand operand) = operand_part s operand >>= (λ part. Ok (values_of s part))
+argument_values s op descr (argument.Literal literal) = literal_values op descr literal
+
+-- X = OP operand Z, X = neg operand, X = RED Y
+
+-- the type and the shape of what an operation gives, and each item
+abbrev pub worked_type : Operation → Scalar → Scalar → Result Scalar Refusal
+worked_type (operation.Binary op) left right = promote op left right
+worked_type (operation.Compare comparison) left right = compared_type left right
+
+abbrev pub worked_result : Operation → Descr → List ℕ → Descr → List ℕ → Result (Descr × List ℕ) Refusal
+worked_result (operation.Binary op) = binary_result op
+worked_result (operation.Compare comparison) = compared_result
+
+abbrev pub worked_item : Operation → Descr → List LeafValue → List LeafValue → List LeafValue
+worked_item (operation.Binary op) descr = binary_item op descr
+worked_item (operation.Compare comparison) descr = compared_item comparison
+
+-- what an operation gives on two operands that are broadcast together
+unfoldable pub worked : Operation → Values → Values → Result Contents Refusal
+worked op left right = do
+  result ← worked_result op left.descr left.shape right.descr right.shape
+  Ok (made result.0 result.1 (pairwise (worked_item op result.0) (left.stretched_to result.1) (right.stretched_to result.1)))
+
+unfoldable pub combined : State → Operation → Operand → Argument → Result Contents Refusal
+combined s op left right = do
+  part ← operand_part s left
+  values ← argument_values s op (descr_of s part) right
+  worked op (values_of s part) values
+
+unfoldable pub transformed : State → UnaryOperation → Operand → Result Contents Refusal
+transformed s op operand = do
+  part ← operand_part s operand
+  result ← unary_result op (descr_of s part) part.shape
+  Ok (made result.0 result.1 (map (unary_item op result.0) (read s part)))
+
+unfoldable pub reduced : State → Reduction → List ℕ → Option ℤ → Bool → Result Contents Refusal
+reduced s reduction source axis keep = do
+  array ← array_of s source
+  result ← reductions.outcome reduction (descr_of s array) array.shape axis keep
+  let each = lists array.shape (named_axis (length array.shape) axis) array.places
+  Ok (made result.descr result.shape (map (λ places. reduced_item reduction result.descr (read s (record array { places = places }))) each))
+
+-- a name is bound to what is computed of arrays with these names
+unfoldable pub computed_outcome : Choice → State → List ℕ → List (List ℕ) → Result Contents Refusal → Outcome
+computed_outcome choice s name names contents = do
+  _ ← check (list_all (is_bound s) names) UnknownName
+  creation_outcome choice s name contents
+
+-- upd X[ix] OP Z
+
+-- the items of a target, changed by an operation, as items of their own type: Z is stretched to the target's shape
+unfoldable pub updated : State → states.Array → Operation → Argument → Result (List (List LeafValue)) Refusal
+updated s target op argument = do
+  values ← argument_values s op (descr_of s target) argument
+  from ← scalar_of (descr_of s target)
+  other ← scalar_of values.descr
+  scalar ← worked_type op from other
+  _ ← same_kind scalar from
+  _ ← stretched values.shape target.shape
+  let new = pairwise (worked_item op (ScalarDescr scalar)) (read s target) (values.stretched_to target.shape)
+  Ok (map (cast_item (ScalarDescr scalar) (descr_of s target)) new)
+
+unfoldable pub update_outcome : State → List ℕ → List (IndexItem (List ℕ)) → Operation → Argument → Outcome
+update_outcome s name index op argument = do
+  array ← array_of s name
+  _ ← check (list_all (is_bound s) (names_in_index index ++ names_in_argument argument)) UnknownName
+  target ← target_part s array index
+  items ← updated s target op argument
+  comes_to (written s array target.places items) (codes "ok upd " ++ decimal (count target.shape))
 
 -- del X
 unfoldable pub delete_outcome : State → List ℕ → Outcome
@@ -265,6 +419,9 @@ bind_outcome choice s name (value.Make descr items) = creation_outcome choice s 
 bind_outcome choice s name (value.View source how) = view_outcome choice s name source how
 bind_outcome choice s name (value.Compute (computation.Duplicate source order)) = copy_outcome choice s name source order
 bind_outcome choice s name (value.Compute (computation.Cast source descr)) = cast_outcome choice s name source descr
+bind_outcome choice s name (value.Compute (computation.Combine op left right)) = computed_outcome choice s name (names_in_operand left ++ names_in_argument right) (combined s op left right)
+bind_outcome choice s name (value.Compute (computation.Transform op operand)) = computed_outcome choice s name (names_in_operand operand) (transformed s op operand)
+bind_outcome choice s name (value.Compute (computation.Reduce reduction source axis keep)) = computed_outcome choice s name (source ∷ []) (reduced s reduction source axis keep)
 bind_outcome choice s name _ = Err Syntax
 
 abbrev pub question_outcome : State → Question → Outcome
@@ -277,6 +434,7 @@ question_outcome s (question.Shares left right) = shares_outcome s left right
 abbrev pub outcome : Choice → State → Command → Outcome
 outcome choice s (command.Bind name value) = bind_outcome choice s name value
 outcome choice s (command.Set name index argument) = set_outcome s name index argument
+outcome choice s (command.Update name index op argument) = update_outcome s name index op argument
 outcome choice s (command.Delete name) = delete_outcome s name
 outcome choice s (command.Ask question) = question_outcome s question
 outcome choice s _ = Err Syntax
@@ -297,6 +455,9 @@ abbrev pub bound_in_value : Value → List (List ℕ)
 bound_in_value (value.View source how) = source ∷ names_in_viewing how
 bound_in_value (value.Compute (computation.Duplicate source order)) = source ∷ []
 bound_in_value (value.Compute (computation.Cast source descr)) = source ∷ []
+bound_in_value (value.Compute (computation.Combine op left right)) = names_in_operand left ++ names_in_argument right
+bound_in_value (value.Compute (computation.Transform op operand)) = names_in_operand operand
+bound_in_value (value.Compute (computation.Reduce reduction source axis keep)) = source ∷ []
 bound_in_value _ = []
 
 abbrev pub bound_in_question : Question → List (List ℕ)
@@ -309,6 +470,7 @@ bound_in_question (question.Shares left right) = left ∷ right ∷ []
 abbrev pub must_be_bound : Command → List (List ℕ)
 must_be_bound (command.Bind name value) = bound_in_value value
 must_be_bound (command.Set name index argument) = name ∷ names_in_index index ++ names_in_argument argument
+must_be_bound (command.Update name index op argument) = name ∷ names_in_index index ++ names_in_argument argument
 must_be_bound (command.Delete name) = name ∷ []
 must_be_bound (command.Ask question) = bound_in_question question
 must_be_bound _ = []
@@ -318,13 +480,13 @@ must_be_bound _ = []
 abbrev pub value_takes_memory : Value → Bool
 value_takes_memory (value.Make descr items) = true
 value_takes_memory (value.View source how) = true
-value_takes_memory (value.Compute (computation.Duplicate source order)) = true
-value_takes_memory (value.Compute (computation.Cast source descr)) = true
+value_takes_memory (value.Compute what) = true
 value_takes_memory _ = false
 
 abbrev pub takes_memory : Command → Bool
 takes_memory (command.Bind name value) = value_takes_memory value
 takes_memory (command.Set name index argument) = true
+takes_memory (command.Update name index op argument) = true
 takes_memory (command.Ask question) = true
 takes_memory _ = false
 

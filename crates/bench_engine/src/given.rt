@@ -15,14 +15,14 @@ ghost use Rattle.bench_engine.specs.IndexLists.{names_in_index, taken};
 ghost use Rattle.bench_engine.specs.Machine.{argument_items, names_in_argument};
 ghost use Rattle.bench_engine.specs.inside.Assigns.{GivesTaken, GivesItems, Fitted};
 
-use crate::index::are_bound;
 use crate::item::item_of;
-use crate::taken::{Taken, take};
+use crate::operand::operand_items;
+use crate::taken::Taken;
 use elem_descr::{Descr, Refusal};
 use name_store::{ArrayRef, Bench};
 use overlap_copy::Owned;
-use script_lang::{Argument, Index, Name, Operand};
-use shape_strides::{IndexItem, Layout, Shape};
+use script_lang::{Argument, Name, Operand};
+use shape_strides::{Layout, Shape};
 use std::alloc::Global;
 
 /// Items that are to be written, of the target's element type.
@@ -34,40 +34,6 @@ pub enum Given<'a> {
     Named(&'a Name, Layout),
     /// The items of a block of their own.
     Own(Owned),
-}
-
-/// Whether the names in an argument are bound.
-pub fn has_bound(bench: &Bench, value: &Argument) -> bool
-    ensures { result ≡ list_all (is_bound bench.now) (names_in_argument value.now) }
-{
-    let Argument::Operand(operand) = value else {
-        return true;
-    };
-    if bench.get(&operand.name).is_none() {
-        return false;
-    }
-    match &operand.index {
-        Some(index) => are_bound(bench, index.as_slice()),
-        None => true,
-    }
-}
-
-/// What an operand takes of its array: all of it where it has no index list.
-fn operand_items(
-    alloc: Global,
-    bench: &Bench,
-    array: &ArrayRef<'_>,
-    index: &Option<Index>,
-) -> Result<Taken, Refusal>
-    requires bound { list_all (is_bound bench.now) (names_in_index (unwrap_or index.now [])) ≡ true }
-    requires shown { (a : Array) × Shows bench.now a array.now }
-    ensures { (a : Array) → Shows bench.now a array.now
-        → GivesTaken bench.now a array.now (list_all is_basic (unwrap_or index.now (Ellipsis ∷ []))) result (taken bench.now a (unwrap_or index.now (Ellipsis ∷ []))) }
-{
-    match index {
-        Some(index) => take(alloc, bench, array, index.as_slice()),
-        None => take(alloc, bench, array, &[IndexItem::Ellipsis]),
-    }
 }
 
 /// The items of a view of a name's array, stretched into a shape and cast to an element type.

@@ -1,0 +1,43 @@
+-- Operands: the items of a layout in a block, which those of an array of the state are.
+use Rattle.std.specs.Prelude.{◌≡◌, ◌⊎◌, ◌+◌, ◌≤◌, ℕ, List, map, length, IsTrue, All, Result, Ok, Err}
+use Rattle.elem_descr.specs.declared.refusal.Refusal.{Refusal}
+use Rattle.elem_descr.specs.declared.refusal.Refusal.TheVariants.{OutOfMemory}
+use Rattle.elem_descr.specs.Blocks.{item_from}
+use Rattle.elem_descr.specs.Items.{item_size}
+use Rattle.shape_strides.specs.Layouts.{offsets}
+use Rattle.broadcasting.specs.Broadcasts.{can_stretch}
+use Rattle.elementwise.specs.Results.{stretched_items}
+use Rattle.elementwise.specs.declared.operands.Items.{Items}
+use Rattle.overlap_copy.specs.declared.owned.Owned.{Owned}
+use Rattle.name_store.specs.States.{State, Array}
+use Rattle.name_store.specs.Arrays.{descr_of, read}
+use Rattle.bench_engine.specs.Machine.{Values}
+
+-- each item lies in the block
+abbrev pub LieInside : Items → Type 0
+LieInside x = All (λ offset. offset + item_size x.descr.now ≤ length x.block.now) (offsets x.layout.now)
+
+-- they are those of an array of the state
+pub record StandsFor (s : State) (array : Array) (x : Items) : Type 0 where
+  pub descr : descr_of s array ≡ x.descr.now
+  pub shape : array.shape ≡ x.layout.now.shape
+  pub items : read s array ≡ map (item_from x.descr.now x.block.now) (offsets x.layout.now)
+  pub inside : LieInside x
+
+-- they are those of an operand, also where they are stretched
+pub record Stands (v : Values) (x : Items) : Type 0 where
+  pub descr : v.descr ≡ x.descr.now
+  pub shape : v.shape ≡ x.layout.now.shape
+  pub items : (target : List ℕ) → IsTrue (can_stretch v.shape target) → v.stretched_to target ≡ stretched_items x.descr.now x.block.now x.layout.now target
+
+-- so are those of a block of its own
+pub record OwnStands (v : Values) (o : Owned) : Type 0 where
+  pub descr : v.descr ≡ o.descr
+  pub shape : v.shape ≡ o.layout.shape
+  pub items : (target : List ℕ) → IsTrue (can_stretch v.shape target) → v.stretched_to target ≡ stretched_items o.descr o.block o.layout target
+
+-- the block has the items of the operand that is there; a refusal is the one that is there, unless memory ran out
+abbrev pub GivesStanding : Result Owned Refusal → Result Values Refusal → Type 0
+GivesStanding (Ok o) (Ok v) = OwnStands v o
+GivesStanding (Ok o) (Err refusal) = ⊥
+GivesStanding (Err refusal) there = (refusal ≡ OutOfMemory) ⊎ (there ≡ Err refusal)

@@ -1,0 +1,82 @@
+//! Operands: parts of the arrays of names.
+ghost use Rattle.std.specs.Prelude.{◌≡◌, ◌∷◌, [], ℕ, Bool, List, true, unwrap_or};
+ghost use Rattle.std.specs.List.{list_all};
+ghost use Rattle.shape_strides.specs.IndexItems.{is_basic};
+ghost use Rattle.shape_strides.specs.declared.index_item.IndexItem.TheVariants.{Ellipsis};
+ghost use Rattle.view_ops.specs.Views.{View};
+ghost use Rattle.name_store.specs.Arrays.{is_bound};
+ghost use Rattle.name_store.specs.Shown.{Shows};
+ghost use Rattle.name_store.specs.States.{State, Array};
+ghost use Rattle.bench_engine.specs.IndexLists.{names_in_index, taken};
+ghost use Rattle.bench_engine.specs.Machine.{viewed, names_in_operand, names_in_argument};
+ghost use Rattle.bench_engine.specs.inside.Assigns.{IsTaken, GivesTaken};
+ghost use Rattle.bench_engine.specs.inside.Operands.{StandsFor};
+
+use crate::index::are_bound;
+use crate::taken::{Taken, take};
+use elem_descr::Refusal;
+use elementwise::Items;
+use name_store::{ArrayRef, Bench};
+use script_lang::{Argument, Index, Operand};
+use shape_strides::IndexItem;
+use std::alloc::Global;
+
+/// Whether the names in an operand are bound.
+pub fn is_bound(bench: &Bench, operand: &Operand) -> bool
+    ensures { result ≡ list_all (is_bound bench.now) (names_in_operand operand.now) }
+{
+    if bench.get(&operand.name).is_none() {
+        return false;
+    }
+    match &operand.index {
+        Some(index) => are_bound(bench, index.as_slice()),
+        None => true,
+    }
+}
+
+/// Whether the names in an argument are bound.
+pub fn has_bound(bench: &Bench, value: &Argument) -> bool
+    ensures { result ≡ list_all (is_bound bench.now) (names_in_argument value.now) }
+{
+    match value {
+        Argument::Operand(operand) => is_bound(bench, operand),
+        Argument::Literal(_) => true,
+    }
+}
+
+/// What an operand takes of its array: all of it where it has no index list.
+pub fn operand_items(
+    alloc: Global,
+    bench: &Bench,
+    array: &ArrayRef<'_>,
+    index: &Option<Index>,
+) -> Result<Taken, Refusal>
+    requires bound { list_all (is_bound bench.now) (names_in_index (unwrap_or index.now [])) ≡ true }
+    requires shown { (a : Array) × Shows bench.now a array.now }
+    ensures { (a : Array) → Shows bench.now a array.now
+        → GivesTaken bench.now a array.now (list_all is_basic (unwrap_or index.now (Ellipsis ∷ []))) result (taken bench.now a (unwrap_or index.now (Ellipsis ∷ []))) }
+{
+    match index {
+        Some(index) => take(alloc, bench, array, index.as_slice()),
+        None => take(alloc, bench, array, &[IndexItem::Ellipsis]),
+    }
+}
+
+/// The items that are taken of an array.
+pub fn items_taken<'a>(array: &'a ArrayRef<'_>, taken: &'a Taken) -> Items<'a>
+    ensures { (s : State) (a : Array) (plain : Bool) (view : View) → Shows s a array.now → IsTaken s a array.now plain taken.now view
+        → StandsFor s (viewed a view) result }
+{
+    match taken {
+        Taken::View(layout) => Items {
+            block: array.block,
+            layout,
+            descr: array.descr,
+        },
+        Taken::Copy(copy) => Items {
+            block: &copy.block,
+            layout: &copy.layout,
+            descr: &copy.descr,
+        },
+    }
+}
