@@ -12,8 +12,8 @@ use Rattle.elem_descr.specs.Encoding.{number_of}
 use Rattle.elem_descr.specs.Blocks.{item_from}
 use Rattle.shape_strides.specs.Layouts.{offsets}
 use Rattle.overlap_copy.specs.declared.owned.Owned.{Owned}
-use Rattle.elementwise.specs.declared.operation.BinOp.{BinOp}
-use Rattle.elementwise.specs.declared.operation.UnOp.{UnOp}
+use Rattle.script_lang.specs.declared.operation.BinaryOperation.{BinaryOperation}
+use Rattle.script_lang.specs.declared.operation.UnaryOperation.{UnaryOperation}
 use Rattle.shape_strides.specs.declared.layout.Layout.{Layout}
 use Rattle.std.proofs.lemmas.Simd.{map-map}
 use Rattle.elementwise.proofs.StretchedLaws.{stretched-self}
@@ -29,7 +29,7 @@ cast_as : (d : Descr) (s : Scalar) (item : List LeafValue) → IsNative s → ca
 cast_as (ScalarDescr from) s item native can = ap number_of (cast_number s (value_in item) (native_number s native))
 cast_as (RecordDescr structure) s item native can = absurd (false≢true can)
 
-pub combined : (op : BinOp) (s : Scalar) (d d' : Descr) (result : Result Owned Refusal) (shape : List ℕ) (xs ys : List ℕ → List (List LeafValue)) → IsNative s → can_cast d (ScalarDescr s) ≡ true → can_cast d' (ScalarDescr s) ≡ true →
+pub combined : (op : BinaryOperation) (s : Scalar) (d d' : Descr) (result : Result Owned Refusal) (shape : List ℕ) (xs ys : List ℕ → List (List LeafValue)) → IsNative s → can_cast d (ScalarDescr s) ≡ true → can_cast d' (ScalarDescr s) ≡ true →
     IfOk result (λ o. o.descr ≡ ScalarDescr s) → IfOk result (λ o. o.layout.shape ≡ shape) →
     IfOk result (λ o. map (item_from (ScalarDescr s) o.block) (offsets o.layout) ≡ pairwise (λ x y. binary_value op s (value_in (cast_item d (ScalarDescr s) x)) (value_in (cast_item d' (ScalarDescr s) y)) ∷ []) (xs shape) (ys shape)) →
     IfOk result (λ o. map (item_from o.descr o.block) (offsets o.layout) ≡ pairwise (binary_item op o.descr) (xs o.layout.shape) (ys o.layout.shape))
@@ -50,7 +50,7 @@ pairwise-same : {A B : Type 0} (f : A → A → B) (xs : List A) → pairwise f 
 pairwise-same f [] = refl
 pairwise-same f (x ∷ xs) = ap (λ rest. f x x ∷ rest) (pairwise-same f xs)
 
-pub changed : (op : UnOp) (s : Scalar) (d : Descr) (result : Result Owned Refusal) (l : Layout) (block : List ℕ) → IsNative s → can_cast d (ScalarDescr s) ≡ true → IfOk result (λ o. o.descr ≡ ScalarDescr s) →
+pub changed : (op : UnaryOperation) (s : Scalar) (d : Descr) (result : Result Owned Refusal) (l : Layout) (block : List ℕ) → IsNative s → can_cast d (ScalarDescr s) ≡ true → IfOk result (λ o. o.descr ≡ ScalarDescr s) →
     IfOk result (λ o. map (item_from (ScalarDescr s) o.block) (offsets o.layout) ≡ pairwise (λ x y. unary_value op s (value_in (cast_item d (ScalarDescr s) x)) (value_in (cast_item d (ScalarDescr s) y)) ∷ []) (stretched_items d block l l.shape) (stretched_items d block l l.shape)) →
     IfOk result (λ o. map (item_from o.descr o.block) (offsets o.layout) ≡ map (λ offset. unary_item op o.descr (item_from d block offset)) (offsets l))
 changed op s d (Ok o) l block native can is items =

@@ -12,7 +12,7 @@ use Rattle.overlap_copy.specs.RunLaws.{fewer, run_offsets-more, length-run_offse
 use Rattle.elementwise.specs.Results.{pairwise}
 use Rattle.elementwise.specs.inside.Passes.{put_all, row_offsets}
 use Rattle.elementwise.specs.inside.PairPasses.{made_of_pairs, number_pair, pair_from, says_number}
-use Rattle.elementwise.specs.declared.operation.Comparison.{Comparison}
+use Rattle.script_lang.specs.declared.operation.Comparison.{Comparison}
 use Rattle.elem_descr.specs.declared.scalar.Order.TheVariants.{Little}
 use Rattle.elem_descr.specs.declared.scalar.Width.{Width}
 use Rattle.elem_descr.specs.declared.scalar.Scalar.{Scalar}

@@ -8,10 +8,10 @@ use Rattle.elem_descr.specs.declared.scalar.Scalar.{Scalar}
 use Rattle.elem_descr.specs.declared.scalar.Scalar.TheVariants.{Bool as BoolScalar, Byte, Int, Bytes}
 use Rattle.elem_descr.specs.Encoding.{size}
 use Rattle.elem_descr.specs.Refusals.{◌>>=◌, check}
-use Rattle.elementwise.specs.declared.operation.BinOp.{BinOp}
-use Rattle.elementwise.specs.declared.operation.BinOp.TheVariants.{Subtract, FloorDivide, Modulo, ShiftLeft, ShiftRight, Divide}
-use Rattle.elementwise.specs.declared.operation.UnOp.{UnOp}
-use Rattle.elementwise.specs.declared.operation.UnOp.TheVariants.{Negate, Invert}
+use Rattle.script_lang.specs.declared.operation.BinaryOperation.{BinaryOperation}
+use Rattle.script_lang.specs.declared.operation.BinaryOperation.TheVariants.{Subtract, FloorDivide, Modulo, ShiftLeft, ShiftRight, Divide}
+use Rattle.script_lang.specs.declared.operation.UnaryOperation.{UnaryOperation}
+use Rattle.script_lang.specs.declared.operation.UnaryOperation.TheVariants.{Negate, Invert}
 
 -- ---- kinds
 
@@ -74,7 +74,7 @@ common_type left right =
 -- ---- the type of a result
 
 -- which operations there are of two bools
-abbrev pub serves_bools : BinOp → Bool
+abbrev pub serves_bools : BinaryOperation → Bool
 serves_bools Subtract = false
 serves_bools FloorDivide = false
 serves_bools Modulo = false
@@ -82,12 +82,12 @@ serves_bools ShiftLeft = false
 serves_bools ShiftRight = false
 serves_bools _ = true
 
-abbrev pub is_division : BinOp → Bool
+abbrev pub is_division : BinaryOperation → Bool
 is_division Divide = true
 is_division _ = false
 
 -- the type of what an operation gives on two scalars
-unfoldable pub promote : BinOp → Scalar → Scalar → Result Scalar Refusal
+unfoldable pub promote : BinaryOperation → Scalar → Scalar → Result Scalar Refusal
 promote op left right = do
   _ ← check (not (is_text left || is_text right)) NotForThisKind
   _ ← check (serves_bools op || not (is_bool left && is_bool right)) NotForThisKind
@@ -100,12 +100,12 @@ literal_type BoolScalar = Int true Eight Little
 literal_type scalar = little scalar
 
 -- which operations there are of one number
-abbrev pub serves_one : UnOp → Scalar → Bool
+abbrev pub serves_one : UnaryOperation → Scalar → Bool
 serves_one Negate scalar = not (is_text scalar) && not (is_bool scalar)
 serves_one Invert scalar = not (is_text scalar)
 
 -- the type of what an operation gives on one scalar
-unfoldable pub promote_one : UnOp → Scalar → Result Scalar Refusal
+unfoldable pub promote_one : UnaryOperation → Scalar → Result Scalar Refusal
 promote_one op scalar = do
   _ ← check (serves_one op scalar) NotForThisKind
   Ok (little scalar)

@@ -9,7 +9,6 @@ ghost use Rattle.elementwise.specs.Operations.{binary, unary};
 ghost use Rattle.elementwise.specs.inside.PairPasses.{made_of_pairs, number_pair, IsNative};
 
 use crate::numbers::Number;
-use crate::operation::{BinOp, UnOp};
 use crate::operations::{
     Adding, Complementing, Dividing, Flipping, KeepingBoth, KeepingEither, KeepingOne,
     LeavingRests, MovingDown, MovingUp, Multiplying, Negating, Operation, Subtracting,
@@ -17,6 +16,7 @@ use crate::operations::{
 use crate::pair_passes::{Kernel, make_run};
 use crate::promotion::is_bool;
 use elem_descr::{Order, Scalar, Width};
+use script_lang::{BinaryOperation, UnaryOperation};
 use shape_strides::Run;
 use std::marker::PhantomData;
 
@@ -111,7 +111,7 @@ fn combine_numbers<F: Operation>(
 
 /// An operation on numbers of a little-endian scalar, by its word.
 pub(crate) fn combine_run(
-    op: BinOp,
+    op: BinaryOperation,
     scalar: &Scalar,
     bytes: &mut [u8],
     to: Run,
@@ -130,37 +130,43 @@ pub(crate) fn combine_run(
     ensures { bytes.new ≡ made_of_pairs (number_pair scalar.now scalar.now scalar.now (binary op scalar.now)) (size scalar.now) (size scalar.now) left.now right.now to first second to.count bytes.old }
 {
     match op {
-        BinOp::Add => combine_numbers::<Adding>(scalar, bytes, to, left, first, right, second),
-        BinOp::Subtract => combine_numbers::<Subtracting>(
+        BinaryOperation::Add => combine_numbers::<Adding>(
             scalar, bytes, to, left, first, right, second,
         ),
-        BinOp::Multiply => combine_numbers::<Multiplying>(
+        BinaryOperation::Subtract => combine_numbers::<Subtracting>(
             scalar, bytes, to, left, first, right, second,
         ),
-        BinOp::FloorDivide => combine_numbers::<Dividing>(
+        BinaryOperation::Multiply => combine_numbers::<Multiplying>(
             scalar, bytes, to, left, first, right, second,
         ),
-        BinOp::Modulo => combine_numbers::<LeavingRests>(
+        BinaryOperation::FloorDivide => combine_numbers::<Dividing>(
             scalar, bytes, to, left, first, right, second,
         ),
-        BinOp::And => combine_numbers::<KeepingBoth>(scalar, bytes, to, left, first, right, second),
-        BinOp::Or => combine_numbers::<KeepingEither>(
+        BinaryOperation::Modulo => combine_numbers::<LeavingRests>(
             scalar, bytes, to, left, first, right, second,
         ),
-        BinOp::Xor => combine_numbers::<KeepingOne>(scalar, bytes, to, left, first, right, second),
-        BinOp::ShiftLeft => combine_numbers::<MovingUp>(
+        BinaryOperation::And => combine_numbers::<KeepingBoth>(
             scalar, bytes, to, left, first, right, second,
         ),
-        BinOp::ShiftRight => combine_numbers::<MovingDown>(
+        BinaryOperation::Or => combine_numbers::<KeepingEither>(
             scalar, bytes, to, left, first, right, second,
         ),
-        BinOp::Divide => unreachable!(),
+        BinaryOperation::Xor => combine_numbers::<KeepingOne>(
+            scalar, bytes, to, left, first, right, second,
+        ),
+        BinaryOperation::ShiftLeft => combine_numbers::<MovingUp>(
+            scalar, bytes, to, left, first, right, second,
+        ),
+        BinaryOperation::ShiftRight => combine_numbers::<MovingDown>(
+            scalar, bytes, to, left, first, right, second,
+        ),
+        BinaryOperation::Divide => unreachable!(),
     }
 }
 
 /// An operation on the second of two numbers of a little-endian scalar, by its word.
 pub(crate) fn change_run(
-    op: UnOp,
+    op: UnaryOperation,
     scalar: &Scalar,
     bytes: &mut [u8],
     to: Run,
@@ -178,8 +184,10 @@ pub(crate) fn change_run(
     ensures { bytes.new ≡ made_of_pairs (number_pair scalar.now scalar.now scalar.now (λ _ b. unary op scalar.now b)) (size scalar.now) (size scalar.now) left.now right.now to first second to.count bytes.old }
 {
     match op {
-        UnOp::Negate => combine_numbers::<Negating>(scalar, bytes, to, left, first, right, second),
-        UnOp::Invert => {
+        UnaryOperation::Negate => combine_numbers::<Negating>(
+            scalar, bytes, to, left, first, right, second,
+        ),
+        UnaryOperation::Invert => {
             if is_bool(scalar) {
                 combine_numbers::<Flipping>(scalar, bytes, to, left, first, right, second);
             } else {

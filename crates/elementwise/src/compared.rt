@@ -15,13 +15,13 @@ ghost use Rattle.elementwise.specs.Results.{compared_item, stretched_items, pair
 ghost use Rattle.elementwise.specs.inside.PairPasses.{IsNative, Holds};
 
 use crate::operands::Items;
-use crate::operation::Comparison;
 use crate::pairing::{Comparing, ComparingSigns};
 use crate::promotion::{is_signed, little};
 use crate::typed::make_stretched;
 use elem_descr::{Descr, Order, Refusal, Scalar, Width};
 use overlap_copy::Owned;
 use raw_block::RawBlock;
+use script_lang::Comparison;
 use shape_strides::Shape;
 use std::alloc::Global;
 

@@ -5,16 +5,16 @@ ghost use Rattle.elem_descr.specs.declared.scalar.Width.TheVariants.{Eight};
 ghost use Rattle.elem_descr.specs.declared.scalar.Scalar.TheVariants.{Bool as BoolScalar, Int};
 ghost use Rattle.elem_descr.specs.Encoding.{size, width_size};
 ghost use Rattle.raw_block.specs.Bytes.{EachWithin};
-ghost use Rattle.elementwise.specs.declared.operation.Comparison.{Comparison};
-ghost use Rattle.elementwise.specs.declared.operation.Comparison.TheVariants.{Equal, NotEqual, Less, LessOrEqual, Greater, GreaterOrEqual};
+ghost use Rattle.script_lang.specs.declared.operation.Comparison.{Comparison};
+ghost use Rattle.script_lang.specs.declared.operation.Comparison.TheVariants.{Equal, NotEqual, Less, LessOrEqual, Greater, GreaterOrEqual};
 ghost use Rattle.elementwise.specs.Comparisons.{says};
 ghost use Rattle.elementwise.specs.inside.PairPasses.{made_of_pairs, number_pair, says_number, IsNative};
 
 use crate::bits;
 use crate::numbers::Number;
-use crate::operation::Comparison;
 use crate::pair_passes::{Kernel, make_run};
 use elem_descr::{Order, Scalar, Width};
+use script_lang::Comparison;
 use shape_strides::Run;
 use std::marker::PhantomData;
 

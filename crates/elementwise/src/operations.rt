@@ -1,7 +1,7 @@
 //! Operations on machine numbers: each is done on the lowest 64 bits, of which a number keeps its own.
 ghost use Rattle.std.specs.Prelude.{◌≡◌, ℤ, pos, negsuc, ◌-ℤ◌};
 ghost use Rattle.elem_descr.specs.declared.scalar.Order.{Order};
-ghost use Rattle.elementwise.specs.declared.operation.BinOp.TheVariants.{Add, Subtract, Multiply, FloorDivide, Modulo, And, Or, Xor, ShiftLeft, ShiftRight};
+ghost use Rattle.script_lang.specs.declared.operation.BinaryOperation.TheVariants.{Add, Subtract, Multiply, FloorDivide, Modulo, And, Or, Xor, ShiftLeft, ShiftRight};
 ghost use Rattle.elem_descr.specs.declared.scalar.Scalar.{Scalar};
 ghost use Rattle.elem_descr.specs.Encoding.{wrap};
 ghost use Rattle.elementwise.specs.Operations.{binary};

@@ -13,8 +13,8 @@ ghost use Rattle.elementwise.specs.inside.PairLaws.{binary_reads_back, unary_rea
 
 use crate::combining::{change_run, combine_run};
 use crate::comparing::{compare_mixed_run, compare_run};
-use crate::operation::{BinOp, Comparison, UnOp};
 use elem_descr::Scalar;
+use script_lang::{BinaryOperation, Comparison, UnaryOperation};
 use shape_strides::Run;
 
 /// What is made of pairs of values of two scalars.
@@ -60,7 +60,7 @@ pub(crate) trait Pairing {
 /// An operation on numbers of a little-endian scalar.
 #[derive(Clone, Copy)]
 pub(crate) struct Combining {
-    pub(crate) op: BinOp,
+    pub(crate) op: BinaryOperation,
     pub(crate) scalar: Scalar,
 }
 
@@ -99,7 +99,7 @@ impl Pairing for Combining {
 /// An operation on the second of two numbers of a little-endian scalar.
 #[derive(Clone, Copy)]
 pub(crate) struct Changing {
-    pub(crate) op: UnOp,
+    pub(crate) op: UnaryOperation,
     pub(crate) scalar: Scalar,
 }
 

@@ -4,8 +4,8 @@ ghost use Rattle.elem_descr.specs.Refusals.{Answers};
 ghost use Rattle.elementwise.specs.Promotion.{is_bool, is_text, is_signed, rank_of_kind, same_kind, integer_type, little, mixed_type, common_integers, common_type, serves_bools, is_division, promote, literal_type, serves_one, promote_one};
 ghost use Rattle.elementwise.specs.Results.{scalar_of};
 
-use crate::operation::{BinOp, UnOp};
 use elem_descr::{Descr, Order, Refusal, Scalar, Width};
+use script_lang::{BinaryOperation, UnaryOperation};
 
 pub(crate) fn is_bool(scalar: &Scalar) -> bool
     ensures { result ≡ is_bool scalar.now }
@@ -130,23 +130,23 @@ fn common_type(left: &Scalar, right: &Scalar) -> Result<Scalar, Refusal>
 }
 
 /// Whether there is an operation of two bools.
-fn serves_bools(op: BinOp) -> bool
+fn serves_bools(op: BinaryOperation) -> bool
     ensures { result ≡ serves_bools op }
 {
     match op {
-        BinOp::Subtract
-        | BinOp::FloorDivide
-        | BinOp::Modulo
-        | BinOp::ShiftLeft
-        | BinOp::ShiftRight => false,
+        BinaryOperation::Subtract
+        | BinaryOperation::FloorDivide
+        | BinaryOperation::Modulo
+        | BinaryOperation::ShiftLeft
+        | BinaryOperation::ShiftRight => false,
         _ => true,
     }
 }
 
-fn is_division(op: BinOp) -> bool
+fn is_division(op: BinaryOperation) -> bool
     ensures { result ≡ is_division op }
 {
-    matches!(op, BinOp::Divide)
+    matches!(op, BinaryOperation::Divide)
 }
 
 fn are_bools(left: &Scalar, right: &Scalar) -> bool
@@ -156,7 +156,7 @@ fn are_bools(left: &Scalar, right: &Scalar) -> bool
 }
 
 /// Whether there is an operation of items of two types, as far as bools go.
-fn serves(op: BinOp, left: &Scalar, right: &Scalar) -> bool
+fn serves(op: BinaryOperation, left: &Scalar, right: &Scalar) -> bool
     ensures { result ≡ (serves_bools op || not (is_bool left.now && is_bool right.now)) }
 {
     serves_bools(op) || !are_bools(left, right)
@@ -166,7 +166,7 @@ fn serves(op: BinOp, left: &Scalar, right: &Scalar) -> bool
 /// holds both, little-endian. `NotForThisKind` for byte strings, and for two bools where there is no
 /// such operation; then `NeedsFloats` for `Divide`, and for integers that no integer type holds.
 #[tactic(auto, unfolding(crate::specs::Promotion::promote))]
-pub fn promote(op: BinOp, left: Scalar, right: Scalar) -> Result<Scalar, Refusal>
+pub fn promote(op: BinaryOperation, left: Scalar, right: Scalar) -> Result<Scalar, Refusal>
     ensures { Answers (λ s. s) result (promote op left right) }
 {
     if has_text(&left, &right) {
@@ -192,19 +192,19 @@ pub fn literal_type(scalar: Scalar) -> Scalar
 }
 
 /// Whether there is an operation of items of a type.
-fn serves_one(op: UnOp, scalar: &Scalar) -> bool
+fn serves_one(op: UnaryOperation, scalar: &Scalar) -> bool
     ensures { result ≡ serves_one op scalar.now }
 {
     match op {
-        UnOp::Negate => !is_text(scalar) && !is_bool(scalar),
-        UnOp::Invert => !is_text(scalar),
+        UnaryOperation::Negate => !is_text(scalar) && !is_bool(scalar),
+        UnaryOperation::Invert => !is_text(scalar),
     }
 }
 
 /// The type of what an operation gives on items of one type. `NotForThisKind` for byte strings, and
 /// for `Negate` of bools.
 #[tactic(auto, unfolding(crate::specs::Promotion::promote_one))]
-pub fn promote_one(op: UnOp, scalar: Scalar) -> Result<Scalar, Refusal>
+pub fn promote_one(op: UnaryOperation, scalar: Scalar) -> Result<Scalar, Refusal>
     ensures { Answers (λ s. s) result (promote_one op scalar) }
 {
     if !serves_one(op, &scalar) {

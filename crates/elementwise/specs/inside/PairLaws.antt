@@ -8,10 +8,10 @@ use Rattle.elem_descr.specs.declared.scalar.Scalar.TheVariants.{Bool as BoolScal
 use Rattle.elem_descr.specs.Values.{LeafValue, number}
 use Rattle.elem_descr.specs.Encoding.{IsNumber, size, width_size, number_of, decode, encode}
 use Rattle.elem_descr.specs.EncodingLaws.{decode_encode}
-use Rattle.elementwise.specs.declared.operation.BinOp.{BinOp}
-use Rattle.elementwise.specs.declared.operation.UnOp.{UnOp}
-use Rattle.elementwise.specs.declared.operation.UnOp.TheVariants.{Negate, Invert}
-use Rattle.elementwise.specs.declared.operation.Comparison.{Comparison}
+use Rattle.script_lang.specs.declared.operation.BinaryOperation.{BinaryOperation}
+use Rattle.script_lang.specs.declared.operation.UnaryOperation.{UnaryOperation}
+use Rattle.script_lang.specs.declared.operation.UnaryOperation.TheVariants.{Negate, Invert}
+use Rattle.script_lang.specs.declared.operation.Comparison.{Comparison}
 use Rattle.elementwise.specs.Comparisons.{says}
 use Rattle.elementwise.specs.Promotion.{is_bool}
 use Rattle.elementwise.specs.Operations.{exact}
@@ -23,7 +23,7 @@ native_number (Byte signed) native = tt
 native_number (Int signed width order) native = tt
 native_number (Bytes n) never = never
 
-pub binary_reads_back : (op : BinOp) (scalar : Scalar) (x y : LeafValue) → IsNative scalar → decode scalar (encode scalar (binary_value op scalar x y)) ≡ binary_value op scalar x y
+pub binary_reads_back : (op : BinaryOperation) (scalar : Scalar) (x y : LeafValue) → IsNative scalar → decode scalar (encode scalar (binary_value op scalar x y)) ≡ binary_value op scalar x y
 binary_reads_back op scalar x y native = decode_encode scalar (exact op scalar (number_of x) (number_of y)) (native_number scalar native)
 
 small_width : (width : Width) → width_size width ≤ 8
@@ -37,7 +37,7 @@ native_small (Byte signed) native = omega arith
 native_small (Int signed width order) native = small_width width
 native_small (Bytes n) never = absurd never
 
-pub unary_reads_back : (op : UnOp) (scalar : Scalar) (x y : LeafValue) → IsNative scalar → decode scalar (encode scalar (unary_value op scalar x y)) ≡ unary_value op scalar x y
+pub unary_reads_back : (op : UnaryOperation) (scalar : Scalar) (x y : LeafValue) → IsNative scalar → decode scalar (encode scalar (unary_value op scalar x y)) ≡ unary_value op scalar x y
 unary_reads_back Negate scalar x y native = decode_encode scalar (pos 0 -ℤ number_of y) (native_number scalar native)
 unary_reads_back Invert scalar x y native = decode_encode scalar (cond (is_bool scalar) (pos 1) (negsuc 0) -ℤ number_of y) (native_number scalar native)
 
