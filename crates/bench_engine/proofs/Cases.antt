@@ -2,11 +2,8 @@
 use Rattle.std.proofs.Common.{◌≡◌, ◌⊎◌, ℕ, List, refl, ap, inl, inr, Result, Ok, Err}
 use Rattle.elem_descr.specs.declared.refusal.Refusal.{Refusal}
 use Rattle.elem_descr.specs.declared.refusal.Refusal.TheVariants.{Syntax}
-use Rattle.shape_strides.specs.declared.index_item.IndexItem.{IndexItem}
-use Rattle.script_lang.specs.declared.operation.Operation.{Operation}
-use Rattle.script_lang.specs.declared.command.Argument.{Argument}
 use Rattle.script_lang.specs.declared.command.Command.{Command}
-use Rattle.script_lang.specs.declared.command.Command.TheVariants.{Update, Undo}
+use Rattle.script_lang.specs.declared.command.Command.TheVariants.{Undo}
 use Rattle.name_store.specs.States.{State}
 use Rattle.npy_files.specs.Stores.{Shelf}
 use Rattle.bench_engine.specs.Machine.{Choice, outcome, settled, may_lack_memory}
@@ -25,9 +22,6 @@ carried old new shelf command before after (Err e) h = (h.1, (refl, refused old 
 no_command : (s : State) (shelf : Shelf) (command : Command) (before : List ℕ) → ((choice : Choice) → outcome choice s command ≡ Err Syntax) → Carried (StateCase (world s shelf) command (world s shelf)) before before (Err Syntax)
 no_command s shelf command before is = carried s s shelf command before before (Err Syntax) (refl, unchanged before, inr is)
 
--- the commands that are not carried out so far
-pub not_carried_out : (s : State) (shelf : Shelf) (command : Command) (before : List ℕ) →
-    ((name : List ℕ) × (index : List (IndexItem (List ℕ))) × (operation : Operation) × (value : Argument) × (command ≡ Update name index operation value))
-    ⊎ (command ≡ Undo) → Carried (WorldCase (world s shelf) command (world s shelf)) before before (Err Syntax)
-not_carried_out s shelf command before (inl (name, index, operation, value, is)) = rw is (no_command s shelf (Update name index operation value) before (λ choice. refl))
-not_carried_out s shelf command before (inr is) = rw is (no_command s shelf Undo before (λ choice. refl))
+-- the command that is not carried out so far
+pub not_carried_out : (s : State) (shelf : Shelf) (command : Command) (before : List ℕ) → command ≡ Undo → Carried (WorldCase (world s shelf) command (world s shelf)) before before (Err Syntax)
+not_carried_out s shelf command before is = rw is (no_command s shelf Undo before (λ choice. refl))

@@ -26,6 +26,15 @@ pub mod TargetLaws
 pub mod GivenLaws
 pub mod PartLaws
 pub mod SetOutcomes
+pub mod StretchLaws
+pub mod OperandLaws
+pub mod WorkLaws
+pub mod LegalLaws
+pub mod Computes
+pub mod Reduces
+pub mod Updates
+pub mod Written
+pub mod LiteralLaws
 pub mod Whole
 pub mod Zeros
 pub mod Stored

@@ -15,7 +15,7 @@ use Rattle.name_store.specs.States.{State, Array}
 use Rattle.name_store.specs.Arrays.{find_array, is_bound, has_room_for, descr_of, addresses, written, share_cells}
 use Rattle.name_store.specs.Calls.{AnswersShares}
 use Rattle.bench_engine.specs.inside.Contract.{IsRefused}
-use Rattle.bench_engine.specs.Machine.{Choice, ViewOrCopy, viewed, seen, names_in_viewing, view_outcome, bound_seen, set_outcome, info_outcome, shares_outcome, comes_to}
+use Rattle.bench_engine.specs.Machine.{Choice, ViewOrCopy, viewed, seen, names_in_viewing, view_outcome, bound_seen, info_outcome, shares_outcome, comes_to}
 use Rattle.bench_engine.specs.Replies.{info_text, shares_text}
 
 -- X = Y, seen in some way

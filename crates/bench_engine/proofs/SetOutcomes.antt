@@ -1,5 +1,5 @@
--- The exits of `set X[ix] = Z`.
-use Rattle.std.proofs.Common.{◌≡◌, ◌⊎◌, ◌++◌, ◌∷◌, ◌&&◌, ℕ, Bool, true, false, List, Option, Some, None, codes, decimal, refl, sym, ap, ◌∙◌, Result, Ok, Err, inl, inr}
+-- The exits of `set X[ix] = Z` and `upd X[ix] OP Z`.
+use Rattle.std.proofs.Common.{◌≡◌, ◌⊎◌, ◌++◌, ◌∷◌, ◌&&◌, ℕ, Bool, true, false, List, Option, Some, None, refl, sym, ap, ◌∙◌, Result, Ok, Err, inl, inr}
 use Rattle.std.specs.List.{list_all}
 use Rattle.std.proofs.lemmas.List.Folds.{list_all-append}
 use Rattle.elem_descr.specs.declared.refusal.Refusal.{Refusal}
@@ -9,35 +9,36 @@ use Rattle.elem_descr.specs.Values.{LeafValue}
 use Rattle.shape_strides.specs.declared.index_item.IndexItem.{IndexItem}
 use Rattle.shape_strides.specs.Indexes.{count}
 use Rattle.script_lang.specs.declared.command.Argument.{Argument}
+use Rattle.script_lang.specs.declared.operation.Operation.{Operation}
 use Rattle.name_store.specs.States.{State, Array}
 use Rattle.name_store.specs.Arrays.{find_array, is_bound, descr_of, written}
 use Rattle.name_store.specs.declared.target.Target.{Target}
 use Rattle.bench_engine.specs.IndexLists.{names_in_index}
-use Rattle.bench_engine.specs.Machine.{target_part, argument_items, names_in_argument, set_outcome, comes_to}
+use Rattle.bench_engine.specs.Machine.{target_part, new_items, names_in_argument, write_outcome, written_text, comes_to}
 use Rattle.bench_engine.specs.declared.given.Given.{Given}
 use Rattle.bench_engine.specs.inside.Assigns.{IsTarget, GivesTarget, AreFor, given_items, GivesItems}
 
-module _ (s : State) (name : List ℕ) (index : List (IndexItem (List ℕ))) (value : Argument) where
-  pub set-unknown : find_array s.names name ≡ None → set_outcome s name index value ≡ Err UnknownName
-  unfolding set_outcome
+module _ (s : State) (name : List ℕ) (index : List (IndexItem (List ℕ))) (op : Option Operation) (value : Argument) where
+  pub set-unknown : find_array s.names name ≡ None → write_outcome s name index op value ≡ Err UnknownName
+  unfolding write_outcome
   set-unknown none = rw none refl
 
-  pub set-unbound : (a : Array) → find_array s.names name ≡ Some a → list_all (is_bound s) (names_in_index index ++ names_in_argument value) ≡ false → set_outcome s name index value ≡ Err UnknownName
-  unfolding set_outcome
+  pub set-unbound : (a : Array) → find_array s.names name ≡ Some a → list_all (is_bound s) (names_in_index index ++ names_in_argument value) ≡ false → write_outcome s name index op value ≡ Err UnknownName
+  unfolding write_outcome
   set-unbound a is none = rw (is, none) refl
 
-  pub set-target : (a : Array) (e : Refusal) → find_array s.names name ≡ Some a → list_all (is_bound s) (names_in_index index ++ names_in_argument value) ≡ true → target_part s a index ≡ Err e → set_outcome s name index value ≡ Err e
-  unfolding set_outcome
+  pub set-target : (a : Array) (e : Refusal) → find_array s.names name ≡ Some a → list_all (is_bound s) (names_in_index index ++ names_in_argument value) ≡ true → target_part s a index ≡ Err e → write_outcome s name index op value ≡ Err e
+  unfolding write_outcome
   set-target a e is named bad = rw (is, named, bad) refl
 
-  pub set-items : (a part : Array) (e : Refusal) → find_array s.names name ≡ Some a → list_all (is_bound s) (names_in_index index ++ names_in_argument value) ≡ true → target_part s a index ≡ Ok part → argument_items s value (descr_of s a) part.shape ≡ Err e →
-      set_outcome s name index value ≡ Err e
-  unfolding set_outcome
+  pub set-items : (a part : Array) (e : Refusal) → find_array s.names name ≡ Some a → list_all (is_bound s) (names_in_index index ++ names_in_argument value) ≡ true → target_part s a index ≡ Ok part → new_items s (descr_of s a) part op value ≡ Err e →
+      write_outcome s name index op value ≡ Err e
+  unfolding write_outcome
   set-items a part e is named good bad = rw (is, named, good, bad) refl
 
-  pub set-done : (a part : Array) (items : List (List LeafValue)) → find_array s.names name ≡ Some a → list_all (is_bound s) (names_in_index index ++ names_in_argument value) ≡ true → target_part s a index ≡ Ok part → argument_items s value (descr_of s a) part.shape ≡ Ok items →
-      set_outcome s name index value ≡ comes_to (written s a part.places items) (codes "ok set " ++ decimal (count part.shape))
-  unfolding set_outcome
+  pub set-done : (a part : Array) (items : List (List LeafValue)) → find_array s.names name ≡ Some a → list_all (is_bound s) (names_in_index index ++ names_in_argument value) ≡ true → target_part s a index ≡ Ok part → new_items s (descr_of s a) part op value ≡ Ok items →
+      write_outcome s name index op value ≡ comes_to (written s a part.places items) (written_text op (count part.shape))
+  unfolding write_outcome
   set-done a part items is named good given = rw (is, named, good, given) refl
 
   pub both-bound : (first second : Bool) → list_all (is_bound s) (names_in_index index) ≡ first → list_all (is_bound s) (names_in_argument value) ≡ second → list_all (is_bound s) (names_in_index index ++ names_in_argument value) ≡ (first && second)

@@ -1,5 +1,5 @@
 -- The machine: one step of it, for each command and each choice that it is free to make.
-use Rattle.std.specs.Prelude.{◌≡◌, ℕ, ◌*◌, nat_le, ℤ, Bool, true, false, ◌&&◌, if◌then◌else◌, List, [], ◌∷◌, ◌++◌, length, map, replicate, codes, decimal, Option, unwrap_or, Result, Ok, Err}
+use Rattle.std.specs.Prelude.{◌≡◌, ℕ, ◌*◌, nat_le, ℤ, Bool, true, false, ◌&&◌, if◌then◌else◌, List, [], ◌∷◌, ◌++◌, length, map, replicate, codes, decimal, Option, Some, None, unwrap_or, Result, Ok, Err}
 use Rattle.std.specs.List.{list_all}
 use Rattle.std.specs.Option.{ok_or}
 use Rattle.elem_descr.specs.declared.refusal.Refusal.{Refusal}
@@ -11,11 +11,12 @@ use Rattle.elem_descr.specs.declared.scalar.Scalar.{Scalar}
 use Rattle.elem_descr.specs.declared.scalar.Scalar.TheVariants.{Bool as BoolScalar}
 use Rattle.elem_descr.specs.DescrTexts.{descriptor}
 use Rattle.elem_descr.specs.Items.{item_size, field_of}
-use Rattle.elem_descr.specs.Values.{LeafValue, number, text}
+use Rattle.elem_descr.specs.Values.{LeafValue}
+use Rattle.elem_descr.specs.Values as leaf
 use Rattle.elem_descr.specs.Encoding.{without_nuls}
 use Rattle.elementwise.specs.Casts.{can_cast, cast_item}
 use Rattle.elementwise.specs.Promotion.{promote, compared_type, literal_type, same_kind}
-use Rattle.elementwise.specs.Results.{scalar_of, binary_result, compared_result, unary_result, binary_item, compared_item, unary_item, pairwise}
+use Rattle.elementwise.specs.Results.{scalar_of, unary_result, binary_item, compared_item, unary_item, pairwise}
 use Rattle.reductions.specs.Lists.{lists, named_axis}
 use Rattle.reductions.specs.Reductions.{reduced_item}
 use Rattle.reductions.specs.Outcomes as reductions
@@ -29,7 +30,7 @@ use Rattle.shape_strides.specs.Indexes.{count}
 use Rattle.shape_strides.specs.Shapes.{shape_of}
 use Rattle.view_ops.specs.Views.{View, view_through}
 use Rattle.view_ops.specs.Transposes.{transposed}
-use Rattle.broadcasting.specs.Broadcasts.{broadcast_index, stretched, stretched_into}
+use Rattle.broadcasting.specs.Broadcasts.{broadcast_index, common_shape, stretched, stretched_into}
 use Rattle.reshape_rule.specs.Targets.{target_of}
 use Rattle.reshape_rule.specs.Reshapes.{is_affine}
 use Rattle.script_lang.specs.declared.literal.ScalarLiteral.{ScalarLiteral}
@@ -205,7 +206,7 @@ view_outcome choice s name source how = do
   found ← seen how s array
   bound_seen choice s name found
 
--- set X[ix] = Z
+-- Items that are written
 
 -- the items of an array that an index list names, to be written
 unfoldable pub target_part : State → states.Array → List (IndexItem (List ℕ)) → Result states.Array Refusal
@@ -239,14 +240,6 @@ names_in_operand operand = operand.name ∷ names_in_index (unwrap_or operand.in
 abbrev pub names_in_argument : Argument → List (List ℕ)
 names_in_argument (argument.Operand operand) = names_in_operand operand
 names_in_argument (argument.Literal literal) = []
-
-unfoldable pub set_outcome : State → List ℕ → List (IndexItem (List ℕ)) → Argument → Outcome
-set_outcome s name index argument = do
-  array ← array_of s name
-  _ ← check (list_all (is_bound s) (names_in_index index ++ names_in_argument argument)) UnknownName
-  target ← target_part s array index
-  items ← argument_items s argument (descr_of s array) target.shape
-  comes_to (written s array target.places items) (codes "ok set " ++ decimal (count target.shape))
 
 -- Operands of operations and comparisons
 
@@ -292,12 +285,12 @@ worked_literal op descr literal = do
 
 -- the value of a literal, whatever the numbers of a type are
 abbrev pub literal_value : ScalarLiteral → LeafValue
-literal_value (Bytes bytes) = text (without_nuls bytes)
-literal_value literal = number (literal_number literal)
+literal_value (Bytes bytes) = leaf.text (without_nuls bytes)
+literal_value literal = leaf.number (literal_number literal)
 
 -- a literal beside an element type in a comparison: numbers are compared with numbers, and byte strings with byte strings
 unfoldable pub compared_literal : Descr → Literal → Result Values Refusal
-compared_literal descr (literal.Record values) = Err NotForThisKind
+compared_literal descr (literal.Record _) = Err NotForThisKind
 compared_literal descr (literal.Scalar literal) = do
   beside ← scalar_of descr
   _ ← check (is_castable beside literal) NotForThisKind
@@ -314,30 +307,35 @@ argument_values s op descr (argument.Literal literal) = literal_values op descr 
 
 -- X = OP operand Z, X = neg operand, X = RED Y
 
--- the type and the shape of what an operation gives, and each item
+-- the type of what an operation gives, and each item
 abbrev pub worked_type : Operation → Scalar → Scalar → Result Scalar Refusal
 worked_type (operation.Binary op) left right = promote op left right
 worked_type (operation.Compare comparison) left right = compared_type left right
 
-abbrev pub worked_result : Operation → Descr → List ℕ → Descr → List ℕ → Result (Descr × List ℕ) Refusal
-worked_result (operation.Binary op) = binary_result op
-worked_result (operation.Compare comparison) = compared_result
+unfoldable pub result_scalar : Operation → Descr → Descr → Result Scalar Refusal
+result_scalar op left right = do
+  from ← scalar_of left
+  other ← scalar_of right
+  worked_type op from other
 
-abbrev pub worked_item : Operation → Descr → List LeafValue → List LeafValue → List LeafValue
-worked_item (operation.Binary op) descr = binary_item op descr
-worked_item (operation.Compare comparison) descr = compared_item comparison
+abbrev pub worked_item : Operation → Scalar → List LeafValue → List LeafValue → List LeafValue
+worked_item (operation.Binary op) scalar = binary_item op (ScalarDescr scalar)
+worked_item (operation.Compare comparison) scalar = compared_item comparison
 
 -- what an operation gives on two operands that are broadcast together
 unfoldable pub worked : Operation → Values → Values → Result Contents Refusal
 worked op left right = do
-  result ← worked_result op left.descr left.shape right.descr right.shape
-  Ok (made result.0 result.1 (pairwise (worked_item op result.0) (left.stretched_to result.1) (right.stretched_to result.1)))
+  scalar ← result_scalar op left.descr right.descr
+  shape ← common_shape (left.shape ∷ right.shape ∷ [])
+  Ok (made (ScalarDescr scalar) shape (pairwise (worked_item op scalar) (left.stretched_to shape) (right.stretched_to shape)))
+
+abbrev pub worked_with : Operation → Values → Result Values Refusal → Result Contents Refusal
+worked_with op left right = right >>= worked op left
 
 unfoldable pub combined : State → Operation → Operand → Argument → Result Contents Refusal
 combined s op left right = do
   part ← operand_part s left
-  values ← argument_values s op (descr_of s part) right
-  worked op (values_of s part) values
+  worked_with op (values_of s part) (argument_values s op (descr_of s part) right)
 
 unfoldable pub transformed : State → UnaryOperation → Operand → Result Contents Refusal
 transformed s op operand = do
@@ -358,27 +356,40 @@ computed_outcome choice s name names contents = do
   _ ← check (list_all (is_bound s) names) UnknownName
   creation_outcome choice s name contents
 
--- upd X[ix] OP Z
+-- set X[ix] = Z, and upd X[ix] OP Z
 
--- the items of a target, changed by an operation, as items of their own type: Z is stretched to the target's shape
-unfoldable pub updated : State → states.Array → Operation → Argument → Result (List (List LeafValue)) Refusal
-updated s target op argument = do
-  values ← argument_values s op (descr_of s target) argument
-  from ← scalar_of (descr_of s target)
-  other ← scalar_of values.descr
-  scalar ← worked_type op from other
+-- items of an element type, changed by an operation with others, which are stretched to their shape, and of their own type again
+unfoldable pub changed_by : Operation → Descr → Values → Values → Result (List (List LeafValue)) Refusal
+changed_by op descr old values = do
+  scalar ← result_scalar op descr values.descr
+  from ← scalar_of descr
   _ ← same_kind scalar from
-  _ ← stretched values.shape target.shape
-  let new = pairwise (worked_item op (ScalarDescr scalar)) (read s target) (values.stretched_to target.shape)
-  Ok (map (cast_item (ScalarDescr scalar) (descr_of s target)) new)
+  _ ← stretched values.shape old.shape
+  new ← worked op old values
+  Ok (map (cast_item new.buffer.descr descr) new.buffer.items)
 
-unfoldable pub update_outcome : State → List ℕ → List (IndexItem (List ℕ)) → Operation → Argument → Outcome
-update_outcome s name index op argument = do
+abbrev pub changed_with : Operation → Descr → Values → Result Values Refusal → Result (List (List LeafValue)) Refusal
+changed_with op descr old values = values >>= changed_by op descr old
+
+abbrev pub updated : State → Descr → states.Array → Operation → Argument → Result (List (List LeafValue)) Refusal
+updated s descr target op argument = changed_with op descr (values_of s target) (argument_values s op descr argument)
+
+-- the new items of a target of an element type, where `set` has no operation
+abbrev pub new_items : State → Descr → states.Array → Option Operation → Argument → Result (List (List LeafValue)) Refusal
+new_items s descr target None argument = argument_items s argument descr target.shape
+new_items s descr target (Some op) argument = updated s descr target op argument
+
+abbrev pub written_text : Option Operation → ℕ → List ℕ
+written_text None n = codes "ok set " ++ decimal n
+written_text (Some op) n = codes "ok upd " ++ decimal n
+
+unfoldable pub write_outcome : State → List ℕ → List (IndexItem (List ℕ)) → Option Operation → Argument → Outcome
+write_outcome s name index op argument = do
   array ← array_of s name
   _ ← check (list_all (is_bound s) (names_in_index index ++ names_in_argument argument)) UnknownName
   target ← target_part s array index
-  items ← updated s target op argument
-  comes_to (written s array target.places items) (codes "ok upd " ++ decimal (count target.shape))
+  items ← new_items s (descr_of s array) target op argument
+  comes_to (written s array target.places items) (written_text op (count target.shape))
 
 -- del X
 unfoldable pub delete_outcome : State → List ℕ → Outcome
@@ -433,8 +444,8 @@ question_outcome s (question.Shares left right) = shares_outcome s left right
 
 abbrev pub outcome : Choice → State → Command → Outcome
 outcome choice s (command.Bind name value) = bind_outcome choice s name value
-outcome choice s (command.Set name index argument) = set_outcome s name index argument
-outcome choice s (command.Update name index op argument) = update_outcome s name index op argument
+outcome choice s (command.Set name index argument) = write_outcome s name index None argument
+outcome choice s (command.Update name index op argument) = write_outcome s name index (Some op) argument
 outcome choice s (command.Delete name) = delete_outcome s name
 outcome choice s (command.Ask question) = question_outcome s question
 outcome choice s _ = Err Syntax

@@ -68,7 +68,7 @@ pub fn zeros(alloc: Global, descr: &DescrText, lengths: &Lengths) -> Result<Owne
 }
 
 /// A block of so many items, each with these bytes.
-fn filled(alloc: Global, item: &[u8], items: usize) -> Result<RawBlock, AllocError>
+pub fn filled(alloc: Global, item: &[u8], items: usize) -> Result<RawBlock, AllocError>
     requires bytes { items * length item.now ≤ max_bytes }
     ensures whole { IfOk result (λ block. length block ≡ items * length item.now) }
     ensures items { IfOk result (λ block. blocks (length item.now) items block ≡ replicate items item.now) }

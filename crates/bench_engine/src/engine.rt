@@ -12,6 +12,7 @@ ghost use Rattle.bench_engine.specs.Worlds.{world};
 ghost use Rattle.bench_engine.specs.inside.ReadLines.{ReadsAs, Tells, meaning_of_read};
 
 use crate::cast::cast;
+use crate::compute::{combine, reduce, transform};
 use crate::copy::copy;
 use crate::create::make;
 use crate::delete::delete;
@@ -49,7 +50,20 @@ fn compute(
     match computation {
         Computation::Duplicate { source, order } => copy(alloc, bench, name, source, *order, out),
         Computation::Cast { source, descr } => cast(alloc, bench, name, source, descr, out),
-        _ => Err(Refusal::Syntax),
+        Computation::Combine {
+            operation,
+            left,
+            right,
+        } => combine(alloc, bench, name, *operation, left, right, out),
+        Computation::Transform { operation, operand } => {
+            transform(alloc, bench, name, *operation, operand, out)
+        }
+        Computation::Reduce {
+            reduction,
+            source,
+            axis,
+            keep,
+        } => reduce(alloc, bench, name, *reduction, source, *axis, *keep, out),
     }
 }
 
@@ -111,11 +125,17 @@ fn perform<N: NpyStore>(
 {
     match command {
         Command::Bind { name, value } => bind(alloc, bench, store, name, value, out),
-        Command::Set { name, index, value } => set(alloc, bench, name, index, value, out),
+        Command::Set { name, index, value } => set(alloc, bench, name, index, None, value, out),
+        Command::Update {
+            name,
+            index,
+            operation,
+            value,
+        } => set(alloc, bench, name, index, Some(*operation), value, out),
         Command::Delete { name } => delete(bench, name, out),
         Command::Ask(question) => reply(alloc, bench, question, out),
         Command::Save { name, file } => save(alloc, bench, store, name, file, out),
-        Command::Update { .. } | Command::Undo => Err(Refusal::Syntax),
+        Command::Undo => Err(Refusal::Syntax),
     }
 }
 

@@ -4,6 +4,8 @@
 
 mod assign;
 mod cast;
+mod compute;
+mod computed;
 mod contents;
 mod copy;
 mod create;
@@ -17,6 +19,7 @@ mod item;
 mod line;
 mod load;
 mod names;
+mod operand;
 mod part;
 mod print;
 mod replies;
@@ -29,7 +32,9 @@ mod shares;
 mod source;
 mod store_fault;
 mod taken;
+mod update;
 mod view;
+mod work;
 
 pub use engine::execute;
 pub use runner::{RunFault, run};

@@ -1,47 +1,82 @@
-//! `set X[ix] = Z`: items of an array are written.
-ghost use Rattle.std.specs.Prelude.{◌≡◌, ◌≤◌, ◌<◌, ◌+◌, ◌++◌, ◌∷◌, codes, decimal, vec_len, vec_capacity};
+//! `set X[ix] = Z` and `upd X[ix] OP Z`: items of an array are written.
+ghost use Rattle.std.specs.Prelude.{◌≡◌, ◌≤◌, ◌<◌, ◌+◌, ◌++◌, ◌∷◌, ℕ, List, true, Some, vec_len, vec_capacity};
 ghost use Rattle.std.specs.List.{list_all};
 ghost use Rattle.shape_strides.specs.Limits.{max_items};
+ghost use Rattle.shape_strides.specs.Indexes.{count};
 ghost use Rattle.name_store.specs.Arrays.{is_bound};
+ghost use Rattle.name_store.specs.Shown.{Shows};
+ghost use Rattle.name_store.specs.States.{Array};
 ghost use Rattle.bench_engine.specs.IndexLists.{names_in_index};
-ghost use Rattle.bench_engine.specs.Machine.{set_outcome, names_in_argument};
+ghost use Rattle.bench_engine.specs.Machine.{new_items, write_outcome, written_text, names_in_argument};
+ghost use Rattle.bench_engine.specs.inside.Assigns.{IsTarget, GivesItems};
 ghost use Rattle.bench_engine.specs.inside.Contract.{CarriesOut};
 
 use crate::assign::{assign, target_of};
-use crate::given::{give, has_bound};
+use crate::given::{Given, give};
 use crate::index::are_bound;
+use crate::operand::has_bound;
+use crate::update::updated;
 use elem_descr::Refusal;
 use itoa::Buffer;
-use name_store::Bench;
-use script_lang::{Argument, Index, Name};
+use name_store::{ArrayRef, Bench, Target};
+use script_lang::{Argument, Index, Name, Operation};
 use std::alloc::Global;
 
-/// Appends `ok set N`. It takes no memory.
-fn push_count(out: &mut Vec<u8>, count: usize)
+/// Appends `ok set N`, or `ok upd N`. It takes no memory.
+fn push_count(out: &mut Vec<u8>, operation: Option<Operation>, count: usize)
     requires count { count ≤ max_items }
     requires room { vec_len out.old + 64 ≤ vec_capacity out.old }
-    ensures told { out.new.items ≡ out.old.items ++ (codes "ok set " ++ decimal count) }
+    ensures told { out.new.items ≡ out.old.items ++ written_text operation count }
     ensures room { vec_capacity out.old ≤ vec_capacity out.new }
 {
     let mut buffer = Buffer::new();
-    out.extend_from_slice(b"ok set ").unwrap();
+    let done = match operation {
+        None => b"ok set ",
+        Some(_) => b"ok upd ",
+    };
+    out.extend_from_slice(done).unwrap();
     out.extend_from_slice(buffer.format(count).as_bytes())
         .unwrap();
 }
 
-/// Writes what stands behind `=` to the items of a name's array that an index list takes.
+/// The new items of a target in an array: those of the argument, or what an operation gives with it.
+fn new_items<'a>(
+    alloc: Global,
+    bench: &Bench,
+    array: &ArrayRef<'_>,
+    target: &Target,
+    operation: Option<Operation>,
+    value: &'a Argument,
+) -> Result<Given<'a>, Refusal>
+    requires bound { list_all (is_bound bench.now) (names_in_argument value.now) ≡ true }
+    requires target { (name : List ℕ) × (a : Array) × (part : Array) × Shows bench.now a array.now × IsTarget bench.now name a part target.now }
+    ensures { (name : List ℕ) (a part : Array) → Shows bench.now a array.now → IsTarget bench.now name a part target.now
+        → GivesItems bench.now array.now.descr.now (count part.shape) result (new_items bench.now array.now.descr.now part operation value.now) }
+{
+    match operation {
+        None => give(alloc, bench, value, target.shape(), array.descr),
+        Some(operation) => {
+            let owned = updated(alloc, bench, array, target, operation, value)?;
+            Ok(Given::Own(owned))
+        }
+    }
+}
+
+/// Writes to the items of a name's array that an index list takes: what stands behind `=`, or what the
+/// operation of `upd` gives on them and what stands behind it.
 pub fn set(
     alloc: Global,
     bench: &mut Bench,
     name: &Name,
     index: &Index,
+    operation: Option<Operation>,
     value: &Argument,
     out: &mut Vec<u8>,
 ) -> Result<(), Refusal>
     requires room { vec_len out.old + 64 ≤ vec_capacity out.old }
     ensures room { vec_capacity out.old ≤ vec_capacity out.new }
     ensures answers { CarriesOut (list_all (is_bound bench.old) (name.now ∷ names_in_index index.now ++ names_in_argument value.now))
-        (λ choice. set_outcome bench.old name.now index.now value.now) bench.old bench.new out.old.items out.new.items result }
+        (λ choice. write_outcome bench.old name.now index.now operation value.now) bench.old bench.new out.old.items out.new.items result }
 {
     let Some(array) = bench.get(name) else {
         return Err(Refusal::UnknownName);
@@ -53,11 +88,10 @@ pub fn set(
         return Err(Refusal::UnknownName);
     }
     let target = target_of(alloc, bench, &array, index.as_slice())?;
-    let shape = target.shape();
-    let items = give(alloc, bench, value, shape, array.descr)?;
+    let items = new_items(alloc, bench, &array, &target, operation, value)?;
     // What is known of the number of items of a shape comes with this call.
-    let _count = shape.items();
+    let _count = target.shape().items();
     let count = assign(alloc, bench, name, target, items)?;
-    push_count(out, count);
+    push_count(out, operation, count);
     Ok(())
 }

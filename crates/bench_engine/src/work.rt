@@ -1,26 +1,36 @@
 //! What an operation gives on operands.
-ghost use Rattle.std.specs.Prelude.{◌≡◌, ◌≤◌, ◌+◌, ◌∷◌, [], true, length, map, All, IfOk, Ok};
+ghost use Rattle.std.specs.Prelude.{◌≡◌, ◌≤◌, ◌+◌, ◌∷◌, [], true, length, map, All, IfOk};
 ghost use Rattle.std.specs.List.{list_all};
-ghost use Rattle.elem_descr.specs.Refusals.{Gives, Answers, ◌>>=◌};
+ghost use Rattle.elem_descr.specs.Refusals.{Gives, Answers};
+ghost use Rattle.elem_descr.specs.declared.descr.Descr.TheVariants.{Scalar as ScalarDescr};
 ghost use Rattle.elem_descr.specs.Blocks.{item_from};
 ghost use Rattle.elem_descr.specs.Items.{item_size};
 ghost use Rattle.shape_strides.specs.Layouts.{offsets};
-ghost use Rattle.literal_items.specs.LiteralItems.{item_value};
+ghost use Rattle.elem_descr.specs.Values as leaf;
+ghost use Rattle.elementwise.specs.Promotion.{promote};
+ghost use Rattle.elementwise.specs.Results.{integer_compared_result, compared_item};
+ghost use Rattle.literal_items.specs.LiteralItems.{item_value, literal_number};
+ghost use Rattle.script_lang.specs.declared.literal.ScalarLiteral.TheVariants.{Boolean};
 ghost use Rattle.script_lang.specs.declared.command.Argument.TheVariants as argument;
 ghost use Rattle.script_lang.specs.declared.operation.Operation.TheVariants as operation;
 ghost use Rattle.name_store.specs.Arrays.{is_bound};
-ghost use Rattle.bench_engine.specs.Machine.{Values, literal_scalar, worked_literal, compared_literal, literal_values, argument_values, names_in_argument, worked, worked_type};
+ghost use Rattle.bench_engine.specs.Machine.{Values, literal_value, literal_scalar, worked_literal, compared_literal, literal_values, argument_values, names_in_argument, result_scalar, worked, worked_with};
 ghost use Rattle.bench_engine.specs.inside.Operands.{Stands, GivesStanding};
-ghost use Rattle.bench_engine.specs.inside.OwnContents.{held};
+ghost use Rattle.bench_engine.specs.inside.OwnContents.{held, IsInCOrder};
 
 use crate::contents::filled;
 use crate::item::item_of;
 use crate::operand::{items_taken, operand_items};
 use elem_descr::{Descr, Refusal, Scalar};
-use elementwise::{Items, apply2, compare, compare_bytes, compare_integer, compared_type, literal_type, promote, scalar_of};
+use elementwise::{
+    Items, apply2, compare, compare_bytes, compare_integer, compared_type, literal_type, promote,
+    scalar_of,
+};
 use name_store::Bench;
 use overlap_copy::Owned;
-use script_lang::{Argument, BinaryOperation, Comparison, Literal, Operand, Operation, ScalarLiteral};
+use script_lang::{
+    Argument, BinaryOperation, Comparison, Literal, Operand, Operation, ScalarLiteral,
+};
 use shape_strides::{MemoryOrder, Shape};
 use std::alloc::Global;
 
@@ -39,12 +49,14 @@ pub fn items_of(owned: &Owned) -> Items<'_>
 }
 
 /// The type of what an operation gives on items of two types.
-pub fn worked_type(operation: Operation, left: Scalar, right: Scalar) -> Result<Scalar, Refusal>
-    ensures { Answers (λ s. s) result (worked_type operation left right) }
+pub fn result_scalar(operation: Operation, left: &Descr, right: &Descr) -> Result<Scalar, Refusal>
+    ensures { Answers (λ s. s) result (result_scalar operation left.now right.now) }
 {
+    let from = scalar_of(left)?;
+    let other = scalar_of(right)?;
     match operation {
-        Operation::Binary(op) => promote(op, left, right),
-        Operation::Compare(_) => compared_type(left, right),
+        Operation::Binary(op) => promote(op, from, other),
+        Operation::Compare(_) => compared_type(from, other),
     }
 }
 
@@ -57,7 +69,8 @@ pub fn work(
 ) -> Result<Owned, Refusal>
     requires left { All (λ offset. offset + item_size left.descr.now ≤ length left.block.now) (offsets left.layout.now) }
     requires right { All (λ offset. offset + item_size right.descr.now ≤ length right.block.now) (offsets right.layout.now) }
-    ensures { (v w : Values) → Stands v left.entry → Stands w right.entry → Gives held result (worked operation v w) }
+    ensures gives { (v w : Values) → Stands v left.entry → Stands w right.entry → Gives held result (worked operation v w) }
+    ensures order { IfOk result IsInCOrder }
 {
     match operation {
         Operation::Binary(op) => apply2(alloc, op, left, right),
@@ -67,12 +80,16 @@ pub fn work(
 
 // ---- literals
 
-/// The one item that a literal is, of an array of no axes.
-fn single(alloc: Global, descr: Descr, literal: &Literal) -> Result<Owned, Refusal>
-    ensures descr { IfOk result (λ o. o.descr ≡ descr) }
+/// The one item that a literal is of a scalar, in an array of no axes.
+fn single(alloc: Global, scalar: &Scalar, literal: &Literal) -> Result<Owned, Refusal>
+    ensures descr { IfOk result (λ o. o.descr ≡ ScalarDescr scalar.now) }
     ensures shape { IfOk result (λ o. o.layout.shape ≡ []) }
-    ensures item { Gives (λ o. map (item_from o.descr o.block) (offsets o.layout)) result (item_value descr literal.now >>= (λ item. Ok (item ∷ []))) }
+    ensures offsets { IfOk result (λ o. offsets o.layout ≡ 0 ∷ []) }
+    ensures item { Gives (λ o. item_from o.descr o.block 0) result (item_value (ScalarDescr scalar.now) literal.now) }
 {
+    let descr = Descr::Scalar(*scalar);
+    // What is known of the size of an item comes with this call.
+    let _size = descr.size();
     let item = item_of(alloc, &descr, literal)?;
     let block = filled(alloc, item.as_slice(), 1)?;
     drop(item);
@@ -82,17 +99,24 @@ fn single(alloc: Global, descr: Descr, literal: &Literal) -> Result<Owned, Refus
 }
 
 /// The type that a literal has beside a scalar. Bytes and records are no operands.
-fn literal_scalar(beside: Scalar, literal: &Literal) -> Result<Scalar, Refusal>
-    ensures { Answers (λ s. s) result (literal_scalar beside literal.now) }
+fn literal_scalar(beside: &Scalar, literal: &Literal) -> Result<Scalar, Refusal>
+    ensures { Answers (λ s. s) result (literal_scalar beside.now literal.now) }
 {
     let Literal::Scalar(literal) = literal else {
         return Err(Refusal::NotForThisKind);
     };
     match literal {
-        ScalarLiteral::Integer(_) => Ok(literal_type(beside)),
+        ScalarLiteral::Integer(_) => Ok(literal_type(*beside)),
         ScalarLiteral::Boolean(_) => Ok(Scalar::Bool),
         ScalarLiteral::Bytes(_) => Err(Refusal::NotForThisKind),
     }
+}
+
+/// The type of what an operation gives on items of a scalar and a literal of another.
+fn promoted(op: BinaryOperation, beside: &Scalar, scalar: &Scalar) -> Result<Scalar, Refusal>
+    ensures { Answers (λ s. s) result (promote op beside.now scalar.now) }
+{
+    promote(op, *beside, *scalar)
 }
 
 /// The item that a literal is beside items of an element type.
@@ -105,9 +129,49 @@ fn worked_literal(
     ensures { GivesStanding result (worked_literal op descr.now literal.now) }
 {
     let beside = scalar_of(descr)?;
-    let scalar = literal_scalar(beside, literal)?;
-    promote(op, beside, scalar)?;
-    single(alloc, Descr::Scalar(scalar), literal)
+    let scalar = literal_scalar(&beside, literal)?;
+    promoted(op, &beside, &scalar)?;
+    single(alloc, &scalar, literal)
+}
+
+/// The number that a bool is.
+fn number_of(value: &bool) -> i128
+    ensures { result ≡ literal_number (Boolean value.now) }
+{
+    if *value { 1 } else { 0 }
+}
+
+/// A comparison of items with a number.
+fn compare_number(
+    alloc: Global,
+    comparison: Comparison,
+    operand: Items<'_>,
+    number: &i128,
+) -> Result<Owned, Refusal>
+    requires inside { All (λ offset. offset + item_size operand.descr.now ≤ length operand.block.now) (offsets operand.layout.now) }
+    ensures gives { Gives (λ o. (o.descr, o.layout.shape)) result (integer_compared_result operand.entry.descr.now operand.entry.layout.now.shape) }
+    ensures order { IfOk result IsInCOrder }
+    ensures items { IfOk result (λ o. map (item_from o.descr o.block) (offsets o.layout)
+        ≡ map (λ offset. compared_item comparison (item_from operand.entry.descr.now operand.entry.block.now offset) (leaf.number number.now ∷ [])) (offsets operand.entry.layout.now)) }
+{
+    compare_integer(alloc, comparison, operand, *number)
+}
+
+/// A comparison of items with a bool.
+fn compare_bool(
+    alloc: Global,
+    comparison: Comparison,
+    operand: Items<'_>,
+    value: &bool,
+) -> Result<Owned, Refusal>
+    requires inside { All (λ offset. offset + item_size operand.descr.now ≤ length operand.block.now) (offsets operand.layout.now) }
+    ensures gives { Gives (λ o. (o.descr, o.layout.shape)) result (integer_compared_result operand.entry.descr.now operand.entry.layout.now.shape) }
+    ensures order { IfOk result IsInCOrder }
+    ensures items { IfOk result (λ o. map (item_from o.descr o.block) (offsets o.layout)
+        ≡ map (λ offset. compared_item comparison (item_from operand.entry.descr.now operand.entry.block.now offset) (literal_value (Boolean value.now) ∷ [])) (offsets operand.entry.layout.now)) }
+{
+    let number = number_of(value);
+    compare_integer(alloc, comparison, operand, number)
 }
 
 /// A comparison of items with a literal, by value.
@@ -118,16 +182,17 @@ fn compare_literal(
     literal: &Literal,
 ) -> Result<Owned, Refusal>
     requires left { All (λ offset. offset + item_size left.descr.now ≤ length left.block.now) (offsets left.layout.now) }
-    ensures { (v : Values) → Stands v left.entry → Gives held result (compared_literal v.descr literal.now >>= worked (operation.Compare comparison) v) }
+    ensures gives { (v : Values) → Stands v left.entry → Gives held result (worked_with (operation.Compare comparison) v (compared_literal v.descr literal.now)) }
+    ensures order { IfOk result IsInCOrder }
 {
     let Literal::Scalar(literal) = literal else {
         return Err(Refusal::NotForThisKind);
     };
+    // What is known of a shape comes with this call.
+    let _lengths = left.layout.shape.as_slice();
     match literal {
-        ScalarLiteral::Integer(value) => compare_integer(alloc, comparison, left, *value),
-        ScalarLiteral::Boolean(value) => {
-            compare_integer(alloc, comparison, left, i128::from(*value))
-        }
+        ScalarLiteral::Integer(value) => compare_number(alloc, comparison, left, value),
+        ScalarLiteral::Boolean(value) => compare_bool(alloc, comparison, left, value),
         ScalarLiteral::Bytes(bytes) => compare_bytes(alloc, comparison, left, bytes.as_slice()),
     }
 }
@@ -140,7 +205,8 @@ pub fn work_literal(
     literal: &Literal,
 ) -> Result<Owned, Refusal>
     requires left { All (λ offset. offset + item_size left.descr.now ≤ length left.block.now) (offsets left.layout.now) }
-    ensures { (v : Values) → Stands v left.entry → Gives held result (literal_values operation v.descr literal.now >>= worked operation v) }
+    ensures gives { (v : Values) → Stands v left.entry → Gives held result (worked_with operation v (literal_values operation v.descr literal.now)) }
+    ensures order { IfOk result IsInCOrder }
 {
     match operation {
         Operation::Binary(op) => {
@@ -148,5 +214,42 @@ pub fn work_literal(
             apply2(alloc, op, left, items_of(&item))
         }
         Operation::Compare(comparison) => compare_literal(alloc, comparison, left, literal),
+    }
+}
+
+// ---- operands
+
+/// What an operation gives on items and an operand.
+fn work_operand(
+    alloc: Global,
+    bench: &Bench,
+    operation: Operation,
+    left: Items<'_>,
+    operand: &Operand,
+) -> Result<Owned, Refusal>
+    requires bound { list_all (is_bound bench.now) (names_in_argument (argument.Operand operand.now)) ≡ true }
+    requires left { All (λ offset. offset + item_size left.descr.now ≤ length left.block.now) (offsets left.layout.now) }
+    ensures { (v : Values) → Stands v left.entry → Gives held result (worked_with operation v (argument_values bench.now operation v.descr (argument.Operand operand.now))) }
+{
+    let array = bench.get(&operand.name).unwrap();
+    let taken = operand_items(alloc, bench, &array, &operand.index)?;
+    work(alloc, operation, left, items_taken(&array, &taken))
+}
+
+/// What an operation gives on items and an argument.
+pub fn work_argument(
+    alloc: Global,
+    bench: &Bench,
+    operation: Operation,
+    left: Items<'_>,
+    right: &Argument,
+) -> Result<Owned, Refusal>
+    requires bound { list_all (is_bound bench.now) (names_in_argument right.now) ≡ true }
+    requires left { All (λ offset. offset + item_size left.descr.now ≤ length left.block.now) (offsets left.layout.now) }
+    ensures { (v : Values) → Stands v left.entry → Gives held result (worked_with operation v (argument_values bench.now operation v.descr right.now)) }
+{
+    match right {
+        Argument::Literal(literal) => work_literal(alloc, operation, left, literal),
+        Argument::Operand(operand) => work_operand(alloc, bench, operation, left, operand),
     }
 }

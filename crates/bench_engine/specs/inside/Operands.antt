@@ -9,6 +9,9 @@ use Rattle.broadcasting.specs.Broadcasts.{can_stretch}
 use Rattle.elementwise.specs.Results.{stretched_items}
 use Rattle.elementwise.specs.declared.operands.Items.{Items}
 use Rattle.overlap_copy.specs.declared.owned.Owned.{Owned}
+use Rattle.elem_descr.specs.declared.descr.Descr.{Descr}
+use Rattle.elem_descr.specs.Values.{LeafValue}
+use Rattle.name_store.specs.Targets.{HasItems}
 use Rattle.name_store.specs.States.{State, Array}
 use Rattle.name_store.specs.Arrays.{descr_of, read}
 use Rattle.bench_engine.specs.Machine.{Values}
@@ -41,3 +44,10 @@ abbrev pub GivesStanding : Result Owned Refusal → Result Values Refusal → Ty
 GivesStanding (Ok o) (Ok v) = OwnStands v o
 GivesStanding (Ok o) (Err refusal) = ⊥
 GivesStanding (Err refusal) there = (refusal ≡ OutOfMemory) ⊎ (there ≡ Err refusal)
+
+-- a block has n items of an element type, which are those that are there; a refusal is the one that is there, unless memory
+-- ran out
+abbrev pub GivesChanged : Descr → ℕ → Result Owned Refusal → Result (List (List LeafValue)) Refusal → Type 0
+GivesChanged descr n (Ok o) (Ok items) = HasItems o descr n × (map (item_from o.descr o.block) (offsets o.layout) ≡ items)
+GivesChanged descr n (Ok o) (Err refusal) = ⊥
+GivesChanged descr n (Err refusal) there = (refusal ≡ OutOfMemory) ⊎ (there ≡ Err refusal)

@@ -1,4 +1,4 @@
-use Rattle.script_lang.specs.declared.command.Command.TheVariants.{Set, Delete, Ask}
+use Rattle.script_lang.specs.declared.command.Command.TheVariants.{Set, Update, Delete, Ask}
 use Rattle.bench_engine.proofs.Cases.{carried, not_carried_out}
 use Rattle.bench_engine.proofs.engine.perform.Goals as goal
 
@@ -9,6 +9,10 @@ pub returns-in-Set-clause-answers : goal.returns-in-Set-clause-answers
 returns-in-Set-clause-answers g c =
     rw c.in-Set.is (carried _ _ _ (Set c.in-Set.name c.in-Set.index c.in-Set.value) _ _ _ c.set.ensures.answers)
 
+pub returns-in-Update-clause-answers : goal.returns-in-Update-clause-answers
+returns-in-Update-clause-answers g c =
+    rw c.in-Update.is (carried _ _ _ (Update c.in-Update.name c.in-Update.index c.in-Update.operation c.in-Update.value) _ _ _ c.set-in-Update.ensures.answers)
+
 pub returns-in-Delete-clause-answers : goal.returns-in-Delete-clause-answers
 returns-in-Delete-clause-answers g c = rw c.in-Delete.is (carried _ _ _ (Delete c.in-Delete.name) _ _ _ c.delete.ensures.answers)
 
@@ -18,8 +22,5 @@ returns-in-Ask-clause-answers g c = rw c.in-Ask.is (carried _ _ _ (Ask c.in-Ask.
 pub returns-in-Save-clause-answers : goal.returns-in-Save-clause-answers
 returns-in-Save-clause-answers g c = rw c.in-Save.is c.save.ensures.answers
 
-pub returns-in-Update-clause-answers : goal.returns-in-Update-clause-answers
-returns-in-Update-clause-answers g c = not_carried_out _ _ _ _ c.in-Update.is
-
-pub returns-in-Update-2-clause-answers : goal.returns-in-Update-2-clause-answers
-returns-in-Update-2-clause-answers g c = not_carried_out _ _ _ _ c.in-Update.is
+pub returns-in-Undo-clause-answers : goal.returns-in-Undo-clause-answers
+returns-in-Undo-clause-answers g c = not_carried_out _ _ _ _ c.in-Undo.is

@@ -8,7 +8,7 @@ use Rattle.shape_strides.specs.Limits.{max_bytes}
 use Rattle.name_store.specs.Arrays.{descr_of, written}
 use Rattle.name_store.specs.ArrayLaws.{found-array as found}
 use Rattle.name_store.specs.Targets.{target_offsets}
-use Rattle.bench_engine.specs.Machine.{target_part, argument_items, comes_to}
+use Rattle.bench_engine.specs.Machine.{target_part, new_items, written_text, comes_to}
 use Rattle.bench_engine.specs.inside.Assigns.{GivesTarget, AreFor, given_items}
 use Rattle.bench_engine.proofs.Looks.{unchanged, not_found}
 use Rattle.bench_engine.proofs.SetOutcomes.{set-unknown, set-unbound, set-target, set-items, set-done, both-bound, all-bound, given-target, given-given}
@@ -17,19 +17,19 @@ use Rattle.bench_engine.proofs.Views.{refused-or}
 use Rattle.bench_engine.proofs.set.set.Goals as goal
 
 pub returns-in_default-clause-answers : goal.returns-in_default-clause-answers
-returns-in_default-clause-answers c = (refl, unchanged _, inr (λ choice. set-unknown _ _ _ _ (not_found _ _ c.in_default.ensures)))
+returns-in_default-clause-answers c = (refl, unchanged _, inr (λ choice. set-unknown _ _ _ _ _ (not_found _ _ c.in_default.ensures)))
 
 pub returns-then-not-are_bound-clause-answers : goal.returns-then-not-are_bound-clause-answers
 returns-then-not-are_bound-clause-answers c =
     let it = found c.args.bench.now _ c.in-Some.array c.in-Some.ensures in
     let left = rw c.as_slice.ensures at (sym c.if-not-are_bound.ensures) in
-    (refl, unchanged _, inr (λ choice. set-unbound _ _ _ _ it.0 it.1 (both-bound c.args.bench.now c.args.name.now c.args.index.now c.args.value.now _ _ left refl)))
+    (refl, unchanged _, inr (λ choice. set-unbound _ _ _ _ _ it.0 it.1 (both-bound c.args.bench.now c.args.name.now c.args.index.now c.args.operation c.args.value.now _ _ left refl)))
 
 pub returns-then-not-has_bound-clause-answers : goal.returns-then-not-has_bound-clause-answers
 returns-then-not-has_bound-clause-answers c =
     let it = found c.args.bench.now _ c.in-Some.array c.in-Some.ensures in
     let left = rw c.as_slice.ensures at (sym c.if-not-are_bound.ensures) in
-    (refl, unchanged _, inr (λ choice. set-unbound _ _ _ _ it.0 it.1 (both-bound c.args.bench.now c.args.name.now c.args.index.now c.args.value.now _ _ left (sym c.if-not-has_bound.ensures))))
+    (refl, unchanged _, inr (λ choice. set-unbound _ _ _ _ _ it.0 it.1 (both-bound c.args.bench.now c.args.name.now c.args.index.now c.args.operation c.args.value.now _ _ left (sym c.if-not-has_bound.ensures))))
 
 pub returns-in_err-target-clause-answers : goal.returns-in_err-target-clause-answers
 returns-in_err-target-clause-answers c =
@@ -38,21 +38,21 @@ returns-in_err-target-clause-answers c =
     let it = found s _ c.in-Some.array c.in-Some.ensures in
     let left = rw c.as_slice.ensures at (sym c.if-not-are_bound.ensures) in
     let right = sym c.if-not-has_bound.ensures in
-    let named = both-bound s c.args.name.now c.args.index.now c.args.value.now _ _ left right in
+    let named = both-bound s c.args.name.now c.args.index.now c.args.operation c.args.value.now _ _ left right in
     let gives = subst (λ (index : List (IndexItem (List ℕ))). GivesTarget s c.args.name.now it.0 (Err c.in_err-target.field-0.0) (target_part s it.0 index)) c.as_slice-2.ensures (c.in_err-target.ensures c.args.name.now it.0 it.1 it.2) in
     rw (p.1, p.2) (
       refl,
       unchanged _,
-      refused-or _ _ _ (target_part s it.0 c.args.index.now) (all-bound s c.args.name.now c.args.index.now c.args.value.now it.0 it.1 left right) gives
-          (λ bad choice. set-target s c.args.name.now c.args.index.now c.args.value.now it.0 _ it.1 named bad),
+      refused-or _ _ _ (target_part s it.0 c.args.index.now) (all-bound s c.args.name.now c.args.index.now c.args.operation c.args.value.now it.0 it.1 left right) gives
+          (λ bad choice. set-target s c.args.name.now c.args.index.now c.args.operation c.args.value.now it.0 _ it.1 named bad),
     )
 
-pub give-requires-clause-few : goal.give-requires-clause-few
-give-requires-clause-few c =
+pub new_items-requires : goal.new_items-requires
+new_items-requires c =
     let s = c.args.bench.now in
     let it = found s _ c.in-Some.array c.in-Some.ensures in
     let part = given-target s c.args.name.now it.0 c.in_ok-target.target (target_part s it.0 c.as_slice-2.result.now) (c.in_ok-target.ensures c.args.name.now it.0 it.1 it.2) in
-    subst (λ n. n ≤ max_bytes) (λ i. (part.2.counted ∙ ap count (sym c.shape-shape.ensures)) i * item_size (it.2.descr i)) part.2.few
+    record { bound = sym c.if-not-has_bound.ensures; target = (c.args.name.now, it.0, part.0, it.2, part.2) }
 
 pub returns-in_err-items-clause-answers : goal.returns-in_err-items-clause-answers
 returns-in_err-items-clause-answers c =
@@ -61,15 +61,14 @@ returns-in_err-items-clause-answers c =
     let it = found s _ c.in-Some.array c.in-Some.ensures in
     let left = rw c.as_slice.ensures at (sym c.if-not-are_bound.ensures) in
     let right = sym c.if-not-has_bound.ensures in
-    let named = both-bound s c.args.name.now c.args.index.now c.args.value.now _ _ left right in
+    let named = both-bound s c.args.name.now c.args.index.now c.args.operation c.args.value.now _ _ left right in
     let part = given-target s c.args.name.now it.0 c.in_ok-target.target (target_part s it.0 c.as_slice-2.result.now) (c.in_ok-target.ensures c.args.name.now it.0 it.1 it.2) in
-    let shaped = c.shape-shape.ensures ∙ ap (λ a. a.shape) (sym part.2.part_is) in
     rw (p.1, p.2) (
       refl,
       unchanged _,
-      refused-or _ _ _ (argument_items s c.args.value.now c.in-Some.array.descr.now c.shape-shape.result.now) (all-bound s c.args.name.now c.args.index.now c.args.value.now it.0 it.1 left right) c.in_err-items.ensures
-          (λ bad choice. set-items s c.args.name.now c.args.index.now c.args.value.now it.0 part.0 _ it.1 named (ap (target_part s it.0) (sym c.as_slice-2.ensures) ∙ part.1)
-          ((λ i. argument_items s c.args.value.now (it.2.descr i) (sym shaped i)) ∙ bad)),
+      refused-or _ _ _ (new_items s c.in-Some.array.descr.now part.0 c.args.operation c.args.value.now) (all-bound s c.args.name.now c.args.index.now c.args.operation c.args.value.now it.0 it.1 left right) (c.in_err-items.ensures c.args.name.now it.0 part.0 it.2 part.2)
+          (λ bad choice. set-items s c.args.name.now c.args.index.now c.args.operation c.args.value.now it.0 part.0 _ it.1 named (ap (target_part s it.0) (sym c.as_slice-2.ensures) ∙ part.1)
+          ((λ i. new_items s (it.2.descr i) part.0 c.args.operation c.args.value.now) ∙ bad)),
     )
 
 pub assign-requires : goal.assign-requires
@@ -77,7 +76,7 @@ assign-requires c =
     let s = c.args.bench.now in
     let it = found s _ c.in-Some.array c.in-Some.ensures in
     let part = given-target s c.args.name.now it.0 c.in_ok-target.target (target_part s it.0 c.as_slice-2.result.now) (c.in_ok-target.ensures c.args.name.now it.0 it.1 it.2) in
-    let given = given-given s c.in-Some.array.descr.now (count c.shape-shape.result.now) c.in_ok-items.items (argument_items s c.args.value.now c.in-Some.array.descr.now c.shape-shape.result.now) c.in_ok-items.ensures in
+    let given = given-given s c.in-Some.array.descr.now (count part.0.shape) c.in_ok-items.items (new_items s c.in-Some.array.descr.now part.0 c.args.operation c.args.value.now) (c.in_ok-items.ensures c.args.name.now it.0 part.0 it.2 part.2) in
     record {
       aim = (
         it.0,
@@ -85,7 +84,7 @@ assign-requires c =
         part.2.leads,
         part.2.may_write,
         subst (λ (d : Descr). AreFor s d (length (target_offsets c.in_ok-target.target)) c.in_ok-items.items) (sym it.2.descr)
-            (subst (λ n. AreFor s c.in-Some.array.descr.now n c.in_ok-items.items) (ap count c.shape-shape.ensures ∙ sym part.2.counted) given.2),
+            (subst (λ n. AreFor s c.in-Some.array.descr.now n c.in_ok-items.items) (ap count (ap (λ a. a.shape) part.2.part_is) ∙ sym part.2.counted) given.2),
       );
     }
 
@@ -96,14 +95,14 @@ returns-in_err-count-clause-answers c =
     let it = found s _ c.in-Some.array c.in-Some.ensures in
     let left = rw c.as_slice.ensures at (sym c.if-not-are_bound.ensures) in
     let right = sym c.if-not-has_bound.ensures in
-    rw p.1 (c.in_err-count.ensures.refused.0, unchanged _, inl (p.2 ∙ c.in_err-count.ensures.refused.1, all-bound s c.args.name.now c.args.index.now c.args.value.now it.0 it.1 left right))
+    rw p.1 (c.in_err-count.ensures.refused.0, unchanged _, inl (p.2 ∙ c.in_err-count.ensures.refused.1, all-bound s c.args.name.now c.args.index.now c.args.operation c.args.value.now it.0 it.1 left right))
 
 pub push_count-requires-clause-count : goal.push_count-requires-clause-count
 push_count-requires-clause-count c =
     let s = c.args.bench.now in
     let it = found s _ c.in-Some.array c.in-Some.ensures in
     let part = given-target s c.args.name.now it.0 c.in_ok-target.target (target_part s it.0 c.as_slice-2.result.now) (c.in_ok-target.ensures c.args.name.now it.0 it.1 it.2) in
-    omega (arith, c.in_ok-count.ensures.count, part.2.counted, ap count c.shape-shape.ensures, c.items-count.ensures.value, c.items-count.ensures.limit)
+    omega (arith, c.in_ok-count.ensures.count, part.2.counted, ap count c.shape.ensures, c.items-count.ensures.value, c.items-count.ensures.limit)
 
 pub returns-clause-answers : goal.returns-clause-answers
 returns-clause-answers c =
@@ -111,21 +110,20 @@ returns-clause-answers c =
     let it = found s _ c.in-Some.array c.in-Some.ensures in
     let left = rw c.as_slice.ensures at (sym c.if-not-are_bound.ensures) in
     let right = sym c.if-not-has_bound.ensures in
-    let named = both-bound s c.args.name.now c.args.index.now c.args.value.now _ _ left right in
+    let named = both-bound s c.args.name.now c.args.index.now c.args.operation c.args.value.now _ _ left right in
     let part = given-target s c.args.name.now it.0 c.in_ok-target.target (target_part s it.0 c.as_slice-2.result.now) (c.in_ok-target.ensures c.args.name.now it.0 it.1 it.2) in
-    let shaped = c.shape-shape.ensures ∙ ap (λ a. a.shape) (sym part.2.part_is) in
-    let given = given-given s c.in-Some.array.descr.now (count c.shape-shape.result.now) c.in_ok-items.items (argument_items s c.args.value.now c.in-Some.array.descr.now c.shape-shape.result.now) c.in_ok-items.ensures in
+    let given = given-given s c.in-Some.array.descr.now (count part.0.shape) c.in_ok-items.items (new_items s c.in-Some.array.descr.now part.0 c.args.operation c.args.value.now) (c.in_ok-items.ensures c.args.name.now it.0 part.0 it.2 part.2) in
     let n = c.in_ok-count.ensures.count ∙ part.2.counted ∙ ap count (ap (λ a. a.shape) (sym part.2.part_is)) in
-    let counted = c.in_ok-count.ensures.count ∙ part.2.counted ∙ ap count (sym c.shape-shape.ensures) in
+    let counted = n in
     let items-are = (λ i. given_items s (it.2.descr i) (counted i) c.in_ok-items.items) ∙ given.3 in
     let done : c.assign.new.bench ≡ written s it.0 part.0.places given.0 =
     c.in_ok-count.ensures.written it.0 part.2.places part.2.leads ∙ (λ i. written s it.0 (sym part.2.part_is i).places (items-are i)) in
     let any = spare s in (
       any.0,
       any.1,
-      codes "ok set " ++ decimal (count part.0.shape),
-      set-done s c.args.name.now c.args.index.now c.args.value.now it.0 part.0 given.0 it.1 named (ap (target_part s it.0) (sym c.as_slice-2.ensures) ∙ part.1)
-          ((λ i. argument_items s c.args.value.now (it.2.descr i) (sym shaped i)) ∙ given.1)
-          ∙ (λ i. comes_to (sym done i) (codes "ok set " ++ decimal (count part.0.shape))),
-      c.push_count.ensures.told ∙ ap (λ n. c.args.out.now.items ++ (codes "ok set " ++ decimal n)) n,
+      written_text c.args.operation (count part.0.shape),
+      set-done s c.args.name.now c.args.index.now c.args.operation c.args.value.now it.0 part.0 given.0 it.1 named (ap (target_part s it.0) (sym c.as_slice-2.ensures) ∙ part.1)
+          ((λ i. new_items s (it.2.descr i) part.0 c.args.operation c.args.value.now) ∙ given.1)
+          ∙ (λ i. comes_to (sym done i) (written_text c.args.operation (count part.0.shape))),
+      c.push_count.ensures.told ∙ ap (λ n. c.args.out.now.items ++ (written_text c.args.operation n)) n,
     )

@@ -1,0 +1,105 @@
+-- A name bound to what is computed of other arrays.
+use Rattle.std.proofs.Common.{◌≡◌, ◌⊎◌, ◌&&◌, ◌<◌, ◌≤◌, ◌+◌, ◌*◌, ℕ, ℤ, zero, suc, Bool, true, false, Option, Some, None, is_some, unwrap_or, List, [], ◌∷◌, ◌++◌, length, map, get_or, slice_index, All, IfOk, Result, Ok, Err, refl, sym, ap, ◌∙◌, subst, inl, inr, arith}
+use Rattle.std.specs.List.{list_all, insert, remove, range_with_len}
+use Rattle.std.specs.Result.{is_ok}
+use Rattle.std.proofs.lemmas.Bool.{false≢true}
+use Rattle.std.proofs.lemmas.List.Folds.{list_all-append}
+use Rattle.elem_descr.specs.declared.refusal.Refusal.{Refusal}
+use Rattle.elem_descr.specs.declared.refusal.Refusal.TheVariants.{UnknownName, OutOfMemory}
+use Rattle.elem_descr.specs.declared.descr.Descr.{Descr}
+use Rattle.elem_descr.specs.Refusals.{Gives, ◌>>=◌}
+use Rattle.elem_descr.specs.Blocks.{item_from}
+use Rattle.elem_descr.specs.Values.{LeafValue}
+use Rattle.shape_strides.specs.declared.index_item.IndexItem.{IndexItem}
+use Rattle.shape_strides.specs.declared.index_item.IndexItem.TheVariants.{Ellipsis}
+use Rattle.shape_strides.specs.declared.memory_order.MemoryOrder.TheVariants.{C}
+use Rattle.shape_strides.specs.Layouts.{offsets}
+use Rattle.view_ops.specs.Views.{View}
+use Rattle.elementwise.specs.Results.{unary_result, unary_item}
+use Rattle.elementwise.specs.declared.operands.Items.{Items}
+use Rattle.overlap_copy.specs.declared.owned.Owned.{Owned}
+use Rattle.script_lang.specs.declared.operation.Operation.{Operation}
+use Rattle.script_lang.specs.declared.operation.UnaryOperation.{UnaryOperation}
+use Rattle.script_lang.specs.declared.command.Operand.{Operand}
+use Rattle.script_lang.specs.declared.command.Argument.{Argument}
+use Rattle.name_store.specs.States.{State, Array}
+use Rattle.name_store.specs.Arrays.{find_array, is_bound, has_room_for, descr_of, read}
+use Rattle.bench_engine.specs.Contents.{Contents, made}
+use Rattle.bench_engine.specs.IndexLists.{taken}
+use Rattle.bench_engine.specs.Machine.{Choice, Outcome, Values, values_of, viewed, operand_part, argument_values, worked, worked_with, combined, transformed, creation_outcome, computed_outcome}
+use Rattle.bench_engine.specs.inside.Contract.{IsRefused}
+use Rattle.bench_engine.specs.inside.Operands.{StandsFor}
+use Rattle.bench_engine.specs.inside.OwnContents.{held, IsInCOrder}
+use Rattle.bench_engine.proofs.Copies.{made-held}
+
+-- ---- the command
+
+module _ (s : State) (name : List ℕ) (names : List (List ℕ)) (contents : Result Contents Refusal) where
+  pub computed-unknown : (choice : Choice) → list_all (is_bound s) names ≡ false → computed_outcome choice s name names contents ≡ Err UnknownName
+  unfolding computed_outcome
+  computed-unknown choice none = rw none refl
+
+  pub computed-bound : (choice : Choice) → list_all (is_bound s) names ≡ true → computed_outcome choice s name names contents ≡ creation_outcome choice s name contents
+  unfolding computed_outcome
+  computed-bound choice all = rw all refl
+
+  pub computed-refused : (e : Refusal) → list_all (is_bound s) names ≡ true → IsRefused true (λ choice. creation_outcome choice s name contents) e → IsRefused (list_all (is_bound s) names) (λ choice. computed_outcome choice s name names contents) e
+  computed-refused e all (inl lacks) = inl (lacks.0, all)
+  computed-refused e all (inr bad) = inr (λ choice. computed-bound choice all ∙ bad choice)
+
+pub unbound : (s : State) (name : List ℕ) → find_array s.names name ≡ None → is_bound s name ≡ false
+unbound s name none = ap is_some none
+
+pub bound-both : (s : State) (first second : List (List ℕ)) (a b : Bool) → list_all (is_bound s) first ≡ a → list_all (is_bound s) second ≡ b → list_all (is_bound s) (first ++ second) ≡ (a && b)
+bound-both s first second a b left right = list_all-append (is_bound s) first second ∙ λ i. left i && right i
+
+-- ---- operands
+
+module _ (s : State) (operand : Operand) (a : Array) (found : find_array s.names operand.name ≡ Some a) where
+  abbrev index : List (IndexItem (List ℕ))
+  index = unwrap_or operand.index (Ellipsis ∷ [])
+
+  pub part-bad : (e : Refusal) → taken s a index ≡ Err e → operand_part s operand ≡ Err e
+  unfolding operand_part
+  part-bad e bad = rw (found, bad) refl
+
+  pub part-done : (view : View) → taken s a index ≡ Ok view → operand_part s operand ≡ Ok (viewed a view)
+  unfolding operand_part
+  part-done view good = rw (found, good) refl
+
+-- ---- two operands
+
+pub combined-bad : (s : State) (op : Operation) (left : Operand) (right : Argument) (e : Refusal) → operand_part s left ≡ Err e → combined s op left right ≡ Err e
+unfolding combined
+combined-bad s op left right e bad = rw bad refl
+
+pub combined-part : (s : State) (op : Operation) (left : Operand) (right : Argument) (part : Array) → operand_part s left ≡ Ok part → combined s op left right ≡ worked_with op (values_of s part) (argument_values s op (descr_of s part) right)
+unfolding combined
+combined-part s op left right part good = rw good refl
+
+-- ---- one operand
+
+pub transformed-bad : (s : State) (op : UnaryOperation) (operand : Operand) (e : Refusal) → operand_part s operand ≡ Err e → transformed s op operand ≡ Err e
+unfolding transformed
+transformed-bad s op operand e bad = rw bad refl
+
+transformed-other : (s : State) (op : UnaryOperation) (operand : Operand) (part : Array) (e : Refusal) → operand_part s operand ≡ Ok part → unary_result op (descr_of s part) part.shape ≡ Err e → transformed s op operand ≡ Err e
+unfolding transformed
+transformed-other s op operand part e good bad = rw (good, bad) refl
+
+transformed-done : (s : State) (op : UnaryOperation) (operand : Operand) (part : Array) (d : Descr) (shape : List ℕ) → operand_part s operand ≡ Ok part → unary_result op (descr_of s part) part.shape ≡ Ok (d, shape) → transformed s op operand ≡ Ok (made d shape (map (unary_item op d) (read s part)))
+unfolding transformed
+transformed-done s op operand part d shape good there = rw (good, there) refl
+
+map-map' : {A B D : Type 0} (f : B → D) (g : A → B) (xs : List A) → map f (map g xs) ≡ map (λ x. f (g x)) xs
+map-map' f g [] = refl
+map-map' f g (x ∷ xs) = λ i. f (g x) ∷ map-map' f g xs i
+
+pub transformed-gives : (s : State) (op : UnaryOperation) (operand : Operand) (part : Array) (x : Items) (result : Result Owned Refusal) → operand_part s operand ≡ Ok part → StandsFor s part x → Gives (λ o. (o.descr, o.layout.shape)) result (unary_result op x.descr.now x.layout.now.shape) →
+    IfOk result IsInCOrder → IfOk result (λ o. map (item_from o.descr o.block) (offsets o.layout) ≡ map (λ offset. unary_item op o.descr (item_from x.descr.now x.block.now offset)) (offsets x.layout.now)) → Gives held result (transformed s op operand)
+transformed-gives s op operand part x (Ok o) good stands gives order items =
+    transformed-done s op operand part o.descr o.layout.shape good ((λ i. unary_result op (stands.descr i) (stands.shape i)) ∙ gives)
+    ∙ ap Ok (made-held C o.descr o.layout.shape (map (unary_item op o.descr) (read s part)) o refl refl order
+    (items ∙ sym (map-map' (unary_item op o.descr) (item_from x.descr.now x.block.now) (offsets x.layout.now)) ∙ ap (map (unary_item op o.descr)) (sym stands.items)))
+transformed-gives s op operand part x (Err e) good stands (inl lacks) order items = inl lacks
+transformed-gives s op operand part x (Err e) good stands (inr bad) order items = inr (transformed-other s op operand part e good ((λ i. unary_result op (stands.descr i) (stands.shape i)) ∙ bad))

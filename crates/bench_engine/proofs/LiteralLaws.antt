@@ -1,0 +1,245 @@
+-- Literals as operands.
+use Rattle.std.proofs.Common.{◌≡◌, ◌⊎◌, ℕ, zero, suc, ℤ, pos, Bool, true, false, not, List, [], ◌∷◌, length, map, replicate, IsTrue, IfOk, Result, Ok, Err, refl, sym, ap, ◌∙◌, subst, inl, inr, arith}
+use Rattle.std.specs.Result.{is_ok}
+use Rattle.std.proofs.lemmas.Bool.{false≢true}
+use Rattle.std.proofs.lemmas.List.{length-map}
+use Rattle.std.proofs.lemmas.Simd.{map-map}
+use Rattle.elem_descr.specs.declared.refusal.Refusal.{Refusal}
+use Rattle.elem_descr.specs.declared.refusal.Refusal.TheVariants.{OutOfMemory, NotForThisKind}
+use Rattle.elem_descr.specs.declared.descr.Descr.{Descr}
+use Rattle.elem_descr.specs.declared.descr.Descr.TheVariants.{Scalar as ScalarDescr, Record as RecordDescr}
+use Rattle.elem_descr.specs.declared.scalar.Scalar.{Scalar}
+use Rattle.elem_descr.specs.declared.scalar.Scalar.TheVariants.{Bool as BoolScalar, Byte, Int, Bytes as BytesScalar}
+use Rattle.elem_descr.specs.Refusals.{Gives, ◌>>=◌, check}
+use Rattle.elem_descr.specs.RefusalLaws.{same_answer}
+use Rattle.elem_descr.specs.Items.{item_size}
+use Rattle.elem_descr.specs.Blocks.{item_from}
+use Rattle.elem_descr.specs.Values.{LeafValue, number}
+use Rattle.shape_strides.specs.declared.memory_order.MemoryOrder.TheVariants.{C}
+use Rattle.shape_strides.specs.Indexes.{count}
+use Rattle.shape_strides.specs.Layouts.{offsets}
+use Rattle.shape_strides.specs.LayoutLaws.{length-offsets}
+use Rattle.broadcasting.specs.Broadcasts.{can_stretch, common_shape}
+use Rattle.broadcasting.specs.BroadcastLaws.{can-itself}
+use Rattle.elementwise.specs.Promotion.{is_text, compared_type, promote}
+use Rattle.elementwise.specs.Results.{scalar_of, integer_compared_result, bytes_compared_result, compared_item, pairwise, stretched_items}
+use Rattle.elementwise.specs.declared.operands.Items.{Items}
+use Rattle.overlap_copy.specs.declared.owned.Owned.{Owned}
+use Rattle.overlap_copy.specs.Blocks.{offsets_in}
+use Rattle.literal_items.specs.LiteralItems.{is_castable, item_value, literal_number}
+use Rattle.script_lang.specs.declared.operation.BinaryOperation.{BinaryOperation}
+use Rattle.script_lang.specs.declared.operation.Comparison.{Comparison}
+use Rattle.script_lang.specs.declared.operation.Operation.{Operation}
+use Rattle.script_lang.specs.declared.operation.Operation.TheVariants.{Binary, Compare}
+use Rattle.script_lang.specs.declared.literal.ScalarLiteral.{ScalarLiteral}
+use Rattle.script_lang.specs.declared.literal.ScalarLiteral.TheVariants.{Integer, Boolean, Bytes}
+use Rattle.script_lang.specs.declared.literal.Literal.{Literal}
+use Rattle.script_lang.specs.declared.literal.Literal.TheVariants as literal
+use Rattle.bench_engine.specs.Contents.{Contents, made}
+use Rattle.bench_engine.specs.Machine.{Values, one_item, literal_value, literal_scalar, worked_literal, compared_literal, literal_values, result_scalar, worked, worked_with}
+use Rattle.bench_engine.specs.inside.Operands.{Stands, OwnStands, GivesStanding}
+use Rattle.bench_engine.specs.inside.OwnContents.{held, IsInCOrder}
+use Rattle.bench_engine.proofs.Copies.{made-held}
+use Rattle.bench_engine.proofs.LegalLaws.{IsLegal, legal-common, stretched-self}
+use Rattle.bench_engine.proofs.OperandLaws.{one-stands}
+use Rattle.bench_engine.proofs.StretchLaws.{none-fits}
+use Rattle.bench_engine.proofs.WorkLaws.{worked-done}
+
+-- ---- a comparison with the value of a literal
+
+-- where a scalar passes a test there are truths of the same shape
+abbrev pub truths_of : (Scalar → Bool) → Descr → List ℕ → Result (Descr × List ℕ) Refusal
+truths_of test d t = scalar_of d >>= (λ from. check (test from) NotForThisKind >>= (λ _. Ok (ScalarDescr BoolScalar, t)))
+
+castable-integer : (s : Scalar) (z : ℤ) → not (is_text s) ≡ is_castable s (Integer z)
+castable-integer BoolScalar z = refl
+castable-integer (Byte signed) z = refl
+castable-integer (Int signed width order) z = refl
+castable-integer (BytesScalar n) z = refl
+
+castable-boolean : (s : Scalar) (b : Bool) → not (is_text s) ≡ is_castable s (Boolean b)
+castable-boolean BoolScalar b = refl
+castable-boolean (Byte signed) b = refl
+castable-boolean (Int signed width order) b = refl
+castable-boolean (BytesScalar n) b = refl
+
+castable-bytes : (s : Scalar) (bytes : List ℕ) → is_text s ≡ is_castable s (Bytes bytes)
+castable-bytes BoolScalar bytes = refl
+castable-bytes (Byte signed) bytes = refl
+castable-bytes (Int signed width order) bytes = refl
+castable-bytes (BytesScalar n) bytes = refl
+
+truths-same : (test other : Scalar → Bool) (d : Descr) (t : List ℕ) → ((s : Scalar) → test s ≡ other s) → truths_of test d t ≡ truths_of other d t
+truths-same test other (ScalarDescr s) t same = ap (λ b. check b NotForThisKind >>= (λ _. Ok (ScalarDescr BoolScalar, t))) (same s)
+truths-same test other (RecordDescr r) t same = refl
+
+pub integers-are : (z : ℤ) (d : Descr) (t : List ℕ) → integer_compared_result d t ≡ truths_of (λ s. is_castable s (Integer z)) d t
+unfolding integer_compared_result
+integers-are z d t = truths-same (λ s. not (is_text s)) (λ s. is_castable s (Integer z)) d t (λ s. castable-integer s z)
+
+pub booleans-are : (b : Bool) (d : Descr) (t : List ℕ) → integer_compared_result d t ≡ truths_of (λ s. is_castable s (Boolean b)) d t
+unfolding integer_compared_result
+booleans-are b d t = truths-same (λ s. not (is_text s)) (λ s. is_castable s (Boolean b)) d t (λ s. castable-boolean s b)
+
+pub bytes-are : (bytes : List ℕ) (d : Descr) (t : List ℕ) → bytes_compared_result d t ≡ truths_of (λ s. is_castable s (Bytes bytes)) d t
+unfolding bytes_compared_result
+bytes-are bytes d t = truths-same is_text (λ s. is_castable s (Bytes bytes)) d t (λ s. castable-bytes s bytes)
+
+-- items that are compared with one value
+pairwise-one : {A B : Type 0} (f : A → A → B) (xs : List A) (y : A) (n : ℕ) → length xs ≡ n → pairwise f xs (replicate n y) ≡ map (λ x. f x y) xs
+pairwise-one f [] y zero long = refl
+pairwise-one f [] y (suc n) long = absurd (omega (arith, long))
+pairwise-one f (x ∷ xs) y zero long = absurd (omega (arith, long))
+pairwise-one f (x ∷ xs) y (suc n) long = λ i. f x y ∷ pairwise-one f xs y n (omega (arith, long)) i
+
+-- numbers are compared with numbers of their own scalar, and texts with texts
+own-compared : (s : Scalar) → compared_type s s ≡ Ok BoolScalar
+unfolding compared_type
+own-compared BoolScalar = refl
+own-compared (Byte signed) = refl
+own-compared (Int signed width order) = refl
+own-compared (BytesScalar n) = refl
+
+own-scalar : (c : Comparison) (d : Descr) (s : Scalar) → scalar_of d ≡ Ok s → result_scalar (Compare c) d d ≡ Ok BoolScalar
+unfolding result_scalar
+own-scalar c d s is = rw is (own-compared s)
+
+compared-some : (d : Descr) (l : ScalarLiteral) (s : Scalar) → scalar_of d ≡ Ok s → is_castable s l ≡ true → compared_literal d (literal.Scalar l) ≡ Ok (one_item d (literal_value l ∷ []))
+unfolding compared_literal
+compared-some d l s is can = rw (is, can) refl
+
+compared-none : (d : Descr) (l : ScalarLiteral) (s : Scalar) → scalar_of d ≡ Ok s → is_castable s l ≡ false → compared_literal d (literal.Scalar l) ≡ Err NotForThisKind
+unfolding compared_literal
+compared-none d l s is none = rw (is, none) refl
+
+compared-bad : (d : Descr) (l : ScalarLiteral) (e : Refusal) → scalar_of d ≡ Err e → compared_literal d (literal.Scalar l) ≡ Err e
+unfolding compared_literal
+compared-bad d l e bad = rw bad refl
+
+module _ (c : Comparison) (v : Values) (x : Items) (sv : Stands v x) (legal : IsLegal x.layout.now.shape) (l : ScalarLiteral) where
+  abbrev there : Result (Descr × List ℕ) Refusal
+  there = truths_of (λ s. is_castable s l) x.descr.now x.layout.now.shape
+
+  abbrev one : List LeafValue
+  one = literal_value l ∷ []
+
+  common : common_shape (v.shape ∷ [] ∷ []) ≡ Ok x.layout.now.shape
+  common = ap (λ (shape : List ℕ). common_shape (shape ∷ [] ∷ [])) sv.shape ∙ legal-common x.layout.now.shape [] legal (none-fits x.layout.now.shape)
+
+  all-items : v.stretched_to x.layout.now.shape ≡ map (item_from x.descr.now x.block.now) (offsets x.layout.now)
+  all-items = sv.items x.layout.now.shape (ap (λ (shape : List ℕ). can_stretch shape x.layout.now.shape) sv.shape ∙ can-itself x.layout.now.shape) ∙ ap (map (item_from x.descr.now x.block.now)) (stretched-self x.layout.now)
+
+  compared-items : pairwise (compared_item c) (v.stretched_to x.layout.now.shape) (replicate (count x.layout.now.shape) one) ≡ map (λ offset. compared_item c (item_from x.descr.now x.block.now offset) one) (offsets x.layout.now)
+  compared-items =
+      pairwise-one (compared_item c) (v.stretched_to x.layout.now.shape) one (count x.layout.now.shape) (ap length all-items ∙ length-map (offsets x.layout.now) (item_from x.descr.now x.block.now) ∙ length-offsets x.layout.now)
+      ∙ ap (map (λ item. compared_item c item one)) all-items
+      ∙ map-map (λ item. compared_item c item one) (item_from x.descr.now x.block.now) (offsets x.layout.now)
+
+  literal-held : (o : Owned) (s : Scalar) → scalar_of x.descr.now ≡ Ok s → is_castable s l ≡ true → o.descr ≡ ScalarDescr BoolScalar → o.layout.shape ≡ x.layout.now.shape → IsInCOrder o →
+      map (item_from o.descr o.block) (offsets o.layout) ≡ map (λ offset. compared_item c (item_from x.descr.now x.block.now offset) one) (offsets x.layout.now) → worked_with (Compare c) v (compared_literal v.descr (literal.Scalar l)) ≡ Ok (held o)
+  literal-held o s is can typed shaped order items =
+      ap (worked_with (Compare c) v) (compared-some v.descr l s (ap scalar_of sv.descr ∙ is) can)
+      ∙ worked-done (Compare c) v (one_item v.descr one) BoolScalar x.layout.now.shape (own-scalar c v.descr s (ap scalar_of sv.descr ∙ is)) common
+      ∙ ap Ok (made-held C (ScalarDescr BoolScalar) x.layout.now.shape (pairwise (compared_item c) (v.stretched_to x.layout.now.shape) (replicate (count x.layout.now.shape) one)) o typed shaped
+      (order ∙ λ i. offsets_in C (item_size (typed i)) (shaped i))
+      (ap (λ (d : Descr). map (item_from d o.block) (offsets o.layout)) (sym typed) ∙ items ∙ sym compared-items))
+
+  same-parts : {A B : Type 0} (a a' : A) (b b' : B) → ◌≡◌ {A = A × B} (a, b) (a', b') → (a ≡ a') × (b ≡ b')
+  same-parts a a' b b' same = (ap (λ p. p.0) same, ap (λ p. p.1) same)
+
+  by-scalar : (result : Result Owned Refusal) (from : Result Scalar Refusal) → scalar_of x.descr.now ≡ from → Gives {Y = Descr × List ℕ} (λ o. (o.descr, o.layout.shape)) result (from >>= (λ s. check (is_castable s l) NotForThisKind >>= (λ _. Ok (ScalarDescr BoolScalar, x.layout.now.shape)))) →
+      IfOk result IsInCOrder → IfOk result (λ o. map (item_from o.descr o.block) (offsets o.layout) ≡ map (λ offset. compared_item c (item_from x.descr.now x.block.now offset) one) (offsets x.layout.now)) → Gives held result (worked_with (Compare c) v (compared_literal v.descr (literal.Scalar l)))
+  by-scalar (Ok o) (Err e) is gives order items = absurd (false≢true (ap is_ok gives))
+  by-scalar (Err e) from is (inl lacks) order items = inl lacks
+  by-scalar (Err e) (Err e') is (inr bad) order items =
+      inr (ap (worked_with (Compare c) v) (compared-bad v.descr l e' (ap scalar_of sv.descr ∙ is)) ∙ again bad)
+    where
+      again : ◌≡◌ {A = Result (Descr × List ℕ) Refusal} (Err e') (Err e) → ◌≡◌ {A = Result Contents Refusal} (Err e') (Err e)
+      again h = ap (λ (r : Result (Descr × List ℕ) Refusal). elim r as (λ _. Result Contents Refusal) [ Ok p ↦ Err e' | Err e ↦ Err e ]) h
+  by-scalar (Ok o) (Ok s) is gives order items = by-test (is_castable s l) refl gives
+    where
+      by-test : (b : Bool) → is_castable s l ≡ b → ◌≡◌ {A = Result (Descr × List ℕ) Refusal} (check b NotForThisKind >>= (λ _. Ok (ScalarDescr BoolScalar, x.layout.now.shape))) (Ok (o.descr, o.layout.shape)) → worked_with (Compare c) v (compared_literal v.descr (literal.Scalar l)) ≡ Ok (held o)
+      by-test true can found =
+          let parts = same-parts (ScalarDescr BoolScalar) o.descr x.layout.now.shape o.layout.shape (same_answer {X = Descr × List ℕ} (ScalarDescr BoolScalar, x.layout.now.shape) (o.descr, o.layout.shape) found) in
+          literal-held o s is can (sym parts.0) (sym parts.1) order items
+      by-test false none found = absurd (false≢true (ap is_ok found))
+  by-scalar (Err e) (Ok s) is (inr bad) order items = by-test (is_castable s l) refl bad
+    where
+      by-test : (b : Bool) → is_castable s l ≡ b → ◌≡◌ {A = Result (Descr × List ℕ) Refusal} (check b NotForThisKind >>= (λ _. Ok (ScalarDescr BoolScalar, x.layout.now.shape))) (Err e) → (e ≡ OutOfMemory) ⊎ (worked_with (Compare c) v (compared_literal v.descr (literal.Scalar l)) ≡ Err e)
+      by-test true can found = absurd (false≢true (sym (ap is_ok found)))
+      by-test false none found =
+          inr (ap (worked_with (Compare c) v) (compared-none v.descr l s (ap scalar_of sv.descr ∙ is) none) ∙ again found)
+        where
+          again : ◌≡◌ {A = Result (Descr × List ℕ) Refusal} (Err NotForThisKind) (Err e) → ◌≡◌ {A = Result Contents Refusal} (Err NotForThisKind) (Err e)
+          again h = ap (λ (r : Result (Descr × List ℕ) Refusal). elim r as (λ _. Result Contents Refusal) [ Ok p ↦ Err NotForThisKind | Err e ↦ Err e ]) h
+
+  pub literal-gives : (result : Result Owned Refusal) → Gives {Y = Descr × List ℕ} (λ o. (o.descr, o.layout.shape)) result there → IfOk result IsInCOrder →
+      IfOk result (λ o. map (item_from o.descr o.block) (offsets o.layout) ≡ map (λ offset. compared_item c (item_from x.descr.now x.block.now offset) one) (offsets x.layout.now)) → Gives held result (worked_with (Compare c) v (compared_literal v.descr (literal.Scalar l)))
+  literal-gives result gives order items = by-scalar result (scalar_of x.descr.now) refl gives order items
+
+pub compared-record : (c : Comparison) (v : Values) (l : Literal) → ((s : ScalarLiteral) → l ≡ literal.Scalar s → ⊥) → worked_with (Compare c) v (compared_literal v.descr l) ≡ Err NotForThisKind
+unfolding compared_literal
+compared-record c v (literal.Scalar s) not-scalar = absurd (not-scalar s refl)
+compared-record c v (literal.Record values) not-scalar = refl
+
+pub boolean-items : (c : Comparison) (x : Items) (b : Bool) (z : ℤ) (result : Result Owned Refusal) → z ≡ literal_number (Boolean b) →
+    IfOk result (λ o. map (item_from o.descr o.block) (offsets o.layout) ≡ map (λ offset. compared_item c (item_from x.descr.now x.block.now offset) (number z ∷ [])) (offsets x.layout.now)) →
+    IfOk result (λ o. map (item_from o.descr o.block) (offsets o.layout) ≡ map (λ offset. compared_item c (item_from x.descr.now x.block.now offset) (literal_value (Boolean b) ∷ [])) (offsets x.layout.now))
+boolean-items c x b z result is items =
+    subst (λ (z : ℤ). IfOk result (λ o. map (item_from o.descr o.block) (offsets o.layout) ≡ map (λ offset. compared_item c (item_from x.descr.now x.block.now offset) (number z ∷ [])) (offsets x.layout.now))) is items
+
+-- ---- the item of a literal in an operation
+
+pub literal-record : (op : BinaryOperation) (d : Descr) (l : Literal) (e : Refusal) → scalar_of d ≡ Err e → worked_literal op d l ≡ Err e
+unfolding worked_literal
+literal-record op d l e bad = rw bad refl
+
+pub literal-other : (op : BinaryOperation) (d : Descr) (l : Literal) (s : Scalar) (e : Refusal) → scalar_of d ≡ Ok s → literal_scalar s l ≡ Err e → worked_literal op d l ≡ Err e
+unfolding worked_literal
+literal-other op d l s e is bad = rw (is, bad) refl
+
+pub literal-type : (op : BinaryOperation) (d : Descr) (l : Literal) (s own : Scalar) (e : Refusal) → scalar_of d ≡ Ok s → literal_scalar s l ≡ Ok own → promote op s own ≡ Err e → worked_literal op d l ≡ Err e
+unfolding worked_literal
+literal-type op d l s own e is good bad = rw (is, good, bad) refl
+
+pub literal-range : (op : BinaryOperation) (d : Descr) (l : Literal) (s own to : Scalar) (e : Refusal) → scalar_of d ≡ Ok s → literal_scalar s l ≡ Ok own → promote op s own ≡ Ok to → item_value (ScalarDescr own) l ≡ Err e → worked_literal op d l ≡ Err e
+unfolding worked_literal
+literal-range op d l s own to e is good typed bad = rw (is, good, typed, bad) refl
+
+pub literal-done : (op : BinaryOperation) (d : Descr) (l : Literal) (s own to : Scalar) (item : List LeafValue) → scalar_of d ≡ Ok s → literal_scalar s l ≡ Ok own → promote op s own ≡ Ok to → item_value (ScalarDescr own) l ≡ Ok item → worked_literal op d l ≡ Ok (one_item (ScalarDescr own) item)
+unfolding worked_literal
+literal-done op d l s own to item is good typed there = rw (is, good, typed, there) refl
+
+-- the one item of a block stands for the literal
+pub single-gives : (op : BinaryOperation) (d : Descr) (l : Literal) (s own to : Scalar) (result : Result Owned Refusal) → scalar_of d ≡ Ok s → literal_scalar s l ≡ Ok own → promote op s own ≡ Ok to → IfOk result (λ o. o.descr ≡ ScalarDescr own) → IfOk result (λ o. o.layout.shape ≡ []) →
+    IfOk result (λ o. offsets o.layout ≡ 0 ∷ []) → Gives (λ o. item_from o.descr o.block 0) result (item_value (ScalarDescr own) l) → GivesStanding result (worked_literal op d l)
+single-gives op d l s own to (Ok o) is good kind typed shaped laid item =
+    subst (GivesStanding (Ok o)) (sym (literal-done op d l s own to (item_from o.descr o.block 0) is good kind item))
+    (one-stands (ScalarDescr own) (item_from o.descr o.block 0) o typed shaped (ap (map (item_from o.descr o.block)) laid))
+single-gives op d l s own to (Err e) is good kind typed shaped laid (inl lacks) = inl lacks
+single-gives op d l s own to (Err e) is good kind typed shaped laid (inr bad) = inr (literal-range op d l s own to e is good kind bad)
+
+pub given-standing : (o : Owned) (there : Result Values Refusal) → GivesStanding (Ok o) there → (w : Values) × (there ≡ Ok w) × OwnStands w o
+given-standing o (Ok w) is = (w, refl, is)
+given-standing o (Err e) is = absurd is
+
+-- ---- a literal has no axes
+
+then-each : {X Y : Type 0} (P : Y → Type 0) (r : Result X Refusal) (f : X → Result Y Refusal) → ((x : X) → IfOk (f x) P) → IfOk (r >>= f) P
+then-each P (Ok x) f all = all x
+then-each P (Err e) f all = tt
+
+worked-axes : (op : BinaryOperation) (d : Descr) (l : Literal) → IfOk (worked_literal op d l) (λ w. w.shape ≡ [])
+unfolding worked_literal
+worked-axes op d l =
+    then-each (λ (w : Values). w.shape ≡ []) (scalar_of d) _ (λ s. then-each (λ (w : Values). w.shape ≡ []) (literal_scalar s l) _ (λ own. then-each (λ (w : Values). w.shape ≡ []) (promote op s own) _ (λ to. then-each (λ (w : Values). w.shape ≡ []) (item_value (ScalarDescr own) l) _ (λ item. refl))))
+
+compared-axes : (d : Descr) (l : Literal) → IfOk (compared_literal d l) (λ w. w.shape ≡ [])
+unfolding compared_literal
+compared-axes d (literal.Record values) = tt
+compared-axes d (literal.Scalar l) =
+    then-each (λ (w : Values). w.shape ≡ []) (scalar_of d) _ (λ s. then-each (λ (w : Values). w.shape ≡ []) (check (is_castable s l) NotForThisKind) _ (λ _. refl))
+
+pub literal-axes : (op : Operation) (d : Descr) (l : Literal) → IfOk (literal_values op d l) (λ w. w.shape ≡ [])
+literal-axes (Binary op) d l = worked-axes op d l
+literal-axes (Compare c) d l = compared-axes d l

@@ -1,0 +1,84 @@
+-- Operands: parts of arrays, and single items.
+use Rattle.std.proofs.Common.{◌≡◌, ◌+◌, ◌≤◌, ◌⊎◌, ℕ, Bool, true, false, List, [], ◌∷◌, length, map, replicate, All, IsTrue, Result, Ok, Err, refl, sym, ap, ◌∙◌, subst, inl, inr}
+use Rattle.elem_descr.specs.declared.descr.Descr.{Descr}
+use Rattle.elem_descr.specs.declared.refusal.Refusal.{Refusal}
+use Rattle.elem_descr.specs.Blocks.{item_from}
+use Rattle.elem_descr.specs.Items.{item_size}
+use Rattle.elem_descr.specs.Values.{LeafValue}
+use Rattle.shape_strides.specs.declared.layout.Layout.{Layout}
+use Rattle.shape_strides.specs.Layouts.{offsets}
+use Rattle.shape_strides.specs.LayoutLaws.{length-offsets, offsets_within}
+use Rattle.shape_strides.specs.Indexes.{count}
+use Rattle.view_ops.specs.Views.{View, view_through, IsViewOf}
+use Rattle.broadcasting.specs.Broadcasts.{can_stretch, broadcast_index}
+use Rattle.elementwise.specs.Results.{stretched_items}
+use Rattle.elementwise.specs.declared.operands.Items.{Items}
+use Rattle.overlap_copy.specs.declared.owned.Owned.{Owned}
+use Rattle.name_store.specs.States.{State, Array}
+use Rattle.name_store.specs.Arrays.{buffer_of, descr_of, read, span_of, placed_item}
+use Rattle.name_store.specs.Parts.{part_at}
+use Rattle.name_store.specs.Shown.{Shows}
+use Rattle.name_store.specs.declared.array_ref.ArrayRef.{ArrayRef}
+use Rattle.bench_engine.specs.Machine.{Values, values_of, one_item, viewed}
+use Rattle.bench_engine.specs.inside.Assigns.{Holds}
+use Rattle.bench_engine.specs.inside.Operands.{LieInside, StandsFor, Stands, OwnStands}
+use Rattle.bench_engine.proofs.Assigns.{lies-whole, lies-viewed}
+use Rattle.bench_engine.proofs.GivenLaws.{all-viewed}
+use Rattle.bench_engine.proofs.Sets.{read-part}
+use Rattle.bench_engine.proofs.StretchLaws.{stretched-same, one-stretched, map-replicate}
+
+-- ---- what is taken of an array
+
+pub view-stands : (s : State) (a : Array) (r : ArrayRef) (layout : Layout) (view : View) (x : Items) → Shows s a r → IsViewOf r.layout.now layout view → x.block.now ≡ r.block.now → x.layout.now ≡ layout → x.descr.now ≡ r.descr.now → StandsFor s (viewed a view) x
+view-stands s a r layout view x shows is block laid typed = record {
+  descr = shows.descr ∙ sym typed;
+  shape = sym is.shape ∙ ap (λ (l : Layout). l.shape) (sym laid);
+  items = read-part s a (viewed a view) r layout shows (lies-viewed s a a r.layout.now layout view (lies-whole s a r shows) is) ∙ λ i. map (item_from (sym typed i) (sym block i)) (offsets (sym laid i));
+  inside = subst (λ (l : Layout). All (λ offset. offset + item_size x.descr.now ≤ length x.block.now) (offsets l)) (sym laid)
+      (subst (λ (b : List ℕ). All (λ offset. offset + item_size x.descr.now ≤ length b) (offsets layout)) (sym block)
+      (subst (λ (d : Descr). All (λ offset. offset + item_size d ≤ length r.block.now) (offsets layout)) (sym typed)
+      (all-viewed (λ offset. offset + item_size r.descr.now ≤ length r.block.now) r.layout.now layout view is shows.inside)));
+}
+
+pub own-inside : (o : Owned) → All (λ offset. offset + item_size o.descr ≤ length o.block) (offsets o.layout)
+own-inside o = offsets_within o.layout _ _ o.fills_block.fits
+
+pub copy-stands : (s : State) (part : Array) (o : Owned) (x : Items) → Holds s part o → x.block.now ≡ o.block → x.layout.now ≡ o.layout → x.descr.now ≡ o.descr → StandsFor s part x
+copy-stands s part o x holds block laid typed = record {
+  descr = sym holds.descr ∙ sym typed;
+  shape = sym holds.shape ∙ ap (λ (l : Layout). l.shape) (sym laid);
+  items = sym holds.items ∙ λ i. map (item_from (sym typed i) (sym block i)) (offsets (sym laid i));
+  inside = subst (λ (l : Layout). All (λ offset. offset + item_size x.descr.now ≤ length x.block.now) (offsets l)) (sym laid)
+      (subst (λ (b : List ℕ). All (λ offset. offset + item_size x.descr.now ≤ length b) (offsets o.layout)) (sym block)
+      (subst (λ (d : Descr). All (λ offset. offset + item_size d ≤ length o.block) (offsets o.layout)) (sym typed) (own-inside o)));
+}
+
+-- ---- stretched
+
+pub all-stand : (s : State) (part : Array) (x : Items) → StandsFor s part x → Stands (values_of s part) x
+all-stand s part x h = record {
+  descr = h.descr;
+  shape = h.shape;
+  items = λ target can.
+      (λ i. map (λ place. part_at (span_of s part) (placed_item (buffer_of s part).items place)) (view_through part.places (h.shape i) target (broadcast_index (h.shape i))))
+      ∙ sym (stretched-same (item_from x.descr.now x.block.now) (λ place. part_at (span_of s part) (placed_item (buffer_of s part).items place)) (offsets x.layout.now) part.places x.layout.now.shape target
+      (sym h.items) (length-offsets x.layout.now) (ap (λ (shape : List ℕ). can_stretch shape target) (sym h.shape) ∙ can));
+}
+
+pub one-stands : (descr : Descr) (item : List LeafValue) (o : Owned) → o.descr ≡ descr → o.layout.shape ≡ [] → map (item_from o.descr o.block) (offsets o.layout) ≡ item ∷ [] → OwnStands (one_item descr item) o
+one-stands descr item o typed shaped is = record {
+  descr = sym typed;
+  shape = sym shaped;
+  items = λ target can.
+      sym (map-replicate (λ (at : ℕ). item) (count target) 0)
+      ∙ ap (map (λ (at : ℕ). item)) (sym (one-stretched 0 target))
+      ∙ (λ i. map (λ (at : ℕ). item) (view_through (0 ∷ []) (sym shaped i) target (broadcast_index (sym shaped i))))
+      ∙ sym (stretched-same (item_from o.descr o.block) (λ (at : ℕ). item) (offsets o.layout) (0 ∷ []) o.layout.shape target is (length-offsets o.layout) (ap (λ (shape : List ℕ). can_stretch shape target) shaped ∙ can));
+}
+
+pub own-stands : (v : Values) (o : Owned) (x : Items) → OwnStands v o → x.block.now ≡ o.block → x.layout.now ≡ o.layout → x.descr.now ≡ o.descr → Stands v x
+own-stands v o x h block laid typed = record {
+  descr = h.descr ∙ sym typed;
+  shape = h.shape ∙ ap (λ (l : Layout). l.shape) (sym laid);
+  items = λ target can. h.items target can ∙ λ i. stretched_items (sym typed i) (sym block i) (sym laid i) target;
+}

@@ -1,0 +1,141 @@
+-- What a reduction makes of an array.
+use Rattle.std.proofs.Common.{◌≡◌, ◌⊎◌, ◌<◌, ◌≤◌, ◌+◌, ◌&&◌, ℕ, ℤ, pos, zero, suc, Bool, true, false, not, Option, Some, None, List, [], ◌∷◌, length, map, get_or, slice_index, IfOk, Result, Ok, Err, refl, sym, ap, ◌∙◌, subst, inl, inr, arith}
+use Rattle.std.specs.List.{insert, remove, range_with_len}
+use Rattle.std.specs.Result.{is_ok}
+use Rattle.std.specs.Prelude.{int_lt, negsuc}
+use Rattle.std.proofs.lemmas.Bool.{false≢true, ltb-true, and_parts}
+use Rattle.std.proofs.lemmas.List.{length-map, get_or-map, same_lists}
+use Rattle.elem_descr.specs.declared.refusal.Refusal.{Refusal}
+use Rattle.elem_descr.specs.declared.refusal.Refusal.TheVariants.{OutOfMemory, BadAxis}
+use Rattle.elem_descr.specs.declared.descr.Descr.{Descr}
+use Rattle.elem_descr.specs.Refusals.{Gives, ◌>>=◌, check}
+use Rattle.elem_descr.specs.RefusalLaws.{check_passed}
+use Rattle.elem_descr.specs.Blocks.{item_from}
+use Rattle.elem_descr.specs.Values.{LeafValue}
+use Rattle.shape_strides.specs.declared.memory_order.MemoryOrder.TheVariants.{C}
+use Rattle.shape_strides.specs.Addresses.{natural}
+use Rattle.shape_strides.specs.Indexes.{count, indexes, rank, IsIndex}
+use Rattle.shape_strides.specs.IndexLaws.{length-indexes, index_at, get_or-indexes, rank-lt}
+use Rattle.shape_strides.specs.LayoutLaws.{length-offsets}
+use Rattle.shape_strides.specs.Layouts.{offsets}
+use Rattle.view_ops.specs.Slices.{from_front, is_place}
+use Rattle.overlap_copy.specs.declared.owned.Owned.{Owned}
+use Rattle.script_lang.specs.declared.operation.Reduction.{Reduction}
+use Rattle.reductions.specs.Lists.{lists, named_axis, is_axis}
+use Rattle.reductions.specs.ListLaws.{IsIndex-insert}
+use Rattle.reductions.specs.Outcomes as reductions
+use Rattle.reductions.specs.Outcomes.{outcome_of, number_scalar}
+use Rattle.reductions.specs.Reductions.{reduced_item, reduced_items}
+use Rattle.reductions.specs.inside.Axes.{IsAxisOf}
+use Rattle.name_store.specs.States.{State, Array}
+use Rattle.name_store.specs.Arrays.{find_array, buffer_of, descr_of, read, span_of, placed_item}
+use Rattle.name_store.specs.Parts.{part_at}
+use Rattle.name_store.specs.Shown.{Shows}
+use Rattle.name_store.specs.declared.array_ref.ArrayRef.{ArrayRef}
+use Rattle.bench_engine.specs.Contents.{made}
+use Rattle.bench_engine.specs.Machine.{reduced}
+use Rattle.bench_engine.specs.inside.OwnContents.{held, IsInCOrder}
+use Rattle.bench_engine.proofs.Copies.{made-held}
+use Rattle.bench_engine.proofs.StretchLaws.{same-on}
+
+-- ---- lists of places and lists of offsets
+
+same-range : {A : Type 0} (f g : ℕ → A) (a n : ℕ) → ((k : ℕ) → a ≤ k → k < a + n → f k ≡ g k) → map f (range_with_len a n) ≡ map g (range_with_len a n)
+same-range f g a zero same = refl
+same-range f g a (suc n) same = λ i. same a (omega arith) (omega arith) i ∷ same-range f g (a + 1) n (λ k low high. same k (omega (arith, low)) (omega (arith, high))) i
+
+map-twice : {A B D : Type 0} (f : B → D) (g : A → B) (xs : List A) → map f (map g xs) ≡ map (λ x. f (g x)) xs
+map-twice f g [] = refl
+map-twice f g (x ∷ xs) = λ i. f (g x) ∷ map-twice f g xs i
+
+-- lists of which each item gives the same give the same along an axis
+lists-same : {A : Type 0} (f g : ℕ → A) (shape : List ℕ) (axis : Option ℕ) (xs ys : List ℕ) → IsAxisOf (length shape) axis → length xs ≡ count shape → map f xs ≡ map g ys → map (map f) (lists shape axis xs) ≡ map (map g) (lists shape axis ys)
+lists-same f g shape None xs ys is whole same = λ i. same i ∷ []
+lists-same f g shape (Some a) xs ys is whole same =
+    map-twice (map f) (row xs) (indexes (remove shape a))
+    ∙ same-on (remove shape a) (λ index. map f (row xs index)) (λ index. map g (row ys index)) each
+    ∙ sym (map-twice (map g) (row ys) (indexes (remove shape a)))
+  where
+    n : ℕ
+    n = slice_index shape a
+
+    row : List ℕ → List ℕ → List ℕ
+    row items index = map (λ k. slice_index items (rank shape (insert index a k))) (range_with_len 0 n)
+
+    item : (k : ℕ) → k < length xs → f (slice_index xs k) ≡ g (slice_index ys k)
+    item k low =
+        let low' : k < length ys = omega (arith, low, length-map xs f, length-map ys g, ap length same) in
+        sym (get_or-map f xs k 0 (f 0) low) ∙ ap (λ items. get_or items k (f 0)) same ∙ get_or-map g ys k 0 (f 0) low'
+
+    each : (index : List ℕ) → IsIndex (remove shape a) index → map f (row xs index) ≡ map g (row ys index)
+    each index in' =
+        map-twice f (λ k. slice_index xs (rank shape (insert index a k))) (range_with_len 0 n)
+        ∙ same-range (λ k. f (slice_index xs (rank shape (insert index a k)))) (λ k. g (slice_index ys (rank shape (insert index a k)))) 0 n
+        (λ k low high. item (rank shape (insert index a k)) (omega (arith, whole, rank-lt shape (insert index a k) (IsIndex-insert shape index a k is in' (omega (arith, high))))))
+        ∙ sym (map-twice g (λ k. slice_index ys (rank shape (insert index a k))) (range_with_len 0 n))
+
+-- ---- the axis is one of the array's
+
+then-ok : {X Y : Type 0} (r : Result X Refusal) (f : X → Result Y Refusal) (y : Y) → r >>= f ≡ Ok y → (x : X) × (f x ≡ Ok y)
+then-ok (Ok x) f y is = (x, is)
+then-ok (Err e) f y is = absurd (false≢true (ap is_ok is))
+
+check-true : {X : Type 0} (b : Bool) (e : Refusal) (rest : Result X Refusal) (y : X) → check b e >>= (λ _. rest) ≡ Ok y → b ≡ true
+check-true true e rest y is = refl
+check-true false e rest y is = absurd (false≢true (ap is_ok is))
+
+axis-passed : (reduction : Reduction) (descr : Descr) (shape : List ℕ) (named : Option ℤ) (keep : Bool) (there : reductions.Outcome) → reductions.outcome reduction descr shape named keep ≡ Ok there → is_axis (length shape) named ≡ true
+unfolding reductions.outcome
+axis-passed reduction descr shape named keep there is =
+    let rest = then-ok (number_scalar descr) _ there is in
+    check-true (is_axis (length shape) named) BadAxis _ there rest.1
+
+place-low : (n : ℕ) (z : ℤ) → (not (int_lt z (pos 0)) && int_lt z (pos n)) ≡ true → natural z < n
+place-low n (pos k) is = ltb-true k n (and_parts (not (int_lt (pos k) (pos 0))) (int_lt (pos k) (pos n)) is).1
+place-low n (negsuc k) is = absurd (false≢true is)
+
+is-axis : (rank : ℕ) (named : Option ℤ) → is_axis rank named ≡ true → IsAxisOf rank (named_axis rank named)
+is-axis rank None is = tt
+is-axis rank (Some axis) is = place-low rank (from_front rank axis) is
+
+-- ---- what is reduced
+
+reduced-bad : (s : State) (reduction : Reduction) (source : List ℕ) (a : Array) (axis : Option ℤ) (keep : Bool) (e : Refusal) → find_array s.names source ≡ Some a → reductions.outcome reduction (descr_of s a) a.shape axis keep ≡ Err e →
+    reduced s reduction source axis keep ≡ Err e
+unfolding reduced
+reduced-bad s reduction source a axis keep e found bad = rw (found, bad) refl
+
+reduced-done : (s : State) (reduction : Reduction) (source : List ℕ) (a : Array) (axis : Option ℤ) (keep : Bool) (there : reductions.Outcome) → find_array s.names source ≡ Some a → reductions.outcome reduction (descr_of s a) a.shape axis keep ≡ Ok there →
+    reduced s reduction source axis keep ≡ Ok (made there.descr there.shape (map (λ places. reduced_item reduction there.descr (read s (record a { places = places }))) (lists a.shape (named_axis (length a.shape) axis) a.places)))
+unfolding reduced
+reduced-done s reduction source a axis keep there found good = rw (found, good) refl
+
+pub reduced-gives : (s : State) (reduction : Reduction) (source : List ℕ) (a : Array) (r : ArrayRef) (axis : Option ℤ) (keep : Bool) (result : Result Owned Refusal) → find_array s.names source ≡ Some a → Shows s a r →
+    Gives outcome_of result (reductions.outcome reduction r.descr.now r.layout.now.shape axis keep) → IfOk result IsInCOrder →
+    IfOk result (λ o. map (item_from o.descr o.block) (offsets o.layout) ≡ reduced_items reduction o.descr r.descr.now r.block.now (lists r.layout.now.shape (named_axis (length r.layout.now.shape) axis) (offsets r.layout.now))) → Gives held result (reduced s reduction source axis keep)
+reduced-gives s reduction source a r axis keep (Err e) found shows (inl lacks) order items = inl lacks
+reduced-gives s reduction source a r axis keep (Err e) found shows (inr bad) order items =
+    inr (reduced-bad s reduction source a axis keep e found ((λ i. reductions.outcome reduction (shows.descr i) (sym shows.view.laid.shape i) axis keep) ∙ bad))
+reduced-gives s reduction source a r axis keep (Ok o) found shows gives order items =
+    reduced-done s reduction source a axis keep (outcome_of o) found ((λ i. reductions.outcome reduction (shows.descr i) (sym shows.view.laid.shape i) axis keep) ∙ gives)
+    ∙ ap Ok (made-held C o.descr o.layout.shape (map (λ places. reduced_item reduction o.descr (read s (record a { places = places }))) (lists a.shape (named_axis (length a.shape) axis) a.places)) o refl refl order (items ∙ sym same))
+  where
+    shape : List ℕ
+    shape = r.layout.now.shape
+
+    at : Option ℕ
+    at = named_axis (length shape) axis
+
+    value : ℕ → List LeafValue
+    value = λ place. part_at (span_of s a) (placed_item (buffer_of s a).items place)
+
+    each : map (map value) (lists shape at a.places) ≡ map (map (item_from r.descr.now r.block.now)) (lists shape at (offsets r.layout.now))
+    each = sym (lists-same (item_from r.descr.now r.block.now) value shape at (offsets r.layout.now) a.places
+        (is-axis (length shape) axis (axis-passed reduction r.descr.now shape axis keep (outcome_of o) gives)) (length-offsets r.layout.now) (sym shows.reads))
+
+    same : map (λ places. reduced_item reduction o.descr (read s (record a { places = places }))) (lists a.shape (named_axis (length a.shape) axis) a.places) ≡ reduced_items reduction o.descr r.descr.now r.block.now (lists shape at (offsets r.layout.now))
+    same =
+        (λ i. map (λ places. reduced_item reduction o.descr (map value places)) (lists (sym shows.view.laid.shape i) (named_axis (length (sym shows.view.laid.shape i)) axis) a.places))
+        ∙ sym (map-twice (reduced_item reduction o.descr) (map value) (lists shape at a.places))
+        ∙ ap (map (reduced_item reduction o.descr)) each
+        ∙ map-twice (reduced_item reduction o.descr) (map (item_from r.descr.now r.block.now)) (lists shape at (offsets r.layout.now))

@@ -1,0 +1,197 @@
+-- Items that are changed by an operation.
+use Rattle.std.proofs.Common.{◌≡◌, ◌⊎◌, ◌≤◌, ◌*◌, ◌&&◌, ◌||◌, ℕ, Bool, true, false, not, nat_le, if◌then◌else◌, IfErr, List, [], ◌∷◌, length, map, All, IfOk, Result, Ok, Err, refl, sym, ap, ◌∙◌, subst, inl, inr, arith}
+use Rattle.std.specs.Result.{is_ok}
+use Rattle.std.proofs.lemmas.Bool.{false≢true}
+use Rattle.elem_descr.specs.declared.refusal.Refusal.{Refusal}
+use Rattle.elem_descr.specs.declared.refusal.Refusal.TheVariants.{OutOfMemory, TooLarge, NoSuchCast}
+use Rattle.elem_descr.specs.declared.descr.Descr.{Descr}
+use Rattle.elem_descr.specs.declared.descr.Descr.TheVariants.{Scalar as ScalarDescr}
+use Rattle.elem_descr.specs.declared.scalar.Scalar.{Scalar}
+use Rattle.elem_descr.specs.declared.scalar.Scalar.TheVariants.{Bool as BoolScalar, Byte, Int, Bytes}
+use Rattle.elem_descr.specs.Refusals.{Gives, ◌>>=◌}
+use Rattle.elem_descr.specs.RefusalLaws.{same_answer}
+use Rattle.elem_descr.specs.Blocks.{item_from, items_in}
+use Rattle.elem_descr.specs.Items.{item_size, leaves_of}
+use Rattle.elem_descr.specs.Values.{LeafValue}
+use Rattle.shape_strides.specs.Indexes.{count}
+use Rattle.shape_strides.specs.Limits.{max_bytes}
+use Rattle.shape_strides.specs.Layouts.{offsets, multiples}
+use Rattle.view_ops.specs.Views.{View}
+use Rattle.broadcasting.specs.Broadcasts.{broadcast_index, can_stretch, common_shape, stretched}
+use Rattle.elementwise.specs.Casts.{can_cast, cast_item}
+use Rattle.elementwise.specs.Promotion.{same_kind}
+use Rattle.elementwise.specs.Results.{scalar_of, stretched_items}
+use Rattle.elementwise.specs.declared.operands.Items.{Items}
+use Rattle.shape_strides.specs.LayoutLaws.{length-offsets}
+use Rattle.std.proofs.lemmas.Simd.{map-map}
+use Rattle.bench_engine.proofs.GivenLaws.{cast-lacks}
+use Rattle.overlap_copy.specs.declared.owned.Owned.{Owned}
+use Rattle.script_lang.specs.declared.literal.Literal.{Literal}
+use Rattle.script_lang.specs.declared.operation.Operation.{Operation}
+use Rattle.bench_engine.specs.Contents.{Contents, made}
+use Rattle.bench_engine.specs.Machine.{Values, literal_values, result_scalar, worked, worked_with, changed_by, changed_with}
+use Rattle.bench_engine.specs.inside.Operands.{Stands, GivesChanged}
+use Rattle.bench_engine.specs.inside.OwnContents.{held, IsInCOrder}
+use Rattle.bench_engine.proofs.LegalLaws.{IsLegal, legal-common}
+use Rattle.bench_engine.proofs.LiteralLaws.{literal-axes}
+use Rattle.bench_engine.proofs.Stored.{items-from}
+use Rattle.bench_engine.proofs.StretchLaws.{common-onto, none-fits, stretched-can}
+use Rattle.bench_engine.proofs.WorkLaws.{worked-bad, worked-done}
+
+-- ---- the exits
+
+module _ (op : Operation) (d : Descr) (v w : Values) where
+  pub changed-type : (e : Refusal) → result_scalar op d w.descr ≡ Err e → changed_by op d v w ≡ Err e
+  unfolding changed_by
+  changed-type e bad = rw bad refl
+
+  pub changed-record : (s : Scalar) (e : Refusal) → result_scalar op d w.descr ≡ Ok s → scalar_of d ≡ Err e → changed_by op d v w ≡ Err e
+  unfolding changed_by
+  changed-record s e typed bad = rw (typed, bad) refl
+
+  pub changed-kind : (s from : Scalar) (e : Refusal) → result_scalar op d w.descr ≡ Ok s → scalar_of d ≡ Ok from → same_kind s from ≡ Err e → changed_by op d v w ≡ Err e
+  unfolding changed_by
+  changed-kind s from e typed own bad = rw (typed, own, bad) refl
+
+  pub changed-apart : (s from : Scalar) (e : Refusal) → result_scalar op d w.descr ≡ Ok s → scalar_of d ≡ Ok from → same_kind s from ≡ Ok tt → stretched w.shape v.shape ≡ Err e → changed_by op d v w ≡ Err e
+  unfolding changed_by
+  changed-apart s from e typed own kind bad = rw (typed, own, kind, bad) refl
+
+  pub changed-worked : (s from : Scalar) (view : View) (e : Refusal) → result_scalar op d w.descr ≡ Ok s → scalar_of d ≡ Ok from → same_kind s from ≡ Ok tt → stretched w.shape v.shape ≡ Ok view → worked op v w ≡ Err e → changed_by op d v w ≡ Err e
+  unfolding changed_by
+  changed-worked s from view e typed own kind fits bad = rw (typed, own, kind, fits, bad) refl
+
+  pub changed-done : (s from : Scalar) (view : View) (new : Contents) → result_scalar op d w.descr ≡ Ok s → scalar_of d ≡ Ok from → same_kind s from ≡ Ok tt → stretched w.shape v.shape ≡ Ok view → worked op v w ≡ Ok new →
+      changed_by op d v w ≡ Ok (map (cast_item new.buffer.descr d) new.buffer.items)
+  unfolding changed_by
+  changed-done s from view new typed own kind fits good = rw (typed, own, kind, fits, good) refl
+
+-- ---- what is worked has the old shape
+
+then-parts : {X Y : Type 0} (r : Result X Refusal) (f : X → Result Y Refusal) (y : Y) → r >>= f ≡ Ok y → (x : X) × (r ≡ Ok x) × (f x ≡ Ok y)
+then-parts (Ok x) f y is = (x, refl, is)
+then-parts (Err e) f y is = absurd (false≢true (ap is_ok is))
+
+worked-parts : (op : Operation) (v w : Values) (new : Contents) → worked op v w ≡ Ok new → (s : Scalar) × (result_scalar op v.descr w.descr ≡ Ok s) × (new.buffer.descr ≡ ScalarDescr s) × (common_shape (v.shape ∷ w.shape ∷ []) ≡ Ok new.shape)
+unfolding worked
+worked-parts op v w new is =
+    let typed = then-parts (result_scalar op v.descr w.descr) _ new is in
+    let shaped = then-parts (common_shape (v.shape ∷ w.shape ∷ [])) _ new typed.2 in
+    let done = same_answer _ new shaped.2 in
+    (typed.0, typed.1, sym (ap (λ (c : Contents). c.buffer.descr) done), shaped.1 ∙ ap Ok (ap (λ (c : Contents). c.shape) done))
+
+pub worked-descr : (op : Operation) (v w : Values) (o : Owned) (s : Scalar) → result_scalar op v.descr w.descr ≡ Ok s → worked op v w ≡ Ok (held o) → o.descr ≡ ScalarDescr s
+worked-descr op v w o s typed is =
+    let parts = worked-parts op v w (held o) is in
+    parts.2 ∙ ap ScalarDescr (same_answer parts.0 s (sym parts.1 ∙ typed))
+
+pub worked-shape : (op : Operation) (v w : Values) (o : Owned) → can_stretch w.shape v.shape ≡ true → worked op v w ≡ Ok (held o) → o.layout.shape ≡ v.shape
+worked-shape op v w o can is = common-onto v.shape w.shape o.layout.shape can (worked-parts op v w (held o) is).3
+
+pub view-can : (shape target : List ℕ) (view : View) → stretched shape target ≡ Ok view → can_stretch shape target ≡ true
+view-can shape target view is = stretched-can shape target (ap is_ok is)
+
+-- where the common shape is there, only the type is refused
+pub worked-type : (op : Operation) (v w : Values) (e : Refusal) → common_shape (v.shape ∷ w.shape ∷ []) ≡ Ok v.shape → worked op v w ≡ Err e → result_scalar op v.descr w.descr ≡ Err e
+worked-type op v w e common is = by-type (result_scalar op v.descr w.descr) refl
+  where
+    by-type : (r : Result Scalar Refusal) → result_scalar op v.descr w.descr ≡ r → r ≡ Err e
+    by-type (Ok s) typed = absurd (false≢true (sym (ap is_ok is) ∙ ap is_ok (worked-done op v w s v.shape typed common)))
+    by-type (Err e') bad = again (sym (worked-bad op v w e' bad) ∙ is)
+      where
+        again : ◌≡◌ {A = Result Contents Refusal} (Err e') (Err e) → ◌≡◌ {A = Result Scalar Refusal} (Err e') (Err e)
+        again h = ap (λ (r : Result Contents Refusal). elim r as (λ _. Result Scalar Refusal) [ Ok x ↦ Err e' | Err e ↦ Err e ]) h
+
+-- ---- numbers that may be written are cast
+
+pub kind-casts : (s from : Scalar) → same_kind s from ≡ Ok tt → can_cast (ScalarDescr s) (ScalarDescr from) ≡ true
+unfolding same_kind
+kind-casts (Bytes n) from is = absurd (false≢true (ap is_ok is))
+kind-casts BoolScalar (Bytes n) is = absurd (false≢true (ap is_ok is))
+kind-casts (Byte signed) (Bytes n) is = absurd (false≢true (ap is_ok is))
+kind-casts (Int signed width order) (Bytes n) is = absurd (false≢true (ap is_ok is))
+kind-casts BoolScalar BoolScalar is = refl
+kind-casts BoolScalar (Byte signed) is = refl
+kind-casts BoolScalar (Int signed width order) is = refl
+kind-casts (Byte signed) BoolScalar is = refl
+kind-casts (Byte signed) (Byte signed') is = refl
+kind-casts (Byte signed) (Int signed' width order) is = refl
+kind-casts (Int signed width order) BoolScalar is = refl
+kind-casts (Int signed width order) (Byte signed') is = refl
+kind-casts (Int signed width order) (Int signed' width' order') is = refl
+
+pub scalar-descr : (d : Descr) (s : Scalar) → scalar_of d ≡ Ok s → d ≡ ScalarDescr s
+scalar-descr (ScalarDescr own) s is = ap ScalarDescr (same_answer own s is)
+scalar-descr _ s is = absurd (false≢true (ap is_ok is))
+
+-- ---- the items that are written
+
+-- those of a block in C order
+pub items-held : (o : Owned) → IsInCOrder o → (held o).buffer.items ≡ map (item_from o.descr o.block) (offsets o.layout)
+items-held o order = sym (ap (map (item_from o.descr o.block)) order ∙ items-from o.descr (count o.layout.shape) o.block)
+
+-- what is changed is what is cast
+pub changed-gives : (d : Descr) (n : ℕ) (new : Owned) (result : Result Owned Refusal) (there : Result (List (List LeafValue)) Refusal) → IsInCOrder new → there ≡ Ok (map (cast_item new.descr d) (held new).buffer.items) → n ≡ count new.layout.shape →
+    GivesChanged d (count new.layout.shape) result (Ok (map (cast_item new.descr d) (map (item_from new.descr new.block) (offsets new.layout)))) → GivesChanged d n result there
+changed-gives d n new result there order is counted gives =
+    subst (λ (n : ℕ). GivesChanged d n result there) (sym counted)
+    (subst (GivesChanged d (count new.layout.shape) result) (ap (λ items. Ok (map (cast_item new.descr d) items)) (sym (items-held new order)) ∙ sym is) gives)
+
+-- new items, cast
+pub cast-changed : (new : Owned) (d : Descr) (result : Result Owned Refusal) → can_cast new.descr d ≡ true → count new.layout.shape * item_size d ≤ max_bytes → IfOk result (λ o. o.descr ≡ d) → IfOk result (λ o. o.layout.shape ≡ new.layout.shape) →
+    IfOk result (λ o. map (item_from d o.block) (offsets o.layout) ≡ map (λ offset. cast_item new.descr d (item_from new.descr new.block offset)) (offsets new.layout)) →
+    IfErr result (λ e. e ≡ (if can_cast new.descr d then (if nat_le (count new.layout.shape * item_size d) max_bytes then OutOfMemory else TooLarge) else NoSuchCast)) →
+    GivesChanged d (count new.layout.shape) result (Ok (map (cast_item new.descr d) (map (item_from new.descr new.block) (offsets new.layout))))
+cast-changed new d (Ok o) can few typed shaped items refused = (
+  record { alike = record { leaves = ap leaves_of typed; size = ap item_size typed }; count = length-offsets o.layout ∙ ap count shaped },
+  ap (λ (d : Descr). map (item_from d o.block) (offsets o.layout)) typed ∙ items ∙ sym (map-map (cast_item new.descr d) (item_from new.descr new.block) (offsets new.layout)),
+)
+cast-changed new d (Err e) can few typed shaped items refused = inl (cast-lacks (can_cast new.descr d) new.layout.shape new.layout.shape (item_size d) e can refl few refused)
+
+-- ---- items as operands of their own
+
+abbrev pub own_values : Items → Values
+own_values x = record { descr = x.descr.now; shape = x.layout.now.shape; stretched_to = stretched_items x.descr.now x.block.now x.layout.now }
+
+pub stands-own : (x : Items) → Stands (own_values x) x
+stands-own x = record { descr = refl; shape = refl; items = λ target can. refl }
+
+-- ---- a literal
+
+stretched-is : (shape target : List ℕ) → can_stretch shape target ≡ true → stretched shape target ≡ Ok (record { shape = target; leads = broadcast_index shape })
+unfolding stretched
+stretched-is shape target can = rw can refl
+
+literal-can : (op : Operation) (v w : Values) (l : Literal) → literal_values op v.descr l ≡ Ok w → can_stretch w.shape v.shape ≡ true
+literal-can op v w l is =
+    let axes : w.shape ≡ [] = subst (λ (r : Result Values Refusal). IfOk r (λ w. w.shape ≡ [])) is (literal-axes op v.descr l) in
+    ap (λ (shape : List ℕ). can_stretch shape v.shape) axes ∙ none-fits v.shape
+
+pub literal-parts : (op : Operation) (d : Descr) (v : Values) (l : Literal) (new : Owned) → v.descr ≡ d → worked_with op v (literal_values op v.descr l) ≡ Ok (held new) →
+    (w : Values) × (s : Scalar) × (literal_values op d l ≡ Ok w) × (worked op v w ≡ Ok (held new)) × (stretched w.shape v.shape ≡ Ok (record { shape = v.shape; leads = broadcast_index w.shape })) × (new.layout.shape ≡ v.shape) × (result_scalar op d w.descr ≡ Ok s) × (new.descr ≡ ScalarDescr s)
+literal-parts op d v l new same is =
+    let there = then-parts (literal_values op v.descr l) (worked op v) (held new) is in
+    let can = literal-can op v there.0 l there.1 in
+    let parts = worked-parts op v there.0 (held new) there.2 in (
+      there.0,
+      parts.0,
+      ap (λ (d : Descr). literal_values op d l) (sym same) ∙ there.1,
+      there.2,
+      stretched-is there.0.shape v.shape can,
+      worked-shape op v there.0 new can there.2,
+      ap (λ (d : Descr). result_scalar op d there.0.descr) (sym same) ∙ parts.1,
+      parts.2,
+    )
+
+pub literal-refused : (op : Operation) (d : Descr) (v : Values) (l : Literal) (e : Refusal) → IsLegal v.shape → v.descr ≡ d → worked_with op v (literal_values op v.descr l) ≡ Err e → changed_with op d v (literal_values op d l) ≡ Err e
+literal-refused op d v l e legal same is =
+    sym (ap (λ (d : Descr). changed_with op d v (literal_values op d l)) same) ∙ by-literal (literal_values op v.descr l) refl is
+  where
+    again : {X Y : Type 0} (e' : Refusal) → ◌≡◌ {A = Result X Refusal} (Err e') (Err e) → ◌≡◌ {A = Result Y Refusal} (Err e') (Err e)
+    again {X} {Y} e' h = ap (λ (r : Result X Refusal). elim r as (λ _. Result Y Refusal) [ Ok x ↦ Err e' | Err e ↦ Err e ]) h
+
+    by-literal : (r : Result Values Refusal) → literal_values op v.descr l ≡ r → worked_with op v r ≡ Err e → changed_with op v.descr v (literal_values op v.descr l) ≡ Err e
+    by-literal (Err e') there bad = ap (changed_with op v.descr v) there ∙ again e' bad
+    by-literal (Ok w) there bad =
+        ap (changed_with op v.descr v) there
+        ∙ changed-type op v.descr v w e (worked-type op v w e (legal-common v.shape w.shape legal (literal-can op v w l there)) bad)

@@ -1,0 +1,99 @@
+-- The old items of a target, and the new ones.
+use Rattle.std.proofs.Common.{◌≡◌, ◌⊎◌, ◌≤◌, ◌+◌, ◌*◌, ℕ, nat_le, if◌then◌else◌, List, length, map, get_or, All, IfOk, IfErr, Result, Ok, Err, refl, sym, ap, ◌∙◌, subst, inl, inr, arith}
+use Rattle.std.specs.List.{Contains}
+use Rattle.std.proofs.lemmas.Bool.{le-leb}
+use Rattle.std.proofs.lemmas.List.{length-map, get_or-map}
+use Rattle.std.proofs.lemmas.List.Elements.{All-map, All-contains}
+use Rattle.elem_descr.specs.declared.refusal.Refusal.{Refusal}
+use Rattle.elem_descr.specs.declared.refusal.Refusal.TheVariants.{OutOfMemory, TooLarge}
+use Rattle.elem_descr.specs.declared.descr.Descr.{Descr}
+use Rattle.elem_descr.specs.Blocks.{item_from}
+use Rattle.elem_descr.specs.Items.{item_size}
+use Rattle.elem_descr.specs.Values.{LeafValue}
+use Rattle.shape_strides.specs.declared.layout.Layout.{Layout}
+use Rattle.shape_strides.specs.Indexes.{count}
+use Rattle.shape_strides.specs.Limits.{max_bytes}
+use Rattle.shape_strides.specs.Layouts.{offsets}
+use Rattle.elementwise.specs.declared.operands.Items.{Items}
+use Rattle.overlap_copy.specs.declared.owned.Owned.{Owned}
+use Rattle.fancy_index.specs.Plans.{Planned}
+use Rattle.name_store.specs.States.{State, Array}
+use Rattle.name_store.specs.Arrays.{buffer_of, descr_of, read}
+use Rattle.name_store.specs.Parts.{start_at}
+use Rattle.name_store.specs.Places.{offsets_of}
+use Rattle.name_store.specs.Shown.{Shows}
+use Rattle.name_store.specs.declared.array_ref.ArrayRef.{ArrayRef}
+use Rattle.name_store.specs.declared.target.Target.TheVariants as target
+use Rattle.bench_engine.specs.declared.given.Given.TheVariants as given
+use Rattle.bench_engine.specs.inside.Assigns.{LiesIn, IsTarget, GivesItems}
+use Rattle.bench_engine.specs.inside.Operands.{StandsFor, GivesChanged}
+use Rattle.bench_engine.proofs.Sets.{items-at, read-part, part-inside}
+
+-- what holds of all addresses holds of some of them
+some-inside : (P : ℕ → Type 0) (item start : ℕ) (places some : List ℕ) → All P (offsets_of item start places) → All (Contains places) some → All P (offsets_of item start some)
+some-inside P item start places some all among =
+    All-map P (λ place. item * place + start) some (λ k d below. All-contains (λ place. P (item * place + start)) places (get_or some k d) each (among k d below))
+  where
+    each : All (λ place. P (item * place + start)) places
+    each = λ k d below. subst P (get_or-map (λ place. item * place + start) places k d 0 below) (all k 0 (omega (arith, below, length-map places (λ place. item * place + start))))
+
+module _ (s : State) (name : List ℕ) (a part : Array) (r : ArrayRef) (shows : Shows s a r) where
+  -- ---- a view
+
+  lies : (layout : Layout) → IsTarget s name a part (target.View layout) → LiesIn s a part layout
+  lies layout is = record {
+    places = is.places;
+    shape = layout.shape;
+    part_is = is.part_is;
+    shape_is = refl;
+    offsets_are = is.leads.offsets_are;
+    among = is.leads.among;
+    fits = is.may_write.0;
+  }
+
+  pub old-view : (layout : Layout) (x : Items) → IsTarget s name a part (target.View layout) → x.block.now ≡ r.block.now → x.layout.now ≡ layout → x.descr.now ≡ r.descr.now → StandsFor s part x
+  old-view layout x is block laid typed = record {
+    descr = ap (descr_of s) is.part_is ∙ shows.descr ∙ sym typed;
+    shape = ap (λ (a : Array). a.shape) is.part_is ∙ ap (λ (l : Layout). l.shape) (sym laid);
+    items = read-part s a part r layout shows (lies layout is) ∙ λ i. map (item_from (sym typed i) (sym block i)) (offsets (sym laid i));
+    inside = subst (λ (l : Layout). All (λ offset. offset + item_size x.descr.now ≤ length x.block.now) (offsets l)) (sym laid)
+        (subst (λ (b : List ℕ). All (λ offset. offset + item_size x.descr.now ≤ length b) (offsets layout)) (sym block)
+        (subst (λ (d : Descr). All (λ offset. offset + item_size d ≤ length r.block.now) (offsets layout)) (sym typed) (part-inside s a part r layout shows (lies layout is))));
+  }
+
+  pub view-inside : (layout : Layout) → IsTarget s name a part (target.View layout) → All (λ offset. offset + item_size r.descr.now ≤ length r.block.now) (offsets layout)
+  view-inside layout is = part-inside s a part r layout shows (lies layout is)
+
+  pub view-few : (layout : Layout) → IsTarget s name a part (target.View layout) → count layout.shape * item_size r.descr.now ≤ max_bytes
+  view-few layout is = subst (λ n. n ≤ max_bytes) (λ i. is.counted i * item_size (shows.descr i)) is.few
+
+  -- ---- a plan
+
+  pub plan-inside : (plan : Planned) → IsTarget s name a part (target.Plan plan) → All (λ offset. offset + item_size r.descr.now ≤ length r.block.now) plan.offsets
+  plan-inside plan is =
+      let P = λ (offset : ℕ). offset + item_size r.descr.now ≤ length r.block.now in
+      subst (All P) (sym is.leads.offsets_are) (some-inside P (item_size (buffer_of s a).descr) (start_at (buffer_of s a).descr a.path) a.places is.places (subst (All P) shows.view.laid.places shows.inside) is.leads.among)
+
+  pub plan-few : (plan : Planned) → IsTarget s name a part (target.Plan plan) → count plan.shape * item_size r.descr.now ≤ max_bytes
+  plan-few plan is = subst (λ n. n ≤ max_bytes) (λ i. is.counted i * item_size (shows.descr i)) is.few
+
+  pub plan-lacks : (plan : Planned) (e : Refusal) → IsTarget s name a part (target.Plan plan) → e ≡ (if nat_le (count plan.shape * item_size r.descr.now) max_bytes then OutOfMemory else TooLarge) → e ≡ OutOfMemory
+  plan-lacks plan e is refused =
+      let small = le-leb (count plan.shape * item_size r.descr.now) max_bytes (plan-few plan is) in
+      refused ∙ ap (λ b. if b then OutOfMemory else TooLarge) small
+
+  pub old-plan : (plan : Planned) (o : Owned) (x : Items) → IsTarget s name a part (target.Plan plan) → o.descr ≡ r.descr.now → o.layout.shape ≡ plan.shape → map (item_from r.descr.now o.block) (offsets o.layout) ≡ map (item_from r.descr.now r.block.now) plan.offsets →
+      x.block.now ≡ o.block → x.layout.now ≡ o.layout → x.descr.now ≡ o.descr → All (λ offset. offset + item_size x.descr.now ≤ length x.block.now) (offsets x.layout.now) → StandsFor s part x
+  old-plan plan o x is typed-o shaped items block laid typed inside = record {
+    descr = ap (descr_of s) is.part_is ∙ shows.descr ∙ sym (typed ∙ typed-o);
+    shape = ap (λ (a : Array). a.shape) is.part_is ∙ sym shaped ∙ ap (λ (l : Layout). l.shape) (sym laid);
+    items = ap (read s) is.part_is ∙ items-at s a r is.places shows is.leads.among ∙ ap (map (item_from r.descr.now r.block.now)) (sym is.leads.offsets_are) ∙ sym items
+        ∙ λ i. map (item_from (sym (typed ∙ typed-o) i) (sym block i)) (offsets (sym laid i));
+    inside = inside;
+  }
+
+-- ---- the new items
+
+pub own-items : (s : State) (d : Descr) (n : ℕ) (o : Owned) (there : Result (List (List LeafValue)) Refusal) → GivesChanged d n (Ok o) there → GivesItems s d n (Ok (given.Own o)) there
+own-items s d n o (Ok items) is = is
+own-items s d n o (Err e) is = absurd is

@@ -1,0 +1,14 @@
+use Rattle.std.proofs.Common.{Some}
+use Rattle.std.proofs.lemmas.Result.{err_from_is_err_and}
+use Rattle.bench_engine.specs.Machine.{new_items, updated}
+use Rattle.bench_engine.proofs.Written.{own-items}
+use Rattle.bench_engine.proofs.set.new_items.Goals as goal
+
+pub returns-in_err-owned-in-Some : goal.returns-in_err-owned-in-Some
+returns-in_err-owned-in-Some c name a part shows is =
+    let p = err_from_is_err_and c.from_residual.result c.from_residual.ensures.1 in
+    rw (p.1, p.2, c.in-Some.is) (c.in_err-owned-in-Some.ensures name a part shows is)
+
+pub returns-in_ok-owned-in-Some : goal.returns-in_ok-owned-in-Some
+returns-in_ok-owned-in-Some c name a part shows is =
+    rw c.in-Some.is (own-items c.args.bench.now c.args.array.now.descr.now _ c.in_ok-owned-in-Some.owned (updated c.args.bench.now c.args.array.now.descr.now part c.in-Some.operation c.args.value.now) (c.in_ok-owned-in-Some.ensures name a part shows is))

@@ -1,0 +1,27 @@
+use Rattle.std.proofs.Common.{refl, sym, ◌∙◌}
+use Rattle.std.proofs.lemmas.Simd.{map-map}
+use Rattle.elem_descr.specs.Blocks.{item_from}
+use Rattle.elementwise.specs.Casts.{cast_item}
+use Rattle.shape_strides.specs.LayoutLaws.{length-offsets}
+use Rattle.shape_strides.specs.Layouts.{offsets}
+use Rattle.bench_engine.proofs.Assigns.{kept-items}
+use Rattle.bench_engine.proofs.OperandLaws.{own-inside}
+use Rattle.bench_engine.proofs.Updates.{cast-changed}
+use Rattle.bench_engine.proofs.update.as_old.Goals as goal
+
+pub returns-then-keeps_items : goal.returns-then-keeps_items
+returns-then-keeps_items c =
+    let o = c.args.new in
+    let alike = c.if-keeps_items.ensures.alike refl in (
+      record { alike = alike; count = length-offsets o.layout },
+      kept-items o.descr c.args.descr.now o.block (offsets o.layout) alike (c.if-keeps_items.ensures.items refl) (own-inside o)
+          ∙ sym (map-map (cast_item o.descr c.args.descr.now) (item_from o.descr o.block) (offsets o.layout)),
+    )
+
+pub cast-requires : goal.cast-requires
+cast-requires c = record { inside = own-inside c.args.new }
+
+pub returns : goal.returns
+returns c =
+    let e = c.cast.ensures in
+    cast-changed c.args.new c.args.descr.now c.cast.result c.requires.can c.requires.few e.descr e.shape e.items e.refused

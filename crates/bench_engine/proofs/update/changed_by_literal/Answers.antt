@@ -1,0 +1,65 @@
+use Rattle.std.proofs.Common.{◌≡◌, ◌≤◌, ◌*◌, List, ℕ, Err, Ok, true, sym, ap, ◌∙◌, refl, inl, inr, subst}
+use Rattle.std.specs.Result.{is_ok}
+use Rattle.std.proofs.lemmas.Bool.{false≢true}
+use Rattle.std.proofs.lemmas.Result.{err_from_is_err_and}
+use Rattle.elem_descr.specs.RefusalLaws.{same_answer}
+use Rattle.elem_descr.specs.declared.descr.Descr.{Descr}
+use Rattle.elem_descr.specs.declared.descr.Descr.TheVariants.{Scalar as ScalarDescr}
+use Rattle.elem_descr.specs.declared.refusal.Refusal.{Refusal}
+use Rattle.elem_descr.specs.declared.scalar.Scalar.{Scalar}
+use Rattle.elem_descr.specs.Items.{item_size}
+use Rattle.shape_strides.specs.Indexes.{count}
+use Rattle.shape_strides.specs.Limits.{max_bytes}
+use Rattle.elementwise.specs.Casts.{can_cast}
+use Rattle.elementwise.specs.Promotion.{same_kind}
+use Rattle.elementwise.specs.Results.{scalar_of}
+use Rattle.bench_engine.specs.Machine.{changed_with, literal_values, worked_with}
+use Rattle.bench_engine.proofs.LegalLaws.{IsLegal}
+use Rattle.bench_engine.proofs.Makes.{passed}
+use Rattle.bench_engine.proofs.Updates.{changed-record, changed-kind, changed-done, changed-gives, kind-casts, scalar-descr, literal-parts, literal-refused, own_values, stands-own}
+use Rattle.bench_engine.proofs.update.changed_by_literal.Goals as goal
+
+pub returns-in_err-new : goal.returns-in_err-new
+returns-in_err-new c v sv =
+    let p = err_from_is_err_and c.from_residual.result c.from_residual.ensures.1 in
+    let lengths = c.as_slice-lengths.ensures in
+    let legal = subst IsLegal (sym sv.shape) (record { axes = lengths.rank; lengths = lengths.lengths; items = lengths.items }) in
+    rw (p.1, p.2) (passed (worked_with c.args.operation v (literal_values c.args.operation v.descr c.args.literal.now)) _ _ (literal-refused c.args.operation c.args.old.descr.now v c.args.literal.now _ legal sv.descr) (c.in_err-new.ensures.gives v sv))
+
+pub returns-in_err-scalar : goal.returns-in_err-scalar
+returns-in_err-scalar c v sv =
+    let parts = literal-parts c.args.operation c.args.old.descr.now v c.args.literal.now c.in_ok-new.new sv.descr (c.in_ok-new.ensures.gives v sv) in
+    absurd (false≢true (sym (ap is_ok (sym (ap scalar_of parts.7) ∙ c.in_err-scalar.ensures))))
+
+pub returns-in_err-scalar_of : goal.returns-in_err-scalar_of
+returns-in_err-scalar_of c v sv =
+    let p = err_from_is_err_and c.from_residual-in_err-scalar_of.result c.from_residual-in_err-scalar_of.ensures.1 in
+    let parts = literal-parts c.args.operation c.args.old.descr.now v c.args.literal.now c.in_ok-new.new sv.descr (c.in_ok-new.ensures.gives v sv) in
+    rw (p.1, p.2) (inr (ap (changed_with c.args.operation c.args.old.descr.now v) parts.2 ∙ changed-record c.args.operation c.args.old.descr.now v parts.0 parts.1 _ parts.6 c.in_err-scalar_of.ensures))
+
+pub returns-in_err-same_kind : goal.returns-in_err-same_kind
+returns-in_err-same_kind c v sv =
+    let p = err_from_is_err_and c.from_residual-in_err-same_kind.result c.from_residual-in_err-same_kind.ensures.1 in
+    let parts = literal-parts c.args.operation c.args.old.descr.now v c.args.literal.now c.in_ok-new.new sv.descr (c.in_ok-new.ensures.gives v sv) in
+    let own : parts.1 ≡ c.in_ok-scalar.scalar = same_answer parts.1 c.in_ok-scalar.scalar (sym (ap scalar_of parts.7) ∙ c.in_ok-scalar.ensures) in
+    rw (p.1, p.2) (inr (ap (changed_with c.args.operation c.args.old.descr.now v) parts.2
+    ∙ changed-kind c.args.operation c.args.old.descr.now v parts.0 parts.1 _ _ parts.6 c.in_ok-scalar_of.ensures (ap (λ (s : Scalar). same_kind s c.in_ok-scalar_of.field-0) own ∙ c.in_err-same_kind.ensures)))
+
+pub as_old-requires-clause-can : goal.as_old-requires-clause-can
+as_old-requires-clause-can c =
+    subst (λ (d : Descr). can_cast d c.args.old.descr.now ≡ true) (sym (scalar-descr c.in_ok-new.new.descr _ c.in_ok-scalar.ensures)) (subst (λ (d : Descr). can_cast (ScalarDescr c.in_ok-scalar.scalar) d ≡ true) (sym (scalar-descr c.args.old.descr.now _ c.in_ok-scalar_of.ensures))
+    (kind-casts c.in_ok-scalar.scalar _ c.in_ok-same_kind.ensures))
+
+pub as_old-requires-clause-few : goal.as_old-requires-clause-few
+as_old-requires-clause-few c =
+    let v = own_values c.args.old in
+    let parts = literal-parts c.args.operation c.args.old.descr.now v c.args.literal.now c.in_ok-new.new refl (c.in_ok-new.ensures.gives v (stands-own c.args.old)) in
+    subst (λ (l : List ℕ). count l * item_size c.args.old.descr.now ≤ max_bytes) (sym parts.5) c.requires.few
+
+pub returns : goal.returns
+returns c v sv =
+    let parts = literal-parts c.args.operation c.args.old.descr.now v c.args.literal.now c.in_ok-new.new sv.descr (c.in_ok-new.ensures.gives v sv) in
+    let own : parts.1 ≡ c.in_ok-scalar.scalar = same_answer parts.1 c.in_ok-scalar.scalar (sym (ap scalar_of parts.7) ∙ c.in_ok-scalar.ensures) in
+    changed-gives c.args.old.descr.now (count v.shape) c.in_ok-new.new c.as_old.result _ c.in_ok-new.ensures.order
+    (ap (changed_with c.args.operation c.args.old.descr.now v) parts.2
+    ∙ changed-done c.args.operation c.args.old.descr.now v parts.0 parts.1 _ _ _ parts.6 c.in_ok-scalar_of.ensures (ap (λ (s : Scalar). same_kind s c.in_ok-scalar_of.field-0) own ∙ c.in_ok-same_kind.ensures) parts.4 parts.3) (ap count (sym parts.5)) c.as_old.ensures

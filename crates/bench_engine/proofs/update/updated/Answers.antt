@@ -1,0 +1,37 @@
+use Rattle.std.proofs.Common.{refl, subst, ◌∙◌}
+use Rattle.name_store.specs.declared.target.Target.{Target}
+use Rattle.elem_descr.specs.declared.descr.Descr.{Descr}
+use Rattle.shape_strides.specs.Indexes.{count}
+use Rattle.bench_engine.specs.inside.Operands.{GivesChanged}
+use Rattle.bench_engine.specs.Machine.{values_of, updated}
+use Rattle.bench_engine.specs.inside.Assigns.{IsTarget}
+use Rattle.bench_engine.proofs.OperandLaws.{all-stand}
+use Rattle.bench_engine.proofs.Written.{old-view, view-inside, plan-inside, old-plan}
+use Rattle.bench_engine.proofs.update.updated.Goals as goal
+
+pub changed-requires-clause-inside : goal.changed-requires-clause-inside
+changed-requires-clause-inside c =
+    let t = c.requires.target in
+    let is = subst (λ (t' : Target). IsTarget c.args.bench.now t.0 t.1 t.2 t') c.in-View.is t.4 in
+    view-inside c.args.bench.now t.0 t.1 t.2 c.args.array.now t.3 _ is
+
+pub returns-in-View : goal.returns-in-View
+returns-in-View c name a part shows target =
+    let s = c.args.bench.now in
+    let is = subst (λ (t : Target). IsTarget s name a part t) c.in-View.is target in
+    c.changed.ensures (values_of s part) (all-stand s part _ (old-view s name a part c.args.array.now shows _ _ is refl refl refl))
+
+pub gather_owned-requires : goal.gather_owned-requires
+gather_owned-requires c =
+    let t = c.requires.target in
+    let is = subst (λ (t' : Target). IsTarget c.args.bench.now t.0 t.1 t.2 t') c.in-Plan.is t.4 in
+    plan-inside c.args.bench.now t.0 t.1 t.2 c.args.array.now t.3 _ is
+
+pub returns-in_ok-old-in-Plan : goal.returns-in_ok-old-in-Plan
+returns-in_ok-old-in-Plan c name a part shows target =
+    let s = c.args.bench.now in
+    let is = subst (λ (t : Target). IsTarget s name a part t) c.in-Plan.is target in
+    let e = c.in_ok-old-in-Plan.ensures in
+    let own = c.items_of.ensures in
+    let stands = all-stand s part c.items_of.result (old-plan s name a part c.args.array.now shows _ c.in_ok-old-in-Plan.old c.items_of.result is e.descr e.shape e.items own.block own.layout own.descr own.inside) in
+    subst (λ (d : Descr). GivesChanged d (count part.shape) c.changed-in-Plan.result (updated s d part c.args.operation c.args.value.now)) (own.descr ∙ e.descr) (c.changed-in-Plan.ensures (values_of s part) stands)
