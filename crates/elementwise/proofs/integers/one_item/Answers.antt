@@ -1,4 +1,4 @@
-use Rattle.std.proofs.Common.{inl, inr, ◌≡◌, ◌*◌, [], ◌∷◌, sym, ap, subst, ◌∙◌, refl, arith}
+use Rattle.std.proofs.Common.{inl, inr, ◌≡◌, ◌*◌, [], ◌∷◌, sym, ap, ◌∙◌, refl, arith}
 use Rattle.std.specs.Int.{w128}
 use Rattle.std.specs.Result.{is_ok}
 use Rattle.std.proofs.lemmas.Int.{to_z-of_z}
