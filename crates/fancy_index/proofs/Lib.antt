@@ -4,6 +4,7 @@ pub mod PlanLaws
 pub mod RunLaws
 pub mod Passes
 pub mod GatherLaws
+pub mod SingleLaws
 pub mod SourceLaws
 pub mod NumberLoops
 pub mod PointLaws

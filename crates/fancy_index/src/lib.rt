@@ -17,6 +17,7 @@ mod rest;
 mod run_moves;
 mod scatter;
 mod shifts;
+mod singles;
 pub mod source;
 
 pub use kind::{Kind, kind_of};

@@ -2,7 +2,7 @@ use Rattle.std.proofs.Common.{◌≡◌, length, drop}
 use Rattle.shape_strides.specs.Layouts.{offsets}
 use Rattle.fancy_index.specs.Plans.{shifted_all, put_each}
 use Rattle.fancy_index.proofs.Passes.{Filling}
-use Rattle.fancy_index.proofs.fill.fill_shifts.Given as goal
+use Rattle.fancy_index.proofs.fill.fill_runs.Given as goal
 
 abbrev pub invariant-loop-shift : goal.invariant-loop-shift
 invariant-loop-shift l = record {

@@ -4,7 +4,7 @@ use Rattle.overlap_copy.specs.Assignments.{assigned}
 use Rattle.fancy_index.specs.Plans.{shifted_all}
 use Rattle.fancy_index.specs.inside.Packed.{packed}
 use Rattle.fancy_index.proofs.Passes.{Gathering}
-use Rattle.fancy_index.proofs.gather.gather_shifts.Given as goal
+use Rattle.fancy_index.proofs.gather.gather_runs.Given as goal
 
 abbrev pub invariant-loop-shift : goal.invariant-loop-shift
 invariant-loop-shift l = record {
