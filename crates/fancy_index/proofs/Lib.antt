@@ -14,6 +14,7 @@ pub mod PlaceLaws
 pub mod RestLaws
 pub mod CutLaws
 pub mod ShiftLaws
+pub mod LoneLaws
 pub mod LeadLaws
 pub mod IndexSplits
 pub mod LaidLaws

@@ -2,4 +2,5 @@ pub mod Kept
 pub mod Packed
 pub mod PointLists
 pub mod PartLists
+pub mod Lone
 pub mod Places

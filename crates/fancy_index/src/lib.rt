@@ -7,6 +7,7 @@ mod common;
 mod fill;
 mod gather;
 pub mod kind;
+mod lone;
 mod parts;
 mod place;
 mod planning;
