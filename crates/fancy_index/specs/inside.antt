@@ -1,4 +1,5 @@
 pub mod Kept
+pub mod Eights
 pub mod Packed
 pub mod PointLists
 pub mod PartLists

@@ -4,6 +4,7 @@
 mod axes;
 mod checks;
 mod common;
+mod eights;
 mod fill;
 mod gather;
 pub mod kind;

@@ -9,6 +9,7 @@ ghost use Rattle.fancy_index.specs.Parts.{points_of};
 ghost use Rattle.fancy_index.specs.Sources.{array_of, LiesInBlock};
 ghost use Rattle.fancy_index.specs.inside.PointLists.{place_of, true_ranks, IsPart};
 
+use crate::eights::{eight_places, eights_of};
 use crate::kind::Kind;
 use crate::source::{Indices, kind, number_at};
 use shape_strides::FixedWalk;
@@ -25,7 +26,7 @@ pub(crate) struct PointList {
 }
 
 /// The place of `n` that a number names.
-fn place_of(n: usize, at: i128) -> usize
+pub(crate) fn place_of(n: usize, at: i128) -> usize
     requires { is_place n at ≡ true }
     ensures { result ≡ place_of n at }
 {
@@ -33,7 +34,7 @@ fn place_of(n: usize, at: i128) -> usize
 }
 
 /// The places of `n` that the numbers of an array name.
-fn places(alloc: Global, array: Indices<'_>, n: usize) -> Result<Vec<usize>, AllocError>
+fn places_each(alloc: Global, array: Indices<'_>, n: usize) -> Result<Vec<usize>, AllocError>
     requires kind { kind (array_of array) ≢ NoIndex }
     requires lies { LiesInBlock array }
     requires within { list_all (is_place n) (array_of array).numbers ≡ true }
@@ -44,6 +45,20 @@ fn places(alloc: Global, array: Indices<'_>, n: usize) -> Result<Vec<usize>, All
         places.push(place_of(n, number_at(array, offset)))?;
     }
     Ok(places)
+}
+
+/// The places of `n` that the numbers of an array name. Integers of eight bytes that lie one right after
+/// another need no walk.
+fn places(alloc: Global, array: Indices<'_>, n: usize) -> Result<Vec<usize>, AllocError>
+    requires kind { kind (array_of array) ≢ NoIndex }
+    requires lies { LiesInBlock array }
+    requires within { list_all (is_place n) (array_of array).numbers ≡ true }
+    ensures { IfOk result (λ v. v.items ≡ map (place_of n) (array_of array.entry).numbers) }
+{
+    if let Some(items) = eights_of(array) {
+        return eight_places(alloc, items, n);
+    }
+    places_each(alloc, array, n)
 }
 
 fn is_zero(number: i128) -> bool

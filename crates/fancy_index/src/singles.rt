@@ -88,12 +88,12 @@ fn scatter_each(
     ensures end { result ≡ at + length shifts.now * width }
 {
     let _len = items.len();
-    let mut at = at;
+    let mut from = at;
     for shift in shifts {
-        block.copy_from(moved(base, place, *shift), items, at, width);
-        at += width;
+        block.copy_from(moved(base, place, *shift), items, from, width);
+        from += width;
     }
-    at
+    from
 }
 
 /// The same, with a loop of its own for each usual width.

@@ -7,7 +7,7 @@ use Rattle.fancy_index.proofs.singles.scatter_each.Given as goal
 
 abbrev pub invariant-loop-shift : goal.invariant-loop-shift
 invariant-loop-shift l = record {
-  pass : Scattering (map (moved l.base l.place) (drop l.shift-index l.shifts)) l.at l.width (l.fn.at + length (map (moved l.base l.place) l.shifts) * l.width) l.items l.block
-      (assigned (map (moved l.base l.place) l.shifts) (packed l.fn.at l.width (length (map (moved l.base l.place) l.shifts))) l.width l.items l.fn.block);
+  pass : Scattering (map (moved l.base l.place) (drop l.shift-index l.shifts)) l.from l.width (l.at + length (map (moved l.base l.place) l.shifts) * l.width) l.items l.block
+      (assigned (map (moved l.base l.place) l.shifts) (packed l.at l.width (length (map (moved l.base l.place) l.shifts))) l.width l.items l.fn.block);
   len : length l.block ≡ length l.fn.block;
 }

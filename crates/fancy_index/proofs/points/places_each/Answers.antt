@@ -8,7 +8,7 @@ use Rattle.view_ops.specs.Slices.{is_place}
 use Rattle.fancy_index.specs.Sources.{number_from}
 use Rattle.fancy_index.specs.inside.PointLists.{place_of}
 use Rattle.fancy_index.proofs.NumberLoops.{next_is_place, place_next}
-use Rattle.fancy_index.proofs.points.places.Goals as goal
+use Rattle.fancy_index.proofs.points.places_each.Goals as goal
 
 pub place_of-requires : goal.place_of-requires
 place_of-requires c =

@@ -3,7 +3,7 @@ use Rattle.std.specs.List.{list_all}
 use Rattle.elem_descr.specs.Items.{item_size}
 use Rattle.view_ops.specs.Slices.{is_place}
 use Rattle.fancy_index.specs.Sources.{number_from, array_of}
-use Rattle.fancy_index.proofs.checks.are_places.Given as goal
+use Rattle.fancy_index.proofs.checks.are_places_each.Given as goal
 
 abbrev pub invariant-loop-offset : goal.invariant-loop-offset
 invariant-loop-offset l = record {

@@ -7,7 +7,7 @@ use mir.Syntax.{w128}
 use Rattle.elem_descr.specs.Items.{item_size}
 use Rattle.view_ops.specs.Slices.{is_place}
 use Rattle.fancy_index.specs.Sources.{number_from}
-use Rattle.fancy_index.proofs.checks.are_places.Goals as goal
+use Rattle.fancy_index.proofs.checks.are_places_each.Goals as goal
 
 pub loop-offset-preserved : goal.loop-offset-preserved
 loop-offset-preserved c =
