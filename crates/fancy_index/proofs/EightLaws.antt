@@ -26,10 +26,10 @@ packed-is at width n =
     same : (k : ℕ) → natural (pos at +ℤ pos width *ℤ pos k) ≡ at + width * k
     same k = omega arith
 
-packed-entry : (at width n k d : ℕ) → k < n → get_or (packed at width n) k d ≡ at + width * k
+pub packed-entry : (at width n k d : ℕ) → k < n → get_or (packed at width n) k d ≡ at + width * k
 packed-entry at width n k d low = ap (λ l. get_or l k d) (packed-is at width n) ∙ get_or-map-range_with_len (λ k. at + width * k) 0 n k k d (omega arith) (omega arith)
 
-length-packed : (at width n : ℕ) → length (packed at width n) ≡ n
+pub length-packed : (at width n : ℕ) → length (packed at width n) ≡ n
 length-packed at width n = ap length (packed-is at width n) ∙ length-map-range_with_len (λ k. at + width * k) 0 n
 
 pub eights-end : (at n len : ℕ) (offsets : List ℕ) → 1 ≤ n → offsets ≡ packed at 8 n → All (λ offset. offset + 8 ≤ len) offsets → at + 8 * n ≤ len

@@ -8,6 +8,7 @@ pub mod SingleLaws
 pub mod SourceLaws
 pub mod NumberLoops
 pub mod EightLaws
+pub mod BoolLaws
 pub mod PointLaws
 pub mod PartLaws
 pub mod IndexedLaws

@@ -1,5 +1,6 @@
 pub mod Kept
 pub mod Eights
+pub mod Bools
 pub mod Packed
 pub mod PointLists
 pub mod PartLists

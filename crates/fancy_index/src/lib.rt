@@ -2,6 +2,7 @@
 #![tactic(auto)]
 
 mod axes;
+mod bools;
 mod checks;
 mod common;
 mod eights;

@@ -9,6 +9,7 @@ ghost use Rattle.fancy_index.specs.Parts.{points_of};
 ghost use Rattle.fancy_index.specs.Sources.{array_of, LiesInBlock};
 ghost use Rattle.fancy_index.specs.inside.PointLists.{place_of, true_ranks, IsPart};
 
+use crate::bools::{bools_of, true_bytes};
 use crate::eights::{eight_places, eights_of};
 use crate::kind::Kind;
 use crate::source::{Indices, kind, number_at};
@@ -68,7 +69,7 @@ fn is_zero(number: i128) -> bool
 }
 
 /// The ranks at which a mask is true.
-fn true_ranks(alloc: Global, array: Indices<'_>) -> Result<Vec<usize>, AllocError>
+fn true_ranks_each(alloc: Global, array: Indices<'_>) -> Result<Vec<usize>, AllocError>
     requires kind { kind (array_of array) ≢ NoIndex }
     requires lies { LiesInBlock array }
     ensures { IfOk result (λ v. v.items ≡ true_ranks 0 (array_of array.entry).numbers) }
@@ -83,6 +84,18 @@ fn true_ranks(alloc: Global, array: Indices<'_>) -> Result<Vec<usize>, AllocErro
         rank += 1;
     }
     Ok(ranks)
+}
+
+/// The ranks at which a mask is true. Bools that lie one right after another need no walk.
+fn true_ranks(alloc: Global, array: Indices<'_>) -> Result<Vec<usize>, AllocError>
+    requires kind { kind (array_of array) ≢ NoIndex }
+    requires lies { LiesInBlock array }
+    ensures { IfOk result (λ v. v.items ≡ true_ranks 0 (array_of array.entry).numbers) }
+{
+    if let Some(bytes) = bools_of(array) {
+        return true_bytes(alloc, bytes);
+    }
+    true_ranks_each(alloc, array)
 }
 
 /// The one point of an integer.

@@ -9,8 +9,8 @@ use Rattle.elem_descr.specs.Items.{item_size}
 use Rattle.fancy_index.specs.Sources.{number_from}
 use Rattle.fancy_index.specs.inside.PointLists.{true_ranks}
 use Rattle.fancy_index.proofs.NumberLoops.{rank_next, rank_passed}
-use Rattle.fancy_index.proofs.points.true_ranks.Goals as goal
-use Rattle.fancy_index.proofs.points.true_ranks.Goals.{then-not-is_zero+in_ok-push, else-not-is_zero}
+use Rattle.fancy_index.proofs.points.true_ranks_each.Goals as goal
+use Rattle.fancy_index.proofs.points.true_ranks_each.Goals.{then-not-is_zero+in_ok-push, else-not-is_zero}
 
 pub loop-offset-preserved : goal.loop-offset-preserved
 loop-offset-preserved c =

@@ -3,7 +3,7 @@ use Rattle.elem_descr.specs.Items.{item_size}
 use Rattle.shape_strides.specs.Limits.{max_items}
 use Rattle.fancy_index.specs.Sources.{number_from, array_of}
 use Rattle.fancy_index.specs.inside.PointLists.{true_ranks}
-use Rattle.fancy_index.proofs.points.true_ranks.Given as goal
+use Rattle.fancy_index.proofs.points.true_ranks_each.Given as goal
 
 abbrev pub invariant-loop-offset : goal.invariant-loop-offset
 invariant-loop-offset l = record {
