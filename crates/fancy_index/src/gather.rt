@@ -8,8 +8,9 @@ ghost use Rattle.fancy_index.specs.inside.Kept.{IsMoved, AreStarts};
 ghost use Rattle.fancy_index.specs.inside.Packed.{packed};
 
 use crate::plans::moved;
-use crate::run_moves::{copy_run, moved_run, packed_run};
+use crate::run_moves::moved_run;
 use crate::singles::gather_singles;
+use overlap_copy::{copy_run, packed_run};
 use raw_block::RawBlock;
 use shape_strides::{FixedWalk, Layout, Runs};
 
