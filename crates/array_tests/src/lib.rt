@@ -17,6 +17,8 @@ mod casts;
 #[cfg(test)]
 mod check;
 #[cfg(test)]
+mod computed;
+#[cfg(test)]
 mod fields;
 #[cfg(test)]
 mod layouts;

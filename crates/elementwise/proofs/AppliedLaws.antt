@@ -46,7 +46,7 @@ pub given : (result : Result Owned Refusal) (there : Result (Descr × List ℕ) 
 given (Ok o) there d shape is descr same refused = is ∙ λ i. Ok (sym descr i, sym same i)
 given (Err e) there d shape is descr same refused = inl refused
 
-pairwise-same : {A B : Type 0} (f : A → A → B) (xs : List A) → pairwise f xs xs ≡ map (λ x. f x x) xs
+pub pairwise-same : {A B : Type 0} (f : A → A → B) (xs : List A) → pairwise f xs xs ≡ map (λ x. f x x) xs
 pairwise-same f [] = refl
 pairwise-same f (x ∷ xs) = ap (λ rest. f x x ∷ rest) (pairwise-same f xs)
 

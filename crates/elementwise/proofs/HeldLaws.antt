@@ -43,7 +43,7 @@ some_width Four = omega arith
 some_width Eight = omega arith
 
 -- what is read is a value of its scalar
-value-of : (s : Scalar) (bytes : List ℕ) → AreBytes bytes → IsNumber s → IsValueOf s (number_of (decode s bytes))
+pub value-of : (s : Scalar) (bytes : List ℕ) → AreBytes bytes → IsNumber s → IsValueOf s (number_of (decode s bytes))
 value-of BoolScalar bytes are is = truth-is (number_in Little 1 bytes)
 value-of (Byte signed) bytes are is = integer-fits signed 1 (number_in Little 1 bytes) (omega arith) (number-lt Little 1 bytes are)
 value-of (Int signed width order) bytes are is = integer-fits signed (width_size width) (number_in order (width_size width) bytes) (some_width width) (number-lt order (width_size width) bytes are)
@@ -77,7 +77,7 @@ holds-wide (Bytes n) never z fits = absurd never
 
 -- ---- items
 
-is-number : (s : Scalar) (bytes : List ℕ) → IsNumber s → number (number_of (decode s bytes)) ≡ decode s bytes
+pub is-number : (s : Scalar) (bytes : List ℕ) → IsNumber s → number (number_of (decode s bytes)) ≡ decode s bytes
 is-number BoolScalar bytes is = refl
 is-number (Byte signed) bytes is = refl
 is-number (Int signed width order) bytes is = refl

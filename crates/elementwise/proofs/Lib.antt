@@ -13,6 +13,8 @@ pub mod TypedLaws
 pub mod PromotedLaws
 pub mod AppliedLaws
 pub mod HeldLaws
+pub mod ComparedLaws
+pub mod IntegerLaws
 pub mod BitLaws
 pub mod WordLaws
 mod Vectors

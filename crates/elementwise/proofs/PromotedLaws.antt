@@ -62,7 +62,7 @@ common-native l r is is' = elim (is_bool l) as (λ t. AnswersNative (cond t (Ok 
 
 -- ---- what was checked
 
-check_test : {X : Type 0} (test : Bool) (refusal : Refusal) (rest : Result X Refusal) (x : X) → check test refusal >>= (λ _. rest) ≡ Ok x → test ≡ true
+pub check_test : {X : Type 0} (test : Bool) (refusal : Refusal) (rest : Result X Refusal) (x : X) → check test refusal >>= (λ _. rest) ≡ Ok x → test ≡ true
 check_test true refusal rest x found = refl
 check_test false refusal rest x found = absurd (false≢true (ap is_ok found))
 

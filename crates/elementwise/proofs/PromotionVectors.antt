@@ -9,7 +9,7 @@ use Rattle.elem_descr.specs.declared.scalar.Scalar.TheVariants.{Bool as BoolScal
 use Rattle.script_lang.specs.declared.operation.BinaryOperation.{BinaryOperation}
 use Rattle.script_lang.specs.declared.operation.BinaryOperation.TheVariants.{Add, Subtract, Multiply, FloorDivide, Modulo, And, Or, Xor, ShiftLeft, ShiftRight, Divide}
 use Rattle.script_lang.specs.declared.operation.UnaryOperation.TheVariants.{Negate, Invert}
-use Rattle.elementwise.specs.Promotion.{promote, literal_type, promote_one, same_kind}
+use Rattle.elementwise.specs.Promotion.{promote, compared_type, literal_type, promote_one, same_kind}
 
 abbrev b1 : Scalar
 b1 = BoolScalar
@@ -142,6 +142,23 @@ inverted = refl
 no_text : promote_one Invert s3 ≡ Err NotForThisKind
 unfolding promote_one
 no_text = refl
+
+-- comparisons: of all numbers, and of byte strings
+compared_with_u8 : map (compared_type u8) types ≡ map (λ _. Ok b1) types
+unfolding compared_type
+compared_with_u8 = refl
+
+compared_texts : compared_type s3 (Bytes 1) ≡ Ok b1
+unfolding compared_type
+compared_texts = refl
+
+text_with_number : compared_type s3 u1 ≡ Err NotForThisKind
+unfolding compared_type
+text_with_number = refl
+
+number_with_text : compared_type b1 s3 ≡ Err NotForThisKind
+unfolding compared_type
+number_with_text = refl
 
 -- np.can_cast(a, b, 'same_kind'), but that an integer never goes to one without sign from one with it, and a bool holds none
 

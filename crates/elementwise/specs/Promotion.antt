@@ -94,6 +94,16 @@ promote op left right = do
   _ ← check (not (is_division op)) NeedsFloats
   common_type left right
 
+-- numbers are compared with numbers, and byte strings with byte strings
+abbrev pub are_comparable : Scalar → Scalar → Bool
+are_comparable left right = if is_text left then is_text right else not (is_text right)
+
+-- the type of what a comparison gives on two scalars
+unfoldable pub compared_type : Scalar → Scalar → Result Scalar Refusal
+compared_type left right = do
+  _ ← check (are_comparable left right) NotForThisKind
+  Ok BoolScalar
+
 -- the type that an integer literal has beside a scalar: that of an integer, and beside a bool one of eight bytes
 abbrev pub literal_type : Scalar → Scalar
 literal_type BoolScalar = Int true Eight Little

@@ -17,7 +17,7 @@ use Rattle.broadcasting.specs.Broadcasts.{common_shape, broadcast_index}
 use Rattle.script_lang.specs.declared.operation.BinaryOperation.{BinaryOperation}
 use Rattle.script_lang.specs.declared.operation.UnaryOperation.{UnaryOperation}
 use Rattle.script_lang.specs.declared.operation.Comparison.{Comparison}
-use Rattle.elementwise.specs.Promotion.{is_text, promote, promote_one}
+use Rattle.elementwise.specs.Promotion.{is_text, promote, promote_one, compared_type}
 use Rattle.elementwise.specs.Operations.{binary, unary}
 use Rattle.elementwise.specs.Comparisons.{compared}
 
@@ -42,17 +42,13 @@ unary_result op operand shape = do
   scalar ← promote_one op from
   Ok (ScalarDescr scalar, shape)
 
--- numbers are compared with numbers, and byte strings with byte strings
-abbrev pub are_comparable : Scalar → Scalar → Bool
-are_comparable left right = if is_text left then is_text right else not (is_text right)
-
 unfoldable pub compared_result : Descr → List ℕ → Descr → List ℕ → Result (Descr × List ℕ) Refusal
 compared_result left shape right other = do
   from ← scalar_of left
   from' ← scalar_of right
-  _ ← check (are_comparable from from') NotForThisKind
+  scalar ← compared_type from from'
   common ← common_shape (shape ∷ other ∷ [])
-  Ok (ScalarDescr BoolScalar, common)
+  Ok (ScalarDescr scalar, common)
 
 -- numbers alone are compared with an integer
 unfoldable pub integer_compared_result : Descr → List ℕ → Result (Descr × List ℕ) Refusal

@@ -1,24 +1,30 @@
-//! Comparisons of all items of arrays of numbers.
-ghost use Rattle.std.specs.Prelude.{◌≡◌, ℕ, [], ◌+◌, ◌<◌, ◌≤◌, not, length, map, slice_index_or, All, IfOk, IfErr, IsTrue};
+//! Comparisons of all items of arrays.
+ghost use Rattle.std.specs.Prelude.{◌≡◌, ℕ, [], ◌∷◌, ◌+◌, ◌<◌, ◌≤◌, true, not, length, map, slice_index_or, All, IfOk, IfErr, IsTrue};
 ghost use Rattle.elem_descr.specs.declared.refusal.Refusal.TheVariants.{OutOfMemory};
 ghost use Rattle.elem_descr.specs.declared.descr.Descr.TheVariants.{Scalar as ScalarDescr};
 ghost use Rattle.elem_descr.specs.declared.scalar.Order.TheVariants.{Little};
 ghost use Rattle.elem_descr.specs.declared.scalar.Width.TheVariants.{Eight};
-ghost use Rattle.elem_descr.specs.declared.scalar.Scalar.TheVariants.{Bool as BoolScalar, Int};
+ghost use Rattle.elem_descr.specs.declared.scalar.Scalar.TheVariants.{Bool as BoolScalar, Int, Bytes};
 ghost use Rattle.elem_descr.specs.Encoding.{IsNumber};
 ghost use Rattle.elem_descr.specs.Items.{item_size};
 ghost use Rattle.elem_descr.specs.Blocks.{item_from};
+ghost use Rattle.elem_descr.specs.Refusals.{Gives};
+ghost use Rattle.shape_strides.specs.declared.memory_order.MemoryOrder.TheVariants.{C};
 ghost use Rattle.shape_strides.specs.Indexes.{count};
 ghost use Rattle.shape_strides.specs.Layouts.{offsets, multiples};
 ghost use Rattle.broadcasting.specs.Broadcasts.{can_stretch};
-ghost use Rattle.elementwise.specs.Results.{compared_item, stretched_items, pairwise};
+ghost use Rattle.overlap_copy.specs.Blocks.{offsets_in};
+ghost use Rattle.elementwise.specs.Promotion.{are_comparable};
+ghost use Rattle.elementwise.specs.Results.{compared_result, compared_item, stretched_items, pairwise};
 ghost use Rattle.elementwise.specs.inside.PairPasses.{IsNative, Holds};
 
 use crate::operands::Items;
-use crate::pairing::{Comparing, ComparingSigns};
-use crate::promotion::{is_signed, little};
-use crate::typed::make_stretched;
-use elem_descr::{Descr, Order, Refusal, Scalar, Width};
+use crate::paired::make_owned;
+use crate::pairing::{Comparing, ComparingSigns, ComparingTexts};
+use crate::promotion::{compared_type, is_signed, little, scalar_of};
+use crate::typed::{make_stretched, stretched_to};
+use broadcasting::common;
+use elem_descr::{BytesLen, Descr, Order, Refusal, Scalar, Width};
 use overlap_copy::Owned;
 use raw_block::RawBlock;
 use script_lang::Comparison;
@@ -26,7 +32,7 @@ use shape_strides::Shape;
 use std::alloc::Global;
 
 /// A block holds bytes.
-fn note_bytes(block: &RawBlock)
+pub(crate) fn note_bytes(block: &RawBlock)
     ensures { (k : ℕ) → slice_index_or block.now k 0 < 256 }
 {
     let bytes = block.bytes();
@@ -46,7 +52,7 @@ fn eight_bytes(signed: bool) -> Scalar
 
 /// A comparison of two arrays of numbers that are stretched to a shape, by way of a scalar that holds the
 /// numbers of both.
-fn compare_held(
+pub(crate) fn compare_held(
     alloc: Global,
     comparison: Comparison,
     scalar: &Scalar,
@@ -162,4 +168,110 @@ pub(crate) fn compare_numbers(
         return compare_held(alloc, comparison, &wide, from, left, other, right, shape);
     }
     compare_signs(alloc, comparison, signed, from, left, other, right, shape)
+}
+
+/// A comparison of two arrays of byte strings that are stretched to a shape.
+fn compare_texts(
+    alloc: Global,
+    comparison: Comparison,
+    width: BytesLen,
+    left: Items<'_>,
+    other_width: BytesLen,
+    right: Items<'_>,
+    shape: &Shape,
+) -> Result<Owned, Refusal>
+    requires from { left.descr.now ≡ ScalarDescr (Bytes width) }
+    requires other { right.descr.now ≡ ScalarDescr (Bytes other_width) }
+    requires left { All (λ offset. offset + item_size left.descr.now ≤ length left.block.now) (offsets left.layout.now) }
+    requires right { All (λ offset. offset + item_size right.descr.now ≤ length right.block.now) (offsets right.layout.now) }
+    requires stretches { IsTrue (can_stretch left.layout.now.shape shape.now) }
+    requires also { IsTrue (can_stretch right.layout.now.shape shape.now) }
+    ensures descr { IfOk result (λ o. o.descr ≡ ScalarDescr BoolScalar) }
+    ensures shape { IfOk result (λ o. o.layout.shape ≡ shape.now) }
+    ensures order { IfOk result (λ o. offsets o.layout ≡ multiples 1 (count shape.now)) }
+    ensures items { IfOk result (λ o. map (item_from o.descr o.block) (offsets o.layout)
+        ≡ pairwise (compared_item comparison) (stretched_items left.entry.descr.now left.entry.block.now left.entry.layout.now o.layout.shape)
+        (stretched_items right.entry.descr.now right.entry.block.now right.entry.layout.now o.layout.shape)) }
+    ensures refused { IfErr result (λ refusal. refusal ≡ OutOfMemory) }
+{
+    let first = stretched_to(alloc, left.layout, shape)?;
+    let second = stretched_to(alloc, right.layout, shape)?;
+    let pairing = ComparingTexts {
+        comparison,
+        width,
+        other_width,
+    };
+    make_owned::<ComparingTexts>(
+        alloc,
+        &pairing,
+        left.block,
+        &first,
+        right.block,
+        &second,
+        shape,
+    )
+}
+
+/// A comparison of two arrays of numbers or of byte strings that are stretched to a shape.
+fn compare_scalars(
+    alloc: Global,
+    comparison: Comparison,
+    from: &Scalar,
+    left: Items<'_>,
+    other: &Scalar,
+    right: Items<'_>,
+    shape: &Shape,
+) -> Result<Owned, Refusal>
+    requires comparable { are_comparable from.now other.now ≡ true }
+    requires from { left.descr.now ≡ ScalarDescr from.now }
+    requires other { right.descr.now ≡ ScalarDescr other.now }
+    requires left { All (λ offset. offset + item_size left.descr.now ≤ length left.block.now) (offsets left.layout.now) }
+    requires right { All (λ offset. offset + item_size right.descr.now ≤ length right.block.now) (offsets right.layout.now) }
+    requires stretches { IsTrue (can_stretch left.layout.now.shape shape.now) }
+    requires also { IsTrue (can_stretch right.layout.now.shape shape.now) }
+    ensures descr { IfOk result (λ o. o.descr ≡ ScalarDescr BoolScalar) }
+    ensures shape { IfOk result (λ o. o.layout.shape ≡ shape.now) }
+    ensures order { IfOk result (λ o. offsets o.layout ≡ multiples 1 (count shape.now)) }
+    ensures items { IfOk result (λ o. map (item_from o.descr o.block) (offsets o.layout)
+        ≡ pairwise (compared_item comparison) (stretched_items left.entry.descr.now left.entry.block.now left.entry.layout.now o.layout.shape)
+        (stretched_items right.entry.descr.now right.entry.block.now right.entry.layout.now o.layout.shape)) }
+    ensures refused { IfErr result (λ refusal. refusal ≡ OutOfMemory) }
+{
+    match (from, other) {
+        (Scalar::Bytes(width), Scalar::Bytes(other_width)) => compare_texts(
+            alloc,
+            comparison,
+            *width,
+            left,
+            *other_width,
+            right,
+            shape,
+        ),
+        _ => compare_numbers(alloc, comparison, from, left, other, right, shape),
+    }
+}
+
+/// What a comparison says of the items of two arrays that are broadcast together, as bools in a block of
+/// their own in C order: of numbers by value, and of byte strings byte by byte, where bytes have no sign
+/// and a byte string is below a longer one that begins with it. Refused as `compared_type` refuses,
+/// records as `NotForThisKind`; then as `common` refuses: `ShapesDoNotBroadcast`, `TooLarge`.
+pub fn compare(
+    alloc: Global,
+    comparison: Comparison,
+    left: Items<'_>,
+    right: Items<'_>,
+) -> Result<Owned, Refusal>
+    requires left { All (λ offset. offset + item_size left.descr.now ≤ length left.block.now) (offsets left.layout.now) }
+    requires right { All (λ offset. offset + item_size right.descr.now ≤ length right.block.now) (offsets right.layout.now) }
+    ensures gives { Gives (λ o. (o.descr, o.layout.shape)) result (compared_result left.entry.descr.now left.entry.layout.now.shape right.entry.descr.now right.entry.layout.now.shape) }
+    ensures order { IfOk result (λ o. offsets o.layout ≡ offsets_in C (item_size o.descr) o.layout.shape) }
+    ensures items { IfOk result (λ o. map (item_from o.descr o.block) (offsets o.layout)
+        ≡ pairwise (compared_item comparison) (stretched_items left.entry.descr.now left.entry.block.now left.entry.layout.now o.layout.shape)
+        (stretched_items right.entry.descr.now right.entry.block.now right.entry.layout.now o.layout.shape)) }
+{
+    let from = scalar_of(left.descr)?;
+    let other = scalar_of(right.descr)?;
+    compared_type(from, other)?;
+    let shape = common(alloc, &[&left.layout.shape, &right.layout.shape])?;
+    compare_scalars(alloc, comparison, &from, left, &other, right, &shape)
 }

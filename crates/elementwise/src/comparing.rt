@@ -92,6 +92,20 @@ impl Word for IsAtLeast {
     }
 }
 
+/// The same by the word of a comparison.
+pub(crate) fn says(comparison: Comparison, below: bool, above: bool) -> bool
+    ensures { result ≡ says comparison below above }
+{
+    match comparison {
+        Comparison::Equal => IsEqual::says(below, above),
+        Comparison::NotEqual => IsDifferent::says(below, above),
+        Comparison::Less => IsLess::says(below, above),
+        Comparison::LessOrEqual => IsAtMost::says(below, above),
+        Comparison::Greater => IsGreater::says(below, above),
+        Comparison::GreaterOrEqual => IsAtLeast::says(below, above),
+    }
+}
+
 /// A comparison as what a pass makes of two numbers, which may be of two types.
 struct Said<W>(PhantomData<W>);
 

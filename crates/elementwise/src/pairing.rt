@@ -2,18 +2,19 @@
 ghost use Rattle.std.specs.Prelude.{◌≡◌, ◌^◌, ◌<◌, ◌≤◌, pos, false, not, length};
 ghost use Rattle.elem_descr.specs.declared.scalar.Order.TheVariants.{Little};
 ghost use Rattle.elem_descr.specs.declared.scalar.Width.TheVariants.{Eight};
-ghost use Rattle.elem_descr.specs.declared.scalar.Scalar.TheVariants.{Bool as BoolScalar, Int};
+ghost use Rattle.elem_descr.specs.declared.scalar.Scalar.TheVariants.{Bool as BoolScalar, Int, Bytes};
 ghost use Rattle.elem_descr.specs.declared.scalar.Scalar.{Scalar};
 ghost use Rattle.elem_descr.specs.Values.{LeafValue};
 ghost use Rattle.elem_descr.specs.Encoding.{size, decode, encode};
 ghost use Rattle.raw_block.specs.Bytes.{EachWithin};
 ghost use Rattle.elementwise.specs.Promotion.{is_division};
-ghost use Rattle.elementwise.specs.inside.PairPasses.{made_of_pairs, value_pair, binary_value, unary_value, compared_value, IsNative};
-ghost use Rattle.elementwise.specs.inside.PairLaws.{binary_reads_back, unary_reads_back, compared_reads_back, native_small};
+ghost use Rattle.elementwise.specs.inside.PairPasses.{made_of_pairs, value_pair, binary_value, unary_value, compared_value, truth_value, IsNative};
+ghost use Rattle.elementwise.specs.inside.PairLaws.{binary_reads_back, unary_reads_back, compared_reads_back, truth_reads_back, native_small};
 
 use crate::combining::{change_run, combine_run};
 use crate::comparing::{compare_mixed_run, compare_run};
-use elem_descr::Scalar;
+use crate::text_comparing::compare_texts_run;
+use elem_descr::{BytesLen, Scalar};
 use script_lang::{BinaryOperation, Comparison, UnaryOperation};
 use shape_strides::Run;
 
@@ -228,6 +229,58 @@ impl Pairing for ComparingSigns {
             first,
             right,
             second,
+        );
+    }
+}
+
+/// A comparison of byte strings of two lengths.
+#[derive(Clone, Copy)]
+pub(crate) struct ComparingTexts {
+    pub(crate) comparison: Comparison,
+    pub(crate) width: BytesLen,
+    pub(crate) other_width: BytesLen,
+}
+
+impl Pairing for ComparingTexts {
+    ghost left_scalar = { λ c. Bytes c.width };
+
+    ghost right_scalar = { λ c. Bytes c.other_width };
+
+    ghost target_scalar = { λ c. BoolScalar };
+
+    ghost gives = { λ c. truth_value c.comparison };
+
+    ghost Can = { λ c. Unit {0} };
+
+    ghost reads_back = { λ c x y can. truth_reads_back c.comparison x y };
+
+    ghost is_small = { λ c can. native_small BoolScalar tt };
+
+    fn target(&self) -> Scalar {
+        Scalar::Bool
+    }
+
+    fn make_run(
+        &self,
+        bytes: &mut [u8],
+        to: Run,
+        left: &[u8],
+        first: Run,
+        right: &[u8],
+        second: Run,
+    ) {
+        let width = self.width.get();
+        let other_width = self.other_width.get();
+        compare_texts_run(
+            self.comparison,
+            bytes,
+            to,
+            left,
+            first,
+            width,
+            right,
+            second,
+            other_width,
         );
     }
 }

@@ -1,7 +1,7 @@
 //! The types of results, as NumPy 2 promotes the types of operands.
 ghost use Rattle.std.specs.Prelude.{◌≡◌, ◌≤◌, not, ◌&&◌, ◌||◌};
 ghost use Rattle.elem_descr.specs.Refusals.{Answers};
-ghost use Rattle.elementwise.specs.Promotion.{is_bool, is_text, is_signed, rank_of_kind, same_kind, integer_type, little, mixed_type, common_integers, common_type, serves_bools, is_division, promote, literal_type, serves_one, promote_one};
+ghost use Rattle.elementwise.specs.Promotion.{is_bool, is_text, is_signed, rank_of_kind, same_kind, integer_type, little, mixed_type, common_integers, common_type, serves_bools, is_division, promote, are_comparable, compared_type, literal_type, serves_one, promote_one};
 ghost use Rattle.elementwise.specs.Results.{scalar_of};
 
 use elem_descr::{Descr, Order, Refusal, Scalar, Width};
@@ -179,6 +179,25 @@ pub fn promote(op: BinaryOperation, left: Scalar, right: Scalar) -> Result<Scala
         return Err(Refusal::NeedsFloats);
     }
     common_type(&left, &right)
+}
+
+/// Whether items of two types are compared: numbers with numbers, and byte strings with byte strings.
+fn are_comparable(left: &Scalar, right: &Scalar) -> bool
+    ensures { result ≡ are_comparable left.now right.now }
+{
+    is_text(left) == is_text(right)
+}
+
+/// The type of what a comparison gives on items of two types, which is that of bools. `NotForThisKind` for
+/// numbers with byte strings.
+#[tactic(auto, unfolding(crate::specs::Promotion::compared_type))]
+pub fn compared_type(left: Scalar, right: Scalar) -> Result<Scalar, Refusal>
+    ensures { Answers (λ s. s) result (compared_type left right) }
+{
+    if !are_comparable(&left, &right) {
+        return Err(Refusal::NotForThisKind);
+    }
+    Ok(Scalar::Bool)
 }
 
 /// The type of an integer literal beside items of a type: theirs, little-endian, and beside bools `<i8`.

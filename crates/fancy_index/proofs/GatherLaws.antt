@@ -26,7 +26,7 @@ packed-multiples width n =
     same : (k : ℕ) → natural (pos 0 +ℤ pos width *ℤ pos k) ≡ width * k
     same k = omega arith
 
-packed-suc : (at width n : ℕ) → packed at width (suc n) ≡ at ∷ packed (at + width) width n
+pub packed-suc : (at width n : ℕ) → packed at width (suc n) ≡ at ∷ packed (at + width) width n
 packed-suc at width n =
     let more : suc n ≡ 1 + n = omega arith in
     let first : at + width * 0 ≡ at = omega arith in

@@ -4,8 +4,11 @@ pub mod PlanLaws
 pub mod RunLaws
 pub mod Passes
 pub mod GatherLaws
+pub mod SingleLaws
 pub mod SourceLaws
 pub mod NumberLoops
+pub mod EightLaws
+pub mod BoolLaws
 pub mod PointLaws
 pub mod PartLaws
 pub mod IndexedLaws
@@ -13,6 +16,7 @@ pub mod PlaceLaws
 pub mod RestLaws
 pub mod CutLaws
 pub mod ShiftLaws
+pub mod LoneLaws
 pub mod LeadLaws
 pub mod IndexSplits
 pub mod LaidLaws

@@ -1,12 +1,12 @@
 -- Runs that are moved, and runs of items that are copied and filled.
-use Rattle.std.proofs.Common.{◌≡◌, ℕ, zero, suc, ◌+◌, ◌-◌, ◌*◌, ◌<◌, ◌≤◌, List, [], ◌∷◌, ◌++◌, map, length, get_or, All, refl, sym, ap, subst, ◌∙◌, arith, suc-mul, mul_comm, mul-le-mul_right}
+use Rattle.std.proofs.Common.{◌≡◌, ℕ, zero, suc, ◌+◌, ◌-◌, ◌*◌, ◌<◌, ◌≤◌, List, [], ◌∷◌, ◌++◌, map, length, get_or, All, refl, sym, ap, subst, ◌∙◌, arith, mul_comm}
 use Rattle.std.proofs.lemmas.Int.{ints}
 use Rattle.std.proofs.lemmas.List.{length-map, get_or-map, get_or_default, map-append, same_lists}
 use Rattle.std.proofs.lemmas.List.Elements.{All-get_or}
 use lib.IntN.{ℤ, pos, nat_abs, ◌+ℤ◌, ◌*ℤ◌, zero-*ℤ, +ℤ_idr}
 use Rattle.elem_descr.specs.Steps.{numbers_from}
 use Rattle.elem_descr.specs.StepLaws.{numbers-split}
-use Rattle.raw_block.specs.Bytes.{put, item_at, position, place, EachWithin, copied, filled}
+use Rattle.raw_block.specs.Bytes.{put, item_at, position, place, EachWithin, filled}
 use Rattle.raw_block.specs.BytesLaws.{not_negative}
 use Rattle.shape_strides.specs.declared.runs.Run.{Run}
 use Rattle.shape_strides.specs.Addresses.{natural, LieWithin}
@@ -78,13 +78,6 @@ module _ (run : Run) (base start : ℕ) (lies : LieWithin (run.count ∷ []) (ru
 
 -- ---- items one after another
 
-pub packed-within : (len at width n : ℕ) → at + n * width ≤ len → EachWithin len at (pos width) width n
-packed-within len at width n ends = record {
-  each = λ k low.
-      let most : suc k * width ≤ n * width = mul-le-mul_right width low in
-      (omega (arith, ints), omega (arith, ints, most, suc-mul k width));
-}
-
 pub length-packed : (at width n : ℕ) → length (packed at width n) ≡ n
 length-packed at width n = length-run_offsets (record { offset = at; count = n; step = pos width })
 
@@ -96,7 +89,7 @@ packed-append at width n m =
     ∙ map-append natural (numbers_from (pos at) (pos width) n) (numbers_from (pos at +ℤ pos width *ℤ pos n) (pos width) m)
     ∙ ap (λ z. packed at width n ++ map natural (numbers_from z (pos width) m)) next
 
--- ---- runs that are copied and filled
+-- ---- runs that are filled
 
 -- first these items, then those
 pub assigned-append : (to from to' from' : List ℕ) (width : ℕ) (other block : List ℕ) → length to ≡ length from →
@@ -110,25 +103,6 @@ assigned-append (at ∷ to) (offset ∷ from) to' from' width other block even =
 pub put_each-append : (to to' item block : List ℕ) → put_each (to ++ to') item block ≡ put_each to' item (put_each to item block)
 put_each-append [] to' item block = refl
 put_each-append (at ∷ to) to' item block = put_each-append to to' item (put at item block)
-
-copied-run : (len other_len dst : ℕ) (dst_step : ℤ) (src : ℕ) (src_step : ℤ) (width n : ℕ) (other block : List ℕ) → EachWithin len dst dst_step width n → EachWithin other_len src src_step width n →
-    copied dst dst_step other src src_step width n block
-    ≡ assigned (run_offsets (record { offset = dst; count = n; step = dst_step })) (run_offsets (record { offset = src; count = n; step = src_step })) width other block
-copied-run len other_len dst dst_step src src_step width zero other block to from = refl
-copied-run len other_len dst dst_step src src_step width (suc n) other block to from =
-    let here : Run = record { offset = dst; count = n; step = dst_step } in
-    let there : Run = record { offset = src; count = n; step = src_step } in
-    let last = place dst dst_step n in
-    let source = place src src_step n in
-    ap (put last (item_at source width other)) (copied-run len other_len dst dst_step src src_step width n other block (fewer len dst dst_step width n to) (fewer other_len src src_step width n from))
-    ∙ sym (assigned-append (run_offsets here) (run_offsets there) (last ∷ []) (source ∷ []) width other block (length-run_offsets here ∙ sym (length-run_offsets there)))
-    ∙ λ i. assigned (sym (run_offsets-more len dst dst_step width n to) i) (sym (run_offsets-more other_len src src_step width n from) i) width other block
-
-pub copied-even : (to from : Run) (width : ℕ) (other block : List ℕ) → to.count ≡ from.count → EachWithin (length block) to.offset to.step width to.count → EachWithin (length other) from.offset from.step width from.count →
-    copied to.offset to.step other from.offset from.step width to.count block ≡ assigned (run_offsets to) (run_offsets from) width other block
-copied-even to from width other block even lies lies' =
-    copied-run (length block) (length other) to.offset to.step from.offset from.step width to.count other block lies (subst (EachWithin (length other) from.offset from.step width) (sym even) lies')
-    ∙ ap (λ n. assigned (run_offsets to) (run_offsets (record { offset = from.offset; count = n; step = from.step })) width other block) even
 
 pub filled-run : (len at : ℕ) (step : ℤ) (item : List ℕ) (n : ℕ) (block : List ℕ) → EachWithin len at step (length item) n →
     filled at step item n block ≡ put_each (run_offsets (record { offset = at; count = n; step = step })) item block

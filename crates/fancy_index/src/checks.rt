@@ -10,6 +10,7 @@ ghost use Rattle.fancy_index.specs.Indexed.{indexed};
 ghost use Rattle.fancy_index.specs.inside.PartLists.{IsChecked};
 ghost use Rattle.fancy_index.specs.Sources.{array_of, LiesInBlock, item_of, HasItems, IsNamed, items_of};
 
+use crate::eights::{are_eight_places, eights_of};
 use crate::kind::Kind;
 use crate::source::{Indices, kind, number_at, resolved};
 use elem_descr::Refusal;
@@ -142,8 +143,8 @@ fn cover(lengths: &[usize], items: &[IndexItem<usize>], arrays: &[Indices<'_>]) 
     true
 }
 
-/// Whether each number of an array is one of `n` places, whatever the array broadcasts to.
-fn are_places(array: Indices<'_>, n: usize) -> bool
+/// Whether each number of an array is one of `n` places.
+fn are_places_each(array: Indices<'_>, n: usize) -> bool
     requires kind { kind (array_of array) ≢ NoIndex }
     requires lies { LiesInBlock array }
     ensures { result ≡ list_all (is_place n) (array_of array.entry).numbers }
@@ -154,6 +155,19 @@ fn are_places(array: Indices<'_>, n: usize) -> bool
         }
     }
     true
+}
+
+/// Whether each number of an array is one of `n` places, whatever the array broadcasts to. Integers of
+/// eight bytes that lie one right after another need no walk.
+fn are_places(array: Indices<'_>, n: usize) -> bool
+    requires kind { kind (array_of array) ≢ NoIndex }
+    requires lies { LiesInBlock array }
+    ensures { result ≡ list_all (is_place n) (array_of array.entry).numbers }
+{
+    if let Some(items) = eights_of(array) {
+        return are_eight_places(items, n);
+    }
+    are_places_each(array, n)
 }
 
 fn is_within(axes: &[usize], item: IndexItem<Indices<'_>>) -> bool

@@ -7,6 +7,7 @@ ghost use Rattle.fancy_index.specs.inside.Kept.{IsMoved, AreStarts};
 
 use crate::plans::moved;
 use crate::run_moves::{fill_run, moved_run};
+use crate::singles::fill_singles;
 use raw_block::RawBlock;
 use shape_strides::{FixedWalk, Layout, Runs};
 
@@ -25,7 +26,7 @@ fn fill_from(block: &mut RawBlock, inner: &Layout, start: usize, item: &[u8])
 }
 
 /// The same from a place that is shifted by each shift.
-fn fill_shifts(block: &mut RawBlock, shifts: &[usize], inner: &Layout, place: usize, item: &[u8])
+fn fill_runs(block: &mut RawBlock, shifts: &[usize], inner: &Layout, place: usize, item: &[u8])
     requires base { inner.now.offset ≤ max_bytes }
     requires starts { AreStarts inner.now.offset (offsets inner.now) shifts.now place }
     requires inside { All (λ offset. offset + length item.now ≤ length block.old) (shifted_all inner.now.offset shifts.now (offsets inner.now) place) }
@@ -36,6 +37,21 @@ fn fill_shifts(block: &mut RawBlock, shifts: &[usize], inner: &Layout, place: us
         let start = moved(inner.offset, place, *shift);
         fill_from(block, inner, start, item);
     }
+}
+
+/// The same, where a layout of one item needs no walk.
+fn fill_shifts(block: &mut RawBlock, shifts: &[usize], inner: &Layout, place: usize, item: &[u8])
+    requires base { inner.now.offset ≤ max_bytes }
+    requires starts { AreStarts inner.now.offset (offsets inner.now) shifts.now place }
+    requires inside { All (λ offset. offset + length item.now ≤ length block.old) (shifted_all inner.now.offset shifts.now (offsets inner.now) place) }
+    ensures written { block.new ≡ put_each (shifted_all inner.now.offset shifts.now (offsets inner.now) place) item.now block.old }
+    ensures len { length block.new ≡ length block.old }
+{
+    if inner.shape.items() == 1 {
+        fill_singles(block, shifts, inner.offset, place, item);
+        return;
+    }
+    fill_runs(block, shifts, inner, place, item);
 }
 
 /// The same from each place of the outer axes.

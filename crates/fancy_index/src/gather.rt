@@ -8,7 +8,9 @@ ghost use Rattle.fancy_index.specs.inside.Kept.{IsMoved, AreStarts};
 ghost use Rattle.fancy_index.specs.inside.Packed.{packed};
 
 use crate::plans::moved;
-use crate::run_moves::{copy_run, moved_run, packed_run};
+use crate::run_moves::moved_run;
+use crate::singles::gather_singles;
+use overlap_copy::{copy_run, packed_run};
 use raw_block::RawBlock;
 use shape_strides::{FixedWalk, Layout, Runs};
 
@@ -47,7 +49,7 @@ fn gather_from(
 }
 
 /// The same from a place that is shifted by each shift.
-fn gather_shifts(
+fn gather_runs(
     items: &mut RawBlock,
     at: usize,
     block: &RawBlock,
@@ -70,6 +72,31 @@ fn gather_shifts(
         at = gather_from(items, at, block, inner, start, width);
     }
     at
+}
+
+/// The same, where a layout of one item needs no walk.
+fn gather_shifts(
+    items: &mut RawBlock,
+    at: usize,
+    block: &RawBlock,
+    shifts: &[usize],
+    inner: &Layout,
+    place: usize,
+    width: usize,
+) -> usize
+    requires base { inner.now.offset ≤ max_bytes }
+    requires starts { AreStarts inner.now.offset (offsets inner.now) shifts.now place }
+    requires inside { All (λ offset. offset + width ≤ length block.now) (shifted_all inner.now.offset shifts.now (offsets inner.now) place) }
+    requires room { at + length (shifted_all inner.now.offset shifts.now (offsets inner.now) place) * width ≤ length items.old }
+    ensures written { let from = shifted_all inner.now.offset shifts.now (offsets inner.now) place in items.new ≡ assigned (packed at width (length from)) from width block.now items.old }
+    ensures len { length items.new ≡ length items.old }
+    ensures end { result ≡ at + length (shifted_all inner.now.offset shifts.now (offsets inner.now) place) * width }
+{
+    if inner.shape.items() == 1 {
+        let base = inner.offset;
+        return gather_singles(items, at, block, shifts, base, place, width);
+    }
+    gather_runs(items, at, block, shifts, inner, place, width)
 }
 
 /// The same from each place of the outer axes, from the items' start on.

@@ -2,11 +2,14 @@
 #![tactic(auto)]
 
 mod axes;
+mod bools;
 mod checks;
 mod common;
+mod eights;
 mod fill;
 mod gather;
 pub mod kind;
+mod lone;
 mod parts;
 mod place;
 mod planning;
@@ -17,6 +20,7 @@ mod rest;
 mod run_moves;
 mod scatter;
 mod shifts;
+mod singles;
 pub mod source;
 
 pub use kind::{Kind, kind_of};

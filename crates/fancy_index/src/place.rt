@@ -16,7 +16,7 @@ enum Stretch {
 }
 
 impl IndexPart {
-    fn is_points(&self) -> bool
+    pub(crate) fn is_points(&self) -> bool
         ensures { result ≡ are_points (shown_part self.now) }
     {
         matches!(self, IndexPart::Points(_))

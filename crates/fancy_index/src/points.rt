@@ -9,6 +9,8 @@ ghost use Rattle.fancy_index.specs.Parts.{points_of};
 ghost use Rattle.fancy_index.specs.Sources.{array_of, LiesInBlock};
 ghost use Rattle.fancy_index.specs.inside.PointLists.{place_of, true_ranks, IsPart};
 
+use crate::bools::{bools_of, true_bytes};
+use crate::eights::{eight_places, eights_of};
 use crate::kind::Kind;
 use crate::source::{Indices, kind, number_at};
 use shape_strides::FixedWalk;
@@ -25,7 +27,7 @@ pub(crate) struct PointList {
 }
 
 /// The place of `n` that a number names.
-fn place_of(n: usize, at: i128) -> usize
+pub(crate) fn place_of(n: usize, at: i128) -> usize
     requires { is_place n at ≡ true }
     ensures { result ≡ place_of n at }
 {
@@ -33,7 +35,7 @@ fn place_of(n: usize, at: i128) -> usize
 }
 
 /// The places of `n` that the numbers of an array name.
-fn places(alloc: Global, array: Indices<'_>, n: usize) -> Result<Vec<usize>, AllocError>
+fn places_each(alloc: Global, array: Indices<'_>, n: usize) -> Result<Vec<usize>, AllocError>
     requires kind { kind (array_of array) ≢ NoIndex }
     requires lies { LiesInBlock array }
     requires within { list_all (is_place n) (array_of array).numbers ≡ true }
@@ -46,6 +48,20 @@ fn places(alloc: Global, array: Indices<'_>, n: usize) -> Result<Vec<usize>, All
     Ok(places)
 }
 
+/// The places of `n` that the numbers of an array name. Integers of eight bytes that lie one right after
+/// another need no walk.
+fn places(alloc: Global, array: Indices<'_>, n: usize) -> Result<Vec<usize>, AllocError>
+    requires kind { kind (array_of array) ≢ NoIndex }
+    requires lies { LiesInBlock array }
+    requires within { list_all (is_place n) (array_of array).numbers ≡ true }
+    ensures { IfOk result (λ v. v.items ≡ map (place_of n) (array_of array.entry).numbers) }
+{
+    if let Some(items) = eights_of(array) {
+        return eight_places(alloc, items, n);
+    }
+    places_each(alloc, array, n)
+}
+
 fn is_zero(number: i128) -> bool
     ensures { result ≡ int_eq number (pos 0) }
 {
@@ -53,7 +69,7 @@ fn is_zero(number: i128) -> bool
 }
 
 /// The ranks at which a mask is true.
-fn true_ranks(alloc: Global, array: Indices<'_>) -> Result<Vec<usize>, AllocError>
+fn true_ranks_each(alloc: Global, array: Indices<'_>) -> Result<Vec<usize>, AllocError>
     requires kind { kind (array_of array) ≢ NoIndex }
     requires lies { LiesInBlock array }
     ensures { IfOk result (λ v. v.items ≡ true_ranks 0 (array_of array.entry).numbers) }
@@ -68,6 +84,18 @@ fn true_ranks(alloc: Global, array: Indices<'_>) -> Result<Vec<usize>, AllocErro
         rank += 1;
     }
     Ok(ranks)
+}
+
+/// The ranks at which a mask is true. Bools that lie one right after another need no walk.
+fn true_ranks(alloc: Global, array: Indices<'_>) -> Result<Vec<usize>, AllocError>
+    requires kind { kind (array_of array) ≢ NoIndex }
+    requires lies { LiesInBlock array }
+    ensures { IfOk result (λ v. v.items ≡ true_ranks 0 (array_of array.entry).numbers) }
+{
+    if let Some(bytes) = bools_of(array) {
+        return true_bytes(alloc, bytes);
+    }
+    true_ranks_each(alloc, array)
 }
 
 /// The one point of an integer.

@@ -1,10 +1,9 @@
-//! Items of runs that are moved to another start: read, written and filled, run by run.
-ghost use Rattle.std.specs.Prelude.{◌≡◌, [], ◌∷◌, ◌+◌, ◌*◌, ◌^◌, ◌<◌, ◌≤◌, ℕ, pos, length, map, All};
+//! Runs that are moved to another start, and items that are filled, run by run.
+ghost use Rattle.std.specs.Prelude.{◌≡◌, [], ◌∷◌, ◌+◌, ◌≤◌, ℕ, length, map, All};
 ghost use Rattle.raw_block.specs.Bytes.{EachWithin};
 ghost use Rattle.shape_strides.specs.Addresses.{LieWithin};
 ghost use Rattle.shape_strides.specs.Limits.{max_bytes};
 ghost use Rattle.shape_strides.specs.Runs.{run_offsets};
-ghost use Rattle.overlap_copy.specs.Assignments.{assigned};
 ghost use Rattle.fancy_index.specs.Plans.{moved, put_each};
 ghost use Rattle.fancy_index.specs.inside.Kept.{IsMoved};
 
@@ -27,41 +26,6 @@ pub(crate) fn moved_run(run: Run, base: usize, start: usize) -> Run
         count: run.count,
         step: run.step,
     }
-}
-
-/// The run of `count` items of `width` bytes that lie one after another from `at` on, in a block of
-/// `len` bytes.
-pub(crate) fn packed_run(at: usize, width: usize, count: usize, len: usize) -> Run
-    requires some { 1 ≤ count }
-    requires within { at + count * width ≤ len }
-    requires small { len < 2 ^ 63 }
-    ensures run { result ≡ record { offset = at; count = count; step = pos width } }
-    ensures within { EachWithin len at (pos width) width count }
-{
-    Run {
-        offset: at,
-        count,
-        step: width as isize,
-    }
-}
-
-/// Copies the items of `width` bytes of a run of `other` to those of a run of the block, as many.
-pub(crate) fn copy_run(block: &mut RawBlock, to: Run, other: &RawBlock, from: Run, width: usize)
-    requires count { to.count ≡ from.count }
-    requires to { EachWithin (length block.old) to.offset to.step width to.count }
-    requires from { EachWithin (length other.now) from.offset from.step width from.count }
-    ensures written { block.new ≡ assigned (run_offsets to) (run_offsets from) width other.now block.old }
-    ensures len { length block.new ≡ length block.old }
-{
-    block.copy_strided(
-        to.offset,
-        to.step,
-        other,
-        from.offset,
-        from.step,
-        width,
-        to.count,
-    );
 }
 
 /// Writes the item to each of a run.

@@ -8,7 +8,9 @@ ghost use Rattle.fancy_index.specs.inside.Kept.{IsMoved, AreStarts};
 ghost use Rattle.fancy_index.specs.inside.Packed.{packed};
 
 use crate::plans::moved;
-use crate::run_moves::{copy_run, moved_run, packed_run};
+use crate::run_moves::moved_run;
+use crate::singles::scatter_singles;
+use overlap_copy::{copy_run, packed_run};
 use raw_block::RawBlock;
 use shape_strides::{FixedWalk, Layout, Runs};
 
@@ -47,7 +49,7 @@ fn scatter_from(
 }
 
 /// The same from a place that is shifted by each shift.
-fn scatter_shifts(
+fn scatter_runs(
     block: &mut RawBlock,
     shifts: &[usize],
     inner: &Layout,
@@ -70,6 +72,31 @@ fn scatter_shifts(
         at = scatter_from(block, inner, start, items, at, width);
     }
     at
+}
+
+/// The same, where a layout of one item needs no walk.
+fn scatter_shifts(
+    block: &mut RawBlock,
+    shifts: &[usize],
+    inner: &Layout,
+    place: usize,
+    items: &RawBlock,
+    at: usize,
+    width: usize,
+) -> usize
+    requires base { inner.now.offset ≤ max_bytes }
+    requires starts { AreStarts inner.now.offset (offsets inner.now) shifts.now place }
+    requires inside { All (λ offset. offset + width ≤ length block.old) (shifted_all inner.now.offset shifts.now (offsets inner.now) place) }
+    requires room { at + length (shifted_all inner.now.offset shifts.now (offsets inner.now) place) * width ≤ length items.now }
+    ensures written { let to = shifted_all inner.now.offset shifts.now (offsets inner.now) place in block.new ≡ assigned to (packed at width (length to)) width items.now block.old }
+    ensures len { length block.new ≡ length block.old }
+    ensures end { result ≡ at + length (shifted_all inner.now.offset shifts.now (offsets inner.now) place) * width }
+{
+    if inner.shape.items() == 1 {
+        let base = inner.offset;
+        return scatter_singles(block, shifts, base, place, items, at, width);
+    }
+    scatter_runs(block, shifts, inner, place, items, at, width)
 }
 
 /// The same from each place of the outer axes, from the items' start on.

@@ -7,6 +7,7 @@ ghost use Rattle.broadcasting.specs.Broadcasts.{broadcast_index};
 ghost use Rattle.fancy_index.specs.inside.PointLists.{tuple};
 ghost use Rattle.fancy_index.specs.inside.PartLists.{IsReady, HasPointAt, IsReadyAt, point_of, numbers_at, first_at, first_offset, LeadInto};
 
+use crate::lone::{lone_points, shifts_along};
 use crate::parts::IndexPart;
 use crate::points::PointList;
 use crate::rank::index_at;
@@ -78,6 +79,21 @@ fn push_numbers(
     }
 }
 
+/// Adds the numbers of parts at an index of the common lengths.
+pub(crate) fn push_all(
+    numbers: &mut SmallVec<usize, 8>,
+    parts: &[IndexPart],
+    at: &[usize],
+) -> Result<(), AllocError>
+    requires { All (IsReadyAt at.now) parts.now }
+    ensures { OnOk result (numbers.new.items ≡ numbers.old.items ++ first_at parts.now at.now) }
+{
+    for part in parts {
+        push_numbers(numbers, part, at)?;
+    }
+    Ok(())
+}
+
 /// Writes the index of the first item with the point of an index of the common lengths.
 fn write_first(
     numbers: &mut SmallVec<usize, 8>,
@@ -88,10 +104,7 @@ fn write_first(
     ensures { OnOk result (numbers.new.items ≡ first_at parts.now at.now) }
 {
     numbers.clear();
-    for part in parts {
-        push_numbers(numbers, part, at)?;
-    }
-    Ok(())
+    push_all(numbers, parts, at)
 }
 
 /// The same for the index that has this rank.
@@ -112,7 +125,7 @@ fn write_first_at(
 }
 
 /// The offset of the first item with the point of each of so many indexes of the common lengths.
-pub(crate) fn shifts(
+fn shifts_each(
     alloc: Global,
     layout: &Layout,
     parts: &[IndexPart],
@@ -132,4 +145,25 @@ pub(crate) fn shifts(
         shifts.push(layout.at(numbers.as_slice()))?;
     }
     Ok(shifts)
+}
+
+/// The same, where one part alone with points on one axis needs no index for each.
+pub(crate) fn shifts(
+    alloc: Global,
+    layout: &Layout,
+    parts: &[IndexPart],
+    lengths: &[usize],
+    many: usize,
+) -> Result<Vec<usize>, AllocError>
+    requires ready { All (IsReady lengths.now) parts.now }
+    requires leads { LeadInto layout.now lengths.now parts.now }
+    requires axes { length lengths.now ≤ max_axes }
+    requires some { 0 < count lengths.now }
+    requires many { many ≡ count lengths.now }
+    ensures { IfOk result (λ v. v.items ≡ map (first_offset layout.now parts.now) (indexes lengths.now)) }
+{
+    let Some(lone) = lone_points(parts, lengths) else {
+        return shifts_each(alloc, layout, parts, lengths, many);
+    };
+    shifts_along(alloc, layout, parts, lone)
 }

@@ -12,10 +12,10 @@ use Rattle.script_lang.specs.declared.operation.BinaryOperation.{BinaryOperation
 use Rattle.script_lang.specs.declared.operation.UnaryOperation.{UnaryOperation}
 use Rattle.script_lang.specs.declared.operation.UnaryOperation.TheVariants.{Negate, Invert}
 use Rattle.script_lang.specs.declared.operation.Comparison.{Comparison}
-use Rattle.elementwise.specs.Comparisons.{says}
+use Rattle.elementwise.specs.Comparisons.{says, compared}
 use Rattle.elementwise.specs.Promotion.{is_bool}
 use Rattle.elementwise.specs.Operations.{exact}
-use Rattle.elementwise.specs.inside.PairPasses.{IsNative, binary_value, unary_value, compared_value}
+use Rattle.elementwise.specs.inside.PairPasses.{IsNative, binary_value, unary_value, compared_value, truth_value}
 
 pub native_number : (scalar : Scalar) → IsNative scalar → IsNumber scalar
 native_number BoolScalar native = tt
@@ -44,3 +44,7 @@ unary_reads_back Invert scalar x y native = decode_encode scalar (cond (is_bool 
 pub compared_reads_back : (comparison : Comparison) (x y : LeafValue) → decode BoolScalar (encode BoolScalar (compared_value comparison x y)) ≡ compared_value comparison x y
 compared_reads_back comparison x y =
     elim (says comparison (int_lt (number_of x) (number_of y)) (int_lt (number_of y) (number_of x))) as (λ t. decode BoolScalar (encode BoolScalar (number (cond t (pos 1) (pos 0)))) ≡ number (cond t (pos 1) (pos 0))) [ true ↦ refl | false ↦ refl ]
+
+pub truth_reads_back : (comparison : Comparison) (x y : LeafValue) → decode BoolScalar (encode BoolScalar (truth_value comparison x y)) ≡ truth_value comparison x y
+truth_reads_back comparison x y =
+    elim (compared comparison x y) as (λ t. decode BoolScalar (encode BoolScalar (number (cond t (pos 1) (pos 0)))) ≡ number (cond t (pos 1) (pos 0))) [ true ↦ refl | false ↦ refl ]

@@ -3,13 +3,13 @@ use Rattle.std.specs.Prelude.{◌≡◌, ℕ, zero, suc, ℤ, pos, int_lt, if◌
 use Rattle.elem_descr.specs.declared.scalar.Order.TheVariants.{Little}
 use Rattle.elem_descr.specs.declared.scalar.Scalar.{Scalar}
 use Rattle.elem_descr.specs.declared.scalar.Scalar.TheVariants.{Bool as BoolScalar, Byte, Int, Bytes}
-use Rattle.elem_descr.specs.Values.{LeafValue, number}
-use Rattle.elem_descr.specs.Encoding.{IsValueOf, number_of, decode, encode}
+use Rattle.elem_descr.specs.Values.{LeafValue, number, text}
+use Rattle.elem_descr.specs.Encoding.{IsValueOf, number_of, decode, encode, without_nuls}
 use Rattle.script_lang.specs.declared.operation.BinaryOperation.{BinaryOperation}
 use Rattle.script_lang.specs.declared.operation.UnaryOperation.{UnaryOperation}
 use Rattle.script_lang.specs.declared.operation.Comparison.{Comparison}
 use Rattle.elementwise.specs.Operations.{binary, unary}
-use Rattle.elementwise.specs.Comparisons.{says}
+use Rattle.elementwise.specs.Comparisons.{says, compared}
 use Rattle.raw_block.specs.Bytes.{place, put, item_at}
 use Rattle.shape_strides.specs.declared.runs.Run.{Run}
 
@@ -54,6 +54,14 @@ says_number comparison a b = if says comparison (int_lt a b) (int_lt b a) then p
 -- the same of the values of two items
 abbrev pub compared_value : Comparison → LeafValue → LeafValue → LeafValue
 compared_value comparison x y = number (says_number comparison (number_of x) (number_of y))
+
+-- what it says of two values of one kind
+abbrev pub truth_value : Comparison → LeafValue → LeafValue → LeafValue
+truth_value comparison x y = number (if compared comparison x y then pos 1 else pos 0)
+
+-- its byte, of the bytes of two byte strings
+abbrev pub text_pair : Comparison → List ℕ → List ℕ → List ℕ
+text_pair comparison x y = encode BoolScalar (truth_value comparison (text (without_nuls x)) (text (without_nuls y)))
 
 -- each value of the first scalar is one of the second
 abbrev pub Holds : Scalar → Scalar → Type 0

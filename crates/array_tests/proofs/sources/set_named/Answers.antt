@@ -1,4 +1,4 @@
-use Rattle.std.proofs.Common.{◌≡◌, sym, ◌∙◌}
+use Rattle.std.proofs.Common.{sym, ◌∙◌}
 use Rattle.shape_strides.specs.LayoutLaws.{length-offsets}
 use Rattle.name_store.specs.ArrayLaws.{found-array}
 use Rattle.array_tests.proofs.PartLaws.{whole-part, given-part, same-alike, leads-part}

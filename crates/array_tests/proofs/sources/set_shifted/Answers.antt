@@ -1,10 +1,7 @@
-use Rattle.std.proofs.Common.{◌≡◌, Some, inr, refl, sym, ap, subst, ◌∙◌}
-use Rattle.elem_descr.specs.Items.{item_size}
+use Rattle.std.proofs.Common.{refl, sym, ap, ◌∙◌}
 use Rattle.shape_strides.specs.Indexes.{count}
 use Rattle.shape_strides.specs.LayoutLaws.{length-offsets}
-use Rattle.name_store.specs.Arrays.{descr_of, find_array}
 use Rattle.name_store.specs.ArrayLaws.{found-array}
-use Rattle.name_store.specs.Memory.{AreShifted}
 use Rattle.array_tests.proofs.PartLaws.{whole-part, given-part, same-alike, leads-part}
 use Rattle.array_tests.proofs.sources.set_shifted.Goals as goal
 

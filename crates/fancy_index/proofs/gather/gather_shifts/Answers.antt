@@ -1,29 +1,28 @@
-use Rattle.std.proofs.Common.{◌∙◌, map, drop, ◌+◌}
-use Rattle.shape_strides.specs.Layouts.{offsets}
-use Rattle.fancy_index.specs.Plans.{moved, shifted_all}
-use Rattle.fancy_index.proofs.Passes.{gather_front, gathered_front, split-shifts}
+use Rattle.std.proofs.Common.{◌≡◌, ◌+◌, ◌*◌, ◌≤◌, ℕ, List, length, All, sym, ap, subst, ◌∙◌, arith}
+use Rattle.overlap_copy.specs.Assignments.{assigned}
+use Rattle.shape_strides.specs.Indexes.{count}
+use Rattle.fancy_index.specs.inside.Packed.{packed}
+use Rattle.fancy_index.proofs.SingleLaws.{shifted-single, many-single}
 use Rattle.fancy_index.proofs.gather.gather_shifts.Goals as goal
 
-pub gather_from-at-requires-clause-inside : goal.gather_from-at-requires-clause-inside
-gather_from-at-requires-clause-inside c =
-    let base = c.args.inner.now.offset in
-    let inner = offsets c.args.inner.now in
-    let split = split-shifts base inner c.args.place c.args.shifts.now c.loop-shift.shift-index c.moved-start.result c.loop-shift-test.true c.moved-start.ensures.value in
-    (gather_front _ (map (moved base c.moved-start.result) inner) (shifted_all base (drop (c.loop-shift.shift-index + 1) c.args.shifts.now) inner c.args.place) c.loop-shift.at c.args.width _ c.args.block.now c.loop-shift.items _ split c.loop-shift.invariant.pass).inside
+pub gather_singles-requires-clause-inside : goal.gather_singles-requires-clause-inside
+gather_singles-requires-clause-inside c =
+    let same = shifted-single c.args.inner.now c.args.shifts.now c.args.place (omega (arith, c.items.ensures.value, c.if-items-eq1.true)) in
+    subst (λ (l : List ℕ). All (λ offset. offset + c.args.width ≤ length c.args.block.now) l) same c.requires.inside
 
-pub gather_from-at-requires-clause-room : goal.gather_from-at-requires-clause-room
-gather_from-at-requires-clause-room c =
-    let base = c.args.inner.now.offset in
-    let inner = offsets c.args.inner.now in
-    let split = split-shifts base inner c.args.place c.args.shifts.now c.loop-shift.shift-index c.moved-start.result c.loop-shift-test.true c.moved-start.ensures.value in
-    (gather_front _ (map (moved base c.moved-start.result) inner) (shifted_all base (drop (c.loop-shift.shift-index + 1) c.args.shifts.now) inner c.args.place) c.loop-shift.at c.args.width _ c.args.block.now c.loop-shift.items _ split c.loop-shift.invariant.pass).room
+pub gather_singles-requires-clause-room : goal.gather_singles-requires-clause-room
+gather_singles-requires-clause-room c =
+    let many = many-single c.args.inner.now c.args.shifts.now c.args.place (omega (arith, c.items.ensures.value, c.if-items-eq1.true)) in
+    subst (λ n. c.args.at + n * c.args.width ≤ length c.args.items.now) many c.requires.room
 
-pub loop-shift-preserved : goal.loop-shift-preserved
-loop-shift-preserved c =
-    let base = c.args.inner.now.offset in
-    let inner = offsets c.args.inner.now in
-    let split = split-shifts base inner c.args.place c.args.shifts.now c.loop-shift.shift-index c.moved-start.result c.loop-shift-test.true c.moved-start.ensures.value in
-    record {
-      pass = gathered_front _ (map (moved base c.moved-start.result) inner) (shifted_all base (drop (c.loop-shift.shift-index + 1) c.args.shifts.now) inner c.args.place) c.loop-shift.at c.gather_from-at.result c.args.width _ c.args.block.now c.loop-shift.items c.gather_from-at.new.items _ split c.gather_from-at.ensures.written c.gather_from-at.ensures.len c.gather_from-at.ensures.end c.loop-shift.invariant.pass;
-      len = c.gather_from-at.ensures.len ∙ c.loop-shift.invariant.len;
-    }
+pub returns-then-items-eq1-clause-written : goal.returns-then-items-eq1-clause-written
+returns-then-items-eq1-clause-written c =
+    let one : count c.args.inner.now.shape ≡ 1 = omega (arith, c.items.ensures.value, c.if-items-eq1.true) in
+    let same = shifted-single c.args.inner.now c.args.shifts.now c.args.place one in
+    let many = many-single c.args.inner.now c.args.shifts.now c.args.place one in
+    c.gather_singles.ensures.written ∙ λ i. assigned (packed c.args.at c.args.width (sym many i)) (sym same i) c.args.width c.args.block.now c.args.items.now
+
+pub returns-then-items-eq1-clause-end : goal.returns-then-items-eq1-clause-end
+returns-then-items-eq1-clause-end c =
+    let many = many-single c.args.inner.now c.args.shifts.now c.args.place (omega (arith, c.items.ensures.value, c.if-items-eq1.true)) in
+    c.gather_singles.ensures.end ∙ ap (λ n. c.args.at + n * c.args.width) (sym many)

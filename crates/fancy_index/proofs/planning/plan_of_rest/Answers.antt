@@ -69,3 +69,6 @@ returns-clause-ok c =
     is-plan c.args.layout.now c.args.rest.now c.in_ok-outer.outer c.in_ok-inner.inner c.args.parts.now c.args.points.now (laid (goal.at.returns-clause-ok c).In_ok-inner) c.new.result
     (c.new.ensures.shape ∙ c.requires.shape)
     (c.new.ensures.offsets ∙ ap (λ s. moved_all c.in_ok-inner.inner.offset (offsets c.in_ok-outer.outer) s (offsets c.in_ok-inner.inner)) c.in_ok-shifts.ensures)
+
+pub shifts-requires-clause-some : goal.shifts-requires-clause-some
+shifts-requires-clause-some c = (some_others c.args.parts.now c.args.points.now (omega (arith, ap count c.requires.shape, c.requires.some))).1

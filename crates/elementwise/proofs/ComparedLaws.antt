@@ -1,0 +1,77 @@
+-- What is compared, and what results there are.
+use Rattle.std.proofs.Common.{◌≡◌, ℕ, true, Result, Ok, Err, List, [], ◌∷◌, map, IfOk, refl, sym, ◌∙◌, arith}
+use Rattle.std.specs.declared.cmp.Ordering.{Ordering}
+use Rattle.std.specs.Ordering.{nat_cmp, is_lt, is_gt}
+use Rattle.std.specs.Cmp.Lexicographic.{slice_cmp}
+use Rattle.std.proofs.lemmas.Cmp.{same_from_slice_cmp}
+use Rattle.std.proofs.lemmas.Bool.Decides.{nat_tests}
+use Rattle.elem_descr.specs.declared.refusal.Refusal.{Refusal}
+use Rattle.elem_descr.specs.declared.refusal.Refusal.TheVariants.{NotForThisKind}
+use Rattle.elem_descr.specs.declared.scalar.Scalar.{Scalar}
+use Rattle.elem_descr.specs.declared.scalar.Scalar.TheVariants.{Bool as BoolScalar, Bytes}
+use Rattle.elem_descr.specs.declared.descr.Descr.{Descr}
+use Rattle.elem_descr.specs.declared.descr.Descr.TheVariants.{Scalar as ScalarDescr}
+use Rattle.elem_descr.specs.RefusalLaws.{same_answer, check_passed}
+use Rattle.elem_descr.specs.Blocks.{item_from}
+use Rattle.shape_strides.specs.declared.layout.Layout.{Layout}
+use Rattle.shape_strides.specs.Layouts.{offsets}
+use Rattle.view_ops.specs.Views.{view_through}
+use Rattle.broadcasting.specs.Broadcasts.{common_shape, broadcast_index}
+use Rattle.overlap_copy.specs.declared.owned.Owned.{Owned}
+use Rattle.script_lang.specs.declared.operation.Comparison.{Comparison}
+use Rattle.elementwise.specs.Comparisons.{text_below}
+use Rattle.elementwise.specs.Promotion.{are_comparable, compared_type}
+use Rattle.elementwise.specs.Results.{scalar_of, compared_result, compared_item, stretched_items, pairwise, value_in}
+use Rattle.elementwise.specs.inside.PairPasses.{truth_value}
+use Rattle.elementwise.proofs.PromotedLaws.{check_test}
+
+-- ---- byte strings
+
+pub below-cmp : (xs ys : List ℕ) (o : Ordering) → o ≡ slice_cmp nat_cmp xs ys → is_lt o ≡ text_below xs ys
+below-cmp = same_from_slice_cmp nat_cmp is_lt text_below refl (λ _ _. refl) (λ _ _. refl) (λ x y xs ys o h. grind (arith, nat_tests))
+
+pub above-cmp : (xs ys : List ℕ) (o : Ordering) → o ≡ slice_cmp nat_cmp xs ys → is_gt o ≡ text_below ys xs
+above-cmp = same_from_slice_cmp nat_cmp is_gt (λ xs ys. text_below ys xs) refl (λ _ _. refl) (λ _ _. refl) (λ x y xs ys o h. grind (arith, nat_tests))
+
+-- all items of two arrays
+pub texts_compared : (comparison : Comparison) (n m : ℕ) (d d' : Descr) (result : Result Owned Refusal) (block block' : List ℕ) (l l' : Layout) (shape xs ys : List ℕ) → d ≡ ScalarDescr (Bytes n) → d' ≡ ScalarDescr (Bytes m) →
+    xs ≡ view_through (offsets l) l.shape shape (broadcast_index l.shape) → ys ≡ view_through (offsets l') l'.shape shape (broadcast_index l'.shape) → IfOk result (λ o. o.descr ≡ ScalarDescr BoolScalar) → IfOk result (λ o. o.layout.shape ≡ shape) →
+    IfOk result (λ o. map (item_from (ScalarDescr BoolScalar) o.block) (offsets o.layout) ≡ pairwise (λ x y. truth_value comparison (value_in x) (value_in y) ∷ []) (map (item_from (ScalarDescr (Bytes n)) block) xs) (map (item_from (ScalarDescr (Bytes m)) block') ys)) →
+    IfOk result (λ o. map (item_from o.descr o.block) (offsets o.layout) ≡ pairwise (compared_item comparison) (stretched_items d block l o.layout.shape) (stretched_items d' block' l' o.layout.shape))
+texts_compared comparison n m d d' (Ok o) block block' l l' shape xs ys one two seen seen' descr same items =
+    (λ i. map (item_from (descr i) o.block) (offsets o.layout))
+    ∙ items
+    ∙ (λ i. pairwise (compared_item comparison) (map (item_from (sym one i) block) (seen i)) (map (item_from (sym two i) block') (seen' i)))
+    ∙ (λ i. pairwise (compared_item comparison) (stretched_items d block l (sym same i)) (stretched_items d' block' l' (sym same i)))
+texts_compared comparison n m d d' (Err e) block block' l l' shape xs ys one two seen seen' descr same items = tt
+
+-- ---- types
+
+-- a comparison gives bools
+pub compared_bools : (l r s : Scalar) → compared_type l r ≡ Ok s → (are_comparable l r ≡ true) × (s ≡ BoolScalar)
+unfolding compared_type
+compared_bools l r s found =
+    (check_test (are_comparable l r) NotForThisKind (Ok BoolScalar) s found, sym (same_answer BoolScalar s (check_passed (are_comparable l r) NotForThisKind (Ok BoolScalar) s found)))
+
+-- ---- results
+
+module _ (l : Descr) (shape : List ℕ) (r : Descr) (other : List ℕ) where
+  pub left_refused : (e : Refusal) → scalar_of l ≡ Err e → compared_result l shape r other ≡ Err e
+  unfolding compared_result
+  left_refused e is = rw is refl
+
+  pub right_refused : (a : Scalar) (e : Refusal) → scalar_of l ≡ Ok a → scalar_of r ≡ Err e → compared_result l shape r other ≡ Err e
+  unfolding compared_result
+  right_refused a e is is' = rw (is, is') refl
+
+  pub type_refused : (a b : Scalar) (e : Refusal) → scalar_of l ≡ Ok a → scalar_of r ≡ Ok b → compared_type a b ≡ Err e → compared_result l shape r other ≡ Err e
+  unfolding compared_result
+  type_refused a b e is is' there = rw (is, is', there) refl
+
+  pub shapes_refused : (a b s : Scalar) (e : Refusal) → scalar_of l ≡ Ok a → scalar_of r ≡ Ok b → compared_type a b ≡ Ok s → common_shape (shape ∷ other ∷ []) ≡ Err e → compared_result l shape r other ≡ Err e
+  unfolding compared_result
+  shapes_refused a b s e is is' there common = rw (is, is', there, common) refl
+
+  pub all_given : (a b s : Scalar) (c : List ℕ) → scalar_of l ≡ Ok a → scalar_of r ≡ Ok b → compared_type a b ≡ Ok s → common_shape (shape ∷ other ∷ []) ≡ Ok c → compared_result l shape r other ≡ Ok (ScalarDescr s, c)
+  unfolding compared_result
+  all_given a b s c is is' there common = rw (is, is', there, common) refl

@@ -1,0 +1,179 @@
+//! Comparisons of all items of arrays of numbers with one integer.
+ghost use Rattle.std.specs.Prelude.{◌≡◌, ◌≢◌, ℕ, ℤ, [], ◌∷◌, ◌+◌, ◌≤◌, false, true, length, map, replicate, if◌then◌else◌, All, IfOk, IfErr};
+ghost use Rattle.std.specs.Ordering.{int_eq};
+ghost use Rattle.elem_descr.specs.declared.refusal.Refusal.TheVariants.{OutOfMemory};
+ghost use Rattle.elem_descr.specs.declared.descr.Descr.TheVariants.{Scalar as ScalarDescr};
+ghost use Rattle.elem_descr.specs.declared.scalar.Scalar.TheVariants.{Bool as BoolScalar};
+ghost use Rattle.elem_descr.specs.Encoding.{IsNumber, size, wrap, decode};
+ghost use Rattle.elem_descr.specs.Items.{item_size};
+ghost use Rattle.elem_descr.specs.Blocks.{item_from};
+ghost use Rattle.elem_descr.specs.Refusals.{Gives};
+ghost use Rattle.elem_descr.specs.Values.{number};
+ghost use Rattle.shape_strides.specs.declared.memory_order.MemoryOrder.TheVariants.{C};
+ghost use Rattle.shape_strides.specs.Indexes.{count};
+ghost use Rattle.shape_strides.specs.Layouts.{offsets, multiples};
+ghost use Rattle.overlap_copy.specs.Blocks.{offsets_in};
+ghost use Rattle.elementwise.specs.Promotion.{little};
+ghost use Rattle.elementwise.specs.Results.{integer_compared_result, compared_item, stretched_items, truth_item};
+
+use crate::compared::{compare_held, note_bytes};
+use crate::comparing::says;
+use crate::operands::Items;
+use crate::promotion::{is_text, little, scalar_of};
+use elem_descr::{Descr, Refusal, Scalar, num_read, num_write};
+use overlap_copy::Owned;
+use raw_block::RawBlock;
+use script_lang::Comparison;
+use shape_strides::{MemoryOrder, Shape};
+use std::alloc::{AllocError, Global};
+
+/// Whether an integer is a value of a scalar: it is the same when it is written and read again.
+#[tactic(auto, using(crate::proofs::IntegerLaws::number_size))]
+fn is_value(scalar: &Scalar, integer: i128) -> bool
+    requires { IsNumber scalar.now }
+    ensures { result ≡ int_eq (wrap scalar.now integer) integer }
+{
+    let mut room = [0; 8];
+    let bytes = &mut room[..scalar.size()];
+    num_write(*scalar, integer, bytes);
+    num_read(*scalar, bytes) == integer
+}
+
+/// A number as a block.
+fn number_block(alloc: Global, scalar: &Scalar, integer: i128) -> Result<RawBlock, AllocError>
+    requires { IsNumber scalar.now }
+    ensures len { IfOk result (λ b. length b ≡ size scalar.now) }
+    ensures value { IfOk result (λ b. decode scalar.now b ≡ number (wrap scalar.now integer)) }
+{
+    let mut block = RawBlock::try_zeroed(alloc, scalar.size())?;
+    num_write(*scalar, integer, block.bytes_mut());
+    Ok(block)
+}
+
+/// A number as an array of one item without axes.
+fn one_item(alloc: Global, scalar: &Scalar, integer: i128) -> Result<Owned, Refusal>
+    requires number { IsNumber scalar.now }
+    ensures descr { IfOk result (λ o. o.descr ≡ ScalarDescr scalar.now) }
+    ensures shape { IfOk result (λ o. o.layout.shape ≡ []) }
+    ensures inside { IfOk result (λ o. All (λ offset. offset + item_size o.descr ≤ length o.block) (offsets o.layout)) }
+    ensures items { IfOk result (λ o. map (item_from o.descr o.block) (offsets o.layout) ≡ (number (wrap scalar.now integer) ∷ []) ∷ []) }
+    ensures refused { IfErr result (λ refusal. refusal ≡ OutOfMemory) }
+{
+    let shape = Shape::try_new(alloc, &[])?;
+    let block = number_block(alloc, scalar, integer)?;
+    let descr = Descr::Scalar(*scalar);
+    let owned = Owned::over(alloc, descr, &shape, MemoryOrder::C, block)?;
+    Ok(owned)
+}
+
+/// A comparison of the numbers of an array with an integer that their type, in little-endian order, holds.
+fn compare_with_value(
+    alloc: Global,
+    comparison: Comparison,
+    scalar: &Scalar,
+    from: &Scalar,
+    operand: Items<'_>,
+    integer: i128,
+) -> Result<Owned, Refusal>
+    requires scalar { scalar.now ≡ little from.now }
+    requires from { operand.descr.now ≡ ScalarDescr from.now }
+    requires number { IsNumber from.now }
+    requires held { wrap scalar.now integer ≡ integer }
+    requires inside { All (λ offset. offset + item_size operand.descr.now ≤ length operand.block.now) (offsets operand.layout.now) }
+    ensures descr { IfOk result (λ o. o.descr ≡ ScalarDescr BoolScalar) }
+    ensures shape { IfOk result (λ o. o.layout.shape ≡ operand.entry.layout.now.shape) }
+    ensures order { IfOk result (λ o. offsets o.layout ≡ multiples 1 (count operand.entry.layout.now.shape)) }
+    ensures items { IfOk result (λ o. map (item_from o.descr o.block) (offsets o.layout)
+        ≡ map (λ offset. compared_item comparison (item_from operand.entry.descr.now operand.entry.block.now offset) (number integer ∷ [])) (offsets operand.entry.layout.now)) }
+    ensures refused { IfErr result (λ refusal. refusal ≡ OutOfMemory) }
+{
+    let item = one_item(alloc, scalar, integer)?;
+    let right = Items {
+        block: &item.block,
+        layout: &item.layout,
+        descr: &item.descr,
+    };
+    compare_held(
+        alloc,
+        comparison,
+        scalar,
+        from,
+        operand,
+        scalar,
+        right,
+        &operand.layout.shape,
+    )
+}
+
+/// One bool so many times, as a block.
+fn bool_block(alloc: Global, holds: bool, len: usize) -> Result<RawBlock, AllocError>
+    ensures { IfOk result (λ b. b ≡ replicate len (if holds then 1 else 0)) }
+{
+    let mut block = RawBlock::try_zeroed(alloc, len)?;
+    block.bytes_mut().fill(u8::from(holds));
+    Ok(block)
+}
+
+/// One bool for all items of a shape.
+fn all_alike(alloc: Global, holds: bool, shape: &Shape) -> Result<Owned, Refusal>
+    ensures descr { IfOk result (λ o. o.descr ≡ ScalarDescr BoolScalar) }
+    ensures shape { IfOk result (λ o. o.layout.shape ≡ shape.now) }
+    ensures order { IfOk result (λ o. offsets o.layout ≡ multiples 1 (count shape.now)) }
+    ensures items { IfOk result (λ o. map (item_from o.descr o.block) (offsets o.layout) ≡ replicate (count shape.now) (truth_item holds)) }
+    ensures refused { IfErr result (λ refusal. refusal ≡ OutOfMemory) }
+{
+    let block = bool_block(alloc, holds, shape.items())?;
+    let descr = Descr::Scalar(Scalar::Bool);
+    let owned = Owned::over(alloc, descr, shape, MemoryOrder::C, block)?;
+    Ok(owned)
+}
+
+/// A comparison of the numbers of an array with an integer that is above all numbers of their type, or below.
+fn compare_beyond(
+    alloc: Global,
+    comparison: Comparison,
+    from: &Scalar,
+    operand: Items<'_>,
+    integer: i128,
+) -> Result<Owned, Refusal>
+    requires from { operand.descr.now ≡ ScalarDescr from.now }
+    requires number { IsNumber from.now }
+    requires beyond { wrap (little from.now) integer ≢ integer }
+    ensures descr { IfOk result (λ o. o.descr ≡ ScalarDescr BoolScalar) }
+    ensures shape { IfOk result (λ o. o.layout.shape ≡ operand.entry.layout.now.shape) }
+    ensures order { IfOk result (λ o. offsets o.layout ≡ multiples 1 (count operand.entry.layout.now.shape)) }
+    ensures items { IfOk result (λ o. map (item_from o.descr o.block) (offsets o.layout)
+        ≡ map (λ offset. compared_item comparison (item_from operand.entry.descr.now operand.entry.block.now offset) (number integer ∷ [])) (offsets operand.entry.layout.now)) }
+    ensures refused { IfErr result (λ refusal. refusal ≡ OutOfMemory) }
+{
+    note_bytes(operand.block);
+    let above = integer.is_positive();
+    let holds = says(comparison, above, !above);
+    all_alike(alloc, holds, &operand.layout.shape)
+}
+
+/// What a comparison says of the numbers of an array and of an integer, which may be larger than their
+/// type holds, as bools in a block of their own in C order. Refused are records and byte strings, as
+/// `NotForThisKind`.
+pub fn compare_integer(
+    alloc: Global,
+    comparison: Comparison,
+    operand: Items<'_>,
+    integer: i128,
+) -> Result<Owned, Refusal>
+    requires inside { All (λ offset. offset + item_size operand.descr.now ≤ length operand.block.now) (offsets operand.layout.now) }
+    ensures gives { Gives (λ o. (o.descr, o.layout.shape)) result (integer_compared_result operand.entry.descr.now operand.entry.layout.now.shape) }
+    ensures order { IfOk result (λ o. offsets o.layout ≡ offsets_in C (item_size o.descr) o.layout.shape) }
+    ensures items { IfOk result (λ o. map (item_from o.descr o.block) (offsets o.layout)
+        ≡ map (λ offset. compared_item comparison (item_from operand.entry.descr.now operand.entry.block.now offset) (number integer ∷ [])) (offsets operand.entry.layout.now)) }
+{
+    let from = scalar_of(operand.descr)?;
+    if is_text(&from) {
+        return Err(Refusal::NotForThisKind);
+    }
+    let scalar = little(&from);
+    if is_value(&scalar, integer) {
+        return compare_with_value(alloc, comparison, &scalar, &from, operand, integer);
+    }
+    compare_beyond(alloc, comparison, &from, operand, integer)
+}

@@ -1,0 +1,94 @@
+-- Single items that are gathered, scattered and filled.
+use Rattle.std.proofs.Common.{◌≡◌, ℕ, ◌+◌, ◌-◌, ◌<◌, ◌≤◌, List, [], ◌∷◌, ◌++◌, map, length, get_or, drop, All, refl, sym, ap, ◌∙◌, arith}
+use Rattle.std.proofs.lemmas.List.{drop_more, length-map}
+use Rattle.raw_block.specs.Bytes.{put, item_at}
+use Rattle.shape_strides.specs.declared.layout.Layout.{Layout}
+use Rattle.shape_strides.specs.Indexes.{count}
+use Rattle.shape_strides.specs.Layouts.{offsets}
+use Rattle.shape_strides.specs.LayoutLaws.{length-offsets, entry-first}
+use Rattle.overlap_copy.specs.Assignments.{assigned}
+use Rattle.fancy_index.specs.Plans.{moved, shifted_all}
+use Rattle.fancy_index.specs.inside.Kept.{IsMoved, IsStart}
+use Rattle.fancy_index.specs.inside.Packed.{packed}
+use Rattle.fancy_index.proofs.GatherLaws.{packed-suc}
+use Rattle.fancy_index.proofs.Passes.{CanScatter, Scattering, Gathering, Filling, scatter_front, scattered_front, gather_front, gathered_front, fill_front, filled_front}
+
+-- ---- layouts of one item
+
+one-entry : (xs : List ℕ) (x : ℕ) → length xs ≡ 1 → get_or xs 0 0 ≡ x → xs ≡ x ∷ []
+one-entry [] x one is = absurd (omega (arith, one))
+one-entry (y ∷ []) x one is = ap (λ z. z ∷ []) is
+one-entry (y ∷ z ∷ ys) x one is = absurd (omega (arith, one))
+
+only-offset : (l : Layout) → count l.shape ≡ 1 → offsets l ≡ l.offset ∷ []
+only-offset l one = one-entry (offsets l) l.offset (length-offsets l ∙ one) (entry-first l (omega (arith, one)))
+
+alone : (base place : ℕ) (shifts : List ℕ) → shifted_all base shifts (base ∷ []) place ≡ map (moved base place) shifts
+alone base place [] = refl
+alone base place (shift ∷ shifts) =
+    let same : moved base place shift + base - base ≡ moved base place shift = omega arith in
+    λ i. same i ∷ alone base place shifts i
+
+-- where the one item of a layout lies from a place on that is shifted by each shift
+pub shifted-single : (l : Layout) (shifts : List ℕ) (place : ℕ) → count l.shape ≡ 1 → shifted_all l.offset shifts (offsets l) place ≡ map (moved l.offset place) shifts
+shifted-single l shifts place one = ap (λ o. shifted_all l.offset shifts o place) (only-offset l one) ∙ alone l.offset place shifts
+
+pub many-single : (l : Layout) (shifts : List ℕ) (place : ℕ) → count l.shape ≡ 1 → length (shifted_all l.offset shifts (offsets l) place) ≡ length shifts
+many-single l shifts place one = ap length (shifted-single l shifts place one) ∙ length-map shifts (moved l.offset place)
+
+pub starts-single : (base : ℕ) (inner : List ℕ) (shifts : List ℕ) (place : ℕ) → All (IsStart base inner place) shifts → All (IsMoved base place) shifts
+starts-single base inner shifts place starts = λ k d below. (starts k d below).start
+
+-- ---- shift after shift
+
+split-single : (base place : ℕ) (shifts : List ℕ) (k start : ℕ) → k < length shifts → start ≡ moved base place (get_or shifts k 0) →
+    map (moved base place) (drop k shifts) ≡ (start ∷ []) ++ map (moved base place) (drop (k + 1) shifts)
+split-single base place shifts k start low is =
+    ap (map (moved base place)) (drop_more shifts k 0 low) ∙ ap (λ s. s ∷ map (moved base place) (drop (k + 1) shifts)) (sym is)
+
+packed-one : (at width : ℕ) → packed at width 1 ≡ at ∷ []
+packed-one at width = packed-suc at width 0
+
+pub record CanCopy (start at width : ℕ) (items block : List ℕ) : Type 0 where
+  pub inside : start + width ≤ length block
+  pub room : at + width ≤ length items
+
+can_copy : (start at width : ℕ) (items block : List ℕ) → CanScatter (start ∷ []) at width items block → CanCopy start at width items block
+can_copy start at width items block can = record {
+  inside = can.inside 0 0 (omega arith);
+  room = omega (arith, can.room);
+}
+
+module _ (base place : ℕ) (shifts : List ℕ) (k start : ℕ) (low : k < length shifts) (is : start ≡ moved base place (get_or shifts k 0)) where
+  abbrev now : List ℕ
+  now = map (moved base place) (drop k shifts)
+
+  abbrev later : List ℕ
+  later = map (moved base place) (drop (k + 1) shifts)
+
+  split : now ≡ (start ∷ []) ++ later
+  split = split-single base place shifts k start low is
+
+  pub gather_one : (at width end : ℕ) (block items whole : List ℕ) → Gathering now at width end block items whole → CanCopy start at width items block
+  gather_one at width end block items whole have = can_copy start at width items block (gather_front now (start ∷ []) later at width end block items whole split have)
+
+  pub gathered_one : (at width end : ℕ) (block items items' whole : List ℕ) → items' ≡ put at (item_at start width block) items → length items' ≡ length items →
+      Gathering now at width end block items whole → Gathering later (at + width) width end block items' whole
+  gathered_one at width end block items items' whole written same have =
+      gathered_front now (start ∷ []) later at (at + width) width end block items items' whole split
+      (written ∙ ap (λ to. assigned to (start ∷ []) width block items) (sym (packed-one at width))) same (omega arith) have
+
+  pub scatter_one : (at width end : ℕ) (items block whole : List ℕ) → Scattering now at width end items block whole → CanCopy start at width items block
+  scatter_one at width end items block whole have = can_copy start at width items block (scatter_front now (start ∷ []) later at width end items block whole split have)
+
+  pub scattered_one : (at width end : ℕ) (items block block' whole : List ℕ) → block' ≡ put start (item_at at width items) block → length block' ≡ length block →
+      Scattering now at width end items block whole → Scattering later (at + width) width end items block' whole
+  scattered_one at width end items block block' whole written same have =
+      scattered_front now (start ∷ []) later at (at + width) width end items block block' whole split
+      (written ∙ ap (λ from. assigned (start ∷ []) from width items block) (sym (packed-one at width))) same (omega arith) have
+
+  pub fill_one : (item block whole : List ℕ) → Filling now item block whole → start + length item ≤ length block
+  fill_one item block whole have = fill_front now (start ∷ []) later item block whole split have 0 0 (omega arith)
+
+  pub filled_one : (item block block' whole : List ℕ) → block' ≡ put start item block → length block' ≡ length block → Filling now item block whole → Filling later item block' whole
+  filled_one item block block' whole written same have = filled_front now (start ∷ []) later item block block' whole split written same have

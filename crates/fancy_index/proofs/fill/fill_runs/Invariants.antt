@@ -1,0 +1,11 @@
+use Rattle.std.proofs.Common.{◌≡◌, length, drop}
+use Rattle.shape_strides.specs.Layouts.{offsets}
+use Rattle.fancy_index.specs.Plans.{shifted_all, put_each}
+use Rattle.fancy_index.proofs.Passes.{Filling}
+use Rattle.fancy_index.proofs.fill.fill_runs.Given as goal
+
+abbrev pub invariant-loop-shift : goal.invariant-loop-shift
+invariant-loop-shift l = record {
+  pass : Filling (shifted_all l.inner.offset (drop l.shift-index l.shifts) (offsets l.inner) l.place) l.item l.block (put_each (shifted_all l.inner.offset l.shifts (offsets l.inner) l.place) l.item l.fn.block);
+  len : length l.block ≡ length l.fn.block;
+}

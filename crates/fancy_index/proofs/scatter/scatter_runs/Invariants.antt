@@ -1,0 +1,14 @@
+use Rattle.std.proofs.Common.{◌≡◌, ◌+◌, ◌*◌, length, drop}
+use Rattle.shape_strides.specs.Layouts.{offsets}
+use Rattle.overlap_copy.specs.Assignments.{assigned}
+use Rattle.fancy_index.specs.Plans.{shifted_all}
+use Rattle.fancy_index.specs.inside.Packed.{packed}
+use Rattle.fancy_index.proofs.Passes.{Scattering}
+use Rattle.fancy_index.proofs.scatter.scatter_runs.Given as goal
+
+abbrev pub invariant-loop-shift : goal.invariant-loop-shift
+invariant-loop-shift l = record {
+  pass : Scattering (shifted_all l.inner.offset (drop l.shift-index l.shifts) (offsets l.inner) l.place) l.at l.width (l.fn.at + length (shifted_all l.inner.offset l.shifts (offsets l.inner) l.place) * l.width) l.items l.block
+      (assigned (shifted_all l.inner.offset l.shifts (offsets l.inner) l.place) (packed l.fn.at l.width (length (shifted_all l.inner.offset l.shifts (offsets l.inner) l.place))) l.width l.items l.fn.block);
+  len : length l.block ≡ length l.fn.block;
+}

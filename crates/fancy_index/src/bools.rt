@@ -1,0 +1,57 @@
+//! Bools that lie one right after another.
+ghost use Rattle.std.specs.Prelude.{◌≡◌, ◌+◌, ◌≤◌, length, map, IfOk, IfSome, IsTrue};
+ghost use Rattle.elem_descr.specs.declared.descr.Descr.TheVariants.{Scalar as ScalarDescr};
+ghost use Rattle.elem_descr.specs.declared.scalar.Scalar.TheVariants.{Bool as BoolScalar};
+ghost use Rattle.raw_block.specs.Bytes.{item_at};
+ghost use Rattle.fancy_index.specs.Sources.{array_of, LiesInBlock};
+ghost use Rattle.fancy_index.specs.inside.Bools.{bool_number};
+ghost use Rattle.fancy_index.specs.inside.PointLists.{true_ranks};
+
+use crate::source::Indices;
+use elem_descr::{Descr, Scalar};
+use std::alloc::{AllocError, Global};
+
+/// Whether the items of this type are bools.
+fn are_bools(descr: &Descr) -> bool
+    ensures { IsTrue result → descr.now ≡ ScalarDescr BoolScalar }
+{
+    matches!(descr, Descr::Scalar(Scalar::Bool))
+}
+
+/// The `n` bytes from `at` on.
+fn bytes_at(bytes: &[u8], at: usize, n: usize) -> &[u8]
+    requires { at + n ≤ length bytes.now }
+    ensures { result.now ≡ item_at at n bytes.now }
+{
+    &bytes[at..at + n]
+}
+
+/// The bytes of the bools of an array that lie so.
+pub(crate) fn bools_of<'a>(array: Indices<'a>) -> Option<&'a [u8]>
+    requires { LiesInBlock array }
+    ensures { IfSome result (λ bytes. map bool_number bytes.now ≡ (array_of array.entry).numbers) }
+{
+    if !are_bools(array.descr) {
+        return None;
+    }
+    let Some(run) = array.layout.as_run() else {
+        return None;
+    };
+    if run.step != 1 {
+        return None;
+    }
+    Some(bytes_at(array.block.bytes(), run.offset, run.count))
+}
+
+/// The ranks of the bytes that are not 0.
+pub(crate) fn true_bytes(alloc: Global, bytes: &[u8]) -> Result<Vec<usize>, AllocError>
+    ensures { IfOk result (λ v. v.items ≡ true_ranks 0 (map bool_number bytes.now)) }
+{
+    let mut ranks = Vec::new(alloc);
+    for rank in 0..bytes.len() {
+        if bytes[rank] != 0 {
+            ranks.push(rank)?;
+        }
+    }
+    Ok(ranks)
+}

@@ -1,0 +1,164 @@
+//! Single items, each at a place that is shifted: read, written and filled, one after the other.
+ghost use Rattle.std.specs.Prelude.{◌≡◌, ◌+◌, ◌*◌, ◌≤◌, length, map, All};
+ghost use Rattle.shape_strides.specs.Limits.{max_bytes};
+ghost use Rattle.overlap_copy.specs.Assignments.{assigned};
+ghost use Rattle.fancy_index.specs.Plans.{moved, put_each};
+ghost use Rattle.fancy_index.specs.inside.Kept.{IsMoved};
+ghost use Rattle.fancy_index.specs.inside.Packed.{packed};
+
+use crate::plans::moved;
+use raw_block::RawBlock;
+
+/// Copies the item of `width` bytes at a place that is shifted by each shift to those that lie one
+/// after another from `at` on. The result is where these end. Where it is called with a width that is
+/// known, each is loaded and stored at once.
+#[inline(always)]
+fn gather_each(
+    items: &mut RawBlock,
+    at: usize,
+    block: &RawBlock,
+    shifts: &[usize],
+    base: usize,
+    place: usize,
+    width: usize,
+) -> usize
+    requires base { base ≤ max_bytes }
+    requires moved { All (IsMoved base place) shifts.now }
+    requires inside { All (λ offset. offset + width ≤ length block.now) (map (moved base place) shifts.now) }
+    requires room { at + length shifts.now * width ≤ length items.old }
+    ensures written { items.new ≡ assigned (packed at width (length shifts.now)) (map (moved base place) shifts.now) width block.now items.old }
+    ensures len { length items.new ≡ length items.old }
+    ensures end { result ≡ at + length shifts.now * width }
+{
+    let _len = items.len();
+    let mut at = at;
+    for shift in shifts {
+        items.copy_from(at, block, moved(base, place, *shift), width);
+        at += width;
+    }
+    at
+}
+
+/// The same, with a loop of its own for each usual width.
+pub(crate) fn gather_singles(
+    items: &mut RawBlock,
+    at: usize,
+    block: &RawBlock,
+    shifts: &[usize],
+    base: usize,
+    place: usize,
+    width: usize,
+) -> usize
+    requires base { base ≤ max_bytes }
+    requires moved { All (IsMoved base place) shifts.now }
+    requires inside { All (λ offset. offset + width ≤ length block.now) (map (moved base place) shifts.now) }
+    requires room { at + length shifts.now * width ≤ length items.old }
+    ensures written { items.new ≡ assigned (packed at width (length shifts.now)) (map (moved base place) shifts.now) width block.now items.old }
+    ensures len { length items.new ≡ length items.old }
+    ensures end { result ≡ at + length shifts.now * width }
+{
+    match width {
+        1 => gather_each(items, at, block, shifts, base, place, 1),
+        2 => gather_each(items, at, block, shifts, base, place, 2),
+        4 => gather_each(items, at, block, shifts, base, place, 4),
+        8 => gather_each(items, at, block, shifts, base, place, 8),
+        _ => gather_each(items, at, block, shifts, base, place, width),
+    }
+}
+
+/// Copies the items of `width` bytes that lie one after another from `at` on, each to a place that is
+/// shifted by one of the shifts. The result is where they end. Where it is called with a width that is
+/// known, each is loaded and stored at once.
+#[inline(always)]
+fn scatter_each(
+    block: &mut RawBlock,
+    shifts: &[usize],
+    base: usize,
+    place: usize,
+    items: &RawBlock,
+    at: usize,
+    width: usize,
+) -> usize
+    requires base { base ≤ max_bytes }
+    requires moved { All (IsMoved base place) shifts.now }
+    requires inside { All (λ offset. offset + width ≤ length block.old) (map (moved base place) shifts.now) }
+    requires room { at + length shifts.now * width ≤ length items.now }
+    ensures written { block.new ≡ assigned (map (moved base place) shifts.now) (packed at width (length shifts.now)) width items.now block.old }
+    ensures len { length block.new ≡ length block.old }
+    ensures end { result ≡ at + length shifts.now * width }
+{
+    let _len = items.len();
+    let mut from = at;
+    for shift in shifts {
+        block.copy_from(moved(base, place, *shift), items, from, width);
+        from += width;
+    }
+    from
+}
+
+/// The same, with a loop of its own for each usual width.
+pub(crate) fn scatter_singles(
+    block: &mut RawBlock,
+    shifts: &[usize],
+    base: usize,
+    place: usize,
+    items: &RawBlock,
+    at: usize,
+    width: usize,
+) -> usize
+    requires base { base ≤ max_bytes }
+    requires moved { All (IsMoved base place) shifts.now }
+    requires inside { All (λ offset. offset + width ≤ length block.old) (map (moved base place) shifts.now) }
+    requires room { at + length shifts.now * width ≤ length items.now }
+    ensures written { block.new ≡ assigned (map (moved base place) shifts.now) (packed at width (length shifts.now)) width items.now block.old }
+    ensures len { length block.new ≡ length block.old }
+    ensures end { result ≡ at + length shifts.now * width }
+{
+    match width {
+        1 => scatter_each(block, shifts, base, place, items, at, 1),
+        2 => scatter_each(block, shifts, base, place, items, at, 2),
+        4 => scatter_each(block, shifts, base, place, items, at, 4),
+        8 => scatter_each(block, shifts, base, place, items, at, 8),
+        _ => scatter_each(block, shifts, base, place, items, at, width),
+    }
+}
+
+/// Writes the item at a place that is shifted by each shift. Where it is called with an item whose
+/// length is known, each is stored at once.
+#[inline(always)]
+fn fill_each(block: &mut RawBlock, shifts: &[usize], base: usize, place: usize, item: &[u8])
+    requires base { base ≤ max_bytes }
+    requires moved { All (IsMoved base place) shifts.now }
+    requires inside { All (λ offset. offset + length item.now ≤ length block.old) (map (moved base place) shifts.now) }
+    ensures written { block.new ≡ put_each (map (moved base place) shifts.now) item.now block.old }
+    ensures len { length block.new ≡ length block.old }
+{
+    for shift in shifts {
+        block.put(moved(base, place, *shift), item);
+    }
+}
+
+/// The same, with a loop of its own for each usual length.
+pub(crate) fn fill_singles(
+    block: &mut RawBlock,
+    shifts: &[usize],
+    base: usize,
+    place: usize,
+    item: &[u8],
+)
+    requires base { base ≤ max_bytes }
+    requires moved { All (IsMoved base place) shifts.now }
+    requires inside { All (λ offset. offset + length item.now ≤ length block.old) (map (moved base place) shifts.now) }
+    ensures written { block.new ≡ put_each (map (moved base place) shifts.now) item.now block.old }
+    ensures len { length block.new ≡ length block.old }
+{
+    match *item {
+        [a] => fill_each(block, shifts, base, place, &[a]),
+        [a, b] => fill_each(block, shifts, base, place, &[a, b]),
+        [a, b, c, d] => fill_each(block, shifts, base, place, &[a, b, c, d]),
+        [a, b, c, d, e, f, g, h] => {
+            fill_each(block, shifts, base, place, &[a, b, c, d, e, f, g, h])
+        }
+        _ => fill_each(block, shifts, base, place, item),
+    }
+}
