@@ -59,6 +59,16 @@ MASKED = [f"a = full <i4 ({COUNT // 2}) 7", f"m = zeros |b1 ({COUNT // 2})", "se
 NUMPY_MASKED = f"a = np.full({COUNT // 2}, 7, '<i4'); m = np.zeros({COUNT // 2}, bool); m[::2] = True"
 ROWS_OF = ["a = full <i4 (1024,1024) 7", "i = arange <i8 0 1024 1", "i = i[::-1]"]
 NUMPY_ROWS_OF = "a = np.full((1024, 1024), 7, '<i4'); i = np.arange(1024)[::-1]"
+WIDE = [f"a = full <i8 ({COUNT}) 7", f"b = full <i8 ({COUNT}) 5"]
+NUMPY_WIDE = f"a = np.full({COUNT}, 7, '<i8'); b = np.full({COUNT}, 5, '<i8')"
+PAIR = [f"a = full <i4 ({COUNT}) 7", f"b = full <i4 ({COUNT}) 5"]
+NUMPY_PAIR = f"a = np.full({COUNT}, 7, '<i4'); b = np.full({COUNT}, 5, '<i4')"
+BIG_ENDIAN = [f"a = full >i4 ({COUNT // 4}) 7", f"b = full >i4 ({COUNT // 4}) 5"]
+NUMPY_BIG_ENDIAN = f"a = np.full({COUNT // 4}, 7, '>i4'); b = np.full({COUNT // 4}, 5, '>i4')"
+RECORDS = [f"t = zeros T{{<i:k:<i:v:}} ({COUNT // 4})", 'a = field t "v"']
+NUMPY_RECORDS = f"a = np.zeros({COUNT // 4}, [('k', '<i4'), ('v', '<i4')])['v']"
+SQUARE = ["a = full <i4 (2048,2048) 7"]
+NUMPY_SQUARE = "a = np.full((2048, 2048), 7, '<i4')"
 
 ROWS = [
     Row("zeros, 4M of 4 bytes", [], f"x = zeros <i4 ({COUNT})", "", f"x = np.zeros({COUNT}, '<i4')"),
@@ -83,6 +93,17 @@ ROWS = [
     Row("mask, 1M of 2M", MASKED, "x = a[m]", NUMPY_MASKED, "x = a[m]"),
     Row("scatter, 1M to 4M", EVERY_FOURTH, "set a[i] = v", NUMPY_EVERY_FOURTH, "a[i] = v"),
     Row("rows, 1024 of 1024 x 1024", ROWS_OF, "x = a[i]", NUMPY_ROWS_OF, "x = a[i]"),
+    Row("add, 4M of 4 bytes", PAIR, "x = add a b", NUMPY_PAIR, "x = a + b"),
+    Row("add, 4M of 8 bytes", WIDE, "x = add a b", NUMPY_WIDE, "x = a + b"),
+    Row("add, 1M big-endian", BIG_ENDIAN, "x = add a b", NUMPY_BIG_ENDIAN, "x = a + b"),
+    Row("lt, 4M of 4 bytes", PAIR, "x = lt a b", NUMPY_PAIR, "x = a < b"),
+    Row("upd, 4M add 1", ITEMS, "upd a[:] add 1", NUMPY_ITEMS, "a[:] += 1"),
+    Row("add, one row to 1024 rows", ROW, "x = add a r", NUMPY_ROW, "x = a + r"),
+    Row("add, 1M of a field", RECORDS, "x = add a 1", NUMPY_RECORDS, "x = a + np.int32(1)"),
+    Row("sum, 4M", ITEMS, "x = sum a", NUMPY_ITEMS, "x = a.sum()"),
+    Row("max, 4M", ITEMS, "x = max a", NUMPY_ITEMS, "x = a.max()"),
+    Row("sum, 2048 x 2048 along 0", SQUARE, "x = sum a 0", NUMPY_SQUARE, "x = a.sum(0)"),
+    Row("sum, 2048 x 2048 along 1", SQUARE, "x = sum a 1", NUMPY_SQUARE, "x = a.sum(1)"),
     Row("save, 16 MB", ITEMS, 'save a "a.npy"', NUMPY_ITEMS + f"; f = '{FOLDER.name}/n.npy'", "np.save(f, a)"),
     Row("load, 16 MB", [*ITEMS, 'save a "a.npy"'], 'x = load "a.npy"', NUMPY_ITEMS + f"; f = '{FOLDER.name}/n.npy'; np.save(f, a)", "x = np.load(f)"),
     Row("print, 100 x 100", TABLE, "print a", NUMPY_TABLE, "str(a)"),

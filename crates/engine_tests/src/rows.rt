@@ -12,7 +12,7 @@ pub struct Row {
     pub refused: u64,
 }
 
-pub const ROWS: [Row; 40] = [
+pub const ROWS: [Row; 47] = [
     Row {
         script: FIRST_RUN,
         replies: FIRST_REPLIES,
@@ -85,12 +85,61 @@ pub const ROWS: [Row; 40] = [
         accepted: 7,
         refused: 0,
     },
-    // Commands that are not carried out yet.
+    // A command that is not carried out yet, and names that are not bound.
     Row {
-        script: b"a = zeros <i4 (1)\nundo\nb = a[i]\nset a[0] = a[i]\nupd a[0] add 1\nc = add a 1\nd = sum a\nset q[i] = 1\nset a[i,0] = 1\n",
-        replies: b"ok a <i4 (1,) new\nno E03 syntax\nno E06 unknown name\nno E06 unknown name\nno E03 syntax\nno E03 syntax\nno E03 syntax\nno E06 unknown name\nno E06 unknown name\n",
+        script: b"a = zeros <i4 (1)\nundo\nb = a[i]\nset a[0] = a[i]\nupd a[0] add i\nc = add a i[0]\nd = sum i\nset q[i] = 1\nset a[i,0] = 1\n",
+        replies: b"ok a <i4 (1,) new\nno E03 syntax\nno E06 unknown name\nno E06 unknown name\nno E06 unknown name\nno E06 unknown name\nno E06 unknown name\nno E06 unknown name\nno E06 unknown name\n",
         accepted: 1,
         refused: 8,
+    },
+    // Numbers of two kinds are compared by value; reductions of no items.
+    Row {
+        script: b"p = full <i8 (1) -1\nq = full <u8 (1) 18446744073709551615\nl = lt p q\nprint l\nz = zeros <i4 (0,3)\nm = max z 0\nm = max z 1\nt = all z\nprint t\n",
+        replies: b"ok p <i8 (1,) new\nok q <u8 (1,) new\nok l |b1 (1,) new\n[ True]\nok z <i4 (0, 3) new\nno E25 empty reduction\nok m <i4 (0,) new\nok t |b1 () new\nTrue\n",
+        accepted: 8,
+        refused: 1,
+    },
+    // What is read of an update is as it was before.
+    Row {
+        script: b"a = array <i4 (3) 1 2 3\nupd a[1:] add a[:-1]\nprint a\n",
+        replies: b"ok a <i4 (3,) new\nok upd 2\n[1 3 5]\n",
+        accepted: 3,
+        refused: 0,
+    },
+    // Results wrap, literals do not; no integers hold two kinds of eight bytes.
+    Row {
+        script: b"u = full |u1 (1) 200\nv = full |u1 (1) 100\nw = add u v\nprint w\nx = add u 300\np = zeros <i8 (1)\nq = zeros <u8 (1)\nx = add p q\nz = full <i8 (1) -9223372036854775808\nf = fdiv z -1\nprint f\n",
+        replies: b"ok u |u1 (1,) new\nok v |u1 (1,) new\nok w |u1 (1,) new\n[44]\nno E23 literal out of range\nok p <i8 (1,) new\nok q <u8 (1,) new\nno E21 needs floats\nok z <i8 (1,) new\nok f <i8 (1,) new\n[-9223372036854775808]\n",
+        accepted: 9,
+        refused: 2,
+    },
+    // Byte strings are compared without the NULs at their end.
+    Row {
+        script: b"s = array |S3 (2) b'ab' b'a\\x00c'\nprint s\nset s[0] = b'abcd'\nprint s\nc = eq s b'abc'\nprint c\nc = add s s\n",
+        replies: b"ok s |S3 (2,) new\n[b'ab' b'a\\x00c']\nok set 1\n[b'abc' b'a\\x00c']\nok c |b1 (2,) new\n[ True False]\nno E22 not for this kind\n",
+        accepted: 6,
+        refused: 1,
+    },
+    // Reductions along an axis, kept and not, and of all items.
+    Row {
+        script: b"b = array <i4 (2,3) 1 2 3 4 5 6\ns = sum b 0\nprint s\nk = max b 1 keep\nprint k\ng = argmax b\nprint g\nx = sum b 2\nu = full |u1 (2) 200\nt = sum u\nprint t\n",
+        replies: b"ok b <i4 (2, 3) new\nok s <i8 (3,) new\n[5 7 9]\nok k <i4 (2, 1) new\n[[3]\n [6]]\nok g <i8 () new\n5\nno E17 bad axis\nok u |u1 (2,) new\nok t <u8 () new\n400\n",
+        accepted: 10,
+        refused: 1,
+    },
+    // An update of a kind above the target's.
+    Row {
+        script: b"a = array <i4 (3) -1 0 300\nb = cast a |u1\nprint b\nc = cast a |b1\nprint c\nd = cast a |S2\nupd b add a\nupd b[:] add a\ne = array <i4 (2) 1\n",
+        replies: b"ok a <i4 (3,) new\nok b |u1 (3,) new\n[255   0  44]\nok c |b1 (3,) new\n[ True False  True]\nno E33 no such cast\nno E03 syntax\nno E24 not same kind\nno E32 number of values\n",
+        accepted: 5,
+        refused: 4,
+    },
+    // Division rounds down, and its rest has the divisor's sign.
+    Row {
+        script: b"a = array <i4 (2) -7 7\nx = fdiv a 2\nprint x\nx = mod a -3\nprint x\nx = fdiv a 0\nprint x\nx = shr a 40\nprint x\nx = neg a\nprint x\nx = div a 2\n",
+        replies: b"ok a <i4 (2,) new\nok x <i4 (2,) new\n[-4  3]\nok x <i4 (2,) new\n[-1 -2]\nok x <i4 (2,) new\n[0 0]\nok x <i4 (2,) new\n[-1  0]\nok x <i4 (2,) new\n[ 7 -7]\nno E21 needs floats\n",
+        accepted: 11,
+        refused: 1,
     },
     // A write through a view is seen by the array, and by each of its views.
     Row {
