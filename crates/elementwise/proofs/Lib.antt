@@ -15,6 +15,7 @@ pub mod AppliedLaws
 pub mod HeldLaws
 pub mod ComparedLaws
 pub mod IntegerLaws
+pub mod BytesComparedLaws
 pub mod BitLaws
 pub mod WordLaws
 mod Vectors

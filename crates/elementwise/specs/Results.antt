@@ -57,6 +57,13 @@ integer_compared_result left shape = do
   _ ← check (not (is_text from)) NotForThisKind
   Ok (ScalarDescr BoolScalar, shape)
 
+-- and byte strings alone with bytes
+unfoldable pub bytes_compared_result : Descr → List ℕ → Result (Descr × List ℕ) Refusal
+bytes_compared_result left shape = do
+  from ← scalar_of left
+  _ ← check (is_text from) NotForThisKind
+  Ok (ScalarDescr BoolScalar, shape)
+
 -- ---- its items
 
 -- the value in an item of a scalar

@@ -3,3 +3,4 @@ pub mod Passes
 pub mod LeafCasts
 pub mod PairPasses
 pub mod PairLaws
+pub mod ByteStrings

@@ -14,7 +14,7 @@ use script_lang::Comparison;
 use shape_strides::Run;
 
 /// A byte string without the NULs at its end.
-fn without_nuls(item: &[u8]) -> &[u8]
+pub(crate) fn without_nuls(item: &[u8]) -> &[u8]
     ensures { result.now ≡ without_nuls item.now }
 {
     let nuls = item.iter().rev().take_while(|b| **b == 0).count();
@@ -22,7 +22,7 @@ fn without_nuls(item: &[u8]) -> &[u8]
 }
 
 /// What a comparison says of two byte strings.
-fn are_compared(comparison: Comparison, left: &[u8], right: &[u8]) -> bool
+pub(crate) fn are_compared(comparison: Comparison, left: &[u8], right: &[u8]) -> bool
     ensures { result ≡ compared comparison (text left.now) (text right.now) }
 {
     let order = left.cmp(right);

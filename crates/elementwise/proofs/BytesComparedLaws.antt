@@ -1,0 +1,87 @@
+-- Byte strings that are compared with one.
+use Rattle.std.proofs.Common.{◌≡◌, ◌*◌, ◌+◌, ◌≤◌, ◌<◌, ℕ, zero, suc, Bool, true, false, cond, Result, Ok, Err, List, [], ◌∷◌, ◌++◌, map, length, get_or, take, drop, IfOk, refl, sym, ap, ◌∙◌, arith, append_assoc}
+use Rattle.std.specs.List.{range_with_len}
+use Rattle.std.proofs.lemmas.Bool.{false≢true}
+use Rattle.std.proofs.lemmas.List.{length-map, get_or-map, take-take}
+use Rattle.std.proofs.lemmas.List.FromFn.{fill_by_all}
+use Rattle.std.proofs.lemmas.Simd.{map-map}
+use Rattle.elem_descr.specs.declared.refusal.Refusal.{Refusal}
+use Rattle.elem_descr.specs.declared.refusal.Refusal.TheVariants.{NotForThisKind}
+use Rattle.elem_descr.specs.declared.descr.Descr.{Descr}
+use Rattle.elem_descr.specs.declared.descr.Descr.TheVariants.{Scalar as ScalarDescr}
+use Rattle.elem_descr.specs.declared.scalar.Scalar.{Scalar}
+use Rattle.elem_descr.specs.declared.scalar.Scalar.TheVariants.{Bool as BoolScalar, Byte, Int, Bytes}
+use Rattle.elem_descr.specs.Values.{LeafValue, text}
+use Rattle.elem_descr.specs.Encoding.{size, decode, without_nuls}
+use Rattle.elem_descr.specs.Blocks.{item_from}
+use Rattle.shape_strides.specs.declared.layout.Layout.{Layout}
+use Rattle.shape_strides.specs.Indexes.{count}
+use Rattle.shape_strides.specs.Layouts.{offsets, multiples}
+use Rattle.shape_strides.specs.LayoutLaws.{length-offsets}
+use Rattle.overlap_copy.specs.declared.owned.Owned.{Owned}
+use Rattle.script_lang.specs.declared.operation.Comparison.{Comparison}
+use Rattle.elementwise.specs.Promotion.{is_text}
+use Rattle.elementwise.specs.Comparisons.{compared}
+use Rattle.elementwise.specs.Results.{scalar_of, bytes_compared_result, compared_item, truth_item, value_in}
+use Rattle.elementwise.specs.inside.ByteStrings.{says_byte}
+
+-- the byte string in an item
+pub text_of : (s : Scalar) (block : List ℕ) (offset : ℕ) → is_text s ≡ true → text (without_nuls (take (size s) (drop offset block))) ≡ value_in (item_from (ScalarDescr s) block offset)
+text_of BoolScalar block offset is = absurd (false≢true is)
+text_of (Byte signed) block offset is = absurd (false≢true is)
+text_of (Int signed width order) block offset is = absurd (false≢true is)
+text_of (Bytes n) block offset is = ap (λ bytes. text (without_nuls bytes)) (sym (take-take (size (Bytes n)) (size (Bytes n)) (drop offset block) (omega arith)))
+
+-- one more item
+pub byte_next : (f : ℕ → ℕ) (done new left left' whole : List ℕ) (offset byte : ℕ) → left ≡ offset ∷ left' → byte ≡ f offset → new ≡ done ++ byte ∷ [] → done ++ map f left ≡ whole → new ++ map f left' ≡ whole
+byte_next f done new left left' whole offset byte steps is pushed so_far =
+    ap (λ l. l ++ map f left') (pushed ∙ ap (λ b. done ++ b ∷ []) is)
+    ∙ append_assoc done (f offset ∷ []) (map f left')
+    ∙ ap (λ l. done ++ map f l) (sym steps)
+    ∙ so_far
+
+-- bools, read from bytes
+bool_at : (f : ℕ → Bool) (os : List ℕ) (k : ℕ) → k < length os → item_from (ScalarDescr BoolScalar) (map (λ o. cond (f o) 1 0) os) k ≡ truth_item (f (get_or os k 0))
+bool_at f [] k low = absurd (omega (arith, low))
+bool_at f (o ∷ os) zero low = elim (f o) as (λ t. (decode BoolScalar (take 1 (take 1 (cond t 1 0 ∷ map (λ o. cond (f o) 1 0) os))) ∷ []) ≡ truth_item t) [ true ↦ refl | false ↦ refl ]
+bool_at f (o ∷ os) (suc k) low = bool_at f os k (omega (arith, low))
+
+bools_read : (f : ℕ → Bool) (os : List ℕ) (n : ℕ) → length os ≡ n → map (item_from (ScalarDescr BoolScalar) (map (λ o. cond (f o) 1 0) os)) (multiples 1 n) ≡ map (λ o. truth_item (f o)) os
+bools_read f os n many =
+    let bytes = map (λ o. cond (f o) 1 0) os in
+    let wanted = map (λ o. truth_item (f o)) os in
+    map-map (item_from (ScalarDescr BoolScalar) bytes) (λ (k : ℕ). 1 * k) (range_with_len 0 n)
+    ∙ sym (fill_by_all (λ k. item_from (ScalarDescr BoolScalar) bytes (1 * k)) wanted n [] (length-map os (λ o. truth_item (f o)) ∙ many) (λ k low.
+    let below : k < length os = omega (arith, low, many) in
+    let at : k ≡ 1 * k = omega arith in
+    get_or-map (λ o. truth_item (f o)) os k 0 [] below ∙ sym (bool_at f os k below) ∙ λ i. item_from (ScalarDescr BoolScalar) bytes (at i)))
+
+pub said_length : (comparison : Comparison) (d : Descr) (block other : List ℕ) (l : Layout) (b : List ℕ) → b ≡ map (says_byte comparison d block other) (offsets l) → length b ≡ count l.shape
+said_length comparison d block other l b is = ap length is ∙ length-map (offsets l) (says_byte comparison d block other) ∙ length-offsets l
+
+pub said_items : (comparison : Comparison) (d : Descr) (block other os : List ℕ) (n : ℕ) (o : Owned) (b : List ℕ) → o.descr ≡ ScalarDescr BoolScalar → offsets o.layout ≡ multiples 1 n → o.block ≡ b → b ≡ map (says_byte comparison d block other) os → length os ≡ n →
+    map (item_from o.descr o.block) (offsets o.layout) ≡ map (λ offset. compared_item comparison (item_from d block offset) (text other ∷ [])) os
+said_items comparison d block other os n o b descr order held is many =
+    (λ i. map (item_from (descr i) ((held ∙ is) i)) (order i))
+    ∙ bools_read (λ offset. compared comparison (value_in (item_from d block offset)) (text other)) os n many
+
+-- the byte string, as the code passes it on
+pub moved_text : (comparison : Comparison) (d : Descr) (result : Result Owned Refusal) (block : List ℕ) (os a b : List ℕ) → a ≡ b →
+    IfOk result (λ o. map (item_from o.descr o.block) (offsets o.layout) ≡ map (λ offset. compared_item comparison (item_from d block offset) (text a ∷ [])) os) →
+    IfOk result (λ o. map (item_from o.descr o.block) (offsets o.layout) ≡ map (λ offset. compared_item comparison (item_from d block offset) (text b ∷ [])) os)
+moved_text comparison d (Ok o) block os a b same items = items ∙ λ i. map (λ offset. compared_item comparison (item_from d block offset) (text (same i) ∷ [])) os
+moved_text comparison d (Err e) block os a b same items = tt
+
+-- byte strings alone are compared
+module _ (d : Descr) (shape : List ℕ) where
+  pub operand_refused : (e : Refusal) → scalar_of d ≡ Err e → bytes_compared_result d shape ≡ Err e
+  unfolding bytes_compared_result
+  operand_refused e is = rw is refl
+
+  pub number_refused : (a : Scalar) → scalar_of d ≡ Ok a → is_text a ≡ false → bytes_compared_result d shape ≡ Err NotForThisKind
+  unfolding bytes_compared_result
+  number_refused a is kind = rw (is, kind) refl
+
+  pub one_given : (a : Scalar) → scalar_of d ≡ Ok a → is_text a ≡ true → bytes_compared_result d shape ≡ Ok (ScalarDescr BoolScalar, shape)
+  unfolding bytes_compared_result
+  one_given a is kind = rw (is, kind) refl
