@@ -10,7 +10,7 @@ struct ShortRun {
     replies: &'static [&'static [u8]],
 }
 
-const SHORT_RUNS: [ShortRun; 10] = [
+const SHORT_RUNS: [ShortRun; 11] = [
     ShortRun {
         script: FIRST_RUN,
         replies: &[
@@ -48,6 +48,17 @@ const SHORT_RUNS: [ShortRun; 10] = [
             b"ok n >i2 (3,) new\nno E40 out of memory\n[ 3  0 -3]\nformat >h\n",
             b"ok n >i2 (3,) new\nok set 1\nno E40 out of memory\nformat >h\n",
             b"ok n >i2 (3,) new\nok set 1\n[3 0 8]\nno E40 out of memory\n",
+        ],
+    },
+    ShortRun {
+        script: b"a = array <i4 (3) 1 2 3\nb = add a 1\nupd a[1:] add a[:-1]\nprint a\ns = sum b\n",
+        replies: &[
+            b"ok a <i4 (3,) new\nok b <i4 (3,) new\nok upd 2\n[1 3 5]\nok s <i8 () new\n",
+            b"no E40 out of memory\nno E06 unknown name\nno E06 unknown name\nno E06 unknown name\nno E06 unknown name\n",
+            b"ok a <i4 (3,) new\nno E40 out of memory\nok upd 2\n[1 3 5]\nno E06 unknown name\n",
+            b"ok a <i4 (3,) new\nok b <i4 (3,) new\nno E40 out of memory\n[1 2 3]\nok s <i8 () new\n",
+            b"ok a <i4 (3,) new\nok b <i4 (3,) new\nok upd 2\nno E40 out of memory\nok s <i8 () new\n",
+            b"ok a <i4 (3,) new\nok b <i4 (3,) new\nok upd 2\n[1 3 5]\nno E40 out of memory\n",
         ],
     },
     // Names and contents are as before where binding lacks memory.
