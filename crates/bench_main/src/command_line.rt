@@ -21,10 +21,15 @@ const COMMANDS: &str = "Commands, one a line:
   X = broadcast Y S     to the same items, repeated in a larger shape and read-only
   X = copy Y C, or F    to a copy of the items, in C order or in Fortran order
   X = cast Y D          to the items as items of type D
+  X = add Y Z           to what an operation gives: add sub mul fdiv mod and or xor shl shr
+  X = lt Y Z            to bools: eq ne lt le gt ge. Y is an array or Y[ix], Z that or a literal
+  X = neg Y, not Y      to the negatives, or the complements
+  X = sum Y [axis]      to a reduction: sum prod min max any all argmin argmax; keep behind it
   X = load \"f\"          to the array in the NPY file f
   save X \"f\"            writes the array to the NPY file f
   set X[ix] = L         writes a literal to the items that ix names, as set a[1,-1] = 7
   set X[ix] = Y[iy]     writes items of Y, as they were before
+  upd X[ix] add Z       changes items by an operation, as upd a[1:] add a[:-1]
   del X                 unbinds X
   names                 lists the names in the order in which they were first bound
   print X, format X     shows the array, or the format text of its type
