@@ -188,8 +188,8 @@ module _ (es : List (Key × Entry)) (slots before : Slots) (h : Holds es slots) 
 
   -- the state, if the buffers were so before the slots that no name uses were freed
   pub bound-state : (m : FinMap nat_cmp Buffer) → ((q : ℕ) → get m q ≡ option_map buffer_in (slot_at before q)) → (after : Slots) → Swept (map named_array (insert_entry eq es k v)) before after →
-      state_of (insert_entry eq es k v) after ≡ record { names = names; buffers = retain_keys m (is_in_use names); kept = [] }
-  bound-state m there after swept = λ i. record { names = bound-entries i; buffers = buffers i; kept = [] }
+      state_of (insert_entry eq es k v) after ≡ record { names = names; buffers = retain_keys m (is_in_use names); depth = 0; kept = []; patches = [] }
+  bound-state m there after swept = λ i. record { names = bound-entries i; buffers = buffers i; depth = 0; kept = []; patches = [] }
     where
       buffers : (state_of (insert_entry eq es k v) after).buffers ≡ retain_keys m (is_in_use names)
       buffers =
@@ -239,7 +239,7 @@ module _ (es : List (Key × Entry)) (slots : Slots) (h : Holds es slots) (test :
       number a found = let same : Some a ≡ Some (array_at old) = sym found ∙ find-lookup test name is es ∙ ap (option_map array_at) was in let alike : a ≡ array_at old = cc in ap (λ (o : Array). o.buffer) alike
 
   pub unbound-state : (after : Slots) → Swept (map named_array (shift_remove_entry test es)) slots after → state_of (shift_remove_entry test es) after ≡ unbound (state_of es slots) name
-  unbound-state after swept = λ i. record { names = rest i; buffers = buffers i; kept = [] }
+  unbound-state after swept = λ i. record { names = rest i; buffers = buffers i; depth = 0; kept = []; patches = [] }
     where
       buffers : (state_of (shift_remove_entry test es) after).buffers ≡ retain_keys (state_of es slots).buffers (is_in_use (without (map named_array es) name))
       buffers =

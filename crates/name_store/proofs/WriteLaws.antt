@@ -163,7 +163,7 @@ module _ (es : List (Key × Entry)) (slots : Slots) (name : List ℕ) (number wi
 
     -- the bytes are those that were there
     pub kept-state : bytes ≡ s.block → state_of es after ≡ state
-    kept-state is = λ i. record { names = map named_array es; buffers = buffers i; kept = [] }
+    kept-state is = λ i. record { names = map named_array es; buffers = buffers i; depth = 0; kept = []; patches = [] }
       where
         unchanged : buffer_in s' ≡ buffer_in s
         unchanged = λ i. record { descr = new.rewritten.descr i; items = items_in (new.rewritten.descr i) (new.rewritten.items i) ((new.rewritten.block ∙ is) i) }
@@ -198,7 +198,7 @@ module _ (es : List (Key × Entry)) (slots : Slots) (name : List ℕ) (number wi
       number-is = home.number_is ∙ ap (λ (a : Array). a.buffer) (sym (same array leads.found))
 
       pub written-state : state_of es after ≡ written state array places (map (decode_item (descr_of state array)) parts)
-      written-state = λ i. record { names = map named_array es; buffers = buffers i; kept = [] }
+      written-state = λ i. record { names = map named_array es; buffers = buffers i; depth = 0; kept = []; patches = [] }
         where
           with_one : (t : Bool) (o : Option Slot) → option_map buffer_in (cond t (Some s') o) ≡ cond t (Some (buffer_in s')) (option_map buffer_in o)
           with_one true o = refl

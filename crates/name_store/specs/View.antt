@@ -34,4 +34,4 @@ numbered number (None ∷ slots) = numbered (suc number) slots
 numbered number (Some slot ∷ slots) = (number, buffer_in slot) ∷ numbered (suc number) slots
 
 abbrev pub state_of : List (Key × Entry) → List (Option Slot) → State
-state_of names slots = record { names = map named_array names; buffers = from_entries (numbered 0 slots); kept = [] }
+state_of names slots = record { names = map named_array names; buffers = from_entries (numbered 0 slots); depth = 0; kept = []; patches = [] }

@@ -53,10 +53,10 @@ impl Bench {
     ghost use Rattle.name_store.specs.Targets.{IsAim};
     ghost use Rattle.name_store.specs.Views.{MayBind};
 
-    /// A bench on which no name is bound, and that keeps no earlier state.
+    /// A bench on which no name is bound, and that keeps so many earlier states.
     pub fn try_new(alloc: Global, depth: usize) -> Result<Bench, AllocError>
         requires { depth ≡ 0 }
-        ensures { IfOk result (λ bench. bench ≡ start) }
+        ensures { IfOk result (λ bench. bench ≡ start depth) }
     {
         Ok(Bench {
             alloc,

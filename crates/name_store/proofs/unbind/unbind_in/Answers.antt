@@ -1,4 +1,4 @@
-use Rattle.std.proofs.Common.{ap, sym, ◌∙◌, refl, arith, is_some, List}
+use Rattle.std.proofs.Common.{ap, sym, ◌∙◌, refl, arith, is_some, List, inl}
 use Rattle.name_store.specs.View.{state_of}
 use Rattle.name_store.specs.declared.entry.Entry.{Entry}
 use Rattle.name_store.specs.declared.entry.Key.{Key}
@@ -8,9 +8,8 @@ use Rattle.name_store.proofs.unbind.unbind_in.Goals as goal
 
 pub returns-in_default-clause-answers : goal.returns-in_default-clause-answers
 returns-in_default-clause-answers c = (
-  ap is_some (none-found _ _ c.requires.holds _ c.args.key.now.bytes.items (λ _. refl) (sym c.shift_remove.ensures.value ∙ c.in_default.is)),
-  refl,
   ap (λ (ns : List (Key × Entry)). state_of ns c.args.slots.now.items) c.in_default.ensures.unchanged,
+  inl (ap is_some (none-found _ _ c.requires.holds _ c.args.key.now.bytes.items (λ _. refl) (sym c.shift_remove.ensures.value ∙ c.in_default.is)), refl),
 )
 
 pub release-requires : goal.release-requires

@@ -121,5 +121,5 @@ returns-in_err-assign_at-clause-no_memory c = λ free.
     let other = subst (λ n. IsHome c.args.names.now.entries c.args.slots.now.items n c.home_of-other.result.number c.home_of-other.result.width) c.of.ensures
     (subst (λ (slots : Slots). IsHome c.args.names.now.entries slots c.of.result.bytes.items c.home_of-other.result.number c.home_of-other.result.width) c.as_slice-2.ensures.value c.home_of-other.ensures) in
     let same = sym home.number_is ∙ sym c.if-other-home.false ∙ other.number_is in
-    let move = free (array_at home.entry) (array_at other.entry) home.found other.found same in
+    let move = free.1 (array_at home.entry) (array_at other.entry) home.found other.found same in
     absurd (false≢true (c.in_err-assign_at.ensures.in_place (subst (MoveInPlace c.args.layout.now c.args.from.now) (size-is c.args.names.now.entries c.args.slots.now.items _ c.home_of-home.result.number c.home_of-home.result.width home (array_at home.entry) home.found) move)))

@@ -56,7 +56,7 @@ returns-in_err-packed-clause-answers c =
 pub returns-in_err-packed-clause-no_memory : goal.returns-in_err-packed-clause-no_memory
 returns-in_err-packed-clause-no_memory c = λ contiguous.
     let home = subst (λ (slots : Slots). IsHome c.args.names.now.entries slots c.args.key.now.bytes.items c.home_of-home.result.number c.home_of-home.result.width) c.as_slice.ensures.value c.home_of-home.ensures in
-    absurd (false≢true (c.if-is_c.ensures ∙ ap (λ n. is_c_contiguous n (offsets c.args.owned.now.layout)) (sym (block-size c.args.names.now.entries c.args.slots.now.items _ c.home_of-home.result.number c.home_of-home.result.width home c.args.plan.now c.args.owned c.requires.aim)) ∙ contiguous))
+    absurd (false≢true (c.if-is_c.ensures ∙ ap (λ n. is_c_contiguous n (offsets c.args.owned.now.layout)) (sym (block-size c.args.names.now.entries c.args.slots.now.items _ c.home_of-home.result.number c.home_of-home.result.width home c.args.plan.now c.args.owned c.requires.aim)) ∙ contiguous.1))
 
 pub scatter_at-requires-2-clause-within : goal.scatter_at-requires-2-clause-within
 scatter_at-requires-2-clause-within c =
