@@ -1,5 +1,5 @@
 -- A name is bound, and what it was bound to is kept.
-use Rattle.std.proofs.Common.{◌≡◌, ◌+◌, ◌<◌, ◌≤◌, ℕ, Bool, true, false, List, [], ◌∷◌, ◌++◌, length, map, min, refl, sym, ap, subst, ◌∙◌, cond, ◌||◌, Option, Some, None, is_some, IfSome, nat_eq, arith, ◌⊎◌, inl, inr}
+use Rattle.std.proofs.Common.{◌≡◌, ◌+◌, ◌<◌, ◌≤◌, ℕ, Bool, true, false, List, [], ◌∷◌, ◌++◌, length, map, min, refl, sym, ap, subst, ◌∙◌, cond, Option, Some, None, is_some, IfSome, nat_eq, arith, ◌⊎◌, inl, inr}
 use Rattle.std.specs.List.{AllByRecursion, list_any}
 use Rattle.std.specs.Map.{lookup}
 use Rattle.std.specs.Option.{option_map}
@@ -13,8 +13,8 @@ use Rattle.indexmap.specs.IndexMap.{insert_entry}
 use Rattle.shape_strides.specs.declared.layout.Layout.{Layout}
 use Rattle.shape_strides.specs.Indexes.{count}
 use Rattle.overlap_copy.specs.declared.owned.Owned.{Owned}
-use Rattle.name_store.specs.Arrays.{find_array, put_array, without, is_in_use, has_room_for, bound_to, bound_view, keeping}
-use Rattle.name_store.specs.Calls.{Binds, IsUnused, IsLeastUnused, own_array, own_buffer}
+use Rattle.name_store.specs.Arrays.{put_array, without, is_in_use, has_room_for, keeping}
+use Rattle.name_store.specs.Calls.{Binds, IsUnused, own_array, own_buffer}
 use Rattle.name_store.specs.Invariants.{Holds, IsSound, LiesAt, LiesIn, IsUndoable, needs, is_needed}
 use Rattle.name_store.specs.Kept.{Names, names_before, past_buffers, past_buffer, kept_states}
 use Rattle.name_store.specs.States.{Array, Buffer, State}
@@ -30,9 +30,9 @@ use Rattle.name_store.specs.declared.slot.Slot.{Slot}
 use Rattle.name_store.specs.inside.Rebinds.{Rebinds, IsOf}
 use Rattle.name_store.proofs.FreshLaws.{fresh-lies, fresh-array_at, fresh-buffer}
 use Rattle.name_store.proofs.KeepLaws.{keep-occupied, keep-sound, keep-state}
-use Rattle.name_store.proofs.NameLaws.{TestsName, find-lookup, put-insert, all-both, all-insert, all-lookup, used-put, used-back-put, kept-put, without-put, put-put, in_front, in_tail, either}
-use Rattle.name_store.proofs.PastLaws.{Restored, content, content_before, needed-last, needed-others, kept-none, kept-some}
-use Rattle.name_store.proofs.SlotLaws.{itself, tests_agree, get-past, get-buffers, slot_at-within}
+use Rattle.name_store.proofs.NameLaws.{TestsName, find-lookup, put-insert, all-both, all-insert, all-lookup, used-put, used-back-put, kept-put, without-put, put-put, in_front, either}
+use Rattle.name_store.proofs.PastLaws.{Restored, content, needed-last, needed-others, kept-none, kept-some}
+use Rattle.name_store.proofs.SlotLaws.{itself, tests_agree, get-past, get-buffers}
 use Rattle.name_store.proofs.StateLaws.{Slots, Swept, few-bound}
 use Rattle.name_store.proofs.UnbindLaws.{same-content, fewer-buffers}
 use Rattle.name_store.proofs.ViewLaws.{view-used, view-array, view-lies}

@@ -1,15 +1,14 @@
 -- A change is kept.
-use Rattle.std.proofs.Common.{◌≡◌, ◌+◌, ◌-◌, ◌<◌, ◌≤◌, ℕ, zero, suc, Bool, true, false, List, [], ◌∷◌, ◌++◌, length, take, drop, map, min, refl, sym, ap, subst, ◌∙◌, cond, ◌||◌, Option, Some, None, is_some, nat_eq, nat_lt, slice_get, arith, ◌⊎◌, inl, inr, length-drop, length-append}
+use Rattle.std.proofs.Common.{◌≡◌, ◌+◌, ◌-◌, ◌≤◌, ℕ, Bool, true, false, List, [], ◌∷◌, ◌++◌, length, drop, map, min, refl, sym, ap, subst, ◌∙◌, cond, Option, Some, None, is_some, nat_eq, nat_lt, slice_get, arith, inl, inr, length-drop, length-append}
 use Rattle.std.specs.List.{AllByRecursion, list_any}
 use Rattle.std.specs.Option.{option_map}
 use Rattle.std.proofs.lemmas.Bool.{eqb-true, ltb-true, ltb-false}
 use Rattle.std.proofs.lemmas.List.{length-map, map-append, drop-map}
 use Rattle.circular_buffer.specs.Buffer.{Buffer as Ring, buffer, keep_last}
-use Rattle.name_store.specs.States.{State}
 use Rattle.name_store.specs.Arrays.{is_in_use, keeping}
-use Rattle.name_store.specs.Invariants.{Holds, IsSound, LiesAt, LiesIn, GoBackAt, IsUndoable, AreUndoable, needs, is_needed}
+use Rattle.name_store.specs.Invariants.{Holds, IsSound, LiesAt, GoBackAt, IsUndoable, AreUndoable, needs, is_needed}
 use Rattle.name_store.specs.Kept.{Names, names_before, past_buffers, past_buffer, kept_states, patch_size}
-use Rattle.name_store.specs.View.{array_at, named_array, slot_at, state_of}
+use Rattle.name_store.specs.View.{named_array, slot_at, state_of}
 use Rattle.name_store.specs.declared.change.Change.{Change}
 use Rattle.name_store.specs.declared.change.Change.TheVariants.{Bind, Unbind, Write}
 use Rattle.name_store.specs.declared.entry.Entry.{Entry}
@@ -18,7 +17,7 @@ use Rattle.name_store.specs.declared.slot.Slot.{Slot}
 use Rattle.name_store.specs.declared.target.Target.{Target}
 use Rattle.overlap_copy.specs.declared.owned.Owned.{Owned}
 use Rattle.name_store.proofs.NameLaws.{all-both, all-in_use, in_front, in_tail, either}
-use Rattle.name_store.proofs.PastLaws.{Restored, restored-shape, SameShape, shape, needed-parts, needed-drop, needed-more, same-buffers, kept-push, kept-free, kept-drop, kept-length, undoable-push, undoable-drop, undoable-still}
+use Rattle.name_store.proofs.PastLaws.{Restored, restored-shape, SameShape, shape, needed-parts, needed-drop, same-buffers, kept-push, kept-free, kept-drop, kept-length, undoable-push, undoable-drop, undoable-still}
 use Rattle.name_store.proofs.StateLaws.{Slots, Swept}
 
 -- What goes when a change is kept is the first, or nothing goes.

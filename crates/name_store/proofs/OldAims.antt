@@ -1,5 +1,5 @@
 -- The old items of a target are there, and are not too many.
-use Rattle.std.proofs.Common.{◌≡◌, ◌+◌, ◌*◌, ◌≤◌, ℕ, List, length, All, ap, sym, ◌∙◌, subst}
+use Rattle.std.proofs.Common.{◌+◌, ◌*◌, ◌≤◌, ℕ, List, length, All, ap, sym, ◌∙◌, subst}
 use Rattle.elem_descr.specs.declared.descr.Descr.{Descr}
 use Rattle.elem_descr.specs.Items.{item_size}
 use Rattle.shape_strides.specs.Limits.{max_bytes}

@@ -1,10 +1,9 @@
 -- The states that are kept, once a change is kept, undone or forgotten.
-use Rattle.std.proofs.Common.{◌≡◌, ◌+◌, ◌-◌, ◌*◌, ◌≤◌, ℕ, zero, suc, Bool, true, false, List, [], ◌∷◌, ◌++◌, length, take, drop, map, refl, sym, ap, subst, ◌∙◌, cond, ◌||◌, Option, Some, None, is_some, nat_eq, All, arith, ◌⊎◌, inl, inr}
+use Rattle.std.proofs.Common.{◌≡◌, ◌+◌, ◌*◌, ◌≤◌, ℕ, zero, suc, Bool, true, false, List, [], ◌∷◌, ◌++◌, length, drop, refl, sym, ap, subst, ◌∙◌, cond, ◌||◌, Option, Some, None, nat_eq, All, ◌⊎◌, inl, inr}
 use Rattle.std.specs.List.{AllByRecursion, list_any}
 use Rattle.std.specs.Option.{option_map}
-use Rattle.std.specs.Ordering.{nat_cmp}
 use Rattle.std.specs.Cmp.{nat_cmp_total, nat_eq_equiv}
-use Rattle.std.specs.FinMap.{FinMap, get, same_map, nat_cmp-IsAntisymmetric}
+use Rattle.std.specs.FinMap.{get, same_map, nat_cmp-IsAntisymmetric}
 use Rattle.std.proofs.lemmas.Bool.{eqb-true}
 use Rattle.std.proofs.lemmas.List.Folds.{list_any-append}
 use Rattle.elem_descr.specs.declared.descr.Descr.{Descr}
@@ -12,8 +11,8 @@ use Rattle.elem_descr.specs.Blocks.{items_in}
 use Rattle.elem_descr.specs.Items.{item_size}
 use Rattle.overlap_copy.specs.declared.owned.Owned.{Owned}
 use Rattle.name_store.specs.States.{Buffer}
-use Rattle.name_store.specs.Arrays.{put_array, without, is_in_use}
-use Rattle.name_store.specs.Invariants.{LiesAt, LiesIn, GoBack, GoBackAt, IsUndoable, AreUndoable, needs, is_needed}
+use Rattle.name_store.specs.Arrays.{put_array, is_in_use}
+use Rattle.name_store.specs.Invariants.{LiesAt, GoBackAt, IsUndoable, AreUndoable, needs, is_needed}
 use Rattle.name_store.specs.Kept.{Names, names_before, bytes_before, past_names, past_bytes, past_buffer, past_buffers, kept_states}
 use Rattle.name_store.specs.Targets.{target_offsets}
 use Rattle.name_store.specs.View.{array_at, slot_at}

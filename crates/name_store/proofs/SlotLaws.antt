@@ -5,7 +5,7 @@ use Rattle.std.specs.Option.{option_map, is_none}
 use Rattle.std.specs.Ordering.{nat_cmp, eq_by_cmp, is_eq}
 use Rattle.std.specs.Cmp.{nat_cmp_total, eq_by_cmp_equiv, nat_eq_equiv}
 use Rattle.std.specs.declared.cmp.Ordering.TheVariants.{Less, Equal, Greater}
-use Rattle.std.specs.FinMap.{get, find, from_entries, retain_keys, get-from_entries, get-retain_keys, nat_cmp-IsAntisymmetric}
+use Rattle.std.specs.FinMap.{get, find, from_entries, get-from_entries, get-retain_keys, nat_cmp-IsAntisymmetric}
 use Rattle.std.proofs.lemmas.Bool.{eqb-true, eqb-false, ne_eqb, ltb-false}
 use Rattle.name_store.specs.Arrays.{is_in_use}
 use Rattle.name_store.specs.Kept.{Names, numbered, past_buffer, past_buffers}

@@ -1,25 +1,25 @@
 -- A name is unbound, and what it was bound to is kept.
-use Rattle.std.proofs.Common.{◌≡◌, ◌+◌, ◌<◌, ◌≤◌, ℕ, zero, suc, Bool, true, false, List, [], ◌∷◌, ◌++◌, length, map, min, position, insert, refl, sym, ap, subst, ◌∙◌, cond, ◌||◌, Option, Some, None, is_some, nat_eq, nat_lt, arith, ◌⊎◌, inl, inr}
+use Rattle.std.proofs.Common.{◌≡◌, ◌+◌, ◌<◌, ◌≤◌, ℕ, zero, suc, Bool, true, false, List, [], ◌∷◌, ◌++◌, length, map, min, position, insert, refl, sym, ap, subst, ◌∙◌, cond, Option, Some, None, is_some, nat_eq, nat_lt, arith, inl, inr}
 use Rattle.std.specs.List.{AllByRecursion, list_any, position_or_len}
 use Rattle.std.specs.Map.{lookup, keys_of}
 use Rattle.std.specs.Option.{option_map}
-use Rattle.std.proofs.lemmas.Bool.{eqb-true, ltb-true}
+use Rattle.std.proofs.lemmas.Bool.{ltb-true}
 use Rattle.std.proofs.lemmas.List.{length-map}
 use Rattle.circular_buffer.specs.Buffer.{Buffer as Ring, buffer, keep_last}
 use Rattle.indexmap.specs.IndexMap.{shift_remove_entry}
 use Rattle.name_store.specs.Arrays.{find_array, is_in_use, without, unbound, is_bound}
-use Rattle.name_store.specs.Invariants.{Holds, IsSound, LiesAt, IsUndoable, AreUndoable, needs, is_needed}
+use Rattle.name_store.specs.Invariants.{Holds, IsSound, LiesAt, IsUndoable, needs, is_needed}
 use Rattle.name_store.specs.Kept.{Names, names_before, past_buffers, past_buffer, bytes_before}
 use Rattle.name_store.specs.States.{Array}
 use Rattle.name_store.specs.View.{array_at, named_array, slot_at, state_of, present}
 use Rattle.name_store.specs.declared.change.Change.{Change}
-use Rattle.name_store.specs.declared.change.Change.TheVariants.{Bind, Unbind, Write}
+use Rattle.name_store.specs.declared.change.Change.TheVariants.{Unbind}
 use Rattle.name_store.specs.declared.entry.Entry.{Entry}
 use Rattle.name_store.specs.declared.entry.Key.{Key}
 use Rattle.name_store.specs.declared.slot.Slot.{Slot}
 use Rattle.std.specs.Cmp.{nat_cmp_total}
-use Rattle.std.specs.FinMap.{get, retain_keys, get-retain_keys, same_map, nat_cmp-IsAntisymmetric}
-use Rattle.name_store.proofs.NameLaws.{TestsName, find-lookup, without-remove, all-lookup, all-remove, insert-removed, kept-without, used-back-without, length-remove, lookup-used, in_front, in_tail, either}
+use Rattle.std.specs.FinMap.{retain_keys, get-retain_keys, same_map, nat_cmp-IsAntisymmetric}
+use Rattle.name_store.proofs.NameLaws.{TestsName, find-lookup, without-remove, all-lookup, all-remove, insert-removed, kept-without, used-back-without, in_front, either}
 use Rattle.name_store.proofs.PastLaws.{Restored, content_before, content, needed-last, needed-others}
 use Rattle.name_store.proofs.SlotLaws.{itself, get-past, get-buffers}
 use Rattle.name_store.proofs.StateLaws.{Slots, Swept}

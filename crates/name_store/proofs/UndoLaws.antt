@@ -1,28 +1,24 @@
 -- A change is undone.
-use Rattle.std.proofs.Common.{◌≡◌, ◌+◌, ◌-◌, ◌<◌, ◌≤◌, ℕ, zero, suc, Bool, true, false, List, [], ◌∷◌, ◌++◌, length, take, drop, map, insert, remove, position, slice_get, refl, sym, ap, subst, ◌∙◌, cond, ◌||◌, Option, Some, None, is_some, nat_eq, nat_lt, arith, ◌⊎◌, inl, inr, length-append}
+use Rattle.std.proofs.Common.{◌≡◌, ◌+◌, ◌-◌, ◌≤◌, ℕ, suc, true, false, List, [], ◌∷◌, ◌++◌, length, take, map, slice_get, refl, sym, ap, subst, ◌∙◌, cond, Some, None, is_some, arith, ◌⊎◌, length-append}
 use Rattle.std.specs.List.{AllByRecursion, list_any}
 use Rattle.std.specs.Option.{option_map, option_map_or}
-use Rattle.std.specs.Map.{lookup, keys_of}
-use Rattle.std.proofs.lemmas.Bool.{eqb-true}
-use Rattle.std.proofs.lemmas.List.{length-map, map-append, take-append-drop}
+use Rattle.std.proofs.lemmas.List.{length-map, map-append}
 use Rattle.std.proofs.Math.Seq.{take-append_seam}
 use Rattle.circular_buffer.specs.Buffer.{Buffer as Ring, buffer, last_item}
 use Rattle.std.specs.FinMap.{FinMap}
 use Rattle.std.specs.Ordering.{nat_cmp}
-use Rattle.name_store.specs.States.{State, Array, Buffer}
-use Rattle.name_store.specs.Arrays.{find_array, put_array, without, is_in_use, has_kept, undone}
-use Rattle.name_store.specs.Invariants.{Holds, IsSound, LiesAt, IsUndoable, AreUndoable, needs, is_needed}
+use Rattle.name_store.specs.States.{Buffer}
+use Rattle.name_store.specs.Arrays.{is_in_use, has_kept, undone}
+use Rattle.name_store.specs.Invariants.{IsSound, LiesAt, IsUndoable, AreUndoable, needs, is_needed}
 use Rattle.name_store.specs.Kept.{Names, names_before, past_buffers, kept_states, patch_size}
-use Rattle.name_store.specs.View.{array_at, named_array, slot_at, state_of}
+use Rattle.name_store.specs.View.{named_array, slot_at, state_of}
 use Rattle.name_store.specs.declared.change.Change.{Change}
-use Rattle.name_store.specs.declared.change.Change.TheVariants.{Bind, Unbind, Write}
 use Rattle.name_store.specs.declared.entry.Entry.{Entry}
 use Rattle.name_store.specs.declared.entry.Key.{Key}
-use Rattle.name_store.specs.declared.slot.Slot.{Slot}
 use Rattle.name_store.specs.inside.Undoes.{Undoes}
 use Rattle.name_store.proofs.KeepLaws.{shape-some}
-use Rattle.name_store.proofs.NameLaws.{all-both, all-in_use, in_front, in_tail, either}
-use Rattle.name_store.proofs.PastLaws.{Restored, restored-shape, SameShape, shape, needed-parts, needed-before, same-buffers, kept-push, kept-free, undoable-pop, undoable-still}
+use Rattle.name_store.proofs.NameLaws.{all-both, all-in_use, in_front}
+use Rattle.name_store.proofs.PastLaws.{Restored, restored-shape, shape, needed-before, same-buffers, kept-push, kept-free, undoable-pop, undoable-still}
 use Rattle.name_store.proofs.StateLaws.{Slots, Swept}
 
 -- the last is the last

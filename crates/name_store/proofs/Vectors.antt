@@ -9,7 +9,7 @@ use Rattle.elem_descr.specs.declared.scalar.Order.TheVariants.{Little, Big}
 use Rattle.elem_descr.specs.Fields.{no_more, scalar_field, record_field}
 use Rattle.elem_descr.specs.Values.{number}
 use Rattle.name_store.specs.States.{Array, State, start}
-use Rattle.name_store.specs.Arrays.{no_buffer, is_in_use, share_cells, bound_to, bound_view, unbound, written, keeping, has_kept, undone, write}
+use Rattle.name_store.specs.Arrays.{no_buffer, is_in_use, share_cells, bound_view, unbound, written, keeping, has_kept, undone, write}
 use Rattle.name_store.specs.Parts.{descr_at, start_at, span_at, part_at, with_part, have_common, share_leaves}
 use Rattle.name_store.specs.Places.{offsets_of}
 

@@ -2,12 +2,11 @@
 use Rattle.std.proofs.Common.{◌≡◌, ◌<◌, ℕ, Bool, List, length, map, refl, sym, ap, subst, ◌∙◌, cond, Option, Some, None, is_some, true, false, unwrap_or, arith}
 use Rattle.std.specs.Option.{option_map}
 use Rattle.elem_descr.specs.Items.{item_size}
-use Rattle.indexmap.specs.IndexMap.{insert_entry}
 use Rattle.shape_strides.specs.declared.layout.Layout.{Layout}
 use Rattle.shape_strides.specs.Layouts.{offsets}
 use Rattle.name_store.specs.States.{Array, Buffer}
 use Rattle.name_store.specs.Arrays.{buffer_of, is_in_use, no_buffer}
-use Rattle.name_store.specs.Invariants.{Holds, LiesAt, LiesIn}
+use Rattle.name_store.specs.Invariants.{LiesIn}
 use Rattle.name_store.specs.Parts.{start_at, IsPathOf}
 use Rattle.name_store.specs.Places.{offsets_of}
 use Rattle.overlap_copy.specs.Blocks.{places_of}
@@ -19,7 +18,6 @@ use Rattle.name_store.specs.declared.slot.Slot.{Slot}
 use Rattle.name_store.proofs.BlockLaws.{length-items_in}
 use Rattle.name_store.specs.ArrayLaws.{places-offsets}
 use Rattle.name_store.proofs.LaidLaws.{laid-same}
-use Rattle.name_store.proofs.NameLaws.{TestsName}
 use Rattle.name_store.proofs.PartLaws.{part-some, part-within}
 use Rattle.name_store.proofs.SlotLaws.{get-buffers, get-used, slot_at-within}
 use Rattle.name_store.proofs.StateLaws.{Slots}

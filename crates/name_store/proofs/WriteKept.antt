@@ -1,8 +1,7 @@
 -- Items are written, and the old ones are kept.
-use Rattle.std.proofs.Common.{◌≡◌, ◌+◌, ◌-◌, ◌*◌, ◌<◌, ◌≤◌, ℕ, zero, suc, Bool, true, false, List, [], ◌∷◌, ◌++◌, length, drop, map, min, refl, sym, ap, subst, ◌∙◌, cond, ◌||◌, Option, Some, None, Result, Ok, Err, is_some, nat_eq, All, Contains, arith, ◌⊎◌, inl, inr, length-append, length-drop}
+use Rattle.std.proofs.Common.{◌≡◌, ◌+◌, ◌*◌, ◌≤◌, ℕ, true, false, List, [], ◌∷◌, ◌++◌, length, map, min, refl, sym, ap, subst, ◌∙◌, cond, Option, Some, None, Result, Ok, Err, is_some, nat_eq, All, arith, ◌⊎◌, inl, inr}
 use Rattle.std.specs.List.{AllByRecursion, list_any}
 use Rattle.std.specs.Option.{option_map}
-use Rattle.std.specs.FinMap.{get}
 use Rattle.std.proofs.lemmas.Bool.{eqb-true}
 use Rattle.std.proofs.lemmas.List.{length-map}
 use Rattle.std.proofs.lemmas.List.Elements.{All-from_recursion, recursion_from_All}
@@ -12,9 +11,7 @@ use Rattle.elem_descr.specs.declared.descr.Descr.{Descr}
 use Rattle.elem_descr.specs.declared.refusal.Refusal.{Refusal}
 use Rattle.elem_descr.specs.Blocks.{items_in}
 use Rattle.elem_descr.specs.Items.{item_size}
-use Rattle.elem_descr.specs.Values.{LeafValue}
 use Rattle.shape_strides.specs.declared.layout.Layout.{Layout}
-use Rattle.shape_strides.specs.Indexes.{count}
 use Rattle.shape_strides.specs.LayoutLaws.{length-offsets}
 use Rattle.shape_strides.specs.Layouts.{offsets, multiples}
 use Rattle.overlap_copy.specs.declared.owned.Owned.{Owned}
@@ -22,11 +19,11 @@ use Rattle.overlap_copy.specs.Assignments.{items_at, with_items, assigned}
 use Rattle.name_store.specs.States.{State, Array, Buffer}
 use Rattle.name_store.specs.Arrays.{is_in_use, keeping, written, find_array, descr_of}
 use Rattle.name_store.specs.Calls.{AnswersWrite}
-use Rattle.name_store.specs.Invariants.{Holds, IsSound, GoBackAt, GoBack, IsUndoable, AreUndoable, needs, is_needed}
-use Rattle.name_store.specs.Kept.{Names, names_before, bytes_before, past_names, past_buffers, past_buffer, past_bytes, kept_states, patch_size}
+use Rattle.name_store.specs.Invariants.{Holds, IsSound, GoBackAt, GoBack, IsUndoable, needs, is_needed}
+use Rattle.name_store.specs.Kept.{Names, past_names, past_buffers, past_buffer, past_bytes, kept_states, patch_size}
 use Rattle.name_store.specs.Memory.{NeedsNoMemory}
 use Rattle.name_store.specs.Parts.{descr_at}
-use Rattle.name_store.specs.Targets.{target_offsets, source_items, items_of, LeadsTo, MayWrite, IsFor, IsAim, ReadsFrom}
+use Rattle.name_store.specs.Targets.{target_offsets, source_items, items_of, LeadsTo, MayWrite, IsFor, IsAim}
 use Rattle.name_store.specs.View.{array_at, named_array, slot_at, present, state_of}
 use Rattle.name_store.specs.declared.change.Change.{Change}
 use Rattle.name_store.specs.declared.change.Change.TheVariants.{Write}
@@ -37,7 +34,7 @@ use Rattle.name_store.specs.declared.target.Source.{Source}
 use Rattle.name_store.specs.declared.target.Source.TheVariants.{One, Block, Name}
 use Rattle.name_store.specs.declared.target.Target.{Target}
 use Rattle.name_store.specs.declared.target.Target.TheVariants.{View, Plan}
-use Rattle.name_store.specs.inside.Homes.{IsHome, IsLent, HasNew}
+use Rattle.name_store.specs.inside.Homes.{IsHome, IsLent}
 use Rattle.name_store.specs.inside.OldItems.{AreOld, AreSame, Wrote}
 use Rattle.name_store.proofs.KeepLaws.{keep-occupied, keep-sound, keep-state, shape-some}
 use Rattle.name_store.proofs.NameLaws.{found-used, in_front, either}

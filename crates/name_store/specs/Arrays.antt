@@ -1,5 +1,5 @@
 -- Names, arrays and buffers of a state: looked up, bound, removed, read and written.
-use Rattle.std.specs.Prelude.{ℕ, ◌-◌, ◌*◌, Bool, true, false, List, [], ◌∷◌, ◌++◌, length, take, map, Option, Some, None, slice_get, slice_set, is_some, nat_eq, nat_lt, if◌then◌else◌, unwrap_or, ◌||◌, ◌&&◌}
+use Rattle.std.specs.Prelude.{ℕ, ◌-◌, ◌*◌, Bool, true, List, [], ◌∷◌, ◌++◌, length, take, map, Option, Some, None, slice_get, slice_set, is_some, nat_eq, nat_lt, if◌then◌else◌, unwrap_or, ◌||◌, ◌&&◌}
 use Rattle.std.specs.List.{list_any}
 use Rattle.std.specs.Option.{option_map_or}
 use Rattle.std.specs.Str.{bytes_eq}

@@ -1,6 +1,6 @@
 -- The states that are kept, read off the present by undoing the changes, the last of them first: names and buffers
 -- each on their own, and of the buffers' bytes each buffer's.
-use Rattle.std.specs.Prelude.{ℕ, List, [], ◌∷◌, insert, Some, None, nat_eq, if◌then◌else◌, Option, zero, suc, length}
+use Rattle.std.specs.Prelude.{ℕ, List, [], ◌∷◌, insert, Some, None, nat_eq, if◌then◌else◌, Option, suc, length}
 use Rattle.std.specs.FinMap.{FinMap, from_entries, retain_keys}
 use Rattle.std.specs.Ordering.{nat_cmp}
 use Rattle.elem_descr.specs.Blocks.{items_in}

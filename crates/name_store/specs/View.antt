@@ -1,6 +1,6 @@
 -- What the fields of a bench stand for.
 pub use Rattle.name_store.specs.Entries.{array_at, key_bytes, named_array, slot_at}
-use Rattle.std.specs.Prelude.{ℕ, List, [], map, Option}
+use Rattle.std.specs.Prelude.{List, [], map, Option}
 use Rattle.circular_buffer.specs.Buffer.{Buffer as Ring}
 use Rattle.elem_descr.specs.Blocks.{items_in}
 use Rattle.name_store.specs.States.{Buffer, State}

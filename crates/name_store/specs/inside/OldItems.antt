@@ -1,5 +1,5 @@
 -- Old items, one after another, and slots whose bytes are new at the offsets of a target alone.
-use Rattle.std.specs.Prelude.{◌≡◌, ◌+◌, ◌*◌, ◌≤◌, ℕ, List, length, All, Option}
+use Rattle.std.specs.Prelude.{◌≡◌, ◌*◌, ◌≤◌, ℕ, List, length, Option}
 use Rattle.std.specs.List.{AllByRecursion}
 use Rattle.std.specs.Option.{option_map}
 use Rattle.elem_descr.specs.declared.descr.Descr.{Descr}

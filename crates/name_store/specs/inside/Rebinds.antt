@@ -1,7 +1,6 @@
 -- What binding a name does to names and slots.
-use Rattle.std.specs.Prelude.{◌≡◌, ◌<◌, ◌≤◌, ◌⊎◌, ℕ, true, List, [], length, map, Option, Some, None, is_some, IfSome}
+use Rattle.std.specs.Prelude.{◌≡◌, ◌<◌, ◌⊎◌, ℕ, true, List, [], map, Option, Some, None, is_some, IfSome}
 use Rattle.std.specs.FinMap.{insert, retain_keys}
-use Rattle.std.specs.List.{AllByRecursion}
 use Rattle.std.specs.Option.{option_map}
 use Rattle.name_store.specs.Arrays.{find_array, put_array, is_in_use}
 use Rattle.name_store.specs.Calls.{own_array, own_buffer}

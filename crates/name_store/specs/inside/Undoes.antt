@@ -1,17 +1,13 @@
 -- What undoing a change does to names and slots.
-use Rattle.std.specs.Prelude.{◌≡◌, ℕ, List, [], ◌∷◌, ◌++◌, map, Option, Some, None}
-use Rattle.std.specs.Option.{option_map}
+use Rattle.std.specs.Prelude.{◌≡◌, ℕ, List, [], ◌∷◌, ◌++◌, map, Option}
 use Rattle.circular_buffer.specs.Buffer.{Buffer as Ring}
-use Rattle.name_store.specs.Arrays.{find_array}
 use Rattle.name_store.specs.Invariants.{IsSound}
-use Rattle.name_store.specs.Kept.{names_before, kept_states, past_buffers}
-use Rattle.name_store.specs.View.{array_at, named_array}
+use Rattle.name_store.specs.Kept.{kept_states, past_buffers}
+use Rattle.name_store.specs.View.{named_array}
 use Rattle.name_store.specs.declared.change.Change.{Change}
-use Rattle.name_store.specs.declared.change.Change.TheVariants.{Bind}
 use Rattle.name_store.specs.declared.entry.Entry.{Entry}
 use Rattle.name_store.specs.declared.entry.Key.{Key}
 use Rattle.name_store.specs.declared.slot.Slot.{Slot}
-use Rattle.std.specs.List.{AllByRecursion}
 
 -- the states that were kept before the change are kept, and the one before it is the present
 pub record Undoes (names : List (Key × Entry)) (slots : List (Option Slot)) (change : Change) (names' : List (Key × Entry)) (slots' : List (Option Slot)) (ring : Ring Change) (spare : ℕ) : Type 0 where

@@ -1,4 +1,4 @@
-use Rattle.std.proofs.Common.{◌≡◌, ap, sym, ◌∙◌, subst, arith, List, ℕ}
+use Rattle.std.proofs.Common.{ap, sym, ◌∙◌, subst, arith, List, ℕ}
 use Rattle.indexmap.specs.IndexMap.{spare}
 use Rattle.name_store.specs.Arrays.{has_room_for}
 use Rattle.name_store.specs.Calls.{Binds}

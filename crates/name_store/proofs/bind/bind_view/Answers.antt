@@ -1,4 +1,4 @@
-use Rattle.std.proofs.Common.{refl, ap, ◌∙◌}
+use Rattle.std.proofs.Common.{refl}
 use Rattle.name_store.specs.declared.bound.Bound.TheVariants.{View}
 use Rattle.name_store.specs.declared.entry.Entry.{Entry}
 use Rattle.name_store.proofs.BindLaws.{view-ready, view-of, rebinds, table}

@@ -1,7 +1,6 @@
-use Rattle.std.proofs.Common.{◌≡◌, ap, ◌∙◌, true, arith, map, Some}
+use Rattle.std.proofs.Common.{◌≡◌, ap, ◌∙◌, true, arith, map}
 use Rattle.name_store.specs.Invariants.{needs}
 use Rattle.name_store.specs.View.{named_array}
-use Rattle.name_store.specs.declared.change.Change.{Change}
 use Rattle.name_store.specs.declared.change.Change.TheVariants.{Bind}
 use Rattle.name_store.proofs.SlotLaws.{itself}
 use Rattle.name_store.proofs.StateLaws.{forget-within}

@@ -1,8 +1,7 @@
-use Rattle.std.proofs.Common.{◌≡◌, ◌*◌, ◌≤◌, length, ap, sym, ◌∙◌, subst, All, ◌+◌, arith}
+use Rattle.std.proofs.Common.{◌*◌, ◌≤◌, length, sym, subst, All, ◌+◌}
 use Rattle.elem_descr.specs.Items.{item_size}
-use Rattle.shape_strides.specs.LayoutLaws.{length-offsets, offsets_within}
+use Rattle.shape_strides.specs.LayoutLaws.{offsets_within}
 use Rattle.shape_strides.specs.Layouts.{offsets}
-use Rattle.name_store.specs.Targets.{target_offsets}
 use Rattle.name_store.proofs.OldLaws.{multiples-long}
 use Rattle.name_store.proofs.old_items.put_back.Goals as goal
 

@@ -1,4 +1,4 @@
-use Rattle.std.proofs.Common.{◌≡◌, ap, sym, ◌∙◌, refl, subst, All, ◌+◌, ◌≤◌, length}
+use Rattle.std.proofs.Common.{◌≡◌, ap, sym, ◌∙◌, refl}
 use Rattle.elem_descr.specs.Items.{item_size}
 use Rattle.shape_strides.specs.Layouts.{offsets}
 use Rattle.overlap_copy.specs.Assignments.{assigned}

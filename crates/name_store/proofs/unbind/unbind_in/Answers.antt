@@ -1,15 +1,13 @@
-use Rattle.std.proofs.Common.{◌≡◌, ap, sym, ◌∙◌, refl, subst, arith, is_some, List, Some, inl, inr, map}
-use Rattle.std.specs.Map.{lookup}
+use Rattle.std.proofs.Common.{ap, sym, ◌∙◌, refl, arith, List, inl, inr}
 use Rattle.std.specs.Option.{option_map}
 use Rattle.std.proofs.lemmas.Bool.{false≢true}
 use Rattle.std.proofs.lemmas.Result.{err_from_is_err_and}
 use Rattle.indexmap.specs.IndexMap.{spare}
-use Rattle.name_store.specs.Arrays.{unbound, is_bound}
+use Rattle.name_store.specs.Arrays.{unbound}
 use Rattle.name_store.specs.View.{state_of}
 use Rattle.name_store.specs.declared.entry.Entry.{Entry}
 use Rattle.name_store.specs.declared.entry.Key.{Key}
-use Rattle.name_store.proofs.NameLaws.{find-lookup}
-use Rattle.name_store.proofs.UnbindLaws.{same-sound, unbind-occupied, unbind-sound, unbind-state, unbind-bound, bound-has, deep, removed-one}
+use Rattle.name_store.proofs.UnbindLaws.{same-sound, unbind-occupied, unbind-sound, unbind-state, bound-has, deep, removed-one}
 use Rattle.name_store.proofs.unbind.unbind_in.Goals as goal
 
 pub returns-then-not-contains_key-clause-answers : goal.returns-then-not-contains_key-clause-answers

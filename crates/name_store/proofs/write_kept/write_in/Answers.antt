@@ -1,14 +1,12 @@
-use Rattle.std.proofs.Common.{◌≡◌, ◌+◌, ◌≤◌, ap, sym, ◌∙◌, refl, subst, arith, List, ℕ, All, length, Ok}
+use Rattle.std.proofs.Common.{ap, sym, ◌∙◌, subst, arith, List, Ok}
 use Rattle.std.proofs.lemmas.Result.{err_from_is_err_and}
-use Rattle.elem_descr.specs.Items.{item_size}
 use Rattle.indexmap.specs.IndexMap.{spare}
 use Rattle.name_store.specs.Calls.{AnswersWrite}
-use Rattle.name_store.specs.Targets.{IsAim, target_offsets}
+use Rattle.name_store.specs.Targets.{IsAim}
 use Rattle.name_store.specs.View.{present, state_of}
 use Rattle.name_store.specs.declared.entry.Entry.{Entry}
 use Rattle.name_store.specs.declared.entry.Key.{Key}
 use Rattle.name_store.specs.inside.Homes.{IsHome, IsLent}
-use Rattle.name_store.specs.inside.OldItems.{IsSmall}
 use Rattle.name_store.proofs.OldAims.{old-inside, old-small}
 use Rattle.name_store.proofs.StateLaws.{Slots}
 use Rattle.name_store.proofs.UnbindLaws.{same-sound}

@@ -1,7 +1,7 @@
-use Rattle.std.proofs.Common.{◌≡◌, ◌∙◌, sym, List, []}
+use Rattle.std.proofs.Common.{◌≡◌, ◌∙◌, sym, []}
 use Rattle.std.specs.Cmp.{nat_cmp_total}
 use Rattle.std.specs.Ordering.{nat_cmp}
-use Rattle.std.specs.FinMap.{get, empty, get-empty, same_map, nat_cmp-IsAntisymmetric}
+use Rattle.std.specs.FinMap.{empty, get-empty, same_map, nat_cmp-IsAntisymmetric}
 use Rattle.name_store.specs.Kept.{past_buffers}
 use Rattle.name_store.specs.States.{start}
 use Rattle.name_store.specs.View.{state_of}
