@@ -1,8 +1,7 @@
 -- Byte strings that are compared with one.
-use Rattle.std.proofs.Common.{◌≡◌, ◌*◌, ◌+◌, ◌≤◌, ◌<◌, ℕ, zero, suc, Bool, true, false, cond, Result, Ok, Err, List, [], ◌∷◌, ◌++◌, map, length, get_or, take, drop, IfOk, refl, sym, ap, ◌∙◌, arith, append_assoc}
+use Rattle.std.proofs.Common.{◌≡◌, ◌*◌, ◌<◌, ℕ, zero, suc, Bool, true, false, cond, Result, Ok, Err, List, [], ◌∷◌, ◌++◌, map, length, get_or, take, IfOk, refl, sym, ap, ◌∙◌, arith, append_assoc}
 use Rattle.std.specs.List.{range_with_len}
-use Rattle.std.proofs.lemmas.Bool.{false≢true}
-use Rattle.std.proofs.lemmas.List.{length-map, get_or-map, take-take}
+use Rattle.std.proofs.lemmas.List.{length-map, get_or-map}
 use Rattle.std.proofs.lemmas.List.FromFn.{fill_by_all}
 use Rattle.std.proofs.lemmas.Simd.{map-map}
 use Rattle.elem_descr.specs.declared.refusal.Refusal.{Refusal}
@@ -10,9 +9,9 @@ use Rattle.elem_descr.specs.declared.refusal.Refusal.TheVariants.{NotForThisKind
 use Rattle.elem_descr.specs.declared.descr.Descr.{Descr}
 use Rattle.elem_descr.specs.declared.descr.Descr.TheVariants.{Scalar as ScalarDescr}
 use Rattle.elem_descr.specs.declared.scalar.Scalar.{Scalar}
-use Rattle.elem_descr.specs.declared.scalar.Scalar.TheVariants.{Bool as BoolScalar, Byte, Int, Bytes}
-use Rattle.elem_descr.specs.Values.{LeafValue, text}
-use Rattle.elem_descr.specs.Encoding.{size, decode, without_nuls}
+use Rattle.elem_descr.specs.declared.scalar.Scalar.TheVariants.{Bool as BoolScalar}
+use Rattle.elem_descr.specs.Values.{text}
+use Rattle.elem_descr.specs.Encoding.{decode}
 use Rattle.elem_descr.specs.Blocks.{item_from}
 use Rattle.shape_strides.specs.declared.layout.Layout.{Layout}
 use Rattle.shape_strides.specs.Indexes.{count}
@@ -24,13 +23,6 @@ use Rattle.elementwise.specs.Promotion.{is_text}
 use Rattle.elementwise.specs.Comparisons.{compared}
 use Rattle.elementwise.specs.Results.{scalar_of, bytes_compared_result, compared_item, truth_item, value_in}
 use Rattle.elementwise.specs.inside.ByteStrings.{says_byte}
-
--- the byte string in an item
-pub text_of : (s : Scalar) (block : List ℕ) (offset : ℕ) → is_text s ≡ true → text (without_nuls (take (size s) (drop offset block))) ≡ value_in (item_from (ScalarDescr s) block offset)
-text_of BoolScalar block offset is = absurd (false≢true is)
-text_of (Byte signed) block offset is = absurd (false≢true is)
-text_of (Int signed width order) block offset is = absurd (false≢true is)
-text_of (Bytes n) block offset is = ap (λ bytes. text (without_nuls bytes)) (sym (take-take (size (Bytes n)) (size (Bytes n)) (drop offset block) (omega arith)))
 
 -- one more item
 pub byte_next : (f : ℕ → ℕ) (done new left left' whole : List ℕ) (offset byte : ℕ) → left ≡ offset ∷ left' → byte ≡ f offset → new ≡ done ++ byte ∷ [] → done ++ map f left ≡ whole → new ++ map f left' ≡ whole
