@@ -7,7 +7,7 @@ use Rattle.shape_strides.specs.Layouts.{offsets, Fits, IsNested}
 use Rattle.name_store.specs.States.{State}
 use Rattle.name_store.specs.Targets.{IsAim}
 use Rattle.name_store.specs.inside.Homes.{IsHome}
-use Rattle.name_store.specs.View.{state_of}
+use Rattle.name_store.specs.View.{present}
 use Rattle.name_store.specs.declared.entry.Entry.{Entry}
 use Rattle.name_store.specs.declared.entry.Key.{Key}
 use Rattle.name_store.specs.declared.slot.Slot.{Slot}
@@ -19,7 +19,7 @@ use Rattle.name_store.proofs.WriteLaws.{size-is, home-fits}
 
 module _ (es : List (Key × Entry)) (slots : Slots) (name : List ℕ) (number width : ℕ) (home : IsHome es slots name number width) (layout : Layout) where
   abbrev state : State
-  state = state_of es slots
+  state = present es slots
 
   abbrev s : Slot
   s = home.slot

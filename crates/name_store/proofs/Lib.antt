@@ -7,9 +7,13 @@ pub mod OnceLaws
 pub mod LaidLaws
 pub mod RunWrites
 pub mod SlotLaws
+pub mod PastLaws
+pub mod RestoreLaws
+pub mod OldLaws
 pub mod StateLaws
+pub mod KeepLaws
+pub mod UnbindLaws
 pub mod FreshLaws
-pub mod BindLaws
 pub mod ShowLaws
 pub mod SourceLaws
 pub mod RewriteLaws
@@ -18,5 +22,9 @@ pub mod AnswerLaws
 pub mod AimLaws
 pub mod PlanAims
 pub mod ViewLaws
+pub mod BindLaws
 pub mod ShareLaws
+pub mod OldAims
+pub mod WriteKept
+pub mod UndoLaws
 mod Vectors

@@ -1,6 +1,8 @@
 -- Names in a table: looked up, put and removed.
-use Rattle.std.proofs.Common.{◌≡◌, ◌≤◌, ℕ, Bool, true, false, List, [], ◌∷◌, length, map, refl, sym, ap, subst, ◌∙◌, cond, ◌||◌, Some, nat_eq, arith, ◌⊎◌, inl, inr}
-use Rattle.std.specs.List.{AllByRecursion}
+use Rattle.std.proofs.Common.{◌≡◌, ◌≤◌, ◌+◌, ℕ, suc, Bool, true, false, List, [], ◌∷◌, length, take, drop, insert, map, refl, sym, ap, subst, ◌∙◌, cond, ◌||◌, not, Some, None, nat_eq, arith, ◌⊎◌, inl, inr}
+use Rattle.std.specs.List.{AllByRecursion, list_any, position_or_len}
+use Rattle.std.proofs.lemmas.List.{take-append-drop}
+use Rattle.std.proofs.lemmas.List.Folds.{list_any-append}
 use Rattle.std.specs.Option.{option_map}
 use Rattle.std.specs.Str.{bytes_eq}
 use Rattle.std.specs.Cmp.{nat_eq_equiv}
@@ -34,7 +36,18 @@ bytes_eq-sym xs ys =
 nat_itself : (n : ℕ) → nat_eq n n ≡ true
 nat_itself n = (nat_eq_equiv).refl n
 
-in_tail : (a b : Bool) → b ≡ true → (a || b) ≡ true
+pub in_front : (a b : Bool) → a ≡ true → (a || b) ≡ true
+in_front a b h = ap (λ t. t || b) h
+
+pub either : (a b : Bool) → (a || b) ≡ true → (a ≡ true) ⊎ (b ≡ true)
+either true b h = inl refl
+either false b h = inr h
+
+pub or_none : (a : Bool) → (a || false) ≡ true → a ≡ true
+or_none true h = refl
+or_none false h = h
+
+pub in_tail : (a b : Bool) → b ≡ true → (a || b) ≡ true
 in_tail true b h = refl
 in_tail false b h = h
 
@@ -162,3 +175,112 @@ length-remove test (e ∷ es) =
 pub texts-names : (es : List (Key × Entry)) → map key_bytes (keys_of es) ≡ map (λ entry. entry.0) (map named_array es)
 texts-names [] = refl
 texts-names (e ∷ es) = ap (λ texts. key_bytes e.0 ∷ texts) (texts-names es)
+
+-- the buffer of an array that is found is in use
+pub found-used : (names : List (List ℕ × Array)) (name : List ℕ) (array : Array) → find_array names name ≡ Some array → is_in_use names array.buffer ≡ true
+found-used [] name array found = let no : ⊥ = cc in absurd no
+found-used (e ∷ names) name array found =
+    elim (bytes_eq e.0 name) as (λ t. cond t (Some e.1) (find_array names name) ≡ Some array → is_in_use (e ∷ names) array.buffer ≡ true) [
+      | true ↦ λ h. let here : e.1 ≡ array = cc in ap (λ t. t || is_in_use names array.buffer) (ap (λ (a : Array). nat_eq a.buffer array.buffer) here ∙ nat_itself array.buffer)
+      | false ↦ λ h. in_tail (nat_eq e.1.buffer array.buffer) (is_in_use names array.buffer) (found-used names name array h)
+    ] found
+
+-- and so is that of each entry
+pub lookup-used : (test : Key → Bool) (es : List (Key × Entry)) (e : Entry) → lookup test es ≡ Some e → is_in_use (map named_array es) e.number ≡ true
+lookup-used test es e was = all-lookup (λ x. is_in_use (map named_array es) x.number ≡ true) test es e (all-in_use es) was
+
+-- what is in use once an array is put or removed was in use before, or is the array's
+pub used-back-put : (names : List (List ℕ × Array)) (name : List ℕ) (array : Array) (q : ℕ) → is_in_use (put_array names name array) q ≡ true → (is_in_use names q ≡ true) ⊎ (nat_eq array.buffer q ≡ true)
+used-back-put [] name array q used = inr (or_none (nat_eq array.buffer q) used)
+used-back-put (e ∷ names) name array q used =
+    elim (bytes_eq e.0 name) as (λ t. is_in_use (cond t ((name, array) ∷ names) (e ∷ put_array names name array)) q ≡ true → (is_in_use (e ∷ names) q ≡ true) ⊎ (nat_eq array.buffer q ≡ true)) [
+      | true ↦ λ h. elim (either (nat_eq array.buffer q) (is_in_use names q) h) [ inl own ↦ inr own | inr later ↦ inl (in_tail (nat_eq e.1.buffer q) (is_in_use names q) later) ]
+      | false ↦ λ h. elim (either (nat_eq e.1.buffer q) (is_in_use (put_array names name array) q) h) [
+        | inl here ↦ inl (in_front (nat_eq e.1.buffer q) (is_in_use names q) here)
+        | inr later ↦ elim (used-back-put names name array q later) [ inl was ↦ inl (in_tail (nat_eq e.1.buffer q) (is_in_use names q) was) | inr own ↦ inr own ]
+      ]
+    ] used
+
+pub used-back-without : (names : List (List ℕ × Array)) (name : List ℕ) (q : ℕ) → is_in_use (without names name) q ≡ true → is_in_use names q ≡ true
+used-back-without [] name q used = used
+used-back-without (e ∷ names) name q used =
+    elim (bytes_eq e.0 name) as (λ t. is_in_use (cond t names (e ∷ without names name)) q ≡ true → is_in_use (e ∷ names) q ≡ true) [
+      | true ↦ λ h. in_tail (nat_eq e.1.buffer q) (is_in_use names q) h
+      | false ↦ λ h. elim (either (nat_eq e.1.buffer q) (is_in_use (without names name) q) h) [
+        | inl here ↦ in_front (nat_eq e.1.buffer q) (is_in_use names q) here
+        | inr later ↦ in_tail (nat_eq e.1.buffer q) (is_in_use names q) (used-back-without names name q later)
+      ]
+    ] used
+
+-- a name that stands between others
+module _ (names : List (List ℕ × Array)) (place : ℕ) (x : List ℕ × Array) (q : ℕ) where
+  abbrev lies_in : List ℕ × Array → Bool
+  lies_in entry = nat_eq entry.1.buffer q
+
+  inserted-is : is_in_use (insert names place x) q ≡ (list_any lies_in (take place names) || (nat_eq x.1.buffer q || list_any lies_in (drop place names)))
+  inserted-is = list_any-append lies_in (take place names) (x ∷ drop place names)
+
+  split-is : is_in_use names q ≡ (list_any lies_in (take place names) || list_any lies_in (drop place names))
+  split-is = ap (list_any lies_in) (sym (take-append-drop place names)) ∙ list_any-append lies_in (take place names) (drop place names)
+
+  pub used-back-insert : is_in_use (insert names place x) q ≡ true → (is_in_use names q ≡ true) ⊎ (nat_eq x.1.buffer q ≡ true)
+  used-back-insert used =
+      elim (either (list_any lies_in (take place names)) (nat_eq x.1.buffer q || list_any lies_in (drop place names)) (sym inserted-is ∙ used)) [
+        | inl front ↦ inl (split-is ∙ in_front (list_any lies_in (take place names)) (list_any lies_in (drop place names)) front)
+        | inr back ↦ elim (either (nat_eq x.1.buffer q) (list_any lies_in (drop place names)) back) [
+          | inl own ↦ inr own
+          | inr later ↦ inl (split-is ∙ in_tail (list_any lies_in (take place names)) (list_any lies_in (drop place names)) later)
+        ]
+      ]
+
+  pub kept-insert : is_in_use names q ≡ true → is_in_use (insert names place x) q ≡ true
+  kept-insert used =
+      inserted-is
+      ∙ elim (either (list_any lies_in (take place names)) (list_any lies_in (drop place names)) (sym split-is ∙ used)) [
+        | inl front ↦ in_front (list_any lies_in (take place names)) (nat_eq x.1.buffer q || list_any lies_in (drop place names)) front
+        | inr back ↦ in_tail (list_any lies_in (take place names)) (nat_eq x.1.buffer q || list_any lies_in (drop place names)) (in_tail (nat_eq x.1.buffer q) (list_any lies_in (drop place names)) back)
+      ]
+
+  pub used-insert : nat_eq x.1.buffer q ≡ true → is_in_use (insert names place x) q ≡ true
+  used-insert own =
+      inserted-is
+      ∙ in_tail (list_any lies_in (take place names)) (nat_eq x.1.buffer q || list_any lies_in (drop place names)) (in_front (nat_eq x.1.buffer q) (list_any lies_in (drop place names)) own)
+
+-- A name is bound and unbound, and unbound and bound.
+
+pub without-put : (names : List (List ℕ × Array)) (name : List ℕ) (array : Array) → find_array names name ≡ None → without (put_array names name array) name ≡ names
+without-put [] name array none = ap (λ t. cond t [] ((name, array) ∷ [])) (itself name name refl)
+without-put (e ∷ names) name array none =
+    elim (bytes_eq e.0 name) as (λ t. bytes_eq e.0 name ≡ t → cond t (Some e.1) (find_array names name) ≡ None → without (cond t ((name, array) ∷ names) (e ∷ put_array names name array)) name ≡ e ∷ names) [
+      | true ↦ λ _ h. let no : ⊥ = cc in absurd no
+      | false ↦ λ is h. ap (λ t. cond t (put_array names name array) (e ∷ without (put_array names name array) name)) is ∙ ap (λ ns. e ∷ ns) (without-put names name array h)
+    ] refl none
+
+pub put-put : (names : List (List ℕ × Array)) (name : List ℕ) (array before : Array) → find_array names name ≡ Some before → put_array (put_array names name array) name before ≡ names
+put-put [] name array before found = let no : ⊥ = cc in absurd no
+put-put (e ∷ names) name array before found =
+    elim (bytes_eq e.0 name) as (λ t. bytes_eq e.0 name ≡ t → cond t (Some e.1) (find_array names name) ≡ Some before → put_array (cond t ((name, array) ∷ names) (e ∷ put_array names name array)) name before ≡ e ∷ names) [
+      | true ↦ λ is h.
+          let here : e.1 ≡ before = cc in
+          ap (λ t. cond t ((name, before) ∷ names) ((name, array) ∷ put_array names name before)) (itself name name refl)
+          ∙ λ i. (sym (same e.0 name is) i, sym here i) ∷ names
+      | false ↦ λ is h. ap (λ t. cond t ((name, before) ∷ put_array names name array) (e ∷ put_array (put_array names name array) name before)) is ∙ ap (λ ns. e ∷ ns) (put-put names name array before h)
+    ] refl found
+
+-- an entry goes back to where it stood
+pub insert-removed : (test : Key → Bool) (name : List ℕ) → TestsName test name → (es : List (Key × Entry)) (e : Entry) (place : ℕ) → lookup test es ≡ Some e → place ≡ position_or_len test (keys_of es) →
+    insert (map named_array (shift_remove_entry test es)) place (name, array_at e) ≡ map named_array es
+insert-removed test name is [] e place was at = let no : ⊥ = cc in absurd no
+insert-removed test name is (x ∷ es) e place was at =
+    elim (test x.0) as (λ t. test x.0 ≡ t → cond t (Some x.1) (lookup test es) ≡ Some e → place ≡ cond (not t) (1 + position_or_len test (keys_of es)) 0 → insert (map named_array (cond t es (x ∷ shift_remove_entry test es))) place (name, array_at e) ≡ named_array x ∷ map named_array es) [
+      | true ↦ λ passes h first.
+          let here : x.1 ≡ e = cc in
+          ap (λ n. insert (map named_array es) n (name, array_at e)) first
+          ∙ λ i. (same name x.0.bytes.items (sym (is x.0) ∙ passes) i, array_at (sym here i)) ∷ map named_array es
+      | false ↦ λ _ h later.
+          let rest : List (List ℕ × Array) = map named_array (shift_remove_entry test es) in
+          let p : ℕ = position_or_len test (keys_of es) in
+          let next : place ≡ suc p = omega (arith, later) in
+          ap (λ n. insert (named_array x ∷ rest) n (name, array_at e)) next
+          ∙ ap (λ ns. named_array x ∷ ns) (insert-removed test name is es e p h refl)
+    ] refl was at

@@ -25,7 +25,7 @@ use Rattle.name_store.specs.Places.{offsets_of}
 use Rattle.name_store.specs.States.{State}
 use Rattle.name_store.specs.Targets.{IsAim}
 use Rattle.name_store.specs.inside.Homes.{IsHome, IsLent, HasNew}
-use Rattle.name_store.specs.View.{state_of}
+use Rattle.name_store.specs.View.{present}
 use Rattle.name_store.specs.declared.entry.Entry.{Entry}
 use Rattle.name_store.specs.declared.entry.Key.{Key}
 use Rattle.name_store.specs.declared.slot.Slot.{Slot}
@@ -68,7 +68,7 @@ parts-within item start width n (place ∷ places) inside all =
 
 module _ (es : List (Key × Entry)) (slots : Slots) (name : List ℕ) (number width : ℕ) (home : IsHome es slots name number width) (plan : Planned) where
   abbrev state : State
-  state = state_of es slots
+  state = present es slots
 
   abbrev s : Slot
   s = home.slot

@@ -19,12 +19,12 @@ use Rattle.name_store.specs.Arrays.{buffer_of, share_cells}
 use Rattle.name_store.specs.Invariants.{Holds, LiesIn}
 use Rattle.name_store.specs.Parts.{IsPathOf, descr_at, start_at, first_at, have_common, share_leaves}
 use Rattle.name_store.specs.Places.{IsElementType, offsets_of}
-use Rattle.name_store.specs.View.{array_at, slot_at, state_of}
+use Rattle.name_store.specs.View.{array_at, slot_at, present}
 use Rattle.name_store.specs.declared.entry.Entry.{Entry}
 use Rattle.name_store.specs.declared.entry.Key.{Key}
 use Rattle.name_store.specs.declared.slot.Slot.{Slot}
 use Rattle.name_store.proofs.FieldSplits.{field-legal, field-before, field_leaves-before}
-use Rattle.name_store.proofs.NameLaws.{TestsName}
+use Rattle.name_store.proofs.NameLaws.{TestsName, lookup-used}
 use Rattle.name_store.proofs.PartLaws.{part-leaves, part-some, part-within, span-within}
 use Rattle.name_store.proofs.ShowLaws.{buffer-found}
 use Rattle.name_store.proofs.SlotLaws.{itself}
@@ -220,9 +220,9 @@ parts-meet descr path other legal is other-is =
     ∙ common-ends (first_at descr path) (length (leaves_of (descr_at descr path))) (first_at descr other) (length (leaves_of (descr_at descr other))) (part-leaves descr legal path is) (part-leaves descr legal other other-is)
 
 -- two arrays in two buffers
-pub shares-apart : (es : List (Key × Entry)) (slots : Slots) (a b : Entry) → (a.number ≡ b.number → ⊥) → false ≡ share_cells (state_of es slots) (array_at a) (array_at b)
+pub shares-apart : (es : List (Key × Entry)) (slots : Slots) (a b : Entry) → (a.number ≡ b.number → ⊥) → false ≡ share_cells (present es slots) (array_at a) (array_at b)
 shares-apart es slots a b ne =
-    sym (ap (λ t. t && share_leaves (buffer_of (state_of es slots) (array_at a)).descr a.path b.path && have_common (places_of a.item (offsets a.layout)) (places_of b.item (offsets b.layout)))
+    sym (ap (λ t. t && share_leaves (buffer_of (present es slots) (array_at a)).descr a.path b.path && have_common (places_of a.item (offsets a.layout)) (places_of b.item (offsets b.layout)))
     (ne_eqb a.number b.number ne))
 
 Fits-longer : (l : Layout) (short long item : ℕ) → short ≤ long → Fits l short item → Fits l long item
@@ -250,7 +250,7 @@ module _ (es : List (Key × Entry)) (slots : Slots) (h : Holds es slots) (test :
 
   -- two arrays in one buffer
   pub shares-one : (test' : Key → Bool) (name' : List ℕ) → TestsName test' name' → (e' : Entry) → lookup test' es ≡ Some e' → e.number ≡ e'.number →
-      have_common_byte (offsets e.layout) width (offsets e'.layout) (item_size (descr_at slot.descr e'.path)) ≡ share_cells (state_of es slots) (array_at e) (array_at e')
+      have_common_byte (offsets e.layout) width (offsets e'.layout) (item_size (descr_at slot.descr e'.path)) ≡ share_cells (present es slots) (array_at e) (array_at e')
   shares-one test' name' is' e' was' same =
       (λ i. have_common_byte (lies.laid.places i) width (lies'.laid.places i) width')
       ∙ common-parts (item_size slot.descr) (start_at slot.descr e.path) width (start_at slot.descr e'.path) width' meet
@@ -258,8 +258,8 @@ module _ (es : List (Key × Entry)) (slots : Slots) (h : Holds es slots) (test :
       (parts-meet slot.descr e.path e'.path slot.is_whole.legal lies.laid.part lies'.laid.part)
       (places_of e.item (offsets e.layout)) (places_of e'.item (offsets e'.layout))
       ∙ beside meet (places_of e.item (offsets e.layout)) (places_of e'.item (offsets e'.layout))
-      ∙ ap (λ (b : Buffer). share_leaves b.descr e.path e'.path && have_common (places_of e.item (offsets e.layout)) (places_of e'.item (offsets e'.layout))) (sym (buffer-found es slots e slot there))
-      ∙ sym (ap (λ t. t && share_leaves (buffer_of (state_of es slots) (array_at e)).descr e.path e'.path && have_common (places_of e.item (offsets e.layout)) (places_of e'.item (offsets e'.layout)))
+      ∙ ap (λ (b : Buffer). share_leaves b.descr e.path e'.path && have_common (places_of e.item (offsets e.layout)) (places_of e'.item (offsets e'.layout))) (sym (buffer-found es slots e slot (lookup-used test es e was) there))
+      ∙ sym (ap (λ t. t && share_leaves (buffer_of (present es slots) (array_at e)).descr e.path e'.path && have_common (places_of e.item (offsets e.layout)) (places_of e'.item (offsets e'.layout)))
       (ap (nat_eq e.number) (sym same) ∙ itself e.number))
     where
       there' : slot_at slots e'.number ≡ Some slot

@@ -1,5 +1,5 @@
 -- What a look-up shows: an entry, and the slot that its array lies in.
-use Rattle.std.proofs.Common.{◌≡◌, ◌≤◌, ◌<◌, ◌+◌, ◌*◌, ℕ, suc, All, arith, List, [], ◌∷◌, length, map, true, refl, sym, ap, subst, ◌∙◌, Option, Some, is_some, unwrap_or}
+use Rattle.std.proofs.Common.{◌≡◌, ◌≤◌, ◌<◌, ◌+◌, ◌*◌, ℕ, suc, All, arith, List, [], ◌∷◌, length, map, true, refl, sym, ap, subst, ◌∙◌, Option, Some, None, is_some, unwrap_or}
 use Rattle.std.specs.FinMap.{get}
 use Rattle.std.specs.List.{AllByRecursion}
 use Rattle.std.specs.Option.{option_map}
@@ -10,13 +10,15 @@ use Rattle.elem_descr.specs.Items.{item_size, fields}
 use Rattle.shape_strides.specs.Layouts.{offsets}
 use Rattle.shape_strides.specs.Limits.{max_bytes}
 use Rattle.name_store.specs.States.{State, Array, Buffer}
-use Rattle.name_store.specs.Arrays.{buffer_of, descr_of, placed_item, no_buffer, read}
+use Rattle.name_store.specs.Arrays.{buffer_of, descr_of, placed_item, no_buffer, read, is_in_use}
 use Rattle.elem_descr.specs.Blocks.{items_in, item_from}
 use Rattle.name_store.specs.Parts.{descr_at, start_at, span_at, part_at}
 use Rattle.name_store.specs.Invariants.{LiesIn}
 use Rattle.name_store.specs.Places.{offsets_of}
 use Rattle.name_store.specs.Shown.{Shows, Finds}
-use Rattle.name_store.specs.View.{array_at, buffer_in, slot_at, state_of}
+use Rattle.circular_buffer.specs.Buffer.{Buffer as Ring}
+use Rattle.name_store.specs.View.{array_at, named_array, buffer_in, slot_at, present, state_of}
+use Rattle.name_store.specs.declared.change.Change.{Change}
 use Rattle.name_store.specs.declared.array_ref.ArrayRef.{ArrayRef}
 use Rattle.name_store.specs.declared.entry.Entry.{Entry}
 use Rattle.name_store.specs.declared.entry.Key.{Key}
@@ -27,11 +29,11 @@ use Rattle.name_store.proofs.OnceLaws.{no_place_twice}
 use Rattle.name_store.proofs.FieldSplits.{type-some}
 use Rattle.name_store.proofs.PartLaws.{part-deeper, part-some, part-within}
 use Rattle.name_store.proofs.PutLaws.{items-read}
-use Rattle.name_store.proofs.SlotLaws.{get-buffers}
+use Rattle.name_store.proofs.SlotLaws.{get-used}
 use Rattle.name_store.proofs.StateLaws.{Slots}
 
-pub buffer-found : (es : List (Key × Entry)) (slots : Slots) (e : Entry) (s : Slot) → slot_at slots e.number ≡ Some s → buffer_of (state_of es slots) (array_at e) ≡ buffer_in s
-buffer-found es slots e s there = ap (λ o. unwrap_or o no_buffer) (get-buffers es slots e.number ∙ ap (option_map buffer_in) there)
+pub buffer-found : (es : List (Key × Entry)) (slots : Slots) (e : Entry) (s : Slot) → is_in_use (map named_array es) e.number ≡ true → slot_at slots e.number ≡ Some s → buffer_of (present es slots) (array_at e) ≡ buffer_in s
+buffer-found es slots e s used there = ap (λ o. unwrap_or o no_buffer) (get-used es slots e.number used ∙ ap (option_map buffer_in) there)
 
 -- the last byte of a part of the items at places
 pub inside-places : (item start width n len : ℕ) (places : List ℕ) → AllByRecursion (λ place. place < n) places → n * item ≡ len → start + width ≤ item → AllByRecursion (λ offset. offset + width ≤ len) (offsets_of item start places)
@@ -40,22 +42,22 @@ inside-places item start width n len (place ∷ places) within whole few =
     let most : item * suc place ≤ item * n = mul-le-mul_left item within.0 in
     (omega (arith, mul-suc item place), inside-places item start width n len places within.1 whole few)
 
-module _ (es : List (Key × Entry)) (slots : Slots) (e : Entry) (s : Slot) (r : ArrayRef) (there : slot_at slots e.number ≡ Some s) (lies : LiesIn s e)
+module _ (es : List (Key × Entry)) (slots : Slots) (e : Entry) (s : Slot) (r : ArrayRef) (used : is_in_use (map named_array es) e.number ≡ true) (there : slot_at slots e.number ≡ Some s) (lies : LiesIn s e)
     (number-is : r.number ≡ e.number) (writable-is : r.writable ≡ e.writable) (layout-is : r.layout.now ≡ e.layout) (path-is : r.path.now ≡ e.path)
     (descr-is : r.descr.now ≡ descr_at s.descr e.path) (block-is : r.block.now ≡ s.block) where
   abbrev array : Array
   array = array_at e
 
   abbrev buffer : Buffer
-  buffer = buffer_of (state_of es slots) array
+  buffer = buffer_of (present es slots) array
 
   found : buffer ≡ buffer_in s
-  found = buffer-found es slots e s there
+  found = buffer-found es slots e s used there
 
   type-is : buffer.descr ≡ s.descr
   type-is = ap (λ (b : Buffer). b.descr) found
 
-  own-is : descr_of (state_of es slots) array ≡ r.descr.now
+  own-is : descr_of (present es slots) array ≡ r.descr.now
   own-is = ap (λ d. descr_at d e.path) type-is ∙ sym descr-is
 
   counted : length buffer.items ≡ s.items
@@ -70,7 +72,7 @@ module _ (es : List (Key × Entry)) (slots : Slots) (e : Entry) (s : Slot) (r : 
   size-is : item_size (descr_at s.descr e.path) ≡ item_size r.descr.now
   size-is = ap item_size (sym descr-is)
 
-  shown-reads : read (state_of es slots) array ≡ map (item_from r.descr.now r.block.now) (offsets r.layout.now)
+  shown-reads : read (present es slots) array ≡ map (item_from r.descr.now r.block.now) (offsets r.layout.now)
   shown-reads =
       ap (λ (b : Buffer). map (λ place. part_at (span_at b.descr e.path) (placed_item b.items place)) array.places) found
       ∙ items-read s.descr s.is_whole.legal e.path lies.laid.part s.items s.block array.places within
@@ -84,10 +86,10 @@ module _ (es : List (Key × Entry)) (slots : Slots) (e : Entry) (s : Slot) (r : 
       (sym s.is_whole.whole ∙ ap length (sym block-is))
       (omega (arith, size-is, part-within s.descr s.is_whole.legal e.path lies.laid.part))))
 
-  occupied : is_some (get (state_of es slots).buffers r.number) ≡ true
-  occupied = ap (λ n. is_some (get (state_of es slots).buffers n)) number-is ∙ ap is_some (get-buffers es slots e.number ∙ ap (option_map buffer_in) there)
+  occupied : is_some (get (present es slots).buffers r.number) ≡ true
+  occupied = ap (λ n. is_some (get (present es slots).buffers n)) number-is ∙ ap is_some (get-used es slots e.number used ∙ ap (option_map buffer_in) there)
 
-  pub shown : Shows (state_of es slots) array r
+  pub shown : Shows (present es slots) array r
   shown = record {
     view = record {
       number_is = number-is;
@@ -110,3 +112,22 @@ module _ (es : List (Key × Entry)) (slots : Slots) (e : Entry) (s : Slot) (r : 
 
 pub finds : (s : State) (there : Option Array) (a : Array) (r : ArrayRef) → there ≡ Some a → Shows s a r → Finds s there (Some r)
 finds s there a r is shows = subst (λ f. Finds s f (Some r)) (sym is) shows
+
+-- what is shown of names and buffers alone is shown of the whole state
+pub finds-whole : (es : List (Key × Entry)) (slots : Slots) (ring : Ring Change) (there : Option Array) (found : Option ArrayRef) → Finds (present es slots) there found → Finds (state_of es slots ring) there found
+finds-whole es slots ring None None finds = tt
+finds-whole es slots ring None (Some r) finds = absurd finds
+finds-whole es slots ring (Some array) None finds = absurd finds
+finds-whole es slots ring (Some array) (Some r) shows = record {
+  view = record { number_is = shows.view.number_is; path_is = shows.view.path_is; there = shows.view.there; laid = shows.view.laid };
+  descr = shows.descr;
+  whole = shows.whole;
+  some = shows.some;
+  starts = shows.starts;
+  small = shows.small;
+  items = shows.items;
+  reads = shows.reads;
+  deeper = shows.deeper;
+  inside = shows.inside;
+  once = shows.once;
+}

@@ -1,13 +1,16 @@
 -- Slots by their numbers, and the buffers in them.
-use Rattle.std.proofs.Common.{◌≡◌, ◌≢◌, ◌+◌, ◌<◌, ◌≤◌, ℕ, zero, suc, Bool, true, false, List, [], ◌∷◌, ◌++◌, length, refl, sym, ap, ◌∙◌, cond, Option, Some, None, is_some, nat_eq, slice_set, get_or, arith, unwrap_or, position, nat_lt}
+use Rattle.std.proofs.Common.{◌≡◌, ◌≢◌, ◌+◌, ◌<◌, ◌≤◌, ℕ, zero, suc, Bool, true, false, List, [], ◌∷◌, ◌++◌, length, map, refl, sym, ap, ◌∙◌, cond, Option, Some, None, is_some, nat_eq, slice_set, get_or, arith, unwrap_or, position, nat_lt}
 use Rattle.std.specs.List.{position_or_len}
 use Rattle.std.specs.Option.{option_map, is_none}
 use Rattle.std.specs.Ordering.{nat_cmp, eq_by_cmp, is_eq}
 use Rattle.std.specs.Cmp.{nat_cmp_total, eq_by_cmp_equiv, nat_eq_equiv}
 use Rattle.std.specs.declared.cmp.Ordering.TheVariants.{Less, Equal, Greater}
-use Rattle.std.specs.FinMap.{get, find, get-from_entries, nat_cmp-IsAntisymmetric}
+use Rattle.std.specs.FinMap.{get, find, from_entries, get-from_entries, get-retain_keys, nat_cmp-IsAntisymmetric}
 use Rattle.std.proofs.lemmas.Bool.{eqb-true, eqb-false, ne_eqb, ltb-false}
-use Rattle.name_store.specs.View.{slot_at, numbered, buffer_in, state_of}
+use Rattle.name_store.specs.Arrays.{is_in_use}
+use Rattle.name_store.specs.Kept.{Names, numbered, past_buffer, past_buffers}
+use Rattle.name_store.specs.View.{named_array, slot_at, buffer_in, present}
+use Rattle.name_store.specs.declared.change.Change.{Change}
 use Rattle.name_store.specs.declared.entry.Entry.{Entry}
 use Rattle.name_store.specs.declared.entry.Key.{Key}
 use Rattle.name_store.specs.declared.slot.Slot.{Slot}
@@ -105,19 +108,28 @@ tests_agree q k = elim (nat_eq q k) as (λ t. nat_eq q k ≡ t → is_number q k
 ] refl
 
 -- no slot from n on has a smaller number
-find-below : (n : ℕ) (slots : List (Option Slot)) (q : ℕ) → q < n → find nat_cmp q (numbered n slots) ≡ None
-find-below n [] q h = refl
-find-below n (None ∷ slots) q h = find-below (suc n) slots q (omega arith)
-find-below n (Some s ∷ slots) q h = rw (apart q n (λ e. let no : ⊥ = omega arith in no)) (find-below (suc n) slots q (omega arith))
+find-below : (cs : List Change) (n : ℕ) (slots : List (Option Slot)) (q : ℕ) → q < n → find nat_cmp q (numbered cs n slots) ≡ None
+find-below cs n [] q h = refl
+find-below cs n (None ∷ slots) q h = find-below cs (suc n) slots q (omega arith)
+find-below cs n (Some s ∷ slots) q h = rw (apart q n (λ e. let no : ⊥ = omega arith in no)) (find-below cs (suc n) slots q (omega arith))
 
-find-numbered : (n : ℕ) (slots : List (Option Slot)) (q : ℕ) → find nat_cmp (n + q) (numbered n slots) ≡ option_map buffer_in (slot_at slots q)
-find-numbered n [] q = refl
-find-numbered n (None ∷ slots) zero = find-below (suc n) slots (n + zero) (omega arith)
-find-numbered n (None ∷ slots) (suc q) = let more : n + suc q ≡ suc n + q = omega arith in ap (λ k. find nat_cmp k (numbered (suc n) slots)) more ∙ find-numbered (suc n) slots q
-find-numbered n (Some s ∷ slots) zero = let here : n + zero ≡ n = omega arith in rw (tests_agree (n + zero) n, ap (λ k. nat_eq k n) here ∙ itself n) refl
-find-numbered n (Some s ∷ slots) (suc q) =
-    let more : n + suc q ≡ suc n + q = omega arith in
-    rw (apart (n + suc q) n (λ e. let no : ⊥ = omega arith in no)) (ap (λ k. find nat_cmp k (numbered (suc n) slots)) more ∙ find-numbered (suc n) slots q)
+find-numbered : (cs : List Change) (n : ℕ) (slots : List (Option Slot)) (q k : ℕ) → k ≡ n + q → find nat_cmp k (numbered cs n slots) ≡ option_map (past_buffer cs k) (slot_at slots q)
+find-numbered cs n [] q k is = refl
+find-numbered cs n (None ∷ slots) zero k is = find-below cs (suc n) slots k (omega (arith, is))
+find-numbered cs n (None ∷ slots) (suc q) k is = find-numbered cs (suc n) slots q k (omega (arith, is))
+find-numbered cs n (Some s ∷ slots) zero k is =
+    let here : k ≡ n = omega (arith, is) in
+    rw (tests_agree k n, ap (λ m. nat_eq m n) here ∙ itself n) (ap (λ m. Some (past_buffer cs m s)) (sym here))
+find-numbered cs n (Some s ∷ slots) (suc q) k is =
+    rw (apart k n (λ e. let no : ⊥ = omega (arith, is, e) in no)) (find-numbered cs (suc n) slots q k (omega (arith, is)))
 
-pub get-buffers : (names : List (Key × Entry)) (slots : List (Option Slot)) (q : ℕ) → get (state_of names slots).buffers q ≡ option_map buffer_in (slot_at slots q)
-get-buffers names slots q = get-from_entries nat_cmp_total (numbered 0 slots) q ∙ ap (λ k. find nat_cmp k (numbered 0 slots)) (omega arith) ∙ find-numbered 0 slots q
+pub get-past : (cs : List Change) (names : Names) (slots : List (Option Slot)) (q : ℕ) → get (past_buffers cs names slots) q ≡ cond (is_in_use names q) (option_map (past_buffer cs q) (slot_at slots q)) None
+get-past cs names slots q =
+    get-retain_keys (from_entries (numbered cs 0 slots)) (is_in_use names) q (λ x e. ap (is_in_use names) (sym (nat_cmp-IsAntisymmetric q x e)))
+    ∙ ap (λ o. cond (is_in_use names q) o None) (get-from_entries nat_cmp_total (numbered cs 0 slots) q ∙ find-numbered cs 0 slots q q (omega arith))
+
+pub get-buffers : (names : List (Key × Entry)) (slots : List (Option Slot)) (q : ℕ) → get (present names slots).buffers q ≡ cond (is_in_use (map named_array names) q) (option_map buffer_in (slot_at slots q)) None
+get-buffers names slots q = get-past [] (map named_array names) slots q
+
+pub get-used : (names : List (Key × Entry)) (slots : List (Option Slot)) (q : ℕ) → is_in_use (map named_array names) q ≡ true → get (present names slots).buffers q ≡ option_map buffer_in (slot_at slots q)
+get-used names slots q used = get-buffers names slots q ∙ ap (λ t. cond t (option_map buffer_in (slot_at slots q)) None) used

@@ -9,7 +9,7 @@ use Rattle.elem_descr.specs.declared.scalar.Order.TheVariants.{Little, Big}
 use Rattle.elem_descr.specs.Fields.{no_more, scalar_field, record_field}
 use Rattle.elem_descr.specs.Values.{number}
 use Rattle.name_store.specs.States.{Array, State, start}
-use Rattle.name_store.specs.Arrays.{no_buffer, is_in_use, share_cells, bound_view, write}
+use Rattle.name_store.specs.Arrays.{no_buffer, is_in_use, share_cells, bound_view, unbound, written, keeping, has_kept, undone, write}
 use Rattle.name_store.specs.Parts.{descr_at, start_at, span_at, part_at, with_part, have_common, share_leaves}
 use Rattle.name_store.specs.Places.{offsets_of}
 
@@ -27,7 +27,7 @@ empty_apart : have_common (0 ∷ 1 ∷ 2 ∷ 3 ∷ []) [] ≡ false
 empty_apart = refl
 
 -- `shares_memory(a, numpy.zeros(4))`
-buffers_apart : share_cells start (at_places 0 [] (0 ∷ [])) (at_places 1 [] (0 ∷ [])) ≡ false
+buffers_apart : share_cells (start 0) (at_places 0 [] (0 ∷ [])) (at_places 1 [] (0 ∷ [])) ≡ false
 buffers_apart = refl
 
 -- `a` over buffer 0 and `b` over buffer 1, and then `a = b[1:]`: buffer 0 is gone, and buffer 1 is not
@@ -35,7 +35,9 @@ before : State
 before = record {
   names = (97 ∷ [], at_places 0 [] (0 ∷ [])) ∷ (98 ∷ [], at_places 1 [] (0 ∷ 1 ∷ [])) ∷ [];
   buffers = from_entries ((0, no_buffer) ∷ (1, no_buffer) ∷ []);
+  depth = 1;
   kept = [];
+  patches = [];
 }
 
 after : State
@@ -58,6 +60,48 @@ second_there = refl
 own_view : is_in_use (bound_view before (98 ∷ []) (at_places 1 [] (1 ∷ []))).names 1 ≡ true
 unfolding before
 own_view = refl
+
+-- At depth 1 the state before is kept, and it is whole when it is back: buffer 0 is there, and `a` stands first.
+one_kept : after.kept ≡ (before.names, before.buffers) ∷ []
+unfolding before after
+one_kept = refl
+
+no_bytes : after.patches ≡ 0 ∷ []
+unfolding before after
+no_bytes = refl
+
+bound_back : undone after ≡ before
+unfolding before after
+bound_back = refl
+
+removed_back : undone (unbound before (97 ∷ [])) ≡ before
+unfolding before
+removed_back = refl
+
+written_back : undone (written before (at_places 1 [] (0 ∷ 1 ∷ [])) (0 ∷ 1 ∷ []) []) ≡ before
+unfolding before
+written_back = refl
+
+-- with the old bytes of two items of 4 bytes
+eight_bytes : (keeping 8 before).patches ≡ 8 ∷ []
+unfolding before
+eight_bytes = refl
+
+-- the oldest goes, and nothing is left behind the last
+newest_kept : (unbound after (98 ∷ [])).kept ≡ (after.names, after.buffers) ∷ []
+unfolding before after
+newest_kept = refl
+
+once_only : has_kept (undone after) ≡ false
+unfolding before after
+once_only = refl
+
+-- at depth 0 none is kept, and there is none to go back to
+none_kept : (unbound (start 0) (97 ∷ [])).kept ≡ []
+none_kept = refl
+
+none_back : undone (start 0) ≡ start 0
+none_back = refl
 
 -- `r = numpy.zeros(3, {"names": ["x", "y"], "formats": [">i2", "<i4"], "offsets": [0, 4], "itemsize": 8})`
 sample : Descr

@@ -1,17 +1,16 @@
 -- A view: places of an array, in a buffer that is there.
-use Rattle.std.proofs.Common.{◌≡◌, ◌<◌, ℕ, Bool, List, length, map, refl, sym, ap, subst, ◌∙◌, Option, Some, None, is_some, true, false, unwrap_or, arith}
+use Rattle.std.proofs.Common.{◌≡◌, ◌<◌, ℕ, Bool, List, length, map, refl, sym, ap, subst, ◌∙◌, cond, Option, Some, None, is_some, true, false, unwrap_or, arith}
 use Rattle.std.specs.Option.{option_map}
 use Rattle.elem_descr.specs.Items.{item_size}
-use Rattle.indexmap.specs.IndexMap.{insert_entry}
 use Rattle.shape_strides.specs.declared.layout.Layout.{Layout}
 use Rattle.shape_strides.specs.Layouts.{offsets}
 use Rattle.name_store.specs.States.{Array, Buffer}
-use Rattle.name_store.specs.Arrays.{buffer_of, bound_view, no_buffer}
-use Rattle.name_store.specs.Invariants.{Holds, LiesAt, LiesIn}
+use Rattle.name_store.specs.Arrays.{buffer_of, is_in_use, no_buffer}
+use Rattle.name_store.specs.Invariants.{LiesIn}
 use Rattle.name_store.specs.Parts.{start_at, IsPathOf}
 use Rattle.name_store.specs.Places.{offsets_of}
 use Rattle.overlap_copy.specs.Blocks.{places_of}
-use Rattle.name_store.specs.View.{array_at, named_array, buffer_in, slot_at, state_of}
+use Rattle.name_store.specs.View.{array_at, named_array, buffer_in, slot_at, present}
 use Rattle.name_store.specs.Views.{IsViewIn}
 use Rattle.name_store.specs.declared.entry.Entry.{Entry}
 use Rattle.name_store.specs.declared.entry.Key.{Key}
@@ -19,17 +18,27 @@ use Rattle.name_store.specs.declared.slot.Slot.{Slot}
 use Rattle.name_store.proofs.BlockLaws.{length-items_in}
 use Rattle.name_store.specs.ArrayLaws.{places-offsets}
 use Rattle.name_store.proofs.LaidLaws.{laid-same}
-use Rattle.name_store.proofs.NameLaws.{TestsName}
 use Rattle.name_store.proofs.PartLaws.{part-some, part-within}
-use Rattle.name_store.proofs.SlotLaws.{get-buffers, slot_at-within}
-use Rattle.name_store.proofs.StateLaws.{Slots, Swept, Ready, ready-view, bound-state}
+use Rattle.name_store.proofs.SlotLaws.{get-buffers, get-used, slot_at-within}
+use Rattle.name_store.proofs.StateLaws.{Slots}
 
-module _ (es : List (Key × Entry)) (slots : Slots) (number : ℕ) (path : List ℕ) (layout : Layout) (writable : Bool) (array : Array) (view : IsViewIn (state_of es slots) number path layout writable array) where
-  view-slot : (s : Slot) × (slot_at slots number ≡ Some s)
-  view-slot = occupied (slot_at slots number) refl (ap is_some (sym (get-buffers es slots number)) ∙ view.there)
+module _ (es : List (Key × Entry)) (slots : Slots) (number : ℕ) (path : List ℕ) (layout : Layout) (writable : Bool) (array : Array) (view : IsViewIn (present es slots) number path layout writable array) where
+  in-use : (is_in_use (map named_array es) number ≡ true) × (is_some (slot_at slots number) ≡ true)
+  in-use = by (is_in_use (map named_array es) number) (slot_at slots number) (ap is_some (sym (get-buffers es slots number)) ∙ view.there)
     where
-      occupied : (o : Option Slot) → slot_at slots number ≡ o → is_some (option_map buffer_in (slot_at slots number)) ≡ true → (s : Slot) × (slot_at slots number ≡ Some s)
-      occupied None was there = let no : false ≡ true = ap (λ o. is_some (option_map buffer_in o)) (sym was) ∙ there in cc
+      by : (t : Bool) (o : Option Slot) → is_some (cond t (option_map buffer_in o) None) ≡ true → (t ≡ true) × (is_some o ≡ true)
+      by true None h = let no : ⊥ = cc in absurd no
+      by true (Some s) h = (refl, refl)
+      by false o h = let no : ⊥ = cc in absurd no
+
+  pub view-used : is_in_use (map named_array es) number ≡ true
+  view-used = in-use.0
+
+  view-slot : (s : Slot) × (slot_at slots number ≡ Some s)
+  view-slot = occupied (slot_at slots number) refl in-use.1
+    where
+      occupied : (o : Option Slot) → slot_at slots number ≡ o → is_some o ≡ true → (s : Slot) × (slot_at slots number ≡ Some s)
+      occupied None was there = let no : ⊥ = cc in absurd no
       occupied (Some s) was there = (s, was)
 
   pub view-within : number < length slots
@@ -38,24 +47,24 @@ module _ (es : List (Key × Entry)) (slots : Slots) (number : ℕ) (path : List 
   pub view-occupied : is_some (slot_at slots number) ≡ true
   view-occupied = ap is_some view-slot.1
 
-  slot-buffer : (s : Slot) → slot_at slots number ≡ Some s → buffer_of (state_of es slots) array ≡ buffer_in s
-  slot-buffer s there = ap (λ n. buffer_of (state_of es slots) (record array { buffer = n })) (sym view.number_is) ∙ ap (λ o. unwrap_or o no_buffer) (get-buffers es slots number ∙ ap (option_map buffer_in) there)
+  slot-buffer : (s : Slot) → slot_at slots number ≡ Some s → buffer_of (present es slots) array ≡ buffer_in s
+  slot-buffer s there = ap (λ n. buffer_of (present es slots) (record array { buffer = n })) (sym view.number_is) ∙ ap (λ o. unwrap_or o no_buffer) (get-used es slots number view-used ∙ ap (option_map buffer_in) there)
 
   module _ (v : Entry) (s : Slot) (there : slot_at slots number ≡ Some s) (v-number : v.number ≡ number) (layout-is : v.layout ≡ layout) (item-is : v.item ≡ item_size s.descr) (writable-is : v.writable ≡ writable) (path-is : v.path ≡ path) where
-    buffer : buffer_of (state_of es slots) array ≡ buffer_in s
+    buffer : buffer_of (present es slots) array ≡ buffer_in s
     buffer = slot-buffer s there
 
-    type-is : (buffer_of (state_of es slots) array).descr ≡ s.descr
+    type-is : (buffer_of (present es slots) array).descr ≡ s.descr
     type-is = ap (λ (b : Buffer). b.descr) buffer
 
-    counted : length (buffer_of (state_of es slots) array).items ≡ s.items
+    counted : length (buffer_of (present es slots) array).items ≡ s.items
     counted = ap (λ (b : Buffer). length b.items) buffer ∙ length-items_in s.descr s.items s.block
 
     own-path : v.path ≡ array.path
     own-path = path-is ∙ view.path_is
 
     part : IsPathOf s.descr v.path
-    part = subst (λ (b : Buffer). IsPathOf b.descr v.path) buffer (subst (IsPathOf (buffer_of (state_of es slots) array).descr) (sym own-path) view.laid.part)
+    part = subst (λ (b : Buffer). IsPathOf b.descr v.path) buffer (subst (IsPathOf (buffer_of (present es slots) array).descr) (sym own-path) view.laid.part)
 
     spread : offsets v.layout ≡ offsets_of v.item (start_at s.descr v.path) array.places
     spread = ap offsets layout-is ∙ view.laid.places ∙ λ i. offsets_of ((ap item_size type-is ∙ sym item-is) i) (start_at (type-is i) (sym own-path i)) array.places
@@ -69,19 +78,9 @@ module _ (es : List (Key × Entry)) (slots : Slots) (number : ℕ) (path : List 
     pub view-array : array_at v ≡ array
     view-array = λ i. record { buffer = (v-number ∙ view.number_is) i; path = own-path i; shape = (ap (λ (l : Layout). l.shape) layout-is ∙ view.laid.shape) i; places = places i; writable = (writable-is ∙ view.laid.writable_is) i }
 
-    view-lies : LiesIn s v
+    pub view-lies : LiesIn s v
     view-lies = record {
       item = item-is;
-      laid = laid-same (buffer_of (state_of es slots) array).descr s.descr (length (buffer_of (state_of es slots) array).items) s.items array (array_at v) layout v.layout writable v.writable
+      laid = laid-same (buffer_of (present es slots) array).descr s.descr (length (buffer_of (present es slots) array).items) s.items array (array_at v) layout v.layout writable v.writable
           type-is counted (sym view-array) (sym layout-is) (sym writable-is) view.laid;
     }
-
-    pub view-ready : Ready slots slots v
-    view-ready = ready-view slots v (subst (λ o. LiesAt o v) (sym (ap (slot_at slots) v-number ∙ there)) view-lies)
-
-    pub view-state : Holds es slots → (names : List (Key × Entry)) (eq : Key → Key → Bool) (k : Key) → names ≡ insert_entry eq es k v → TestsName (eq k) k.bytes.items → (after : Slots) →
-        Swept (map named_array (insert_entry eq es k v)) slots after → state_of names after ≡ bound_view (state_of es slots) k.bytes.items array
-    view-state h names eq k inserted is after swept =
-        ap (λ (ns : List (Key × Entry)). state_of ns after) inserted
-        ∙ bound-state es slots slots h eq k v is view-ready (state_of es slots).buffers (get-buffers es slots) after swept
-        ∙ ap (bound_view (state_of es slots) k.bytes.items) view-array

@@ -21,7 +21,7 @@ use Rattle.name_store.specs.Parts.{descr_at, start_at, span_at, part_at}
 use Rattle.name_store.specs.Places.{offsets_of}
 use Rattle.name_store.specs.Targets.{target_offsets, items_of, FitsBuffer, LeadsTo}
 use Rattle.name_store.specs.inside.Homes.{IsHome, HasNew}
-use Rattle.name_store.specs.View.{array_at, named_array, buffer_in, slot_at, state_of}
+use Rattle.name_store.specs.View.{array_at, named_array, buffer_in, slot_at, present}
 use Rattle.name_store.specs.declared.entry.Entry.{Entry}
 use Rattle.name_store.specs.declared.entry.Key.{Key}
 use Rattle.name_store.specs.declared.slot.Slot.{Slot}
@@ -30,7 +30,7 @@ use Rattle.name_store.proofs.BlockLaws.{length-items_in}
 use Rattle.name_store.proofs.PartLaws.{part-some, part-within}
 use Rattle.name_store.proofs.LaidLaws.{laid-same, places-within}
 use Rattle.name_store.proofs.PutLaws.{items-read, with_items-items}
-use Rattle.name_store.proofs.NameLaws.{TestsName, all-both}
+use Rattle.name_store.proofs.NameLaws.{TestsName, all-both, found-used}
 use Rattle.name_store.proofs.SlotLaws.{get-buffers, tests_agree, slot_at-within}
 use Rattle.name_store.proofs.StateLaws.{Slots, none-found}
 use Rattle.name_store.proofs.ShowLaws.{buffer-found}
@@ -45,7 +45,7 @@ pub some-same : {A : Type 0} (x y : A) → Some x ≡ Some y → x ≡ y
 some-same x y h = cc
 
 -- a name that is bound has an entry
-pub entry-bound : (es : List (Key × Entry)) (slots : Slots) (h : Holds es slots) (test : Key → Bool) (name : List ℕ) → TestsName test name → is_bound (state_of es slots) name ≡ true → is_some (lookup test es) ≡ true
+pub entry-bound : (es : List (Key × Entry)) (slots : Slots) (h : Holds es slots) (test : Key → Bool) (name : List ℕ) → TestsName test name → is_bound (present es slots) name ≡ true → is_some (lookup test es) ≡ true
 entry-bound es slots h test name is bound =
     elim (lookup test es) as (λ (o : Option Entry). lookup test es ≡ o → is_some o ≡ true) [
       | None ↦ λ none. sym (ap is_some (none-found es slots h test name is none)) ∙ bound
@@ -60,7 +60,7 @@ module _ (es : List (Key × Entry)) (slots : Slots) (name : List ℕ) (number wi
   e = home.entry
 
   abbrev state : State
-  state = state_of es slots
+  state = present es slots
 
   there : slot_at slots e.number ≡ Some s
   there = ap (slot_at slots) (sym home.number_is) ∙ home.there
@@ -77,7 +77,7 @@ module _ (es : List (Key × Entry)) (slots : Slots) (name : List ℕ) (number wi
     same = some-same array (array_at e) (sym found ∙ home.found)
 
     buffer : buffer_of state array ≡ buffer_in s
-    buffer = ap (buffer_of state) same ∙ buffer-found es slots e s there
+    buffer = ap (buffer_of state) same ∙ buffer-found es slots e s (found-used (map named_array es) name (array_at e) home.found) there
 
     type-is : (buffer_of state array).descr ≡ s.descr
     type-is = ap (λ (b : Buffer). b.descr) buffer
@@ -151,19 +151,11 @@ module _ (es : List (Key × Entry)) (slots : Slots) (name : List ℕ) (number wi
     written-holds = record {
       few = h.few;
       lie = all-both (λ x. LiesAt (slot_at slots x.number) x) (λ x. LiesAt (slot_at slots x.number) x) (λ x. LiesAt (slot_at after x.number) x) (λ x here _. still x here) es h.lie h.lie;
-      used = λ q. in_use q;
     }
-      where
-        in_use : (q : ℕ) → is_some (slot_at after q) ≡ true → is_in_use (map named_array es) q ≡ true
-        in_use q occupied =
-            elim (nat_eq q number) as (λ t. nat_eq q number ≡ t → slot_at after q ≡ cond t (Some s') (slot_at slots q) → is_in_use (map named_array es) q ≡ true) [
-              | true ↦ λ same-number _. h.used q (ap is_some (ap (slot_at slots) (eqb-true q number same-number) ∙ home.there))
-              | false ↦ λ _ there-is. h.used q (ap is_some (sym there-is) ∙ occupied)
-            ] refl (new.set q)
 
     -- the bytes are those that were there
-    pub kept-state : bytes ≡ s.block → state_of es after ≡ state
-    kept-state is = λ i. record { names = map named_array es; buffers = buffers i; kept = [] }
+    pub kept-state : bytes ≡ s.block → present es after ≡ state
+    kept-state is = λ i. record { names = map named_array es; buffers = buffers i; depth = 0; kept = []; patches = [] }
       where
         unchanged : buffer_in s' ≡ buffer_in s
         unchanged = λ i. record { descr = new.rewritten.descr i; items = items_in (new.rewritten.descr i) (new.rewritten.items i) ((new.rewritten.block ∙ is) i) }
@@ -175,8 +167,8 @@ module _ (es : List (Key × Entry)) (slots : Slots) (name : List ℕ) (number wi
               | false ↦ λ _ there-is. ap (option_map buffer_in) there-is
             ] refl (new.set q)
 
-        buffers : (state_of es after).buffers ≡ state.buffers
-        buffers = same_map nat_cmp_total nat_cmp-IsAntisymmetric _ _ (λ q. get-buffers es after q ∙ at-slot q ∙ sym (get-buffers es slots q))
+        buffers : (present es after).buffers ≡ state.buffers
+        buffers = same_map nat_cmp_total nat_cmp-IsAntisymmetric _ _ (λ q. get-buffers es after q ∙ ap (λ o. cond (is_in_use (map named_array es) q) o None) (at-slot q) ∙ sym (get-buffers es slots q))
 
     -- or have parts of items put at the target's offsets
     module _ (target : Target) (array : Array) (places : List ℕ) (leads : LeadsTo state name target array places) (parts : List (List ℕ)) (whole : AllByRecursion (λ part. length part ≡ width) parts) (put-is : bytes ≡ with_items (target_offsets target) parts s.block) where
@@ -197,16 +189,30 @@ module _ (es : List (Key × Entry)) (slots : Slots) (name : List ℕ) (number wi
       number-is : number ≡ array.buffer
       number-is = home.number_is ∙ ap (λ (a : Array). a.buffer) (sym (same array leads.found))
 
-      pub written-state : state_of es after ≡ written state array places (map (decode_item (descr_of state array)) parts)
-      written-state = λ i. record { names = map named_array es; buffers = buffers i; kept = [] }
+      pub written-state : present es after ≡ written state array places (map (decode_item (descr_of state array)) parts)
+      written-state = λ i. record { names = map named_array es; buffers = buffers i; depth = 0; kept = []; patches = [] }
         where
           with_one : (t : Bool) (o : Option Slot) → option_map buffer_in (cond t (Some s') o) ≡ cond t (Some (buffer_in s')) (option_map buffer_in o)
           with_one true o = refl
           with_one false o = refl
 
-          buffers : (state_of es after).buffers ≡ insert state.buffers array.buffer new-buffer
+          -- the buffer is in use
+          there-too : (q : ℕ) → cond (is_in_use (map named_array es) q) (cond (nat_eq q number) (Some (buffer_in s')) (option_map buffer_in (slot_at slots q))) None
+              ≡ cond (nat_eq q number) (Some (buffer_in s')) (cond (is_in_use (map named_array es) q) (option_map buffer_in (slot_at slots q)) None)
+          there-too q =
+              elim (nat_eq q number) as (λ t. nat_eq q number ≡ t → cond (is_in_use (map named_array es) q) (cond t (Some (buffer_in s')) (option_map buffer_in (slot_at slots q))) None
+              ≡ cond t (Some (buffer_in s')) (cond (is_in_use (map named_array es) q) (option_map buffer_in (slot_at slots q)) None)) [
+                | true ↦ λ is.
+                    ap (λ t. cond t (Some (buffer_in s')) None)
+                    (ap (is_in_use (map named_array es)) (eqb-true q number is ∙ home.number_is) ∙ found-used (map named_array es) name (array_at e) home.found)
+                | false ↦ λ _. refl
+              ] refl
+
+          buffers : (present es after).buffers ≡ insert state.buffers array.buffer new-buffer
           buffers = same_map nat_cmp_total nat_cmp-IsAntisymmetric _ _ (λ q.
-              get-buffers es after q ∙ ap (option_map buffer_in) (new.set q) ∙ with_one (nat_eq q number) (slot_at slots q)
+              get-buffers es after q
+              ∙ ap (λ o. cond (is_in_use (map named_array es) q) o None) (ap (option_map buffer_in) (new.set q) ∙ with_one (nat_eq q number) (slot_at slots q))
+              ∙ there-too q
               ∙ ap (λ o. cond (nat_eq q number) (Some (buffer_in s')) o) (sym (get-buffers es slots q))
               ∙ ap (λ t. cond t (Some (buffer_in s')) (get state.buffers q)) (sym (tests_agree q number))
               ∙ sym (get-insert nat_cmp_total state.buffers number (buffer_in s') q))

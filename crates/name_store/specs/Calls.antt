@@ -1,15 +1,15 @@
 -- What a call that changes a bench answers.
-use Rattle.std.specs.Prelude.{◌≡◌, ◌<◌, ◌⊎◌, ◌&&◌, ℕ, Bool, true, false, List, [], length, Result, Ok, Err, Some, None, All}
+use Rattle.std.specs.Prelude.{◌≡◌, ◌<◌, ◌≤◌, ◌⊎◌, ◌&&◌, ℕ, Bool, true, false, List, [], length, Result, Ok, Err, Some, None, All}
 use Rattle.std.specs.FinMap.{get}
 use Rattle.elem_descr.specs.declared.refusal.Refusal.{Refusal}
-use Rattle.elem_descr.specs.declared.refusal.Refusal.TheVariants.{OutOfMemory, TooManyNames, UnknownName}
+use Rattle.elem_descr.specs.declared.refusal.Refusal.TheVariants.{OutOfMemory, TooManyNames, UnknownName, NothingToUndo}
 use Rattle.overlap_copy.specs.declared.owned.Owned.{Owned}
 use Rattle.elem_descr.specs.Items.{item_size}
 use Rattle.shape_strides.specs.Indexes.{count}
 use Rattle.shape_strides.specs.Layouts.{offsets}
 use Rattle.overlap_copy.specs.Blocks.{places_of}
 use Rattle.name_store.specs.States.{State, Array, Buffer}
-use Rattle.name_store.specs.Arrays.{is_bound, has_room_for, bound_to, bound_view, unbound, descr_of, written, find_array, share_cells}
+use Rattle.name_store.specs.Arrays.{has_kept, undone, is_bound, has_room_for, bound_to, bound_view, unbound, descr_of, written, find_array, share_cells}
 use Rattle.elem_descr.specs.Blocks.{items_in}
 use Rattle.name_store.specs.Targets.{target_offsets, source_items, LeadsTo}
 use Rattle.name_store.specs.declared.target.Source.{Source}
@@ -50,10 +50,17 @@ AnswersBind old name bound (Ok _) new = (has_room_for old name ≡ true) × Bind
 AnswersBind old name bound (Err refusal) new =
     (new ≡ old) × (((has_room_for old name ≡ false) × (refusal ≡ TooManyNames)) ⊎ ((has_room_for old name ≡ true) × (refusal ≡ OutOfMemory)))
 
--- A name that is bound is so no longer, and another is refused, with nothing changed.
+-- A name that is bound is so no longer, and another is refused, with nothing changed, as is one where memory runs
+-- out, which it needs only to keep the state before.
 abbrev pub AnswersUnbind : State → List ℕ → Result (Unit {0}) Refusal → State → Type 0
 AnswersUnbind old name (Ok _) new = (is_bound old name ≡ true) × (new ≡ unbound old name)
-AnswersUnbind old name (Err refusal) new = (is_bound old name ≡ false) × (refusal ≡ UnknownName) × (new ≡ old)
+AnswersUnbind old name (Err refusal) new =
+    (new ≡ old) × (((is_bound old name ≡ false) × (refusal ≡ UnknownName)) ⊎ ((is_bound old name ≡ true) × (refusal ≡ OutOfMemory) × (1 ≤ old.depth)))
+
+-- The state that was kept last is back. Where none is kept that is refused, and nothing has changed.
+abbrev pub AnswersUndo : State → Result (Unit {0}) Refusal → State → Type 0
+AnswersUndo old (Ok _) new = (has_kept old ≡ true) × (new ≡ undone old)
+AnswersUndo old (Err refusal) new = (has_kept old ≡ false) × (refusal ≡ NothingToUndo) × (new ≡ old)
 
 -- The items of the target are written, as many as the answer says. It is refused only as out of memory, and then nothing has changed.
 abbrev pub AnswersWrite : State → List ℕ → Target → Source → Result ℕ Refusal → State → Type 0

@@ -1,7 +1,9 @@
 pub mod ArrayLaws
 pub mod Arrays
 pub mod Calls
+pub mod Entries
 pub mod Invariants
+pub mod Kept
 pub mod Laws
 pub mod Parts
 pub mod Places

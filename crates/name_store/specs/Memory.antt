@@ -1,4 +1,4 @@
--- Writes that take no memory.
+-- Writes that take no memory. Where states are kept, the old items take some.
 use Rattle.std.specs.Prelude.{◌≡◌, ◌⊎◌, ℕ, ℤ, List, Some, reverse, IsTrue}
 use Rattle.elem_descr.specs.Items.{item_size}
 use Rattle.shape_strides.specs.declared.layout.Layout.{Layout}
@@ -52,5 +52,5 @@ NeedsNoneInPlan (Block owned) = IsTrue (is_c_contiguous (item_size owned.now.des
 NeedsNoneInPlan (Name other from) = ⊥
 
 abbrev pub NeedsNoMemory : State → List ℕ → Target → Source → Type 0
-NeedsNoMemory s name (View to) source = NeedsNoneInView s name to source
-NeedsNoMemory s name (Plan plan) source = NeedsNoneInPlan source
+NeedsNoMemory s name (View to) source = (s.depth ≡ 0) × NeedsNoneInView s name to source
+NeedsNoMemory s name (Plan plan) source = (s.depth ≡ 0) × NeedsNoneInPlan source

@@ -19,12 +19,15 @@ pub record Array : Type 0 where
   pub places : List ℕ
   pub writable : Bool
 
--- Names in the order in which they were first bound, the buffers that they use by their numbers, and
--- the states kept for undo, the oldest first.
+-- Names in the order in which they were first bound, and the buffers that they use by their numbers. So many
+-- earlier states as the depth says are kept for undo, the oldest first, and for each of them the bytes of old
+-- items that it takes to go back to it from the next.
 pub record State : Type 0 where
   pub names : List (List ℕ × Array)
   pub buffers : FinMap nat_cmp Buffer
+  pub depth : ℕ
   pub kept : List (List (List ℕ × Array) × FinMap nat_cmp Buffer)
+  pub patches : List ℕ
 
-abbrev pub start : State
-start = record { names = []; buffers = empty; kept = [] }
+abbrev pub start : ℕ → State
+start depth = record { names = []; buffers = empty; depth = depth; kept = []; patches = [] }

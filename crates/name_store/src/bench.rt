@@ -5,6 +5,7 @@ ghost use Rattle.std.specs.Option.{option_map};
 use crate::array_ref::ArrayRef;
 use crate::bind::{bind_in, has_room};
 use crate::bound::Bound;
+use crate::change::Change;
 use crate::entry::{Entry, Key};
 use crate::look::look_in;
 use crate::names::Names;
@@ -12,7 +13,8 @@ use crate::shares::shares_in;
 use crate::slot::Slot;
 use crate::target::{Source, Target};
 use crate::unbind::unbind_in;
-use crate::write::write_in;
+use crate::write_kept::write_in;
+use circular_buffer::HeapCircularBuffer;
 use elem_descr::Refusal;
 use indexmap::IndexMap;
 use script_lang::Name;
@@ -26,6 +28,7 @@ pub struct Bench {
     alloc: Global,
     names: IndexMap<Key, Entry>,
     slots: Vec<Option<Slot>>,
+    changes: HeapCircularBuffer<Change>,
 }
 
 impl Model for Bench {
@@ -37,11 +40,12 @@ impl Model for Bench {
     ghost coded = { state_code };
 
     ghost use Rattle.name_store.specs.View.{state_of};
-    ghost use Rattle.name_store.specs.Invariants.{Holds};
+    ghost use Rattle.name_store.specs.Invariants.{IsSound};
+    ghost use Rattle.indexmap.specs.IndexMap.{spare};
 
-    ghost view = { λ f. state_of f.names.entries f.slots.items };
+    ghost view = { λ f. state_of f.names.entries f.slots.items f.changes };
 
-    ghost invariant = { λ f. Holds f.names.entries f.slots.items };
+    ghost invariant = { λ f. IsSound f.names.entries f.slots.items f.changes (spare f.names) };
 }
 
 impl Bench {
@@ -53,15 +57,16 @@ impl Bench {
     ghost use Rattle.name_store.specs.Targets.{IsAim};
     ghost use Rattle.name_store.specs.Views.{MayBind};
 
-    /// A bench on which no name is bound, and that keeps no earlier state.
+    /// A bench on which no name is bound, and that keeps so many earlier states.
     pub fn try_new(alloc: Global, depth: usize) -> Result<Bench, AllocError>
-        requires { depth ≡ 0 }
-        ensures { IfOk result (λ bench. bench ≡ start) }
+        requires { depth ≤ 64 }
+        ensures { IfOk result (λ bench. bench ≡ start depth) }
     {
         Ok(Bench {
             alloc,
             names: IndexMap::new(alloc),
             slots: Vec::new(alloc),
+            changes: HeapCircularBuffer::with_capacity(alloc, depth)?,
         })
     }
 
@@ -94,9 +99,11 @@ impl Bench {
         ensures { AnswersBind self.old name.now bound result self.new }
     {
         bind_in(
+            alloc,
             &mut self.names,
             &mut self.slots,
-            Key::of(alloc, name),
+            &mut self.changes,
+            name,
             bound,
         )
     }
@@ -114,14 +121,35 @@ impl Bench {
         ensures no_memory { NeedsNoMemory self.old name.now target source.entry → IsOk result }
     {
         let key = Key::of(alloc, name);
-        write_in(alloc, &self.names, &mut self.slots, &key, target, source)
+        write_in(
+            alloc,
+            &mut self.names,
+            &mut self.slots,
+            &mut self.changes,
+            &key,
+            target,
+            source,
+        )
     }
 
     /// Unbinds a name. The names after it close up.
     pub fn unbind(&mut self, name: &Name) -> Result<(), Refusal>
         ensures { AnswersUnbind self.old name.now result self.new }
     {
-        unbind_in(&mut self.names, &mut self.slots, &Key::of(self.alloc, name))
+        unbind_in(
+            &mut self.names,
+            &mut self.slots,
+            &mut self.changes,
+            Key::of(self.alloc, name),
+        )
+    }
+
+    /// The bytes of old items that are held to go back to the k-th of the states that are kept, counted
+    /// from 0, the oldest first.
+    pub fn patch_bytes(&self, k: usize) -> Option<usize>
+        ensures { result ≡ slice_get self.now.patches k }
+    {
+        Some(self.changes.get(k)?.patch_size())
     }
 
     /// Whether the arrays of two names share cells. A name that is not bound is refused before any

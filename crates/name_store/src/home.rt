@@ -2,7 +2,7 @@
 ghost use Rattle.std.specs.Prelude.{◌≡◌, true};
 ghost use Rattle.name_store.specs.Arrays.{is_bound};
 ghost use Rattle.name_store.specs.Invariants.{Holds};
-ghost use Rattle.name_store.specs.View.{state_of};
+ghost use Rattle.name_store.specs.View.{present};
 ghost use Rattle.name_store.specs.inside.Homes.{IsHome, IsLent};
 
 use crate::entry::{Entry, Key};
@@ -22,7 +22,7 @@ pub(crate) struct Home {
 /// Where the array of a name lies that is bound.
 pub(crate) fn home_of(names: &IndexMap<Key, Entry>, slots: &[Option<Slot>], key: &Key) -> Home
     requires holds { Holds names.now.entries slots.now }
-    requires bound { is_bound (state_of names.now.entries slots.now) key.now.bytes.items ≡ true }
+    requires bound { is_bound (present names.now.entries slots.now) key.now.bytes.items ≡ true }
     ensures { IsHome names.now.entries slots.now key.now.bytes.items result.number result.width }
 {
     let entry = names.get(key).unwrap();
@@ -47,7 +47,7 @@ pub(crate) fn lent_of<'a>(
     key: &Key,
 ) -> Lent<'a>
     requires holds { Holds names.now.entries slots.now }
-    requires bound { is_bound (state_of names.now.entries slots.now) key.now.bytes.items ≡ true }
+    requires bound { is_bound (present names.now.entries slots.now) key.now.bytes.items ≡ true }
     ensures { IsLent names.now.entries slots.now key.now.bytes.items result.block.now result.descr.now }
 {
     let entry = names.get(key).unwrap();

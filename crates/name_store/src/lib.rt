@@ -6,10 +6,13 @@ mod array_ref;
 mod bench;
 mod bind;
 mod bound;
+mod change;
 mod entry;
 mod home;
+mod keep;
 mod look;
 mod names;
+mod old_items;
 mod path;
 mod rewrite;
 mod rewrite_planned;
@@ -19,6 +22,7 @@ mod slots;
 mod target;
 mod unbind;
 mod write;
+mod write_kept;
 mod write_planned;
 
 pub use array_ref::ArrayRef;
@@ -29,6 +33,8 @@ pub use path::Path;
 pub use target::{Source, Target};
 
 // A crate can name a bench in a contract only if the types of its fields are exported.
+#[doc(hidden)]
+pub use change::Change;
 #[doc(hidden)]
 pub use entry::{Entry, Key};
 #[doc(hidden)]

@@ -3,7 +3,7 @@ ghost use Rattle.std.specs.Prelude.{◌≡◌};
 ghost use Rattle.name_store.specs.Arrays.{find_array};
 ghost use Rattle.name_store.specs.Invariants.{Holds};
 ghost use Rattle.name_store.specs.Shown.{Finds};
-ghost use Rattle.name_store.specs.View.{state_of};
+ghost use Rattle.name_store.specs.View.{present};
 
 use crate::array_ref::ArrayRef;
 use crate::entry::{Entry, Key};
@@ -18,7 +18,7 @@ pub(crate) fn look_in<'a>(
     key: &Key,
 ) -> Option<ArrayRef<'a>>
     requires holds { Holds names.now.entries slots.now }
-    ensures { Finds (state_of names.now.entries slots.now) (find_array (state_of names.now.entries slots.now).names key.now.bytes.items) result }
+    ensures { Finds (present names.now.entries slots.now) (find_array (present names.now.entries slots.now).names key.now.bytes.items) result }
 {
     let entry = names.get(key)?;
     let slot = slot_of(slots, entry.number);

@@ -1,7 +1,7 @@
 //! Whether two arrays share cells.
 ghost use Rattle.name_store.specs.Calls.{AnswersShares};
 ghost use Rattle.name_store.specs.Invariants.{Holds};
-ghost use Rattle.name_store.specs.View.{state_of};
+ghost use Rattle.name_store.specs.View.{present};
 
 use crate::entry::{Entry, Key};
 use crate::slot::Slot;
@@ -21,7 +21,7 @@ pub(crate) fn shares_in(
     right: &Key,
 ) -> Result<bool, Refusal>
     requires holds { Holds names.now.entries slots.now }
-    ensures { AnswersShares (state_of names.now.entries slots.now) left.now.bytes.items right.now.bytes.items result }
+    ensures { AnswersShares (present names.now.entries slots.now) left.now.bytes.items right.now.bytes.items result }
 {
     let Some(first) = names.get(left) else {
         return Err(Refusal::UnknownName);

@@ -1,5 +1,5 @@
 //! The slots, in which buffers stand by their numbers.
-ghost use Rattle.std.specs.Prelude.{◌≡◌, ◌≤◌, ◌<◌, ◌&&◌, ℕ, nat_eq, not, true, is_some, length, map, position, Some, None, IfSome, if◌then◌else◌, vec_len, vec_capacity};
+ghost use Rattle.std.specs.Prelude.{◌≡◌, ◌≤◌, ◌<◌, ℕ, nat_eq, true, is_some, length, map, position, Some, None, if◌then◌else◌, vec_len, vec_capacity};
 ghost use Rattle.std.specs.Option.{is_none};
 ghost use Rattle.name_store.specs.Arrays.{is_in_use};
 ghost use Rattle.name_store.specs.View.{named_array, slot_at};
@@ -48,7 +48,7 @@ pub(crate) fn put_slot(slots: &mut Vec<Option<Slot>>, number: usize, slot: Slot)
 }
 
 /// Whether some name's array lies in the buffer.
-fn is_in_use(names: &IndexMap<Key, Entry>, number: usize) -> bool
+pub(crate) fn is_in_use(names: &IndexMap<Key, Entry>, number: usize) -> bool
     ensures { result ≡ is_in_use (map named_array names.now.entries) number }
 {
     for entry in names.values() {
@@ -57,31 +57,4 @@ fn is_in_use(names: &IndexMap<Key, Entry>, number: usize) -> bool
         }
     }
     false
-}
-
-/// Frees the slot with this number, if no name's array lies in it.
-pub(crate) fn release(names: &IndexMap<Key, Entry>, slots: &mut Vec<Option<Slot>>, number: usize)
-    requires { number < vec_len slots.old }
-    ensures { (other : ℕ) → slot_at slots.new.items other
-        ≡ (if nat_eq other number && not (is_in_use (map named_array names.now.entries) number) then None else slot_at slots.old.items other) }
-{
-    if !is_in_use(names, number) {
-        slots[number] = None;
-    }
-}
-
-/// Frees the slot of the array that a name was bound to before, if no name's array lies in it.
-pub(crate) fn release_replaced(
-    names: &IndexMap<Key, Entry>,
-    slots: &mut Vec<Option<Slot>>,
-    replaced: Option<Entry>,
-)
-    requires { IfSome replaced (λ old. old.number < vec_len slots.old) }
-    ensures none { replaced ≡ None → slots.new ≡ slots.old }
-    ensures some { (old : Entry) → replaced ≡ Some old → (other : ℕ) → slot_at slots.new.items other
-        ≡ (if nat_eq other old.number && not (is_in_use (map named_array names.now.entries) old.number) then None else slot_at slots.old.items other) }
-{
-    if let Some(replaced) = replaced {
-        release(names, slots, replaced.number);
-    }
 }

@@ -1,28 +1,35 @@
 //! A name is bound no longer.
 ghost use Rattle.std.specs.Prelude.{◌≡◌};
+ghost use Rattle.indexmap.specs.IndexMap.{spare};
 ghost use Rattle.name_store.specs.Calls.{AnswersUnbind};
-ghost use Rattle.name_store.specs.Invariants.{Holds};
+ghost use Rattle.name_store.specs.Invariants.{IsSound};
 ghost use Rattle.name_store.specs.View.{state_of};
 
+use crate::change::Change;
 use crate::entry::{Entry, Key};
+use crate::keep::{keep, make_room};
 use crate::slot::Slot;
-use crate::slots::release;
+use circular_buffer::HeapCircularBuffer;
 use elem_descr::Refusal;
 use indexmap::IndexMap;
 
+/// Unbinds a name, and keeps what it was bound to.
 pub(crate) fn unbind_in(
     names: &mut IndexMap<Key, Entry>,
     slots: &mut Vec<Option<Slot>>,
-    key: &Key,
+    ring: &mut HeapCircularBuffer<Change>,
+    key: Key,
 ) -> Result<(), Refusal>
-    requires holds { Holds names.old.entries slots.old.items }
-    ensures holds { Holds names.new.entries slots.new.items }
-    ensures answers { AnswersUnbind (state_of names.old.entries slots.old.items) key.now.bytes.items result
-        (state_of names.new.entries slots.new.items) }
+    requires sound { IsSound names.old.entries slots.old.items ring.old (spare names.old) }
+    ensures sound { IsSound names.new.entries slots.new.items ring.new (spare names.new) }
+    ensures answers { AnswersUnbind (state_of names.old.entries slots.old.items ring.old) key.bytes.items result
+        (state_of names.new.entries slots.new.items ring.new) }
 {
-    let Some(removed) = names.shift_remove(key) else {
+    if !names.contains_key(&key) {
         return Err(Refusal::UnknownName);
-    };
-    release(names, slots, removed.number);
+    }
+    make_room(names, ring, 0)?;
+    let (place, _key, entry) = names.shift_remove_full(&key).unwrap();
+    keep(names, slots, ring, Change::Unbind { place, key, entry });
     Ok(())
 }

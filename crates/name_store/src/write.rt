@@ -1,10 +1,12 @@
 //! Items of a name's array are written.
-ghost use Rattle.std.specs.Prelude.{IsOk};
+ghost use Rattle.std.specs.Prelude.{IsOk, IfErr};
 ghost use Rattle.name_store.specs.Calls.{AnswersWrite};
 ghost use Rattle.name_store.specs.Invariants.{Holds};
 ghost use Rattle.name_store.specs.Memory.{NeedsNoMemory};
-ghost use Rattle.name_store.specs.Targets.{IsAim};
-ghost use Rattle.name_store.specs.View.{state_of};
+ghost use Rattle.name_store.specs.inside.OldItems.{AreSame, Wrote};
+ghost use Rattle.shape_strides.specs.Layouts.{offsets};
+ghost use Rattle.name_store.specs.Targets.{IsAim, target_offsets};
+ghost use Rattle.name_store.specs.View.{present};
 ghost use Rattle.name_store.specs.declared.target.Source.TheVariants.{One, Block, Name};
 ghost use Rattle.name_store.specs.declared.target.Target.TheVariants.{View};
 
@@ -29,10 +31,11 @@ fn write_one(
     item: &[u8],
 ) -> usize
     requires holds { Holds names.now.entries slots.old.items }
-    requires aim { IsAim (state_of names.now.entries slots.old.items) key.now.bytes.items (View layout.now) (One item) }
+    requires aim { IsAim (present names.now.entries slots.old.items) key.now.bytes.items (View layout.now) (One item) }
     ensures holds { Holds names.now.entries slots.new.items }
-    ensures answers { AnswersWrite (state_of names.now.entries slots.old.items) key.now.bytes.items (View layout.now) (One item.entry) (Ok result)
-        (state_of names.now.entries slots.new.items) }
+    ensures answers { AnswersWrite (present names.now.entries slots.old.items) key.now.bytes.items (View layout.now) (One item.entry) (Ok result)
+        (present names.now.entries slots.new.items) }
+    ensures wrote { Wrote names.now.entries slots.old.items key.now.bytes.items (offsets layout.now) slots.new.items }
 {
     let home = home_of(names, slots.as_slice(), key);
     let runs = Runs::new(layout);
@@ -49,10 +52,11 @@ fn write_block(
     owned: &Owned,
 ) -> usize
     requires holds { Holds names.now.entries slots.old.items }
-    requires aim { IsAim (state_of names.now.entries slots.old.items) key.now.bytes.items (View layout.now) (Block owned) }
+    requires aim { IsAim (present names.now.entries slots.old.items) key.now.bytes.items (View layout.now) (Block owned) }
     ensures holds { Holds names.now.entries slots.new.items }
-    ensures answers { AnswersWrite (state_of names.now.entries slots.old.items) key.now.bytes.items (View layout.now) (Block owned.entry) (Ok result)
-        (state_of names.now.entries slots.new.items) }
+    ensures answers { AnswersWrite (present names.now.entries slots.old.items) key.now.bytes.items (View layout.now) (Block owned.entry) (Ok result)
+        (present names.now.entries slots.new.items) }
+    ensures wrote { Wrote names.now.entries slots.old.items key.now.bytes.items (offsets layout.now) slots.new.items }
 {
     let home = home_of(names, slots.as_slice(), key);
     copy_at(
@@ -79,11 +83,13 @@ fn write_named(
     from: &Layout,
 ) -> Result<usize, Refusal>
     requires holds { Holds names.now.entries slots.old.items }
-    requires aim { IsAim (state_of names.now.entries slots.old.items) key.now.bytes.items (View layout.now) (Name name from.now) }
+    requires aim { IsAim (present names.now.entries slots.old.items) key.now.bytes.items (View layout.now) (Name name from.now) }
     ensures holds { Holds names.now.entries slots.new.items }
-    ensures answers { AnswersWrite (state_of names.now.entries slots.old.items) key.now.bytes.items (View layout.now) (Name name.entry from.now) result
-        (state_of names.now.entries slots.new.items) }
-    ensures no_memory { NeedsNoMemory (state_of names.now.entries slots.old.items) key.now.bytes.items (View layout.now) (Name name.entry from.now) → IsOk result }
+    ensures answers { AnswersWrite (present names.now.entries slots.old.items) key.now.bytes.items (View layout.now) (Name name.entry from.now) result
+        (present names.now.entries slots.new.items) }
+    ensures wrote { Wrote names.now.entries slots.old.items key.now.bytes.items (offsets layout.now) slots.new.items }
+    ensures unchanged { IfErr result (λ _. AreSame slots.old.items slots.new.items) }
+    ensures no_memory { NeedsNoMemory (present names.now.entries slots.old.items) key.now.bytes.items (View layout.now) (Name name.entry from.now) → IsOk result }
 {
     let home = home_of(names, slots.as_slice(), key);
     let other = home_of(names, slots.as_slice(), &Key::of(alloc, name));
@@ -105,11 +111,13 @@ fn write_view(
     source: Source<'_>,
 ) -> Result<usize, Refusal>
     requires holds { Holds names.now.entries slots.old.items }
-    requires aim { IsAim (state_of names.now.entries slots.old.items) key.now.bytes.items (View layout.now) source }
+    requires aim { IsAim (present names.now.entries slots.old.items) key.now.bytes.items (View layout.now) source }
     ensures holds { Holds names.now.entries slots.new.items }
-    ensures answers { AnswersWrite (state_of names.now.entries slots.old.items) key.now.bytes.items (View layout.now) source.entry result
-        (state_of names.now.entries slots.new.items) }
-    ensures no_memory { NeedsNoMemory (state_of names.now.entries slots.old.items) key.now.bytes.items (View layout.now) source.entry → IsOk result }
+    ensures answers { AnswersWrite (present names.now.entries slots.old.items) key.now.bytes.items (View layout.now) source.entry result
+        (present names.now.entries slots.new.items) }
+    ensures wrote { Wrote names.now.entries slots.old.items key.now.bytes.items (offsets layout.now) slots.new.items }
+    ensures unchanged { IfErr result (λ _. AreSame slots.old.items slots.new.items) }
+    ensures no_memory { NeedsNoMemory (present names.now.entries slots.old.items) key.now.bytes.items (View layout.now) source.entry → IsOk result }
 {
     match source {
         Source::One(item) => Ok(write_one(names, slots, key, layout, item)),
@@ -119,23 +127,25 @@ fn write_view(
 }
 
 /// Writes the source's items to the target's places.
-pub(crate) fn write_in(
+pub(crate) fn write_items(
     alloc: Global,
     names: &IndexMap<Key, Entry>,
     slots: &mut Vec<Option<Slot>>,
     key: &Key,
-    target: Target,
+    target: &Target,
     source: Source<'_>,
 ) -> Result<usize, Refusal>
     requires holds { Holds names.now.entries slots.old.items }
-    requires aim { IsAim (state_of names.now.entries slots.old.items) key.now.bytes.items target source }
+    requires aim { IsAim (present names.now.entries slots.old.items) key.now.bytes.items target.now source }
     ensures holds { Holds names.now.entries slots.new.items }
-    ensures answers { AnswersWrite (state_of names.now.entries slots.old.items) key.now.bytes.items target source.entry result
-        (state_of names.now.entries slots.new.items) }
-    ensures no_memory { NeedsNoMemory (state_of names.now.entries slots.old.items) key.now.bytes.items target source.entry → IsOk result }
+    ensures answers { AnswersWrite (present names.now.entries slots.old.items) key.now.bytes.items target.now source.entry result
+        (present names.now.entries slots.new.items) }
+    ensures wrote { Wrote names.now.entries slots.old.items key.now.bytes.items (target_offsets target.now) slots.new.items }
+    ensures unchanged { IfErr result (λ _. AreSame slots.old.items slots.new.items) }
+    ensures no_memory { NeedsNoMemory (present names.now.entries slots.old.items) key.now.bytes.items target.now source.entry → IsOk result }
 {
     match target {
-        Target::View(layout) => write_view(alloc, names, slots, key, &layout, source),
-        Target::Plan(plan) => write_planned(alloc, names, slots, key, &plan, source),
+        Target::View(layout) => write_view(alloc, names, slots, key, layout, source),
+        Target::Plan(plan) => write_planned(alloc, names, slots, key, plan, source),
     }
 }

@@ -1,11 +1,12 @@
 //! Items of a name's array are written that an index list with arrays takes, in the order of the
 //! list: where one is taken more than once, the last that is written stands.
-ghost use Rattle.std.specs.Prelude.{IsOk};
+ghost use Rattle.std.specs.Prelude.{IsOk, IfErr};
 ghost use Rattle.name_store.specs.Calls.{AnswersWrite};
 ghost use Rattle.name_store.specs.Invariants.{Holds};
 ghost use Rattle.name_store.specs.Memory.{NeedsNoMemory};
+ghost use Rattle.name_store.specs.inside.OldItems.{AreSame, Wrote};
 ghost use Rattle.name_store.specs.Targets.{IsAim};
-ghost use Rattle.name_store.specs.View.{state_of};
+ghost use Rattle.name_store.specs.View.{present};
 ghost use Rattle.name_store.specs.declared.target.Source.TheVariants.{One, Block, Name};
 ghost use Rattle.name_store.specs.declared.target.Target.TheVariants as target;
 
@@ -30,10 +31,11 @@ fn write_one(
     item: &[u8],
 ) -> usize
     requires holds { Holds names.now.entries slots.old.items }
-    requires aim { IsAim (state_of names.now.entries slots.old.items) key.now.bytes.items (target.Plan plan.now) (One item) }
+    requires aim { IsAim (present names.now.entries slots.old.items) key.now.bytes.items (target.Plan plan.now) (One item) }
     ensures holds { Holds names.now.entries slots.new.items }
-    ensures answers { AnswersWrite (state_of names.now.entries slots.old.items) key.now.bytes.items (target.Plan plan.now) (One item.entry) (Ok result)
-        (state_of names.now.entries slots.new.items) }
+    ensures answers { AnswersWrite (present names.now.entries slots.old.items) key.now.bytes.items (target.Plan plan.now) (One item.entry) (Ok result)
+        (present names.now.entries slots.new.items) }
+    ensures wrote { Wrote names.now.entries slots.old.items key.now.bytes.items plan.now.offsets slots.new.items }
 {
     let home = home_of(names, slots.as_slice(), key);
     fill_at(slots, home.number, plan, item);
@@ -51,11 +53,13 @@ fn write_block(
     owned: &Owned,
 ) -> Result<usize, Refusal>
     requires holds { Holds names.now.entries slots.old.items }
-    requires aim { IsAim (state_of names.now.entries slots.old.items) key.now.bytes.items (target.Plan plan.now) (Block owned) }
+    requires aim { IsAim (present names.now.entries slots.old.items) key.now.bytes.items (target.Plan plan.now) (Block owned) }
     ensures holds { Holds names.now.entries slots.new.items }
-    ensures answers { AnswersWrite (state_of names.now.entries slots.old.items) key.now.bytes.items (target.Plan plan.now) (Block owned.entry) result
-        (state_of names.now.entries slots.new.items) }
-    ensures no_memory { NeedsNoMemory (state_of names.now.entries slots.old.items) key.now.bytes.items (target.Plan plan.now) (Block owned.entry) → IsOk result }
+    ensures answers { AnswersWrite (present names.now.entries slots.old.items) key.now.bytes.items (target.Plan plan.now) (Block owned.entry) result
+        (present names.now.entries slots.new.items) }
+    ensures wrote { Wrote names.now.entries slots.old.items key.now.bytes.items plan.now.offsets slots.new.items }
+    ensures unchanged { IfErr result (λ _. AreSame slots.old.items slots.new.items) }
+    ensures no_memory { NeedsNoMemory (present names.now.entries slots.old.items) key.now.bytes.items (target.Plan plan.now) (Block owned.entry) → IsOk result }
 {
     let home = home_of(names, slots.as_slice(), key);
     if owned.layout.is_c(home.width) {
@@ -85,10 +89,12 @@ fn write_named(
     from: &Layout,
 ) -> Result<usize, Refusal>
     requires holds { Holds names.now.entries slots.old.items }
-    requires aim { IsAim (state_of names.now.entries slots.old.items) key.now.bytes.items (target.Plan plan.now) (Name name from.now) }
+    requires aim { IsAim (present names.now.entries slots.old.items) key.now.bytes.items (target.Plan plan.now) (Name name from.now) }
     ensures holds { Holds names.now.entries slots.new.items }
-    ensures answers { AnswersWrite (state_of names.now.entries slots.old.items) key.now.bytes.items (target.Plan plan.now) (Name name.entry from.now) result
-        (state_of names.now.entries slots.new.items) }
+    ensures answers { AnswersWrite (present names.now.entries slots.old.items) key.now.bytes.items (target.Plan plan.now) (Name name.entry from.now) result
+        (present names.now.entries slots.new.items) }
+    ensures wrote { Wrote names.now.entries slots.old.items key.now.bytes.items plan.now.offsets slots.new.items }
+    ensures unchanged { IfErr result (λ _. AreSame slots.old.items slots.new.items) }
 {
     let home = home_of(names, slots.as_slice(), key);
     let other = lent_of(names, slots.as_slice(), &Key::of(alloc, name));
@@ -107,11 +113,13 @@ pub(crate) fn write_planned(
     source: Source<'_>,
 ) -> Result<usize, Refusal>
     requires holds { Holds names.now.entries slots.old.items }
-    requires aim { IsAim (state_of names.now.entries slots.old.items) key.now.bytes.items (target.Plan plan.now) source }
+    requires aim { IsAim (present names.now.entries slots.old.items) key.now.bytes.items (target.Plan plan.now) source }
     ensures holds { Holds names.now.entries slots.new.items }
-    ensures answers { AnswersWrite (state_of names.now.entries slots.old.items) key.now.bytes.items (target.Plan plan.now) source.entry result
-        (state_of names.now.entries slots.new.items) }
-    ensures no_memory { NeedsNoMemory (state_of names.now.entries slots.old.items) key.now.bytes.items (target.Plan plan.now) source.entry → IsOk result }
+    ensures answers { AnswersWrite (present names.now.entries slots.old.items) key.now.bytes.items (target.Plan plan.now) source.entry result
+        (present names.now.entries slots.new.items) }
+    ensures wrote { Wrote names.now.entries slots.old.items key.now.bytes.items plan.now.offsets slots.new.items }
+    ensures unchanged { IfErr result (λ _. AreSame slots.old.items slots.new.items) }
+    ensures no_memory { NeedsNoMemory (present names.now.entries slots.old.items) key.now.bytes.items (target.Plan plan.now) source.entry → IsOk result }
 {
     match source {
         Source::One(item) => Ok(write_one(names, slots, key, plan, item)),

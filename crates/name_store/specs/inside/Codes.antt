@@ -27,7 +27,7 @@ buffers_code = code coded_ℕ buffer_code
 
 abbrev pub state_code : Coded State
 state_code =
-    code_by (List (List ℕ × Array) × (FinMap nat_cmp Buffer × List (List (List ℕ × Array) × FinMap nat_cmp Buffer)))
-    (coded× names_code (coded× buffers_code (coded_list (coded× names_code buffers_code))))
-    (λ s. (s.names, (s.buffers, s.kept)))
-    (λ p. record { names = p.0; buffers = p.1.0; kept = p.1.1 }) (λ _. refl)
+    code_by (List (List ℕ × Array) × (FinMap nat_cmp Buffer × (ℕ × (List (List (List ℕ × Array) × FinMap nat_cmp Buffer) × List ℕ))))
+    (coded× names_code (coded× buffers_code (coded× coded_ℕ (coded× (coded_list (coded× names_code buffers_code)) (coded_list coded_ℕ)))))
+    (λ s. (s.names, (s.buffers, (s.depth, (s.kept, s.patches)))))
+    (λ p. record { names = p.0; buffers = p.1.0; depth = p.1.1.0; kept = p.1.1.1.0; patches = p.1.1.1.1 }) (λ _. refl)

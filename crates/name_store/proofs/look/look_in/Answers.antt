@@ -2,17 +2,18 @@ use Rattle.std.proofs.Common.{ap, sym, ◌∙◌, refl, subst, Option, None, is_
 use Rattle.std.specs.Option.{option_copied}
 use Rattle.name_store.specs.States.{Array}
 use Rattle.name_store.specs.Shown.{Finds}
-use Rattle.name_store.specs.View.{state_of}
+use Rattle.name_store.specs.View.{present}
 use Rattle.name_store.proofs.SlotLaws.{slot_at-within}
 use Rattle.name_store.proofs.StateLaws.{found-slot, found-lies, bound-found, none-found}
+use Rattle.name_store.proofs.NameLaws.{lookup-used}
 use Rattle.name_store.proofs.ShowLaws.{shown, finds}
 use Rattle.name_store.proofs.look.look_in.Goals as goal
 
 pub returns-in_err-entry : goal.returns-in_err-entry
 returns-in_err-entry c =
-    subst (λ (found : Option Array). Finds (state_of c.args.names.now.entries c.args.slots.now) found c.from_residual.result)
+    subst (λ (found : Option Array). Finds (present c.args.names.now.entries c.args.slots.now) found c.from_residual.result)
     (sym (none-found _ _ c.requires.holds _ c.args.key.now.bytes.items (λ _. refl) (sym c.get.ensures.value ∙ ap option_copied c.in_err-entry.was)))
-    (subst (Finds (state_of c.args.names.now.entries c.args.slots.now) None) (sym c.from_residual.ensures) tt)
+    (subst (Finds (present c.args.names.now.entries c.args.slots.now) None) (sym c.from_residual.ensures) tt)
 
 pub slot_of-slot-requires : goal.slot_of-slot-requires
 slot_of-slot-requires c =
@@ -26,7 +27,7 @@ returns c =
     let was = sym c.get.ensures.value ∙ ap option_copied c.in_ok-entry.was in
     let lies = found-lies _ _ c.requires.holds _ c.args.key.now.bytes.items (λ _. refl) c.in_ok-entry.entry.now c.slot_of-slot.result.now was c.slot_of-slot.ensures in
     finds _ _ _ _ (bound-found _ _ c.requires.holds _ c.args.key.now.bytes.items (λ _. refl) c.in_ok-entry.entry.now was)
-    (shown c.args.names.now.entries c.args.slots.now c.in_ok-entry.entry.now c.slot_of-slot.result.now _ c.slot_of-slot.ensures lies refl refl refl refl c.descr_in.ensures refl)
+    (shown c.args.names.now.entries c.args.slots.now c.in_ok-entry.entry.now c.slot_of-slot.result.now _ (lookup-used _ c.args.names.now.entries c.in_ok-entry.entry.now was) c.slot_of-slot.ensures lies refl refl refl refl c.descr_in.ensures refl)
 
 pub descr_in-requires : goal.descr_in-requires
 descr_in-requires c =

@@ -1,29 +1,56 @@
-use Rattle.std.proofs.Common.{ap, sym, ◌∙◌, refl, arith, is_some, List}
+use Rattle.std.proofs.Common.{ap, sym, ◌∙◌, refl, arith, List, inl, inr}
+use Rattle.std.specs.Option.{option_map}
+use Rattle.std.proofs.lemmas.Bool.{false≢true}
+use Rattle.std.proofs.lemmas.Result.{err_from_is_err_and}
+use Rattle.indexmap.specs.IndexMap.{spare}
+use Rattle.name_store.specs.Arrays.{unbound}
 use Rattle.name_store.specs.View.{state_of}
 use Rattle.name_store.specs.declared.entry.Entry.{Entry}
 use Rattle.name_store.specs.declared.entry.Key.{Key}
-use Rattle.name_store.proofs.SlotLaws.{slot_at-within}
-use Rattle.name_store.proofs.StateLaws.{unbound-holds, unbound-answer, found-slot, bound-found, none-found}
+use Rattle.name_store.proofs.UnbindLaws.{same-sound, unbind-occupied, unbind-sound, unbind-state, bound-has, deep, removed-one}
 use Rattle.name_store.proofs.unbind.unbind_in.Goals as goal
 
-pub returns-in_default-clause-answers : goal.returns-in_default-clause-answers
-returns-in_default-clause-answers c = (
-  ap is_some (none-found _ _ c.requires.holds _ c.args.key.now.bytes.items (λ _. refl) (sym c.shift_remove.ensures.value ∙ c.in_default.is)),
-  refl,
-  ap (λ (ns : List (Key × Entry)). state_of ns c.args.slots.now.items) c.in_default.ensures.unchanged,
-)
+pub returns-then-not-contains_key-clause-answers : goal.returns-then-not-contains_key-clause-answers
+returns-then-not-contains_key-clause-answers c =
+    (refl, inl (bound-has _ c.args.key.bytes.items (λ _. refl) c.args.names.now.entries ∙ sym c.contains_key.ensures ∙ c.if-not-contains_key.true, refl))
 
-pub release-requires : goal.release-requires
-release-requires c =
-    let there = found-slot _ _ c.requires.holds _ c.args.key.now.bytes.items (λ _. refl) c.in-Some.removed (sym c.shift_remove.ensures.value ∙ c.in-Some.is) in
-    omega (arith, c.args.slots.now.ok.0, slot_at-within c.args.slots.now.items c.in-Some.removed.number there.0 there.1)
+pub returns-in_err-make_room-clause-answers : goal.returns-in_err-make_room-clause-answers
+returns-in_err-make_room-clause-answers c =
+    let p = err_from_is_err_and c.from_residual.result c.from_residual.ensures.1 in
+    rw (p.1, p.2) (
+      ap (λ (ns : List (Key × Entry)). state_of ns c.args.slots.now.items c.args.ring.now) c.in_err-make_room.ensures.entries,
+      inr (
+        bound-has _ c.args.key.bytes.items (λ _. refl) c.args.names.now.entries ∙ sym c.contains_key.ensures ∙ c.if-not-contains_key.false,
+        refl,
+        deep c.args.ring.now.capacity _ (λ none. false≢true (c.in_err-make_room.ensures.none none)),
+      ),
+    )
 
-pub returns-clause-holds : goal.returns-clause-holds
-returns-clause-holds c =
-    unbound-holds _ _ c.requires.holds _ c.args.key.now.bytes.items (λ _. refl) _ c.in-Some.removed _ c.shift_remove.ensures.entries (sym c.shift_remove.ensures.value ∙ c.in-Some.is) c.release.ensures
+pub keep-requires-clause-occupied : goal.keep-requires-clause-occupied
+keep-requires-clause-occupied c =
+    let sound = same-sound c.args.names.now.entries c.make_room.new.names.entries c.args.slots.now.items c.args.ring.now _ _ c.in_ok-make_room.ensures.entries c.in_ok-make_room.ensures.kept c.requires.sound in
+    unbind-occupied c.make_room.new.names.entries c.args.slots.now.items c.args.ring.now _ sound _ c.args.key (λ _. refl) c.unwrap-place.result.2 c.unwrap-place.result.0
+    (sym c.shift_remove_full.ensures.value ∙ ap (option_map (λ p. p.2)) c.unwrap-place.ensures)
+    (sym (ap (option_map (λ p. p.0)) c.unwrap-place.ensures) ∙ c.shift_remove_full.ensures.index) c.shift_remove_full.new.self.entries c.shift_remove_full.ensures.entries
+    c.shift_remove_full.ensures.updates.1 (removed-one _ _ c.unwrap-place.ensures c.shift_remove_full.ensures.len)
+
+pub returns-clause-sound : goal.returns-clause-sound
+returns-clause-sound c =
+    let sound = same-sound c.args.names.now.entries c.make_room.new.names.entries c.args.slots.now.items c.args.ring.now _ _ c.in_ok-make_room.ensures.entries c.in_ok-make_room.ensures.kept c.requires.sound in
+    unbind-sound c.make_room.new.names.entries c.args.slots.now.items c.args.ring.now _ sound _ c.args.key (λ _. refl) c.unwrap-place.result.2 c.unwrap-place.result.0
+    (sym c.shift_remove_full.ensures.value ∙ ap (option_map (λ p. p.2)) c.unwrap-place.ensures)
+    (sym (ap (option_map (λ p. p.0)) c.unwrap-place.ensures) ∙ c.shift_remove_full.ensures.index) c.shift_remove_full.new.self.entries c.shift_remove_full.ensures.entries
+    c.shift_remove_full.ensures.updates.1 (removed-one _ _ c.unwrap-place.ensures c.shift_remove_full.ensures.len)
+    c.keep.new.ring c.keep.new.slots.items _ c.keep.ensures.ring c.keep.ensures.slots (omega (arith, c.in_ok-make_room.ensures.room, c.shift_remove_full.ensures.room.0))
 
 pub returns-clause-answers : goal.returns-clause-answers
-returns-clause-answers c = (
-  ap is_some (bound-found _ _ c.requires.holds _ c.args.key.now.bytes.items (λ _. refl) c.in-Some.removed (sym c.shift_remove.ensures.value ∙ c.in-Some.is)),
-  unbound-answer _ _ c.requires.holds _ c.args.key.now.bytes.items (λ _. refl) _ c.in-Some.removed _ c.shift_remove.ensures.entries (sym c.shift_remove.ensures.value ∙ c.in-Some.is) c.release.ensures,
-)
+returns-clause-answers c =
+    let sound = same-sound c.args.names.now.entries c.make_room.new.names.entries c.args.slots.now.items c.args.ring.now _ _ c.in_ok-make_room.ensures.entries c.in_ok-make_room.ensures.kept c.requires.sound in (
+      bound-has _ c.args.key.bytes.items (λ _. refl) c.args.names.now.entries ∙ sym c.contains_key.ensures ∙ c.if-not-contains_key.false,
+      unbind-state c.make_room.new.names.entries c.args.slots.now.items c.args.ring.now _ sound _ c.args.key (λ _. refl) c.unwrap-place.result.2 c.unwrap-place.result.0
+          (sym c.shift_remove_full.ensures.value ∙ ap (option_map (λ p. p.2)) c.unwrap-place.ensures)
+          (sym (ap (option_map (λ p. p.0)) c.unwrap-place.ensures) ∙ c.shift_remove_full.ensures.index) c.shift_remove_full.new.self.entries c.shift_remove_full.ensures.entries
+          c.shift_remove_full.ensures.updates.1 (removed-one _ _ c.unwrap-place.ensures c.shift_remove_full.ensures.len)
+          c.keep.new.ring c.keep.new.slots.items (spare c.shift_remove_full.new.self) c.keep.ensures.ring c.keep.ensures.slots (omega (arith, c.in_ok-make_room.ensures.room, c.shift_remove_full.ensures.room.0))
+          ∙ ap (λ (ns : List (Key × Entry)). unbound (state_of ns c.args.slots.now.items c.args.ring.now) c.args.key.bytes.items) c.in_ok-make_room.ensures.entries,
+    )

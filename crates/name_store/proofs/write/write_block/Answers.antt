@@ -6,7 +6,7 @@ use Rattle.name_store.specs.declared.slot.Slot.{Slot}
 use Rattle.name_store.specs.declared.target.Target.TheVariants.{View}
 use Rattle.name_store.specs.declared.target.Source.TheVariants.{Block}
 use Rattle.name_store.proofs.AimLaws.{target-within}
-use Rattle.name_store.proofs.AnswerLaws.{block-within, block-answers}
+use Rattle.name_store.proofs.AnswerLaws.{block-within, block-answers, block-wrote}
 use Rattle.name_store.proofs.StateLaws.{Slots}
 use Rattle.name_store.proofs.WriteLaws.{home-within, written-holds}
 use Rattle.name_store.proofs.write.write_block.Goals as goal
@@ -36,3 +36,8 @@ pub returns-clause-answers : goal.returns-clause-answers
 returns-clause-answers c =
     let home = subst (λ (slots : Slots). IsHome c.args.names.now.entries slots c.args.key.now.bytes.items c.home_of-home.result.number c.home_of-home.result.width) c.as_slice.ensures.value c.home_of-home.ensures in
     block-answers c.args.names.now.entries c.args.slots.now.items _ c.home_of-home.result.number c.home_of-home.result.width home (View c.args.layout.now) c.args.owned c.requires.aim c.requires.holds c.copy_at.new.slots.items (c.copy_at.ensures home.slot home.there) c.items.result (c.items.ensures.value ∙ sym (length-offsets c.args.layout.now))
+
+pub returns-clause-wrote : goal.returns-clause-wrote
+returns-clause-wrote c =
+    let home = subst (λ (slots : Slots). IsHome c.args.names.now.entries slots c.args.key.now.bytes.items c.home_of-home.result.number c.home_of-home.result.width) c.as_slice.ensures.value c.home_of-home.ensures in
+    block-wrote c.args.names.now.entries c.args.slots.now.items _ c.home_of-home.result.number c.home_of-home.result.width home (View c.args.layout.now) c.args.owned c.requires.aim c.requires.holds c.copy_at.new.slots.items (c.copy_at.ensures home.slot home.there)

@@ -12,7 +12,7 @@ use Rattle.name_store.specs.declared.slot.Slot.{Slot}
 use Rattle.name_store.specs.declared.target.Target.TheVariants.{View}
 use Rattle.name_store.specs.declared.target.Source.TheVariants.{One}
 use Rattle.name_store.proofs.AimLaws.{target-within}
-use Rattle.name_store.proofs.AnswerLaws.{one-size, one-answers}
+use Rattle.name_store.proofs.AnswerLaws.{one-size, one-answers, one-wrote}
 use Rattle.name_store.proofs.StateLaws.{Slots}
 use Rattle.name_store.proofs.WriteLaws.{home-within, written-holds}
 use Rattle.name_store.proofs.write.write_one.Goals as goal
@@ -45,3 +45,10 @@ returns-clause-answers c =
     let done = subst (λ os. HasNew c.args.slots.now.items c.home_of-home.result.number home.slot (put_each os c.args.item.now home.slot.block) c.fill_at.new.slots.items)
     (ap (flat_map run_offsets) c.new-runs.ensures.runs ∙ c.new-runs.ensures.offsets) (c.fill_at.ensures home.slot home.there) in
     one-answers c.args.names.now.entries c.args.slots.now.items _ c.home_of-home.result.number c.home_of-home.result.width home (View c.args.layout.now) c.args.item c.requires.aim c.requires.holds c.fill_at.new.slots.items done c.items.result (c.items.ensures.value ∙ sym (length-offsets c.args.layout.now))
+
+pub returns-clause-wrote : goal.returns-clause-wrote
+returns-clause-wrote c =
+    let home = subst (λ (slots : Slots). IsHome c.args.names.now.entries slots c.args.key.now.bytes.items c.home_of-home.result.number c.home_of-home.result.width) c.as_slice.ensures.value c.home_of-home.ensures in
+    let done = subst (λ os. HasNew c.args.slots.now.items c.home_of-home.result.number home.slot (put_each os c.args.item.now home.slot.block) c.fill_at.new.slots.items)
+    (ap (flat_map run_offsets) c.new-runs.ensures.runs ∙ c.new-runs.ensures.offsets) (c.fill_at.ensures home.slot home.there) in
+    one-wrote c.args.names.now.entries c.args.slots.now.items _ c.home_of-home.result.number c.home_of-home.result.width home (View c.args.layout.now) c.args.item c.requires.aim c.requires.holds c.fill_at.new.slots.items done

@@ -3,7 +3,7 @@ use Rattle.name_store.specs.inside.Homes.{IsHome}
 use Rattle.name_store.specs.declared.slot.Slot.{Slot}
 use Rattle.name_store.specs.declared.target.Source.TheVariants.{One}
 use Rattle.name_store.specs.declared.target.Target.TheVariants as target
-use Rattle.name_store.proofs.AnswerLaws.{one-size, one-answers}
+use Rattle.name_store.proofs.AnswerLaws.{one-size, one-answers, one-wrote}
 use Rattle.name_store.proofs.PlanAims.{plan-within}
 use Rattle.name_store.proofs.StateLaws.{Slots}
 use Rattle.name_store.proofs.WriteLaws.{home-within, written-holds}
@@ -30,3 +30,8 @@ pub returns-clause-answers : goal.returns-clause-answers
 returns-clause-answers c =
     let home = subst (λ (slots : Slots). IsHome c.args.names.now.entries slots c.args.key.now.bytes.items c.home_of-home.result.number c.home_of-home.result.width) c.as_slice.ensures.value c.home_of-home.ensures in
     one-answers c.args.names.now.entries c.args.slots.now.items _ c.home_of-home.result.number c.home_of-home.result.width home (target.Plan c.args.plan.now) c.args.item c.requires.aim c.requires.holds c.fill_at.new.slots.items (c.fill_at.ensures home.slot home.there) c.len.result c.len.ensures.value
+
+pub returns-clause-wrote : goal.returns-clause-wrote
+returns-clause-wrote c =
+    let home = subst (λ (slots : Slots). IsHome c.args.names.now.entries slots c.args.key.now.bytes.items c.home_of-home.result.number c.home_of-home.result.width) c.as_slice.ensures.value c.home_of-home.ensures in
+    one-wrote c.args.names.now.entries c.args.slots.now.items _ c.home_of-home.result.number c.home_of-home.result.width home (target.Plan c.args.plan.now) c.args.item c.requires.aim c.requires.holds c.fill_at.new.slots.items (c.fill_at.ensures home.slot home.there)

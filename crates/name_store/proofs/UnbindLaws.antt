@@ -1,0 +1,139 @@
+-- A name is unbound, and what it was bound to is kept.
+use Rattle.std.proofs.Common.{◌≡◌, ◌+◌, ◌<◌, ◌≤◌, ℕ, zero, suc, Bool, true, false, List, [], ◌∷◌, ◌++◌, length, map, min, position, insert, refl, sym, ap, subst, ◌∙◌, cond, Option, Some, None, is_some, nat_eq, nat_lt, arith, inl, inr}
+use Rattle.std.specs.List.{AllByRecursion, list_any, position_or_len}
+use Rattle.std.specs.Map.{lookup, keys_of}
+use Rattle.std.specs.Option.{option_map}
+use Rattle.std.proofs.lemmas.Bool.{ltb-true}
+use Rattle.std.proofs.lemmas.List.{length-map}
+use Rattle.circular_buffer.specs.Buffer.{Buffer as Ring, buffer, keep_last}
+use Rattle.indexmap.specs.IndexMap.{shift_remove_entry}
+use Rattle.name_store.specs.Arrays.{find_array, is_in_use, without, unbound, is_bound}
+use Rattle.name_store.specs.Invariants.{Holds, IsSound, LiesAt, IsUndoable, needs, is_needed}
+use Rattle.name_store.specs.Kept.{Names, names_before, past_buffers, past_buffer, bytes_before}
+use Rattle.name_store.specs.States.{Array}
+use Rattle.name_store.specs.View.{array_at, named_array, slot_at, state_of, present}
+use Rattle.name_store.specs.declared.change.Change.{Change}
+use Rattle.name_store.specs.declared.change.Change.TheVariants.{Unbind}
+use Rattle.name_store.specs.declared.entry.Entry.{Entry}
+use Rattle.name_store.specs.declared.entry.Key.{Key}
+use Rattle.name_store.specs.declared.slot.Slot.{Slot}
+use Rattle.std.specs.Cmp.{nat_cmp_total}
+use Rattle.std.specs.FinMap.{retain_keys, get-retain_keys, same_map, nat_cmp-IsAntisymmetric}
+use Rattle.name_store.proofs.NameLaws.{TestsName, find-lookup, without-remove, all-lookup, all-remove, insert-removed, kept-without, used-back-without, in_front, either}
+use Rattle.name_store.proofs.PastLaws.{Restored, content_before, content, needed-last, needed-others}
+use Rattle.name_store.proofs.SlotLaws.{itself, get-past, get-buffers}
+use Rattle.name_store.proofs.StateLaws.{Slots, Swept}
+use Rattle.name_store.proofs.KeepLaws.{keep-occupied, keep-sound, keep-state}
+
+some-cond : (t : Bool) (n m : ℕ) → Some n ≡ cond t (Some m) None → (t ≡ true) × (n ≡ m)
+some-cond true n m h = (refl, cc)
+some-cond false n m h = let no : ⊥ = cc in absurd no
+
+pub placed : (test : Key → Bool) (keys : List Key) (n : ℕ) → Some n ≡ position test keys → (n ≡ position_or_len test keys) × (n < length keys)
+placed test keys n h =
+    let p = some-cond (nat_lt (position_or_len test keys) (length keys)) n (position_or_len test keys) h in
+    (p.1, omega (arith, p.1, ltb-true (position_or_len test keys) (length keys) p.0))
+
+keys-length : (es : List (Key × Entry)) → length (keys_of es) ≡ length es
+keys-length [] = refl
+keys-length (e ∷ es) = ap suc (keys-length es)
+
+pub same-content : (c : Change) (q : ℕ) (o : Option Slot) → ((bytes : List ℕ) → bytes_before c q bytes ≡ bytes) → option_map (content_before c q) o ≡ option_map content o
+same-content c q None same = refl
+same-content c q (Some s) same = ap (λ bytes. Some (s.descr, s.items, bytes)) (same s.block)
+
+-- the buffers that names use, of those that more of them used
+pub fewer-buffers : (es : List (Key × Entry)) (slots : Slots) (names : Names) → ((q : ℕ) → is_in_use names q ≡ true → is_in_use (map named_array es) q ≡ true) → past_buffers [] names slots ≡ retain_keys (present es slots).buffers (is_in_use names)
+fewer-buffers es slots names fewer = same_map nat_cmp_total nat_cmp-IsAntisymmetric _ _ (λ q.
+    get-past [] names slots q
+    ∙ at q
+    ∙ ap (λ o. cond (is_in_use names q) o None) (sym (get-buffers es slots q))
+    ∙ sym (get-retain_keys (present es slots).buffers (is_in_use names) q (λ x e. ap (is_in_use names) (sym (nat_cmp-IsAntisymmetric q x e)))))
+  where
+    at : (q : ℕ) → cond (is_in_use names q) (option_map (past_buffer [] q) (slot_at slots q)) None ≡ cond (is_in_use names q) (cond (is_in_use (map named_array es) q) (option_map (past_buffer [] q) (slot_at slots q)) None) None
+    at q =
+        elim (is_in_use names q) as (λ t. is_in_use names q ≡ t → cond t (option_map (past_buffer [] q) (slot_at slots q)) None ≡ cond t (cond (is_in_use (map named_array es) q) (option_map (past_buffer [] q) (slot_at slots q)) None) None) [
+          | true ↦ λ used. ap (λ t. cond t (option_map (past_buffer [] q) (slot_at slots q)) None) (sym (fewer q used))
+          | false ↦ λ _. refl
+        ] refl
+
+module _ (es : List (Key × Entry)) (slots : Slots) (ring : Ring Change) (spare : ℕ) (sound : IsSound es slots ring spare) (test : Key → Bool) (key : Key) (is : TestsName test key.bytes.items)
+    (e : Entry) (place : ℕ) (was : lookup test es ≡ Some e) (at : Some place ≡ position test (keys_of es)) (es' : List (Key × Entry)) (removed : es' ≡ shift_remove_entry test es) (gone : lookup test es' ≡ None) (len : length es' + 1 ≡ length es) where
+  abbrev c : Change
+  c = Unbind place key e
+
+  abbrev names' : Names
+  names' = map named_array es'
+
+  spot : (place ≡ position_or_len test (keys_of es)) × (place < length (keys_of es))
+  spot = placed test (keys_of es) place at
+
+  before-is : names_before c names' ≡ map named_array es
+  before-is = ap (λ (ns : List (Key × Entry)). insert (map named_array ns) place (key.bytes.items, array_at e)) removed ∙ insert-removed test key.bytes.items is es e place was spot.0
+
+  names-are : names' ≡ without (map named_array es) key.bytes.items
+  names-are = ap (map named_array) removed ∙ without-remove test key.bytes.items is es
+
+  holds : Holds es' slots
+  holds = record {
+    few = omega (arith, len, sound.holds.few);
+    lie = subst (λ (ns : List (Key × Entry)). AllByRecursion (λ entry. LiesAt (slot_at slots entry.1.number) entry.1) ns) (sym removed) (all-remove (λ x. LiesAt (slot_at slots x.number) x) test es sound.holds.lie);
+  }
+
+  restored : (q : ℕ) → is_needed (map named_array es) ring.items q ≡ true → Restored c q (slot_at slots q) (slot_at slots q)
+  restored q needed = same-content c q (slot_at slots q) (λ bytes. refl)
+
+  own : IsUndoable c names' slots
+  own = (
+    all-lookup (λ x. LiesAt (slot_at slots x.number) x) test es e sound.holds.lie was,
+    omega (arith, spot.1, keys-length es, len, length-map es' named_array),
+    find-lookup test key.bytes.items is es' ∙ ap (option_map array_at) gone,
+  )
+
+  came : (q : ℕ) → is_some (slot_at slots q) ≡ true → is_needed names' (ring.items ++ c ∷ []) q ≡ true
+  came q there =
+      elim (either (is_in_use (map named_array es) q) (list_any (needs q) ring.items) (sym (sound.occupied q) ∙ there)) [
+        | inl used ↦ elim (kept-without (map named_array es) key.bytes.items q used) [
+          | inl still ↦ in_front (is_in_use names' q) (list_any (needs q) (ring.items ++ c ∷ [])) (ap (λ (ns : Names). is_in_use ns q) names-are ∙ still)
+          | inr other ↦ needed-last names' ring.items c q (ap (λ n. nat_eq n q) (number other.0 other.1 ∙ other.2) ∙ itself q)
+        ]
+        | inr others ↦ needed-others names' ring.items c q others
+      ]
+    where
+      number : (a : Array) → find_array (map named_array es) key.bytes.items ≡ Some a → e.number ≡ a.buffer
+      number a found = let same : Some (array_at e) ≡ Some a = sym (find-lookup test key.bytes.items is es ∙ ap (option_map array_at) was) ∙ found in let alike : array_at e ≡ a = cc in ap (λ (o : Array). o.buffer) alike
+
+  pub unbind-occupied : (q : ℕ) → is_some (slot_at slots q) ≡ is_needed names' (ring.items ++ c ∷ []) q
+  unbind-occupied = keep-occupied es slots ring spare sound es' slots c before-is holds restored own came
+
+  pub unbind-bound : is_bound (state_of es slots ring) key.bytes.items ≡ true
+  unbind-bound = ap is_some (find-lookup test key.bytes.items is es ∙ ap (option_map array_at) was)
+
+  module _ (ring' : Ring Change) (after : Slots) (spare' : ℕ) (ring-is : ring' ≡ buffer (keep_last ring.capacity (ring.items ++ c ∷ [])) ring.capacity) (swept : Swept (is_needed names' ring'.items) slots after) (room : min ring.capacity (length ring.items + 1) ≤ spare') where
+    pub unbind-sound : IsSound es' after ring' spare'
+    unbind-sound = keep-sound es slots ring spare sound es' slots c before-is holds restored own came ring' after spare' ring-is swept room
+
+    pub unbind-state : state_of es' after ring' ≡ unbound (state_of es slots ring) key.bytes.items
+    unbind-state =
+        keep-state es slots ring spare sound es' slots c before-is holds restored own came ring' after spare' ring-is swept room
+        ∙ λ i. record (unbound (state_of es slots ring) key.bytes.items) { names = names-are i; buffers = (fewer-buffers es slots names' (λ q used. used-back-without (map named_array es) key.bytes.items q (ap (λ (ns : Names). is_in_use ns q) (sym names-are) ∙ used)) ∙ ap (λ (ns : Names). retain_keys (present es slots).buffers (is_in_use ns)) names-are) i }
+
+-- a table that is the same but for its room
+pub same-sound : (es es' : List (Key × Entry)) (slots : Slots) (ring : Ring Change) (spare spare' : ℕ) → es' ≡ es → spare ≤ spare' → IsSound es slots ring spare → IsSound es' slots ring spare'
+same-sound es es' slots ring spare spare' same more sound = subst (λ (ns : List (Key × Entry)). IsSound ns slots ring spare') (sym same) (record { holds = sound.holds; occupied = sound.occupied; undoable = sound.undoable; short = sound.short; room = omega (arith, sound.room, more) })
+
+-- whether a name is bound is whether it has an entry
+pub bound-has : (test : Key → Bool) (name : List ℕ) → TestsName test name → (es : List (Key × Entry)) → is_some (find_array (map named_array es) name) ≡ is_some (lookup test es)
+bound-has test name is es = ap is_some (find-lookup test name is es) ∙ some-array (lookup test es)
+  where
+    some-array : (found : Option Entry) → is_some (option_map array_at found) ≡ is_some found
+    some-array None = refl
+    some-array (Some e) = refl
+
+-- room is needed only where something is kept
+pub deep : (cap len : ℕ) → (min cap (len + 1) + 0 ≡ 0 → ⊥) → 1 ≤ cap
+deep zero len lacks = absurd (lacks (omega arith))
+deep (suc cap) len lacks = omega arith
+
+pub removed-one : {X : Type 0} {o : Option X} {x : X} → (n m : ℕ) → o ≡ Some x → n + cond (is_some o) 1 0 ≡ m → n + 1 ≡ m
+removed-one n m some len = ap (λ o. n + cond (is_some o) 1 0) (sym some) ∙ len

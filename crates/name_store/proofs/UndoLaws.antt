@@ -1,0 +1,121 @@
+-- A change is undone.
+use Rattle.std.proofs.Common.{◌≡◌, ◌+◌, ◌-◌, ◌≤◌, ℕ, suc, true, false, List, [], ◌∷◌, ◌++◌, length, take, map, slice_get, refl, sym, ap, subst, ◌∙◌, cond, Some, None, is_some, arith, ◌⊎◌, length-append}
+use Rattle.std.specs.List.{AllByRecursion, list_any}
+use Rattle.std.specs.Option.{option_map, option_map_or}
+use Rattle.std.proofs.lemmas.List.{length-map, map-append}
+use Rattle.std.proofs.Math.Seq.{take-append_seam}
+use Rattle.circular_buffer.specs.Buffer.{Buffer as Ring, buffer, last_item}
+use Rattle.std.specs.FinMap.{FinMap}
+use Rattle.std.specs.Ordering.{nat_cmp}
+use Rattle.name_store.specs.States.{Buffer}
+use Rattle.name_store.specs.Arrays.{is_in_use, has_kept, undone}
+use Rattle.name_store.specs.Invariants.{IsSound, LiesAt, IsUndoable, AreUndoable, needs, is_needed}
+use Rattle.name_store.specs.Kept.{Names, names_before, past_buffers, kept_states, patch_size}
+use Rattle.name_store.specs.View.{named_array, slot_at, state_of}
+use Rattle.name_store.specs.declared.change.Change.{Change}
+use Rattle.name_store.specs.declared.entry.Entry.{Entry}
+use Rattle.name_store.specs.declared.entry.Key.{Key}
+use Rattle.name_store.specs.inside.Undoes.{Undoes}
+use Rattle.name_store.proofs.KeepLaws.{shape-some}
+use Rattle.name_store.proofs.NameLaws.{all-both, all-in_use, in_front}
+use Rattle.name_store.proofs.PastLaws.{Restored, restored-shape, shape, needed-before, same-buffers, kept-push, kept-free, undoable-pop, undoable-still}
+use Rattle.name_store.proofs.StateLaws.{Slots, Swept}
+
+-- the last is the last
+pub last-push : {X : Type 0} (xs : List X) (x : X) → last_item (xs ++ x ∷ []) ≡ Some x
+last-push {X = X} xs x = ap (λ n. slice_get (xs ++ x ∷ []) n) (omega (arith, length-append xs (x ∷ []))) ∙ at xs
+  where
+    at : (xs : List X) → slice_get (xs ++ x ∷ []) (length xs) ≡ Some x
+    at [] = refl
+    at (y ∷ ys) = at ys
+
+pub front-push : {X : Type 0} (xs : List X) (x : X) → take (length (xs ++ x ∷ []) - 1) (xs ++ x ∷ []) ≡ xs
+front-push xs x = ap (λ n. take n (xs ++ x ∷ [])) (omega (arith, length-append xs (x ∷ []))) ∙ take-append_seam xs (x ∷ [])
+
+pub split-last : {X : Type 0} (xs : List X) (x : X) → Some x ≡ last_item xs → take (length xs - 1) xs ++ x ∷ [] ≡ xs
+split-last {X = X} [] x h = let no : ⊥ = cc in absurd no
+split-last {X = X} (y ∷ ys) x h = by (length ys) refl h
+  where
+    more : suc (length ys) - 1 ≡ length ys
+    more = omega arith
+
+    go : (ys : List X) (y : X) → Some x ≡ slice_get (y ∷ ys) (length ys) → take (length ys) (y ∷ ys) ++ x ∷ [] ≡ y ∷ ys
+    go [] y h = let same : x ≡ y = cc in ap (λ z. z ∷ []) same
+    go (z ∷ ys) y h = ap (λ zs. y ∷ zs) (go ys z h)
+
+    by : (n : ℕ) → length ys ≡ n → Some x ≡ last_item (y ∷ ys) → take (length (y ∷ ys) - 1) (y ∷ ys) ++ x ∷ [] ≡ y ∷ ys
+    by n _ h = ap (λ k. take k (y ∷ ys) ++ x ∷ []) more ∙ go ys y (h ∙ ap (slice_get (y ∷ ys)) more)
+
+module _ (es : List (Key × Entry)) (slots : Slots) (ring : Ring Change) (c : Change) (spare : ℕ) (sound : IsSound es slots (buffer (ring.items ++ c ∷ []) ring.capacity) spare) where
+  abbrev names : Names
+  names = map named_array es
+
+  abbrev past : Names
+  past = names_before c names
+
+  pub popped : AreUndoable ring.items past slots × (length past ≤ 1024) × IsUndoable c names slots
+  popped = undoable-pop ring.items c names slots sound.undoable
+
+  -- names and slots are as they were before the change, and then what is not needed is freed
+  module _ (es' : List (Key × Entry)) (now after : Slots) (spare' : ℕ) (names-are : map named_array es' ≡ past) (lie : AllByRecursion (λ entry. LiesAt (slot_at now entry.1.number) entry.1) es')
+      (restored : (q : ℕ) → is_needed past ring.items q ≡ true → Restored c q (slot_at slots q) (slot_at now q)) (came : (q : ℕ) → is_some (slot_at now q) ≡ true → is_needed past ring.items q ≡ true ⊎ is_needed names (ring.items ++ c ∷ []) q ≡ true)
+      (swept : Swept (is_needed past ring.items) now after) (room : spare ≤ spare' + 1) where
+    abbrev names' : Names
+    names' = map named_array es'
+
+    there : (q : ℕ) → is_needed past ring.items q ≡ true → is_some (slot_at now q) ≡ true
+    there q needed =
+        sym (shape-some (slot_at slots q) (slot_at now q) (restored-shape c q (slot_at slots q) (slot_at now q) (restored q needed)))
+        ∙ sound.occupied q ∙ needed-before c names ring.items q needed
+
+    stays : (q : ℕ) → is_needed past ring.items q ≡ true → slot_at after q ≡ slot_at now q
+    stays q needed = swept q ∙ ap (λ t. cond t (slot_at now q) None) needed
+
+    undo-sound : IsSound es' after ring spare'
+    undo-sound = record {
+      holds = record {
+        few = omega (arith, popped.1, ap length names-are, length-map es' named_array);
+        lie = all-both (λ e. LiesAt (slot_at now e.number) e) (λ e. is_in_use names' e.number ≡ true) (λ e. LiesAt (slot_at after e.number) e)
+            (λ e here used. subst (λ o. LiesAt o e) (sym (stays e.number (in_front (is_in_use past e.number) (list_any (needs e.number) ring.items) (ap (λ (ns : Names). is_in_use ns e.number) (sym names-are) ∙ used)))) here) es' lie (all-in_use es');
+      };
+      occupied = λ q. at q ∙ ap (λ (ns : Names). is_needed ns ring.items q) (sym names-are);
+      undoable = subst (λ (ns : Names). AreUndoable ring.items ns after) (sym names-are)
+          (undoable-still ring.items past after slots (λ q needed. ap (option_map shape) (stays q needed) ∙ sym (restored-shape c q (slot_at slots q) (slot_at now q) (restored q needed))) popped.0);
+      short = omega (arith, sound.short, length-append ring.items (c ∷ []));
+      room = omega (arith, sound.room, length-append ring.items (c ∷ []), room);
+    }
+      where
+        at : (q : ℕ) → is_some (slot_at after q) ≡ is_needed past ring.items q
+        at q =
+            elim (is_needed past ring.items q) as (λ t. is_needed past ring.items q ≡ t → slot_at after q ≡ cond t (slot_at now q) None → is_some (slot_at after q) ≡ t) [
+              | true ↦ λ needed is. ap is_some is ∙ there q needed
+              | false ↦ λ _ is. ap is_some is
+            ] refl (swept q)
+
+    undo-kept : kept_states (ring.items ++ c ∷ []) names slots ≡ kept_states ring.items names' after ++ (names', past_buffers [] names' after) ∷ []
+    undo-kept =
+        kept-push ring.items c names slots now restored
+        ∙ (λ i. sym (kept-free ring.items past after now stays) i ++ (past, sym (same-buffers [] [] past after now (λ q used. ap (option_map _) (stays q (in_front (is_in_use past q) (list_any (needs q) ring.items) used)))) i) ∷ [])
+        ∙ λ i. kept_states ring.items (sym names-are i) after ++ (sym names-are i, past_buffers [] (sym names-are i) after) ∷ []
+
+    pub undoes : Undoes es slots c es' after ring spare'
+    undoes = record { sound = undo-sound; kept = undo-kept }
+
+-- the state that was kept last is back
+pub undone-state : (es es' : List (Key × Entry)) (slots slots' : Slots) (old ring : Ring Change) (c : Change) (spare : ℕ) → old.items ≡ ring.items ++ c ∷ [] → ring.capacity ≡ old.capacity → Undoes es slots c es' slots' ring spare →
+    (has_kept (state_of es slots old) ≡ true) × (state_of es' slots' ring ≡ undone (state_of es slots old))
+undone-state es es' slots slots' old ring c spare items-are deep done =
+    let names' : Names = map named_array es' in
+    let kept = kept_states ring.items names' slots' in
+    let last : Names × FinMap nat_cmp Buffer = (names', past_buffers [] names' slots') in
+    let all : kept_states old.items (map named_array es) slots ≡ kept ++ last ∷ [] = ap (λ cs. kept_states cs (map named_array es) slots) items-are ∙ done.kept in
+    let found : last_item (kept_states old.items (map named_array es) slots) ≡ Some last = ap last_item all ∙ last-push kept last in
+    let patches : map patch_size old.items ≡ map patch_size ring.items ++ patch_size c ∷ [] = ap (map patch_size) items-are ∙ map-append patch_size ring.items (c ∷ []) in (
+      ap is_some found,
+      (λ i. record (state_of es' slots' ring) {
+        depth = deep i;
+        kept = (sym (front-push kept last) ∙ ap (λ ks. take (length ks - 1) ks) (sym all)) i;
+        patches = (sym (front-push (map patch_size ring.items) (patch_size c)) ∙ ap (λ ps. take (length ps - 1) ps) (sym patches)) i;
+      })
+          ∙ ap (λ o. option_map_or (λ before. record (state_of es slots old) { names = before.0; buffers = before.1; kept = take (length (state_of es slots old).kept - 1) (state_of es slots old).kept; patches = take (length (state_of es slots old).patches - 1) (state_of es slots old).patches }) o (state_of es slots old)) (sym found),
+    )

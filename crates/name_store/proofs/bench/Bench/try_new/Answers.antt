@@ -1,0 +1,17 @@
+use Rattle.std.proofs.Common.{◌≡◌, ◌∙◌, sym, []}
+use Rattle.std.specs.Cmp.{nat_cmp_total}
+use Rattle.std.specs.Ordering.{nat_cmp}
+use Rattle.std.specs.FinMap.{empty, get-empty, same_map, nat_cmp-IsAntisymmetric}
+use Rattle.name_store.specs.Kept.{past_buffers}
+use Rattle.name_store.specs.States.{start}
+use Rattle.name_store.specs.View.{state_of}
+use Rattle.name_store.proofs.SlotLaws.{get-past}
+use Rattle.name_store.proofs.bench.Bench.try_new.Goals as goal
+
+nothing : past_buffers [] [] [] ≡ empty
+nothing = same_map nat_cmp_total nat_cmp-IsAntisymmetric _ _ (λ q. get-past [] [] [] q ∙ sym (get-empty nat_cmp q))
+
+pub returns : goal.returns
+returns c =
+    (λ i. state_of (c.new.ensures.empty i) (c.new-2.ensures.items i) (c.in_ok-with_capacity.ensures i))
+    ∙ λ i. record (start c.args.depth) { buffers = nothing i }

@@ -1,0 +1,23 @@
+-- What a name and its array stand for, and the slots by their numbers.
+use Rattle.std.specs.Prelude.{ℕ, zero, suc, List, [], ◌∷◌, Option, None}
+use Rattle.shape_strides.specs.Layouts.{offsets}
+use Rattle.overlap_copy.specs.Blocks.{places_of}
+use Rattle.name_store.specs.States.{Array}
+use Rattle.name_store.specs.declared.entry.Entry.{Entry}
+use Rattle.name_store.specs.declared.entry.Key.{Key}
+use Rattle.name_store.specs.declared.slot.Slot.{Slot}
+
+abbrev pub array_at : Entry → Array
+array_at e = record { buffer = e.number; path = e.path; shape = e.layout.shape; places = places_of e.item (offsets e.layout); writable = e.writable }
+
+abbrev pub key_bytes : Key → List ℕ
+key_bytes key = key.bytes.items
+
+abbrev pub named_array : Key × Entry → List ℕ × Array
+named_array entry = (entry.0.bytes.items, array_at entry.1)
+
+-- the slot with a number, where it is occupied
+abbrev pub slot_at : List (Option Slot) → ℕ → Option Slot
+slot_at [] number = None
+slot_at (slot ∷ slots) zero = slot
+slot_at (slot ∷ slots) (suc number) = slot_at slots number

@@ -1,0 +1,50 @@
+//! What undoes a change of the bench.
+ghost use Rattle.std.specs.Prelude.{◌≡◌};
+ghost use Rattle.name_store.specs.Kept.{patch_size};
+
+use crate::entry::{Entry, Key};
+use crate::target::Target;
+use overlap_copy::Owned;
+
+/// A change of the bench, by what is needed to undo it.
+#[derive(Drop)]
+pub enum Change {
+    /// A name was bound: what it was bound to before, if it was.
+    Bind {
+        key: Key,
+        earlier: Option<Entry>,
+    },
+    /// A name was unbound: where it stood among the names, and its array.
+    Unbind {
+        place: usize,
+        key: Key,
+        entry: Entry,
+    },
+    /// Items of a buffer were written: the old ones, one after another.
+    Write {
+        number: usize,
+        target: Target,
+        items: Owned,
+    },
+}
+
+impl Change {
+    /// The bytes of the old items.
+    pub(crate) fn patch_size(&self) -> usize
+        ensures { result ≡ patch_size self.now }
+    {
+        match self {
+            Change::Bind { key: _, earlier: _ } => 0,
+            Change::Unbind {
+                place: _,
+                key: _,
+                entry: _,
+            } => 0,
+            Change::Write {
+                number: _,
+                target: _,
+                items,
+            } => items.block.len(),
+        }
+    }
+}

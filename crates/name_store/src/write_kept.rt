@@ -1,0 +1,55 @@
+//! Items of a name's array are written, and the old ones are kept.
+ghost use Rattle.std.specs.Prelude.{◌≡◌, IsOk};
+ghost use Rattle.indexmap.specs.IndexMap.{spare};
+ghost use Rattle.name_store.specs.Calls.{AnswersWrite};
+ghost use Rattle.name_store.specs.Invariants.{IsSound};
+ghost use Rattle.name_store.specs.Memory.{NeedsNoMemory};
+ghost use Rattle.name_store.specs.Targets.{IsAim};
+ghost use Rattle.name_store.specs.View.{state_of};
+
+use crate::change::Change;
+use crate::entry::{Entry, Key};
+use crate::home::{home_of, lent_of};
+use crate::keep::{keep, make_room};
+use crate::old_items::old_items;
+use crate::slot::Slot;
+use crate::target::{Source, Target};
+use crate::write::write_items;
+use circular_buffer::HeapCircularBuffer;
+use elem_descr::Refusal;
+use indexmap::IndexMap;
+use std::alloc::Global;
+
+/// Writes the source's items to the target's places. The old ones are taken before the first change,
+/// and no memory is asked for after it.
+pub(crate) fn write_in(
+    alloc: Global,
+    names: &mut IndexMap<Key, Entry>,
+    slots: &mut Vec<Option<Slot>>,
+    ring: &mut HeapCircularBuffer<Change>,
+    key: &Key,
+    target: Target,
+    source: Source<'_>,
+) -> Result<usize, Refusal>
+    requires sound { IsSound names.old.entries slots.old.items ring.old (spare names.old) }
+    requires aim { IsAim (state_of names.old.entries slots.old.items ring.old) key.now.bytes.items target source }
+    ensures sound { IsSound names.new.entries slots.new.items ring.new (spare names.new) }
+    ensures answers { AnswersWrite (state_of names.old.entries slots.old.items ring.old) key.now.bytes.items target source.entry result
+        (state_of names.new.entries slots.new.items ring.new) }
+    ensures no_memory { NeedsNoMemory (state_of names.old.entries slots.old.items ring.old) key.now.bytes.items target source.entry → IsOk result }
+{
+    if ring.capacity() == 0 {
+        return write_items(alloc, names, slots, key, &target, source);
+    }
+    make_room(names, ring, 0)?;
+    let items = old_items(alloc, lent_of(names, slots.as_slice(), key), &target)?;
+    let number = home_of(names, slots.as_slice(), key).number;
+    let count = write_items(alloc, names, slots, key, &target, source)?;
+    let change = Change::Write {
+        number,
+        target,
+        items,
+    };
+    keep(names, slots, ring, change);
+    Ok(count)
+}
