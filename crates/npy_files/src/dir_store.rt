@@ -4,7 +4,7 @@ ghost use Rattle.npy_files.specs.inside.Shelves.{HasCount};
 
 use crate::store::{NpyStore, StoreFault};
 use std::alloc::{AllocError, Global};
-use std::fs::OpenFile;
+use std::fs::{File, OpenFile};
 use std::io::{ErrorKind, Read, Write};
 use std::path::{Path, PathBuf};
 use std::rt::Files;
@@ -12,6 +12,9 @@ use std::{fs, io};
 
 /// The most bytes of a file in a folder.
 pub const MAX_FILE: usize = 1 << 29;
+
+/// The most bytes that are read at a time.
+const PIECE: usize = 1 << 16;
 
 /// A store that is a folder, reached through a runtime. No contract tells what a folder holds, so that
 /// it isn't honest: its contracts say of its files nothing.
@@ -54,36 +57,58 @@ fn paths(alloc: Global, dir: &str, name: &str) -> Result<(PathBuf, PathBuf), All
     Ok((dir.join(alloc, name)?, dir.join(alloc, hidden.as_str())?))
 }
 
+/// Appends what follows in a file. More than there is room for is a fault: the file has grown since
+/// its length was asked.
+fn read_rest<F: Read>(file: &mut F, bytes: &mut Vec<u8>) -> Result<(), StoreFault> {
+    let mut piece = [0; PIECE];
+    for _ in 0..u64::MAX {
+        match file.read(&mut piece) {
+            Ok(0) => return Ok(()),
+            Ok(count) if count > bytes.capacity() - bytes.len() => break,
+            Ok(count) => bytes.extend_from_slice(&piece[..count])?,
+            Err(error) if error.kind() == ErrorKind::Interrupted => {}
+            Err(_) => break,
+        }
+    }
+    Err(StoreFault::Device)
+}
+
 /// The bytes of an open file, of which there are at most `MAX_FILE`.
-fn read_open<F: Read + OpenFile + Drop>(alloc: Global, file: F) -> Result<Vec<u8>, StoreFault> {
+fn read_open<F: Read + OpenFile + Drop>(alloc: Global, mut file: F) -> Result<Vec<u8>, StoreFault> {
     let Ok(metadata) = file.metadata() else {
         return Err(StoreFault::Device);
     };
     if metadata.len() > MAX_FILE as u64 {
         return Err(StoreFault::TooLong);
     }
-    let mut bytes = Vec::new(alloc);
-    bytes.reserve(metadata.len() as usize + 1)?;
-    match file.take(MAX_FILE as u64 + 1).read_to_end(&mut bytes) {
-        Ok(_) if bytes.len() > MAX_FILE => Err(StoreFault::TooLong),
-        Ok(_) => Ok(bytes),
-        Err(error) if error.kind() == ErrorKind::OutOfMemory => Err(StoreFault::Memory),
-        Err(_) => Err(StoreFault::Device),
+    let mut bytes = Vec::with_capacity(alloc, metadata.len() as usize)?;
+    read_rest(&mut file, &mut bytes)?;
+    Ok(bytes)
+}
+
+/// Opens the file at a path. What is no file, as a folder or a pipe, is not opened: a pipe would wait
+/// for its other end.
+fn open_file<R: Files>(rt: &R, path: Path) -> io::Result<R::File> {
+    if !fs::metadata(rt, path)?.is_file() {
+        return Err(io::Error::from(ErrorKind::InvalidInput));
     }
+    fs::open(rt, path)
 }
 
 /// The bytes of the file at a path, or `None` where there is none.
 fn read_file<R: Files>(rt: &R, alloc: Global, path: Path) -> Result<Option<Vec<u8>>, StoreFault> {
-    match fs::open(rt, path) {
+    match open_file(rt, path) {
         Ok(file) => Ok(Some(read_open(alloc, file)?)),
         Err(error) if error.kind() == ErrorKind::NotFound => Ok(None),
         Err(_) => Err(StoreFault::Device),
     }
 }
 
-/// Writes the bytes to the file at a path, and brings them to the disk.
+/// Writes the bytes to a new file at a path, and brings them to the disk. What a crash left there is
+/// removed, and not written over, since it may be a link.
 fn write_through<R: Files>(rt: &R, path: Path, bytes: &[u8]) -> io::Result<()> {
-    let mut file = fs::create(rt, path)?;
+    let _ = fs::remove_file(rt, path);
+    let mut file = File::create_new(rt, path)?;
     file.write_all(bytes)?;
     file.sync_all()
 }

@@ -105,22 +105,13 @@ fn contents(alloc: Global, file: &[u8]) -> Result<(Header, &[u8], &[u8]), Refusa
     Ok((header, items, rest))
 }
 
-/// A block of these bytes.
-fn filled(alloc: Global, bytes: &[u8]) -> Result<RawBlock, AllocError>
-    ensures { IfOk result (λ block. block ≡ bytes.now) }
-{
-    let mut block = RawBlock::try_zeroed(alloc, bytes.len())?;
-    block.put(0, bytes);
-    Ok(block)
-}
-
 /// The array whose items have these bytes.
 fn array(alloc: Global, header: Header, items: &[u8]) -> Result<Owned, AllocError>
     requires whole { length items.now ≡ data_size header }
     requires small { length items.now ≤ max_bytes }
     ensures { IfOk result (λ array. HasItems array header items.now) }
 {
-    let block = filled(alloc, items)?;
+    let block = RawBlock::try_copied(alloc, items)?;
     let order = order_of(header.fortran);
     Owned::over(alloc, header.descr, &header.shape, order, block)
 }

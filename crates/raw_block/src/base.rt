@@ -64,13 +64,13 @@ impl<A: Allocator> Model for Deed<A> {
 impl Bytes {
     ghost use Rattle.raw_block.specs.inside.Lends.{lends_bytes, lends_arrays};
 
-    /// Writes a zero after those that are written.
-    pub(crate) fn push_zero(&mut self, base: Base, index: usize)
+    /// Writes a byte after those that are written.
+    pub(crate) fn push(&mut self, base: Base, index: usize, byte: u8)
         requires { (base.ptr ≡ self.old.at) × (index ≡ length self.old.items) × (0 < self.old.room) }
-        ensures { (self.new.at ≡ self.old.at) × (self.new.items ≡ self.old.items ++ 0 ∷ [])
+        ensures { (self.new.at ≡ self.old.at) × (self.new.items ≡ self.old.items ++ byte ∷ [])
             × (self.new.room + 1 ≡ self.old.room) }
     {
-        unsafe { *base.ptr.add(index) = 0 }
+        unsafe { *base.ptr.add(index) = byte }
     }
 
     /// The bytes that are written.

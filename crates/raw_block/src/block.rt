@@ -14,7 +14,7 @@ use std::marker::Model;
 /// The longest block: with its last word filled up, its bytes are still numbered by an `isize`.
 const MAX_LEN: usize = isize::MAX as usize - 15;
 
-/// One block of memory, zeroed when it is made, which starts at a multiple of 16.
+/// One block of memory, of zeros or of given bytes when it is made, which starts at a multiple of 16.
 /// A contract sees a block as the list of its bytes.
 pub struct RawBlock {
     base: Base,
@@ -58,12 +58,33 @@ impl RawBlock {
         }
         let (base, mut bytes, deed) = allocate(&alloc, len, padded(len))?;
         for index in 0..len {
-            bytes.push_zero(base, index);
+            bytes.push(base, index, 0);
         }
         Ok(RawBlock {
             base,
             len,
             bytes,
+            deed,
+            alloc,
+        })
+    }
+
+    /// Takes memory for these bytes, and writes each of them once. An `Err` says that there is none.
+    pub fn try_copied(alloc: Global, bytes: &[u8]) -> Result<RawBlock, AllocError>
+        ensures { IfOk result (λ b. b ≡ bytes.now) }
+    {
+        let len = bytes.len();
+        if len > MAX_LEN {
+            return Err(AllocError);
+        }
+        let (base, mut copied, deed) = allocate(&alloc, len, padded(len))?;
+        for index in 0..len {
+            copied.push(base, index, bytes[index]);
+        }
+        Ok(RawBlock {
+            base,
+            len,
+            bytes: copied,
             deed,
             alloc,
         })
