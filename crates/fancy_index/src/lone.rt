@@ -62,14 +62,14 @@ pub(crate) fn lone_points<'a>(parts: &'a [IndexPart], lengths: &[usize]) -> Opti
 }
 
 /// Where the items lie that are so many steps of a run after its first.
-fn offsets_along(alloc: Global, run: Run, steps: &[usize]) -> Result<Vec<usize>, AllocError>
+fn offsets_along(alloc: Global, run: Run, steps: &[u32]) -> Result<Vec<u32>, AllocError>
     requires start { run.offset ≤ max_bytes }
     requires reached { All (IsReached run) steps.now }
     ensures { IfOk result (λ v. v.items ≡ map (reached run) steps.now) }
 {
     let mut offsets = Vec::with_capacity(alloc, steps.len())?;
     for step in steps {
-        offsets.push(run.offset_after(*step))?;
+        offsets.push(run.offset_after(*step as usize) as u32)?;
     }
     Ok(offsets)
 }
@@ -80,7 +80,7 @@ pub(crate) fn shifts_along(
     layout: &Layout,
     parts: &[IndexPart],
     lone: Lone<'_>,
-) -> Result<Vec<usize>, AllocError>
+) -> Result<Vec<u32>, AllocError>
     requires lone { IsLone parts.now lone.before lone.points.now }
     requires axes { length lone.points.now.axes.items ≡ 1 }
     requires list { IsPointList lone.points.now }

@@ -50,7 +50,7 @@ fn push_point(
     let rank = points.ranks[rank_at(points.lengths.as_slice(), at)];
     let axes = points.axes.as_slice();
     let mut point = [0; 64];
-    index_at(axes, rank, &mut point[..axes.len()]);
+    index_at(axes, rank as usize, &mut point[..axes.len()]);
     numbers.extend_from_slice(&point[..axes.len()])
 }
 
@@ -131,7 +131,7 @@ fn shifts_each(
     parts: &[IndexPart],
     lengths: &[usize],
     many: usize,
-) -> Result<Vec<usize>, AllocError>
+) -> Result<Vec<u32>, AllocError>
     requires ready { All (IsReady lengths.now) parts.now }
     requires leads { LeadInto layout.now lengths.now parts.now }
     requires axes { length lengths.now ≤ max_axes }
@@ -142,7 +142,7 @@ fn shifts_each(
     let mut shifts = Vec::new(alloc);
     for rank in 0..many {
         write_first_at(&mut numbers, parts, lengths, rank)?;
-        shifts.push(layout.at(numbers.as_slice()))?;
+        shifts.push(layout.at(numbers.as_slice()) as u32)?;
     }
     Ok(shifts)
 }
@@ -154,7 +154,7 @@ pub(crate) fn shifts(
     parts: &[IndexPart],
     lengths: &[usize],
     many: usize,
-) -> Result<Vec<usize>, AllocError>
+) -> Result<Vec<u32>, AllocError>
     requires ready { All (IsReady lengths.now) parts.now }
     requires leads { LeadInto layout.now lengths.now parts.now }
     requires axes { length lengths.now ≤ max_axes }

@@ -17,7 +17,7 @@ fn gather_each(
     items: &mut RawBlock,
     at: usize,
     block: &RawBlock,
-    shifts: &[usize],
+    shifts: &[u32],
     base: usize,
     place: usize,
     width: usize,
@@ -33,7 +33,7 @@ fn gather_each(
     let _len = items.len();
     let mut at = at;
     for shift in shifts {
-        items.copy_from(at, block, moved(base, place, *shift), width);
+        items.copy_from(at, block, moved(base, place, *shift as usize), width);
         at += width;
     }
     at
@@ -44,7 +44,7 @@ pub(crate) fn gather_singles(
     items: &mut RawBlock,
     at: usize,
     block: &RawBlock,
-    shifts: &[usize],
+    shifts: &[u32],
     base: usize,
     place: usize,
     width: usize,
@@ -72,7 +72,7 @@ pub(crate) fn gather_singles(
 #[inline(always)]
 fn scatter_each(
     block: &mut RawBlock,
-    shifts: &[usize],
+    shifts: &[u32],
     base: usize,
     place: usize,
     items: &RawBlock,
@@ -90,7 +90,7 @@ fn scatter_each(
     let _len = items.len();
     let mut from = at;
     for shift in shifts {
-        block.copy_from(moved(base, place, *shift), items, from, width);
+        block.copy_from(moved(base, place, *shift as usize), items, from, width);
         from += width;
     }
     from
@@ -99,7 +99,7 @@ fn scatter_each(
 /// The same, with a loop of its own for each usual width.
 pub(crate) fn scatter_singles(
     block: &mut RawBlock,
-    shifts: &[usize],
+    shifts: &[u32],
     base: usize,
     place: usize,
     items: &RawBlock,
@@ -126,7 +126,7 @@ pub(crate) fn scatter_singles(
 /// Writes the item at a place that is shifted by each shift. Where it is called with an item whose
 /// length is known, each is stored at once.
 #[inline(always)]
-fn fill_each(block: &mut RawBlock, shifts: &[usize], base: usize, place: usize, item: &[u8])
+fn fill_each(block: &mut RawBlock, shifts: &[u32], base: usize, place: usize, item: &[u8])
     requires base { base ≤ max_bytes }
     requires moved { All (IsMoved base place) shifts.now }
     requires inside { All (λ offset. offset + length item.now ≤ length block.old) (map (moved base place) shifts.now) }
@@ -134,14 +134,14 @@ fn fill_each(block: &mut RawBlock, shifts: &[usize], base: usize, place: usize, 
     ensures len { length block.new ≡ length block.old }
 {
     for shift in shifts {
-        block.put(moved(base, place, *shift), item);
+        block.put(moved(base, place, *shift as usize), item);
     }
 }
 
 /// The same, with a loop of its own for each usual length.
 pub(crate) fn fill_singles(
     block: &mut RawBlock,
-    shifts: &[usize],
+    shifts: &[u32],
     base: usize,
     place: usize,
     item: &[u8],
