@@ -67,11 +67,10 @@ fn offsets_along(alloc: Global, run: Run, steps: &[u32]) -> Result<Vec<u32>, All
     requires reached { All (IsReached run) steps.now }
     ensures { IfOk result (λ v. v.items ≡ map (reached run) steps.now) }
 {
-    let mut offsets = Vec::with_capacity(alloc, steps.len())?;
-    for step in steps {
-        offsets.push(run.offset_after(*step as usize) as u32)?;
-    }
-    Ok(offsets)
+    steps
+        .iter()
+        .map(|step| run.offset_after(*step as usize) as u32)
+        .collect(alloc)
 }
 
 /// The offset of the first item with each point.
