@@ -7,7 +7,7 @@ ghost use Rattle.broadcasting.specs.Broadcasts.{broadcast_index};
 ghost use Rattle.fancy_index.specs.inside.PointLists.{tuple};
 ghost use Rattle.fancy_index.specs.inside.PartLists.{IsReady, HasPointAt, IsReadyAt, point_of, numbers_at, first_at, first_offset, LeadInto};
 
-use crate::lone::{lone_points, shifts_along};
+use crate::lone::{lead_along, lone_points, run_along, take_ranks};
 use crate::parts::IndexPart;
 use crate::points::PointList;
 use crate::rank::index_at;
@@ -147,23 +147,28 @@ fn shifts_each(
     Ok(shifts)
 }
 
-/// The same, where one part alone with points on one axis needs no index for each.
+/// The same, where one part alone with points on one axis needs no index for each: its ranks become
+/// the offsets.
 pub(crate) fn shifts(
     alloc: Global,
     layout: &Layout,
-    parts: &[IndexPart],
+    parts: &mut [IndexPart],
     lengths: &[usize],
     many: usize,
 ) -> Result<Vec<u32>, AllocError>
-    requires ready { All (IsReady lengths.now) parts.now }
-    requires leads { LeadInto layout.now lengths.now parts.now }
+    requires ready { All (IsReady lengths.now) parts.old }
+    requires leads { LeadInto layout.now lengths.now parts.old }
     requires axes { length lengths.now ≤ max_axes }
     requires some { 0 < count lengths.now }
     requires many { many ≡ count lengths.now }
-    ensures { IfOk result (λ v. v.items ≡ map (first_offset layout.now parts.now) (indexes lengths.now)) }
+    ensures { IfOk result (λ v. v.items ≡ map (first_offset layout.now parts.old) (indexes lengths.now)) }
 {
     let Some(lone) = lone_points(parts, lengths) else {
         return shifts_each(alloc, layout, parts, lengths, many);
     };
-    shifts_along(alloc, layout, parts, lone)
+    let run = run_along(alloc, layout, parts, lone)?;
+    let before = lone.before;
+    let mut shifts = take_ranks(alloc, &mut parts[before]);
+    lead_along(run, shifts.as_mut_slice());
+    Ok(shifts)
 }
