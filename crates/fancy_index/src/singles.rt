@@ -1,5 +1,6 @@
 //! Single items, each at a place that is shifted: read, written and filled, one after the other.
 ghost use Rattle.std.specs.Prelude.{◌≡◌, ◌+◌, ◌*◌, ◌≤◌, length, map, All};
+ghost use Rattle.raw_block.specs.Bytes.{item_at, put};
 ghost use Rattle.shape_strides.specs.Limits.{max_bytes};
 ghost use Rattle.overlap_copy.specs.Assignments.{assigned};
 ghost use Rattle.fancy_index.specs.Plans.{moved, put_each};
@@ -8,6 +9,48 @@ ghost use Rattle.fancy_index.specs.inside.Packed.{packed};
 
 use crate::plans::moved;
 use raw_block::RawBlock;
+
+/// The `N` bytes from `at` on, loaded at once.
+#[inline(always)]
+fn array_at<const N: usize>(bytes: &[u8], at: usize) -> [u8; N]
+    requires { at + N ≤ length bytes.now }
+    ensures { result ≡ item_at at N bytes.now }
+{
+    match bytes[at..at + N].as_array::<N>() {
+        Some(item) => *item,
+        None => [0; N],
+    }
+}
+
+/// Copies `N` bytes of another block, which are loaded and stored at once.
+#[inline(always)]
+fn copy_array<const N: usize>(block: &mut RawBlock, to: usize, other: &RawBlock, from: usize)
+    requires to { to + N ≤ length block.old }
+    requires from { from + N ≤ length other.now }
+    ensures copied { block.new ≡ put to (item_at from N other.now) block.old }
+    ensures len { length block.new ≡ length block.old }
+{
+    let item = array_at::<N>(other.bytes(), from);
+    block.put(to, &item);
+}
+
+/// Copies `width` bytes of another block. Where it is called with a width that is known, and is a usual
+/// one, they are loaded and stored at once.
+#[inline(always)]
+fn copy_item(block: &mut RawBlock, to: usize, other: &RawBlock, from: usize, width: usize)
+    requires to { to + width ≤ length block.old }
+    requires from { from + width ≤ length other.now }
+    ensures copied { block.new ≡ put to (item_at from width other.now) block.old }
+    ensures len { length block.new ≡ length block.old }
+{
+    match width {
+        1 => copy_array::<1>(block, to, other, from),
+        2 => copy_array::<2>(block, to, other, from),
+        4 => copy_array::<4>(block, to, other, from),
+        8 => copy_array::<8>(block, to, other, from),
+        _ => block.copy_from(to, other, from, width),
+    }
+}
 
 /// Copies the item of `width` bytes at a place that is shifted by each shift to those that lie one
 /// after another from `at` on. The result is where these end. Where it is called with a width that is
@@ -33,7 +76,7 @@ fn gather_each(
     let _len = items.len();
     let mut at = at;
     for shift in shifts {
-        items.copy_from(at, block, moved(base, place, *shift as usize), width);
+        copy_item(items, at, block, moved(base, place, *shift as usize), width);
         at += width;
     }
     at
@@ -90,7 +133,13 @@ fn scatter_each(
     let _len = items.len();
     let mut from = at;
     for shift in shifts {
-        block.copy_from(moved(base, place, *shift as usize), items, from, width);
+        copy_item(
+            block,
+            moved(base, place, *shift as usize),
+            items,
+            from,
+            width,
+        );
         from += width;
     }
     from
