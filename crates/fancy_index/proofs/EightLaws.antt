@@ -1,9 +1,10 @@
 -- Integers of eight bytes that lie one right after another.
-use Rattle.std.proofs.Common.{◌≡◌, ℕ, ◌+◌, ◌-◌, ◌*◌, ◌<◌, ◌≤◌, true, List, [], ◌∷◌, ◌++◌, map, length, get_or, drop, All, sym, ap, ◌∙◌, arith, append_assoc}
+use Rattle.std.proofs.Common.{◌≡◌, ℕ, ◌+◌, ◌-◌, ◌*◌, ◌<◌, ◌≤◌, true, List, [], ◌∷◌, map, length, get_or, drop, All, sym, ap, ◌∙◌, arith}
 use Rattle.std.specs.List.{list_all, range_with_len}
 use Rattle.std.proofs.lemmas.List.{take-take, same_lists, get_or-map, length-map}
 use Rattle.std.proofs.lemmas.List.FromFn.{length-map-range_with_len, get_or-map-range_with_len}
 use Rattle.std.proofs.lemmas.Bool.{and_parts}
+use Rattle.std.proofs.lemmas.List.Elements.{All-cons, All-nil}
 use Rattle.std.proofs.lemmas.Simd.{map-map}
 use lib.IntN.{pos, ◌+ℤ◌, ◌*ℤ◌}
 use Rattle.elem_descr.specs.declared.descr.Descr.{Descr}
@@ -53,16 +54,13 @@ eights-are descr block at n offsets items is lie many each =
     ∙ ap (number_from descr block) (ap (λ l. get_or l k 0) lie ∙ packed-entry at 8 n k 0 low)
     ∙ number-eight descr block (at + 8 * k) is))
 
--- ---- loops
+-- ---- each item and its number
 
-pub next_eight : (n : ℕ) (left left' : List (List ℕ)) (item : List ℕ) → left ≡ item ∷ left' → list_all (is_place n) (map eight left) ≡ true → (is_place n (eight item) ≡ true) × (list_all (is_place n) (map eight left') ≡ true)
-next_eight n left left' item steps all =
-    and_parts (is_place n (eight item)) (list_all (is_place n) (map eight left')) (sym (ap (λ (l : List (List ℕ)). list_all (is_place n) (map eight l)) steps) ∙ all)
+pub each_is_place : (n : ℕ) (items : List (List ℕ)) → list_all (is_place n) (map eight items) ≡ true → All (λ item. is_place n (eight item) ≡ true) items
+each_is_place n [] all = All-nil (λ item. is_place n (eight item) ≡ true)
+each_is_place n (item ∷ items) all =
+    let both = and_parts (is_place n (eight item)) (list_all (is_place n) (map eight items)) all in
+    All-cons (λ item. is_place n (eight item) ≡ true) item items both.0 (each_is_place n items both.1)
 
--- one more place
-pub eight_next : (n : ℕ) (done new whole : List ℕ) (left left' : List (List ℕ)) (item : List ℕ) (at : ℕ) → left ≡ item ∷ left' → at ≡ place_of n (eight item) → new ≡ done ++ at ∷ [] → done ++ map (place_of n) (map eight left) ≡ whole → new ++ map (place_of n) (map eight left') ≡ whole
-eight_next n done new whole left left' item at steps is pushed so_far =
-    ap (λ l. l ++ map (place_of n) (map eight left')) (pushed ∙ ap (λ a. done ++ a ∷ []) is)
-    ∙ append_assoc done (place_of n (eight item) ∷ []) (map (place_of n) (map eight left'))
-    ∙ ap (λ (l : List (List ℕ)). done ++ map (place_of n) (map eight l)) (sym steps)
-    ∙ so_far
+pub places-of_each : (n : ℕ) (items : List (List ℕ)) → map (λ item. place_of n (eight item)) items ≡ map (place_of n) (map eight items)
+places-of_each n items = sym (map-map (place_of n) eight items)

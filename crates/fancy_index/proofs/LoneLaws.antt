@@ -1,9 +1,9 @@
 -- One part alone that has points, on one axis: each offset is so many strides on.
-use Rattle.std.proofs.Common.{◌≡◌, ℕ, ◌+◌, ◌<◌, ◌≤◌, ◌≤ℤ◌, List, [], ◌∷◌, ◌++◌, map, length, get_or, take, drop, All, refl, sym, ap, subst, ◌∙◌, arith, append_assoc, length-append, take_all}
+use Rattle.std.proofs.Common.{◌≡◌, ℕ, ◌+◌, ◌-◌, ◌<◌, ◌≤◌, ◌≤ℤ◌, List, [], ◌∷◌, ◌++◌, map, length, get_or, take, drop, All, refl, sym, ap, subst, ◌∙◌, arith, append_assoc, append-nil, length-append, take_all}
 use Rattle.std.proofs.lemmas.Bool.{false≢true}
 use Rattle.std.proofs.lemmas.Int.{ints}
 use Rattle.std.proofs.lemmas.Grind.{flat_map-append}
-use Rattle.std.proofs.lemmas.List.{drop_more, same_lists, get_or-map, length-map, get_or_default, take_more, take-append-drop}
+use Rattle.std.proofs.lemmas.List.{drop_more, same_lists, get_or-map, length-map, get_or_default, take_more, take-append-drop, length-take-le, drop_all, get_or-append_right, get_or-drop}
 use Rattle.std.proofs.lemmas.List.Elements.{All-head, All-tail, All-append, All-cons, All-nil}
 use lib.IntN.{ℤ, pos, ◌+ℤ◌, ◌*ℤ◌, *ℤ-zero}
 use Rattle.shape_strides.specs.declared.layout.Layout.{Layout}
@@ -171,3 +171,21 @@ module _ (layout : Layout) (parts : List IndexPart) (before : ℕ) (p : PointLis
         ∙ sym (get_or-map (first_offset layout parts) (indexes lengths) r [] d (omega (arith, low, length-indexes lengths))
         ∙ ap (λ i. natural (address layout i)) (at-rank r low)
         ∙ ap natural (sum (number r))))
+
+-- ---- steps that become offsets, one after the other
+
+-- one that is not changed yet
+pub not_yet : (f : ℕ → ℕ) (old now : List ℕ) (i : ℕ) → i < length old → now ≡ map f (take i old) ++ drop i old → get_or now i 0 ≡ get_or old i 0
+not_yet f old now i low is =
+    let done : length (map f (take i old)) ≡ i = length-map (take i old) f ∙ length-take-le i old (omega (arith, low)) in
+    let same : i + (i - i) ≡ i = omega arith in
+    ap (λ l. get_or l i 0) is
+    ∙ get_or-append_right (map f (take i old)) (drop i old) i i 0 done (omega arith)
+    ∙ get_or-drop i old (i - i) 0
+    ∙ ap (λ k. get_or old k 0) same
+
+pub steps_reached : (run : Run) (old now : List ℕ) (i : ℕ) → All (IsReached run) old → i < length old → now ≡ map (reached run) (take i old) ++ drop i old → IsReached run (get_or now i 0)
+steps_reached run old now i all low is = subst (IsReached run) (sym (not_yet (reached run) old now i low is)) (all i 0 low)
+
+pub all_changed : (f : ℕ → ℕ) (old now : List ℕ) (i : ℕ) → length old ≤ i → now ≡ map f (take i old) ++ drop i old → now ≡ map f old
+all_changed f old now i all is = is ∙ (λ j. map f (take_all i old all j) ++ drop_all i old all j) ∙ append-nil (map f old)

@@ -2,6 +2,7 @@
 ghost use Rattle.std.specs.Prelude.{◌≡◌, ◌+◌, ◌≤◌, length, map, IfOk, IfSome, IsTrue};
 ghost use Rattle.elem_descr.specs.declared.descr.Descr.TheVariants.{Scalar as ScalarDescr};
 ghost use Rattle.elem_descr.specs.declared.scalar.Scalar.TheVariants.{Bool as BoolScalar};
+ghost use Rattle.shape_strides.specs.Limits.{max_items};
 ghost use Rattle.raw_block.specs.Bytes.{item_at};
 ghost use Rattle.fancy_index.specs.Sources.{array_of, LiesInBlock};
 ghost use Rattle.fancy_index.specs.inside.Bools.{bool_number};
@@ -29,7 +30,8 @@ fn bytes_at(bytes: &[u8], at: usize, n: usize) -> &[u8]
 /// The bytes of the bools of an array that lie so.
 pub(crate) fn bools_of<'a>(array: Indices<'a>) -> Option<&'a [u8]>
     requires { LiesInBlock array }
-    ensures { IfSome result (λ bytes. map bool_number bytes.now ≡ (array_of array.entry).numbers) }
+    ensures numbers { IfSome result (λ bytes. map bool_number bytes.now ≡ (array_of array.entry).numbers) }
+    ensures few { IfSome result (λ bytes. length bytes.now ≤ max_items) }
 {
     if !are_bools(array.descr) {
         return None;
@@ -44,13 +46,14 @@ pub(crate) fn bools_of<'a>(array: Indices<'a>) -> Option<&'a [u8]>
 }
 
 /// The ranks of the bytes that are not 0.
-pub(crate) fn true_bytes(alloc: Global, bytes: &[u8]) -> Result<Vec<usize>, AllocError>
+pub(crate) fn true_bytes(alloc: Global, bytes: &[u8]) -> Result<Vec<u32>, AllocError>
+    requires { length bytes.now ≤ max_items }
     ensures { IfOk result (λ v. v.items ≡ true_ranks 0 (map bool_number bytes.now)) }
 {
     let mut ranks = Vec::new(alloc);
     for rank in 0..bytes.len() {
         if bytes[rank] != 0 {
-            ranks.push(rank)?;
+            ranks.push(rank as u32)?;
         }
     }
     Ok(ranks)

@@ -26,7 +26,7 @@ fn fill_from(block: &mut RawBlock, inner: &Layout, start: usize, item: &[u8])
 }
 
 /// The same from a place that is shifted by each shift.
-fn fill_runs(block: &mut RawBlock, shifts: &[usize], inner: &Layout, place: usize, item: &[u8])
+fn fill_runs(block: &mut RawBlock, shifts: &[u32], inner: &Layout, place: usize, item: &[u8])
     requires base { inner.now.offset ≤ max_bytes }
     requires starts { AreStarts inner.now.offset (offsets inner.now) shifts.now place }
     requires inside { All (λ offset. offset + length item.now ≤ length block.old) (shifted_all inner.now.offset shifts.now (offsets inner.now) place) }
@@ -34,13 +34,13 @@ fn fill_runs(block: &mut RawBlock, shifts: &[usize], inner: &Layout, place: usiz
     ensures len { length block.new ≡ length block.old }
 {
     for shift in shifts {
-        let start = moved(inner.offset, place, *shift);
+        let start = moved(inner.offset, place, *shift as usize);
         fill_from(block, inner, start, item);
     }
 }
 
 /// The same, where a layout of one item needs no walk.
-fn fill_shifts(block: &mut RawBlock, shifts: &[usize], inner: &Layout, place: usize, item: &[u8])
+fn fill_shifts(block: &mut RawBlock, shifts: &[u32], inner: &Layout, place: usize, item: &[u8])
     requires base { inner.now.offset ≤ max_bytes }
     requires starts { AreStarts inner.now.offset (offsets inner.now) shifts.now place }
     requires inside { All (λ offset. offset + length item.now ≤ length block.old) (shifted_all inner.now.offset shifts.now (offsets inner.now) place) }
@@ -58,7 +58,7 @@ fn fill_shifts(block: &mut RawBlock, shifts: &[usize], inner: &Layout, place: us
 pub(crate) fn fill(
     block: &mut RawBlock,
     outer: &Layout,
-    shifts: &[usize],
+    shifts: &[u32],
     inner: &Layout,
     item: &[u8],
 )

@@ -53,7 +53,7 @@ fn gather_runs(
     items: &mut RawBlock,
     at: usize,
     block: &RawBlock,
-    shifts: &[usize],
+    shifts: &[u32],
     inner: &Layout,
     place: usize,
     width: usize,
@@ -68,7 +68,7 @@ fn gather_runs(
 {
     let mut at = at;
     for shift in shifts {
-        let start = moved(inner.offset, place, *shift);
+        let start = moved(inner.offset, place, *shift as usize);
         at = gather_from(items, at, block, inner, start, width);
     }
     at
@@ -79,7 +79,7 @@ fn gather_shifts(
     items: &mut RawBlock,
     at: usize,
     block: &RawBlock,
-    shifts: &[usize],
+    shifts: &[u32],
     inner: &Layout,
     place: usize,
     width: usize,
@@ -104,7 +104,7 @@ pub(crate) fn gather(
     items: &mut RawBlock,
     block: &RawBlock,
     outer: &Layout,
-    shifts: &[usize],
+    shifts: &[u32],
     inner: &Layout,
     width: usize,
 )

@@ -2,6 +2,8 @@
 ghost use Rattle.std.specs.Prelude.{◌≡◌, ◌<◌, ◌≤◌, take, map, length, All, IfOk, IfSome, IsTrue};
 ghost use Rattle.shape_strides.specs.Limits.{max_bytes};
 ghost use Rattle.shape_strides.specs.Indexes.{count, indexes};
+ghost use Rattle.fancy_index.specs.declared.points.PointList.{PointList};
+ghost use Rattle.fancy_index.specs.declared.parts.IndexPart.TheVariants.{Points as PointsPart};
 ghost use Rattle.fancy_index.specs.inside.PointLists.{IsPointList};
 ghost use Rattle.fancy_index.specs.inside.PartLists.{first_offset, LeadInto};
 ghost use Rattle.fancy_index.specs.inside.Lone.{IsPlain, IsLone, IsReached, reached};
@@ -12,6 +14,7 @@ use crate::shifts::push_all;
 use shape_strides::{Layout, Run};
 use smallvec::SmallVec;
 use std::alloc::{AllocError, Global};
+use std::mem;
 
 /// The one part that has points, and how many parts stand before it.
 #[derive(Clone, Copy)]
@@ -61,32 +64,22 @@ pub(crate) fn lone_points<'a>(parts: &'a [IndexPart], lengths: &[usize]) -> Opti
     Some(Lone { before, points })
 }
 
-/// Where the items lie that are so many steps of a run after its first.
-fn offsets_along(alloc: Global, run: Run, steps: &[usize]) -> Result<Vec<usize>, AllocError>
-    requires start { run.offset ≤ max_bytes }
-    requires reached { All (IsReached run) steps.now }
-    ensures { IfOk result (λ v. v.items ≡ map (reached run) steps.now) }
-{
-    let mut offsets = Vec::with_capacity(alloc, steps.len())?;
-    for step in steps {
-        offsets.push(run.offset_after(*step))?;
-    }
-    Ok(offsets)
-}
-
-/// The offset of the first item with each point.
-pub(crate) fn shifts_along(
+/// The run along which the points lead: its first item lies where they are 0, and each place on their
+/// axis is one step more.
+pub(crate) fn run_along(
     alloc: Global,
     layout: &Layout,
     parts: &[IndexPart],
     lone: Lone<'_>,
-) -> Result<Vec<usize>, AllocError>
+) -> Result<Run, AllocError>
     requires lone { IsLone parts.now lone.before lone.points.now }
     requires axes { length lone.points.now.axes.items ≡ 1 }
     requires list { IsPointList lone.points.now }
     requires leads { LeadInto layout.now lone.points.now.lengths.items parts.now }
     requires some { 0 < count lone.points.now.lengths.items }
-    ensures { IfOk result (λ v. v.items ≡ map (first_offset layout.now parts.now) (indexes lone.entry.points.now.lengths.items)) }
+    ensures start { IfOk result (λ run. run.offset ≤ max_bytes) }
+    ensures reached { IfOk result (λ run. All (IsReached run) lone.entry.points.now.ranks.items) }
+    ensures shifts { IfOk result (λ run. map (reached run) lone.entry.points.now.ranks.items ≡ map (first_offset layout.now parts.now) (indexes lone.entry.points.now.lengths.items)) }
 {
     let _lengths = layout.shape.as_slice();
     let mut index = SmallVec::new(alloc);
@@ -94,10 +87,30 @@ pub(crate) fn shifts_along(
     let axis = index.len();
     index.push(0)?;
     push_all(&mut index, &parts[lone.before + 1..], &[])?;
-    let run = Run {
+    Ok(Run {
         offset: layout.at(index.as_slice()),
         count: 1,
         step: layout.strides.as_slice()[axis],
-    };
-    offsets_along(alloc, run, lone.points.ranks.as_slice())
+    })
+}
+
+/// Takes the ranks of the points out of a part, which is of no use then.
+pub(crate) fn take_ranks(alloc: Global, part: &mut IndexPart) -> Vec<u32>
+    ensures { (points : PointList) → part.old ≡ PointsPart points → result.items ≡ points.ranks.items }
+{
+    match part {
+        IndexPart::Points(points) => mem::replace(&mut points.ranks, Vec::new(alloc)),
+        _ => Vec::new(alloc),
+    }
+}
+
+/// Makes of each number of steps the offset to which it leads from a run's first item on.
+pub(crate) fn lead_along(run: Run, steps: &mut [u32])
+    requires start { run.offset ≤ max_bytes }
+    requires reached { All (IsReached run) steps.old }
+    ensures { steps.new ≡ map (reached run) steps.old }
+{
+    for step in steps.iter_mut() {
+        *step = run.offset_after(*step as usize) as u32;
+    }
 }

@@ -1,7 +1,7 @@
 //! The parts that the items of an index list come to.
 ghost use Rattle.std.specs.Prelude.{◌≡◌, ◌≤◌, ◌∷◌, length, map, true, false, All, IfOk, IfErr, OnOk};
 ghost use Rattle.elem_descr.specs.declared.refusal.Refusal.TheVariants.{OutOfMemory};
-ghost use Rattle.shape_strides.specs.Limits.{max_axes};
+ghost use Rattle.shape_strides.specs.Limits.{max_axes, max_items};
 ghost use Rattle.shape_strides.specs.IndexItems.{is_ellipsis};
 ghost use Rattle.view_ops.specs.Basics.{has_step};
 ghost use Rattle.fancy_index.specs.IndexArrays.{is_index, axes_of, covers, is_within};
@@ -49,6 +49,7 @@ fn push_parts(
     axes: &[usize],
     item: IndexItem<Indices<'_>>,
 ) -> Result<(), Refusal>
+    requires small { All (λ n. n ≤ max_items) axes.now }
     requires lies { HasItems item }
     requires index { is_index (item_of item) ≡ true }
     requires axes { is_ellipsis (item_of item) ≡ false → length axes.now ≡ axes_of (item_of item) }
@@ -86,6 +87,7 @@ pub(crate) fn parts_of(
     requires named { All (IsNamed (length arrays.now)) items.now }
     requires lie { All LiesInBlock arrays.now }
     requires rank { length lengths.now ≤ max_axes }
+    requires small { All (λ n. n ≤ max_items) lengths.now }
     requires checked { IsChecked lengths.now (items_of arrays.now items.now) }
     ensures are { IfOk result (λ v. AreParts lengths.now v.items) }
     ensures shown { IfOk result (λ v. map shown_part v.items ≡ parts lengths.now (items_of arrays.now items.now)) }

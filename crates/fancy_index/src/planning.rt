@@ -35,17 +35,17 @@ fn plan_of_none(alloc: Global, shape: Shape) -> Result<Plan, AllocError>
 fn plan_of_rest(
     alloc: Global,
     layout: &Layout,
-    parts: &[IndexPart],
+    parts: &mut [IndexPart],
     points: &[usize],
     shape: Shape,
     rest: &Layout,
 ) -> Result<Plan, Refusal>
-    requires are { AreParts layout.now.shape parts.now }
-    requires ready { All (IsReady points.now) parts.now }
-    requires shape { shape ≡ all_axes points.now (map shown_part parts.now) }
+    requires are { AreParts layout.now.shape parts.old }
+    requires ready { All (IsReady points.now) parts.old }
+    requires shape { shape ≡ all_axes points.now (map shown_part parts.old) }
     requires some { 0 < count shape }
-    requires rest { IsRest layout.now parts.now rest.now }
-    ensures ok { IfOk result (λ plan. IsPlanOf layout.now plan (record { shape = all_axes points.now (map shown_part parts.now); leads = indexed_leads (length points.now) (map shown_part parts.now) })) }
+    requires rest { IsRest layout.now parts.old rest.now }
+    ensures ok { IfOk result (λ plan. IsPlanOf layout.now plan (record { shape = all_axes points.now (map shown_part parts.old); leads = indexed_leads (length points.now) (map shown_part parts.old) })) }
     ensures err { IfErr result (λ refusal. refusal ≡ OutOfMemory) }
 {
     let _lengths = shape.as_slice();
@@ -61,15 +61,15 @@ fn plan_of_rest(
 fn plan_of_some(
     alloc: Global,
     layout: &Layout,
-    parts: &[IndexPart],
+    parts: &mut [IndexPart],
     points: &[usize],
     shape: Shape,
 ) -> Result<Plan, Refusal>
-    requires are { AreParts layout.now.shape parts.now }
-    requires ready { All (IsReady points.now) parts.now }
-    requires shape { shape ≡ all_axes points.now (map shown_part parts.now) }
+    requires are { AreParts layout.now.shape parts.old }
+    requires ready { All (IsReady points.now) parts.old }
+    requires shape { shape ≡ all_axes points.now (map shown_part parts.old) }
     requires some { 0 < count shape }
-    ensures ok { IfOk result (λ plan. IsPlanOf layout.now plan (record { shape = all_axes points.now (map shown_part parts.now); leads = indexed_leads (length points.now) (map shown_part parts.now) })) }
+    ensures ok { IfOk result (λ plan. IsPlanOf layout.now plan (record { shape = all_axes points.now (map shown_part parts.old); leads = indexed_leads (length points.now) (map shown_part parts.old) })) }
     ensures err { IfErr result (λ refusal. refusal ≡ OutOfMemory) }
 {
     let _lengths = shape.as_slice();
@@ -78,9 +78,9 @@ fn plan_of_some(
 }
 
 /// The plan of what parts show, or its refusal.
-fn plan_of_parts(alloc: Global, layout: &Layout, parts: &[IndexPart]) -> Result<Plan, Refusal>
-    requires { AreParts layout.now.shape parts.now }
-    ensures { GivesPlan layout.now result (parts_view (map shown_part parts.now)) }
+fn plan_of_parts(alloc: Global, layout: &Layout, parts: &mut [IndexPart]) -> Result<Plan, Refusal>
+    requires { AreParts layout.now.shape parts.old }
+    ensures { GivesPlan layout.now result (parts_view (map shown_part parts.old)) }
 {
     let _lengths = layout.shape.as_slice();
     let points = points_shape(alloc, parts)?;
@@ -115,6 +115,6 @@ pub fn plan(
 {
     let lengths = layout.shape.as_slice();
     check(lengths, items, arrays)?;
-    let parts = parts_of(alloc, lengths, items, arrays)?;
-    plan_of_parts(alloc, layout, parts.as_slice())
+    let mut parts = parts_of(alloc, lengths, items, arrays)?;
+    plan_of_parts(alloc, layout, parts.as_mut_slice())
 }

@@ -32,7 +32,7 @@ pub struct Plan {
     /// The axes before those of the arrays.
     outer: Layout,
     /// For each item of the broadcast arrays, where the first of the result's items with it lies.
-    shifts: Vec<usize>,
+    shifts: Vec<u32>,
     /// The axes after those of the arrays. Both layouts begin where the first item would lie with
     /// all arrays 0.
     inner: Layout,
@@ -87,7 +87,7 @@ fn spot_at(rank: usize, shifts: usize, inner: usize) -> Spot
 
 /// The offset at a rank of all items of the inner axes, from each place of the outer axes that is
 /// shifted by each shift.
-fn offset_in(outer: &Layout, shifts: &[usize], inner: &Layout, rank: usize) -> usize
+fn offset_in(outer: &Layout, shifts: &[u32], inner: &Layout, rank: usize) -> usize
     requires rank { rank < length (moved_all inner.now.offset (offsets outer.now) shifts.now (offsets inner.now)) }
     requires small { inner.now.offset ≤ max_bytes }
     requires starts { All (AreStarts inner.now.offset (offsets inner.now) shifts.now) (offsets outer.now) }
@@ -95,7 +95,7 @@ fn offset_in(outer: &Layout, shifts: &[usize], inner: &Layout, rank: usize) -> u
 {
     let at = spot_at(rank, shifts.len(), inner.shape.items());
     let place = offset_at(outer, at.place);
-    let start = moved(inner.offset, place, shifts[at.shift]);
+    let start = moved(inner.offset, place, shifts[at.shift] as usize);
     moved(inner.offset, start, offset_at(inner, at.item))
 }
 
@@ -121,7 +121,7 @@ fn is_packed(layout: &Layout, width: usize) -> bool
 impl Plan {
     /// The plan of a shape, with the axes before those of the arrays, where the first item with each of
     /// their points lies, and the axes behind.
-    pub(crate) fn new(shape: Shape, outer: Layout, shifts: Vec<usize>, inner: Layout) -> Plan
+    pub(crate) fn new(shape: Shape, outer: Layout, shifts: Vec<u32>, inner: Layout) -> Plan
         requires count { length (moved_all inner.offset (offsets outer) shifts.items (offsets inner)) ≡ count shape }
         requires small { inner.offset ≤ max_bytes }
         requires starts { All (AreStarts inner.offset (offsets inner) shifts.items) (offsets outer) }

@@ -1,7 +1,8 @@
 //! Points on some axes: those of an integer, of an array of integers and of a mask.
-ghost use Rattle.std.specs.Prelude.{◌≡◌, ◌≢◌, [], ◌∷◌, length, map, pos, true, IfOk};
+ghost use Rattle.std.specs.Prelude.{◌≡◌, ◌≢◌, ◌≤◌, [], ◌∷◌, length, map, pos, true, All, IfOk};
 ghost use Rattle.std.specs.Ordering.{int_eq};
 ghost use Rattle.std.specs.List.{list_all};
+ghost use Rattle.shape_strides.specs.Limits.{max_items};
 ghost use Rattle.view_ops.specs.Slices.{is_place};
 ghost use Rattle.fancy_index.specs.declared.kind.Kind.TheVariants.{NoIndex};
 ghost use Rattle.fancy_index.specs.IndexArrays.{kind, axes_of_kind, covers_kind, are_places};
@@ -23,19 +24,21 @@ use view_ops::from_front;
 pub(crate) struct PointList {
     pub lengths: SmallVec<usize, 8>,
     pub axes: SmallVec<usize, 8>,
-    pub ranks: Vec<usize>,
+    pub ranks: Vec<u32>,
 }
 
 /// The place of `n` that a number names.
-pub(crate) fn place_of(n: usize, at: i128) -> usize
-    requires { is_place n at ≡ true }
+pub(crate) fn place_of(n: usize, at: i128) -> u32
+    requires small { n ≤ max_items }
+    requires place { is_place n at ≡ true }
     ensures { result ≡ place_of n at }
 {
-    from_front(n, at) as usize
+    from_front(n, at) as u32
 }
 
 /// The places of `n` that the numbers of an array name.
-fn places_each(alloc: Global, array: Indices<'_>, n: usize) -> Result<Vec<usize>, AllocError>
+fn places_each(alloc: Global, array: Indices<'_>, n: usize) -> Result<Vec<u32>, AllocError>
+    requires small { n ≤ max_items }
     requires kind { kind (array_of array) ≢ NoIndex }
     requires lies { LiesInBlock array }
     requires within { list_all (is_place n) (array_of array).numbers ≡ true }
@@ -50,7 +53,8 @@ fn places_each(alloc: Global, array: Indices<'_>, n: usize) -> Result<Vec<usize>
 
 /// The places of `n` that the numbers of an array name. Integers of eight bytes that lie one right after
 /// another need no walk.
-fn places(alloc: Global, array: Indices<'_>, n: usize) -> Result<Vec<usize>, AllocError>
+fn places(alloc: Global, array: Indices<'_>, n: usize) -> Result<Vec<u32>, AllocError>
+    requires small { n ≤ max_items }
     requires kind { kind (array_of array) ≢ NoIndex }
     requires lies { LiesInBlock array }
     requires within { list_all (is_place n) (array_of array).numbers ≡ true }
@@ -69,7 +73,7 @@ fn is_zero(number: i128) -> bool
 }
 
 /// The ranks at which a mask is true.
-fn true_ranks_each(alloc: Global, array: Indices<'_>) -> Result<Vec<usize>, AllocError>
+fn true_ranks_each(alloc: Global, array: Indices<'_>) -> Result<Vec<u32>, AllocError>
     requires kind { kind (array_of array) ≢ NoIndex }
     requires lies { LiesInBlock array }
     ensures { IfOk result (λ v. v.items ≡ true_ranks 0 (array_of array.entry).numbers) }
@@ -79,7 +83,7 @@ fn true_ranks_each(alloc: Global, array: Indices<'_>) -> Result<Vec<usize>, Allo
     let mut rank: usize = 0;
     for offset in FixedWalk::new(array.layout) {
         if !is_zero(number_at(array, offset)) {
-            ranks.push(rank)?;
+            ranks.push(rank as u32)?;
         }
         rank += 1;
     }
@@ -87,7 +91,7 @@ fn true_ranks_each(alloc: Global, array: Indices<'_>) -> Result<Vec<usize>, Allo
 }
 
 /// The ranks at which a mask is true. Bools that lie one right after another need no walk.
-fn true_ranks(alloc: Global, array: Indices<'_>) -> Result<Vec<usize>, AllocError>
+fn true_ranks(alloc: Global, array: Indices<'_>) -> Result<Vec<u32>, AllocError>
     requires kind { kind (array_of array) ≢ NoIndex }
     requires lies { LiesInBlock array }
     ensures { IfOk result (λ v. v.items ≡ true_ranks 0 (array_of array.entry).numbers) }
@@ -100,7 +104,8 @@ fn true_ranks(alloc: Global, array: Indices<'_>) -> Result<Vec<usize>, AllocErro
 
 /// The one point of an integer.
 pub(crate) fn integer_point(alloc: Global, n: usize, at: i128) -> Result<PointList, AllocError>
-    requires { is_place n at ≡ true }
+    requires small { n ≤ max_items }
+    requires place { is_place n at ≡ true }
     ensures lengths { IfOk result (λ p. p.lengths.items ≡ []) }
     ensures axes { IfOk result (λ p. p.axes.items ≡ n ∷ []) }
     ensures ranks { IfOk result (λ p. p.ranks.items ≡ place_of n at ∷ []) }
@@ -117,6 +122,7 @@ pub(crate) fn integer_point(alloc: Global, n: usize, at: i128) -> Result<PointLi
 
 /// The points of an array of integers along an axis of `n`.
 fn integer_points(alloc: Global, n: usize, array: Indices<'_>) -> Result<PointList, AllocError>
+    requires small { n ≤ max_items }
     requires kind { kind (array_of array) ≢ NoIndex }
     requires lies { LiesInBlock array }
     requires within { list_all (is_place n) (array_of array).numbers ≡ true }
@@ -158,6 +164,7 @@ pub(crate) fn array_points(
     axes: &[usize],
     array: Indices<'_>,
 ) -> Result<PointList, AllocError>
+    requires small { All (λ n. n ≤ max_items) axes.now }
     requires kind { kind (array_of array) ≢ NoIndex }
     requires lies { LiesInBlock array }
     requires axes { length axes.now ≡ axes_of_kind (kind (array_of array)) (array_of array).shape }

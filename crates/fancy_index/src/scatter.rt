@@ -51,7 +51,7 @@ fn scatter_from(
 /// The same from a place that is shifted by each shift.
 fn scatter_runs(
     block: &mut RawBlock,
-    shifts: &[usize],
+    shifts: &[u32],
     inner: &Layout,
     place: usize,
     items: &RawBlock,
@@ -68,7 +68,7 @@ fn scatter_runs(
 {
     let mut at = at;
     for shift in shifts {
-        let start = moved(inner.offset, place, *shift);
+        let start = moved(inner.offset, place, *shift as usize);
         at = scatter_from(block, inner, start, items, at, width);
     }
     at
@@ -77,7 +77,7 @@ fn scatter_runs(
 /// The same, where a layout of one item needs no walk.
 fn scatter_shifts(
     block: &mut RawBlock,
-    shifts: &[usize],
+    shifts: &[u32],
     inner: &Layout,
     place: usize,
     items: &RawBlock,
@@ -103,7 +103,7 @@ fn scatter_shifts(
 pub(crate) fn scatter(
     block: &mut RawBlock,
     outer: &Layout,
-    shifts: &[usize],
+    shifts: &[u32],
     inner: &Layout,
     items: &RawBlock,
     width: usize,

@@ -7,7 +7,7 @@ ghost use Rattle.broadcasting.specs.Broadcasts.{broadcast_index};
 ghost use Rattle.fancy_index.specs.inside.PointLists.{tuple};
 ghost use Rattle.fancy_index.specs.inside.PartLists.{IsReady, HasPointAt, IsReadyAt, point_of, numbers_at, first_at, first_offset, LeadInto};
 
-use crate::lone::{lone_points, shifts_along};
+use crate::lone::{lead_along, lone_points, run_along, take_ranks};
 use crate::parts::IndexPart;
 use crate::points::PointList;
 use crate::rank::index_at;
@@ -50,7 +50,7 @@ fn push_point(
     let rank = points.ranks[rank_at(points.lengths.as_slice(), at)];
     let axes = points.axes.as_slice();
     let mut point = [0; 64];
-    index_at(axes, rank, &mut point[..axes.len()]);
+    index_at(axes, rank as usize, &mut point[..axes.len()]);
     numbers.extend_from_slice(&point[..axes.len()])
 }
 
@@ -131,7 +131,7 @@ fn shifts_each(
     parts: &[IndexPart],
     lengths: &[usize],
     many: usize,
-) -> Result<Vec<usize>, AllocError>
+) -> Result<Vec<u32>, AllocError>
     requires ready { All (IsReady lengths.now) parts.now }
     requires leads { LeadInto layout.now lengths.now parts.now }
     requires axes { length lengths.now ≤ max_axes }
@@ -142,28 +142,33 @@ fn shifts_each(
     let mut shifts = Vec::new(alloc);
     for rank in 0..many {
         write_first_at(&mut numbers, parts, lengths, rank)?;
-        shifts.push(layout.at(numbers.as_slice()))?;
+        shifts.push(layout.at(numbers.as_slice()) as u32)?;
     }
     Ok(shifts)
 }
 
-/// The same, where one part alone with points on one axis needs no index for each.
+/// The same, where one part alone with points on one axis needs no index for each: its ranks become
+/// the offsets.
 pub(crate) fn shifts(
     alloc: Global,
     layout: &Layout,
-    parts: &[IndexPart],
+    parts: &mut [IndexPart],
     lengths: &[usize],
     many: usize,
-) -> Result<Vec<usize>, AllocError>
-    requires ready { All (IsReady lengths.now) parts.now }
-    requires leads { LeadInto layout.now lengths.now parts.now }
+) -> Result<Vec<u32>, AllocError>
+    requires ready { All (IsReady lengths.now) parts.old }
+    requires leads { LeadInto layout.now lengths.now parts.old }
     requires axes { length lengths.now ≤ max_axes }
     requires some { 0 < count lengths.now }
     requires many { many ≡ count lengths.now }
-    ensures { IfOk result (λ v. v.items ≡ map (first_offset layout.now parts.now) (indexes lengths.now)) }
+    ensures { IfOk result (λ v. v.items ≡ map (first_offset layout.now parts.old) (indexes lengths.now)) }
 {
     let Some(lone) = lone_points(parts, lengths) else {
         return shifts_each(alloc, layout, parts, lengths, many);
     };
-    shifts_along(alloc, layout, parts, lone)
+    let run = run_along(alloc, layout, parts, lone)?;
+    let before = lone.before;
+    let mut shifts = take_ranks(alloc, &mut parts[before]);
+    lead_along(run, shifts.as_mut_slice());
+    Ok(shifts)
 }

@@ -1,5 +1,6 @@
 //! Single items, each at a place that is shifted: read, written and filled, one after the other.
 ghost use Rattle.std.specs.Prelude.{◌≡◌, ◌+◌, ◌*◌, ◌≤◌, length, map, All};
+ghost use Rattle.raw_block.specs.Bytes.{item_at, put};
 ghost use Rattle.shape_strides.specs.Limits.{max_bytes};
 ghost use Rattle.overlap_copy.specs.Assignments.{assigned};
 ghost use Rattle.fancy_index.specs.Plans.{moved, put_each};
@@ -9,6 +10,48 @@ ghost use Rattle.fancy_index.specs.inside.Packed.{packed};
 use crate::plans::moved;
 use raw_block::RawBlock;
 
+/// The `N` bytes from `at` on, loaded at once.
+#[inline(always)]
+fn array_at<const N: usize>(bytes: &[u8], at: usize) -> [u8; N]
+    requires { at + N ≤ length bytes.now }
+    ensures { result ≡ item_at at N bytes.now }
+{
+    match bytes[at..at + N].as_array::<N>() {
+        Some(item) => *item,
+        None => [0; N],
+    }
+}
+
+/// Copies `N` bytes of another block, which are loaded and stored at once.
+#[inline(always)]
+fn copy_array<const N: usize>(block: &mut RawBlock, to: usize, other: &RawBlock, from: usize)
+    requires to { to + N ≤ length block.old }
+    requires from { from + N ≤ length other.now }
+    ensures copied { block.new ≡ put to (item_at from N other.now) block.old }
+    ensures len { length block.new ≡ length block.old }
+{
+    let item = array_at::<N>(other.bytes(), from);
+    block.put(to, &item);
+}
+
+/// Copies `width` bytes of another block. Where it is called with a width that is known, and is a usual
+/// one, they are loaded and stored at once.
+#[inline(always)]
+fn copy_item(block: &mut RawBlock, to: usize, other: &RawBlock, from: usize, width: usize)
+    requires to { to + width ≤ length block.old }
+    requires from { from + width ≤ length other.now }
+    ensures copied { block.new ≡ put to (item_at from width other.now) block.old }
+    ensures len { length block.new ≡ length block.old }
+{
+    match width {
+        1 => copy_array::<1>(block, to, other, from),
+        2 => copy_array::<2>(block, to, other, from),
+        4 => copy_array::<4>(block, to, other, from),
+        8 => copy_array::<8>(block, to, other, from),
+        _ => block.copy_from(to, other, from, width),
+    }
+}
+
 /// Copies the item of `width` bytes at a place that is shifted by each shift to those that lie one
 /// after another from `at` on. The result is where these end. Where it is called with a width that is
 /// known, each is loaded and stored at once.
@@ -17,7 +60,7 @@ fn gather_each(
     items: &mut RawBlock,
     at: usize,
     block: &RawBlock,
-    shifts: &[usize],
+    shifts: &[u32],
     base: usize,
     place: usize,
     width: usize,
@@ -33,7 +76,7 @@ fn gather_each(
     let _len = items.len();
     let mut at = at;
     for shift in shifts {
-        items.copy_from(at, block, moved(base, place, *shift), width);
+        copy_item(items, at, block, moved(base, place, *shift as usize), width);
         at += width;
     }
     at
@@ -44,7 +87,7 @@ pub(crate) fn gather_singles(
     items: &mut RawBlock,
     at: usize,
     block: &RawBlock,
-    shifts: &[usize],
+    shifts: &[u32],
     base: usize,
     place: usize,
     width: usize,
@@ -72,7 +115,7 @@ pub(crate) fn gather_singles(
 #[inline(always)]
 fn scatter_each(
     block: &mut RawBlock,
-    shifts: &[usize],
+    shifts: &[u32],
     base: usize,
     place: usize,
     items: &RawBlock,
@@ -90,7 +133,13 @@ fn scatter_each(
     let _len = items.len();
     let mut from = at;
     for shift in shifts {
-        block.copy_from(moved(base, place, *shift), items, from, width);
+        copy_item(
+            block,
+            moved(base, place, *shift as usize),
+            items,
+            from,
+            width,
+        );
         from += width;
     }
     from
@@ -99,7 +148,7 @@ fn scatter_each(
 /// The same, with a loop of its own for each usual width.
 pub(crate) fn scatter_singles(
     block: &mut RawBlock,
-    shifts: &[usize],
+    shifts: &[u32],
     base: usize,
     place: usize,
     items: &RawBlock,
@@ -126,7 +175,7 @@ pub(crate) fn scatter_singles(
 /// Writes the item at a place that is shifted by each shift. Where it is called with an item whose
 /// length is known, each is stored at once.
 #[inline(always)]
-fn fill_each(block: &mut RawBlock, shifts: &[usize], base: usize, place: usize, item: &[u8])
+fn fill_each(block: &mut RawBlock, shifts: &[u32], base: usize, place: usize, item: &[u8])
     requires base { base ≤ max_bytes }
     requires moved { All (IsMoved base place) shifts.now }
     requires inside { All (λ offset. offset + length item.now ≤ length block.old) (map (moved base place) shifts.now) }
@@ -134,14 +183,14 @@ fn fill_each(block: &mut RawBlock, shifts: &[usize], base: usize, place: usize, 
     ensures len { length block.new ≡ length block.old }
 {
     for shift in shifts {
-        block.put(moved(base, place, *shift), item);
+        block.put(moved(base, place, *shift as usize), item);
     }
 }
 
 /// The same, with a loop of its own for each usual length.
 pub(crate) fn fill_singles(
     block: &mut RawBlock,
-    shifts: &[usize],
+    shifts: &[u32],
     base: usize,
     place: usize,
     item: &[u8],

@@ -24,8 +24,8 @@ bytes_at-requires c =
     (subst (λ (d : Descr). All (λ offset. offset + item_size d ≤ length array.block.now) (offsets array.layout.now)) kind c.requires) in
     omega (arith, room, ap length c.bytes.ensures)
 
-pub returns : goal.returns
-returns c =
+pub returns-clause-numbers : goal.returns-clause-numbers
+returns-clause-numbers c =
     let run = c.in-Some.run' in
     let array = c.args.array in
     let kind : array.descr.now ≡ ScalarDescr BoolScalar = c.if-not-are_bools.ensures refl in

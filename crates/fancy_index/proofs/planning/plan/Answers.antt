@@ -11,6 +11,6 @@ pub returns : goal.returns
 returns c =
     let items = items_of c.args.arrays.now c.args.items.now in
     let lengths = c.as_slice-lengths.ensures.value in
-    let shown = ap (map shown_part) c.as_slice.ensures.value ∙ c.in_ok-parts.ensures.shown ∙ ap (λ s. parts s items) lengths in
+    let shown = ap (map shown_part) c.as_mut_slice.ensures.value ∙ c.in_ok-parts.ensures.shown ∙ ap (λ s. parts s items) lengths in
     let checked = subst (λ s. IsChecked s items) lengths c.in_ok-check.ensures.ok in
     subst (GivesPlan c.args.layout.now c.plan_of_parts.result) (ap parts_view shown ∙ sym (indexed-parts c.args.layout.now.shape items checked)) c.plan_of_parts.ensures

@@ -10,8 +10,8 @@ use Rattle.fancy_index.specs.inside.PointLists.{place_of}
 use Rattle.fancy_index.proofs.NumberLoops.{next_is_place, place_next}
 use Rattle.fancy_index.proofs.points.places_each.Goals as goal
 
-pub place_of-requires : goal.place_of-requires
-place_of-requires c =
+pub place_of-requires-clause-place : goal.place_of-requires-clause-place
+place_of-requires-clause-place c =
     let a = c.args.array in
     let fits : SFits w128 c.number_at.result = search rules in
     ap (is_place c.args.n) (to_z-of_z w128 c.number_at.result fits ∙ c.number_at.ensures)

@@ -2,12 +2,12 @@ use Rattle.std.proofs.Common.{◌∙◌, arith}
 use Rattle.fancy_index.proofs.SingleLaws.{gather_one, gathered_one}
 use Rattle.fancy_index.proofs.singles.gather_each.Goals as goal
 
-pub copy_from-requires-clause-src : goal.copy_from-requires-clause-src
-copy_from-requires-clause-src c =
+pub copy_item-requires-clause-from : goal.copy_item-requires-clause-from
+copy_item-requires-clause-from c =
     (gather_one c.args.base c.args.place c.args.shifts.now c.loop-shift.shift-index c.moved.result c.loop-shift-test.true c.moved.ensures.value c.loop-shift.at c.args.width _ c.args.block.now c.loop-shift.items _ c.loop-shift.invariant.pass).inside
 
-pub copy_from-requires-clause-dst : goal.copy_from-requires-clause-dst
-copy_from-requires-clause-dst c =
+pub copy_item-requires-clause-to : goal.copy_item-requires-clause-to
+copy_item-requires-clause-to c =
     (gather_one c.args.base c.args.place c.args.shifts.now c.loop-shift.shift-index c.moved.result c.loop-shift-test.true c.moved.ensures.value c.loop-shift.at c.args.width _ c.args.block.now c.loop-shift.items _ c.loop-shift.invariant.pass).room
 
 pub overflow_add-at : goal.overflow_add-at
@@ -17,6 +17,6 @@ overflow_add-at c =
 
 pub loop-shift-preserved : goal.loop-shift-preserved
 loop-shift-preserved c = record {
-  pass = gathered_one c.args.base c.args.place c.args.shifts.now c.loop-shift.shift-index c.moved.result c.loop-shift-test.true c.moved.ensures.value c.loop-shift.at c.args.width _ c.args.block.now c.loop-shift.items c.copy_from.new.self _ c.copy_from.ensures.copied c.copy_from.ensures.len c.loop-shift.invariant.pass;
-  len = c.copy_from.ensures.len ∙ c.loop-shift.invariant.len;
+  pass = gathered_one c.args.base c.args.place c.args.shifts.now c.loop-shift.shift-index c.moved.result c.loop-shift-test.true c.moved.ensures.value c.loop-shift.at c.args.width _ c.args.block.now c.loop-shift.items c.copy_item.new.block _ c.copy_item.ensures.copied c.copy_item.ensures.len c.loop-shift.invariant.pass;
+  len = c.copy_item.ensures.len ∙ c.loop-shift.invariant.len;
 }

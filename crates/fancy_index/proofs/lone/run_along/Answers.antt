@@ -1,4 +1,4 @@
-use Rattle.std.proofs.Common.{rules, ◌≡◌, ◌+◌, ◌++◌, ℕ, List, [], w64, length, map, get_or, take, drop, All, IfOk, sym, ap, subst, ◌∙◌, arith}
+use Rattle.std.proofs.Common.{rules, ◌≡◌, ◌+◌, ◌++◌, [], w64, length, get_or, take, drop, sym, ap, subst, ◌∙◌, arith}
 use Rattle.std.proofs.lemmas.Int.{to_z-of_z}
 use mir.Val.{SFits, to_z, of_z}
 use lib.IntN.{pos}
@@ -6,10 +6,9 @@ use Rattle.shape_strides.specs.declared.runs.Run.{Run}
 use Rattle.shape_strides.specs.Indexes.{IsIndex}
 use Rattle.shape_strides.specs.Layouts.{address}
 use Rattle.fancy_index.specs.inside.PartLists.{first_at}
-use Rattle.fancy_index.specs.inside.Lone.{IsReached, reached}
 use Rattle.fancy_index.proofs.CutLaws.{slice-rest}
 use Rattle.fancy_index.proofs.LoneLaws.{index-made, base-in, axis-low, all-reached, shifts-are}
-use Rattle.fancy_index.proofs.lone.shifts_along.Goals as goal
+use Rattle.fancy_index.proofs.lone.run_along.Goals as goal
 
 pub at-requires : goal.at-requires
 at-requires c =
@@ -28,8 +27,8 @@ bounds-as_slice-axis c =
     let axis : c.len-axis.result ≡ length front = c.len-axis.ensures.value ∙ ap length (c.in_ok-push_all.ensures ∙ ap (λ l. l ++ front) c.new-index.ensures.items) in
     omega (arith, axis, ap length c.as_slice-2.ensures, axis-low c.args.layout.now parts lone.before lone.points.now c.requires.lone c.requires.axes c.requires.list c.requires.leads c.requires.some)
 
-pub offsets_along-requires-clause-reached : goal.offsets_along-requires-clause-reached
-offsets_along-requires-clause-reached c =
+pub returns-clause-reached : goal.returns-clause-reached
+returns-clause-reached c =
     let layout = c.args.layout.now in
     let lone = c.args.lone in
     let parts = c.args.parts.now in
@@ -42,11 +41,10 @@ offsets_along-requires-clause-reached c =
     let fits : SFits w64 step = search rules in
     let stride = to_z-of_z w64 step fits ∙ λ i. get_or (c.as_slice-2.ensures i) (axis i) (pos 0) in
     let run : Run = record { offset = c.at.result; count = 1; step = to_z w64 (of_z w64 step) } in
-    subst (λ (l : List ℕ). All (IsReached run) l) (sym c.as_slice-3.ensures.value)
-    (all-reached layout parts lone.before lone.points.now c.requires.lone c.requires.axes c.requires.list c.requires.leads run c.requires.some (c.at.ensures.address ∙ ap (address layout) index) stride c.as_slice-lengths.ensures.lengths)
+    all-reached layout parts lone.before lone.points.now c.requires.lone c.requires.axes c.requires.list c.requires.leads run c.requires.some (c.at.ensures.address ∙ ap (address layout) index) stride c.as_slice-lengths.ensures.lengths
 
-pub returns : goal.returns
-returns c =
+pub returns-clause-shifts : goal.returns-clause-shifts
+returns-clause-shifts c =
     let layout = c.args.layout.now in
     let lone = c.args.lone in
     let parts = c.args.parts.now in
@@ -59,5 +57,4 @@ returns c =
     let fits : SFits w64 step = search rules in
     let stride = to_z-of_z w64 step fits ∙ λ i. get_or (c.as_slice-2.ensures i) (axis i) (pos 0) in
     let run : Run = record { offset = c.at.result; count = 1; step = to_z w64 (of_z w64 step) } in
-    let same = shifts-are layout parts lone.before lone.points.now c.requires.lone c.requires.axes c.requires.list c.requires.leads run c.requires.some (c.at.ensures.address ∙ ap (address layout) index) stride c.as_slice-lengths.ensures.lengths in
-    subst (λ (l : List ℕ). IfOk c.offsets_along.result (λ v. v.items ≡ l)) (ap (map (reached run)) c.as_slice-3.ensures.value ∙ same) c.offsets_along.ensures
+    shifts-are layout parts lone.before lone.points.now c.requires.lone c.requires.axes c.requires.list c.requires.leads run c.requires.some (c.at.ensures.address ∙ ap (address layout) index) stride c.as_slice-lengths.ensures.lengths
