@@ -71,7 +71,8 @@ impl BlockBuilder {
 
     /// How many bytes are there.
     pub fn filled(&self) -> usize
-        ensures { result ≡ length self.now.0 }
+        ensures len { result ≡ length self.now.0 }
+        ensures small { length self.now.0 + self.now.1 < 2 ^ 63 }
     {
         self.filled
     }
