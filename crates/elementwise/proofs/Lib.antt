@@ -7,6 +7,7 @@ pub mod RowLaws
 pub mod CastLaws
 pub mod AlikeLaws
 pub mod PairLaws
+pub mod AppendedLaws
 pub mod PairedLaws
 pub mod StretchedLaws
 pub mod TypedLaws

@@ -1,7 +1,7 @@
 -- What is made of the items of two layouts, item by item.
-use Rattle.std.proofs.Common.{◌≡◌, ◌+◌, ◌*◌, ◌≤◌, ◌<◌, ℕ, List, [], ◌∷◌, map, length, drop, sym, ap, ◌∙◌, arith, mul_comm}
-use Rattle.std.specs.List.{AllByRecursion as Each}
-use Rattle.std.proofs.lemmas.List.{take-take, get_or_default, same_lists}
+use Rattle.std.proofs.Common.{◌≡◌, ◌+◌, ◌*◌, ◌≤◌, ◌<◌, ℕ, List, [], ◌∷◌, map, length, drop, replicate, refl, sym, ap, ◌∙◌, arith, mul_comm}
+use Rattle.std.specs.List.{concat, AllByRecursion as Each}
+use Rattle.std.proofs.lemmas.List.{length-replicate, take-take, get_or_default, same_lists}
 use Rattle.std.proofs.lemmas.Simd.{map-map}
 use Rattle.std.proofs.lemmas.List.Elements.{All-from_recursion}
 use Rattle.std.proofs.lemmas.List.FromFn.{length-map-range_with_len, get_or-map-range_with_len}
@@ -16,7 +16,8 @@ use Rattle.elementwise.specs.Results.{pairwise, value_in}
 use Rattle.elementwise.specs.inside.Passes.{put_all, row_offsets}
 use Rattle.elementwise.specs.inside.PairPasses.{value_pair, pair_from}
 use Rattle.elementwise.proofs.PassLaws.{length-row}
-use Rattle.elementwise.proofs.RowLaws.{row-entry, landed, rows-in, rows-lie}
+use Rattle.elementwise.proofs.AppendedLaws.{put-rows}
+use Rattle.elementwise.proofs.RowLaws.{length-put_all, row-entry, landed, rows-in, rows-lie}
 use Rattle.elementwise.proofs.LeafLaws.{length-encode}
 use Rattle.elementwise.proofs.PairLaws.{length-pairwise, map-pairwise, pairwise-map}
 
@@ -34,7 +35,7 @@ rows-are item n =
 scalar-item : (scalar : Scalar) (bytes : List ℕ) (o : ℕ) → item_from (ScalarDescr scalar) bytes o ≡ decode scalar (item_at o (size scalar) bytes) ∷ []
 scalar-item scalar bytes o = ap (λ b. decode scalar b ∷ []) (take-take (size scalar) (size scalar) (drop o bytes) (omega arith))
 
-each-wide : (left right to : Scalar) (gives : LeafValue → LeafValue → LeafValue) (a b xs ys : List ℕ) → Each (λ item. length item ≡ size to) (pairwise (pair_from (value_pair left right to gives) (size left) (size right) a b) xs ys)
+pub each-wide : (left right to : Scalar) (gives : LeafValue → LeafValue → LeafValue) (a b xs ys : List ℕ) → Each (λ item. length item ≡ size to) (pairwise (pair_from (value_pair left right to gives) (size left) (size right) a b) xs ys)
 each-wide left right to gives a b [] ys = tt
 each-wide left right to gives a b (x ∷ xs) [] = tt
 each-wide left right to gives a b (x ∷ xs) (y ∷ ys) = (length-encode to (gives (decode left (item_at x (size left) a)) (decode right (item_at y (size right) b))), each-wide left right to gives a b xs ys)
@@ -62,3 +63,20 @@ all_made left right to gives a b xs ys bytes bytes' n m many many' counted room 
     ∙ (λ i. pairwise (λ o o'. back (decode left (item_at o (size left) a)) (decode right (item_at o' (size right) b)) i ∷ []) xs ys)
     ∙ sym (pairwise-map (λ x y. gives (value_in x) (value_in y) ∷ []) (item_from (ScalarDescr left) a) (item_from (ScalarDescr right) b) xs ys
     ∙ λ i. pairwise (λ o o'. gives (value_in (scalar-item left a o i)) (value_in (scalar-item right b o' i)) ∷ []) xs ys)
+
+-- the same where nothing else is there, and how long that is
+pub all_appended : (left right to : Scalar) (gives : LeafValue → LeafValue → LeafValue) (a b xs ys bytes : List ℕ) (n : ℕ) → length xs ≡ n → length ys ≡ n →
+    ((x y : LeafValue) → decode to (encode to (gives x y)) ≡ gives x y) →
+    bytes ≡ concat (pairwise (pair_from (value_pair left right to gives) (size left) (size right) a b) xs ys) →
+    (length bytes ≡ n * size to)
+    × (map (item_from (ScalarDescr to) bytes) (multiples (size to) n) ≡ pairwise (λ x y. gives (value_in x) (value_in y) ∷ []) (map (item_from (ScalarDescr left) a) xs) (map (item_from (ScalarDescr right) b) ys))
+all_appended left right to gives a b xs ys bytes n many many' back wrote =
+    let wide = size to in
+    let items = pairwise (pair_from (value_pair left right to gives) (size left) (size right) a b) xs ys in
+    let zeros = replicate (n * wide) 0 in
+    let room : length zeros ≡ n * wide = length-replicate (n * wide) 0 in
+    let each = each-wide left right to gives a b xs ys in
+    let over : put_all (row_offsets 0 wide n) items zeros ≡ concat items = put-rows wide items n [] zeros (length-pairwise (pair_from (value_pair left right to gives) (size left) (size right) a b) xs ys (many ∙ sym many') ∙ many) each room in (
+      ap length (wrote ∙ sym over) ∙ length-put_all wide (row_offsets 0 wide n) items zeros (rows-in wide n (length zeros) (omega (arith, room)) 0 wide (omega arith)) (All-from_recursion (λ item. length item ≡ wide) items each) ∙ room,
+      all_made left right to gives a b xs ys zeros bytes n n many many' refl (omega (arith, room)) back (wrote ∙ sym over),
+    )

@@ -8,18 +8,19 @@ ghost use Rattle.shape_strides.specs.Indexes.{count};
 ghost use Rattle.shape_strides.specs.Layouts.{offsets, multiples};
 ghost use Rattle.elementwise.specs.Results.{pairwise, value_in};
 
-use crate::pair_runs::make_pairs;
+use crate::pair_runs::push_pairs;
 use crate::pairing::Pairing;
 use elem_descr::{Descr, Refusal};
 use overlap_copy::Owned;
-use raw_block::RawBlock;
+use raw_block::{BlockBuilder, RawBlock};
 use shape_strides::{Layout, MemoryOrder, RunPairs, Shape};
 use std::alloc::{AllocError, Global};
 
-/// Writes what is made of the items of two layouts of one shape, one after another in C order.
+/// Fills a block with what is made of the items of two layouts of one shape, one after another in C
+/// order.
 fn make_all<P: Pairing>(
     pairing: &P,
-    bytes: &mut [u8],
+    block: &mut BlockBuilder,
     left: &[u8],
     first: &Layout,
     right: &[u8],
@@ -29,14 +30,15 @@ fn make_all<P: Pairing>(
     requires even { first.now.shape ≡ second.now.shape }
     requires left { All (λ offset. offset + size (P.left_scalar pairing.now) ≤ length left.now) (offsets first.now) }
     requires right { All (λ offset. offset + size (P.right_scalar pairing.now) ≤ length right.now) (offsets second.now) }
-    requires room { length bytes.old ≡ count first.now.shape * size (P.target_scalar pairing.now) }
-    ensures items { map (item_from (ScalarDescr (P.target_scalar pairing.now)) bytes.new) (multiples (size (P.target_scalar pairing.now)) (count first.now.shape))
+    requires empty { block.old ≡ ([], count first.now.shape * size (P.target_scalar pairing.now)) }
+    ensures items { map (item_from (ScalarDescr (P.target_scalar pairing.now)) block.new.0) (multiples (size (P.target_scalar pairing.now)) (count first.now.shape))
         ≡ pairwise (λ x y. P.gives pairing.now (value_in x) (value_in y) ∷ [])
         (map (item_from (ScalarDescr (P.left_scalar pairing.now)) left.now) (offsets first.now))
         (map (item_from (ScalarDescr (P.right_scalar pairing.now)) right.now) (offsets second.now)) }
-    ensures len { length bytes.new ≡ length bytes.old }
+    ensures len { length block.new.0 ≡ count first.now.shape * size (P.target_scalar pairing.now) }
+    ensures full { block.new.1 ≡ 0 }
 {
-    make_pairs::<P>(pairing, bytes, left, right, RunPairs::new(first, second));
+    push_pairs::<P>(pairing, block, left, right, RunPairs::new(first, second));
 }
 
 /// The same in a block that the items just fill.
@@ -59,16 +61,16 @@ fn make_block<P: Pairing>(
         (map (item_from (ScalarDescr (P.right_scalar pairing.now)) right.now) (offsets second.now))) }
 {
     let scalar = pairing.target();
-    let mut block = RawBlock::try_zeroed(alloc, first.shape.items() * scalar.size())?;
+    let mut block = BlockBuilder::try_new(alloc, first.shape.items() * scalar.size())?;
     make_all::<P>(
         pairing,
-        block.bytes_mut(),
+        &mut block,
         left.bytes(),
         first,
         right.bytes(),
         second,
     );
-    Ok(block)
+    Ok(block.finish())
 }
 
 /// What is made of the items of two layouts of one shape, as an array of this shape.

@@ -1,11 +1,20 @@
 -- What holds of the fields of a block.
 use Rattle.std.specs.Prelude.{◌≡◌, ◌+◌, ◌*◌, ◌/◌, ◌^◌, ◌<◌, length}
 use Rattle.raw_block.specs.declared.block.RawBlock.TheInside.{Inside}
+use Rattle.raw_block.specs.declared.block.builder.BlockBuilder.TheInside.{Inside as Builder}
 
 -- the owner and the deed are those of the block that the pointer leads to, and every byte has a value
 pub record IsBlock (b : Inside) : Type 0 where
   pub owner : b.bytes.at ≡ b.base.ptr
   pub len : length b.bytes.items ≡ b.len
   pub filled : b.bytes.room ≡ 0
+  pub small : b.len + 15 < 2 ^ 63
+  pub deed : (b.deed.at ≡ b.base.ptr) × (b.deed.len ≡ b.len) × (b.deed.size ≡ (b.len + 15) / 16 * 16) × (b.deed.alloc ≡ b.alloc)
+
+-- the same of a block in the making: the bytes that are there, and the room after them, are the whole block
+pub record IsBuilder (b : Builder) : Type 0 where
+  pub owner : b.bytes.at ≡ b.base.ptr
+  pub filled : length b.bytes.items ≡ b.filled
+  pub whole : b.filled + b.bytes.room ≡ b.len
   pub small : b.len + 15 < 2 ^ 63
   pub deed : (b.deed.at ≡ b.base.ptr) × (b.deed.len ≡ b.len) × (b.deed.size ≡ (b.len + 15) / 16 * 16) × (b.deed.alloc ≡ b.alloc)

@@ -5,9 +5,12 @@ ghost use Rattle.std.specs.List.{flat_map, refill};
 ghost use Rattle.raw_block.specs.Bytes.{item_at, put, little_number, little_bytes, EachWithin, copied, copied_within, filled, swapped};
 ghost use Rattle.raw_block.specs.inside.Sizes.{IsSizeFor};
 
+mod builder;
+
 use crate::base::{Base, Bytes, Deed, WORD, allocate, deallocate};
 use crate::item::{move_item, number_of, put_item, put_number};
 use crate::strided;
+pub use builder::BlockBuilder;
 use std::alloc::{AllocError, Global};
 use std::marker::Model;
 

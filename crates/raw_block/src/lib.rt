@@ -9,4 +9,4 @@ mod strided;
 // A crate can name a block in a contract only if the types of its fields are exported.
 #[doc(hidden)]
 pub use base::{Base, Bytes, Deed};
-pub use block::RawBlock;
+pub use block::{BlockBuilder, RawBlock};

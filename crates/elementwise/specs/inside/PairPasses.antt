@@ -39,6 +39,10 @@ value_pair left right to f x y = encode to (f (decode left x) (decode right y))
 abbrev pub binary_value : BinaryOperation → Scalar → LeafValue → LeafValue → LeafValue
 binary_value op scalar x y = number (binary op scalar (number_of x) (number_of y))
 
+-- n of the items of a run, after those that are done
+abbrev pub run_part : ℕ → ℕ → Run → Run
+run_part done n run = record { offset = place run.offset run.step done; count = n; step = run.step }
+
 -- what f makes of the items at two offsets
 abbrev pub pair_from : (List ℕ → List ℕ → List ℕ) → ℕ → ℕ → List ℕ → List ℕ → ℕ → ℕ → List ℕ
 pair_from f width width' left right o o' = f (item_at o width left) (item_at o' width' right)
