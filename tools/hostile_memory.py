@@ -155,7 +155,8 @@ class Refusing:
         word, should = self.judged(ran, left)
         part.count(word)
         if should:
-            where = f"{self.script.name}, request {request} of {self.requests} refused:\n{shown(text_of(self.script.lines), 2000)}"
+            where = f"{self.script.name}, request {request} of {self.requests} refused"
+            where += "" if part.faults else f", the script being\n{shown(text_of(self.script.lines).decode('latin-1'), 3000)}"
             happened = f"status {ran.status}, {shown(ran.err)}, replies {shown(ran.out)}, files {shown(list(left or []))}"
             part.fault(where, happened, should)
 
