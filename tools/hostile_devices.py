@@ -162,7 +162,7 @@ class Trials:
         text = 'a = arange <i4 0 3 1\nx = load "folder"\nsave a "folder"\nsave a "b.npy"\nnames\n'
         replies = "ok a <i4 (3,) new\nno E27 store fault\nno E27 store fault\nok save 140\nnames a\n"
         self.over("a folder with the file's name", self.dir, replies, text=text)
-        self.part.expect("what is left beside it", sorted(os.listdir(self.dir)), ["a.npy", "b.npy", "folder"])
+        self.part.expect("what is left beside it", sorted(os.listdir(self.dir)), ["b.npy", "folder"])
         (self.dir / "zero").symlink_to("/dev/zero")
         (self.dir / "null").symlink_to("/dev/null")
         (self.dir / "circle").symlink_to("circle")
