@@ -40,6 +40,8 @@ def tell(name, part, seconds):
     """Reports a part."""
     counts = ", ".join(f"{count} {what}" for what, count in part.counts.items())
     print(f"{name}: {counts or 'nothing tried'}; {len(part.faults)} wrong; {seconds:.0f} s", flush=True)
+    for note in part.notes:
+        print(f"   {note}")
     for where, happened, should in part.faults[:MOST_TOLD]:
         print(f"-- {where}\n   what happened: {shown(happened)}\n   what should have: {shown(should)}", flush=True)
     if len(part.faults) > MOST_TOLD:

@@ -1,6 +1,6 @@
 """Devices that fail, over real files, folders and pipes.
 
-What no rule tells, as how a pipe that is closed ends a run, is counted as it is found."""
+What no rule tells, as how a pipe that is closed ends a run, is told as it is found."""
 import os
 import pathlib
 import resource
@@ -10,7 +10,7 @@ import subprocess
 import time
 
 from hostile_files import FILE
-from hostile_runs import Part, shown, temporary_folder
+from hostile_runs import Part, temporary_folder
 
 SCRIPT = "a = arange <i4 0 3 1\nsave a \"a.npy\"\nx = load \"a.npy\"\nprint a\n"
 REPLIES = "ok a <i4 (3,) new\nok save 140\nok x <i4 (3,) new rest 0\n[0 1 2]\n"
@@ -39,23 +39,19 @@ class Trials:
         given = {"stdin": subprocess.DEVNULL, "stdout": subprocess.PIPE, "stderr": subprocess.PIPE, **streams}
         return subprocess.Popen([*map(str, before), str(self.program), *map(str, words)], cwd=self.folder, **given)
 
-    def run(self, text, words=(), before=(), **streams):
+    def run(self, text, words=(), before=(), seconds=MOST_WAIT, **streams):
         """Status, output and what is said on standard error; a run that takes too long is ended, and has none."""
         process = self.start(words, before, stdin=subprocess.PIPE, **streams)
         try:
-            out, err = process.communicate(text.encode(), MOST_WAIT)
+            out, err = process.communicate(text.encode(), seconds)
         except subprocess.TimeoutExpired:
             process.kill()
             process.communicate()
-            return None, "", f"still running after {MOST_WAIT} s"
+            return None, "", f"still running after {seconds} s"
         return process.returncode, (out or b"").decode(), (err or b"").decode()
 
     def expect(self, where, happened, status, out, err):
         self.part.expect(where, happened, (status, out, err))
-
-    def tell(self, what, found):
-        """Counts what is found where no rule tells what should be."""
-        self.part.count(f"{what}: {shown(found, 120)}")
 
     def over(self, where, dir_, out, status=1, before=(), text=SCRIPT):
         """A run over a folder that fails, which ends as it should."""
@@ -68,6 +64,7 @@ class Trials:
             self.expect("/dev/full and nothing to say", self.run("# nothing\n", stdout=full), 0, "", "")
         for name, handler in (("ended by it", signal.SIG_DFL), ("told of it", signal.SIG_IGN)):
             self.closed_pipe(name, handler)
+        self.closed_streams()
         self.limited_output()
 
     def closed_pipe(self, name, handler):
@@ -85,10 +82,27 @@ class Trials:
             pass
         status = process.wait(MOST_WAIT)
         err = process.stderr.read().decode()
-        self.tell(f"a closed pipe, the program being {name}", f"status {status}, {err!r}")
+        self.part.note(f"a closed pipe, the program being {name}", f"status {status}, {err!r}")
         ended = first == b"names\n" and time.monotonic() - began < MOST_WAIT / 2
         quiet = (status, err) in ((-signal.SIGPIPE, ""), (3, "bench: write fault\n"))
         self.part.expect(f"a closed pipe ({name})", (ended, quiet), (True, True))
+
+    def closed_streams(self):
+        """A stream that is closed from the start, of which files that are opened may take the number."""
+        script = self.folder / "plain.bench"
+        script.write_text(SCRIPT)
+        text = 'x = load "a.npy"\n' + SCRIPT
+        for closed, words, happened in (
+            ("<&-", [], (3, "", "bench: read fault\n")),
+            ("<&-", [script], (1, FAULTED, "")),
+            (">&-", [], (3, "", "bench: write fault\n")),
+            (">&-", [script], (3, "", "bench: write fault\n")),
+            ("2>&-", [script], (1, FAULTED, "")),
+            ("2>&-", [self.folder / "none.bench"], (3, "", "")),
+        ):
+            before = ["sh", "-c", f'exec "$@" {closed}', "sh"]
+            named = "with SCRIPT" if words else "without SCRIPT"
+            self.expect(f"{closed} {named}", self.run(text, ["--dir", self.folder / "none", *words], before), *happened)
 
     def limited_output(self):
         """Standard output is a file that takes no more than some bytes."""
@@ -134,7 +148,7 @@ class Trials:
         self.over("an empty name as DIR", "", REPLIES, 0)
         self.over("a file as DIR", self.program, FAULTED.replace("E34 no such file", "E27 store fault"))
         if os.getuid() != 0:
-            return self.part.count("left out, as they want root's rights: other users and full disks")
+            return self.part.note("left out, as they want root's rights", "another user and a full disk")
         locked = self.folder / "locked"
         locked.mkdir(mode=0o700)
         self.over("DIR without rights", locked, FAULTED.replace("E34 no such file", "E27 store fault"), before=NOBODY)
@@ -187,8 +201,8 @@ class Trials:
         except (TimeoutError, subprocess.TimeoutExpired):
             process.kill()
             out, _ = process.communicate()
-            self.tell("a FIFO with a writer as the file", f"ended, after {out!r}")
-        status, out, err = self.run('x = load "fifo"\nnames\n', ["--dir", self.dir])
+            self.part.note("a FIFO with a writer as the file", f"ended, after {out!r}")
+        status, out, err = self.run('x = load "fifo"\nnames\n', ["--dir", self.dir], seconds=5)
         self.part.expect("a FIFO that nobody writes, as the file", (status, err), (1, ""))
         fifo.unlink()
 
@@ -212,12 +226,12 @@ class Trials:
         most = (self.dir / "grows").stat().st_size - len(FILE)
         whole = (status, err, len(replies), len(rests), rests == sorted(rests), not rests or rests[-1] <= most)
         self.part.expect("a file that grows while it is loaded", whole, (0, "", LOADS, LOADS, True, True))
-        self.tell("bytes that it grew by while it was loaded", rests[-1] - rests[0] if rests else None)
+        self.part.note("bytes that it grew by while it was loaded", rests[-1] - rests[0] if rests else None)
         (self.folder / "whole").write_bytes(FILE)
         status, replies, err = self.while_written("anew", "cat \"$2\" >\"$1\"")
         may = {"ok x <i4 (3,) new rest 0", "no E28 bad magic", "no E31 truncated"}
         self.part.expect("a file that is written anew while it is loaded", (status in (0, 1), len(replies), set(replies) <= may, err), (True, LOADS, True, ""))
-        self.tell("of its loads", f"{replies.count('ok x <i4 (3,) new rest 0')} arrays, {replies.count('no E28 bad magic')} without a byte")
+        self.part.note("of its loads", f"{replies.count('ok x <i4 (3,) new rest 0')} arrays, {replies.count('no E28 bad magic')} without a byte")
 
 
 def open_soon(fifo):

@@ -244,7 +244,7 @@ def large_loads(program):
             length = len(front) + zeros
             should, items = expected_of(front, zeros)
             part.expect(f"load of {name}", reply, should)
-            part.count("large files")
+            part.note(f"load of {name}", f"{length:,} bytes of the file, {items:,} of the array, {peak:,} reserved")
             most = length + items + SPARE
             if peak > most:
                 part.fault(f"load of {name}", f"{peak:,} bytes reserved", f"at most {most:,}: {length:,} of the file and {items:,} of the array")

@@ -42,7 +42,8 @@ class Long:
         last = self.look()
         replied = self.talk.length
         ended = self.talk.end()
-        self.part.count(f"{self.what}: {(time.monotonic() - self.began):.1f} s, {self.first / 2**20:.1f} MB and then {last / 2**20:.1f} MB")
+        seconds = time.monotonic() - self.began
+        self.part.note(self.what, f"{seconds:.1f} s, {self.first / 2**20:.1f} MB and then {last / 2**20:.1f} MB")
         self.part.expect(f"{self.what}: status", ended, status)
         self.part.expect(f"{self.what}: memory stays within {SPARE:,} bytes", last - self.first <= SPARE, True)
         if replies is not None:
@@ -59,10 +60,10 @@ def cycle(number, with_undo):
 
 def many_commands(part, program, with_undo):
     """A million commands at the greatest depth."""
-    commands = COMMANDS if with_undo else COMMANDS // 4
-    run = Long(part, program, f"{commands:,} commands", ["--undo", str(DEPTH)] if with_undo else [])
+    what = f"{COMMANDS:,} commands at depth {DEPTH}" if with_undo else f"{COMMANDS:,} commands without undo"
+    run = Long(part, program, what, ["--undo", str(DEPTH)] if with_undo else [])
     run.say(b"b = zeros <i4 (8)\n")
-    for start in range(0, commands // 10, FIRST // 10):
+    for start in range(0, COMMANDS // 10, FIRST // 10):
         if start == FIRST // 10:
             run.is_warm()
         run.say("".join(f"{line}\n" for k in range(start, start + FIRST // 10) for line in cycle(k, with_undo)).encode())
@@ -130,8 +131,6 @@ def many_names(part, program, with_undo, seed):
 def all_trials(given, with_undo, _folder):
     """All long runs."""
     part = Part()
-    if not with_undo:
-        part.count("part left out: the undo depth, which the program does not take")
     many_commands(part, given.bench, with_undo)
     long_script(part, given.bench)
     full_lines(part, given.bench)

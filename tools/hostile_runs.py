@@ -16,14 +16,17 @@ Ran = collections.namedtuple("Ran", "status out err")
 
 
 class Part:
-    """The counts of a part, and what was wrong: where, what happened, what should have."""
+    """The counts of a part, what was found where no rule tells it, and what was wrong: where, what happened, what should have."""
 
     def __init__(self):
         self.counts = collections.Counter()
-        self.faults = []
+        self.notes, self.faults = [], []
 
     def count(self, what, number=1):
         self.counts[what] += number
+
+    def note(self, what, found):
+        self.notes.append(f"{what}: {shown(found)}")
 
     def fault(self, where, happened, should):
         self.faults.append((where, happened, should))
@@ -36,6 +39,7 @@ class Part:
 
     def add(self, other):
         self.counts.update(other.counts)
+        self.notes += other.notes
         self.faults += other.faults
 
 
@@ -120,7 +124,6 @@ class Talk:
             with self.changed:
                 self.tail = (self.tail + piece)[-4096:]
                 self.length += len(piece)
-                self.ended = not piece
                 self.changed.notify_all()
             if not piece:
                 return

@@ -202,8 +202,11 @@ class Maker:
         self.bind(f"{name}[{text}]", kind, type_, taken)
 
     def field(self):
+        if not any(kind == "record" for kind, _, _ in self.bound.values()):
+            type_, shape = self.rng.choice(list(RECORDS)), self.rng.choice(SHAPES)
+            self.bind(f"zeros {type_} {shape_text(shape)}", "record", type_, shape)
         name, _, type_, shape = self.some("record")
-        field, kind, inner = FIELDS.get(type_, ("x", "int", "<i4"))
+        field, kind, inner = FIELDS.get(type_, ("y", "int", "<i4"))
         self.bind(f'field {name} "{field}"', kind, inner, shape)
 
     def transpose(self):
