@@ -15,7 +15,7 @@ import subprocess
 import time
 
 from hostile_files import reserved_when_idle
-from hostile_runs import Part, Runner, contents, fill, shown
+from hostile_runs import Part, Ran, Runner, contents, fill, shown
 from hostile_scripts import is_silent, own_scripts, random_script, scripts_in, text_of
 
 SOURCE = pathlib.Path(__file__).resolve().parent / "refuse_memory.c"
@@ -26,8 +26,8 @@ MARK, MARKED = b"?", b"no E03 syntax\n"
 NEVER = (b"no E01 ", b"no E02 ", b"no E06 ", b"no E26 ")
 LONGEST_PRINT = 20000
 FIRST_REQUESTS = 60
-MOST_REQUESTS = 160
-MOST_SECONDS = 4
+MOST_REQUESTS = 500
+MOST_SECONDS = 15
 RANDOM_SCRIPTS = 200
 
 
@@ -38,18 +38,24 @@ def built_library(folder):
     return library
 
 
+def run_refusing(runner, library, text, words, request):
+    """What a run comes to with a request refused, and how many requests were made and refused."""
+    told = runner.folder / "told"
+    told.write_bytes(bytes(16))
+    env = {**os.environ, "LD_PRELOAD": str(library), "REFUSE_TOLD": str(told), "REFUSE_REQUEST": str(request)}
+    ran = runner.run(text, words, env)
+    return ran, struct.unpack("=2Q", told.read_bytes())
+
+
 class Refusing:
     """A script, run again and again with one request for memory refused."""
 
     def __init__(self, runner, library, script, with_undo):
-        self.runner, self.script = runner, script
-        self.told = runner.folder / "told"
-        self.words = [] if script.has_folder else ["--dir", str(runner.folder / "none")]
-        self.words = self.words or ["--dir", str(runner.dir)]
+        self.runner, self.library, self.script = runner, library, script
+        self.words = ["--dir", str(runner.dir if script.has_folder else runner.folder / "none")]
         depth = script.depth
         self.words += ["--undo", str(depth)] if with_undo and depth is not None else []
         self.is_at_depth_0 = depth == 0 or not with_undo
-        self.env = {**os.environ, "LD_PRELOAD": str(library), "REFUSE_TOLD": str(self.told)}
         self.saves = any(line.lstrip().startswith(b"save") for line in script.lines)
         self.files = None
         self.without = {}
@@ -58,10 +64,9 @@ class Refusing:
         """What a run over the lines comes to, the files that it leaves, and how many requests were made and refused."""
         if self.files is None or self.saves:
             fill(self.runner.dir, self.script.files)
-        self.told.write_bytes(bytes(16))
-        ran = self.runner.run(text_of(lines), self.words, {**self.env, "REFUSE_REQUEST": str(request)})
+        ran, told = run_refusing(self.runner, self.library, text_of(lines), self.words, request)
         left = contents(self.runner.dir) if self.files is None or self.saves else self.files
-        return ran, left, struct.unpack("=2Q", self.told.read_bytes())
+        return ran, left, told
 
     def shortened(self):
         """Leaves out the prints that are long, after a look at the replies to each line."""
@@ -88,10 +93,12 @@ class Refusing:
         self.reply = self.replies()
         fill(self.runner.dir, self.script.files)
         self.first = contents(self.runner.dir)
-        began = time.monotonic()
-        self.whole, left, (self.requests, _) = self.run(self.script.lines)
-        self.seconds = time.monotonic() - began
-        self.files = left
+        seconds = []
+        for _ in range(2):
+            began = time.monotonic()
+            self.whole, left, (self.requests, _) = self.run(self.script.lines)
+            seconds.append(time.monotonic() - began)
+        self.seconds, self.files = min(seconds), left
 
     def chosen(self, every):
         """The requests to refuse: the first ones, and of the others so many as there is time for."""
@@ -213,6 +220,20 @@ def within_bounds(program):
     return part
 
 
+def words_of_the_program(program, library):
+    """Words that are refused, or ask for help: each run is as with all memory, or is out of memory and does nothing else."""
+    part, lacking = Part(), Ran(3, b"", b"bench: out of memory\n")
+    with Runner(program) as runner:
+        for words in (["--help"], ["--unknown"], ["--dir"], ["one", "two"], [str(runner.folder / "none")]):
+            whole, (requests, _) = run_refusing(runner, library, b"names\n", words, 0)
+            for number in range(1, requests + 1):
+                ran, _ = run_refusing(runner, library, b"names\n", words, number)
+                part.count("runs with words that are refused")
+                if ran not in (whole, lacking):
+                    part.fault(f"bench {' '.join(words)}, request {number} refused", ran, f"{shown(whole)} or {lacking}")
+    return part
+
+
 def all_trials(given, with_undo, folder):
     """The refused requests over all scripts."""
     rng = random.Random(given.seed)
@@ -220,6 +241,7 @@ def all_trials(given, with_undo, folder):
     for rows in given.rows:
         scripts += scripts_in(rows, "*.script")
     library, part = built_library(folder), within_bounds(given.bench)
+    part.add(words_of_the_program(given.bench, library))
     tasks = [(given.bench, library, script, with_undo, given.every) for script in scripts]
     with multiprocessing.Pool(given.processes) as pool:
         for found in pool.imap_unordered(trials_of, tasks):
