@@ -37,6 +37,7 @@ from itertools import zip_longest
 import numpy as np
 
 import casts
+import damaged
 import files
 import overlaps
 import reshapes
@@ -440,7 +441,7 @@ class Script:
         bytes_, array, rest = files.numpys(self.rng, self.array())
         self.loads[file] = (array, rest)
         if self.rng.random() < 0.1 and rest == 0:
-            bytes_, self.loads[file] = files.cut(self.rng, bytes_)
+            bytes_, self.loads[file] = damaged.cut(self.rng, bytes_)
         self.first[file] = self.files[file] = bytes_
         return file
 
@@ -499,7 +500,7 @@ class Altered(Script):
     def __init__(self, rng, number):
         super().__init__(rng, 0, set())
         for k in range(number):
-            self.first[f"{k}.npy"] = files.altered(rng, files.numpys(rng, self.array())[0])
+            self.first[f"{k}.npy"] = damaged.altered(rng, files.numpys(rng, self.array())[0])
         self.files = self.first
         self.lines = [f'x = load "{k}.npy"' for k in range(number)]
         TALLY["altered files"] += number

@@ -1,0 +1,258 @@
+"""Devices that fail, over real files, folders and pipes.
+
+What no rule tells, as how a pipe that is closed ends a run, is told as it is found."""
+import os
+import pathlib
+import resource
+import shutil
+import signal
+import subprocess
+import time
+
+from hostile_files import FILE
+from hostile_runs import Part, temporary_folder
+
+SCRIPT = "a = arange <i4 0 3 1\nsave a \"a.npy\"\nx = load \"a.npy\"\nprint a\n"
+REPLIES = "ok a <i4 (3,) new\nok save 140\nok x <i4 (3,) new rest 0\n[0 1 2]\n"
+FAULTED = REPLIES.replace("ok save 140", "no E27 store fault").replace("ok x <i4 (3,) new rest 0", "no E34 no such file")
+LONG_SCRIPT = "a = zeros |u1 (30000)\n" + "print a\n" * 40
+NOBODY = ["setpriv", "--reuid=65534", "--regid=65534", "--clear-groups"]
+MOST_WAIT = 20
+LOADS = 3000
+MOST_BLOCKS = 8192
+
+
+class Trials:
+    """The trials of one program, with a folder for their files."""
+
+    def __init__(self, program, folder):
+        self.part = Part()
+        self.folder = folder
+        self.program = folder / "bench"
+        shutil.copy(program, self.program)
+        self.program.chmod(0o755)
+        self.dir = folder / "files"
+        self.dir.mkdir()
+
+    def start(self, words=(), before=(), **streams):
+        """A run of the program, perhaps by another one."""
+        given = {"stdin": subprocess.DEVNULL, "stdout": subprocess.PIPE, "stderr": subprocess.PIPE, **streams}
+        return subprocess.Popen([*map(str, before), str(self.program), *map(str, words)], cwd=self.folder, **given)
+
+    def run(self, text, words=(), before=(), seconds=MOST_WAIT, **streams):
+        """Status, output and what is said on standard error; a run that takes too long is ended, and has none."""
+        process = self.start(words, before, stdin=subprocess.PIPE, **streams)
+        try:
+            out, err = process.communicate(text.encode(), seconds)
+        except subprocess.TimeoutExpired:
+            process.kill()
+            process.communicate()
+            return None, "", f"still running after {seconds} s"
+        return process.returncode, (out or b"").decode(), (err or b"").decode()
+
+    def expect(self, where, happened, status, out, err):
+        self.part.expect(where, happened, (status, out, err))
+
+    def over(self, where, dir_, out, status=1, before=(), text=SCRIPT):
+        """A run over a folder that fails, which ends as it should."""
+        self.expect(where, self.run(text, ["--dir", dir_], before), status, out, "")
+
+    def outputs(self):
+        """Standard output that takes nothing, or not all."""
+        with open("/dev/full", "wb") as full:
+            self.expect("/dev/full as standard output", self.run(SCRIPT, ["--dir", self.dir], stdout=full), 3, "", "bench: write fault\n")
+            self.expect("/dev/full and nothing to say", self.run("# nothing\n", stdout=full), 0, "", "")
+        for name, handler in (("ended by it", signal.SIG_DFL), ("told of it", signal.SIG_IGN)):
+            self.closed_pipe(name, handler)
+        self.closed_streams()
+        self.limited_output()
+
+    def closed_pipe(self, name, handler):
+        """Standard output is a pipe whose reader goes after one reply; the signal of it is left on or off."""
+        process = self.start(stdin=subprocess.PIPE, preexec_fn=lambda: signal.signal(signal.SIGPIPE, handler), restore_signals=False)
+        process.stdin.write(b"names\n")
+        process.stdin.flush()
+        first = process.stdout.readline()
+        process.stdout.close()
+        began = time.monotonic()
+        try:
+            process.stdin.write(LONG_SCRIPT.encode() * 20)
+            process.stdin.close()
+        except BrokenPipeError:
+            pass
+        status = process.wait(MOST_WAIT)
+        err = process.stderr.read().decode()
+        self.part.note(f"a closed pipe, the program being {name}", f"status {status}, {err!r}")
+        ended = first == b"names\n" and time.monotonic() - began < MOST_WAIT / 2
+        quiet = (status, err) in ((-signal.SIGPIPE, ""), (3, "bench: write fault\n"))
+        self.part.expect(f"a closed pipe ({name})", (ended, quiet), (True, True))
+
+    def closed_streams(self):
+        """A stream that is closed from the start, of which files that are opened may take the number."""
+        script = self.folder / "plain.bench"
+        script.write_text(SCRIPT)
+        text = 'x = load "a.npy"\n' + SCRIPT
+        for closed, words, happened in (
+            ("<&-", [], (3, "", "bench: read fault\n")),
+            ("<&-", [script], (1, FAULTED, "")),
+            (">&-", [], (3, "", "bench: write fault\n")),
+            (">&-", [script], (3, "", "bench: write fault\n")),
+            ("2>&-", [script], (1, FAULTED, "")),
+            ("2>&-", [self.folder / "none.bench"], (3, "", "")),
+        ):
+            before = ["sh", "-c", f'exec "$@" {closed}', "sh"]
+            named = "with SCRIPT" if words else "without SCRIPT"
+            self.expect(f"{closed} {named}", self.run(text, ["--dir", self.folder / "none", *words], before), *happened)
+
+    def limited_output(self):
+        """Standard output is a file that takes no more than some bytes."""
+        whole = self.run(LONG_SCRIPT)[1].encode()
+        for most in (0, 1, 100, 65536, len(whole) - 1, len(whole)):
+            path = self.folder / "out"
+            with open(path, "wb") as out:
+                def limit():
+                    signal.signal(signal.SIGXFSZ, signal.SIG_IGN)
+                    resource.setrlimit(resource.RLIMIT_FSIZE, (most, most))
+                happened = self.run(LONG_SCRIPT, stdout=out, preexec_fn=limit)
+            fault = (0, "", "") if most == len(whole) else (3, "", "bench: write fault\n")
+            self.expect(f"standard output of {most} bytes", happened, *fault)
+            self.part.expect(f"what was written of {most} bytes", path.read_bytes() == whole[:most], True)
+
+    def scripts(self):
+        """Scripts that are no files."""
+        missing = self.folder / "none.bench"
+        self.expect("a folder as SCRIPT", self.run("", [self.dir]), 3, "", "bench: read fault\n")
+        self.expect("SCRIPT that is not there", self.run("", [missing]), 3, "", "bench: no script\n")
+        self.expect("SCRIPT under a file", self.run("", [self.program / "x"]), 3, "", "bench: no script\n")
+        self.expect("an empty name as SCRIPT", self.run("", [""]), 3, "", "bench: no script\n")
+        self.expect("a name that is too long", self.run("", ["x" * 5000]), 3, "", "bench: no script\n")
+        folder = os.open(self.dir, os.O_RDONLY)
+        self.expect("a folder as standard input", self.run_with(folder), 3, "", "bench: read fault\n")
+        os.close(folder)
+        self.expect("/dev/null as SCRIPT", self.run("", ["/dev/null"]), 0, "", "")
+        if os.getuid() == 0:
+            secret = self.folder / "secret.bench"
+            secret.write_text(SCRIPT)
+            secret.chmod(0)
+            self.expect("SCRIPT without rights", self.run("", [secret], NOBODY), 3, "", "bench: no script\n")
+
+    def run_with(self, given):
+        """A run whose standard input is some open file."""
+        process = self.start(stdin=given)
+        out, err = process.communicate(timeout=MOST_WAIT)
+        return process.returncode, out.decode(), err.decode()
+
+    def folders(self):
+        """Folders that are not there, that may not be used, or that are full."""
+        self.over("DIR that is not there", self.folder / "none", FAULTED)
+        self.over("an empty name as DIR", "", REPLIES, 0)
+        self.over("a file as DIR", self.program, FAULTED.replace("E34 no such file", "E27 store fault"))
+        if os.getuid() != 0:
+            return self.part.note("left out, as they want root's rights", "another user and a full disk")
+        locked = self.folder / "locked"
+        locked.mkdir(mode=0o700)
+        self.over("DIR without rights", locked, FAULTED.replace("E34 no such file", "E27 store fault"), before=NOBODY)
+        locked.chmod(0o555)
+        self.over("DIR that may be read alone", locked, FAULTED, before=NOBODY)
+        self.part.expect("what is left in DIR without rights", os.listdir(locked), [])
+        self.full_disk()
+
+    def full_disk(self):
+        """A disk of one page: what does not fit is a fault, and the file that was there stays."""
+        disk = self.folder / "disk"
+        disk.mkdir()
+        text = 'a = arange <i4 0 3 1\nsave a "a.npy"\nb = zeros <i4 (30000)\nsave b "a.npy"\nsave b "b.npy"\nx = load "a.npy"\nprint x\ny = load "b.npy"\nsave a "c.npy"\n'
+        replies = ("ok a <i4 (3,) new\nok save 140\nok b <i4 (30000,) new\nno E27 store fault\nno E27 store fault\nok x <i4 (3,) new rest 0\n[0 1 2]\n"
+                   "no E34 no such file\nok save 140\n")
+        mounted = 'mount -t tmpfs -o size=64k tmpfs disk && "$@"; status=$?; ls -A disk >left; umount disk; exit $status'
+        self.over("a full disk as DIR", disk, replies, before=["unshare", "--mount", "sh", "-c", mounted, "sh"], text=text)
+        left = (self.folder / "left").read_text().split()
+        self.part.expect("what is left on the full disk", left, ["a.npy", "c.npy"])
+
+    def files(self):
+        """Files that are no plain files, or that change meanwhile."""
+        (self.dir / "folder").mkdir()
+        (self.dir / "folder" / "inside").write_bytes(b"")
+        text = 'a = arange <i4 0 3 1\nx = load "folder"\nsave a "folder"\nsave a "b.npy"\nnames\n'
+        replies = "ok a <i4 (3,) new\nno E27 store fault\nno E27 store fault\nok save 140\nnames a\n"
+        self.over("a folder with the file's name", self.dir, replies, text=text)
+        self.part.expect("what is left beside it", sorted(os.listdir(self.dir)), ["b.npy", "folder"])
+        (self.dir / "zero").symlink_to("/dev/zero")
+        (self.dir / "null").symlink_to("/dev/null")
+        (self.dir / "circle").symlink_to("circle")
+        text = 'x = load "null"\nx = load "circle"\nx = load "zero"\nnames\n'
+        self.over("devices as files", self.dir, "no E28 bad magic\nno E27 store fault\nno E35 file too long\nnames\n", text=text)
+        self.fifos()
+        self.changing_files()
+
+    def fifos(self):
+        """A FIFO as the file that is loaded, with a writer and without."""
+        fifo = self.dir / "fifo"
+        os.mkfifo(fifo)
+        process = self.start(["--dir", self.dir], stdin=subprocess.PIPE)
+        process.stdin.write(b'x = load "fifo"\nnames\n')
+        process.stdin.flush()
+        try:
+            written = open_soon(fifo)
+            os.write(written, FILE)
+            os.close(written)
+            out, _ = process.communicate(timeout=MOST_WAIT)
+            self.part.expect("a FIFO with a writer as the file", out.decode(), "ok x <i4 (3,) new rest 0\nnames x\n")
+        except (TimeoutError, subprocess.TimeoutExpired):
+            process.kill()
+            out, _ = process.communicate()
+            self.part.note("a FIFO with a writer as the file", f"ended, after {out!r}")
+        status, out, err = self.run('x = load "fifo"\nnames\n', ["--dir", self.dir], seconds=5)
+        self.part.expect("a FIFO that nobody writes, as the file", (status, err), (1, ""))
+        fifo.unlink()
+
+    def while_written(self, name, command):
+        """The replies to loads of a file, again and again, while a command of the shell writes it."""
+        path = self.dir / name
+        path.write_bytes(FILE)
+        loop = f"ulimit -f {MOST_BLOCKS}; while :; do {command}; done"
+        writer = subprocess.Popen(["sh", "-c", loop, "sh", path, self.folder / "whole"], start_new_session=True, stderr=subprocess.DEVNULL)
+        try:
+            status, out, err = self.run(f'x = load "{name}"\n' * LOADS, ["--dir", self.dir])
+        finally:
+            os.killpg(writer.pid, signal.SIGKILL)
+            writer.wait()
+        return status, out.splitlines(), err
+
+    def changing_files(self):
+        """A file that grows while it is loaded, and one that is written anew."""
+        status, replies, err = self.while_written("grows", "printf 0123456789abcdef >>\"$1\"")
+        rests = [int(reply.rsplit(" ", 1)[1]) for reply in replies if reply.startswith("ok x <i4 (3,) new rest ")]
+        most = (self.dir / "grows").stat().st_size - len(FILE)
+        whole = (status, err, len(replies), len(rests), rests == sorted(rests), not rests or rests[-1] <= most)
+        self.part.expect("a file that grows while it is loaded", whole, (0, "", LOADS, LOADS, True, True))
+        self.part.note("bytes that it grew by while it was loaded", rests[-1] - rests[0] if rests else None)
+        (self.folder / "whole").write_bytes(FILE)
+        status, replies, err = self.while_written("anew", "cat \"$2\" >\"$1\"")
+        may = {"ok x <i4 (3,) new rest 0", "no E28 bad magic", "no E31 truncated"}
+        self.part.expect("a file that is written anew while it is loaded", (status in (0, 1), len(replies), set(replies) <= may, err), (True, LOADS, True, ""))
+        self.part.note("of its loads", f"{replies.count('ok x <i4 (3,) new rest 0')} arrays, {replies.count('no E28 bad magic')} without a byte")
+
+
+def open_soon(fifo):
+    """Opens a FIFO for writing, once somebody reads it."""
+    until = time.monotonic() + MOST_WAIT
+    while time.monotonic() < until:
+        try:
+            return os.open(fifo, os.O_WRONLY | os.O_NONBLOCK)
+        except OSError:
+            time.sleep(0.01)
+    raise TimeoutError
+
+
+def all_trials(given, _with_undo, _folder):
+    """All devices."""
+    folder = temporary_folder()
+    folder.chmod(0o755)
+    try:
+        trials = Trials(given.bench, pathlib.Path(folder))
+        for kind in (trials.outputs, trials.scripts, trials.folders, trials.files):
+            kind()
+        return trials.part
+    finally:
+        shutil.rmtree(folder, ignore_errors=True)

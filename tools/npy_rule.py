@@ -1,0 +1,241 @@
+"""What the program replies to the load of a file, worked out from the bytes of the file by the rules of NPY files."""
+import math
+import re
+
+SPACES = " \t\n\r"
+TOKEN = re.compile(r"""'([ -&(-\[\]-~]*)'|"([ !#-\[\]-~]*)"|(0|[1-9][0-9]*)L?(?![0-9])|(True|False|None)(?![A-Za-z])|([](){}[:,])""")
+LITERALS = {"True": True, "False": False, "None": None}
+MOST_DEPTH, MOST_HEADER = 16, 2**20
+MOST_ITEMS, MOST_BYTES, MOST_ITEM = 2**24, 2**28, 65536
+MOST_FIELDS, MOST_LEAVES, MOST_RECORDS = 64, 2048, 4
+NAME = re.compile(r"[ !#-&(-9;-\[\]-~]{1,64}")
+LETTERS = {"b1": "?", "i1": "b", "u1": "B", "i2": "h", "u2": "H", "i4": "i", "u4": "I", "i8": "q", "u8": "Q"}
+
+
+class Refused(Exception):
+    """A refusal: its code and text."""
+
+
+BAD_HEADER = Refused("E30 bad header")
+BAD_TYPE = Refused("E04 bad descriptor")
+LEFT_OUT = Refused("E05 descriptor left out")
+TOO_LARGE = Refused("E09 too large")
+TRUNCATED = Refused("E31 truncated")
+
+
+def tokens(text):
+    """The tokens of a header: symbols as (`,`, None), literals as ("literal", value)."""
+    found, at = [], 0
+    while True:
+        while at < len(text) and text[at] in SPACES:
+            at += 1
+        if at == len(text):
+            return [*found, ("end", None)]
+        token = TOKEN.match(text, at)
+        if not token:
+            raise BAD_HEADER
+        at = token.end()
+        single, double, digits, word, symbol = token.groups()
+        if symbol:
+            found.append((symbol, None))
+        elif digits:
+            found.append(("literal", int(digits[:40])))
+        else:
+            found.append(("literal", LITERALS[word] if word else single if single is not None else double))
+
+
+class Grammar:
+    """Reads literals from tokens: a tuple is a tuple, a list a list, a dictionary a list of pairs within `Entries`."""
+
+    def __init__(self, found):
+        self.tokens, self.at = found, 0
+
+    def take(self, *kinds):
+        kind, value = self.tokens[self.at]
+        if kinds and kind not in kinds:
+            raise BAD_HEADER
+        self.at += 1
+        return kind, value
+
+    def literal(self, depth):
+        kind, value = self.take("literal", "(", "[", "{")
+        if kind == "literal":
+            return value
+        if depth > MOST_DEPTH:
+            raise BAD_HEADER
+        close = {"(": ")", "[": "]", "{": "}"}[kind]
+        items, ended_by_comma = [], False
+        while self.tokens[self.at][0] != close:
+            if items and not ended_by_comma:
+                raise BAD_HEADER
+            item = self.literal(depth + 1)
+            if kind == "{":
+                self.take(":")
+                item = (item, self.literal(depth + 1))
+            items.append(item)
+            ended_by_comma = self.tokens[self.at][0] == ","
+            self.at += ended_by_comma
+        self.take(close)
+        if kind == "(" and len(items) == 1 and not ended_by_comma:
+            raise BAD_HEADER
+        return tuple(items) if kind == "(" else items if kind == "[" else Entries(items)
+
+
+class Entries:
+    """The entries of a dictionary, in their order."""
+
+    def __init__(self, items):
+        self.items = items
+
+
+def header_values(text):
+    """The three values of a header."""
+    grammar = Grammar(tokens(text))
+    whole = grammar.literal(1)
+    grammar.take("end")
+    keys = [key for key, _ in whole.items] if isinstance(whole, Entries) else []
+    if not all(isinstance(key, str) for key in keys) or sorted(keys) != ["descr", "fortran_order", "shape"]:
+        raise BAD_HEADER
+    values = dict(whole.items)
+    descr, fortran, shape = values["descr"], values["fortran_order"], values["shape"]
+    if not isinstance(fortran, bool) or not isinstance(shape, tuple) or not all(type(length) is int for length in shape):
+        raise BAD_HEADER
+    return descr, fortran, shape
+
+
+def number(digits):
+    """The number that digits stand for; those above the bytes of an item are all one more than that."""
+    bare = digits.lstrip("0")
+    return min(int(bare[:6] or 0), MOST_ITEM + 1)
+
+
+def scalar(text):
+    """The written type string and the size of a type string."""
+    mark, rest = (text[0], text[1:]) if text[:1] in tuple("<>|=") else ("", text)
+    if rest[:1] in tuple("fcmMOUV"):
+        raise LEFT_OUT
+    if rest[:1] == "S" and re.fullmatch("[0-9]*", rest[1:]):
+        size = number(rest[1:])
+        if size == 0:
+            raise LEFT_OUT
+        if size > MOST_ITEM:
+            raise TOO_LARGE
+        return f"|S{size}", size
+    if rest not in LETTERS:
+        raise BAD_TYPE
+    size = int(rest[1])
+    return ("|" if size == 1 else ">" if mark == ">" else "<") + rest, size
+
+
+def scalar_format(text):
+    mark = ">" if text[0] == ">" else "<"
+    return mark + (f"{text[2:]}s" if text[1] == "S" else LETTERS[text[1:]])
+
+
+def padding(type_):
+    """The bytes of an entry without a name."""
+    found = isinstance(type_, str) and re.fullmatch("[<>|=]?V([0-9]+)", type_)
+    if not found:
+        raise LEFT_OUT
+    return number(found[1])
+
+
+class Records:
+    """Reads the records of a `descr`, whose leaves are counted over all of it."""
+
+    def __init__(self):
+        self.leaves = 0
+
+    def record(self, entries, depth):
+        """The format text and the size of a record."""
+        if depth > MOST_RECORDS:
+            raise LEFT_OUT
+        names, text, gap, size = [], "", 0, 0
+        for entry in entries:
+            if not isinstance(entry, tuple) or len(entry) != 2 or not isinstance(entry[0], str) or not isinstance(entry[1], (str, list)):
+                raise LEFT_OUT
+            name, type_ = entry
+            if name == "":
+                more, inner = padding(type_), ""
+            elif not NAME.fullmatch(name):
+                raise LEFT_OUT
+            else:
+                inner, more = self.field(type_, depth)
+                if name in names:
+                    raise BAD_TYPE
+                names.append(name)
+                text += (f"{gap}x" if gap else "") + f"{inner}:{name}:"
+            gap = gap + more if name == "" else 0
+            size += more
+            if len(names) > MOST_FIELDS or self.leaves > MOST_LEAVES or size > MOST_ITEM:
+                raise TOO_LARGE
+        if not names:
+            raise LEFT_OUT
+        return "T{" + text + (f"{gap}x" if gap else "") + "}", size
+
+    def field(self, type_, depth):
+        """The format text and the size of a field."""
+        if isinstance(type_, list):
+            return self.record(type_, depth + 1)
+        text, size = scalar(type_)
+        self.leaves += 1
+        return scalar_format(text), size
+
+
+def descriptor(descr):
+    """How a descriptor is shown, and the size of an item."""
+    if isinstance(descr, str):
+        return scalar(descr)
+    if not isinstance(descr, list):
+        raise BAD_TYPE
+    return Records().record(descr, 1)
+
+
+def checked_shape(shape):
+    if len(shape) > 64:
+        raise Refused("E08 too many axes")
+    if max(shape, default=0) > MOST_ITEMS or math.prod(shape) > MOST_ITEMS:
+        raise TOO_LARGE
+    return math.prod(shape)
+
+
+def header(file):
+    """The text of the header and where the items begin."""
+    if len(file) < 6 or file[:6] != b"\x93NUMPY":
+        raise Refused("E28 bad magic")
+    if len(file) < 8:
+        raise TRUNCATED
+    wide = {b"\x01\x00": 2, b"\x02\x00": 4}.get(file[6:8])
+    if wide is None:
+        raise Refused("E29 bad version")
+    if len(file) < 8 + wide:
+        raise TRUNCATED
+    length = int.from_bytes(file[8 : 8 + wide], "little")
+    if length > MOST_HEADER:
+        raise TOO_LARGE
+    if len(file) < 8 + wide + length:
+        raise TRUNCATED
+    return file[8 + wide : 8 + wide + length].decode("latin-1"), 8 + wide + length
+
+
+def loaded(file, more=0):
+    """What follows `ok x ` in the reply to a load of a file with more bytes behind it, and the bytes of the items."""
+    text, start = header(file)
+    descr, _, shape = header_values(text)
+    shown, size = descriptor(descr)
+    total = checked_shape(shape) * size
+    if total > MOST_BYTES:
+        raise TOO_LARGE
+    rest = len(file) + more - start - total
+    if rest < 0:
+        raise TRUNCATED
+    lengths = f"({shape[0]},)" if len(shape) == 1 else f"({', '.join(map(str, shape))})"
+    return f"{shown} {lengths} new rest {rest}", total
+
+
+def reply(file):
+    """The reply to `x = load` of a file."""
+    try:
+        return f"ok x {loaded(file)[0]}"
+    except Refused as refused:
+        return f"no {refused}"
