@@ -43,7 +43,7 @@ fn push_zeros(bytes: &mut Bytes, base: Base, from: usize, n: usize)
     ensures left { n + bytes.new.room ≡ bytes.old.room }
 {
     for k in 0..n {
-        bytes.push_zero(base, from + k);
+        bytes.push(base, from + k, 0);
     }
 }
 
