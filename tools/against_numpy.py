@@ -17,7 +17,10 @@ runs, which tries the rule against NumPy.
 An array that is assigned to another, or to itself, is copied first on NumPy's side, and casts go by
 the rule in `casts.py`; where NumPy does otherwise by itself is counted. Byte strings have no `'`, no
 `\\` and no byte with a short escape, which the two print differently. With --without set, --without
-cast or --without files a program is tried that has no such command.
+cast, --without files or --without undo a program is tried that has no such command.
+
+Each script is run at a depth of its own. Before each command that changes the state NumPy's side copies all of
+it, and an `undo` takes the last copy that is left.
 
 Each script has a folder of its own, with files that NumPy writes of random arrays, of both versions and
 orders, and some that are cut. What is saved there is compared byte for byte with what `files.py` says of
@@ -41,6 +44,7 @@ import damaged
 import files
 import overlaps
 import reshapes
+import undos
 from expected import FAR, MOST_AXES, MOST_ITEMS, Bench, Refused, address, fields, leaves, type_text, view_of
 from formats import Formats
 from limits import Limits
@@ -63,7 +67,10 @@ RECORDS = [
 ]
 NAMES = "abcdefg"
 FILES = ["a.npy", "b.npy", "_", "9-.x"]
-TALLY = collections.Counter(dict.fromkeys(["files saved", "saved files that NumPy loads otherwise", "files loaded", "altered files"], 0))
+DEPTHS = [0, 1, 3, 16, 64]
+CHANGES = re.compile(r"\w+ =|set |del ")
+KINDS = ["files saved", "saved files that NumPy loads otherwise", "files loaded", "altered files", "undone", "nothing to undo"]
+TALLY = collections.Counter(dict.fromkeys(KINDS, 0))
 BYTES = b"abzQ09 \x00\x80\xff"
 UNKNOWN_TYPES = {"<i3": "E04 bad descriptor", "<f4": "E05 descriptor left out", "|S65537": "E09 too large"}
 
@@ -139,6 +146,9 @@ class Script:
     def __init__(self, rng, commands, left_out):
         self.rng = rng
         self.bench = Bench()
+        depth = 0 if "undo" in left_out else rng.choice(DEPTHS)
+        self.words = [] if "undo" in left_out else ["--undo", str(depth)]
+        self.history = undos.History(self.bench, depth)
         self.roomy = rng.random() < 0.5
         self.lines = []
         self.replies = []
@@ -152,6 +162,7 @@ class Script:
             (self.reshape, 0 if "reshape" in left_out else 24), (self.assign, 0 if "set" in left_out else 30),
             (self.cast, 0 if "cast" in left_out else 14),
             (self.save, 0 if "files" in left_out else 8), (self.load, 0 if "files" in left_out else 10),
+            (self.undo, 0 if "undo" in left_out else 24),
         ]
         for command in rng.choices(*zip(*kinds), k=commands):
             self.add(*(command if self.bench.arrays else self.make)())
@@ -161,8 +172,11 @@ class Script:
 
     def add(self, line, reply):
         self.lines.append(line)
+        before = self.history.whole() if CHANGES.match(line) else None
         try:
             self.replies.append(reply())
+            if before is not None:
+                self.history.keep(before)
         except Refused as refused:
             self.replies.append(f"no {refused}")
 
@@ -488,6 +502,10 @@ class Script:
 
         return f"del {source}", reply
 
+    def undo(self):
+        TALLY["undone" if self.history.states else "nothing to undo"] += 1
+        return "undo", self.history.undo
+
     def names(self):
         return "names", lambda: " ".join(["names", *self.bench.arrays])
 
@@ -497,8 +515,8 @@ class Altered(Script):
 
     REPLY = re.compile(r"ok x \S.* new rest \d+|no E(04|05|08|09|28|29|30|31) [a-z ]+")
 
-    def __init__(self, rng, number):
-        super().__init__(rng, 0, set())
+    def __init__(self, rng, number, left_out):
+        super().__init__(rng, 0, left_out)
         for k in range(number):
             self.first[f"{k}.npy"] = damaged.altered(rng, files.numpys(rng, self.array())[0])
         self.files = self.first
@@ -523,7 +541,7 @@ def runs_over(program, text, script):
     with tempfile.TemporaryDirectory() as folder:
         for name, file in script.first.items():
             pathlib.Path(folder, name).write_bytes(file)
-        replied = runs(program, text, ["--dir", folder])
+        replied = runs(program, text, ["--dir", folder, *script.words])
         left = {path.name: path.read_bytes() for path in pathlib.Path(folder).iterdir()}
     return replied, left == script.files
 
@@ -541,7 +559,7 @@ def script_of(rng, number, left_out):
     if "reshape" not in left_out and number % 500 == 1:
         return Limits(rng, "cast" not in left_out)
     if "files" not in left_out and number % 40 == 2:
-        return Altered(rng, 20)
+        return Altered(rng, 20, left_out)
     return Script(rng, rng.randint(5, 40), left_out)
 
 
@@ -552,7 +570,7 @@ def words():
     parser.add_argument("scripts", type=int, nargs="?", default=1000)
     parser.add_argument("--program", type=pathlib.Path, default=PROGRAM, help="the program, if not the built one")
     parser.add_argument(
-        "--without", action="append", default=[], choices=["set", "cast", "files"], help="no sets from arrays, no casts, or no files"
+        "--without", action="append", default=[], choices=["set", "cast", "files", "undo"], help="no sets from arrays, no casts, no files, or no undo"
     )
     parser.add_argument("--alone", action="store_true", help="make the scripts and run no program")
     return parser.parse_args()
@@ -571,7 +589,7 @@ def main():
         if given.alone:
             continue
         if "files" in left_out or not isinstance(script, Script):
-            replied, are_left = runs(given.program, text), True
+            replied, are_left = runs(given.program, text, getattr(script, "words", ())), True
         else:
             replied, are_left = runs_over(given.program, text, script)
         expected = script.expected(replied) if isinstance(script, Altered) else expected

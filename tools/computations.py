@@ -5,7 +5,7 @@
 
 Each script makes arrays of several integer types and bools, of up to three axes, also empty ones, and takes views of
 them with slices, integers, new axes and transposes; then it computes with them and with literals, updates views from
-arrays that share memory with them, and reduces. Views, broadcasting and promotion of two arrays are NumPy's own;
+arrays that share memory with them, undoes some of that, and reduces. Views, broadcasting and promotion of two arrays are NumPy's own;
 values are computed with Python's integers, since NumPy 1 compares signed with unsigned numbers as floats and promotes
 literals by their values. Where several refusals hold, the first of the documented order is expected.
 """
@@ -224,9 +224,14 @@ class Script:
             return
         if target.base is None and target is not self.arrays[name]:
             return
+        before = target.copy()
         target[...] = np.array([wrapped(v, target.dtype) for v in values], dtype=object).astype(target.dtype).reshape(target.shape)
         self.add(f"upd {name}[{text}] {word} {other}", f"ok upd {target.size}")
         self.add(f"print {name}", items(self.arrays[name]))
+        if self.rng.random() < 0.3:
+            target[...] = before
+            self.add("undo", "ok undo")
+            self.add(f"print {name}", items(self.arrays[name]))
 
     def step(self):
         choice = self.rng.random()

@@ -6,7 +6,8 @@
 Each script makes an array of up to four axes, index arrays of 0 to 3 axes in several integer types,
 with negative and repeated numbers, numbers out of range now and then, and masks of 1 to 3 axes, some
 of other lengths than theirs; then it takes items by them and writes to them, from literals, from
-arrays, and from items that arrays take of the same array. A source is copied first on NumPy's side.
+arrays, and from items that arrays take of the same array, and undoes some of that. A source is copied
+first on NumPy's side.
 An integer array of no axes is an index array here, and a plain integer beside one is one too; the
 program's refusals are held against NumPy's by their kind.
 """
@@ -208,6 +209,7 @@ def script_of(rng):
 
 
 def write(rng, script, name, array, text, items, code):
+    before = array.copy()
     if rng.random() < 0.4:
         value = rng.randint(0, 99)
         if code:
@@ -234,6 +236,10 @@ def write(rng, script, name, array, text, items, code):
         put(array, for_numpy(items), source)
         script.add(f"set {name}[{text}] = {name}[{other}]", f"ok set {source.size}")
     script.add(f"print {name}", printed(array))
+    if rng.random() < 0.3:
+        array[...] = before
+        script.add("undo", "ok undo")
+        script.add(f"print {name}", printed(array))
 
 
 def put(array, items, source):

@@ -32,17 +32,21 @@ FOLDER = tempfile.TemporaryDirectory()
 
 
 class Row(typing.NamedTuple):
-    """A command: the lines before it, its line, and both for NumPy."""
+    """A command: the lines before it, its line, both for NumPy, and the words of the program."""
 
     name: str
     setup: list
     line: str
     numpy_setup: str
     numpy: str
+    words: tuple = ()
 
 
 ITEMS = [f"a = full <i4 ({COUNT}) 7"]
 NUMPY_ITEMS = f"a = np.full({COUNT}, 7, '<i4')"
+FEW = ["a = full <i4 (10) 7"]
+NUMPY_FEW = "a = np.full(10, 7, '<i4')"
+NO_UNDO = ("--undo", "0")
 MANY = [f"a = full <i4 ({4 * COUNT}) 7"]
 NUMPY_MANY = f"a = np.full({4 * COUNT}, 7, '<i4')"
 FEWER = [f"a = arange <i4 0 {COUNT // 4} 1"]
@@ -78,6 +82,8 @@ ROWS = [
     Row("set, all of 4M", ITEMS, "set a[:] = 8", NUMPY_ITEMS, "a[:] = 8"),
     Row("set, every second of 4M", ITEMS, "set a[::2] = 8", NUMPY_ITEMS, "a[::2] = 8"),
     Row("set, one of 4M", ITEMS, "set a[1234567] = 8", NUMPY_ITEMS, "a[1234567] = 8"),
+    Row("set, one of 4M, without undo", ITEMS, "set a[1234567] = 8", NUMPY_ITEMS, "a[1234567] = 8", NO_UNDO),
+    Row("set, one of 10", FEW, "set a[5] = 8", NUMPY_FEW, "a[5] = 8"),
     Row("view, every second of 4M", ITEMS, "b = a[::2]", NUMPY_ITEMS, "b = a[::2]"),
     Row("broadcast, 4M to 3 x 4M", ITEMS, f"b = broadcast a (3,{COUNT})", NUMPY_ITEMS, f"b = np.broadcast_to(a, (3, {COUNT}))"),
     Row("reshape, 4M shared", ITEMS, "b = reshape a (2048,-1)", NUMPY_ITEMS, "b = a.reshape(2048, -1)"),
@@ -98,6 +104,7 @@ ROWS = [
     Row("add, 1M big-endian", BIG_ENDIAN, "x = add a b", NUMPY_BIG_ENDIAN, "x = a + b"),
     Row("lt, 4M of 4 bytes", PAIR, "x = lt a b", NUMPY_PAIR, "x = a < b"),
     Row("upd, 4M add 1", ITEMS, "upd a[:] add 1", NUMPY_ITEMS, "a[:] += 1"),
+    Row("upd, 4M add 1, without undo", ITEMS, "upd a[:] add 1", NUMPY_ITEMS, "a[:] += 1", NO_UNDO),
     Row("add, one row to 1024 rows", ROW, "x = add a r", NUMPY_ROW, "x = a + r"),
     Row("add, 1M of a field", RECORDS, "x = add a 1", NUMPY_RECORDS, "x = a + np.int32(1)"),
     Row("sum, 4M", ITEMS, "x = sum a", NUMPY_ITEMS, "x = a.sum()"),
@@ -117,7 +124,7 @@ def seconds(program, row, repeats):
         script.write(f"{row.line}\n".encode() * repeats)
         script.seek(0)
         before = resource.getrusage(resource.RUSAGE_CHILDREN)
-        subprocess.run([program], stdin=script, stdout=subprocess.DEVNULL, env=ENVIRONMENT, cwd=FOLDER.name, check=True)
+        subprocess.run([program, *row.words], stdin=script, stdout=subprocess.DEVNULL, env=ENVIRONMENT, cwd=FOLDER.name, check=True)
         after = resource.getrusage(resource.RUSAGE_CHILDREN)
     return after.ru_utime + after.ru_stime - before.ru_utime - before.ru_stime
 
