@@ -1,5 +1,6 @@
 //! `bench [--undo N] [--dir DIR] [SCRIPT]`: runs a script of commands on named arrays.
 #![tactic(auto)]
+
 ghost use Rattle.std.specs.Prelude.{◌≤◌};
 
 mod command_line;

@@ -1,7 +1,7 @@
 //! Reads and writes that fail in mid-stream, and a run that may make few reads.
 use crate::fakes::{Counted, bytes_in, failing, in_pieces, room_for};
 use crate::rows::{FIRST_REPLIES, FIRST_RUN};
-use crate::runs::{check_fault, counts};
+use crate::runs::{DEPTH, check_fault, counts};
 use bench_engine::RunFault;
 use bench_engine::runner::run_within;
 use npy_files::MemStore;
@@ -11,13 +11,13 @@ fn a_full_writer_stops_the_run(rt: HostRuntime) {
     for most in 0..FIRST_REPLIES.len() {
         let mut reader = FIRST_RUN;
         let mut writer = room_for(most);
-        let told = counts(rt.alloc(), &mut reader, &mut writer);
+        let told = counts(rt.alloc(), &mut reader, &mut writer, DEPTH);
         assert_eq!(rt; told, Err(RunFault::Write), "at {most}");
         assert_eq!(rt; Some(bytes_in(&writer)), FIRST_REPLIES.get(..most));
     }
     let mut reader = FIRST_RUN;
     let mut writer = room_for(FIRST_REPLIES.len());
-    let told = counts(rt.alloc(), &mut reader, &mut writer);
+    let told = counts(rt.alloc(), &mut reader, &mut writer, DEPTH);
     assert_eq!(rt; told, Ok((3, 0)));
 }
 
@@ -42,7 +42,16 @@ fn a_run_makes_few_reads(rt: HostRuntime) {
     let mut reader = in_pieces(script, 1);
     let mut writer = Vec::new(rt.alloc());
     let mut store = MemStore::new(rt.alloc(), 0);
-    let fault = run_within(rt.alloc(), &mut reader, &mut writer, &mut store, 10, 1).err();
+    let fault = run_within(
+        rt.alloc(),
+        &mut reader,
+        &mut writer,
+        &mut store,
+        DEPTH,
+        10,
+        1,
+    )
+    .err();
     assert_eq!(rt; fault, Some(RunFault::Read));
     assert_eq!(rt; writer.as_slice(), b"no E06 unknown name\n".as_slice());
 }
@@ -51,7 +60,7 @@ fn a_run_makes_few_reads(rt: HostRuntime) {
 fn reads_are_counted(rt: HostRuntime) {
     let mut reader = Counted::new(FIRST_RUN);
     let mut writer = room_for(FIRST_REPLIES.len());
-    let told = counts(rt.alloc(), &mut reader, &mut writer);
+    let told = counts(rt.alloc(), &mut reader, &mut writer, DEPTH);
     assert_eq!(rt; told, Ok((3, 0)));
     assert_eq!(rt; reader.reads(), 2);
 }

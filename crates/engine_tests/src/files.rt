@@ -1,4 +1,5 @@
 //! Scripts that load and save files, over stores in memory.
+use crate::runs::DEPTH;
 use bench_engine::run;
 use npy_files::{FuseStore, MemStore, NpyStore};
 use std::alloc::Global;
@@ -127,7 +128,7 @@ fn check_replies<N: NpyStore>(
 ) {
     let mut reader = script;
     let mut writer = Vec::new(alloc);
-    let ended = run(alloc, &mut reader, &mut writer, store).is_ok();
+    let ended = run(alloc, &mut reader, &mut writer, store, DEPTH).is_ok();
     assert_eq!(rt; writer.as_slice(), replies);
     assert!(rt; ended);
 }

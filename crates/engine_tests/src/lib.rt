@@ -23,3 +23,5 @@ mod rows;
 mod runs;
 #[cfg(test)]
 mod scripts;
+#[cfg(test)]
+mod undos;

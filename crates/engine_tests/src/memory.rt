@@ -4,14 +4,16 @@ use crate::rows::{FIRST_REPLIES, FIRST_RUN};
 use crate::runs::counts;
 use bench_engine::RunFault;
 
-/// A script, and what it may reply where memory runs out once.
+/// A script, how many earlier states are kept, and what it may reply where memory runs out once.
 struct ShortRun {
+    depth: usize,
     script: &'static [u8],
     replies: &'static [&'static [u8]],
 }
 
-const SHORT_RUNS: [ShortRun; 11] = [
+const SHORT_RUNS: [ShortRun; 13] = [
     ShortRun {
+        depth: 0,
         script: FIRST_RUN,
         replies: &[
             FIRST_REPLIES,
@@ -20,8 +22,9 @@ const SHORT_RUNS: [ShortRun; 11] = [
             b"ok a <i4 (2, 3) new\nok set 1\nno E40 out of memory\n",
         ],
     },
-    // Never for `del`.
+    // Never for `del` where no state is kept.
     ShortRun {
+        depth: 0,
         script: b"r = array T{b:x:i:y:} (2) (5,-1) 7\nprint r\ndel r\nnames\n",
         replies: &[
             b"ok r T{<b:x:3x<i:y:} (2,) new\n[(5, -1) (7,  7)]\nok del r\nnames\n",
@@ -31,6 +34,7 @@ const SHORT_RUNS: [ShortRun; 11] = [
         ],
     },
     ShortRun {
+        depth: 0,
         script: b"s = full |S3 (2) b'ab'\nset s[1] = b'xyz'\nprint s\nformat s\n",
         replies: &[
             b"ok s |S3 (2,) new\nok set 1\n[b'ab' b'xyz']\nformat <3s\n",
@@ -41,6 +45,7 @@ const SHORT_RUNS: [ShortRun; 11] = [
         ],
     },
     ShortRun {
+        depth: 0,
         script: b"n = arange >i2 3 -4 -3\nset n[-1] = 8\nprint n\nformat n\n",
         replies: &[
             b"ok n >i2 (3,) new\nok set 1\n[3 0 8]\nformat >h\n",
@@ -51,6 +56,7 @@ const SHORT_RUNS: [ShortRun; 11] = [
         ],
     },
     ShortRun {
+        depth: 0,
         script: b"a = array <i4 (3) 1 2 3\nb = add a 1\nupd a[1:] add a[:-1]\nprint a\ns = sum b\n",
         replies: &[
             b"ok a <i4 (3,) new\nok b <i4 (3,) new\nok upd 2\n[1 3 5]\nok s <i8 () new\n",
@@ -63,6 +69,7 @@ const SHORT_RUNS: [ShortRun; 11] = [
     },
     // Names and contents are as before where binding lacks memory.
     ShortRun {
+        depth: 0,
         script: b"a = zeros |u1 (1)\nb = zeros |u1 (1)\nc = zeros |u1 (1)\ndel b\nb = zeros |u1 (1)\na = zeros |u1 (2)\nnames\n",
         replies: &[
             b"ok a |u1 (1,) new\nok b |u1 (1,) new\nok c |u1 (1,) new\nok del b\nok b |u1 (1,) new\nok a |u1 (2,) new\nnames a c b\n",
@@ -76,6 +83,7 @@ const SHORT_RUNS: [ShortRun; 11] = [
     },
     // Views: the array is not touched by a view that is not bound.
     ShortRun {
+        depth: 0,
         script: b"a = arange |u1 0 4 1\nb = a[::-1]\nt = transpose b\nset t[:2] = 9\nprint a\ninfo t\nshares a t\n",
         replies: &[
             b"ok a |u1 (4,) new\nok b |u1 (4,) view\nok t |u1 (4,) view\nok set 2\n[0 1 9 9]\ninfo t |u1 (4,) strides (-1,) at 3 order - write yes\nshares yes\n",
@@ -90,6 +98,7 @@ const SHORT_RUNS: [ShortRun; 11] = [
     },
     // A broadcast array.
     ShortRun {
+        depth: 0,
         script: b"a = full |u1 (1) 5\nb = broadcast a (3)\nset b[0] = 1\nprint b\n",
         replies: &[
             b"ok a |u1 (1,) new\nok b |u1 (3,) view\nno E20 read-only\n[5 5 5]\n",
@@ -101,6 +110,7 @@ const SHORT_RUNS: [ShortRun; 11] = [
     },
     // A reshape that copies.
     ShortRun {
+        depth: 0,
         script: b"a = array |u1 (2,2) 1 2 3 4\nt = transpose a\nc = reshape t (4)\nset c[0] = 9\nprint a\n",
         replies: &[
             b"ok a |u1 (2, 2) new\nok t |u1 (2, 2) view\nok c |u1 (4,) copy\nok set 1\n[[1 2]\n [3 4]]\n",
@@ -113,6 +123,7 @@ const SHORT_RUNS: [ShortRun; 11] = [
     },
     // Files: a store has none that was not saved.
     ShortRun {
+        depth: 0,
         script: b"a = array |u1 (2) 1 2\nsave a \"f\"\nb = load \"f\"\nprint b\n",
         replies: &[
             b"ok a |u1 (2,) new\nok save 130\nok b |u1 (2,) new rest 0\n[1 2]\n",
@@ -124,6 +135,7 @@ const SHORT_RUNS: [ShortRun; 11] = [
     },
     // A field: the records are not touched by one that is not bound.
     ShortRun {
+        depth: 0,
         script: b"r = zeros T{b:x:h:y:} (2)\ny = field r \"y\"\nset y[0] = 3\nprint r\n",
         replies: &[
             b"ok r T{<b:x:1x<h:y:} (2,) new\nok y <i2 (2,) view\nok set 1\n[(0, 3) (0, 0)]\n",
@@ -133,6 +145,32 @@ const SHORT_RUNS: [ShortRun; 11] = [
             b"ok r T{<b:x:1x<h:y:} (2,) new\nok y <i2 (2,) view\nok set 1\nno E40 out of memory\n",
         ],
     },
+    // Where states are kept `del` may lack memory, and `undo` never does.
+    ShortRun {
+        depth: 2,
+        script: b"a = array |u1 (2) 1 2\nset a[0] = 9\ndel a\nundo\nprint a\nundo\nnames\n",
+        replies: &[
+            b"ok a |u1 (2,) new\nok set 1\nok del a\nok undo\n[9 2]\nok undo\nnames a\n",
+            b"no E40 out of memory\nno E06 unknown name\nno E06 unknown name\nno E26 nothing to undo\nno E06 unknown name\nno E26 nothing to undo\nnames\n",
+            b"ok a |u1 (2,) new\nno E40 out of memory\nok del a\nok undo\n[1 2]\nok undo\nnames\n",
+            b"ok a |u1 (2,) new\nok set 1\nno E40 out of memory\nok undo\n[1 2]\nok undo\nnames\n",
+            b"ok a |u1 (2,) new\nok set 1\nok del a\nok undo\nno E40 out of memory\nok undo\nnames a\n",
+            b"ok a |u1 (2,) new\nok set 1\nok del a\nok undo\n[9 2]\nok undo\nno E40 out of memory\n",
+        ],
+    },
+    // A name that is bound anew, and items that an index array names.
+    ShortRun {
+        depth: 2,
+        script: b"a = array |u1 (2) 1 1\na = arange |u1 0 3 1\nset a[a] = 7\nundo\nprint a\nundo\nprint a\n",
+        replies: &[
+            b"ok a |u1 (2,) new\nok a |u1 (3,) new\nok set 3\nok undo\n[0 1 2]\nok undo\n[1 1]\n",
+            b"no E40 out of memory\nok a |u1 (3,) new\nok set 3\nok undo\n[0 1 2]\nok undo\nno E06 unknown name\n",
+            b"ok a |u1 (2,) new\nno E40 out of memory\nok set 2\nok undo\n[1 1]\nok undo\nno E06 unknown name\n",
+            b"ok a |u1 (2,) new\nok a |u1 (3,) new\nno E40 out of memory\nok undo\n[1 1]\nok undo\nno E06 unknown name\n",
+            b"ok a |u1 (2,) new\nok a |u1 (3,) new\nok set 3\nok undo\nno E40 out of memory\nok undo\n[1 1]\n",
+            b"ok a |u1 (2,) new\nok a |u1 (3,) new\nok set 3\nok undo\n[0 1 2]\nok undo\nno E40 out of memory\n",
+        ],
+    },
 ];
 
 #[test]
@@ -140,7 +178,7 @@ fn runs_outlive_want_of_memory(rt: HostRuntime) {
     for short in &SHORT_RUNS {
         let mut reader = short.script;
         let mut writer = room_for(256);
-        match counts(rt.alloc(), &mut reader, &mut writer) {
+        match counts(rt.alloc(), &mut reader, &mut writer, short.depth) {
             Ok(_) => assert!(rt; short.replies.contains(&bytes_in(&writer))),
             Err(fault) => {
                 assert_eq!(rt; fault, RunFault::Memory);

@@ -1,14 +1,19 @@
 //! Long lines, and many names.
-use crate::runs::counts;
+use crate::runs::{DEPTH, counts};
 use std::alloc::{AllocError, Global};
 use std::test::Fail;
 
-/// The replies to a script.
-fn replies(alloc: Global, script: &[u8]) -> Result<Vec<u8>, Fail> {
+/// The replies to a script in which so many earlier states are kept.
+fn replies_at(alloc: Global, script: &[u8], depth: usize) -> Result<Vec<u8>, Fail> {
     let mut reader = script;
     let mut writer = Vec::new(alloc);
-    counts(alloc, &mut reader, &mut writer)?;
+    counts(alloc, &mut reader, &mut writer, depth)?;
     Ok(writer)
+}
+
+/// The replies to a script.
+fn replies(alloc: Global, script: &[u8]) -> Result<Vec<u8>, Fail> {
+    replies_at(alloc, script, DEPTH)
 }
 
 /// A comment of so many bytes, and what follows it.
@@ -84,5 +89,30 @@ fn names_pass(rt: HostRuntime) -> Result<(), Fail> {
     let script = passing_names_script(rt.alloc())?;
     let found = replies(rt.alloc(), script.as_bytes())?;
     assert!(rt; found.as_slice().ends_with(b"ok del n1999\nnames\n"));
+    Ok(())
+}
+
+/// Seventy writes, and 65 undos.
+fn many_undos_script(alloc: Global) -> Result<String, AllocError> {
+    let mut script = String::from_str(alloc, "a = zeros <i4 (1)\n")?;
+    for n in 1..71u32 {
+        write!(script, "set a[0] = {n}\n")?;
+    }
+    for _ in 0..65 {
+        script.push_str("undo\n")?;
+    }
+    script.push_str("print a\n")?;
+    Ok(script)
+}
+
+#[test]
+fn sixty_four_states_are_kept(rt: HostRuntime) -> Result<(), Fail> {
+    let script = many_undos_script(rt.alloc())?;
+    let found = replies_at(rt.alloc(), script.as_bytes(), 64)?;
+    let last: &[u8] = b"ok undo\nno E26 nothing to undo\n[6]\n";
+    assert!(rt; found.as_slice().ends_with(last));
+    let found = replies_at(rt.alloc(), script.as_bytes(), 63)?;
+    let last: &[u8] = b"ok undo\nno E26 nothing to undo\nno E26 nothing to undo\n[7]\n";
+    assert!(rt; found.as_slice().ends_with(last));
     Ok(())
 }

@@ -85,12 +85,12 @@ pub const ROWS: [Row; 47] = [
         accepted: 7,
         refused: 0,
     },
-    // A command that is not carried out yet, and names that are not bound.
+    // Names that are not bound.
     Row {
-        script: b"a = zeros <i4 (1)\nundo\nb = a[i]\nset a[0] = a[i]\nupd a[0] add i\nc = add a i[0]\nd = sum i\nset q[i] = 1\nset a[i,0] = 1\n",
-        replies: b"ok a <i4 (1,) new\nno E03 syntax\nno E06 unknown name\nno E06 unknown name\nno E06 unknown name\nno E06 unknown name\nno E06 unknown name\nno E06 unknown name\nno E06 unknown name\n",
+        script: b"a = zeros <i4 (1)\nb = a[i]\nset a[0] = a[i]\nupd a[0] add i\nc = add a i[0]\nd = sum i\nset q[i] = 1\nset a[i,0] = 1\n",
+        replies: b"ok a <i4 (1,) new\nno E06 unknown name\nno E06 unknown name\nno E06 unknown name\nno E06 unknown name\nno E06 unknown name\nno E06 unknown name\nno E06 unknown name\n",
         accepted: 1,
-        refused: 8,
+        refused: 7,
     },
     // Numbers of two kinds are compared by value; reductions of no items.
     Row {

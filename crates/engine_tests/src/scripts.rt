@@ -4,14 +4,15 @@ use crate::casts::CASTS;
 use crate::fakes::in_pieces;
 use crate::gathers::GATHERS;
 use crate::rows::{ROWS, Row};
-use crate::runs::check_row;
+use crate::runs::{DEPTH, check_row};
+use crate::undos::UNDOS;
 use std::alloc::Global;
 use std::process::Abort;
 
 fn check_rows(rt: &impl Abort, alloc: Global, rows: &[Row]) {
     for row in rows {
         let mut reader = row.script;
-        check_row(rt, alloc, &mut reader, row);
+        check_row(rt, alloc, &mut reader, row, DEPTH);
     }
 }
 
@@ -26,6 +27,14 @@ fn rows_reply(rt: HostRuntime) {
 #[test]
 fn rows_reply_byte_by_byte(rt: HostRuntime) {
     for row in &ROWS {
-        check_row(&rt, rt.alloc(), &mut in_pieces(row.script, 1), row);
+        check_row(&rt, rt.alloc(), &mut in_pieces(row.script, 1), row, DEPTH);
+    }
+}
+
+#[test]
+fn undone_changes_are_gone(rt: HostRuntime) {
+    for (depth, row) in &UNDOS {
+        let mut reader = row.script;
+        check_row(&rt, rt.alloc(), &mut reader, row, *depth);
     }
 }
