@@ -75,7 +75,7 @@ lies-there : (o : Option Slot) (e : Entry) → LiesAt o e → is_some o ≡ true
 lies-there None e nothing = absurd nothing
 lies-there (Some s) e lies = refl
 
-goes-there : (target : Target) (items : Owned) (o : Option Slot) → GoBackAt target items o → is_some o ≡ true
+pub goes-there : (target : Target) (items : Owned) (o : Option Slot) → GoBackAt target items o → is_some o ≡ true
 goes-there target items None nothing = absurd nothing
 goes-there target items (Some s) goes = refl
 

@@ -27,4 +27,9 @@ pub mod ShareLaws
 pub mod OldAims
 pub mod WriteKept
 pub mod UndoLaws
+pub mod FreedLaws
+pub mod UndoFirst
+pub mod UndoRebinding
+pub mod UndoUnbinding
+pub mod UndoWrite
 mod Vectors

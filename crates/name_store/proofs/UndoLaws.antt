@@ -1,5 +1,5 @@
 -- A change is undone.
-use Rattle.std.proofs.Common.{◌≡◌, ◌+◌, ◌-◌, ◌≤◌, ℕ, suc, true, false, List, [], ◌∷◌, ◌++◌, length, take, map, slice_get, refl, sym, ap, subst, ◌∙◌, cond, Some, None, is_some, arith, ◌⊎◌, length-append}
+use Rattle.std.proofs.Common.{◌≡◌, ◌+◌, ◌-◌, ◌≤◌, ℕ, suc, true, false, List, [], ◌∷◌, ◌++◌, length, take, map, slice_get, refl, sym, ap, subst, ◌∙◌, cond, Some, None, is_some, arith, length-append}
 use Rattle.std.specs.List.{AllByRecursion, list_any}
 use Rattle.std.specs.Option.{option_map, option_map_or}
 use Rattle.std.proofs.lemmas.List.{length-map, map-append}
@@ -58,10 +58,12 @@ module _ (es : List (Key × Entry)) (slots : Slots) (ring : Ring Change) (c : Ch
 
   -- names and slots are as they were before the change, and then what is not needed is freed
   module _ (es' : List (Key × Entry)) (now after : Slots) (spare' : ℕ) (names-are : map named_array es' ≡ past) (lie : AllByRecursion (λ entry. LiesAt (slot_at now entry.1.number) entry.1) es')
-      (restored : (q : ℕ) → is_needed past ring.items q ≡ true → Restored c q (slot_at slots q) (slot_at now q)) (came : (q : ℕ) → is_some (slot_at now q) ≡ true → is_needed past ring.items q ≡ true ⊎ is_needed names (ring.items ++ c ∷ []) q ≡ true)
-      (swept : Swept (is_needed past ring.items) now after) (room : spare ≤ spare' + 1) where
+      (restored : (q : ℕ) → is_needed past ring.items q ≡ true → Restored c q (slot_at slots q) (slot_at now q)) (freed : Swept (is_needed (map named_array es') ring.items) now after) (room : spare ≤ spare' + 1) where
     abbrev names' : Names
     names' = map named_array es'
+
+    swept : Swept (is_needed past ring.items) now after
+    swept = subst (λ (ns : Names). Swept (is_needed ns ring.items) now after) names-are freed
 
     there : (q : ℕ) → is_needed past ring.items q ≡ true → is_some (slot_at now q) ≡ true
     there q needed =
@@ -119,3 +121,26 @@ undone-state es es' slots slots' old ring c spare items-are deep done =
       })
           ∙ ap (λ o. option_map_or (λ before. record (state_of es slots old) { names = before.0; buffers = before.1; kept = take (length (state_of es slots old).kept - 1) (state_of es slots old).kept; patches = take (length (state_of es slots old).patches - 1) (state_of es slots old).patches }) o (state_of es slots old)) (sym found),
     )
+
+-- The change that is undone is the last.
+
+pub none-last : {X : Type 0} (xs : List X) → None ≡ last_item xs → xs ≡ []
+none-last {X = X} [] none = refl
+none-last {X = X} (y ∷ ys) none = absurd (some ys y (none ∙ ap (slice_get (y ∷ ys)) (let more : suc (length ys) - 1 ≡ length ys = omega arith in more)))
+  where
+    some : (ys : List X) (y : X) → None ≡ slice_get (y ∷ ys) (length ys) → ⊥
+    some [] y h = cc
+    some (z ∷ ys) y h = some ys z h
+
+pub same-ring : (old new : Ring Change) → None ≡ last_item old.items → new ≡ buffer (take (length old.items - 1) old.items) old.capacity → new ≡ old
+same-ring old new none is =
+    let empty : old.items ≡ [] = none-last old.items none in
+    is ∙ (λ i. buffer (take (length (empty i) - 1) (empty i)) old.capacity) ∙ λ i. buffer (sym empty i) old.capacity
+
+pub with-last : (old new : Ring Change) (c : Change) → Some c ≡ last_item old.items → new ≡ buffer (take (length old.items - 1) old.items) old.capacity → old ≡ buffer (new.items ++ c ∷ []) new.capacity
+with-last old new c last is =
+    let items : old.items ≡ new.items ++ c ∷ [] = sym (split-last old.items c last) ∙ ap (λ (r : Ring Change). r.items ++ c ∷ []) (sym is) in
+    λ i. buffer (items i) (sym (ap (λ (r : Ring Change). r.capacity) is) i)
+
+pub none-kept : (es : List (Key × Entry)) (slots : Slots) (ring : Ring Change) → None ≡ last_item ring.items → has_kept (state_of es slots ring) ≡ false
+none-kept es slots ring none = ap (λ (cs : List Change). is_some (last_item (kept_states cs (map named_array es) slots))) (none-last ring.items none)

@@ -13,6 +13,7 @@ use crate::shares::shares_in;
 use crate::slot::Slot;
 use crate::target::{Source, Target};
 use crate::unbind::unbind_in;
+use crate::undo::undo_in;
 use crate::write_kept::write_in;
 use circular_buffer::HeapCircularBuffer;
 use elem_descr::Refusal;
@@ -51,7 +52,7 @@ impl Model for Bench {
 impl Bench {
     ghost use Rattle.name_store.specs.States.{start};
     ghost use Rattle.name_store.specs.Arrays.{find_array, has_room_for};
-    ghost use Rattle.name_store.specs.Calls.{AnswersBind, AnswersUnbind, AnswersWrite, AnswersShares};
+    ghost use Rattle.name_store.specs.Calls.{AnswersBind, AnswersUnbind, AnswersUndo, AnswersWrite, AnswersShares};
     ghost use Rattle.name_store.specs.Memory.{NeedsNoMemory};
     ghost use Rattle.name_store.specs.Shown.{Finds};
     ghost use Rattle.name_store.specs.Targets.{IsAim};
@@ -142,6 +143,13 @@ impl Bench {
             &mut self.changes,
             Key::of(self.alloc, name),
         )
+    }
+
+    /// Goes back to the state that was kept last. It takes no memory.
+    pub fn undo(&mut self) -> Result<(), Refusal>
+        ensures { AnswersUndo self.old result self.new }
+    {
+        undo_in(&mut self.names, &mut self.slots, &mut self.changes)
     }
 
     /// The bytes of old items that are held to go back to the k-th of the states that are kept, counted

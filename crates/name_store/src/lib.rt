@@ -21,6 +21,7 @@ mod slot;
 mod slots;
 mod target;
 mod unbind;
+mod undo;
 mod write;
 mod write_kept;
 mod write_planned;

@@ -1,0 +1,95 @@
+-- An unbinding is undone.
+use Rattle.std.proofs.Common.{◌≡◌, ◌+◌, ◌≤◌, ℕ, zero, suc, Bool, true, false, List, [], ◌∷◌, ◌++◌, length, map, insert, refl, sym, ap, subst, ◌∙◌, cond, not, Option, Some, None, is_some, arith, inl, inr}
+use Rattle.std.specs.List.{AllByRecursion, list_any, position_or_len}
+use Rattle.std.specs.Map.{lookup, keys_of}
+use Rattle.std.specs.Option.{option_map}
+use Rattle.std.proofs.lemmas.List.{length-map}
+use Rattle.circular_buffer.specs.Buffer.{Buffer as Ring, buffer}
+use Rattle.indexmap.specs.IndexMap.{insert_entry, move_index}
+use Rattle.indexmap.proofs.MoveLemmas.{push_moved}
+use Rattle.name_store.specs.Arrays.{is_in_use}
+use Rattle.name_store.specs.Invariants.{IsSound, LiesAt, needs, is_needed}
+use Rattle.name_store.specs.Kept.{Names}
+use Rattle.name_store.specs.View.{array_at, named_array, slot_at}
+use Rattle.name_store.specs.declared.change.Change.{Change}
+use Rattle.name_store.specs.declared.change.Change.TheVariants.{Unbind}
+use Rattle.name_store.specs.declared.entry.Entry.{Entry}
+use Rattle.name_store.specs.declared.entry.Key.{Key}
+use Rattle.name_store.specs.inside.Undoes.{Undoes}
+use Rattle.name_store.proofs.NameLaws.{TestsName, find-lookup, kept-insert, used-insert, in_front, in_tail}
+use Rattle.name_store.proofs.PastLaws.{needed-parts}
+use Rattle.name_store.proofs.StateLaws.{Slots, swept-all}
+use Rattle.name_store.proofs.UnbindLaws.{same-content}
+use Rattle.name_store.proofs.UndoLaws.{undoes, popped}
+
+-- An entry that comes in between.
+
+none-map : (o : Option Entry) → option_map array_at o ≡ None → o ≡ None
+none-map None h = refl
+none-map (Some e) h = let no : ⊥ = cc in absurd no
+
+last-entry : (eq : Key → Key → Bool) (k : Key) (v : Entry) (es : List (Key × Entry)) → lookup (eq k) es ≡ None → (insert_entry eq es k v ≡ es ++ (k, v) ∷ []) × (position_or_len (eq k) (keys_of es) ≡ length es)
+last-entry eq k v [] none = (refl, refl)
+last-entry eq k v (e ∷ es) none =
+    elim (eq k e.0) as (λ t. cond t (Some e.1) (lookup (eq k) es) ≡ None → (cond t ((e.0, v) ∷ es) (e ∷ insert_entry eq es k v) ≡ e ∷ (es ++ (k, v) ∷ [])) × (cond (not t) (1 + position_or_len (eq k) (keys_of es)) 0 ≡ suc (length es))) [
+      | true ↦ λ h. let no : ⊥ = cc in absurd no
+      | false ↦ λ h. let rest = last-entry eq k v es h in (ap (λ ns. e ∷ ns) rest.0, omega (arith, rest.1))
+    ] none
+
+named-insert : (es : List (Key × Entry)) (n : ℕ) (x : Key × Entry) → map named_array (insert es n x) ≡ insert (map named_array es) n (named_array x)
+named-insert es zero x = refl
+named-insert [] (suc n) x = refl
+named-insert (e ∷ es) (suc n) x = ap (λ ns. named_array e ∷ ns) (named-insert es n x)
+
+all-between : (P : Entry → Type 0) (es : List (Key × Entry)) (n : ℕ) (x : Key × Entry) → P x.1 → AllByRecursion (λ e. P e.1) es → AllByRecursion (λ e. P e.1) (insert es n x)
+all-between P es zero x new all = (new, all)
+all-between P [] (suc n) x new all = (new, tt)
+all-between P (e ∷ es) (suc n) x new all = (all.0, all-between P es n x new all.1)
+
+-- A name is bound again that was unbound.
+module _ (es : List (Key × Entry)) (slots : Slots) (ring : Ring Change) (spare : ℕ) (place : ℕ) (key : Key) (entry : Entry) (sound : IsSound es slots (buffer (ring.items ++ Unbind place key entry ∷ []) ring.capacity) spare)
+    (test : Key → Bool) (is : TestsName test key.bytes.items) where
+  abbrev unbind : Change
+  unbind = Unbind place key entry
+
+  abbrev names : Names
+  names = map named_array es
+
+  pub unbind-absent : lookup test es ≡ None
+  unbind-absent = none-map (lookup test es) (sym (find-lookup test key.bytes.items is es) ∙ (popped es slots ring unbind spare sound).2.2)
+
+  pub unbind-within : place ≤ length es
+  unbind-within = omega (arith, (popped es slots ring unbind spare sound).2.1, length-map es named_array)
+
+  module _ (eq : Key → Key → Bool) (alike : eq key ≡ test) (es' : List (Key × Entry)) (moved : es' ≡ move_index (insert_entry eq es key entry) (position_or_len (eq key) (keys_of es)) place) (spare' : ℕ) (room : spare ≤ spare' + 1) where
+    abbrev names' : Names
+    names' = map named_array es'
+
+    inserted : es' ≡ insert es place (key, entry)
+    inserted =
+        let last = last-entry eq key entry es (ap (λ t. lookup t es) alike ∙ unbind-absent) in
+        moved ∙ (λ i. move_index (last.0 i) (last.1 i) place) ∙ push_moved es (key, entry) place unbind-within
+
+    table : names' ≡ insert names place (key.bytes.items, array_at entry)
+    table = ap (map named_array) inserted ∙ named-insert es place (key, entry)
+
+    lie : AllByRecursion (λ x. LiesAt (slot_at slots x.1.number) x.1) es'
+    lie = subst (λ (ns : List (Key × Entry)). AllByRecursion (λ x. LiesAt (slot_at slots x.1.number) x.1) ns) (sym inserted)
+        (all-between (λ x. LiesAt (slot_at slots x.number) x) es place (key, entry) (popped es slots ring unbind spare sound).2.0 sound.holds.lie)
+
+    in-use : (q : ℕ) → is_in_use (insert names place (key.bytes.items, array_at entry)) q ≡ true → is_needed names' ring.items q ≡ true
+    in-use q used = in_front (is_in_use names' q) (list_any (needs q) ring.items) (ap (λ (ns : Names). is_in_use ns q) table ∙ used)
+
+    needed : (q : ℕ) → is_some (slot_at slots q) ≡ true → is_needed names' ring.items q ≡ true
+    needed q there =
+        elim (needed-parts names ring.items unbind q (sym (sound.occupied q) ∙ there)) [
+          | inl used ↦ in-use q (kept-insert names place (key.bytes.items, array_at entry) q used)
+          | inr later ↦ elim later [
+            | inl others ↦ in_tail (is_in_use names' q) (list_any (needs q) ring.items) others
+            | inr own ↦ in-use q (used-insert names place (key.bytes.items, array_at entry) q own)
+          ]
+        ]
+
+    pub undo-unbinding : Undoes es slots unbind es' slots ring spare'
+    undo-unbinding =
+        undoes es slots ring unbind spare sound es' slots slots spare' table lie (λ q _. same-content unbind q (slot_at slots q) (λ bytes. refl)) (swept-all (is_needed names' ring.items) slots needed) room
