@@ -52,9 +52,9 @@ fn write_block(
     owned: &Owned,
 ) -> usize
     requires holds { Holds names.now.entries slots.old.items }
-    requires aim { IsAim (present names.now.entries slots.old.items) key.now.bytes.items (View layout.now) (Block owned) }
+    requires aim { IsAim (present names.now.entries slots.old.items) key.now.bytes.items (View layout.now) (Block owned.now) }
     ensures holds { Holds names.now.entries slots.new.items }
-    ensures answers { AnswersWrite (present names.now.entries slots.old.items) key.now.bytes.items (View layout.now) (Block owned.entry) (Ok result)
+    ensures answers { AnswersWrite (present names.now.entries slots.old.items) key.now.bytes.items (View layout.now) (Block owned.now) (Ok result)
         (present names.now.entries slots.new.items) }
     ensures wrote { Wrote names.now.entries slots.old.items key.now.bytes.items (offsets layout.now) slots.new.items }
 {
@@ -121,7 +121,7 @@ fn write_view(
 {
     match source {
         Source::One(item) => Ok(write_one(names, slots, key, layout, item)),
-        Source::Block(owned) => Ok(write_block(names, slots, key, layout, owned)),
+        Source::Block(owned) => Ok(write_block(names, slots, key, layout, &owned)),
         Source::Name(name, from) => write_named(alloc, names, slots, key, layout, name, &from),
     }
 }
