@@ -9,7 +9,7 @@ use Rattle.name_store.proofs.AimLaws.{target-within}
 use Rattle.name_store.proofs.AnswerLaws.{block-within, block-answers, block-wrote}
 use Rattle.name_store.proofs.StateLaws.{Slots}
 use Rattle.name_store.proofs.WriteLaws.{home-within, written-holds}
-use Rattle.name_store.proofs.write.write_block.Goals as goal
+use Rattle.name_store.proofs.write.copy_block.Goals as goal
 
 pub copy_at-requires-clause-within : goal.copy_at-requires-clause-within
 copy_at-requires-clause-within c =
