@@ -20,6 +20,7 @@ pub mod Reshapes
 pub mod SavedFiles
 pub mod Steps
 mod Vectors
+pub mod Undoes
 pub mod Views
 pub mod IndexLaws
 pub mod TargetLaws

@@ -1,9 +1,9 @@
 -- The machine: one step of it, for each command and each choice that it is free to make.
-use Rattle.std.specs.Prelude.{◌≡◌, ℕ, ◌*◌, nat_le, ℤ, Bool, true, false, ◌&&◌, if◌then◌else◌, List, [], ◌∷◌, ◌++◌, length, map, replicate, codes, decimal, Option, Some, None, unwrap_or, Result, Ok, Err}
+use Rattle.std.specs.Prelude.{◌≡◌, ℕ, ◌*◌, nat_le, nat_lt, ℤ, Bool, true, false, ◌&&◌, if◌then◌else◌, List, [], ◌∷◌, ◌++◌, length, map, replicate, codes, decimal, Option, Some, None, unwrap_or, Result, Ok, Err}
 use Rattle.std.specs.List.{list_all}
 use Rattle.std.specs.Option.{ok_or}
 use Rattle.elem_descr.specs.declared.refusal.Refusal.{Refusal}
-use Rattle.elem_descr.specs.declared.refusal.Refusal.TheVariants.{Syntax, UnknownName, TooManyNames, NoSuchField, NoSuchCast, NotForThisKind, ReadOnly, TooLarge}
+use Rattle.elem_descr.specs.declared.refusal.Refusal.TheVariants.{Syntax, UnknownName, TooManyNames, NoSuchField, NoSuchCast, NotForThisKind, ReadOnly, TooLarge, NothingToUndo}
 use Rattle.elem_descr.specs.Refusals.{◌>>=◌, check}
 use Rattle.elem_descr.specs.declared.descr.Descr.{Descr}
 use Rattle.elem_descr.specs.declared.descr.Descr.TheVariants.{Scalar as ScalarDescr}
@@ -58,7 +58,7 @@ use Rattle.literal_items.specs.LiteralItems.{item_value, is_castable, literal_nu
 use Rattle.array_print.specs.Printed.{array_text}
 use Rattle.name_store.specs.States.{State}
 use Rattle.name_store.specs.States as states
-use Rattle.name_store.specs.Arrays.{find_array, is_bound, has_room_for, bound_to, bound_view, unbound, descr_of, addresses, read, written, share_cells}
+use Rattle.name_store.specs.Arrays.{find_array, is_bound, has_room_for, has_kept, bound_to, bound_view, unbound, undone, descr_of, addresses, read, written, share_cells}
 use Rattle.name_store.specs.Calls.{IsUnused}
 use Rattle.bench_engine.specs.Contents.{Contents, made, made_in, array_over, contents_of}
 use Rattle.bench_engine.specs.IndexLists.{names_in_index, taken}
@@ -397,6 +397,12 @@ delete_outcome s name = do
   _ ← check (is_bound s name) UnknownName
   comes_to (unbound s name) (codes "ok del " ++ name)
 
+-- undo
+unfoldable pub undo_outcome : State → Outcome
+undo_outcome s = do
+  _ ← check (has_kept s) NothingToUndo
+  comes_to (undone s) (codes "ok undo")
+
 -- print X
 unfoldable pub print_outcome : State → List ℕ → Outcome
 print_outcome s name = do
@@ -422,7 +428,7 @@ shares_outcome s left right = do
   b ← array_of s right
   comes_to s (shares_text (share_cells s a b))
 
--- What is not carried out so far is refused before all other checks. What asks for a file has a case of its own, in a world.
+-- What asks for a file has a case of its own, in a world: there is none to be had in a state.
 
 -- X = ..
 abbrev pub bind_outcome : Choice → State → List ℕ → Value → Outcome
@@ -433,7 +439,7 @@ bind_outcome choice s name (value.Compute (computation.Cast source descr)) = cas
 bind_outcome choice s name (value.Compute (computation.Combine op left right)) = computed_outcome choice s name (names_in_operand left ++ names_in_argument right) (combined s op left right)
 bind_outcome choice s name (value.Compute (computation.Transform op operand)) = computed_outcome choice s name (names_in_operand operand) (transformed s op operand)
 bind_outcome choice s name (value.Compute (computation.Reduce reduction source axis keep)) = computed_outcome choice s name (source ∷ []) (reduced s reduction source axis keep)
-bind_outcome choice s name _ = Err Syntax
+bind_outcome choice s name (value.Load file) = Err Syntax
 
 abbrev pub question_outcome : State → Question → Outcome
 question_outcome s (question.Print name) = print_outcome s name
@@ -448,7 +454,8 @@ outcome choice s (command.Set name index argument) = write_outcome s name index 
 outcome choice s (command.Update name index op argument) = write_outcome s name index (Some op) argument
 outcome choice s (command.Delete name) = delete_outcome s name
 outcome choice s (command.Ask question) = question_outcome s question
-outcome choice s _ = Err Syntax
+outcome choice s command.Undo = undo_outcome s
+outcome choice s (command.Save name file) = Err Syntax
 
 -- a refused command changes nothing
 abbrev pub settled : State → Outcome → State × Reply
@@ -463,13 +470,14 @@ Step old command new reply =
 -- The names that must be bound, from the left.
 
 abbrev pub bound_in_value : Value → List (List ℕ)
+bound_in_value (value.Make descr items) = []
 bound_in_value (value.View source how) = source ∷ names_in_viewing how
 bound_in_value (value.Compute (computation.Duplicate source order)) = source ∷ []
 bound_in_value (value.Compute (computation.Cast source descr)) = source ∷ []
 bound_in_value (value.Compute (computation.Combine op left right)) = names_in_operand left ++ names_in_argument right
 bound_in_value (value.Compute (computation.Transform op operand)) = names_in_operand operand
 bound_in_value (value.Compute (computation.Reduce reduction source axis keep)) = source ∷ []
-bound_in_value _ = []
+bound_in_value (value.Load file) = []
 
 abbrev pub bound_in_question : Question → List (List ℕ)
 bound_in_question (question.Print name) = name ∷ []
@@ -484,23 +492,20 @@ must_be_bound (command.Set name index argument) = name ∷ names_in_index index 
 must_be_bound (command.Update name index op argument) = name ∷ names_in_index index ++ names_in_argument argument
 must_be_bound (command.Delete name) = name ∷ []
 must_be_bound (command.Ask question) = bound_in_question question
-must_be_bound _ = []
+must_be_bound (command.Save name file) = name ∷ []
+must_be_bound command.Undo = []
 
--- Whether carrying out a command takes memory: unbinding a name does not, nor does what is not carried out so far.
-
-abbrev pub value_takes_memory : Value → Bool
-value_takes_memory (value.Make descr items) = true
-value_takes_memory (value.View source how) = true
-value_takes_memory (value.Compute what) = true
-value_takes_memory _ = false
-
-abbrev pub takes_memory : Command → Bool
-takes_memory (command.Bind name value) = value_takes_memory value
-takes_memory (command.Set name index argument) = true
-takes_memory (command.Update name index op argument) = true
-takes_memory (command.Ask question) = true
-takes_memory _ = false
+-- Whether carrying out a command takes memory. To unbind a name takes some only where the state before it is kept, and
+-- to go back to a state that is kept takes none.
+abbrev pub takes_memory : State → Command → Bool
+takes_memory s (command.Bind name value) = true
+takes_memory s (command.Set name index argument) = true
+takes_memory s (command.Update name index op argument) = true
+takes_memory s (command.Delete name) = nat_lt 0 s.depth
+takes_memory s (command.Ask question) = true
+takes_memory s (command.Save name file) = true
+takes_memory s command.Undo = false
 
 -- whether a command may be refused as out of memory: never where a name that must be bound is not
 abbrev pub may_lack_memory : State → Command → Bool
-may_lack_memory s command = takes_memory command && list_all (is_bound s) (must_be_bound command)
+may_lack_memory s command = takes_memory s command && list_all (is_bound s) (must_be_bound command)

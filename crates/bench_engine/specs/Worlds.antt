@@ -1,4 +1,5 @@
 -- The world of the machine: the state of the names, and a store of files.
+use Rattle.std.specs.Prelude.{ℕ}
 use Rattle.name_store.specs.States.{State, start}
 use Rattle.npy_files.specs.Stores.{Shelf}
 
@@ -9,6 +10,6 @@ pub record World : Type 0 where
 abbrev pub world : State → Shelf → World
 world state shelf = record { state = state; shelf = shelf }
 
--- no name is bound yet
-abbrev pub start_with : Shelf → World
-start_with shelf = world start shelf
+-- no name is bound yet, and so many earlier states are kept from here on
+abbrev pub start_with : ℕ → Shelf → World
+start_with depth shelf = world (start depth) shelf

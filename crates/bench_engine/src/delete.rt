@@ -1,5 +1,6 @@
 //! `del X`: a name is bound no longer.
-ghost use Rattle.std.specs.Prelude.{◌≡◌, ◌≤◌, ◌+◌, false, vec_len, vec_capacity};
+ghost use Rattle.std.specs.Prelude.{◌≡◌, ◌≤◌, ◌+◌, ◌&&◌, nat_lt, vec_len, vec_capacity};
+ghost use Rattle.name_store.specs.Arrays.{is_bound};
 ghost use Rattle.bench_engine.specs.inside.Contract.{CarriesOut};
 ghost use Rattle.bench_engine.specs.Machine.{delete_outcome};
 
@@ -7,11 +8,11 @@ use elem_descr::Refusal;
 use name_store::Bench;
 use script_lang::Name;
 
-/// Unbinds a name. It takes no memory.
+/// Unbinds a name. Only to keep the state before does it take memory, which is before the change.
 pub fn delete(bench: &mut Bench, name: &Name, out: &mut Vec<u8>) -> Result<(), Refusal>
     requires room { vec_len out.old + 64 ≤ vec_capacity out.old }
     ensures room { vec_capacity out.old ≤ vec_capacity out.new }
-    ensures answers { CarriesOut false (λ choice. delete_outcome bench.old name.now)
+    ensures answers { CarriesOut (nat_lt 0 bench.old.depth && is_bound bench.old name.now) (λ choice. delete_outcome bench.old name.now)
         bench.old bench.new out.old.items out.new.items result }
 {
     bench.unbind(name)?;

@@ -25,6 +25,7 @@ use crate::print::print;
 use crate::save::save;
 use crate::set::set;
 use crate::shares::shares;
+use crate::undo::undo;
 use crate::view::view;
 use elem_descr::Refusal;
 use name_store::Bench;
@@ -135,13 +136,13 @@ fn perform<N: NpyStore>(
         Command::Delete { name } => delete(bench, name, out),
         Command::Ask(question) => reply(alloc, bench, question, out),
         Command::Save { name, file } => save(alloc, bench, store, name, file, out),
-        Command::Undo => Err(Refusal::Syntax),
+        Command::Undo => undo(bench, out),
     }
 }
 
 /// Carries out a command, appends its reply, and answers whether it was accepted. A refused
-/// command changes nothing. Out of memory is never the answer where a name is unknown, nor for a
-/// command that is not carried out so far, which is refused as `Syntax`.
+/// command changes nothing. Out of memory is never the answer where a name is unknown, nor for `del`
+/// where no state is kept, nor for `undo`.
 pub fn execute<N: NpyStore>(
     alloc: Global,
     bench: &mut Bench,

@@ -32,6 +32,7 @@ mod shares;
 mod source;
 mod store_fault;
 mod taken;
+mod undo;
 mod update;
 mod view;
 mod work;

@@ -2,7 +2,7 @@
 ghost use Rattle.std.specs.Prelude.{◌≡◌, ◌≤◌, ◌<◌, ◌+◌, ◌^◌, List, ℕ, Option, length, IfOk, IfSome, IsErrOf};
 ghost use Rattle.bench_engine.specs.Held.{Finished, AnswersAll, AnswersInPart, StoppedReading, StoppedWriting};
 ghost use Rattle.bench_engine.specs.Lines.{lines};
-ghost use Rattle.npy_files.specs.Stores.{Shelf};
+ghost use Rattle.bench_engine.specs.Worlds.{World, start_with};
 ghost use Rattle.bench_engine.specs.inside.Sessions.{HasRoom, Reading, Turned};
 ghost use Rattle.bench_engine.specs.declared.runner.RunFault.TheVariants.{Write, Memory};
 
@@ -61,13 +61,13 @@ fn take_turn<S: ScriptSource, W: Write, N: NpyStore>(
     ensures room { HasRoom session.new }
     ensures few { session.new.accepted + session.new.refused ≤ session.old.accepted + session.old.refused + length chunk.old }
     ensures counted { S.reads source.new ≤ S.reads source.old + 1 }
-    ensures ok { IfOk result (λ ended. (first : Shelf) (unread written : Option (List ℕ)) →
+    ensures ok { IfOk result (λ ended. (first : World) (unread written : Option (List ℕ)) →
         Reading first (N.shelf store.old) unread (S.remaining source.old) written (W.contents writer.old) session.old →
         Turned ended first (N.shelf store.new) unread (S.remaining source.new) written (W.contents writer.new) session.new) }
-    ensures read { IsErrOf result RunFault.Read → (first : Shelf) (unread written : Option (List ℕ)) →
+    ensures read { IsErrOf result RunFault.Read → (first : World) (unread written : Option (List ℕ)) →
         Reading first (N.shelf store.old) unread (S.remaining source.old) written (W.contents writer.old) session.old →
         StoppedReading first (N.shelf store.new) unread (S.remaining source.new) written (W.contents writer.new) }
-    ensures write { IsErrOf result RunFault.Write → (first : Shelf) (unread written : Option (List ℕ)) →
+    ensures write { IsErrOf result RunFault.Write → (first : World) (unread written : Option (List ℕ)) →
         Reading first (N.shelf store.old) unread (S.remaining source.old) written (W.contents writer.old) session.old →
         StoppedWriting first (N.shelf store.new) unread (S.remaining source.new) written (W.contents writer.new) }
     ensures memory { ¬ IsErrOf result RunFault.Memory }
@@ -81,25 +81,27 @@ fn take_turn<S: ScriptSource, W: Write, N: NpyStore>(
     Ok(false)
 }
 
-/// A run of at most so many reads, each of which asks for so many bytes.
+/// A run of at most so many reads, each of which asks for so many bytes, that keeps so many earlier states.
 pub fn run_within<S: ScriptSource, W: Write, N: NpyStore>(
     alloc: Global,
     source: &mut S,
     writer: &mut W,
     store: &mut N,
+    depth: usize,
     reads: u64,
     size: usize,
 ) -> Result<Summary, RunFault>
+    requires depth { depth ≤ 64 }
     requires reads { reads ≤ 2 ^ 32 }
     requires some { 1 ≤ size }
     requires size { size ≤ 65538 }
-    ensures ok { IfOk result (Finished (N.shelf store.old) (N.shelf store.new) (S.remaining source.old) (S.remaining source.new) (W.contents writer.old) (W.contents writer.new)) }
-    ensures read { IsErrOf result RunFault.Read → StoppedReading (N.shelf store.old) (N.shelf store.new) (S.remaining source.old) (S.remaining source.new) (W.contents writer.old) (W.contents writer.new) }
-    ensures write { IsErrOf result RunFault.Write → StoppedWriting (N.shelf store.old) (N.shelf store.new) (S.remaining source.old) (S.remaining source.new) (W.contents writer.old) (W.contents writer.new) }
+    ensures ok { IfOk result (Finished (start_with depth (N.shelf store.old)) (N.shelf store.new) (S.remaining source.old) (S.remaining source.new) (W.contents writer.old) (W.contents writer.new)) }
+    ensures read { IsErrOf result RunFault.Read → StoppedReading (start_with depth (N.shelf store.old)) (N.shelf store.new) (S.remaining source.old) (S.remaining source.new) (W.contents writer.old) (W.contents writer.new) }
+    ensures write { IsErrOf result RunFault.Write → StoppedWriting (start_with depth (N.shelf store.old)) (N.shelf store.new) (S.remaining source.old) (S.remaining source.new) (W.contents writer.old) (W.contents writer.new) }
     ensures memory { IsErrOf result RunFault.Memory → (source.new ≡ source.old) × (writer.new ≡ writer.old) × (store.new ≡ store.old) }
     ensures reads { S.reads source.new ≤ S.reads source.old + reads }
 {
-    let mut session = Session::new(alloc)?;
+    let mut session = Session::new(alloc, depth)?;
     let mut chunk = vec![in alloc; 0u8; size]?;
     for turn in 0..reads {
         if take_turn(
@@ -118,7 +120,8 @@ pub fn run_within<S: ScriptSource, W: Write, N: NpyStore>(
 
 /// Runs the script that is read, and writes the replies: for every script the bytes that are
 /// written, the state and the files that are left are those of the machine, in which each command is the
-/// machine's step or is refused as out of memory with nothing changed.
+/// machine's step or is refused as out of memory with nothing changed. So many earlier states as `depth` says
+/// are kept for `undo`.
 ///
 /// A script ends where a read gives no byte. Each reply is written whole before the next line is
 /// looked at. `RunFault::Memory` comes before the first read.
@@ -127,17 +130,19 @@ pub fn run<S: ScriptSource, W: Write, N: NpyStore>(
     source: &mut S,
     writer: &mut W,
     store: &mut N,
+    depth: usize,
 ) -> Result<Summary, RunFault>
+    requires { depth ≤ 64 }
     // The whole script is known before it is read.
     ensures script { IfOk result (λ summary. IfSome (S.remaining source.old) (λ script.
-        AnswersAll script (N.shelf store.old) (N.shelf store.new) (W.contents writer.old) (W.contents writer.new) summary)) }
+        AnswersAll script (start_with depth (N.shelf store.old)) (N.shelf store.new) (W.contents writer.old) (W.contents writer.new) summary)) }
     ensures part { IsErrOf result RunFault.Write → IfSome (S.remaining source.old) (λ script.
-        AnswersInPart (lines script) (N.shelf store.old) (N.shelf store.new) (W.contents writer.old) (W.contents writer.new)) }
-    ensures ok { IfOk result (Finished (N.shelf store.old) (N.shelf store.new) (S.remaining source.old) (S.remaining source.new) (W.contents writer.old) (W.contents writer.new)) }
-    ensures read { IsErrOf result RunFault.Read → StoppedReading (N.shelf store.old) (N.shelf store.new) (S.remaining source.old) (S.remaining source.new) (W.contents writer.old) (W.contents writer.new) }
-    ensures write { IsErrOf result RunFault.Write → StoppedWriting (N.shelf store.old) (N.shelf store.new) (S.remaining source.old) (S.remaining source.new) (W.contents writer.old) (W.contents writer.new) }
+        AnswersInPart (lines script) (start_with depth (N.shelf store.old)) (N.shelf store.new) (W.contents writer.old) (W.contents writer.new)) }
+    ensures ok { IfOk result (Finished (start_with depth (N.shelf store.old)) (N.shelf store.new) (S.remaining source.old) (S.remaining source.new) (W.contents writer.old) (W.contents writer.new)) }
+    ensures read { IsErrOf result RunFault.Read → StoppedReading (start_with depth (N.shelf store.old)) (N.shelf store.new) (S.remaining source.old) (S.remaining source.new) (W.contents writer.old) (W.contents writer.new) }
+    ensures write { IsErrOf result RunFault.Write → StoppedWriting (start_with depth (N.shelf store.old)) (N.shelf store.new) (S.remaining source.old) (S.remaining source.new) (W.contents writer.old) (W.contents writer.new) }
     ensures memory { IsErrOf result RunFault.Memory → (source.new ≡ source.old) × (writer.new ≡ writer.old) × (store.new ≡ store.old) }
     ensures reads { S.reads source.new ≤ S.reads source.old + 2 ^ 32 }
 {
-    run_within(alloc, source, writer, store, MAX_READS, READ_SIZE)
+    run_within(alloc, source, writer, store, depth, MAX_READS, READ_SIZE)
 }

@@ -5,8 +5,7 @@ ghost use Rattle.bench_engine.specs.Held.{AnswersInPart};
 ghost use Rattle.bench_engine.specs.Lines.{ended, lines, whole_lines};
 ghost use Rattle.bench_engine.specs.Meanings.{AnswersLine};
 ghost use Rattle.bench_engine.specs.inside.Sessions.{HoldsPiece, HasRoom, FedMachine, Told, ToldInPart, AnswersHeld, HasTold, IsNew};
-ghost use Rattle.npy_files.specs.Stores.{Shelf};
-ghost use Rattle.bench_engine.specs.Worlds.{world, start_with};
+ghost use Rattle.bench_engine.specs.Worlds.{World, world};
 
 use crate::engine::{MAX_REFUSAL_LEN, answer};
 use crate::line::HeldLine;
@@ -96,10 +95,10 @@ impl Session {
         requires one { ended piece.now ≡ [] }
         ensures room { HasRoom self.new }
         ensures few { self.new.accepted + self.new.refused ≤ self.old.accepted + self.old.refused + 1 }
-        ensures ok { OnOk result ((first : Shelf) (before : Option (List ℕ)) (read : List ℕ) →
+        ensures ok { OnOk result ((first : World) (before : Option (List ℕ)) (read : List ℕ) →
             FedMachine first (N.shelf store.old) before (W.contents writer.old) read self.old →
             FedMachine first (N.shelf store.new) before (W.contents writer.new) (read ++ piece.now ++ 10 ∷ []) self.new) }
-        ensures err { OnErr result ((first : Shelf) (before : Option (List ℕ)) (read more : List ℕ) →
+        ensures err { OnErr result ((first : World) (before : Option (List ℕ)) (read more : List ℕ) →
             FedMachine first (N.shelf store.old) before (W.contents writer.old) read self.old →
             AnswersInPart (whole_lines (read ++ piece.now ++ 10 ∷ more)) first (N.shelf store.new) before (W.contents writer.new)) }
     {
@@ -119,10 +118,10 @@ impl Session {
         requires few { self.old.accepted + self.old.refused + length bytes.now < 2 ^ 50 }
         ensures room { HasRoom self.new }
         ensures few { self.new.accepted + self.new.refused ≤ self.old.accepted + self.old.refused + length bytes.now }
-        ensures ok { OnOk result ((first : Shelf) (before : Option (List ℕ)) (read : List ℕ) →
+        ensures ok { OnOk result ((first : World) (before : Option (List ℕ)) (read : List ℕ) →
             FedMachine first (N.shelf store.old) before (W.contents writer.old) read self.old →
             FedMachine first (N.shelf store.new) before (W.contents writer.new) (read ++ bytes.now) self.new) }
-        ensures err { OnErr result ((first : Shelf) (before : Option (List ℕ)) (read : List ℕ) →
+        ensures err { OnErr result ((first : World) (before : Option (List ℕ)) (read : List ℕ) →
             FedMachine first (N.shelf store.old) before (W.contents writer.old) read self.old →
             AnswersInPart (whole_lines (read ++ bytes.now)) first (N.shelf store.new) before (W.contents writer.new)) }
     {
@@ -137,14 +136,16 @@ impl Session {
 }
 
 impl Session {
-    /// An empty bench, and no byte yet. All room that a run needs for itself is taken here.
-    pub fn new(alloc: Global) -> Result<Session, AllocError>
-        ensures { IfOk result IsNew }
+    /// An empty bench that keeps so many earlier states, and no byte yet. All room that a run needs for
+    /// itself is taken here.
+    pub fn new(alloc: Global, depth: usize) -> Result<Session, AllocError>
+        requires { depth ≤ 64 }
+        ensures { IfOk result (IsNew depth) }
     {
         let line = HeldLine::new(alloc)?;
         let out = Vec::with_capacity(alloc, MAX_REFUSAL_LEN)?;
         Ok(Session {
-            bench: Bench::try_new(alloc, 0)?,
+            bench: Bench::try_new(alloc, depth)?,
             line,
             out,
             accepted: 0,
@@ -163,10 +164,10 @@ impl Session {
         requires few { self.old.accepted + self.old.refused < 2 ^ 50 }
         ensures room { HasRoom self.new }
         ensures few { self.new.accepted + self.new.refused ≤ self.old.accepted + self.old.refused + 1 }
-        ensures ok { OnOk result ((first : Shelf) (before : Option (List ℕ)) (read : List ℕ) →
+        ensures ok { OnOk result ((first : World) (before : Option (List ℕ)) (read : List ℕ) →
             FedMachine first (N.shelf store.old) before (W.contents writer.old) read self.old →
-            HasTold AnswersLine (start_with first) (world self.new.bench (N.shelf store.new)) before (W.contents writer.new) (lines read) self.new) }
-        ensures err { OnErr result ((first : Shelf) (before : Option (List ℕ)) (read : List ℕ) →
+            HasTold AnswersLine first (world self.new.bench (N.shelf store.new)) before (W.contents writer.new) (lines read) self.new) }
+        ensures err { OnErr result ((first : World) (before : Option (List ℕ)) (read : List ℕ) →
             FedMachine first (N.shelf store.old) before (W.contents writer.old) read self.old →
             AnswersInPart (lines read) first (N.shelf store.new) before (W.contents writer.new)) }
     {

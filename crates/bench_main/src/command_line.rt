@@ -1,10 +1,11 @@
 //! The words of the command line.
-ghost use Rattle.std.specs.Prelude.{IfErr};
+ghost use Rattle.std.specs.Prelude.{◌≤◌, codes, IfOk, IfErr};
+ghost use Rattle.bench_main.specs.inside.Depths.{IsDepth, IsNamed, TakesDepth};
 ghost use Rattle.bench_main.specs.inside.Faults.{IsToldApart};
 
 use crate::words::{Options, OptionsFault};
 use clap::error::ErrorKind;
-use clap::{Arg, Command, Error};
+use clap::{Arg, Command, Error, value_parser};
 use std::alloc::{AllocError, Global};
 
 /// What a script may say.
@@ -31,6 +32,7 @@ const COMMANDS: &str = "Commands, one a line:
   set X[ix] = Y[iy]     writes items of Y, as they were before
   upd X[ix] add Z       changes items by an operation, as upd a[1:] add a[:-1]
   del X                 unbinds X
+  undo                  takes back the last change of names or items that is not taken back yet
   names                 lists the names in the order in which they were first bound
   print X, format X     shows the array, or the format text of its type
   info X                tells strides and start in bytes, order, and whether it may be written
@@ -46,22 +48,52 @@ Status: 0 all commands were accepted, 1 one was refused, 2 bad words, 3 the run 
 /// The folder where no other is named.
 const THIS_FOLDER: &str = ".";
 
-/// The command line of the program.
-fn command<'a>(alloc: Global) -> Result<Command<'a>, AllocError> {
-    let dir = Arg::new(alloc, "dir")
+/// How many earlier states are kept where no number is named.
+const DEPTH: u8 = 16;
+
+/// The argument that names the folder.
+fn folder_argument<'a>(alloc: Global) -> Arg<'a>
+    ensures { IsNamed (codes "dir") result }
+{
+    Arg::new(alloc, "dir")
         .long("dir")
         .value_name("DIR")
         .default_value(THIS_FOLDER)
-        .help("The folder of the files that load and save name");
-    let script = Arg::new(alloc, "script").value_name("SCRIPT").help(
+        .help("The folder of the files that load and save name")
+}
+
+/// The argument that names how many earlier states are kept.
+fn depth_argument<'a>(alloc: Global) -> Arg<'a>
+    ensures { IsDepth result }
+{
+    Arg::new(alloc, "undo")
+        .long("undo")
+        .value_name("N")
+        .value_parser(value_parser!(u8).range(0..=64))
+        .default_value("16")
+        .help("How many changes undo can take back, 0 to 64")
+}
+
+/// The argument that names the script.
+fn script_argument<'a>(alloc: Global) -> Arg<'a>
+    ensures { IsNamed (codes "script") result }
+{
+    Arg::new(alloc, "script").value_name("SCRIPT").help(
         "The script, one command a line; standard input where it is left out",
-    );
+    )
+}
+
+/// The command line of the program.
+fn command<'a>(alloc: Global) -> Result<Command<'a>, AllocError>
+    ensures { IfOk result TakesDepth }
+{
     Command::new(alloc, "bench")
         .bin_name("bench")?
         .about("Runs a script of commands on named arrays, and prints a reply to each")
         .after_help(COMMANDS)
-        .arg(dir)?
-        .arg(script)
+        .arg(folder_argument(alloc))?
+        .arg(depth_argument(alloc))?
+        .arg(script_argument(alloc))
 }
 
 /// What a fault of `clap` comes to: it may be that memory ran out.
@@ -77,18 +109,21 @@ fn fault_of(error: Error) -> OptionsFault
 /// Reads the words, of which the first is the program's own name. Help is asked for by a fault of
 /// the words too, as `clap` has it.
 pub fn options(alloc: Global, words: &[String]) -> Result<Options, OptionsFault>
-    ensures { IfErr result IsToldApart }
+    ensures depth { IfOk result (λ options. options.depth ≤ 64) }
+    ensures told { IfErr result IsToldApart }
 {
     let matches = match command(alloc)?.try_get_matches_from(words) {
         Ok(matches) => matches,
         Err(error) => return Err(fault_of(error)),
     };
+    let depth = matches.get_one::<u8>("undo").unwrap_or(DEPTH);
     let dir = matches.get_str("dir").unwrap_or(THIS_FOLDER);
     let script = match matches.get_str("script") {
         Some(text) => Some(String::from_str(alloc, text)?),
         None => None,
     };
     Ok(Options {
+        depth: usize::from(depth),
         dir: String::from_str(alloc, dir)?,
         script,
     })
@@ -138,14 +173,34 @@ mod tests {
     }
 
     #[test]
+    fn a_depth_is_named_or_16(rt: HostRuntime) -> Result<(), Fail> {
+        let rows: [(&[&str], usize); 5] = [
+            (&["bench"], 16),
+            (&["bench", "--undo", "64"], 64),
+            (&["bench", "--undo=0"], 0),
+            (&["bench", "--undo", "1", "first.bench"], 1),
+            (&["bench", "first.bench", "--undo", "63"], 63),
+        ];
+        for (line, depth) in rows {
+            let words = given(rt.alloc(), line)?;
+            let read = options(rt.alloc(), words.as_slice()).map_err(|_| "refused")?;
+            assert_eq!(rt; read.depth, depth);
+        }
+        Ok(())
+    }
+
+    #[test]
     fn other_words_are_refused(rt: HostRuntime) -> Result<(), Fail> {
-        let rows: [(&[&str], i32); 6] = [
+        let rows: [(&[&str], i32); 9] = [
             (&["bench", "--help"], 0),
             (&["bench", "one", "two"], 2),
             (&["bench", "--unknown"], 2),
             (&["bench", "--dir"], 2),
             (&["bench", "--dir", "one", "--dir", "two"], 2),
             (&["bench", "--undo", "65"], 2),
+            (&["bench", "--undo", "-1"], 2),
+            (&["bench", "--undo", "many"], 2),
+            (&["bench", "--undo"], 2),
         ];
         for (line, status) in rows {
             let words = given(rt.alloc(), line)?;

@@ -1,5 +1,6 @@
-//! `bench [--dir DIR] [SCRIPT]`: runs a script of commands on named arrays.
+//! `bench [--undo N] [--dir DIR] [SCRIPT]`: runs a script of commands on named arrays.
 #![tactic(auto)]
+ghost use Rattle.std.specs.Prelude.{◌≤◌};
 
 mod command_line;
 mod status;
@@ -29,31 +30,36 @@ fn finish(rt: &impl Eprint, run: &Result<Summary, RunFault>) -> ExitCode {
     stop(rt, status, text)
 }
 
-/// Runs a script over the files of a folder.
+/// Runs a script over the files of the folder that the options name.
 fn run_over<R: Files + Print + Eprint + AllocGlobal, S: ScriptSource>(
     rt: &R,
     source: &mut S,
-    dir: &str,
-) -> ExitCode {
+    options: &Options,
+) -> ExitCode
+    requires { options.now.depth ≤ 64 }
+{
+    let dir = options.dir.as_str();
     let Ok(mut store) = DirStore::try_new(rt, rt.alloc(), dir) else {
         return stop(rt, FAULT, NO_MEMORY);
     };
     let mut writer = io::writer(rt);
-    finish(rt, &run(rt.alloc(), source, &mut writer, &mut store))
+    let told = run(rt.alloc(), source, &mut writer, &mut store, options.depth);
+    finish(rt, &told)
 }
 
 /// Runs the script that the options name.
 fn run_script<R: Files + Input + Print + Eprint + AllocGlobal>(
     rt: &R,
     options: &Options,
-) -> ExitCode {
-    let dir = options.dir.as_str();
+) -> ExitCode
+    requires { options.now.depth ≤ 64 }
+{
     match &options.script {
         Some(path) => match fs::open(rt, path.as_str()) {
-            Ok(mut file) => run_over(rt, &mut file, dir),
+            Ok(mut file) => run_over(rt, &mut file, options),
             Err(_) => stop(rt, FAULT, NO_SCRIPT),
         },
-        None => run_over(rt, &mut rt.reader(), dir),
+        None => run_over(rt, &mut rt.reader(), options),
     }
 }
 

@@ -8,6 +8,8 @@ use std::alloc::AllocError;
 /// What the words ask for.
 #[derive(Drop)]
 pub struct Options {
+    /// How many earlier states are kept for `undo`.
+    pub depth: usize,
     /// The folder of the files that scripts load and save.
     pub dir: String,
     /// The script's file; standard input is read where it is left out.

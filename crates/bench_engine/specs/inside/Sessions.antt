@@ -8,7 +8,7 @@ use Rattle.bench_engine.specs.Replies.{Reply}
 use Rattle.bench_engine.specs.Lines.{lines, whole_lines, unended, trimmed}
 use Rattle.bench_engine.specs.Meanings.{limit, AnswersLine}
 use Rattle.npy_files.specs.Stores.{Shelf}
-use Rattle.bench_engine.specs.Worlds.{world, start_with}
+use Rattle.bench_engine.specs.Worlds.{World, world}
 use Rattle.bench_engine.specs.inside.ReadLines.{Tells}
 use Rattle.bench_engine.specs.Runs.{Run, output, reply_line, accepted_count, refused_count}
 
@@ -68,31 +68,31 @@ pub record Fed {World : Type 0} (Answer : World → List ℕ → World → List 
   pub told : HasTold Answer from to written written' (whole_lines bytes) s
   pub held : HoldsPiece s.line (unended bytes)
 
--- The same of the machine, from the empty state.
-abbrev pub FedMachine : Shelf → Shelf → Option (List ℕ) → Option (List ℕ) → List ℕ → Session → Type 0
-FedMachine shelf shelf' written written' bytes s = Fed AnswersLine (start_with shelf) (world s.bench shelf') written written' bytes s
+-- The same of the machine.
+abbrev pub FedMachine : World → Shelf → Option (List ℕ) → Option (List ℕ) → List ℕ → Session → Type 0
+FedMachine first shelf' written written' bytes s = Fed AnswersLine first (world s.bench shelf') written written' bytes s
 
 -- What was read so far is fed to the session.
-pub record Reading (shelf shelf' : Shelf) (unread unread' written written' : Option (List ℕ)) (s : Session) : Type 0 where
+pub record Reading (first : World) (shelf' : Shelf) (unread unread' written written' : Option (List ℕ)) (s : Session) : Type 0 where
   pub input : List ℕ
   pub consumes : Consumes unread unread' input
-  pub fed : FedMachine shelf shelf' written written' input s
+  pub fed : FedMachine first shelf' written written' input s
 
 -- All lines of what was read are answered, and nothing is left.
-pub record Ended (shelf shelf' : Shelf) (unread unread' written written' : Option (List ℕ)) (s : Session) : Type 0 where
+pub record Ended (first : World) (shelf' : Shelf) (unread unread' written written' : Option (List ℕ)) (s : Session) : Type 0 where
   pub input : List ℕ
   pub consumes : Consumes unread unread' input
   pub at_end : IsAtEnd unread'
-  pub told : HasTold AnswersLine (start_with shelf) (world s.bench shelf') written written' (lines input) s
+  pub told : HasTold AnswersLine first (world s.bench shelf') written written' (lines input) s
 
-abbrev pub Turned : Bool → Shelf → Shelf → Option (List ℕ) → Option (List ℕ) → Option (List ℕ) → Option (List ℕ) → Session → Type 0
+abbrev pub Turned : Bool → World → Shelf → Option (List ℕ) → Option (List ℕ) → Option (List ℕ) → Option (List ℕ) → Session → Type 0
 Turned true = Ended
 Turned false = Reading
 
--- No byte has come.
-pub record IsNew (s : Session) : Type 0 where
+-- No byte has come, and the bench keeps so many earlier states.
+pub record IsNew (depth : ℕ) (s : Session) : Type 0 where
   pub room : HasRoom s
-  pub bench : s.bench ≡ start
+  pub bench : s.bench ≡ start depth
   pub line : s.line.bytes.items ≡ []
   pub whole : s.line.is_long ≡ false
   pub accepted : s.accepted ≡ 0

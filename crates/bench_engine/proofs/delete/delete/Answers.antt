@@ -1,7 +1,7 @@
-use Rattle.std.proofs.Common.{inr, arith, codes, ◌++◌}
+use Rattle.std.proofs.Common.{arith, codes, ◌++◌}
 use Rattle.std.proofs.lemmas.Grind.{common_steps}
 use Rattle.std.proofs.lemmas.Result.{err_from_is_err_and}
-use Rattle.bench_engine.proofs.Deletes.{delete-unknown, delete-done}
+use Rattle.bench_engine.proofs.Deletes.{delete-refused, delete-done}
 use Rattle.bench_engine.proofs.Looks.{unchanged}
 use Rattle.bench_engine.proofs.Steps.{spare}
 use Rattle.bench_engine.proofs.delete.delete.Goals as goal
@@ -9,7 +9,7 @@ use Rattle.bench_engine.proofs.delete.delete.Goals as goal
 pub returns-in_err-unbind-clause-answers : goal.returns-in_err-unbind-clause-answers
 returns-in_err-unbind-clause-answers c =
     let p = err_from_is_err_and c.from_residual.result c.from_residual.ensures.1 in
-    rw (p.1, p.2) (c.in_err-unbind.ensures.2, unchanged _, inr (λ choice. delete-unknown _ _ _ c.in_err-unbind.ensures.0 c.in_err-unbind.ensures.1))
+    rw (p.1, p.2) (c.in_err-unbind.ensures.0, unchanged _, delete-refused _ _ _ c.in_err-unbind.ensures.1)
 
 pub returns-clause-answers : goal.returns-clause-answers
 returns-clause-answers c =

@@ -1,5 +1,6 @@
-use Rattle.script_lang.specs.declared.command.Command.TheVariants.{Set, Update, Delete, Ask}
-use Rattle.bench_engine.proofs.Cases.{carried, not_carried_out}
+use Rattle.std.proofs.Math.Bool.{and-true}
+use Rattle.script_lang.specs.declared.command.Command.TheVariants.{Set, Update, Delete, Ask, Undo}
+use Rattle.bench_engine.proofs.Cases.{carried}
 use Rattle.bench_engine.proofs.engine.perform.Goals as goal
 
 pub returns-in-Bind-clause-answers : goal.returns-in-Bind-clause-answers
@@ -14,7 +15,7 @@ returns-in-Update-clause-answers g c =
     rw c.in-Update.is (carried _ _ _ (Update c.in-Update.name c.in-Update.index c.in-Update.operation c.in-Update.value) _ _ _ c.set-in-Update.ensures.answers)
 
 pub returns-in-Delete-clause-answers : goal.returns-in-Delete-clause-answers
-returns-in-Delete-clause-answers g c = rw c.in-Delete.is (carried _ _ _ (Delete c.in-Delete.name) _ _ _ c.delete.ensures.answers)
+returns-in-Delete-clause-answers g c = rw c.in-Delete.is (carried _ _ _ (Delete c.in-Delete.name) _ _ _ (rw and-true c.delete.ensures.answers))
 
 pub returns-in-Ask-clause-answers : goal.returns-in-Ask-clause-answers
 returns-in-Ask-clause-answers g c = rw c.in-Ask.is (carried _ _ _ (Ask c.in-Ask.question) _ _ _ c.reply.ensures.answers)
@@ -23,4 +24,4 @@ pub returns-in-Save-clause-answers : goal.returns-in-Save-clause-answers
 returns-in-Save-clause-answers g c = rw c.in-Save.is c.save.ensures.answers
 
 pub returns-in-Undo-clause-answers : goal.returns-in-Undo-clause-answers
-returns-in-Undo-clause-answers g c = not_carried_out _ _ _ _ c.in-Undo.is
+returns-in-Undo-clause-answers g c = rw c.in-Undo.is (carried _ _ _ Undo _ _ _ c.undo.ensures.answers)

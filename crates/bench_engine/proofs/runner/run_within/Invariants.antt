@@ -1,4 +1,5 @@
 use Rattle.std.proofs.Common.{◌≡◌, ◌≤◌, ◌+◌, ◌*◌, vec_len}
+use Rattle.bench_engine.specs.Worlds.{start_with}
 use Rattle.bench_engine.specs.inside.Sessions.{HasRoom, Reading}
 use Rattle.bench_engine.proofs.runner.run_within.Given as goal
 
@@ -9,5 +10,5 @@ invariant-loop-turn g l = record {
   few : l.session.accepted + l.session.refused ≤ 65538 * l.turn;
   chunk : vec_len l.chunk ≡ l.size;
   counted : g.S.ScriptSource.reads l.source ≤ g.S.ScriptSource.reads l.fn.source + l.turn;
-  fed : Reading (g.N.NpyStore.shelf l.fn.store) (g.N.NpyStore.shelf l.store) (g.S.ScriptSource.remaining l.fn.source) (g.S.ScriptSource.remaining l.source) (g.W.Write.contents l.fn.writer) (g.W.Write.contents l.writer) l.session;
+  fed : Reading (start_with l.depth (g.N.NpyStore.shelf l.fn.store)) (g.N.NpyStore.shelf l.store) (g.S.ScriptSource.remaining l.fn.source) (g.S.ScriptSource.remaining l.source) (g.W.Write.contents l.fn.writer) (g.W.Write.contents l.writer) l.session;
 }

@@ -1,6 +1,5 @@
 use Rattle.std.proofs.Common.{◌≡◌, ◌++◌, ◌+◌, ◌∷◌, [], List, ℕ, length, take, drop, sym, ap, ◌∙◌, refl, append_assoc, arith, length-drop}
 use Rattle.std.proofs.lemmas.Result.{err_from_is_err_and}
-use Rattle.bench_engine.specs.Worlds.{start_with}
 use Rattle.bench_engine.specs.Meanings.{AnswersLine}
 use Rattle.bench_engine.proofs.Feeding.{fed-piece, fed_along, cut_along}
 use Rattle.bench_engine.proofs.Known.{rest_of}
@@ -20,7 +19,7 @@ returns-in_err-take_line-clause-err g c =
     let parts = newline_in_rest c.args.bytes.now so_far.0 rest end so_far.1 at.0 at.2 in
     rw p.1 (λ first before read fed.
     let cut = c.in_err-take_line.ensures.err first before (read ++ so_far.0) (drop (end + 1) rest) (so_far.2 first before read fed) in
-    (cut.0, cut_along AnswersLine (start_with first) before _ _ _ _ (joined read so_far.0 (take end rest) (10 ∷ drop (end + 1) rest) c.args.bytes.now parts) cut.1))
+    (cut.0, cut_along AnswersLine first before _ _ _ _ (joined read so_far.0 (take end rest) (10 ∷ drop (end + 1) rest) c.args.bytes.now parts) cut.1))
   where
     joined : (read taken line more bytes : List ℕ) → bytes ≡ (taken ++ line) ++ more → ((read ++ taken) ++ line) ++ more ≡ read ++ bytes
     joined read taken line more bytes is = rw is (simp append_assoc)
@@ -39,7 +38,7 @@ loop-end-preserved g c =
       fed = (
         (so_far.0 ++ take end rest) ++ 10 ∷ [],
         parts ∙ sym (append_assoc (so_far.0 ++ take end rest) (10 ∷ []) (drop (end + 1) rest)) ∙ ap (λ r. ((so_far.0 ++ take end rest) ++ 10 ∷ []) ++ r) (sym left),
-        λ first before read fed. fed_along AnswersLine (start_with first) before _ _ _ _ _ (regrouped read so_far.0 (take end rest)) (c.in_ok-take_line.ensures.ok first before (read ++ so_far.0) (so_far.2 first before read fed)),
+        λ first before read fed. fed_along AnswersLine first before _ _ _ _ _ (regrouped read so_far.0 (take end rest)) (c.in_ok-take_line.ensures.ok first before (read ++ so_far.0) (so_far.2 first before read fed)),
       );
     }
   where
@@ -51,5 +50,5 @@ returns-clause-ok g c first before read fed =
     let so_far = c.loop-end.invariant.fed in
     let rest = c.loop-end.rest.now in
     let none = no_newline rest (sym c.newline.ensures ∙ c.in_default.is) in
-    fed_along AnswersLine (start_with first) before _ _ _ _ _ (append_assoc read so_far.0 rest ∙ ap (λ bytes. read ++ bytes) (sym so_far.1))
-    (fed-piece AnswersLine (start_with first) before _ _ (read ++ so_far.0) rest c.loop-end.self _ none refl refl c.hold.ensures.held (so_far.2 first before read fed))
+    fed_along AnswersLine first before _ _ _ _ _ (append_assoc read so_far.0 rest ∙ ap (λ bytes. read ++ bytes) (sym so_far.1))
+    (fed-piece AnswersLine first before _ _ (read ++ so_far.0) rest c.loop-end.self _ none refl refl c.hold.ensures.held (so_far.2 first before read fed))

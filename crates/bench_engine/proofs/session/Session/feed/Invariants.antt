@@ -1,5 +1,5 @@
 use Rattle.std.proofs.Common.{◌≡◌, ◌≤◌, ◌+◌, ◌++◌, List, ℕ, Option, length}
-use Rattle.npy_files.specs.Stores.{Shelf}
+use Rattle.bench_engine.specs.Worlds.{World}
 use Rattle.bench_engine.specs.inside.Sessions.{HasRoom, FedMachine}
 use Rattle.bench_engine.proofs.session.Session.feed.Given as goal
 
@@ -9,7 +9,7 @@ invariant-loop-end g l = record {
   room : HasRoom l.self;
   few : l.self.accepted + l.self.refused + length l.rest ≤ l.fn.self.accepted + l.fn.self.refused + length l.bytes;
   fed : (taken : List ℕ) × (l.bytes ≡ taken ++ l.rest)
-      × ((first : Shelf) (before : Option (List ℕ)) (read : List ℕ) → FedMachine first (g.N.NpyStore.shelf l.fn.store) before (g.W.Write.contents l.fn.writer) read l.fn.self →
+      × ((first : World) (before : Option (List ℕ)) (read : List ℕ) → FedMachine first (g.N.NpyStore.shelf l.fn.store) before (g.W.Write.contents l.fn.writer) read l.fn.self →
       FedMachine first (g.N.NpyStore.shelf l.store) before (g.W.Write.contents l.writer) (read ++ taken) l.self);
 }
 

@@ -1,6 +1,5 @@
 use Rattle.std.proofs.Common.{◌++◌, refl}
 use Rattle.std.proofs.lemmas.Result.{on_ok_weaker, on_err_weaker}
-use Rattle.bench_engine.specs.Worlds.{start_with}
 use Rattle.bench_engine.specs.Meanings.{AnswersLine}
 use Rattle.bench_engine.proofs.Feeding.{fed-piece, fed-newline, cut-newline}
 use Rattle.bench_engine.proofs.session.Session.take_line.Goals as goal
@@ -9,8 +8,8 @@ pub returns-clause-ok : goal.returns-clause-ok
 returns-clause-ok g c =
     on_ok_weaker c.finish_line.result
     (λ line first before read fed.
-    fed-newline AnswersLine (start_with first) before _ _ _ _ (read ++ c.args.piece.now) _ _ c.finish_line.ensures.next line
-    (fed-piece AnswersLine (start_with first) before _ _ read c.args.piece.now c.args.self.now _ c.requires.one refl refl c.hold.ensures.held fed))
+    fed-newline AnswersLine first before _ _ _ _ (read ++ c.args.piece.now) _ _ c.finish_line.ensures.next line
+    (fed-piece AnswersLine first before _ _ read c.args.piece.now c.args.self.now _ c.requires.one refl refl c.hold.ensures.held fed))
     c.finish_line.ensures.ok
 
 pub returns-clause-err : goal.returns-clause-err
@@ -18,7 +17,7 @@ returns-clause-err g c =
     on_err_weaker c.finish_line.result
     (λ part first before read more fed. (
       _,
-      cut-newline AnswersLine (start_with first) before _ _ _ _ (read ++ c.args.piece.now) more _ part
-          (fed-piece AnswersLine (start_with first) before _ _ read c.args.piece.now c.args.self.now _ c.requires.one refl refl c.hold.ensures.held fed),
+      cut-newline AnswersLine first before _ _ _ _ (read ++ c.args.piece.now) more _ part
+          (fed-piece AnswersLine first before _ _ read c.args.piece.now c.args.self.now _ c.requires.one refl refl c.hold.ensures.held fed),
     ))
     c.finish_line.ensures.err

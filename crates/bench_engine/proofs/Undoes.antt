@@ -1,0 +1,15 @@
+-- The state before the last change.
+use Rattle.std.proofs.Common.{◌≡◌, true, false, codes, refl, Err}
+use Rattle.elem_descr.specs.declared.refusal.Refusal.{Refusal}
+use Rattle.elem_descr.specs.declared.refusal.Refusal.TheVariants.{NothingToUndo}
+use Rattle.name_store.specs.States.{State}
+use Rattle.name_store.specs.Arrays.{has_kept, undone}
+use Rattle.bench_engine.specs.Machine.{undo_outcome, comes_to}
+
+pub undo-nothing : (s : State) (e : Refusal) → has_kept s ≡ false → e ≡ NothingToUndo → undo_outcome s ≡ Err e
+unfolding undo_outcome
+undo-nothing s e none is = rw (none, is) refl
+
+pub undo-done : (s new : State) → has_kept s ≡ true → new ≡ undone s → undo_outcome s ≡ comes_to new (codes "ok undo")
+unfolding undo_outcome
+undo-done s new kept is = rw (kept, is) refl
