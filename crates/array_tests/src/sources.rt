@@ -96,7 +96,7 @@ fn set_block(
     bench: &mut Bench,
     to: &Name,
     to_index: &[IndexItem<usize>],
-    owned: &Owned,
+    owned: Owned,
 ) -> Result<usize, Refusal>
     requires { list_all is_basic to_index.now ≡ true }
 {
@@ -234,6 +234,8 @@ const BLOCKS: &[(&str, &[u8], &[u8])] = &[
     ("1:4", &[7, 8, 9], &[0, 7, 8, 9, 4, 5]),
     ("::-2", &[7, 8, 9], &[0, 9, 2, 8, 4, 7]),
     ("-1", &[7], &[0, 1, 2, 3, 4, 7]),
+    (":", &[7, 8, 9, 10, 11, 12], &[7, 8, 9, 10, 11, 12]),
+    ("::-1", &[7, 8, 9, 10, 11, 12], &[12, 11, 10, 9, 8, 7]),
 ];
 
 fn assign_block(rt: &impl Abort, alloc: Global, row: (&str, &[u8], &[u8])) {
@@ -242,7 +244,7 @@ fn assign_block(rt: &impl Abort, alloc: Global, row: (&str, &[u8], &[u8])) {
     let to = items(rt, alloc, to);
     let owned = bytes_of(rt, alloc, &[bytes.len()], bytes);
     check(rt, are_basic(to.as_slice()), "no index array");
-    set_block(alloc, &mut bench, &name(alloc, b"a"), to.as_slice(), &owned).expect(rt, "refused");
+    set_block(alloc, &mut bench, &name(alloc, b"a"), to.as_slice(), owned).expect(rt, "refused");
     has_bytes(rt, alloc, &bench, b'a', wanted);
 }
 

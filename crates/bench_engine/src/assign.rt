@@ -74,6 +74,6 @@ pub fn assign(
         Given::Named(source, items) => {
             bench.write_items(alloc, name, target, Source::Name(source, items))
         }
-        Given::Own(owned) => bench.write_items(alloc, name, target, Source::Block(&owned)),
+        Given::Own(owned) => bench.write_items(alloc, name, target, Source::Block(owned)),
     }
 }

@@ -99,21 +99,21 @@ module _ (es : List (Key × Entry)) (slots : Slots) (name : List ℕ) (number wi
         (subst (λ bytes. HasNew slots number s bytes after) (put_each-items places item.now s.block) new)
 
   -- the items of a block
-  module _ (owned : Bor Owned) (aim : IsAim state name target (Block owned)) where
-    pub block-fits : Fits owned.now.layout (length owned.now.block) width
-    block-fits = subst (Fits owned.now.layout (length owned.now.block)) (aim.source_for.alike.size ∙ size-is es slots name number width home aim.array aim.leads.found) owned.now.fills_block.fits
+  module _ (owned : Owned) (aim : IsAim state name target (Block owned)) where
+    pub block-fits : Fits owned.layout (length owned.block) width
+    block-fits = subst (Fits owned.layout (length owned.block)) (aim.source_for.alike.size ∙ size-is es slots name number width home aim.array aim.leads.found) owned.fills_block.fits
 
-    pub block-within : All (λ offset. offset + width ≤ length owned.now.block) (offsets owned.now.layout)
-    block-within = offsets_within owned.now.layout (length owned.now.block) width block-fits
+    pub block-within : All (λ offset. offset + width ≤ length owned.block) (offsets owned.layout)
+    block-within = offsets_within owned.layout (length owned.block) width block-fits
 
-    pub block-answers : (h : Holds es slots) (after : Slots) → HasNew slots number s (assigned places (offsets owned.now.layout) width owned.now.block s.block) after → (n : ℕ) → n ≡ length places → AnswersWrite state name target (Block owned) (Ok n) (present es after)
+    pub block-answers : (h : Holds es slots) (after : Slots) → HasNew slots number s (assigned places (offsets owned.layout) width owned.block s.block) after → (n : ℕ) → n ≡ length places → AnswersWrite state name target (Block owned) (Ok n) (present es after)
     block-answers h after new n counted =
-        answers (Block owned) aim h (assigned places (offsets owned.now.layout) width owned.now.block s.block) after new (items_at (offsets owned.now.layout) width owned.now.block)
-        (items-whole (offsets owned.now.layout) width owned.now.block (offsets-within owned.now.layout (length owned.now.block) width block-fits)) refl n counted
-        (λ array found. alike-items owned.now.descr (descr_of state array) width owned.now.block (offsets owned.now.layout) ((source-for (Block owned) aim array found).alike) (size-is es slots name number width home array found))
+        answers (Block owned) aim h (assigned places (offsets owned.layout) width owned.block s.block) after new (items_at (offsets owned.layout) width owned.block)
+        (items-whole (offsets owned.layout) width owned.block (offsets-within owned.layout (length owned.block) width block-fits)) refl n counted
+        (λ array found. alike-items owned.descr (descr_of state array) width owned.block (offsets owned.layout) ((source-for (Block owned) aim array found).alike) (size-is es slots name number width home array found))
 
-    pub block-wrote : (h : Holds es slots) (after : Slots) → HasNew slots number s (assigned places (offsets owned.now.layout) width owned.now.block s.block) after → Wrote es slots name places after
-    block-wrote h after new = wrote after (items_at (offsets owned.now.layout) width owned.now.block) (items-whole (offsets owned.now.layout) width owned.now.block (offsets-within owned.now.layout (length owned.now.block) width block-fits)) new
+    pub block-wrote : (h : Holds es slots) (after : Slots) → HasNew slots number s (assigned places (offsets owned.layout) width owned.block s.block) after → Wrote es slots name places after
+    block-wrote h after new = wrote after (items_at (offsets owned.layout) width owned.block) (items-whole (offsets owned.layout) width owned.block (offsets-within owned.layout (length owned.block) width block-fits)) new
 
   -- the items of an array
   module _ (name' : Bor (List ℕ)) (from : Layout) (aim : IsAim state name target (Name name' from)) (number' width' : ℕ) (other : IsHome es slots name'.now number' width') where

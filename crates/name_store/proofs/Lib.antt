@@ -26,6 +26,7 @@ pub mod BindLaws
 pub mod ShareLaws
 pub mod OldAims
 pub mod WriteKept
+pub mod ExchangeLaws
 pub mod UndoLaws
 pub mod FreedLaws
 pub mod UndoFirst

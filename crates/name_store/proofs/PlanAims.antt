@@ -111,24 +111,24 @@ module _ (es : List (Key × Entry)) (slots : Slots) (name : List ℕ) (number wi
       is ∙ ap (λ b. if b then OutOfMemory else TooLarge) (le-leb (count view.shape * item_size descr) max_bytes small)
 
   -- the items of a block
-  module _ (owned : Bor Owned) (aim : IsAim state name (Plan plan) (Block owned)) where
-    pub block-size : item_size owned.now.descr ≡ width
+  module _ (owned : Owned) (aim : IsAim state name (Plan plan) (Block owned)) where
+    pub block-size : item_size owned.descr ≡ width
     block-size = aim.source_for.alike.size ∙ size-is es slots name number width home aim.array aim.leads.found
 
-    pub block-count : count owned.now.layout.shape ≡ length plan.offsets
-    block-count = sym (length-offsets owned.now.layout) ∙ aim.source_for.count
+    pub block-count : count owned.layout.shape ≡ length plan.offsets
+    block-count = sym (length-offsets owned.layout) ∙ aim.source_for.count
 
-    pub block-long : length plan.offsets * width ≤ length owned.now.block
-    block-long = copy-long owned.now owned.now.descr owned.now.layout.shape block-size block-count refl refl
+    pub block-long : length plan.offsets * width ≤ length owned.block
+    block-long = copy-long owned owned.descr owned.layout.shape block-size block-count refl refl
 
-    pub block-packed : is_c_contiguous width (offsets owned.now.layout) ≡ true → items_at (multiples width (length plan.offsets)) width owned.now.block ≡ items_at (offsets owned.now.layout) width owned.now.block
-    block-packed test = ap (λ os. items_at os width owned.now.block)
+    pub block-packed : is_c_contiguous width (offsets owned.layout) ≡ true → items_at (multiples width (length plan.offsets)) width owned.block ≡ items_at (offsets owned.layout) width owned.block
+    block-packed test = ap (λ os. items_at os width owned.block)
         (ap (multiples width) (sym aim.source_for.count)
-        ∙ sym (c-packed width (offsets owned.now.layout) test (subst (λ n. AllByRecursion (λ o. o + width ≤ n) (offsets owned.now.layout)) long
-        (offsets-within owned.now.layout (length owned.now.block) width (block-fits es slots name number width home (Plan plan) owned aim)))))
+        ∙ sym (c-packed width (offsets owned.layout) test (subst (λ n. AllByRecursion (λ o. o + width ≤ n) (offsets owned.layout)) long
+        (offsets-within owned.layout (length owned.block) width (block-fits es slots name number width home (Plan plan) owned aim)))))
       where
-        long : length owned.now.block ≡ length (offsets owned.now.layout) * width
-        long = owned.now.fills_block.fills ∙ (λ i. sym (length-offsets owned.now.layout) i * block-size i)
+        long : length owned.block ≡ length (offsets owned.layout) * width
+        long = owned.fills_block.fills ∙ (λ i. sym (length-offsets owned.layout) i * block-size i)
 
   -- the items of an array
   module _ (name' : Bor (List ℕ)) (from : Layout) (aim : IsAim state name (Plan plan) (Name name' from)) (block : List ℕ) (descr : Descr) (lent : IsLent es slots name'.now block descr) where

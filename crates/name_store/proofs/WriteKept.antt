@@ -94,7 +94,7 @@ module _ (es : List (Key × Entry)) (slots : Slots) (ring : Ring Change) where
   needs-now name (Plan plan) source needs-none = (refl, needs-none.1)
 
 -- two names of one home
-home-same : (es : List (Key × Entry)) (slots : Slots) (name : List ℕ) (n w n' w' : ℕ) → (h : IsHome es slots name n w) → (h' : IsHome es slots name n' w') → (n' ≡ n) × (h'.slot ≡ h.slot)
+pub home-same : (es : List (Key × Entry)) (slots : Slots) (name : List ℕ) (n w n' w' : ℕ) → (h : IsHome es slots name n w) → (h' : IsHome es slots name n' w') → (n' ≡ n) × (h'.slot ≡ h.slot)
 home-same es slots name n w n' w' h h' =
     let arrays : array_at h'.entry ≡ array_at h.entry = some-same (array_at h'.entry) (array_at h.entry) (sym h'.found ∙ h.found) in
     let numbers : n' ≡ n = h'.number_is ∙ ap (λ (a : Array). a.buffer) arrays ∙ sym h.number_is in
@@ -215,14 +215,14 @@ module _ (es : List (Key × Entry)) (slots : Slots) (ring : Ring Change) (spare 
             a.width_is ∙ (λ i. item_size (descr_at (same.1 i).descr (arrays i).path)) ∙ sym b.width_is
 
     own-width : item_size items.descr ≡ wrote.width
-    own-width = ap item_size old.descr_is ∙ width-is
+    own-width = old.size ∙ width-is
 
     within : AllByRecursion (λ o. o + wrote.width ≤ length s.block) os
     within = recursion_from_All (λ o. o + wrote.width ≤ length s.block) os (subst (λ n. All (λ o. o + n ≤ length s.block) os) width-is (subst (λ (b : List ℕ). All (λ o. o + item_size descr ≤ length b) os) block-is inside))
 
     bytes-back : assigned os (offsets items.layout) (item_size items.descr) items.block s'.block ≡ s.block
     bytes-back =
-        ap (λ n. with_items os (items_at (offsets items.layout) n items.block) s'.block) (ap item_size old.descr_is)
+        ap (λ n. with_items os (items_at (offsets items.layout) n items.block) s'.block) old.size
         ∙ ap (λ parts. with_items os parts s'.block) old.bytes
         ∙ (λ i. with_items os (items_at os (width-is i) (block-is i)) (wrote.new.rewritten.block i))
         ∙ restores wrote.width os wrote.parts s.block wrote.whole within
@@ -245,7 +245,7 @@ module _ (es : List (Key × Entry)) (slots : Slots) (ring : Ring Change) (spare 
     goes = record {
       inside = subst (λ n. All (λ o. o + item_size items.descr ≤ n) os) (s.is_whole.whole ∙ λ i. sym wrote.new.rewritten.items i * item_size (sym wrote.new.rewritten.descr i))
           (subst (λ n. All (λ o. o + n ≤ length s.block) os) (sym own-width) (All-from_recursion (λ o. o + wrote.width ≤ length s.block) os within));
-      order = old.order ∙ ap (λ n. multiples n (length os)) (ap item_size (sym old.descr_is));
+      order = old.order ∙ ap (λ n. multiples n (length os)) (sym old.size);
     }
 
     own : IsUndoable c names after

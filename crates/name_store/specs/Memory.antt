@@ -48,7 +48,7 @@ NeedsNoneInView s name to (Name other from) =
 -- Where a plan leads, one item is, and the items of a block in C order.
 abbrev pub NeedsNoneInPlan : Source → Type 0
 NeedsNoneInPlan (One bytes) = Unit {0}
-NeedsNoneInPlan (Block owned) = IsTrue (is_c_contiguous (item_size owned.now.descr) (offsets owned.now.layout))
+NeedsNoneInPlan (Block owned) = IsTrue (is_c_contiguous (item_size owned.descr) (offsets owned.layout))
 NeedsNoneInPlan (Name other from) = ⊥
 
 abbrev pub NeedsNoMemory : State → List ℕ → Target → Source → Type 0

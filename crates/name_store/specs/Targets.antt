@@ -55,7 +55,7 @@ items_of s (Some array) layout = read s (record array { places = places_of (item
 -- the items that are written to n places of an array: one for all of them, those of a block, or those of an array of the state
 abbrev pub source_items : State → Descr → ℕ → Source → List (List LeafValue)
 source_items s descr n (One bytes) = replicate n (decode_item descr bytes.now)
-source_items s descr n (Block owned) = map (item_from owned.now.descr owned.now.block) (offsets owned.now.layout)
+source_items s descr n (Block owned) = map (item_from owned.descr owned.block) (offsets owned.layout)
 source_items s descr n (Name name layout) = items_of s (find_array s.names name.now) layout
 
 -- a block has n items of this element type
@@ -77,7 +77,7 @@ pub record ReadsFrom (s : State) (name : List ℕ) (layout : Layout) (descr : De
 -- one item of this element type, or n of them
 abbrev pub IsFor : State → Descr → ℕ → Source → Type 0
 IsFor s descr n (One bytes) = length bytes.now ≡ item_size descr
-IsFor s descr n (Block owned) = HasItems owned.now descr n
+IsFor s descr n (Block owned) = HasItems owned descr n
 IsFor s descr n (Name name layout) = ReadsFrom s name.now layout descr n
 
 -- a target in a name's array, and a source for its items

@@ -4,4 +4,5 @@ pub mod Codes
 pub mod Homes
 pub mod Rebinds
 pub mod OldItems
+pub mod Exchanges
 pub mod Undoes

@@ -8,6 +8,7 @@ mod bind;
 mod bound;
 mod change;
 mod entry;
+mod exchange;
 mod home;
 mod keep;
 mod look;
@@ -24,6 +25,7 @@ mod unbind;
 mod undo;
 mod write;
 mod write_kept;
+mod write_over;
 mod write_planned;
 
 pub use array_ref::ArrayRef;

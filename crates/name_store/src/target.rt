@@ -35,7 +35,7 @@ pub enum Source<'a> {
     /// The bytes of one item, for every place.
     One(&'a [u8]),
     /// The items of a block of its own, one for each place.
-    Block(&'a Owned),
+    Block(Owned),
     /// Items of an array of the same bench, one for each place: those where a layout says in its
     /// buffer.
     Name(&'a Name, Layout),

@@ -11,6 +11,7 @@ ghost use Rattle.name_store.specs.declared.target.Source.TheVariants.{One, Block
 ghost use Rattle.name_store.specs.declared.target.Target.TheVariants.{View};
 
 use crate::entry::{Entry, Key};
+use crate::exchange::{can_exchange, exchange};
 use crate::home::home_of;
 use crate::rewrite::{assign_at, copy_across, copy_at, fill_at};
 use crate::slot::Slot;
@@ -43,8 +44,8 @@ fn write_one(
     layout.shape.items()
 }
 
-/// Writes the items of a block to the places of a layout. Takes no memory.
-fn write_block(
+/// Copies the items of a block to the places of a layout. Takes no memory.
+fn copy_block(
     names: &IndexMap<Key, Entry>,
     slots: &mut Vec<Option<Slot>>,
     key: &Key,
@@ -52,9 +53,9 @@ fn write_block(
     owned: &Owned,
 ) -> usize
     requires holds { Holds names.now.entries slots.old.items }
-    requires aim { IsAim (present names.now.entries slots.old.items) key.now.bytes.items (View layout.now) (Block owned) }
+    requires aim { IsAim (present names.now.entries slots.old.items) key.now.bytes.items (View layout.now) (Block owned.now) }
     ensures holds { Holds names.now.entries slots.new.items }
-    ensures answers { AnswersWrite (present names.now.entries slots.old.items) key.now.bytes.items (View layout.now) (Block owned.entry) (Ok result)
+    ensures answers { AnswersWrite (present names.now.entries slots.old.items) key.now.bytes.items (View layout.now) (Block owned.now) (Ok result)
         (present names.now.entries slots.new.items) }
     ensures wrote { Wrote names.now.entries slots.old.items key.now.bytes.items (offsets layout.now) slots.new.items }
 {
@@ -68,6 +69,29 @@ fn write_block(
         home.width,
     );
     layout.shape.items()
+}
+
+/// Writes the items of a block to the places of a layout. Takes no memory, and copies nothing where the
+/// blocks can be exchanged.
+fn write_block(
+    names: &IndexMap<Key, Entry>,
+    slots: &mut Vec<Option<Slot>>,
+    key: &Key,
+    layout: &Layout,
+    mut owned: Owned,
+) -> usize
+    requires holds { Holds names.now.entries slots.old.items }
+    requires aim { IsAim (present names.now.entries slots.old.items) key.now.bytes.items (View layout.now) (Block owned) }
+    ensures holds { Holds names.now.entries slots.new.items }
+    ensures answers { AnswersWrite (present names.now.entries slots.old.items) key.now.bytes.items (View layout.now) (Block owned) (Ok result)
+        (present names.now.entries slots.new.items) }
+    ensures wrote { Wrote names.now.entries slots.old.items key.now.bytes.items (offsets layout.now) slots.new.items }
+{
+    if can_exchange(names, slots.as_slice(), key, layout, &owned) {
+        exchange(names, slots, key, layout, &mut owned)
+    } else {
+        copy_block(names, slots, key, layout, &owned)
+    }
 }
 
 /// Writes items of the array of another name, or of the same, to the places of a layout. Only where

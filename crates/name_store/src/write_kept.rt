@@ -9,19 +9,19 @@ ghost use Rattle.name_store.specs.View.{state_of};
 
 use crate::change::Change;
 use crate::entry::{Entry, Key};
-use crate::home::{home_of, lent_of};
+use crate::home::home_of;
 use crate::keep::{keep, make_room};
-use crate::old_items::old_items;
 use crate::slot::Slot;
 use crate::target::{Source, Target};
 use crate::write::write_items;
+use crate::write_over::{Replaced, write_over};
 use circular_buffer::HeapCircularBuffer;
 use elem_descr::Refusal;
 use indexmap::IndexMap;
 use std::alloc::Global;
 
-/// Writes the source's items to the target's places. The old ones are taken before the first change,
-/// and no memory is asked for after it.
+/// Writes the source's items to the target's places. All memory is asked for before the first
+/// change.
 pub(crate) fn write_in(
     alloc: Global,
     names: &mut IndexMap<Key, Entry>,
@@ -42,9 +42,8 @@ pub(crate) fn write_in(
         return write_items(alloc, names, slots, key, &target, source);
     }
     make_room(names, ring, 0)?;
-    let items = old_items(alloc, lent_of(names, slots.as_slice(), key), &target)?;
     let number = home_of(names, slots.as_slice(), key).number;
-    let count = write_items(alloc, names, slots, key, &target, source)?;
+    let Replaced { count, items } = write_over(alloc, names, slots, key, &target, source)?;
     let change = Change::Write {
         number,
         target,

@@ -53,13 +53,13 @@ fn write_block(
     owned: &Owned,
 ) -> Result<usize, Refusal>
     requires holds { Holds names.now.entries slots.old.items }
-    requires aim { IsAim (present names.now.entries slots.old.items) key.now.bytes.items (target.Plan plan.now) (Block owned) }
+    requires aim { IsAim (present names.now.entries slots.old.items) key.now.bytes.items (target.Plan plan.now) (Block owned.now) }
     ensures holds { Holds names.now.entries slots.new.items }
-    ensures answers { AnswersWrite (present names.now.entries slots.old.items) key.now.bytes.items (target.Plan plan.now) (Block owned.entry) result
+    ensures answers { AnswersWrite (present names.now.entries slots.old.items) key.now.bytes.items (target.Plan plan.now) (Block owned.now) result
         (present names.now.entries slots.new.items) }
     ensures wrote { Wrote names.now.entries slots.old.items key.now.bytes.items plan.now.offsets slots.new.items }
     ensures unchanged { IfErr result (λ _. AreSame slots.old.items slots.new.items) }
-    ensures no_memory { NeedsNoMemory (present names.now.entries slots.old.items) key.now.bytes.items (target.Plan plan.now) (Block owned.entry) → IsOk result }
+    ensures no_memory { NeedsNoMemory (present names.now.entries slots.old.items) key.now.bytes.items (target.Plan plan.now) (Block owned.now) → IsOk result }
 {
     let home = home_of(names, slots.as_slice(), key);
     if owned.layout.is_c(home.width) {
@@ -123,7 +123,7 @@ pub(crate) fn write_planned(
 {
     match source {
         Source::One(item) => Ok(write_one(names, slots, key, plan, item)),
-        Source::Block(owned) => write_block(alloc, names, slots, key, plan, owned),
+        Source::Block(owned) => write_block(alloc, names, slots, key, plan, &owned),
         Source::Name(name, from) => write_named(alloc, names, slots, key, plan, name, &from),
     }
 }

@@ -14,13 +14,20 @@ use Rattle.name_store.specs.declared.entry.Key.{Key}
 use Rattle.name_store.specs.declared.slot.Slot.{Slot}
 use Rattle.name_store.specs.declared.target.Target.{Target}
 use Rattle.name_store.specs.declared.target.Target.TheVariants.{View, Plan}
-use Rattle.name_store.specs.inside.Homes.{IsHome, HasNew}
+use Rattle.name_store.specs.inside.Homes.{IsHome, IsLent, HasNew}
 
 -- the items that a block has at the offsets, one after another
 pub record AreOld (descr : Descr) (block os : List ℕ) (o : Owned) : Type 0 where
-  pub descr_is : o.descr ≡ descr
+  pub size : item_size o.descr ≡ item_size descr
   pub order : offsets o.layout ≡ multiples (item_size descr) (length os)
   pub bytes : items_at (offsets o.layout) (item_size descr) o.block ≡ items_at os (item_size descr) block
+
+-- these are those of the block that the name's array lies in
+pub record AreOldOf (names : List (Key × Entry)) (slots : List (Option Slot)) (name os : List ℕ) (o : Owned) : Type 0 where
+  pub block : List ℕ
+  pub descr : Descr
+  pub lent : IsLent names slots name block descr
+  pub old : AreOld descr block os o
 
 -- a plan's items are not too many
 abbrev pub IsSmall : Target → ℕ → Type 0

@@ -19,7 +19,7 @@ write_items-requires c =
         may_write = (places.fits, c.in_ok-places.ensures.nested _ (to.2.view.laid.nested writable));
         source_for = record {
           alike = same-alike _ _ _ (c.are_bytes-else-not-are_bytes.ensures c.if-not-are_bytes-2.false) to-bytes;
-          count = length-offsets c.args.owned.now.layout ∙ sym c.items.ensures.value ∙ c.if-items.false ∙ c.items-2.ensures.value ∙ sym (length-offsets c.in_ok-places.places);
+          count = length-offsets c.args.owned.layout ∙ sym c.items.ensures.value ∙ c.if-items.false ∙ c.items-2.ensures.value ∙ sym (length-offsets c.in_ok-places.places);
         };
       };
     }

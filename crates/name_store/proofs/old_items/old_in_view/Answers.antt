@@ -6,7 +6,7 @@ use Rattle.name_store.proofs.old_items.old_in_view.Goals as goal
 
 pub returns-in-Ok : goal.returns-in-Ok
 returns-in-Ok c = record {
-  descr_is = c.in-Ok.ensures.descr;
+  size = ap item_size c.in-Ok.ensures.descr;
   order = c.in-Ok.ensures.order ∙ ap (multiples (item_size c.args.lent.descr.now)) (sym (length-offsets c.args.layout.now));
   bytes = c.in-Ok.ensures.bytes;
 }

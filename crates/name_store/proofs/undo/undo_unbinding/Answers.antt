@@ -1,4 +1,4 @@
-use Rattle.std.proofs.Common.{◌∙◌, ap, refl, sym, true, false, ◌≡◌, is_some, arith}
+use Rattle.std.proofs.Common.{◌∙◌, ap, refl, sym, true, false, ◌≡◌, is_some}
 use Rattle.std.proofs.lemmas.Result.{IfOk-at_ok}
 use Rattle.name_store.proofs.UndoUnbinding.{unbind-absent, unbind-within, undo-unbinding}
 use Rattle.name_store.proofs.undo.undo_unbinding.Goals as goal
