@@ -2,7 +2,7 @@
 ghost use Rattle.std.specs.Prelude.{◌≡◌, ◌≢◌, ◌+◌, ◌-◌, ◌<◌, ◌≤◌, length, drop, nat_le, map, pos, slice_index_or, true, All, IfOk, IfErr, Err};
 ghost use Rattle.std.specs.List.{list_all};
 ghost use Rattle.shape_strides.specs.declared.index_item.IndexItem.TheVariants.{Integer};
-ghost use Rattle.shape_strides.specs.Limits.{max_axes};
+ghost use Rattle.shape_strides.specs.Limits.{max_axes, max_items};
 ghost use Rattle.fancy_index.specs.declared.kind.Kind.TheVariants.{NoIndex};
 ghost use Rattle.view_ops.specs.Slices.{is_place};
 ghost use Rattle.fancy_index.specs.IndexArrays.{kind, with_array, is_index, axes_of, taken, width, covers, cover, is_within, are_within};
@@ -160,6 +160,7 @@ fn are_places_each(array: Indices<'_>, n: usize) -> bool
 /// Whether each number of an array is one of `n` places, whatever the array broadcasts to. Integers of
 /// eight bytes that lie one right after another need no walk.
 fn are_places(array: Indices<'_>, n: usize) -> bool
+    requires small { n ≤ max_items }
     requires kind { kind (array_of array) ≢ NoIndex }
     requires lies { LiesInBlock array }
     ensures { result ≡ list_all (is_place n) (array_of array.entry).numbers }
@@ -171,7 +172,8 @@ fn are_places(array: Indices<'_>, n: usize) -> bool
 }
 
 fn is_within(axes: &[usize], item: IndexItem<Indices<'_>>) -> bool
-    requires { HasItems item }
+    requires small { All (λ n. n ≤ max_items) axes.now }
+    requires lies { HasItems item }
     ensures { result ≡ is_within axes.now (item_of item.entry) }
 {
     match (item, axes) {
@@ -189,6 +191,7 @@ fn are_within(lengths: &[usize], items: &[IndexItem<usize>], arrays: &[Indices<'
     requires named { All (IsNamed (length arrays.now)) items.now }
     requires lie { All LiesInBlock arrays.now }
     requires rank { length lengths.now ≤ max_axes }
+    requires small { All (λ n. n ≤ max_items) lengths.now }
     requires enough { taken (items_of arrays.now items.now) ≤ length lengths.now }
     ensures { result ≡ are_within lengths.now (items_of arrays.now items.now) }
 {
@@ -212,6 +215,7 @@ pub(crate) fn check(
     requires named { All (IsNamed (length arrays.now)) items.now }
     requires lie { All LiesInBlock arrays.now }
     requires rank { length lengths.now ≤ max_axes }
+    requires small { All (λ n. n ≤ max_items) lengths.now }
     ensures ok { IfOk result (λ _. IsChecked lengths.now (items_of arrays.now items.now)) }
     ensures err { IfErr result (λ refusal. indexed lengths.now (items_of arrays.now items.now) ≡ Err refusal) }
 {

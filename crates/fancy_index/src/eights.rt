@@ -56,12 +56,11 @@ fn read_eight(item: &[u8; 8]) -> i64
 
 /// Whether a number of 64 bits is one of `n` places.
 fn is_long_place(n: usize, at: i64) -> bool
+    requires { n ≤ max_items }
     ensures { result ≡ is_place n at }
 {
-    if at < 0 {
-        return at.unsigned_abs() as usize <= n;
-    }
-    (at as usize) < n
+    let end = n as i64;
+    -end <= at && at < end
 }
 
 /// The place of `n` that a number of 64 bits names.
@@ -79,6 +78,7 @@ fn long_place(n: usize, at: i64) -> u32
 /// Whether each number is one of `n` places. All of them are looked at, which takes less time than to
 /// stop at the first that is not.
 pub(crate) fn are_eight_places(items: &[[u8; 8]], n: usize) -> bool
+    requires { n ≤ max_items }
     ensures { result ≡ list_all (is_place n) (map eight items.now) }
 {
     let mut are = true;

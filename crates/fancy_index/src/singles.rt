@@ -76,7 +76,8 @@ fn gather_each(
     let _len = items.len();
     let mut at = at;
     for shift in shifts {
-        copy_item(items, at, block, moved(base, place, *shift as usize), width);
+        let from = moved(base, place, *shift as usize);
+        copy_item(items, at, block, from, width);
         at += width;
     }
     at
@@ -133,13 +134,8 @@ fn scatter_each(
     let _len = items.len();
     let mut from = at;
     for shift in shifts {
-        copy_item(
-            block,
-            moved(base, place, *shift as usize),
-            items,
-            from,
-            width,
-        );
+        let to = moved(base, place, *shift as usize);
+        copy_item(block, to, items, from, width);
         from += width;
     }
     from
