@@ -23,7 +23,8 @@ import typing
 
 import numpy as np
 
-ENVIRONMENT = {"GLIBC_TUNABLES": "glibc.malloc.hugetlb=1", **os.environ}
+TUNABLES = {"hugetlb": 1, "mmap_threshold": 2**26, "trim_threshold": 2**27}
+ENVIRONMENT = {"GLIBC_TUNABLES": ":".join(f"glibc.malloc.{name}={value}" for name, value in TUNABLES.items()), **os.environ}
 COUNT = 2**22
 MOST_REPEATS = 2**18
 LONG_ENOUGH = 0.25

@@ -118,11 +118,14 @@ pub(crate) fn moved_down(signed: bool, width: u64, left: u64, right: u64) -> u64
     kept_bits(width, left, right)
 }
 
-/// Whether a number is below another.
+/// Whether a number is below another. Where both have a sign, one comparison does it.
 #[inline(always)]
 pub(crate) fn is_below(left_signed: bool, left: u64, right_signed: bool, right: u64) -> bool
     ensures { result ≡ int_lt (integer left_signed 8 left) (integer right_signed 8 right) }
 {
+    if left_signed && right_signed {
+        return left.cast_signed() < right.cast_signed();
+    }
     let below = is_negative(left_signed, left);
     if below == is_negative(right_signed, right) {
         left < right
