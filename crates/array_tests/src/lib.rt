@@ -41,4 +41,6 @@ mod table;
 #[cfg(test)]
 mod transposes;
 #[cfg(test)]
+mod undo;
+#[cfg(test)]
 mod walks;

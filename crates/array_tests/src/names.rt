@@ -123,7 +123,7 @@ fn what_is_refused_changes_nothing(rt: HostRuntime) {
 }
 
 /// The names, with a blank behind each.
-fn lists(rt: &impl Abort, alloc: Global, bench: &Bench, wanted: &[u8]) {
+pub(crate) fn lists(rt: &impl Abort, alloc: Global, bench: &Bench, wanted: &[u8]) {
     let mut text = Vec::new(alloc);
     for name in bench.names() {
         text.extend_from_slice(name).expect(rt, "no memory");
@@ -157,7 +157,7 @@ fn names_stand_in_the_order_of_first_binding(rt: HostRuntime) {
 }
 
 /// The number of the buffer of a name's array.
-fn number_of(alloc: Global, bench: &Bench, key: u8) -> Option<u64> {
+pub(crate) fn number_of(alloc: Global, bench: &Bench, key: u8) -> Option<u64> {
     Some(bench.get(&name(alloc, &[key]))?.number)
 }
 

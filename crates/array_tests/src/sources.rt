@@ -20,13 +20,13 @@ use std::process::Abort;
 use view_ops::{are_basic, basic};
 
 /// An array of these unsigned bytes.
-fn bytes_of(rt: &impl Abort, alloc: Global, lengths: &[usize], bytes: &[u8]) -> Owned {
+pub(crate) fn bytes_of(rt: &impl Abort, alloc: Global, lengths: &[usize], bytes: &[u8]) -> Owned {
     let descr = Descr::Scalar(Scalar::Byte { signed: false });
     array_of(rt, alloc, descr, lengths, bytes)
 }
 
 /// Whether items are unsigned bytes.
-fn are_bytes(descr: &Descr) -> bool
+pub(crate) fn are_bytes(descr: &Descr) -> bool
     ensures { IsTrue result → descr.now ≡ ScalarDescr (Byte false) }
 {
     matches!(descr, Descr::Scalar(Scalar::Byte { signed: false }))
