@@ -331,3 +331,22 @@ fn a_folder_of_files(rt: HostRuntime) -> Result<(), Fail> {
     fs::remove_dir(&rt, "folder_of_files")?;
     Ok(())
 }
+
+/// A folder in the place of a file is no file, and a part that was left behind is written anew.
+#[test]
+fn what_is_no_file(rt: HostRuntime) -> Result<(), Fail> {
+    fs::create_dir_all(&rt, "no_files/a.npy")?;
+    fs::write(&rt, "no_files/.b.npy.part", "left behind")?;
+    let mut store = DirStore::try_new(&rt, rt.alloc(), "no_files")?;
+    let found = store.read(rt.alloc(), b"a.npy");
+    assert!(rt; found.is_err());
+    let written = store.write(rt.alloc(), b"a.npy", b"one");
+    assert!(rt; written.is_err());
+    store.write(rt.alloc(), b"b.npy", b"new")?;
+    let found = store.read(rt.alloc(), b"b.npy")?;
+    assert!(rt; matches!(&found, Some(bytes) if bytes.as_slice() == b"new".as_slice()));
+    fs::remove_dir(&rt, "no_files/a.npy")?;
+    fs::remove_file(&rt, "no_files/b.npy")?;
+    fs::remove_dir(&rt, "no_files")?;
+    Ok(())
+}
