@@ -22,7 +22,7 @@ write_items-requires c =
         may_write = few-bytes _ _ to-bytes (c.are_as_many.ensures.few many);
         source_for = record {
           alike = same-alike _ _ _ (c.are_bytes-else-not-are_bytes.ensures c.if-not-are_bytes-2.false) to-bytes;
-          count = length-offsets c.args.owned.now.layout ∙ sym (c.are_as_many.ensures.count many);
+          count = length-offsets c.args.owned.layout ∙ sym (c.are_as_many.ensures.count many);
         };
       };
     }
