@@ -1,34 +1,29 @@
 -- Items that are written to a name's array, and where they come from.
-use Rattle.std.proofs.Common.{◌≡◌, ◌⊎◌, ◌<◌, ◌≤◌, ◌+◌, ◌*◌, ℕ, zero, suc, ◌==◌, Bool, true, false, List, [], ◌∷◌, ◌++◌, length, take, drop, replicate, IfOk, is_ok, map, Option, unwrap_or, refl, sym, ap, ◌∙◌, subst, get_or, slice_index, All, Result, Ok, Err, inl, inr, arith}
+use Rattle.std.proofs.Common.{◌≡◌, ◌<◌, ◌≤◌, ◌+◌, ◌*◌, ℕ, zero, suc, ◌==◌, Bool, true, false, List, [], ◌∷◌, ◌++◌, length, take, drop, replicate, IfOk, map, refl, sym, ap, ◌∙◌, subst, get_or, slice_index, All, Result, Ok, Err, arith}
 use Rattle.std.specs.List.{Contains, list_all}
 use Rattle.std.proofs.lemmas.List.{length-map}
 use Rattle.std.proofs.lemmas.List.Elements.{All-map, Contains-get_or}
 use Rattle.elem_descr.specs.declared.refusal.Refusal.{Refusal}
-use Rattle.elem_descr.specs.declared.refusal.Refusal.TheVariants.{OutOfMemory, ReadOnly, ShapesDoNotBroadcast}
+use Rattle.elem_descr.specs.declared.refusal.Refusal.TheVariants.{ShapesDoNotBroadcast}
 use Rattle.elem_descr.specs.Refusals.{◌>>=◌, check}
 use Rattle.elem_descr.specs.declared.descr.Descr.{Descr}
 use Rattle.elem_descr.specs.Items.{item_size, AreAlike}
-use Rattle.elem_descr.specs.declared.leaf.Leaf.{Leaf}
 use Rattle.elem_descr.specs.Encoding.{size, decode}
 use Rattle.elem_descr.specs.Blocks.{item_from}
 use Rattle.elementwise.specs.Casts.{cast_item}
-use Rattle.shape_strides.specs.declared.index_item.IndexItem.{IndexItem}
-use Rattle.shape_strides.specs.declared.index_item.IndexItem.TheVariants.{Ellipsis}
-use Rattle.view_ops.specs.Basics.{basic}
 use Rattle.broadcasting.specs.Broadcasts.{axes_beyond, stretched, stretched_into}
 use Rattle.shape_strides.specs.declared.layout.Layout.{Layout}
 use Rattle.shape_strides.specs.Indexes.{indexes, rank}
-use Rattle.shape_strides.specs.Layouts.{offsets, IsNested}
-use Rattle.view_ops.specs.Views.{View, view_through, IsViewOf, GivesView, KeepsNested}
+use Rattle.shape_strides.specs.Layouts.{offsets}
+use Rattle.view_ops.specs.Views.{View, view_through, IsViewOf, GivesView}
 use Rattle.name_store.specs.States.{State, Array}
-use Rattle.name_store.specs.Arrays.{buffer_of, descr_of, addresses}
+use Rattle.name_store.specs.Arrays.{buffer_of}
 use Rattle.name_store.specs.Parts.{start_at}
-use Rattle.name_store.specs.Places.{offsets_of}
 use Rattle.name_store.specs.Shown.{Shows}
 use Rattle.name_store.specs.declared.array_ref.ArrayRef.{ArrayRef}
 use Rattle.bench_engine.specs.Machine.{viewed}
 use Rattle.bench_engine.specs.inside.Assigns.{LiesIn}
-use Rattle.bench_engine.proofs.Views.{offsets-view, given-view, given-refusal}
+use Rattle.bench_engine.proofs.Views.{offsets-view}
 
 -- an array that is shown is a part of itself
 pub lies-whole : (s : State) (a : Array) (r : ArrayRef) → Shows s a r → LiesIn s a a r.layout.now

@@ -4,7 +4,7 @@ use Rattle.elem_descr.specs.declared.refusal.Refusal.{Refusal}
 use Rattle.script_lang.specs.declared.command.Command.{Command}
 use Rattle.name_store.specs.States.{State}
 use Rattle.npy_files.specs.Stores.{Shelf}
-use Rattle.bench_engine.specs.Machine.{Choice, outcome, settled, may_lack_memory}
+use Rattle.bench_engine.specs.Machine.{outcome, settled, may_lack_memory}
 use Rattle.bench_engine.specs.Meanings.{StateCase}
 use Rattle.bench_engine.specs.Worlds.{world}
 use Rattle.bench_engine.specs.inside.Contract.{CarriesOut, Carried}

@@ -1,5 +1,5 @@
 -- Arrays that are copied.
-use Rattle.std.proofs.Common.{◌≡◌, ◌⊎◌, ◌≤◌, ◌*◌, ℕ, nat_le, Bool, true, false, List, ◌++◌, map, refl, sym, ap, ◌∙◌, subst, if◌then◌else◌, Some, Result, Ok, Err, IfOk, IfErr, None, inl, inr, arith}
+use Rattle.std.proofs.Common.{◌≡◌, ◌⊎◌, ◌≤◌, ◌*◌, ℕ, nat_le, true, false, List, map, refl, sym, ap, ◌∙◌, subst, if◌then◌else◌, Some, Result, Ok, Err, IfOk, IfErr, None, inl, inr, arith}
 use Rattle.std.proofs.lemmas.Bool.{le-leb}
 use Rattle.elem_descr.specs.declared.refusal.Refusal.{Refusal}
 use Rattle.elem_descr.specs.declared.refusal.Refusal.TheVariants.{OutOfMemory, TooLarge, UnknownName, TooManyNames}

@@ -1,11 +1,11 @@
 -- A name bound to a new array.
-use Rattle.std.proofs.Common.{subst, IsTrue, ◌≡◌, ◌*◌, ◌<◌, ℕ, Bool, true, false, List, [], ◌∷◌, ◌++◌, length, map, refl, sym, ap, ◌∙◌, Result, Ok, Err, ◌⊎◌, inl, inr, take, arith}
+use Rattle.std.proofs.Common.{subst, IsTrue, ◌≡◌, ℕ, Bool, true, false, List, ◌++◌, length, refl, sym, ap, ◌∙◌, Result, Ok, Err, ◌⊎◌, inl, inr, take}
 use Rattle.std.specs.Io.{StartsWith}
 use Rattle.std.proofs.Math.Seq.{take-append_seam}
 use Rattle.elem_descr.specs.declared.refusal.Refusal.{Refusal}
 use Rattle.elem_descr.specs.declared.refusal.Refusal.TheVariants.{OutOfMemory, TooManyNames}
 use Rattle.overlap_copy.specs.declared.owned.Owned.{Owned}
-use Rattle.name_store.specs.States.{State, Array}
+use Rattle.name_store.specs.States.{State}
 use Rattle.name_store.specs.Arrays.{has_room_for, bound_to}
 use Rattle.name_store.specs.Calls.{AnswersBind}
 use Rattle.name_store.specs.declared.bound.Bound.TheVariants.{Fresh}

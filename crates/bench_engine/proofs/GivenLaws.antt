@@ -1,6 +1,5 @@
 -- Items that are to be written: stretched into a shape, and cast.
-use Rattle.std.proofs.Common.{◌≡◌, ◌⊎◌, ◌<◌, ◌≤◌, ◌+◌, ◌*◌, ℕ, zero, suc, Bool, true, false, nat_le, if◌then◌else◌, List, [], ◌∷◌, length, map, get_or, slice_index, unwrap_or, Option, Some, refl, sym, ap, ◌∙◌, subst, All, Bor, Result, Ok, Err, IfOk, inl, inr, arith}
-use Rattle.std.specs.List.{list_all}
+use Rattle.std.proofs.Common.{◌≡◌, ◌<◌, ◌≤◌, ◌+◌, ◌*◌, ℕ, zero, suc, Bool, true, false, nat_le, if◌then◌else◌, List, [], ◌∷◌, length, map, get_or, slice_index, unwrap_or, Some, refl, sym, ap, ◌∙◌, subst, All, Bor, Result, Ok, Err, inl, inr, arith}
 use Rattle.std.proofs.lemmas.Bool.{le-leb}
 use Rattle.std.proofs.lemmas.List.{get_or-map}
 use Rattle.std.proofs.lemmas.List.Elements.{All-map}
@@ -15,12 +14,11 @@ use Rattle.elementwise.specs.Casts.{can_cast, cast_item}
 use Rattle.shape_strides.specs.declared.index_item.IndexItem.{IndexItem}
 use Rattle.shape_strides.specs.declared.index_item.IndexItem.TheVariants.{Ellipsis}
 use Rattle.shape_strides.specs.declared.layout.Layout.{Layout}
-use Rattle.shape_strides.specs.IndexItems.{is_basic}
 use Rattle.shape_strides.specs.Indexes.{count, indexes, rank}
 use Rattle.shape_strides.specs.LayoutLaws.{length-offsets}
 use Rattle.shape_strides.specs.Layouts.{offsets}
 use Rattle.shape_strides.specs.Limits.{max_bytes}
-use Rattle.view_ops.specs.Views.{View, view_through, IsViewOf, GivesView}
+use Rattle.view_ops.specs.Views.{View, IsViewOf, GivesView}
 use Rattle.broadcasting.specs.Broadcasts.{stretched_into}
 use Rattle.overlap_copy.specs.declared.owned.Owned.{Owned}
 use Rattle.overlap_copy.specs.Blocks.{places_of}
@@ -38,8 +36,7 @@ use Rattle.bench_engine.specs.Machine.{viewed, source_part, argument_items, cast
 use Rattle.bench_engine.specs.declared.given.Given.{Given}
 use Rattle.bench_engine.specs.declared.given.Given.TheVariants as given
 use Rattle.bench_engine.specs.declared.taken.Taken.{Taken}
-use Rattle.bench_engine.specs.declared.taken.Taken.TheVariants as took
-use Rattle.bench_engine.specs.inside.Assigns.{Holds, IsTaken, GivesTaken, LiesIn, Stretches, Fitted, cast_from, AreFor, given_items, GivesItems}
+use Rattle.bench_engine.specs.inside.Assigns.{Holds, IsTaken, GivesTaken, LiesIn, Stretches, Fitted, cast_from, GivesItems}
 use Rattle.bench_engine.proofs.Assigns.{lies-whole, lies-viewed, stretched-shape}
 use Rattle.bench_engine.proofs.Sets.{read-part}
 use Rattle.bench_engine.proofs.Views.{given-view}

@@ -1,6 +1,6 @@
 -- Index lists whose names stand for arrays.
-use Rattle.std.proofs.Common.{◌≡◌, ◌⊎◌, ◌<◌, ◌≤◌, ◌+◌, ◌*◌, ◌&&◌, ℕ, zero, suc, Bool, true, false, nat_le, List, [], ◌∷◌, ◌++◌, length, map, take, drop, get_or, slice_index, Option, Some, None, refl, sym, ap, ◌∙◌, subst, All, Bor, Result, Ok, Err, IfOk, inl, inr, arith}
-use Rattle.std.specs.List.{Contains, list_all, flat_map}
+use Rattle.std.proofs.Common.{◌≡◌, ◌⊎◌, ◌<◌, ◌≤◌, ◌+◌, ◌*◌, ◌&&◌, ℕ, zero, suc, Bool, true, false, nat_le, List, [], ◌∷◌, ◌++◌, length, map, take, get_or, slice_index, Some, refl, sym, ap, ◌∙◌, subst, All, Result, Ok, Err, inl, inr, arith}
+use Rattle.std.specs.List.{Contains, list_all}
 use Rattle.std.proofs.lemmas.Bool.{le-leb, lt-leb, and_parts}
 use Rattle.std.proofs.lemmas.List.{take_more}
 use Rattle.std.proofs.lemmas.List.Elements.{All-map, All-append, Contains-get_or}
@@ -13,7 +13,7 @@ use Rattle.elem_descr.specs.Items.{item_size}
 use Rattle.shape_strides.specs.declared.index_item.IndexItem.{IndexItem}
 use Rattle.shape_strides.specs.declared.index_item.IndexItem.TheVariants.{Integer, Slice, Ellipsis, NewAxis, Array as ArrayItem}
 use Rattle.shape_strides.specs.declared.layout.Layout.{Layout}
-use Rattle.shape_strides.specs.Indexes.{count, indexes, rank, IsIndex}
+use Rattle.shape_strides.specs.Indexes.{count, indexes, rank}
 use Rattle.shape_strides.specs.IndexLaws.{length-indexes, rank-lt, get_or-indexes, index_at}
 use Rattle.shape_strides.specs.LayoutLaws.{length-offsets}
 use Rattle.shape_strides.specs.Layouts.{offsets}
@@ -25,7 +25,7 @@ use Rattle.fancy_index.specs.Plans.{Planned, IsPlanOf, GivesPlan}
 use Rattle.fancy_index.specs.Sources.{array_of, first_number, LiesInBlock, IsNamed}
 use Rattle.fancy_index.specs.declared.source.Indices.{Indices}
 use Rattle.name_store.specs.States.{State, Array}
-use Rattle.name_store.specs.Arrays.{find_array, is_bound, buffer_of, descr_of, addresses, read}
+use Rattle.name_store.specs.Arrays.{is_bound, buffer_of, descr_of, addresses, read}
 use Rattle.name_store.specs.Parts.{start_at}
 use Rattle.name_store.specs.Shown.{Shows}
 use Rattle.name_store.specs.declared.array_ref.ArrayRef.{ArrayRef}

@@ -1,9 +1,8 @@
 -- Shapes within the limits, and items stretched to their own shape.
-use Rattle.std.proofs.Common.{◌≡◌, ◌≤◌, ◌<◌, ℕ, zero, suc, nat_le, ◌&&◌, Bool, true, false, List, [], ◌∷◌, length, map, replicate, get_or, All, IfOk, Result, Ok, Err, refl, sym, ap, ◌∙◌, arith}
+use Rattle.std.proofs.Common.{◌≡◌, ◌≤◌, ℕ, zero, suc, nat_le, ◌&&◌, true, List, [], ◌∷◌, length, get_or, All, Result, Ok, Err, refl, sym, ap, ◌∙◌, arith}
 use Rattle.std.specs.List.{list_all}
 use Rattle.std.specs.Result.{is_ok}
 use Rattle.std.proofs.lemmas.Bool.{false≢true, le-leb}
-use Rattle.std.proofs.lemmas.List.{length-map}
 use Rattle.elem_descr.specs.declared.refusal.Refusal.{Refusal}
 use Rattle.elem_descr.specs.Refusals.{◌>>=◌}
 use Rattle.shape_strides.specs.declared.layout.Layout.{Layout}
@@ -16,7 +15,7 @@ use Rattle.shape_strides.specs.LayoutLaws.{get_or-offsets}
 use Rattle.shape_strides.specs.Shapes.{shape_of}
 use Rattle.shape_strides.specs.ShapeLaws.{shape_of-ok}
 use Rattle.view_ops.specs.Views.{view_through}
-use Rattle.broadcasting.specs.Broadcasts.{can_stretch, common_shape, common_with, broadcast_index}
+use Rattle.broadcasting.specs.Broadcasts.{can_stretch, common_shape, broadcast_index}
 use Rattle.broadcasting.specs.BroadcastLaws.{broadcast_index-itself}
 use Rattle.bench_engine.proofs.StretchLaws.{common-lengths}
 

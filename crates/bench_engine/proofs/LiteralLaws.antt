@@ -1,5 +1,5 @@
 -- Literals as operands.
-use Rattle.std.proofs.Common.{◌≡◌, ◌⊎◌, ℕ, zero, suc, ℤ, pos, Bool, true, false, not, List, [], ◌∷◌, length, map, replicate, IsTrue, IfOk, Result, Ok, Err, refl, sym, ap, ◌∙◌, subst, inl, inr, arith}
+use Rattle.std.proofs.Common.{◌≡◌, ◌⊎◌, ℕ, zero, suc, ℤ, Bool, true, false, not, List, [], ◌∷◌, length, map, replicate, IfOk, Result, Ok, Err, refl, sym, ap, ◌∙◌, subst, inl, inr, arith}
 use Rattle.std.specs.Result.{is_ok}
 use Rattle.std.proofs.lemmas.Bool.{false≢true}
 use Rattle.std.proofs.lemmas.List.{length-map}
@@ -22,7 +22,7 @@ use Rattle.shape_strides.specs.LayoutLaws.{length-offsets}
 use Rattle.broadcasting.specs.Broadcasts.{can_stretch, common_shape}
 use Rattle.broadcasting.specs.BroadcastLaws.{can-itself}
 use Rattle.elementwise.specs.Promotion.{is_text, compared_type, promote}
-use Rattle.elementwise.specs.Results.{scalar_of, integer_compared_result, bytes_compared_result, compared_item, pairwise, stretched_items}
+use Rattle.elementwise.specs.Results.{scalar_of, integer_compared_result, bytes_compared_result, compared_item, pairwise}
 use Rattle.elementwise.specs.declared.operands.Items.{Items}
 use Rattle.overlap_copy.specs.declared.owned.Owned.{Owned}
 use Rattle.overlap_copy.specs.Blocks.{offsets_in}
@@ -35,8 +35,8 @@ use Rattle.script_lang.specs.declared.literal.ScalarLiteral.{ScalarLiteral}
 use Rattle.script_lang.specs.declared.literal.ScalarLiteral.TheVariants.{Integer, Boolean, Bytes}
 use Rattle.script_lang.specs.declared.literal.Literal.{Literal}
 use Rattle.script_lang.specs.declared.literal.Literal.TheVariants as literal
-use Rattle.bench_engine.specs.Contents.{Contents, made}
-use Rattle.bench_engine.specs.Machine.{Values, one_item, literal_value, literal_scalar, worked_literal, compared_literal, literal_values, result_scalar, worked, worked_with}
+use Rattle.bench_engine.specs.Contents.{Contents}
+use Rattle.bench_engine.specs.Machine.{Values, one_item, literal_value, literal_scalar, worked_literal, compared_literal, literal_values, result_scalar, worked_with}
 use Rattle.bench_engine.specs.inside.Operands.{Stands, OwnStands, GivesStanding}
 use Rattle.bench_engine.specs.inside.OwnContents.{held, IsInCOrder}
 use Rattle.bench_engine.proofs.Copies.{made-held}

@@ -1,7 +1,6 @@
 -- Operands: parts of arrays, and single items.
-use Rattle.std.proofs.Common.{◌≡◌, ◌+◌, ◌≤◌, ◌⊎◌, ℕ, Bool, true, false, List, [], ◌∷◌, length, map, replicate, All, IsTrue, Result, Ok, Err, refl, sym, ap, ◌∙◌, subst, inl, inr}
+use Rattle.std.proofs.Common.{◌≡◌, ◌+◌, ◌≤◌, ℕ, List, [], ◌∷◌, length, map, All, sym, ap, ◌∙◌, subst}
 use Rattle.elem_descr.specs.declared.descr.Descr.{Descr}
-use Rattle.elem_descr.specs.declared.refusal.Refusal.{Refusal}
 use Rattle.elem_descr.specs.Blocks.{item_from}
 use Rattle.elem_descr.specs.Items.{item_size}
 use Rattle.elem_descr.specs.Values.{LeafValue}
@@ -15,13 +14,13 @@ use Rattle.elementwise.specs.Results.{stretched_items}
 use Rattle.elementwise.specs.declared.operands.Items.{Items}
 use Rattle.overlap_copy.specs.declared.owned.Owned.{Owned}
 use Rattle.name_store.specs.States.{State, Array}
-use Rattle.name_store.specs.Arrays.{buffer_of, descr_of, read, span_of, placed_item}
+use Rattle.name_store.specs.Arrays.{buffer_of, span_of, placed_item}
 use Rattle.name_store.specs.Parts.{part_at}
 use Rattle.name_store.specs.Shown.{Shows}
 use Rattle.name_store.specs.declared.array_ref.ArrayRef.{ArrayRef}
 use Rattle.bench_engine.specs.Machine.{Values, values_of, one_item, viewed}
 use Rattle.bench_engine.specs.inside.Assigns.{Holds}
-use Rattle.bench_engine.specs.inside.Operands.{LieInside, StandsFor, Stands, OwnStands}
+use Rattle.bench_engine.specs.inside.Operands.{StandsFor, Stands, OwnStands}
 use Rattle.bench_engine.proofs.Assigns.{lies-whole, lies-viewed}
 use Rattle.bench_engine.proofs.GivenLaws.{all-viewed}
 use Rattle.bench_engine.proofs.Sets.{read-part}

@@ -1,21 +1,14 @@
 -- What the commands over views come to.
-use Rattle.std.proofs.Common.{◌≡◌, ℕ, true, false, ◌&&◌, is_some, inl, inr, List, ◌++◌, refl, sym, ap, ◌∙◌, codes, decimal, replicate, Option, Some, None, Ok, Err}
+use Rattle.std.proofs.Common.{◌≡◌, ℕ, true, false, ◌&&◌, is_some, inl, inr, List, refl, sym, ap, ◌∙◌, Option, Some, None, Ok, Err}
 use Rattle.std.specs.List.{list_all}
 use Rattle.elem_descr.specs.declared.refusal.Refusal.{Refusal}
-use Rattle.elem_descr.specs.declared.refusal.Refusal.TheVariants.{Syntax, UnknownName, TooManyNames, ReadOnly}
-use Rattle.elem_descr.specs.Values.{LeafValue}
-use Rattle.shape_strides.specs.declared.index_item.IndexItem.{IndexItem}
-use Rattle.shape_strides.specs.Indexes.{count}
-use Rattle.view_ops.specs.Views.{View}
-use Rattle.view_ops.specs.Basics.{basic}
-use Rattle.script_lang.specs.declared.literal.Literal.{Literal}
+use Rattle.elem_descr.specs.declared.refusal.Refusal.TheVariants.{UnknownName, TooManyNames}
 use Rattle.script_lang.specs.declared.command.Viewing.{Viewing}
-use Rattle.literal_items.specs.LiteralItems.{item_value}
 use Rattle.name_store.specs.States.{State, Array}
-use Rattle.name_store.specs.Arrays.{find_array, is_bound, has_room_for, descr_of, addresses, written, share_cells}
+use Rattle.name_store.specs.Arrays.{find_array, is_bound, has_room_for, descr_of, addresses, share_cells}
 use Rattle.name_store.specs.Calls.{AnswersShares}
 use Rattle.bench_engine.specs.inside.Contract.{IsRefused}
-use Rattle.bench_engine.specs.Machine.{Choice, ViewOrCopy, viewed, seen, names_in_viewing, view_outcome, bound_seen, info_outcome, shares_outcome, comes_to}
+use Rattle.bench_engine.specs.Machine.{Choice, ViewOrCopy, seen, names_in_viewing, view_outcome, bound_seen, info_outcome, shares_outcome, comes_to}
 use Rattle.bench_engine.specs.Replies.{info_text, shares_text}
 
 -- X = Y, seen in some way

@@ -1,5 +1,5 @@
 -- What an index list shows of an array.
-use Rattle.std.proofs.Common.{◌≡◌, ◌⊎◌, Bool, true, false, ℕ, List, refl, sym, ap, ◌∙◌, subst, if◌then◌else◌, Result, Ok, Err, inl, inr}
+use Rattle.std.proofs.Common.{◌≡◌, ◌⊎◌, true, false, ℕ, List, refl, sym, ap, ◌∙◌, subst, Ok, Err, inl, inr}
 use Rattle.std.specs.List.{list_all}
 use Rattle.elem_descr.specs.declared.refusal.Refusal.{Refusal}
 use Rattle.elem_descr.specs.declared.refusal.Refusal.TheVariants.{OutOfMemory}
@@ -17,12 +17,11 @@ use Rattle.name_store.specs.Shown.{Shows}
 use Rattle.name_store.specs.declared.array_ref.ArrayRef.{ArrayRef}
 use Rattle.bench_engine.specs.Contents.{made}
 use Rattle.bench_engine.specs.IndexLists.{taken}
-use Rattle.bench_engine.specs.Machine.{ViewOrCopy, a_view, a_copy, viewed, part_seen}
+use Rattle.bench_engine.specs.Machine.{a_view, a_copy, viewed, part_seen}
 use Rattle.bench_engine.specs.declared.part.Part.{Part}
 use Rattle.bench_engine.specs.declared.part.PartOrCopy.TheVariants as shown
-use Rattle.bench_engine.specs.declared.taken.Taken.{Taken}
 use Rattle.bench_engine.specs.declared.taken.Taken.TheVariants as took
-use Rattle.bench_engine.specs.inside.Assigns.{Holds, IsTaken, GivesTaken}
+use Rattle.bench_engine.specs.inside.Assigns.{Holds, GivesTaken}
 use Rattle.bench_engine.specs.inside.OwnContents.{held}
 use Rattle.bench_engine.specs.inside.Parts.{GivesSeen}
 use Rattle.bench_engine.proofs.Copies.{made-held}

@@ -1,24 +1,23 @@
 -- What a reduction makes of an array.
-use Rattle.std.proofs.Common.{◌≡◌, ◌⊎◌, ◌<◌, ◌≤◌, ◌+◌, ◌&&◌, ℕ, ℤ, pos, zero, suc, Bool, true, false, not, Option, Some, None, List, [], ◌∷◌, length, map, get_or, slice_index, IfOk, Result, Ok, Err, refl, sym, ap, ◌∙◌, subst, inl, inr, arith}
+use Rattle.std.proofs.Common.{◌≡◌, ◌<◌, ◌≤◌, ◌+◌, ◌&&◌, ℕ, ℤ, pos, zero, suc, Bool, true, false, not, Option, Some, None, List, [], ◌∷◌, length, map, get_or, slice_index, IfOk, Result, Ok, Err, refl, sym, ap, ◌∙◌, inl, inr, arith}
 use Rattle.std.specs.List.{insert, remove, range_with_len}
 use Rattle.std.specs.Result.{is_ok}
 use Rattle.std.specs.Prelude.{int_lt, negsuc}
 use Rattle.std.proofs.lemmas.Bool.{false≢true, ltb-true, and_parts}
-use Rattle.std.proofs.lemmas.List.{length-map, get_or-map, same_lists}
+use Rattle.std.proofs.lemmas.List.{length-map, get_or-map}
 use Rattle.elem_descr.specs.declared.refusal.Refusal.{Refusal}
-use Rattle.elem_descr.specs.declared.refusal.Refusal.TheVariants.{OutOfMemory, BadAxis}
+use Rattle.elem_descr.specs.declared.refusal.Refusal.TheVariants.{BadAxis}
 use Rattle.elem_descr.specs.declared.descr.Descr.{Descr}
 use Rattle.elem_descr.specs.Refusals.{Gives, ◌>>=◌, check}
-use Rattle.elem_descr.specs.RefusalLaws.{check_passed}
 use Rattle.elem_descr.specs.Blocks.{item_from}
 use Rattle.elem_descr.specs.Values.{LeafValue}
 use Rattle.shape_strides.specs.declared.memory_order.MemoryOrder.TheVariants.{C}
 use Rattle.shape_strides.specs.Addresses.{natural}
 use Rattle.shape_strides.specs.Indexes.{count, indexes, rank, IsIndex}
-use Rattle.shape_strides.specs.IndexLaws.{length-indexes, index_at, get_or-indexes, rank-lt}
+use Rattle.shape_strides.specs.IndexLaws.{rank-lt}
 use Rattle.shape_strides.specs.LayoutLaws.{length-offsets}
 use Rattle.shape_strides.specs.Layouts.{offsets}
-use Rattle.view_ops.specs.Slices.{from_front, is_place}
+use Rattle.view_ops.specs.Slices.{from_front}
 use Rattle.overlap_copy.specs.declared.owned.Owned.{Owned}
 use Rattle.script_lang.specs.declared.operation.Reduction.{Reduction}
 use Rattle.reductions.specs.Lists.{lists, named_axis, is_axis}

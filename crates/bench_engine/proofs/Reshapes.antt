@@ -1,17 +1,16 @@
 -- An array under another shape: its items where they stand, or a copy of them.
-use Rattle.std.proofs.Common.{◌≡◌, ◌↔◌, ◌⊎◌, ◌≤◌, ◌+◌, ◌*◌, ℕ, zero, suc, nat_le, Bool, true, false, ℤ, List, [], ◌∷◌, map, take, drop, refl, sym, ap, ◌∙◌, subst, Bor, if◌then◌else◌, Result, Ok, Err, IsTrue, inl, inr, arith}
-use Rattle.std.specs.List.{range_with_len}
+use Rattle.std.proofs.Common.{◌≡◌, ◌↔◌, ◌⊎◌, ◌≤◌, ◌+◌, ◌*◌, ℕ, nat_le, Bool, true, false, ℤ, List, map, refl, sym, ap, ◌∙◌, subst, Bor, if◌then◌else◌, Result, Ok, Err, IsTrue, inl, inr}
 use Rattle.std.proofs.lemmas.Bool.{false≢true, le-leb}
 use Rattle.elem_descr.specs.declared.refusal.Refusal.{Refusal}
 use Rattle.elem_descr.specs.declared.refusal.Refusal.TheVariants.{OutOfMemory, TooLarge}
 use Rattle.elem_descr.specs.declared.descr.Descr.{Descr}
-use Rattle.elem_descr.specs.Items.{item_size, decode_item}
-use Rattle.elem_descr.specs.Blocks.{blocks, items_in, item_from}
+use Rattle.elem_descr.specs.Items.{item_size}
+use Rattle.elem_descr.specs.Blocks.{items_in, item_from}
 use Rattle.shape_strides.specs.declared.layout.Layout.{Layout}
 use Rattle.shape_strides.specs.declared.memory_order.MemoryOrder.TheVariants.{C}
 use Rattle.shape_strides.specs.Limits.{max_bytes}
 use Rattle.shape_strides.specs.Indexes.{count}
-use Rattle.shape_strides.specs.Layouts.{offsets, multiples, IsNested}
+use Rattle.shape_strides.specs.Layouts.{offsets, IsNested}
 use Rattle.reshape_rule.specs.Targets.{target_of}
 use Rattle.reshape_rule.specs.Reshapes.{is_affine, IsReshapeOf}
 use Rattle.overlap_copy.specs.declared.owned.Owned.{Owned}

@@ -1,9 +1,9 @@
 -- The exits of `set X[ix] = Z` and `upd X[ix] OP Z`.
-use Rattle.std.proofs.Common.{◌≡◌, ◌⊎◌, ◌++◌, ◌∷◌, ◌&&◌, ℕ, Bool, true, false, List, Option, Some, None, refl, sym, ap, ◌∙◌, Result, Ok, Err, inl, inr}
+use Rattle.std.proofs.Common.{◌≡◌, ◌++◌, ◌∷◌, ◌&&◌, ℕ, Bool, true, false, List, Option, Some, None, refl, ◌∙◌, Result, Ok, Err}
 use Rattle.std.specs.List.{list_all}
 use Rattle.std.proofs.lemmas.List.Folds.{list_all-append}
 use Rattle.elem_descr.specs.declared.refusal.Refusal.{Refusal}
-use Rattle.elem_descr.specs.declared.refusal.Refusal.TheVariants.{UnknownName, OutOfMemory}
+use Rattle.elem_descr.specs.declared.refusal.Refusal.TheVariants.{UnknownName}
 use Rattle.elem_descr.specs.declared.descr.Descr.{Descr}
 use Rattle.elem_descr.specs.Values.{LeafValue}
 use Rattle.shape_strides.specs.declared.index_item.IndexItem.{IndexItem}

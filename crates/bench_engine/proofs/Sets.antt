@@ -1,39 +1,23 @@
 -- What is read of a part of an array, and how much of it is written.
-use Rattle.std.proofs.Common.{◌≡◌, ◌⊎◌, ◌<◌, ◌≤◌, ◌+◌, ◌*◌, ◌&&◌, ℕ, zero, suc, Bool, true, false, List, [], ◌∷◌, ◌++◌, length, map, replicate, Option, Some, None, codes, decimal, refl, sym, ap, ◌∙◌, subst, All, Bor, get_or, Result, Ok, Err, inl, inr, arith}
-use Rattle.std.specs.List.{Contains, list_all}
+use Rattle.std.proofs.Common.{◌≡◌, ◌≤◌, ◌+◌, ◌*◌, ℕ, zero, suc, List, [], ◌∷◌, length, map, refl, sym, ap, ◌∙◌, subst, All, get_or, arith}
+use Rattle.std.specs.List.{Contains}
 use Rattle.std.proofs.lemmas.Simd.{map-map}
 use Rattle.std.proofs.lemmas.List.{get_or-map}
 use Rattle.std.proofs.lemmas.List.Elements.{All-contains}
-use Rattle.elem_descr.specs.declared.refusal.Refusal.{Refusal}
-use Rattle.elem_descr.specs.declared.refusal.Refusal.TheVariants.{Syntax, UnknownName, NoSuchCast, OutOfMemory}
 use Rattle.elem_descr.specs.declared.descr.Descr.{Descr}
-use Rattle.elem_descr.specs.Items.{item_size, leaves_of, AreAlike}
+use Rattle.elem_descr.specs.Items.{item_size}
 use Rattle.elem_descr.specs.Blocks.{item_from}
-use Rattle.elem_descr.specs.Values.{LeafValue}
-use Rattle.elementwise.specs.Casts.{can_cast, cast_item}
-use Rattle.shape_strides.specs.declared.index_item.IndexItem.{IndexItem}
 use Rattle.shape_strides.specs.declared.layout.Layout.{Layout}
-use Rattle.shape_strides.specs.IndexItems.{is_basic}
 use Rattle.shape_strides.specs.Indexes.{count}
 use Rattle.shape_strides.specs.Limits.{max_bytes}
 use Rattle.shape_strides.specs.Layouts.{offsets, IsNested}
 use Rattle.shape_strides.specs.LayoutLaws.{length-offsets, offsets_within}
-use Rattle.overlap_copy.specs.declared.owned.Owned.{Owned}
-use Rattle.overlap_copy.specs.Blocks.{places_of}
-use Rattle.script_lang.specs.declared.literal.Literal.{Literal}
-use Rattle.script_lang.specs.declared.command.Operand.{Operand}
-use Rattle.script_lang.specs.declared.command.Argument.{Argument}
-use Rattle.script_lang.specs.declared.command.Argument.TheVariants as argument
-use Rattle.literal_items.specs.LiteralItems.{item_value}
 use Rattle.name_store.specs.States.{State, Array}
-use Rattle.name_store.specs.Arrays.{find_array, is_bound, buffer_of, descr_of, addresses, read, written}
+use Rattle.name_store.specs.Arrays.{buffer_of, descr_of, read}
 use Rattle.name_store.specs.Parts.{start_at, part_at}
 use Rattle.name_store.specs.Arrays.{span_of, placed_item}
 use Rattle.name_store.specs.Places.{offsets_of}
 use Rattle.name_store.specs.Shown.{Shows}
-use Rattle.name_store.specs.ArrayLaws.{places-offsets}
-use Rattle.name_store.specs.Targets.{LeadsTo, MayWrite, FitsBuffer, ReadsFrom, HasItems, items_of}
-use Rattle.name_store.specs.declared.target.Target.TheVariants as target
 use Rattle.name_store.specs.declared.array_ref.ArrayRef.{ArrayRef}
 use Rattle.bench_engine.specs.inside.Assigns.{LiesIn}
 use Rattle.bench_engine.proofs.Nested.{nested-fits}

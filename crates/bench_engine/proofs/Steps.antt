@@ -9,7 +9,7 @@ use Rattle.elem_descr.specs.declared.refusal.Refusal.{Refusal}
 use Rattle.elem_descr.specs.declared.refusal.Refusal.TheVariants.{LineTooLong, OutOfMemory}
 use Rattle.script_lang.specs.declared.command.Command.{Command}
 use Rattle.script_lang.specs.Lines.{Line, silent, bad_byte, misspelt, asks}
-use Rattle.script_lang.specs.Reading.{needs_room, MayLackRoom, Says}
+use Rattle.script_lang.specs.Reading.{MayLackRoom, Says}
 use Rattle.name_store.specs.States.{State, Array, Buffer}
 use Rattle.bench_engine.specs.Replies.{Reply, refusal}
 use Rattle.bench_engine.specs.Machine.{Choice, IsAllowed, outcome, settled, may_lack_memory}

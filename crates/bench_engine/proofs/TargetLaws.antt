@@ -1,5 +1,5 @@
 -- What an index list takes of an array, to be read or to be written.
-use Rattle.std.proofs.Common.{Some, get_or, slice_index, ◌≡◌, ◌⊎◌, ◌≤◌, ◌+◌, ◌*◌, ℕ, Bool, true, false, List, length, map, refl, sym, ap, ◌∙◌, subst, All, Result, Ok, Err, IfOk, inl, inr, arith}
+use Rattle.std.proofs.Common.{Some, get_or, slice_index, ◌≡◌, ◌⊎◌, ◌≤◌, ◌+◌, ◌*◌, ℕ, true, false, List, length, map, refl, sym, ap, ◌∙◌, subst, All, Result, Ok, Err, IfOk, inl, inr}
 use Rattle.std.specs.List.{list_all}
 use Rattle.std.proofs.lemmas.List.Elements.{All-map}
 use Rattle.std.proofs.lemmas.Simd.{map-map}
@@ -24,20 +24,20 @@ use Rattle.overlap_copy.specs.declared.owned.Owned.{Owned}
 use Rattle.overlap_copy.specs.Assignments.{items_at}
 use Rattle.fancy_index.specs.Plans.{Planned, IsPlanOf, GivesPlan}
 use Rattle.name_store.specs.States.{State, Array}
-use Rattle.name_store.specs.Arrays.{find_array, buffer_of, descr_of, read}
+use Rattle.name_store.specs.Arrays.{find_array, descr_of, read}
 use Rattle.name_store.specs.Shown.{Shows}
-use Rattle.name_store.specs.Targets.{LeadsTo, MayWrite, target_offsets, target_shape}
+use Rattle.name_store.specs.Targets.{MayWrite, target_offsets}
 use Rattle.name_store.specs.declared.array_ref.ArrayRef.{ArrayRef}
 use Rattle.name_store.specs.declared.target.Target.{Target}
 use Rattle.name_store.specs.declared.target.Target.TheVariants as target
 use Rattle.bench_engine.specs.IndexLists.{taken, gathered}
 use Rattle.bench_engine.specs.Machine.{viewed, target_part}
 use Rattle.bench_engine.specs.declared.taken.Taken.TheVariants as took
-use Rattle.bench_engine.specs.inside.Assigns.{Holds, GivesTaken, LiesIn, LiesApart, IsAimed, GivesAim, IsTarget, GivesTarget}
+use Rattle.bench_engine.specs.inside.Assigns.{GivesTaken, LiesIn, IsAimed, GivesAim, GivesTarget}
 use Rattle.bench_engine.specs.inside.OwnContents.{IsInCOrder}
 use Rattle.bench_engine.proofs.Assigns.{lies-whole, lies-viewed}
 use Rattle.bench_engine.proofs.IndexLaws.{given-plan, given-no_plan, plan-counted, plan-inside, plan-addresses, plan-among}
-use Rattle.bench_engine.proofs.Sets.{items-at, part-inside, target-few}
+use Rattle.bench_engine.proofs.Sets.{items-at, target-few}
 use Rattle.bench_engine.proofs.Views.{given-view, given-refusal}
 
 -- the items of a block are decoded from their bytes

@@ -1,5 +1,5 @@
 -- Items that are changed by an operation.
-use Rattle.std.proofs.Common.{◌≡◌, ◌⊎◌, ◌≤◌, ◌*◌, ◌&&◌, ◌||◌, ℕ, Bool, true, false, not, nat_le, if◌then◌else◌, IfErr, List, [], ◌∷◌, length, map, All, IfOk, Result, Ok, Err, refl, sym, ap, ◌∙◌, subst, inl, inr, arith}
+use Rattle.std.proofs.Common.{◌≡◌, ◌≤◌, ◌*◌, ℕ, true, nat_le, if◌then◌else◌, IfErr, List, [], ◌∷◌, map, IfOk, Result, Ok, Err, refl, sym, ap, ◌∙◌, subst, inl}
 use Rattle.std.specs.Result.{is_ok}
 use Rattle.std.proofs.lemmas.Bool.{false≢true}
 use Rattle.elem_descr.specs.declared.refusal.Refusal.{Refusal}
@@ -8,14 +8,14 @@ use Rattle.elem_descr.specs.declared.descr.Descr.{Descr}
 use Rattle.elem_descr.specs.declared.descr.Descr.TheVariants.{Scalar as ScalarDescr}
 use Rattle.elem_descr.specs.declared.scalar.Scalar.{Scalar}
 use Rattle.elem_descr.specs.declared.scalar.Scalar.TheVariants.{Bool as BoolScalar, Byte, Int, Bytes}
-use Rattle.elem_descr.specs.Refusals.{Gives, ◌>>=◌}
+use Rattle.elem_descr.specs.Refusals.{◌>>=◌}
 use Rattle.elem_descr.specs.RefusalLaws.{same_answer}
-use Rattle.elem_descr.specs.Blocks.{item_from, items_in}
+use Rattle.elem_descr.specs.Blocks.{item_from}
 use Rattle.elem_descr.specs.Items.{item_size, leaves_of}
 use Rattle.elem_descr.specs.Values.{LeafValue}
 use Rattle.shape_strides.specs.Indexes.{count}
 use Rattle.shape_strides.specs.Limits.{max_bytes}
-use Rattle.shape_strides.specs.Layouts.{offsets, multiples}
+use Rattle.shape_strides.specs.Layouts.{offsets}
 use Rattle.view_ops.specs.Views.{View}
 use Rattle.broadcasting.specs.Broadcasts.{broadcast_index, can_stretch, common_shape, stretched}
 use Rattle.elementwise.specs.Casts.{can_cast, cast_item}
@@ -28,7 +28,7 @@ use Rattle.bench_engine.proofs.GivenLaws.{cast-lacks}
 use Rattle.overlap_copy.specs.declared.owned.Owned.{Owned}
 use Rattle.script_lang.specs.declared.literal.Literal.{Literal}
 use Rattle.script_lang.specs.declared.operation.Operation.{Operation}
-use Rattle.bench_engine.specs.Contents.{Contents, made}
+use Rattle.bench_engine.specs.Contents.{Contents}
 use Rattle.bench_engine.specs.Machine.{Values, literal_values, result_scalar, worked, worked_with, changed_by, changed_with}
 use Rattle.bench_engine.specs.inside.Operands.{Stands, GivesChanged}
 use Rattle.bench_engine.specs.inside.OwnContents.{held, IsInCOrder}

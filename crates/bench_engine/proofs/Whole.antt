@@ -5,7 +5,7 @@ use Rattle.bench_engine.specs.declared.session.Summary.{Summary}
 use Rattle.bench_engine.specs.inside.Sessions.{Ended}
 use Rattle.bench_engine.specs.declared.runner.RunFault.{RunFault}
 use Rattle.npy_files.specs.Stores.{Shelf}
-use Rattle.bench_engine.specs.Worlds.{World, world}
+use Rattle.bench_engine.specs.Worlds.{World}
 use Rattle.bench_engine.specs.Held.{Finished, AnswersAll, StoppedWriting, AnswersInPart}
 use Rattle.std.specs.Io.KnownBytes.{Consumes, IsAtEnd}
 use Rattle.bench_engine.specs.Lines.{lines, whole_lines}

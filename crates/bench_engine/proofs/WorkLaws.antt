@@ -1,16 +1,14 @@
 -- What an operation gives on operands.
-use Rattle.std.proofs.Common.{◌≡◌, ◌⊎◌, ◌≤◌, ℕ, nat_le, Bool, true, false, List, [], ◌∷◌, length, map, All, IsTrue, Result, Ok, Err, IfOk, refl, sym, ap, ◌∙◌, subst, inl, inr, arith}
+use Rattle.std.proofs.Common.{◌≡◌, ◌⊎◌, ℕ, true, List, [], ◌∷◌, map, Result, Ok, Err, IfOk, refl, sym, ap, ◌∙◌, subst, inl, inr, arith}
 use Rattle.std.specs.Result.{is_ok}
 use Rattle.std.proofs.lemmas.Bool.{false≢true}
 use Rattle.elem_descr.specs.declared.refusal.Refusal.{Refusal}
-use Rattle.elem_descr.specs.declared.refusal.Refusal.TheVariants.{OutOfMemory}
 use Rattle.elem_descr.specs.declared.descr.Descr.{Descr}
 use Rattle.elem_descr.specs.declared.descr.Descr.TheVariants.{Scalar as ScalarDescr}
 use Rattle.elem_descr.specs.declared.scalar.Scalar.{Scalar}
 use Rattle.elem_descr.specs.Refusals.{Gives, ◌>>=◌}
 use Rattle.elem_descr.specs.Items.{item_size}
 use Rattle.elem_descr.specs.Blocks.{item_from}
-use Rattle.elem_descr.specs.Values.{LeafValue}
 use Rattle.shape_strides.specs.declared.memory_order.MemoryOrder.TheVariants.{C}
 use Rattle.shape_strides.specs.Layouts.{offsets}
 use Rattle.broadcasting.specs.Broadcasts.{can_stretch, common_shape}
@@ -24,8 +22,8 @@ use Rattle.script_lang.specs.declared.operation.BinaryOperation.{BinaryOperation
 use Rattle.script_lang.specs.declared.operation.Comparison.{Comparison}
 use Rattle.script_lang.specs.declared.operation.Operation.{Operation}
 use Rattle.script_lang.specs.declared.operation.Operation.TheVariants.{Binary, Compare}
-use Rattle.bench_engine.specs.Contents.{Contents, made}
-use Rattle.bench_engine.specs.Machine.{Values, result_scalar, worked, worked_item, worked_type}
+use Rattle.bench_engine.specs.Contents.{made}
+use Rattle.bench_engine.specs.Machine.{Values, result_scalar, worked, worked_item}
 use Rattle.bench_engine.specs.inside.Operands.{Stands}
 use Rattle.bench_engine.specs.inside.OwnContents.{held, IsInCOrder}
 use Rattle.bench_engine.proofs.Copies.{made-held}

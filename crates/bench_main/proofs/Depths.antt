@@ -1,5 +1,5 @@
 -- What is read of `undo` is a number from 0 to 64.
-use Rattle.std.proofs.Common.{◌≡◌, ◌≤◌, ◌<◌, ℕ, zero, suc, true, false, List, [], ◌∷◌, ◌++◌, length, Option, Some, None, Ok, Err, Result, refl, sym, ap, subst, ◌∙◌, inl, inr, arith, ◌^◌, codes, slice_index, unwrap_or, ◌||◌}
+use Rattle.std.proofs.Common.{◌≡◌, ◌≤◌, ◌<◌, ℕ, zero, suc, true, false, List, [], ◌∷◌, ◌++◌, length, Option, Some, None, Result, refl, sym, ap, subst, ◌∙◌, inl, inr, arith, codes, slice_index, unwrap_or, ◌||◌}
 use Rattle.std.specs.Prelude.{pos, option_map, option_and_then, slice_get}
 use Rattle.std.specs.List.{All, slice_index_or}
 use Rattle.std.specs.Str.{bytes_eq}
@@ -8,7 +8,7 @@ use Rattle.std.specs.Borrow.{Bor}
 use Rattle.std.proofs.lemmas.List.Elements.{All-get_or, All-nil}
 use Rattle.std.proofs.lemmas.Slice.Eq.{bytes_eq-Decides}
 use Rattle.clap.specs.Words.{Accepts, IsSignedIn, IsParsedFrom, args_of, groups_of, found_of, one_text, matched_of, read_as, reading_of, without_minus, parser_of, ReadsOne}
-use Rattle.clap.specs.Facts.{Entry, EntryPasses, PassesArg, HasReading, ValuesPass, parser_of_value}
+use Rattle.clap.specs.Facts.{Entry, EntryPasses, PassesArg, HasReading, parser_of_value}
 use Rattle.clap.specs.Built.{AddsArg, SameRules, IsAuto, IsPlainArg}
 use Rattle.clap.specs.declared.builder.arg.Arg.{Arg}
 use Rattle.clap.specs.declared.builder.command.Command.{Command}

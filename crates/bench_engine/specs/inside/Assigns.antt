@@ -1,5 +1,5 @@
 -- Items that are written to a name's array, and where they come from.
-use Rattle.std.specs.Prelude.{◌≡◌, ◌≤◌, ◌*◌, ◌⊎◌, ℕ, Bool, true, false, Option, Some, None, List, length, map, replicate, Result, Ok, Err, All}
+use Rattle.std.specs.Prelude.{◌≡◌, ◌≤◌, ◌*◌, ◌⊎◌, ℕ, Bool, true, false, List, length, map, replicate, Result, Ok, Err, All}
 use Rattle.std.specs.List.{Contains}
 use Rattle.elem_descr.specs.declared.refusal.Refusal.{Refusal}
 use Rattle.elem_descr.specs.declared.refusal.Refusal.TheVariants.{OutOfMemory, NoSuchCast}
@@ -17,7 +17,6 @@ use Rattle.elementwise.specs.Casts.{can_cast, cast_item}
 use Rattle.broadcasting.specs.Broadcasts.{stretched_into}
 use Rattle.name_store.specs.States.{State, Array}
 use Rattle.name_store.specs.Arrays.{find_array, addresses, descr_of, read}
-use Rattle.name_store.specs.Shown.{Shows}
 use Rattle.name_store.specs.Targets.{FitsBuffer, HasItems, ReadsFrom, items_of, LeadsTo, MayWrite, target_offsets, target_shape}
 use Rattle.name_store.specs.declared.array_ref.ArrayRef.{ArrayRef}
 use Rattle.name_store.specs.declared.target.Target.{Target}

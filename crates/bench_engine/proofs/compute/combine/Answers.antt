@@ -1,4 +1,4 @@
-use Rattle.std.proofs.Common.{refl, sym, inr, false, true}
+use Rattle.std.proofs.Common.{refl, sym, inr}
 use Rattle.std.proofs.lemmas.Result.{err_from_is_err_and}
 use Rattle.bench_engine.specs.Machine.{combined, names_in_operand, names_in_argument}
 use Rattle.bench_engine.proofs.Computes.{bound-both, computed-unknown, computed-bound, computed-refused}

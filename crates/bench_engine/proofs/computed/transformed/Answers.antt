@@ -1,4 +1,4 @@
-use Rattle.std.proofs.Common.{Ok, ◌∷◌, [], unwrap_or, inl, inr}
+use Rattle.std.proofs.Common.{◌∷◌, [], unwrap_or}
 use Rattle.std.specs.List.{list_all}
 use Rattle.std.proofs.lemmas.Result.{err_from_is_err_and}
 use Rattle.shape_strides.specs.IndexItems.{is_basic}

@@ -1,4 +1,4 @@
-use Rattle.std.proofs.Common.{sym, ap, ◌∙◌, ◌≡◌, refl, inl, inr, map, subst}
+use Rattle.std.proofs.Common.{sym, ap, ◌∙◌, refl, inl, inr, map}
 use Rattle.std.proofs.lemmas.Result.{err_from_is_err_and}
 use Rattle.shape_strides.specs.Layouts.{offsets}
 use Rattle.elem_descr.specs.declared.descr.Descr.{Descr}

@@ -1,4 +1,4 @@
-use Rattle.std.proofs.Common.{inr, ◌∙◌, ◌≡◌, sym, ap, subst, length, ◌≤◌, ◌<◌, ◌*◌, arith}
+use Rattle.std.proofs.Common.{inr, ◌∙◌, subst, length, ◌≤◌, ◌<◌, ◌*◌}
 use Rattle.std.proofs.lemmas.Result.{err_from_is_err_and}
 use Rattle.elem_descr.specs.Items.{item_size}
 use Rattle.fancy_index.specs.Sources.{items_of}

@@ -1,6 +1,5 @@
-use Rattle.std.proofs.Common.{Some}
 use Rattle.std.proofs.lemmas.Result.{err_from_is_err_and}
-use Rattle.bench_engine.specs.Machine.{new_items, updated}
+use Rattle.bench_engine.specs.Machine.{updated}
 use Rattle.bench_engine.proofs.Written.{own-items}
 use Rattle.bench_engine.proofs.set.new_items.Goals as goal
 

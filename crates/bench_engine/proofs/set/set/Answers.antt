@@ -1,11 +1,9 @@
-use Rattle.std.proofs.Common.{◌≡◌, ◌≤◌, ◌*◌, ap, sym, refl, ◌∙◌, ◌++◌, inl, inr, arith, codes, decimal, length, subst, List, ℕ, Err}
+use Rattle.std.proofs.Common.{◌≡◌, ap, sym, refl, ◌∙◌, ◌++◌, inl, inr, arith, length, subst, List, ℕ, Err}
 use Rattle.std.proofs.lemmas.Result.{err_from_is_err_and}
 use Rattle.shape_strides.specs.Indexes.{count}
 use Rattle.elem_descr.specs.declared.descr.Descr.{Descr}
-use Rattle.elem_descr.specs.Items.{item_size}
 use Rattle.shape_strides.specs.declared.index_item.IndexItem.{IndexItem}
-use Rattle.shape_strides.specs.Limits.{max_bytes}
-use Rattle.name_store.specs.Arrays.{descr_of, written}
+use Rattle.name_store.specs.Arrays.{written}
 use Rattle.name_store.specs.ArrayLaws.{found-array as found}
 use Rattle.name_store.specs.Targets.{target_offsets}
 use Rattle.bench_engine.specs.Machine.{target_part, new_items, written_text, comes_to}

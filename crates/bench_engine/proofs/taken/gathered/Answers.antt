@@ -1,4 +1,4 @@
-use Rattle.std.proofs.Common.{◌≡◌, ap, sym, ◌∙◌, subst, Result, IfOk, List, ℕ}
+use Rattle.std.proofs.Common.{◌≡◌, subst, IfOk, List, ℕ}
 use Rattle.elem_descr.specs.declared.descr.Descr.{Descr}
 use Rattle.elem_descr.specs.Items.{item_size}
 use Rattle.shape_strides.specs.declared.memory_order.MemoryOrder.TheVariants.{C}

@@ -1,11 +1,11 @@
-use Rattle.std.proofs.Common.{◌≡◌, ◌≤◌, ◌*◌, List, ℕ, Err, Ok, true, sym, ap, ◌∙◌, refl, inl, inr, subst}
+use Rattle.std.proofs.Common.{◌≡◌, ◌≤◌, ◌*◌, List, ℕ, true, sym, ap, ◌∙◌, inr, subst}
 use Rattle.std.proofs.lemmas.Result.{err_from_is_err_and}
 use Rattle.elem_descr.specs.declared.descr.Descr.{Descr}
 use Rattle.elem_descr.specs.declared.descr.Descr.TheVariants.{Scalar as ScalarDescr}
 use Rattle.elem_descr.specs.Items.{item_size}
 use Rattle.shape_strides.specs.Indexes.{count}
 use Rattle.shape_strides.specs.Limits.{max_bytes}
-use Rattle.broadcasting.specs.Broadcasts.{can_stretch, stretched}
+use Rattle.broadcasting.specs.Broadcasts.{stretched}
 use Rattle.elementwise.specs.Casts.{can_cast}
 use Rattle.bench_engine.specs.Machine.{result_scalar, worked}
 use Rattle.bench_engine.proofs.Makes.{passed}

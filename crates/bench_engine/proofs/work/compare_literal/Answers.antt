@@ -1,4 +1,4 @@
-use Rattle.std.proofs.Common.{◌≡◌, sym, ap, ◌∙◌, refl, inr, subst, Result, Ok, Err, IfOk}
+use Rattle.std.proofs.Common.{sym, inr, subst}
 use Rattle.elem_descr.specs.Refusals.{Gives}
 use Rattle.script_lang.specs.declared.literal.ScalarLiteral.TheVariants.{Integer, Boolean, Bytes}
 use Rattle.bench_engine.proofs.LiteralLaws.{literal-gives, compared-record, integers-are, booleans-are, bytes-are}

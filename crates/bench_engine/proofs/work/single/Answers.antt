@@ -1,4 +1,4 @@
-use Rattle.std.proofs.Common.{◌≡◌, ◌*◌, ◌∷◌, [], ℕ, length, map, ap, sym, ◌∙◌, subst, inl, inr, refl, arith, Ok, Err}
+use Rattle.std.proofs.Common.{◌≡◌, ◌*◌, ◌∷◌, [], length, ap, sym, ◌∙◌, inl, inr, arith}
 use Rattle.std.proofs.lemmas.Result.{err_from_is_err_and}
 use Rattle.elem_descr.specs.declared.descr.Descr.TheVariants.{Scalar as ScalarDescr}
 use Rattle.elem_descr.specs.Items.{item_size}

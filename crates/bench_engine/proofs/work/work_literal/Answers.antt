@@ -1,4 +1,4 @@
-use Rattle.std.proofs.Common.{sym, ap, ◌∙◌, refl, subst}
+use Rattle.std.proofs.Common.{sym, ap, ◌∙◌, subst}
 use Rattle.elem_descr.specs.Refusals.{Gives}
 use Rattle.script_lang.specs.declared.operation.Operation.TheVariants.{Binary}
 use Rattle.bench_engine.specs.Machine.{worked_literal, worked_with}

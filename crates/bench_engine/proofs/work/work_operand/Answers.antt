@@ -1,4 +1,4 @@
-use Rattle.std.proofs.Common.{sym, ap, subst, ◌∷◌, [], unwrap_or, Ok, Err, Result}
+use Rattle.std.proofs.Common.{sym, ap, subst, ◌∷◌, [], unwrap_or, Ok, Result}
 use Rattle.std.specs.List.{list_all}
 use Rattle.std.proofs.lemmas.Result.{err_from_is_err_and}
 use Rattle.elem_descr.specs.declared.refusal.Refusal.{Refusal}
