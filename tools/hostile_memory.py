@@ -24,6 +24,8 @@ E40 = LACK.encode() + b"\n"
 ROOM = 2**25
 MARK, MARKED = b"?", b"no E03 syntax\n"
 NEVER = (b"no E01 ", b"no E02 ", b"no E06 ", b"no E26 ")
+# A list of more items than these takes memory as the line is read, before a name is looked up.
+IN_PLACE = 8
 LONGEST_PRINT = 20000
 FIRST_REQUESTS = 60
 MOST_REQUESTS = 500
@@ -124,9 +126,11 @@ class Refusing:
 
     def may_lack_memory(self, number):
         """Whether a line may be answered by E40."""
-        words = self.script.lines[number].split()
-        is_free = words[:1] == [b"undo"] or (words[:1] == [b"del"] and self.is_at_depth_0 and self.reply[number].startswith(b"ok del"))
-        return not self.reply[number].startswith(NEVER) and not is_free
+        line, reply = self.script.lines[number], self.reply[number]
+        words = line.split()
+        is_free = words[:1] == [b"undo"] or (words[:1] == [b"del"] and self.is_at_depth_0 and reply.startswith(b"ok del"))
+        is_long = reply.startswith(b"no E06 ") and line.count(b",") >= IN_PLACE
+        return is_long or not reply.startswith(NEVER) and not is_free
 
     def after_refusal(self, ran, left):
         """What one reply of E40, or none, comes to: a word for the count, and a fault or none."""
