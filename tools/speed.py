@@ -1,13 +1,14 @@
 #!/usr/bin/env python3
 """Times commands of the program and the same work in NumPy, told as ratios.
 
-    tools/speed.py BENCH [--only WORD] [--repeats N] [--runs K]
+    tools/speed.py BENCH [--only WORD] [--repeats N] [--runs K] [--undo N]
 
 BENCH is the program that `./bench` builds. A script has the set-up of a row and then its line again and again. The
 time of the line is the difference between a run with many repeats of it and a run with a quarter of them, divided by
 the repeats between, so that neither the start of the program nor the set-up counts. NumPy's time is that of `timeit`.
 Both are processor time, the least of several runs; what the program writes goes nowhere. The program runs with the
-environment that `./bench` gives it. A ratio above 1 says that the program takes longer than NumPy. A later command is
+environment that `./bench` gives it. What a command replaces is kept for `undo`, in memory of its own: with --undo 0 it
+is not, which tells what the commands themselves take. A ratio above 1 says that the program takes longer than NumPy. A later command is
 one more row.
 """
 import argparse
@@ -175,6 +176,7 @@ def words():
     parser.add_argument("bench", type=pathlib.Path, help="the program")
     parser.add_argument("--only", default="", metavar="WORD", help="the rows with this in their names")
     parser.add_argument("--repeats", type=int, metavar="N", help="repeats of a line, 2 or more (so many as take 0.25 s)")
+    parser.add_argument("--undo", type=int, metavar="N", help="the depth of the rows that name none")
     parser.add_argument("--runs", type=int, default=5, metavar="K", help="runs of which the least time counts (5)")
     given = parser.parse_args()
     if given.repeats is not None and given.repeats < 2 or given.runs < 1:
@@ -186,7 +188,8 @@ def main():
     given = words()
     np.set_printoptions(threshold=sys.maxsize, linewidth=sys.maxsize)
     program = given.bench.resolve()
-    rows = [row for row in ROWS if given.only in row.name]
+    depth = () if given.undo is None else ("--undo", str(given.undo))
+    rows = [row._replace(words=row.words or depth) for row in ROWS if given.only in row.name]
     width = max([4, *(len(row.name) for row in rows)])
     high = []
     print(f"{'':{width}}  {'bench us':>12}  {'NumPy us':>12}  {'ratio':>8}")
