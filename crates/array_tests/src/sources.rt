@@ -64,7 +64,7 @@ fn set_named(
 }
 
 /// `set X[ix] = X[iy]`, where both show items that lie alike, some bytes further on or back. It asks
-/// for no memory once it knows them, so that it is never refused.
+/// for no memory once it knows them, since no state is kept, so that it is never refused.
 fn set_shifted(
     alloc: Global,
     bench: &mut Bench,
@@ -72,6 +72,7 @@ fn set_shifted(
     to_index: &[IndexItem<usize>],
     from_index: &[IndexItem<usize>],
 ) -> Result<usize, Refusal>
+    requires depth { bench.old.depth ≡ 0 }
     requires to { list_all is_basic to_index.now ≡ true }
     requires from { list_all is_basic from_index.now ≡ true }
 {

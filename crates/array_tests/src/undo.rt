@@ -463,10 +463,10 @@ fn set_kth(rt: &impl Abort, alloc: Global, bench: &mut Bench, k: u32) {
     set_one(alloc, bench, &name(alloc, b"a"), &index, &[1, 2, 3, 4]).expect(rt, "refused");
 }
 
-/// The first byte of an item of four bytes.
-fn begins(rt: &impl Abort, alloc: Global, bench: &Bench, k: usize, byte: u8) {
+/// A byte of the block that the array lies in.
+fn has_byte(rt: &impl Abort, alloc: Global, bench: &Bench, at: usize, byte: u8) {
     let array = bench.get(&name(alloc, b"a")).expect(rt, "not bound");
-    check(rt, array.block.bytes().get(4 * k) == Some(&byte), "an item");
+    check(rt, array.block.bytes().get(at) == Some(&byte), "a byte");
 }
 
 #[test]
@@ -481,6 +481,6 @@ fn a_write_of_one_item_keeps_one_item(rt: HostRuntime) {
         does(&rt, rt.alloc(), &mut bench, Step::Undo);
     }
     does(&rt, rt.alloc(), &mut bench, Step::NoUndo);
-    begins(&rt, rt.alloc(), &bench, 935, 1);
-    begins(&rt, rt.alloc(), &bench, 936, 0);
+    has_byte(&rt, rt.alloc(), &bench, 4 * 935, 1);
+    has_byte(&rt, rt.alloc(), &bench, 4 * 936, 0);
 }
