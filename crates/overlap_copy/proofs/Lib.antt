@@ -15,4 +15,5 @@ pub mod SwapLaws
 pub mod TurnLaws
 pub mod ShiftLaws
 pub mod ComeLaws
+pub mod WholeLaws
 mod Vectors

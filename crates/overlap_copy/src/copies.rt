@@ -1,12 +1,13 @@
 //! The items of a layout, copied to a block of their own.
-ghost use Rattle.std.specs.Prelude.{◌≡◌, ◌+◌, ◌*◌, ◌≤◌, length, map, nat_le, if◌then◌else◌, All, IfOk, IfErr};
+ghost use Rattle.std.specs.Prelude.{◌≡◌, ◌+◌, ◌*◌, ◌≤◌, length, map, nat_le, if◌then◌else◌, All, IfOk, IfErr, IsTrue};
 ghost use Rattle.raw_block.specs.Bytes.{item_at};
 ghost use Rattle.elem_descr.specs.declared.refusal.Refusal.TheVariants.{OutOfMemory, TooLarge};
 ghost use Rattle.elem_descr.specs.Items.{item_size};
 ghost use Rattle.elem_descr.specs.Blocks.{item_from};
 ghost use Rattle.shape_strides.specs.Limits.{max_bytes};
 ghost use Rattle.shape_strides.specs.Indexes.{count};
-ghost use Rattle.shape_strides.specs.Layouts.{offsets, Fits, IsNested};
+ghost use Rattle.shape_strides.specs.Contiguity.{is_c_contiguous};
+ghost use Rattle.shape_strides.specs.Layouts.{offsets, multiples, Fits, IsNested};
 ghost use Rattle.overlap_copy.specs.Blocks.{offsets_in};
 
 use crate::owned::{Owned, in_order};
@@ -38,6 +39,60 @@ fn copied_to(
     Ok(copy)
 }
 
+/// The `len` bytes from `at` on.
+fn stretch(bytes: &[u8], at: usize, len: usize) -> &[u8]
+    requires { at + len ≤ length bytes.now }
+    ensures bytes { result.now ≡ item_at at len bytes.now }
+    ensures len { length result.now ≡ len }
+{
+    &bytes[at..at + len]
+}
+
+/// The `len` bytes of items that lie one right after another in C order.
+fn copied_whole(
+    alloc: Global,
+    len: usize,
+    block: &RawBlock,
+    layout: &Layout,
+    width: usize,
+) -> Result<RawBlock, AllocError>
+    requires whole { len ≡ count layout.now.shape * width }
+    requires order { IsTrue (is_c_contiguous width (offsets layout.now)) }
+    requires inside { All (λ offset. offset + width ≤ length block.now) (offsets layout.now) }
+    ensures len { IfOk result (λ copy. length copy ≡ len) }
+    ensures bytes { IfOk result (λ copy. map (λ offset. item_at offset width copy) (multiples width (count layout.now.shape))
+        ≡ map (λ offset. item_at offset width block.now) (offsets layout.now)) }
+{
+    let whole = stretch(block.bytes(), layout.first_address(), len);
+    RawBlock::try_copied(alloc, whole)
+}
+
+/// The same where the items lie in any order; `to` has the order.
+fn copied(
+    alloc: Global,
+    to: &Layout,
+    order: MemoryOrder,
+    len: usize,
+    block: &RawBlock,
+    layout: &Layout,
+    width: usize,
+) -> Result<RawBlock, AllocError>
+    requires whole { len ≡ count layout.now.shape * width }
+    requires order { offsets to.now ≡ offsets_in order width layout.now.shape }
+    requires fits { Fits to.now len width }
+    requires nested { IsNested (offsets to.now) width }
+    requires shape { to.now.shape ≡ layout.now.shape }
+    requires inside { All (λ offset. offset + width ≤ length block.now) (offsets layout.now) }
+    ensures len { IfOk result (λ copy. length copy ≡ len) }
+    ensures bytes { IfOk result (λ copy. map (λ offset. item_at offset width copy) (offsets to.now)
+        ≡ map (λ offset. item_at offset width block.now) (offsets layout.now)) }
+{
+    match order {
+        MemoryOrder::C if layout.is_c(width) => copied_whole(alloc, len, block, layout, width),
+        _ => copied_to(alloc, to, len, block, layout, width),
+    }
+}
+
 /// The items of a layout in a block of their own, which they just fill. More than `MAX_BYTES` bytes of
 /// them are too many.
 pub fn copy(
@@ -66,7 +121,7 @@ pub fn copy(
     }
     let descr = Descr::try_copy(alloc, descr)?;
     let to = in_order(alloc, &layout.shape, item, order)?;
-    let block = copied_to(alloc, &to, len, block, layout, item)?;
+    let block = copied(alloc, &to, order, len, block, layout, item)?;
     Ok(Owned {
         block,
         descr,
