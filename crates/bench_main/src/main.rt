@@ -4,12 +4,14 @@
 ghost use Rattle.std.specs.Prelude.{◌≤◌};
 
 mod command_line;
+mod replies;
 mod status;
 mod words;
 
 use bench_engine::{RunFault, ScriptSource, Summary, run};
 use command_line::options;
 use npy_files::DirStore;
+use replies::Replies;
 use status::{FAULT, NO_MEMORY, NO_SCRIPT, outcome};
 use std::process::ExitCode;
 use std::rt::Files;
@@ -22,10 +24,10 @@ fn stop(rt: &impl Eprint, status: u8, text: &str) -> ExitCode {
     ExitCode::from(status)
 }
 
-/// Ends as a run did.
-fn finish(rt: &impl Eprint, run: &Result<Summary, RunFault>) -> ExitCode {
+/// Ends as a run did. Where nobody reads the replies any more, nothing is said.
+fn finish(rt: &impl Eprint, run: &Result<Summary, RunFault>, is_closed: bool) -> ExitCode {
     let (status, text) = outcome(run);
-    if text.is_empty() {
+    if is_closed || text.is_empty() {
         return ExitCode::from(status);
     }
     stop(rt, status, text)
@@ -43,9 +45,9 @@ fn run_over<R: Files + Print + Eprint + AllocGlobal, S: ScriptSource>(
     let Ok(mut store) = DirStore::try_new(rt, rt.alloc(), dir) else {
         return stop(rt, FAULT, NO_MEMORY);
     };
-    let mut writer = io::writer(rt);
-    let told = run(rt.alloc(), source, &mut writer, &mut store, options.depth);
-    finish(rt, &told)
+    let mut replies = Replies::new(io::writer(rt));
+    let told = run(rt.alloc(), source, &mut replies, &mut store, options.depth);
+    finish(rt, &told, replies.is_closed())
 }
 
 /// Runs the script that the options name.

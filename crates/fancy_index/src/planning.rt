@@ -28,7 +28,7 @@ fn plan_of_none(alloc: Global, shape: Shape) -> Result<Plan, AllocError>
 {
     let outer = Layout::c_order(alloc, &shape, 1)?;
     let inner = Layout::c_order(alloc, &shape, 1)?;
-    Ok(Plan::new(shape, outer, Vec::new(alloc), inner))
+    Plan::try_new(alloc, shape, outer, Vec::new(alloc), inner)
 }
 
 /// The plan of a shape with items, by the layout of what is picked where all points are 0.
@@ -54,7 +54,8 @@ fn plan_of_rest(
     let outer = front(alloc, rest, place)?;
     let inner = back(alloc, rest, place)?;
     let shifts = shifts(alloc, layout, parts, points, many)?;
-    Ok(Plan::new(shape, outer, shifts, inner))
+    let plan = Plan::try_new(alloc, shape, outer, shifts, inner)?;
+    Ok(plan)
 }
 
 /// The plan of a shape with items.

@@ -10,7 +10,7 @@ ghost use Rattle.shape_strides.specs.Layouts.{offsets, multiples};
 ghost use Rattle.overlap_copy.specs.Assignments.{items_at, assigned};
 ghost use Rattle.overlap_copy.specs.Blocks.{offsets_in};
 ghost use Rattle.fancy_index.specs.Plans.{moved, moved_all, put_each};
-ghost use Rattle.fancy_index.specs.inside.Kept.{IsMoved, AreStarts};
+ghost use Rattle.fancy_index.specs.inside.Kept.{IsMoved, AreStarts, offsets_from};
 
 use crate::fill::fill;
 use crate::gather::gather;
@@ -23,30 +23,35 @@ use shape_strides::{FixedWalk, Layout, MAX_BYTES, MemoryOrder, Shape};
 use std::alloc::{AllocError, Global};
 use std::marker::Model;
 
+/// The axes of a plan. Both layouts begin where the first item would lie with all arrays 0.
+#[derive(Drop)]
+pub struct PlanAxes {
+    /// The axes before those of the arrays.
+    outer: Layout,
+    /// For each item of the broadcast arrays, where the first of the result's items with it lies.
+    shifts: Vec<u32>,
+    /// The axes after those of the arrays.
+    inner: Layout,
+}
+
 /// Where in a buffer the items are that an index list with arrays takes, seen as a shape with the
 /// offsets of its items in C order. It holds one number for each item of the broadcast arrays, and
 /// the strides of the other axes.
 #[derive(Drop)]
 pub struct Plan {
     shape: Shape,
-    /// The axes before those of the arrays.
-    outer: Layout,
-    /// For each item of the broadcast arrays, where the first of the result's items with it lies.
-    shifts: Vec<u32>,
-    /// The axes after those of the arrays. Both layouts begin where the first item would lie with
-    /// all arrays 0.
-    inner: Layout,
+    /// In a place of their own, so that a plan is no larger than a layout where it is handed on.
+    axes: Box<PlanAxes>,
 }
 
 impl Model for Plan {
-    ghost use Rattle.fancy_index.specs.Plans.{Planned, moved_all};
-    ghost use Rattle.shape_strides.specs.Layouts.{offsets};
+    ghost use Rattle.fancy_index.specs.Plans.{Planned};
 
     ghost Value = { Planned };
 
-    ghost use Rattle.fancy_index.specs.inside.Kept.{IsPlan};
+    ghost use Rattle.fancy_index.specs.inside.Kept.{IsPlan, offsets_from};
 
-    ghost view = { λ p. record { shape = p.shape; offsets = moved_all p.inner.offset (offsets p.outer) p.shifts.items (offsets p.inner) } };
+    ghost view = { λ p. record { shape = p.shape; offsets = offsets_from p.axes.value } };
 
     ghost invariant = { IsPlan };
 }
@@ -121,19 +126,34 @@ fn is_packed(layout: &Layout, width: usize) -> bool
 impl Plan {
     /// The plan of a shape, with the axes before those of the arrays, where the first item with each of
     /// their points lies, and the axes behind.
-    pub(crate) fn new(shape: Shape, outer: Layout, shifts: Vec<u32>, inner: Layout) -> Plan
+    pub(crate) fn try_new(
+        alloc: Global,
+        shape: Shape,
+        outer: Layout,
+        shifts: Vec<u32>,
+        inner: Layout,
+    ) -> Result<Plan, AllocError>
         requires count { length (moved_all inner.offset (offsets outer) shifts.items (offsets inner)) ≡ count shape }
         requires small { inner.offset ≤ max_bytes }
         requires starts { All (AreStarts inner.offset (offsets inner) shifts.items) (offsets outer) }
-        ensures shape { result.shape ≡ shape }
-        ensures offsets { result.offsets ≡ moved_all inner.offset (offsets outer) shifts.items (offsets inner) }
+        ensures shape { IfOk result (λ plan. plan.shape ≡ shape) }
+        ensures offsets { IfOk result (λ plan. plan.offsets ≡ moved_all inner.offset (offsets outer) shifts.items (offsets inner)) }
     {
-        Plan {
-            shape,
+        let axes = PlanAxes {
             outer,
             shifts,
             inner,
-        }
+        };
+        let axes = Box::new(alloc, axes)?;
+        Ok(Plan { shape, axes })
+    }
+
+    fn axes(&self) -> &PlanAxes
+        ensures offsets { offsets_from result.now ≡ self.now.offsets }
+        ensures small { result.now.inner.offset ≤ max_bytes }
+        ensures starts { All (AreStarts result.now.inner.offset (offsets result.now.inner) result.now.shifts.items) (offsets result.now.outer) }
+    {
+        &self.axes
     }
 
     /// The shape of the items.
@@ -157,7 +177,8 @@ impl Plan {
         requires { rank < length self.now.offsets }
         ensures { result ≡ slice_index self.now.offsets rank }
     {
-        offset_in(&self.outer, self.shifts.as_slice(), &self.inner, rank)
+        let axes = self.axes();
+        offset_in(&axes.outer, axes.shifts.as_slice(), &axes.inner, rank)
     }
 
     /// The items of `width` bytes at the offsets, one after another in a block of their own.
@@ -175,8 +196,9 @@ impl Plan {
         let bytes = self.shape.items().saturating_mul(width);
         let mut items = RawBlock::try_zeroed(alloc, bytes)?;
         let _len = items.len();
-        let shifts = self.shifts.as_slice();
-        gather(&mut items, block, &self.outer, shifts, &self.inner, width);
+        let axes = self.axes();
+        let shifts = axes.shifts.as_slice();
+        gather(&mut items, block, &axes.outer, shifts, &axes.inner, width);
         Ok(items)
     }
 
@@ -214,8 +236,9 @@ impl Plan {
         ensures written { block.new ≡ assigned self.now.offsets (multiples width (length self.now.offsets)) width items.now block.old }
         ensures len { length block.new ≡ length block.old }
     {
-        let shifts = self.shifts.as_slice();
-        scatter(block, &self.outer, shifts, &self.inner, items, width);
+        let axes = self.axes();
+        let shifts = axes.shifts.as_slice();
+        scatter(block, &axes.outer, shifts, &axes.inner, items, width);
     }
 
     /// Copies the items of `width` bytes of a layout in another block, as many, to the offsets, strictly
@@ -245,7 +268,8 @@ impl Plan {
         ensures written { block.new ≡ put_each self.now.offsets item.now block.old }
         ensures len { length block.new ≡ length block.old }
     {
-        let shifts = self.shifts.as_slice();
-        fill(block, &self.outer, shifts, &self.inner, item);
+        let axes = self.axes();
+        let shifts = axes.shifts.as_slice();
+        fill(block, &axes.outer, shifts, &axes.inner, item);
     }
 }

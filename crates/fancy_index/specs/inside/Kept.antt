@@ -4,6 +4,7 @@ use Rattle.shape_strides.specs.Limits.{max_bytes}
 use Rattle.shape_strides.specs.Indexes.{count}
 use Rattle.shape_strides.specs.Layouts.{offsets}
 use Rattle.fancy_index.specs.declared.plans.Plan.TheInside.{Inside}
+use Rattle.fancy_index.specs.declared.plans.PlanAxes.{PlanAxes}
 use Rattle.fancy_index.specs.Plans.{moved, moved_all}
 
 -- an offset that began at `base` lies within the limit of a buffer where it begins at `start`
@@ -19,7 +20,11 @@ pub record IsStart (base : ℕ) (inner : List ℕ) (place shift : ℕ) : Type 0 
 abbrev pub AreStarts : ℕ → List ℕ → List ℕ → ℕ → Type 0
 AreStarts base inner shifts place = All (IsStart base inner place) shifts
 
+-- the offsets of the items that the axes of a plan lead to
+abbrev pub offsets_from : PlanAxes → List ℕ
+offsets_from axes = moved_all axes.inner.offset (offsets axes.outer) axes.shifts.items (offsets axes.inner)
+
 pub record IsPlan (p : Inside) : Type 0 where
-  pub count : length (moved_all p.inner.offset (offsets p.outer) p.shifts.items (offsets p.inner)) ≡ count p.shape
-  pub small : p.inner.offset ≤ max_bytes
-  pub starts : All (AreStarts p.inner.offset (offsets p.inner) p.shifts.items) (offsets p.outer)
+  pub count : length (offsets_from p.axes.value) ≡ count p.shape
+  pub small : p.axes.value.inner.offset ≤ max_bytes
+  pub starts : All (AreStarts p.axes.value.inner.offset (offsets p.axes.value.inner) p.axes.value.shifts.items) (offsets p.axes.value.outer)

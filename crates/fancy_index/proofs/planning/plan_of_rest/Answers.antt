@@ -51,24 +51,24 @@ shifts-requires-clause-many c =
     ∙ (λ i. count (c.requires.shape i) / count (c.requires.rest.shape i))
     ∙ points_many c.args.parts.now c.args.points.now (others (goal.at.shifts-requires-clause-many c).Start)
 
-pub new-requires-clause-count : goal.new-requires-clause-count
-new-requires-clause-count c =
+pub try_new-requires-clause-count : goal.try_new-requires-clause-count
+try_new-requires-clause-count c =
     ap (λ s. length (moved_all c.in_ok-inner.inner.offset (offsets c.in_ok-outer.outer) s (offsets c.in_ok-inner.inner))) c.in_ok-shifts.ensures
-    ∙ count-is c.args.layout.now c.args.rest.now c.in_ok-outer.outer c.in_ok-inner.inner c.args.parts.now c.args.points.now (laid (goal.at.new-requires-clause-count c).In_ok-inner)
+    ∙ count-is c.args.layout.now c.args.rest.now c.in_ok-outer.outer c.in_ok-inner.inner c.args.parts.now c.args.points.now (laid (goal.at.try_new-requires-clause-count c).In_ok-inner)
     ∙ sym (ap count c.requires.shape)
 
-pub new-requires-clause-small : goal.new-requires-clause-small
-new-requires-clause-small c = small-offset c.args.layout.now c.args.rest.now c.in_ok-outer.outer c.in_ok-inner.inner c.args.parts.now c.args.points.now (laid (goal.at.new-requires-clause-small c).In_ok-inner)
+pub try_new-requires-clause-small : goal.try_new-requires-clause-small
+try_new-requires-clause-small c = small-offset c.args.layout.now c.args.rest.now c.in_ok-outer.outer c.in_ok-inner.inner c.args.parts.now c.args.points.now (laid (goal.at.try_new-requires-clause-small c).In_ok-inner)
 
-pub new-requires-clause-starts : goal.new-requires-clause-starts
-new-requires-clause-starts c =
-    subst (λ (s : List ℕ). All (AreStarts c.in_ok-inner.inner.offset (offsets c.in_ok-inner.inner) s) (offsets c.in_ok-outer.outer)) (sym c.in_ok-shifts.ensures) (starts c.args.layout.now c.args.rest.now c.in_ok-outer.outer c.in_ok-inner.inner c.args.parts.now c.args.points.now (laid (goal.at.new-requires-clause-starts c).In_ok-inner))
+pub try_new-requires-clause-starts : goal.try_new-requires-clause-starts
+try_new-requires-clause-starts c =
+    subst (λ (s : List ℕ). All (AreStarts c.in_ok-inner.inner.offset (offsets c.in_ok-inner.inner) s) (offsets c.in_ok-outer.outer)) (sym c.in_ok-shifts.ensures) (starts c.args.layout.now c.args.rest.now c.in_ok-outer.outer c.in_ok-inner.inner c.args.parts.now c.args.points.now (laid (goal.at.try_new-requires-clause-starts c).In_ok-inner))
 
 pub returns-clause-ok : goal.returns-clause-ok
 returns-clause-ok c =
-    is-plan c.args.layout.now c.args.rest.now c.in_ok-outer.outer c.in_ok-inner.inner c.args.parts.now c.args.points.now (laid (goal.at.returns-clause-ok c).In_ok-inner) c.new.result
-    (c.new.ensures.shape ∙ c.requires.shape)
-    (c.new.ensures.offsets ∙ ap (λ s. moved_all c.in_ok-inner.inner.offset (offsets c.in_ok-outer.outer) s (offsets c.in_ok-inner.inner)) c.in_ok-shifts.ensures)
+    is-plan c.args.layout.now c.args.rest.now c.in_ok-outer.outer c.in_ok-inner.inner c.args.parts.now c.args.points.now (laid (goal.at.returns-clause-ok c).In_ok-inner) c.in_ok-plan.plan
+    (c.in_ok-plan.ensures.shape ∙ c.requires.shape)
+    (c.in_ok-plan.ensures.offsets ∙ ap (λ s. moved_all c.in_ok-inner.inner.offset (offsets c.in_ok-outer.outer) s (offsets c.in_ok-inner.inner)) c.in_ok-shifts.ensures)
 
 pub shifts-requires-clause-some : goal.shifts-requires-clause-some
 shifts-requires-clause-some c = (some_others c.args.parts.now c.args.points.now (omega (arith, ap count c.requires.shape, c.requires.some))).1

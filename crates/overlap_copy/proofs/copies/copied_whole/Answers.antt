@@ -20,6 +20,6 @@ returns-clause-bytes c =
     let many = length-offsets c.args.layout.now in
     let long : c.args.len ≡ length os * width = c.requires.whole ∙ ap (λ n. n * width) (sym many) in
     let whole : c.stretch-whole.result.now ≡ item_at (first_address os) (length os * width) c.args.block.now =
-        c.stretch-whole.ensures.bytes ∙ (λ i. item_at (c.first_address.ensures i) (long i) (c.bytes.ensures i)) in
+    c.stretch-whole.ensures.bytes ∙ (λ i. item_at (c.first_address.ensures i) (long i) (c.bytes.ensures i)) in
     IfOk-weaker c.try_copied.result _ _ (λ copy is.
-        (λ i. map (λ o. item_at o width ((is ∙ whole) i)) (multiples width (sym many i))) ∙ whole-items width os c.args.block.now c.requires.order) c.try_copied.ensures
+    (λ i. map (λ o. item_at o width ((is ∙ whole) i)) (multiples width (sym many i))) ∙ whole-items width os c.args.block.now c.requires.order) c.try_copied.ensures
