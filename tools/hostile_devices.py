@@ -85,7 +85,7 @@ class Trials:
         err = process.stderr.read().decode()
         self.part.note(f"a closed pipe, the program being {name}", f"status {status}, {err!r}")
         ended = first == b"names\n" and time.monotonic() - began < MOST_WAIT / 2
-        quiet = (status, err) in ((-signal.SIGPIPE, ""), (3, "bench: write fault\n"))
+        quiet = (status, err) in ((-signal.SIGPIPE, ""), (3, ""))
         self.part.expect(f"a closed pipe ({name})", (ended, quiet), (True, True))
 
     def closed_streams(self):
