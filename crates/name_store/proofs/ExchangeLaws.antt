@@ -18,6 +18,7 @@ use Rattle.name_store.specs.Targets.{IsAim}
 use Rattle.name_store.specs.View.{present}
 use Rattle.name_store.specs.declared.entry.Entry.{Entry}
 use Rattle.name_store.specs.declared.entry.Key.{Key}
+use Rattle.name_store.specs.declared.old_items.OldItems.{OldItems}
 use Rattle.name_store.specs.declared.slot.Slot.{Slot}
 use Rattle.name_store.specs.declared.target.Source.TheVariants.{Block}
 use Rattle.name_store.specs.declared.target.Target.TheVariants.{View}
@@ -87,15 +88,15 @@ module _ (es : List (Key × Entry)) (slots : Slots) (name : List ℕ) (number wi
   exchange-new after new = subst (λ bytes. HasNew slots number s bytes after) (sym exchanged) new
 
   -- and the slot's block in the array has the old ones
-  pub exchange-old : (o : Owned) → o.descr ≡ owned.descr → o.layout ≡ owned.layout → o.block ≡ s.block → AreOldOf es slots name os o
-  exchange-old o descr-is layout-is block-is = record {
+  pub exchange-old : (o : OldItems) → o.width ≡ item_size owned.descr → o.block ≡ s.block → AreOldOf es slots name os o
+  exchange-old o width-is block-is = record {
     block = s.block;
     descr = own;
     lent = record { number = number; width = width; home = home; block_is = refl; descr_is = refl };
     old = record {
-      size = ap item_size descr-is ∙ size ∙ home.width_is;
-      order = ap offsets layout-is ∙ from-run ∙ ap (λ n. multiples n (length os)) home.width_is;
-      bytes = λ i. items_at ((ap offsets layout-is ∙ from-run ∙ sym to-run) i) (item_size own) (block-is i);
+      size = width-is ∙ size ∙ home.width_is;
+      whole = ap length block-is ∙ sym exchange-long ∙ whole ∙ ap (λ n. length os * n) (sym (width-is ∙ size));
+      bytes = (λ i. items_at (multiples ((width-is ∙ size) i) (length os)) ((width-is ∙ size ∙ home.width_is) i) (block-is i)) ∙ ap (λ from. items_at from (item_size own) s.block) (sym to-run);
     };
   }
     where

@@ -13,9 +13,9 @@ use Rattle.name_store.specs.declared.change.Change.{Change}
 use Rattle.name_store.specs.declared.change.Change.TheVariants.{Bind, Unbind, Write}
 use Rattle.name_store.specs.declared.entry.Entry.{Entry}
 use Rattle.name_store.specs.declared.entry.Key.{Key}
+use Rattle.name_store.specs.declared.old_items.OldItems.{OldItems}
 use Rattle.name_store.specs.declared.slot.Slot.{Slot}
 use Rattle.name_store.specs.declared.target.Target.{Target}
-use Rattle.overlap_copy.specs.declared.owned.Owned.{Owned}
 use Rattle.name_store.proofs.NameLaws.{all-both, all-in_use, in_front, in_tail, either}
 use Rattle.name_store.proofs.PastLaws.{Restored, restored-shape, SameShape, shape, needed-parts, needed-drop, same-buffers, kept-push, kept-free, kept-drop, kept-length, undoable-push, undoable-drop, undoable-still}
 use Rattle.name_store.proofs.StateLaws.{Slots, Swept}
@@ -75,7 +75,7 @@ lies-there : (o : Option Slot) (e : Entry) → LiesAt o e → is_some o ≡ true
 lies-there None e nothing = absurd nothing
 lies-there (Some s) e lies = refl
 
-pub goes-there : (target : Target) (items : Owned) (o : Option Slot) → GoBackAt target items o → is_some o ≡ true
+pub goes-there : (target : Target) (items : OldItems) (o : Option Slot) → GoBackAt target items o → is_some o ≡ true
 goes-there target items None nothing = absurd nothing
 goes-there target items (Some s) goes = refl
 

@@ -9,7 +9,6 @@ pub mod RunWrites
 pub mod SlotLaws
 pub mod PastLaws
 pub mod RestoreLaws
-pub mod OldLaws
 pub mod StateLaws
 pub mod KeepLaws
 pub mod UnbindLaws

@@ -1,8 +1,7 @@
--- The old items of a target are there, and are not too many.
-use Rattle.std.proofs.Common.{◌+◌, ◌*◌, ◌≤◌, ℕ, List, length, All, ap, sym, ◌∙◌, subst}
+-- The old items of a target are there.
+use Rattle.std.proofs.Common.{◌+◌, ◌≤◌, ℕ, List, length, All, ap, sym, ◌∙◌, subst}
 use Rattle.elem_descr.specs.declared.descr.Descr.{Descr}
 use Rattle.elem_descr.specs.Items.{item_size}
-use Rattle.shape_strides.specs.Limits.{max_bytes}
 use Rattle.name_store.specs.Targets.{IsAim, target_offsets}
 use Rattle.name_store.specs.View.{present}
 use Rattle.name_store.specs.declared.entry.Entry.{Entry}
@@ -11,9 +10,8 @@ use Rattle.name_store.specs.declared.target.Source.{Source}
 use Rattle.name_store.specs.declared.target.Target.{Target}
 use Rattle.name_store.specs.declared.target.Target.TheVariants.{View, Plan}
 use Rattle.name_store.specs.inside.Homes.{IsLent}
-use Rattle.name_store.specs.inside.OldItems.{IsSmall}
 use Rattle.name_store.proofs.AimLaws.{target-within}
-use Rattle.name_store.proofs.PlanAims.{plan-within, plan-small}
+use Rattle.name_store.proofs.PlanAims.{plan-within}
 use Rattle.name_store.proofs.StateLaws.{Slots}
 
 module _ (es : List (Key × Entry)) (slots : Slots) (name : List ℕ) where
@@ -24,7 +22,3 @@ module _ (es : List (Key × Entry)) (slots : Slots) (name : List ℕ) where
   old-inside (Plan plan) source block descr lent aim =
       subst (λ n. All (λ o. o + n ≤ length block) (target_offsets (Plan plan))) (lent.home.width_is ∙ ap item_size (sym lent.descr_is))
       (subst (λ (b : List ℕ). All (λ o. o + lent.width ≤ length b) (target_offsets (Plan plan))) (sym lent.block_is) (plan-within es slots name lent.number lent.width lent.home plan source aim))
-
-  pub old-small : (target : Target) (source : Source) (block : List ℕ) (descr : Descr) (lent : IsLent es slots name block descr) → IsAim (present es slots) name target source → IsSmall target (item_size descr)
-  old-small (View layout) source block descr lent aim = tt
-  old-small (Plan plan) source block descr lent aim = subst (λ n. length plan.offsets * n ≤ max_bytes) (lent.home.width_is ∙ ap item_size (sym lent.descr_is)) (plan-small es slots name lent.number lent.width lent.home plan source aim)

@@ -9,7 +9,6 @@ use Rattle.std.proofs.lemmas.List.Folds.{list_any-append}
 use Rattle.elem_descr.specs.declared.descr.Descr.{Descr}
 use Rattle.elem_descr.specs.Blocks.{items_in}
 use Rattle.elem_descr.specs.Items.{item_size}
-use Rattle.overlap_copy.specs.declared.owned.Owned.{Owned}
 use Rattle.name_store.specs.States.{Buffer}
 use Rattle.name_store.specs.Arrays.{put_array, is_in_use}
 use Rattle.name_store.specs.Invariants.{LiesAt, GoBackAt, IsUndoable, AreUndoable, needs, is_needed}
@@ -19,6 +18,7 @@ use Rattle.name_store.specs.View.{array_at, slot_at}
 use Rattle.name_store.specs.declared.change.Change.{Change}
 use Rattle.name_store.specs.declared.change.Change.TheVariants.{Bind, Unbind, Write}
 use Rattle.name_store.specs.declared.entry.Entry.{Entry}
+use Rattle.name_store.specs.declared.old_items.OldItems.{OldItems}
 use Rattle.name_store.specs.declared.slot.Slot.{Slot}
 use Rattle.name_store.specs.declared.target.Target.{Target}
 use Rattle.name_store.proofs.LaidLaws.{laid-same}
@@ -209,14 +209,14 @@ lies-shaped (Some s') (Some s) e same lies =
       laid = laid-same s.descr s'.descr s.items s'.items (array_at e) (array_at e) e.layout e.layout e.writable e.writable (ap (λ (p : Descr × ℕ). p.0) (sym both)) (ap (λ (p : Descr × ℕ). p.1) (sym both)) refl refl refl lies.laid;
     }
 
-goes-shaped : (target : Target) (items : Owned) (now before : Option Slot) → SameShape now before → GoBackAt target items before → GoBackAt target items now
+goes-shaped : (target : Target) (items : OldItems) (now before : Option Slot) → SameShape now before → GoBackAt target items before → GoBackAt target items now
 goes-shaped target items now None same nothing = absurd nothing
 goes-shaped target items None (Some s) same goes = let no : ⊥ = cc in absurd no
 goes-shaped target items (Some s') (Some s) same goes =
     let both = pair-is s s' same in
     record {
-      inside = subst (λ (p : Descr × ℕ). All (λ offset. offset + item_size items.descr ≤ p.1 * item_size p.0) (target_offsets target)) (sym both) goes.inside;
-      order = goes.order;
+      inside = subst (λ (p : Descr × ℕ). All (λ offset. offset + items.width ≤ p.1 * item_size p.0) (target_offsets target)) (sym both) goes.inside;
+      whole = goes.whole;
     }
 
 itself : (n : ℕ) → nat_eq n n ≡ true

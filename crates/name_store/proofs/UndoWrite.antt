@@ -4,19 +4,16 @@ use Rattle.std.specs.List.{AllByRecursion, list_any}
 use Rattle.std.specs.Option.{option_map}
 use Rattle.std.proofs.lemmas.Bool.{eqb-true}
 use Rattle.circular_buffer.specs.Buffer.{Buffer as Ring, buffer}
-use Rattle.elem_descr.specs.Items.{item_size}
-use Rattle.overlap_copy.specs.Assignments.{assigned}
-use Rattle.overlap_copy.specs.declared.owned.Owned.{Owned}
-use Rattle.shape_strides.specs.Layouts.{offsets}
 use Rattle.name_store.specs.Arrays.{is_in_use}
 use Rattle.name_store.specs.Invariants.{IsSound, LiesAt, GoBackAt, needs, is_needed}
-use Rattle.name_store.specs.Kept.{Names}
+use Rattle.name_store.specs.Kept.{with_old, Names}
 use Rattle.name_store.specs.Targets.{target_offsets}
 use Rattle.name_store.specs.View.{named_array, slot_at}
 use Rattle.name_store.specs.declared.change.Change.{Change}
 use Rattle.name_store.specs.declared.change.Change.TheVariants.{Write}
 use Rattle.name_store.specs.declared.entry.Entry.{Entry}
 use Rattle.name_store.specs.declared.entry.Key.{Key}
+use Rattle.name_store.specs.declared.old_items.OldItems.{OldItems}
 use Rattle.name_store.specs.declared.slot.Slot.{Slot}
 use Rattle.name_store.specs.declared.target.Target.{Target}
 use Rattle.name_store.specs.inside.Homes.{HasNew}
@@ -28,7 +25,7 @@ use Rattle.name_store.proofs.StateLaws.{Slots, swept-all, occupied-within}
 use Rattle.name_store.proofs.UndoLaws.{undoes, popped}
 
 -- Old items go back.
-module _ (es : List (Key × Entry)) (slots : Slots) (ring : Ring Change) (spare : ℕ) (number : ℕ) (target : Target) (items : Owned) (sound : IsSound es slots (buffer (ring.items ++ Write number target items ∷ []) ring.capacity) spare) where
+module _ (es : List (Key × Entry)) (slots : Slots) (ring : Ring Change) (spare : ℕ) (number : ℕ) (target : Target) (items : OldItems) (sound : IsSound es slots (buffer (ring.items ++ Write number target items ∷ []) ring.capacity) spare) where
   abbrev wrote : Change
   wrote = Write number target items
 
@@ -36,7 +33,7 @@ module _ (es : List (Key × Entry)) (slots : Slots) (ring : Ring Change) (spare 
   names = map named_array es
 
   abbrev back : Slot → List ℕ
-  back old = assigned (target_offsets target) (offsets items.layout) (item_size items.descr) items.block old.block
+  back old = with_old (target_offsets target) items old.block
 
   pub goes-back : GoBackAt target items (slot_at slots number)
   goes-back = (popped es slots ring wrote spare sound).2.1

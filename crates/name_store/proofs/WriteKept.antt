@@ -12,15 +12,12 @@ use Rattle.elem_descr.specs.declared.refusal.Refusal.{Refusal}
 use Rattle.elem_descr.specs.Blocks.{items_in}
 use Rattle.elem_descr.specs.Items.{item_size}
 use Rattle.shape_strides.specs.declared.layout.Layout.{Layout}
-use Rattle.shape_strides.specs.LayoutLaws.{length-offsets}
-use Rattle.shape_strides.specs.Layouts.{offsets, multiples}
-use Rattle.overlap_copy.specs.declared.owned.Owned.{Owned}
-use Rattle.overlap_copy.specs.Assignments.{items_at, with_items, assigned}
+use Rattle.overlap_copy.specs.Assignments.{items_at, with_items}
 use Rattle.name_store.specs.States.{State, Array, Buffer}
 use Rattle.name_store.specs.Arrays.{is_in_use, keeping, written, find_array, descr_of}
 use Rattle.name_store.specs.Calls.{AnswersWrite}
 use Rattle.name_store.specs.Invariants.{Holds, IsSound, GoBackAt, GoBack, IsUndoable, needs, is_needed}
-use Rattle.name_store.specs.Kept.{Names, past_names, past_buffers, past_buffer, past_bytes, kept_states, patch_size}
+use Rattle.name_store.specs.Kept.{with_old, Names, past_names, past_buffers, past_buffer, past_bytes, kept_states, patch_size}
 use Rattle.name_store.specs.Memory.{NeedsNoMemory}
 use Rattle.name_store.specs.Parts.{descr_at}
 use Rattle.name_store.specs.Targets.{target_offsets, source_items, items_of, LeadsTo, MayWrite, IsFor, IsAim}
@@ -29,6 +26,7 @@ use Rattle.name_store.specs.declared.change.Change.{Change}
 use Rattle.name_store.specs.declared.change.Change.TheVariants.{Write}
 use Rattle.name_store.specs.declared.entry.Entry.{Entry}
 use Rattle.name_store.specs.declared.entry.Key.{Key}
+use Rattle.name_store.specs.declared.old_items.OldItems.{OldItems}
 use Rattle.name_store.specs.declared.slot.Slot.{Slot}
 use Rattle.name_store.specs.declared.target.Source.{Source}
 use Rattle.name_store.specs.declared.target.Source.TheVariants.{One, Block, Name}
@@ -38,7 +36,6 @@ use Rattle.name_store.specs.inside.Homes.{IsHome, IsLent}
 use Rattle.name_store.specs.inside.OldItems.{AreOld, AreSame, Wrote}
 use Rattle.name_store.proofs.KeepLaws.{keep-occupied, keep-sound, keep-state, shape-some}
 use Rattle.name_store.proofs.NameLaws.{found-used, in_front, either}
-use Rattle.name_store.proofs.OldLaws.{length-multiples}
 use Rattle.name_store.proofs.PastLaws.{Restored, content, content_before, shape, SameShape, needed-others, same-buffers, undoable-still}
 use Rattle.name_store.proofs.RestoreLaws.{restores}
 use Rattle.name_store.proofs.SlotLaws.{itself}
@@ -188,7 +185,7 @@ module _ (es : List (Key × Entry)) (slots : Slots) (ring : Ring Change) (spare 
       )
 
   -- the old items are kept
-  module _ (number width : ℕ) (home : IsHome es slots name number width) (block : List ℕ) (descr : Descr) (lent : IsLent es slots name block descr) (items : Owned) (old : AreOld descr block (target_offsets target) items)
+  module _ (number width : ℕ) (home : IsHome es slots name number width) (block : List ℕ) (descr : Descr) (lent : IsLent es slots name block descr) (items : OldItems) (old : AreOld descr block (target_offsets target) items)
       (inside : All (λ offset. offset + item_size descr ≤ length block) (target_offsets target)) where
     abbrev os : List ℕ
     os = target_offsets target
@@ -214,16 +211,15 @@ module _ (es : List (Key × Entry)) (slots : Slots) (ring : Ring Change) (spare 
             let arrays : array_at a.entry ≡ array_at b.entry = some-same (array_at a.entry) (array_at b.entry) (sym a.found ∙ b.found) in
             a.width_is ∙ (λ i. item_size (descr_at (same.1 i).descr (arrays i).path)) ∙ sym b.width_is
 
-    own-width : item_size items.descr ≡ wrote.width
+    own-width : items.width ≡ wrote.width
     own-width = old.size ∙ width-is
 
     within : AllByRecursion (λ o. o + wrote.width ≤ length s.block) os
     within = recursion_from_All (λ o. o + wrote.width ≤ length s.block) os (subst (λ n. All (λ o. o + n ≤ length s.block) os) width-is (subst (λ (b : List ℕ). All (λ o. o + item_size descr ≤ length b) os) block-is inside))
 
-    bytes-back : assigned os (offsets items.layout) (item_size items.descr) items.block s'.block ≡ s.block
+    bytes-back : with_old os items s'.block ≡ s.block
     bytes-back =
-        ap (λ n. with_items os (items_at (offsets items.layout) n items.block) s'.block) old.size
-        ∙ ap (λ parts. with_items os parts s'.block) old.bytes
+        ap (λ parts. with_items os parts s'.block) old.bytes
         ∙ (λ i. with_items os (items_at os (width-is i) (block-is i)) (wrote.new.rewritten.block i))
         ∙ restores wrote.width os wrote.parts s.block wrote.whole within
 
@@ -232,20 +228,20 @@ module _ (es : List (Key × Entry)) (slots : Slots) (ring : Ring Change) (spare 
         elim (at q) [
           | inl here ↦
               ap (option_map (content_before c q)) here.1
-              ∙ (λ i. Some (wrote.new.rewritten.descr i, wrote.new.rewritten.items i, (ap (λ t. cond t (assigned os (offsets items.layout) (item_size items.descr) items.block s'.block) s'.block) (ap (λ n. nat_eq q n) number-is ∙ ap (λ n. nat_eq n wrote.number) here.0 ∙ itself wrote.number) ∙ bytes-back) i))
+              ∙ (λ i. Some (wrote.new.rewritten.descr i, wrote.new.rewritten.items i, (ap (λ t. cond t (with_old os items s'.block) s'.block) (ap (λ n. nat_eq q n) number-is ∙ ap (λ n. nat_eq n wrote.number) here.0 ∙ itself wrote.number) ∙ bytes-back) i))
               ∙ ap (option_map content) (sym here.2)
           | inr other ↦ ap (option_map (content_before c q)) other.1 ∙ elsewhere (slot_at slots q) (ap (λ n. nat_eq q n) number-is ∙ other.0)
         ]
       where
         elsewhere : (o : Option Slot) → nat_eq q number ≡ false → option_map (content_before c q) o ≡ option_map content o
         elsewhere None e = refl
-        elsewhere (Some x) e = ap (λ t. Some (x.descr, x.items, cond t (assigned os (offsets items.layout) (item_size items.descr) items.block x.block) x.block)) e
+        elsewhere (Some x) e = ap (λ t. Some (x.descr, x.items, cond t (with_old os items x.block) x.block)) e
 
     goes : GoBack target items s'
     goes = record {
-      inside = subst (λ n. All (λ o. o + item_size items.descr ≤ n) os) (s.is_whole.whole ∙ λ i. sym wrote.new.rewritten.items i * item_size (sym wrote.new.rewritten.descr i))
+      inside = subst (λ n. All (λ o. o + items.width ≤ n) os) (s.is_whole.whole ∙ λ i. sym wrote.new.rewritten.items i * item_size (sym wrote.new.rewritten.descr i))
           (subst (λ n. All (λ o. o + n ≤ length s.block) os) (sym own-width) (All-from_recursion (λ o. o + wrote.width ≤ length s.block) os within));
-      order = old.order ∙ ap (λ n. multiples n (length os)) (sym old.size);
+      whole = old.whole;
     }
 
     own : IsUndoable c names after
@@ -275,8 +271,8 @@ module _ (es : List (Key × Entry)) (slots : Slots) (ring : Ring Change) (spare 
             let is = ok.1 array places (leads-now es slots ring name target array places leads) in
             let descr' : Descr = descr_of (present es slots) array in
             let size : length items.block ≡ length places * item_size descr' =
-            items.fills_block.fills
-            ∙ (λ i. (sym (length-offsets items.layout) ∙ ap length old.order ∙ length-multiples (item_size descr) (length os) ∙ ap length leads.offsets_are ∙ length-map places _) i * (own-width ∙ sym (size-is es slots name wrote.number wrote.width wrote.home array leads.found)) i) in
+            old.whole
+            ∙ (λ i. (ap length leads.offsets_are ∙ length-map places _) i * (own-width ∙ sym (size-is es slots name wrote.number wrote.width wrote.home array leads.found)) i) in
             keep-state es slots ring spare sound es after c refl holds restored own came ring' last spare' ring-is swept room
             ∙ λ i. record (keeping (size i) (state_of es slots ring)) {
               buffers = (ap (λ (x : State). x.buffers) is ∙ ap (λ items. (written (present es slots) array places items).buffers) (sym (source-now es slots ring descr' n source))) i;

@@ -3,8 +3,6 @@ use Rattle.std.specs.Prelude.{◌≡◌, ◌≤◌, ◌+◌, ◌*◌, ◌||◌, 
 use Rattle.std.specs.List.{AllByRecursion, list_any}
 use Rattle.circular_buffer.specs.Buffer.{Buffer as Ring}
 use Rattle.elem_descr.specs.Items.{item_size}
-use Rattle.shape_strides.specs.Layouts.{offsets, multiples}
-use Rattle.overlap_copy.specs.declared.owned.Owned.{Owned}
 use Rattle.name_store.specs.Arrays.{find_array, is_in_use}
 use Rattle.name_store.specs.Kept.{Names, names_before, past_names}
 use Rattle.name_store.specs.Targets.{target_offsets}
@@ -14,6 +12,7 @@ use Rattle.name_store.specs.declared.change.Change.{Change}
 use Rattle.name_store.specs.declared.change.Change.TheVariants.{Bind, Unbind, Write}
 use Rattle.name_store.specs.declared.entry.Entry.{Entry}
 use Rattle.name_store.specs.declared.entry.Key.{Key}
+use Rattle.name_store.specs.declared.old_items.OldItems.{OldItems}
 use Rattle.name_store.specs.declared.slot.Slot.{Slot}
 use Rattle.name_store.specs.declared.target.Target.{Target}
 
@@ -44,11 +43,11 @@ abbrev pub is_needed : Names → List Change → ℕ → Bool
 is_needed names changes number = is_in_use names number || list_any (needs number) changes
 
 -- old items that go back, one after another, to a target in the slot
-pub record GoBack (target : Target) (items : Owned) (slot : Slot) : Type 0 where
-  pub inside : All (λ offset. offset + item_size items.descr ≤ slot.items * item_size slot.descr) (target_offsets target)
-  pub order : offsets items.layout ≡ multiples (item_size items.descr) (length (target_offsets target))
+pub record GoBack (target : Target) (items : OldItems) (slot : Slot) : Type 0 where
+  pub inside : All (λ offset. offset + items.width ≤ slot.items * item_size slot.descr) (target_offsets target)
+  pub whole : length items.block ≡ length (target_offsets target) * items.width
 
-abbrev pub GoBackAt : Target → Owned → Option Slot → Type 0
+abbrev pub GoBackAt : Target → OldItems → Option Slot → Type 0
 GoBackAt target items None = ⊥
 GoBackAt target items (Some slot) = GoBack target items slot
 

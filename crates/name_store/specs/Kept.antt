@@ -4,8 +4,7 @@ use Rattle.std.specs.Prelude.{ℕ, List, [], ◌∷◌, insert, Some, None, nat_
 use Rattle.std.specs.FinMap.{FinMap, from_entries, retain_keys}
 use Rattle.std.specs.Ordering.{nat_cmp}
 use Rattle.elem_descr.specs.Blocks.{items_in}
-use Rattle.elem_descr.specs.Items.{item_size}
-use Rattle.shape_strides.specs.Layouts.{offsets}
+use Rattle.shape_strides.specs.Layouts.{multiples}
 use Rattle.overlap_copy.specs.Assignments.{assigned}
 use Rattle.name_store.specs.States.{Array, Buffer}
 use Rattle.name_store.specs.Arrays.{put_array, without, is_in_use}
@@ -13,6 +12,7 @@ use Rattle.name_store.specs.Targets.{target_offsets}
 use Rattle.name_store.specs.Entries.{array_at}
 use Rattle.name_store.specs.declared.change.Change.{Change}
 use Rattle.name_store.specs.declared.change.Change.TheVariants.{Bind, Unbind, Write}
+use Rattle.name_store.specs.declared.old_items.OldItems.{OldItems}
 use Rattle.name_store.specs.declared.slot.Slot.{Slot}
 
 abbrev pub Names : Type 0
@@ -25,12 +25,16 @@ names_before (Bind key (Some entry)) names = put_array names key.bytes.items (ar
 names_before (Unbind place key entry) names = insert names place (key.bytes.items, array_at entry)
 names_before (Write number target items) names = names
 
+-- bytes with old items at the offsets: those that lie one after another in a block
+abbrev pub with_old : List ℕ → OldItems → List ℕ → List ℕ
+with_old offsets items bytes = assigned offsets (multiples items.width (length offsets)) items.width items.block bytes
+
 -- the bytes of the buffer with a number before a change
 abbrev pub bytes_before : Change → ℕ → List ℕ → List ℕ
 bytes_before (Bind key earlier) number bytes = bytes
 bytes_before (Unbind place key entry) number bytes = bytes
 bytes_before (Write written target items) number bytes =
-    if nat_eq number written then assigned (target_offsets target) (offsets items.layout) (item_size items.descr) items.block bytes else bytes
+    if nat_eq number written then with_old (target_offsets target) items bytes else bytes
 
 -- the old bytes that it takes to undo a change
 abbrev pub patch_size : Change → ℕ

@@ -3,8 +3,8 @@ ghost use Rattle.std.specs.Prelude.{◌≡◌};
 ghost use Rattle.name_store.specs.Kept.{patch_size};
 
 use crate::entry::{Entry, Key};
+use crate::old_items::OldItems;
 use crate::target::Target;
-use overlap_copy::Owned;
 
 /// A change of the bench, by what is needed to undo it.
 #[derive(Drop)]
@@ -20,11 +20,11 @@ pub enum Change {
         key: Key,
         entry: Entry,
     },
-    /// Items of a buffer were written: the old ones, one after another.
+    /// Items of a buffer were written: the old ones.
     Write {
         number: usize,
         target: Target,
-        items: Owned,
+        items: OldItems,
     },
 }
 

@@ -1,6 +1,7 @@
 //! The block of a buffer is exchanged for that of an array which has an item for each of its items, in
 //! the same order: no item is copied.
 ghost use Rattle.std.specs.Prelude.{◌≡◌, ◌<◌, length, IfSome, IsTrue, Some, true, vec_len};
+ghost use Rattle.elem_descr.specs.Items.{item_size};
 ghost use Rattle.shape_strides.specs.Layouts.{offsets};
 ghost use Rattle.name_store.specs.Arrays.{is_bound};
 ghost use Rattle.name_store.specs.Calls.{AnswersWrite};
@@ -90,7 +91,7 @@ pub(crate) fn exchange(
     ensures answers { AnswersWrite (present names.now.entries slots.old.items) key.now.bytes.items (View layout.now) (Block owned.old) (Ok result)
         (present names.now.entries slots.new.items) }
     ensures wrote { Wrote names.now.entries slots.old.items key.now.bytes.items (offsets layout.now) slots.new.items }
-    ensures old { AreOldOf names.now.entries slots.old.items key.now.bytes.items (offsets layout.now) owned.new }
+    ensures old { AreOldOf names.now.entries slots.old.items key.now.bytes.items (offsets layout.now) (record { block = owned.new.block; width = item_size owned.new.descr }) }
 {
     let home = home_of(names, slots.as_slice(), key);
     exchange_at(slots, home.number, owned);

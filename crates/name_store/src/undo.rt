@@ -12,13 +12,12 @@ ghost use Rattle.name_store.specs.inside.Undoes.{Undoes};
 use crate::change::Change;
 use crate::entry::{Entry, Key};
 use crate::keep::release;
-use crate::old_items::put_back_at;
+use crate::old_items::{OldItems, put_back_at};
 use crate::slot::Slot;
 use crate::target::Target;
 use circular_buffer::HeapCircularBuffer;
 use elem_descr::Refusal;
 use indexmap::IndexMap;
-use overlap_copy::Owned;
 
 /// Unbinds a name that was not bound before.
 fn undo_first(
@@ -73,7 +72,7 @@ fn undo_write(
     ring: &HeapCircularBuffer<Change>,
     number: usize,
     target: &Target,
-    items: &Owned,
+    items: &OldItems,
 )
     requires sound { IsSound names.now.entries slots.old.items (buffer (ring.now.items ++ Write number target.now items.now ∷ []) ring.now.capacity) (spare names.now) }
     ensures { Undoes names.now.entries slots.old.items (Write number target.now items.now) names.now.entries slots.new.items ring.now (spare names.now) }

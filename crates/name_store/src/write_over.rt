@@ -11,7 +11,7 @@ ghost use Rattle.name_store.specs.inside.OldItems.{AreOldOf, AreSame, Wrote};
 use crate::entry::{Entry, Key};
 use crate::exchange::{can_exchange, exchange};
 use crate::home::lent_of;
-use crate::old_items::old_items;
+use crate::old_items::{OldItems, old_items};
 use crate::slot::Slot;
 use crate::target::{Source, Target};
 use crate::write::write_items;
@@ -24,7 +24,7 @@ use std::alloc::Global;
 #[derive(Drop)]
 pub(crate) struct Replaced {
     pub count: usize,
-    pub items: Owned,
+    pub items: OldItems,
 }
 
 /// Writes the source's items to the target's places. The old ones are copied before the first change.
@@ -71,10 +71,8 @@ fn write_block_over(
     if let Target::View(layout) = target {
         if can_exchange(names, slots.as_slice(), key, layout, &owned) {
             let count = exchange(names, slots, key, layout, &mut owned);
-            return Ok(Replaced {
-                count,
-                items: owned,
-            });
+            let items = OldItems::of(owned);
+            return Ok(Replaced { count, items });
         }
     }
     copy_over(alloc, names, slots, key, target, Source::Block(owned))

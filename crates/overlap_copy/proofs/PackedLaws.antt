@@ -1,6 +1,7 @@
 -- Laws of items that lie one after another.
 use Rattle.std.proofs.Common.{◌≡◌, ◌+◌, ◌*◌, ◌<◌, ◌≤◌, ℕ, suc, pos, ◌+ℤ◌, ◌*ℤ◌, List, ◌∷◌, ◌++◌, map, length, sym, ap, ◌∙◌, arith, suc-mul, mul_comm, add-mul, mul-le-mul_right, length-append}
-use Rattle.std.specs.List.{flat_map}
+use Rattle.std.specs.List.{flat_map, range_with_len}
+use Rattle.std.proofs.lemmas.Simd.{map-map}
 use Rattle.std.proofs.lemmas.Int.{ints}
 use Rattle.std.proofs.lemmas.List.{map-append}
 use Rattle.elem_descr.specs.Steps.{numbers_from}
@@ -8,7 +9,7 @@ use Rattle.elem_descr.specs.StepLaws.{numbers-split}
 use Rattle.raw_block.specs.Bytes.{EachWithin}
 use Rattle.shape_strides.specs.declared.runs.Run.{Run}
 use Rattle.shape_strides.specs.Addresses.{natural}
-use Rattle.shape_strides.specs.Layouts.{IsNested}
+use Rattle.shape_strides.specs.Layouts.{IsNested, multiples}
 use Rattle.shape_strides.specs.Runs.{run_offsets}
 use Rattle.overlap_copy.specs.RunLaws.{length-run_offsets, place-at}
 use Rattle.overlap_copy.specs.Assignments.{assigned}
@@ -29,6 +30,14 @@ row-split at width n m =
     ap (map natural) (numbers-split (pos at) (pos width) n m)
     ∙ map-append natural (numbers_from (pos at) (pos width) n) (numbers_from (pos at +ℤ pos width *ℤ pos n) (pos width) m)
     ∙ ap (λ z. row_offsets at width n ++ map natural (numbers_from z (pos width) m)) next
+
+-- from the start on they are the multiples
+pub row-multiples : (width n : ℕ) → row_offsets 0 width n ≡ multiples width n
+row-multiples width n =
+    map-map natural (λ k. pos 0 +ℤ pos width *ℤ pos k) (range_with_len 0 n) ∙ (λ i. map (λ k. same k i) (range_with_len 0 n))
+  where
+    same : (k : ℕ) → natural (pos 0 +ℤ pos width *ℤ pos k) ≡ width * k
+    same k = omega arith
 
 pub length-row : (at width n : ℕ) → length (row_offsets at width n) ≡ n
 length-row at width n = length-run_offsets (row at width n)

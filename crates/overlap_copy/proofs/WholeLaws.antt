@@ -1,5 +1,5 @@
 -- Items that lie one right after another, copied as one stretch.
-use Rattle.std.proofs.Common.{◌≡◌, ◌+◌, ◌-◌, ◌*◌, ◌≤◌, ◌==◌, ℕ, suc, true, List, [], ◌∷◌, length, map, take, drop, refl, sym, ap, ◌∙◌, All, arith, zero-mul, mul-zero, suc-mul}
+use Rattle.std.proofs.Common.{◌≡◌, ◌+◌, ◌-◌, ◌*◌, ◌≤◌, ◌==◌, ℕ, true, List, [], ◌∷◌, length, map, take, drop, refl, sym, ap, ◌∙◌, All, arith, zero-mul, mul-zero, suc-mul}
 use Rattle.std.specs.List.{range_with_len}
 use Rattle.std.proofs.lemmas.Bool.{eqb-true, and_parts}
 use Rattle.std.proofs.lemmas.List.{drop-drop, drop-take, take-take}

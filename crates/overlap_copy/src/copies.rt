@@ -1,16 +1,16 @@
 //! The items of a layout, copied to a block of their own.
-ghost use Rattle.std.specs.Prelude.{◌≡◌, ◌+◌, ◌*◌, ◌≤◌, length, map, nat_le, if◌then◌else◌, All, IfOk, IfErr, IsTrue};
+ghost use Rattle.std.specs.Prelude.{◌≡◌, ◌+◌, ◌*◌, ◌≤◌, length, map, nat_le, if◌then◌else◌, All, IfOk, IfErr};
 ghost use Rattle.raw_block.specs.Bytes.{item_at};
 ghost use Rattle.elem_descr.specs.declared.refusal.Refusal.TheVariants.{OutOfMemory, TooLarge};
 ghost use Rattle.elem_descr.specs.Items.{item_size};
 ghost use Rattle.elem_descr.specs.Blocks.{item_from};
 ghost use Rattle.shape_strides.specs.Limits.{max_bytes};
 ghost use Rattle.shape_strides.specs.Indexes.{count};
-ghost use Rattle.shape_strides.specs.Contiguity.{is_c_contiguous};
-ghost use Rattle.shape_strides.specs.Layouts.{offsets, multiples, Fits, IsNested};
+ghost use Rattle.shape_strides.specs.Layouts.{offsets, Fits, IsNested};
 ghost use Rattle.overlap_copy.specs.Blocks.{offsets_in};
 
 use crate::owned::{Owned, in_order};
+use crate::packed::gather;
 use crate::run_copies::copy_pairs;
 use elem_descr::{Descr, Refusal};
 use raw_block::RawBlock;
@@ -39,35 +39,7 @@ fn copied_to(
     Ok(copy)
 }
 
-/// The `len` bytes from `at` on.
-fn stretch(bytes: &[u8], at: usize, len: usize) -> &[u8]
-    requires { at + len ≤ length bytes.now }
-    ensures bytes { result.now ≡ item_at at len bytes.now }
-    ensures len { length result.now ≡ len }
-{
-    &bytes[at..at + len]
-}
-
-/// The `len` bytes of items that lie one right after another in C order.
-fn copied_whole(
-    alloc: Global,
-    len: usize,
-    block: &RawBlock,
-    layout: &Layout,
-    width: usize,
-) -> Result<RawBlock, AllocError>
-    requires whole { len ≡ count layout.now.shape * width }
-    requires order { IsTrue (is_c_contiguous width (offsets layout.now)) }
-    requires inside { All (λ offset. offset + width ≤ length block.now) (offsets layout.now) }
-    ensures len { IfOk result (λ copy. length copy ≡ len) }
-    ensures bytes { IfOk result (λ copy. map (λ offset. item_at offset width copy) (multiples width (count layout.now.shape))
-        ≡ map (λ offset. item_at offset width block.now) (offsets layout.now)) }
-{
-    let whole = stretch(block.bytes(), layout.first_address(), len);
-    RawBlock::try_copied(alloc, whole)
-}
-
-/// The same where the items lie in any order; `to` has the order.
+/// A block of `len` bytes where the items of a layout lie in this order, as the layout `to` does.
 fn copied(
     alloc: Global,
     to: &Layout,
@@ -88,8 +60,8 @@ fn copied(
         ≡ map (λ offset. item_at offset width block.now) (offsets layout.now)) }
 {
     match order {
-        MemoryOrder::C if layout.is_c(width) => copied_whole(alloc, len, block, layout, width),
-        _ => copied_to(alloc, to, len, block, layout, width),
+        MemoryOrder::C => gather(alloc, block, layout, width),
+        MemoryOrder::Fortran => copied_to(alloc, to, len, block, layout, width),
     }
 }
 

@@ -17,7 +17,7 @@ pub use apart::may_overlap;
 pub use assignment::{assign, assign_from};
 pub use copies::copy;
 pub use owned::Owned;
-pub use packed::packed_run;
+pub use packed::{gather, packed_run, scatter};
 pub use run_copies::copy_run;
 pub use share::share_cell;
 pub use shifted::assign_shifted;

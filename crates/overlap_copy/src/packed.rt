@@ -1,8 +1,9 @@
 //! The items of a layout, one after another in a block of their own.
-ghost use Rattle.std.specs.Prelude.{◌≡◌, ◌+◌, ◌*◌, ◌^◌, ◌<◌, ◌≤◌, pos, length, All, IfOk};
+ghost use Rattle.std.specs.Prelude.{◌≡◌, ◌+◌, ◌*◌, ◌^◌, ◌<◌, ◌≤◌, pos, length, All, IfOk, IsTrue};
 ghost use Rattle.std.specs.List.{flat_map};
-ghost use Rattle.raw_block.specs.Bytes.{EachWithin};
-ghost use Rattle.shape_strides.specs.Layouts.{offsets};
+ghost use Rattle.raw_block.specs.Bytes.{item_at, EachWithin};
+ghost use Rattle.shape_strides.specs.Contiguity.{is_c_contiguous};
+ghost use Rattle.shape_strides.specs.Layouts.{offsets, multiples};
 ghost use Rattle.shape_strides.specs.Runs.{run_offsets};
 ghost use Rattle.overlap_copy.specs.Assignments.{items_at, assigned};
 ghost use Rattle.overlap_copy.specs.inside.Packed.{row_offsets};
@@ -72,8 +73,35 @@ fn scatter_runs(block: &mut RawBlock, runs: Runs<'_>, items: &RawBlock, width: u
     }
 }
 
-/// A block of the items of `width` bytes that a layout leads to, in C order.
-pub(crate) fn gather(
+/// The `len` bytes from `at` on.
+fn stretch(bytes: &[u8], at: usize, len: usize) -> &[u8]
+    requires { at + len ≤ length bytes.now }
+    ensures bytes { result.now ≡ item_at at len bytes.now }
+    ensures len { length result.now ≡ len }
+{
+    &bytes[at..at + len]
+}
+
+/// The same as `gather` of items that lie one right after another.
+fn gather_whole(
+    alloc: Global,
+    block: &RawBlock,
+    layout: &Layout,
+    width: usize,
+) -> Result<RawBlock, AllocError>
+    requires order { IsTrue (is_c_contiguous width (offsets layout.now)) }
+    requires inside { All (λ offset. offset + width ≤ length block.now) (offsets layout.now) }
+    ensures len { IfOk result (λ items. length items ≡ length (offsets layout.now) * width) }
+    ensures items { IfOk result (λ items. items_at (multiples width (length (offsets layout.now))) width items ≡ items_at (offsets layout.now) width block.now) }
+{
+    let _len = block.len();
+    let len = layout.shape.items().saturating_mul(width);
+    let whole = stretch(block.bytes(), layout.first_address(), len);
+    RawBlock::try_copied(alloc, whole)
+}
+
+/// The same run by run.
+fn gather_each(
     alloc: Global,
     block: &RawBlock,
     layout: &Layout,
@@ -81,7 +109,7 @@ pub(crate) fn gather(
 ) -> Result<RawBlock, AllocError>
     requires inside { All (λ offset. offset + width ≤ length block.now) (offsets layout.now) }
     ensures len { IfOk result (λ items. length items ≡ length (offsets layout.now) * width) }
-    ensures items { IfOk result (λ items. items_at (row_offsets 0 width (length (offsets layout.now))) width items ≡ items_at (offsets layout.now) width block.now) }
+    ensures items { IfOk result (λ items. items_at (multiples width (length (offsets layout.now))) width items ≡ items_at (offsets layout.now) width block.now) }
 {
     // More bytes than there can be are refused as any others.
     let bytes = layout.shape.items().saturating_mul(width);
@@ -91,11 +119,29 @@ pub(crate) fn gather(
     Ok(items)
 }
 
-/// Copies such items to where a layout leads.
-pub(crate) fn scatter(block: &mut RawBlock, layout: &Layout, items: &RawBlock, width: usize)
+/// The items of `width` bytes of a layout, one after another in C order in a block of their own.
+pub fn gather(
+    alloc: Global,
+    block: &RawBlock,
+    layout: &Layout,
+    width: usize,
+) -> Result<RawBlock, AllocError>
+    requires { All (λ offset. offset + width ≤ length block.now) (offsets layout.now) }
+    ensures len { IfOk result (λ items. length items ≡ length (offsets layout.now) * width) }
+    ensures items { IfOk result (λ items. items_at (multiples width (length (offsets layout.now))) width items ≡ items_at (offsets layout.now) width block.now) }
+{
+    if layout.is_c(width) {
+        return gather_whole(alloc, block, layout, width);
+    }
+    gather_each(alloc, block, layout, width)
+}
+
+/// Copies items of `width` bytes that lie one after another from a block's start on to those of a
+/// layout, in C order.
+pub fn scatter(block: &mut RawBlock, layout: &Layout, items: &RawBlock, width: usize)
     requires inside { All (λ offset. offset + width ≤ length block.old) (offsets layout.now) }
     requires items { length (offsets layout.now) * width ≤ length items.now }
-    ensures written { block.new ≡ assigned (offsets layout.now) (row_offsets 0 width (length (offsets layout.now))) width items.now block.old }
+    ensures written { block.new ≡ assigned (offsets layout.now) (multiples width (length (offsets layout.now))) width items.now block.old }
     ensures len { length block.new ≡ length block.old }
 {
     scatter_runs(block, Runs::new(layout), items, width);

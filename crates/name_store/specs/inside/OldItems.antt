@@ -1,38 +1,30 @@
 -- Old items, one after another, and slots whose bytes are new at the offsets of a target alone.
-use Rattle.std.specs.Prelude.{◌≡◌, ◌*◌, ◌≤◌, ℕ, List, length, Option}
+use Rattle.std.specs.Prelude.{◌≡◌, ◌*◌, ℕ, List, length, Option}
 use Rattle.std.specs.List.{AllByRecursion}
 use Rattle.std.specs.Option.{option_map}
 use Rattle.elem_descr.specs.declared.descr.Descr.{Descr}
 use Rattle.elem_descr.specs.Items.{item_size}
-use Rattle.shape_strides.specs.Limits.{max_bytes}
-use Rattle.shape_strides.specs.Layouts.{offsets, multiples}
-use Rattle.overlap_copy.specs.declared.owned.Owned.{Owned}
+use Rattle.shape_strides.specs.Layouts.{multiples}
 use Rattle.overlap_copy.specs.Assignments.{items_at, with_items}
 use Rattle.name_store.specs.View.{slot_at}
 use Rattle.name_store.specs.declared.entry.Entry.{Entry}
 use Rattle.name_store.specs.declared.entry.Key.{Key}
+use Rattle.name_store.specs.declared.old_items.OldItems.{OldItems}
 use Rattle.name_store.specs.declared.slot.Slot.{Slot}
-use Rattle.name_store.specs.declared.target.Target.{Target}
-use Rattle.name_store.specs.declared.target.Target.TheVariants.{View, Plan}
 use Rattle.name_store.specs.inside.Homes.{IsHome, IsLent, HasNew}
 
 -- the items that a block has at the offsets, one after another
-pub record AreOld (descr : Descr) (block os : List ℕ) (o : Owned) : Type 0 where
-  pub size : item_size o.descr ≡ item_size descr
-  pub order : offsets o.layout ≡ multiples (item_size descr) (length os)
-  pub bytes : items_at (offsets o.layout) (item_size descr) o.block ≡ items_at os (item_size descr) block
+pub record AreOld (descr : Descr) (block os : List ℕ) (o : OldItems) : Type 0 where
+  pub size : o.width ≡ item_size descr
+  pub whole : length o.block ≡ length os * o.width
+  pub bytes : items_at (multiples o.width (length os)) o.width o.block ≡ items_at os (item_size descr) block
 
 -- these are those of the block that the name's array lies in
-pub record AreOldOf (names : List (Key × Entry)) (slots : List (Option Slot)) (name os : List ℕ) (o : Owned) : Type 0 where
+pub record AreOldOf (names : List (Key × Entry)) (slots : List (Option Slot)) (name os : List ℕ) (o : OldItems) : Type 0 where
   pub block : List ℕ
   pub descr : Descr
   pub lent : IsLent names slots name block descr
   pub old : AreOld descr block os o
-
--- a plan's items are not too many
-abbrev pub IsSmall : Target → ℕ → Type 0
-IsSmall (View layout) width = Unit {0}
-IsSmall (Plan plan) width = length plan.offsets * width ≤ max_bytes
 
 abbrev pub stand : Slot → Descr × ℕ × List ℕ
 stand s = (s.descr, s.items, s.block)

@@ -1,4 +1,5 @@
-use Rattle.std.proofs.Common.{◌≡◌, ◌∙◌, sym, subst, Option, IfSome, length, arith}
+use Rattle.std.proofs.Common.{◌≡◌, ◌∙◌, sym, ap, subst, Option, IfSome, length, arith}
+use Rattle.elem_descr.specs.Items.{item_size}
 use Rattle.shape_strides.specs.LayoutLaws.{length-offsets}
 use Rattle.name_store.specs.inside.Homes.{IsHome}
 use Rattle.name_store.specs.declared.slot.Slot.{Slot}
@@ -40,5 +41,5 @@ returns-clause-wrote c =
 pub returns-clause-old : goal.returns-clause-old
 returns-clause-old c =
     let home = subst (λ (slots : Slots). IsHome c.args.names.now.entries slots c.args.key.now.bytes.items c.home_of-home.result.number c.home_of-home.result.width) c.as_slice.ensures.value c.home_of-home.ensures in
-    exchange-old c.args.names.now.entries c.args.slots.now.items _ c.home_of-home.result.number c.home_of-home.result.width home c.args.layout.now c.args.owned.now c.requires.aim c.requires.can c.exchange_at.new.owned
-    c.exchange_at.ensures.descr c.exchange_at.ensures.layout (c.exchange_at.ensures.taken home.slot home.there)
+    exchange-old c.args.names.now.entries c.args.slots.now.items _ c.home_of-home.result.number c.home_of-home.result.width home c.args.layout.now c.args.owned.now c.requires.aim c.requires.can _
+    (ap item_size c.exchange_at.ensures.descr) (c.exchange_at.ensures.taken home.slot home.there)

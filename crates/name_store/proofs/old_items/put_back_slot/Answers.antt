@@ -1,7 +1,5 @@
 use Rattle.std.proofs.Common.{◌≡◌, ap, sym, ◌∙◌, refl}
-use Rattle.elem_descr.specs.Items.{item_size}
-use Rattle.shape_strides.specs.Layouts.{offsets}
-use Rattle.overlap_copy.specs.Assignments.{assigned}
+use Rattle.name_store.specs.Kept.{with_old}
 use Rattle.name_store.specs.Targets.{target_offsets}
 use Rattle.name_store.specs.declared.slot.Slot.{Slot}
 use Rattle.name_store.proofs.WriteLaws.{some-same}
@@ -15,6 +13,6 @@ returns-in-Some c old is =
       record {
         descr = ap (λ (s : Slot). s.descr) same;
         items = ap (λ (s : Slot). s.items) same;
-        block = c.put_back.ensures.bytes ∙ ap (λ (s : Slot). assigned (target_offsets c.args.target.now) (offsets c.args.items.now.layout) (item_size c.args.items.now.descr) c.args.items.now.block s.block) same;
+        block = c.put_back.ensures.bytes ∙ ap (λ (s : Slot). with_old (target_offsets c.args.target.now) c.args.items.now s.block) same;
       },
     )

@@ -1,15 +1,12 @@
 use Rattle.std.proofs.Common.{◌≡◌, ◌*◌, length, sym, ap, subst, ◌∙◌, All, ◌+◌, ◌≤◌, arith}
 use Rattle.std.proofs.lemmas.Bool.{both_ways}
-use Rattle.shape_strides.specs.Layouts.{offsets}
+use Rattle.shape_strides.specs.Layouts.{offsets, multiples}
 use Rattle.shape_strides.specs.LayoutLaws.{length-offsets, offsets_within}
 use Rattle.overlap_copy.specs.Assignments.{with_items, assigned}
-use Rattle.overlap_copy.specs.inside.Packed.{row_offsets}
 use Rattle.overlap_copy.proofs.assignment.assign.Goals as goal
 
 pub gather-requires : goal.gather-requires
-gather-requires c = record {
-  inside = subst (λ n. All (λ offset. offset + c.args.width ≤ n) (offsets c.args.src.now)) (sym c.assign_runs.ensures.len) (offsets_within c.args.src.now (length c.args.block.now) c.args.width c.requires.src);
-}
+gather-requires c = subst (λ n. All (λ offset. offset + c.args.width ≤ n) (offsets c.args.src.now)) (sym c.assign_runs.ensures.len) (offsets_within c.args.src.now (length c.args.block.now) c.args.width c.requires.src)
 
 pub returns-in_err-items-clause-runs : goal.returns-in_err-items-clause-runs
 returns-in_err-items-clause-runs c = λ step run run'. absurd (both_ways c.assign_runs.result c.if-assign_runs.false (c.assign_runs.ensures.same_step step run run'))
@@ -35,6 +32,6 @@ returns-clause-written c =
     let block = c.assign_runs.new.block in
     let even : length to ≡ length from = length-offsets c.args.dst.now ∙ c.requires.count ∙ sym (length-offsets c.args.src.now) in
     c.scatter.ensures.written
-    ∙ ap (λ n. assigned to (row_offsets 0 width n) width items block) even
+    ∙ ap (λ n. assigned to (multiples width n) width items block) even
     ∙ ap (λ all. with_items to all block) c.in_ok-items.ensures.items
     ∙ ap (λ b. assigned to from width b b) (c.assign_runs.ensures.kept c.if-assign_runs.false)

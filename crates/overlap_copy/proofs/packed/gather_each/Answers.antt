@@ -10,9 +10,9 @@ use Rattle.overlap_copy.specs.RunLaws.{runs-within}
 use Rattle.overlap_copy.specs.Assignments.{items_at, assigned}
 use Rattle.overlap_copy.specs.inside.Packed.{row_offsets}
 use Rattle.overlap_copy.proofs.CopyLaws.{landed}
-use Rattle.overlap_copy.proofs.PackedLaws.{length-row, row-within, row-nested}
+use Rattle.overlap_copy.proofs.PackedLaws.{length-row, row-within, row-nested, row-multiples}
 use Rattle.overlap_copy.specs.RunLaws.{run-ends}
-use Rattle.overlap_copy.proofs.packed.gather.Goals as goal
+use Rattle.overlap_copy.proofs.packed.gather_each.Goals as goal
 
 pub gather_runs-requires-clause-from : goal.gather_runs-requires-clause-from
 gather_runs-requires-clause-from c =
@@ -47,5 +47,6 @@ returns-clause-items c =
     let bytes : length c.in_ok-items.items ≡ c.saturating_mul-bytes.result = ap length c.in_ok-items.ensures ∙ length-replicate c.saturating_mul-bytes.result 0 in
     let room : 0 + n * width ≤ length c.in_ok-items.items = omega (arith, ap (λ m. m * width) long, bytes, c.saturating_mul-bytes.ensures, c.len-len.ensures.len, c.len-len.ensures.small) in
     let is : c.gather_runs.new.items ≡ assigned to (offsets l) width c.args.block.now c.in_ok-items.items = c.gather_runs.ensures.written ∙ (λ i. assigned (row_offsets 0 width (length (all i))) (all i) width c.args.block.now c.in_ok-items.items) in
-    ap (items_at to width) is
+    ap (λ os. items_at os width c.gather_runs.new.items) (sym (row-multiples width n))
+    ∙ ap (items_at to width) is
     ∙ landed width c.args.block.now to (offsets l) c.in_ok-items.items (length-row 0 width n) (run-ends (length c.in_ok-items.items) width _ (row-within (length c.in_ok-items.items) 0 width n room)) c.requires.inside (row-nested (length c.in_ok-items.items) 0 width n room)
