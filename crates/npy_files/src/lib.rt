@@ -3,6 +3,7 @@
 
 mod dir_store;
 mod file_header;
+mod file_parts;
 mod fuse_store;
 mod grammar;
 mod header;
@@ -18,6 +19,7 @@ mod writer;
 mod written_items;
 
 pub use dir_store::{DirStore, MAX_FILE};
+pub use file_parts::FileParts;
 pub use fuse_store::FuseStore;
 pub use header::{Header, header_read};
 pub use mem_store::MemStore;
