@@ -6,6 +6,7 @@ pub mod RecordListLaws
 mod Vectors
 mod FileVectors
 pub mod FileLaws
+pub mod PartLaws
 pub mod WrittenEntries
 pub mod ScalarBytes
 pub mod WrittenItemLaws
