@@ -12,6 +12,7 @@ pub mod ScalarBytes
 pub mod WrittenItemLaws
 pub mod GatherLaws
 pub mod WriterLaws
+pub mod SaverLaws
 pub mod ReadTokens
 pub mod ReadValues
 pub mod Spellings
