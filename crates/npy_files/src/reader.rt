@@ -24,6 +24,7 @@ fn split_front(n: usize, bytes: &[u8]) -> Result<(&[u8], &[u8]), Refusal>
     ensures answers { Answers (λ parts. (parts.0.now, parts.1.now)) result (split_front n bytes.now) }
     ensures len { IfOk result (λ parts. length parts.0.now ≡ n) }
     ensures whole { IfOk result (λ parts. parts.0.now ++ parts.1.now ≡ bytes.now) }
+    ensures rest { IfOk result (λ parts. length parts.1.now ≤ length bytes.now) }
 {
     if n > bytes.len() {
         return Err(Refusal::Truncated);
@@ -57,7 +58,8 @@ fn length_bytes(version: &[u8]) -> Result<usize, Refusal>
 fn text_behind<'a>(field: &[u8], behind: &'a [u8]) -> Result<(&'a [u8], &'a [u8]), Refusal>
     requires some { 1 ≤ length field.now }
     requires few { length field.now ≤ 4 }
-    ensures { Answers (λ parts. (parts.0.now, parts.1.now)) result (text_behind field.now behind.now) }
+    ensures answers { Answers (λ parts. (parts.0.now, parts.1.now)) result (text_behind field.now behind.now) }
+    ensures rest { IfOk result (λ parts. length parts.1.now ≤ length behind.now) }
 {
     let len = LittleEndian::read_uint(field, field.len());
     if len > MAX_HEADER as u64 {
@@ -69,7 +71,8 @@ fn text_behind<'a>(field: &[u8], behind: &'a [u8]) -> Result<(&'a [u8], &'a [u8]
 /// The text of a file's header, and what follows it.
 #[tactic(auto, unfolding(crate::specs::Files::split_header))]
 pub(crate) fn split_header(file: &[u8]) -> Result<(&[u8], &[u8]), Refusal>
-    ensures { Answers (λ parts. (parts.0.now, parts.1.now)) result (split_header file.now) }
+    ensures answers { Answers (λ parts. (parts.0.now, parts.1.now)) result (split_header file.now) }
+    ensures rest { IfOk result (λ parts. length parts.1.now ≤ length file.now) }
 {
     if !begins_well(file) {
         return Err(Refusal::BadMagic);
