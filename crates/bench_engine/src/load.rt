@@ -16,7 +16,7 @@ use crate::replies::{Origin, push_bound_text};
 use crate::store_fault::refusal_of;
 use elem_descr::Refusal;
 use name_store::{Bench, Bound};
-use npy_files::{NpyStore, npy_read};
+use npy_files::{NpyStore, npy_load};
 use overlap_copy::Owned;
 use script_lang::{FileName, Name};
 use std::alloc::{AllocError, Global};
@@ -31,8 +31,8 @@ fn find<N: NpyStore>(
     ensures files { (N.shelf store.new).files ≡ (N.shelf store.old).files }
     ensures finds { Finds (N.shelf store.old) (N.shelf store.new) file.now result }
 {
-    match store.read(alloc, file.as_slice()) {
-        Ok(Some(bytes)) => npy_read(alloc, bytes.as_slice()),
+    match store.read_parts(alloc, file.as_slice()) {
+        Ok(Some(parts)) => npy_load(alloc, parts),
         Ok(None) => Err(Refusal::NoSuchFile),
         Err(fault) => Err(refusal_of(fault)),
     }

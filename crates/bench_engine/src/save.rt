@@ -10,21 +10,22 @@ use crate::store_fault::refusal_of;
 use elem_descr::Refusal;
 use itoa::Buffer;
 use name_store::Bench;
-use npy_files::{NpyStore, npy_write};
+use npy_files::{NpyStore, npy_parts};
 use script_lang::{FileName, Name};
 use std::alloc::Global;
 
-/// Gives a store the bytes of a file.
+/// Gives a store the bytes of a file, in two parts.
 fn put<N: NpyStore>(
     alloc: Global,
     store: &mut N,
     file: &FileName,
-    bytes: &[u8],
+    front: &[u8],
+    items: &[u8],
 ) -> Result<(), Refusal>
     ensures same { IsSameStore (N.shelf store.old) (N.shelf store.new) }
-    ensures puts { Puts (N.shelf store.old) (N.shelf store.new) file.now bytes.now result }
+    ensures puts { Puts (N.shelf store.old) (N.shelf store.new) file.now (front.now ++ items.now) result }
 {
-    match store.write(alloc, file.as_slice(), bytes) {
+    match store.write_parts(alloc, file.as_slice(), front, items) {
         Ok(()) => Ok(()),
         Err(fault) => Err(refusal_of(fault)),
     }
@@ -60,8 +61,8 @@ pub fn save<N: NpyStore>(
     let Some(array) = bench.get(name) else {
         return Err(Refusal::UnknownName);
     };
-    let bytes = npy_write(alloc, array.block, array.layout, array.descr)?;
-    put(alloc, store, file, bytes.as_slice())?;
-    push_saved_text(out, bytes.len());
+    let parts = npy_parts(alloc, array.block, array.layout, array.descr)?;
+    put(alloc, store, file, parts.front.as_slice(), parts.items)?;
+    push_saved_text(out, parts.front.len() + parts.items.len());
     Ok(())
 }

@@ -6,11 +6,13 @@ pub mod RecordListLaws
 mod Vectors
 mod FileVectors
 pub mod FileLaws
+pub mod PartLaws
 pub mod WrittenEntries
 pub mod ScalarBytes
 pub mod WrittenItemLaws
 pub mod GatherLaws
 pub mod WriterLaws
+pub mod SaverLaws
 pub mod ReadTokens
 pub mod ReadValues
 pub mod Spellings

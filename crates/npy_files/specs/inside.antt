@@ -4,3 +4,4 @@ pub mod ValueCounts
 pub mod Entries
 pub mod WrittenItems
 pub mod Sound
+pub mod LoadedParts

@@ -1,20 +1,16 @@
 //! A store that is a folder.
-ghost use Rattle.std.specs.Prelude.{◌≡◌, IfOk};
+ghost use Rattle.std.specs.Prelude.{◌≡◌};
 ghost use Rattle.npy_files.specs.inside.Shelves.{HasCount};
 
+use crate::file_parts::FileParts;
+use crate::open_file::{MAX_FILE, read_cut, read_whole};
 use crate::store::{NpyStore, StoreFault};
 use std::alloc::{AllocError, Global};
 use std::fs::{File, OpenFile};
-use std::io::{ErrorKind, Read, Write};
+use std::io::{ErrorKind, Write};
 use std::path::{Path, PathBuf};
 use std::rt::Files;
 use std::{fs, io};
-
-/// The most bytes of a file in a folder.
-pub const MAX_FILE: usize = 1 << 29;
-
-/// The most bytes that are read at a time.
-const PIECE: usize = 1 << 16;
 
 /// A store that is a folder, reached through a runtime. No contract tells what a folder holds, so that
 /// it isn't honest: its contracts say of its files nothing.
@@ -57,35 +53,6 @@ fn paths(alloc: Global, dir: &str, name: &str) -> Result<(PathBuf, PathBuf), All
     Ok((dir.join(alloc, name)?, dir.join(alloc, hidden.as_str())?))
 }
 
-/// Appends what follows in a file. More than there is room for is a fault: the file has grown since
-/// its length was asked.
-fn read_rest<F: Read>(file: &mut F, bytes: &mut Vec<u8>) -> Result<(), StoreFault> {
-    let mut piece = [0; PIECE];
-    for _ in 0..u64::MAX {
-        match file.read(&mut piece) {
-            Ok(0) => return Ok(()),
-            Ok(count) if count > bytes.capacity() - bytes.len() => break,
-            Ok(count) => bytes.extend_from_slice(&piece[..count])?,
-            Err(error) if error.kind() == ErrorKind::Interrupted => {}
-            Err(_) => break,
-        }
-    }
-    Err(StoreFault::Device)
-}
-
-/// The bytes of an open file, of which there are at most `MAX_FILE`.
-fn read_open<F: Read + OpenFile + Drop>(alloc: Global, mut file: F) -> Result<Vec<u8>, StoreFault> {
-    let Ok(metadata) = file.metadata() else {
-        return Err(StoreFault::Device);
-    };
-    if metadata.len() > MAX_FILE as u64 {
-        return Err(StoreFault::TooLong);
-    }
-    let mut bytes = Vec::with_capacity(alloc, metadata.len() as usize)?;
-    read_rest(&mut file, &mut bytes)?;
-    Ok(bytes)
-}
-
 /// Opens the file at a path. What is no file, as a folder or a pipe, is not opened: a pipe would wait
 /// for its other end.
 fn open_file<R: Files>(rt: &R, path: Path) -> io::Result<R::File> {
@@ -95,27 +62,50 @@ fn open_file<R: Files>(rt: &R, path: Path) -> io::Result<R::File> {
     fs::open(rt, path)
 }
 
-/// The bytes of the file at a path, or `None` where there is none.
-fn read_file<R: Files>(rt: &R, alloc: Global, path: Path) -> Result<Option<Vec<u8>>, StoreFault> {
+/// The file at a path, or `None` where there is none.
+fn found_file<R: Files>(rt: &R, path: Path) -> Result<Option<R::File>, StoreFault> {
     match open_file(rt, path) {
-        Ok(file) => Ok(Some(read_open(alloc, file)?)),
+        Ok(file) => Ok(Some(file)),
         Err(error) if error.kind() == ErrorKind::NotFound => Ok(None),
         Err(_) => Err(StoreFault::Device),
     }
 }
 
-/// Writes the bytes to a new file at a path, and brings them to the disk. What a crash left there is
-/// removed, and not written over, since it may be a link.
-fn write_through<R: Files>(rt: &R, path: Path, bytes: &[u8]) -> io::Result<()> {
+/// The bytes of the file at a path.
+fn read_file<R: Files>(rt: &R, alloc: Global, path: Path) -> Result<Option<Vec<u8>>, StoreFault> {
+    match found_file(rt, path)? {
+        Some(file) => Ok(Some(read_whole(alloc, file)?)),
+        None => Ok(None),
+    }
+}
+
+/// The same, in two parts.
+fn cut_file<R: Files>(rt: &R, alloc: Global, path: Path) -> Result<Option<FileParts>, StoreFault> {
+    match found_file(rt, path)? {
+        Some(file) => Ok(Some(read_cut(alloc, file)?)),
+        None => Ok(None),
+    }
+}
+
+/// Writes the bytes to a new file at a path, one part behind the other, and brings them to the disk.
+/// What a crash left there is removed, and not written over, since it may be a link.
+fn write_through<R: Files>(rt: &R, path: Path, front: &[u8], items: &[u8]) -> io::Result<()> {
     let _ = fs::remove_file(rt, path);
     let mut file = File::create_new(rt, path)?;
-    file.write_all(bytes)?;
+    file.write_all(front)?;
+    file.write_all(items)?;
     file.sync_all()
 }
 
 /// Writes the bytes to the file at one path, and then gives it the other.
-fn put_file<R: Files>(rt: &R, hidden: Path, path: Path, bytes: &[u8]) -> io::Result<()> {
-    write_through(rt, hidden, bytes)?;
+fn put_file<R: Files>(
+    rt: &R,
+    hidden: Path,
+    path: Path,
+    front: &[u8],
+    items: &[u8],
+) -> io::Result<()> {
+    write_through(rt, hidden, front, items)?;
     fs::rename(rt, hidden, path)
 }
 
@@ -124,9 +114,10 @@ fn replace_file<R: Files>(
     rt: &R,
     hidden: Path,
     path: Path,
-    bytes: &[u8],
+    front: &[u8],
+    items: &[u8],
 ) -> Result<(), StoreFault> {
-    match put_file(rt, hidden, path, bytes) {
+    match put_file(rt, hidden, path, front, items) {
         Ok(()) => Ok(()),
         Err(_) => {
             let _ = fs::remove_file(rt, hidden);
@@ -180,14 +171,35 @@ impl<'a, R: Files> NpyStore for DirStore<'a, R> {
     }
 
     fn write(&mut self, alloc: Global, name: &[u8], bytes: &[u8]) -> Result<(), StoreFault> {
-        if bytes.len() > MAX_FILE {
+        self.write_parts(alloc, name, bytes, &[])
+    }
+
+    fn read_parts(&mut self, alloc: Global, name: &[u8]) -> Result<Option<FileParts>, StoreFault> {
+        let Some(name) = file_name(name) else {
+            return Ok(None);
+        };
+        let (path, _) = paths(alloc, self.dir.as_str(), name)?;
+        match cut_file(self.rt, alloc, path.as_path()) {
+            Ok(found) => Ok(found),
+            Err(fault) => Err(self.counted(fault)),
+        }
+    }
+
+    fn write_parts(
+        &mut self,
+        alloc: Global,
+        name: &[u8],
+        front: &[u8],
+        items: &[u8],
+    ) -> Result<(), StoreFault> {
+        if front.len() > MAX_FILE || items.len() > MAX_FILE - front.len() {
             return Err(StoreFault::TooLong);
         }
         let Some(name) = file_name(name) else {
             return Err(self.counted(StoreFault::Device));
         };
         let (path, hidden) = paths(alloc, self.dir.as_str(), name)?;
-        match replace_file(self.rt, hidden.as_path(), path.as_path(), bytes) {
+        match replace_file(self.rt, hidden.as_path(), path.as_path(), front, items) {
             Ok(()) => Ok(()),
             Err(fault) => Err(self.counted(fault)),
         }

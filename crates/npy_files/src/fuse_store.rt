@@ -2,6 +2,7 @@
 ghost use Rattle.std.specs.Prelude.{◌≡◌};
 ghost use Rattle.npy_files.specs.inside.Shelves.{answer_by, calls_after};
 
+use crate::file_parts::FileParts;
 use crate::mem_store::MemStore;
 use crate::store::{NpyStore, StoreFault};
 use std::alloc::Global;
@@ -65,5 +66,21 @@ impl NpyStore for FuseStore {
     fn write(&mut self, alloc: Global, name: &[u8], bytes: &[u8]) -> Result<(), StoreFault> {
         self.count_call()?;
         self.store.write(alloc, name, bytes)
+    }
+
+    fn read_parts(&mut self, alloc: Global, name: &[u8]) -> Result<Option<FileParts>, StoreFault> {
+        self.count_call()?;
+        self.store.read_parts(alloc, name)
+    }
+
+    fn write_parts(
+        &mut self,
+        alloc: Global,
+        name: &[u8],
+        front: &[u8],
+        items: &[u8],
+    ) -> Result<(), StoreFault> {
+        self.count_call()?;
+        self.store.write_parts(alloc, name, front, items)
     }
 }

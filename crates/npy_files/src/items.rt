@@ -86,7 +86,7 @@ fn push_runs(
 }
 
 /// Whether items of `width` bytes lie one right after the other in C order or in Fortran order.
-fn are_together(layout: &Layout, width: usize) -> bool
+pub(crate) fn are_together(layout: &Layout, width: usize) -> bool
     ensures { result ≡ (is_c_contiguous width (offsets layout.now) || is_f_contiguous width layout.now.shape (offsets layout.now)) }
 {
     layout.is_c(width) || layout.is_f(width)

@@ -1,8 +1,9 @@
 //! Stores of files.
-ghost use Rattle.std.specs.Prelude.{◌≡◌, true};
+ghost use Rattle.std.specs.Prelude.{◌≡◌, ◌++◌, true};
 ghost use Rattle.std.specs.FinMap.{get};
 ghost use Rattle.npy_files.specs.Stores.{Shelf, IsSameStore, HasCause, IsRead, IsWritten};
 
+use crate::file_parts::{FileParts, joined};
 use std::alloc::{AllocError, AllocFailed, Global};
 use thiserror::Error;
 
@@ -59,4 +60,33 @@ pub trait NpyStore {
         ensures same { IsSameStore (shelf self.old) (shelf self.new) }
         ensures cause { HasCause (shelf self.old) (shelf self.new) result }
         ensures written { (shelf self.old).honest ≡ true → IsWritten (shelf self.old) name.now bytes.now result (shelf self.new).files };
+
+    /// The same file as `read` gives, in two parts.
+    fn read_parts(&mut self, alloc: Global, name: &[u8]) -> Result<Option<FileParts>, StoreFault>
+        ensures same { IsSameStore (shelf self.old) (shelf self.new) }
+        ensures files { (shelf self.new).files ≡ (shelf self.old).files }
+        ensures cause { HasCause (shelf self.old) (shelf self.new) result }
+        ensures found { (shelf self.old).honest ≡ true → IsRead (λ parts. parts.front.items ++ parts.block) (shelf self.old).limit (get (shelf self.old).files name.now) result }
+    {
+        match self.read(alloc, name)? {
+            Some(bytes) => Ok(Some(FileParts::uncut(alloc, bytes)?)),
+            None => Ok(None),
+        }
+    }
+
+    /// Writes the file that has these bytes in front and these items behind them, as `write` does.
+    fn write_parts(
+        &mut self,
+        alloc: Global,
+        name: &[u8],
+        front: &[u8],
+        items: &[u8],
+    ) -> Result<(), StoreFault>
+        ensures same { IsSameStore (shelf self.old) (shelf self.new) }
+        ensures cause { HasCause (shelf self.old) (shelf self.new) result }
+        ensures written { (shelf self.old).honest ≡ true → IsWritten (shelf self.old) name.now (front.now ++ items.now) result (shelf self.new).files }
+    {
+        let bytes = joined(alloc, front, items)?;
+        self.write(alloc, name, bytes.as_slice())
+    }
 }

@@ -23,7 +23,7 @@ use shape_strides::{Layout, MAX_BYTES, Shape};
 use std::alloc::{AllocError, Global};
 
 /// Whether items of `width` bytes lie one right after the other in Fortran order and not in C order.
-fn is_fortran(layout: &Layout, width: usize) -> bool
+pub(crate) fn is_fortran(layout: &Layout, width: usize) -> bool
     ensures { result ≡ is_fortran width layout.now.shape (offsets layout.now) }
 {
     if layout.is_c(width) {
@@ -33,7 +33,7 @@ fn is_fortran(layout: &Layout, width: usize) -> bool
 }
 
 /// The bytes of a file before its items.
-fn header(alloc: Global, descr: &Descr, fortran: bool, shape: &Shape) -> Result<Vec<u8>, AllocError>
+pub(crate) fn header(alloc: Global, descr: &Descr, fortran: bool, shape: &Shape) -> Result<Vec<u8>, AllocError>
     ensures { IfOk result (λ file. file.items ≡ written_header (written_text descr.now fortran shape.now)) }
 {
     let text = header_text(alloc, descr, fortran, shape)?;
@@ -49,7 +49,7 @@ fn write_behind(file: &mut Vec<u8>, start: usize, count: usize, descr: &Descr)
 }
 
 /// The file of items that have `len` bytes.
-fn written(
+pub(crate) fn written(
     alloc: Global,
     bytes: &[u8],
     layout: &Layout,
@@ -80,7 +80,7 @@ fn look_at(descr: &Descr)
 }
 
 /// What is written of the items of a layout is loaded again.
-fn will_load(bytes: &[u8], layout: &Layout, descr: &Descr)
+pub(crate) fn will_load(bytes: &[u8], layout: &Layout, descr: &Descr)
     requires inside { All (λ offset. offset + item_size descr.now ≤ length bytes.now) (offsets layout.now) }
     requires small { count layout.now.shape * item_size descr.now ≤ max_bytes }
     ensures { (fortran : Bool) → let items = map (item_from descr.now bytes.now) (offsets layout.now) in LoadsAs (file_of descr.now fortran layout.now.shape items) descr.now layout.now.shape items }

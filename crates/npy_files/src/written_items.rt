@@ -122,6 +122,20 @@ fn write_scalars(bytes: &mut [u8], count: usize, scalar: &Scalar)
     }
 }
 
+/// Whether items are written as they are: leaves fill them, and none is a bool.
+pub(crate) fn are_plain(descr: &Descr) -> bool
+    ensures plain { IsTrue result → IsPlain 0 (leaves_of descr.now) (item_size descr.now) }
+    ensures in_order { AreInOrder 0 (leaves_of descr.now) (item_size descr.now) }
+{
+    match descr {
+        Descr::Scalar(scalar) => {
+            let _size = scalar.size();
+            !is_bool(scalar)
+        }
+        Descr::Record(whole) => is_plain(whole.leaves(), whole.size()),
+    }
+}
+
 /// Writes `count` items that lie one after another as a file has them.
 pub(crate) fn write_items(bytes: &mut [u8], count: usize, descr: &Descr)
     requires { length bytes.old ≡ count * item_size descr.now }

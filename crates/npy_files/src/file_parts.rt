@@ -1,0 +1,35 @@
+//! Files in two parts.
+ghost use Rattle.std.specs.Prelude.{◌≡◌, ◌++◌, IfOk};
+
+use raw_block::RawBlock;
+use std::alloc::{AllocError, Global};
+
+/// A file in two parts, the one behind the other. Wherever it is cut, it is the same file; where it is cut
+/// behind the header of an NPY file, its block can become that of the array.
+#[derive(Drop)]
+pub struct FileParts {
+    pub front: Vec<u8>,
+    pub block: RawBlock,
+}
+
+impl FileParts {
+    /// The file with these bytes, all of them in front.
+    pub fn uncut(alloc: Global, bytes: Vec<u8>) -> Result<FileParts, AllocError>
+        ensures { IfOk result (λ parts. parts.front.items ++ parts.block ≡ bytes.items) }
+    {
+        let block = RawBlock::try_zeroed(alloc, 0)?;
+        Ok(FileParts {
+            front: bytes,
+            block,
+        })
+    }
+}
+
+/// The bytes of both parts of a file.
+pub(crate) fn joined(alloc: Global, front: &[u8], items: &[u8]) -> Result<Vec<u8>, AllocError>
+    ensures { IfOk result (λ bytes. bytes.items ≡ front.now ++ items.now) }
+{
+    let mut bytes = Vec::from_slice(alloc, front)?;
+    bytes.extend_from_slice(items)?;
+    Ok(bytes)
+}
