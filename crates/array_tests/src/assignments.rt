@@ -3,7 +3,7 @@ ghost use Rattle.std.specs.Prelude.{◌≡◌, length};
 
 use crate::check::{check, check_bytes};
 use crate::made::{Numbers, are_shifted, layout_of};
-use overlap_copy::{assign, assign_shifted, may_overlap};
+use overlap_copy::{assign, assign_shifted, gather, may_overlap};
 use raw_block::RawBlock;
 use shape_strides::Layout;
 use std::alloc::Global;
@@ -214,5 +214,27 @@ fn items_become_those_further_on_or_back(rt: HostRuntime) {
         let from = layout_of(&rt, rt.alloc(), (*lengths, *strides, *from));
         let block = shifted(&rt, rt.alloc(), &to, &from);
         check_bytes(&rt, block.bytes(), wanted);
+    }
+}
+
+/// Items of the bytes 0 to 15, and their bytes one after another.
+const GATHERED: &[(Numbers, &[u8])] = &[
+    ((&[2, 3], &[3, 1], 4), &[4, 5, 6, 7, 8, 9]),
+    ((&[2, 2], &[-8, 3], 9), &[9, 12, 1, 4]),
+    ((&[], &[], 15), &[15]),
+    ((&[0, 4], &[4, 1], 9), &[]),
+];
+
+fn gathered(rt: &impl Abort, alloc: Global, from: &Layout) -> RawBlock {
+    check(rt, from.fits(16, 1), "items of the block");
+    gather(alloc, &sixteen(rt, alloc), from, 1).expect(rt, "no memory")
+}
+
+#[test]
+fn items_are_gathered_one_after_another(rt: HostRuntime) {
+    for (from, wanted) in GATHERED {
+        let from = layout_of(&rt, rt.alloc(), *from);
+        let items = gathered(&rt, rt.alloc(), &from);
+        check_bytes(&rt, items.bytes(), wanted);
     }
 }
