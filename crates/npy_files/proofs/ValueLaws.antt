@@ -1,7 +1,7 @@
 -- Values one by one, and back.
 use Rattle.std.proofs.Common.{◌≡◌, List, [], ◌∷◌, refl, ap}
-use Rattle.npy_files.specs.declared.literal.Literal.{Literal}
-use Rattle.npy_files.specs.declared.literal.Literal.TheVariants.{Plain, Row}
+use Rattle.npy_files.specs.Listed.{Literal}
+use Rattle.npy_files.specs.Listed.{Plain, Row}
 use Rattle.npy_files.specs.Listed.{all_values, literals_of}
 use Rattle.npy_files.specs.Values.{Values, no_values, plain_value, row_value}
 

@@ -8,7 +8,6 @@ mod grammar;
 mod header;
 mod header_text;
 mod items;
-mod literal;
 mod mem_store;
 mod reader;
 mod record_list;
