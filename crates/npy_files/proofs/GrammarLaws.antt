@@ -1,5 +1,5 @@
 -- What stays true of literals where the text is read a second time.
-use Rattle.std.proofs.Common.{◌≡◌, ◌<◌, ◌≤◌, ◌+◌, ℕ, zero, suc, Bool, true, false, List, [], ◌∷◌, length, Option, Some, None, Result, Ok, Err, refl, ap, sym, ◌∙◌, arith}
+use Rattle.std.proofs.Common.{◌≡◌, ◌<◌, ◌≤◌, ℕ, zero, suc, Bool, true, false, List, [], ◌∷◌, length, Option, Some, None, Result, Ok, Err, refl, ap, sym, ◌∙◌, arith}
 use Rattle.std.specs.Prelude.{nat_eq, if◌then◌else◌}
 use Rattle.std.specs.Option.{ok_or}
 use Rattle.elem_descr.specs.declared.refusal.Refusal.{Refusal}
@@ -7,10 +7,8 @@ use Rattle.elem_descr.specs.declared.refusal.Refusal.TheVariants.{BadHeader}
 use Rattle.elem_descr.specs.Refusals.{◌>>=◌}
 use Rattle.npy_files.specs.Tokens.{Token}
 use Rattle.npy_files.specs.Tokens as token
-use Rattle.npy_files.specs.Values.{Round, Square}
-use Rattle.npy_files.specs.Listed.{Literal, Plain, Row, Pair, all_values}
-use Rattle.npy_files.specs.Literals.{Read, symbol_at, if_found, ended, entries_in, tuple_in, list_in, pair_in, pairs_in, dictionary_in, bracketed, literal_in}
-use Rattle.npy_files.specs.inside.Entries.{behind, behind_entries, behind_key, behind_comma, behind_entry}
+use Rattle.npy_files.specs.Listed.{Literal}
+use Rattle.npy_files.specs.Literals.{Read, symbol_at, if_found, ended, entries_in, tuple_in, list_in, pair_in, dictionary_in, bracketed, literal_in}
 
 -- ---- what is read at a depth is read at a greater one
 
@@ -35,15 +33,15 @@ entries_less entry entry' h closing zero toks = λ y is. is
 entries_less entry entry' h closing (suc turns) toks =
     found_less (symbol_at closing toks) _ _ _ _ (λ b y is. is)
     (bind_less (entry toks) (entry' toks) _ _ (h toks) (λ first. bind_less _ _ _ _
-        (found_less (symbol_at closing first.1) _ _ _ _ (λ b y is. is) (found_less (symbol_at 44 first.1) _ _ _ _ (λ b. entries_less entry entry' h closing turns b) (λ y is. is)))
-        (λ others y is. is)))
+    (found_less (symbol_at closing first.1) _ _ _ _ (λ b y is. is) (found_less (symbol_at 44 first.1) _ _ _ _ (λ b. entries_less entry entry' h closing turns b) (λ y is. is)))
+    (λ others y is. is)))
 
 module _ (value value' : List Token → Read Literal) (h : (toks : List Token) → Less (value toks) (value' toks)) where
   tuple_less : (toks : List Token) → Less (tuple_in value toks) (tuple_in value' toks)
   unfolding tuple_in
   tuple_less toks = found_less (symbol_at 41 toks) _ _ _ _ (λ b y is. is)
       (bind_less (value toks) (value' toks) _ _ (h toks) (λ first. bind_less _ _ _ _ (λ y is. is)
-          (λ rest. bind_less _ _ _ _ (entries_less value value' h 41 (length rest) rest) (λ others y is. is))))
+      (λ rest. bind_less _ _ _ _ (entries_less value value' h 41 (length rest) rest) (λ others y is. is))))
 
   list_less : (toks : List Token) → Less (list_in value toks) (list_in value' toks)
   unfolding list_in
@@ -130,9 +128,9 @@ entries_leaves entry h closing (suc turns) toks =
     let n = length toks in
     found_leaves n (symbol_at closing toks) ended _ (λ b is. ends_leaves n [] b (omega (arith, symbol_shorter closing toks b is)))
     (bind_leaves n (entry toks) _ (h toks) (λ first less. bind_leaves n _ _
-        (found_leaves n (symbol_at closing first.1) ended _ (λ b is. ends_leaves n [] b (omega (arith, less, symbol_shorter closing first.1 b is)))
-            (found_leaves n (symbol_at 44 first.1) _ _ (λ b is. weaker_leaves (length b) n _ (omega (arith, less, symbol_shorter 44 first.1 b is)) (entries_leaves entry h closing turns b)) (err_leaves n BadHeader)))
-        (λ others less'. ends_leaves n (first.0 ∷ others.0) others.1 less')))
+    (found_leaves n (symbol_at closing first.1) ended _ (λ b is. ends_leaves n [] b (omega (arith, less, symbol_shorter closing first.1 b is)))
+    (found_leaves n (symbol_at 44 first.1) _ _ (λ b is. weaker_leaves (length b) n _ (omega (arith, less, symbol_shorter 44 first.1 b is)) (entries_leaves entry h closing turns b)) (err_leaves n BadHeader)))
+    (λ others less'. ends_leaves n (first.0 ∷ others.0) others.1 less')))
 
 module _ (value : List Token → Read Literal) (h : Shortens value) where
   tuple_leaves : Shortens (tuple_in value)
@@ -141,7 +139,7 @@ module _ (value : List Token → Read Literal) (h : Shortens value) where
       let n = length toks in
       found_leaves n (symbol_at 41 toks) _ _ (λ b is. ends_leaves n _ b (omega (arith, symbol_shorter 41 toks b is)))
       (bind_leaves n (value toks) _ (h toks) (λ first less. mark_leaves n 44 first.1 _ less
-          (λ rest less'. bind_leaves n _ _ (weaker_leaves (length rest) n _ (omega (arith, less')) (entries_leaves value h 41 (length rest) rest)) (λ others less''. ends_leaves n _ others.1 less''))))
+      (λ rest less'. bind_leaves n _ _ (weaker_leaves (length rest) n _ (omega (arith, less')) (entries_leaves value h 41 (length rest) rest)) (λ others less''. ends_leaves n _ others.1 less''))))
 
   list_leaves : Shortens (list_in value)
   unfolding list_in
@@ -152,7 +150,7 @@ module _ (value : List Token → Read Literal) (h : Shortens value) where
   pair_leaves toks =
       let n = length toks in
       bind_leaves n (value toks) _ (h toks) (λ key less. mark_leaves n 58 key.1 _ less
-          (λ rest less'. bind_leaves n _ _ (weaker_leaves (length rest) n _ (omega (arith, less')) (h rest)) (λ under less''. ends_leaves n _ under.1 less'')))
+      (λ rest less'. bind_leaves n _ _ (weaker_leaves (length rest) n _ (omega (arith, less')) (h rest)) (λ under less''. ends_leaves n _ under.1 less'')))
 
   dictionary_leaves : Shortens (dictionary_in value)
   unfolding dictionary_in

@@ -1,6 +1,6 @@
 -- What the pairs of a header say, pair by pair.
-use Rattle.std.proofs.Common.{◌≡◌, ◌≢◌, ◌≤◌, ◌<◌, ◌+◌, ℕ, zero, suc, Bool, true, false, List, [], ◌∷◌, ◌++◌, length, Option, Some, None, Result, Ok, Err, refl, ap, sym, subst, ◌∙◌, arith, codes, append_assoc, length-append}
-use Rattle.std.specs.Prelude.{MatchOption, MatchResult, nat_eq, if◌then◌else◌}
+use Rattle.std.proofs.Common.{◌≡◌, ◌≢◌, ◌≤◌, ◌<◌, ◌+◌, ℕ, Bool, true, false, List, [], ◌∷◌, ◌++◌, length, Option, Some, None, Result, Ok, Err, refl, ap, sym, subst, ◌∙◌, arith, codes, append_assoc, length-append}
+use Rattle.std.specs.Prelude.{MatchOption, MatchResult, if◌then◌else◌}
 use Rattle.std.specs.Option.{ok_or, is_some}
 use Rattle.std.proofs.lemmas.List.{append-nil}
 use Rattle.std.proofs.lemmas.Bool.{ne_eqb, lt-leb}
@@ -9,16 +9,15 @@ use Rattle.elem_descr.specs.declared.refusal.Refusal.TheVariants.{BadHeader, Too
 use Rattle.elem_descr.specs.declared.descr.Descr.{Descr}
 use Rattle.elem_descr.specs.Refusals.{◌>>=◌, Answers}
 use Rattle.shape_strides.specs.Shapes.{shape_of}
-use Rattle.npy_files.specs.declared.header.Header.{Header}
 use Rattle.npy_files.specs.Tokens.{Token}
 use Rattle.npy_files.specs.Listed.{Literal, Pair, Row, all_values}
 use Rattle.npy_files.specs.Values.{Round}
 use Rattle.npy_files.specs.Literals.{Read, symbol_at, pair_in, entries_in}
 use Rattle.npy_files.specs.RecordLists.{descr_in}
-use Rattle.npy_files.specs.Headers.{is_key, is_string, value_under, truth_of, integers_of, lengths_of, dictionary_of, header_of}
+use Rattle.npy_files.specs.Headers.{is_key, value_under, truth_of, integers_of, lengths_of, dictionary_of, header_of}
 use Rattle.npy_files.specs.inside.Entries.{behind, behind_comma, behind_entry, behind_key, behind_entries}
 use Rattle.npy_files.specs.inside.Scanned.{string_at, integer_at, is_text}
-use Rattle.npy_files.specs.inside.Places.{StandIn, HasPairs, HasValues, HasLengths, Stands, value_in}
+use Rattle.npy_files.specs.inside.Places.{HasPairs, HasValues, HasLengths, Stands, value_in}
 use Rattle.npy_files.proofs.GrammarLaws.{Shortens, symbol_shorter}
 use Rattle.npy_files.proofs.SkipLaws.{behind_ok}
 use Rattle.npy_files.proofs.PlaceLaws.{stand_open, stand_closed, bind_ok, same_read}
@@ -65,8 +64,7 @@ pair_stands toks after p is =
     let mark = bind_ok (ok_or (symbol_at 58 key.0.1) BadHeader) _ _ key.2 in
     let under = bind_ok (value_in mark.0) _ _ mark.2 in
     let pair : Pair = record { key = key.0.0; value = under.0.0 } in
-    let same = (same_read pair p under.0.1 after (Ok (pair, under.0.1)) refl under.2).0 in
-    (
+    let same = (same_read pair p under.0.1 after (Ok (pair, under.0.1)) refl under.2).0 in (
       mark.0,
       subst (λ (p : Pair). Stands toks p.key) same (record { rest = key.0.1; is = key.1 }),
       ap (λ r. behind r >>= λ rest. ok_or (symbol_at 58 rest) BadHeader) key.1 ∙ mark.1,
@@ -192,8 +190,8 @@ module _ (values : List Literal) (toks : List Token) (h : LengthsLeft values tok
         stand = subst (λ (l : List Token). HasValues 41 (behind_comma l) next.others) stands.1 next.more;
         before = h.before ++ found.0 ∷ [];
         same = h.same
-        ∙ ap (λ (l : List Literal). integers_of l >>= λ ns. Ok (h.before ++ ns)) (next.is ∙ ap (λ (x : Literal). x ∷ next.others) stands.0)
-        ∙ pushed (integers_of next.others) h.before found.0;
+            ∙ ap (λ (l : List Literal). integers_of l >>= λ ns. Ok (h.before ++ ns)) (next.is ∙ ap (λ (x : Literal). x ∷ next.others) stands.0)
+            ∙ pushed (integers_of next.others) h.before found.0;
       }
     where
       pushed : (r : Result (List ℕ) Refusal) (before : List ℕ) (n : ℕ) → ((r >>= λ ns. Ok (n ∷ ns)) >>= λ ns. Ok (before ++ ns)) ≡ (r >>= λ ns. Ok ((before ++ n ∷ []) ++ ns))

@@ -1,5 +1,5 @@
 -- What stands in a text that was read before.
-use Rattle.std.proofs.Common.{◌≡◌, ◌≢◌, ◌<◌, ◌+◌, ℕ, zero, suc, Bool, true, false, List, [], ◌∷◌, length, Option, Some, None, Result, Ok, Err, refl, ap, sym, ◌∙◌, arith}
+use Rattle.std.proofs.Common.{◌≡◌, ◌≢◌, ℕ, zero, suc, Bool, true, false, List, [], ◌∷◌, length, Option, Some, None, Result, Ok, Err, refl, ap, sym, ◌∙◌, arith}
 use Rattle.std.specs.Prelude.{nat_eq, if◌then◌else◌}
 use Rattle.std.specs.Option.{ok_or}
 use Rattle.std.proofs.lemmas.Bool.{eqb-true}
@@ -12,7 +12,7 @@ use Rattle.npy_files.specs.Values.{Text, Integer, Truth, Nothing, Dictionary, Ro
 use Rattle.npy_files.specs.Listed.{Literal, Plain, Row, all_values}
 use Rattle.npy_files.specs.Literals.{Read, symbol_at, if_found, ended, entries_in, tuple_in, list_in, pairs_in, dictionary_in, bracketed, literal_in}
 use Rattle.npy_files.specs.inside.Entries.{behind_comma}
-use Rattle.npy_files.specs.inside.Places.{StandIn, HasValues, Stands, value_in}
+use Rattle.npy_files.specs.inside.Places.{StandIn, Stands, value_in}
 use Rattle.npy_files.proofs.GrammarLaws.{entries_less, literal_less}
 
 pub bind_ok : {A B : Type 0} (r : Result A Refusal) (f : A → Result B Refusal) (y : B) → (r >>= f) ≡ Ok y → (x : A) × (r ≡ Ok x) × (f x ≡ Ok y)
@@ -88,6 +88,7 @@ module _ {A : Type 0} (entry : List Token → Read A) (closing : ℕ) (toks : Li
         alone = λ none. (let wrong : None ≡ Some next = none ∙ e' in cc);
       }
       late n first reads others is None None e e' got = cc
+
       turn : (turns : ℕ) → entries_in entry closing turns toks ≡ Ok (xs, s.rest) → Next A entry closing toks xs
       turn zero is = cc
       turn (suc n) is =
@@ -130,6 +131,7 @@ module _ (value : List Token → Read Literal) (b : ℕ) (toks : List Token) (v 
         where
           late : (first : Literal × List Token) (next : List Token) (others : List Literal × List Token) → symbol_at 41 toks ≡ None → value toks ≡ Ok first → None ≡ symbol_at 41 first.1 → symbol_at 44 first.1 ≡ Some next → entries_in value 41 (length next) next ≡ Ok others → entries_in value 41 (suc (length next)) toks ≡ Ok (first.0 ∷ others.0, others.1)
           late first next others e reads no_end comma got = rw (e, reads, ← no_end, comma, got) refl
+
           some_mark : (o : Option (List Token)) (x : List Token) → ok_or o BadHeader ≡ Ok x → o ≡ Some x
           some_mark None x is = cc
           some_mark (Some y) x is = let same : y ≡ x = cc in ap (λ (l : List Token). Some l) same

@@ -1,5 +1,5 @@
 -- What is left behind entries, read turn by turn, and behind what stands in brackets.
-use Rattle.std.proofs.Common.{◌≡◌, ◌<◌, ◌≤◌, ◌+◌, ◌-◌, ℕ, zero, suc, Bool, List, [], ◌∷◌, length, Option, Some, None, Result, Ok, Err, refl, ap, sym, ◌∙◌, arith}
+use Rattle.std.proofs.Common.{◌≡◌, ◌<◌, ◌≤◌, ◌-◌, ℕ, zero, suc, Bool, List, [], ◌∷◌, length, Option, Some, None, Result, Ok, Err, refl, ap, ◌∙◌, arith}
 use Rattle.std.specs.Option.{ok_or}
 use Rattle.elem_descr.specs.declared.refusal.Refusal.{Refusal}
 use Rattle.elem_descr.specs.declared.refusal.Refusal.TheVariants.{BadHeader}
@@ -9,7 +9,7 @@ use Rattle.npy_files.specs.Tokens as token
 use Rattle.npy_files.specs.Listed.{Literal, Pair}
 use Rattle.npy_files.specs.Literals.{Read, symbol_at, if_found, ended, entries_in, tuple_in, list_in, pair_in, dictionary_in, bracketed, literal_in}
 use Rattle.npy_files.specs.inside.Entries.{behind, behind_entries, behind_key}
-use Rattle.npy_files.proofs.GrammarLaws.{Shortens, symbol_shorter, literal_leaves, pair_leaves}
+use Rattle.npy_files.proofs.GrammarLaws.{Shortens, symbol_shorter}
 
 pub behind_ok : {A : Type 0} (r : Read A) (rest : List Token) → behind r ≡ Ok rest → (x : A) × (r ≡ Ok (x, rest))
 behind_ok (Ok x) rest is = let same : x.1 ≡ rest = cc in (x.0, ap (λ (l : List Token). Ok (x.0, l)) same)
@@ -42,8 +42,8 @@ module _ {A : Type 0} (entry : List Token → Read A) (shortens : Shortens entry
   entries_turns closing (suc n) zero (t ∷ toks) few few' = absurd (omega (arith, few'))
   entries_turns closing (suc n) (suc m) toks few few' =
       ap (if_found (symbol_at closing toks) ended) (bind_same (entry toks) _ _ (λ first is. ap (λ (r : Read (List A)). r >>= λ others. Ok (first.0 ∷ others.0, others.1))
-          (ap (if_found (symbol_at closing first.1) ended) (found_same (symbol_at 44 first.1) _ _ (Err BadHeader) (λ b at.
-              entries_turns closing n m b (omega (arith, few, shortens toks first is, symbol_shorter 44 first.1 b at)) (omega (arith, few', shortens toks first is, symbol_shorter 44 first.1 b at)))))))
+      (ap (if_found (symbol_at closing first.1) ended) (found_same (symbol_at 44 first.1) _ _ (Err BadHeader) (λ b at.
+      entries_turns closing n m b (omega (arith, few, shortens toks first is, symbol_shorter 44 first.1 b at)) (omega (arith, few', shortens toks first is, symbol_shorter 44 first.1 b at)))))))
 
   module _ (closing : ℕ) (toks : List Token) where
     begins : behind_entries entry closing toks ≡ behind (entries_in entry closing (suc (length toks)) toks)
@@ -114,9 +114,11 @@ module _ (value : List Token → Read Literal) (toks : List Token) where
     where
       under : (k : Literal × List Token) (r : Read Literal) → behind {A = Pair} (r >>= λ u. Ok (record { key = k.0; value = u.0 }, u.1)) ≡ behind r
       under k r = behind_other r _
+
       colon : (k : Literal × List Token) (o : Option (List Token)) → behind {A = Pair} (ok_or o BadHeader >>= λ rest. value rest >>= λ u. Ok (record { key = k.0; value = u.0 }, u.1)) ≡ (ok_or o BadHeader >>= λ rest. behind (value rest))
       colon k None = refl
       colon k (Some rest) = under k (value rest)
+
       key : (r : Read Literal) → behind {A = Pair} (r >>= λ k. ok_or (symbol_at 58 k.1) BadHeader >>= λ rest. value rest >>= λ u. Ok (record { key = k.0; value = u.0 }, u.1)) ≡ (behind r >>= (λ rest. ok_or (symbol_at 58 rest) BadHeader) >>= λ rest. behind (value rest))
       key (Err e) = refl
       key (Ok k) = colon k (symbol_at 58 k.1)

@@ -1,6 +1,6 @@
 -- What stands where a text is read a second time.
-use Rattle.std.proofs.Common.{◌≡◌, ◌≢◌, ◌≤◌, ◌<◌, ◌+◌, ℕ, zero, suc, Bool, true, false, List, [], ◌∷◌, ◌++◌, length, Option, Some, None, Result, Ok, Err, Bor, refl, ap, sym, subst, ◌∙◌, arith}
-use Rattle.std.specs.Option.{ok_or, is_some, option_map}
+use Rattle.std.proofs.Common.{◌≡◌, ◌≢◌, ℕ, true, false, List, [], ◌∷◌, Option, Some, None, Result, Ok, Err, Bor, refl, ap, sym, subst, ◌∙◌, arith}
+use Rattle.std.specs.Option.{is_some, option_map}
 use Rattle.std.specs.Prelude.{option_copied}
 use Rattle.elem_descr.specs.declared.refusal.Refusal.{Refusal}
 use Rattle.elem_descr.specs.declared.refusal.Refusal.TheVariants.{BadHeader, BadDescriptor, DescriptorLeftOut}
@@ -10,15 +10,15 @@ use Rattle.elem_descr.specs.FormatRecords.{Partial}
 use Rattle.npy_files.specs.Tokens.{Token, tokens}
 use Rattle.npy_files.specs.Tokens as token
 use Rattle.npy_files.specs.Values.{Text, Integer, Round, Square}
-use Rattle.npy_files.specs.Listed.{Literal, Plain, Row, Pair, all_values, literals_of}
-use Rattle.npy_files.specs.Literals.{Read, symbol_at, pair_in, literal_in}
+use Rattle.npy_files.specs.Listed.{Literal, Plain, Row, all_values}
+use Rattle.npy_files.specs.Literals.{Read, symbol_at, literal_in}
 use Rattle.npy_files.specs.RecordLists.{pad_in, type_in, descr_in}
 use Rattle.npy_files.specs.Headers.{is_string, truth_of, integers_of, lengths_of}
-use Rattle.npy_files.specs.inside.Entries.{behind, behind_comma, behind_entry, behind_key}
+use Rattle.npy_files.specs.inside.Entries.{behind_comma, behind_entry}
 use Rattle.npy_files.specs.inside.Scanned.{string_at, integer_at, truth_at, is_text, pad_at}
-use Rattle.npy_files.specs.inside.Places.{StandIn, HasValues, HasPairs, HasLengths, Stands, value_in, name_and_type, entry_parts}
+use Rattle.npy_files.specs.inside.Places.{StandIn, HasValues, HasLengths, Stands, value_in, name_and_type, entry_parts}
 use Rattle.npy_files.proofs.ValueLaws.{literals_of_listed}
-use Rattle.npy_files.proofs.PlaceLaws.{Next, stand_open, stand_closed, Front, text_front, integer_front, truth_front, nothing_front, boxed_front, tuple_boxed, list_boxed, pairs_boxed, front_of, bind_ok, same_read}
+use Rattle.npy_files.proofs.PlaceLaws.{stand_open, stand_closed, Front, text_front, integer_front, truth_front, nothing_front, boxed_front, tuple_boxed, list_boxed, pairs_boxed, front_of, bind_ok, same_read}
 
 -- a symbol that is there, or not
 pub symbol_open : (r : Option (Bor (List ℕ))) (there : Option (List Token)) → is_some r ≡ false → option_map tokens (option_copied r) ≡ there → None ≡ there

@@ -1,7 +1,7 @@
 -- What a turn leaves behind is what `entries_in` leaves there.
 use Rattle.npy_files.specs.declared.token.Token.{Token as Scanned}
 use Rattle.npy_files.specs.declared.token.Token.TheVariants as scanned
-use Rattle.std.proofs.Common.{⊎_elim, ◌≡◌, ◌∷◌, ◌∙◌, ap, length, arith}
+use Rattle.std.proofs.Common.{⊎_elim, ◌≡◌, ◌∷◌, ◌∙◌, ap, arith}
 use Rattle.std.proofs.lemmas.Result.{err_from_is_err_and}
 use Rattle.elem_descr.specs.Refusals.{◌>>=◌}
 use Rattle.npy_files.specs.Tokens.{tokens}
@@ -37,7 +37,7 @@ skip_literal-returns-in-Text t c =
     let along = λ (s : Scanned) (e : c.in-Some.first ≡ s). c.in-Some.ensures ∙ ap (λ (s : Scanned). token_of s ∷ tokens c.in-Some.rest.now) e in
     ⊎_elim (λ w. skip_text _ _ _ _ (along (scanned.Text w.0) w.1))
     (⊎_elim (λ w. skip_integer _ _ _ _ (along (scanned.Integer w.0) w.1))
-        (⊎_elim (λ w. skip_truth _ _ _ _ (along (scanned.Truth w.0) w.1)) (λ w. skip_nothing _ _ _ (along scanned.Nothing w)))) c.in-Text.is
+    (⊎_elim (λ w. skip_truth _ _ _ _ (along (scanned.Truth w.0) w.1)) (λ w. skip_nothing _ _ _ (along scanned.Nothing w)))) c.in-Text.is
 
 pub skip_pair-returns-in_err-value : goal.skip_pair-returns-in_err-value
 skip_pair-returns-in_err-value t c =
