@@ -110,7 +110,7 @@ fn lengths(text: &[u8]) -> Result<&[u8], Refusal>
     Ok(inside)
 }
 
-/// The shape with these lengths, of which one more than a shape may have is enough.
+/// The shape with these lengths. No more of them are held than a shape may have.
 fn shape(alloc: Global, lengths: &[u8]) -> Result<Shape, Refusal>
     ensures { (found : List ℕ) → HasLengths (tokens lengths.now) found → Gives (λ shape. shape) result (shape_of found) }
 {
@@ -148,8 +148,8 @@ fn header_of(alloc: Global, pairs: &[u8]) -> Result<Header, Refusal>
     })
 }
 
-/// Reads the header of a file: one dictionary with the keys `descr`, `fortran_order` and `shape`. No
-/// memory is taken but for what the header says.
+/// Reads the header of a file: one dictionary with the keys `descr`, `fortran_order` and `shape`. Memory
+/// is taken for what the header says alone.
 ///
 /// A text that is no such dictionary is `BadHeader`, whatever else is wrong with it. Then the element
 /// type is looked at, from the left (`BadDescriptor`, `DescriptorLeftOut`, `TooLarge`), and then the
