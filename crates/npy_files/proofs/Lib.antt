@@ -1,7 +1,11 @@
 pub mod StoreLaws
 pub mod TokenLaws
 pub mod ValueLaws
-pub mod EntryLaws
+pub mod GrammarLaws
+pub mod SkipLaws
+pub mod PlaceLaws
+pub mod StandLaws
+pub mod HeaderLaws
 pub mod RecordListLaws
 mod Vectors
 mod FileVectors

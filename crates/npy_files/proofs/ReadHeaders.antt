@@ -9,15 +9,10 @@ use Rattle.elem_descr.specs.Refusals.{◌>>=◌}
 use Rattle.shape_strides.specs.Limits.{max_items}
 use Rattle.shape_strides.specs.Shapes.{IsShape, shape_of, shape_text}
 use Rattle.shape_strides.specs.ShapeLaws.{shape_of-ok}
-use Rattle.npy_files.specs.declared.token.Token.{Token}
-use Rattle.npy_files.specs.declared.token.Token.TheVariants as token
-use Rattle.npy_files.specs.declared.literal.Brackets.TheVariants.{Round}
-use Rattle.npy_files.specs.declared.literal.Plain.TheVariants.{Text, Integer, Truth}
-use Rattle.npy_files.specs.declared.literal.Literal.{Literal}
-use Rattle.npy_files.specs.declared.literal.Literal.TheVariants.{Plain, Row}
-use Rattle.npy_files.specs.declared.literal.Pair.{Pair}
-use Rattle.npy_files.specs.Listed.{all_values}
-use Rattle.npy_files.specs.Tokens.{is_plain, tokens}
+use Rattle.npy_files.specs.Tokens.{Token, is_plain, tokens}
+use Rattle.npy_files.specs.Tokens as token
+use Rattle.npy_files.specs.Values.{Round, Text, Integer, Truth}
+use Rattle.npy_files.specs.Listed.{Literal, Plain, Row, Pair, all_values}
 use Rattle.npy_files.specs.Literals.{symbol_at, entries_in, pair_in, tuple_in, literal_in}
 use Rattle.npy_files.specs.RecordLists.{descr_in}
 use Rattle.npy_files.specs.Headers.{integers_of, lengths_of, dictionary_of, header_of, header}

@@ -24,11 +24,8 @@ use Rattle.elem_descr.specs.Items.{item_size, leaves_of}
 use Rattle.elem_descr.specs.ItemLaws.{length-leaves_from}
 use Rattle.elem_descr.specs.TypeStrings.{value_of, spelling}
 use Rattle.elem_descr.specs.FormatRecords.{Partial, is_taken, checked_name, added, widened, closed_record}
-use Rattle.npy_files.specs.declared.literal.Brackets.TheVariants.{Square}
-use Rattle.npy_files.specs.declared.literal.Plain.TheVariants.{Text}
-use Rattle.npy_files.specs.declared.literal.Literal.{Literal}
-use Rattle.npy_files.specs.declared.literal.Literal.TheVariants.{Plain, Row}
-use Rattle.npy_files.specs.Listed.{all_values}
+use Rattle.npy_files.specs.Values.{Square, Text}
+use Rattle.npy_files.specs.Listed.{Literal, Plain, Row, all_values}
 use Rattle.npy_files.specs.Tokens.{capped}
 use Rattle.npy_files.specs.RecordLists.{pad_kind, type_in, field_in, entry_in, fields_in, record_in, descr_in, Reader}
 use Rattle.npy_files.specs.inside.Sound.{IsSound}

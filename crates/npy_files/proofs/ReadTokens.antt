@@ -11,9 +11,7 @@ use Rattle.std.proofs.lemmas.Str.Parse.{IsNumeralModel, numerals_by_fold}
 use Rattle.std.proofs.Math.Nat.{min-eq_left}
 use Rattle.elem_descr.specs.TypeStrings.{value_of}
 use Rattle.shape_strides.specs.Limits.{max_items}
-use Rattle.npy_files.specs.declared.token.Token.{Token}
-use Rattle.npy_files.specs.declared.token.Token.TheVariants.{Text, Integer, Symbol, Stray}
-use Rattle.npy_files.specs.Tokens.{is_space, is_quote, is_plain, text_token, ended_text, capped, is_integer, behind_long, integer_token, word_token, token_from, unspaced, first_token, tokens_in}
+use Rattle.npy_files.specs.Tokens.{Token, Text, Integer, Symbol, Stray, is_space, is_quote, is_plain, text_token, ended_text, capped, is_integer, behind_long, integer_token, word_token, token_from, unspaced, first_token, tokens_in}
 
 -- the tokens of a text, in turns enough for its bytes
 abbrev pub Scans : List ℕ → List Token → Type 0

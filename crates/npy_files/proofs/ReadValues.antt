@@ -13,14 +13,10 @@ use Rattle.elem_descr.specs.Descriptors.{InOrder, AreNamedWithin, names_of, dept
 use Rattle.elem_descr.specs.DescriptorLaws.{InOrder-within, some_depth}
 use Rattle.elem_descr.specs.TypeStrings.{spelling}
 use Rattle.elem_descr.specs.Refusals.{◌>>=◌}
-use Rattle.npy_files.specs.declared.token.Token.{Token}
-use Rattle.npy_files.specs.declared.token.Token.TheVariants as token
-use Rattle.npy_files.specs.declared.literal.Brackets.TheVariants.{Round, Square}
-use Rattle.npy_files.specs.declared.literal.Plain.TheVariants.{Text}
-use Rattle.npy_files.specs.declared.literal.Literal.{Literal}
-use Rattle.npy_files.specs.declared.literal.Literal.TheVariants.{Plain, Row}
-use Rattle.npy_files.specs.Listed.{all_values}
-use Rattle.npy_files.specs.Tokens.{is_plain}
+use Rattle.npy_files.specs.Tokens.{Token, is_plain}
+use Rattle.npy_files.specs.Tokens as token
+use Rattle.npy_files.specs.Values.{Round, Square, Text}
+use Rattle.npy_files.specs.Listed.{Literal, Plain, Row, all_values}
 use Rattle.npy_files.specs.Literals.{symbol_at, entries_in, tuple_in, list_in, literal_in}
 use Rattle.npy_files.specs.WrittenHeaders.{quoted, entry, gap, separated, in_brackets, entries}
 use Rattle.npy_files.proofs.ReadTokens.{Scans, both, are_digits, scan_token, scan_space, scan_quoted}

@@ -1,8 +1,6 @@
 -- Values one by one, and back.
 use Rattle.std.proofs.Common.{◌≡◌, List, [], ◌∷◌, refl, ap}
-use Rattle.npy_files.specs.declared.literal.Literal.{Literal}
-use Rattle.npy_files.specs.declared.literal.Literal.TheVariants.{Plain, Row}
-use Rattle.npy_files.specs.Listed.{all_values, literals_of}
+use Rattle.npy_files.specs.Listed.{Literal, Plain, Row, all_values, literals_of}
 use Rattle.npy_files.specs.Values.{Values, no_values, plain_value, row_value}
 
 pub literals_of_listed : (literals : List Literal) → literals_of (all_values literals) ≡ literals

@@ -6,15 +6,10 @@ use Rattle.elem_descr.specs.declared.refusal.Refusal.{Refusal}
 use Rattle.elem_descr.specs.declared.refusal.Refusal.TheVariants.{BadHeader}
 use Rattle.elem_descr.specs.Refusals.{◌>>=◌, check}
 use Rattle.shape_strides.specs.Shapes.{shape_of}
-use Rattle.npy_files.specs.declared.token.Token.{Token}
-use Rattle.npy_files.specs.declared.literal.Brackets.TheVariants.{Round}
-use Rattle.npy_files.specs.declared.literal.Plain.TheVariants.{Text, Integer, Truth}
-use Rattle.npy_files.specs.declared.literal.Literal.{Literal}
-use Rattle.npy_files.specs.declared.literal.Literal.TheVariants.{Plain, Row}
-use Rattle.npy_files.specs.declared.literal.Pair.{Pair}
+use Rattle.npy_files.specs.Tokens.{Token, tokens}
+use Rattle.npy_files.specs.Values.{Round, Text, Integer, Truth}
+use Rattle.npy_files.specs.Listed.{Literal, Plain, Row, Pair, literals_of}
 use Rattle.npy_files.specs.declared.header.Header.{Header}
-use Rattle.npy_files.specs.Listed.{literals_of}
-use Rattle.npy_files.specs.Tokens.{tokens}
 use Rattle.npy_files.specs.Literals.{symbol_at, pairs_in, literal_in}
 use Rattle.npy_files.specs.RecordLists.{descr_in}
 

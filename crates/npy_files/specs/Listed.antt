@@ -1,8 +1,16 @@
--- The values of a tuple or a list, one by one.
+-- Literals, and the values of a tuple or a list one by one.
 use Rattle.std.specs.Prelude.{List, [], ◌∷◌}
-use Rattle.npy_files.specs.declared.literal.Literal.{Literal}
-use Rattle.npy_files.specs.declared.literal.Literal.TheVariants.{Plain, Row}
-use Rattle.npy_files.specs.Values.{Values, no_values, plain_value, row_value}
+use Rattle.npy_files.specs.Values as value
+use Rattle.npy_files.specs.Values.{Brackets, Values, no_values, plain_value, row_value}
+
+pub data Literal : Type 0 where
+  Plain : value.Plain → Literal
+  Row : Brackets → Values → Literal
+
+-- a key of a dictionary, and its value
+pub record Pair : Type 0 where
+  pub key : Literal
+  pub value : Literal
 
 abbrev pub literals_of : Values → List Literal
 literals_of no_values = []

@@ -5,15 +5,10 @@ use Rattle.std.specs.Option.{ok_or}
 use Rattle.elem_descr.specs.declared.refusal.Refusal.{Refusal}
 use Rattle.elem_descr.specs.declared.refusal.Refusal.TheVariants.{BadHeader}
 use Rattle.elem_descr.specs.Refusals.{◌>>=◌}
-use Rattle.npy_files.specs.declared.token.Token.{Token}
-use Rattle.npy_files.specs.declared.token.Token.TheVariants as token
-use Rattle.npy_files.specs.declared.literal.Brackets.TheVariants.{Round, Square}
-use Rattle.npy_files.specs.declared.literal.Plain.TheVariants.{Text, Integer, Truth, Nothing, Dictionary}
-use Rattle.npy_files.specs.declared.literal.Literal.{Literal}
-use Rattle.npy_files.specs.declared.literal.Literal.TheVariants.{Plain, Row}
-use Rattle.npy_files.specs.declared.literal.Pair.{Pair}
-use Rattle.npy_files.specs.Values.{no_values}
-use Rattle.npy_files.specs.Listed.{all_values}
+use Rattle.npy_files.specs.Tokens.{Token}
+use Rattle.npy_files.specs.Tokens as token
+use Rattle.npy_files.specs.Values.{Round, Square, Text, Integer, Truth, Nothing, Dictionary, no_values}
+use Rattle.npy_files.specs.Listed.{Literal, Plain, Row, Pair, all_values}
 
 -- what is read behind tokens, and those that are left
 abbrev pub Read : Type 0 → Type 0

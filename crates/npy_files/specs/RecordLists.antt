@@ -13,11 +13,8 @@ use Rattle.elem_descr.specs.Names.{is_legal_name}
 use Rattle.elem_descr.specs.TypeStrings.{marked, value_of, typestr}
 use Rattle.elem_descr.specs.FormatLetters.{is_empty, max_size}
 use Rattle.elem_descr.specs.FormatRecords.{Partial, max_depth, empty, checked_name, added, widened, closed_record}
-use Rattle.npy_files.specs.declared.literal.Brackets.TheVariants.{Round, Square}
-use Rattle.npy_files.specs.declared.literal.Plain.TheVariants.{Text}
-use Rattle.npy_files.specs.declared.literal.Literal.{Literal}
-use Rattle.npy_files.specs.declared.literal.Literal.TheVariants.{Plain, Row}
-use Rattle.npy_files.specs.Listed.{literals_of}
+use Rattle.npy_files.specs.Values.{Round, Square, Text}
+use Rattle.npy_files.specs.Listed.{Literal, Plain, Row, literals_of}
 use Rattle.npy_files.specs.Tokens.{capped}
 
 -- the bytes of padding, unless no item has as many

@@ -5,8 +5,15 @@ use Rattle.std.specs.List.{prefix_len}
 use Rattle.std.specs.Str.{bytes_eq}
 use Rattle.elem_descr.specs.TypeStrings.{value_of}
 use Rattle.shape_strides.specs.Limits.{max_items}
-use Rattle.npy_files.specs.declared.token.Token.{Token}
-use Rattle.npy_files.specs.declared.token.Token.TheVariants.{Text, Integer, Truth, Nothing, Symbol, Stray}
+
+-- a token: the bytes of a string; an integer without sign, where those above the limit of an axis are all one more than that; a word; any byte that begins no other token; and what stands in no literal
+pub data Token : Type 0 where
+  Text : List ℕ → Token
+  Integer : ℕ → Token
+  Truth : Bool → Token
+  Nothing : Token
+  Symbol : ℕ → Token
+  Stray : Token
 
 -- a space, a tab, a newline or a carriage return
 abbrev pub is_space : ℕ → Bool

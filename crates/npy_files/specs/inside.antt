@@ -1,7 +1,7 @@
 pub mod Shelves
-pub mod ValueCodes
-pub mod ValueCounts
 pub mod Entries
+pub mod Scanned
+pub mod Places
 pub mod WrittenItems
 pub mod Sound
 pub mod LoadedParts

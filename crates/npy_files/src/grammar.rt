@@ -1,179 +1,192 @@
-//! Literals, read from their tokens.
-ghost use Rattle.std.specs.Prelude.{◌≡◌, [], ◌∷◌, length, option_copied};
-ghost use Rattle.elem_descr.specs.Refusals.{Gives};
-ghost use Rattle.npy_files.specs.Listed.{literals_of};
-ghost use Rattle.npy_files.specs.Literals.{symbol_at, entries_in, tuple_in, list_in, pair_in, pairs_in, dictionary_in, bracketed, literal_in};
-ghost use Rattle.npy_files.specs.inside.Entries.{in_front};
+//! Literals, straight off the text of a header.
+ghost use Rattle.std.specs.Prelude.{◌≡◌, length, option_copied};
+ghost use Rattle.std.specs.Option.{option_map};
+ghost use Rattle.elem_descr.specs.Refusals.{Answers};
+ghost use Rattle.npy_files.specs.Tokens.{tokens};
+ghost use Rattle.npy_files.specs.Literals.{symbol_at, tuple_in, pair_in, bracketed, literal_in};
+ghost use Rattle.npy_files.specs.inside.Entries.{behind, behind_entries, behind_key, behind_comma, behind_entry};
+ghost use Rattle.npy_files.specs.inside.Places.{value_in};
+ghost use Rattle.npy_files.specs.inside.Scanned.{string_at, integer_at};
 
-use crate::literal::{Brackets, Literal, Literals, Pair, Plain, Text};
-use crate::token::Token;
+use crate::token::{Token, next_token};
 use elem_descr::Refusal;
-use std::alloc::Global;
+
+/// How deep brackets lie in a value of a header.
+const MAX_VALUE_DEPTH: usize = 15;
 
 /// What follows this symbol, which must come next.
-pub fn symbol(expected: u8, tokens: &[Token]) -> Option<&[Token]>
-    ensures { option_copied result ≡ symbol_at expected tokens.now }
+pub fn symbol(expected: u8, text: &[u8]) -> Option<&[u8]>
+    ensures { option_map tokens (option_copied result) ≡ symbol_at expected (tokens text.now) }
 {
-    let [first, rest @ ..] = tokens else {
-        return None;
-    };
+    let (first, rest) = next_token(text)?;
     match first {
-        Token::Symbol(byte) if *byte == expected => Some(rest),
+        Token::Symbol(byte) if byte == expected => Some(rest),
         _ => None,
     }
 }
 
-/// Values that commas part, up to the symbol that closes them, behind those that are there; and what
-/// follows the symbol.
-#[cycle(nesting)]
-fn values(
-    alloc: Global,
-    depth: usize,
-    closing: u8,
-    values: Literals,
-    tokens: &[Token],
-) -> Result<(Literals, &[Token]), Refusal>
-    ensures { Gives (λ r. (literals_of r.0, r.1.now)) result
-        (in_front (literals_of values) (entries_in (literal_in depth) closing (length tokens.now) tokens.now)) }
+/// The string that comes next, and what follows it.
+pub fn string(text: &[u8]) -> Option<(&[u8], &[u8])>
+    ensures { option_map (λ found. (found.0.now, tokens found.1.now)) result ≡ string_at (tokens text.now) }
 {
-    let mut values = values;
-    let mut rest = tokens;
-    for _turn in 0..tokens.len() {
+    let (first, rest) = next_token(text)?;
+    match first {
+        Token::Text(bytes) => Some((bytes, rest)),
+        _ => None,
+    }
+}
+
+/// The integer that comes next, and what follows it.
+pub fn integer(text: &[u8]) -> Option<(usize, &[u8])>
+    ensures { option_map (λ found. (found.0, tokens found.1.now)) result ≡ integer_at (tokens text.now) }
+{
+    let (first, rest) = next_token(text)?;
+    match first {
+        Token::Integer(number) => Some((number, rest)),
+        _ => None,
+    }
+}
+
+/// What follows a comma, if one comes next.
+pub fn skip_comma(text: &[u8]) -> &[u8]
+    ensures { tokens result.now ≡ behind_comma (tokens text.now) }
+{
+    symbol(b',', text).unwrap_or(text)
+}
+
+/// What follows values that commas part and the symbol that closes them.
+#[cycle(nesting)]
+fn skip_values(depth: usize, closing: u8, text: &[u8]) -> Result<&[u8], Refusal>
+    ensures { Answers (λ rest. tokens rest.now) result (behind_entries (literal_in depth) closing (tokens text.now)) }
+{
+    let mut rest = text;
+    loop {
         if let Some(end) = symbol(closing, rest) {
-            return Ok((values, end));
+            return Ok(end);
         }
-        let (value, after) = literal(alloc, depth, rest)?;
-        values.push(value)?;
+        let after = skip_literal(depth, rest)?;
         if let Some(end) = symbol(closing, after) {
-            return Ok((values, end));
+            return Ok(end);
         }
         let Some(next) = symbol(b',', after) else {
             return Err(Refusal::BadHeader);
         };
         rest = next;
     }
-    Err(Refusal::BadHeader)
 }
 
-/// The tuple behind its bracket, and what follows it.
-#[tactic(auto, unfolding(crate::specs::Literals::tuple_in))]
+/// What follows the tuple behind its bracket.
 #[cycle(nesting)]
-fn tuple(alloc: Global, depth: usize, tokens: &[Token]) -> Result<(Literal, &[Token]), Refusal>
-    ensures { Gives (λ r. (r.0, r.1.now)) result (tuple_in (literal_in depth) tokens.now) }
+fn skip_tuple(depth: usize, text: &[u8]) -> Result<&[u8], Refusal>
+    ensures { Answers (λ rest. tokens rest.now) result (behind (tuple_in (literal_in depth) (tokens text.now))) }
 {
-    let mut found = Literals::new(alloc);
-    if let Some(rest) = symbol(b')', tokens) {
-        return Ok((Literal::Row(Brackets::Round, found), rest));
+    if let Some(end) = symbol(b')', text) {
+        return Ok(end);
     }
-    let (first, after) = literal(alloc, depth, tokens)?;
-    let Some(behind) = symbol(b',', after) else {
+    let after = skip_literal(depth, text)?;
+    let Some(next) = symbol(b',', after) else {
         return Err(Refusal::BadHeader);
     };
-    found.push(first)?;
-    let (found, rest) = values(alloc, depth, b')', found, behind)?;
-    Ok((Literal::Row(Brackets::Round, found), rest))
+    skip_values(depth, b')', next)
 }
 
-/// The list behind its bracket, and what follows it.
-#[tactic(auto, unfolding(crate::specs::Literals::list_in))]
+/// What follows a key and its colon.
 #[cycle(nesting)]
-fn list(alloc: Global, depth: usize, tokens: &[Token]) -> Result<(Literal, &[Token]), Refusal>
-    ensures { Gives (λ r. (r.0, r.1.now)) result (list_in (literal_in depth) tokens.now) }
+fn skip_key(depth: usize, text: &[u8]) -> Result<&[u8], Refusal>
+    ensures { Answers (λ rest. tokens rest.now) result (behind_key (literal_in depth) (tokens text.now)) }
 {
-    let (found, rest) = values(alloc, depth, b']', Literals::new(alloc), tokens)?;
-    Ok((Literal::Row(Brackets::Square, found), rest))
-}
-
-/// A key and its value, and what follows them.
-#[tactic(auto, unfolding(crate::specs::Literals::pair_in))]
-#[cycle(nesting)]
-fn pair(alloc: Global, depth: usize, tokens: &[Token]) -> Result<(Pair, &[Token]), Refusal>
-    ensures { Gives (λ r. (r.0, r.1.now)) result (pair_in (literal_in depth) tokens.now) }
-{
-    let (key, after) = literal(alloc, depth, tokens)?;
-    let Some(behind) = symbol(b':', after) else {
+    let after = skip_literal(depth, text)?;
+    let Some(value) = symbol(b':', after) else {
         return Err(Refusal::BadHeader);
     };
-    let (value, rest) = literal(alloc, depth, behind)?;
-    Ok((Pair { key, value }, rest))
+    Ok(value)
 }
 
-/// The pairs of a dictionary behind its bracket, and what follows it.
+/// What follows a key and its value.
 #[cycle(nesting)]
-pub fn pairs(
-    alloc: Global,
-    depth: usize,
-    tokens: &[Token],
-) -> Result<(Vec<Pair>, &[Token]), Refusal>
-    ensures { Gives (λ r. (r.0.items, r.1.now)) result (pairs_in (literal_in depth) tokens.now) }
+fn skip_pair(depth: usize, text: &[u8]) -> Result<&[u8], Refusal>
+    ensures { Answers (λ rest. tokens rest.now) result (behind (pair_in (literal_in depth) (tokens text.now))) }
 {
-    let mut pairs = Vec::new(alloc);
-    let mut rest = tokens;
-    for _turn in 0..tokens.len() {
+    let value = skip_key(depth, text)?;
+    skip_literal(depth, value)
+}
+
+/// What follows the pairs of a dictionary behind its bracket.
+#[cycle(nesting)]
+fn skip_pairs(depth: usize, text: &[u8]) -> Result<&[u8], Refusal>
+    ensures { Answers (λ rest. tokens rest.now) result (behind_entries (pair_in (literal_in depth)) 125 (tokens text.now)) }
+{
+    let mut rest = text;
+    loop {
         if let Some(end) = symbol(b'}', rest) {
-            return Ok((pairs, end));
+            return Ok(end);
         }
-        let (next, after) = pair(alloc, depth, rest)?;
-        pairs.push(next)?;
+        let after = skip_pair(depth, rest)?;
         if let Some(end) = symbol(b'}', after) {
-            return Ok((pairs, end));
+            return Ok(end);
         }
-        let Some(behind) = symbol(b',', after) else {
+        let Some(next) = symbol(b',', after) else {
             return Err(Refusal::BadHeader);
         };
-        rest = behind;
+        rest = next;
     }
-    Err(Refusal::BadHeader)
 }
 
-/// The dictionary behind its bracket, and what follows it.
-#[tactic(auto, unfolding(crate::specs::Literals::dictionary_in))]
+/// What follows the tuple, the list or the dictionary that this symbol opens.
 #[cycle(nesting)]
-fn dictionary(alloc: Global, depth: usize, tokens: &[Token]) -> Result<(Literal, &[Token]), Refusal>
-    ensures { Gives (λ r. (r.0, r.1.now)) result (dictionary_in (literal_in depth) tokens.now) }
-{
-    let (_, rest) = pairs(alloc, depth, tokens)?;
-    Ok((Literal::Plain(Plain::Dictionary), rest))
-}
-
-/// What stands behind a symbol that opens a tuple, a list or a dictionary, and what follows it.
-#[cycle(nesting)]
-fn bracketed(
-    alloc: Global,
-    depth: usize,
-    opening: u8,
-    tokens: &[Token],
-) -> Result<(Literal, &[Token]), Refusal>
-    ensures { Gives (λ r. (r.0, r.1.now)) result (bracketed (literal_in depth) opening tokens.now) }
+fn skip_bracketed(depth: usize, opening: u8, text: &[u8]) -> Result<&[u8], Refusal>
+    ensures { Answers (λ rest. tokens rest.now) result (behind (bracketed (literal_in depth) opening (tokens text.now))) }
 {
     match opening {
-        b'(' => tuple(alloc, depth, tokens),
-        b'[' => list(alloc, depth, tokens),
-        b'{' => dictionary(alloc, depth, tokens),
+        b'(' => skip_tuple(depth, text),
+        b'[' => skip_values(depth, b']', text),
+        b'{' => skip_pairs(depth, text),
         _ => Err(Refusal::BadHeader),
     }
 }
 
-/// The literal that comes next, in which brackets lie to this depth, and what follows it.
-#[tactic(auto, unfolding(crate::specs::Literals::literal_in))]
+/// What follows the literal that comes next, in which brackets lie to this depth.
 #[cycle(nesting)]
-pub fn literal(
-    alloc: Global,
-    depth: usize,
-    tokens: &[Token],
-) -> Result<(Literal, &[Token]), Refusal>
-    ensures { Gives (λ r. (r.0, r.1.now)) result (literal_in depth tokens.now) }
+fn skip_literal(depth: usize, text: &[u8]) -> Result<&[u8], Refusal>
+    ensures { Answers (λ rest. tokens rest.now) result (behind (literal_in depth (tokens text.now))) }
 {
-    let [first, rest @ ..] = tokens else {
+    let Some((first, rest)) = next_token(text) else {
         return Err(Refusal::BadHeader);
     };
-    let plain = match first {
-        Token::Text(quoted) => Plain::Text(Text::from_slice(alloc, quoted.as_slice())?),
-        Token::Integer(number) => Plain::Integer(*number),
-        Token::Truth(truth) => Plain::Truth(*truth),
-        Token::Nothing => Plain::Nothing,
-        Token::Symbol(opening) if depth > 0 => return bracketed(alloc, depth - 1, *opening, rest),
-        _ => return Err(Refusal::BadHeader),
-    };
-    Ok((Literal::Plain(plain), rest))
+    match first {
+        Token::Symbol(opening) if depth > 0 => skip_bracketed(depth - 1, opening, rest),
+        Token::Symbol(_) => Err(Refusal::BadHeader),
+        Token::Stray => Err(Refusal::BadHeader),
+        Token::Text(_) | Token::Integer(_) | Token::Truth(_) | Token::Nothing => Ok(rest),
+    }
+}
+
+/// What follows a value among others, and the comma behind it.
+pub fn behind_value(text: &[u8]) -> Result<&[u8], Refusal>
+    ensures { Answers (λ rest. tokens rest.now) result (behind_entry value_in (tokens text.now)) }
+{
+    let after = skip_literal(MAX_VALUE_DEPTH, text)?;
+    Ok(skip_comma(after))
+}
+
+/// What follows a pair among others, and the comma behind it.
+pub fn behind_pair(text: &[u8]) -> Result<&[u8], Refusal>
+    ensures { Answers (λ rest. tokens rest.now) result (behind_entry (pair_in value_in) (tokens text.now)) }
+{
+    let after = skip_pair(MAX_VALUE_DEPTH, text)?;
+    Ok(skip_comma(after))
+}
+
+/// What follows the key of a pair.
+pub fn behind_key(text: &[u8]) -> Result<&[u8], Refusal>
+    ensures { Answers (λ rest. tokens rest.now) result (behind_key value_in (tokens text.now)) }
+{
+    skip_key(MAX_VALUE_DEPTH, text)
+}
+
+/// What follows all pairs of a header.
+pub fn behind_pairs(text: &[u8]) -> Result<&[u8], Refusal>
+    ensures { Answers (λ rest. tokens rest.now) result (behind_entries (pair_in value_in) 125 (tokens text.now)) }
+{
+    skip_pairs(MAX_VALUE_DEPTH, text)
 }

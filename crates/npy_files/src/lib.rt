@@ -9,7 +9,6 @@ mod grammar;
 mod header;
 mod header_text;
 mod items;
-mod literal;
 mod loader;
 mod mem_store;
 mod open_file;

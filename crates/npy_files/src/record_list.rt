@@ -1,14 +1,18 @@
 //! Element types in a header.
-ghost use Rattle.std.specs.Prelude.{◌≡◌, ◌≤◌, ℕ, IfOk};
+ghost use Rattle.std.specs.Prelude.{◌≡◌, ◌≤◌, ℕ, List, IfOk, MatchOption, Some, None};
 ghost use Rattle.std.specs.Char.{is_ascii_digit};
 ghost use Rattle.std.specs.List.{list_all};
 ghost use Rattle.elem_descr.specs.Refusals.{Answers, Gives};
 ghost use Rattle.elem_descr.specs.TypeStrings.{marked};
 ghost use Rattle.elem_descr.specs.FormatRecords.{max_depth, max_leaves};
 ghost use Rattle.elem_descr.specs.inside.Partials.{IsShallow, IsBody};
-ghost use Rattle.npy_files.specs.RecordLists.{pad_count, pad_kind, pad_in, scalar_in, type_in, field_in, entry_in, record_in, descr_in};
+ghost use Rattle.npy_files.specs.RecordLists.{pad_count, pad_kind, scalar_in, type_in, field_in, entry_in, record_in, descr_in};
+ghost use Rattle.npy_files.specs.Listed.{Literal};
+ghost use Rattle.npy_files.specs.Tokens.{tokens};
+ghost use Rattle.npy_files.specs.inside.Scanned.{string_at, pad_at};
+ghost use Rattle.npy_files.specs.inside.Places.{Stands, HasValues, entry_parts};
 
-use crate::literal::{Brackets, Literal, Plain};
+use crate::grammar::{behind_value, string, symbol};
 use crate::token::capped_value;
 use elem_descr::format_text::draft::{Body, Draft};
 use elem_descr::format_text::mark::Mark;
@@ -55,14 +59,14 @@ fn pad_kind(kind: &[u8]) -> Result<Option<usize>, Refusal>
 }
 
 /// Adds padding.
-fn add_pad(draft: &mut Draft, kind: &Literal) -> Result<(), Refusal>
-    ensures gives { Answers (λ _. draft.new) result (pad_in draft.old kind.now) }
+fn add_pad(draft: &mut Draft, kind: &[u8]) -> Result<(), Refusal>
+    ensures answers { Answers (λ _. draft.new) result (pad_at draft.old (string_at (tokens kind.now))) }
     ensures levels { draft.new.levels ≡ draft.old.levels }
 {
-    let Literal::Plain(Plain::Text(text)) = kind else {
+    let Some((kind, _)) = string(kind) else {
         return Err(Refusal::DescriptorLeftOut);
     };
-    let count = pad_kind(unmarked(text.as_slice()))?;
+    let count = pad_kind(unmarked(kind))?;
     draft.pad(count)
 }
 
@@ -79,27 +83,26 @@ fn scalar(text: &[u8]) -> Result<Descr, Refusal>
 
 /// The type of a field.
 #[cycle(record)]
-fn field_type(alloc: Global, levels: usize, leaves: usize, kind: &Literal) -> Result<Descr, Refusal>
+fn field_type(alloc: Global, levels: usize, leaves: usize, kind: &[u8]) -> Result<Descr, Refusal>
     requires levels { levels ≤ max_depth }
     requires leaves { leaves ≤ max_leaves }
-    ensures gives { Gives (λ descr. descr) result (type_in (record_in levels leaves) kind.now) }
+    ensures gives { (value : Literal) → Stands (tokens kind.now) value → Gives (λ descr. descr) result (type_in (record_in levels leaves) value) }
     ensures shallow { IfOk result (λ descr. IsShallow levels descr) }
 {
-    match kind {
-        Literal::Plain(Plain::Text(text)) => scalar(text.as_slice()),
-        Literal::Row(Brackets::Square, values) => {
-            let body = record(alloc, levels, leaves, values.as_slice())?;
-            Ok(Descr::Record(body.whole))
-        }
-        _ => Err(Refusal::DescriptorLeftOut),
+    if let Some((kind, _)) = string(kind) {
+        return scalar(kind);
     }
+    let Some(entries) = symbol(b'[', kind) else {
+        return Err(Refusal::DescriptorLeftOut);
+    };
+    let body = record(alloc, levels, leaves, entries)?;
+    Ok(Descr::Record(body.whole))
 }
 
 /// Adds a field.
-#[tactic(auto, unfolding(crate::specs::RecordLists::field_in))]
 #[cycle(record)]
-fn add_field(alloc: Global, draft: &mut Draft, name: &[u8], kind: &Literal) -> Result<(), Refusal>
-    ensures gives { Gives (λ _. draft.new) result (field_in (record_in draft.old.levels) draft.old name.now kind.now) }
+fn add_field(alloc: Global, draft: &mut Draft, name: &[u8], kind: &[u8]) -> Result<(), Refusal>
+    ensures gives { (value : Literal) → Stands (tokens kind.now) value → Gives (λ _. draft.new) result (field_in (record_in draft.old.levels) draft.old name.now value) }
     ensures levels { draft.new.levels ≡ draft.old.levels }
 {
     if !is_legal_name(name) {
@@ -111,22 +114,31 @@ fn add_field(alloc: Global, draft: &mut Draft, name: &[u8], kind: &Literal) -> R
     draft.add(name, 1, descr)
 }
 
+/// The name in an entry, a tuple of two, and where its type stands.
+fn entry_parts(entry: &[u8]) -> Option<(&[u8], &[u8])>
+    ensures { (value : Literal) → Stands (tokens entry.now) value → MatchOption result
+        (entry_parts value ≡ None)
+        (λ parts. (kind : Literal) × (entry_parts value ≡ Some (parts.0.now, kind)) × Stands (tokens parts.1.now) kind) }
+{
+    let inside = symbol(b'(', entry)?;
+    let (name, behind) = string(inside)?;
+    let kind = symbol(b',', behind)?;
+    let Ok(rest) = behind_value(kind) else {
+        return None;
+    };
+    symbol(b')', rest)?;
+    Some((name, kind))
+}
+
 /// Adds what an entry of the list means: a field or padding.
 #[cycle(record)]
-fn add_entry(alloc: Global, draft: &mut Draft, entry: &Literal) -> Result<(), Refusal>
-    ensures gives { Gives (λ _. draft.new) result (entry_in (record_in draft.old.levels) draft.old entry.now) }
+fn add_entry(alloc: Global, draft: &mut Draft, entry: &[u8]) -> Result<(), Refusal>
+    ensures gives { (value : Literal) → Stands (tokens entry.now) value → Gives (λ _. draft.new) result (entry_in (record_in draft.old.levels) draft.old value) }
     ensures levels { draft.new.levels ≡ draft.old.levels }
 {
-    let Literal::Row(Brackets::Round, values) = entry else {
+    let Some((name, kind)) = entry_parts(entry) else {
         return Err(Refusal::DescriptorLeftOut);
     };
-    let [name, kind] = values.as_slice() else {
-        return Err(Refusal::DescriptorLeftOut);
-    };
-    let Literal::Plain(Plain::Text(name)) = name else {
-        return Err(Refusal::DescriptorLeftOut);
-    };
-    let name = name.as_slice();
     if name.is_empty() {
         return add_pad(draft, kind);
     }
@@ -136,32 +148,34 @@ fn add_entry(alloc: Global, draft: &mut Draft, entry: &Literal) -> Result<(), Re
 /// The record whose fields are the entries of a list. `levels` says how many records may lie one within
 /// another, and `leaves` how many leaves the whole type has before this one.
 #[cycle(record)]
-fn record(alloc: Global, levels: usize, leaves: usize, entries: &[Literal]) -> Result<Body, Refusal>
+fn record(alloc: Global, levels: usize, leaves: usize, entries: &[u8]) -> Result<Body, Refusal>
     requires levels { levels ≤ max_depth }
     requires leaves { leaves ≤ max_leaves }
-    ensures gives { Gives (λ body. body) result (record_in levels leaves entries.now) }
+    ensures gives { (values : List Literal) → HasValues 93 (tokens entries.now) values → Gives (λ body. body) result (record_in levels leaves values) }
     ensures good { IfOk result (λ body. IsBody levels body) }
 {
     if levels == 0 {
         return Err(Refusal::DescriptorLeftOut);
     }
     let mut draft = Draft::new(alloc, levels - 1, leaves);
-    for entry in entries {
-        add_entry(alloc, &mut draft, entry)?;
+    let mut rest = entries;
+    while symbol(b']', rest).is_none() {
+        add_entry(alloc, &mut draft, rest)?;
+        rest = behind_value(rest)?;
     }
     draft.close(alloc, Mark::Little)
 }
 
-/// The element type that a value of the header means.
-pub fn descr(alloc: Global, value: &Literal) -> Result<Descr, Refusal>
-    ensures { Gives (λ descr. descr) result (descr_in value.now) }
+/// The element type that the value of a header means.
+pub fn descr(alloc: Global, text: &[u8]) -> Result<Descr, Refusal>
+    ensures { (value : Literal) → Stands (tokens text.now) value → Gives (λ descr. descr) result (descr_in value) }
 {
-    match value {
-        Literal::Plain(Plain::Text(text)) => scalar(text.as_slice()),
-        Literal::Row(Brackets::Square, values) => {
-            let body = record(alloc, MAX_DEPTH, 0, values.as_slice())?;
-            Ok(Descr::Record(body.whole))
-        }
-        _ => Err(Refusal::BadDescriptor),
+    if let Some((kind, _)) = string(text) {
+        return scalar(kind);
     }
+    let Some(entries) = symbol(b'[', text) else {
+        return Err(Refusal::BadDescriptor);
+    };
+    let body = record(alloc, MAX_DEPTH, 0, entries)?;
+    Ok(Descr::Record(body.whole))
 }

@@ -1,19 +1,19 @@
 //! The tokens of a header.
-ghost use Rattle.std.specs.Prelude.{◌≡◌, ◌≤◌, ◌∷◌, length, IfOk};
+ghost use Rattle.std.specs.Prelude.{◌≡◌, ◌≤◌, ◌∷◌, [], length, MatchOption};
 ghost use Rattle.std.specs.Char.{is_ascii_digit, is_ascii_alphabetic};
 ghost use Rattle.std.specs.List.{prefix_len};
 ghost use Rattle.elem_descr.specs.TypeStrings.{value_of};
 ghost use Rattle.shape_strides.specs.Limits.{max_items};
 ghost use Rattle.npy_files.specs.Tokens.{is_space, unspaced, is_quote, is_plain, text_token, capped, is_integer, behind_long, integer_token, word, word_token, token_from, tokens};
+ghost use Rattle.npy_files.specs.inside.Scanned.{token_of};
 
-use crate::literal::Text;
 use shape_strides::MAX_ITEMS;
-use std::alloc::{AllocError, Global};
 
 /// A token of Python.
-#[derive(Drop)]
-pub enum Token {
-    Text(Text),
+#[derive(Clone, Copy)]
+pub enum Token<'a> {
+    /// The bytes of a string.
+    Text(&'a [u8]),
     /// An integer without sign; those above `MAX_ITEMS` are all one more than that.
     Integer(usize),
     Truth(bool),
@@ -87,16 +87,14 @@ fn unspaced(bytes: &[u8]) -> &[u8]
 }
 
 /// The string whose opening quote stands before these bytes, and what follows it.
-fn text_token(alloc: Global, quote: u8, bytes: &[u8]) -> Result<(Token, &[u8]), AllocError>
-    ensures { IfOk result (λ r. (r.0, r.1.now) ≡ text_token quote bytes.now) }
+fn text_token(quote: u8, bytes: &[u8]) -> (Token<'_>, &[u8])
+    ensures { (token_of result.0, result.1.now) ≡ text_token quote bytes.now }
 {
     let (plain, rest) = bytes.split_at(plain_len(quote, bytes));
     match rest {
-        [end, rest @ ..] if *end == quote => {
-            Ok((Token::Text(Text::from_slice(alloc, plain)?), rest))
-        }
-        [_, rest @ ..] => Ok((Token::Stray, rest)),
-        [] => Ok((Token::Stray, rest)),
+        [end, rest @ ..] if *end == quote => (Token::Text(plain), rest),
+        [_, rest @ ..] => (Token::Stray, rest),
+        [] => (Token::Stray, rest),
     }
 }
 
@@ -119,9 +117,9 @@ fn behind_long(bytes: &[u8]) -> &[u8]
     }
 }
 
-/// The word or the integer ..
-fn word(letters: &[u8]) -> Token
-    ensures { result ≡ word letters.now }
+/// The token that letters are.
+fn word(letters: &[u8]) -> Token<'_>
+    ensures { token_of result ≡ word letters.now }
 {
     match letters {
         b"True" => Token::Truth(true),
@@ -132,8 +130,8 @@ fn word(letters: &[u8]) -> Token
 }
 
 /// The word at the front, and what follows it.
-fn word_token(bytes: &[u8]) -> (Token, &[u8])
-    ensures { (result.0, result.1.now) ≡ word_token bytes.now }
+fn word_token(bytes: &[u8]) -> (Token<'_>, &[u8])
+    ensures { (token_of result.0, result.1.now) ≡ word_token bytes.now }
 {
     let (letters, rest) = bytes.split_at(letters_len(bytes));
     (word(letters), rest)
@@ -151,8 +149,8 @@ pub fn capped_value(digits: &[u8]) -> usize
 }
 
 /// The integer at the front, and what follows it.
-fn integer_token(bytes: &[u8]) -> (Token, &[u8])
-    ensures { (result.0, result.1.now) ≡ integer_token bytes.now }
+fn integer_token(bytes: &[u8]) -> (Token<'_>, &[u8])
+    ensures { (token_of result.0, result.1.now) ≡ integer_token bytes.now }
 {
     let (digits, rest) = bytes.split_at(digits_len(bytes));
     if !is_integer(digits) {
@@ -162,41 +160,29 @@ fn integer_token(bytes: &[u8]) -> (Token, &[u8])
 }
 
 /// The token that a text begins with, whose first byte is no space, and what follows the token.
-fn token_from<'a>(
-    alloc: Global,
-    first: u8,
-    rest: &'a [u8],
-    text: &'a [u8],
-) -> Result<(Token, &'a [u8]), AllocError>
+fn token_from<'a>(first: u8, rest: &'a [u8], text: &'a [u8]) -> (Token<'a>, &'a [u8])
     requires { text.now ≡ first ∷ rest.now }
-    ensures { IfOk result (λ r. (r.0, r.1.now) ≡ token_from first rest.now) }
+    ensures { (token_of result.0, result.1.now) ≡ token_from first rest.now }
 {
     if is_quote(first) {
-        return text_token(alloc, first, rest);
+        return text_token(first, rest);
     }
     if first.is_ascii_digit() {
-        return Ok(integer_token(text));
+        return integer_token(text);
     }
     if first.is_ascii_alphabetic() {
-        return Ok(word_token(text));
+        return word_token(text);
     }
-    Ok((Token::Symbol(first), rest))
+    (Token::Symbol(first), rest)
 }
 
-/// The tokens of a text.
-pub fn tokens(alloc: Global, text: &[u8]) -> Result<Vec<Token>, AllocError>
-    ensures { IfOk result (λ found. found.items ≡ tokens text.now) }
+/// The first token of a text, and what follows it.
+pub fn next_token(text: &[u8]) -> Option<(Token<'_>, &[u8])>
+    ensures { MatchOption result (tokens text.now ≡ []) (λ next. tokens text.now ≡ token_of next.0 ∷ tokens next.1.now) }
 {
-    let mut found = Vec::new(alloc);
-    let mut rest = text;
-    for _turn in 0..text.len() {
-        let text = unspaced(rest);
-        let [first, behind @ ..] = text else {
-            return Ok(found);
-        };
-        let (token, behind) = token_from(alloc, *first, behind, text)?;
-        found.push(token)?;
-        rest = behind;
-    }
-    Ok(found)
+    let text = unspaced(text);
+    let [first, rest @ ..] = text else {
+        return None;
+    };
+    Some(token_from(*first, rest, text))
 }

@@ -1,8 +1,13 @@
-use Rattle.std.proofs.Common.{◌≡◌, ◌++◌, drop, Ok}
-use Rattle.elem_descr.specs.Refusals.{◌>>=◌}
-use Rattle.npy_files.specs.Headers.{integers_of}
+use Rattle.std.proofs.Common.{List, length}
+use Rattle.npy_files.specs.Listed.{Literal}
+use Rattle.npy_files.specs.Tokens.{tokens}
+use Rattle.npy_files.specs.inside.Places.{HasValues}
+use Rattle.npy_files.proofs.HeaderLaws.{LengthsLeft}
 use Rattle.npy_files.proofs.header.lengths.Given as goal
 
--- the integers so far, before those of the rest, are all
-abbrev pub invariant-loop-value : goal.invariant-loop-value
-invariant-loop-value l = integers_of l.value-items ≡ (integers_of (drop l.value-index l.value-items) >>= λ more. Ok (l.lengths.items ++ more))
+-- the values so far are integers
+abbrev pub invariant-loop-after : goal.invariant-loop-after
+invariant-loop-after l = (values : List Literal) → HasValues 41 (tokens l.inside) values → LengthsLeft values (tokens l.rest)
+
+abbrev pub decreases-loop-after : goal.decreases-loop-after
+decreases-loop-after l = length (tokens l.rest)

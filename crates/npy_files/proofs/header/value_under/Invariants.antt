@@ -1,7 +1,13 @@
-use Rattle.std.proofs.Common.{◌≡◌, drop}
-use Rattle.npy_files.specs.Headers.{value_under}
+use Rattle.std.proofs.Common.{List, length}
+use Rattle.npy_files.specs.Listed.{Pair}
+use Rattle.npy_files.specs.Tokens.{tokens}
+use Rattle.npy_files.specs.inside.Places.{HasPairs}
+use Rattle.npy_files.proofs.HeaderLaws.{KeyLeft}
 use Rattle.npy_files.proofs.header.value_under.Given as goal
 
 -- none of the pairs so far has the key
-abbrev pub invariant-loop-pair : goal.invariant-loop-pair
-invariant-loop-pair l = value_under l.key l.pairs ≡ value_under l.key (drop l.pair-index l.pairs)
+abbrev pub invariant-loop-rest : goal.invariant-loop-rest
+invariant-loop-rest l = (pairs : List Pair) → HasPairs (tokens l.pairs) pairs → KeyLeft l.key pairs (tokens l.rest)
+
+abbrev pub decreases-loop-rest : goal.decreases-loop-rest
+decreases-loop-rest l = length (tokens l.rest)

@@ -1,8 +1,8 @@
-use Rattle.std.proofs.Common.{◌≡◌, ◌+◌, ◌-◌, ◌*◌, drop}
-use Rattle.elem_descr.specs.declared.format_text.mark.Mark.TheVariants.{Little}
-use Rattle.elem_descr.specs.Refusals.{◌>>=◌}
-use Rattle.elem_descr.specs.FormatRecords.{closed_record}
-use Rattle.npy_files.specs.RecordLists.{fields_in, record_in}
+use Rattle.std.proofs.Common.{◌≡◌, ◌+◌, ◌*◌, List, length}
+use Rattle.npy_files.specs.Listed.{Literal}
+use Rattle.npy_files.specs.Tokens.{tokens}
+use Rattle.npy_files.specs.inside.Places.{HasValues}
+use Rattle.npy_files.proofs.RecordListLaws.{FieldsLeft}
 use Rattle.npy_files.proofs.record_list.+record.Given as goal
 
 -- a record is one level less deep than the one around it
@@ -19,8 +19,11 @@ abbrev pub decreases-add_entry : goal.decreases-add_entry
 decreases-add_entry l = 4 * l.draft.now.levels + 3
 
 -- the entries so far are read
-abbrev pub invariant-record-loop-entry : goal.invariant-record-loop-entry
-invariant-record-loop-entry l = record {
-  read : record_in l.levels l.leaves l.entries ≡ (fields_in (record_in (l.levels - 1)) l.draft (drop l.entry-index l.entries) >>= closed_record Little);
+abbrev pub invariant-record-loop-rest : goal.invariant-record-loop-rest
+invariant-record-loop-rest l = record {
+  read : (values : List Literal) → HasValues 93 (tokens l.entries) values → FieldsLeft l.levels l.leaves values l.draft (tokens l.rest);
   levels : l.draft.levels + 1 ≡ l.levels;
 }
+
+abbrev pub decreases-record-loop-rest : goal.decreases-record-loop-rest
+decreases-record-loop-rest l = length (tokens l.rest)
