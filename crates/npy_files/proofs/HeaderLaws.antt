@@ -3,7 +3,7 @@ use Rattle.std.proofs.Common.{◌≡◌, ◌≢◌, ◌≤◌, ◌<◌, ◌+◌,
 use Rattle.std.specs.Prelude.{MatchOption, MatchResult, if◌then◌else◌}
 use Rattle.std.specs.Option.{ok_or, is_some}
 use Rattle.std.proofs.lemmas.List.{append-nil}
-use Rattle.std.proofs.lemmas.Bool.{ne_eqb, lt-leb}
+use Rattle.std.proofs.lemmas.Bool.{lt-leb}
 use Rattle.elem_descr.specs.declared.refusal.Refusal.{Refusal}
 use Rattle.elem_descr.specs.declared.refusal.Refusal.TheVariants.{BadHeader, TooManyAxes}
 use Rattle.elem_descr.specs.declared.descr.Descr.{Descr}
@@ -154,16 +154,6 @@ pub record LengthsLeft (values : List Literal) (toks : List Token) : Type 0 wher
   pub before : List ℕ
   pub same : integers_of values ≡ (integers_of left >>= λ ns. Ok (before ++ ns))
 
-none_before : (values : List Literal) → integers_of values ≡ (integers_of values >>= λ ns. Ok ([] ++ ns))
-none_before values = go (integers_of values)
-  where
-    go : (r : Result (List ℕ) Refusal) → r ≡ (r >>= λ ns. Ok ([] ++ ns))
-    go (Ok ns) = refl
-    go (Err e) = refl
-
-pub lengths_begin : (values : List Literal) (toks : List Token) → HasValues 41 toks values → LengthsLeft values toks
-lengths_begin values toks s = record { left = values; stand = s; before = []; same = none_before values }
-
 no_41 : let n : ℕ = 41 in n ≢ 44
 no_41 wrong = omega (arith, wrong)
 
@@ -227,20 +217,8 @@ module _ (whole axes : List ℕ) (toks : List Token) (h : ShapeLeft whole axes t
 
 -- ---- what a header says
 
-pub not_three : (pairs : List Pair) → length pairs ≢ 3 → header_of pairs ≡ Err BadHeader
-unfolding header_of
-not_three pairs other = rw (ne_eqb (length pairs) 3 other) refl
-
 module _ (pairs : List Pair) (three : length pairs ≡ 3) where
-  pub no_element : (e : Refusal) → value_under (codes "descr") pairs ≡ Err e → header_of pairs ≡ Err e
-  unfolding header_of
-  no_element e is = rw (three, is) refl
-
   module _ (element : Literal) (first : value_under (codes "descr") pairs ≡ Ok element) where
-    pub no_order : (e : Refusal) → value_under (codes "fortran_order") pairs ≡ Err e → header_of pairs ≡ Err e
-    unfolding header_of
-    no_order e is = rw (three, first, is) refl
-
     module _ (order : Literal) (second : value_under (codes "fortran_order") pairs ≡ Ok order) where
       pub no_truth : (e : Refusal) → truth_of order ≡ Err e → header_of pairs ≡ Err e
       unfolding header_of
