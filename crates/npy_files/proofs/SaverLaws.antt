@@ -18,7 +18,7 @@ use Rattle.npy_files.proofs.GatherLaws.{gathered, together}
 use Rattle.npy_files.proofs.WriterLaws.{file_written}
 
 module _ (descr : Descr) (shape offsets bytes : List ℕ) (start len : ℕ) (long : length offsets ≡ count shape) (inside : All (λ offset. offset + item_size descr ≤ length bytes) offsets)
-  (is : (is_c_contiguous (item_size descr) offsets || is_f_contiguous (item_size descr) shape offsets) ≡ true) (first : start ≡ first_address offsets) (sized : len ≡ count shape * item_size descr) where
+    (is : (is_c_contiguous (item_size descr) offsets || is_f_contiguous (item_size descr) shape offsets) ≡ true) (first : start ≡ first_address offsets) (sized : len ≡ count shape * item_size descr) where
   pub stretch_ends : start + len ≤ length bytes
   stretch_ends = let ends = (together (item_size descr) shape offsets bytes long inside is).ends in omega (arith, ends, first, sized)
 

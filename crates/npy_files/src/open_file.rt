@@ -84,7 +84,11 @@ fn fill_piece<F: Read>(
 }
 
 /// The same, piece by piece: what a piece held is written over while it is near.
-fn fill_rest<F: Read>(file: &mut F, block: &mut BlockBuilder, count: usize) -> Result<(), StoreFault>
+fn fill_rest<F: Read>(
+    file: &mut F,
+    block: &mut BlockBuilder,
+    count: usize,
+) -> Result<(), StoreFault>
     requires { count ≤ block.old.1 }
     ensures { OnOk result (count + block.new.1 ≡ block.old.1) }
 {

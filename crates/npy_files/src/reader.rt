@@ -115,7 +115,11 @@ pub(crate) fn contents<'a>(
 }
 
 /// The array whose items are this block.
-pub(crate) fn array_over(alloc: Global, header: Header, block: RawBlock) -> Result<Owned, AllocError>
+pub(crate) fn array_over(
+    alloc: Global,
+    header: Header,
+    block: RawBlock,
+) -> Result<Owned, AllocError>
     requires whole { length block ≡ data_size header }
     requires small { length block ≤ max_bytes }
     ensures { IfOk result (λ array. HasItems array header block) }

@@ -33,7 +33,12 @@ pub(crate) fn is_fortran(layout: &Layout, width: usize) -> bool
 }
 
 /// The bytes of a file before its items.
-pub(crate) fn header(alloc: Global, descr: &Descr, fortran: bool, shape: &Shape) -> Result<Vec<u8>, AllocError>
+pub(crate) fn header(
+    alloc: Global,
+    descr: &Descr,
+    fortran: bool,
+    shape: &Shape,
+) -> Result<Vec<u8>, AllocError>
     ensures { IfOk result (λ file. file.items ≡ written_header (written_text descr.now fortran shape.now)) }
 {
     let text = header_text(alloc, descr, fortran, shape)?;

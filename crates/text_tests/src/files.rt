@@ -1,6 +1,11 @@
 //! NPY files that are read, and stores of files.
+ghost use Rattle.std.specs.Prelude.{◌≤◌, length};
+
 use elem_descr::Refusal;
-use npy_files::{FuseStore, MemStore, NpyStore, StoreFault, npy_read};
+use npy_files::{FileParts, FuseStore, MemStore, NpyStore, StoreFault, npy_load, npy_read};
+use overlap_copy::Owned;
+use raw_block::RawBlock;
+use std::alloc::Global;
 use std::test::Fail;
 
 /// Three integers, in a file of version 2.0, with a byte behind them.
@@ -31,6 +36,30 @@ fn files_that_are_cut(rt: HostRuntime) {
     }
 }
 
+/// What is loaded of a file whose first `cut` bytes are its first part.
+fn load_cut(alloc: Global, file: &[u8], cut: usize) -> Result<(Owned, usize), Refusal>
+    requires { cut ≤ length file.now }
+{
+    let front = Vec::from_slice(alloc, &file[..cut])?;
+    let block = RawBlock::try_copied(alloc, &file[cut..])?;
+    npy_load(alloc, FileParts { front, block })
+}
+
+/// Wherever a file is cut in two, it is the same file, with a byte behind its items or without.
+#[test]
+fn files_in_two_parts(rt: HostRuntime) -> Result<(), Fail> {
+    for cut in 0..81 {
+        for len in [81, 82] {
+            let (array, rest) = load_cut(rt.alloc(), &FILE[..len], cut)?;
+            assert!(rt; rest == len - 81, "at {cut}");
+            assert!(rt; array.block.bytes() == ITEMS, "at {cut}");
+        }
+        let cut_short = load_cut(rt.alloc(), &FILE[..80], cut.min(80)).err();
+        assert!(rt; cut_short == Some(Refusal::Truncated), "at {cut}");
+    }
+    Ok(())
+}
+
 #[test]
 fn files_that_are_refused(rt: HostRuntime) {
     let version = npy_read(rt.alloc(), b"\x93NUMPY\x03\x00").err();
@@ -53,6 +82,25 @@ fn a_store_in_memory(rt: HostRuntime) -> Result<(), Fail> {
     assert!(rt; none.is_none());
     let long = store.write(rt.alloc(), b"a", b"three");
     assert!(rt; long == Err(StoreFault::TooLong));
+    Ok(())
+}
+
+/// Files in two parts, in a store in memory of which the second call fails.
+#[test]
+fn two_parts_in_memory(rt: HostRuntime) -> Result<(), Fail> {
+    let mut store = FuseStore::new(rt.alloc(), 6, 1);
+    store.write_parts(rt.alloc(), b"a", b"one", b"two")?;
+    let failed = store.read_parts(rt.alloc(), b"a").err();
+    assert!(rt; failed == Some(StoreFault::Device));
+    let found = store.read(rt.alloc(), b"a")?;
+    assert!(rt; matches!(&found, Some(bytes) if bytes.as_slice() == b"onetwo".as_slice()));
+    let long = store.write_parts(rt.alloc(), b"a", b"one", b"four");
+    assert!(rt; long == Err(StoreFault::TooLong));
+    let Some(FileParts { mut front, block }) = store.read_parts(rt.alloc(), b"a")? else {
+        panic!(rt; "no file");
+    };
+    front.extend_from_slice(block.bytes())?;
+    assert!(rt; front.as_slice() == b"onetwo".as_slice());
     Ok(())
 }
 

@@ -1,6 +1,6 @@
 //! NPY files that are written, as `numpy.lib.format` has them, and a folder of files.
 use elem_descr::{Descr, Refusal, descr_read};
-use npy_files::{DirStore, NpyStore, npy_read, npy_write};
+use npy_files::{DirStore, FileParts, NpyStore, SavedParts, npy_parts, npy_read, npy_write};
 use raw_block::RawBlock;
 use shape_strides::{Layout, Shape, Strides};
 use std::alloc::{AllocError, Global};
@@ -215,6 +215,40 @@ fn saves_row(rt: &impl Abort, alloc: Global, row: &Row) -> Result<(), Refusal> {
     let file = saved(rt, alloc, row.block, &layout, &descr)?;
     let wanted = wanted(alloc, row)?;
     assert!(rt; file.as_slice() == wanted.as_slice(), "at {}", row.text);
+    let block = RawBlock::try_copied(alloc, row.block)?;
+    let SavedParts { mut front, items } = parts_of(rt, alloc, &block, &layout, &descr)?;
+    front.extend_from_slice(items)?;
+    assert!(rt; front.as_slice() == wanted.as_slice(), "at {}", row.text);
+    Ok(())
+}
+
+fn parts_of<'a>(
+    rt: &impl Abort,
+    alloc: Global,
+    block: &'a RawBlock,
+    layout: &Layout,
+    descr: &Descr,
+) -> Result<SavedParts<'a>, Refusal> {
+    assert!(rt; layout.fits(block.len(), descr.size()));
+    npy_parts(alloc, block, layout, descr)
+}
+
+/// How many bytes of a row's file are those of the block.
+fn uncopied(rt: &impl Abort, alloc: Global, row: &Row) -> Result<usize, Refusal> {
+    let descr = descr_read(alloc, row.descr.as_bytes())?;
+    let layout = layout_of(rt, alloc, row.lengths, row.steps, row.offset)?;
+    let block = RawBlock::try_copied(alloc, row.block)?;
+    Ok(parts_of(rt, alloc, &block, &layout, &descr)?.items.len())
+}
+
+/// The items of the first three rows lie in the block as in the file, and so does the one item.
+#[test]
+fn items_are_not_copied(rt: HostRuntime) -> Result<(), Fail> {
+    let mut bytes = 0;
+    for row in ROWS {
+        bytes = uncopied(&rt, rt.alloc(), row)?.saturating_add(bytes);
+    }
+    assert!(rt; bytes == 12 + 24 + 6 + 1);
     Ok(())
 }
 
@@ -329,6 +363,32 @@ fn a_folder_of_files(rt: HostRuntime) -> Result<(), Fail> {
     assert!(rt; outside.is_err());
     fs::remove_file(&rt, "folder_of_files/a.npy")?;
     fs::remove_dir(&rt, "folder_of_files")?;
+    Ok(())
+}
+
+/// An NPY file of a folder is cut behind its header, and what is none stands in front.
+#[test]
+fn two_parts_in_a_folder(rt: HostRuntime) -> Result<(), Fail> {
+    fs::create_dir_all(&rt, "two_parts")?;
+    let mut store = DirStore::try_new(&rt, rt.alloc(), "two_parts")?;
+    let mut items = Vec::new(rt.alloc());
+    for k in 0..200_000u32 {
+        items.push((k % 251) as u8)?;
+    }
+    let header = b"\x93NUMPY\x01\x00\x02\x00{}";
+    store.write_parts(rt.alloc(), b"a.npy", header, items.as_slice())?;
+    let found = store.read_parts(rt.alloc(), b"a.npy")?;
+    assert!(rt; matches!(&found, Some(parts) if parts.front.as_slice() == header.as_slice()));
+    assert!(rt; matches!(&found, Some(parts) if parts.block.bytes() == items.as_slice()));
+    store.write_parts(rt.alloc(), b"a.npy", b"no ", b"file")?;
+    let found = store.read_parts(rt.alloc(), b"a.npy")?;
+    assert!(rt;
+        matches!(&found, Some(FileParts { front, .. }) if front.as_slice() == b"no file".as_slice())
+    );
+    let none = store.read_parts(rt.alloc(), b"b.npy")?;
+    assert!(rt; none.is_none());
+    fs::remove_file(&rt, "two_parts/a.npy")?;
+    fs::remove_dir(&rt, "two_parts")?;
     Ok(())
 }
 

@@ -1,5 +1,4 @@
-use Rattle.std.proofs.Common.{◌++◌, refl, sym, ap, ◌∙◌, inr, subst, Ok, Err, Some, List, ℕ}
-use Rattle.npy_files.specs.Files.{Loads, load}
+use Rattle.std.proofs.Common.{◌++◌, refl, sym, ap, ◌∙◌, inr, Ok, Err, Some}
 use Rattle.bench_engine.proofs.LoadedFiles.{finds}
 use Rattle.bench_engine.proofs.load.find.Goals as goal
 

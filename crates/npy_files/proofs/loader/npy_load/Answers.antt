@@ -1,4 +1,4 @@
-use Rattle.std.proofs.Common.{◌≡◌, ◌++◌, List, ℕ, [], Ok, sym, ap, subst, ◌∙◌, arith}
+use Rattle.std.proofs.Common.{◌≡◌, ◌++◌, [], Ok, sym, ap, subst, ◌∙◌, arith}
 use Rattle.npy_files.specs.Files.{Loads, split_header}
 use Rattle.npy_files.proofs.PartLaws.{empty, header_more, load_split}
 use Rattle.npy_files.proofs.loader.npy_load.Goals as goal

@@ -6,7 +6,7 @@ use Rattle.shape_strides.specs.Layouts.{offsets}
 use Rattle.shape_strides.specs.LayoutLaws.{length-offsets}
 use Rattle.npy_files.specs.Files.{order_of}
 use Rattle.npy_files.specs.WrittenHeaders.{written_text, written_header}
-use Rattle.npy_files.specs.WrittenFiles.{is_fortran, ordered, file_of}
+use Rattle.npy_files.specs.WrittenFiles.{is_fortran, ordered}
 use Rattle.npy_files.proofs.SaverLaws.{stretch_ends, stretch_written}
 use Rattle.npy_files.proofs.saver.uncopied.Goals as goal
 
