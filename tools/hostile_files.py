@@ -17,7 +17,7 @@ TURNED = b"""{"shape": (3L,), "fortran_order": False, "descr": "<i4"}\n"""
 SHORT = MAGIC + b"\x01\0\x39\0" + TURNED + DATA + b"\xff"
 SECOND = MAGIC + b"\x02\0\x39\0\0\0" + TURNED + DATA + b"\xff"
 ALTERED, BATCH = 20_000, 250
-SPARE = 4 * 2**20
+SPARE, SLACK = 4 * 2**20, 2**17
 TYPES = ["'<i4'", "'>i2'", "'|b1'", "'|S5'", "'<u8'", "'|i1'", "[('x', '<i4'), ('y', '>i2')]", "[('x', '|i1'), ('', '|V3'), ('s', [('y', '<i4')])]"]
 ODD_TYPES = [
     "'<f8'", "'<i3'", "'|S0'", "'|S'", "'|S65536'", "'|S65537'", "'|O'", "''", "3", "[]", "None", "('x', '<i4')", "[('', '|V3')]", "[('x', '<i4', (2,))]",
@@ -245,7 +245,7 @@ def large_loads(program):
             should, items = expected_of(front, zeros)
             part.expect(f"load of {name}", reply, should)
             part.note(f"load of {name}", f"{length:,} bytes of the file, {items:,} of the array, {peak:,} reserved")
-            most = length + items + SPARE
+            most = length + items + SLACK
             if peak > most:
                 part.fault(f"load of {name}", f"{peak:,} bytes reserved", f"at most {most:,}: {length:,} of the file and {items:,} of the array")
     return part
