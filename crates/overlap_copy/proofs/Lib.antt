@@ -1,5 +1,6 @@
 pub mod ApartLaws
 pub mod AssignLaws
+pub mod AxesLaws
 pub mod CopyLaws
 pub mod LineLaws
 pub mod MarkLaws

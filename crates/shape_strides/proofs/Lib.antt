@@ -1,6 +1,7 @@
 pub mod LayoutLaws
 pub mod StepLaws
 pub mod ReachLaws
+pub mod ReachedLaws
 pub mod SpanLaws
 pub mod CountLaws
 pub mod AdvanceLaws
@@ -9,7 +10,6 @@ pub mod ContiguityLaws
 pub mod FortranLaws
 pub mod StackLaws
 pub mod StackedLaws
-pub mod PermutationLaws
 pub mod OrderLaws
 pub mod AddressOrderLaws
 pub mod JoinedLaws

@@ -21,3 +21,5 @@ pub mod ContiguityLaws
 pub mod ShapeLaws
 pub mod WalkLaws
 pub mod ReverseLaws
+pub mod PermutationLaws
+pub mod Reaches
