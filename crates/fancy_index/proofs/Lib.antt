@@ -21,3 +21,5 @@ pub mod LeadLaws
 pub mod IndexSplits
 pub mod LaidLaws
 pub mod AnswerLaws
+pub mod SumLaws
+pub mod SumTies
