@@ -5,6 +5,8 @@
     tools/believed.py --check    says which of them docs/DEFINITIONS.md does not name, and which names there are none
     tools/believed.py --inside   the definitions that no public contract reaches, and so only provers use, which do not stand in
                                  specs/inside/; and those there that one does reach
+    tools/believed.py --twice    statements that are proved twice, definitions that stand twice, and public words of specs/
+                                 with two meanings
 
 It reads the texts alone: the clauses of `run`, what the definitions that they cite cite in turn, and for a type that
 contracts see as a value (`impl Model`) what its view cites.
@@ -147,6 +149,82 @@ def inside():
             print(f"{file.relative_to(TOP / 'crates')}: {'all' if len(astray) == len(local) else ' '.join(astray)}")
 
 
+BINDER = re.compile(r"[({]([^(){}:]+?) : ")
+VALUE = re.compile(r"\s*\(?(ℕ|ℤ|Bool|Type|List|Option|Result|Maybe)\b")
+NAMED = re.compile(r"^((?:(?:abbrev|unfoldable|opaque|pub|record|data)\s+)*)([^\s:(){}]+)(?=[ :])")
+
+
+def renamed(text, name):
+    """A text with its own name and its variables numbered in their order, so that the same thing under other names reads alike."""
+    text = " ".join(re.sub(r"--.*", "", text).split())
+    text = re.sub(r"\b(?:abbrev|unfoldable|opaque|pub) ", "", text)
+    words = re.findall(r"[^\s(){}\[\],;.]+|[(){}\[\],;.]", text)
+    bound = {name: "it"}
+    for group in BINDER.findall(text):
+        for word in group.split():
+            bound.setdefault(word, f"v{len(bound)}")
+    for word in re.findall(r"λ ([^.]+)\.", text):
+        for each in word.split():
+            bound.setdefault(each, f"v{len(bound)}")
+    return " ".join(bound.get(it, it) for it in words)
+
+
+def statements(text):
+    """The lemmas and definitions of an .antt file: the name, whether it is public, what is stated, and the whole."""
+    found, start = [], None
+    for line in [*text.split("\n"), "use "]:
+        head = NAMED.match(line)
+        is_new = head and not line.startswith(("use ", "pub use ", "mod ", "pub mod ", "open ", "infix", "--", "unfolding "))
+        if is_new and found and found[-1][0] == head[2] and start:
+            start.append(line)
+        elif is_new:
+            start = [line]
+            found.append((head[2], "pub" in head[1], start))
+        elif line.startswith(("use ", "pub use ", "mod ", "pub mod", "open ", "infix")):
+            start = None
+        elif start is not None:
+            start.append(line)
+    for name, is_public, lines in found:
+        stated = []
+        for line in lines:
+            if stated and NAMED.match(line) and NAMED.match(line)[2] == name:
+                break
+            stated.append(line)
+        yield name, is_public, "\n".join(stated), "\n".join(lines)
+
+
+def twice():
+    """Prints what stands twice; answers how much that is."""
+    proved, defined, public = (collections.defaultdict(set) for _ in range(3))
+    for crate in sorted((TOP / "crates").iterdir()):
+        for part in ("specs", "proofs"):
+            for file in sorted(crate.glob(f"{part}/**/*.antt")):
+                if file.name in ("Answers.antt", "Invariants.antt", "Proof.antt", "Lib.antt"):
+                    continue
+                where = str(file.relative_to(TOP / "crates"))
+                is_law = part == "proofs" or file.stem.endswith("Laws")
+                for name, is_public, stated, whole in statements(file.read_text()):
+                    result = stated.rpartition("→")[2] if "→" in stated else stated.partition(" : ")[2]
+                    if is_law and ":" in stated and not VALUE.match(result):
+                        proved[renamed(stated.partition(":")[2], name)].add((where, name))
+                    else:
+                        meaning = renamed(whole, name)
+                        defined[meaning].add((where, name))
+                        if is_public and part == "specs" and not is_law and "/inside/" not in where:
+                            public[name].add((crate.name, meaning))
+    count = 0
+    for what, found in (("stated", proved), ("defined", defined)):
+        for meaning, places in sorted(found.items(), key=lambda it: sorted(it[1])):
+            if len(places) > 1 and len(meaning) > 12:
+                count += 1
+                print(f"{what} {len(places)} times: " + ", ".join(f"{file}: {name}" for file, name in sorted(places)))
+    for name, meanings in sorted(public.items()):
+        if len({meaning for _, meaning in meanings}) > 1 and len({crate for crate, _ in meanings}) > 1:
+            count += 1
+            print(f"{name} means {len({meaning for _, meaning in meanings})} things: " + ", ".join(sorted({crate for crate, _ in meanings})))
+    return count
+
+
 def believed():
     repository = Repository()
     file = TOP / "crates/bench_engine/src/runner.rt"
@@ -165,6 +243,8 @@ def main():
     if sys.argv[1:] == ["--inside"]:
         inside()
         return 0
+    if sys.argv[1:] == ["--twice"]:
+        return 1 if twice() else 0
     found = believed()
     if sys.argv[1:] != ["--check"]:
         for file, names in found.items():

@@ -4,7 +4,7 @@ use Rattle.elem_descr.specs.declared.refusal.Refusal.TheVariants.{TooManyAxes, T
 use Rattle.shape_strides.specs.Shapes.{shape_of}
 use Rattle.shape_strides.specs.Contiguity.{printed_strides}
 use Rattle.reshape_rule.specs.Targets.{target_of}
-use Rattle.reshape_rule.specs.Reshapes.{is_affine}
+use Rattle.reshape_rule.specs.inside.Tests.{is_affine}
 
 -- `numpy.arange(8).reshape(2, 2, -1)`, `(-1,)`, `(2, -1, 4)`, `(1, 8, 1)`
 open_last : target_of 8 (pos 2 ∷ pos 2 ∷ negsuc 0 ∷ []) ≡ Ok (2 ∷ 2 ∷ 2 ∷ [])

@@ -4,7 +4,6 @@ use Rattle.elem_descr.specs.Descriptors.{listed}
 use Rattle.elem_descr.specs.WrittenFormats.{written_pad, written_fields}
 use Rattle.elem_descr.specs.DescriptorLaws.{listed-fields_of, field_within, weight-one}
 use Rattle.elem_descr.proofs.FieldLists.{first_field}
-use Rattle.elem_descr.proofs.RoundTrip.{reads_scalar_back}
 use Rattle.elem_descr.proofs.WrittenFields.{one_written, all_written}
 use Rattle.elem_descr.proofs.format_text.write.+written.Goals as goal
 
@@ -32,7 +31,7 @@ pub push_fields-loop-field-preserved : goal.push_fields-loop-field-preserved
 push_fields-loop-field-preserved t c =
     let items = c.fields-field-items.result.now in
     let parts = first_field c.loop-field.end c.size-size.result items c.field-item.result c.loop-field.field-index c.loop-field-test.true c.field-item.is c.loop-field.invariant.in_order in
-    let more = one_written c.loop-field.end c.size-size.result items c.field-item.result c.loop-field.field-index c.loop-field.text.items c.push_pad.new.text.items c.push_descr.new.text.items _ c.loop-field-test.true c.field-item.is c.in_ok-push_pad.ensures c.in_ok-push_descr.ensures.spelled c.loop-field.invariant.text in
+    let more = one_written c.loop-field.end c.size-size.result items c.field-item.result c.loop-field.field-index c.loop-field.text.items c.push_pad.new.text.items c.push_descr.new.text.items _ c.loop-field-test.true c.field-item.is c.in_ok-push_pad.ensures c.in_ok-push_descr.ensures c.loop-field.invariant.text in
     let named = c.in_ok-push_name.ensures in
     let name = c.as_slice.ensures in
     record { text = rw (named, name, c.size.ensures.value) more; in_order = rw c.size.ensures.value parts.2 }
@@ -45,7 +44,3 @@ push_fields-returns-clause-spelled t c =
     let all : c.loop-field.text.items ++ written_pad (c.size-size.result - c.loop-field.end) ≡ c.args.text.now.items ++ written_fields 0 c.args.whole.now.fields c.args.whole.now.size =
     ap (λ (t : List ℕ). c.loop-field.text.items ++ t) (sym last) ∙ c.loop-field.invariant.text ∙ ap (λ (t : List ℕ). c.args.text.now.items ++ t) (ap (λ (fs : Fields). written_fields 0 fs c.size-size.result) fields ∙ ap (written_fields 0 c.args.whole.now.fields) c.size-size.ensures.value) in
     rw (← all) c.push_pad-2.ensures
-
-pub push_descr-returns-in_ok-push_scalar-in-Scalar-clause-reads_back : goal.push_descr-returns-in_ok-push_scalar-in-Scalar-clause-reads_back
-push_descr-returns-in_ok-push_scalar-in-Scalar-clause-reads_back t c =
-    reads_scalar_back c.args.descr.now c.in-Scalar.scalar c.in-Scalar.is c.in_ok-push_scalar-in-Scalar.ensures.sized.0 c.in_ok-push_scalar-in-Scalar.ensures.sized.1

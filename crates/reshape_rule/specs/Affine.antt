@@ -1,0 +1,12 @@
+-- Whether a list is affine in a shape. What is proved of it is its type: nothing hangs on the test that finds the answer.
+use Rattle.std.proofs.Common.{◌≡◌, Bool, true, false, ℕ, List, refl, sym, ◌∙◌}
+use Rattle.std.proofs.lemmas.Bool.{false≢true}
+use Rattle.reshape_rule.specs.Reshapes.{IsAffine, AffineOrNot, affine, not_affine}
+use Rattle.reshape_rule.specs.inside.Tests.{is_affine}
+use Rattle.reshape_rule.specs.AffineLaws.{affine-from_test, test_from_affine}
+
+unfoldable pub affine_or_not : (list shape : List ℕ) → AffineOrNot list shape
+affine_or_not list shape = elim (is_affine list shape) as (λ b. is_affine list shape ≡ b → AffineOrNot list shape) [
+  | true ↦ λ yes. affine (affine-from_test list shape yes)
+  | false ↦ λ no. not_affine (λ strides. false≢true (sym no ∙ test_from_affine list shape strides))
+] refl
