@@ -63,6 +63,11 @@ all_of runs = flat_map run_offsets runs
 pub length-next : (run : Run) (left : List Run) → length (all_of (run ∷ left)) ≡ run.count + length (all_of left)
 length-next run left = omega (arith, length-append (run_offsets run) (all_of left), length-run_offsets run)
 
+-- the items of a run, and of those after it
+pub parts : (left left' : List Run) (run : Run) (width : ℕ) → left ≡ run ∷ left' → length (all_of left) * width ≡ run.count * width + length (all_of left') * width
+parts left left' run width walked =
+    ap (λ l. length (all_of l) * width) walked ∙ ap (λ n. n * width) (length-next run left') ∙ add-mul run.count (length (all_of left')) width
+
 -- its items, joined by their numbers and by their offsets
 pub joined-offsets : (len width : ℕ) (run : Run) (block : List ℕ) → EachWithin len run.offset run.step width run.count
     → joined (λ k. item_at (place run.offset run.step k) width block) run.count ≡ joined_at (run_offsets run) width block

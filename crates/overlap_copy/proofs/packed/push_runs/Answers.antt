@@ -1,4 +1,4 @@
-use Rattle.std.proofs.Common.{◌≡◌, ◌+◌, ◌*◌, ◌++◌, ◌∷◌, ℕ, List, length, All, sym, ap, subst, ◌∙◌, add-mul, append-nil, w64, arith, rules}
+use Rattle.std.proofs.Common.{◌≡◌, ◌++◌, length, All, sym, ap, subst, ◌∙◌, append-nil, w64, arith, rules}
 use Rattle.std.proofs.lemmas.Int.{to_z-of_z}
 use Rattle.std.proofs.lemmas.List.Elements.{All-rest, All-head}
 use mir.Val.{SFits}
@@ -6,13 +6,8 @@ use Rattle.raw_block.specs.Bytes.{place, item_at, joined, EachWithin}
 use Rattle.shape_strides.specs.declared.runs.Run.{Run}
 use Rattle.shape_strides.specs.Runs.{run_offsets}
 use Rattle.overlap_copy.specs.inside.Packed.{joined_at}
-use Rattle.overlap_copy.proofs.PackedLaws.{all_of, length-next, joined-offsets, joined-next}
+use Rattle.overlap_copy.proofs.PackedLaws.{all_of, parts, joined-offsets, joined-next}
 use Rattle.overlap_copy.proofs.packed.push_runs.Goals as goal
-
--- the items of a run, and of those after it
-parts : (left left' : List Run) (run : Run) (width : ℕ) → left ≡ run ∷ left' → length (all_of left) * width ≡ run.count * width + length (all_of left') * width
-parts left left' run width walked =
-    ap (λ l. length (all_of l) * width) walked ∙ ap (λ n. n * width) (length-next run left') ∙ add-mul run.count (length (all_of left')) width
 
 pub push_strided-requires-clause-room : goal.push_strided-requires-clause-room
 push_strided-requires-clause-room c =
