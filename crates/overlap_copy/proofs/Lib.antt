@@ -1,20 +1,21 @@
+mod Vectors
 pub mod ApartLaws
 pub mod AssignLaws
 pub mod AxesLaws
+pub mod BandLaws
+pub mod ComeLaws
 pub mod CopyLaws
 pub mod LineLaws
 pub mod MarkLaws
 pub mod MoveLaws
-pub mod OwnedLaws
-pub mod OverlapLaws
-pub mod RunCopies
 pub mod MovingLaws
+pub mod OverlapLaws
+pub mod OwnedLaws
 pub mod PackedLaws
+pub mod RunCopies
 pub mod RunCopyLaws
 pub mod ShareLaws
+pub mod ShiftLaws
 pub mod SwapLaws
 pub mod TurnLaws
-pub mod ShiftLaws
-pub mod ComeLaws
 pub mod WholeLaws
-mod Vectors

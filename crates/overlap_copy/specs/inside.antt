@@ -1,3 +1,4 @@
+pub mod Bands
 pub mod Marks
 pub mod Moves
 pub mod Packed

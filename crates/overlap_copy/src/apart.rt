@@ -1,27 +1,13 @@
 //! Whether two layouts in one block are apart, as the ranges of their bytes and their strides tell.
 ghost use Rattle.std.specs.Prelude.{◌≡◌, ◌↔◌, ◌+◌, ◌%◌, ◌<◌, ◌≤◌, ◌∷◌, pos, length, slice_index_or, unsigned_abs, nat_le, if◌then◌else◌, false, IsTrue};
-ghost use Rattle.std.specs.Int.{IsGcd};
 ghost use Rattle.shape_strides.specs.Limits.{max_bytes};
 ghost use Rattle.shape_strides.specs.Layouts.{offsets, Fits};
 ghost use Rattle.overlap_copy.specs.Overlaps.{have_common_byte};
 ghost use Rattle.overlap_copy.specs.Apart.{steps, IsGreatestDivisor, LieBetween, AreApart};
 
 use crate::overlap;
+use axis_sums::common_divisor;
 use shape_strides::Layout;
-
-/// The greatest common divisor, by Euclid's steps.
-fn common_divisor(a: usize, b: usize) -> usize
-    ensures { IsGcd a b result }
-{
-    let mut divisor = a;
-    let mut rest = b;
-    while rest > 0 {
-        let next = divisor % rest;
-        divisor = rest;
-        rest = next;
-    }
-    divisor
-}
 
 /// How many bytes an axis steps over, either way: 0 where it has no two items.
 fn step_along(strides: &[isize], axis: usize, len: usize) -> usize

@@ -1,15 +1,16 @@
 //! The items of a layout, one after another in a block of their own.
-ghost use Rattle.std.specs.Prelude.{◌≡◌, ◌+◌, ◌*◌, ◌^◌, ◌<◌, ◌≤◌, pos, length, All, IfOk, IsTrue};
+ghost use Rattle.std.specs.Prelude.{◌≡◌, ◌+◌, ◌*◌, ◌^◌, ◌<◌, ◌≤◌, ◌++◌, pos, length, All, IfOk, IsTrue};
 ghost use Rattle.std.specs.List.{flat_map};
 ghost use Rattle.raw_block.specs.Bytes.{item_at, EachWithin};
 ghost use Rattle.shape_strides.specs.Contiguity.{is_c_contiguous};
 ghost use Rattle.shape_strides.specs.Layouts.{offsets, multiples};
 ghost use Rattle.shape_strides.specs.Runs.{run_offsets};
 ghost use Rattle.overlap_copy.specs.Assignments.{items_at, assigned};
-ghost use Rattle.overlap_copy.specs.inside.Packed.{row_offsets};
+ghost use Rattle.overlap_copy.specs.inside.Packed.{row_offsets, joined_at};
 
+use crate::bands::{crossed, push_crossed};
 use crate::run_copies::copy_run;
-use raw_block::RawBlock;
+use raw_block::{BlockBuilder, RawBlock};
 use shape_strides::{Layout, Run, Runs};
 use std::alloc::{AllocError, Global};
 
@@ -29,25 +30,29 @@ pub fn packed_run(at: usize, width: usize, count: usize, len: usize) -> Run
     }
 }
 
-/// Copies the items of `width` bytes of runs to a block, from its start on one after another.
-fn gather_runs(items: &mut RawBlock, runs: Runs<'_>, block: &RawBlock, width: usize)
-    requires some { All (λ run. 1 ≤ run.count) runs }
+/// Fills the next bytes of a block with the items of `width` bytes of runs, one after another.
+pub(crate) fn push_runs(items: &mut BlockBuilder, runs: Runs<'_>, block: &RawBlock, width: usize)
     requires from { All (λ run. EachWithin (length block.now) run.offset run.step width run.count) runs }
-    requires room { length (flat_map run_offsets runs) * width ≤ length items.old }
-    ensures written { items.new ≡ assigned (row_offsets 0 width (length (flat_map run_offsets runs.entry))) (flat_map run_offsets runs.entry) width block.now items.old }
-    ensures len { length items.new ≡ length items.old }
+    requires room { length (flat_map run_offsets runs) * width ≤ items.old.1 }
+    ensures bytes { items.new.0 ≡ items.old.0 ++ joined_at (flat_map run_offsets runs.entry) width block.now }
+    ensures left { length (flat_map run_offsets runs.entry) * width + items.new.1 ≡ items.old.1 }
 {
-    let len = items.len();
-    let mut at = 0;
     for run in runs {
-        copy_run(
-            items,
-            packed_run(at, width, run.count, len),
-            block,
-            run,
-            width,
-        );
-        at += run.count * width;
+        items.push_strided(block, run.offset, run.step, width, run.count);
+    }
+}
+
+/// The same, of runs of a layout, in bands where its columns lie further apart than its rows.
+fn push_layout(items: &mut BlockBuilder, layout: &Layout, block: &RawBlock, width: usize)
+    requires inside { All (λ offset. offset + width ≤ length block.now) (offsets layout.now) }
+    requires room { length (offsets layout.now) * width ≤ items.old.1 }
+    ensures bytes { items.new.0 ≡ items.old.0 ++ joined_at (offsets layout.now) width block.now }
+    ensures left { length (offsets layout.now) * width + items.new.1 ≡ items.old.1 }
+{
+    let runs = Runs::new(layout);
+    match crossed(layout) {
+        Some(step) => push_crossed(items, runs, block, width, step),
+        None => push_runs(items, runs, block, width),
     }
 }
 
@@ -113,10 +118,10 @@ fn gather_each(
 {
     // More bytes than there can be are refused as any others.
     let bytes = layout.shape.items().saturating_mul(width);
-    let mut items = RawBlock::try_zeroed(alloc, bytes)?;
-    let _len = items.len();
-    gather_runs(&mut items, Runs::new(layout), block, width);
-    Ok(items)
+    let mut items = BlockBuilder::try_new(alloc, bytes)?;
+    let _filled = items.filled();
+    push_layout(&mut items, layout, block, width);
+    Ok(items.finish())
 }
 
 /// The items of `width` bytes of a layout, one after another in C order in a block of their own.

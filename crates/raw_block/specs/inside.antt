@@ -1,3 +1,4 @@
+pub mod Bands
 pub mod Lends
 pub mod Pairs
 pub mod Sizes

@@ -80,6 +80,6 @@ returns c = (
   array_at c.in-Some-get.second.now,
   bound-found _ c.args.slots.now c.requires.holds _ c.args.left.now.bytes.items (λ _. refl) c.in-Some.first.now (sym c.get.ensures.value ∙ ap option_copied c.in-Some.is),
   bound-found _ c.args.slots.now c.requires.holds _ c.args.right.now.bytes.items (λ _. refl) c.in-Some-get.second.now (sym c.get-2.ensures.value ∙ ap option_copied c.in-Some-get.is),
-  c.in_ok-has_common.ensures ∙ (λ i. have_common_byte (offsets c.in-Some.first.now.layout) ((c.size.ensures.value ∙ ap item_size c.descr_in.ensures) i) (offsets c.in-Some-get.second.now.layout) ((c.size-2.ensures.value ∙ ap item_size c.descr_in-2.ensures) i)) ∙ shares-one _ c.args.slots.now c.requires.holds _ c.args.left.now.bytes.items (λ _. refl) c.in-Some.first.now (sym c.get.ensures.value ∙ ap option_copied c.in-Some.is) c.slot_of.result.now c.slot_of.ensures
+  c.in_ok-has_common.ensures.value ∙ (λ i. have_common_byte (offsets c.in-Some.first.now.layout) ((c.size.ensures.value ∙ ap item_size c.descr_in.ensures) i) (offsets c.in-Some-get.second.now.layout) ((c.size-2.ensures.value ∙ ap item_size c.descr_in-2.ensures) i)) ∙ shares-one _ c.args.slots.now c.requires.holds _ c.args.left.now.bytes.items (λ _. refl) c.in-Some.first.now (sym c.get.ensures.value ∙ ap option_copied c.in-Some.is) c.slot_of.result.now c.slot_of.ensures
       _ c.args.right.now.bytes.items (λ _. refl) c.in-Some-get.second.now (sym c.get-2.ensures.value ∙ ap option_copied c.in-Some-get.is) c.if-first-second.false,
 )

@@ -1,0 +1,69 @@
+//! Items of a grid, copied column by column to where they lie row by row.
+ghost use Rattle.std.specs.Prelude.{◌≡◌, ◌+◌, ◌*◌, ◌^◌, ◌<◌, ◌≤◌, ◌++◌, pos, ◌≤ℤ◌, ◌<ℤ◌, length, take};
+ghost use Rattle.raw_block.specs.Bytes.{position, grid_items, GridWithin};
+ghost use Rattle.raw_block.specs.inside.Bands.{band};
+
+use crate::strided::{copy_arrays, place};
+
+/// Where items lie row by row: the first, and by how many bytes further the next row and the next
+/// column are.
+#[derive(Clone, Copy, Drop)]
+pub struct Grid {
+    pub at: usize,
+    pub row_step: isize,
+    pub column_step: isize,
+    pub rows: usize,
+    pub columns: usize,
+}
+
+impl Grid {
+    /// So many of its rows, from one on.
+    pub(crate) fn band(self, first: usize, rows: usize) -> Grid
+        requires low { pos 0 ≤ℤ position self.at self.row_step first }
+        requires high { position self.at self.row_step first <ℤ pos (2 ^ 64) }
+        ensures { result ≡ band self first rows }
+    {
+        Grid {
+            at: place(self.at, self.row_step, first),
+            row_step: self.row_step,
+            column_step: self.column_step,
+            rows,
+            columns: self.columns,
+        }
+    }
+}
+
+/// Copies the items of a grid of `other`, of `N` bytes, over as many that lie one right after another.
+/// They are read and written by columns, so that each line of memory is used while it is near.
+pub(crate) fn copy_by_columns<const N: usize>(bytes: &mut [u8], other: &[u8], grid: Grid)
+    requires some { 0 < grid.rows }
+    requires bytes { length bytes.old ≡ grid.rows * (grid.columns * N) }
+    requires small { grid.columns * N < 2 ^ 63 }
+    requires source { GridWithin (length other.now) grid N }
+    ensures { bytes.new ≡ grid_items grid N other.now }
+{
+    let row = grid.columns * N;
+    for column in 0..grid.columns {
+        let top = place(grid.at, grid.column_step, column);
+        copy_arrays::<N>(
+            bytes,
+            column * N,
+            row as isize,
+            other,
+            top,
+            grid.row_step,
+            grid.rows,
+        );
+    }
+}
+
+/// The same over the bytes from `from` on, which are as many.
+pub(crate) fn copy_to_end<const N: usize>(bytes: &mut [u8], from: usize, other: &[u8], grid: Grid)
+    requires some { 0 < grid.rows }
+    requires bytes { length bytes.old ≡ from + grid.rows * (grid.columns * N) }
+    requires small { grid.columns * N < 2 ^ 63 }
+    requires source { GridWithin (length other.now) grid N }
+    ensures { bytes.new ≡ take from bytes.old ++ grid_items grid N other.now }
+{
+    copy_by_columns::<N>(&mut bytes[from..], other, grid);
+}
