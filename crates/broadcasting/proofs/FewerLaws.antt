@@ -28,7 +28,7 @@ count-rest (suc k) (n ∷ shape) single =
     let both = and_parts (n == 1) (list_all (λ m. m == 1) (take k shape)) single in
     count-rest k shape both.1 ∙ sym (ap (λ m. m * count shape) (eqb-true n 1 both.0) ∙ one-mul (count shape))
 
-all_short : (shape : List ℕ) → All (λ n. n ≤ max_items) shape → list_all (λ n. nat_le n max_items) shape ≡ true
+pub all_short : (shape : List ℕ) → All (λ n. n ≤ max_items) shape → list_all (λ n. nat_le n max_items) shape ≡ true
 all_short shape short = list_all-from_AllPass (λ n. nat_le n max_items) shape (λ k d below. le-leb (get_or shape k d) max_items (short k d below))
 
 shape_of-rest : (k : ℕ) (shape : List ℕ) → list_all (λ n. n == 1) (take k shape) ≡ true → length shape ≤ max_axes → All (λ n. n ≤ max_items) shape → count shape ≤ max_items → shape_of (drop k shape) ≡ Ok (drop k shape)

@@ -3,4 +3,5 @@ pub mod StretchLaws
 pub mod FewerLaws
 pub mod IntoLaws
 pub mod CommonLaws
+pub mod ShrinkLaws
 mod Vectors

@@ -1,4 +1,5 @@
 pub mod Broadcasts
 pub mod BroadcastLaws
 pub mod FitLaws
+pub mod Shrinking
 pub mod inside

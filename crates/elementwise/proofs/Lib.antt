@@ -11,6 +11,7 @@ pub mod AppendedLaws
 pub mod PairedLaws
 pub mod StretchedLaws
 pub mod TypedLaws
+pub mod ShrunkLaws
 pub mod PromotedLaws
 pub mod AppliedLaws
 pub mod HeldLaws

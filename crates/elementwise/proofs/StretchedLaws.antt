@@ -34,7 +34,7 @@ pub given_offsets : (old : Layout) (shape : List ℕ) (result : Result Layout Re
 given_offsets old shape (Ok new) can gives = (seen old new shape can gives).places
 given_offsets old shape (Err e) can gives = tt
 
-inside : (old new : Layout) (view : View) (len width : ℕ) → IsViewOf old new view → All (λ offset. offset + width ≤ len) (offsets old) → All (λ offset. offset + width ≤ len) (offsets new)
+pub inside : (old new : Layout) (view : View) (len width : ℕ) → IsViewOf old new view → All (λ offset. offset + width ≤ len) (offsets old) → All (λ offset. offset + width ≤ len) (offsets new)
 inside old new view len width is ends k d below =
     let through = λ (index : List ℕ). get_or (offsets old) (rank old.shape (view.leads index)) 0 in
     let low : k < length (indexes view.shape) = omega (arith, below, ap length is.places, length-map (indexes view.shape) through) in

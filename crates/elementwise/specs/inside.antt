@@ -4,3 +4,4 @@ pub mod LeafCasts
 pub mod PairPasses
 pub mod PairLaws
 pub mod ByteStrings
+pub mod Shrunk

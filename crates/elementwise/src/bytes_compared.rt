@@ -18,10 +18,12 @@ ghost use Rattle.elementwise.specs.inside.ByteStrings.{says_byte};
 
 use crate::operands::Items;
 use crate::promotion::{is_text, scalar_of};
+use crate::shrunk::{spread, without_repeats};
 use crate::text_comparing::{are_compared, without_nuls};
+use broadcasting::repeats;
 use elem_descr::{Descr, Refusal, Scalar};
 use overlap_copy::Owned;
-use raw_block::RawBlock;
+use raw_block::{BlockBuilder, RawBlock};
 use script_lang::Comparison;
 use shape_strides::{FixedWalk, MemoryOrder};
 use std::alloc::{AllocError, Global};
@@ -43,33 +45,24 @@ fn byte_at(
     u8::from(are_compared(comparison, without_nuls(item), other))
 }
 
-/// The same of all items.
-fn bytes_of_all(
+/// A block of the same of all items.
+fn block_of_all(
     alloc: Global,
     comparison: Comparison,
     from: &Scalar,
     operand: Items<'_>,
     other: &[u8],
-) -> Result<Vec<u8>, AllocError>
+) -> Result<RawBlock, AllocError>
     requires from { operand.descr.now ≡ ScalarDescr from.now }
     requires text { is_text from.now ≡ true }
     requires inside { All (λ offset. offset + item_size operand.descr.now ≤ length operand.block.now) (offsets operand.layout.now) }
-    ensures { IfOk result (λ v. v.items ≡ map (says_byte comparison operand.entry.descr.now operand.entry.block.now other.now) (offsets operand.entry.layout.now)) }
+    ensures { IfOk result (λ b. b ≡ map (says_byte comparison operand.entry.descr.now operand.entry.block.now other.now) (offsets operand.entry.layout.now)) }
 {
-    let mut says = Vec::new(alloc);
+    let mut block = BlockBuilder::try_new(alloc, operand.layout.shape.items())?;
     for offset in FixedWalk::new(operand.layout) {
-        says.push(byte_at(comparison, from, operand, other, offset))?;
+        block.push_array::<1>([byte_at(comparison, from, operand, other, offset)]);
     }
-    Ok(says)
-}
-
-/// Bytes as a block.
-fn block_of(alloc: Global, bytes: &[u8]) -> Result<RawBlock, AllocError>
-    ensures { IfOk result (λ b. b ≡ bytes.now) }
-{
-    let mut block = RawBlock::try_zeroed(alloc, bytes.len())?;
-    block.bytes_mut().copy_from_slice(bytes);
-    Ok(block)
+    Ok(block.finish())
 }
 
 /// A comparison of the byte strings of an array with one that no NULs end.
@@ -91,11 +84,42 @@ fn compare_texts(
     ensures refused { IfErr result (λ refusal. refusal ≡ OutOfMemory) }
 {
     let _items = operand.layout.shape.items();
-    let says = bytes_of_all(alloc, comparison, from, operand, other)?;
-    let block = block_of(alloc, says.as_slice())?;
+    let block = block_of_all(alloc, comparison, from, operand, other)?;
     let descr = Descr::Scalar(Scalar::Bool);
     let owned = Owned::over(alloc, descr, &operand.layout.shape, MemoryOrder::C, block)?;
     Ok(owned)
+}
+
+/// The same, once where the items repeat.
+fn compare_once(
+    alloc: Global,
+    comparison: Comparison,
+    from: &Scalar,
+    operand: Items<'_>,
+    other: &[u8],
+) -> Result<Owned, Refusal>
+    requires from { operand.descr.now ≡ ScalarDescr from.now }
+    requires text { is_text from.now ≡ true }
+    requires inside { All (λ offset. offset + item_size operand.descr.now ≤ length operand.block.now) (offsets operand.layout.now) }
+    ensures descr { IfOk result (λ o. o.descr ≡ ScalarDescr BoolScalar) }
+    ensures shape { IfOk result (λ o. o.layout.shape ≡ operand.entry.layout.now.shape) }
+    ensures order { IfOk result (λ o. offsets o.layout ≡ multiples 1 (count operand.entry.layout.now.shape)) }
+    ensures items { IfOk result (λ o. map (item_from o.descr o.block) (offsets o.layout)
+        ≡ map (λ offset. compared_item comparison (item_from operand.entry.descr.now operand.entry.block.now offset) (text other.now ∷ [])) (offsets operand.entry.layout.now)) }
+    ensures refused { IfErr result (λ refusal. refusal ≡ OutOfMemory) }
+{
+    if !repeats(operand.layout) {
+        return compare_texts(alloc, comparison, from, operand, other);
+    }
+    let shape = &operand.layout.shape;
+    let small = without_repeats(alloc, operand.layout, operand.layout, shape)?;
+    let items = Items {
+        block: operand.block,
+        layout: &small.first,
+        descr: operand.descr,
+    };
+    let made = compare_texts(alloc, comparison, from, items, other)?;
+    spread(alloc, &made, shape)
 }
 
 /// What a comparison says of the byte strings of an array and of bytes, which may be more than an item
@@ -117,5 +141,5 @@ pub fn compare_bytes(
     if !is_text(&from) {
         return Err(Refusal::NotForThisKind);
     }
-    compare_texts(alloc, comparison, &from, operand, without_nuls(bytes))
+    compare_once(alloc, comparison, &from, operand, without_nuls(bytes))
 }

@@ -22,8 +22,9 @@ use crate::operands::Items;
 use crate::paired::make_owned;
 use crate::pairing::{Comparing, ComparingSigns, ComparingTexts};
 use crate::promotion::{compared_type, is_signed, little, scalar_of};
+use crate::shrunk::{spread, without_repeats};
 use crate::typed::{make_stretched, stretched_to};
-use broadcasting::common;
+use broadcasting::{common, repeats};
 use elem_descr::{BytesLen, Descr, Order, Refusal, Scalar, Width};
 use overlap_copy::Owned;
 use raw_block::RawBlock;
@@ -251,6 +252,77 @@ fn compare_scalars(
     }
 }
 
+/// The same of the items that differ, stretched.
+fn compare_shrunk(
+    alloc: Global,
+    comparison: Comparison,
+    from: &Scalar,
+    left: Items<'_>,
+    other: &Scalar,
+    right: Items<'_>,
+    shape: &Shape,
+) -> Result<Owned, Refusal>
+    requires comparable { are_comparable from.now other.now ≡ true }
+    requires from { left.descr.now ≡ ScalarDescr from.now }
+    requires other { right.descr.now ≡ ScalarDescr other.now }
+    requires left { All (λ offset. offset + item_size left.descr.now ≤ length left.block.now) (offsets left.layout.now) }
+    requires right { All (λ offset. offset + item_size right.descr.now ≤ length right.block.now) (offsets right.layout.now) }
+    requires stretches { IsTrue (can_stretch left.layout.now.shape shape.now) }
+    requires also { IsTrue (can_stretch right.layout.now.shape shape.now) }
+    ensures descr { IfOk result (λ o. o.descr ≡ ScalarDescr BoolScalar) }
+    ensures shape { IfOk result (λ o. o.layout.shape ≡ shape.now) }
+    ensures order { IfOk result (λ o. offsets o.layout ≡ multiples 1 (count shape.now)) }
+    ensures items { IfOk result (λ o. map (item_from o.descr o.block) (offsets o.layout)
+        ≡ pairwise (compared_item comparison) (stretched_items left.entry.descr.now left.entry.block.now left.entry.layout.now o.layout.shape)
+        (stretched_items right.entry.descr.now right.entry.block.now right.entry.layout.now o.layout.shape)) }
+    ensures refused { IfErr result (λ refusal. refusal ≡ OutOfMemory) }
+{
+    let small = without_repeats(alloc, left.layout, right.layout, shape)?;
+    let first = Items {
+        block: left.block,
+        layout: &small.first,
+        descr: left.descr,
+    };
+    let second = Items {
+        block: right.block,
+        layout: &small.second,
+        descr: right.descr,
+    };
+    let made = compare_scalars(alloc, comparison, from, first, other, second, &small.shape)?;
+    spread(alloc, &made, shape)
+}
+
+/// The same, once where the items of both repeat.
+fn compare_once(
+    alloc: Global,
+    comparison: Comparison,
+    from: &Scalar,
+    left: Items<'_>,
+    other: &Scalar,
+    right: Items<'_>,
+    shape: &Shape,
+) -> Result<Owned, Refusal>
+    requires comparable { are_comparable from.now other.now ≡ true }
+    requires from { left.descr.now ≡ ScalarDescr from.now }
+    requires other { right.descr.now ≡ ScalarDescr other.now }
+    requires left { All (λ offset. offset + item_size left.descr.now ≤ length left.block.now) (offsets left.layout.now) }
+    requires right { All (λ offset. offset + item_size right.descr.now ≤ length right.block.now) (offsets right.layout.now) }
+    requires stretches { IsTrue (can_stretch left.layout.now.shape shape.now) }
+    requires also { IsTrue (can_stretch right.layout.now.shape shape.now) }
+    ensures descr { IfOk result (λ o. o.descr ≡ ScalarDescr BoolScalar) }
+    ensures shape { IfOk result (λ o. o.layout.shape ≡ shape.now) }
+    ensures order { IfOk result (λ o. offsets o.layout ≡ multiples 1 (count shape.now)) }
+    ensures items { IfOk result (λ o. map (item_from o.descr o.block) (offsets o.layout)
+        ≡ pairwise (compared_item comparison) (stretched_items left.entry.descr.now left.entry.block.now left.entry.layout.now o.layout.shape)
+        (stretched_items right.entry.descr.now right.entry.block.now right.entry.layout.now o.layout.shape)) }
+    ensures refused { IfErr result (λ refusal. refusal ≡ OutOfMemory) }
+{
+    if repeats(left.layout) || repeats(right.layout) {
+        return compare_shrunk(alloc, comparison, from, left, other, right, shape);
+    }
+    compare_scalars(alloc, comparison, from, left, other, right, shape)
+}
+
 /// What a comparison says of the items of two arrays that are broadcast together, as bools in a block of
 /// their own in C order: of numbers by value, and of byte strings byte by byte, where bytes have no sign
 /// and a byte string is below a longer one that begins with it. Refused as `compared_type` refuses,
@@ -273,5 +345,5 @@ pub fn compare(
     let other = scalar_of(right.descr)?;
     compared_type(from, other)?;
     let shape = common(alloc, &[&left.layout.shape, &right.layout.shape])?;
-    compare_scalars(alloc, comparison, &from, left, &other, right, &shape)
+    compare_once(alloc, comparison, &from, left, &other, right, &shape)
 }

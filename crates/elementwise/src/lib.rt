@@ -23,6 +23,7 @@ mod pairing;
 mod passes;
 mod promotion;
 mod runs_of_leaves;
+mod shrunk;
 mod text_comparing;
 mod texts;
 mod typed;

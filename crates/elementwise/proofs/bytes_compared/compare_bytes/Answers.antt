@@ -18,10 +18,10 @@ returns-then-not-is_text-clause-gives c =
 
 pub returns-clause-gives : goal.returns-clause-gives
 returns-clause-gives c =
-    given c.compare_texts.result _ (ScalarDescr BoolScalar) c.args.operand.layout.now.shape
+    given c.compare_once.result _ (ScalarDescr BoolScalar) c.args.operand.layout.now.shape
     (one_given c.args.operand.descr.now c.args.operand.layout.now.shape c.in_ok-from.from c.in_ok-from.ensures (sym c.is_text.ensures ∙ c.if-not-is_text.false))
-    c.compare_texts.ensures.descr c.compare_texts.ensures.shape c.compare_texts.ensures.refused
+    c.compare_once.ensures.descr c.compare_once.ensures.shape c.compare_once.ensures.refused
 
 pub returns-clause-items : goal.returns-clause-items
 returns-clause-items c =
-    moved_text c.args.comparison c.args.operand.descr.now c.compare_texts.result c.args.operand.block.now (offsets c.args.operand.layout.now) _ _ c.without_nuls.ensures c.compare_texts.ensures.items
+    moved_text c.args.comparison c.args.operand.descr.now c.compare_once.result c.args.operand.block.now (offsets c.args.operand.layout.now) _ _ c.without_nuls.ensures c.compare_once.ensures.items

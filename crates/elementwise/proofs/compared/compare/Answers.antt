@@ -29,13 +29,13 @@ returns-in_err-shape-clause-gives c =
       | inr there ↦ inr (shapes_refused c.args.left.descr.now c.args.left.layout.now.shape c.args.right.descr.now c.args.right.layout.now.shape c.in_ok-from.from c.in_ok-other.other _ c.in_err-shape.field-0.0 c.in_ok-from.ensures c.in_ok-other.ensures c.in_ok-compared_type.ensures there)
     ])
 
-pub compare_scalars-requires-clause-comparable : goal.compare_scalars-requires-clause-comparable
-compare_scalars-requires-clause-comparable c = (compared_bools c.in_ok-from.from c.in_ok-other.other _ c.in_ok-compared_type.ensures).0
+pub compare_once-requires-clause-comparable : goal.compare_once-requires-clause-comparable
+compare_once-requires-clause-comparable c = (compared_bools c.in_ok-from.from c.in_ok-other.other _ c.in_ok-compared_type.ensures).0
 
 pub returns-clause-gives : goal.returns-clause-gives
 returns-clause-gives c =
     let bools = compared_bools c.in_ok-from.from c.in_ok-other.other _ c.in_ok-compared_type.ensures in
-    given c.compare_scalars.result _ (ScalarDescr BoolScalar) c.in_ok-shape.shape
+    given c.compare_once.result _ (ScalarDescr BoolScalar) c.in_ok-shape.shape
     (all_given c.args.left.descr.now c.args.left.layout.now.shape c.args.right.descr.now c.args.right.layout.now.shape c.in_ok-from.from c.in_ok-other.other _ c.in_ok-shape.shape c.in_ok-from.ensures c.in_ok-other.ensures c.in_ok-compared_type.ensures c.in_ok-shape.ensures.value
     ∙ λ i. Ok (ScalarDescr (bools.1 i), c.in_ok-shape.shape))
-    c.compare_scalars.ensures.descr c.compare_scalars.ensures.shape c.compare_scalars.ensures.refused
+    c.compare_once.ensures.descr c.compare_once.ensures.shape c.compare_once.ensures.refused

@@ -2,10 +2,11 @@ use Rattle.std.proofs.Common.{◌≡◌, ◌+◌, ◌≤◌, ◌++◌, length, m
 use Rattle.elem_descr.specs.Items.{item_size}
 use Rattle.shape_strides.specs.Layouts.{offsets}
 use Rattle.elementwise.specs.inside.ByteStrings.{says_byte}
-use Rattle.elementwise.proofs.bytes_compared.bytes_of_all.Given as goal
+use Rattle.elementwise.proofs.bytes_compared.block_of_all.Given as goal
 
 abbrev pub invariant-loop-offset : goal.invariant-loop-offset
 invariant-loop-offset l = record {
   inside : All (λ offset. offset + item_size l.operand.descr.now ≤ length l.operand.block.now) l.offset-iterator;
-  left : l.says.items ++ map (says_byte l.comparison l.operand.descr.now l.operand.block.now l.other) l.offset-iterator ≡ map (says_byte l.comparison l.operand.descr.now l.operand.block.now l.other) (offsets l.operand.layout.now);
+  room : length l.offset-iterator ≡ l.block.1;
+  left : l.block.0 ++ map (says_byte l.comparison l.operand.descr.now l.operand.block.now l.other) l.offset-iterator ≡ map (says_byte l.comparison l.operand.descr.now l.operand.block.now l.other) (offsets l.operand.layout.now);
 }

@@ -1,9 +1,9 @@
-use Rattle.std.proofs.Common.{◌+◌, ◌≤◌, length}
+use Rattle.std.proofs.Common.{◌+◌, ◌≤◌, length, arith, ap}
 use Rattle.std.proofs.lemmas.List.Elements.{All-rest}
 use Rattle.elem_descr.specs.Items.{item_size}
 use Rattle.elementwise.specs.inside.ByteStrings.{says_byte}
 use Rattle.elementwise.proofs.BytesComparedLaws.{byte_next}
-use Rattle.elementwise.proofs.bytes_compared.bytes_of_all.Goals as goal
+use Rattle.elementwise.proofs.bytes_compared.block_of_all.Goals as goal
 
 pub loop-offset-preserved : goal.loop-offset-preserved
 loop-offset-preserved c =
@@ -11,5 +11,6 @@ loop-offset-preserved c =
     let steps = c.in-Some.ensures.steps in
     record {
       inside = All-rest (λ offset. offset + item_size a.descr.now ≤ length a.block.now) _ _ _ steps c.loop-offset.invariant.inside;
-      left = byte_next (says_byte c.args.comparison a.descr.now a.block.now c.args.other.now) c.loop-offset.says.items c.push.new.self.items _ _ _ c.in-Some.offset c.byte_at.result steps c.byte_at.ensures c.in_ok-push.ensures.items c.loop-offset.invariant.left;
+      room = omega (arith, ap length steps, c.push_array.ensures.left, c.loop-offset.invariant.room);
+      left = byte_next (says_byte c.args.comparison a.descr.now a.block.now c.args.other.now) c.loop-offset.block.0 c.push_array.new.self.0 _ _ _ c.in-Some.offset c.byte_at.result steps c.byte_at.ensures c.push_array.ensures.bytes c.loop-offset.invariant.left;
     }

@@ -1,0 +1,77 @@
+//! Layouts whose items repeat along axes, shrunk to those from which they are stretched.
+ghost use Rattle.std.specs.Prelude.{◌≡◌, ◌<◌, pos, length, slice_index, slice_index_or, IfOk, IfErr};
+ghost use Rattle.elem_descr.specs.declared.refusal.Refusal.TheVariants.{OutOfMemory};
+ghost use Rattle.broadcasting.specs.Shrinking.{ShrinksTo, CanShrink, IsStretchOf};
+
+use elem_descr::Refusal;
+use shape_strides::{Layout, Shape, Strides};
+use smallvec::SmallVec;
+use std::alloc::{AllocError, Global};
+
+/// Whether items repeat along an axis.
+pub fn repeats(layout: &Layout) -> bool {
+    let lengths = layout.shape.as_slice();
+    let strides = layout.strides.as_slice();
+    lengths
+        .iter()
+        .zip(strides)
+        .any(|(len, stride)| *len > 1 && *stride == 0)
+}
+
+/// The length of an axis of two arrays with these strides: 1 where the items of both repeat along it.
+fn shrunk_length(lengths: &[usize], strides: &[isize], others: &[isize], axis: usize) -> usize
+    requires axis { axis < length lengths.now }
+    requires stride { axis < length strides.now }
+    requires other { axis < length others.now }
+    ensures first { ShrinksTo (slice_index lengths.now axis) (slice_index_or strides.now axis (pos 0)) result }
+    ensures second { ShrinksTo (slice_index lengths.now axis) (slice_index_or others.now axis (pos 0)) result }
+{
+    if lengths[axis] > 1 && strides[axis] == 0 && others[axis] == 0 {
+        return 1;
+    }
+    lengths[axis]
+}
+
+/// The same of all axes.
+fn shrunk_lengths(
+    alloc: Global,
+    lengths: &[usize],
+    strides: &[isize],
+    others: &[isize],
+) -> Result<SmallVec<usize, 8>, AllocError>
+    requires strides { length strides.now ≡ length lengths.now }
+    requires others { length others.now ≡ length lengths.now }
+    ensures first { IfOk result (λ v. CanShrink lengths.now strides.now v.items) }
+    ensures second { IfOk result (λ v. CanShrink lengths.now others.now v.items) }
+{
+    let mut shrunk = SmallVec::new(alloc);
+    for axis in 0..lengths.len() {
+        shrunk.push(shrunk_length(lengths, strides, others, axis))?;
+    }
+    Ok(shrunk)
+}
+
+/// The shape of two layouts of one shape with length 1 on each axis along which the items of both
+/// repeat.
+pub fn shrunk_shape(alloc: Global, first: &Layout, second: &Layout) -> Result<Shape, Refusal>
+    requires even { second.now.shape ≡ first.now.shape }
+    ensures first { IfOk result (λ s. CanShrink first.now.shape first.now.strides s) }
+    ensures second { IfOk result (λ s. CanShrink second.now.shape second.now.strides s) }
+    ensures refused { IfErr result (λ refusal. refusal ≡ OutOfMemory) }
+{
+    let lengths = first.shape.as_slice();
+    let strides = first.strides.as_slice();
+    let shrunk = shrunk_lengths(alloc, lengths, strides, second.strides.as_slice())?;
+    Shape::try_new(alloc, shrunk.as_slice())
+}
+
+/// The layout of a shape from which a layout is stretched.
+pub fn shrink(alloc: Global, layout: &Layout, shape: &Shape) -> Result<Layout, AllocError>
+    requires { CanShrink layout.now.shape layout.now.strides shape.now }
+    ensures shape { IfOk result (λ small. small.shape ≡ shape.now) }
+    ensures stretch { IfOk result (λ small. IsStretchOf small layout.now) }
+{
+    let shape = Shape::try_copy(alloc, shape)?;
+    let strides = Strides::from_slice(alloc, layout.strides.as_slice())?;
+    Ok(Layout::new(shape, strides, layout.offset).unwrap())
+}

@@ -1,0 +1,151 @@
+-- What is made of arrays whose items repeat: the result of the items that differ, stretched.
+use Rattle.std.proofs.Common.{◌≡◌, ◌+◌, ◌<◌, ◌≤◌, ℕ, zero, suc, true, Result, Ok, Err, List, [], ◌∷◌, map, length, get_or, All, IfOk, refl, sym, ap, ◌∙◌, arith}
+use Rattle.std.proofs.lemmas.List.{length-map, get_or-map, same_lists}
+use Rattle.std.proofs.lemmas.Simd.{map-map}
+use Rattle.elem_descr.specs.declared.refusal.Refusal.{Refusal}
+use Rattle.elem_descr.specs.declared.descr.Descr.{Descr}
+use Rattle.elem_descr.specs.declared.descr.Descr.TheVariants.{Scalar as ScalarDescr}
+use Rattle.elem_descr.specs.declared.scalar.Scalar.TheVariants.{Bool as BoolScalar}
+use Rattle.elem_descr.specs.Values.{LeafValue}
+use Rattle.elem_descr.specs.Items.{item_size}
+use Rattle.elem_descr.specs.Blocks.{item_from}
+use Rattle.shape_strides.specs.declared.layout.Layout.{Layout}
+use Rattle.shape_strides.specs.Indexes.{count, indexes, rank, IsIndex}
+use Rattle.shape_strides.specs.IndexLaws.{length-indexes, rank-lt, get_or-indexes, index_at}
+use Rattle.shape_strides.specs.Layouts.{offsets, multiples}
+use Rattle.shape_strides.specs.LayoutLaws.{length-offsets}
+use Rattle.view_ops.specs.Views.{view_through}
+use Rattle.broadcasting.specs.Broadcasts.{can_stretch, broadcast_index}
+use Rattle.broadcasting.specs.BroadcastLaws.{IsIndex-broadcast}
+use Rattle.broadcasting.specs.Shrinking.{IsStretchOf}
+use Rattle.shape_strides.specs.declared.memory_order.MemoryOrder.TheVariants.{C}
+use Rattle.overlap_copy.specs.Blocks.{offsets_in}
+use Rattle.overlap_copy.specs.declared.owned.Owned.{Owned}
+use Rattle.elementwise.specs.Results.{stretched_items, pairwise}
+use Rattle.elementwise.specs.inside.Shrunk.{IsShrunk}
+use Rattle.elementwise.proofs.PairLaws.{length-pairwise, pairwise-map}
+use Rattle.elementwise.proofs.StretchedLaws.{stretched-self, inside}
+
+-- functions that agree on the indexes
+agree : {X : Type 0} (shape : List ℕ) (f g : List ℕ → X) → ((index : List ℕ) → IsIndex shape index → f index ≡ g index) → map f (indexes shape) ≡ map g (indexes shape)
+agree shape f g same =
+    same_lists (map f (indexes shape)) (map g (indexes shape)) (length-map (indexes shape) f ∙ sym (length-map (indexes shape) g)) (λ k d below.
+    let within : k < length (indexes shape) = omega (arith, length-map (indexes shape) f) in
+    let found = index_at shape k (omega (arith, length-indexes shape)) in
+    let here : get_or (indexes shape) k [] ≡ found.0 = ap (λ r. get_or (indexes shape) r []) (sym found.2) ∙ get_or-indexes shape found.0 [] found.1 in
+    get_or-map f (indexes shape) k [] d within ∙ ap f here ∙ same found.0 found.1 ∙ ap g (sym here) ∙ sym (get_or-map g (indexes shape) k [] d within))
+
+pairwise-self : {A B : Type 0} (f : A → A → B) (xs : List A) → pairwise f xs xs ≡ map (λ x. f x x) xs
+pairwise-self f [] = refl
+pairwise-self f (x ∷ xs) = ap (λ rest. f x x ∷ rest) (pairwise-self f xs)
+
+get_or-pairwise : {A B : Type 0} (f : A → A → B) (xs ys : List A) (k : ℕ) (d : A) (e : B) → k < length xs → length xs ≡ length ys → get_or (pairwise f xs ys) k e ≡ f (get_or xs k d) (get_or ys k d)
+get_or-pairwise f [] ys k d e below even = absurd (omega arith)
+get_or-pairwise f (x ∷ xs) [] k d e below even = absurd (omega (arith, even))
+get_or-pairwise f (x ∷ xs) (y ∷ ys) zero d e below even = refl
+get_or-pairwise f (x ∷ xs) (y ∷ ys) (suc k) d e below even = get_or-pairwise f xs ys k d e (omega arith) (omega (arith, even))
+
+-- ---- items of one shape as another one shows them
+
+abbrev through : List ℕ → List ℕ → List (List LeafValue) → List (List LeafValue)
+through once shape items = map (λ index. get_or items (rank once (broadcast_index once index)) []) (indexes shape)
+
+module _ (once shape : List ℕ) (can : can_stretch once shape ≡ true) where
+  within : (index : List ℕ) → IsIndex shape index → rank once (broadcast_index once index) < count once
+  within index in' = rank-lt once (broadcast_index once index) (IsIndex-broadcast once shape index can in')
+
+  seen : (read : ℕ → List LeafValue) (os : List ℕ) → length os ≡ count once → map read (view_through os once shape (broadcast_index once)) ≡ through once shape (map read os)
+  seen read os many =
+      let at = λ (index : List ℕ). rank once (broadcast_index once index) in
+      map-map read (λ index. get_or os (at index) 0) (indexes shape)
+      ∙ agree shape (λ index. read (get_or os (at index) 0)) (λ index. get_or (map read os) (at index) []) (λ index in'. sym (get_or-map read os (at index) 0 [] (omega (arith, within index in', many))))
+
+  seen-pairs : (f : List LeafValue → List LeafValue → List LeafValue) (xs ys : List (List LeafValue)) → length xs ≡ count once → length ys ≡ count once → through once shape (pairwise f xs ys) ≡ pairwise f (through once shape xs) (through once shape ys)
+  seen-pairs f xs ys many many' =
+      let at = λ (index : List ℕ). rank once (broadcast_index once index) in
+      let x = λ (index : List ℕ). get_or xs (at index) [] in
+      let y = λ (index : List ℕ). get_or ys (at index) [] in
+      agree shape (λ index. get_or (pairwise f xs ys) (at index) []) (λ index. f (x index) (y index)) (λ index in'. get_or-pairwise f xs ys (at index) [] [] (omega (arith, within index in', many)) (many ∙ sym many'))
+      ∙ sym (pairwise-self (λ i j. f (x i) (y j)) (indexes shape))
+      ∙ sym (pairwise-map f x y (indexes shape) (indexes shape))
+
+-- ---- operands
+
+-- what an operand shows, stretched to the whole shape
+whole : (d : Descr) (block : List ℕ) (l small : Layout) (once shape : List ℕ) → IsShrunk small l once shape → stretched_items d block l shape ≡ through once shape (map (item_from d block) (offsets small))
+whole d block l small once shape is =
+    ap (map (item_from d block)) (sym is.places)
+    ∙ (λ i. map (item_from d block) (view_through (offsets small) (is.shape_is i) shape (broadcast_index (is.shape_is i))))
+    ∙ seen once shape is.can (item_from d block) (offsets small) (length-offsets small ∙ ap count is.shape_is)
+
+-- and to its own
+own : (d : Descr) (block : List ℕ) (small : Layout) (once : List ℕ) → small.shape ≡ once → stretched_items d block small once ≡ map (item_from d block) (offsets small)
+own d block small once is = (λ i. map (item_from d block) (view_through (offsets small) small.shape (sym is i) (broadcast_index small.shape))) ∙ ap (map (item_from d block)) (stretched-self small)
+
+length-items : (d : Descr) (block : List ℕ) (small : Layout) (once : List ℕ) → small.shape ≡ once → length (map (item_from d block) (offsets small)) ≡ count once
+length-items d block small once is = length-map (offsets small) (item_from d block) ∙ length-offsets small ∙ ap count is
+
+-- ---- results
+
+-- what a result shows, stretched to the whole shape
+result-whole : (made : Owned) (once shape : List ℕ) → can_stretch once shape ≡ true → made.layout.shape ≡ once → stretched_items made.descr made.block made.layout shape ≡ through once shape (map (item_from made.descr made.block) (offsets made.layout))
+result-whole made once shape can is =
+    (λ i. map (item_from made.descr made.block) (view_through (offsets made.layout) (is i) shape (broadcast_index (is i))))
+    ∙ seen once shape can (item_from made.descr made.block) (offsets made.layout) (length-offsets made.layout ∙ ap count is)
+
+-- of pairs of items
+pub pairs_spread : (f : List LeafValue → List LeafValue → List LeafValue) (d d' : Descr) (block block' : List ℕ) (l l' small small' : Layout) (once shape : List ℕ) (made : Owned) (result : Result Owned Refusal) →
+    IsShrunk small l once shape → IsShrunk small' l' once shape → made.layout.shape ≡ once →
+    map (item_from made.descr made.block) (offsets made.layout) ≡ pairwise f (stretched_items d block small made.layout.shape) (stretched_items d' block' small' made.layout.shape) →
+    IfOk result (λ o. o.layout.shape ≡ shape) → IfOk result (λ o. map (item_from o.descr o.block) (offsets o.layout) ≡ stretched_items made.descr made.block made.layout o.layout.shape) →
+    IfOk result (λ o. map (item_from o.descr o.block) (offsets o.layout) ≡ pairwise f (stretched_items d block l o.layout.shape) (stretched_items d' block' l' o.layout.shape))
+pairs_spread f d d' block block' l l' small small' once shape made (Err e) is is' same items shape-is spread = tt
+pairs_spread f d d' block block' l l' small small' once shape made (Ok o) is is' same items shape-is spread =
+    let xs = map (item_from d block) (offsets small) in
+    let ys = map (item_from d' block') (offsets small') in
+    let each : map (item_from made.descr made.block) (offsets made.layout) ≡ pairwise f xs ys =
+    items ∙ (λ i. pairwise f (stretched_items d block small (same i)) (stretched_items d' block' small' (same i))) ∙ λ i. pairwise f (own d block small once is.shape_is i) (own d' block' small' once is'.shape_is i) in
+    spread
+    ∙ ap (stretched_items made.descr made.block made.layout) shape-is
+    ∙ result-whole made once shape is.can same
+    ∙ ap (through once shape) each
+    ∙ seen-pairs once shape is.can f xs ys (length-items d block small once is.shape_is) (length-items d' block' small' once is'.shape_is)
+    ∙ (λ i. pairwise f (sym (whole d block l small once shape is) i) (sym (whole d' block' l' small' once shape is') i))
+    ∙ λ i. pairwise f (stretched_items d block l (sym shape-is i)) (stretched_items d' block' l' (sym shape-is i))
+
+-- of single items
+pub each_spread : (f : List LeafValue → List LeafValue) (d : Descr) (block : List ℕ) (l small : Layout) (once : List ℕ) (made : Owned) (result : Result Owned Refusal) → IsShrunk small l once l.shape → made.layout.shape ≡ once →
+    map (item_from made.descr made.block) (offsets made.layout) ≡ map (λ offset. f (item_from d block offset)) (offsets small) →
+    IfOk result (λ o. o.layout.shape ≡ l.shape) → IfOk result (λ o. map (item_from o.descr o.block) (offsets o.layout) ≡ stretched_items made.descr made.block made.layout o.layout.shape) →
+    IfOk result (λ o. map (item_from o.descr o.block) (offsets o.layout) ≡ map (λ offset. f (item_from d block offset)) (offsets l))
+each_spread f d block l small once made (Err e) is same items shape-is spread = tt
+each_spread f d block l small once made (Ok o) is same items shape-is spread =
+    let read = λ (offset : ℕ). f (item_from d block offset) in
+    spread
+    ∙ ap (stretched_items made.descr made.block made.layout) shape-is
+    ∙ result-whole made once l.shape is.can same
+    ∙ ap (through once l.shape) items
+    ∙ sym (seen once l.shape is.can read (offsets small) (length-offsets small ∙ ap count is.shape_is))
+    ∙ (λ i. map read (view_through (offsets small) (sym is.shape_is i) l.shape (broadcast_index (sym is.shape_is i))))
+    ∙ ap (map read) (is.places ∙ stretched-self l)
+
+-- of bools
+pub descr_told : (made : Owned) (result : Result Owned Refusal) → made.descr ≡ ScalarDescr BoolScalar → IfOk result (λ o. o.descr ≡ made.descr) → IfOk result (λ o. o.descr ≡ ScalarDescr BoolScalar)
+descr_told made (Ok o) is told = told ∙ is
+descr_told made (Err e) is told = tt
+
+pub bools_told : (made : Owned) (result : Result Owned Refusal) (shape : List ℕ) → made.descr ≡ ScalarDescr BoolScalar → IfOk result (λ o. o.descr ≡ made.descr) → IfOk result (λ o. o.layout.shape ≡ shape) →
+    IfOk result (λ o. offsets o.layout ≡ offsets_in C (item_size o.descr) o.layout.shape) → IfOk result (λ o. offsets o.layout ≡ multiples 1 (count shape))
+bools_told made (Ok o) shape is told shape-is order = order ∙ λ i. multiples (item_size ((told ∙ is) i)) (count (shape-is i))
+bools_told made (Err e) shape is told shape-is order = tt
+
+-- ---- what `without_repeats` has to give
+
+pub is_shrunk : (l wide small : Layout) (once shape : List ℕ) → wide.shape ≡ shape → offsets wide ≡ view_through (offsets l) l.shape shape (broadcast_index l.shape) →
+    ((len width : ℕ) → All (λ offset. offset + width ≤ len) (offsets l) → All (λ offset. offset + width ≤ len) (offsets wide)) → small.shape ≡ once → IsStretchOf small wide → IsShrunk small l once shape
+is_shrunk l wide small once shape shape-is offsets-are ends once-is is = record {
+  shape_is = once-is;
+  can = (λ i. can_stretch (sym once-is i) (sym shape-is i)) ∙ is.can;
+  places = (λ i. view_through (offsets small) small.shape (sym shape-is i) (broadcast_index small.shape)) ∙ sym is.larger.places ∙ offsets-are;
+  inside = λ len width all. inside wide small (record { shape = small.shape; leads = λ index. index }) len width is.smaller (ends len width all);
+}
