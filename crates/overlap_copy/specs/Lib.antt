@@ -1,4 +1,5 @@
 pub mod Blocks
+pub mod ItemLists
 pub mod Overlaps
 pub mod RunLaws
 pub mod Assignments
