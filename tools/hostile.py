@@ -1,12 +1,12 @@
 #!/usr/bin/env python3
-"""Hostile use of the built program: memory that is refused, damaged files, numbers of any length, devices that fail, long runs.
+"""Hostile use of the built program: memory that is refused, limits, damaged files, numbers of any length, devices that fail, long runs.
 
     tools/hostile.py [--only PART] [--seed SEED] [--rows FOLDER] BENCH
 
 It tells the counts of each part, and what was wrong: where, what happened and what should have. The exit status is 1 where
 something was. The scripts are those of `examples/` and `tools/hostile/`, random ones, and with --rows those of a folder:
 NAME.script, with what stands beside it (NAME.dir with files, NAME.undo with a depth). The C compiler makes the `malloc` that
-refuses, `refuse_memory.c`. Trials with another user or a full disk want root's rights and are left out elsewhere. The gate
+refuses, `refuse_memory.c`, and the calls that are interrupted, `interrupt_calls.c`; `prlimit` sets limits. Trials with another user or a full disk want root's rights and are left out elsewhere. The gate
 does not run it."""
 import argparse
 import importlib
@@ -18,7 +18,7 @@ import time
 
 from hostile_runs import shown, takes_undo, temporary_folder
 
-PARTS = ["memory", "files", "numbers", "devices", "long"]
+PARTS = ["memory", "limits", "files", "numbers", "devices", "long"]
 MOST_TOLD = 20
 
 

@@ -3,14 +3,13 @@
 What no rule tells, as how a pipe that is closed ends a run, is told as it is found."""
 import os
 import pathlib
-import resource
 import shutil
 import signal
 import subprocess
 import time
 
 from hostile_files import FILE
-from hostile_runs import Part, temporary_folder
+from hostile_runs import TOP, Part, limited, temporary_folder, with_launcher
 
 SCRIPT = "a = arange <i4 0 3 1\nsave a \"a.npy\"\nx = load \"a.npy\"\nprint a\n"
 REPLIES = "ok a <i4 (3,) new\nok save 140\nok x <i4 (3,) new rest 0\n[0 1 2]\n"
@@ -32,17 +31,18 @@ class Trials:
         self.program = folder / "bench"
         shutil.copy(program, self.program)
         self.program.chmod(0o755)
+        self.launcher = with_launcher(program, folder)
         self.dir = folder / "files"
         self.dir.mkdir()
 
-    def start(self, words=(), before=(), **streams):
-        """A run of the program, perhaps by another one."""
+    def start(self, words=(), before=(), through=None, **streams):
+        """A run of the program, perhaps by another one, or through the launcher."""
         given = {"stdin": subprocess.DEVNULL, "stdout": subprocess.PIPE, "stderr": subprocess.PIPE, **streams}
-        return subprocess.Popen([*map(str, before), str(self.program), *map(str, words)], cwd=self.folder, **given)
+        return subprocess.Popen([*map(str, before), str(through or self.program), *words], cwd=self.folder, **given)
 
-    def run(self, text, words=(), before=(), seconds=MOST_WAIT, **streams):
+    def run(self, text, words=(), before=(), through=None, seconds=MOST_WAIT, **streams):
         """Status, output and what is said on standard error; a run that takes too long is ended, and has none."""
-        process = self.start(words, before, stdin=subprocess.PIPE, **streams)
+        process = self.start(words, before, through, stdin=subprocess.PIPE, **streams)
         try:
             out, err = process.communicate(text.encode(), seconds)
         except subprocess.TimeoutExpired:
@@ -63,6 +63,8 @@ class Trials:
         with open("/dev/full", "wb") as full:
             self.expect("/dev/full as standard output", self.run(SCRIPT, ["--dir", self.dir], stdout=full), 3, "", "bench: write fault\n")
             self.expect("/dev/full and nothing to say", self.run("# nothing\n", stdout=full), 0, "", "")
+            self.expect("/dev/full and help", self.run("", ["--help"], stdout=full), 3, "", "bench: write fault\n")
+            self.expect("/dev/full for what is wrong with words", self.run("", ["--unknown"], stderr=full), 2, "", "")
         for name, handler in (("ended by it", signal.SIG_DFL), ("told of it", signal.SIG_IGN)):
             self.closed_pipe(name, handler)
         self.closed_streams()
@@ -83,10 +85,8 @@ class Trials:
             pass
         status = process.wait(MOST_WAIT)
         err = process.stderr.read().decode()
-        self.part.note(f"a closed pipe, the program being {name}", f"status {status}, {err!r}")
         ended = first == b"names\n" and time.monotonic() - began < MOST_WAIT / 2
-        quiet = (status, err) in ((-signal.SIGPIPE, ""), (3, ""))
-        self.part.expect(f"a closed pipe ({name})", (ended, quiet), (True, True))
+        self.part.expect(f"a closed pipe ({name})", (ended, status, err), (True, 3, "bench: write fault\n"))
 
     def closed_streams(self):
         """A stream that is closed from the start, of which files that are opened may take the number."""
@@ -111,13 +111,46 @@ class Trials:
         for most in (0, 1, 100, 65536, len(whole) - 1, len(whole)):
             path = self.folder / "out"
             with open(path, "wb") as out:
-                def limit():
-                    signal.signal(signal.SIGXFSZ, signal.SIG_IGN)
-                    resource.setrlimit(resource.RLIMIT_FSIZE, (most, most))
-                happened = self.run(LONG_SCRIPT, stdout=out, preexec_fn=limit)
+                happened = self.run(LONG_SCRIPT, before=limited([("fsize", most)]), stdout=out, through=self.launcher)
             fault = (0, "", "") if most == len(whole) else (3, "", "bench: write fault\n")
             self.expect(f"standard output of {most} bytes", happened, *fault)
             self.part.expect(f"what was written of {most} bytes", path.read_bytes() == whole[:most], True)
+
+    def limited_files(self):
+        """A file that may not grow so far is not saved, and none is left half written."""
+        text = "a = zeros |u1 (100000)\nsave a \"big.npy\"\nb = zeros |u1 (3)\nsave b \"small.npy\"\n"
+        folder = self.folder / "limited"
+        folder.mkdir()
+        for most, saved in ((0, 0), (1, 0), (130, 0), (131, 1), (4096, 1), (100127, 1), (100128, 2)):
+            kept = ["ok save 131" if saved else FAULT, "ok save 100128" if saved == 2 else FAULT]
+            out = f"ok a |u1 (100000,) new\n{kept[1]}\nok b |u1 (3,) new\n{kept[0]}\n"
+            happened = self.run(text, ["--dir", folder], limited([("fsize", most)]), self.launcher)
+            self.expect(f"files of {most} bytes", happened, 0 if saved == 2 else 1, out, "")
+            left = {path.name: path.stat().st_size for path in folder.iterdir()}
+            self.part.expect(f"what is left of files of {most} bytes", left, dict([("small.npy", 131), ("big.npy", 100128)][:saved]))
+
+    def words(self):
+        """Words that are no text are refused words."""
+        for word in (b"\xff", b"--dir=\xc3", b"--undo=\xf5", b"a\x80"):
+            status, out, err = self.run("names\n", [word])
+            self.part.expect(f"the word {word!r}", (status, out, err.startswith("error: invalid UTF-8")), (2, "", True))
+            refused = self.run("names\n", [b"names.bench", b"more", word])
+            self.part.expect(f"the word {word!r} behind others", refused[0], 2)
+
+    def interrupted(self):
+        """Reads and writes that a signal interrupts are made again; a stream with nothing to give yet is a fault."""
+        library = self.folder / "interrupt_calls.so"
+        subprocess.run(["cc", "-O2", "-shared", "-fPIC", "-o", library, TOP / "tools" / "interrupt_calls.c"], check=True)
+        script = self.folder / "plain.bench"
+        script.write_text(SCRIPT)
+        plain = self.run(SCRIPT, ["--dir", self.dir])
+        self.expect("no call interrupted", plain, 0, REPLIES, "")
+        for times in (1, 2, 100):
+            before = ["env", f"LD_PRELOAD={library}", f"INTERRUPT_TIMES={times}"]
+            self.part.expect(f"each call of standard streams interrupted {times} times", self.run(SCRIPT, ["--dir", self.dir], before), plain)
+            self.part.expect(f"each call of SCRIPT interrupted {times} times", self.run("", ["--dir", self.dir, script], before), plain)
+        before = ["env", f"LD_PRELOAD={library}", "INTERRUPT_TIMES=1", "INTERRUPT_AGAIN=1"]
+        self.expect("nothing to read yet", self.run(SCRIPT, ["--dir", self.dir], before), 3, "", "bench: read fault\n")
 
     def scripts(self):
         """Scripts that are no files."""
@@ -254,7 +287,7 @@ def all_trials(given, _with_undo, _folder):
     folder.chmod(0o755)
     try:
         trials = Trials(given.bench, pathlib.Path(folder))
-        for kind in (trials.outputs, trials.scripts, trials.folders, trials.files):
+        for kind in (trials.outputs, trials.limited_files, trials.words, trials.interrupted, trials.scripts, trials.folders, trials.files):
             kind()
         return trials.part
     finally:

@@ -5,7 +5,6 @@ to the memory of an idle one, the bytes of a file and those of the array that it
 import math
 import multiprocessing
 import random
-import resource
 
 import damaged
 import npy_rule
@@ -178,7 +177,7 @@ def loads(task):
     with Runner(program) as runner:
         fill(runner.dir, {str(k): file for k, (file, _) in enumerate(trials)})
         text = "".join(f'x = load "{k}"\ninfo x\ndel x\n' for k in range(len(trials))).encode()
-        ran = runner.run(text, ["--dir", str(runner.dir)], limits=[(resource.RLIMIT_AS, most)], seconds=MOST_SECONDS)
+        ran = runner.run(text, ["--dir", str(runner.dir)], limits=[("as", most)], seconds=MOST_SECONDS)
     replies = ran.out.decode("latin-1").splitlines()
     if ran.status not in (0, 1) or ran.err or len(replies) != 3 * len(trials):
         last = trials[min(len(replies) // 3, len(trials) - 1)][0]
@@ -228,7 +227,7 @@ def peak_of_load(runner, name, front, zeros):
         file.truncate(len(front) + zeros)
     talk = Talk(runner.program, ["--dir", str(runner.dir)])
     talk.answered(b"y = zeros <i4 (3)", b"ok y <i4 (3,) new")
-    before = talk.memory("VmPeak")
+    before = talk.memory("VmSize")
     talk.answered(b'x = load "file"\nprint y', b"[0 0 0]")
     after, reply = talk.memory("VmPeak"), talk.tail.decode().splitlines()[0]
     talk.end()

@@ -9,7 +9,6 @@ import multiprocessing
 import os
 import pathlib
 import random
-import resource
 import struct
 import subprocess
 import time
@@ -216,7 +215,7 @@ def within_bounds(program):
         fill(runner.dir, {"zeros.npy": 2**26})
         text = "".join(f"{line}\n" for line, _ in LACKING).encode()
         most = reserved_when_idle(program) + ROOM
-        ran = runner.run(text, ["--dir", str(runner.dir)], limits=[(resource.RLIMIT_AS, most)])
+        ran = runner.run(text, ["--dir", str(runner.dir)], limits=[("as", most)])
         replies = ran.out.decode().splitlines()
         for (line, should), reply in itertools.zip_longest(LACKING, replies, fillvalue=("nothing", "nothing")):
             part.expect(f"{line}, with room for {ROOM:,} bytes", reply, should)

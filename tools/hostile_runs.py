@@ -9,6 +9,7 @@ import subprocess
 import tempfile
 import threading
 
+TOP = pathlib.Path(__file__).resolve().parent.parent
 IN_MEMORY = "/dev/shm" if os.access("/dev/shm", os.W_OK) else None
 MOST_SECONDS = 60
 MOST_WAIT = 300
@@ -74,6 +75,20 @@ def contents(folder):
     return {path.name: path.read_bytes() if size < 2**24 else size for path, size in sizes.items()}
 
 
+def limited(limits):
+    """The words before a program that set limits, as ("as", bytes), which hold from its first moment on."""
+    return ["prlimit", *(f"--{kind}={most}" for kind, most in limits)] if limits else []
+
+
+def with_launcher(program, folder):
+    """The launcher of a tree with this program and nothing else."""
+    tree = folder / "tree"
+    placed = tree / "crates" / "bench_main" / "out" / "bench_main"
+    placed.parent.mkdir(parents=True)
+    shutil.copy(program, placed)
+    return pathlib.Path(shutil.copy(TOP / "bench", tree / "bench"))
+
+
 class Runner:
     """Runs a program over scripts, with a folder of its own for its streams and for the files of `--dir`."""
 
@@ -91,12 +106,12 @@ class Runner:
         shutil.rmtree(self.folder, ignore_errors=True)
 
     def run(self, text, words=(), env=None, limits=(), seconds=MOST_SECONDS):
-        """What a run over a script comes to. It may take so many seconds of processor time, and keeps within limits."""
+        """What a run over a script comes to. It may take so many seconds of processor time, and keeps within limits from its start."""
         self.streams[0].write_bytes(text)
+        called = [*limited(limits), self.program, *words]
         with open(self.streams[0], "rb") as given, open(self.streams[1], "wb") as out, open(self.streams[2], "wb") as err:
-            started = subprocess.Popen([self.program, *words], stdin=given, stdout=out, stderr=err, env=env, close_fds=False)
-            for kind, most in ((resource.RLIMIT_CPU, seconds), *limits):
-                resource.prlimit(started.pid, kind, (most, most))
+            started = subprocess.Popen(called, stdin=given, stdout=out, stderr=err, env=env, close_fds=False)
+            resource.prlimit(started.pid, resource.RLIMIT_CPU, (seconds, seconds))
             status = started.wait()
         return Ran(status, self.streams[1].read_bytes(), self.streams[2].read_bytes())
 
