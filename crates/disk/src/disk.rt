@@ -1,0 +1,140 @@
+//! The calls of a disk.
+ghost use Rattle.std.specs.Prelude.{◌≡◌, ◌≢◌, ◌<◌, ◌≤◌, ◌++◌, ℕ, Bool, List, [], length, take, IsTrue, IfOk, OnOk, IsErrOf};
+ghost use Rattle.std.specs.FinMap.{get};
+ghost use Rattle.disk.specs.Files.{Files, Same, SameBut};
+ghost use Rattle.disk.specs.Crashes.{History, Leaves};
+ghost use Rattle.disk.specs.declared.disk.DiskFault.TheVariants.{Failed, Memory};
+ghost use Rattle.disk.specs.Calls.{HasCause, IsThere, Appends, SameButBoth, Replaces, HasNames};
+
+use std::alloc::{AllocError, AllocFailed};
+use thiserror::Error;
+
+/// Why a call of a disk gave up.
+#[derive(Clone, Copy, Debug, PartialEq, Eq, Error)]
+pub enum DiskFault {
+    #[error("disk failed")]
+    Failed,
+    #[error("out of memory")]
+    Memory,
+}
+
+impl From<AllocError> for DiskFault {
+    ghost from_gives = { λ _ e. e ≡ Memory };
+
+    fn from(_error: AllocError) -> DiskFault {
+        DiskFault::Memory
+    }
+}
+
+impl<T: Drop> From<AllocFailed<T>> for DiskFault {
+    ghost from_gives = { λ _ e. e ≡ Memory };
+
+    fn from(_error: AllocFailed<T>) -> DiskFault {
+        DiskFault::Memory
+    }
+}
+
+/// One folder of files. What its contracts say of files and crashes is said of an honest disk alone.
+pub trait Disk {
+    /// An open file.
+    type File: Drop;
+
+    /// The disk is as its contracts say. It never changes.
+    ghost honest: { Bool };
+
+    /// The files, as a read finds them.
+    ghost files: { Self → Files };
+
+    /// What a crash at each moment up to now may leave.
+    ghost history: { Self → History };
+
+    /// The bytes of the file that has this name are on the disk. The name need not be.
+    ghost Synced: { Self → List ℕ → Type 0 };
+
+    /// How often the disk has failed.
+    ghost failures: { Self → ℕ };
+
+    /// The name under which a file was opened.
+    ghost name_of: { Self.File → List ℕ };
+
+    /// Its bytes that are still to be read.
+    ghost rest_of: { Self.File → List ℕ };
+
+    /// Whether a file stands under a name. What is no plain file, as a folder or a pipe, is a failure; a
+    /// link is what it leads to.
+    fn has_file(&mut self, name: &[u8]) -> Result<bool, DiskFault>
+        ensures found { IsTrue honest → IfOk result (λ found. IsThere found (get (files self.old) name.now)) }
+        ensures files { IsTrue honest → files self.new ≡ files self.old }
+        ensures crash { IsTrue honest → Leaves Same (history self.old) (history self.new) }
+        ensures cause { HasCause Failed (failures self.old) (failures self.new) result };
+
+    /// Opens a file to be read, and tells how many bytes it has.
+    fn open(&mut self, name: &[u8]) -> Result<(Self::File, u64), DiskFault>
+        ensures found { IsTrue honest → IfOk result (λ opened. get (files self.old) name.now ≡ Some (rest_of opened.0)) }
+        ensures told { IsTrue honest → IfOk result (λ opened. opened.1 ≡ length (rest_of opened.0)) }
+        ensures files { IsTrue honest → files self.new ≡ files self.old }
+        ensures crash { IsTrue honest → Leaves Same (history self.old) (history self.new) }
+        ensures cause { HasCause Failed (failures self.old) (failures self.new) result };
+
+    /// Reads what comes next. No byte is read at the end of the file alone.
+    fn read(&mut self, file: &mut Self::File, piece: &mut [u8]) -> Result<usize, DiskFault>
+        ensures count { IfOk result (λ count. count ≤ length piece.old) }
+        ensures read { IsTrue honest → IfOk result (λ count. rest_of file.old ≡ take count piece.new ++ rest_of file.new) }
+        ensures end { IsTrue honest → IfOk result (λ count. count ≡ 0 → 0 < length piece.old → rest_of file.old ≡ []) }
+        ensures files { IsTrue honest → files self.new ≡ files self.old }
+        ensures crash { IsTrue honest → Leaves Same (history self.old) (history self.new) }
+        ensures cause { HasCause Failed (failures self.old) (failures self.new) result };
+
+    /// Makes an empty file that is to take the place of another, and gives it the mode of that. What a
+    /// program has left under its name that has ended is gone then; it fails where another program writes
+    /// under that name, and where something stands in that place that is no plain file, as a link. Until
+    /// the file is synced, a crash may leave anything under its name.
+    fn create(&mut self, name: &[u8], place: &[u8]) -> Result<Self::File, DiskFault>
+        ensures created { IsTrue honest → OnOk result (get (files self.new) name.now ≡ Some []) }
+        ensures name { IsTrue honest → IfOk result (λ file. name_of file ≡ name.now) }
+        ensures others { IsTrue honest → SameBut name.now (files self.old) (files self.new) }
+        ensures crash { IsTrue honest → Leaves (SameBut name.now) (history self.old) (history self.new) }
+        ensures cause { HasCause Failed (failures self.old) (failures self.new) result };
+
+    /// Writes behind what a file has. Until it is synced, a crash may leave anything under its name.
+    fn append(&mut self, file: &mut Self::File, bytes: &[u8]) -> Result<(), DiskFault>
+        ensures appended { IsTrue honest → OnOk result (Appends bytes.now (get (files self.old) (name_of file.old)) (get (files self.new) (name_of file.old))) }
+        ensures name { IsTrue honest → name_of file.new ≡ name_of file.old }
+        ensures others { IsTrue honest → SameBut (name_of file.old) (files self.old) (files self.new) }
+        ensures crash { IsTrue honest → Leaves (SameBut (name_of file.old)) (history self.old) (history self.new) }
+        ensures cause { HasCause Failed (failures self.old) (failures self.new) result };
+
+    /// Brings the bytes of a file to the disk.
+    fn sync(&mut self, file: &Self::File) -> Result<(), DiskFault>
+        ensures synced { IsTrue honest → OnOk result (Synced self.new (name_of file.now)) }
+        ensures files { IsTrue honest → files self.new ≡ files self.old }
+        ensures crash { IsTrue honest → Leaves Same (history self.old) (history self.new) }
+        ensures cause { HasCause Failed (failures self.old) (failures self.new) result };
+
+    /// Gives a file another name, in place of the file that had it. A crash leaves under that name the
+    /// one file or the other, if the bytes of the first are on the disk.
+    fn rename(&mut self, from: &[u8], to: &[u8]) -> Result<(), DiskFault>
+        requires { to.now ≢ from.now }
+        ensures renamed { IsTrue honest → OnOk result (get (files self.new) to.now ≡ get (files self.old) from.now) }
+        ensures synced { IsTrue honest → OnOk result (Synced self.old from.now → Synced self.new to.now) }
+        ensures others { IsTrue honest → Replaces from.now to.now (get (files self.old) from.now) (files self.old) (files self.new) }
+        ensures whole { IsTrue honest → Synced self.old from.now → Leaves (Replaces from.now to.now (get (files self.old) from.now)) (history self.old) (history self.new) }
+        ensures crash { IsTrue honest → Leaves (SameButBoth from.now to.now) (history self.old) (history self.new) }
+        ensures memory { IsTrue honest → IsErrOf result Memory → files self.new ≡ files self.old }
+        ensures cause { HasCause Failed (failures self.old) (failures self.new) result };
+
+    /// Takes the file with this name away, if there is one.
+    fn remove(&mut self, name: &[u8]) -> Result<(), DiskFault>
+        ensures removed { IsTrue honest → OnOk result (get (files self.new) name.now ≡ None) }
+        ensures others { IsTrue honest → SameBut name.now (files self.old) (files self.new) }
+        ensures crash { IsTrue honest → Leaves (SameBut name.now) (history self.old) (history self.new) }
+        ensures cause { HasCause Failed (failures self.old) (failures self.new) result };
+
+    /// Brings the names to the disk: new ones, changed ones and those that are gone.
+    fn sync_names(&mut self) -> Result<(), DiskFault>
+        ensures memory { IsErrOf result Memory → ⊥ }
+        ensures names { IsTrue honest → OnOk result (HasNames (history self.new) (Synced self.old) (files self.old)) }
+        ensures files { IsTrue honest → files self.new ≡ files self.old }
+        ensures crash { IsTrue honest → Leaves Same (history self.old) (history self.new) }
+        ensures cause { HasCause Failed (failures self.old) (failures self.new) result };
+}

@@ -1,0 +1,276 @@
+//! A disk in memory.
+ghost use Rattle.std.specs.Prelude.{◌≡◌, ◌≢◌, ◌++◌, ◌<◌, ◌≤◌, [], true, length, take, drop, IfOk, OnOk, OnErr};
+ghost use Rattle.std.specs.FinMap.{empty, get};
+ghost use Rattle.disk.specs.declared.disk.DiskFault.TheVariants.{Failed};
+ghost use Rattle.disk.specs.Files.{SameBut};
+ghost use Rattle.disk.specs.Crashes.{Leaves};
+ghost use Rattle.disk.specs.Calls.{HasCause, HasRisen, Replaces};
+ghost use Rattle.disk.specs.Changes.{after, shown, history_of, IsFound};
+
+use crate::disk::{Disk, DiskFault};
+use std::alloc::{AllocError, Global};
+
+/// A file that has got these bytes, or that is gone.
+#[derive(Drop)]
+pub struct Change {
+    name: Vec<u8>,
+    bytes: Option<Vec<u8>>,
+}
+
+/// A file in memory that is open.
+#[derive(Drop)]
+pub struct MemFile {
+    name: Vec<u8>,
+    bytes: Vec<u8>,
+    at: usize,
+}
+
+/// A disk that keeps its files in memory, as a list of their changes, the newest first. It is honest, and
+/// each change lasts at once. One call can be made to fail, or all calls from one on, as after a crash.
+#[derive(Drop)]
+pub struct MemDisk {
+    alloc: Global,
+    changes: Vec<Change>,
+    calls_left: Option<usize>,
+    crashes: bool,
+    failures: u64,
+}
+
+impl Change {
+    fn new(alloc: Global, name: &[u8], bytes: Option<Vec<u8>>) -> Result<Change, AllocError>
+        ensures name { IfOk result (λ change. change.name.items ≡ name.now) }
+        ensures bytes { IfOk result (λ change. change.bytes ≡ bytes) }
+    {
+        let name = Vec::from_slice(alloc, name)?;
+        Ok(Change { name, bytes })
+    }
+}
+
+/// The bytes of the file with this name.
+fn contents(alloc: Global, changes: &[Change], name: &[u8]) -> Result<Option<Vec<u8>>, AllocError>
+    ensures { IfOk result (IsFound (get (after changes.now) name.now)) }
+{
+    for change in changes {
+        if name == change.name.as_slice() {
+            return match &change.bytes {
+                Some(bytes) => Ok(Some(bytes.to_vec(alloc)?)),
+                None => Ok(None),
+            };
+        }
+    }
+    Ok(None)
+}
+
+/// Gives a name these bytes, or none.
+fn bind(
+    alloc: Global,
+    changes: &mut Vec<Change>,
+    name: &[u8],
+    bytes: Option<Vec<u8>>,
+) -> Result<(), AllocError>
+    ensures bound { OnOk result (get (after changes.new.items) name.now ≡ shown bytes) }
+    ensures others { SameBut name.now (after changes.old.items) (after changes.new.items) }
+    ensures crash { Leaves (SameBut name.now) (history_of changes.old.items) (history_of changes.new.items) }
+{
+    let change = Change::new(alloc, name, bytes)?;
+    changes.insert(0, change)?;
+    Ok(())
+}
+
+/// Gives one name these bytes, and the other none.
+fn shift(
+    alloc: Global,
+    changes: &mut Vec<Change>,
+    from: &[u8],
+    to: &[u8],
+    bytes: Vec<u8>,
+) -> Result<(), AllocError>
+    requires { to.now ≢ from.now }
+    ensures given { OnOk result (get (after changes.new.items) to.now ≡ Some bytes.items) }
+    ensures others { Replaces from.now to.now (Some bytes.items) (after changes.old.items) (after changes.new.items) }
+    ensures crash { Leaves (Replaces from.now to.now (Some bytes.items)) (history_of changes.old.items) (history_of changes.new.items) }
+    ensures err { OnErr result (changes.new.items ≡ changes.old.items) }
+{
+    let arrived = Change::new(alloc, to, Some(bytes))?;
+    let gone = Change::new(alloc, from, None)?;
+    changes.reserve(2)?;
+    changes.insert(0, arrived)?;
+    changes.insert(0, gone)?;
+    Ok(())
+}
+
+impl MemFile {
+    fn new(alloc: Global, name: &[u8]) -> Result<MemFile, AllocError>
+        ensures { IfOk result (λ file. file.name.items ≡ name.now) }
+    {
+        Ok(MemFile {
+            name: Vec::from_slice(alloc, name)?,
+            bytes: Vec::new(alloc),
+            at: 0,
+        })
+    }
+
+    /// Moves the next bytes to a piece, as many as it has room for.
+    fn take(&mut self, piece: &mut [u8]) -> usize
+        ensures count { result ≤ length piece.old }
+        ensures taken { drop self.old.at self.old.bytes.items ≡ take result piece.new ++ drop self.new.at self.new.bytes.items }
+        ensures end { result ≡ 0 → 0 < length piece.old → drop self.old.at self.old.bytes.items ≡ [] }
+        ensures name { self.new.name ≡ self.old.name }
+    {
+        let at = self.at.min(self.bytes.len());
+        let rest = &self.bytes[at..];
+        let count = piece.len().min(rest.len());
+        piece[..count].copy_from_slice(&rest[..count]);
+        self.at = at + count;
+        count
+    }
+}
+
+impl MemDisk {
+    /// A disk without files, no call of which fails.
+    pub fn new(alloc: Global) -> MemDisk
+        ensures files { ⟦<MemDisk as Disk>⟧.files result ≡ empty }
+        ensures failures { ⟦<MemDisk as Disk>⟧.failures result ≡ 0 }
+    {
+        MemDisk {
+            alloc,
+            changes: Vec::new(alloc),
+            calls_left: None,
+            crashes: false,
+            failures: 0,
+        }
+    }
+
+    /// From now on the call with this number fails, counted from 0, or all from that one on.
+    pub fn fail_at(&mut self, call: usize, crashes: bool)
+        ensures files { ⟦<MemDisk as Disk>⟧.files self.new ≡ ⟦<MemDisk as Disk>⟧.files self.old }
+        ensures failures { ⟦<MemDisk as Disk>⟧.failures self.new ≡ ⟦<MemDisk as Disk>⟧.failures self.old }
+    {
+        self.calls_left = Some(call);
+        self.crashes = crashes;
+    }
+
+    /// The disk works again.
+    pub fn restart(&mut self)
+        ensures files { ⟦<MemDisk as Disk>⟧.files self.new ≡ ⟦<MemDisk as Disk>⟧.files self.old }
+        ensures failures { ⟦<MemDisk as Disk>⟧.failures self.new ≡ ⟦<MemDisk as Disk>⟧.failures self.old }
+    {
+        self.calls_left = None;
+    }
+
+    /// Counts a failure.
+    fn failed(&mut self) -> DiskFault
+        ensures fault { result ≡ Failed }
+        ensures changes { self.new.changes.items ≡ self.old.changes.items }
+        ensures counted { HasRisen self.old.failures self.new.failures }
+        ensures kept { self.old.failures ≤ self.new.failures }
+    {
+        self.failures = self.failures.saturating_add(1);
+        DiskFault::Failed
+    }
+
+    /// Counts a call, and fails where it is the one to fail.
+    fn count_call(&mut self) -> Result<(), DiskFault>
+        ensures changes { self.new.changes.items ≡ self.old.changes.items }
+        ensures cause { HasCause Failed self.old.failures self.new.failures result }
+        ensures fault { OnErr result (result ≡ Err Failed) }
+    {
+        match self.calls_left {
+            None => Ok(()),
+            Some(0) => {
+                if !self.crashes {
+                    self.calls_left = None;
+                }
+                Err(self.failed())
+            }
+            Some(calls) => {
+                self.calls_left = Some(calls - 1);
+                Ok(())
+            }
+        }
+    }
+
+    /// Counts a call, and finds the bytes of the file with this name.
+    fn look(&mut self, name: &[u8]) -> Result<Option<Vec<u8>>, DiskFault>
+        ensures changes { self.new.changes.items ≡ self.old.changes.items }
+        ensures cause { HasCause Failed self.old.failures self.new.failures result }
+        ensures found { IfOk result (IsFound (get (after self.old.changes.items) name.now)) }
+    {
+        self.count_call()?;
+        Ok(contents(self.alloc, &self.changes, name)?)
+    }
+}
+
+impl Disk for MemDisk {
+    type File = MemFile;
+
+    ghost honest = { true };
+
+    ghost files = { λ disk. after disk.changes.items };
+
+    ghost history = { λ disk. history_of disk.changes.items };
+
+    ghost Synced = { λ disk name. Unit {0} };
+
+    ghost failures = { λ disk. disk.failures };
+
+    ghost name_of = { λ file. file.name.items };
+
+    ghost rest_of = { λ file. drop file.at file.bytes.items };
+
+    fn has_file(&mut self, name: &[u8]) -> Result<bool, DiskFault> {
+        Ok(self.look(name)?.is_some())
+    }
+
+    fn open(&mut self, name: &[u8]) -> Result<(MemFile, u64), DiskFault> {
+        let Some(bytes) = self.look(name)? else {
+            return Err(self.failed());
+        };
+        let name = Vec::from_slice(self.alloc, name)?;
+        let len = bytes.len() as u64;
+        Ok((MemFile { name, bytes, at: 0 }, len))
+    }
+
+    fn read(&mut self, file: &mut MemFile, piece: &mut [u8]) -> Result<usize, DiskFault> {
+        self.count_call()?;
+        Ok(file.take(piece))
+    }
+
+    fn create(&mut self, name: &[u8], _place: &[u8]) -> Result<MemFile, DiskFault> {
+        self.count_call()?;
+        let file = MemFile::new(self.alloc, name)?;
+        let bytes = Vec::new(self.alloc);
+        bind(self.alloc, &mut self.changes, name, Some(bytes))?;
+        Ok(file)
+    }
+
+    fn append(&mut self, file: &mut MemFile, bytes: &[u8]) -> Result<(), DiskFault> {
+        let Some(mut all) = self.look(&file.name)? else {
+            return Err(self.failed());
+        };
+        all.extend_from_slice(bytes)?;
+        Ok(bind(self.alloc, &mut self.changes, &file.name, Some(all))?)
+    }
+
+    fn sync(&mut self, _file: &MemFile) -> Result<(), DiskFault> {
+        self.count_call()
+    }
+
+    fn rename(&mut self, from: &[u8], to: &[u8]) -> Result<(), DiskFault> {
+        let Some(bytes) = self.look(from)? else {
+            return Err(self.failed());
+        };
+        Ok(shift(self.alloc, &mut self.changes, from, to, bytes)?)
+    }
+
+    fn remove(&mut self, name: &[u8]) -> Result<(), DiskFault> {
+        if self.look(name)?.is_none() {
+            return Ok(());
+        }
+        Ok(bind(self.alloc, &mut self.changes, name, None)?)
+    }
+
+    fn sync_names(&mut self) -> Result<(), DiskFault> {
+        self.count_call()
+    }
+}
