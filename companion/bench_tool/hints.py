@@ -1,0 +1,178 @@
+"""What may be meant by a line that is refused: a table of what newcomers write, with what to write, and what is bound.
+
+There is no grammar here: a row of the table is one way of writing, told by a pattern, and a test tries each row's example
+and what is to be written in its place against the program.
+"""
+from __future__ import annotations
+
+import difflib
+import os
+import re
+from typing import Callable, NamedTuple, Optional
+
+from . import language
+from .session import BenchError, Reply, Session
+
+NAME = r"([A-Za-z_]\w*)"
+SPAN = r"(\[.*\])"
+LITERAL = r"([-+]?\d+|True|False|b'[^']*')"
+BOTH = {"+": "add", "-": "sub", "*": "mul", "//": "fdiv", "%": "mod", "&": "and", "|": "or", "^": "xor", "<<": "shl", ">>": "shr"}
+SIGNS = {**BOTH, "==": "eq", "!=": "ne", "<=": "le", ">=": "ge", "<": "lt", ">": "gt"}
+SIGN = "(" + "|".join(re.escape(sign) for sign in sorted(SIGNS, key=len, reverse=True)) + ")"
+CHANGE = "(" + "|".join(re.escape(sign) for sign in sorted(BOTH, key=len, reverse=True)) + ")="
+FOLDS = "(sum|prod|min|max|any|all|argmin|argmax)"
+TWO = "(add|sub|mul|fdiv|mod|and|or|xor|shl|shr|eq|ne|lt|le|gt|ge)"
+TYPES = {
+    "bool": "|b1", "int8": "|i1", "int16": "<i2", "int32": "<i4", "int64": "<i8", "int": "<i8",
+    "uint8": "|u1", "uint16": "<u2", "uint32": "<u4", "uint64": "<u8", "bytes": "|S8", "str": "|S8",
+}
+TYPES.update({kind: ("|" if kind[1:] in "1" else "<") + kind for kind in ("i1", "i2", "i4", "i8", "u1", "u2", "u4", "u8")})
+TYPE = "(?:np\\.)?(" + "|".join(TYPES) + ")"
+
+
+class Known:
+    """What a row may ask of the session: a name that is free, and the type of a name."""
+
+    def __init__(self, session: Optional[Session] = None):
+        self.session = session
+        self.names = session.names() if session else []
+
+    def free(self) -> str:
+        return next(name for name in ("t", *(f"t{k}" for k in range(2000))) if name not in self.names)
+
+    def type_of(self, name: str) -> str:
+        return self.session.array(name, items=False).type if self.session and name in self.names else "<i8"
+
+
+class Row(NamedTuple):
+    """An example, the pattern of all like it, and what to write: lines of commands, or a sentence behind `#`. In that `\\1` is a
+    group, `@t` a free name, `@D(name)` its type, `@T(kind)` a type, `@O(sign)` a verb, `@C(..)` numbers with blanks between, `@N(..)` their count."""
+
+    example: str
+    pattern: str
+    write: str
+
+
+def filled(row: Row, found: re.Match[str], known: Known) -> str:
+    """What the row says of a line that is like it."""
+    means: dict[str, Callable[[str], str]] = {
+        "D": known.type_of, "T": TYPES.__getitem__, "O": SIGNS.__getitem__,
+        "C": lambda text: " ".join(text.replace(",", " ").split()), "N": lambda text: str(len(text.replace(",", " ").split())),
+    }
+    text = found.expand(row.write).replace("@t", known.free())
+    return re.sub(r"@([DTOCN])\(([^)]*)\)", lambda part: means[part[1]](part[2]), text)
+
+
+# In the examples a is <i4 (6), m is <i4 (2,3), r is a record with the field x, and i is <i4 (2).
+ROWS = tuple(Row(*row) for row in (
+    ("print a # the items", r"([^#]*[^#\s])\s*#.*", r"# a comment has a line of its own" "\n" r"\1"),
+    ("print(a)", rf"(print|info|format|del)\s*\({NAME}\)", r"\1 \2"),
+    ("print a[0]", rf"(print|info|format)\s*\(?{NAME}\s*{SPAN}\)?", r"@t = \2\3" "\n" r"\1 @t"),
+    ("shares a[1:] a", rf"shares {NAME}{SPAN} {NAME}", r"@t = \1\2" "\n" r"shares @t \3"),
+    ("save a[1:] \"f.npy\"", rf"save {NAME}{SPAN} (\"[^\"]*\")", r"@t = \1\2" "\n" r"save @t \3"),
+    ("save a f.npy", rf"save {NAME} '?([\w.-]+)'?", r'save \1 "\2"'),
+    ("x = load 'a.npy'", rf"{NAME}\s*=\s*load\s*\(?'?([\w.-]+)'?\)?", r'\1 = load "\2"'),
+    ('load "a.npy"', r'load "([\w.-]+)"', r'x = load "\1"'),
+    ("x = field r x", rf"{NAME}\s*=\s*field {NAME} '?(\w+)'?", r'\1 = field \2 "\3"'),
+    ("x = r['x']", rf"{NAME}\s*=\s*{NAME}\[['\"](\w+)['\"]\]", r'\1 = field \2 "\3"'),
+    ("x = field r[0] \"x\"", rf"{NAME}\s*=\s*field {NAME}{SPAN} (\"\w+\")", r'@t = \2\3' "\n" r'\1 = field @t \4'),
+    ("a[0] += 1", rf"(?:set )?{NAME}\s*{SPAN}\s*{CHANGE}\s*(.+)", r"upd \1\2 @O(\3) \4"),
+    ("a += 1", rf"(?:set )?{NAME}\s*{CHANGE}\s*(.+)", r"upd \1[...] @O(\2) \3"),
+    ("upd a add 1", rf"upd {NAME} {TWO} (.+)", r"upd \1[...] \2 \3"),
+    ("upd a[0] += 1", rf"upd {NAME}{SPAN} {CHANGE}\s*(.+)", r"upd \1\2 @O(\3) \4"),
+    ("set a = 5", rf"set {NAME}\s*=\s*(.+)", r"set \1[...] = \2"),
+    ("set a [0] = 5", rf"set {NAME}\s+{SPAN}\s*=\s*(.+)", r"set \1\2 = \3"),
+    ("set a[0] 5", rf"set {NAME}\s*{SPAN}\s+([^=\s].*)", r"set \1\2 = \3"),
+    ("set m[0][0] = 5", rf"(?:set )?{NAME}\[([^][]*)\]\[([^][]*)\]\s*=\s*(.+)", r"@t = \1[\2]" "\n" r"set @t[\3] = \4"),
+    ("a[0] = 5", rf"{NAME}\s*{SPAN}\s*=\s*([^=\s].*)", r"set \1\2 = \3"),
+    ("set a[:] = add a 1", rf"set {NAME}{SPAN}\s*=\s*([a-z]+ .+)", r"@t = \3" "\n" r"set \1\2 = @t"),
+    ("x = m[0][1]", rf"{NAME}\s*=\s*{NAME}\[([^][]*)\]\[([^][]*)\]", r"@t = \2[\3]" "\n" r"\1 = @t[\4]"),
+    ("x = sum a[0]", rf"{NAME}\s*=\s*{FOLDS} {NAME}\s*{SPAN}(.*)", r"@t = \3\4" "\n" r"\1 = \2 @t\5"),
+    ("x = sum m axis=0", rf"{NAME}\s*=\s*{FOLDS} {NAME},?\s*axis\s*=\s*(-?\d+)", r"\1 = \2 \3 \4"),
+    ("x = sum(m)", rf"{NAME}\s*=\s*(?:np\.)?{FOLDS}\({NAME}\)", r"\1 = \2 \3"),
+    ("x = m.sum(0)", rf"{NAME}\s*=\s*{NAME}\.{FOLDS}\((?:axis=)?(-?\d*)\)", r"\1 = \3 \2 \4"),
+    ("sum a", rf"{FOLDS} {NAME}", r"@t = \1 \2" "\n" r"print @t"),
+    ("x = add 5 a", rf"{NAME}\s*=\s*(add|mul|and|or|xor|eq|ne) {LITERAL} {NAME}", r"\1 = \2 \4 \3"),
+    ("x = sub 5 a", rf"{NAME}\s*=\s*{TWO} {LITERAL} {NAME}", r"@t = full @D(\4) () \3" "\n" r"\1 = \2 @t \4"),
+    ("x = a + 1", rf"{NAME}\s*=\s*{NAME}\s*{SIGN}\s*(\S+)", r"\1 = @O(\3) \2 \4"),
+    ("x = 5 - a", rf"{NAME}\s*=\s*{LITERAL}\s*{SIGN}\s*{NAME}", r"@t = full @D(\4) () \2" "\n" r"\1 = @O(\3) @t \4"),
+    ("x = add(a, 1)", rf"{NAME}\s*=\s*(?:np\.)?{TWO}\({NAME},\s*(\S+)\)", r"\1 = \2 \3 \4"),
+    ("x = -a", rf"{NAME}\s*=\s*-\s*{NAME}", r"\1 = neg \2"),
+    ("x = ~a", rf"{NAME}\s*=\s*~\s*{NAME}", r"\1 = not \2"),
+    ("a + 1", rf"{NAME}\s*{SIGN}\s*(\S+)", r"@t = @O(\2) \1 \3" "\n" r"print @t"),
+    ("x = a.T", rf"{NAME}\s*=\s*{NAME}\.(?:T|transpose\(\))", r"\1 = transpose \2"),
+    ("x = copy a", rf"{NAME}\s*=\s*copy {NAME}", r"\1 = copy \2 C"),
+    ("x = a.astype(int32)", rf"{NAME}\s*=\s*{NAME}\.astype\({TYPE}\)", r"\1 = cast \2 @T(\3)"),
+    ("x = a.reshape(2, 3)", rf"{NAME}\s*=\s*{NAME}\.reshape\(+([^()]*)\)+", r"\1 = reshape \2 (\3)"),
+    ("x = reshape a 2,3", rf"{NAME}\s*=\s*(reshape|broadcast) {NAME} (-?\d+(?:[ ,]+-?\d+)*)", r"\1 = \2 \3 (\4)"),
+    ("x = reshape a[1:5] (2,2)", rf"{NAME}\s*=\s*(reshape|broadcast|transpose|copy|cast) {NAME}{SPAN}(.*)",
+        r"@t = \3\4" "\n" r"\1 = \2 @t\5"),
+    ("x = zeros (2,3)", rf"{NAME}\s*=\s*(?:np\.)?zeros\s*\(?(\([^()]*\))\)?", r"\1 = zeros <i8 \2"),
+    ("x = zeros <i4 2,3", rf"{NAME}\s*=\s*zeros (\S+) (\d+(?:[ ,]+\d+)*)", r"\1 = zeros \2 (\3)"),
+    ("x = arange 5", rf"{NAME}\s*=\s*(?:np\.)?arange\s*\(?(\d+)\)?", r"\1 = arange <i8 0 \2 1"),
+    ("x = arange <i4 5", rf"{NAME}\s*=\s*arange (\S+) (\d+)", r"\1 = arange \2 0 \3 1"),
+    ("x = arange <i4 0 5", rf"{NAME}\s*=\s*arange (\S+) (-?\d+)[ ,]+(-?\d+)", r"\1 = arange \2 \3 \4 1"),
+    ("x = array <i4 (3) 1,2,3", rf"{NAME}\s*=\s*array (\S+) (\([^()]*\)) ?\[?([-\d, ]+)\]?", r"\1 = array \2 \3 @C(\4)"),
+    ("x = array <i4 1 2 3", rf"{NAME}\s*=\s*array (\S+) \[?([-\d][-\d, ]*)\]?", r"\1 = array \2 (@N(\3)) @C(\3)"),
+    ("x = [1, 2, 3]", rf"{NAME}\s*=\s*(?:np\.array\()?\[([-\d, ]+)\]\)?", r"\1 = array <i8 (@N(\2)) @C(\2)"),
+    ("x = array |S2 (1) \"ab\"", r"(.*)\"([^\"\\]*)\"", r"\1b'\2'"),
+    ("x = array |S2 (1) 'ab'", r"(.*[ (,])'([^'\\]*)'(.*)", r"\1b'\2'\3"),
+    ("x = 5", rf"{NAME}\s*=\s*(-?\d+)", r"\1 = full <i8 () \2"),
+    ("a.shape", rf"{NAME}\.(?:shape|strides|flags|ndim|size)", r"info \1"),
+    ("a.dtype", rf"{NAME}\.dtype", r"format \1"),
+    ("a", NAME, r"print \1"),
+    ("a[0]", rf"{NAME}\s*{SPAN}", r"@t = \1\2" "\n" r"print @t"),
+    ("print = a", rf"{NAME}\s*=.*", r"# the words of commands are no names, and `help` lists the commands"),
+))
+
+
+def written(line: str, known: Known) -> str:
+    """What to write in the place of a line that is no command; nothing where no row is like it."""
+    found = ((row, re.fullmatch(row.pattern, line.strip())) for row in ROWS)
+    return next((filled(row, match, known) for row, match in found if match), "")
+
+
+def meant(session: Session, line: str, reply: Reply, folder: str = ".") -> list[str]:
+    """What may be meant by a refused line, in a few lines, and what the code says."""
+    try:
+        known = Known(session)
+        told = written(line, known) if reply.code == "E03" else _of_code(session, known, line, reply.code, folder)
+    except (BenchError, OSError):
+        return []
+    if reply.code == "E03":
+        return [text if text.startswith("#") else f"write: {text}" for text in told.splitlines()]
+    when = language.codes().get(reply.code, ("", ""))[1]
+    return [text for text in (when, told) if text]
+
+
+def _of_code(session: Session, known: Known, line: str, code: str, folder: str) -> str:
+    words = re.findall(r"[A-Za-z_]\w*", line)
+    quoted = re.findall(r'"([^"]*)"', line)
+    if code == "E02":
+        return "bytes of plain ASCII alone, and straight quotes"
+    if code in ("E04", "E05"):
+        return "; ".join(f"write: {TYPES[word]} for {word}" for word in words if word in TYPES)
+    if code == "E06":
+        unknown = [word for word in words if word not in known.names and word not in language.verbs(True) + language.verbs(False)]
+        near = [name for word in unknown for name in difflib.get_close_matches(word, known.names)]
+        bound = near or known.names[:10]
+        return ("near it: " if near else "bound: ") + " ".join(bound) if bound else "nothing is bound yet"
+    if code == "E34":
+        near = difflib.get_close_matches(quoted[0] if quoted else "", os.listdir(folder or "."))
+        return f"near it: {' '.join(near)}" if near else f"looked for in {os.path.abspath(folder)}"
+    if code == "E19":
+        return "; ".join(f"{word} has {' '.join(fields(session, word)) or 'no fields'}" for word in words if word in known.names)
+    if code == "E20":
+        return "write: copy X C, and set in the copy"
+    shown = [session.array(word, items=False) for word in dict.fromkeys(words) if word in known.names]
+    return "; ".join(f"{array.name} is {array.type} {array.shape}" for array in shown)
+
+
+def fields(session: Session, name: str) -> list[str]:
+    """The fields of a record's array, by its format text."""
+    depth, found = 0, []
+    for field, brace in re.findall(r":([^:]*):|([{}])", session.ask(f"format {name}")):
+        depth += {"{": 1, "}": -1}.get(brace, 0)
+        if not brace and depth == 1:
+            found.append(field)
+    return found

@@ -1,0 +1,230 @@
+"""A session of the program: one line at a time over pipes, each answered before the next is sent.
+
+    with Session() as bench:
+        bench.send("a = arange <i4 0 5 1")
+        print(bench.array("a").items)
+"""
+from __future__ import annotations
+
+import os
+import re
+import shutil
+import subprocess
+from dataclasses import dataclass
+from math import prod
+from pathlib import Path
+from typing import Any, Callable, Iterable, Iterator, Optional, Union
+
+Line = Union[str, bytes]
+Named = Union[str, "os.PathLike[str]"]
+
+# A reply may have several lines or none. So each line is followed by two that are always refused and change nothing: the reply
+# ends where their refusals begin. These differ, so that a reply that is the refusal of either is told from both. The second needs
+# no memory; for the first there may be none.
+MARKER = b"\n~\n\x7f\n"
+ENDS = tuple(first + b"\nno E02 byte not allowed\n" for first in (b"no E03 syntax", b"no E40 out of memory"))
+LONGEST = max(map(len, ENDS))
+REFUSAL = re.compile(r"no (E\d\d) (.*)")
+INFO = re.compile(r"info \w+ (.*) \(([\d, ]*)\) strides \(([-\d, ]*)\) at (\d+) order ([CF]+|-) write (yes|no)")
+TOKEN = re.compile(r"b'(?:[^'\\]|\\.)*'|[()]|True|False|-?\d+")
+ESCAPE = re.compile(r"\\x([0-9a-f]{2})")
+
+
+class BenchError(Exception):
+    """What goes wrong with a session."""
+
+
+class ProgramMissing(BenchError):
+    """There is no program to start."""
+
+
+class ProgramEnded(BenchError):
+    """The program is not there any more; `status` is what it ended with."""
+
+    def __init__(self, text: str, status: Optional[int] = None):
+        super().__init__(text)
+        self.status = status
+
+
+class Refused(BenchError):
+    """A question was refused that wanted an answer."""
+
+    def __init__(self, line: str, reply: Reply):
+        super().__init__(f"{reply.text}: {line}")
+        self.reply = reply
+
+
+@dataclass(frozen=True)
+class Reply:
+    """The reply to a line: its text without the last newline, none to a blank line and a comment; its code if it is refused."""
+
+    accepted: bool
+    code: str
+    text: str
+
+    @property
+    def meaning(self) -> str:
+        """The words behind the code."""
+        return "" if self.accepted else self.text[len(f"no {self.code} "):]
+
+
+@dataclass(frozen=True)
+class Array:
+    """An array as `info` and `print` tell it: strides and `at` in bytes; items in C order, a record as a tuple."""
+
+    name: str
+    type: str
+    shape: tuple[int, ...]
+    strides: tuple[int, ...]
+    at: int
+    order: str
+    writable: bool
+    items: tuple[Any, ...]
+
+    def tolist(self) -> Any:
+        """The items in lists, one within another as the axes are; of no axes the item itself."""
+        made: list[Any] = list(self.items)
+        for axis in reversed(range(len(self.shape))):
+            length = self.shape[axis]
+            made = [made[k * length:(k + 1) * length] for k in range(prod(self.shape[:axis]))]
+        return made[0]
+
+
+def _numbers(text: str) -> tuple[int, ...]:
+    return tuple(int(word) for word in text.replace(",", " ").split())
+
+
+def _value(token: str) -> Any:
+    if token[0] == "b":
+        return ESCAPE.sub(lambda found: chr(int(found[1], 16)), token[2:-1]).encode("latin-1")
+    return token == "True" if token[0] in "TF" else int(token)
+
+
+def items_of(text: str) -> tuple[Any, ...]:
+    """The items of a printed array, in C order: integers, bools, bytes, and tuples for records."""
+    if "'" not in text and "(" not in text:
+        words = text.replace("[", " ").replace("]", " ").split()
+        return tuple(map(_value if "e" in text else int, words))
+    records: list[list[Any]] = [[]]
+    for token in TOKEN.findall(text):
+        if token == "(":
+            records.append([])
+        else:
+            value = tuple(records.pop()) if token == ")" else _value(token)
+            records[-1].append(value)
+    return tuple(records[0])
+
+
+def find_program() -> str:
+    """The path of the program: BENCH, else the one of the repository or the installed one."""
+    top = Path(__file__).resolve().parents[2]
+    places = (top / "crates/bench_main/out/bench_main", top / "bench", top.parent / "bin/bench")
+    beside = (str(place) for place in places if place.is_file() and os.access(place, os.X_OK))
+    found = os.environ.get("BENCH") or next(beside, None) or shutil.which("bench")
+    if not found:
+        raise ProgramMissing("there is no program: BENCH names none, and none is installed or built")
+    return found
+
+
+class Session:
+    """The program with its names and undos, from its start to `close`.
+
+    An exception in the midst of a reply ends the session, since the rest would be taken for the next reply. The program
+    gets no Ctrl-C of the terminal.
+    """
+
+    def __init__(self, program: Optional[Named] = None, undo: int = 16, dir: Named = "."):
+        self.program = find_program() if program is None else os.fspath(program)
+        words, pipe = [self.program, "--undo", str(undo), f"--dir={os.fspath(dir)}"], subprocess.PIPE
+        self._status: Optional[int] = None
+        try:
+            self._process = subprocess.Popen(words, stdin=pipe, stdout=pipe, bufsize=0, start_new_session=True)
+        except OSError as fault:
+            raise ProgramMissing(f"{self.program} cannot be started: {fault.strerror}") from None
+        assert self._process.stdin is not None and self._process.stdout is not None
+        self._to, self._from = self._process.stdin, self._process.stdout
+        self.send("")
+
+    def send(self, line: Line, take: Optional[Callable[[bytes], Any]] = None) -> Reply:
+        """The reply to one line. With `take` the reply is handed over in parts as they come, each line of it with its
+        newline, and the text of the reply is its begin alone."""
+        sent = line.encode("utf-8", "surrogateescape") if isinstance(line, str) else bytes(line)
+        if b"\n" in sent:
+            raise ValueError("one line at a time: a newline stands within it")
+        begin = bytearray()
+        try:
+            self._write(sent + MARKER)
+            for part in self._parts():
+                begin += part if take is None else part[:max(0, 256 - len(begin))]
+                if take is not None:
+                    take(part)
+        except BaseException:
+            self.close()
+            raise
+        text = begin.decode("ascii", "replace")
+        text = text[:-1] if text.endswith("\n") else text
+        refused = REFUSAL.fullmatch(text)
+        return Reply(refused is None, refused[1] if refused else "", text)
+
+    def run(self, lines: Union[str, Iterable[Line]]) -> list[Reply]:
+        """The replies to several lines, one for each."""
+        return [self.send(line) for line in (lines.removesuffix("\n").split("\n") if isinstance(lines, str) else lines)]
+
+    def ask(self, line: str) -> str:
+        """The reply to a line that is to be accepted; else `Refused`."""
+        reply = self.send(line)
+        if not reply.accepted:
+            raise Refused(line, reply)
+        return reply.text
+
+    def names(self) -> list[str]:
+        """The names that are bound, in their order."""
+        return self.ask("names").split()[1:]
+
+    def array(self, name: str, items: bool = True) -> Array:
+        """The array of a name; without its items where these are not wanted. `Refused` where the name is not bound."""
+        found = INFO.fullmatch(self.ask(f"info {name}"))
+        if found is None:
+            raise BenchError(f"the reply to info {name} is not understood")
+        type_, shape, strides, at, order, write = found.groups()
+        values = items_of(self.ask(f"print {name}")) if items else ()
+        return Array(name, type_, _numbers(shape), _numbers(strides), int(at), order, write == "yes", values)
+
+    def close(self) -> int:
+        """Ends the program, and answers the status that it ended with. A second call does nothing more."""
+        if self._status is None:
+            self._to.close()
+            self._from.close()
+            self._status = self._process.wait()
+        return self._status
+
+    def __enter__(self) -> Session:
+        return self
+
+    def __exit__(self, *_: object) -> None:
+        self.close()
+
+    def _ended(self) -> ProgramEnded:
+        status = self.close()
+        return ProgramEnded(f"{self.program} has ended, with status {status}", status)
+
+    def _write(self, data: bytes) -> None:
+        if self._status is not None:
+            raise self._ended()
+        try:
+            while data:
+                data = data[self._to.write(data) or 0:]
+        except BrokenPipeError:
+            raise self._ended() from None
+
+    def _parts(self) -> Iterator[bytes]:
+        """The reply as it comes, without what the marker is answered."""
+        held = b""
+        while not held.endswith(ENDS):
+            part = self._from.read(1 << 16)
+            if not part:
+                raise self._ended()
+            if len(held) > LONGEST:
+                yield held[:-LONGEST]
+            held = held[-LONGEST:] + part
+        yield held[:-next(len(end) for end in ENDS if held.endswith(end))]
