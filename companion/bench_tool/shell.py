@@ -60,14 +60,13 @@ class Completer:
         """What may follow the text before the word: fields and files in quotes, else verbs and names."""
         said = before.replace("=", " = ").split()
         if before.count('"') % 2:
-            return [word + '"' for word in (self.fields(said) if "field" in said else self.files())]
+            return self.fields(said) if "field" in said else self.files()
         names = self.session.names()
-        if not said:
-            return sorted(OWN + language.verbs(False)) + names
         if said == ["help"]:
             return sorted({*language.verbs(False), *language.verbs(True), *language.codes()})
-        if said[-1] == "=" and len(said) == 2:
-            return language.verbs(True) + names
+        if not said or said[1:] == ["="]:
+            verbs = language.verbs(bool(said)) if said else sorted(OWN + language.verbs(False))
+            return [verb + " " for verb in verbs] + names
         return names
 
     def fields(self, said: list[str]) -> list[str]:
