@@ -1,0 +1,162 @@
+"""The words around the program: help, what is told of refused lines, manual pages, completions, syntax files."""
+import json
+import re
+import shutil
+import subprocess
+import tempfile
+import unittest
+
+from companion_trials import PROGRAM, TOP, needs_program
+from bench_tool import Session, hints, language, main
+
+NAMES = """a = arange <i4 0 6 1
+m = reshape a (2,3)
+r = zeros T{<i:x:h:y:} (3)
+i = array <i4 (2) 0 1
+save a "a.npy\""""
+SAMPLE = "# none\nx = reshape a (2,-1)\nset a[0] = b'\\x00'\nr = zeros T{<i:x:T{b:y:}:s:} (2)\nsave a \"f\"\nm = array <i4 (2) True -1\n"
+# Of each line of the sample: a text in it, and how Vim and TextMate name it.
+NAMED = [
+    (1, "# none", "benchComment", "comment.line"), (2, "x", "benchName", "variable.other"),
+    (2, "reshape", "benchMake", "support.function"), (2, "-1", "benchNumber", "constant.numeric"),
+    (3, "set", "benchChange", "keyword.control"), (3, "b'", "benchBytes", "string.quoted.single"),
+    (4, "T{<i", "benchRecord", "storage.type.record"), (5, '"f"', "benchFile", "string.quoted.double"),
+    (6, "<i4", "benchType", "storage.type"), (6, "True", "benchConstant", "constant.language"),
+]
+
+
+def all_verbs():
+    return {*language.verbs(False), *language.verbs(True)}
+
+
+def read(path):
+    return (TOP / path).read_text()
+
+
+class Words(unittest.TestCase):
+    def test_tables(self):
+        """The tables are read whole: every row, and a text and a meaning for every code."""
+        page = read("docs/LANGUAGE.md")
+        self.assertEqual(sorted(language.codes()), sorted(set(re.findall(r"^\| (E\d\d) \|", page, re.M))))
+        self.assertTrue(all(words and when for words, when in language.codes().values()))
+        forms = [form for command in language.commands() for form in command.forms]
+        self.assertTrue({"X = zeros D S", "X = Y[ix]", "set X[ix] = Y[iy]", "shares X Y", "undo"} <= set(forms))
+        reserved = re.search(r"no\s+names: `([^`]*)`", page)[1].split()
+        self.assertLessEqual(set(reserved), all_verbs())
+        for name, told in language.GROUPS.items():
+            self.assertLessEqual(set(told.split()), set(language.codes()), name)
+
+    def test_help(self):
+        self.assertLessEqual(all_verbs(), set(re.findall(r"\w+", language.help_text())))
+        for verb in sorted(all_verbs()):
+            told = language.help_text(verb)
+            self.assertNotIn("there is no", told)
+            self.assertIn("replies", told)
+        for code in language.codes():
+            self.assertIn(code, language.help_text(code))
+
+    def test_manual_pages(self):
+        page = re.sub(r"\\(dq|-)", "", read("man/bench.1"))
+        self.assertLessEqual(all_verbs(), set(re.findall(r"[a-z]+", page)))
+        if shutil.which("groff") is None:
+            self.skipTest("left out: groff is not installed")
+        for name in ("man/bench.1", "man/bench-tool.1"):
+            done = subprocess.run(["groff", "-man", "-Tutf8", "-ww", "-z", TOP / name], capture_output=True, text=True)
+            self.assertEqual((done.stderr, done.returncode), ("", 0))
+
+    def test_commands_of_the_companion(self):
+        """Each of its commands and words stands in its manual page and in the completions."""
+        commands = next(action for action in main.parser()._actions if action.choices).choices
+        pages = {name: read(name).replace("\\-", "-") for name in ("man/bench-tool.1", "completions/bench-tool.bash", "completions/_bench-tool")}
+        for name, text in pages.items():
+            for command, parser in commands.items():
+                words = [command] + [word for action in parser._actions for word in action.option_strings if word.startswith("--")]
+                missing = [word for word in words if word not in text and (word != "--help" or name.startswith("comp"))]
+                self.assertEqual(missing, [], (name, command))
+
+    def test_bash(self):
+        ask = 'COMP_WORDS=(%s); COMP_CWORD=$((${#COMP_WORDS[@]} - 1)); %s; printf "%%s\\n" "${COMPREPLY[@]}"'
+        for words, function, wanted in [
+            ("bench --u", "_bench", "--undo"), ("bench examples/ch", "_bench", "examples/channels.bench"),
+            ("bench-tool r", "_bench_tool", "run"), ("bench-tool run --st", "_bench_tool", "--stop"),
+            ("bench-tool run examples/ch", "_bench_tool", "examples/channels.bench"),
+        ]:
+            asked = f"compopt() {{ :; }}; source completions/bench.bash; source completions/bench-tool.bash; {ask % (words, function)}"
+            done = subprocess.run(["bash", "-c", asked], capture_output=True, text=True, cwd=TOP)
+            self.assertEqual((done.stdout.split(), done.stderr), ([wanted], ""), words)
+
+    def test_zsh(self):
+        if shutil.which("zsh") is None:
+            self.skipTest("left out: zsh is not installed")
+        for name in ("_bench", "_bench-tool"):
+            done = subprocess.run(["zsh", "-n", TOP / "completions" / name], capture_output=True, text=True)
+            self.assertEqual((done.stderr, done.returncode), ("", 0))
+
+    def test_vim(self):
+        source = read("editors/vim/syntax/bench.vim")
+        keywords = {word for line in re.findall(r"syntax keyword \w+ (.*)", source) for word in line.split()}
+        self.assertEqual(keywords, all_verbs() | {"True", "False", "None"})
+        if shutil.which("vim") is None:
+            self.skipTest("left out: Vim is not installed")
+        with tempfile.TemporaryDirectory() as folder:
+            with open(f"{folder}/a.bench", "w") as sample:
+                sample.write(SAMPLE)
+            asked = [f"echo synIDattr(synID({row}, {SAMPLE.splitlines()[row - 1].index(text) + 1}, 1), 'name')" for row, text, *_ in NAMED]
+            commands = [f"set runtimepath^={TOP}/editors/vim", "filetype on", "syntax on", "edit a.bench", f"redir! > {folder}/told", *asked, "quitall!"]
+            with open(f"{folder}/ask.vim", "w") as script:
+                script.write("\n".join(commands) + "\n")
+            subprocess.run(["vim", "-Nnu", "NONE", "-es", "-S", "ask.vim"], cwd=folder, capture_output=True, timeout=30)
+            with open(f"{folder}/told") as told:
+                names = told.read().split()
+        if not names:
+            self.skipTest("left out: this Vim has no syntax")
+        self.assertEqual(names, [name for _, _, name, _ in NAMED])
+
+    def test_text_mate(self):
+        grammar = json.loads(read("editors/bench.tmLanguage.json"))
+        patterns = [pattern if "name" in pattern else grammar["repository"]["record"] for pattern in grammar["patterns"]]
+        words = {word for pattern in patterns for group in re.findall(r"\(\?:([a-z|]{4,})\)", pattern.get("match", "")) for word in group.split("|")}
+        self.assertEqual(words, all_verbs())
+        for row, text, _, name in NAMED:
+            line = SAMPLE.splitlines()[row - 1]
+            first = next(p["name"] for p in patterns if (found := re.compile(p.get("match") or p["begin"]).search(line, line.index(text)))
+                         and found.start() == line.index(text))
+            self.assertTrue(first.startswith(name), (text, first))
+
+
+@needs_program
+class Hints(unittest.TestCase):
+    def test_each_row(self):
+        """The example of each row is refused as no command, no row before is like it, and what is told in its place is accepted."""
+        for row in hints.ROWS:
+            with self.subTest(row.example), tempfile.TemporaryDirectory() as folder, Session(PROGRAM, dir=folder) as bench:
+                self.assertTrue(all(reply.accepted for reply in bench.run(NAMES)))
+                self.assertEqual(bench.send(row.example).code, "E03")
+                self.assertIs(next(other for other in hints.ROWS if other.pattern.fullmatch(row.example)), row)
+                told = hints.written(row.example, hints.Known(bench))
+                self.assertTrue(told)
+                self.assertEqual([reply.text for reply in bench.run(told) if not reply.accepted], [])
+
+    def test_what_is_asked_of_them(self):
+        """What newcomers were seen to write."""
+        with Session(PROGRAM) as bench:
+            bench.run(NAMES)
+            for line, told in [
+                ("print a[0]", "t = a[0]\nprint t"), ("a[0] = 5", "set a[0] = 5"), ("x = sum a[0]", "t = a[0]\nx = sum t"),
+                ("x = sub 5 a", "t = full <i4 () 5\nx = sub t a"), ("set a = 5", "set a[...] = 5"), ("set a [0] = 5", "set a[0] = 5"),
+                ("x = array <i4 (3) 1,2,3", "x = array <i4 (3) 1 2 3"), ("info a # ?", "# a comment has a line of its own\ninfo a"),
+                ("x = load 'a.npy'", 'x = load "a.npy"'), ("nothing like it !", ""),
+            ]:
+                self.assertEqual(hints.written(line, hints.Known(bench)), told)
+
+    def test_no_state_is_changed(self):
+        """What is asked for a refused line changes nothing: the undos stay as they are."""
+        with Session(PROGRAM) as bench:
+            bench.run("a = zeros <i4 (2)\nset a[0] = 1")
+            for line in ("print a[0]", "x = a[5]", "x = b", 'x = load "q"', 'x = field a "q"', "x = zeros int32 (2)", "\xe9"):
+                self.assertIsInstance(hints.meant(bench, line, bench.send(line)), list)
+            self.assertEqual([reply.text for reply in bench.run("undo\nprint a\nundo\nundo")], ["ok undo", "[0 0]", "ok undo", "no E26 nothing to undo"])
+
+
+if __name__ == "__main__":
+    unittest.main()
