@@ -1,0 +1,122 @@
+"""`draw SCRIPT`: a page of pictures of a script, one for each of its lines, or one of them as SVG."""
+from __future__ import annotations
+
+import argparse
+import json
+import sys
+from html import escape
+from pathlib import Path
+from typing import Any, Sequence
+
+from . import language
+from .picture import Box, Drawn, Table, cut, drawn, said
+from .runs import fault, lines_of, shown
+from .svg import DARK, HUES, LIGHT, svg
+from .trace import MOST_CELLS, MOST_UNDO, Moment, Trace
+
+LARGEST = 190_000  # letters of a page of few lines, for which fewer cells are drawn
+FEW = 50
+TOLD = 1000  # letters of a reply
+
+
+class Pictures:
+    """The tables of all lines, each row and each table once."""
+
+    def __init__(self, moments: Sequence[Moment], hues: dict[str, int], most: int):
+        self.parts: dict[str, int] = {}
+        self.known: dict[tuple[Any, ...], list[int]] = {}
+        self.lines = []
+        last: list[int] = []
+        for moment in moments:
+            if moment.reply.text:
+                buffers = drawn(moment, hues, most)
+                ids = [id_ for each in buffers for id_ in self.tables(each)]
+                same = next((k for k, pair in enumerate(zip(ids, last)) if pair[0] != pair[1]), min(len(ids), len(last)))
+                self.lines.append([moment.number, same, ids[same:], said(buffers)])
+                last = ids
+
+    def tables(self, each: Drawn) -> list[int]:
+        key = (each.number, each.state, id(each.values), *((name, id(bound), state) for name, bound, state in each.names))
+        if each.changed or key not in self.known:
+            self.known[key] = [self.table(table) for table in each.tables()]
+        return self.known[key]
+
+    def table(self, table: Table) -> int:
+        rows = [self.part([row.label, row.look, [self.cell(cell) for cell in row.cells], row.note]) for row in table.rows]
+        return self.part([table.caption, table.letters, rows, table.moves])
+
+    @staticmethod
+    def cell(cell: list[Box]) -> Any:
+        """A text that fills its column stands for its box."""
+        return cell[0].text if len(cell) == 1 and cell[0] == Box(cell[0].text) else cell
+
+    def part(self, value: Any) -> int:
+        return self.parts.setdefault(json.dumps(value, separators=(",", ":")), len(self.parts))
+
+    def json(self) -> str:
+        lines = json.dumps(self.lines, separators=(",", ":"))
+        return f'{{"lines":{lines},"parts":[{",".join(self.parts)}]}}'.replace("<", "\\u003c")
+
+
+def script_item(moment: Moment) -> str:
+    """A line of the script with its reply, as an item of a list."""
+    if not moment.reply.text:
+        return f'<li value="{moment.number}"><code>{escape(cut(moment.line, TOLD))}</code></li>'
+    reply = cut(moment.reply.text, TOLD)
+    if not moment.reply.accepted and moment.reply.code in language.codes():
+        reply += f": {language.codes()[moment.reply.code][1]}"
+    return (
+        f'<li value="{moment.number}"><button type="button"><code>{escape(cut(moment.line, TOLD))}</code></button>'
+        f'<pre class="{"ok" if moment.reply.accepted else "no"}">{escape(reply)}</pre></li>'
+    )
+
+
+def page(title: str, moments: Sequence[Moment], hues: dict[str, int], line: int = 0) -> str:
+    """The page of a script that was run, which begins with the picture of a line, else with that of the last one."""
+    template = Path(__file__).with_suffix(".html").read_text(encoding="utf-8")
+    colours = "".join(f".h{k}{{--c:var(--h{k})}}" for k in range(len(HUES[0])))
+    filled = {"TITLE": escape(title), "LIGHT": LIGHT, "DARK": DARK, "COLOURS": colours, "LINE": str(line)}
+    filled["SCRIPT"] = "\n".join(map(script_item, moments))
+    for most in (MOST_CELLS, 64, 16, 4):
+        made = template
+        for word, text in {**filled, "DATA": Pictures(moments, hues, most).json()}.items():
+            made = made.replace(f"<!--{word}-->", text)
+        if len(made) <= LARGEST or len(moments) > FEW:
+            break
+    return made
+
+
+def draw(words: argparse.Namespace) -> int:
+    try:
+        with sys.stdin.buffer if words.script == "-" else open(words.script, "rb") as script:
+            lines = list(lines_of(script))
+    except OSError as problem:
+        return fault(f"{words.script}: {problem.strerror}")
+    hues: dict[str, int] = {}
+    moments = []
+    with Trace(undo=words.undo, dir=words.dir, script=b"\n".join(lines)) as trace:
+        for line in lines[:words.line if words.svg else None]:
+            moments.append(trace.step(line))
+            for name in moments[-1].after.names:
+                hues.setdefault(name, len(hues) % len(HUES[0]))
+    if words.svg and not 1 <= (words.line or 0) <= len(lines):
+        return fault(f"--svg wants --line 1 to {len(lines)}")
+    if words.svg:
+        buffers = drawn(moments[-1], hues, MOST_CELLS)
+        made = svg(moments[-1], [table for each in buffers for table in each.tables()], said(buffers))
+    else:
+        made = page(Path(words.script).name, moments, hues, words.line or 0)
+    if words.output:
+        Path(words.output).write_text(made, encoding="utf-8")
+    else:
+        sys.stdout.buffer.write(made.encode())
+    return 0
+
+
+def add_to(commands: Any, common: argparse.ArgumentParser) -> None:
+    command = commands.add_parser("draw", parents=[common], help="pictures of memory, line by line, as a page or as SVG")
+    command.add_argument("script", metavar="SCRIPT", help="the script; - is standard input")
+    command.add_argument("-o", dest="output", metavar="PAGE.html", help="the file to write, else standard output")
+    command.add_argument("--line", type=int, metavar="N", help="the line with which the page begins, or of which the picture is")
+    command.add_argument("--svg", action="store_true", help="one picture, of line N")
+    command.set_defaults(call=draw)
