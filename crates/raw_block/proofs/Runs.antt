@@ -1,12 +1,12 @@
 -- Items that lie one right after the other: their bytes are written as one.
 use Rattle.std.proofs.Common.{◌≡◌, ℕ, zero, suc, ◌+◌, ◌-◌, ◌*◌, ◌<◌, ◌≤◌, List, [], ◌∷◌, ◌++◌, length, take, drop, get_or, refl, sym, ap, ◌∙◌, subst, arith, append_assoc, length-append, length-take, drop-cons}
-use Rattle.std.proofs.Math.Nat.{suc-mul, mul-suc, mul_comm, mul-le-mul_left}
+use Rattle.std.proofs.Math.Nat.{suc-mul, mul-suc, mul-zero, mul_comm, mul-le-mul_left}
 use Rattle.std.proofs.Math.Seq.{take-add, drop-append-add}
 use Rattle.std.proofs.lemmas.List.{take-append-drop, take_at, drop-drop, drop-take, take-take, drop_all}
 use Rattle.std.specs.List.{refill}
 use Rattle.std.specs.Simd.{first_chunks}
 use lib.IntN.{ℤ, pos}
-use Rattle.raw_block.specs.Bytes.{EachWithin, put, item_at, copied}
+use Rattle.raw_block.specs.Bytes.{place, EachWithin, put, item_at, copied, filled}
 use Rattle.raw_block.specs.BytesLaws.{place_within, length-item_at, length-put}
 
 -- all of the items lie within
@@ -93,3 +93,11 @@ length-chunks width (suc n) bytes = ap suc (length-chunks width n (drop width by
 -- an item that was written leaves the bytes as many as they were
 pub refill-put : (at : ℕ) (item bytes : List ℕ) → at + length item ≤ length bytes → refill (length bytes) bytes (put at item bytes) ≡ put at item bytes
 refill-put at item bytes le = take_at (put at item bytes) (drop (length (put at item bytes)) bytes) (length bytes) (length-put at item bytes le)
+
+-- one item over and over
+same_place : (at k : ℕ) → place at (pos 0) k ≡ at
+same_place at k = let none : k * 0 ≡ 0 = mul-zero k in omega (arith, none)
+
+pub copied-one : (dst : ℕ) (step : ℤ) (other : List ℕ) (src width n : ℕ) (bytes : List ℕ) → filled dst step (item_at src width other) n bytes ≡ copied dst step other src (pos 0) width n bytes
+copied-one dst step other src width zero bytes = refl
+copied-one dst step other src width (suc n) bytes = λ i. put (place dst step n) (item_at (sym (same_place src n) i) width other) (copied-one dst step other src width n bytes i)

@@ -7,4 +7,4 @@ use Rattle.raw_block.proofs.strided.fill_by_width.Goals as goal
 pub returns-in-len8 : goal.returns-in-len8
 returns-in-len8 c =
     let item = c.args.item.now in let all = eight_bytes item c.in-len8.len_at_least c.in-len8.len_below in
-    c.fill_each-in-len8.ensures ∙ (λ i. filled c.args.dst (to_z-of_z w64 c.args.step c.ranges.step i) (all i) c.args.n c.args.bytes.now)
+    c.fill_arrays-in-len8.ensures ∙ (λ i. filled c.args.dst (to_z-of_z w64 c.args.step c.ranges.step i) (all i) c.args.n c.args.bytes.now)

@@ -1,0 +1,6 @@
+use Rattle.std.proofs.Common.{◌≡◌}
+use Rattle.raw_block.specs.Bytes.{filled}
+use Rattle.raw_block.proofs.strided.fill_arrays.Given as goal
+
+abbrev pub invariant-loop-k : goal.invariant-loop-k
+invariant-loop-k g l = l.bytes ≡ filled l.dst l.step l.item l.k l.initial.bytes
