@@ -4,3 +4,6 @@ pub mod LeafCasts
 pub mod PairPasses
 pub mod PairLaws
 pub mod ByteStrings
+pub mod Sides
+pub mod Operands
+pub mod Held
