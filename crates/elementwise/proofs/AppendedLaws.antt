@@ -1,27 +1,18 @@
 -- Items that are appended to bytes, part by part.
-use Rattle.std.proofs.Common.{◌≡◌, ◌+◌, ◌*◌, ◌<◌, ◌≤◌, ℕ, zero, suc, pos, List, [], ◌∷◌, ◌++◌, map, length, drop, refl, sym, ap, ◌∙◌, arith, append_assoc, length-append, length-drop, suc-mul, add-mul}
-use Rattle.std.specs.Prelude.{◌+ℤ◌, ◌*ℤ◌}
+use Rattle.std.proofs.Common.{subst, ◌≡◌, ◌+◌, ◌*◌, ◌<◌, ◌≤◌, ℕ, zero, suc, pos, List, [], ◌∷◌, ◌++◌, map, length, drop, refl, sym, ap, ◌∙◌, arith, append_assoc, length-append, length-drop, suc-mul, add-mul}
 use Rattle.std.specs.List.{concat, AllByRecursion as Each}
 use Rattle.std.proofs.Math.Seq.{take-append_seam, drop-append-add}
-use Rattle.std.proofs.Math.IntN.{*ℤ_comm}
-use Rattle.std.proofs.lemmas.Int.{ints}
-use Rattle.std.proofs.lemmas.List.{map-append}
 use Rattle.std.proofs.lemmas.List.Folds.{concat-append}
-use Rattle.raw_block.specs.Bytes.{position, place, put, EachWithin}
-use Rattle.raw_block.specs.BytesLaws.{not_negative}
-use Rattle.elem_descr.specs.Steps.{numbers_from}
-use Rattle.elem_descr.specs.StepLaws.{numbers-split}
+use Rattle.raw_block.specs.Bytes.{place, put, item_at, joined, EachWithin}
 use Rattle.shape_strides.specs.declared.runs.Run.{Run}
 use Rattle.shape_strides.specs.declared.run_pairs.RunPair.{RunPair}
-use Rattle.shape_strides.specs.Addresses.{natural}
 use Rattle.shape_strides.specs.Runs.{run_offsets}
-use Rattle.shape_strides.specs.RunPairs.{run_front}
 use Rattle.overlap_copy.specs.RunLaws.{length-run_offsets}
 use Rattle.elementwise.specs.Results.{pairwise}
 use Rattle.elementwise.specs.inside.Passes.{put_all, row_offsets}
-use Rattle.elementwise.specs.inside.PairPasses.{run_part}
+use Rattle.elementwise.specs.inside.PairPasses.{pair_from}
 use Rattle.elementwise.proofs.PassLaws.{row-split}
-use Rattle.elementwise.proofs.PairLaws.{pairwise-append, firsts, seconds}
+use Rattle.elementwise.proofs.PairLaws.{pairwise-append, joined_pairs, firsts, seconds}
 
 -- ---- items put over bytes that are behind others
 
@@ -46,26 +37,6 @@ put-rows w (item ∷ items) (suc n) xs zs many wide room =
     ∙ ap (put_all (row_offsets (length (xs ++ item)) w n) items) here
     ∙ put-rows w items n (xs ++ item) rest (omega (arith, many)) wide.1 (omega (arith, length-drop w zs, room, suc-mul n w))
     ∙ append_assoc xs item (concat items)
-
--- ---- a run, part by part
-
--- the part lies within the bytes too
-pub part-within : (len width done n : ℕ) (run : Run) → EachWithin len run.offset run.step width run.count → done < run.count → done + n ≤ run.count → EachWithin len (run_part done n run).offset run.step width n
-part-within len width done n run within some fits = record {
-  each = λ k low.
-      let is : pos (place run.offset run.step done) ≡ position run.offset run.step done = not_negative (position run.offset run.step done) (within.each done some).0 in
-      let there = within.each (done + k) (omega (arith, low, fits)) in
-      (omega (arith, ints, is, there.0), omega (arith, ints, is, there.1));
-}
-
-pub run-split : (len width done n : ℕ) (run : Run) → EachWithin len run.offset run.step width run.count → done < run.count → run_offsets (run_front (done + n) run) ≡ run_offsets (run_front done run) ++ run_offsets (run_part done n run)
-run-split len width done n run within some =
-    let from = pos run.offset in
-    let next = from +ℤ run.step *ℤ pos done in
-    let here : next ≡ pos (place run.offset run.step done) = ap (λ z. from +ℤ z) (*ℤ_comm run.step (pos done)) ∙ sym (not_negative (position run.offset run.step done) (within.each done some).0) in
-    ap (map natural) (numbers-split from run.step done n)
-    ∙ map-append natural (numbers_from from run.step done) (numbers_from next run.step n)
-    ∙ ap (λ z. run_offsets (run_front done run) ++ map natural (numbers_from z run.step n)) here
 
 -- ---- what is made of two runs, or of pairs of them
 
@@ -93,3 +64,21 @@ bytes-next item left left' pair walked =
     ap (λ l. length (firsts l) * item) walked
     ∙ ap (λ n. n * item) (length-append (run_offsets pair.first) (firsts left') ∙ ap (λ n. n + length (firsts left')) (length-run_offsets pair.first))
     ∙ add-mul pair.first.count (length (firsts left')) item
+
+-- the items of a run lie in these bytes too
+pub lies-in : (b left : List ℕ) (w width : ℕ) (run : Run) → b ≡ left → w ≡ width → EachWithin (length left) run.offset run.step width run.count → EachWithin (length b) run.offset run.step w run.count
+lies-in b left w width run bytes wide there =
+    subst (λ (n : ℕ). EachWithin (length b) run.offset run.step n run.count) (sym wide) (subst (λ (xs : List ℕ). EachWithin (length xs) run.offset run.step width run.count) (sym bytes) there)
+
+-- a row of pairs, as the code has it
+pub row-made : (f : List ℕ → List ℕ → List ℕ) (width width' w w' : ℕ) (left right b b' : List ℕ) (row : RunPair) (block block' : List ℕ) → w ≡ width → w' ≡ width' → b ≡ left → b' ≡ right → row.first.count ≡ row.second.count →
+    EachWithin (length left) row.first.offset row.first.step width row.first.count → EachWithin (length right) row.second.offset row.second.step width' row.second.count →
+    block' ≡ block ++ joined (λ k. f (item_at (place row.first.offset row.first.step k) w b) (item_at (place row.second.offset row.second.step k) w' b')) row.first.count →
+    block' ≡ block ++ concat (pairwise (pair_from f width width' left right) (run_offsets row.first) (run_offsets row.second))
+row-made f width width' w w' left right b b' row block block' wide wide' bytes bytes' even lies lies' is =
+    let n = row.first.count in
+    let make = pair_from f width width' left right in
+    is
+    ∙ (λ i. block ++ joined (λ k. f (item_at (place row.first.offset row.first.step k) (wide i) (bytes i)) (item_at (place row.second.offset row.second.step k) (wide' i) (bytes' i))) n)
+    ∙ ap (λ l. block ++ l) (joined_pairs make (length left) (length right) row.first.offset row.second.offset width width' n row.first.step row.second.step lies (subst (EachWithin (length right) row.second.offset row.second.step width') (sym even) lies'))
+    ∙ (λ i. block ++ concat (pairwise make (run_offsets row.first) (run_offsets (record { offset = row.second.offset; count = even i; step = row.second.step }))))

@@ -8,15 +8,14 @@ use Rattle.std.proofs.lemmas.Bool.Decides.{nat_tests}
 use Rattle.elem_descr.specs.declared.refusal.Refusal.{Refusal}
 use Rattle.elem_descr.specs.declared.refusal.Refusal.TheVariants.{NotForThisKind}
 use Rattle.elem_descr.specs.declared.scalar.Scalar.{Scalar}
-use Rattle.elem_descr.specs.declared.scalar.Scalar.TheVariants.{Bool as BoolScalar, Bytes}
+use Rattle.elem_descr.specs.declared.scalar.Scalar.TheVariants.{Bool as BoolScalar}
 use Rattle.elem_descr.specs.declared.descr.Descr.{Descr}
 use Rattle.elem_descr.specs.declared.descr.Descr.TheVariants.{Scalar as ScalarDescr}
 use Rattle.elem_descr.specs.RefusalLaws.{same_answer, check_passed}
 use Rattle.elem_descr.specs.Blocks.{item_from}
 use Rattle.shape_strides.specs.declared.layout.Layout.{Layout}
 use Rattle.shape_strides.specs.Layouts.{offsets}
-use Rattle.view_ops.specs.Views.{view_through}
-use Rattle.broadcasting.specs.Broadcasts.{common_shape, broadcast_index}
+use Rattle.broadcasting.specs.Broadcasts.{common_shape}
 use Rattle.overlap_copy.specs.declared.owned.Owned.{Owned}
 use Rattle.script_lang.specs.declared.operation.Comparison.{Comparison}
 use Rattle.elementwise.specs.Comparisons.{text_below}
@@ -34,16 +33,14 @@ pub above-cmp : (xs ys : List ℕ) (o : Ordering) → o ≡ slice_cmp nat_cmp xs
 above-cmp = same_from_slice_cmp nat_cmp is_gt (λ xs ys. text_below ys xs) refl (λ _ _. refl) (λ _ _. refl) (λ x y xs ys o h. grind (arith, nat_tests))
 
 -- all items of two arrays
-pub texts_compared : (comparison : Comparison) (n m : ℕ) (d d' : Descr) (result : Result Owned Refusal) (block block' : List ℕ) (l l' : Layout) (shape xs ys : List ℕ) → d ≡ ScalarDescr (Bytes n) → d' ≡ ScalarDescr (Bytes m) →
-    xs ≡ view_through (offsets l) l.shape shape (broadcast_index l.shape) → ys ≡ view_through (offsets l') l'.shape shape (broadcast_index l'.shape) → IfOk result (λ o. o.descr ≡ ScalarDescr BoolScalar) → IfOk result (λ o. o.layout.shape ≡ shape) →
-    IfOk result (λ o. map (item_from (ScalarDescr BoolScalar) o.block) (offsets o.layout) ≡ pairwise (λ x y. truth_value comparison (value_in x) (value_in y) ∷ []) (map (item_from (ScalarDescr (Bytes n)) block) xs) (map (item_from (ScalarDescr (Bytes m)) block') ys)) →
+pub texts_compared : (comparison : Comparison) (d d' : Descr) (result : Result Owned Refusal) (block block' : List ℕ) (l l' : Layout) (shape : List ℕ) → IfOk result (λ o. o.descr ≡ ScalarDescr BoolScalar) → IfOk result (λ o. o.layout.shape ≡ shape) →
+    IfOk result (λ o. map (item_from (ScalarDescr BoolScalar) o.block) (offsets o.layout) ≡ pairwise (λ x y. truth_value comparison (value_in x) (value_in y) ∷ []) (stretched_items d block l shape) (stretched_items d' block' l' shape)) →
     IfOk result (λ o. map (item_from o.descr o.block) (offsets o.layout) ≡ pairwise (compared_item comparison) (stretched_items d block l o.layout.shape) (stretched_items d' block' l' o.layout.shape))
-texts_compared comparison n m d d' (Ok o) block block' l l' shape xs ys one two seen seen' descr same items =
+texts_compared comparison d d' (Ok o) block block' l l' shape descr same items =
     (λ i. map (item_from (descr i) o.block) (offsets o.layout))
     ∙ items
-    ∙ (λ i. pairwise (compared_item comparison) (map (item_from (sym one i) block) (seen i)) (map (item_from (sym two i) block') (seen' i)))
     ∙ (λ i. pairwise (compared_item comparison) (stretched_items d block l (sym same i)) (stretched_items d' block' l' (sym same i)))
-texts_compared comparison n m d d' (Err e) block block' l l' shape xs ys one two seen seen' descr same items = tt
+texts_compared comparison d d' (Err e) block block' l l' shape descr same items = tt
 
 -- ---- types
 

@@ -129,11 +129,3 @@ compared_all comparison s s' t t' d d' (Ok o) block block' l l' shape one two is
     ∙ sym (pairwise-map (compared_item comparison) read read' xs ys)
     ∙ (λ i. pairwise (compared_item comparison) (stretched_items (sym one i) block l (sym same i)) (stretched_items (sym two i) block' l' (sym same i)))
 compared_all comparison s s' t t' d d' (Err e) block block' l l' shape one two is is' isn isn' holds holds' are are' descr same items = tt
-
--- by way of these scalars, as the code has them
-pub compared_moved : (comparison : Comparison) (a s b t : Scalar) (d d' : Descr) (result : Result Owned Refusal) (block block' : List ℕ) (l l' : Layout) (shape : List ℕ) → a ≡ s → b ≡ t →
-    IfOk result (λ o. map (item_from (ScalarDescr BoolScalar) o.block) (offsets o.layout) ≡ pairwise (λ x y. compared_value comparison (value_in (cast_item d (ScalarDescr a) x)) (value_in (cast_item d' (ScalarDescr b) y)) ∷ []) (stretched_items d block l shape) (stretched_items d' block' l' shape)) →
-    IfOk result (λ o. map (item_from (ScalarDescr BoolScalar) o.block) (offsets o.layout) ≡ pairwise (λ x y. compared_value comparison (value_in (cast_item d (ScalarDescr s) x)) (value_in (cast_item d' (ScalarDescr t) y)) ∷ []) (stretched_items d block l shape) (stretched_items d' block' l' shape))
-compared_moved comparison a s b t d d' (Ok o) block block' l l' shape is is' items =
-    items ∙ (λ i. pairwise (λ x y. compared_value comparison (value_in (cast_item d (ScalarDescr (is i)) x)) (value_in (cast_item d' (ScalarDescr (is' i)) y)) ∷ []) (stretched_items d block l shape) (stretched_items d' block' l' shape))
-compared_moved comparison a s b t d d' (Err e) block block' l l' shape is is' items = tt

@@ -1,5 +1,5 @@
 -- What is made of the items of two layouts, item by item.
-use Rattle.std.proofs.Common.{◌≡◌, ◌+◌, ◌*◌, ◌≤◌, ◌<◌, ℕ, List, [], ◌∷◌, map, length, drop, replicate, refl, sym, ap, ◌∙◌, arith, mul_comm}
+use Rattle.std.proofs.Common.{◌≡◌, ◌+◌, ◌*◌, ◌≤◌, ◌<◌, ℕ, List, [], ◌∷◌, ◌++◌, map, length, drop, replicate, refl, sym, ap, ◌∙◌, arith, mul_comm}
 use Rattle.std.specs.List.{concat, AllByRecursion as Each}
 use Rattle.std.proofs.lemmas.List.{length-replicate, take-take, get_or_default, same_lists}
 use Rattle.std.proofs.lemmas.Simd.{map-map}
@@ -12,7 +12,14 @@ use Rattle.elem_descr.specs.Encoding.{size, decode, encode}
 use Rattle.elem_descr.specs.Blocks.{item_from}
 use Rattle.raw_block.specs.Bytes.{item_at}
 use Rattle.shape_strides.specs.Layouts.{multiples}
+use Rattle.shape_strides.specs.Indexes.{count}
+use Rattle.shape_strides.specs.Layouts.{offsets}
+use Rattle.shape_strides.specs.LayoutLaws.{length-offsets}
+use Rattle.elem_descr.specs.Items.{item_size}
+use Rattle.overlap_copy.specs.ItemLists.{items}
 use Rattle.elementwise.specs.Results.{pairwise, value_in}
+use Rattle.elementwise.specs.declared.rows.Operands.{Operands}
+use Rattle.elementwise.specs.inside.Operands.{pairs_of, made_of_all}
 use Rattle.elementwise.specs.inside.Passes.{put_all, row_offsets}
 use Rattle.elementwise.specs.inside.PairPasses.{value_pair, pair_from}
 use Rattle.elementwise.proofs.PassLaws.{length-row}
@@ -80,3 +87,16 @@ all_appended left right to gives a b xs ys bytes n many many' back wrote =
       ap length (wrote ∙ sym over) ∙ length-put_all wide (row_offsets 0 wide n) items zeros (rows-in wide n (length zeros) (omega (arith, room)) 0 wide (omega arith)) (All-from_recursion (λ item. length item ≡ wide) items each) ∙ room,
       all_made left right to gives a b xs ys zeros bytes n n many many' refl (omega (arith, room)) back (wrote ∙ sym over),
     )
+
+-- the same of two operands, as the code has them
+pub operands_made : (left right to : Scalar) (gives : LeafValue → LeafValue → LeafValue) (o : Operands) (empty filled : List ℕ × ℕ) (len : ℕ) → o.left.descr.now ≡ ScalarDescr left → o.right.descr.now ≡ ScalarDescr right →
+    ((x y : LeafValue) → decode to (encode to (gives x y)) ≡ gives x y) → empty ≡ ([], len) → filled.0 ≡ empty.0 ++ made_of_all (value_pair left right to gives) o →
+    (length filled.0 ≡ pairs_of o * size to) × (map (item_from (ScalarDescr to) filled.0) (multiples (size to) (pairs_of o)) ≡ pairwise (λ x y. gives (value_in x) (value_in y) ∷ []) (items o.left) (items o.right))
+operands_made left right to gives o empty filled len one two back none wrote =
+    let a = o.left.block.now in
+    let b = o.right.block.now in
+    let xs = offsets o.left.layout.now in
+    let ys = offsets o.right.layout.now in
+    let all = all_appended left right to gives a b xs ys filled.0 (pairs_of o) (length-offsets o.left.layout.now) (length-offsets o.right.layout.now ∙ ap count (sym o.even)) back
+    (wrote ∙ λ i. (none i).0 ++ concat (pairwise (pair_from (value_pair left right to gives) (item_size (one i)) (item_size (two i)) a b) xs ys)) in
+    (all.0, all.1 ∙ λ i. pairwise (λ x y. gives (value_in x) (value_in y) ∷ []) (map (item_from (sym one i) a) xs) (map (item_from (sym two i) b) ys))

@@ -1,5 +1,8 @@
 -- Operands that are cast, and what is made of them.
-use Rattle.std.proofs.Common.{◌≡◌, ◌+◌, ◌≤◌, ℕ, Result, Ok, Err, List, [], ◌∷◌, map, length, All, IfOk, refl, subst, ◌∙◌}
+use Rattle.std.proofs.Common.{◌≡◌, ◌+◌, ◌<◌, ◌≤◌, ℕ, true, Result, Ok, Err, List, [], ◌∷◌, map, length, get_or, All, IfOk, refl, sym, ap, ◌∙◌, arith}
+use Rattle.std.specs.Prelude.{slice_index}
+use Rattle.std.proofs.lemmas.List.{length-map, get_or-map, same_lists}
+use Rattle.std.proofs.lemmas.Simd.{map-map}
 use Rattle.std.proofs.lemmas.List.Elements.{All-head, All-rest}
 use Rattle.elem_descr.specs.declared.refusal.Refusal.{Refusal}
 use Rattle.elem_descr.specs.declared.descr.Descr.{Descr}
@@ -7,14 +10,15 @@ use Rattle.elem_descr.specs.Values.{LeafValue}
 use Rattle.elem_descr.specs.Items.{item_size}
 use Rattle.elem_descr.specs.Blocks.{item_from}
 use Rattle.shape_strides.specs.Layouts.{offsets}
-use Rattle.shape_strides.specs.LayoutLaws.{offsets_within}
+use Rattle.shape_strides.specs.declared.layout.Layout.{Layout}
+use Rattle.shape_strides.specs.Indexes.{count, indexes, rank, IsIndex}
+use Rattle.shape_strides.specs.IndexLaws.{length-indexes, index_at, get_or-indexes, rank-lt}
+use Rattle.shape_strides.specs.LayoutLaws.{length-offsets}
+use Rattle.broadcasting.specs.Broadcasts.{can_stretch, broadcast_index}
+use Rattle.broadcasting.specs.BroadcastLaws.{IsIndex-broadcast}
 use Rattle.overlap_copy.specs.declared.owned.Owned.{Owned}
 use Rattle.elementwise.specs.Casts.{cast_item}
-
--- the items of an owned array lie in its block
-pub cast-inside : (result : Result Owned Refusal) (to : Descr) → IfOk result (λ o. o.descr ≡ to) → IfOk result (λ o. All (λ offset. offset + item_size to ≤ length o.block) (offsets o.layout))
-cast-inside (Ok o) to is = subst (λ d. All (λ offset. offset + item_size d ≤ length o.block) (offsets o.layout)) is (offsets_within o.layout (length o.block) (item_size o.descr) o.fills_block.fits)
-cast-inside (Err e) to is = tt
+use Rattle.elementwise.specs.Results.{stretched_items}
 
 -- items that a cast leaves as they are
 pub kept : (from to : Descr) (block os : List ℕ) → All (λ offset. offset + item_size from ≤ length block) os →
@@ -28,3 +32,36 @@ kept from to block (o ∷ os) inside same =
 pub moved : (result : Result Owned Refusal) (to : Descr) (xs ys : List (List LeafValue)) → xs ≡ ys → IfOk result (λ o. map (item_from to o.block) (offsets o.layout) ≡ xs) → IfOk result (λ o. map (item_from to o.block) (offsets o.layout) ≡ ys)
 moved (Ok o) to xs ys same is = is ∙ same
 moved (Err e) to xs ys same is = tt
+
+-- functions that agree on the indexes
+same_on : {A : Type 0} (shape : List ℕ) (f g : List ℕ → A) → ((index : List ℕ) → IsIndex shape index → f index ≡ g index) → map f (indexes shape) ≡ map g (indexes shape)
+same_on shape f g agree =
+    same_lists (map f (indexes shape)) (map g (indexes shape)) (length-map (indexes shape) f ∙ sym (length-map (indexes shape) g)) (λ k d below.
+    let low : k < count shape = omega (arith, length-map (indexes shape) f, length-indexes shape) in
+    let inside : k < length (indexes shape) = omega (arith, length-indexes shape) in
+    let found = index_at shape k low in
+    let here : get_or (indexes shape) k [] ≡ found.0 = ap (λ r. get_or (indexes shape) r []) (sym found.2) ∙ get_or-indexes shape found.0 [] found.1 in
+    get_or-map f (indexes shape) k [] d inside ∙ ap f here ∙ agree found.0 found.1 ∙ ap g (sym here) ∙ sym (get_or-map g (indexes shape) k [] d inside))
+
+-- items that are cast and then stretched are those that are stretched and then cast
+pub stretched-cast : (cast : List LeafValue → List LeafValue) (d d' : Descr) (b b' : List ℕ) (l l' : Layout) (shape : List ℕ) → l'.shape ≡ l.shape → can_stretch l.shape shape ≡ true →
+    map (item_from d' b') (offsets l') ≡ map cast (map (item_from d b) (offsets l)) → stretched_items d' b' l' shape ≡ map cast (stretched_items d b l shape)
+stretched-cast cast d d' b b' l l' shape same can cast-is =
+    let read = item_from d b in
+    let read' = item_from d' b' in
+    let pick = λ (index : List ℕ). slice_index (offsets l) (rank l.shape (broadcast_index l.shape index)) in
+    let pick' = λ (index : List ℕ). slice_index (offsets l') (rank l'.shape (broadcast_index l'.shape index)) in
+    map-map read' pick' (indexes shape)
+    ∙ same_on shape (λ index. read' (pick' index)) (λ index. cast (read (pick index))) (λ index in'.
+    let r = rank l.shape (broadcast_index l.shape index) in
+    let low : r < count l.shape = rank-lt l.shape (broadcast_index l.shape index) (IsIndex-broadcast l.shape shape index can in') in
+    let here : r < length (offsets l) = omega (arith, low, length-offsets l) in
+    let there : r < length (offsets l') = omega (arith, low, length-offsets l', ap count same) in
+    let read-here : r < length (map read (offsets l)) = omega (arith, here, length-map (offsets l) read) in
+    (λ i. read' (get_or (offsets l') (rank (same i) (broadcast_index (same i) index)) 0))
+    ∙ sym (get_or-map read' (offsets l') r 0 [] there)
+    ∙ ap (λ xs. get_or xs r []) cast-is
+    ∙ get_or-map cast (map read (offsets l)) r [] [] read-here
+    ∙ ap cast (get_or-map read (offsets l) r 0 [] here))
+    ∙ sym (map-map cast (λ index. read (pick index)) (indexes shape))
+    ∙ ap (map cast) (sym (map-map read pick (indexes shape)))

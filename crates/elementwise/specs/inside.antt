@@ -5,3 +5,6 @@ pub mod PairPasses
 pub mod PairLaws
 pub mod ByteStrings
 pub mod Shrunk
+pub mod Sides
+pub mod Operands
+pub mod Held

@@ -17,9 +17,9 @@ ghost use Rattle.elementwise.specs.inside.PairPasses.{IsNative};
 use crate::operands::Items;
 use crate::pairing::{Changing, Combining};
 use crate::promotion::{promote, promote_one, scalar_of};
-use crate::typed::make_stretched;
+use crate::typed::make_cast;
 use broadcasting::common;
-use elem_descr::{Descr, Refusal, Scalar};
+use elem_descr::{Refusal, Scalar};
 use overlap_copy::Owned;
 use script_lang::{BinaryOperation, UnaryOperation};
 use shape_strides::Shape;
@@ -50,12 +50,11 @@ fn combine(
         (stretched_items right.entry.descr.now right.entry.block.now right.entry.layout.now o.layout.shape)) }
     ensures refused { IfErr result (λ refusal. refusal ≡ OutOfMemory) }
 {
-    let to = Descr::Scalar(*scalar);
     let pairing = Combining {
         op,
         scalar: *scalar,
     };
-    make_stretched::<Combining>(alloc, &pairing, left, &to, right, &to, shape)
+    make_cast::<Combining>(alloc, &pairing, left, right, shape)
 }
 
 /// What an operation gives on the items of two arrays that are broadcast together, in a block of their
@@ -99,13 +98,11 @@ fn change(
         ≡ map (λ offset. unary_item op o.descr (item_from operand.entry.descr.now operand.entry.block.now offset)) (offsets operand.entry.layout.now)) }
     ensures refused { IfErr result (λ refusal. refusal ≡ OutOfMemory) }
 {
-    let to = Descr::Scalar(*scalar);
     let pairing = Changing {
         op,
         scalar: *scalar,
     };
-    let shape = &operand.layout.shape;
-    make_stretched::<Changing>(alloc, &pairing, operand, &to, operand, &to, shape)
+    make_cast::<Changing>(alloc, &pairing, operand, operand, &operand.layout.shape)
 }
 
 /// What an operation gives on the items of an array, in a block of their own in C order. Refused as

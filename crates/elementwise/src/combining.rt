@@ -1,26 +1,29 @@
-//! Operations on the items of runs: which pass does them.
-ghost use Rattle.std.specs.Prelude.{◌≡◌, ◌^◌, ◌<◌, ◌≤◌, ℤ, pos, false, length};
+//! Operations on the numbers of operands: which kernel does them.
+ghost use Rattle.std.specs.Prelude.{◌≡◌, ◌+◌, ◌*◌, ◌≤◌, ◌++◌, ℤ, false};
 ghost use Rattle.elem_descr.specs.declared.scalar.Order.TheVariants.{Little};
-ghost use Rattle.elem_descr.specs.declared.scalar.Scalar.TheVariants.{Int};
-ghost use Rattle.elem_descr.specs.Encoding.{size, width_size};
-ghost use Rattle.raw_block.specs.Bytes.{EachWithin};
-ghost use Rattle.elementwise.specs.Promotion.{is_division};
+ghost use Rattle.elem_descr.specs.Encoding.{IsNumber, size};
+ghost use Rattle.elem_descr.specs.Items.{item_size};
+ghost use Rattle.elementwise.specs.Promotion.{is_division, little};
 ghost use Rattle.elementwise.specs.Operations.{binary, unary};
-ghost use Rattle.elementwise.specs.inside.PairPasses.{made_of_pairs, number_pair, IsNative};
+ghost use Rattle.elementwise.specs.inside.PairPasses.{number_pair};
+ghost use Rattle.elementwise.specs.inside.Operands.{pairs_of, made_of_all};
 
+use crate::byte_orders::Ordered;
+use crate::dispatch::{NumberTask, on_number};
+use crate::kernels::{Kernel, Numbers};
 use crate::numbers::Number;
 use crate::operations::{
     Adding, Complementing, Dividing, Flipping, KeepingBoth, KeepingEither, KeepingOne,
     LeavingRests, MovingDown, MovingUp, Multiplying, Negating, Operation, Subtracting,
 };
-use crate::pair_passes::{Kernel, make_run};
 use crate::promotion::is_bool;
-use elem_descr::{Order, Scalar, Width};
+use crate::rows::Operands;
+use elem_descr::Scalar;
+use raw_block::BlockBuilder;
 use script_lang::{BinaryOperation, UnaryOperation};
-use shape_strides::Run;
 use std::marker::PhantomData;
 
-/// An operation as what a pass makes of two numbers.
+/// An operation as what is made of two numbers.
 struct Done<F>(PhantomData<F>);
 
 impl<F: Operation, N: Number> Kernel<N, N, N> for Done<F> {
@@ -32,167 +35,100 @@ impl<F: Operation, N: Number> Kernel<N, N, N> for Done<F> {
     }
 }
 
-/// An operation on integers of two bytes or more.
-fn combine_integers<F: Operation>(
-    signed: bool,
-    width: Width,
-    bytes: &mut [u8],
-    to: Run,
-    left: &[u8],
-    first: Run,
-    right: &[u8],
-    second: Run,
-)
-    requires few { to.count < 2 ^ 63 }
-    requires step { to.step ≡ pos (width_size width) }
-    requires to { EachWithin (length bytes.old) to.offset to.step (width_size width) to.count }
-    requires first { EachWithin (length left.now) first.offset first.step (width_size width) to.count }
-    requires second { EachWithin (length right.now) second.offset second.step (width_size width) to.count }
-    ensures { bytes.new ≡ made_of_pairs (number_pair (Int signed width Little) (Int signed width Little) (Int signed width Little) (F.meaning (Int signed width Little))) (width_size width) (width_size width) left.now right.now to first second to.count bytes.old }
-{
-    match (signed, width) {
-        (false, Width::Two) => make_run::<Done<F>, u16, u16, u16>(
-            bytes, to, left, first, right, second,
-        ),
-        (false, Width::Four) => make_run::<Done<F>, u32, u32, u32>(
-            bytes, to, left, first, right, second,
-        ),
-        (false, Width::Eight) => make_run::<Done<F>, u64, u64, u64>(
-            bytes, to, left, first, right, second,
-        ),
-        (true, Width::Two) => make_run::<Done<F>, i16, i16, i16>(
-            bytes, to, left, first, right, second,
-        ),
-        (true, Width::Four) => make_run::<Done<F>, i32, i32, i32>(
-            bytes, to, left, first, right, second,
-        ),
-        (true, Width::Eight) => make_run::<Done<F>, i64, i64, i64>(
-            bytes, to, left, first, right, second,
-        ),
+/// An operation on operands of one type, whose results are pushed, the lowest byte first.
+struct Combined<'a, F> {
+    operands: Operands<'a>,
+    block: BlockBuilder,
+    mark: PhantomData<F>,
+}
+
+impl<'a, F: Operation> NumberTask for Combined<'a, F> {
+    type Out = BlockBuilder;
+
+    ghost Needs = { λ t scalar bytes. (item_size t.operands.left.descr.now ≡ size scalar) × (item_size t.operands.right.descr.now ≡ size scalar) × (pairs_of t.operands * size scalar ≤ t.block.1) };
+
+    ghost Gives = { λ t scalar old new block. (block.0 ≡ t.block.0 ++ made_of_all (number_pair scalar scalar (little scalar) (F.meaning (little scalar))) t.operands) × (pairs_of t.operands * size scalar + block.1 ≡ t.block.1) };
+
+    fn run<N: Number, O: Ordered>(self, bytes: &mut [u8]) -> BlockBuilder {
+        let Combined {
+            operands,
+            block,
+            mark: _,
+        } = self;
+        operands.push_all(&Numbers::<Done<F>, N, N, N, O>::new(), block)
     }
 }
 
-/// An operation on numbers of a little-endian scalar.
+/// An operation on numbers of a scalar.
 fn combine_numbers<F: Operation>(
     scalar: &Scalar,
-    bytes: &mut [u8],
-    to: Run,
-    left: &[u8],
-    first: Run,
-    right: &[u8],
-    second: Run,
-)
-    requires native { IsNative scalar.now }
-    requires few { to.count < 2 ^ 63 }
-    requires step { to.step ≡ pos (size scalar.now) }
-    requires to { EachWithin (length bytes.old) to.offset to.step (size scalar.now) to.count }
-    requires first { EachWithin (length left.now) first.offset first.step (size scalar.now) to.count }
-    requires second { EachWithin (length right.now) second.offset second.step (size scalar.now) to.count }
-    ensures { bytes.new ≡ made_of_pairs (number_pair scalar.now scalar.now scalar.now (F.meaning scalar.now)) (size scalar.now) (size scalar.now) left.now right.now to first second to.count bytes.old }
+    block: BlockBuilder,
+    operands: Operands<'_>,
+) -> BlockBuilder
+    requires number { IsNumber scalar.now }
+    requires left { item_size operands.left.descr.now ≡ size scalar.now }
+    requires right { item_size operands.right.descr.now ≡ size scalar.now }
+    requires room { pairs_of operands * size scalar.now ≤ block.1 }
+    ensures bytes { result.0 ≡ block.0 ++ made_of_all (number_pair scalar.now scalar.now (little scalar.now) (F.meaning (little scalar.now))) operands.entry }
+    ensures left { pairs_of operands.entry * size scalar.now + result.1 ≡ block.1 }
 {
-    match scalar {
-        Scalar::Bool => make_run::<Done<F>, bool, bool, bool>(
-            bytes, to, left, first, right, second,
-        ),
-        Scalar::Byte { signed: false } => make_run::<Done<F>, u8, u8, u8>(
-            bytes, to, left, first, right, second,
-        ),
-        Scalar::Byte { signed: true } => make_run::<Done<F>, i8, i8, i8>(
-            bytes, to, left, first, right, second,
-        ),
-        Scalar::Int {
-            signed,
-            width,
-            order: Order::Little,
-        } => combine_integers::<F>(*signed, *width, bytes, to, left, first, right, second),
-        _ => unreachable!(),
-    }
+    let task = Combined::<F> {
+        operands,
+        block,
+        mark: PhantomData,
+    };
+    on_number(scalar, task, &mut [])
 }
 
-/// An operation on numbers of a little-endian scalar, by its word.
-pub(crate) fn combine_run(
+/// An operation on numbers of a scalar, by its word.
+pub(crate) fn combine(
     op: BinaryOperation,
     scalar: &Scalar,
-    bytes: &mut [u8],
-    to: Run,
-    left: &[u8],
-    first: Run,
-    right: &[u8],
-    second: Run,
-)
+    block: BlockBuilder,
+    operands: Operands<'_>,
+) -> BlockBuilder
     requires op { is_division op ≡ false }
-    requires native { IsNative scalar.now }
-    requires few { to.count < 2 ^ 63 }
-    requires step { to.step ≡ pos (size scalar.now) }
-    requires to { EachWithin (length bytes.old) to.offset to.step (size scalar.now) to.count }
-    requires first { EachWithin (length left.now) first.offset first.step (size scalar.now) to.count }
-    requires second { EachWithin (length right.now) second.offset second.step (size scalar.now) to.count }
-    ensures { bytes.new ≡ made_of_pairs (number_pair scalar.now scalar.now scalar.now (binary op scalar.now)) (size scalar.now) (size scalar.now) left.now right.now to first second to.count bytes.old }
+    requires number { IsNumber scalar.now }
+    requires left { item_size operands.left.descr.now ≡ size scalar.now }
+    requires right { item_size operands.right.descr.now ≡ size scalar.now }
+    requires room { pairs_of operands * size scalar.now ≤ block.1 }
+    ensures bytes { result.0 ≡ block.0 ++ made_of_all (number_pair scalar.now scalar.now (little scalar.now) (binary op (little scalar.now))) operands.entry }
+    ensures left { pairs_of operands.entry * size scalar.now + result.1 ≡ block.1 }
 {
     match op {
-        BinaryOperation::Add => combine_numbers::<Adding>(
-            scalar, bytes, to, left, first, right, second,
-        ),
-        BinaryOperation::Subtract => combine_numbers::<Subtracting>(
-            scalar, bytes, to, left, first, right, second,
-        ),
-        BinaryOperation::Multiply => combine_numbers::<Multiplying>(
-            scalar, bytes, to, left, first, right, second,
-        ),
-        BinaryOperation::FloorDivide => combine_numbers::<Dividing>(
-            scalar, bytes, to, left, first, right, second,
-        ),
-        BinaryOperation::Modulo => combine_numbers::<LeavingRests>(
-            scalar, bytes, to, left, first, right, second,
-        ),
-        BinaryOperation::And => combine_numbers::<KeepingBoth>(
-            scalar, bytes, to, left, first, right, second,
-        ),
-        BinaryOperation::Or => combine_numbers::<KeepingEither>(
-            scalar, bytes, to, left, first, right, second,
-        ),
-        BinaryOperation::Xor => combine_numbers::<KeepingOne>(
-            scalar, bytes, to, left, first, right, second,
-        ),
-        BinaryOperation::ShiftLeft => combine_numbers::<MovingUp>(
-            scalar, bytes, to, left, first, right, second,
-        ),
-        BinaryOperation::ShiftRight => combine_numbers::<MovingDown>(
-            scalar, bytes, to, left, first, right, second,
-        ),
+        BinaryOperation::Add => combine_numbers::<Adding>(scalar, block, operands),
+        BinaryOperation::Subtract => combine_numbers::<Subtracting>(scalar, block, operands),
+        BinaryOperation::Multiply => combine_numbers::<Multiplying>(scalar, block, operands),
+        BinaryOperation::FloorDivide => combine_numbers::<Dividing>(scalar, block, operands),
+        BinaryOperation::Modulo => combine_numbers::<LeavingRests>(scalar, block, operands),
+        BinaryOperation::And => combine_numbers::<KeepingBoth>(scalar, block, operands),
+        BinaryOperation::Or => combine_numbers::<KeepingEither>(scalar, block, operands),
+        BinaryOperation::Xor => combine_numbers::<KeepingOne>(scalar, block, operands),
+        BinaryOperation::ShiftLeft => combine_numbers::<MovingUp>(scalar, block, operands),
+        BinaryOperation::ShiftRight => combine_numbers::<MovingDown>(scalar, block, operands),
         BinaryOperation::Divide => unreachable!(),
     }
 }
 
-/// An operation on the second of two numbers of a little-endian scalar, by its word.
-pub(crate) fn change_run(
+/// An operation on the second of two numbers of a scalar, by its word.
+pub(crate) fn change(
     op: UnaryOperation,
     scalar: &Scalar,
-    bytes: &mut [u8],
-    to: Run,
-    left: &[u8],
-    first: Run,
-    right: &[u8],
-    second: Run,
-)
-    requires native { IsNative scalar.now }
-    requires few { to.count < 2 ^ 63 }
-    requires step { to.step ≡ pos (size scalar.now) }
-    requires to { EachWithin (length bytes.old) to.offset to.step (size scalar.now) to.count }
-    requires first { EachWithin (length left.now) first.offset first.step (size scalar.now) to.count }
-    requires second { EachWithin (length right.now) second.offset second.step (size scalar.now) to.count }
-    ensures { bytes.new ≡ made_of_pairs (number_pair scalar.now scalar.now scalar.now (λ _ b. unary op scalar.now b)) (size scalar.now) (size scalar.now) left.now right.now to first second to.count bytes.old }
+    block: BlockBuilder,
+    operands: Operands<'_>,
+) -> BlockBuilder
+    requires number { IsNumber scalar.now }
+    requires left { item_size operands.left.descr.now ≡ size scalar.now }
+    requires right { item_size operands.right.descr.now ≡ size scalar.now }
+    requires room { pairs_of operands * size scalar.now ≤ block.1 }
+    ensures bytes { result.0 ≡ block.0 ++ made_of_all (number_pair scalar.now scalar.now (little scalar.now) (λ _ b. unary op (little scalar.now) b)) operands.entry }
+    ensures left { pairs_of operands.entry * size scalar.now + result.1 ≡ block.1 }
 {
     match op {
-        UnaryOperation::Negate => combine_numbers::<Negating>(
-            scalar, bytes, to, left, first, right, second,
+        UnaryOperation::Negate => combine_numbers::<Negating>(scalar, block, operands),
+        UnaryOperation::Invert if is_bool(scalar) => combine_numbers::<Flipping>(
+            scalar, block, operands,
         ),
-        UnaryOperation::Invert => {
-            if is_bool(scalar) {
-                combine_numbers::<Flipping>(scalar, bytes, to, left, first, right, second);
-            } else {
-                combine_numbers::<Complementing>(scalar, bytes, to, left, first, right, second);
-            }
-        }
+        UnaryOperation::Invert => combine_numbers::<Complementing>(scalar, block, operands),
     }
 }

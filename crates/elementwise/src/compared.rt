@@ -19,13 +19,12 @@ ghost use Rattle.elementwise.specs.Results.{compared_result, compared_item, stre
 ghost use Rattle.elementwise.specs.inside.PairPasses.{IsNative, Holds};
 
 use crate::operands::Items;
-use crate::paired::make_owned;
 use crate::pairing::{Comparing, ComparingSigns, ComparingTexts};
-use crate::promotion::{compared_type, is_signed, little, scalar_of};
+use crate::promotion::{compared_type, eight_bytes, is_signed, little, scalar_of};
 use crate::shrunk::{spread, without_repeats};
-use crate::typed::{make_stretched, stretched_to};
+use crate::typed::{make_cast, make_stretched};
 use broadcasting::{common, repeats};
-use elem_descr::{BytesLen, Descr, Order, Refusal, Scalar, Width};
+use elem_descr::{BytesLen, Refusal, Scalar};
 use overlap_copy::Owned;
 use raw_block::RawBlock;
 use script_lang::Comparison;
@@ -38,17 +37,6 @@ pub(crate) fn note_bytes(block: &RawBlock)
 {
     let bytes = block.bytes();
     let _len = bytes.len();
-}
-
-/// The little-endian integers of eight bytes.
-fn eight_bytes(signed: bool) -> Scalar
-    ensures { result ≡ Int signed Eight Little }
-{
-    Scalar::Int {
-        signed,
-        width: Width::Eight,
-        order: Order::Little,
-    }
 }
 
 /// A comparison of two arrays of numbers that are stretched to a shape, by way of a scalar that holds the
@@ -84,12 +72,11 @@ pub(crate) fn compare_held(
 {
     note_bytes(left.block);
     note_bytes(right.block);
-    let to = Descr::Scalar(*scalar);
     let pairing = Comparing {
         comparison,
         scalar: *scalar,
     };
-    make_stretched::<Comparing>(alloc, &pairing, left, &to, right, &to, shape)
+    make_cast::<Comparing>(alloc, &pairing, left, right, shape)
 }
 
 /// The same by way of integers of eight bytes, the first of which have a sign where the second have none.
@@ -123,13 +110,11 @@ fn compare_signs(
 {
     note_bytes(left.block);
     note_bytes(right.block);
-    let to = Descr::Scalar(eight_bytes(left_signed));
-    let other_to = Descr::Scalar(eight_bytes(!left_signed));
     let pairing = ComparingSigns {
         comparison,
         left_signed,
     };
-    make_stretched::<ComparingSigns>(alloc, &pairing, left, &to, right, &other_to, shape)
+    make_cast::<ComparingSigns>(alloc, &pairing, left, right, shape)
 }
 
 /// A comparison of two arrays of numbers that are stretched to a shape, by value: by way of their common
@@ -195,22 +180,22 @@ fn compare_texts(
         (stretched_items right.entry.descr.now right.entry.block.now right.entry.layout.now o.layout.shape)) }
     ensures refused { IfErr result (λ refusal. refusal ≡ OutOfMemory) }
 {
-    let first = stretched_to(alloc, left.layout, shape)?;
-    let second = stretched_to(alloc, right.layout, shape)?;
     let pairing = ComparingTexts {
         comparison,
         width,
         other_width,
     };
-    make_owned::<ComparingTexts>(
-        alloc,
-        &pairing,
-        left.block,
-        &first,
-        right.block,
-        &second,
-        shape,
-    )
+    let first = overlap_copy::Items {
+        block: left.block,
+        layout: left.layout,
+        descr: left.descr,
+    };
+    let second = overlap_copy::Items {
+        block: right.block,
+        layout: right.layout,
+        descr: right.descr,
+    };
+    make_stretched::<ComparingTexts>(alloc, &pairing, first, second, shape)
 }
 
 /// A comparison of two arrays of numbers or of byte strings that are stretched to a shape.

@@ -1,21 +1,25 @@
-//! Comparisons of numbers in runs: which pass does them.
-ghost use Rattle.std.specs.Prelude.{◌≡◌, ◌^◌, ◌<◌, ◌≤◌, ℤ, pos, not, length, int_lt, if◌then◌else◌};
+//! Comparisons of the numbers of operands: which kernel does them.
+ghost use Rattle.std.specs.Prelude.{◌≡◌, ◌+◌, ◌≤◌, ◌++◌, ℤ, pos, not, int_lt, if◌then◌else◌};
 ghost use Rattle.elem_descr.specs.declared.scalar.Order.TheVariants.{Little};
 ghost use Rattle.elem_descr.specs.declared.scalar.Width.TheVariants.{Eight};
 ghost use Rattle.elem_descr.specs.declared.scalar.Scalar.TheVariants.{Bool as BoolScalar, Int};
-ghost use Rattle.elem_descr.specs.Encoding.{size, width_size};
-ghost use Rattle.raw_block.specs.Bytes.{EachWithin};
+ghost use Rattle.elem_descr.specs.Encoding.{IsNumber, size};
+ghost use Rattle.elem_descr.specs.Items.{item_size};
 ghost use Rattle.script_lang.specs.declared.operation.Comparison.{Comparison};
 ghost use Rattle.script_lang.specs.declared.operation.Comparison.TheVariants.{Equal, NotEqual, Less, LessOrEqual, Greater, GreaterOrEqual};
 ghost use Rattle.elementwise.specs.Comparisons.{says};
-ghost use Rattle.elementwise.specs.inside.PairPasses.{made_of_pairs, number_pair, says_number, IsNative};
+ghost use Rattle.elementwise.specs.inside.PairPasses.{number_pair, says_number};
+ghost use Rattle.elementwise.specs.inside.Operands.{pairs_of, made_of_all};
 
 use crate::bits;
+use crate::byte_orders::{LowFirst, Ordered};
+use crate::dispatch::{NumberTask, on_number};
+use crate::kernels::{Kernel, Numbers};
 use crate::numbers::Number;
-use crate::pair_passes::{Kernel, make_run};
-use elem_descr::{Order, Scalar, Width};
+use crate::rows::Operands;
+use elem_descr::Scalar;
+use raw_block::BlockBuilder;
 use script_lang::Comparison;
-use shape_strides::Run;
 use std::marker::PhantomData;
 
 /// A comparison, of two values of which it is known whether the first is below or above the second.
@@ -106,7 +110,7 @@ pub(crate) fn says(comparison: Comparison, below: bool, above: bool) -> bool
     }
 }
 
-/// A comparison as what a pass makes of two numbers, which may be of two types.
+/// A comparison as what is made of two numbers, which may be of two types.
 struct Said<W>(PhantomData<W>);
 
 impl<W: Word, A: Number, B: Number> Kernel<A, B, bool> for Said<W> {
@@ -123,219 +127,112 @@ impl<W: Word, A: Number, B: Number> Kernel<A, B, bool> for Said<W> {
     }
 }
 
-/// A comparison of integers of two bytes or more.
-fn compare_integers<W: Word>(
-    signed: bool,
-    width: Width,
-    bytes: &mut [u8],
-    to: Run,
-    left: &[u8],
-    first: Run,
-    right: &[u8],
-    second: Run,
-)
-    requires few { to.count < 2 ^ 63 }
-    requires step { to.step ≡ pos 1 }
-    requires to { EachWithin (length bytes.old) to.offset to.step 1 to.count }
-    requires first { EachWithin (length left.now) first.offset first.step (width_size width) to.count }
-    requires second { EachWithin (length right.now) second.offset second.step (width_size width) to.count }
-    ensures { bytes.new ≡ made_of_pairs (number_pair (Int signed width Little) (Int signed width Little) BoolScalar (says_number W.word)) (width_size width) (width_size width) left.now right.now to first second to.count bytes.old }
-{
-    match (signed, width) {
-        (false, Width::Two) => make_run::<Said<W>, u16, u16, bool>(
-            bytes, to, left, first, right, second,
-        ),
-        (false, Width::Four) => make_run::<Said<W>, u32, u32, bool>(
-            bytes, to, left, first, right, second,
-        ),
-        (false, Width::Eight) => make_run::<Said<W>, u64, u64, bool>(
-            bytes, to, left, first, right, second,
-        ),
-        (true, Width::Two) => make_run::<Said<W>, i16, i16, bool>(
-            bytes, to, left, first, right, second,
-        ),
-        (true, Width::Four) => make_run::<Said<W>, i32, i32, bool>(
-            bytes, to, left, first, right, second,
-        ),
-        (true, Width::Eight) => make_run::<Said<W>, i64, i64, bool>(
-            bytes, to, left, first, right, second,
-        ),
+/// A comparison of operands of one type, whose bools are pushed.
+struct Compared<'a, W> {
+    operands: Operands<'a>,
+    block: BlockBuilder,
+    mark: PhantomData<W>,
+}
+
+impl<'a, W: Word> NumberTask for Compared<'a, W> {
+    type Out = BlockBuilder;
+
+    ghost Needs = { λ t scalar bytes. (item_size t.operands.left.descr.now ≡ size scalar) × (item_size t.operands.right.descr.now ≡ size scalar) × (pairs_of t.operands ≤ t.block.1) };
+
+    ghost Gives = { λ t scalar old new block. (block.0 ≡ t.block.0 ++ made_of_all (number_pair scalar scalar BoolScalar (says_number W.word)) t.operands) × (pairs_of t.operands + block.1 ≡ t.block.1) };
+
+    fn run<N: Number, O: Ordered>(self, bytes: &mut [u8]) -> BlockBuilder {
+        let Compared {
+            operands,
+            block,
+            mark: _,
+        } = self;
+        operands.push_all(&Numbers::<Said<W>, N, N, bool, O>::new(), block)
     }
 }
 
-/// A comparison of numbers of one little-endian scalar.
+/// A comparison of numbers of one scalar.
 fn compare_numbers<W: Word>(
     scalar: &Scalar,
-    bytes: &mut [u8],
-    to: Run,
-    left: &[u8],
-    first: Run,
-    right: &[u8],
-    second: Run,
-)
-    requires native { IsNative scalar.now }
-    requires few { to.count < 2 ^ 63 }
-    requires step { to.step ≡ pos 1 }
-    requires to { EachWithin (length bytes.old) to.offset to.step 1 to.count }
-    requires first { EachWithin (length left.now) first.offset first.step (size scalar.now) to.count }
-    requires second { EachWithin (length right.now) second.offset second.step (size scalar.now) to.count }
-    ensures { bytes.new ≡ made_of_pairs (number_pair scalar.now scalar.now BoolScalar (says_number W.word)) (size scalar.now) (size scalar.now) left.now right.now to first second to.count bytes.old }
+    block: BlockBuilder,
+    operands: Operands<'_>,
+) -> BlockBuilder
+    requires number { IsNumber scalar.now }
+    requires left { item_size operands.left.descr.now ≡ size scalar.now }
+    requires right { item_size operands.right.descr.now ≡ size scalar.now }
+    requires room { pairs_of operands ≤ block.1 }
+    ensures bytes { result.0 ≡ block.0 ++ made_of_all (number_pair scalar.now scalar.now BoolScalar (says_number W.word)) operands.entry }
+    ensures left { pairs_of operands.entry + result.1 ≡ block.1 }
 {
-    match scalar {
-        Scalar::Bool => make_run::<Said<W>, bool, bool, bool>(
-            bytes, to, left, first, right, second,
-        ),
-        Scalar::Byte { signed: false } => make_run::<Said<W>, u8, u8, bool>(
-            bytes, to, left, first, right, second,
-        ),
-        Scalar::Byte { signed: true } => make_run::<Said<W>, i8, i8, bool>(
-            bytes, to, left, first, right, second,
-        ),
-        Scalar::Int {
-            signed,
-            width,
-            order: Order::Little,
-        } => compare_integers::<W>(*signed, *width, bytes, to, left, first, right, second),
-        _ => unreachable!(),
-    }
+    let task = Compared::<W> {
+        operands,
+        block,
+        mark: PhantomData,
+    };
+    on_number(scalar, task, &mut [])
 }
 
-/// A comparison of numbers of one little-endian scalar, by its word.
-pub(crate) fn compare_run(
+/// A comparison of numbers of one scalar, by its word.
+pub(crate) fn compare_alike(
     comparison: Comparison,
     scalar: &Scalar,
-    bytes: &mut [u8],
-    to: Run,
-    left: &[u8],
-    first: Run,
-    right: &[u8],
-    second: Run,
-)
-    requires native { IsNative scalar.now }
-    requires few { to.count < 2 ^ 63 }
-    requires step { to.step ≡ pos 1 }
-    requires to { EachWithin (length bytes.old) to.offset to.step 1 to.count }
-    requires first { EachWithin (length left.now) first.offset first.step (size scalar.now) to.count }
-    requires second { EachWithin (length right.now) second.offset second.step (size scalar.now) to.count }
-    ensures { bytes.new ≡ made_of_pairs (number_pair scalar.now scalar.now BoolScalar (says_number comparison)) (size scalar.now) (size scalar.now) left.now right.now to first second to.count bytes.old }
+    block: BlockBuilder,
+    operands: Operands<'_>,
+) -> BlockBuilder
+    requires number { IsNumber scalar.now }
+    requires left { item_size operands.left.descr.now ≡ size scalar.now }
+    requires right { item_size operands.right.descr.now ≡ size scalar.now }
+    requires room { pairs_of operands ≤ block.1 }
+    ensures bytes { result.0 ≡ block.0 ++ made_of_all (number_pair scalar.now scalar.now BoolScalar (says_number comparison)) operands.entry }
+    ensures left { pairs_of operands.entry + result.1 ≡ block.1 }
 {
     match comparison {
-        Comparison::Equal => compare_numbers::<IsEqual>(
-            scalar, bytes, to, left, first, right, second,
-        ),
-        Comparison::NotEqual => compare_numbers::<IsDifferent>(
-            scalar, bytes, to, left, first, right, second,
-        ),
-        Comparison::Less => compare_numbers::<IsLess>(
-            scalar, bytes, to, left, first, right, second,
-        ),
-        Comparison::LessOrEqual => compare_numbers::<IsAtMost>(
-            scalar, bytes, to, left, first, right, second,
-        ),
-        Comparison::Greater => compare_numbers::<IsGreater>(
-            scalar, bytes, to, left, first, right, second,
-        ),
-        Comparison::GreaterOrEqual => compare_numbers::<IsAtLeast>(
-            scalar, bytes, to, left, first, right, second,
-        ),
+        Comparison::Equal => compare_numbers::<IsEqual>(scalar, block, operands),
+        Comparison::NotEqual => compare_numbers::<IsDifferent>(scalar, block, operands),
+        Comparison::Less => compare_numbers::<IsLess>(scalar, block, operands),
+        Comparison::LessOrEqual => compare_numbers::<IsAtMost>(scalar, block, operands),
+        Comparison::Greater => compare_numbers::<IsGreater>(scalar, block, operands),
+        Comparison::GreaterOrEqual => compare_numbers::<IsAtLeast>(scalar, block, operands),
     }
 }
 
 /// A comparison of integers of eight bytes, the first of which have a sign where the second have none.
-fn compare_mixed<W: Word>(
+fn compare_signs<W: Word>(
     left_signed: bool,
-    bytes: &mut [u8],
-    to: Run,
-    left: &[u8],
-    first: Run,
-    right: &[u8],
-    second: Run,
-)
-    requires few { to.count < 2 ^ 63 }
-    requires step { to.step ≡ pos 1 }
-    requires to { EachWithin (length bytes.old) to.offset to.step 1 to.count }
-    requires first { EachWithin (length left.now) first.offset first.step 8 to.count }
-    requires second { EachWithin (length right.now) second.offset second.step 8 to.count }
-    ensures { bytes.new ≡ made_of_pairs (number_pair (Int left_signed Eight Little) (Int (not left_signed) Eight Little) BoolScalar (says_number W.word)) 8 8 left.now right.now to first second to.count bytes.old }
+    block: BlockBuilder,
+    operands: Operands<'_>,
+) -> BlockBuilder
+    requires left { item_size operands.left.descr.now ≡ 8 }
+    requires right { item_size operands.right.descr.now ≡ 8 }
+    requires room { pairs_of operands ≤ block.1 }
+    ensures bytes { result.0 ≡ block.0 ++ made_of_all (number_pair (Int left_signed Eight Little) (Int (not left_signed) Eight Little) BoolScalar (says_number W.word)) operands.entry }
+    ensures left { pairs_of operands.entry + result.1 ≡ block.1 }
 {
     match left_signed {
-        true => make_run::<Said<W>, i64, u64, bool>(bytes, to, left, first, right, second),
-        false => make_run::<Said<W>, u64, i64, bool>(bytes, to, left, first, right, second),
+        true => operands.push_all(&Numbers::<Said<W>, i64, u64, bool, LowFirst>::new(), block),
+        false => operands.push_all(&Numbers::<Said<W>, u64, i64, bool, LowFirst>::new(), block),
     }
 }
 
 /// The same, by its word.
-pub(crate) fn compare_mixed_run(
+pub(crate) fn compare_mixed(
     comparison: Comparison,
     left_signed: bool,
-    bytes: &mut [u8],
-    to: Run,
-    left: &[u8],
-    first: Run,
-    right: &[u8],
-    second: Run,
-)
-    requires few { to.count < 2 ^ 63 }
-    requires step { to.step ≡ pos 1 }
-    requires to { EachWithin (length bytes.old) to.offset to.step 1 to.count }
-    requires first { EachWithin (length left.now) first.offset first.step 8 to.count }
-    requires second { EachWithin (length right.now) second.offset second.step 8 to.count }
-    ensures { bytes.new ≡ made_of_pairs (number_pair (Int left_signed Eight Little) (Int (not left_signed) Eight Little) BoolScalar (says_number comparison)) 8 8 left.now right.now to first second to.count bytes.old }
+    block: BlockBuilder,
+    operands: Operands<'_>,
+) -> BlockBuilder
+    requires left { item_size operands.left.descr.now ≡ 8 }
+    requires right { item_size operands.right.descr.now ≡ 8 }
+    requires room { pairs_of operands ≤ block.1 }
+    ensures bytes { result.0 ≡ block.0 ++ made_of_all (number_pair (Int left_signed Eight Little) (Int (not left_signed) Eight Little) BoolScalar (says_number comparison)) operands.entry }
+    ensures left { pairs_of operands.entry + result.1 ≡ block.1 }
 {
     match comparison {
-        Comparison::Equal => compare_mixed::<IsEqual>(
-            left_signed,
-            bytes,
-            to,
-            left,
-            first,
-            right,
-            second,
-        ),
-        Comparison::NotEqual => compare_mixed::<IsDifferent>(
-            left_signed,
-            bytes,
-            to,
-            left,
-            first,
-            right,
-            second,
-        ),
-        Comparison::Less => compare_mixed::<IsLess>(
-            left_signed,
-            bytes,
-            to,
-            left,
-            first,
-            right,
-            second,
-        ),
-        Comparison::LessOrEqual => compare_mixed::<IsAtMost>(
-            left_signed,
-            bytes,
-            to,
-            left,
-            first,
-            right,
-            second,
-        ),
-        Comparison::Greater => compare_mixed::<IsGreater>(
-            left_signed,
-            bytes,
-            to,
-            left,
-            first,
-            right,
-            second,
-        ),
-        Comparison::GreaterOrEqual => compare_mixed::<IsAtLeast>(
-            left_signed,
-            bytes,
-            to,
-            left,
-            first,
-            right,
-            second,
-        ),
+        Comparison::Equal => compare_signs::<IsEqual>(left_signed, block, operands),
+        Comparison::NotEqual => compare_signs::<IsDifferent>(left_signed, block, operands),
+        Comparison::Less => compare_signs::<IsLess>(left_signed, block, operands),
+        Comparison::LessOrEqual => compare_signs::<IsAtMost>(left_signed, block, operands),
+        Comparison::Greater => compare_signs::<IsGreater>(left_signed, block, operands),
+        Comparison::GreaterOrEqual => compare_signs::<IsAtLeast>(left_signed, block, operands),
     }
 }

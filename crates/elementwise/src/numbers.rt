@@ -1,6 +1,7 @@
 //! Machine numbers: what they mean, how they are stored, and how one is made of another.
-ghost use Rattle.std.specs.Prelude.{◌≡◌, ◌≤◌, ◌⊎◌, ℕ, ℤ, pos, Bool, true, false, length, if◌then◌else◌, refl};
+ghost use Rattle.std.specs.Prelude.{◌≡◌, ◌≤◌, ◌⊎◌, ◌+◌, ◌++◌, ℕ, ℤ, pos, Bool, true, false, length, if◌then◌else◌, refl};
 ghost use Rattle.elem_descr.specs.declared.scalar.Order.{Order};
+ghost use Rattle.elem_descr.specs.declared.scalar.Order.TheVariants.{Little};
 ghost use Rattle.elem_descr.specs.declared.scalar.Scalar.{Scalar};
 ghost use Rattle.elem_descr.specs.declared.scalar.Width.TheVariants.{Two, Four, Eight};
 ghost use Rattle.elem_descr.specs.declared.scalar.Scalar.TheVariants.{Bool as BoolScalar, Byte, Int};
@@ -8,10 +9,11 @@ ghost use Rattle.elem_descr.specs.Values.{number};
 ghost use Rattle.elem_descr.specs.Encoding.{IsNumber, size, decode, encode, wrap, integer};
 ghost use Rattle.std.proofs.Common.{arith, inl, inr};
 ghost use Rattle.std.proofs.lemmas.Bool.{false≢true};
-ghost use Rattle.elementwise.specs.Promotion.{is_bool};
+ghost use Rattle.elementwise.specs.Promotion.{is_bool, little};
 ghost use Rattle.elementwise.specs.Bits.{AreBits};
 
 use crate::byte_orders::Ordered;
+use raw_block::BlockBuilder;
 
 /// A number that the processor computes with: a bool, or an integer of 1, 2, 4 or 8 bytes.
 pub trait Number: Copy {
@@ -39,6 +41,12 @@ pub trait Number: Copy {
         requires { length bytes.old ≡ WIDTH }
         ensures { bytes.new ≡ encode (scalar O.order) (number (value self)) };
 
+    /// Fills the next bytes of a block with a number, which is stored at once.
+    fn push<O: Ordered>(self, block: &mut BlockBuilder)
+        requires { WIDTH ≤ block.old.1 }
+        ensures bytes { block.new.0 ≡ block.old.0 ++ encode (scalar O.order) (number (value self)) }
+        ensures left { WIDTH + block.new.1 ≡ block.old.1 };
+
     /// The lowest 64 bits, those above its own as its sign says.
     fn bits(self) -> u64
         ensures lowest { AreBits result (value self) }
@@ -53,6 +61,8 @@ pub trait Number: Copy {
     ghost has_width: { (order : Order) → size (scalar order) ≡ WIDTH };
 
     ghost is_small: { (1 ≤ WIDTH) × (WIDTH ≤ 8) };
+
+    ghost is_little: { (order : Order) → little (scalar order) ≡ scalar Little };
 
     ghost is_truth: { (order : Order) (x : Self) → is_bool (scalar order) ≡ true → (value x ≡ pos 0) ⊎ (value x ≡ pos 1) };
 }
@@ -76,6 +86,8 @@ impl Number for bool {
 
     ghost is_small = { (Prim.omega arith, Prim.omega arith) };
 
+    ghost is_little = { λ order. refl };
+
     ghost is_truth = { λ order. elim [ true ↦ λ _. inr refl | false ↦ λ _. inl refl ] };
 
     fn read<O: Ordered>(bytes: &[u8]) -> bool {
@@ -84,6 +96,13 @@ impl Number for bool {
 
     fn write<O: Ordered>(self, bytes: &mut [u8]) {
         bytes[0] = u8::from(self);
+    }
+
+    #[inline(always)]
+    fn push<O: Ordered>(self, block: &mut BlockBuilder) {
+        let mut item = [0; 1];
+        self.write::<O>(&mut item);
+        block.push_array::<1>(item);
     }
 
     fn bits(self) -> u64 {
@@ -114,6 +133,8 @@ impl Number for u8 {
 
     ghost is_small = { (Prim.omega arith, Prim.omega arith) };
 
+    ghost is_little = { λ order. refl };
+
     ghost is_truth = { λ order x is. absurd (false≢true is) };
 
     fn read<O: Ordered>(bytes: &[u8]) -> u8 {
@@ -122,6 +143,13 @@ impl Number for u8 {
 
     fn write<O: Ordered>(self, bytes: &mut [u8]) {
         bytes[0] = self;
+    }
+
+    #[inline(always)]
+    fn push<O: Ordered>(self, block: &mut BlockBuilder) {
+        let mut item = [0; 1];
+        self.write::<O>(&mut item);
+        block.push_array::<1>(item);
     }
 
     fn bits(self) -> u64 {
@@ -152,6 +180,8 @@ impl Number for i8 {
 
     ghost is_small = { (Prim.omega arith, Prim.omega arith) };
 
+    ghost is_little = { λ order. refl };
+
     ghost is_truth = { λ order x is. absurd (false≢true is) };
 
     fn read<O: Ordered>(bytes: &[u8]) -> i8 {
@@ -160,6 +190,13 @@ impl Number for i8 {
 
     fn write<O: Ordered>(self, bytes: &mut [u8]) {
         bytes[0] = self.cast_unsigned();
+    }
+
+    #[inline(always)]
+    fn push<O: Ordered>(self, block: &mut BlockBuilder) {
+        let mut item = [0; 1];
+        self.write::<O>(&mut item);
+        block.push_array::<1>(item);
     }
 
     fn bits(self) -> u64 {
@@ -190,6 +227,8 @@ impl Number for u16 {
 
     ghost is_small = { (Prim.omega arith, Prim.omega arith) };
 
+    ghost is_little = { λ order. refl };
+
     ghost is_truth = { λ order x is. absurd (false≢true is) };
 
     fn read<O: Ordered>(bytes: &[u8]) -> u16 {
@@ -198,6 +237,13 @@ impl Number for u16 {
 
     fn write<O: Ordered>(self, bytes: &mut [u8]) {
         O::write_two(self, bytes);
+    }
+
+    #[inline(always)]
+    fn push<O: Ordered>(self, block: &mut BlockBuilder) {
+        let mut item = [0; 2];
+        self.write::<O>(&mut item);
+        block.push_array::<2>(item);
     }
 
     fn bits(self) -> u64 {
@@ -228,6 +274,8 @@ impl Number for i16 {
 
     ghost is_small = { (Prim.omega arith, Prim.omega arith) };
 
+    ghost is_little = { λ order. refl };
+
     ghost is_truth = { λ order x is. absurd (false≢true is) };
 
     fn read<O: Ordered>(bytes: &[u8]) -> i16 {
@@ -236,6 +284,13 @@ impl Number for i16 {
 
     fn write<O: Ordered>(self, bytes: &mut [u8]) {
         O::write_two(self.cast_unsigned(), bytes);
+    }
+
+    #[inline(always)]
+    fn push<O: Ordered>(self, block: &mut BlockBuilder) {
+        let mut item = [0; 2];
+        self.write::<O>(&mut item);
+        block.push_array::<2>(item);
     }
 
     fn bits(self) -> u64 {
@@ -266,6 +321,8 @@ impl Number for u32 {
 
     ghost is_small = { (Prim.omega arith, Prim.omega arith) };
 
+    ghost is_little = { λ order. refl };
+
     ghost is_truth = { λ order x is. absurd (false≢true is) };
 
     fn read<O: Ordered>(bytes: &[u8]) -> u32 {
@@ -274,6 +331,13 @@ impl Number for u32 {
 
     fn write<O: Ordered>(self, bytes: &mut [u8]) {
         O::write_four(self, bytes);
+    }
+
+    #[inline(always)]
+    fn push<O: Ordered>(self, block: &mut BlockBuilder) {
+        let mut item = [0; 4];
+        self.write::<O>(&mut item);
+        block.push_array::<4>(item);
     }
 
     fn bits(self) -> u64 {
@@ -304,6 +368,8 @@ impl Number for i32 {
 
     ghost is_small = { (Prim.omega arith, Prim.omega arith) };
 
+    ghost is_little = { λ order. refl };
+
     ghost is_truth = { λ order x is. absurd (false≢true is) };
 
     fn read<O: Ordered>(bytes: &[u8]) -> i32 {
@@ -312,6 +378,13 @@ impl Number for i32 {
 
     fn write<O: Ordered>(self, bytes: &mut [u8]) {
         O::write_four(self.cast_unsigned(), bytes);
+    }
+
+    #[inline(always)]
+    fn push<O: Ordered>(self, block: &mut BlockBuilder) {
+        let mut item = [0; 4];
+        self.write::<O>(&mut item);
+        block.push_array::<4>(item);
     }
 
     fn bits(self) -> u64 {
@@ -342,6 +415,8 @@ impl Number for u64 {
 
     ghost is_small = { (Prim.omega arith, Prim.omega arith) };
 
+    ghost is_little = { λ order. refl };
+
     ghost is_truth = { λ order x is. absurd (false≢true is) };
 
     fn read<O: Ordered>(bytes: &[u8]) -> u64 {
@@ -350,6 +425,13 @@ impl Number for u64 {
 
     fn write<O: Ordered>(self, bytes: &mut [u8]) {
         O::write_eight(self, bytes);
+    }
+
+    #[inline(always)]
+    fn push<O: Ordered>(self, block: &mut BlockBuilder) {
+        let mut item = [0; 8];
+        self.write::<O>(&mut item);
+        block.push_array::<8>(item);
     }
 
     fn bits(self) -> u64 {
@@ -380,6 +462,8 @@ impl Number for i64 {
 
     ghost is_small = { (Prim.omega arith, Prim.omega arith) };
 
+    ghost is_little = { λ order. refl };
+
     ghost is_truth = { λ order x is. absurd (false≢true is) };
 
     fn read<O: Ordered>(bytes: &[u8]) -> i64 {
@@ -388,6 +472,13 @@ impl Number for i64 {
 
     fn write<O: Ordered>(self, bytes: &mut [u8]) {
         O::write_eight(self.cast_unsigned(), bytes);
+    }
+
+    #[inline(always)]
+    fn push<O: Ordered>(self, block: &mut BlockBuilder) {
+        let mut item = [0; 8];
+        self.write::<O>(&mut item);
+        block.push_array::<8>(item);
     }
 
     fn bits(self) -> u64 {

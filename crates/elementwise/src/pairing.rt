@@ -1,22 +1,25 @@
-//! What is made of the items of two arrays, pair by pair.
-ghost use Rattle.std.specs.Prelude.{◌≡◌, ◌^◌, ◌<◌, ◌≤◌, pos, false, not, length};
+//! What is made of the items of two operands, pair by pair.
+ghost use Rattle.std.specs.Prelude.{◌≡◌, ◌+◌, ◌*◌, ◌≤◌, ◌++◌, false, not};
 ghost use Rattle.elem_descr.specs.declared.scalar.Order.TheVariants.{Little};
 ghost use Rattle.elem_descr.specs.declared.scalar.Width.TheVariants.{Eight};
 ghost use Rattle.elem_descr.specs.declared.scalar.Scalar.TheVariants.{Bool as BoolScalar, Int, Bytes};
 ghost use Rattle.elem_descr.specs.declared.scalar.Scalar.{Scalar};
 ghost use Rattle.elem_descr.specs.Values.{LeafValue};
-ghost use Rattle.elem_descr.specs.Encoding.{size, decode, encode};
-ghost use Rattle.raw_block.specs.Bytes.{EachWithin};
-ghost use Rattle.elementwise.specs.Promotion.{is_division};
-ghost use Rattle.elementwise.specs.inside.PairPasses.{made_of_pairs, value_pair, binary_value, unary_value, compared_value, truth_value, IsNative};
-ghost use Rattle.elementwise.specs.inside.PairLaws.{binary_reads_back, unary_reads_back, compared_reads_back, truth_reads_back, native_small};
+ghost use Rattle.elem_descr.specs.Encoding.{IsNumber, size, decode, encode};
+ghost use Rattle.elem_descr.specs.Items.{item_size};
+ghost use Rattle.elementwise.specs.Promotion.{is_division, little};
+ghost use Rattle.elementwise.specs.inside.PairPasses.{value_pair, binary_value, unary_value, compared_value, truth_value};
+ghost use Rattle.elementwise.specs.inside.PairLaws.{binary_reads_back, unary_reads_back, compared_reads_back, truth_reads_back, number_small, bool_small};
+ghost use Rattle.elementwise.specs.inside.Operands.{pairs_of, made_of_all};
 
-use crate::combining::{change_run, combine_run};
-use crate::comparing::{compare_mixed_run, compare_run};
-use crate::text_comparing::compare_texts_run;
+use crate::combining::{change, combine};
+use crate::comparing::{compare_alike, compare_mixed};
+use crate::promotion::{eight_bytes, little};
+use crate::rows::Operands;
+use crate::text_pairs::Texts;
 use elem_descr::{BytesLen, Scalar};
+use raw_block::BlockBuilder;
 use script_lang::{BinaryOperation, Comparison, UnaryOperation};
-use shape_strides::Run;
 
 /// What is made of pairs of values of two scalars.
 pub(crate) trait Pairing {
@@ -31,34 +34,33 @@ pub(crate) trait Pairing {
     // What must hold, so that a pass can be made.
     ghost Can: { Self → Type 0 };
 
+    /// The scalar of the first items.
+    fn left(&self) -> Scalar
+        ensures { result ≡ left_scalar self.now };
+
+    /// The scalar of the second ones.
+    fn right(&self) -> Scalar
+        ensures { result ≡ right_scalar self.now };
+
     /// The scalar of what is made.
     fn target(&self) -> Scalar
         ensures { result ≡ target_scalar self.now };
 
-    /// Writes what is made of the pairs of two runs to items that lie one right after the other.
-    fn make_run(
-        &self,
-        bytes: &mut [u8],
-        to: Run,
-        left: &[u8],
-        first: Run,
-        right: &[u8],
-        second: Run,
-    )
+    /// Pushes what is made of each pair of items.
+    fn push(&self, block: BlockBuilder, operands: Operands<'_>) -> BlockBuilder
         requires can { Can self.now }
-        requires few { to.count < 2 ^ 63 }
-        requires step { to.step ≡ pos (size (target_scalar self.now)) }
-        requires to { EachWithin (length bytes.old) to.offset to.step (size (target_scalar self.now)) to.count }
-        requires first { EachWithin (length left.now) first.offset first.step (size (left_scalar self.now)) to.count }
-        requires second { EachWithin (length right.now) second.offset second.step (size (right_scalar self.now)) to.count }
-        ensures { bytes.new ≡ made_of_pairs (value_pair (left_scalar self.now) (right_scalar self.now) (target_scalar self.now) (gives self.now)) (size (left_scalar self.now)) (size (right_scalar self.now)) left.now right.now to first second to.count bytes.old };
+        requires left { item_size operands.left.descr.now ≡ size (left_scalar self.now) }
+        requires right { item_size operands.right.descr.now ≡ size (right_scalar self.now) }
+        requires room { pairs_of operands * size (target_scalar self.now) ≤ block.1 }
+        ensures bytes { result.0 ≡ block.0 ++ made_of_all (value_pair (left_scalar self.now) (right_scalar self.now) (target_scalar self.now) (gives self.now)) operands.entry }
+        ensures left { pairs_of operands.entry * size (target_scalar self.now) + result.1 ≡ block.1 };
 
     ghost reads_back: { (pairing : Self) (x y : LeafValue) → Can pairing → decode (target_scalar pairing) (encode (target_scalar pairing) (gives pairing x y)) ≡ gives pairing x y };
 
     ghost is_small: { (pairing : Self) → Can pairing → size (target_scalar pairing) ≤ 8 };
 }
 
-/// An operation on numbers of a little-endian scalar.
+/// An operation on numbers of a scalar. The results are little-endian.
 #[derive(Clone, Copy)]
 pub(crate) struct Combining {
     pub(crate) op: BinaryOperation,
@@ -70,34 +72,34 @@ impl Pairing for Combining {
 
     ghost right_scalar = { λ c. c.scalar };
 
-    ghost target_scalar = { λ c. c.scalar };
+    ghost target_scalar = { λ c. little c.scalar };
 
-    ghost gives = { λ c. binary_value c.op c.scalar };
+    ghost gives = { λ c. binary_value c.op (little c.scalar) };
 
-    ghost Can = { λ c. IsNative c.scalar × (is_division c.op ≡ false) };
+    ghost Can = { λ c. IsNumber c.scalar × (is_division c.op ≡ false) };
 
     ghost reads_back = { λ c x y can. binary_reads_back c.op c.scalar x y can.0 };
 
-    ghost is_small = { λ c can. native_small c.scalar can.0 };
+    ghost is_small = { λ c can. number_small c.scalar can.0 };
 
-    fn target(&self) -> Scalar {
+    fn left(&self) -> Scalar {
         self.scalar
     }
 
-    fn make_run(
-        &self,
-        bytes: &mut [u8],
-        to: Run,
-        left: &[u8],
-        first: Run,
-        right: &[u8],
-        second: Run,
-    ) {
-        combine_run(self.op, &self.scalar, bytes, to, left, first, right, second);
+    fn right(&self) -> Scalar {
+        self.scalar
+    }
+
+    fn target(&self) -> Scalar {
+        little(&self.scalar)
+    }
+
+    fn push(&self, block: BlockBuilder, operands: Operands<'_>) -> BlockBuilder {
+        combine(self.op, &self.scalar, block, operands)
     }
 }
 
-/// An operation on the second of two numbers of a little-endian scalar.
+/// An operation on the second of two numbers of a scalar. The results are little-endian.
 #[derive(Clone, Copy)]
 pub(crate) struct Changing {
     pub(crate) op: UnaryOperation,
@@ -109,34 +111,34 @@ impl Pairing for Changing {
 
     ghost right_scalar = { λ c. c.scalar };
 
-    ghost target_scalar = { λ c. c.scalar };
+    ghost target_scalar = { λ c. little c.scalar };
 
-    ghost gives = { λ c. unary_value c.op c.scalar };
+    ghost gives = { λ c. unary_value c.op (little c.scalar) };
 
-    ghost Can = { λ c. IsNative c.scalar };
+    ghost Can = { λ c. IsNumber c.scalar };
 
     ghost reads_back = { λ c x y can. unary_reads_back c.op c.scalar x y can };
 
-    ghost is_small = { λ c can. native_small c.scalar can };
+    ghost is_small = { λ c can. number_small c.scalar can };
 
-    fn target(&self) -> Scalar {
+    fn left(&self) -> Scalar {
         self.scalar
     }
 
-    fn make_run(
-        &self,
-        bytes: &mut [u8],
-        to: Run,
-        left: &[u8],
-        first: Run,
-        right: &[u8],
-        second: Run,
-    ) {
-        change_run(self.op, &self.scalar, bytes, to, left, first, right, second);
+    fn right(&self) -> Scalar {
+        self.scalar
+    }
+
+    fn target(&self) -> Scalar {
+        little(&self.scalar)
+    }
+
+    fn push(&self, block: BlockBuilder, operands: Operands<'_>) -> BlockBuilder {
+        change(self.op, &self.scalar, block, operands)
     }
 }
 
-/// A comparison of numbers of one little-endian scalar.
+/// A comparison of numbers of one scalar.
 #[derive(Clone, Copy)]
 pub(crate) struct Comparing {
     pub(crate) comparison: Comparison,
@@ -152,35 +154,26 @@ impl Pairing for Comparing {
 
     ghost gives = { λ c. compared_value c.comparison };
 
-    ghost Can = { λ c. IsNative c.scalar };
+    ghost Can = { λ c. IsNumber c.scalar };
 
     ghost reads_back = { λ c x y can. compared_reads_back c.comparison x y };
 
-    ghost is_small = { λ c can. native_small BoolScalar tt };
+    ghost is_small = { λ c can. bool_small };
+
+    fn left(&self) -> Scalar {
+        self.scalar
+    }
+
+    fn right(&self) -> Scalar {
+        self.scalar
+    }
 
     fn target(&self) -> Scalar {
         Scalar::Bool
     }
 
-    fn make_run(
-        &self,
-        bytes: &mut [u8],
-        to: Run,
-        left: &[u8],
-        first: Run,
-        right: &[u8],
-        second: Run,
-    ) {
-        compare_run(
-            self.comparison,
-            &self.scalar,
-            bytes,
-            to,
-            left,
-            first,
-            right,
-            second,
-        );
+    fn push(&self, block: BlockBuilder, operands: Operands<'_>) -> BlockBuilder {
+        compare_alike(self.comparison, &self.scalar, block, operands)
     }
 }
 
@@ -205,31 +198,22 @@ impl Pairing for ComparingSigns {
 
     ghost reads_back = { λ c x y can. compared_reads_back c.comparison x y };
 
-    ghost is_small = { λ c can. native_small BoolScalar tt };
+    ghost is_small = { λ c can. bool_small };
+
+    fn left(&self) -> Scalar {
+        eight_bytes(self.left_signed)
+    }
+
+    fn right(&self) -> Scalar {
+        eight_bytes(!self.left_signed)
+    }
 
     fn target(&self) -> Scalar {
         Scalar::Bool
     }
 
-    fn make_run(
-        &self,
-        bytes: &mut [u8],
-        to: Run,
-        left: &[u8],
-        first: Run,
-        right: &[u8],
-        second: Run,
-    ) {
-        compare_mixed_run(
-            self.comparison,
-            self.left_signed,
-            bytes,
-            to,
-            left,
-            first,
-            right,
-            second,
-        );
+    fn push(&self, block: BlockBuilder, operands: Operands<'_>) -> BlockBuilder {
+        compare_mixed(self.comparison, self.left_signed, block, operands)
     }
 }
 
@@ -254,33 +238,24 @@ impl Pairing for ComparingTexts {
 
     ghost reads_back = { λ c x y can. truth_reads_back c.comparison x y };
 
-    ghost is_small = { λ c can. native_small BoolScalar tt };
+    ghost is_small = { λ c can. bool_small };
+
+    fn left(&self) -> Scalar {
+        Scalar::Bytes(self.width)
+    }
+
+    fn right(&self) -> Scalar {
+        Scalar::Bytes(self.other_width)
+    }
 
     fn target(&self) -> Scalar {
         Scalar::Bool
     }
 
-    fn make_run(
-        &self,
-        bytes: &mut [u8],
-        to: Run,
-        left: &[u8],
-        first: Run,
-        right: &[u8],
-        second: Run,
-    ) {
-        let width = self.width.get();
-        let other_width = self.other_width.get();
-        compare_texts_run(
-            self.comparison,
-            bytes,
-            to,
-            left,
-            first,
-            width,
-            right,
-            second,
-            other_width,
-        );
+    fn push(&self, block: BlockBuilder, operands: Operands<'_>) -> BlockBuilder {
+        let texts = Texts {
+            comparison: self.comparison,
+        };
+        operands.push_all(&texts, block)
     }
 }

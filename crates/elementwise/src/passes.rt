@@ -1,23 +1,12 @@
 //! Passes over items that lie at equal steps in slices of bytes.
-ghost use Rattle.std.specs.Prelude.{◌≡◌, ◌+◌, ◌^◌, ◌<◌, ◌≤◌, pos, ◌≤ℤ◌, ◌<ℤ◌, IsTrue, length};
-ghost use Rattle.raw_block.specs.Bytes.{position, place, put, EachWithin};
+ghost use Rattle.std.specs.Prelude.{◌≡◌, ◌+◌, ◌^◌, ◌<◌, ◌≤◌, pos, IsTrue, length};
+ghost use Rattle.raw_block.specs.Bytes.{put, EachWithin};
 ghost use Rattle.elementwise.specs.inside.Passes.{made, leaf_cast};
 
 use crate::byte_orders::Ordered;
 use crate::numbers::Number;
+use crate::sides::place;
 use shape_strides::Run;
-
-/// Where the `k`-th item of a run lies.
-#[inline(always)]
-pub fn place(run: Run, k: usize) -> usize
-    requires few { k < 2 ^ 63 }
-    requires start { run.offset < 2 ^ 63 }
-    requires low { pos 0 ≤ℤ position run.offset run.step k }
-    requires high { position run.offset run.step k <ℤ pos (2 ^ 63) }
-    ensures { result ≡ place run.offset run.step k }
-{
-    (run.offset as isize + k as isize * run.step) as usize
-}
 
 /// Writes what the bytes of a number are as another number.
 #[inline(always)]

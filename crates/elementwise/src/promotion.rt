@@ -1,5 +1,8 @@
 //! The types of results, as NumPy 2 promotes the types of operands.
 ghost use Rattle.std.specs.Prelude.{◌≡◌, ◌≤◌, not, ◌&&◌, ◌||◌};
+ghost use Rattle.elem_descr.specs.declared.scalar.Order.TheVariants.{Little};
+ghost use Rattle.elem_descr.specs.declared.scalar.Width.TheVariants.{Eight};
+ghost use Rattle.elem_descr.specs.declared.scalar.Scalar.TheVariants.{Int};
 ghost use Rattle.elem_descr.specs.Refusals.{Answers};
 ghost use Rattle.elementwise.specs.Promotion.{is_bool, is_text, is_signed, rank_of_kind, same_kind, integer_type, little, mixed_type, common_integers, common_type, serves_bools, is_division, promote, are_comparable, compared_type, literal_type, serves_one, promote_one};
 ghost use Rattle.elementwise.specs.Results.{scalar_of};
@@ -61,6 +64,17 @@ pub fn same_kind(from: Scalar, to: Scalar) -> Result<(), Refusal>
         return Err(Refusal::NotSameKind);
     }
     Ok(())
+}
+
+/// The little-endian integers of eight bytes.
+pub(crate) fn eight_bytes(signed: bool) -> Scalar
+    ensures { result ≡ Int signed Eight Little }
+{
+    Scalar::Int {
+        signed,
+        width: Width::Eight,
+        order: Order::Little,
+    }
 }
 
 /// The little-endian integers of so many bytes.

@@ -151,7 +151,7 @@ impl<S: Value> Fold<S> for Least {
 
     ghost RESUMES = { true };
 
-    ghost gives = { λ order bytes numbers few is. kept_is (S.scalar order) (S.scalar Little) bytes (least numbers) (S.is_little order) is };
+    ghost gives = { λ order bytes numbers few is. kept_is (S.scalar order) (S.scalar Little) bytes (least numbers) (S.Value.is_little order) is };
 
     ghost has_size = { λ order. kept_size (S.scalar order) S.WIDTH (S.has_width order) };
 
@@ -189,7 +189,7 @@ impl<S: Value> Fold<S> for Greatest {
 
     ghost RESUMES = { true };
 
-    ghost gives = { λ order bytes numbers few is. kept_is (S.scalar order) (S.scalar Little) bytes (greatest numbers) (S.is_little order) is };
+    ghost gives = { λ order bytes numbers few is. kept_is (S.scalar order) (S.scalar Little) bytes (greatest numbers) (S.Value.is_little order) is };
 
     ghost has_size = { λ order. kept_size (S.scalar order) S.WIDTH (S.has_width order) };
 

@@ -13,7 +13,7 @@ use Rattle.script_lang.specs.declared.operation.UnaryOperation.{UnaryOperation}
 use Rattle.script_lang.specs.declared.operation.UnaryOperation.TheVariants.{Negate, Invert}
 use Rattle.script_lang.specs.declared.operation.Comparison.{Comparison}
 use Rattle.elementwise.specs.Comparisons.{says, compared}
-use Rattle.elementwise.specs.Promotion.{is_bool}
+use Rattle.elementwise.specs.Promotion.{is_bool, little}
 use Rattle.elementwise.specs.Operations.{exact}
 use Rattle.elementwise.specs.inside.PairPasses.{IsNative, binary_value, unary_value, compared_value, truth_value}
 
@@ -23,23 +23,32 @@ native_number (Byte signed) native = tt
 native_number (Int signed width order) native = tt
 native_number (Bytes n) never = never
 
-pub binary_reads_back : (op : BinaryOperation) (scalar : Scalar) (x y : LeafValue) → IsNative scalar → decode scalar (encode scalar (binary_value op scalar x y)) ≡ binary_value op scalar x y
-binary_reads_back op scalar x y native = decode_encode scalar (exact op scalar (number_of x) (number_of y)) (native_number scalar native)
+pub number-little : (scalar : Scalar) → IsNumber scalar → IsNumber (little scalar)
+number-little BoolScalar is = tt
+number-little (Byte signed) is = tt
+number-little (Int signed width order) is = tt
+number-little (Bytes n) never = never
+
+pub binary_reads_back : (op : BinaryOperation) (scalar : Scalar) (x y : LeafValue) → IsNumber scalar → decode (little scalar) (encode (little scalar) (binary_value op (little scalar) x y)) ≡ binary_value op (little scalar) x y
+binary_reads_back op scalar x y is = decode_encode (little scalar) (exact op (little scalar) (number_of x) (number_of y)) (number-little scalar is)
 
 small_width : (width : Width) → width_size width ≤ 8
 small_width Two = omega arith
 small_width Four = omega arith
 small_width Eight = omega arith
 
-pub native_small : (scalar : Scalar) → IsNative scalar → size scalar ≤ 8
-native_small BoolScalar native = omega arith
-native_small (Byte signed) native = omega arith
-native_small (Int signed width order) native = small_width width
-native_small (Bytes n) never = absurd never
+pub number_small : (scalar : Scalar) → IsNumber scalar → size (little scalar) ≤ 8
+number_small BoolScalar is = omega arith
+number_small (Byte signed) is = omega arith
+number_small (Int signed width order) is = small_width width
+number_small (Bytes n) never = absurd never
 
-pub unary_reads_back : (op : UnaryOperation) (scalar : Scalar) (x y : LeafValue) → IsNative scalar → decode scalar (encode scalar (unary_value op scalar x y)) ≡ unary_value op scalar x y
-unary_reads_back Negate scalar x y native = decode_encode scalar (pos 0 -ℤ number_of y) (native_number scalar native)
-unary_reads_back Invert scalar x y native = decode_encode scalar (cond (is_bool scalar) (pos 1) (negsuc 0) -ℤ number_of y) (native_number scalar native)
+pub bool_small : size BoolScalar ≤ 8
+bool_small = omega arith
+
+pub unary_reads_back : (op : UnaryOperation) (scalar : Scalar) (x y : LeafValue) → IsNumber scalar → decode (little scalar) (encode (little scalar) (unary_value op (little scalar) x y)) ≡ unary_value op (little scalar) x y
+unary_reads_back Negate scalar x y is = decode_encode (little scalar) (pos 0 -ℤ number_of y) (number-little scalar is)
+unary_reads_back Invert scalar x y is = decode_encode (little scalar) (cond (is_bool (little scalar)) (pos 1) (negsuc 0) -ℤ number_of y) (number-little scalar is)
 
 pub compared_reads_back : (comparison : Comparison) (x y : LeafValue) → decode BoolScalar (encode BoolScalar (compared_value comparison x y)) ≡ compared_value comparison x y
 compared_reads_back comparison x y =

@@ -6,21 +6,21 @@ use Rattle.elem_descr.specs.declared.scalar.Width.TheVariants.{Eight}
 use Rattle.elem_descr.specs.declared.scalar.Scalar.TheVariants.{Int}
 use Rattle.elementwise.specs.Casts.{can_cast}
 use Rattle.elementwise.proofs.PromotedLaws.{can_scalar}
-use Rattle.elementwise.proofs.HeldLaws.{number-no_text, compared_all, compared_moved}
+use Rattle.elementwise.proofs.HeldLaws.{number-no_text, compared_all}
 use Rattle.elementwise.proofs.compared.compare_signs.Goals as goal
 
-pub make_stretched-requires-clause-left_cast : goal.make_stretched-requires-clause-left_cast
-make_stretched-requires-clause-left_cast c =
-    (λ i. can_cast (c.requires.from i) (ScalarDescr (c.eight_bytes.ensures i))) ∙ can_scalar c.args.from.now (Int c.args.left_signed Eight Little) (number-no_text c.args.from.now c.requires.left_number) refl
+pub make_cast-requires-clause-left_cast : goal.make_cast-requires-clause-left_cast
+make_cast-requires-clause-left_cast c =
+    (λ i. can_cast (c.requires.from i) (ScalarDescr (Int c.args.left_signed Eight Little))) ∙ can_scalar c.args.from.now (Int c.args.left_signed Eight Little) (number-no_text c.args.from.now c.requires.left_number) refl
 
-pub make_stretched-requires-clause-cast : goal.make_stretched-requires-clause-cast
-make_stretched-requires-clause-cast c =
-    (λ i. can_cast (c.requires.other i) (ScalarDescr (c.eight_bytes-2.ensures i))) ∙ can_scalar c.args.other.now (Int (not c.args.left_signed) Eight Little) (number-no_text c.args.other.now c.requires.right_number) refl
+pub make_cast-requires-clause-right_cast : goal.make_cast-requires-clause-right_cast
+make_cast-requires-clause-right_cast c =
+    (λ i. can_cast (c.requires.other i) (ScalarDescr (Int (not c.args.left_signed) Eight Little))) ∙ can_scalar c.args.other.now (Int (not c.args.left_signed) Eight Little) (number-no_text c.args.other.now c.requires.right_number) refl
 
 pub returns-clause-items : goal.returns-clause-items
 returns-clause-items c =
     let s = Int c.args.left_signed Eight Little in
     let t = Int (not c.args.left_signed) Eight Little in
-    compared_all c.args.comparison c.args.from.now c.args.other.now s t c.args.left.descr.now c.args.right.descr.now c.make_stretched.result c.args.left.block.now c.args.right.block.now c.args.left.layout.now c.args.right.layout.now c.args.shape.now
+    compared_all c.args.comparison c.args.from.now c.args.other.now s t c.args.left.descr.now c.args.right.descr.now c.make_cast.result c.args.left.block.now c.args.right.block.now c.args.left.layout.now c.args.right.layout.now c.args.shape.now
     c.requires.from c.requires.other c.requires.left_number c.requires.right_number tt tt c.requires.left_held c.requires.right_held c.note_bytes.ensures c.note_bytes-2.ensures
-    c.make_stretched.ensures.descr c.make_stretched.ensures.shape (compared_moved c.args.comparison _ s _ t c.args.left.descr.now c.args.right.descr.now c.make_stretched.result c.args.left.block.now c.args.right.block.now c.args.left.layout.now c.args.right.layout.now c.args.shape.now c.eight_bytes.ensures c.eight_bytes-2.ensures c.make_stretched.ensures.items)
+    c.make_cast.ensures.descr c.make_cast.ensures.shape c.make_cast.ensures.items

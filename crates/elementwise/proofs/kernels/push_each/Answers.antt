@@ -1,0 +1,26 @@
+use Rattle.std.proofs.Common.{◌≡◌, ◌+◌, ◌*◌, ◌≤◌, ◌++◌, suc, ap, ◌∙◌, append_assoc, arith}
+use Rattle.std.proofs.Math.Nat.{suc-mul, add-mul, mul-le-mul_right}
+use Rattle.elem_descr.specs.declared.scalar.Order.TheVariants.{Little}
+use Rattle.elem_descr.specs.Values.{number}
+use Rattle.elem_descr.specs.Encoding.{encode}
+use Rattle.raw_block.specs.Bytes.{joined}
+use Rattle.elementwise.specs.inside.PairPasses.{number_pair}
+use Rattle.elementwise.specs.inside.Sides.{made_of, pair_count}
+use Rattle.elementwise.proofs.kernels.push_each.Goals as goal
+
+pub push-requires : goal.push-requires
+push-requires g c =
+    let most : suc c.loop-k.k * g.T.Number.WIDTH ≤ pair_count c.args.pairs * g.T.Number.WIDTH = mul-le-mul_right g.T.Number.WIDTH c.loop-k-test.true in
+    omega (arith, most, suc-mul c.loop-k.k g.T.Number.WIDTH, c.requires.room, c.loop-k.invariant.left)
+
+pub loop-k-preserved : goal.loop-k-preserved
+loop-k-preserved g c =
+    let k = c.loop-k.k in
+    let to = g.T.Number.scalar Little in
+    let made = made_of (number_pair (g.A.Number.scalar g.O.Ordered.order) (g.B.Number.scalar g.O.Ordered.order) to g.K.Kernel.makes) c.args.pairs in
+    let is = ap (λ z. encode to (number z)) c.make_of.ensures in
+    let next : suc k ≡ k + 1 = omega arith in
+    record {
+      bytes = c.push.ensures.bytes ∙ (λ i. c.loop-k.invariant.bytes i ++ is i) ∙ append_assoc c.args.block.0 (joined made k) (made k) ∙ ap (λ m. c.args.block.0 ++ joined made m) next;
+      left = let parts = add-mul k 1 g.T.Number.WIDTH in omega (arith, parts, c.push.ensures.left, c.loop-k.invariant.left);
+    }

@@ -1,0 +1,26 @@
+-- Operands as items of an element type: where they lie, or in a block of their own.
+use Rattle.std.specs.Prelude.{ℕ, List}
+use Rattle.elem_descr.specs.declared.descr.Descr.{Descr}
+use Rattle.elem_descr.specs.Values.{LeafValue}
+use Rattle.overlap_copy.specs.ItemLists.{items, owned_items}
+use Rattle.overlap_copy.specs.declared.items.Items.{Items}
+use Rattle.overlap_copy.specs.declared.owned.Owned.{Owned}
+use Rattle.elementwise.specs.Results.{stretched_items}
+use Rattle.elementwise.specs.declared.held.Held.{Held}
+use Rattle.elementwise.specs.declared.held.Held.TheVariants.{Kept, Made}
+
+abbrev pub held_items : Held → List (List LeafValue)
+held_items (Kept i) = items i
+held_items (Made o) = owned_items o
+
+abbrev pub held_descr : Held → Descr
+held_descr (Kept i) = i.descr.now
+held_descr (Made o) = o.descr
+
+abbrev pub held_shape : Held → List ℕ
+held_shape (Kept i) = i.layout.now.shape
+held_shape (Made o) = o.layout.shape
+
+-- items that are lent, as they are stretched to a shape
+abbrev pub stretched : Items → List ℕ → List (List LeafValue)
+stretched i shape = stretched_items i.descr.now i.block.now i.layout.now shape

@@ -1,0 +1,19 @@
+-- What is made of the items of two operands, one after another.
+use Rattle.std.specs.Prelude.{ℕ, List}
+use Rattle.std.specs.List.{concat}
+use Rattle.elem_descr.specs.Items.{item_size}
+use Rattle.shape_strides.specs.Indexes.{count}
+use Rattle.shape_strides.specs.Layouts.{offsets}
+use Rattle.elementwise.specs.Results.{pairwise}
+use Rattle.elementwise.specs.inside.PairPasses.{pair_from}
+use Rattle.elementwise.specs.declared.rows.Operands.{Operands}
+
+-- how many pairs of items there are
+abbrev pub pairs_of : Operands → ℕ
+pairs_of o = count o.left.layout.now.shape
+
+-- the bytes of what f makes of each pair
+abbrev pub made_of_all : (List ℕ → List ℕ → List ℕ) → Operands → List ℕ
+made_of_all f o =
+    let make = pair_from f (item_size o.left.descr.now) (item_size o.right.descr.now) o.left.block.now o.right.block.now in
+    concat (pairwise make (offsets o.left.layout.now) (offsets o.right.layout.now))

@@ -1,0 +1,37 @@
+//! Comparisons of pairs of byte strings, row by row.
+ghost use Rattle.elementwise.specs.inside.PairPasses.{text_pair};
+ghost use Rattle.std.proofs.Common.{arith};
+
+use crate::byte_orders::LowFirst;
+use crate::numbers::Number;
+use crate::rows::Pass;
+use crate::sides::Pairs;
+use crate::text_comparing::{are_compared, without_nuls};
+use raw_block::BlockBuilder;
+use script_lang::Comparison;
+
+/// A comparison of byte strings, whose NULs at the end do not count.
+#[derive(Clone, Copy)]
+pub(crate) struct Texts {
+    pub(crate) comparison: Comparison,
+}
+
+impl Pass for Texts {
+    ghost makes = { λ t. text_pair t.comparison };
+
+    ghost Reads = { λ _ _ _. Unit {0} };
+
+    ghost width = { λ _. 1 };
+
+    ghost not_empty = { λ _. Prim.omega arith };
+
+    fn push_row(&self, block: BlockBuilder, pairs: Pairs<'_>) -> BlockBuilder {
+        let mut block = block;
+        for k in 0..pairs.left.run.count {
+            let left = without_nuls(pairs.left.item(k));
+            let right = without_nuls(pairs.right.item(k));
+            are_compared(self.comparison, left, right).push::<LowFirst>(&mut block);
+        }
+        block
+    }
+}
