@@ -27,6 +27,7 @@ mod shrunk;
 mod text_comparing;
 mod texts;
 mod typed;
+mod words;
 
 pub use alike::{are_alike, keeps_items};
 pub use applied::{apply1, apply2};
