@@ -18,6 +18,7 @@ pub mod HeldLaws
 pub mod ComparedLaws
 pub mod IntegerLaws
 pub mod BytesComparedLaws
+pub mod TextWordLaws
 pub mod BitLaws
 pub mod WordLaws
 mod Vectors

@@ -23,7 +23,7 @@ use Rattle.overlap_copy.specs.Blocks.{offsets_in}
 use Rattle.overlap_copy.specs.declared.owned.Owned.{Owned}
 use Rattle.elementwise.specs.Results.{stretched_items, pairwise}
 use Rattle.elementwise.specs.inside.Shrunk.{IsShrunk}
-use Rattle.elementwise.proofs.PairLaws.{length-pairwise, pairwise-map}
+use Rattle.elementwise.proofs.PairLaws.{pairwise-map}
 use Rattle.elementwise.proofs.StretchedLaws.{stretched-self, inside}
 
 -- functions that agree on the indexes

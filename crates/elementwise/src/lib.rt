@@ -31,6 +31,7 @@ mod text_comparing;
 mod text_pairs;
 mod texts;
 mod typed;
+mod words;
 
 pub use alike::{are_alike, keeps_items};
 pub use applied::{apply1, apply2};

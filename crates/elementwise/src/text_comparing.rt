@@ -5,12 +5,14 @@ ghost use Rattle.elem_descr.specs.Values.{text};
 ghost use Rattle.elementwise.specs.Comparisons.{compared};
 
 use crate::comparing::says;
+use crate::words::{shared_words, without_nul_words};
 use script_lang::Comparison;
 
 /// A byte string without the NULs at its end.
 pub(crate) fn without_nuls(item: &[u8]) -> &[u8]
     ensures { result.now ≡ without_nuls item.now }
 {
+    let item = &item[..without_nul_words(item)];
     let nuls = item.iter().rev().take_while(|b| **b == 0).count();
     &item[..item.len() - nuls]
 }
@@ -19,6 +21,7 @@ pub(crate) fn without_nuls(item: &[u8]) -> &[u8]
 pub(crate) fn are_compared(comparison: Comparison, left: &[u8], right: &[u8]) -> bool
     ensures { result ≡ compared comparison (text left.now) (text right.now) }
 {
-    let order = left.cmp(right);
+    let shared = shared_words(left, right);
+    let order = left[shared..].cmp(&right[shared..]);
     says(comparison, order.is_lt(), order.is_gt())
 }

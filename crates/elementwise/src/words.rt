@@ -1,0 +1,35 @@
+//! Byte strings eight bytes at a time.
+ghost use Rattle.std.specs.Prelude.{◌≡◌, ◌≤◌, length, take};
+ghost use Rattle.elem_descr.specs.Encoding.{without_nuls};
+
+use crate::byte_orders::{LowFirst, Ordered};
+
+/// How many bytes two byte strings have in common at the front, as far as whole words go.
+pub(crate) fn shared_words(left: &[u8], right: &[u8]) -> usize
+    ensures left { result ≤ length left.now }
+    ensures right { result ≤ length right.now }
+    ensures same { take result left.now ≡ take result right.now }
+{
+    let words = left.len().min(right.len()) / 8;
+    for word in 0..words {
+        let at = 8 * word;
+        let first = LowFirst::read_eight(&left[at..at + 8]);
+        let second = LowFirst::read_eight(&right[at..at + 8]);
+        if first != second {
+            return at;
+        }
+    }
+    8 * words
+}
+
+/// How many bytes of a byte string there are before the words of NULs at its end.
+pub(crate) fn without_nul_words(item: &[u8]) -> usize
+    ensures few { result ≤ length item.now }
+    ensures same { without_nuls (take result item.now) ≡ without_nuls item.now }
+{
+    let mut len = item.len();
+    while len >= 8 && LowFirst::read_eight(&item[len - 8..len]) == 0 {
+        len -= 8;
+    }
+    len
+}
