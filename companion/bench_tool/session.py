@@ -104,7 +104,8 @@ def items_of(text: str) -> tuple[Any, ...]:
     """The items of a printed array, in C order: integers, bools, bytes, and tuples for records."""
     if "'" not in text and "(" not in text:
         words = text.replace("[", " ").replace("]", " ").split()
-        return tuple(map(_value if "e" in text else int, words))
+        read: Callable[[str], Any] = _value if "e" in text else int
+        return tuple(map(read, words))
     records: list[list[Any]] = [[]]
     for token in TOKEN.findall(text):
         if token == "(":
