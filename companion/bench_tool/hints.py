@@ -45,8 +45,8 @@ class Known:
 
 
 class Row(NamedTuple):
-    """An example, the pattern of all like it, and what to write: lines of commands, or a sentence behind `#`. In that `\\1` is a
-    group, `@t` a free name, `@D(name)` its type, `@T(kind)` a type, `@O(sign)` a verb, `@C(..)` numbers with blanks between, `@N(..)` their count."""
+    """An example, the pattern of all like it, and what to write: commands, or a sentence behind `#`. There `\\1` is a group, `@t` a
+    free name, `@D(name)` its type, `@T(kind)` a type, `@O(sign)` a verb, `@C(..)` numbers with blanks, `@N(..)` their count."""
 
     example: str
     pattern: str

@@ -57,7 +57,8 @@ def operations() -> dict[str, list[str]]:
 
 @lru_cache(None)
 def commands() -> list[Command]:
-    return [Command(tuple(re.findall(r"`([^`]*)`", forms)), *(cell.replace("`", "") for cell in cells)) for forms, *cells in rows("Command")]
+    plain = [(forms, *(cell.replace("`", "") for cell in cells)) for forms, *cells in rows("Command")]
+    return [Command(tuple(re.findall(r"`([^`]*)`", forms)), *cells) for forms, *cells in plain]
 
 
 @lru_cache(None)
@@ -74,15 +75,17 @@ def verbs(behind: bool) -> list[str]:
 
 
 def help_text(word: str = "") -> str:
-    """All forms; or of one command its form, what it does, its reply and its refusals; or of a code when it comes."""
+    """All forms; of one command its form, what it does, its reply and its refusals; of a code when it comes; or a section."""
     if not commands():
         return "LANGUAGE.md, which has the commands, is not installed beside bench-tool"
     if word in codes():
         return f"  {word} {codes()[word][0]}: {codes()[word][1]}"
     if word:
         found = [command.told() for command in commands() if word in command.words() or word in command.forms]
-        return "\n".join(found) or f"  there is no command {word}; help alone lists them"
+        sections = [part.rstrip() for part in text().split("\n## ") if word in part.partition("\n")[0].lower().split()]
+        return "\n".join(found or sections) or f"  there is no command {word}; help alone lists them"
     width = max(len(form) for command in commands() for form in command.forms)
-    shown = [f"  {form:{width}}  {command.what}" for command in commands() for form in command.forms]
+    shown = [f"  {form:{width}}  {command.what or command.reply}" for command in commands() for form in command.forms]
     shown += [f"  {key} is one of {' '.join(words)}" for key, words in operations().items()]
-    return "\n".join([*shown, "help COMMAND tells the refusals too, help E11 when that code comes; quit ends."])
+    shown += ["help COMMAND tells the refusals too, help E11 when that code comes; help types, help shapes, help indexes and"]
+    return "\n".join([*shown, "help limits tell what these are; quit ends"])

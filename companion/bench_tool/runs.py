@@ -97,7 +97,8 @@ def run(words: argparse.Namespace) -> int:
 
 def add_to(commands: Any, common: argparse.ArgumentParser) -> None:
     about = "a script, with the place of each refusal on standard error"
-    command = commands.add_parser("run", parents=[common], help=about, description=f"Runs {about}, as SCRIPT:17: E11 index out of range: c = b[2].")
+    form = "SCRIPT:17: E11 index out of range: c = b[2]"
+    command = commands.add_parser("run", parents=[common], help=about, description=f"Runs {about}, as {form}.")
     command.add_argument("script", metavar="SCRIPT", help="the script; - is standard input")
     command.add_argument("--stop", action="store_true", help="end at the first refusal")
     command.add_argument("--summary", action="store_true", help="tell how many lines were accepted and refused")
