@@ -16,18 +16,18 @@ from .session import BenchError, Reply, Session
 NAME = r"([A-Za-z_]\w*)"
 SPAN = r"(\[.*\])"
 LITERAL = r"([-+]?\d+|True|False|b'[^']*')"
-BOTH = {"+": "add", "-": "sub", "*": "mul", "//": "fdiv", "%": "mod", "&": "and", "|": "or", "^": "xor", "<<": "shl", ">>": "shr"}
-SIGNS = {**BOTH, "==": "eq", "!=": "ne", "<=": "le", ">=": "ge", "<": "lt", ">": "gt"}
-SIGN = "(" + "|".join(re.escape(sign) for sign in sorted(SIGNS, key=len, reverse=True)) + ")"
-CHANGE = "(" + "|".join(re.escape(sign) for sign in sorted(BOTH, key=len, reverse=True)) + ")="
+SIGNS = {
+    "+": "add", "-": "sub", "*": "mul", "//": "fdiv", "%": "mod", "&": "and", "|": "or", "^": "xor", "<<": "shl", ">>": "shr",
+    "==": "eq", "!=": "ne", "<=": "le", ">=": "ge", "<": "lt", ">": "gt",
+}
+SIGN = r"(//|<<|>>|[=!<>]=|[-+*%&|^<>])"
+CHANGE = r"(//|<<|>>|[-+*%&|^])="
 FOLDS = "(sum|prod|min|max|any|all|argmin|argmax)"
 TWO = "(add|sub|mul|fdiv|mod|and|or|xor|shl|shr|eq|ne|lt|le|gt|ge)"
-TYPES = {
-    "bool": "|b1", "int8": "|i1", "int16": "<i2", "int32": "<i4", "int64": "<i8", "int": "<i8",
-    "uint8": "|u1", "uint16": "<u2", "uint32": "<u4", "uint64": "<u8", "bytes": "|S8", "str": "|S8",
-}
-TYPES.update({kind: ("|" if kind[1:] in "1" else "<") + kind for kind in ("i1", "i2", "i4", "i8", "u1", "u2", "u4", "u8")})
-TYPE = "(?:np\\.)?(" + "|".join(TYPES) + ")"
+TYPES = {kind: ("|" if kind[1] == "1" else "<") + kind for kind in ("i1", "i2", "i4", "i8", "u1", "u2", "u4", "u8")}
+TYPES.update({f"{'u' * (kind[0] == 'u')}int{8 * int(kind[1])}": text for kind, text in list(TYPES.items())})
+TYPES.update({"int": "<i8", "bool": "|b1", "bytes": "|S8", "str": "|S8"})
+TYPE = r"(?:np\.)?(" + "|".join(TYPES) + ")"
 
 
 class Known:
@@ -45,8 +45,8 @@ class Known:
 
 
 class Row(NamedTuple):
-    """An example, the pattern of all like it, and what to write: lines of commands, or a sentence behind `#`. In that `\\1` is a
-    group, `@t` a free name, `@D(name)` its type, `@T(kind)` a type, `@O(sign)` a verb, `@C(..)` numbers with blanks between, `@N(..)` their count."""
+    """An example, the pattern of all like it, and what to write: commands, or a sentence behind `#`. There `\\1` is a group, `@t` a
+    free name, `@D(name)` its type, `@T(kind)` a type, `@O(sign)` a verb, `@C(..)` numbers with blanks, `@N(..)` their count."""
 
     example: str
     pattern: str
@@ -69,17 +69,14 @@ ROWS = tuple(Row(*row) for row in (
     ("print(a)", rf"(print|info|format|del)\s*\({NAME}\)", r"\1 \2"),
     ("print a[0]", rf"(print|info|format)\s*\(?{NAME}\s*{SPAN}\)?", r"@t = \2\3" "\n" r"\1 @t"),
     ("shares a[1:] a", rf"shares {NAME}{SPAN} {NAME}", r"@t = \1\2" "\n" r"shares @t \3"),
-    ("save a[1:] \"f.npy\"", rf"save {NAME}{SPAN} (\"[^\"]*\")", r"@t = \1\2" "\n" r"save @t \3"),
     ("save a f.npy", rf"save {NAME} '?([\w.-]+)'?", r'save \1 "\2"'),
     ("x = load 'a.npy'", rf"{NAME}\s*=\s*load\s*\(?'?([\w.-]+)'?\)?", r'\1 = load "\2"'),
     ('load "a.npy"', r'load "([\w.-]+)"', r'x = load "\1"'),
     ("x = field r x", rf"{NAME}\s*=\s*field {NAME} '?(\w+)'?", r'\1 = field \2 "\3"'),
     ("x = r['x']", rf"{NAME}\s*=\s*{NAME}\[['\"](\w+)['\"]\]", r'\1 = field \2 "\3"'),
-    ("x = field r[0] \"x\"", rf"{NAME}\s*=\s*field {NAME}{SPAN} (\"\w+\")", r'@t = \2\3' "\n" r'\1 = field @t \4'),
-    ("a[0] += 1", rf"(?:set )?{NAME}\s*{SPAN}\s*{CHANGE}\s*(.+)", r"upd \1\2 @O(\3) \4"),
-    ("a += 1", rf"(?:set )?{NAME}\s*{CHANGE}\s*(.+)", r"upd \1[...] @O(\2) \3"),
+    ("a[0] += 1", rf"(?:set |upd )?{NAME}\s*{SPAN}\s*{CHANGE}\s*(.+)", r"upd \1\2 @O(\3) \4"),
+    ("a += 1", rf"(?:set |upd )?{NAME}\s*{CHANGE}\s*(.+)", r"upd \1[...] @O(\2) \3"),
     ("upd a add 1", rf"upd {NAME} {TWO} (.+)", r"upd \1[...] \2 \3"),
-    ("upd a[0] += 1", rf"upd {NAME}{SPAN} {CHANGE}\s*(.+)", r"upd \1\2 @O(\3) \4"),
     ("set a = 5", rf"set {NAME}\s*=\s*(.+)", r"set \1[...] = \2"),
     ("set a [0] = 5", rf"set {NAME}\s+{SPAN}\s*=\s*(.+)", r"set \1\2 = \3"),
     ("set a[0] 5", rf"set {NAME}\s*{SPAN}\s+([^=\s].*)", r"set \1\2 = \3"),
@@ -95,10 +92,7 @@ ROWS = tuple(Row(*row) for row in (
     ("x = add 5 a", rf"{NAME}\s*=\s*(add|mul|and|or|xor|eq|ne) {LITERAL} {NAME}", r"\1 = \2 \4 \3"),
     ("x = sub 5 a", rf"{NAME}\s*=\s*{TWO} {LITERAL} {NAME}", r"@t = full @D(\4) () \3" "\n" r"\1 = \2 @t \4"),
     ("x = a + 1", rf"{NAME}\s*=\s*{NAME}\s*{SIGN}\s*(\S+)", r"\1 = @O(\3) \2 \4"),
-    ("x = 5 - a", rf"{NAME}\s*=\s*{LITERAL}\s*{SIGN}\s*{NAME}", r"@t = full @D(\4) () \2" "\n" r"\1 = @O(\3) @t \4"),
-    ("x = add(a, 1)", rf"{NAME}\s*=\s*(?:np\.)?{TWO}\({NAME},\s*(\S+)\)", r"\1 = \2 \3 \4"),
     ("x = -a", rf"{NAME}\s*=\s*-\s*{NAME}", r"\1 = neg \2"),
-    ("x = ~a", rf"{NAME}\s*=\s*~\s*{NAME}", r"\1 = not \2"),
     ("a + 1", rf"{NAME}\s*{SIGN}\s*(\S+)", r"@t = @O(\2) \1 \3" "\n" r"print @t"),
     ("x = a.T", rf"{NAME}\s*=\s*{NAME}\.(?:T|transpose\(\))", r"\1 = transpose \2"),
     ("x = copy a", rf"{NAME}\s*=\s*copy {NAME}", r"\1 = copy \2 C"),
@@ -147,24 +141,23 @@ def meant(session: Session, line: str, reply: Reply, folder: str = ".") -> list[
 
 def _of_code(session: Session, known: Known, line: str, code: str, folder: str) -> str:
     words = re.findall(r"[A-Za-z_]\w*", line)
-    quoted = re.findall(r'"([^"]*)"', line)
+    bound = [word for word in dict.fromkeys(words) if word in known.names]
     if code == "E02":
         return "bytes of plain ASCII alone, and straight quotes"
     if code in ("E04", "E05"):
         return "; ".join(f"write: {TYPES[word]} for {word}" for word in words if word in TYPES)
     if code == "E06":
-        unknown = [word for word in words if word not in known.names and word not in language.verbs(True) + language.verbs(False)]
+        unknown = set(words).difference(bound, language.verbs(True), language.verbs(False))
         near = [name for word in unknown for name in difflib.get_close_matches(word, known.names)]
-        bound = near or known.names[:10]
-        return ("near it: " if near else "bound: ") + " ".join(bound) if bound else "nothing is bound yet"
+        return f"near it: {' '.join(near)}" if near else f"bound: {' '.join(known.names[:10]) or 'nothing yet'}"
     if code == "E34":
-        near = difflib.get_close_matches(quoted[0] if quoted else "", os.listdir(folder or "."))
+        near = difflib.get_close_matches(line.split('"')[1], os.listdir(folder))
         return f"near it: {' '.join(near)}" if near else f"looked for in {os.path.abspath(folder)}"
     if code == "E19":
-        return "; ".join(f"{word} has {' '.join(fields(session, word)) or 'no fields'}" for word in words if word in known.names)
+        return "; ".join(f"{name} has {' '.join(fields(session, name)) or 'no fields'}" for name in bound)
     if code == "E20":
         return "write: copy X C, and set in the copy"
-    shown = [session.array(word, items=False) for word in dict.fromkeys(words) if word in known.names]
+    shown = [session.array(name, items=False) for name in bound]
     return "; ".join(f"{array.name} is {array.type} {array.shape}" for array in shown)
 
 

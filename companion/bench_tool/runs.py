@@ -30,11 +30,6 @@ def shown(line: bytes) -> str:
     return cut + ".." * (len(text) > SHOWN)
 
 
-def write(part: bytes) -> None:
-    sys.stdout.buffer.write(part)
-    sys.stdout.buffer.flush()
-
-
 def tell(text: str) -> None:
     print(text, file=sys.stderr, flush=True)
 
@@ -55,7 +50,8 @@ class Run:
     def line(self, number: int, line: bytes) -> None:
         """Sends a line, and tells what there is to tell of it."""
         begun = time.perf_counter()
-        reply = self.session.send(line, write)
+        reply = self.session.send(line, sys.stdout.buffer.write)
+        sys.stdout.buffer.flush()
         took = time.perf_counter() - begun
         if reply.text:
             self.codes[reply.code] += 1
@@ -96,12 +92,13 @@ def run(words: argparse.Namespace) -> int:
         try:
             return Run(session, words).script(script)
         except ProgramEnded as ended:
-            return max(3, ended.status or 0)
+            return max(3, ended.status)
 
 
 def add_to(commands: Any, common: argparse.ArgumentParser) -> None:
     about = "a script, with the place of each refusal on standard error"
-    command = commands.add_parser("run", parents=[common], help=about, description=f"Runs {about}, as SCRIPT:17: E11 index out of range: c = b[2].")
+    form = "SCRIPT:17: E11 index out of range: c = b[2]"
+    command = commands.add_parser("run", parents=[common], help=about, description=f"Runs {about}, as {form}.")
     command.add_argument("script", metavar="SCRIPT", help="the script; - is standard input")
     command.add_argument("--stop", action="store_true", help="end at the first refusal")
     command.add_argument("--summary", action="store_true", help="tell how many lines were accepted and refused")

@@ -41,9 +41,7 @@ class ProgramMissing(BenchError):
 class ProgramEnded(BenchError):
     """The program is not there any more; `status` is what it ended with."""
 
-    def __init__(self, text: str, status: Optional[int] = None):
-        super().__init__(text)
-        self.status = status
+    status = 0
 
 
 class Refused(BenchError):
@@ -104,7 +102,7 @@ def items_of(text: str) -> tuple[Any, ...]:
     """The items of a printed array, in C order: integers, bools, bytes, and tuples for records."""
     if "'" not in text and "(" not in text:
         words = text.replace("[", " ").replace("]", " ").split()
-        return tuple(map(_value if "e" in text else int, words))
+        return tuple(word == "True" for word in words) if "e" in text else tuple(map(int, words))
     records: list[list[Any]] = [[]]
     for token in TOKEN.findall(text):
         if token == "(":
@@ -205,8 +203,9 @@ class Session:
         self.close()
 
     def _ended(self) -> ProgramEnded:
-        status = self.close()
-        return ProgramEnded(f"{self.program} has ended, with status {status}", status)
+        ended = ProgramEnded(f"{self.program} has ended, with status {self.close()}")
+        ended.status = self.close()
+        return ended
 
     def _write(self, data: bytes) -> None:
         if self._status is not None:

@@ -6,6 +6,7 @@ import os
 import shutil
 import sys
 import tempfile
+from contextlib import suppress
 from pathlib import Path
 from typing import Any
 
@@ -27,10 +28,8 @@ def cut_to(session: Session, rows: int, columns: int) -> list[str]:
         if held.count(b"\n") > rows or len(held) > MOST:
             raise Full
 
-    try:
+    with suppress(Full):
         session.send("print x", take)
-    except Full:
-        pass
     lines = held.decode("ascii").splitlines()
     shown = [line if len(line) <= columns else line[:columns - 3] + " .." for line in lines[:rows]]
     return shown if shown == lines else [*shown, "(cut to the screen; --all shows all)"]
