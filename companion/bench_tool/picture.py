@@ -39,9 +39,19 @@ class Table(NamedTuple):
     rows: list[Row]
     moves: list[tuple[float, float]]
 
+    @property
+    def margin(self) -> int:
+        """Letters of the labels."""
+        return min(16, max(len(row.label) for row in self.rows))
+
 
 def cut(text: str, most: int = LONGEST) -> str:
     return text if len(text) <= most else f"{text[:most // 2]}…{text[1 - most // 2:]}"
+
+
+def fitting(text: str, room: int) -> str:
+    """A text, or its begin where there is no room for all of it."""
+    return text if len(text) <= room else text[:max(0, room - 1)] + "…" * (room > 0)
 
 
 def facts(bound: Bound) -> str:
