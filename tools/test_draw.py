@@ -84,12 +84,12 @@ class Pictures(unittest.TestCase):
                 common = bound.buffer == against.buffer and bool(bytes_seen(bound) & bytes_seen(against))
                 self.assertEqual(judge.ask(f"shares {name} {other}"), "shares yes" if common else "shares no", (name, other))
 
-        for seed in range(share(25, 1000)):
+        for seed in range(share(8, 1000)):
             with tempfile.TemporaryDirectory() as folder:
                 self.run_script(random_script(seed, 24), look, folder)
 
     def test_values_against_print(self):
-        for seed in range(share(20, 200)):
+        for seed in range(share(6, 200)):
             arrays = []
             with tempfile.TemporaryDirectory() as folder:
                 moments, hues = self.run_script(

@@ -4,7 +4,7 @@ from __future__ import annotations
 from math import prod
 from typing import Iterable, Mapping, NamedTuple, Optional
 
-from .trace import Bound, Moment, Place, Values, ends, literal
+from .trace import Bound, Moment, Place, Values, literal
 
 LONGEST = 40  # letters of a value
 SHORT = 160  # letters of a type
@@ -39,9 +39,19 @@ class Table(NamedTuple):
     rows: list[Row]
     moves: list[tuple[float, float]]
 
+    @property
+    def margin(self) -> int:
+        """Letters of the labels."""
+        return min(16, max(len(row.label) for row in self.rows))
+
 
 def cut(text: str, most: int = LONGEST) -> str:
     return text if len(text) <= most else f"{text[:most // 2]}…{text[1 - most // 2:]}"
+
+
+def fitting(text: str, room: int) -> str:
+    """A text, or its begin where there is no room for all of it."""
+    return text if len(text) <= room else text[:max(0, room - 1)] + "…" * (room > 0)
 
 
 def facts(bound: Bound) -> str:
@@ -77,11 +87,9 @@ class Drawn:
         self.state = came if not old else "goes" if not new else "changes" if self.changed else ""
         self.names = [(name, bound, "goes") for name, bound in before.items() if after.get(name) != bound]
         self.names += [(name, bound, "" if before.get(name) == bound else came) for name, bound in after.items()]
-        parts = ends(self.count, min(most, self.kind.most))
-        self.bytes = [range(part.start * self.size, part.stop * self.size, self.size) for part in parts]
-        self.columns: list[Optional[int]] = list(self.bytes[0])
-        for part in self.bytes[1:]:
-            self.columns += [None, *part]
+        self.starts = buffer.starts(most)
+        half = len(self.starts) // 2 if self.count > len(self.starts) else len(self.starts)
+        self.columns: list[Optional[int]] = [*self.starts[:half], *[None][:self.count - half], *self.starts[half:]]
         self.column = {byte: k for k, byte in enumerate(self.columns) if byte is not None}
 
     def has_changed(self, bound: Bound, at: int) -> bool:
@@ -121,12 +129,11 @@ class Drawn:
     def name_row(self, name: str, bound: Bound, state: str) -> Row:
         """The cells that a name sees, numbered in the order in which it reads them."""
         cells: list[list[Box]] = [[] for _ in self.columns]
-        for part in self.bytes:
-            for byte, number in sorted(bound.numbers(part.start, part.stop).items()):
-                text = f"{number}×{bound.times}" if bound.times > 1 else str(number)
-                look = "x" * (not state and self.has_changed(bound, byte))
-                at = byte % self.size
-                cells[self.column[byte - at]].append(self.box(text, look, at, bound.kind.size))
+        for byte, number in bound.numbers(self.starts, self.size).items():
+            text = f"{number}×{bound.times}" if bound.times > 1 else str(number)
+            look = "x" * (not state and self.has_changed(bound, byte))
+            at = byte % self.size
+            cells[self.column[byte - at]].append(self.box(text, look, at, bound.kind.size))
         look = f"name h{self.hues[name]} {state.split(' ')[0]}".rstrip()
         return Row(name, look, cells, f"{name}{' ' * bool(state)}{state}: {facts(bound)}")
 
@@ -152,13 +159,12 @@ class Drawn:
 
     def grid(self, name: str, bound: Bound) -> Table:
         """The items of an array of two axes in rows and columns, one that has changed as `1→2`."""
-        most = max(2, int(self.most ** 0.5))
-        rows, columns = ([k for part in ends(length, most) for k in part] for length in bound.array.shape)
-        (down, right), start, was = bound.array.strides, bound.array.at, {**self.values, **self.old}
+        rows, columns, places = bound.grid(max(2, int(self.most ** 0.5)))
+        was = {**self.values, **self.old}
         made = [Row("", "place", [[Box(str(column))] for column in columns])]
-        for row in rows:
+        for row, line in zip(rows, places):
             cells = []
-            for at in (start + row * down + column * right for column in columns):
+            for at in line:
                 is_new = self.has_changed(bound, at)
                 text = cut(literal(bound.kind.item(self.values, at)))
                 cells.append([Box(f"{cut(literal(bound.kind.item(was, at)))}→{text}" if is_new else text, "x" * is_new)])

@@ -5,7 +5,7 @@ import textwrap
 from html import escape
 from typing import Iterator
 
-from .picture import Box, Row, Table
+from .picture import Box, Table, fitting
 from .trace import Moment
 
 WIDTH, LETTER, LINE = 720, 7.3, 21
@@ -31,76 +31,58 @@ path{fill:none;stroke:var(--ink);stroke-width:1.5;marker-end:url(#tip)}#tip path
 """ + "".join(f".h{k}{{--c:var(--h{k})}}" for k in range(len(HUES[0])))
 
 
-def _text(x: float, y: float, text: str, look: str = "", middle: bool = False) -> str:
-    anchor = ' text-anchor="middle"' if middle else ""
-    return f'<text x="{x:.1f}" y="{y:.1f}"{anchor} class="{look}">{escape(text)}</text>'
+def _text(x: float, y: float, text: str, more: str = "") -> str:
+    return f'<text x="{x:.1f}" y="{y + 13:.1f}"{more}>{escape(text)}</text>'
 
 
-def _box(box: Box, x: float, y: float, width: float) -> Iterator[str]:
-    left, wide = x + box.left * width, box.width * width
-    yield f'<rect x="{left:.1f}" y="{y}" width="{wide:.1f}" height="{LINE - 3}" class="{box.look}"/>'
-    room = int((wide + 2) / LETTER)
-    if box.text and room:
-        text = box.text if len(box.text) <= room else box.text[:room - 1] + "…"
-        yield _text(left + wide / 2, y + 13, text, middle=True)
+def _boxes(cell: list[Box], x: float, y: float, width: float) -> Iterator[str]:
+    for box in cell:
+        left, wide = x + box.left * width, box.width * width
+        yield f'<rect x="{left:.1f}" y="{y}" width="{wide:.1f}" height="{LINE - 3}" class="{box.look}"/>'
+        yield _text(left + wide / 2, y, fitting(box.text, int((wide + 2) / LETTER)), ' text-anchor="middle"') if box.text else ""
 
 
-def _rows(table: Table, first: int, last: int, y: int) -> tuple[list[str], int]:
-    """The columns from first to last of a table, and where they end."""
-    margin = LETTER * min(16, max(len(row.label) for row in table.rows)) + 16
-    width = table.letters * LETTER
-    drawn = []
-    for row in table.rows:
-        drawn.append(f'<g class="{row.look}">')
-        if row.label:
-            drawn.append(_text(8, y + 13, row.label if len(row.label) <= 16 else row.label[:15] + "…", "label"))
-        for k in range(first, last):
-            drawn += [part for box in row.cells[k] for part in _box(box, margin + (k - first) * width, y, width)]
-        drawn.append("</g>")
-        y += LINE
-        if row.look == "old" and table.moves:
-            for source, at in table.moves:
-                if first <= at < last:
-                    begin, end = (margin + (min(max(x, first), last) - first) * width for x in (source, at))
-                    drawn.append(f'<path d="M{begin:.1f} {y - 2}L{end:.1f} {y + 19}"/>')
-            y += LINE + 3
-    return drawn, y
-
-
-def _table(table: Table, y: int) -> tuple[list[str], int]:
-    """A table, wrapped into as many stretches as it needs, and where it ends."""
-    drawn = []
-    notes = [(table.caption, "head"), *((row.note, f"note {row.look.split(' ')[1]}") for row in table.rows if row.note)]
-    for text, look in notes:
-        for line in textwrap.wrap(text, int((WIDTH - 16) / LETTER)):
-            drawn.append(_text(8, y + 13, line, look))
+def _table(table: Table) -> tuple[list[str], float, int]:
+    """A table in as many stretches as it needs, how wide it is, and how high."""
+    drawn, y, letters = [], 0, int(WIDTH / LETTER) - 2
+    for text, look in [(table.caption, "head"), *((row.note, f"note {row.look}") for row in table.rows if row.note)]:
+        for line in textwrap.wrap(text, letters):
+            drawn.append(_text(8, y, line, f' class="{look}"'))
             y += LINE - 4
-    y += 6
-    across = max(1, int((WIDTH - LETTER * 16 - 16) / (table.letters * LETTER)))
+    margin, width = 16 + LETTER * table.margin, table.letters * LETTER
     count = len(table.rows[0].cells)
+    across = max(1, int((WIDTH - margin) / width))
     for first in range(0, max(count, 1), across):
-        part, y = _rows(table, first, min(count, first + across), y)
-        drawn += part
-        y += 8
-    return drawn, y + 8
+        last = min(count, first + across)
+        y += 6
+        for row in table.rows:
+            boxes = (text for k in range(first, last) for text in _boxes(row.cells[k], margin + (k - first) * width, y, width))
+            label = _text(8, y, fitting(row.label, table.margin), ' class="label"')
+            drawn.append(f'<g class="{row.look}">{label}{"".join(boxes)}</g>')
+            y += LINE
+            if row.look == "old" and table.moves:
+                y += LINE + 3
+                for source, at in table.moves:
+                    begin, end = (margin + (min(max(x, first), last) - first) * width for x in (source, at))
+                    drawn.append(f'<path d="M{begin:.1f} {y - 26}L{end:.1f} {y - 5}"/>' * (first <= at < last))
+    return drawn, max(margin + min(across, count) * width, 16 + LETTER * min(letters, len(table.caption))), y + 16
 
 
 def svg(moment: Moment, tables: list[Table], words: str) -> str:
-    """The picture of a line, with its text for those who do not see it."""
-    drawn, y = [], 8
-    for line in textwrap.wrap(moment.line, int((WIDTH - 16) / LETTER)):
-        drawn.append(_text(8, y + 13, line))
-        y += LINE - 4
-    y += 8
+    """The picture of a line, with its text for those who do not see it. Grids stand side by side."""
+    drawn, x, y, below = [_text(8, 6, fitting(moment.line, 96))], 0.0, 30, 30
     for table in tables:
-        part, y = _table(table, y)
-        drawn += part
+        made, width, height = _table(table)
+        if x + width > WIDTH or table.rows[-1].note:
+            x, y = 0.0, below
+        drawn.append("\n".join([f'<g transform="translate({x:.1f} {y})">', *made, "</g>"]))
+        x, below = WIDTH if table.rows[-1].note else x + width + 24, max(below, y + height)
     return "\n".join([
-        f'<svg xmlns="http://www.w3.org/2000/svg" viewBox="0 0 {WIDTH} {y}" width="{WIDTH}" height="{y}" role="img" '
+        f'<svg xmlns="http://www.w3.org/2000/svg" viewBox="0 0 {WIDTH} {below}" width="{WIDTH}" height="{below}" role="img" '
         f'aria-labelledby="title words"><title id="title">{escape(moment.line)}</title><desc id="words">{escape(words)}</desc>',
-        f'<style>{STYLE}</style><defs><marker id="tip" viewBox="0 0 8 8" refX="7" refY="4" markerWidth="6" markerHeight="6" '
-        'orient="auto"><path d="M0 0L8 4L0 8z"/></marker></defs>',
-        f'<rect class="page" width="{WIDTH}" height="{y}"/>',
+        f'<style>{STYLE}</style><marker id="tip" viewBox="0 0 8 8" refX="7" refY="4" markerWidth="6" markerHeight="6" orient="auto">'
+        '<path d="M0 0L8 4L0 8z"/></marker>',
+        f'<rect class="page" width="{WIDTH}" height="{below}"/>',
         *drawn,
         "</svg>\n",
     ])

@@ -49,37 +49,32 @@ class Kind:
 
     text: str
     size: int
-    fields: tuple[tuple[str, int, Kind], ...] = ()
+    fields: tuple[tuple[int, str, Kind], ...]
 
     @cached_property
     def leaves(self) -> list[Leaf]:
-        """The values of an item, in the order of their bytes."""
-        inner = [(name, at, leaf) for name, at, kind in self.fields for leaf in kind.leaves]
-        found = [Leaf(at + leaf.at, leaf.size, ".".join(filter(None, (name, leaf.field)))) for name, at, leaf in inner]
+        inner = [(at, name, leaf) for at, name, kind in self.fields for leaf in kind.leaves]
+        found = [Leaf(at + leaf.at, leaf.size, ".".join(filter(None, (name, leaf.field)))) for at, name, leaf in inner]
         return found or [Leaf(0, self.size, "")]
 
-    def values(self, item: Any, at: int) -> Iterator[tuple[int, Any]]:
+    def spread(self, item: Any, at: int) -> Iterator[tuple[int, Any]]:
         """The values of an item that begins at a byte, each with its own byte."""
         if not self.fields:
             yield at, item
-        for (_, offset, kind), inner in zip(self.fields, item if self.fields else ()):
-            yield from kind.values(inner, at + offset)
+        for (offset, _, kind), inner in zip(self.fields, item if self.fields else ()):
+            yield from kind.spread(inner, at + offset)
 
     def item(self, values: Values, at: int) -> Any:
         """The item whose values stand at a byte; None for each that is not known."""
         if not self.fields:
             return values.get(at)
-        return tuple(kind.item(values, at + offset) for _, offset, kind in self.fields)
-
-    @property
-    def most(self) -> int:
-        """How many cells are looked at: fewer of long items, and of those with many values."""
-        return max(4, min(MOST_CELLS, AT_ONCE // self.size, 4 * MOST_CELLS // len(self.leaves)))
+        return tuple(kind.item(values, at + offset) for offset, _, kind in self.fields)
 
 
 @dataclass(frozen=True)
 class Bound:
-    """What a name is bound to: an array in a buffer, without its items."""
+    """What a name is bound to: an array in a buffer, without its items. Items that have places of their own are numbered in
+    the order in which they are read first."""
 
     array: Array
     buffer: int
@@ -87,60 +82,48 @@ class Bound:
 
     @cached_property
     def axes(self) -> list[tuple[int, int, int]]:
-        """Each axis: stride, length, and what a step adds to an item's number, 0 where it leads to the same item."""
+        """Each axis: stride, length, and what a step adds to the number, 0 where it leads to the same item."""
         found: list[tuple[int, int, int]] = []
-        weight = 1
         for stride, length in reversed(list(zip(self.array.strides, self.array.shape))):
-            found.insert(0, (stride, length, weight if stride else 0))
-            weight *= length if stride else 1
+            found.insert(0, (stride, length, prod(n for step, n, _ in found if step) if stride else 0))
         return found
 
     @cached_property
     def count(self) -> int:
-        """How many items have places of their own; they are numbered in the order in which they are read first."""
+        """How many items have places of their own."""
         return prod(length for stride, length, _ in self.axes if stride) if prod(self.array.shape) else 0
 
     @property
     def times(self) -> int:
         """How many indexes lead to each item."""
-        return prod(self.array.shape) // self.count if self.count else 0
-
-    def numbers(self, low: int, high: int) -> dict[int, int]:
-        """The items that begin at byte low or behind it, and before high: the byte of each, and its number."""
-        axes = sorted((axis for axis in self.axes if axis[0]), key=lambda axis: -abs(axis[0]))
-        reach = [(0, 0)]
-        for stride, length, _ in reversed(axes):
-            far = stride * (length - 1)
-            reach.insert(0, (reach[0][0] + min(far, 0), reach[0][1] + max(far, 0)))
-
-        def walk(depth: int, byte: int, number: int) -> Iterator[tuple[int, int]]:
-            if depth == len(axes):
-                if low <= byte < high:
-                    yield byte, number
-                return
-            stride, length, weight = axes[depth]
-            least, most = reach[depth + 1]
-            first, last = sorted(((low - most - byte) / stride, (high - least - byte) / stride))
-            for index in range(max(0, int(first)), min(length, int(last) + 1)):
-                yield from walk(depth + 1, byte + index * stride, number + index * weight)
-
-        return dict(walk(0, self.array.at, 0)) if self.count else {}
+        return prod(self.array.shape) // max(1, self.count)
 
     @property
     def has_grid(self) -> bool:
         return len(self.array.shape) == 2 and self.count > 0
 
-    @property
-    def sides(self) -> tuple[list[int], list[int]]:
-        """The rows and the columns of an array of two axes that are drawn."""
-        rows, columns = ([k for part in ends(length, SIDE) for k in part] for length in self.array.shape)
-        return rows, columns
+    def number(self, byte: int) -> Optional[int]:
+        """The number of the item that begins at a byte. The axis of the longest stride is the outermost in memory, so that the
+        others lead to less than one of its steps."""
+        rest = byte - self.array.at - sum(stride * (length - 1) for stride, length, _ in self.axes if stride < 0)
+        number = 0
+        for stride, length, weight in sorted((axis for axis in self.axes if axis[0]), key=lambda axis: -abs(axis[0])):
+            step = max(0, min(rest // abs(stride), length - 1))
+            rest -= step * abs(stride)
+            number += weight * (step if stride > 0 else length - 1 - step)
+        return None if rest or not self.count else number
 
-    def grid(self) -> dict[int, int]:
-        """The items of an array of two axes that are drawn as a grid: the byte of each, and its number."""
-        rows, columns = self.sides
-        (down, _, row), (right, _, column) = self.axes
-        return {self.array.at + i * down + j * right: i * row + j * column for i in rows for j in columns}
+    def numbers(self, starts: list[int], size: int) -> dict[int, int]:
+        """Of the items in those that begin at `starts`, each of `size` bytes: the byte and the number, in order."""
+        places = [start + self.array.at % size for start in starts]
+        found = {byte: number for byte in places if (number := self.number(byte)) is not None}
+        return dict(sorted(found.items(), key=lambda pair: pair[1]))
+
+    def grid(self, side: int) -> tuple[list[int], list[int], list[list[int]]]:
+        """The rows and columns of an array of two axes that are drawn, and at which bytes their items begin."""
+        rows, columns = (ends(length, side) for length in self.array.shape)
+        (down, right), at = self.array.strides, self.array.at
+        return rows, columns, [[at + row * down + column * right for column in columns] for row in rows]
 
 
 @dataclass(frozen=True)
@@ -151,10 +134,10 @@ class Buffer:
     count: int
     values: Values = field(default_factory=dict)
 
-    @property
-    def shown(self) -> list[range]:
-        """The items that are drawn: all, or those at begin and end."""
-        return ends(self.count, self.kind.most)
+    def starts(self, most: int = MOST_CELLS) -> list[int]:
+        """Where the items begin that are drawn: fewer of long ones and of those with many values."""
+        size, most = self.kind.size, min(most, AT_ONCE // self.kind.size, 4 * MOST_CELLS // len(self.kind.leaves))
+        return [k * size for k in ends(self.count, max(4, most))]
 
 
 @dataclass(frozen=True)
@@ -178,12 +161,12 @@ class Moment:
     reply: Reply
     before: State
     after: State
-    moved: Mapping[Place, Place] = field(default_factory=dict)
+    moved: Mapping[Place, Place]
 
 
-def ends(count: int, most: int) -> list[range]:
+def ends(count: int, most: int) -> list[int]:
     """The numbers below count; where they are more than most, those at begin and end."""
-    return [range(count)] if count <= most else [range(most // 2), range(count - most // 2, count)]
+    return list(range(count)) if count <= most else [*range(most // 2), *range(count - most // 2, count)]
 
 
 def literal(item: Any) -> str:
@@ -197,13 +180,11 @@ def literal(item: Any) -> str:
 
 def _digit(value: Any, digit: int) -> Any:
     """A digit as a value of the same type."""
-    if isinstance(value, bytes):
-        return DIGITS[digit:digit + 1]
-    return bool(digit) if isinstance(value, bool) else digit
+    return DIGITS[digit:digit + 1] if isinstance(value, bytes) else bool(digit) if isinstance(value, bool) else digit
 
 
 class Trace:
-    """A script that is run line by line, each of its states kept."""
+    """A script that is run line by line."""
 
     def __init__(
         self, program: Union[str, os.PathLike[str], None] = None, undo: int = 16,
@@ -212,10 +193,9 @@ class Trace:
         if not 0 <= undo <= MOST_UNDO:
             raise BenchError(f"a script that is drawn may go back 0 to {MOST_UNDO} changes, not {undo}")
         self.state = State()
-        self._lines = 0
+        self._lines = self._made = 0
         self._kept: deque[State] = deque(maxlen=MOST_UNDO)
         self._kinds: dict[str, Kind] = {}
-        self._made = 0
         taken = set(WORD.findall(script.decode("latin-1")))
         self._free = next(name for name in (f"_{k}" for k in range(len(taken) + 1)) if name not in taken)
         self._script = Session(program, undo, dir)
@@ -234,24 +214,24 @@ class Trace:
         reply = self._script.send(line)
         before, moved = self.state, {}
         text = line.removesuffix(b"\r").decode("ascii", "replace")
+        words = [word for word in WORD.findall(text) if word in before.names]
         verb, *rest = reply.text.split()[1:] if reply.accepted and reply.text.startswith("ok ") else ["save"]
         if verb != "save":
             self._again(line, reply)
         if verb == "undo":
             self.state = self._kept.pop()
-        elif verb != "save":
-            self._kept.append(before)
-        if verb in ("set", "upd"):
-            moved = self._written(line, reply, set(WORD.findall(text)) & set(before.names))
+        elif verb in ("set", "upd"):
+            moved = self._written(line, reply, sorted({before.names[word].buffer for word in words}))
         elif verb == "del":
             self._settle({name: bound for name, bound in before.names.items() if name != rest[0]}, before.buffers)
-        elif verb not in ("undo", "save"):
-            self._bind(reply, [word for word in WORD.findall(text)[1:] if word in before.names])
+        elif verb != "save":
+            self._bind(reply, words[1:] if verb in before.names else words)
+        if verb not in ("undo", "save"):
+            self._kept.append(before)
         return Moment(self._lines, text, reply, before, self.state, moved)
 
     def _again(self, line: bytes, reply: Reply) -> None:
-        answer = self._second.send(line)
-        if answer != reply:
+        if (answer := self._second.send(line)) != reply:
             raise BenchError(f"the program answered {reply.text!r}, and then {answer.text!r}")
 
     def _undo(self, times: int) -> None:
@@ -271,17 +251,17 @@ class Trace:
         name, how = found.groups()
         array = self._second.array(name, items=False)
         kind = self._kind(array.type, name)
-        buffers = dict(self.state.buffers)
         if how == "view":
             number = self.state.names[behind[0]].buffer
+            buffer = self.state.buffers[number]
         else:
             number = self._made = self._made + 1
-            buffers[number] = Buffer(kind, prod(array.shape))
-        bound, buffer = Bound(array, number, kind), buffers[number]
+            buffer = Buffer(kind, prod(array.shape))
+        bound = Bound(array, number, kind)
         read = self._read(buffer, {name: bound}, buffer.values)
-        if read:
-            buffers[number] = Buffer(buffer.kind, buffer.count, {**buffer.values, **read})
-        self._settle({**self.state.names, name: bound}, buffers)
+        if read or how != "view":
+            buffer = Buffer(buffer.kind, buffer.count, {**buffer.values, **read})
+        self._settle({**self.state.names, name: bound}, {**self.state.buffers, number: buffer})
 
     def _kind(self, text: str, name: str) -> Kind:
         """An element type, which is learnt from an array of two items and from its fields."""
@@ -295,42 +275,40 @@ class Trace:
                     fields.append((part.at, word, part.type))
                     self._undo(1)
             self._undo(1)
-            inner = tuple((word, at, self._kind(type_, name)) for at, word, type_ in sorted(fields))
-            self._kinds[text] = Kind(text, size, inner)
+            self._kinds[text] = Kind(text, size, tuple((at, word, self._kind(type_, name)) for at, word, type_ in sorted(fields)))
         return self._kinds[text]
 
-    def _written(self, line: bytes, reply: Reply, named: set[str]) -> dict[Place, Place]:
-        """Items were written, in the buffer of one of the names that the line has."""
+    def _written(self, line: bytes, reply: Reply, touched: list[int]) -> dict[Place, Place]:
+        """Items were written, in the buffer of one of the names that the line has; where those came from that it moved."""
         before = self.state
-        touched = sorted({before.names[name].buffer for name in named})
         fresh = {number: self._reread(number, before) for number in touched}
-        changed = [number for number in touched if fresh[number].values != before.buffers[number].values]
-        self.state = State(before.names, {**before.buffers, **{number: fresh[number] for number in changed}})
+        changed = {number: buffer for number, buffer in fresh.items() if buffer.values != before.buffers[number].values}
+        self.state = State(before.names, {**before.buffers, **changed})
         moved: dict[Place, Place] = {}
         if changed and reply.text.startswith("ok set "):
             self._undo(1)
             for source in touched:
-                moved.update(self._moved(line, before, source, changed))
+                moved.update(self._moved(line, before, source, list(changed)))
             self._again(line, reply)
         return moved
 
     def _reread(self, number: int, state: State) -> Buffer:
         """A buffer as it is now. What no name sees has stayed; other values that are not drawn are forgotten."""
-        old = state.buffers[number]
-        stays = {at: old.values[at] for at in old.values if any(at // old.kind.size in part for part in old.shown)}
+        old, starts = state.buffers[number], set(state.buffers[number].starts())
+        stays = {at: value for at, value in old.values.items() if at - at % old.kind.size in starts}
         return Buffer(old.kind, old.count, {**stays, **self._read(old, state.inside(number), {})})
 
     def _read(self, buffer: Buffer, names: Mapping[str, Bound], known: Values) -> dict[int, Any]:
         """The values that are drawn and not known, read through the names that see them, the longest arrays first."""
         read: dict[int, Any] = {}
         for name, bound in sorted(names.items(), key=lambda pair: -pair[1].count):
-            wanted = bound.grid() if bound.has_grid else {}
-            for part in buffer.shown:
-                wanted.update(bound.numbers(part.start * buffer.kind.size, part.stop * buffer.kind.size))
+            wanted = bound.numbers(buffer.starts(), buffer.kind.size)
+            for at in (at for row in bound.grid(SIDE)[2] for at in row) if bound.has_grid else ():
+                wanted[at] = bound.number(at) or 0
             leaves = [leaf.at for leaf in bound.kind.leaves]
             new = [at for at in wanted if any(at + leaf not in known and at + leaf not in read for leaf in leaves)]
             for at, item in zip(new, self._items(name, bound, [wanted[at] for at in new]) if new else ()):
-                read.update(bound.kind.values(item, at))
+                read.update(bound.kind.spread(item, at))
         return read
 
     def _items(self, name: str, bound: Bound, numbers: list[int]) -> list[Any]:
@@ -356,32 +334,30 @@ class Trace:
         Each place has a number, of which the line is run on one digit after another, and then on the first digit taken from
         the greatest: so no value that is the same each time is taken for one that moved.
         """
-        buffer = before.buffers[source]
+        buffer, starts = before.buffers[source], before.buffers[source].starts()
         seen = [pair for pair in before.inside(source).items() if pair[1].array.writable and pair[1].count]
-        if not seen or buffer.count > buffer.kind.most:
+        if not seen or buffer.count > len(starts):
             return {}
         name, bound = max(seen, key=lambda pair: pair[1].count)
-        numbers = bound.numbers(0, buffer.count * buffer.kind.size)
-        starts = sorted(numbers, key=numbers.__getitem__)
-        places = [start + leaf.at for start in starts for leaf in bound.kind.leaves]
-        values = [buffer.values[place] for place in places]
-        base = 2 if any(isinstance(value, bool) for value in values) else len(DIGITS)
-        rows = [[k % base for k in range(len(places))]]
-        while base ** len(rows) < len(places):
-            rows.append([k // base ** len(rows) % base for k in range(len(places))])
+        items = list(bound.numbers(starts, buffer.kind.size))
+        places = [at + leaf.at for at in items for leaf in bound.kind.leaves]
+        base = 2 if any(isinstance(buffer.values[place], bool) for place in places) else len(DIGITS)
+        powers = [1]
+        while powers[-1] * base < len(places):
+            powers.append(powers[-1] * base)
+        rows = [[k // power % base for k in range(len(places))] for power in powers]
         rows.append([base - 1 - digit for digit in rows[0]])
-        coded = [dict(zip(places, map(_digit, values, row))) for row in rows]
-        told = {tuple(code[place] for code in coded): place for place in places}
-        left = [self._tried(line, before, name, [bound.kind.item(code, at) for at in starts], changed) for code in coded]
+        coded = [{place: _digit(buffer.values[place], digit) for place, digit in zip(places, row)} for row in rows]
+        told = {tuple(code[place] for code in coded): Place(source, place) for place in places}
+        left = [self._tried(line, before, name, [bound.kind.item(code, at) for at in items], changed) for code in coded]
         moved: dict[Place, Place] = {}
-        for number in changed if all(left) else ():
-            for byte in left[0][number]:
-                place = told.get(tuple(values[number].get(byte) for values in left))
-                if place is not None and (number, byte) != (source, place):
-                    moved[Place(number, byte)] = Place(source, place)
+        for at in left[0] if all(left) else ():
+            origin = told.get(tuple(values.get(at) for values in left), at)
+            if origin != at:
+                moved[at] = origin
         return moved
 
-    def _tried(self, line: bytes, before: State, name: str, items: list[Any], changed: list[int]) -> dict[int, Values]:
+    def _tried(self, line: bytes, before: State, name: str, items: list[Any], changed: list[int]) -> dict[Place, Any]:
         """What a line leaves in some buffers where an array had these items before it; nothing where it is refused then."""
         array = before.names[name].array
         shape = ",".join(map(str, array.shape))
@@ -392,6 +368,6 @@ class Trace:
                 break
             tried += 1
         else:
-            left = {number: self._reread(number, before).values for number in changed}
+            left = {Place(number, at): value for number in changed for at, value in self._reread(number, before).values.items()}
         self._undo(tried)
         return left
