@@ -14,7 +14,7 @@ ghost use Rattle.elementwise.specs.Promotion.{is_division};
 ghost use Rattle.elementwise.specs.Results.{binary_result, unary_result, binary_item, unary_item, stretched_items, pairwise};
 ghost use Rattle.elementwise.specs.inside.PairPasses.{IsNative};
 
-use crate::operands::Items;
+use crate::operands::{Items, read_as};
 use crate::pairing::{Changing, Combining};
 use crate::promotion::{promote, promote_one, scalar_of};
 use crate::typed::make_cast;
@@ -50,10 +50,8 @@ fn combine(
         (stretched_items right.entry.descr.now right.entry.block.now right.entry.layout.now o.layout.shape)) }
     ensures refused { IfErr result (λ refusal. refusal ≡ OutOfMemory) }
 {
-    let pairing = Combining {
-        op,
-        scalar: *scalar,
-    };
+    let read = read_as(scalar, left, right);
+    let pairing = Combining { op, scalar: read };
     make_cast::<Combining>(alloc, &pairing, left, right, shape)
 }
 
@@ -98,10 +96,8 @@ fn change(
         ≡ map (λ offset. unary_item op o.descr (item_from operand.entry.descr.now operand.entry.block.now offset)) (offsets operand.entry.layout.now)) }
     ensures refused { IfErr result (λ refusal. refusal ≡ OutOfMemory) }
 {
-    let pairing = Changing {
-        op,
-        scalar: *scalar,
-    };
+    let read = read_as(scalar, operand, operand);
+    let pairing = Changing { op, scalar: read };
     make_cast::<Changing>(alloc, &pairing, operand, operand, &operand.layout.shape)
 }
 

@@ -16,9 +16,9 @@ ghost use Rattle.broadcasting.specs.Broadcasts.{can_stretch};
 ghost use Rattle.overlap_copy.specs.Blocks.{offsets_in};
 ghost use Rattle.elementwise.specs.Promotion.{are_comparable};
 ghost use Rattle.elementwise.specs.Results.{compared_result, compared_item, stretched_items, pairwise};
-ghost use Rattle.elementwise.specs.inside.PairPasses.{IsNative, Holds};
+ghost use Rattle.elementwise.specs.inside.PairPasses.{Holds};
 
-use crate::operands::Items;
+use crate::operands::{Items, read_as};
 use crate::pairing::{Comparing, ComparingSigns, ComparingTexts};
 use crate::promotion::{compared_type, eight_bytes, is_signed, little, scalar_of};
 use crate::shrunk::{spread, without_repeats};
@@ -51,7 +51,7 @@ pub(crate) fn compare_held(
     right: Items<'_>,
     shape: &Shape,
 ) -> Result<Owned, Refusal>
-    requires native { IsNative scalar.now }
+    requires number { IsNumber scalar.now }
     requires from { left.descr.now ≡ ScalarDescr from.now }
     requires other { right.descr.now ≡ ScalarDescr other.now }
     requires left_number { IsNumber from.now }
@@ -146,7 +146,8 @@ pub(crate) fn compare_numbers(
 {
     let native = little(from);
     if native == little(other) {
-        return compare_held(alloc, comparison, &native, from, left, other, right, shape);
+        let read = read_as(&native, left, right);
+        return compare_held(alloc, comparison, &read, from, left, other, right, shape);
     }
     let signed = is_signed(from);
     if signed == is_signed(other) {

@@ -1,12 +1,12 @@
 //! Leaves that are cast to leaves: which loop casts them.
 ghost use Rattle.std.specs.Prelude.{◌≡◌, ◌^◌, ◌<◌, ◌≤◌, true, length};
-ghost use Rattle.elem_descr.specs.declared.scalar.Scalar.TheVariants.{Int};
-ghost use Rattle.elem_descr.specs.Encoding.{IsNumber, size, width_size};
+ghost use Rattle.elem_descr.specs.Encoding.{IsNumber, size};
 ghost use Rattle.raw_block.specs.Bytes.{EachWithin};
 ghost use Rattle.elementwise.specs.Casts.{can_cast_scalar};
 ghost use Rattle.elementwise.specs.inside.Passes.{made, leaf_cast};
 
 use crate::byte_orders::{HighFirst, LowFirst, Ordered};
+use crate::dispatch::{NumberTask, on_number};
 use crate::numbers::Number;
 use crate::passes::cast_run;
 use crate::texts::cast_texts;
@@ -44,93 +44,29 @@ fn cast_numbers_to<S: Number, P: Ordered>(
     }
 }
 
-/// Casts the integers of two bytes or more of a run to those of a scalar.
-fn cast_integers(
-    signed: bool,
-    width: Width,
-    order: Order,
-    scalar: &Scalar,
-    bytes: &mut [u8],
+/// Casts of numbers of one type to those of a scalar.
+struct CastTo<'a> {
+    scalar: Scalar,
     to: Run,
-    other: &[u8],
+    other: &'a [u8],
     from: Run,
-)
-    requires number { IsNumber scalar.now }
-    requires few { to.count < 2 ^ 63 }
-    requires to { EachWithin (length bytes.old) to.offset to.step (size scalar.now) to.count }
-    requires from { EachWithin (length other.now) from.offset from.step (width_size width) to.count }
-    ensures { bytes.new ≡ made (leaf_cast (Int signed width order) scalar.now) (width_size width) other.now to from to.count bytes.old }
-{
-    match (signed, width, order) {
-        (false, Width::Two, Order::Little) => cast_numbers_to::<u16, LowFirst>(
-            scalar, bytes, to, other, from,
-        ),
-        (false, Width::Two, Order::Big) => cast_numbers_to::<u16, HighFirst>(
-            scalar, bytes, to, other, from,
-        ),
-        (false, Width::Four, Order::Little) => cast_numbers_to::<u32, LowFirst>(
-            scalar, bytes, to, other, from,
-        ),
-        (false, Width::Four, Order::Big) => cast_numbers_to::<u32, HighFirst>(
-            scalar, bytes, to, other, from,
-        ),
-        (false, Width::Eight, Order::Little) => cast_numbers_to::<u64, LowFirst>(
-            scalar, bytes, to, other, from,
-        ),
-        (false, Width::Eight, Order::Big) => cast_numbers_to::<u64, HighFirst>(
-            scalar, bytes, to, other, from,
-        ),
-        (true, Width::Two, Order::Little) => cast_numbers_to::<i16, LowFirst>(
-            scalar, bytes, to, other, from,
-        ),
-        (true, Width::Two, Order::Big) => cast_numbers_to::<i16, HighFirst>(
-            scalar, bytes, to, other, from,
-        ),
-        (true, Width::Four, Order::Little) => cast_numbers_to::<i32, LowFirst>(
-            scalar, bytes, to, other, from,
-        ),
-        (true, Width::Four, Order::Big) => cast_numbers_to::<i32, HighFirst>(
-            scalar, bytes, to, other, from,
-        ),
-        (true, Width::Eight, Order::Little) => cast_numbers_to::<i64, LowFirst>(
-            scalar, bytes, to, other, from,
-        ),
-        (true, Width::Eight, Order::Big) => cast_numbers_to::<i64, HighFirst>(
-            scalar, bytes, to, other, from,
-        ),
-    }
 }
 
-/// Casts the numbers of a run, of one scalar, to those of another.
-fn cast_numbers(
-    from_scalar: &Scalar,
-    scalar: &Scalar,
-    bytes: &mut [u8],
-    to: Run,
-    other: &[u8],
-    from: Run,
-)
-    requires from_number { IsNumber from_scalar.now }
-    requires number { IsNumber scalar.now }
-    requires few { to.count < 2 ^ 63 }
-    requires to { EachWithin (length bytes.old) to.offset to.step (size scalar.now) to.count }
-    requires from { EachWithin (length other.now) from.offset from.step (size from_scalar.now) to.count }
-    ensures { bytes.new ≡ made (leaf_cast from_scalar.now scalar.now) (size from_scalar.now) other.now to from to.count bytes.old }
-{
-    match from_scalar {
-        Scalar::Bool => cast_numbers_to::<bool, LowFirst>(scalar, bytes, to, other, from),
-        Scalar::Byte { signed: false } => cast_numbers_to::<u8, LowFirst>(
-            scalar, bytes, to, other, from,
-        ),
-        Scalar::Byte { signed: true } => cast_numbers_to::<i8, LowFirst>(
-            scalar, bytes, to, other, from,
-        ),
-        Scalar::Int {
-            signed,
-            width,
-            order,
-        } => cast_integers(*signed, *width, *order, scalar, bytes, to, other, from),
-        Scalar::Bytes(_) => unreachable!(),
+impl<'a> NumberTask for CastTo<'a> {
+    type Out = ();
+
+    ghost Needs = { λ t scalar bytes. IsNumber t.scalar × (t.to.count < 2 ^ 63) × EachWithin (length bytes) t.to.offset t.to.step (size t.scalar) t.to.count × EachWithin (length t.other.now) t.from.offset t.from.step (size scalar) t.to.count };
+
+    ghost Gives = { λ t scalar old new _. new ≡ made (leaf_cast scalar t.scalar) (size scalar) t.other.now t.to t.from t.to.count old };
+
+    fn run<N: Number, O: Ordered>(self, bytes: &mut [u8]) {
+        let CastTo {
+            scalar,
+            to,
+            other,
+            from,
+        } = self;
+        cast_numbers_to::<N, O>(&scalar, bytes, to, other, from);
     }
 }
 
@@ -158,6 +94,14 @@ pub(crate) fn cast_leaves(
             from,
             len.get(),
         ),
-        _ => cast_numbers(from_scalar, scalar, bytes, to, other, from),
+        _ => {
+            let task = CastTo {
+                scalar: *scalar,
+                to,
+                other,
+                from,
+            };
+            on_number(from_scalar, task, bytes);
+        }
     }
 }

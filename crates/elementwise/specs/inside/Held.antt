@@ -4,7 +4,6 @@ use Rattle.elem_descr.specs.declared.descr.Descr.{Descr}
 use Rattle.elem_descr.specs.Values.{LeafValue}
 use Rattle.overlap_copy.specs.ItemLists.{items, owned_items}
 use Rattle.overlap_copy.specs.declared.items.Items.{Items}
-use Rattle.overlap_copy.specs.declared.owned.Owned.{Owned}
 use Rattle.elementwise.specs.Results.{stretched_items}
 use Rattle.elementwise.specs.declared.held.Held.{Held}
 use Rattle.elementwise.specs.declared.held.Held.TheVariants.{Kept, Made}

@@ -37,11 +37,14 @@ small_width Two = omega arith
 small_width Four = omega arith
 small_width Eight = omega arith
 
+pub scalar_small : (scalar : Scalar) → IsNumber scalar → size scalar ≤ 8
+scalar_small BoolScalar is = omega arith
+scalar_small (Byte signed) is = omega arith
+scalar_small (Int signed width order) is = small_width width
+scalar_small (Bytes n) never = absurd never
+
 pub number_small : (scalar : Scalar) → IsNumber scalar → size (little scalar) ≤ 8
-number_small BoolScalar is = omega arith
-number_small (Byte signed) is = omega arith
-number_small (Int signed width order) is = small_width width
-number_small (Bytes n) never = absurd never
+number_small scalar is = scalar_small (little scalar) (number-little scalar is)
 
 pub bool_small : size BoolScalar ≤ 8
 bool_small = omega arith

@@ -1,5 +1,5 @@
 -- Passes over pairs of items that lie at equal steps.
-use Rattle.std.specs.Prelude.{◌≡◌, ℕ, zero, suc, ℤ, pos, int_lt, if◌then◌else◌, List}
+use Rattle.std.specs.Prelude.{◌≡◌, ℕ, ℤ, pos, int_lt, if◌then◌else◌, List}
 use Rattle.elem_descr.specs.declared.scalar.Order.TheVariants.{Little}
 use Rattle.elem_descr.specs.declared.scalar.Scalar.{Scalar}
 use Rattle.elem_descr.specs.declared.scalar.Scalar.TheVariants.{Bool as BoolScalar, Byte, Int, Bytes}
@@ -10,15 +10,7 @@ use Rattle.script_lang.specs.declared.operation.UnaryOperation.{UnaryOperation}
 use Rattle.script_lang.specs.declared.operation.Comparison.{Comparison}
 use Rattle.elementwise.specs.Operations.{binary, unary}
 use Rattle.elementwise.specs.Comparisons.{says, compared}
-use Rattle.raw_block.specs.Bytes.{place, put, item_at}
-use Rattle.shape_strides.specs.declared.runs.Run.{Run}
-
--- what f makes of the first n pairs of items of two runs, of `width` bytes of `left` and `width'` of `right`, is written to the items of a run, one after the other
-abbrev pub made_of_pairs : (List ℕ → List ℕ → List ℕ) → ℕ → ℕ → List ℕ → List ℕ → Run → Run → Run → ℕ → List ℕ → List ℕ
-made_of_pairs f width width' left right to first second zero bytes = bytes
-made_of_pairs f width width' left right to first second (suc n) bytes =
-    put (place to.offset to.step n) (f (item_at (place first.offset first.step n) width left) (item_at (place second.offset second.step n) width' right))
-    (made_of_pairs f width width' left right to first second n bytes)
+use Rattle.raw_block.specs.Bytes.{item_at}
 
 -- the bytes of what f gives on the numbers that bytes of two scalars mean
 abbrev pub number_pair : Scalar → Scalar → Scalar → (ℤ → ℤ → ℤ) → List ℕ → List ℕ → List ℕ
@@ -38,10 +30,6 @@ value_pair left right to f x y = encode to (f (decode left x) (decode right y))
 -- an operation on the values of two items
 abbrev pub binary_value : BinaryOperation → Scalar → LeafValue → LeafValue → LeafValue
 binary_value op scalar x y = number (binary op scalar (number_of x) (number_of y))
-
--- n of the items of a run, after those that are done
-abbrev pub run_part : ℕ → ℕ → Run → Run
-run_part done n run = record { offset = place run.offset run.step done; count = n; step = run.step }
 
 -- what f makes of the items at two offsets
 abbrev pub pair_from : (List ℕ → List ℕ → List ℕ) → ℕ → ℕ → List ℕ → List ℕ → ℕ → ℕ → List ℕ
