@@ -6,7 +6,7 @@ import json
 import sys
 from html import escape
 from pathlib import Path
-from typing import Any, Sequence
+from typing import Any, Mapping, Sequence
 
 from . import language
 from .picture import Box, Drawn, Table, cut, drawn, said
@@ -20,26 +20,26 @@ TOLD = 1000  # letters of a reply
 
 
 class Pictures:
-    """The tables of all lines, each row and each table once."""
+    """The tables of all lines, each row and each table once; of each line those that are not as on the line before."""
 
-    def __init__(self, moments: Sequence[Moment], hues: dict[str, int], most: int):
+    def __init__(self, moments: Sequence[Moment], hues: Mapping[str, int], most: int):
         self.parts: dict[str, int] = {}
-        self.known: dict[tuple[Any, ...], list[int]] = {}
-        self.lines = []
+        self.lines: list[Any] = []
+        plain: dict[int, list[int]] = {}
         last: list[int] = []
         for moment in moments:
             if moment.reply.text:
-                buffers = drawn(moment, hues, most)
-                ids = [id_ for each in buffers for id_ in self.tables(each)]
-                same = next((k for k, pair in enumerate(zip(ids, last)) if pair[0] != pair[1]), min(len(ids), len(last)))
-                self.lines.append([moment.number, same, ids[same:], said(buffers)])
+                touched = drawn(moment, moment.touched, hues, most)
+                tables = {number: self.tables(each) for number, each in touched.items()}
+                rest = moment.after.buffers.keys() - tables.keys()
+                plain = {number: plain.get(number) or self.tables(Drawn(moment, number, hues, most)) for number in rest}
+                ids = [id_ for _, each in sorted([*tables.items(), *plain.items()]) for id_ in each]
+                begin = next((k for k, pair in enumerate(zip(ids, last)) if pair[0] != pair[1]), min(len(ids), len(last)))
+                self.lines.append([moment.number, begin, ids[begin:], said(touched.values())])
                 last = ids
 
     def tables(self, each: Drawn) -> list[int]:
-        key = (each.number, each.state, id(each.values), *((name, id(bound), state) for name, bound, state in each.names))
-        if each.changed or key not in self.known:
-            self.known[key] = [self.table(table) for table in each.tables()]
-        return self.known[key]
+        return [self.table(table) for table in each.tables()]
 
     def table(self, table: Table) -> int:
         rows = [self.part([row.label, row.look, [self.cell(cell) for cell in row.cells], row.note]) for row in table.rows]
@@ -71,7 +71,7 @@ def script_item(moment: Moment) -> str:
     )
 
 
-def page(title: str, moments: Sequence[Moment], hues: dict[str, int], line: int = 0) -> str:
+def page(title: str, moments: Sequence[Moment], hues: Mapping[str, int], line: int = 0) -> str:
     """The page of a script that was run, which begins with the picture of a line, else with that of the last one."""
     template = Path(__file__).with_suffix(".html").read_text(encoding="utf-8")
     colours = "".join(f".h{k}{{--c:var(--h{k})}}" for k in range(len(HUES[0])))
@@ -102,8 +102,9 @@ def draw(words: argparse.Namespace) -> int:
     if words.svg and not 1 <= (words.line or 0) <= len(lines):
         return fault(f"--svg wants --line 1 to {len(lines)}")
     if words.svg:
-        buffers = drawn(moments[-1], hues, MOST_CELLS)
-        made = svg(moments[-1], [table for each in buffers for table in each.tables()], said(buffers))
+        last = moments[-1]
+        buffers = drawn(last, {*last.before.buffers, *last.after.buffers}, hues, MOST_CELLS).values()
+        made = svg(last, [table for each in buffers for table in each.tables()], said(buffers))
     else:
         made = page(Path(words.script).name, moments, hues, words.line or 0)
     if words.output:

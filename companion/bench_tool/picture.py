@@ -191,11 +191,10 @@ class Drawn:
         return " ".join(told)
 
 
-def drawn(moment: Moment, hues: Mapping[str, int], most: int) -> list[Drawn]:
-    """The buffers before and after a line, in the order in which they were made."""
-    return [Drawn(moment, number, hues, most) for number in sorted({*moment.before.buffers, *moment.after.buffers})]
+def drawn(moment: Moment, numbers: Iterable[int], hues: Mapping[str, int], most: int) -> dict[int, Drawn]:
+    return {number: Drawn(moment, number, hues, most) for number in sorted(numbers)}
 
 
-def said(buffers: list[Drawn]) -> str:
+def said(buffers: Iterable[Drawn]) -> str:
     """What a line did, in words."""
     return cut(" ".join(filter(None, (each.said() for each in buffers))), 2000) or "Nothing changes."

@@ -163,6 +163,13 @@ class Moment:
     after: State
     moved: Mapping[Place, Place]
 
+    @property
+    def touched(self) -> set[int]:
+        """The buffers that differ, and those in which names came or went."""
+        both = ((self.before, self.after), (self.after, self.before))
+        found = {bound.buffer for one, other in both for name, bound in one.names.items() if other.names.get(name) is not bound}
+        return found | {number for number, buffer in self.after.buffers.items() if self.before.buffers.get(number) is not buffer}
+
 
 def ends(count: int, most: int) -> list[int]:
     """The numbers below count; where they are more than most, those at begin and end."""
