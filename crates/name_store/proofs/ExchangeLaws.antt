@@ -1,38 +1,50 @@
 -- Blocks are exchanged: what a copy of all the items would have written.
-use Rattle.std.proofs.Common.{◌≡◌, ◌+◌, ◌*◌, ◌≤◌, ◌<◌, ℕ, zero, suc, true, List, length, map, sym, ap, subst, ◌∙◌, arith, inl, inr, refl}
+use Rattle.std.proofs.Common.{◌≡◌, ◌+◌, ◌*◌, ◌≤◌, ◌<◌, ◌==◌, ℕ, zero, suc, true, List, [], ◌∷◌, length, map, refl, sym, ap, subst, ◌∙◌, Option, Some, arith, inl, inr}
 use Rattle.std.specs.List.{AllByRecursion, range_with_len}
-use Rattle.std.proofs.lemmas.Bool.{cases_lt}
+use Rattle.std.proofs.lemmas.Bool.{cases_lt, eqb-true, and_parts}
 use Rattle.std.proofs.lemmas.List.{get_or_past}
 use Rattle.std.proofs.lemmas.List.Elements.{recursion_from_All}
 use Rattle.std.proofs.Math.Nat.{mul-suc}
-use Rattle.elem_descr.specs.declared.descr.Descr.{Descr}
 use Rattle.elem_descr.specs.Items.{item_size}
-use Rattle.shape_strides.specs.declared.layout.Layout.{Layout}
 use Rattle.shape_strides.specs.Contiguity.{is_c_contiguous}
 use Rattle.shape_strides.specs.LayoutLaws.{length-offsets}
-use Rattle.shape_strides.specs.Layouts.{offsets, multiples}
+use Rattle.shape_strides.specs.Layouts.{offsets, multiples, Fits}
 use Rattle.overlap_copy.specs.declared.owned.Owned.{Owned}
-use Rattle.overlap_copy.specs.Assignments.{items_at, with_items, assigned}
-use Rattle.name_store.specs.Parts.{descr_at}
-use Rattle.name_store.specs.Targets.{IsAim}
-use Rattle.name_store.specs.View.{present}
-use Rattle.name_store.specs.declared.entry.Entry.{Entry}
-use Rattle.name_store.specs.declared.entry.Key.{Key}
+use Rattle.overlap_copy.specs.Assignments.{items_at, with_items}
+use Rattle.name_store.specs.declared.home.Home.{Home}
+use Rattle.name_store.specs.declared.items.Items.TheVariants.{Block}
 use Rattle.name_store.specs.declared.old_items.OldItems.{OldItems}
 use Rattle.name_store.specs.declared.slot.Slot.{Slot}
-use Rattle.name_store.specs.declared.target.Source.TheVariants.{Block}
-use Rattle.name_store.specs.declared.target.Target.TheVariants.{View}
-use Rattle.name_store.specs.inside.Exchanges.{CanExchange}
-use Rattle.name_store.specs.inside.Homes.{IsHome, HasNew}
-use Rattle.name_store.specs.inside.OldItems.{AreOldOf}
-use Rattle.name_store.proofs.AimLaws.{target-within}
-use Rattle.name_store.proofs.AnswerLaws.{block-fits}
+use Rattle.name_store.specs.declared.target.Target.{Target}
+use Rattle.name_store.specs.inside.Exchanges.{AreExchangeable}
+use Rattle.name_store.specs.inside.OldItems.{AreOld}
+use Rattle.name_store.specs.inside.Puts.{CanPut}
+use Rattle.name_store.specs.Targets.{target_offsets}
+use Rattle.name_store.specs.View.{slot_at}
 use Rattle.name_store.proofs.LaidLaws.{offsets-within}
-use Rattle.name_store.proofs.PlanAims.{c-packed}
 use Rattle.name_store.proofs.RestoreLaws.{Within, put-back}
-use Rattle.name_store.proofs.StateLaws.{Slots}
-use Rattle.name_store.proofs.WriteKept.{home-same}
-use Rattle.name_store.proofs.WriteLaws.{size-is}
+use Rattle.name_store.proofs.RewriteLaws.{can-inside}
+
+-- Items in C order from the start to the end of a block.
+
+c-ends : (item a : ℕ) (os : List ℕ) (end : ℕ) → is_c_contiguous item (a ∷ os) ≡ true → AllByRecursion (λ o. o + item ≤ end) (a ∷ os) → a + item * length os + item ≤ end
+c-ends item a [] end test all = omega (arith, all.0)
+c-ends item a (b ∷ os) end test all =
+    let parts = and_parts (b == a + item) (is_c_contiguous item (b ∷ os)) test in
+    omega (arith, eqb-true b (a + item) parts.0, c-ends item b os end parts.1 all.1, mul-suc item (length os))
+
+c-goes : (item k a : ℕ) (os : List ℕ) → a ≡ item * k → is_c_contiguous item (a ∷ os) ≡ true → a ∷ os ≡ map (λ j. item * j) (range_with_len k (suc (length os)))
+c-goes item k a [] is test = λ i. is i ∷ []
+c-goes item k a (b ∷ os) is test =
+    let parts = and_parts (b == a + item) (is_c_contiguous item (b ∷ os)) test in
+    λ i. is i ∷ c-goes item (k + 1) b os (omega (arith, eqb-true b (a + item) parts.0, is, mul-suc item k)) parts.1 i
+
+-- they lie one after another
+pub c-packed : (item : ℕ) (os : List ℕ) → is_c_contiguous item os ≡ true → AllByRecursion (λ o. o + item ≤ length os * item) os → os ≡ multiples item (length os)
+c-packed item [] test all = refl
+c-packed item (a ∷ os) test all =
+    let ends = c-ends item a os (suc (length os) * item) test all in
+    c-goes item 0 a os (omega (arith, ends, mul-suc item (length os))) test
 
 -- each byte is one of some item, where they lie one after another
 within-run : (width a n from k : ℕ) → from ≡ width * a → from ≤ k → k < from + width * n → Within width (map (λ j. width * j) (range_with_len a n)) k
@@ -51,54 +63,43 @@ all-put width os new old are long whole inside =
       | inr past ↦ inr (get_or_past old k 0 (omega (arith, long, past)) ∙ sym (get_or_past new k 0 past))
     ])
 
-module _ (es : List (Key × Entry)) (slots : Slots) (name : List ℕ) (number width : ℕ) (home : IsHome es slots name number width) (layout : Layout) (owned : Owned) (aim : IsAim (present es slots) name (View layout) (Block owned)) (can : CanExchange es slots name (offsets layout) owned) where
-  abbrev s : Slot
-  s = home.slot
-
+module _ (slots : List (Option Slot)) (home : Home) (target : Target) (owned : Owned) (can : CanPut slots home target (Block owned)) (s : Slot) (there : slot_at slots home.number ≡ Some s) (are : AreExchangeable s.block (target_offsets target) owned) where
   abbrev os : List ℕ
-  os = offsets layout
+  os = target_offsets target
+
+  abbrev width : ℕ
+  width = home.width
 
   size : item_size owned.descr ≡ width
-  size = aim.source_for.alike.size ∙ size-is es slots name number width home aim.array aim.leads.found
+  size = can.are.0
 
-  pub exchange-long : length owned.block ≡ length s.block
-  exchange-long = can.are.long ∙ ap (λ (x : Slot). length x.block) (home-same es slots name number width can.number can.width home can.home).1
+  count-is : length (offsets owned.layout) ≡ length os
+  count-is = can.are.1
 
   whole : length owned.block ≡ length os * width
-  whole = owned.fills_block.fills ∙ λ i. (sym (length-offsets owned.layout) ∙ aim.source_for.count) i * size i
+  whole = owned.fills_block.fills ∙ λ i. (sym (length-offsets owned.layout) ∙ count-is) i * size i
 
   inside : AllByRecursion (λ o. o + width ≤ length owned.block) os
-  inside = subst (λ n. AllByRecursion (λ o. o + width ≤ n) os) (sym exchange-long) (recursion_from_All (λ o. o + width ≤ length s.block) os (target-within es slots name number width home layout (Block owned) aim))
+  inside = subst (λ n. AllByRecursion (λ o. o + width ≤ n) os) (sym are.long) (recursion_from_All (λ o. o + width ≤ length s.block) os (can-inside slots home target (Block owned) can s there))
 
   to-run : os ≡ multiples width (length os)
-  to-run = c-packed width os (subst (λ n. is_c_contiguous n os ≡ true) size can.are.target) (subst (λ n. AllByRecursion (λ o. o + width ≤ n) os) whole inside)
+  to-run = c-packed width os (subst (λ n. is_c_contiguous n os ≡ true) size are.target) (subst (λ n. AllByRecursion (λ o. o + width ≤ n) os) whole inside)
 
   from-run : offsets owned.layout ≡ multiples width (length os)
   from-run =
-      c-packed width (offsets owned.layout) (subst (λ n. is_c_contiguous n (offsets owned.layout) ≡ true) size can.are.source)
-      (subst (λ n. AllByRecursion (λ o. o + width ≤ n) (offsets owned.layout)) (whole ∙ ap (λ n. n * width) (sym aim.source_for.count))
-      (offsets-within owned.layout (length owned.block) width (block-fits es slots name number width home (View layout) owned aim)))
-      ∙ ap (multiples width) aim.source_for.count
+      c-packed width (offsets owned.layout) (subst (λ n. is_c_contiguous n (offsets owned.layout) ≡ true) size are.source)
+      (subst (λ n. AllByRecursion (λ o. o + width ≤ n) (offsets owned.layout)) (whole ∙ ap (λ n. n * width) (sym count-is))
+      (offsets-within owned.layout (length owned.block) width (subst (Fits owned.layout (length owned.block)) size owned.fills_block.fits)))
+      ∙ ap (multiples width) count-is
 
-  exchanged : assigned os (offsets owned.layout) width owned.block s.block ≡ owned.block
-  exchanged = ap (λ from. with_items os (items_at from width owned.block) s.block) (from-run ∙ sym to-run) ∙ all-put width os owned.block s.block to-run (sym exchange-long) whole inside
+  -- the array's block is what a copy of all items would have made
+  pub exchanged : owned.block ≡ with_items os (items_at (offsets owned.layout) width owned.block) s.block
+  exchanged = sym (ap (λ from. with_items os (items_at from width owned.block) s.block) (from-run ∙ sym to-run) ∙ all-put width os owned.block s.block to-run (sym are.long) whole inside)
 
-  -- the array's block in the slot is as if all items had been copied
-  pub exchange-new : (after : Slots) → HasNew slots number s owned.block after → HasNew slots number s (assigned os (offsets owned.layout) width owned.block s.block) after
-  exchange-new after new = subst (λ bytes. HasNew slots number s bytes after) (sym exchanged) new
-
-  -- and the slot's block in the array has the old ones
-  pub exchange-old : (o : OldItems) → o.width ≡ item_size owned.descr → o.block ≡ s.block → AreOldOf es slots name os o
+  -- and the slot's block has the old ones
+  pub exchange-old : (o : OldItems) → o.width ≡ item_size owned.descr → o.block ≡ s.block → AreOld width s.block os o
   exchange-old o width-is block-is = record {
-    block = s.block;
-    descr = own;
-    lent = record { number = number; width = width; home = home; block_is = refl; descr_is = refl };
-    old = record {
-      size = width-is ∙ size ∙ home.width_is;
-      whole = ap length block-is ∙ sym exchange-long ∙ whole ∙ ap (λ n. length os * n) (sym (width-is ∙ size));
-      bytes = (λ i. items_at (multiples ((width-is ∙ size) i) (length os)) ((width-is ∙ size ∙ home.width_is) i) (block-is i)) ∙ ap (λ from. items_at from (item_size own) s.block) (sym to-run);
-    };
+    size = width-is ∙ size;
+    whole = ap length block-is ∙ sym are.long ∙ whole ∙ ap (λ n. length os * n) (sym (width-is ∙ size));
+    bytes = (λ i. items_at (multiples ((width-is ∙ size) i) (length os)) ((width-is ∙ size) i) (block-is i)) ∙ ap (λ from. items_at from width s.block) (sym to-run);
   }
-    where
-      own : Descr
-      own = descr_at s.descr home.entry.path

@@ -17,13 +17,10 @@ pub mod ShowLaws
 pub mod SourceLaws
 pub mod RewriteLaws
 pub mod WriteLaws
-pub mod AnswerLaws
 pub mod AimLaws
-pub mod PlanAims
 pub mod ViewLaws
 pub mod BindLaws
 pub mod ShareLaws
-pub mod OldAims
 pub mod WriteKept
 pub mod ExchangeLaws
 pub mod UndoLaws

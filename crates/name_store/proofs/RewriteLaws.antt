@@ -1,17 +1,36 @@
--- A slot is set whose bytes are new.
-use Rattle.std.proofs.Common.{◌≡◌, ◌≢◌, ◌<◌, ℕ, zero, suc, List, [], ◌∷◌, length, refl, ap, ◌∙◌, cond, Option, Some, Result, Ok, Err, IfOk, IfErr, is_ok, nat_eq, slice_set}
-use Rattle.std.proofs.lemmas.Bool.{ne_eqb}
-use Rattle.name_store.specs.inside.Homes.{IsRewritten, HasNew}
+-- Items that are put in a slot that was lent.
+use Rattle.std.proofs.Common.{◌≡◌, ◌≢◌, ◌+◌, ◌≤◌, ◌<◌, ℕ, zero, suc, true, false, List, [], ◌∷◌, length, refl, sym, ap, subst, ◌∙◌, cond, Option, Some, Result, Ok, Err, IfOk, IfErr, nat_eq, slice_set, All}
+use Rattle.std.specs.List.{AllByRecursion}
+use Rattle.std.specs.Option.{option_map}
+use Rattle.std.proofs.lemmas.Bool.{eqb-true, ne_eqb}
+use Rattle.shape_strides.specs.Layouts.{offsets, Fits}
+use Rattle.shape_strides.specs.LayoutLaws.{offsets_within}
+use Rattle.overlap_copy.specs.declared.owned.Owned.{Owned}
+use Rattle.name_store.specs.Targets.{target_offsets}
 use Rattle.name_store.specs.View.{slot_at}
+use Rattle.name_store.specs.declared.home.Home.{Home}
+use Rattle.name_store.specs.declared.items.Items.{Items}
+use Rattle.name_store.specs.declared.items.Items.TheVariants.{One, Block, Buffer}
 use Rattle.name_store.specs.declared.slot.Slot.{Slot}
-use Rattle.name_store.proofs.SlotLaws.{slot_at-set}
+use Rattle.name_store.specs.declared.target.Target.{Target}
+use Rattle.name_store.specs.inside.Homes.{HasNew}
+use Rattle.name_store.specs.inside.OldItems.{AreSame, stand}
+use Rattle.name_store.specs.inside.Puts.{AreItems, CanPut, MayPut, block_in, parts_of}
+use Rattle.name_store.proofs.LaidLaws.{offsets-within}
+use Rattle.name_store.proofs.SlotLaws.{slot_at-set, slot_at-within}
+use Rattle.name_store.proofs.SourceLaws.{all-replicated, items-whole}
 
-pub slot-set : (slots : List (Option Slot)) (number : ℕ) (put : Option Slot) (old new : Slot) (bytes : List ℕ) → number < length slots → put ≡ Some new → IsRewritten old bytes new → HasNew slots number old bytes (slice_set slots number put)
-slot-set slots number put old new bytes inside is rewritten = record {
-  new = new;
-  rewritten = rewritten;
-  set = λ other. slot_at-set slots number put other inside ∙ ap (λ o. cond (nat_eq other number) o (slot_at slots other)) is;
-}
+pub some-same : {A : Type 0} (x y : A) → Some x ≡ Some y → x ≡ y
+some-same x y h = cc
+
+pub lent-new : (slots : List (Option Slot)) (number : ℕ) (was now old : Slot) (bytes : Slot → List ℕ) → number < length slots → slot_at slots number ≡ Some was → now.descr ≡ was.descr → now.items ≡ was.items → now.block ≡ bytes was → slot_at slots number ≡ Some old →
+    HasNew slots number old (bytes old) (slice_set slots number (Some now))
+lent-new slots number was now old bytes inside there descr items block is =
+    let same : was ≡ old = some-same was old (sym there ∙ is) in record {
+      new = now;
+      rewritten = record { descr = descr ∙ ap (λ (s : Slot). s.descr) same; items = items ∙ ap (λ (s : Slot). s.items) same; block = block ∙ ap bytes same };
+      set = λ other. slot_at-set slots number (Some now) other inside;
+    }
 
 -- what is set twice is what was set last
 pub set-twice : (slots : List (Option Slot)) (number : ℕ) (first last : Option Slot) → slice_set (slice_set slots number first) number last ≡ slice_set slots number last
@@ -23,7 +42,45 @@ set-twice (slot ∷ slots) (suc number) first last = ap (λ rest. slot ∷ rest)
 pub set-other : (slots : List (Option Slot)) (number : ℕ) (put : Option Slot) (other : ℕ) → number < length slots → other ≢ number → slot_at (slice_set slots number put) other ≡ slot_at slots other
 set-other slots number put other inside apart = slot_at-set slots number put other inside ∙ ap (λ t. cond t put (slot_at slots other)) (ne_eqb other number apart)
 
--- what a call left that may have been refused
-pub done-or-kept : {A E : Type 0} (r : Result A E) (left done kept : List ℕ) → IfOk r (λ _. left ≡ done) → IfErr r (λ _. left ≡ kept) → left ≡ cond (is_ok r) done kept
-done-or-kept (Ok a) left done kept is-done is-kept = is-done
-done-or-kept (Err e) left done kept is-done is-kept = is-kept
+-- with the same bytes, the same stands in each slot
+pub kept-same : (slots : List (Option Slot)) (number : ℕ) (s : Slot) (after : List (Option Slot)) → slot_at slots number ≡ Some s → HasNew slots number s s.block after → AreSame slots after
+kept-same slots number s after there new q =
+    elim (nat_eq q number) as (λ t. nat_eq q number ≡ t → slot_at after q ≡ cond t (Some new.new) (slot_at slots q) → option_map stand (slot_at after q) ≡ option_map stand (slot_at slots q)) [
+      | true ↦ λ is there-is.
+          ap (option_map stand) there-is
+          ∙ (λ i. Some (new.rewritten.descr i, new.rewritten.items i, new.rewritten.block i))
+          ∙ ap (option_map stand) (sym (ap (slot_at slots) (eqb-true q number is) ∙ there))
+      | false ↦ λ _ there-is. ap (option_map stand) there-is
+    ] refl (new.set q)
+
+pub ok-so : {A E P Q : Type 0} (r : Result A E) → (P → Q) → IfOk r (λ _. P) → IfOk r (λ _. Q)
+ok-so (Ok a) f h = f h
+ok-so (Err e) f h = h
+
+pub err-so : {A E P Q : Type 0} (r : Result A E) → (P → Q) → IfErr r (λ _. P) → IfErr r (λ _. Q)
+err-so (Ok a) f h = h
+err-so (Err e) f h = f h
+
+-- each item has as many bytes as it must
+pub parts-whole : (slots : List (Option Slot)) (width n : ℕ) (own : Items) → AreItems slots width n own → AllByRecursion (λ part. length part ≡ width) (parts_of slots width n own)
+parts-whole slots width n (One item) are = all-replicated (λ part. length part ≡ width) n item.now are
+parts-whole slots width n (Block owned) are = items-whole (offsets owned.layout) width owned.block (offsets-within owned.layout (length owned.block) width (subst (Fits owned.layout (length owned.block)) are.0 owned.fills_block.fits))
+parts-whole slots width n (Buffer number layout) are =
+    items-whole (offsets layout) width (block_in (slot_at slots number)) (subst (λ o. AllByRecursion (λ offset. offset + width ≤ length (block_in o)) (offsets layout)) (sym are.1) (offsets-within layout (length are.0.block) width are.2))
+
+pub owned-within : (owned : Owned) (width n : ℕ) (slots : List (Option Slot)) → AreItems slots width n (Block owned) → All (λ offset. offset + width ≤ length owned.block) (offsets owned.layout)
+owned-within owned width n slots are = offsets_within owned.layout (length owned.block) width (subst (Fits owned.layout (length owned.block)) are.0 owned.fills_block.fits)
+
+module _ (slots : List (Option Slot)) (home : Home) (target : Target) (own : Items) (can : CanPut slots home target own) where
+  pub can-within : home.number < length slots
+  can-within = slot_at-within slots home.number can.slot can.there
+
+  module _ (s : Slot) (there : slot_at slots home.number ≡ Some s) where
+    pub can-slot : can.slot ≡ s
+    can-slot = some-same can.slot s (sym can.there ∙ there)
+
+    pub can-inside : All (λ offset. offset + home.width ≤ length s.block) (target_offsets target)
+    can-inside = subst (λ (x : Slot). All (λ offset. offset + home.width ≤ length x.block) (target_offsets target)) can-slot can.inside
+
+    pub can-may : MayPut target (length s.block) home.width
+    can-may = subst (λ (x : Slot). MayPut target (length x.block) home.width) can-slot can.may

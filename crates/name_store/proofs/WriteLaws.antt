@@ -30,8 +30,9 @@ use Rattle.name_store.proofs.BlockLaws.{length-items_in}
 use Rattle.name_store.proofs.PartLaws.{part-some, part-within}
 use Rattle.name_store.proofs.LaidLaws.{laid-same, places-within}
 use Rattle.name_store.proofs.PutLaws.{items-read, with_items-items}
+pub use Rattle.name_store.proofs.RewriteLaws.{some-same}
 use Rattle.name_store.proofs.NameLaws.{TestsName, all-both, found-used}
-use Rattle.name_store.proofs.SlotLaws.{get-buffers, tests_agree, slot_at-within}
+use Rattle.name_store.proofs.SlotLaws.{get-buffers, tests_agree}
 use Rattle.name_store.proofs.StateLaws.{Slots, none-found}
 use Rattle.name_store.proofs.ShowLaws.{buffer-found}
 
@@ -40,9 +41,6 @@ all-among : (P : ℕ → Type 0) (xs ys : List ℕ) → AllByRecursion P xs → 
 all-among P xs [] all among = tt
 all-among P xs (y ∷ ys) all among =
     (All-contains P xs y (All-from_recursion P xs all) (All-head (Contains xs) y ys among), all-among P xs ys all (All-tail (Contains xs) y ys among))
-
-pub some-same : {A : Type 0} (x y : A) → Some x ≡ Some y → x ≡ y
-some-same x y h = cc
 
 -- a name that is bound has an entry
 pub entry-bound : (es : List (Key × Entry)) (slots : Slots) (h : Holds es slots) (test : Key → Bool) (name : List ℕ) → TestsName test name → is_bound (present es slots) name ≡ true → is_some (lookup test es) ≡ true
@@ -64,9 +62,6 @@ module _ (es : List (Key × Entry)) (slots : Slots) (name : List ℕ) (number wi
 
   there : slot_at slots e.number ≡ Some s
   there = ap (slot_at slots) (sym home.number_is) ∙ home.there
-
-  pub home-within : number < length slots
-  home-within = slot_at-within slots number s home.there
 
   pub home-some : 1 ≤ width
   home-some = subst (λ n. 1 ≤ n) (sym home.width_is) (part-some s.descr s.is_whole.legal e.path home.lies.laid.part)
@@ -153,24 +148,7 @@ module _ (es : List (Key × Entry)) (slots : Slots) (name : List ℕ) (number wi
       lie = all-both (λ x. LiesAt (slot_at slots x.number) x) (λ x. LiesAt (slot_at slots x.number) x) (λ x. LiesAt (slot_at after x.number) x) (λ x here _. still x here) es h.lie h.lie;
     }
 
-    -- the bytes are those that were there
-    pub kept-state : bytes ≡ s.block → present es after ≡ state
-    kept-state is = λ i. record { names = map named_array es; buffers = buffers i; depth = 0; kept = []; patches = [] }
-      where
-        unchanged : buffer_in s' ≡ buffer_in s
-        unchanged = λ i. record { descr = new.rewritten.descr i; items = items_in (new.rewritten.descr i) (new.rewritten.items i) ((new.rewritten.block ∙ is) i) }
-
-        at-slot : (q : ℕ) → option_map buffer_in (slot_at after q) ≡ option_map buffer_in (slot_at slots q)
-        at-slot q =
-            elim (nat_eq q number) as (λ t. nat_eq q number ≡ t → slot_at after q ≡ cond t (Some s') (slot_at slots q) → option_map buffer_in (slot_at after q) ≡ option_map buffer_in (slot_at slots q)) [
-              | true ↦ λ same-number there-is. ap (option_map buffer_in) there-is ∙ ap Some unchanged ∙ ap (option_map buffer_in) (sym (ap (slot_at slots) (eqb-true q number same-number) ∙ home.there))
-              | false ↦ λ _ there-is. ap (option_map buffer_in) there-is
-            ] refl (new.set q)
-
-        buffers : (present es after).buffers ≡ state.buffers
-        buffers = same_map nat_cmp_total nat_cmp-IsAntisymmetric _ _ (λ q. get-buffers es after q ∙ ap (λ o. cond (is_in_use (map named_array es) q) o None) (at-slot q) ∙ sym (get-buffers es slots q))
-
-    -- or have parts of items put at the target's offsets
+    -- parts of items are put at the target's offsets
     module _ (target : Target) (array : Array) (places : List ℕ) (leads : LeadsTo state name target array places) (parts : List (List ℕ)) (whole : AllByRecursion (λ part. length part ≡ width) parts) (put-is : bytes ≡ with_items (target_offsets target) parts s.block) where
       abbrev new-buffer : Buffer
       new-buffer = record (buffer_of state array) { items = write (span_of state array) places (map (decode_item (descr_of state array)) parts) (buffer_of state array).items }

@@ -1,5 +1,5 @@
--- Writes that take no memory. Where states are kept, the old items take some.
-use Rattle.std.specs.Prelude.{◌≡◌, ◌⊎◌, ℕ, ℤ, List, Some, reverse, IsTrue}
+-- What takes no memory: writes, where no states are kept, and a question about two buffers.
+use Rattle.std.specs.Prelude.{◌≡◌, ◌≢◌, ◌⊎◌, ℕ, ℤ, List, Some, reverse, IsTrue}
 use Rattle.elem_descr.specs.Items.{item_size}
 use Rattle.shape_strides.specs.declared.layout.Layout.{Layout}
 use Rattle.shape_strides.specs.Contiguity.{is_c_contiguous}
@@ -54,3 +54,11 @@ NeedsNoneInPlan (Name other from) = ⊥
 abbrev pub NeedsNoMemory : State → List ℕ → Target → Source → Type 0
 NeedsNoMemory s name (View to) source = (s.depth ≡ 0) × NeedsNoneInView s name to source
 NeedsNoMemory s name (Plan plan) source = (s.depth ≡ 0) × NeedsNoneInPlan source
+
+-- two names are bound to arrays that lie in two buffers
+pub record LieInTwo (s : State) (left right : List ℕ) : Type 0 where
+  pub a : Array
+  pub b : Array
+  pub left_is : find_array s.names left ≡ Some a
+  pub right_is : find_array s.names right ≡ Some b
+  pub two : a.buffer ≢ b.buffer

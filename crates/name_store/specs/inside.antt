@@ -1,8 +1,10 @@
 pub mod KeptPaths
 pub mod Props
 pub mod Codes
+pub mod Lends
 pub mod Homes
 pub mod Rebinds
 pub mod OldItems
+pub mod Puts
 pub mod Exchanges
 pub mod Undoes

@@ -3,18 +3,16 @@ ghost use Rattle.std.specs.Prelude.{◌≡◌, true};
 ghost use Rattle.name_store.specs.Arrays.{is_bound};
 ghost use Rattle.name_store.specs.Invariants.{Holds};
 ghost use Rattle.name_store.specs.View.{present};
-ghost use Rattle.name_store.specs.inside.Homes.{IsHome, IsLent};
+ghost use Rattle.name_store.specs.inside.Homes.{IsHome};
 
 use crate::entry::{Entry, Key};
 use crate::slot::Slot;
 use crate::slots::slot_of;
-use elem_descr::Descr;
 use indexmap::IndexMap;
-use raw_block::RawBlock;
 
 /// The number of an array's buffer, and how many bytes each of its items has.
 #[derive(Clone, Copy)]
-pub(crate) struct Home {
+pub struct Home {
     pub number: usize,
     pub width: usize,
 }
@@ -30,30 +28,5 @@ pub(crate) fn home_of(names: &IndexMap<Key, Entry>, slots: &[Option<Slot>], key:
     Home {
         number: entry.number,
         width: entry.path.descr_in(&slot.descr).size(),
-    }
-}
-
-/// The block that an array lies in, and its element type.
-#[derive(Clone, Copy)]
-pub(crate) struct Lent<'a> {
-    pub block: &'a RawBlock,
-    pub descr: &'a Descr,
-}
-
-/// The block that the array of a name lies in that is bound.
-pub(crate) fn lent_of<'a>(
-    names: &IndexMap<Key, Entry>,
-    slots: &'a [Option<Slot>],
-    key: &Key,
-) -> Lent<'a>
-    requires holds { Holds names.now.entries slots.now }
-    requires bound { is_bound (present names.now.entries slots.now) key.now.bytes.items ≡ true }
-    ensures { IsLent names.now.entries slots.now key.now.bytes.items result.block.now result.descr.now }
-{
-    let entry = names.get(key).unwrap();
-    let slot = slot_of(slots, entry.number);
-    Lent {
-        block: &slot.block,
-        descr: entry.path.descr_in(&slot.descr),
     }
 }

@@ -10,11 +10,11 @@ ghost use Rattle.name_store.specs.Invariants.{GoBackAt};
 ghost use Rattle.name_store.specs.Targets.{target_offsets};
 ghost use Rattle.name_store.specs.View.{slot_at};
 ghost use Rattle.name_store.specs.declared.slot.Slot.{Slot};
-ghost use Rattle.name_store.specs.inside.Homes.{IsRewritten, HasNew};
+ghost use Rattle.name_store.specs.inside.Homes.{HasNew};
 ghost use Rattle.name_store.specs.inside.OldItems.{AreOld};
 
-use crate::home::Lent;
 use crate::slot::Slot;
+use crate::slots::slot_mut;
 use crate::target::Target;
 use overlap_copy::{Owned, gather, scatter};
 use raw_block::RawBlock;
@@ -46,16 +46,16 @@ impl OldItems {
 /// The items of a target, one after another.
 pub(crate) fn old_items(
     alloc: Global,
-    lent: Lent<'_>,
+    block: &RawBlock,
+    width: usize,
     target: &Target,
 ) -> Result<OldItems, AllocError>
-    requires { All (λ offset. offset + item_size lent.descr.now ≤ length lent.block.now) (target_offsets target.now) }
-    ensures { IfOk result (λ o. AreOld lent.entry.descr.now lent.entry.block.now (target_offsets target.now) o) }
+    requires { All (λ offset. offset + width ≤ length block.now) (target_offsets target.now) }
+    ensures { IfOk result (λ o. AreOld width block.now (target_offsets target.now) o) }
 {
-    let width = lent.descr.size();
     let block = match target {
-        Target::View(layout) => gather(alloc, lent.block, layout, width)?,
-        Target::Plan(plan) => plan.gather(alloc, lent.block, width)?,
+        Target::View(layout) => gather(alloc, block, layout, width)?,
+        Target::Plan(plan) => plan.gather(alloc, block, width)?,
     };
     Ok(OldItems { block, width })
 }
@@ -73,17 +73,6 @@ fn put_back(block: &mut RawBlock, target: &Target, items: &OldItems)
     }
 }
 
-/// The same in a slot that is occupied.
-fn put_back_slot(slot: &mut Option<Slot>, target: &Target, items: &OldItems)
-    requires { GoBackAt target.now items.now slot.old }
-    ensures { (old : Slot) → slot.old ≡ Some old → (new : Slot) × (slot.new ≡ Some new)
-        × IsRewritten old (with_old (target_offsets target.now) items.now old.block) new }
-{
-    if let Some(slot) = slot {
-        put_back(&mut slot.block, target, items);
-    }
-}
-
 /// The same in the slot with this number.
 pub(crate) fn put_back_at(
     slots: &mut Vec<Option<Slot>>,
@@ -96,5 +85,7 @@ pub(crate) fn put_back_at(
     ensures { (old : Slot) → slot_at slots.old.items number ≡ Some old
         → HasNew slots.old.items number old (with_old (target_offsets target.now) items.now old.block) slots.new.items }
 {
-    put_back_slot(&mut slots[number], target, items);
+    if let Some(slot) = slot_mut(slots, number) {
+        put_back(&mut slot.block, target, items);
+    }
 }

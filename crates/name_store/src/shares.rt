@@ -1,6 +1,8 @@
 //! Whether two arrays share cells.
+ghost use Rattle.std.specs.Prelude.{IsOk};
 ghost use Rattle.name_store.specs.Calls.{AnswersShares};
 ghost use Rattle.name_store.specs.Invariants.{Holds};
+ghost use Rattle.name_store.specs.Memory.{LieInTwo};
 ghost use Rattle.name_store.specs.View.{present};
 
 use crate::entry::{Entry, Key};
@@ -21,7 +23,8 @@ pub(crate) fn shares_in(
     right: &Key,
 ) -> Result<bool, Refusal>
     requires holds { Holds names.now.entries slots.now }
-    ensures { AnswersShares (present names.now.entries slots.now) left.now.bytes.items right.now.bytes.items result }
+    ensures answers { AnswersShares (present names.now.entries slots.now) left.now.bytes.items right.now.bytes.items result }
+    ensures no_memory { LieInTwo (present names.now.entries slots.now) left.now.bytes.items right.now.bytes.items → IsOk result }
 {
     let Some(first) = names.get(left) else {
         return Err(Refusal::UnknownName);

@@ -1,9 +1,11 @@
 //! The slots, in which buffers stand by their numbers.
 ghost use Rattle.std.specs.Prelude.{◌≡◌, ◌≤◌, ◌<◌, ℕ, nat_eq, true, is_some, length, map, position, Some, None, if◌then◌else◌, vec_len, vec_capacity};
-ghost use Rattle.std.specs.Option.{is_none};
+ghost use Rattle.std.specs.Option.{is_none, option_copied_mut};
 ghost use Rattle.name_store.specs.Arrays.{is_in_use};
 ghost use Rattle.name_store.specs.View.{named_array, slot_at};
 ghost use Rattle.name_store.specs.declared.entry.Entry.{Entry};
+ghost use Rattle.name_store.specs.inside.Lends.{LendsSlot};
+ghost use Rattle.std.specs.Borrow.{sem};
 
 use crate::entry::{Entry, Key};
 use crate::slot::Slot;
@@ -31,6 +33,15 @@ pub(crate) fn slot_of(slots: &[Option<Slot>], number: usize) -> &Slot
     ensures { slot_at slots.now number ≡ Some result.now }
 {
     slots[number].as_ref().unwrap()
+}
+
+/// The buffer with this number, if there is one, to write to.
+pub(crate) fn slot_mut(slots: &mut Vec<Option<Slot>>, number: usize) -> Option<&mut Slot>
+    requires { number < vec_len slots.old }
+    ensures* writes_back { sem 𝓛 (LendsSlot slots.entry number result) }
+    ensures value { option_copied_mut result ≡ slot_at slots.old.items number }
+{
+    slots[number].as_mut()
 }
 
 /// Puts a buffer in the slot with this number, which is one of those that are there or the next one.

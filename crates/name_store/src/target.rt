@@ -1,6 +1,6 @@
 //! What is written, and where.
-ghost use Rattle.std.specs.Prelude.{◌≡◌};
-ghost use Rattle.name_store.specs.Targets.{target_shape};
+ghost use Rattle.std.specs.Prelude.{◌≡◌, length};
+ghost use Rattle.name_store.specs.Targets.{target_offsets, target_shape};
 
 use fancy_index::Plan;
 use overlap_copy::Owned;
@@ -25,6 +25,16 @@ impl Target {
         match self {
             Target::View(layout) => &layout.shape,
             Target::Plan(plan) => plan.shape(),
+        }
+    }
+
+    /// How many items they are.
+    pub(crate) fn count(&self) -> usize
+        ensures { result ≡ length (target_offsets self.now) }
+    {
+        match self {
+            Target::View(layout) => layout.shape.items(),
+            Target::Plan(plan) => plan.len(),
         }
     }
 }

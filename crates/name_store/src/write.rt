@@ -1,175 +1,133 @@
-//! Items of a name's array are written.
-ghost use Rattle.std.specs.Prelude.{IsOk, IfErr};
-ghost use Rattle.name_store.specs.Calls.{AnswersWrite};
-ghost use Rattle.name_store.specs.Invariants.{Holds};
-ghost use Rattle.name_store.specs.Memory.{NeedsNoMemory};
-ghost use Rattle.name_store.specs.inside.OldItems.{AreSame, Wrote};
-ghost use Rattle.shape_strides.specs.Layouts.{offsets};
-ghost use Rattle.name_store.specs.Targets.{IsAim, target_offsets};
-ghost use Rattle.name_store.specs.View.{present};
-ghost use Rattle.name_store.specs.declared.target.Source.TheVariants.{One, Block, Name};
-ghost use Rattle.name_store.specs.declared.target.Target.TheVariants.{View};
+//! Items are written to the places of a target in a buffer.
+ghost use Rattle.std.specs.Prelude.{◌≡◌, ◌≢◌, IfOk, IfErr, IsOk};
+ghost use Rattle.name_store.specs.inside.OldItems.{AreSame};
+ghost use Rattle.name_store.specs.inside.Puts.{CanPut, Puts, InPlace, NeedsNone};
+ghost use Rattle.name_store.specs.declared.items.Items.TheVariants.{One, Block, Buffer};
 
-use crate::entry::{Entry, Key};
-use crate::exchange::{can_exchange, exchange};
-use crate::home::home_of;
-use crate::rewrite::{assign_at, copy_across, copy_at, fill_at};
+use crate::exchange::exchange;
+use crate::home::Home;
+use crate::items::Items;
+use crate::rewrite::{copy_to, fill, move_to};
 use crate::slot::Slot;
-use crate::target::{Source, Target};
-use crate::write_planned::write_planned;
-use elem_descr::Refusal;
-use indexmap::IndexMap;
+use crate::slots::{slot_mut, slot_of};
+use crate::target::Target;
 use overlap_copy::Owned;
-use shape_strides::{Layout, Runs};
-use std::alloc::Global;
+use shape_strides::Layout;
+use std::alloc::{AllocError, Global};
 
-/// Writes one item to the places of a layout. Takes no memory.
-fn write_one(
-    names: &IndexMap<Key, Entry>,
-    slots: &mut Vec<Option<Slot>>,
-    key: &Key,
-    layout: &Layout,
-    item: &[u8],
-) -> usize
-    requires holds { Holds names.now.entries slots.old.items }
-    requires aim { IsAim (present names.now.entries slots.old.items) key.now.bytes.items (View layout.now) (One item) }
-    ensures holds { Holds names.now.entries slots.new.items }
-    ensures answers { AnswersWrite (present names.now.entries slots.old.items) key.now.bytes.items (View layout.now) (One item.entry) (Ok result)
-        (present names.now.entries slots.new.items) }
-    ensures wrote { Wrote names.now.entries slots.old.items key.now.bytes.items (offsets layout.now) slots.new.items }
+/// Writes one item.
+fn write_one(slots: &mut Vec<Option<Slot>>, home: Home, target: &Target, item: &[u8])
+    requires { CanPut slots.old.items home target.now (One item) }
+    ensures { Puts slots.old.items home target.now (One item.entry) slots.new.items }
 {
-    let home = home_of(names, slots.as_slice(), key);
-    let runs = Runs::new(layout);
-    fill_at(slots, home.number, runs, item);
-    layout.shape.items()
-}
-
-/// Copies the items of a block to the places of a layout. Takes no memory.
-fn copy_block(
-    names: &IndexMap<Key, Entry>,
-    slots: &mut Vec<Option<Slot>>,
-    key: &Key,
-    layout: &Layout,
-    owned: &Owned,
-) -> usize
-    requires holds { Holds names.now.entries slots.old.items }
-    requires aim { IsAim (present names.now.entries slots.old.items) key.now.bytes.items (View layout.now) (Block owned.now) }
-    ensures holds { Holds names.now.entries slots.new.items }
-    ensures answers { AnswersWrite (present names.now.entries slots.old.items) key.now.bytes.items (View layout.now) (Block owned.now) (Ok result)
-        (present names.now.entries slots.new.items) }
-    ensures wrote { Wrote names.now.entries slots.old.items key.now.bytes.items (offsets layout.now) slots.new.items }
-{
-    let home = home_of(names, slots.as_slice(), key);
-    copy_at(
-        slots,
-        home.number,
-        layout,
-        &owned.block,
-        &owned.layout,
-        home.width,
-    );
-    layout.shape.items()
-}
-
-/// Writes the items of a block to the places of a layout. Takes no memory, and copies nothing where the
-/// blocks can be exchanged.
-fn write_block(
-    names: &IndexMap<Key, Entry>,
-    slots: &mut Vec<Option<Slot>>,
-    key: &Key,
-    layout: &Layout,
-    mut owned: Owned,
-) -> usize
-    requires holds { Holds names.now.entries slots.old.items }
-    requires aim { IsAim (present names.now.entries slots.old.items) key.now.bytes.items (View layout.now) (Block owned) }
-    ensures holds { Holds names.now.entries slots.new.items }
-    ensures answers { AnswersWrite (present names.now.entries slots.old.items) key.now.bytes.items (View layout.now) (Block owned) (Ok result)
-        (present names.now.entries slots.new.items) }
-    ensures wrote { Wrote names.now.entries slots.old.items key.now.bytes.items (offsets layout.now) slots.new.items }
-{
-    if can_exchange(names, slots.as_slice(), key, layout, &owned) {
-        exchange(names, slots, key, layout, &mut owned)
-    } else {
-        copy_block(names, slots, key, layout, &owned)
+    if let Some(slot) = slot_mut(slots, home.number) {
+        fill(&mut slot.block, target, item);
     }
 }
 
-/// Writes items of the array of another name, or of the same, to the places of a layout. Only where
-/// both lie in one buffer, and the items cannot move in place, is memory asked for, and before the
-/// first change.
-fn write_named(
-    alloc: Global,
-    names: &IndexMap<Key, Entry>,
+/// Copies the items of a block.
+fn copy_block(slots: &mut Vec<Option<Slot>>, home: Home, target: &Target, owned: &Owned)
+    requires { CanPut slots.old.items home target.now (Block owned.now) }
+    ensures { Puts slots.old.items home target.now (Block owned.now) slots.new.items }
+{
+    if let Some(slot) = slot_mut(slots, home.number) {
+        copy_to(
+            &mut slot.block,
+            target,
+            &owned.block,
+            &owned.layout,
+            home.width,
+        );
+    }
+}
+
+/// Copies items of another buffer, which is lent while the first is taken out.
+fn copy_across(
     slots: &mut Vec<Option<Slot>>,
-    key: &Key,
-    layout: &Layout,
-    name: &script_lang::Name,
+    home: Home,
+    target: &Target,
+    number: usize,
     from: &Layout,
-) -> Result<usize, Refusal>
-    requires holds { Holds names.now.entries slots.old.items }
-    requires aim { IsAim (present names.now.entries slots.old.items) key.now.bytes.items (View layout.now) (Name name from.now) }
-    ensures holds { Holds names.now.entries slots.new.items }
-    ensures answers { AnswersWrite (present names.now.entries slots.old.items) key.now.bytes.items (View layout.now) (Name name.entry from.now) result
-        (present names.now.entries slots.new.items) }
-    ensures wrote { Wrote names.now.entries slots.old.items key.now.bytes.items (offsets layout.now) slots.new.items }
-    ensures unchanged { IfErr result (λ _. AreSame slots.old.items slots.new.items) }
-    ensures no_memory { NeedsNoMemory (present names.now.entries slots.old.items) key.now.bytes.items (View layout.now) (Name name.entry from.now) → IsOk result }
+)
+    requires can { CanPut slots.old.items home target.now (Buffer number from.now) }
+    requires apart { number ≢ home.number }
+    ensures { Puts slots.old.items home target.now (Buffer number from.now) slots.new.items }
 {
-    let home = home_of(names, slots.as_slice(), key);
-    let other = home_of(names, slots.as_slice(), &Key::of(alloc, name));
-    if other.number != home.number {
-        copy_across(slots, home.number, layout, other.number, from, home.width);
-        return Ok(layout.shape.items());
+    if let Some(mut slot) = slots[home.number].take() {
+        let other = slot_of(slots.as_slice(), number);
+        copy_to(&mut slot.block, target, &other.block, from, home.width);
+        slots[home.number] = Some(slot);
     }
-    assign_at(alloc, slots, home.number, layout, from, home.width)?;
-    Ok(layout.shape.items())
 }
 
-/// Writes the source's items to the places of a layout.
-fn write_view(
+/// Copies items of the same buffer, all of them as they were before. All memory is asked for before the
+/// first change.
+fn copy_within(
     alloc: Global,
-    names: &IndexMap<Key, Entry>,
     slots: &mut Vec<Option<Slot>>,
-    key: &Key,
-    layout: &Layout,
-    source: Source<'_>,
-) -> Result<usize, Refusal>
-    requires holds { Holds names.now.entries slots.old.items }
-    requires aim { IsAim (present names.now.entries slots.old.items) key.now.bytes.items (View layout.now) source }
-    ensures holds { Holds names.now.entries slots.new.items }
-    ensures answers { AnswersWrite (present names.now.entries slots.old.items) key.now.bytes.items (View layout.now) source.entry result
-        (present names.now.entries slots.new.items) }
-    ensures wrote { Wrote names.now.entries slots.old.items key.now.bytes.items (offsets layout.now) slots.new.items }
-    ensures unchanged { IfErr result (λ _. AreSame slots.old.items slots.new.items) }
-    ensures no_memory { NeedsNoMemory (present names.now.entries slots.old.items) key.now.bytes.items (View layout.now) source.entry → IsOk result }
+    home: Home,
+    target: &Target,
+    from: &Layout,
+) -> Result<(), AllocError>
+    requires { CanPut slots.old.items home target.now (Buffer home.number from.now) }
+    ensures written { IfOk result (λ _. Puts slots.old.items home target.now (Buffer home.number from.now) slots.new.items) }
+    ensures kept { IfErr result (λ _. AreSame slots.old.items slots.new.items) }
+    ensures in_place { InPlace target.now from.now home.width → IsOk result }
 {
-    match source {
-        Source::One(item) => Ok(write_one(names, slots, key, layout, item)),
-        Source::Block(owned) => Ok(write_block(names, slots, key, layout, owned)),
-        Source::Name(name, from) => write_named(alloc, names, slots, key, layout, name, &from),
+    if let Some(slot) = slot_mut(slots, home.number) {
+        return move_to(alloc, &mut slot.block, target, from, home.width);
     }
+    Ok(())
 }
 
-/// Writes the source's items to the target's places.
+/// Copies the items to the target's places. Only where they are of the same buffer, and cannot move in
+/// place, is memory asked for, and before the first change.
+pub(crate) fn copy_items(
+    alloc: Global,
+    slots: &mut Vec<Option<Slot>>,
+    home: Home,
+    target: &Target,
+    items: &Items<'_>,
+) -> Result<(), AllocError>
+    requires { CanPut slots.old.items home target.now items.now }
+    ensures written { IfOk result (λ _. Puts slots.old.items home target.now items.now slots.new.items) }
+    ensures kept { IfErr result (λ _. AreSame slots.old.items slots.new.items) }
+    ensures no_memory { NeedsNone home target.now items.now → IsOk result }
+{
+    match items {
+        Items::One(item) => write_one(slots, home, target, item),
+        Items::Block(owned) => copy_block(slots, home, target, owned),
+        Items::Buffer(number, from) => {
+            if *number == home.number {
+                return copy_within(alloc, slots, home, target, from);
+            }
+            copy_across(slots, home, target, *number, from);
+        }
+    }
+    Ok(())
+}
+
+/// The same, but that nothing is copied where the blocks can be exchanged.
 pub(crate) fn write_items(
     alloc: Global,
-    names: &IndexMap<Key, Entry>,
     slots: &mut Vec<Option<Slot>>,
-    key: &Key,
+    home: Home,
     target: &Target,
-    source: Source<'_>,
-) -> Result<usize, Refusal>
-    requires holds { Holds names.now.entries slots.old.items }
-    requires aim { IsAim (present names.now.entries slots.old.items) key.now.bytes.items target.now source }
-    ensures holds { Holds names.now.entries slots.new.items }
-    ensures answers { AnswersWrite (present names.now.entries slots.old.items) key.now.bytes.items target.now source.entry result
-        (present names.now.entries slots.new.items) }
-    ensures wrote { Wrote names.now.entries slots.old.items key.now.bytes.items (target_offsets target.now) slots.new.items }
-    ensures unchanged { IfErr result (λ _. AreSame slots.old.items slots.new.items) }
-    ensures no_memory { NeedsNoMemory (present names.now.entries slots.old.items) key.now.bytes.items target.now source.entry → IsOk result }
+    items: Items<'_>,
+) -> Result<(), AllocError>
+    requires { CanPut slots.old.items home target.now items }
+    ensures written { IfOk result (λ _. Puts slots.old.items home target.now items.entry slots.new.items) }
+    ensures kept { IfErr result (λ _. AreSame slots.old.items slots.new.items) }
+    ensures no_memory { NeedsNone home target.now items.entry → IsOk result }
 {
-    match target {
-        Target::View(layout) => write_view(alloc, names, slots, key, layout, source),
-        Target::Plan(plan) => write_planned(alloc, names, slots, key, plan, source),
+    match items {
+        Items::Block(mut owned) => {
+            if exchange(slots, home, target, &mut owned) {
+                return Ok(());
+            }
+            copy_block(slots, home, target, &owned);
+            Ok(())
+        }
+        copied => copy_items(alloc, slots, home, target, &copied),
     }
 }

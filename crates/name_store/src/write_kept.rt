@@ -10,11 +10,12 @@ ghost use Rattle.name_store.specs.View.{state_of};
 use crate::change::Change;
 use crate::entry::{Entry, Key};
 use crate::home::home_of;
+use crate::items::items_of;
 use crate::keep::{keep, make_room};
 use crate::slot::Slot;
 use crate::target::{Source, Target};
 use crate::write::write_items;
-use crate::write_over::{Replaced, write_over};
+use crate::write_over::write_over;
 use circular_buffer::HeapCircularBuffer;
 use elem_descr::Refusal;
 use indexmap::IndexMap;
@@ -38,14 +39,17 @@ pub(crate) fn write_in(
         (state_of names.new.entries slots.new.items ring.new) }
     ensures no_memory { NeedsNoMemory (state_of names.old.entries slots.old.items ring.old) key.now.bytes.items target source.entry → IsOk result }
 {
+    let home = home_of(names, slots.as_slice(), key);
+    let items = items_of(alloc, names, slots.as_slice(), source);
+    let count = target.count();
     if ring.capacity() == 0 {
-        return write_items(alloc, names, slots, key, &target, source);
+        write_items(alloc, slots, home, &target, items)?;
+        return Ok(count);
     }
     make_room(names, ring, 0)?;
-    let number = home_of(names, slots.as_slice(), key).number;
-    let Replaced { count, items } = write_over(alloc, names, slots, key, &target, source)?;
+    let items = write_over(alloc, slots, home, &target, items)?;
     let change = Change::Write {
-        number,
+        number: home.number,
         target,
         items,
     };

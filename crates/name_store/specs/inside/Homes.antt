@@ -1,6 +1,5 @@
 -- Where the array of a name lies, and slots in which the bytes of one block are new.
 use Rattle.std.specs.Prelude.{◌≡◌, ℕ, List, Option, Some, map, nat_eq, if◌then◌else◌}
-use Rattle.elem_descr.specs.declared.descr.Descr.{Descr}
 use Rattle.elem_descr.specs.Items.{item_size}
 use Rattle.name_store.specs.Arrays.{find_array}
 use Rattle.name_store.specs.Invariants.{LiesIn}
@@ -19,14 +18,6 @@ pub record IsHome (names : List (Key × Entry)) (slots : List (Option Slot)) (na
   pub there : slot_at slots number ≡ Some slot
   pub lies : LiesIn slot entry
   pub width_is : width ≡ item_size (descr_at slot.descr entry.path)
-
--- the block of the slot that the name's array lies in, and the array's element type
-pub record IsLent (names : List (Key × Entry)) (slots : List (Option Slot)) (name : List ℕ) (block : List ℕ) (descr : Descr) : Type 0 where
-  pub number : ℕ
-  pub width : ℕ
-  pub home : IsHome names slots name number width
-  pub block_is : block ≡ home.slot.block
-  pub descr_is : descr ≡ descr_at home.slot.descr home.entry.path
 
 -- a slot with these bytes in its block, and else as it was
 pub record IsRewritten (old : Slot) (bytes : List ℕ) (new : Slot) : Type 0 where

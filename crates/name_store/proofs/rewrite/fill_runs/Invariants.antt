@@ -1,0 +1,14 @@
+use Rattle.std.proofs.Common.{◌≡◌, length, All}
+use Rattle.std.specs.List.{flat_map}
+use Rattle.raw_block.specs.Bytes.{EachWithin}
+use Rattle.shape_strides.specs.Runs.{run_offsets}
+use Rattle.fancy_index.specs.Plans.{put_each}
+use Rattle.name_store.proofs.rewrite.fill_runs.Given as goal
+
+-- the runs that are left lead to what all of them do
+abbrev pub invariant-loop-run : goal.invariant-loop-run
+invariant-loop-run l = record {
+  rest : put_each (flat_map run_offsets l.run-iterator) l.item l.block ≡ put_each (flat_map run_offsets l.fn.runs) l.item l.fn.block;
+  len : length l.block ≡ length l.fn.block;
+  inside : All (λ run. EachWithin (length l.fn.block) run.offset run.step (length l.item) run.count) l.run-iterator;
+}
