@@ -53,7 +53,7 @@ impl Bench {
     ghost use Rattle.name_store.specs.States.{start};
     ghost use Rattle.name_store.specs.Arrays.{find_array, has_room_for};
     ghost use Rattle.name_store.specs.Calls.{AnswersBind, AnswersUnbind, AnswersUndo, AnswersWrite, AnswersShares};
-    ghost use Rattle.name_store.specs.Memory.{NeedsNoMemory};
+    ghost use Rattle.name_store.specs.Memory.{NeedsNoMemory, LieInTwo};
     ghost use Rattle.name_store.specs.Shown.{Finds};
     ghost use Rattle.name_store.specs.Targets.{IsAim};
     ghost use Rattle.name_store.specs.Views.{MayBind};
@@ -163,7 +163,8 @@ impl Bench {
     /// Whether the arrays of two names share cells. A name that is not bound is refused before any
     /// memory is asked for.
     pub fn shares(&self, alloc: Global, left: &Name, right: &Name) -> Result<bool, Refusal>
-        ensures { AnswersShares self.now left.now right.now result }
+        ensures answers { AnswersShares self.now left.now right.now result }
+        ensures no_memory { LieInTwo self.now left.now right.now → IsOk result }
     {
         shares_in(
             alloc,
