@@ -25,7 +25,7 @@ use shape_strides::{Layout, Shape};
 use std::alloc::Global;
 
 /// A layout that is stretched to a shape to which it can be.
-fn stretched_to(alloc: Global, layout: &Layout, shape: &Shape) -> Result<Layout, Refusal>
+pub(crate) fn stretched_to(alloc: Global, layout: &Layout, shape: &Shape) -> Result<Layout, Refusal>
     requires { IsTrue (can_stretch layout.now.shape shape.now) }
     ensures shape { IfOk result (λ l. l.shape ≡ shape.now) }
     ensures offsets { IfOk result (λ l. offsets l ≡ view_through (offsets layout.now) layout.now.shape shape.now (broadcast_index layout.now.shape)) }
