@@ -20,6 +20,7 @@ MOST_STEPS = 400
 FILLED_LIMITS = 120
 FULL = [(24, 24), (20, 16), (16, 16), (12, 32), (8, 32), (4, 16)]
 STACKS = range(PAGE, 2**20 + 1, PAGE)
+ENDS_SHELL, ENDS_PROGRAM = 2**16, 2**19
 
 
 def filling(script):
@@ -153,9 +154,9 @@ def stacks(program, folder):
             for script in ("every_command.bench", "many_axes.bench", "saved_records.bench", "long lists"):
                 asked = scripts[script].asking()
                 trial = Limited(runner, part, f"{name}, {script}", asked, asked.lines)
-                words = collections.Counter(trial.trial("stack", most) for most in STACKS)
-                if name == "the launcher":
-                    part.expect(f"{name}, {script}: runs that end at the start", words["ended at the start"], 0)
+                ended = [most for most in STACKS if trial.trial("stack", most) == "ended at the start"]
+                part.note(f"{name}, {script}: ended at the start under a stack of", f"up to {max(ended, default=0):,} bytes")
+                part.expect(f"{name}, {script}: ended at its start", max(ended, default=0) < (ENDS_SHELL if name == "the launcher" else ENDS_PROGRAM), True)
     return part
 
 

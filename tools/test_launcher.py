@@ -96,6 +96,15 @@ class Launcher(unittest.TestCase):
         self.put_program()
         self.assertEqual(self.told(self.run_in(["./bench"], GLIBC_TUNABLES="glibc.malloc.arena_max=1"))[1], "tunables: glibc.malloc.arena_max=1")
 
+    def test_limits_of_memory(self):
+        """Where the address space has a limit memory is given back, and a small stack is want of memory."""
+        self.put_program()
+        for limits, tunables in (("-v 8000000", ""), ("-s 512", None), ("-s 4096", None)):
+            said = self.told(self.run_in(["sh", "-c", f"ulimit {limits}; exec ./bench"]))[1]
+            self.assertEqual("mmap_threshold" in said, tunables is None)
+        ran = self.run_in(["sh", "-c", "ulimit -s 256; exec ./bench"])
+        self.assertEqual((ran.returncode, ran.stdout, ran.stderr), (3, "", "bench: out of memory\n"))
+
     def test_help_needs_no_program(self):
         ran = self.run_in(["./bench", "--help"])
         self.assertEqual((ran.returncode, ran.stdout), (0, (TOP / "docs/help.txt").read_text()))

@@ -7,6 +7,8 @@ use crate::words::{Options, OptionsFault};
 use clap::error::ErrorKind;
 use clap::{Arg, Command, Error, value_parser};
 use std::alloc::{AllocError, Global};
+use std::env::Env;
+use std::{env, io};
 
 /// What a script may say.
 const COMMANDS: &str = "Commands, one a line:
@@ -50,6 +52,9 @@ const THIS_FOLDER: &str = ".";
 
 /// How many earlier states are kept where no number is named.
 const DEPTH: u8 = 16;
+
+/// What is wrong with words that are no text.
+const NO_TEXT: &str = "invalid UTF-8 was detected in one or more arguments";
 
 /// The argument that names the folder.
 fn folder_argument<'a>(alloc: Global) -> Arg<'a>
@@ -106,9 +111,32 @@ fn fault_of(error: Error) -> OptionsFault
     }
 }
 
+/// The words that the program is given, of which the first is its own name. One that is no UTF-8 is
+/// a refused word.
+fn given_words<R: Env + AllocGlobal>(rt: &R) -> Result<Vec<String>, OptionsFault>
+    ensures told { IfErr result IsToldApart }
+{
+    match env::args(rt) {
+        Ok(words) => Ok(words.collect(rt.alloc())?),
+        Err(error) if error.kind() == io::ErrorKind::OutOfMemory => Err(OptionsFault::Memory),
+        Err(_) => {
+            let error = command(rt.alloc())?.error(ErrorKind::InvalidValue, NO_TEXT)?;
+            Err(OptionsFault::Words(error))
+        }
+    }
+}
+
+/// Reads the words that the program is given.
+pub fn given_options<R: Env + AllocGlobal>(rt: &R) -> Result<Options, OptionsFault>
+    ensures depth { IfOk result (λ options. options.depth ≤ 64) }
+    ensures told { IfErr result IsToldApart }
+{
+    options(rt.alloc(), given_words(rt)?.as_slice())
+}
+
 /// Reads the words, of which the first is the program's own name. Help is asked for by a fault of
 /// the words too, as `clap` has it.
-pub fn options(alloc: Global, words: &[String]) -> Result<Options, OptionsFault>
+fn options(alloc: Global, words: &[String]) -> Result<Options, OptionsFault>
     ensures depth { IfOk result (λ options. options.depth ≤ 64) }
     ensures told { IfErr result IsToldApart }
 {

@@ -4,18 +4,21 @@
 ghost use Rattle.std.specs.Prelude.{◌≤◌};
 
 mod command_line;
-mod replies;
+mod retrying;
+mod stack;
 mod status;
 mod words;
 
-use bench_engine::{RunFault, ScriptSource, Summary, run};
-use command_line::options;
+use bench_engine::{RunFault, Summary, run};
+use command_line::given_options;
 use npy_files::DirStore;
-use replies::Replies;
-use status::{FAULT, NO_MEMORY, NO_SCRIPT, outcome};
+use retrying::Retrying;
+use stack::has_stack;
+use status::{FAULT, NO_MEMORY, NO_SCRIPT, WRITE_FAULT, outcome};
+use std::io::Read;
 use std::process::ExitCode;
 use std::rt::Files;
-use std::{env, fs, io};
+use std::{fs, io};
 use words::{Options, OptionsFault};
 
 /// Says a text on standard error, and answers the status.
@@ -24,19 +27,30 @@ fn stop(rt: &impl Eprint, status: u8, text: &str) -> ExitCode {
     ExitCode::from(status)
 }
 
-/// Ends as a run did. Where nobody reads the replies any more, nothing is said.
-fn finish(rt: &impl Eprint, run: &Result<Summary, RunFault>, is_closed: bool) -> ExitCode {
+/// Ends as a run did.
+fn finish(rt: &impl Eprint, run: &Result<Summary, RunFault>) -> ExitCode {
     let (status, text) = outcome(run);
-    if is_closed || text.is_empty() {
+    if text.is_empty() {
         return ExitCode::from(status);
     }
     stop(rt, status, text)
 }
 
+/// Says what is wrong with the words, or the help that they ask for.
+fn refuse<R: Print + Eprint>(rt: &R, fault: &OptionsFault) -> ExitCode {
+    let OptionsFault::Words(error) = fault else {
+        return stop(rt, FAULT, NO_MEMORY);
+    };
+    if error.print(rt).is_err() && !error.use_stderr() {
+        return stop(rt, FAULT, WRITE_FAULT);
+    }
+    ExitCode::from(error.exit_code() as u8)
+}
+
 /// Runs a script over the files of the folder that the options name.
-fn run_over<R: Files + Print + Eprint + AllocGlobal, S: ScriptSource>(
+fn run_over<R: Files + Print + Eprint + AllocGlobal, S: Read + Drop>(
     rt: &R,
-    source: &mut S,
+    script: S,
     options: &Options,
 ) -> ExitCode
     requires { options.now.depth ≤ 64 }
@@ -45,9 +59,16 @@ fn run_over<R: Files + Print + Eprint + AllocGlobal, S: ScriptSource>(
     let Ok(mut store) = DirStore::try_new(rt, rt.alloc(), dir) else {
         return stop(rt, FAULT, NO_MEMORY);
     };
-    let mut replies = Replies::new(io::writer(rt));
-    let told = run(rt.alloc(), source, &mut replies, &mut store, options.depth);
-    finish(rt, &told, replies.is_closed())
+    let mut source = Retrying::new(script);
+    let mut replies = Retrying::new(io::writer(rt));
+    let told = run(
+        rt.alloc(),
+        &mut source,
+        &mut replies,
+        &mut store,
+        options.depth,
+    );
+    finish(rt, &told)
 }
 
 /// Runs the script that the options name.
@@ -57,29 +78,21 @@ fn run_script<R: Files + Input + Print + Eprint + AllocGlobal>(
 ) -> ExitCode
     requires { options.now.depth ≤ 64 }
 {
+    if !has_stack(rt.alloc(), options.depth) {
+        return stop(rt, FAULT, NO_MEMORY);
+    }
     match &options.script {
         Some(path) => match fs::open(rt, path.as_str()) {
-            Ok(mut file) => run_over(rt, &mut file, options),
+            Ok(file) => run_over(rt, file, options),
             Err(_) => stop(rt, FAULT, NO_SCRIPT),
         },
-        None => run_over(rt, &mut rt.reader(), options),
+        None => run_over(rt, rt.reader(), options),
     }
 }
 
 fn main(rt: HostRuntime) -> ExitCode {
-    let Ok(args) = env::args(&rt) else {
-        return stop(&rt, FAULT, NO_MEMORY);
-    };
-    let words: Result<Vec<String>, _> = args.collect(rt.alloc());
-    let Ok(words) = words else {
-        return stop(&rt, FAULT, NO_MEMORY);
-    };
-    match options(rt.alloc(), words.as_slice()) {
+    match given_options(&rt) {
         Ok(options) => run_script(&rt, &options),
-        Err(OptionsFault::Words(error)) => {
-            let _ = error.print(&rt);
-            ExitCode::from(error.exit_code() as u8)
-        }
-        Err(OptionsFault::Memory) => stop(&rt, FAULT, NO_MEMORY),
+        Err(fault) => refuse(&rt, &fault),
     }
 }

@@ -10,6 +10,9 @@ pub const NO_SCRIPT: &str = "bench: no script";
 /// The text where no memory is found to begin with.
 pub const NO_MEMORY: &str = "bench: out of memory";
 
+/// The text where what is written is not taken.
+pub const WRITE_FAULT: &str = "bench: write fault";
+
 /// The status where a script can't be run to its end.
 pub const FAULT: u8 = 3;
 
@@ -22,7 +25,7 @@ pub fn outcome(run: &Result<Summary, RunFault>) -> (u8, &'static str)
         Ok(summary) if summary.refused == 0 => (0, ""),
         Ok(_) => (1, ""),
         Err(RunFault::Read) => (FAULT, "bench: read fault"),
-        Err(RunFault::Write) => (FAULT, "bench: write fault"),
+        Err(RunFault::Write) => (FAULT, WRITE_FAULT),
         Err(RunFault::Memory) => (FAULT, NO_MEMORY),
     }
 }
