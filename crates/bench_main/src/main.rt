@@ -13,6 +13,7 @@ use command_line::options;
 use npy_files::DirStore;
 use replies::Replies;
 use status::{FAULT, NO_MEMORY, NO_SCRIPT, outcome};
+use std::fs::File;
 use std::process::ExitCode;
 use std::rt::Files;
 use std::{env, fs, io};
@@ -34,7 +35,7 @@ fn finish(rt: &impl Eprint, run: &Result<Summary, RunFault>, is_closed: bool) ->
 }
 
 /// Runs a script over the files of the folder that the options name.
-fn run_over<R: Files + Print + Eprint + AllocGlobal, S: ScriptSource>(
+fn run_over<R: Files<File = File> + Print + Eprint + AllocGlobal, S: ScriptSource>(
     rt: &R,
     source: &mut S,
     options: &Options,
@@ -51,7 +52,7 @@ fn run_over<R: Files + Print + Eprint + AllocGlobal, S: ScriptSource>(
 }
 
 /// Runs the script that the options name.
-fn run_script<R: Files + Input + Print + Eprint + AllocGlobal>(
+fn run_script<R: Files<File = File> + Input + Print + Eprint + AllocGlobal>(
     rt: &R,
     options: &Options,
 ) -> ExitCode
