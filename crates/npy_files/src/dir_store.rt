@@ -1,4 +1,5 @@
 //! A store that is a folder of the operating system.
+ghost use Rattle.std.specs.Prelude.{◌≡◌, ◌^◌, IfOk};
 
 use crate::cutter::HeaderCutter;
 use crate::folder_store::FolderStore;
@@ -16,7 +17,10 @@ pub type DirStore<'a, R> = FolderStore<HostDisk<'a, R>, HeaderCutter>;
 
 impl<'a, R: Files<File = File>> FolderStore<HostDisk<'a, R>, HeaderCutter> {
     /// The store that is the folder of this name. The folder isn't looked at.
-    pub fn try_new(rt: &'a R, alloc: Global, dir: &str) -> Result<DirStore<'a, R>, AllocError> {
+    pub fn try_new(rt: &'a R, alloc: Global, dir: &str) -> Result<DirStore<'a, R>, AllocError>
+        ensures limit { IfOk result (λ store. store.limit ≡ 2 ^ 29) }
+        ensures faults { IfOk result (λ store. store.faults ≡ 0) }
+    {
         let disk = HostDisk::try_new(rt, alloc, dir)?;
         Ok(FolderStore::new(disk, HeaderCutter, MAX_FILE))
     }
