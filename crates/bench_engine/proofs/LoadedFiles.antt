@@ -10,7 +10,7 @@ use Rattle.overlap_copy.specs.Blocks.{places_of}
 use Rattle.npy_files.specs.Stores.{Shelf, IsSameStore, HasCause, IsRead}
 use Rattle.npy_files.specs.declared.store.StoreFault.{StoreFault}
 use Rattle.npy_files.specs.declared.store.StoreFault.TheVariants.{Device, TooLong, Memory}
-use Rattle.npy_files.specs.Files.{Loaded, Loads, HasItems, order_of}
+use Rattle.npy_format.specs.Files.{Loaded, Loads, HasItems, order_of}
 use Rattle.name_store.specs.States.{State}
 use Rattle.name_store.specs.Arrays.{has_room_for}
 use Rattle.bench_engine.specs.inside.OwnContents.{held}

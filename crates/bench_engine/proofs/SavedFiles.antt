@@ -5,7 +5,7 @@ use Rattle.elem_descr.specs.declared.refusal.Refusal.TheVariants.{UnknownName, O
 use Rattle.elem_descr.specs.Blocks.{item_from}
 use Rattle.shape_strides.specs.Layouts.{offsets}
 use Rattle.npy_files.specs.Stores.{Shelf, IsSameStore, HasCause, IsWritten}
-use Rattle.npy_files.specs.WrittenFiles.{saved}
+use Rattle.npy_format.specs.WrittenFiles.{saved}
 use Rattle.name_store.specs.States.{State, Array}
 use Rattle.name_store.specs.Arrays.{find_array, is_bound, addresses, descr_of, read}
 use Rattle.name_store.specs.Shown.{Shows}

@@ -9,7 +9,7 @@ use Rattle.shape_strides.specs.Indexes.{count}
 use Rattle.name_store.specs.States.{State}
 use Rattle.name_store.specs.Arrays.{has_room_for, bound_to}
 use Rattle.npy_files.specs.Stores.{Shelf, HasCause, IsRead}
-use Rattle.npy_files.specs.Files.{Loaded, load, order_of}
+use Rattle.npy_format.specs.Files.{Loaded, load, order_of}
 use Rattle.npy_files.specs.declared.store.StoreFault.{StoreFault}
 use Rattle.bench_engine.specs.Contents.{Contents, places_in, array_over}
 use Rattle.bench_engine.specs.declared.replies.Origin.TheVariants as origin

@@ -5,7 +5,7 @@ use Rattle.elem_descr.specs.Refusals.{◌>>=◌}
 use Rattle.name_store.specs.States.{State}
 use Rattle.name_store.specs.Arrays.{descr_of, addresses, read}
 use Rattle.npy_files.specs.Stores.{Shelf, HasCause, IsWritten}
-use Rattle.npy_files.specs.WrittenFiles.{saved}
+use Rattle.npy_format.specs.WrittenFiles.{saved}
 use Rattle.npy_files.specs.declared.store.StoreFault.{StoreFault}
 use Rattle.bench_engine.specs.Replies.{Reply, refusal}
 use Rattle.bench_engine.specs.Machine.{array_of}

@@ -15,6 +15,7 @@ use npy_files::DirStore;
 use retrying::Retrying;
 use stack::has_stack;
 use status::{FAULT, NO_MEMORY, NO_SCRIPT, WRITE_FAULT, outcome};
+use std::fs::File;
 use std::io::Read;
 use std::process::ExitCode;
 use std::rt::Files;
@@ -48,7 +49,7 @@ fn refuse<R: Print + Eprint>(rt: &R, fault: &OptionsFault) -> ExitCode {
 }
 
 /// Runs a script over the files of the folder that the options name.
-fn run_over<R: Files + Print + Eprint + AllocGlobal, S: Read + Drop>(
+fn run_over<R: Files<File = File> + Print + Eprint + AllocGlobal, S: Read + Drop>(
     rt: &R,
     script: S,
     options: &Options,
@@ -72,7 +73,7 @@ fn run_over<R: Files + Print + Eprint + AllocGlobal, S: Read + Drop>(
 }
 
 /// Runs the script that the options name.
-fn run_script<R: Files + Input + Print + Eprint + AllocGlobal>(
+fn run_script<R: Files<File = File> + Input + Print + Eprint + AllocGlobal>(
     rt: &R,
     options: &Options,
 ) -> ExitCode

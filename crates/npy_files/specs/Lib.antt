@@ -1,12 +1,4 @@
 pub mod Stores
-pub mod Tokens
-pub mod Values
-pub mod Listed
-pub mod Literals
-pub mod RecordLists
-pub mod Headers
-pub mod Files
-pub mod WrittenHeaders
-pub mod WrittenFiles
-pub mod SavedFiles
+pub mod Names
+pub mod Folders
 pub mod inside

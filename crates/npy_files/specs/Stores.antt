@@ -1,14 +1,10 @@
 -- What a store of files is, and what its calls answer.
 use Rattle.std.specs.Prelude.{◌≡◌, ◌≢◌, ◌⊎◌, ◌<◌, ◌≤◌, ℕ, Bool, true, false, List, length, Option, Some, None, Result, Ok, Err}
-use Rattle.std.specs.Cmp.Lexicographic.{slice_cmp}
-use Rattle.std.specs.FinMap.{FinMap, empty, get, insert}
-use Rattle.std.specs.Ordering.{nat_cmp}
+use Rattle.std.specs.FinMap.{empty, get, insert}
+use Rattle.disk.specs.Files.{Files}
+use Rattle.disk.specs.Calls.{last_count}
 use Rattle.npy_files.specs.declared.store.StoreFault.{StoreFault}
 use Rattle.npy_files.specs.declared.store.StoreFault.TheVariants.{Device, TooLong, Memory}
-
--- the bytes of each file, by its name
-abbrev pub Files : Type 0
-Files = FinMap (slice_cmp nat_cmp) (List ℕ)
 
 -- A store: its files, how often its device has failed, the most bytes of a file, and whether it is
 -- honest. Of a store that is not, nothing is known but its limit and its failures.
@@ -21,18 +17,6 @@ pub record Shelf : Type 0 where
 -- an honest store without files, which has never failed
 abbrev pub empty_shelf : ℕ → Shelf
 empty_shelf limit = record { files = empty; failures = 0; limit = limit; honest = true }
-
--- the most bytes of a file in a folder
-abbrev pub max_file : ℕ
-max_file = 536870912
-
--- a folder, of which no contract tells what it holds
-abbrev pub folder_shelf : ℕ → Shelf
-folder_shelf failures = record { files = empty; failures = failures; limit = max_file; honest = false }
-
--- a count at its greatest value, where it stays
-abbrev pub last_count : ℕ
-last_count = 18446744073709551615
 
 -- no call changes the limit or the honesty, or forgets a failure
 pub record IsSameStore (old new : Shelf) : Type 0 where

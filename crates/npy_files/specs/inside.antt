@@ -1,7 +1,1 @@
 pub mod Shelves
-pub mod Entries
-pub mod Scanned
-pub mod Places
-pub mod WrittenItems
-pub mod Sound
-pub mod LoadedParts

@@ -2,9 +2,9 @@
 ghost use Rattle.std.specs.Prelude.{◌≡◌};
 ghost use Rattle.npy_files.specs.inside.Shelves.{answer_by, calls_after};
 
-use crate::file_parts::FileParts;
 use crate::mem_store::MemStore;
 use crate::store::{NpyStore, StoreFault};
+use npy_format::FileParts;
 use std::alloc::Global;
 
 /// A store in memory of which one call answers `Device` and leaves the files as they are, for tests of
@@ -56,16 +56,6 @@ impl NpyStore for FuseStore {
 
     fn limit(&self) -> usize {
         self.store.limit()
-    }
-
-    fn read(&mut self, alloc: Global, name: &[u8]) -> Result<Option<Vec<u8>>, StoreFault> {
-        self.count_call()?;
-        self.store.read(alloc, name)
-    }
-
-    fn write(&mut self, alloc: Global, name: &[u8], bytes: &[u8]) -> Result<(), StoreFault> {
-        self.count_call()?;
-        self.store.write(alloc, name, bytes)
     }
 
     fn read_parts(&mut self, alloc: Global, name: &[u8]) -> Result<Option<FileParts>, StoreFault> {

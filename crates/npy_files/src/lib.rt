@@ -1,33 +1,24 @@
-//! NPY files: arrays as the bytes of a file and back, and where files are kept.
+//! Stores of files: in memory, and as a folder on a disk. What the format of the files gives is handed
+//! on.
 #![tactic(auto)]
 
+mod cutter;
 mod dir_store;
-mod file_header;
-mod file_parts;
+mod folder_store;
 mod fuse_store;
-mod grammar;
-mod header;
-mod header_text;
-mod items;
-mod loader;
 mod mem_store;
-mod open_file;
-mod reader;
-mod record_list;
-mod saver;
+mod names;
+mod put;
+mod read;
 mod store;
-mod token;
-mod writer;
-mod written_items;
 
-pub use dir_store::DirStore;
-pub use file_parts::FileParts;
+pub use cutter::{Cutter, HeaderCutter};
+pub use dir_store::{DirStore, MAX_FILE};
+pub use folder_store::FolderStore;
 pub use fuse_store::FuseStore;
-pub use header::{Header, header_read};
-pub use loader::npy_load;
 pub use mem_store::MemStore;
-pub use open_file::MAX_FILE;
-pub use reader::{MAX_HEADER, npy_read};
-pub use saver::{SavedParts, npy_parts};
+pub use npy_format::{
+    FileParts, Header, MAX_HEADER, SavedParts, header_read, npy_load, npy_parts, npy_read,
+    npy_write,
+};
 pub use store::{NpyStore, StoreFault};
-pub use writer::npy_write;

@@ -2,7 +2,8 @@
 ghost use Rattle.std.specs.Prelude.{◌≡◌, ◌<◌, length, position, IfSome};
 ghost use Rattle.npy_files.specs.inside.Shelves.{is_called};
 
-use crate::store::{NpyStore, StoreFault};
+use crate::store::{NpyStore, StoreFault, is_longer};
+use npy_format::FileParts;
 use std::alloc::Global;
 
 /// A file and its name.
@@ -49,7 +50,7 @@ impl NpyStore for MemStore {
         self.limit
     }
 
-    fn read(&mut self, alloc: Global, name: &[u8]) -> Result<Option<Vec<u8>>, StoreFault> {
+    fn read_parts(&mut self, alloc: Global, name: &[u8]) -> Result<Option<FileParts>, StoreFault> {
         let Some(place) = place_of(self.files.as_slice(), name) else {
             return Ok(None);
         };
@@ -57,14 +58,22 @@ impl NpyStore for MemStore {
         if bytes.len() > self.limit {
             return Err(StoreFault::TooLong);
         }
-        Ok(Some(Vec::from_slice(alloc, bytes)?))
+        let bytes = Vec::from_slice(alloc, bytes)?;
+        Ok(Some(FileParts::uncut(alloc, bytes)?))
     }
 
-    fn write(&mut self, alloc: Global, name: &[u8], bytes: &[u8]) -> Result<(), StoreFault> {
-        if bytes.len() > self.limit {
+    fn write_parts(
+        &mut self,
+        alloc: Global,
+        name: &[u8],
+        front: &[u8],
+        items: &[u8],
+    ) -> Result<(), StoreFault> {
+        if is_longer(front.len(), items.len(), self.limit) {
             return Err(StoreFault::TooLong);
         }
-        let bytes = Vec::from_slice(alloc, bytes)?;
+        let mut bytes = Vec::from_slice(alloc, front)?;
+        bytes.extend_from_slice(items)?;
         if let Some(place) = place_of(self.files.as_slice(), name) {
             self.files[place].bytes = bytes;
             return Ok(());

@@ -1,9 +1,10 @@
 //! Stores of files.
-ghost use Rattle.std.specs.Prelude.{◌≡◌, ◌++◌, true};
+ghost use Rattle.std.specs.Prelude.{◌≡◌, ◌<◌, ◌≤◌, ◌+◌, ◌++◌, true, false};
 ghost use Rattle.std.specs.FinMap.{get};
 ghost use Rattle.npy_files.specs.Stores.{Shelf, IsSameStore, HasCause, IsRead, IsWritten};
 
-use crate::file_parts::{FileParts, joined};
+use disk::DiskFault;
+use npy_format::FileParts;
 use std::alloc::{AllocError, AllocFailed, Global};
 use thiserror::Error;
 
@@ -38,6 +39,27 @@ impl<T: Drop> From<AllocFailed<T>> for StoreFault {
     }
 }
 
+impl From<DiskFault> for StoreFault {
+    ghost use Rattle.npy_files.specs.Folders.{fault_of};
+
+    ghost from_gives = { λ fault e. e ≡ fault_of fault };
+
+    fn from(fault: DiskFault) -> StoreFault {
+        match fault {
+            DiskFault::Failed => StoreFault::Device,
+            DiskFault::Memory => StoreFault::Memory,
+        }
+    }
+}
+
+/// Whether the two parts of a file, of so many bytes, are together longer than the limit.
+pub(crate) fn is_longer(front: usize, items: usize, limit: usize) -> bool
+    ensures longer { result ≡ true → limit < front + items }
+    ensures within { result ≡ false → front + items ≤ limit }
+{
+    front > limit || items > limit - front
+}
+
 /// Where files are kept under their names. Its contracts see a store as its shelf; what they say of
 /// files is said of an honest store alone.
 pub trait NpyStore {
@@ -47,34 +69,16 @@ pub trait NpyStore {
     fn limit(&self) -> usize
         ensures { result ≡ (shelf self.now).limit };
 
-    /// The bytes of the file with this name, or `None` where there is no such file. It leaves all
-    /// files as they are.
-    fn read(&mut self, alloc: Global, name: &[u8]) -> Result<Option<Vec<u8>>, StoreFault>
-        ensures same { IsSameStore (shelf self.old) (shelf self.new) }
-        ensures files { (shelf self.new).files ≡ (shelf self.old).files }
-        ensures cause { HasCause (shelf self.old) (shelf self.new) result }
-        ensures found { (shelf self.old).honest ≡ true → IsRead (λ bytes. bytes.items) (shelf self.old).limit (get (shelf self.old).files name.now) result };
-
-    /// Writes a file, over the one with this name if there is one.
-    fn write(&mut self, alloc: Global, name: &[u8], bytes: &[u8]) -> Result<(), StoreFault>
-        ensures same { IsSameStore (shelf self.old) (shelf self.new) }
-        ensures cause { HasCause (shelf self.old) (shelf self.new) result }
-        ensures written { (shelf self.old).honest ≡ true → IsWritten (shelf self.old) name.now bytes.now result (shelf self.new).files };
-
-    /// The same file as `read` gives, in two parts.
+    /// The file with this name in two parts, wherever the store cuts it, or `None` where there is no such
+    /// file. It leaves all files as they are.
     fn read_parts(&mut self, alloc: Global, name: &[u8]) -> Result<Option<FileParts>, StoreFault>
         ensures same { IsSameStore (shelf self.old) (shelf self.new) }
         ensures files { (shelf self.new).files ≡ (shelf self.old).files }
         ensures cause { HasCause (shelf self.old) (shelf self.new) result }
-        ensures found { (shelf self.old).honest ≡ true → IsRead (λ parts. parts.front.items ++ parts.block) (shelf self.old).limit (get (shelf self.old).files name.now) result }
-    {
-        match self.read(alloc, name)? {
-            Some(bytes) => Ok(Some(FileParts::uncut(alloc, bytes)?)),
-            None => Ok(None),
-        }
-    }
+        ensures found { (shelf self.old).honest ≡ true → IsRead (λ parts. parts.front.items ++ parts.block) (shelf self.old).limit (get (shelf self.old).files name.now) result };
 
-    /// Writes the file that has these bytes in front and these items behind them, as `write` does.
+    /// Writes the file that has these bytes in front and these items behind them, over the one with this
+    /// name if there is one.
     fn write_parts(
         &mut self,
         alloc: Global,
@@ -84,9 +88,27 @@ pub trait NpyStore {
     ) -> Result<(), StoreFault>
         ensures same { IsSameStore (shelf self.old) (shelf self.new) }
         ensures cause { HasCause (shelf self.old) (shelf self.new) result }
-        ensures written { (shelf self.old).honest ≡ true → IsWritten (shelf self.old) name.now (front.now ++ items.now) result (shelf self.new).files }
+        ensures written { (shelf self.old).honest ≡ true → IsWritten (shelf self.old) name.now (front.now ++ items.now) result (shelf self.new).files };
+
+    /// The bytes of the file that `read_parts` gives.
+    fn read(&mut self, alloc: Global, name: &[u8]) -> Result<Option<Vec<u8>>, StoreFault>
+        ensures same { IsSameStore (shelf self.old) (shelf self.new) }
+        ensures files { (shelf self.new).files ≡ (shelf self.old).files }
+        ensures cause { HasCause (shelf self.old) (shelf self.new) result }
+        ensures found { (shelf self.old).honest ≡ true → IsRead (λ bytes. bytes.items) (shelf self.old).limit (get (shelf self.old).files name.now) result }
     {
-        let bytes = joined(alloc, front, items)?;
-        self.write(alloc, name, bytes.as_slice())
+        match self.read_parts(alloc, name)? {
+            Some(parts) => Ok(Some(parts.joined()?)),
+            None => Ok(None),
+        }
+    }
+
+    /// Writes the file with these bytes, as `write_parts` does.
+    fn write(&mut self, alloc: Global, name: &[u8], bytes: &[u8]) -> Result<(), StoreFault>
+        ensures same { IsSameStore (shelf self.old) (shelf self.new) }
+        ensures cause { HasCause (shelf self.old) (shelf self.new) result }
+        ensures written { (shelf self.old).honest ≡ true → IsWritten (shelf self.old) name.now bytes.now result (shelf self.new).files }
+    {
+        self.write_parts(alloc, name, bytes, &[])
     }
 }

@@ -4,6 +4,8 @@
 #[cfg(test)]
 mod descriptors;
 #[cfg(test)]
+mod disks;
+#[cfg(test)]
 mod files;
 #[cfg(test)]
 mod formats;

@@ -366,7 +366,7 @@ fn a_folder_of_files(rt: HostRuntime) -> Result<(), Fail> {
     Ok(())
 }
 
-/// An NPY file of a folder is cut behind its header, and what is none stands in front.
+/// An NPY file of a folder is cut behind its header, and of what is none nothing stands in front.
 #[test]
 fn two_parts_in_a_folder(rt: HostRuntime) -> Result<(), Fail> {
     fs::create_dir_all(&rt, "two_parts")?;
@@ -382,8 +382,9 @@ fn two_parts_in_a_folder(rt: HostRuntime) -> Result<(), Fail> {
     assert!(rt; matches!(&found, Some(parts) if parts.block.bytes() == items.as_slice()));
     store.write_parts(rt.alloc(), b"a.npy", b"no ", b"file")?;
     let found = store.read_parts(rt.alloc(), b"a.npy")?;
+    assert!(rt; matches!(&found, Some(FileParts { front, .. }) if front.is_empty()));
     assert!(rt;
-        matches!(&found, Some(FileParts { front, .. }) if front.as_slice() == b"no file".as_slice())
+        matches!(&found, Some(FileParts { block, .. }) if block.bytes() == b"no file".as_slice())
     );
     let none = store.read_parts(rt.alloc(), b"b.npy")?;
     assert!(rt; none.is_none());

@@ -3,7 +3,7 @@ use Rattle.std.specs.Prelude.{ℕ, List, Result}
 use Rattle.elem_descr.specs.declared.refusal.Refusal.{Refusal}
 use Rattle.overlap_copy.specs.declared.owned.Owned.{Owned}
 use Rattle.npy_files.specs.Stores.{Shelf}
-use Rattle.npy_files.specs.Files.{Loads}
+use Rattle.npy_format.specs.Files.{Loads}
 use Rattle.bench_engine.specs.Loads.{Found, MayFind, loaded}
 
 -- it is what is loaded of some answer that the store may give

@@ -5,7 +5,9 @@ use Rattle.std.specs.Str.{bytes_eq}
 use Rattle.npy_files.specs.declared.mem_store.StoredFile.{StoredFile}
 use Rattle.npy_files.specs.declared.store.StoreFault.{StoreFault}
 use Rattle.npy_files.specs.declared.store.StoreFault.TheVariants.{Device, TooLong, Memory}
-use Rattle.npy_files.specs.Stores.{Files, Shelf, last_count}
+use Rattle.disk.specs.Files.{Files}
+use Rattle.disk.specs.Calls.{last_count}
+use Rattle.npy_files.specs.Stores.{Shelf}
 
 abbrev pub named_bytes : StoredFile → List ℕ × List ℕ
 named_bytes file = (file.name.items, file.bytes.items)

@@ -1,0 +1,88 @@
+-- The files that a user sees of a folder.
+use Rattle.std.proofs.Common.{◌≡◌, ◌≢◌, ℕ, Bool, true, false, List, Option, Some, None, Ok, Err, Result, IsTrue, cond, refl, sym, ap, ◌∙◌, subst}
+use Rattle.std.specs.Cmp.Lexicographic.{slice_cmp, texts_ties, nat_list_cmp_total}
+use Rattle.std.specs.FinMap.{empty, get, insert, get-retain_keys, get-insert, same_map, IsAntisymmetric, nat_cmp-IsAntisymmetric, slice_cmp-IsAntisymmetric}
+use Rattle.std.specs.Ordering.{nat_cmp, eq_by_cmp}
+use Rattle.std.proofs.lemmas.Bool.{true≢false}
+use Rattle.std.proofs.lemmas.Slice.Eq.{bytes_eq-Decides}
+use Rattle.disk.specs.Files.{Files}
+use Rattle.npy_files.specs.declared.store.StoreFault.{StoreFault}
+use Rattle.npy_files.specs.declared.store.StoreFault.TheVariants.{Device, TooLong, Memory}
+use Rattle.npy_files.specs.Names.{is_user_name}
+use Rattle.npy_files.specs.Stores.{Shelf, IsRead, IsWritten}
+use Rattle.npy_files.specs.Folders.{user_files, folder_shelf, IsPut}
+
+abbrev by_name : List ℕ → List ℕ → Bool
+by_name a b = eq_by_cmp (slice_cmp nat_cmp) a b
+
+exact : IsAntisymmetric (slice_cmp nat_cmp)
+exact = slice_cmp-IsAntisymmetric nat_cmp-IsAntisymmetric
+
+tied : (a b : List ℕ) → by_name a b ≡ true → a ≡ b
+tied a b is = (bytes_eq-Decides a b).0 (texts_ties a b ∙ is)
+
+ties : (a b : List ℕ) → a ≡ b → by_name a b ≡ true
+ties a b same = sym (texts_ties a b) ∙ (bytes_eq-Decides a b).1 same
+
+get-user_files : (files : Files) (name : List ℕ) → get (user_files files) name ≡ cond (is_user_name name) (get files name) None
+get-user_files files name = get-retain_keys files is_user_name name (λ other same. ap is_user_name (sym (exact name other same)))
+
+pub user_file : (files : Files) (name : List ℕ) → IsTrue (is_user_name name) → get (user_files files) name ≡ get files name
+user_file files name user = get-user_files files name ∙ ap (λ b. cond b (get files name) None) user
+
+pub no_user_file : (files : Files) (name : List ℕ) → is_user_name name ≡ false → get (user_files files) name ≡ None
+no_user_file files name other = get-user_files files name ∙ ap (λ b. cond b (get files name) None) other
+
+pub user_reads : {V : Type 0} (view : V → List ℕ) (files : Files) (name : List ℕ) (limit : ℕ) (result : Result (Option V) StoreFault) → IsTrue (is_user_name name)
+    → IsRead view limit (get files name) result → IsRead view limit (get (user_files files) name) result
+user_reads view files name limit result user read = subst (λ there. IsRead view limit there result) (sym (user_file files name user)) read
+
+-- a name that changes nowhere below changes nowhere above
+kept : (old new : Files) (name : List ℕ) → (IsTrue (is_user_name name) → get new name ≡ get old name) → get (user_files new) name ≡ get (user_files old) name
+kept old new name same =
+    elim (is_user_name name) as (λ b. is_user_name name ≡ b → get (user_files new) name ≡ get (user_files old) name) [
+      | true ↦ λ user. user_file new name user ∙ same user ∙ sym (user_file old name user)
+      | false ↦ λ no. no_user_file new name no ∙ sym (no_user_file old name no)
+    ] refl
+
+pub replaced : (name bytes : List ℕ) (old new : Files) → IsTrue (is_user_name name) → IsPut name bytes (Ok tt) old new → user_files new ≡ insert (user_files old) name bytes
+replaced name bytes old new user put =
+    same_map nat_list_cmp_total exact _ _ (λ other.
+    at other ∙ sym (get-insert nat_list_cmp_total (user_files old) name bytes other))
+  where
+    at : (other : List ℕ) → get (user_files new) other ≡ cond (by_name other name) (Some bytes) (get (user_files old) other)
+    at other =
+        elim (by_name other name) as (λ b. by_name other name ≡ b → get (user_files new) other ≡ cond b (Some bytes) (get (user_files old) other)) [
+          | true ↦ λ is. ap (get (user_files new)) (tied other name is) ∙ user_file new name user ∙ put.done
+          | false ↦ λ no. kept old new other (λ seen. put.others other seen (λ same. true≢false (sym (ties other name same) ∙ no)))
+        ] refl
+
+-- the shelf of a folder whose disk is honest
+abbrev pub plain_shelf : Files → ℕ → ℕ → Bool → Shelf
+plain_shelf files faults limit honest = record { files = user_files files; failures = faults; limit = limit; honest = honest }
+
+pub failed : (name bytes : List ℕ) (old new : Files) (faults limit : ℕ) (honest : Bool) (fault : StoreFault) → IsTrue (is_user_name name)
+    → (fault ≡ TooLong → ⊥) → IsPut name bytes (Err fault) old new → IsWritten (plain_shelf old faults limit honest) name bytes (Err fault) (user_files new)
+failed name bytes old new faults limit honest Device user short put = λ other far. kept old new other (λ seen. put.others other seen far)
+failed name bytes old new faults limit honest TooLong user short put = absurd (short refl)
+failed name bytes old new faults limit honest Memory user short put = same_map nat_list_cmp_total exact _ _ (λ other. kept old new other (λ seen.
+    elim (by_name other name) as (λ b. by_name other name ≡ b → get new other ≡ get old other) [
+      | true ↦ λ is. let same = tied other name is in ap (get new) same ∙ put.memory refl ∙ ap (get old) (sym same)
+      | false ↦ λ no. put.others other seen (λ same. true≢false (sym (ties other name same) ∙ no))
+    ] refl))
+
+-- what is told of an honest disk's files
+pub told_written : (honest : Bool) (old new : Files) (faults limit : ℕ) (name bytes : List ℕ) (result : Result (Unit {0}) StoreFault) → honest ≡ true
+    → IsWritten (plain_shelf old faults limit honest) name bytes result (user_files new) → IsWritten (folder_shelf old faults limit honest) name bytes result (cond honest (user_files new) empty)
+told_written true old new faults limit name bytes result honest written = written
+told_written false old new faults limit name bytes result honest written = absurd (true≢false (sym honest))
+
+pub told_read : {V : Type 0} (view : V → List ℕ) (honest : Bool) (files : Files) (name : List ℕ) (limit : ℕ) (result : Result (Option V) StoreFault) → honest ≡ true
+    → IsRead view limit (get (user_files files) name) result → IsRead view limit (get (cond honest (user_files files) empty) name) result
+told_read view true files name limit result honest read = read
+told_read view false files name limit result honest read = absurd (true≢false (sym honest))
+
+-- files that stay
+pub told_same : (honest : Bool) (old new : Files) → (IsTrue honest → new ≡ old) → cond honest (user_files new) empty ≡ cond honest (user_files old) empty
+told_same true old new same = ap user_files (same refl)
+told_same false old new same = refl

@@ -1,0 +1,26 @@
+-- What a user sees of a file that was put in place by way of a hidden name.
+use Rattle.std.proofs.Common.{◌≡◌, ◌≢◌, ℕ, List, Some, IsTrue, inl, sym, ◌∙◌, subst}
+use Rattle.std.proofs.lemmas.Bool.{true≢false}
+use Rattle.disk.specs.Files.{Files, Same}
+use Rattle.disk.specs.Crashes.{History, Leaves}
+use Rattle.disk.specs.Calls.{Replaces}
+use Rattle.npy_files.specs.Names.{is_user_name, hidden_name}
+use Rattle.npy_files.specs.Folders.{OldOrNew}
+use Rattle.disk.specs.CrashLaws.{unmoved, weaker}
+
+-- no user's file has a hidden name
+pub apart : (name other : List ℕ) → IsTrue (is_user_name other) → other ≢ hidden_name name
+apart name other user same = let no : IsTrue (is_user_name (hidden_name name)) = subst (λ n. IsTrue (is_user_name n)) same user in absurd (true≢false (sym no))
+
+pub old_or_new : (hidden name bytes : List ℕ) → hidden ≡ hidden_name name → (x y : Files) → Replaces hidden name (Some bytes) x y → OldOrNew name bytes x y
+old_or_new hidden name bytes is x y replaced = record {
+  others = λ other user far. replaced.others other (λ same. apart name other user (same ∙ is)) far;
+  whole = λ user. replaced.whole;
+}
+
+pub put_leaves : (hidden name bytes : List ℕ) (a b : History) → hidden ≡ hidden_name name → Leaves (Replaces hidden name (Some bytes)) a b → Leaves (OldOrNew name bytes) a b
+put_leaves hidden name bytes a b is = weaker (Replaces hidden name (Some bytes)) (OldOrNew name bytes) a b (old_or_new hidden name bytes is)
+
+-- nor is anything changed by no call at all
+pub nothing_leaves : (name bytes : List ℕ) (history : History) → Leaves (OldOrNew name bytes) history history
+nothing_leaves name bytes history = weaker Same (OldOrNew name bytes) history history (λ x y same. record { others = λ other user far. same other; whole = λ user. inl (same name) }) (unmoved history)

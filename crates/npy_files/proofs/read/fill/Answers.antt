@@ -1,0 +1,33 @@
+use Rattle.std.proofs.Common.{◌≡◌, ◌≤◌, ◌-◌, length, refl, ◌∙◌, arith}
+use Rattle.std.proofs.lemmas.Grind.{common_steps}
+use Rattle.disk.specs.CrashLaws.{both_same, unmoved}
+use Rattle.npy_files.proofs.Pieces.{put_length, rest_length, read_on}
+use Rattle.npy_files.proofs.read.fill.Goals as goal
+
+pub loop-at-init : goal.loop-at-init
+loop-at-init g c = record { read = λ honest. refl; told = c.requires.told; files = λ honest. refl; crash = λ honest. unmoved _; within = c.requires.start; kept = omega arith }
+
+pub returns-in_err-count-clause-crash : goal.returns-in_err-count-clause-crash
+returns-in_err-count-clause-crash g c = λ honest. both_same _ _ _ (c.loop-at.invariant.crash honest) (c.read.ensures.crash honest)
+
+pub loop-at-preserved : goal.loop-at-preserved
+loop-at-preserved g c =
+    let bytes = c.loop-at.bytes in
+    let piece = c.read.new.piece in
+    let at = c.loop-at.at in
+    let count = c.in_ok-count.count in
+    let within = c.loop-at.invariant.within in
+    let long : length piece ≡ length bytes - at = grind (arith, common_steps) in
+    let few : count ≤ length piece = grind (arith, common_steps) in
+    record {
+      read = λ honest. read_on bytes piece (g.D.Disk.rest_of c.loop-at.file) (g.D.Disk.rest_of c.read.new.file) at count within long few (c.in_ok-count.ensures.read honest) _ (c.loop-at.invariant.read honest);
+      told = λ honest.
+          let size = put_length bytes piece (g.D.Disk.rest_of c.loop-at.file) (g.D.Disk.rest_of c.read.new.file) at count within long few (c.in_ok-count.ensures.read honest) in
+          let left = rest_length bytes piece (g.D.Disk.rest_of c.loop-at.file) (g.D.Disk.rest_of c.read.new.file) at count within long few (c.in_ok-count.ensures.read honest) in
+          let before = c.loop-at.invariant.told honest in
+          omega (arith, size, left, before);
+      files = λ honest. c.read.ensures.files honest ∙ c.loop-at.invariant.files honest;
+      crash = λ honest. both_same _ _ _ (c.loop-at.invariant.crash honest) (c.read.ensures.crash honest);
+      within = grind (arith, common_steps);
+      kept = omega (arith, c.loop-at.invariant.kept, c.read.ensures.cause.kept);
+    }

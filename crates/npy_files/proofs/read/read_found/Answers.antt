@@ -1,0 +1,5 @@
+use Rattle.disk.specs.CrashLaws.{both_same}
+use Rattle.npy_files.proofs.read.read_found.Goals as goal
+
+pub returns-clause-crash : goal.returns-clause-crash
+returns-clause-crash g c = λ honest. both_same _ _ _ (c.open.ensures.crash honest) (c.read_cut.ensures.crash honest)

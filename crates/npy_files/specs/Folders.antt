@@ -1,0 +1,36 @@
+-- A folder on a disk, as a store of files.
+use Rattle.std.specs.Prelude.{◌≡◌, ◌≢◌, ◌⊎◌, ℕ, Bool, List, Some, Result, IsTrue, OnOk, IsErrOf, cond}
+use Rattle.std.specs.FinMap.{empty, get, retain_keys}
+use Rattle.disk.specs.Files.{Files}
+use Rattle.disk.specs.declared.disk.DiskFault.{DiskFault}
+use Rattle.disk.specs.declared.disk.DiskFault.TheVariants as disk_fault
+use Rattle.npy_files.specs.declared.store.StoreFault.{StoreFault}
+use Rattle.npy_files.specs.declared.store.StoreFault.TheVariants as store_fault
+use Rattle.npy_files.specs.Names.{is_user_name}
+use Rattle.npy_files.specs.Stores.{Shelf}
+
+-- The store has the files with a user's name, and no other.
+abbrev pub user_files : Files → Files
+user_files files = retain_keys files is_user_name
+
+-- the shelf of a folder whose disk has these files, of which nothing is known where the disk is not honest
+abbrev pub folder_shelf : Files → ℕ → ℕ → Bool → Shelf
+folder_shelf files faults limit honest = record { files = cond honest (user_files files) empty; failures = faults; limit = limit; honest = honest }
+
+-- Each user's name has what it had, and this one has that, or these bytes, whole.
+pub record OldOrNew (name bytes : List ℕ) (old new : Files) : Type 0 where
+  pub others : (other : List ℕ) → IsTrue (is_user_name other) → other ≢ name → get new other ≡ get old other
+  pub whole : IsTrue (is_user_name name) → (get new name ≡ get old name) ⊎ (get new name ≡ Some bytes)
+
+-- what the store tells of a fault of its disk
+abbrev pub fault_of : DiskFault → StoreFault
+fault_of disk_fault.Failed = store_fault.Device
+fault_of disk_fault.Memory = store_fault.Memory
+
+-- What a write leaves on the disk: with Ok the file has these bytes, without memory all is as it was,
+-- and no name of a user changes but this one.
+pub record IsPut (name bytes : List ℕ) (result : Result (Unit {0}) StoreFault) (old new : Files) : Type 0 where
+  pub others : (other : List ℕ) → IsTrue (is_user_name other) → other ≢ name → get new other ≡ get old other
+  pub whole : (get new name ≡ get old name) ⊎ (get new name ≡ Some bytes)
+  pub done : OnOk result (get new name ≡ Some bytes)
+  pub memory : IsErrOf result store_fault.Memory → get new name ≡ get old name

@@ -1,0 +1,162 @@
+//! A store that is a folder on a disk.
+ghost use Rattle.std.specs.Prelude.{◌≡◌, ◌++◌, ◌≤◌, true, Some, length, IsTrue, OnOk, IsErrOf};
+ghost use Rattle.std.specs.FinMap.{get};
+ghost use Rattle.disk.specs.Files.{Same};
+ghost use Rattle.disk.specs.Crashes.{Leaves};
+ghost use Rattle.disk.specs.Calls as calls;
+ghost use Rattle.npy_files.specs.declared.store.StoreFault.TheVariants.{Device, TooLong};
+ghost use Rattle.npy_files.specs.Names as names;
+ghost use Rattle.npy_files.specs.Stores.{IsSameStore, HasCause, IsRead, IsWritten};
+ghost use Rattle.npy_files.specs.Folders.{folder_shelf, OldOrNew, IsPut};
+
+use crate::cutter::Cutter;
+use crate::names::{hidden_name, is_user_name};
+use crate::put::put;
+use crate::read::read_file;
+use crate::store::{NpyStore, StoreFault, is_longer};
+use disk::Disk;
+use npy_format::FileParts;
+use std::alloc::Global;
+
+/// A folder on a disk as a store of files: honest where its disk is. Names that begin with a dot are those
+/// of no file in it; to write one is a fault of the device.
+///
+/// A file is written to a hidden name beside its own, brought to the disk and only then given its name, so
+/// that a fault or a crash leaves the file that was there, or the new one.
+#[derive(Drop)]
+pub struct FolderStore<D: Disk, C: Cutter> {
+    disk: D,
+    cutter: C,
+    limit: usize,
+    faults: u64,
+}
+
+/// Writes a file of two parts under a name that a user's file may have.
+fn write_file<D: Disk>(
+    disk: &mut D,
+    alloc: Global,
+    name: &[u8],
+    front: &[u8],
+    items: &[u8],
+) -> Result<(), StoreFault>
+    requires { IsTrue (names.is_user_name name.now) }
+    ensures written { IsTrue D.honest → IsPut name.now (front.now ++ items.now) result (D.files disk.old) (D.files disk.new) }
+    ensures lasting { IsTrue D.honest → OnOk result (calls.AlwaysHas (D.history disk.new) name.now (Some (front.now ++ items.now))) }
+    ensures crash { IsTrue D.honest → Leaves (OldOrNew name.now (front.now ++ items.now)) (D.history disk.old) (D.history disk.new) }
+    ensures cause { calls.HasCause Device (D.failures disk.old) (D.failures disk.new) result }
+    ensures long { ¬ IsErrOf result TooLong }
+{
+    let hidden = hidden_name(alloc, name)?;
+    put(disk, hidden.as_slice(), name, front, items)?;
+    Ok(())
+}
+
+/// A count after a fault, which a fault of the device raises.
+fn counted(faults: u64, fault: StoreFault) -> u64
+    ensures kept { faults ≤ result }
+    ensures raised { fault ≡ Device → calls.HasRisen faults result }
+{
+    if fault == StoreFault::Device {
+        faults.saturating_add(1)
+    } else {
+        faults
+    }
+}
+
+impl<D: Disk, C: Cutter> FolderStore<D, C> {
+    /// The store that is a folder on this disk, whose files have at most so many bytes and are cut like
+    /// this when they are read.
+    pub fn new(disk: D, cutter: C, limit: usize) -> FolderStore<D, C>
+        ensures { ⟦<FolderStore<D, C> as NpyStore>⟧.shelf result ≡ folder_shelf (D.files disk) 0 limit D.honest }
+    {
+        FolderStore {
+            disk,
+            cutter,
+            limit,
+            faults: 0,
+        }
+    }
+
+    /// The disk, for what comes after the store.
+    pub fn into_disk(self) -> D
+        ensures { result ≡ self.disk }
+    {
+        self.disk
+    }
+
+    /// Reads as `read_parts` does. No crash leaves anything but what it might have left before.
+    pub fn read_file(&mut self, alloc: Global, name: &[u8]) -> Result<Option<FileParts>, StoreFault>
+        ensures same { IsSameStore (⟦<FolderStore<D, C> as NpyStore>⟧.shelf self.old) (⟦<FolderStore<D, C> as NpyStore>⟧.shelf self.new) }
+        ensures files { (⟦<FolderStore<D, C> as NpyStore>⟧.shelf self.new).files ≡ (⟦<FolderStore<D, C> as NpyStore>⟧.shelf self.old).files }
+        ensures cause { HasCause (⟦<FolderStore<D, C> as NpyStore>⟧.shelf self.old) (⟦<FolderStore<D, C> as NpyStore>⟧.shelf self.new) result }
+        ensures found { IsTrue D.honest → IsRead (λ parts. parts.front.items ++ parts.block) self.old.limit (get (⟦<FolderStore<D, C> as NpyStore>⟧.shelf self.old).files name.now) result }
+        ensures crash { IsTrue D.honest → Leaves Same (D.history self.old.disk) (D.history self.new.disk) }
+        ensures disk { IsTrue D.honest → calls.HasCause Device (D.failures self.old.disk) (D.failures self.new.disk) result }
+    {
+        if !is_user_name(name) {
+            return Ok(None);
+        }
+        match read_file(&mut self.disk, alloc, &self.cutter, name, self.limit) {
+            Ok(found) => Ok(found),
+            Err(fault) => {
+                self.faults = counted(self.faults, fault);
+                Err(fault)
+            }
+        }
+    }
+
+    /// Writes as `write_parts` does. A crash at any moment leaves under each name of a user what a crash
+    /// before might have left, or for this one name the new bytes, whole. After `Ok` it leaves the new
+    /// bytes.
+    pub fn write_file(
+        &mut self,
+        alloc: Global,
+        name: &[u8],
+        front: &[u8],
+        items: &[u8],
+    ) -> Result<(), StoreFault>
+        ensures same { IsSameStore (⟦<FolderStore<D, C> as NpyStore>⟧.shelf self.old) (⟦<FolderStore<D, C> as NpyStore>⟧.shelf self.new) }
+        ensures cause { HasCause (⟦<FolderStore<D, C> as NpyStore>⟧.shelf self.old) (⟦<FolderStore<D, C> as NpyStore>⟧.shelf self.new) result }
+        ensures written { IsTrue D.honest → IsWritten (⟦<FolderStore<D, C> as NpyStore>⟧.shelf self.old) name.now (front.now ++ items.now) result (⟦<FolderStore<D, C> as NpyStore>⟧.shelf self.new).files }
+        ensures crash { IsTrue D.honest → Leaves (OldOrNew name.now (front.now ++ items.now)) (D.history self.old.disk) (D.history self.new.disk) }
+        ensures lasting { IsTrue D.honest → OnOk result (calls.AlwaysHas (D.history self.new.disk) name.now (Some (front.now ++ items.now))) }
+        ensures disk { IsTrue D.honest → IsTrue (names.is_user_name name.now) → calls.HasCause Device (D.failures self.old.disk) (D.failures self.new.disk) result }
+    {
+        if is_longer(front.len(), items.len(), self.limit) {
+            return Err(StoreFault::TooLong);
+        }
+        if !is_user_name(name) {
+            self.faults = counted(self.faults, StoreFault::Device);
+            return Err(StoreFault::Device);
+        }
+        match write_file(&mut self.disk, alloc, name, front, items) {
+            Ok(()) => Ok(()),
+            Err(fault) => {
+                self.faults = counted(self.faults, fault);
+                Err(fault)
+            }
+        }
+    }
+}
+
+impl<D: Disk, C: Cutter> NpyStore for FolderStore<D, C> {
+    ghost shelf = { λ s. folder_shelf (D.files s.disk) s.faults s.limit D.honest };
+
+    fn limit(&self) -> usize {
+        self.limit
+    }
+
+    fn read_parts(&mut self, alloc: Global, name: &[u8]) -> Result<Option<FileParts>, StoreFault> {
+        self.read_file(alloc, name)
+    }
+
+    fn write_parts(
+        &mut self,
+        alloc: Global,
+        name: &[u8],
+        front: &[u8],
+        items: &[u8],
+    ) -> Result<(), StoreFault> {
+        self.write_file(alloc, name, front, items)
+    }
+}

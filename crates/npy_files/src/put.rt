@@ -1,0 +1,94 @@
+//! How a file is put in place of another: under a hidden name first, and then by a rename.
+ghost use Rattle.std.specs.Prelude.{◌≡◌, ◌≢◌, ◌++◌, [], IsTrue, IfOk, OnOk, IsErrOf};
+ghost use Rattle.std.specs.FinMap.{get};
+ghost use Rattle.disk.specs.declared.disk.DiskFault.TheVariants.{Failed, Memory};
+ghost use Rattle.disk.specs.Files.{SameBut};
+ghost use Rattle.disk.specs.Crashes.{Leaves};
+ghost use Rattle.disk.specs.Calls.{HasCause, Replaces, Appends, AlwaysHas};
+
+use disk::{Disk, DiskFault};
+
+/// Writes two parts behind what a file has, and brings it to the disk.
+fn fill<D: Disk>(
+    disk: &mut D,
+    file: &mut D::File,
+    front: &[u8],
+    items: &[u8],
+) -> Result<(), DiskFault>
+    ensures filled { IsTrue D.honest → OnOk result (Appends (front.now ++ items.now) (get (D.files disk.old) (D.name_of file.old)) (get (D.files disk.new) (D.name_of file.old))) }
+    ensures synced { IsTrue D.honest → OnOk result (D.Synced disk.new (D.name_of file.old)) }
+    ensures others { IsTrue D.honest → SameBut (D.name_of file.old) (D.files disk.old) (D.files disk.new) }
+    ensures crash { IsTrue D.honest → Leaves (SameBut (D.name_of file.old)) (D.history disk.old) (D.history disk.new) }
+    ensures cause { HasCause Failed (D.failures disk.old) (D.failures disk.new) result }
+{
+    disk.append(file, front)?;
+    disk.append(file, items)?;
+    disk.sync(file)
+}
+
+/// Makes a file of two parts that is to take the place of another, and brings its bytes to the disk. It
+/// stays open: while it is, no other program takes it for one that was left. Nothing is left of it where
+/// that fails.
+fn stage<D: Disk>(
+    disk: &mut D,
+    name: &[u8],
+    place: &[u8],
+    front: &[u8],
+    items: &[u8],
+) -> Result<D::File, DiskFault>
+    ensures staged { IsTrue D.honest → OnOk result (get (D.files disk.new) name.now ≡ Some (front.now ++ items.now)) }
+    ensures synced { IsTrue D.honest → OnOk result (D.Synced disk.new name.now) }
+    ensures others { IsTrue D.honest → SameBut name.now (D.files disk.old) (D.files disk.new) }
+    ensures crash { IsTrue D.honest → Leaves (SameBut name.now) (D.history disk.old) (D.history disk.new) }
+    ensures cause { HasCause Failed (D.failures disk.old) (D.failures disk.new) result }
+{
+    let mut file = disk.create(name, place)?;
+    match fill(disk, &mut file, front, items) {
+        Ok(()) => Ok(file),
+        Err(fault) => {
+            let _ = disk.remove(name);
+            Err(fault)
+        }
+    }
+}
+
+/// Gives a file whose bytes are on the disk another name. Nothing is left of it where that fails.
+fn take_place<D: Disk>(disk: &mut D, from: &[u8], to: &[u8]) -> Result<(), DiskFault>
+    requires apart { to.now ≢ from.now }
+    requires synced { IsTrue D.honest → D.Synced disk.old from.now }
+    ensures renamed { IsTrue D.honest → OnOk result (get (D.files disk.new) to.now ≡ get (D.files disk.old) from.now) }
+    ensures synced { IsTrue D.honest → OnOk result (D.Synced disk.new to.now) }
+    ensures others { IsTrue D.honest → Replaces from.now to.now (get (D.files disk.old) from.now) (D.files disk.old) (D.files disk.new) }
+    ensures crash { IsTrue D.honest → Leaves (Replaces from.now to.now (get (D.files disk.old) from.now)) (D.history disk.old) (D.history disk.new) }
+    ensures memory { IsTrue D.honest → IsErrOf result Memory → SameBut from.now (D.files disk.old) (D.files disk.new) }
+    ensures cause { HasCause Failed (D.failures disk.old) (D.failures disk.new) result }
+{
+    match disk.rename(from, to) {
+        Ok(()) => Ok(()),
+        Err(fault) => {
+            let _ = disk.remove(from);
+            Err(fault)
+        }
+    }
+}
+
+/// Puts a file of two parts in place of the one with this name. A crash leaves the one or the other.
+pub(crate) fn put<D: Disk>(
+    disk: &mut D,
+    hidden: &[u8],
+    name: &[u8],
+    front: &[u8],
+    items: &[u8],
+) -> Result<(), DiskFault>
+    requires { name.now ≢ hidden.now }
+    ensures replaced { IsTrue D.honest → OnOk result (get (D.files disk.new) name.now ≡ Some (front.now ++ items.now)) }
+    ensures lasting { IsTrue D.honest → OnOk result (AlwaysHas (D.history disk.new) name.now (Some (front.now ++ items.now))) }
+    ensures others { IsTrue D.honest → Replaces hidden.now name.now (Some (front.now ++ items.now)) (D.files disk.old) (D.files disk.new) }
+    ensures crash { IsTrue D.honest → Leaves (Replaces hidden.now name.now (Some (front.now ++ items.now))) (D.history disk.old) (D.history disk.new) }
+    ensures memory { IsTrue D.honest → IsErrOf result Memory → SameBut hidden.now (D.files disk.old) (D.files disk.new) }
+    ensures cause { HasCause Failed (D.failures disk.old) (D.failures disk.new) result }
+{
+    let _file = stage(disk, hidden, name, front, items)?;
+    take_place(disk, hidden, name)?;
+    disk.sync_names()
+}

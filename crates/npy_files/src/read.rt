@@ -1,0 +1,214 @@
+//! Files that are read, cut in two.
+ghost use Rattle.std.specs.Prelude.{◌≡◌, ◌++◌, ◌+◌, ◌<◌, ◌≤◌, [], ℕ, List, length, take, drop, IsTrue, IfOk, OnOk, IsErrOf};
+ghost use Rattle.std.specs.FinMap.{get};
+ghost use Rattle.disk.specs.Files.{Same};
+ghost use Rattle.disk.specs.Crashes.{Leaves};
+ghost use Rattle.disk.specs.Calls.{HasCause};
+ghost use Rattle.npy_files.specs.declared.store.StoreFault.TheVariants.{Device, TooLong};
+ghost use Rattle.npy_files.specs.Stores.{IsRead};
+
+use crate::cutter::Cutter;
+use crate::store::StoreFault;
+use disk::Disk;
+use npy_format::FileParts;
+use raw_block::{BlockBuilder, RawBlock};
+use std::alloc::Global;
+
+/// The most bytes that are read at a time.
+const PIECE: usize = 1 << 16;
+
+/// Fills bytes from `start` on with those that come next in a file. A file that ends before is a fault: it
+/// has shrunk since its length was told.
+fn fill<D: Disk>(
+    disk: &mut D,
+    file: &mut D::File,
+    bytes: &mut [u8],
+    start: usize,
+) -> Result<(), StoreFault>
+    requires start { start ≤ length bytes.old }
+    requires told { IsTrue D.honest → length bytes.old ≤ start + length (D.rest_of file.old) }
+    ensures read { IsTrue D.honest → OnOk result (take start bytes.old ++ D.rest_of file.old ≡ bytes.new ++ D.rest_of file.new) }
+    ensures long { ¬ IsErrOf result TooLong }
+    ensures files { IsTrue D.honest → D.files disk.new ≡ D.files disk.old }
+    ensures crash { IsTrue D.honest → Leaves Same (D.history disk.old) (D.history disk.new) }
+    ensures cause { IsTrue D.honest → HasCause Device (D.failures disk.old) (D.failures disk.new) result }
+{
+    let mut at = start;
+    while at < bytes.len() {
+        let count = disk.read(file, &mut bytes[at..])?;
+        if count == 0 {
+            return Err(StoreFault::Device);
+        }
+        at += count;
+    }
+    Ok(())
+}
+
+/// Fills the next `count` bytes of a block.
+fn fill_piece<D: Disk>(
+    disk: &mut D,
+    file: &mut D::File,
+    block: &mut BlockBuilder,
+    count: usize,
+) -> Result<(), StoreFault>
+    requires room { count ≤ block.old.1 }
+    requires told { IsTrue D.honest → count ≤ length (D.rest_of file.old) }
+    ensures read { IsTrue D.honest → OnOk result (block.old.0 ++ D.rest_of file.old ≡ block.new.0 ++ D.rest_of file.new) }
+    ensures filled { length block.new.0 ≡ length block.old.0 + count }
+    ensures left { count + block.new.1 ≡ block.old.1 }
+    ensures long { ¬ IsErrOf result TooLong }
+    ensures files { IsTrue D.honest → D.files disk.new ≡ D.files disk.old }
+    ensures crash { IsTrue D.honest → Leaves Same (D.history disk.old) (D.history disk.new) }
+    ensures cause { IsTrue D.honest → HasCause Device (D.failures disk.old) (D.failures disk.new) result }
+{
+    let start = block.filled();
+    block.push_zeros(count);
+    fill(disk, file, block.bytes_mut(), start)
+}
+
+/// Fills the rest of a block of `len` bytes, piece by piece: what a piece held is written over while it
+/// is near.
+fn fill_rest<D: Disk>(
+    disk: &mut D,
+    file: &mut D::File,
+    block: &mut BlockBuilder,
+    len: usize,
+) -> Result<(), StoreFault>
+    requires len { length block.old.0 + block.old.1 ≡ len }
+    requires told { IsTrue D.honest → length block.old.0 + length (D.rest_of file.old) ≡ len }
+    ensures read { IsTrue D.honest → OnOk result (block.old.0 ++ D.rest_of file.old ≡ block.new.0 ++ D.rest_of file.new) }
+    ensures full { OnOk result (block.new.1 ≡ 0) }
+    ensures len { OnOk result (length block.new.0 ≡ len) }
+    ensures long { ¬ IsErrOf result TooLong }
+    ensures files { IsTrue D.honest → D.files disk.new ≡ D.files disk.old }
+    ensures crash { IsTrue D.honest → Leaves Same (D.history disk.old) (D.history disk.new) }
+    ensures cause { IsTrue D.honest → HasCause Device (D.failures disk.old) (D.failures disk.new) result }
+{
+    while block.filled() < len {
+        let count = PIECE.min(len - block.filled());
+        fill_piece(disk, file, block, count)?;
+    }
+    Ok(())
+}
+
+/// A file that goes on is a fault: it has grown since its length was told.
+fn expect_end<D: Disk>(disk: &mut D, file: &mut D::File) -> Result<(), StoreFault>
+    requires told { IsTrue D.honest → length (D.rest_of file.old) ≡ 0 }
+    ensures long { ¬ IsErrOf result TooLong }
+    ensures files { IsTrue D.honest → D.files disk.new ≡ D.files disk.old }
+    ensures crash { IsTrue D.honest → Leaves Same (D.history disk.old) (D.history disk.new) }
+    ensures cause { IsTrue D.honest → HasCause Device (D.failures disk.old) (D.failures disk.new) result }
+{
+    if disk.read(file, &mut [0])? != 0 {
+        return Err(StoreFault::Device);
+    }
+    Ok(())
+}
+
+/// A block of `len` bytes that begins with these, and goes on with the rest of a file.
+fn read_block<D: Disk>(
+    disk: &mut D,
+    alloc: Global,
+    file: &mut D::File,
+    begin: &[u8],
+    len: usize,
+) -> Result<RawBlock, StoreFault>
+    requires len { length begin.now ≤ len }
+    requires told { IsTrue D.honest → length begin.now + length (D.rest_of file.old) ≡ len }
+    ensures read { IsTrue D.honest → IfOk result (λ block. block ≡ begin.now ++ D.rest_of file.old) }
+    ensures long { ¬ IsErrOf result TooLong }
+    ensures files { IsTrue D.honest → D.files disk.new ≡ D.files disk.old }
+    ensures crash { IsTrue D.honest → Leaves Same (D.history disk.old) (D.history disk.new) }
+    ensures cause { IsTrue D.honest → HasCause Device (D.failures disk.old) (D.failures disk.new) result }
+{
+    let mut block = BlockBuilder::try_new(alloc, len)?;
+    block.push_bytes(begin);
+    fill_rest(disk, file, &mut block, len)?;
+    expect_end(disk, file)?;
+    Ok(block.finish())
+}
+
+/// The first bytes of a file of `len` bytes.
+fn read_first<D: Disk>(
+    disk: &mut D,
+    alloc: Global,
+    file: &mut D::File,
+    len: usize,
+) -> Result<Vec<u8>, StoreFault>
+    requires told { IsTrue D.honest → length (D.rest_of file.old) ≡ len }
+    ensures read { IsTrue D.honest → IfOk result (λ first. D.rest_of file.old ≡ first.items ++ D.rest_of file.new) }
+    ensures few { IfOk result (λ first. length first.items ≤ len) }
+    ensures long { ¬ IsErrOf result TooLong }
+    ensures files { IsTrue D.honest → D.files disk.new ≡ D.files disk.old }
+    ensures crash { IsTrue D.honest → Leaves Same (D.history disk.old) (D.history disk.new) }
+    ensures cause { IsTrue D.honest → HasCause Device (D.failures disk.old) (D.failures disk.new) result }
+{
+    let mut first = Vec::new(alloc);
+    first.resize(len.min(PIECE), 0)?;
+    fill(disk, file, first.as_mut_slice(), 0)?;
+    Ok(first)
+}
+
+/// The file of `len` bytes, cut in two.
+fn read_cut<D: Disk, C: Cutter>(
+    disk: &mut D,
+    alloc: Global,
+    cutter: &C,
+    file: &mut D::File,
+    len: usize,
+) -> Result<FileParts, StoreFault>
+    requires told { IsTrue D.honest → length (D.rest_of file.old) ≡ len }
+    ensures read { IsTrue D.honest → IfOk result (λ parts. parts.front.items ++ parts.block ≡ D.rest_of file.old) }
+    ensures long { ¬ IsErrOf result TooLong }
+    ensures files { IsTrue D.honest → D.files disk.new ≡ D.files disk.old }
+    ensures crash { IsTrue D.honest → Leaves Same (D.history disk.old) (D.history disk.new) }
+    ensures cause { IsTrue D.honest → HasCause Device (D.failures disk.old) (D.failures disk.new) result }
+{
+    let mut front = read_first(disk, alloc, file, len)?;
+    let cut = cutter.front_len(front.as_slice()).min(front.len());
+    let block = read_block(disk, alloc, file, &front[cut..], len - cut)?;
+    front.truncate(cut);
+    Ok(FileParts { front, block })
+}
+
+/// The file with this name, which is there.
+fn read_found<D: Disk, C: Cutter>(
+    disk: &mut D,
+    alloc: Global,
+    cutter: &C,
+    name: &[u8],
+    limit: usize,
+) -> Result<FileParts, StoreFault>
+    ensures read { IsTrue D.honest → IfOk result (λ parts. get (D.files disk.old) name.now ≡ Some (parts.front.items ++ parts.block)) }
+    ensures within { IsTrue D.honest → IfOk result (λ parts. length (parts.front.items ++ parts.block) ≤ limit) }
+    ensures long { IsTrue D.honest → IsErrOf result TooLong → (bytes : List ℕ) × (get (D.files disk.old) name.now ≡ Some bytes) × (limit < length bytes) }
+    ensures files { IsTrue D.honest → D.files disk.new ≡ D.files disk.old }
+    ensures crash { IsTrue D.honest → Leaves Same (D.history disk.old) (D.history disk.new) }
+    ensures cause { IsTrue D.honest → HasCause Device (D.failures disk.old) (D.failures disk.new) result }
+{
+    let (mut file, told) = disk.open(name)?;
+    if told > limit as u64 {
+        return Err(StoreFault::TooLong);
+    }
+    read_cut(disk, alloc, cutter, &mut file, told as usize)
+}
+
+/// The file with this name, if there is one.
+pub(crate) fn read_file<D: Disk, C: Cutter>(
+    disk: &mut D,
+    alloc: Global,
+    cutter: &C,
+    name: &[u8],
+    limit: usize,
+) -> Result<Option<FileParts>, StoreFault>
+    ensures found { IsTrue D.honest → IsRead (λ parts. parts.front.items ++ parts.block) limit (get (D.files disk.old) name.now) result }
+    ensures files { IsTrue D.honest → D.files disk.new ≡ D.files disk.old }
+    ensures crash { IsTrue D.honest → Leaves Same (D.history disk.old) (D.history disk.new) }
+    ensures cause { IsTrue D.honest → HasCause Device (D.failures disk.old) (D.failures disk.new) result }
+{
+    if disk.has_file(name)? {
+        Ok(Some(read_found(disk, alloc, cutter, name, limit)?))
+    } else {
+        Ok(None)
+    }
+}

@@ -1,0 +1,249 @@
+-- What the pairs of a header say, pair by pair.
+use Rattle.std.proofs.Common.{◌≡◌, ◌≢◌, ◌≤◌, ◌<◌, ◌+◌, ℕ, Bool, true, false, List, [], ◌∷◌, ◌++◌, length, Option, Some, None, Result, Ok, Err, refl, ap, sym, subst, ◌∙◌, arith, codes, append_assoc, length-append}
+use Rattle.std.specs.Prelude.{MatchOption, MatchResult, if◌then◌else◌}
+use Rattle.std.specs.Option.{ok_or, is_some}
+use Rattle.std.proofs.lemmas.List.{append-nil}
+use Rattle.std.proofs.lemmas.Bool.{lt-leb}
+use Rattle.elem_descr.specs.declared.refusal.Refusal.{Refusal}
+use Rattle.elem_descr.specs.declared.refusal.Refusal.TheVariants.{BadHeader, TooManyAxes}
+use Rattle.elem_descr.specs.declared.descr.Descr.{Descr}
+use Rattle.elem_descr.specs.Refusals.{◌>>=◌, Answers}
+use Rattle.shape_strides.specs.Shapes.{shape_of}
+use Rattle.npy_format.specs.Tokens.{Token}
+use Rattle.npy_format.specs.Listed.{Literal, Pair, Row, all_values}
+use Rattle.npy_format.specs.Values.{Round}
+use Rattle.npy_format.specs.Literals.{Read, symbol_at, pair_in, entries_in}
+use Rattle.npy_format.specs.RecordLists.{descr_in}
+use Rattle.npy_format.specs.Headers.{is_key, value_under, truth_of, integers_of, lengths_of, dictionary_of, header_of}
+use Rattle.npy_format.specs.inside.Entries.{behind, behind_comma, behind_entry, behind_key, behind_entries}
+use Rattle.npy_format.specs.inside.Scanned.{string_at, integer_at, is_text}
+use Rattle.npy_format.specs.inside.Places.{HasPairs, HasValues, HasLengths, Stands, value_in}
+use Rattle.npy_format.proofs.GrammarLaws.{Shortens, symbol_shorter}
+use Rattle.npy_format.proofs.SkipLaws.{behind_ok}
+use Rattle.npy_format.proofs.PlaceLaws.{stand_open, stand_closed, bind_ok, same_read}
+use Rattle.npy_format.proofs.ValueLaws.{literals_of_listed}
+use Rattle.npy_format.proofs.StandLaws.{text_is, next_stands, is_read, no_integer, integer_stands, integer_front_is, lengths_next, lengths_end}
+
+comma_shorter : (toks : List Token) → length (behind_comma toks) ≤ length toks
+comma_shorter toks = go (symbol_at 44 toks) refl
+  where
+    go : (o : Option (List Token)) → symbol_at 44 toks ≡ o → length (behind_comma toks) ≤ length toks
+    go None is = rw is (omega arith)
+    go (Some rest) is = rw is (omega (arith, symbol_shorter 44 toks rest (sym is)))
+
+-- an entry takes a token or more
+pub entry_shorter : {A : Type 0} (entry : List Token → Read A) (toks rest : List Token) → Shortens entry → behind_entry entry toks ≡ Ok rest → length rest < length toks
+entry_shorter entry toks rest shortens reads =
+    let after = bind_ok (behind (entry toks)) _ _ reads in
+    let first = behind_ok (entry toks) after.0 after.1 in
+    let same : behind_comma after.0 ≡ rest = cc in
+    omega (arith, shortens toks (first.0, after.0) first.1, comma_shorter after.0, ap (λ (l : List Token). length l) same)
+
+pub no_125 : let n : ℕ = 125 in n ≢ 44
+no_125 wrong = omega (arith, wrong)
+
+-- ---- the dictionary
+
+pub no_token : {A : Type 0} (r : Option A) (P : Type 0) (Q : A → Type 0) → is_some r ≡ false → MatchOption r P Q → P
+no_token None P Q none is = is
+no_token (Some x) P Q none is = cc
+
+pub dictionary_found : (toks inside rest : List Token) → Some inside ≡ symbol_at 123 toks → behind_entries (pair_in value_in) 125 inside ≡ Ok rest → rest ≡ [] → (pairs : List Pair) × (dictionary_of toks ≡ Ok pairs) × HasPairs inside pairs
+dictionary_found toks inside rest opens reads ends =
+    let pairs = behind_ok (entries_in (pair_in value_in) 125 (length inside) inside) rest reads in
+    (pairs.0, whole pairs.0 pairs.1, record { turns = length inside; rest = rest; is = pairs.1 })
+  where
+    whole : (pairs : List Pair) → entries_in (pair_in value_in) 125 (length inside) inside ≡ Ok (pairs, rest) → dictionary_of toks ≡ Ok pairs
+    whole pairs is = rw (← opens, is, ends) refl
+
+-- a pair, its key and its value
+pub pair_stands : (toks after : List Token) (p : Pair) → pair_in value_in toks ≡ Ok (p, after) → (colon : List Token) × Stands toks p.key × (behind_key value_in toks ≡ Ok colon) × Stands colon p.value
+unfolding pair_in
+pair_stands toks after p is =
+    let key = bind_ok (value_in toks) _ _ is in
+    let mark = bind_ok (ok_or (symbol_at 58 key.0.1) BadHeader) _ _ key.2 in
+    let under = bind_ok (value_in mark.0) _ _ mark.2 in
+    let pair : Pair = record { key = key.0.0; value = under.0.0 } in
+    let same = (same_read pair p under.0.1 after (Ok (pair, under.0.1)) refl under.2).0 in (
+      mark.0,
+      subst (λ (p : Pair). Stands toks p.key) same (record { rest = key.0.1; is = key.1 }),
+      ap (λ r. behind r >>= λ rest. ok_or (symbol_at 58 rest) BadHeader) key.1 ∙ mark.1,
+      subst (λ (p : Pair). Stands mark.0 p.value) same (record { rest = under.0.1; is = under.1 }),
+    )
+
+-- a call that answers so, where only an answer is there
+pub answered : {X : Type 0} (view : X → List Token) (r : Result X Refusal) (there : Result (List Token) Refusal) (P : X → Type 0) (Q : Refusal → Type 0) → Answers view r there → ((x : X) → there ≡ Ok (view x) → P x) → ((e : Refusal) → there ≡ Err e → Q e) → MatchResult r P Q
+answered view (Ok x) there P Q is good bad = good x is
+answered view (Err e) there P Q is good bad = bad e is
+
+-- ---- the number of pairs
+
+pub record PairsLeft (whole : List Pair) (count : ℕ) (toks : List Token) : Type 0 where
+  pub left : List Pair
+  pub stand : HasPairs toks left
+  pub counted : length whole ≡ count + length left
+
+module _ (whole : List Pair) (count : ℕ) (toks : List Token) (h : PairsLeft whole count toks) where
+  pub count_ends : (end : List Token) → Some end ≡ symbol_at 125 toks → count ≡ length whole
+  count_ends end ends =
+      let none = stand_closed (pair_in value_in) 125 toks h.left h.stand end ends in
+      omega (arith, h.counted, ap (λ (l : List Pair). length l) none)
+
+  pub count_next : None ≡ symbol_at 125 toks → (rest : List Token) → behind_entry (pair_in value_in) toks ≡ Ok rest → PairsLeft whole (count + 1) rest
+  count_next more rest reads =
+      let next = next_stands (pair_in value_in) 125 no_125 toks h.left h.stand more rest reads in
+      record { left = next.1; stand = next.5; counted = omega (arith, h.counted, ap (λ (l : List Pair). length l) next.4) }
+
+  pub count_read : None ≡ symbol_at 125 toks → (e : Refusal) → behind_entry (pair_in value_in) toks ≡ Err e → ⊥
+  count_read more e fails = is_read (pair_in value_in) 125 no_125 toks h.left h.stand more e fails
+
+-- ---- the value under a key
+
+pub record KeyLeft (key : List ℕ) (whole : List Pair) (toks : List Token) : Type 0 where
+  pub left : List Pair
+  pub stand : HasPairs toks left
+  pub same : value_under key whole ≡ value_under key left
+
+module _ (key : List ℕ) (whole : List Pair) (toks : List Token) (h : KeyLeft key whole toks) where
+  pub key_ends : (end : List Token) → Some end ≡ symbol_at 125 toks → value_under key whole ≡ Err BadHeader
+  key_ends end ends = h.same ∙ ap (value_under key) (stand_closed (pair_in value_in) 125 toks h.left h.stand end ends)
+
+  module _ (more : None ≡ symbol_at 125 toks) where
+    one : (p : Pair) × (others : List Pair) × (after : List Token) × (pair_in value_in toks ≡ Ok (p, after)) × (value_under key whole ≡ value_under key (p ∷ others)) × HasPairs (behind_comma after) others
+    one =
+        let next = stand_open (pair_in value_in) 125 toks h.left no_125 h.stand more in
+        (next.first, next.others, next.after, next.reads, h.same ∙ ap (value_under key) next.is, next.more)
+
+    pub key_read : (e : Refusal) → behind_entry (pair_in value_in) toks ≡ Err e → ⊥
+    key_read e fails = is_read (pair_in value_in) 125 no_125 toks h.left h.stand more e fails
+
+    pub key_next : is_text key (string_at toks) ≡ false → (rest : List Token) → behind_entry (pair_in value_in) toks ≡ Ok rest → KeyLeft key whole rest
+    key_next other rest reads =
+        let p = one in
+        let at = pair_stands toks p.2 p.0 p.3 in
+        let test : is_key key p.0 ≡ false = sym (text_is toks p.0.key at.1 key) ∙ other in
+        let w : Ok (behind_comma p.2) ≡ Ok rest = rw p.3 at reads in
+        let same : behind_comma p.2 ≡ rest = cc in
+        record {
+          left = p.1;
+          stand = subst (λ (l : List Token). HasPairs l p.1) same p.5;
+          same = p.4 ∙ ap (λ (b : Bool). if b then Ok p.0.value else value_under key p.1) test;
+        }
+
+    module _ (it : is_text key (string_at toks) ≡ true) where
+      pub key_found : (place : List Token) → behind_key value_in toks ≡ Ok place → (value : Literal) × (value_under key whole ≡ Ok value) × Stands place value
+      key_found place reads =
+          let p = one in
+          let at = pair_stands toks p.2 p.0 p.3 in
+          let test : is_key key p.0 ≡ true = sym (text_is toks p.0.key at.1 key) ∙ it in
+          let w : Ok at.0 ≡ Ok place = sym at.2 ∙ reads in
+          let same : at.0 ≡ place = cc in
+          (p.0.value, p.4 ∙ ap (λ (b : Bool). if b then Ok p.0.value else value_under key p.1) test, subst (λ (l : List Token). Stands l p.0.value) same at.3)
+
+      pub key_no_fault : (e : Refusal) → behind_key value_in toks ≡ Err e → ⊥
+      key_no_fault e fails =
+          let p = one in
+          let at = pair_stands toks p.2 p.0 p.3 in
+          let w : Ok at.0 ≡ Err e = sym at.2 ∙ fails in cc
+
+-- ---- lengths
+
+pub record LengthsLeft (values : List Literal) (toks : List Token) : Type 0 where
+  pub left : List Literal
+  pub stand : HasValues 41 toks left
+  pub before : List ℕ
+  pub same : integers_of values ≡ (integers_of left >>= λ ns. Ok (before ++ ns))
+
+no_41 : let n : ℕ = 41 in n ≢ 44
+no_41 wrong = omega (arith, wrong)
+
+module _ (values : List Literal) (toks : List Token) (h : LengthsLeft values toks) where
+  pub lengths_good : (end : List Token) → Some end ≡ symbol_at 41 toks → (found : List ℕ) × (integers_of values ≡ Ok found)
+  lengths_good end ends =
+      let none = stand_closed (value_in) 41 toks h.left h.stand end ends in
+      (h.before ++ [], h.same ∙ ap (λ (l : List Literal). integers_of l >>= λ ns. Ok (h.before ++ ns)) none)
+
+  pub lengths_bad : None ≡ integer_at toks → None ≡ symbol_at 41 toks → integers_of values ≡ Err BadHeader
+  lengths_bad none open' =
+      let next = stand_open value_in 41 toks h.left no_41 h.stand open' in
+      let refused = no_integer toks next.first (record { rest = next.after; is = next.reads }) none next.others in
+      h.same ∙ ap (λ (r : Result (List ℕ) Refusal). r >>= λ ns. Ok (h.before ++ ns)) (ap integers_of next.is ∙ refused)
+
+  pub lengths_on : (found : ℕ × List Token) → Some found ≡ integer_at toks → LengthsLeft values (behind_comma found.1)
+  lengths_on found is =
+      let front = integer_front_is toks found is in
+      let open' : None ≡ symbol_at 41 toks = rw front refl in
+      let next = stand_open value_in 41 toks h.left no_41 h.stand open' in
+      let stands = integer_stands toks next.first (record { rest = next.after; is = next.reads }) found is in
+      record {
+        left = next.others;
+        stand = subst (λ (l : List Token). HasValues 41 (behind_comma l) next.others) stands.1 next.more;
+        before = h.before ++ found.0 ∷ [];
+        same = h.same
+            ∙ ap (λ (l : List Literal). integers_of l >>= λ ns. Ok (h.before ++ ns)) (next.is ∙ ap (λ (x : Literal). x ∷ next.others) stands.0)
+            ∙ pushed (integers_of next.others) h.before found.0;
+      }
+    where
+      pushed : (r : Result (List ℕ) Refusal) (before : List ℕ) (n : ℕ) → ((r >>= λ ns. Ok (n ∷ ns)) >>= λ ns. Ok (before ++ ns)) ≡ (r >>= λ ns. Ok ((before ++ n ∷ []) ++ ns))
+      pushed (Ok ns) before n = ap (λ (l : List ℕ). Ok l) (sym (append_assoc before (n ∷ []) ns))
+      pushed (Err e) before n = refl
+
+pub lengths_inside : (v : Literal) (values : List Literal) → v ≡ Row Round (all_values values) → lengths_of v ≡ integers_of values
+lengths_inside v values is = ap lengths_of is ∙ ap integers_of (literals_of_listed values)
+
+-- ---- the shape
+
+pub record ShapeLeft (whole axes : List ℕ) (toks : List Token) : Type 0 where
+  pub left : List ℕ
+  pub stand : HasLengths toks left
+  pub same : whole ≡ axes ++ left
+
+module _ (whole axes : List ℕ) (toks : List Token) (h : ShapeLeft whole axes toks) where
+  pub shape_ends : None ≡ integer_at toks → whole ≡ axes
+  shape_ends none = h.same ∙ ap (λ (l : List ℕ). axes ++ l) (lengths_end toks h.left h.stand none) ∙ append-nil axes
+
+  module _ (found : ℕ × List Token) (is : Some found ≡ integer_at toks) where
+    pub shape_next : ShapeLeft whole (axes ++ found.0 ∷ []) (behind_comma found.1)
+    shape_next =
+        let later = lengths_next toks h.left h.stand found is in
+        record { left = later.0; stand = later.2; same = h.same ∙ ap (λ (l : List ℕ). axes ++ l) later.1 ∙ sym (append_assoc axes (found.0 ∷ []) later.0) }
+
+    pub shape_long : length axes ≡ 64 → shape_of whole ≡ Err TooManyAxes
+    unfolding shape_of
+    shape_long many =
+        let later = lengths_next toks h.left h.stand found is in
+        let long : 64 < length whole = omega (arith, many, ap (λ (l : List ℕ). length l) h.same, length-append axes h.left, ap (λ (l : List ℕ). length l) later.1) in
+        rw (lt-leb (length whole) 64 long) refl
+
+-- ---- what a header says
+
+module _ (pairs : List Pair) (three : length pairs ≡ 3) where
+  module _ (element : Literal) (first : value_under (codes "descr") pairs ≡ Ok element) where
+    module _ (order : Literal) (second : value_under (codes "fortran_order") pairs ≡ Ok order) where
+      pub no_truth : (e : Refusal) → truth_of order ≡ Err e → header_of pairs ≡ Err e
+      unfolding header_of
+      no_truth e is = rw (three, first, second, is) refl
+
+      module _ (fortran : Bool) (truth : truth_of order ≡ Ok fortran) where
+        pub no_shape : (e : Refusal) → value_under (codes "shape") pairs ≡ Err e → header_of pairs ≡ Err e
+        unfolding header_of
+        no_shape e is = rw (three, first, second, truth, is) refl
+
+        module _ (tuple : Literal) (third : value_under (codes "shape") pairs ≡ Ok tuple) where
+          pub no_lengths : (e : Refusal) → lengths_of tuple ≡ Err e → header_of pairs ≡ Err e
+          unfolding header_of
+          no_lengths e is = rw (three, first, second, truth, third, is) refl
+
+          module _ (lengths : List ℕ) (integers : lengths_of tuple ≡ Ok lengths) where
+            pub no_descr : (e : Refusal) → descr_in element ≡ Err e → header_of pairs ≡ Err e
+            unfolding header_of
+            no_descr e is = rw (three, first, second, truth, third, integers, is) refl
+
+            module _ (descr : Descr) (means : descr_in element ≡ Ok descr) where
+              pub shape_refused : (e : Refusal) → shape_of lengths ≡ Err e → header_of pairs ≡ Err e
+              unfolding header_of
+              shape_refused e is = rw (three, first, second, truth, third, integers, means, is) refl
+
+              pub header_said : (shape : List ℕ) → shape_of lengths ≡ Ok shape → header_of pairs ≡ Ok (record { descr = descr; fortran = fortran; shape = shape })
+              unfolding header_of
+              header_said shape is = rw (three, first, second, truth, third, integers, means, is) refl

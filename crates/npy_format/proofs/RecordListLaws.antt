@@ -1,0 +1,144 @@
+-- The entries of a list, one after the other.
+use Rattle.std.proofs.Common.{◌≡◌, ◌⊎◌, ◌<◌, ◌+◌, ◌-◌, ℕ, suc, Bool, true, false, List, [], ◌∷◌, Option, Some, None, Result, Ok, Err, refl, ap, ⊎_elim, inl, inr, ◌∙◌, arith}
+use Rattle.std.specs.Prelude.{if◌then◌else◌}
+use Rattle.elem_descr.specs.declared.refusal.Refusal.{Refusal}
+use Rattle.elem_descr.specs.declared.refusal.Refusal.TheVariants.{DescriptorLeftOut, OutOfMemory}
+use Rattle.elem_descr.specs.declared.format_text.mark.Mark.TheVariants.{Little}
+use Rattle.elem_descr.specs.Refusals.{◌>>=◌, Gives, Answers}
+use Rattle.elem_descr.specs.declared.descr.Descr.{Descr}
+use Rattle.elem_descr.specs.declared.descr.Descr.TheVariants.{Record as RecordDescr}
+use Rattle.elem_descr.specs.declared.format_text.draft.Body.{Body}
+use Rattle.elem_descr.specs.Names.{is_legal_name}
+use Rattle.elem_descr.specs.FormatLetters.{is_empty}
+use Rattle.elem_descr.specs.FormatRecords.{Partial, max_depth, empty, checked_name, added, closed_record}
+use Rattle.npy_format.specs.Tokens.{Token}
+use Rattle.npy_format.specs.Listed.{Literal, Plain, Row, all_values, literals_of}
+use Rattle.npy_format.specs.Values.{Text, Integer, Truth, Nothing, Dictionary, Round, Square}
+use Rattle.npy_format.specs.Literals.{symbol_at}
+use Rattle.npy_format.specs.RecordLists.{Reader, pad_in, type_in, field_in, named_in, entry_in, fields_in, record_in, descr_in}
+use Rattle.npy_format.specs.inside.Entries.{behind_entry}
+use Rattle.npy_format.specs.inside.Places.{HasValues, Stands, value_in, name_and_type, entry_parts}
+use Rattle.npy_format.proofs.ValueLaws.{literals_of_listed}
+use Rattle.npy_format.proofs.PlaceLaws.{stand_closed, stand_open}
+use Rattle.npy_format.proofs.StandLaws.{next_stands, is_read}
+
+-- no record may lie here
+pub no_levels : (levels leaves : ℕ) (entries : List Literal) → levels ≡ 0 → record_in levels leaves entries ≡ Err DescriptorLeftOut
+unfolding record_in
+no_levels levels leaves entries none = rw none refl
+
+-- a record before the entries that are left
+pub record FieldsLeft (levels leaves : ℕ) (whole : List Literal) (p : Partial) (toks : List Token) : Type 0 where
+  pub left : List Literal
+  pub stand : HasValues 93 toks left
+  pub read : record_in levels leaves whole ≡ (fields_in (record_in (levels - 1)) p left >>= closed_record Little)
+
+pub fields_begin : (levels leaves : ℕ) (whole : List Literal) (toks : List Token) → 0 < levels → HasValues 93 toks whole → FieldsLeft levels leaves whole (empty (levels - 1) leaves) toks
+unfolding record_in
+fields_begin levels leaves whole toks some s =
+    let one : levels ≡ suc (levels - 1) = omega arith in
+    record { left = whole; stand = s; read = ap (λ (n : ℕ). record_in n leaves whole) one }
+
+no_93 : let n : ℕ = 93 in n ≡ 44 → ⊥
+no_93 wrong = omega (arith, wrong)
+
+module _ (levels leaves : ℕ) (whole : List Literal) (p : Partial) (toks : List Token) (h : FieldsLeft levels leaves whole p toks) where
+  pub fields_closed : (end : List Token) → Some end ≡ symbol_at 93 toks → record_in levels leaves whole ≡ closed_record Little p
+  fields_closed end ends = h.read ∙ ap (λ (l : List Literal). fields_in (record_in (levels - 1)) p l >>= closed_record Little) (stand_closed value_in 93 toks h.left h.stand end ends)
+
+  module _ (more : None ≡ symbol_at 93 toks) where
+    pub fields_read : (e : Refusal) → behind_entry value_in toks ≡ Err e → ⊥
+    fields_read e fails = is_read value_in 93 no_93 toks h.left h.stand more e fails
+
+    module _ (same : p.levels + 1 ≡ levels) where
+      step : (first : Literal) (others : List Literal) → h.left ≡ first ∷ others → record_in levels leaves whole ≡ ((entry_in (record_in p.levels) p first >>= λ next. fields_in (record_in (levels - 1)) next others) >>= closed_record Little)
+      step first others is =
+          let less : levels - 1 ≡ p.levels = omega (arith, same) in
+          h.read ∙ ap (λ (l : List Literal). fields_in (record_in (levels - 1)) p l >>= closed_record Little) is
+          ∙ ap (λ (n : ℕ). (entry_in (record_in n) p first >>= λ next. fields_in (record_in (levels - 1)) next others) >>= closed_record Little) less
+
+      pub fields_next : (next : Partial) → ((v : Literal) → Stands toks v → entry_in (record_in p.levels) p v ≡ Ok next) → (rest : List Token) → behind_entry value_in toks ≡ Ok rest → FieldsLeft levels leaves whole next rest
+      fields_next next reads rest behind =
+          let n = next_stands value_in 93 no_93 toks h.left h.stand more rest behind in
+          record {
+            left = n.1;
+            stand = n.5;
+            read = step n.0 n.1 n.4 ∙ ap (λ r. (r >>= λ next. fields_in (record_in (levels - 1)) next n.1) >>= closed_record Little) (reads n.0 (record { rest = n.2; is = n.3 }));
+          }
+
+      pub fields_refused : (e : Refusal) → ((v : Literal) → Stands toks v → (e ≡ OutOfMemory) ⊎ (entry_in (record_in p.levels) p v ≡ Err e)) → (e ≡ OutOfMemory) ⊎ (record_in levels leaves whole ≡ Err e)
+      fields_refused e reads =
+          let n = stand_open value_in 93 toks h.left no_93 h.stand more in
+          ⊎_elim inl (λ is. inr (step n.first n.others n.is ∙ ap (λ r. (r >>= λ next. fields_in (record_in (levels - 1)) next n.others) >>= closed_record Little) is)) (reads n.first (record { rest = n.after; is = n.reads }))
+
+-- ---- a type, an entry
+
+pub gives_same : {X Y : Type 0} (view : X → Y) (r : Result X Refusal) (there there' : Result Y Refusal) → there' ≡ there → Gives view r there → Gives view r there'
+gives_same view (Ok x) there there' same is = same ∙ is
+gives_same view (Err e) there there' same is = ⊎_elim inl (λ is. inr (same ∙ is)) is
+
+pub gives_answer : {X Y : Type 0} (view : X → Y) (r : Result X Refusal) (there there' : Result Y Refusal) → there' ≡ there → Answers view r there → Gives view r there'
+gives_answer view (Ok x) there there' same is = same ∙ is
+gives_answer view (Err e) there there' same is = inr (same ∙ is)
+
+pub gives_value : {X : Type 0} (r there : Result X Refusal) → there ≡ r → Gives (λ x. x) r there
+gives_value (Ok x) there is = is
+gives_value (Err e) there is = inr is
+
+pub list_type : (within : List Literal → Result Body Refusal) (v : Literal) (values : List Literal) → v ≡ Row Square (all_values values) → type_in within v ≡ (within values >>= λ body. Ok (RecordDescr body.whole))
+list_type within v values is = ap (type_in within) is ∙ ap (λ (l : List Literal). within l >>= λ body. Ok (RecordDescr body.whole)) (literals_of_listed values)
+
+pub list_descr : (v : Literal) (values : List Literal) → v ≡ Row Square (all_values values) → descr_in v ≡ (record_in max_depth 0 values >>= λ body. Ok (RecordDescr body.whole))
+list_descr v values is = ap descr_in is ∙ ap (λ (l : List Literal). record_in max_depth 0 l >>= λ body. Ok (RecordDescr body.whole)) (literals_of_listed values)
+
+-- what the parts of an entry mean
+abbrev pub parts_in : Reader → Partial → Option (List ℕ × Literal) → Result Partial Refusal
+parts_in within p None = Err DescriptorLeftOut
+parts_in within p (Some parts) = if is_empty parts.0 then pad_in p parts.1 else field_in within p parts.0 parts.1
+
+module _ (within : Reader) (p : Partial) where
+  named_means : (values : List Literal) → named_in within p values ≡ parts_in within p (name_and_type values)
+  named_means [] = refl
+  named_means (Plain (Text name) ∷ []) = refl
+  named_means (Plain (Text name) ∷ type ∷ []) = refl
+  named_means (Plain (Text name) ∷ type ∷ other ∷ more) = refl
+  named_means (Plain (Integer n) ∷ others) = refl
+  named_means (Plain (Truth truth) ∷ others) = refl
+  named_means (Plain Nothing ∷ others) = refl
+  named_means (Plain Dictionary ∷ others) = refl
+  named_means (Row brackets row ∷ others) = refl
+
+  pub entry_means : (v : Literal) → entry_in within p v ≡ parts_in within p (entry_parts v)
+  entry_means (Row Round row) = named_means (literals_of row)
+  entry_means (Row Square row) = refl
+  entry_means (Plain (Text name)) = refl
+  entry_means (Plain (Integer n)) = refl
+  entry_means (Plain (Truth truth)) = refl
+  entry_means (Plain Nothing) = refl
+  entry_means (Plain Dictionary) = refl
+
+  module _ (v : Literal) (name : List ℕ) (type : Literal) (parts : entry_parts v ≡ Some (name, type)) where
+    pub entry_pad : is_empty name ≡ true → entry_in within p v ≡ pad_in p type
+    entry_pad none = entry_means v ∙ ap (parts_in within p) parts ∙ ap (λ (b : Bool). if b then pad_in p type else field_in within p name type) none
+
+    pub entry_field : is_empty name ≡ false → entry_in within p v ≡ field_in within p name type
+    entry_field some = entry_means v ∙ ap (parts_in within p) parts ∙ ap (λ (b : Bool). if b then pad_in p type else field_in within p name type) some
+
+  module _ (name : List ℕ) (type : Literal) where
+    pub field_illegal : is_legal_name name ≡ false → field_in within p name type ≡ Err DescriptorLeftOut
+    unfolding field_in
+    field_illegal no_name = rw no_name refl
+
+    module _ (legal : is_legal_name name ≡ true) where
+      pub field_untyped : (e : Refusal) → type_in (within p.leaves) type ≡ Err e → field_in within p name type ≡ Err e
+      unfolding field_in
+      field_untyped e is = rw (legal, is) refl
+
+      module _ (descr : Descr) (means : type_in (within p.leaves) type ≡ Ok descr) where
+        pub field_taken : (e : Refusal) → checked_name p name ≡ Err e → field_in within p name type ≡ Err e
+        unfolding field_in
+        field_taken e is = rw (legal, means, is) refl
+
+        pub field_added : checked_name p name ≡ Ok tt → field_in within p name type ≡ added p name 1 descr
+        unfolding field_in
+        field_added is = rw (legal, means, is) refl

@@ -1,0 +1,39 @@
+-- A file whose items lie in their block as the file has them.
+use Rattle.std.proofs.Common.{◌≡◌, ℕ, ◌+◌, ◌*◌, ◌≤◌, true, List, ◌++◌, map, length, drop, All, refl, sym, ap, subst, ◌∙◌, arith, ◌||◌}
+use Rattle.std.specs.List.{flat_map}
+use Rattle.std.proofs.Math.Seq.{take-append_seam, drop-append_seam}
+use Rattle.raw_block.specs.Bytes.{item_at}
+use Rattle.raw_block.specs.BytesLaws.{length-item_at}
+use Rattle.elem_descr.specs.declared.descr.Descr.{Descr}
+use Rattle.elem_descr.specs.Items.{item_size, leaves_of, AreInOrder, encode_item, decode_item}
+use Rattle.elem_descr.specs.Blocks.{blocks, item_from}
+use Rattle.shape_strides.specs.Indexes.{count}
+use Rattle.shape_strides.specs.Contiguity.{first_address, is_c_contiguous, is_f_contiguous}
+use Rattle.npy_format.specs.Files.{order_of}
+use Rattle.npy_format.specs.WrittenFiles.{is_fortran, ordered}
+use Rattle.npy_format.specs.inside.WrittenItems.{IsPlain, addresses_in_file}
+use Rattle.npy_format.proofs.ScalarBytes.{AreBytes, bytes-drop, bytes-take}
+use Rattle.npy_format.proofs.WrittenItemLaws.{plain_again, all_again}
+use Rattle.npy_format.proofs.GatherLaws.{gathered, together}
+use Rattle.npy_format.proofs.WriterLaws.{file_written}
+
+module _ (descr : Descr) (shape offsets bytes : List ℕ) (start len : ℕ) (long : length offsets ≡ count shape) (inside : All (λ offset. offset + item_size descr ≤ length bytes) offsets)
+    (is : (is_c_contiguous (item_size descr) offsets || is_f_contiguous (item_size descr) shape offsets) ≡ true) (first : start ≡ first_address offsets) (sized : len ≡ count shape * item_size descr) where
+  pub stretch_ends : start + len ≤ length bytes
+  stretch_ends = let ends = (together (item_size descr) shape offsets bytes long inside is).ends in omega (arith, ends, first, sized)
+
+  pub stretch_written : (head : List ℕ) → IsPlain 0 (leaves_of descr) (item_size descr) → AreInOrder 0 (leaves_of descr) (item_size descr) → AreBytes bytes
+      → head ++ item_at start len bytes ≡ head ++ flat_map (encode_item descr) (ordered (order_of (is_fortran (item_size descr) shape offsets)) shape (map (item_from descr bytes) offsets))
+  stretch_written head plain order are =
+      let width = item_size descr in
+      let n = count shape in
+      let f = λ (item : List ℕ). encode_item descr (decode_item descr item) in
+      let items = gathered width bytes (addresses_in_file width shape offsets) in
+      let lies : items ≡ item_at start len bytes = (together width shape offsets bytes long inside is).joined ∙ (λ i. item_at (sym first i) (sym sized i) bytes) in
+      let all : AreBytes items = subst AreBytes (sym lies) (bytes-take len (drop start bytes) (bytes-drop start bytes are)) in
+      let size : length items ≡ n * width = ap length lies ∙ length-item_at start len bytes stretch_ends ∙ sized in
+      let again = all_again f width n items (λ item wide each. plain_again (leaves_of descr) width item plain order wide each) size all in
+      let file = head ++ items in
+      ap (λ back. head ++ back) (sym lies)
+      ∙ file_written shape offsets bytes head file width long inside refl descr file (length head) n refl refl refl
+      (ap (λ back. head ++ back) again ∙ sym (λ i. take-append_seam head items i ++ flat_map f (blocks width n (drop-append_seam head items i))))

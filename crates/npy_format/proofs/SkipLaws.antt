@@ -1,0 +1,168 @@
+-- What is left behind entries, read turn by turn, and behind what stands in brackets.
+use Rattle.std.proofs.Common.{◌≡◌, ◌<◌, ◌≤◌, ◌-◌, ℕ, zero, suc, Bool, List, [], ◌∷◌, length, Option, Some, None, Result, Ok, Err, refl, ap, ◌∙◌, arith}
+use Rattle.std.specs.Option.{ok_or}
+use Rattle.elem_descr.specs.declared.refusal.Refusal.{Refusal}
+use Rattle.elem_descr.specs.declared.refusal.Refusal.TheVariants.{BadHeader}
+use Rattle.elem_descr.specs.Refusals.{◌>>=◌}
+use Rattle.npy_format.specs.Tokens.{Token}
+use Rattle.npy_format.specs.Tokens as token
+use Rattle.npy_format.specs.Listed.{Literal, Pair}
+use Rattle.npy_format.specs.Literals.{Read, symbol_at, if_found, ended, entries_in, tuple_in, list_in, pair_in, dictionary_in, bracketed, literal_in}
+use Rattle.npy_format.specs.inside.Entries.{behind, behind_entries, behind_key}
+use Rattle.npy_format.proofs.GrammarLaws.{Shortens, symbol_shorter}
+
+pub behind_ok : {A : Type 0} (r : Read A) (rest : List Token) → behind r ≡ Ok rest → (x : A) × (r ≡ Ok (x, rest))
+behind_ok (Ok x) rest is = let same : x.1 ≡ rest = cc in (x.0, ap (λ (l : List Token). Ok (x.0, l)) same)
+behind_ok (Err e) rest is = cc
+
+pub behind_err : {A : Type 0} (r : Read A) (refusal : Refusal) → behind r ≡ Err refusal → r ≡ Err refusal
+behind_err (Ok x) refusal is = cc
+behind_err (Err e) refusal is = let same : e ≡ refusal = cc in ap (λ (e : Refusal). Err e) same
+
+behind_other : {A B : Type 0} (r : Read A) (f : A → B) → behind (r >>= λ x. Ok (f x.0, x.1)) ≡ behind r
+behind_other (Ok x) f = refl
+behind_other (Err e) f = refl
+
+bind_same : {A B : Type 0} (r : Result A Refusal) (f f' : A → Result B Refusal) → ((x : A) → r ≡ Ok x → f x ≡ f' x) → (r >>= f) ≡ (r >>= f')
+bind_same (Ok x) f f' h = h x refl
+bind_same (Err e) f f' h = refl
+
+found_same : {A B : Type 0} (o : Option B) (next next' : B → A) (other : A) → ((b : B) → Some b ≡ o → next b ≡ next' b) → if_found o next other ≡ if_found o next' other
+found_same None next next' other h = refl
+found_same (Some b) next next' other h = h b refl
+
+module _ {A : Type 0} (entry : List Token → Read A) (shortens : Shortens entry) (none : entry [] ≡ Err BadHeader) where
+  -- turns enough for the tokens
+  entries_turns : (closing n m : ℕ) (toks : List Token) → length toks ≤ n → length toks ≤ m → entries_in entry closing n toks ≡ entries_in entry closing m toks
+  unfolding entries_in
+  entries_turns closing zero zero toks few few' = refl
+  entries_turns closing zero (suc m) [] few few' = rw none refl
+  entries_turns closing zero (suc m) (t ∷ toks) few few' = absurd (omega (arith, few))
+  entries_turns closing (suc n) zero [] few few' = rw none refl
+  entries_turns closing (suc n) zero (t ∷ toks) few few' = absurd (omega (arith, few'))
+  entries_turns closing (suc n) (suc m) toks few few' =
+      ap (if_found (symbol_at closing toks) ended) (bind_same (entry toks) _ _ (λ first is. ap (λ (r : Read (List A)). r >>= λ others. Ok (first.0 ∷ others.0, others.1))
+      (ap (if_found (symbol_at closing first.1) ended) (found_same (symbol_at 44 first.1) _ _ (Err BadHeader) (λ b at.
+      entries_turns closing n m b (omega (arith, few, shortens toks first is, symbol_shorter 44 first.1 b at)) (omega (arith, few', shortens toks first is, symbol_shorter 44 first.1 b at)))))))
+
+  module _ (closing : ℕ) (toks : List Token) where
+    begins : behind_entries entry closing toks ≡ behind (entries_in entry closing (suc (length toks)) toks)
+    begins = ap (λ (r : Read (List A)). behind r) (entries_turns closing (length toks) (suc (length toks)) toks (omega arith) (omega arith))
+
+    pub skip_closed : (end : List Token) → Some end ≡ symbol_at closing toks → behind_entries entry closing toks ≡ Ok end
+    unfolding entries_in
+    skip_closed end ends = begins ∙ rw (← ends) refl
+
+    module _ (no_end : None ≡ symbol_at closing toks) where
+      pub skip_refused : (e : Refusal) → behind (entry toks) ≡ Err e → behind_entries entry closing toks ≡ Err e
+      unfolding entries_in
+      skip_refused e fails = let is = behind_err (entry toks) e fails in begins ∙ rw (← no_end, is) refl
+
+      module _ (after : List Token) (reads : behind (entry toks) ≡ Ok after) where
+        pub skip_last : (end : List Token) → Some end ≡ symbol_at closing after → behind_entries entry closing toks ≡ Ok end
+        unfolding entries_in
+        skip_last end ends = let first = behind_ok (entry toks) after reads in begins ∙ rw (← no_end, first.1, ← ends) refl
+
+        pub skip_no_mark : None ≡ symbol_at closing after → None ≡ symbol_at 44 after → behind_entries entry closing toks ≡ Err BadHeader
+        unfolding entries_in
+        skip_no_mark not_last no_comma = let first = behind_ok (entry toks) after reads in begins ∙ rw (← no_end, first.1, ← not_last, ← no_comma) refl
+
+        pub skip_shorter : length after < length toks
+        skip_shorter = let first = behind_ok (entry toks) after reads in shortens toks (first.0, after) first.1
+
+        pub skip_next : (next : List Token) → None ≡ symbol_at closing after → Some next ≡ symbol_at 44 after → behind_entries entry closing toks ≡ behind_entries entry closing next
+        unfolding entries_in
+        skip_next next not_last comma =
+            let first = behind_ok (entry toks) after reads in
+            begins ∙ rw (← no_end, first.1, ← not_last, ← comma)
+            (behind_other (entries_in entry closing (length toks) next) (λ others. first.0 ∷ others)
+            ∙ ap (λ (r : Read (List A)). behind r) (entries_turns closing (length toks) (length next) next (omega (arith, skip_shorter, symbol_shorter 44 after next comma)) (omega arith)))
+
+-- ---- in brackets
+
+module _ (value : List Token → Read Literal) (toks : List Token) where
+  pub tuple_closed : (end : List Token) → Some end ≡ symbol_at 41 toks → behind (tuple_in value toks) ≡ Ok end
+  unfolding tuple_in
+  tuple_closed end ends = rw (← ends) refl
+
+  module _ (no_end : None ≡ symbol_at 41 toks) where
+    pub tuple_refused : (e : Refusal) → behind (value toks) ≡ Err e → behind (tuple_in value toks) ≡ Err e
+    unfolding tuple_in
+    tuple_refused e fails = let is = behind_err (value toks) e fails in rw (← no_end, is) refl
+
+    pub tuple_no_mark : (after : List Token) → behind (value toks) ≡ Ok after → None ≡ symbol_at 44 after → behind (tuple_in value toks) ≡ Err BadHeader
+    unfolding tuple_in
+    tuple_no_mark after reads no_comma = let first = behind_ok (value toks) after reads in rw (← no_end, first.1, ← no_comma) refl
+
+    pub tuple_next : (after next : List Token) → behind (value toks) ≡ Ok after → Some next ≡ symbol_at 44 after → behind (tuple_in value toks) ≡ behind_entries value 41 next
+    unfolding tuple_in
+    tuple_next after next reads comma =
+        let first = behind_ok (value toks) after reads in
+        rw (← no_end, first.1, ← comma) (behind_other (entries_in value 41 (length next) next) _)
+
+  pub list_skipped : behind (list_in value toks) ≡ behind_entries value 93 toks
+  unfolding list_in
+  list_skipped = behind_other (entries_in value 93 (length toks) toks) _
+
+  pub dictionary_skipped : behind (dictionary_in value toks) ≡ behind_entries (pair_in value) 125 toks
+  unfolding dictionary_in
+  dictionary_skipped = behind_other (entries_in (pair_in value) 125 (length toks) toks) _
+
+  pub pair_skipped : behind (pair_in value toks) ≡ (behind_key value toks >>= λ rest. behind (value rest))
+  unfolding pair_in
+  pair_skipped = key (value toks)
+    where
+      under : (k : Literal × List Token) (r : Read Literal) → behind {A = Pair} (r >>= λ u. Ok (record { key = k.0; value = u.0 }, u.1)) ≡ behind r
+      under k r = behind_other r _
+
+      colon : (k : Literal × List Token) (o : Option (List Token)) → behind {A = Pair} (ok_or o BadHeader >>= λ rest. value rest >>= λ u. Ok (record { key = k.0; value = u.0 }, u.1)) ≡ (ok_or o BadHeader >>= λ rest. behind (value rest))
+      colon k None = refl
+      colon k (Some rest) = under k (value rest)
+
+      key : (r : Read Literal) → behind {A = Pair} (r >>= λ k. ok_or (symbol_at 58 k.1) BadHeader >>= λ rest. value rest >>= λ u. Ok (record { key = k.0; value = u.0 }, u.1)) ≡ (behind r >>= (λ rest. ok_or (symbol_at 58 rest) BadHeader) >>= λ rest. behind (value rest))
+      key (Err e) = refl
+      key (Ok k) = colon k (symbol_at 58 k.1)
+
+-- ---- what the readers need
+
+pub no_literal : (depth : ℕ) → literal_in depth [] ≡ Err BadHeader
+unfolding literal_in
+no_literal depth = refl
+
+pub no_pair : (depth : ℕ) → pair_in (literal_in depth) [] ≡ Err BadHeader
+unfolding pair_in literal_in
+no_pair depth = refl
+
+module _ (depth : ℕ) (toks rest : List Token) where
+  pub skip_text : (bytes : List ℕ) → toks ≡ token.Text bytes ∷ rest → behind (literal_in depth toks) ≡ Ok rest
+  unfolding literal_in
+  skip_text bytes is = rw is refl
+
+  pub skip_integer : (n : ℕ) → toks ≡ token.Integer n ∷ rest → behind (literal_in depth toks) ≡ Ok rest
+  unfolding literal_in
+  skip_integer n is = rw is refl
+
+  pub skip_truth : (truth : Bool) → toks ≡ token.Truth truth ∷ rest → behind (literal_in depth toks) ≡ Ok rest
+  unfolding literal_in
+  skip_truth truth is = rw is refl
+
+  pub skip_nothing : toks ≡ token.Nothing ∷ rest → behind (literal_in depth toks) ≡ Ok rest
+  unfolding literal_in
+  skip_nothing is = rw is refl
+
+  pub no_stray : toks ≡ token.Stray ∷ rest → behind (literal_in depth toks) ≡ Err BadHeader
+  unfolding literal_in
+  no_stray is = rw is refl
+
+  pub no_level : (b : ℕ) → depth ≤ 0 → toks ≡ token.Symbol b ∷ rest → behind (literal_in depth toks) ≡ Err BadHeader
+  unfolding literal_in
+  no_level b none is = let zero_is : depth ≡ zero = omega (arith, none) in rw (zero_is, is) refl
+
+  -- brackets, where there is a level for them
+  pub skip_symbol : (b : ℕ) → 0 < depth → toks ≡ token.Symbol b ∷ rest → literal_in depth toks ≡ bracketed (literal_in (depth - 1)) b rest
+  unfolding literal_in
+  skip_symbol b some is = let more : depth ≡ suc (depth - 1) = omega (arith, some) in rw is (ap (λ (n : ℕ). literal_in n (token.Symbol b ∷ rest)) more)
+
+pub skip_end : (depth : ℕ) (toks : List Token) → toks ≡ [] → behind (literal_in depth toks) ≡ Err BadHeader
+unfolding literal_in
+skip_end depth toks is = rw is refl

@@ -1,0 +1,50 @@
+-- What is written as a type string reads as the same scalar.
+use Rattle.std.proofs.Common.{◌≡◌, ◌≤◌, ◌<◌, ◌^◌, ℕ, true, false, [], ◌∷◌, Ok, refl, arith, lit<}
+use Rattle.std.specs.Fmt.{decimal}
+use Rattle.std.proofs.lemmas.Bool.Decides.{nat_tests}
+use Rattle.std.proofs.lemmas.Fmt.{decimal_digit}
+use Rattle.elem_descr.specs.declared.scalar.Order.TheVariants.{Little, Big}
+use Rattle.elem_descr.specs.declared.scalar.Width.TheVariants.{Two, Four, Eight}
+use Rattle.elem_descr.specs.declared.scalar.Scalar.{Scalar}
+use Rattle.elem_descr.specs.declared.scalar.Scalar.TheVariants.{Bool as BoolScalar, Byte, Int, Bytes}
+use Rattle.elem_descr.specs.Encoding.{size}
+use Rattle.elem_descr.specs.TypeStrings.{typestr, spelling, of_length, byte_string}
+use Rattle.npy_format.proofs.ReadTokens.{are_digits, is_value}
+
+one : decimal 1 ≡ 49 ∷ []
+one = decimal_digit 1 (lit< tt)
+
+two : decimal 2 ≡ 50 ∷ []
+two = decimal_digit 2 (lit< tt)
+
+four : decimal 4 ≡ 52 ∷ []
+four = decimal_digit 4 (lit< tt)
+
+eight : decimal 8 ≡ 56 ∷ []
+eight = decimal_digit 8 (lit< tt)
+
+legal_length : (n : ℕ) → 1 ≤ n → n ≤ 65536 → of_length n ≡ Ok (Bytes n)
+legal_length n some small = grind (arith, nat_tests)
+
+reads_length : (n : ℕ) → 1 ≤ n → n ≤ 65536 → byte_string (decimal n) ≡ Ok (Bytes n)
+reads_length n some small =
+    let big : n < 2 ^ 64 = omega (arith, small) in
+    rw (are_digits n big, is_value n big) (legal_length n some small)
+
+pub reads_spelling : (scalar : Scalar) → 1 ≤ size scalar → size scalar ≤ 65536 → typestr (spelling scalar) ≡ Ok scalar
+reads_spelling BoolScalar some small = rw one refl
+reads_spelling (Byte true) some small = rw one refl
+reads_spelling (Byte false) some small = rw one refl
+reads_spelling (Int true Two Little) some small = rw two refl
+reads_spelling (Int true Two Big) some small = rw two refl
+reads_spelling (Int true Four Little) some small = rw four refl
+reads_spelling (Int true Four Big) some small = rw four refl
+reads_spelling (Int true Eight Little) some small = rw eight refl
+reads_spelling (Int true Eight Big) some small = rw eight refl
+reads_spelling (Int false Two Little) some small = rw two refl
+reads_spelling (Int false Two Big) some small = rw two refl
+reads_spelling (Int false Four Little) some small = rw four refl
+reads_spelling (Int false Four Big) some small = rw four refl
+reads_spelling (Int false Eight Little) some small = rw eight refl
+reads_spelling (Int false Eight Big) some small = rw eight refl
+reads_spelling (Bytes n) some small = reads_length n some small

@@ -1,0 +1,339 @@
+-- What stands where a text is read a second time.
+use Rattle.std.proofs.Common.{◌≡◌, ◌≢◌, ℕ, true, false, List, [], ◌∷◌, Option, Some, None, Result, Ok, Err, Bor, refl, ap, sym, subst, ◌∙◌, arith}
+use Rattle.std.specs.Option.{is_some, option_map}
+use Rattle.std.specs.Prelude.{option_copied}
+use Rattle.elem_descr.specs.declared.refusal.Refusal.{Refusal}
+use Rattle.elem_descr.specs.declared.refusal.Refusal.TheVariants.{BadHeader, BadDescriptor, DescriptorLeftOut}
+use Rattle.elem_descr.specs.declared.format_text.draft.Body.{Body}
+use Rattle.elem_descr.specs.Refusals.{◌>>=◌}
+use Rattle.elem_descr.specs.FormatRecords.{Partial}
+use Rattle.npy_format.specs.Tokens.{Token, tokens}
+use Rattle.npy_format.specs.Tokens as token
+use Rattle.npy_format.specs.Values.{Text, Integer, Round, Square}
+use Rattle.npy_format.specs.Listed.{Literal, Plain, Row, all_values}
+use Rattle.npy_format.specs.Literals.{Read, symbol_at, literal_in}
+use Rattle.npy_format.specs.RecordLists.{pad_in, type_in, descr_in}
+use Rattle.npy_format.specs.Headers.{is_string, truth_of, integers_of, lengths_of}
+use Rattle.npy_format.specs.inside.Entries.{behind_comma, behind_entry}
+use Rattle.npy_format.specs.inside.Scanned.{string_at, integer_at, truth_at, is_text, pad_at}
+use Rattle.npy_format.specs.inside.Places.{StandIn, HasValues, HasLengths, Stands, value_in, name_and_type, entry_parts}
+use Rattle.npy_format.proofs.ValueLaws.{literals_of_listed}
+use Rattle.npy_format.proofs.PlaceLaws.{stand_open, stand_closed, Front, text_front, integer_front, truth_front, nothing_front, boxed_front, tuple_boxed, list_boxed, pairs_boxed, front_of, bind_ok, same_read}
+
+-- a symbol that is there, or not
+pub symbol_open : (r : Option (Bor (List ℕ))) (there : Option (List Token)) → is_some r ≡ false → option_map tokens (option_copied r) ≡ there → None ≡ there
+symbol_open None there none is = is
+symbol_open (Some x) there none is = cc
+
+pub symbol_closed : (r : Option (Bor (List ℕ))) (there : Option (List Token)) → is_some r ≡ true → option_map tokens (option_copied r) ≡ there → (end : List Token) × (Some end ≡ there)
+symbol_closed None there some is = cc
+symbol_closed (Some x) there some is = (tokens x.now, is)
+
+-- ---- plain values
+
+module _ (toks : List Token) (v : Literal) (s : Stands toks v) where
+  pub text_is : (key : List ℕ) → is_text key (string_at toks) ≡ is_string key v
+  text_is key = go (front_of toks v s)
+    where
+      go : Front toks v s.rest → is_text key (string_at toks) ≡ is_string key v
+      go (text_front bytes e e') = rw (e, e') refl
+      go (integer_front n e e') = rw (e, e') refl
+      go (truth_front truth e e') = rw (e, e') refl
+      go (nothing_front e e') = rw (e, e') refl
+      go (boxed_front b inside e (tuple_boxed vs at e' st)) = rw (e, e') refl
+      go (boxed_front b inside e (list_boxed vs at e' st)) = rw (e, e') refl
+      go (boxed_front b inside e (pairs_boxed at e')) = rw (e, e') refl
+
+  pub truth_is : truth_at toks ≡ truth_of v
+  truth_is = go (front_of toks v s)
+    where
+      go : Front toks v s.rest → truth_at toks ≡ truth_of v
+      go (text_front bytes e e') = rw (e, e') refl
+      go (integer_front n e e') = rw (e, e') refl
+      go (truth_front truth e e') = rw (e, e') refl
+      go (nothing_front e e') = rw (e, e') refl
+      go (boxed_front b inside e (tuple_boxed vs at e' st)) = rw (e, e') refl
+      go (boxed_front b inside e (list_boxed vs at e' st)) = rw (e, e') refl
+      go (boxed_front b inside e (pairs_boxed at e')) = rw (e, e') refl
+
+  pub pad_is : (p : Partial) → pad_at p (string_at toks) ≡ pad_in p v
+  pad_is p = go (front_of toks v s)
+    where
+      go : Front toks v s.rest → pad_at p (string_at toks) ≡ pad_in p v
+      go (text_front bytes e e') = rw (e, e') refl
+      go (integer_front n e e') = rw (e, e') refl
+      go (truth_front truth e e') = rw (e, e') refl
+      go (nothing_front e e') = rw (e, e') refl
+      go (boxed_front b inside e (tuple_boxed vs at e' st)) = rw (e, e') refl
+      go (boxed_front b inside e (list_boxed vs at e' st)) = rw (e, e') refl
+      go (boxed_front b inside e (pairs_boxed at e')) = rw (e, e') refl
+
+  -- ---- types
+
+  pub string_stands : (found : List ℕ × List Token) → Some found ≡ string_at toks → v ≡ Plain (Text found.0)
+  string_stands found is = go (front_of toks v s)
+    where
+      go : Front toks v s.rest → v ≡ Plain (Text found.0)
+      go (text_front bytes e e') = let w : Some found ≡ Some (bytes, s.rest) = rw e at is in let same : found ≡ (bytes, s.rest) = cc in e' ∙ ap (λ (f : List ℕ × List Token). Plain (Text f.0)) (sym same)
+      go (integer_front n e e') = let w = rw e at is in cc
+      go (truth_front truth e e') = let w = rw e at is in cc
+      go (nothing_front e e') = let w = rw e at is in cc
+      go (boxed_front b inside e box) = let w = rw e at is in cc
+
+  pub list_stands : (inside : List Token) → Some inside ≡ symbol_at 91 toks → (vs : List Literal) × (v ≡ Row Square (all_values vs)) × HasValues 93 inside vs
+  list_stands inside is = go (front_of toks v s)
+    where
+      go : Front toks v s.rest → (vs : List Literal) × (v ≡ Row Square (all_values vs)) × HasValues 93 inside vs
+      go (text_front bytes e e') = let w = rw e at is in cc
+      go (integer_front n e e') = let w = rw e at is in cc
+      go (truth_front truth e e') = let w = rw e at is in cc
+      go (nothing_front e e') = let w = rw e at is in cc
+      go (boxed_front b inside' e (tuple_boxed vs at e' st)) = let w = rw (e, at) at is in cc
+      go (boxed_front b inside' e (list_boxed vs at e' st)) =
+          let w : Some inside ≡ Some inside' = rw (e, at) at is in
+          let same : inside ≡ inside' = cc in
+          (vs, e', subst (λ (l : List Token). HasValues 93 l vs) (sym same) st)
+      go (boxed_front b inside' e (pairs_boxed at e')) = let w = rw (e, at) at is in cc
+
+  pub tuple_stands : (inside : List Token) → Some inside ≡ symbol_at 40 toks → (vs : List Literal) × (v ≡ Row Round (all_values vs)) × HasValues 41 inside vs
+  tuple_stands inside is = go (front_of toks v s)
+    where
+      go : Front toks v s.rest → (vs : List Literal) × (v ≡ Row Round (all_values vs)) × HasValues 41 inside vs
+      go (text_front bytes e e') = let w = rw e at is in cc
+      go (integer_front n e e') = let w = rw e at is in cc
+      go (truth_front truth e e') = let w = rw e at is in cc
+      go (nothing_front e e') = let w = rw e at is in cc
+      go (boxed_front b inside' e (tuple_boxed vs at e' st)) =
+          let w : Some inside ≡ Some inside' = rw (e, at) at is in
+          let same : inside ≡ inside' = cc in
+          (vs, e', subst (λ (l : List Token). HasValues 41 l vs) (sym same) st)
+      go (boxed_front b inside' e (list_boxed vs at e' st)) = let w = rw (e, at) at is in cc
+      go (boxed_front b inside' e (pairs_boxed at e')) = let w = rw (e, at) at is in cc
+
+  pub no_type : None ≡ string_at toks → None ≡ symbol_at 91 toks → ((within : List Literal → Result Body Refusal) → type_in within v ≡ Err DescriptorLeftOut) × (descr_in v ≡ Err BadDescriptor)
+  no_type no_text no_list = go (front_of toks v s)
+    where
+      go : Front toks v s.rest → ((within : List Literal → Result Body Refusal) → type_in within v ≡ Err DescriptorLeftOut) × (descr_in v ≡ Err BadDescriptor)
+      go (text_front bytes e e') = let w = rw e at no_text in cc
+      go (integer_front n e e') = (λ within. rw e' refl, rw e' refl)
+      go (truth_front truth e e') = (λ within. rw e' refl, rw e' refl)
+      go (nothing_front e e') = (λ within. rw e' refl, rw e' refl)
+      go (boxed_front b inside e (tuple_boxed vs at e' st)) = (λ within. rw e' refl, rw e' refl)
+      go (boxed_front b inside e (list_boxed vs at e' st)) = let w = rw (e, at) at no_list in cc
+      go (boxed_front b inside e (pairs_boxed at e')) = (λ within. rw e' refl, rw e' refl)
+
+  pub no_tuple : None ≡ symbol_at 40 toks → (entry_parts v ≡ None) × (lengths_of v ≡ Err BadHeader)
+  no_tuple none = go (front_of toks v s)
+    where
+      go : Front toks v s.rest → (entry_parts v ≡ None) × (lengths_of v ≡ Err BadHeader)
+      go (text_front bytes e e') = (rw e' refl, rw e' refl)
+      go (integer_front n e e') = (rw e' refl, rw e' refl)
+      go (truth_front truth e e') = (rw e' refl, rw e' refl)
+      go (nothing_front e e') = (rw e' refl, rw e' refl)
+      go (boxed_front b inside e (tuple_boxed vs at e' st)) = let w = rw (e, at) at none in cc
+      go (boxed_front b inside e (list_boxed vs at e' st)) = (rw e' refl, rw e' refl)
+      go (boxed_front b inside e (pairs_boxed at e')) = (rw e' refl, rw e' refl)
+
+  -- no value begins with a round bracket that closes
+  pub no_end : None ≡ symbol_at 41 toks
+  no_end = go (front_of toks v s)
+    where
+      go : Front toks v s.rest → None ≡ symbol_at 41 toks
+      go (text_front bytes e e') = rw e refl
+      go (integer_front n e e') = rw e refl
+      go (truth_front truth e e') = rw e refl
+      go (nothing_front e e') = rw e refl
+      go (boxed_front b inside e (tuple_boxed vs at e' st)) = rw (e, at) refl
+      go (boxed_front b inside e (list_boxed vs at e' st)) = rw (e, at) refl
+      go (boxed_front b inside e (pairs_boxed at e')) = rw (e, at) refl
+
+  pub no_name : None ≡ string_at toks → (others : List Literal) → name_and_type (v ∷ others) ≡ None
+  no_name none others = go (front_of toks v s)
+    where
+      go : Front toks v s.rest → name_and_type (v ∷ others) ≡ None
+      go (text_front bytes e e') = let w = rw e at none in cc
+      go (integer_front n e e') = rw e' refl
+      go (truth_front truth e e') = rw e' refl
+      go (nothing_front e e') = rw e' refl
+      go (boxed_front b inside e (tuple_boxed vs at e' st)) = rw e' refl
+      go (boxed_front b inside e (list_boxed vs at e' st)) = rw e' refl
+      go (boxed_front b inside e (pairs_boxed at e')) = rw e' refl
+
+  pub no_integer : None ≡ integer_at toks → (others : List Literal) → integers_of (v ∷ others) ≡ Err BadHeader
+  no_integer none others = go (front_of toks v s)
+    where
+      go : Front toks v s.rest → integers_of (v ∷ others) ≡ Err BadHeader
+      go (text_front bytes e e') = rw e' refl
+      go (integer_front n e e') = let w = rw e at none in cc
+      go (truth_front truth e e') = rw e' refl
+      go (nothing_front e e') = rw e' refl
+      go (boxed_front b inside e (tuple_boxed vs at e' st)) = rw e' refl
+      go (boxed_front b inside e (list_boxed vs at e' st)) = rw e' refl
+      go (boxed_front b inside e (pairs_boxed at e')) = rw e' refl
+
+  pub integer_stands : (found : ℕ × List Token) → Some found ≡ integer_at toks → (v ≡ Plain (Integer found.0)) × (s.rest ≡ found.1) × (None ≡ symbol_at 41 toks)
+  integer_stands found is = go (front_of toks v s)
+    where
+      go : Front toks v s.rest → (v ≡ Plain (Integer found.0)) × (s.rest ≡ found.1) × (None ≡ symbol_at 41 toks)
+      go (text_front bytes e e') = let w = rw e at is in cc
+      go (integer_front n e e') =
+          let w : Some found ≡ Some (n, s.rest) = rw e at is in
+          let same : found ≡ (n, s.rest) = cc in
+          (e' ∙ ap (λ (f : ℕ × List Token). Plain (Integer f.0)) (sym same), ap (λ (f : ℕ × List Token). f.1) (sym same), rw e refl)
+      go (truth_front truth e e') = let w = rw e at is in cc
+      go (nothing_front e e') = let w = rw e at is in cc
+      go (boxed_front b inside e box) = let w = rw e at is in cc
+
+-- ---- entries
+
+pub comma_is : (toks next : List Token) → Some next ≡ symbol_at 44 toks → behind_comma toks ≡ next
+comma_is toks next is = rw (← is) refl
+
+-- where entries stand, one is read where they do not end
+module _ {A : Type 0} (entry : List Token → Read A) (closing : ℕ) (other : closing ≢ 44) (toks : List Token) (xs : List A) (s : StandIn A entry closing toks xs) (open' : None ≡ symbol_at closing toks) where
+  pub is_read : (e : Refusal) → behind_entry entry toks ≡ Err e → ⊥
+  is_read e fails =
+      let next = stand_open entry closing toks xs other s open' in
+      let w = rw next.reads at fails in cc
+
+  pub next_stands : (rest : List Token) → behind_entry entry toks ≡ Ok rest → (x : A) × (others : List A) × (after : List Token) × (entry toks ≡ Ok (x, after)) × (xs ≡ x ∷ others) × StandIn A entry closing rest others
+  next_stands rest reads =
+      let next = stand_open entry closing toks xs other s open' in
+      let w : Ok (behind_comma next.after) ≡ Ok rest = rw next.reads at reads in
+      let same : behind_comma next.after ≡ rest = cc in
+      (next.first, next.others, next.after, next.reads, next.is, subst (λ (l : List Token). StandIn A entry closing l next.others) same next.more)
+
+-- ---- entries of a record, a tuple of a name and a type
+
+text_front_is : (toks : List Token) (found : List ℕ × List Token) → Some found ≡ string_at toks → toks ≡ token.Text found.0 ∷ found.1
+text_front_is [] found is = cc
+text_front_is (token.Text bytes ∷ toks) found is = let same : found ≡ (bytes, toks) = cc in ap (λ (f : List ℕ × List Token). token.Text f.0 ∷ f.1) (sym same)
+text_front_is (token.Integer n ∷ toks) found is = cc
+text_front_is (token.Truth truth ∷ toks) found is = cc
+text_front_is (token.Nothing ∷ toks) found is = cc
+text_front_is (token.Symbol b ∷ toks) found is = cc
+text_front_is (token.Stray ∷ toks) found is = cc
+
+no_44 : let n : ℕ = 41 in n ≢ 44
+no_44 wrong = omega (arith, wrong)
+
+module _ (inside : List Token) (vs : List Literal) (s : HasValues 41 inside vs) where
+  pub nameless : None ≡ string_at inside → name_and_type vs ≡ None
+  nameless none = go (symbol_at 41 inside) refl
+    where
+      go : (o : Option (List Token)) → symbol_at 41 inside ≡ o → name_and_type vs ≡ None
+      go (Some end) e = ap name_and_type (stand_closed value_in 41 inside vs s end (sym e))
+      go None e =
+          let next = stand_open value_in 41 inside vs no_44 s (sym e) in
+          ap name_and_type next.is ∙ no_name inside next.first (record { rest = next.after; is = next.reads }) none next.others
+
+  -- a name that stands first, and what is behind it
+  pub named : (found : List ℕ × List Token) → Some found ≡ string_at inside → (others : List Literal) × (vs ≡ Plain (Text found.0) ∷ others) × HasValues 41 (behind_comma found.1) others × (None ≡ symbol_at 44 found.1 → others ≡ [])
+  unfolding literal_in
+  named found is =
+      let front = text_front_is inside found is in
+      let open' : None ≡ symbol_at 41 inside = rw front refl in
+      let next = stand_open value_in 41 inside vs no_44 s open' in
+      let same = same_read (Plain (Text found.0)) next.first found.1 next.after (Ok (Plain (Text found.0), found.1)) refl (ap value_in (sym front) ∙ next.reads) in
+      let first = sym same.0 in
+      let after = sym same.1 in
+      (next.others, next.is ∙ ap (λ (x : Literal). x ∷ next.others) first, subst (λ (l : List Token). HasValues 41 (behind_comma l) next.others) after next.more, λ none. next.alone (none ∙ ap (symbol_at 44) (sym after)))
+
+module _ (kind : List Token) (others : List Literal) (s : HasValues 41 kind others) where
+  pub untyped : (e : Refusal) → behind_entry value_in kind ≡ Err e → others ≡ []
+  untyped e fails = go (symbol_at 41 kind) refl
+    where
+      go : (o : Option (List Token)) → symbol_at 41 kind ≡ o → others ≡ []
+      go (Some end) e' = stand_closed value_in 41 kind others s end (sym e')
+      go None e' = absurd (is_read value_in 41 no_44 kind others s (sym e') e fails)
+
+  pub typed : (rest : List Token) → behind_entry value_in kind ≡ Ok rest → (type : Literal) × (later : List Literal) × (others ≡ type ∷ later) × Stands kind type × HasValues 41 rest later
+  typed rest reads = go (value_in kind) refl
+    where
+      go : (r : Read Literal) → value_in kind ≡ r → (type : Literal) × (later : List Literal) × (others ≡ type ∷ later) × Stands kind type × HasValues 41 rest later
+      go (Err e) e' = let w = rw e' at reads in cc
+      go (Ok x) e' =
+          let stands : Stands kind x.0 = record { rest = x.1; is = e' } in
+          let next = next_stands value_in 41 no_44 kind others s (no_end kind x.0 stands) rest reads in
+          (next.0, next.1, next.4, record { rest = next.2; is = next.3 }, next.5)
+
+-- a third value
+pub many : (rest : List Token) (later : List Literal) → HasValues 41 rest later → None ≡ symbol_at 41 rest → (x : Literal) × (more : List Literal) × (later ≡ x ∷ more)
+many rest later s open' = let next = stand_open value_in 41 rest later no_44 s open' in (next.first, next.others, next.is)
+
+-- the parts of an entry
+module _ (toks : List Token) (v : Literal) (s : Stands toks v) (inside : List Token) (opens : Some inside ≡ symbol_at 40 toks) where
+  parts_of : (vs : List Literal) → v ≡ Row Round (all_values vs) → entry_parts v ≡ name_and_type vs
+  parts_of vs is = ap entry_parts is ∙ ap name_and_type (literals_of_listed vs)
+
+  pub parts_nameless : None ≡ string_at inside → entry_parts v ≡ None
+  parts_nameless none = let row = tuple_stands toks v s inside opens in parts_of row.0 row.1 ∙ nameless inside row.0 row.2 none
+
+  module _ (found : List ℕ × List Token) (name : Some found ≡ string_at inside) where
+    parts_from : (others : List Literal) × HasValues 41 (behind_comma found.1) others × (None ≡ symbol_at 44 found.1 → others ≡ []) × (entry_parts v ≡ name_and_type (Plain (Text found.0) ∷ others))
+    parts_from =
+        let row = tuple_stands toks v s inside opens in
+        let next = named inside row.0 row.2 found name in
+        (next.0, next.2, next.3, parts_of row.0 row.1 ∙ ap name_and_type next.1)
+
+    pub parts_alone : None ≡ symbol_at 44 found.1 → entry_parts v ≡ None
+    parts_alone none = let p = parts_from in p.3 ∙ ap (λ (l : List Literal). name_and_type (Plain (Text found.0) ∷ l)) (p.2 none)
+
+    module _ (kind : List Token) (comma : Some kind ≡ symbol_at 44 found.1) where
+      parts_behind : (others : List Literal) × HasValues 41 kind others × (entry_parts v ≡ name_and_type (Plain (Text found.0) ∷ others))
+      parts_behind = let p = parts_from in (p.0, subst (λ (l : List Token). HasValues 41 l p.0) (comma_is found.1 kind comma) p.1, p.3)
+
+      pub parts_untyped : (e : Refusal) → behind_entry value_in kind ≡ Err e → entry_parts v ≡ None
+      parts_untyped e fails = let p = parts_behind in p.2 ∙ ap (λ (l : List Literal). name_and_type (Plain (Text found.0) ∷ l)) (untyped kind p.0 p.1 e fails)
+
+      module _ (rest : List Token) (reads : behind_entry value_in kind ≡ Ok rest) where
+        pub parts_many : None ≡ symbol_at 41 rest → entry_parts v ≡ None
+        parts_many none =
+            let p = parts_behind in
+            let t = typed kind p.0 p.1 rest reads in
+            let third = many rest t.1 t.4 none in
+            p.2 ∙ ap (λ (l : List Literal). name_and_type (Plain (Text found.0) ∷ l)) (t.2 ∙ ap (λ (l : List Literal). t.0 ∷ l) third.2)
+
+        pub parts_two : (end : List Token) → Some end ≡ symbol_at 41 rest → (type : Literal) × (entry_parts v ≡ Some (found.0, type)) × Stands kind type
+        parts_two end ends =
+            let p = parts_behind in
+            let t = typed kind p.0 p.1 rest reads in
+            (t.0, p.2 ∙ ap (λ (l : List Literal). name_and_type (Plain (Text found.0) ∷ l)) (t.2 ∙ ap (λ (l : List Literal). t.0 ∷ l) (stand_closed value_in 41 rest t.1 t.4 end ends)), t.3)
+
+-- ---- the integers of a tuple
+
+pub integer_front_is : (toks : List Token) (found : ℕ × List Token) → Some found ≡ integer_at toks → toks ≡ token.Integer found.0 ∷ found.1
+integer_front_is [] found is = cc
+integer_front_is (token.Text bytes ∷ toks) found is = cc
+integer_front_is (token.Integer n ∷ toks) found is = let same : found ≡ (n, toks) = cc in ap (λ (f : ℕ × List Token). token.Integer f.0 ∷ f.1) (sym same)
+integer_front_is (token.Truth truth ∷ toks) found is = cc
+integer_front_is (token.Nothing ∷ toks) found is = cc
+integer_front_is (token.Symbol b ∷ toks) found is = cc
+integer_front_is (token.Stray ∷ toks) found is = cc
+
+module _ (toks : List Token) (lengths : List ℕ) (h : HasLengths toks lengths) where
+  pub lengths_end : None ≡ integer_at toks → lengths ≡ []
+  lengths_end none = go (symbol_at 41 toks) refl
+    where
+      go : (o : Option (List Token)) → symbol_at 41 toks ≡ o → lengths ≡ []
+      go (Some end) e =
+          let none_left = stand_closed value_in 41 toks h.values h.stand end (sym e) in
+          let w : Ok [] ≡ Ok lengths = rw none_left at h.are in cc
+      go None e =
+          let next = stand_open value_in 41 toks h.values no_44 h.stand (sym e) in
+          let refused = no_integer toks next.first (record { rest = next.after; is = next.reads }) none next.others in
+          let w = ap integers_of (sym next.is) ∙ h.are in
+          let w' = sym refused ∙ w in cc
+
+  pub lengths_next : (found : ℕ × List Token) → Some found ≡ integer_at toks → (later : List ℕ) × (lengths ≡ found.0 ∷ later) × HasLengths (behind_comma found.1) later
+  lengths_next found is = go (integer_front_is toks found is)
+    where
+      go : toks ≡ token.Integer found.0 ∷ found.1 → (later : List ℕ) × (lengths ≡ found.0 ∷ later) × HasLengths (behind_comma found.1) later
+      go front =
+          let open' : None ≡ symbol_at 41 toks = rw front refl in
+          let next = stand_open value_in 41 toks h.values no_44 h.stand open' in
+          let stands = integer_stands toks next.first (record { rest = next.after; is = next.reads }) found is in
+          let are : (integers_of next.others >>= λ ns. Ok (found.0 ∷ ns)) ≡ Ok lengths = ap (λ (x : Literal). integers_of (x ∷ next.others)) (sym stands.0) ∙ ap integers_of (sym next.is) ∙ h.are in
+          let later = bind_ok (integers_of next.others) _ _ are in
+          let same : lengths ≡ found.0 ∷ later.0 = cc in
+          (later.0, same, record { values = next.others; stand = subst (λ (l : List Token). HasValues 41 (behind_comma l) next.others) stands.1 next.more; are = later.1 })

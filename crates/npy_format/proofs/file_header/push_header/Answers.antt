@@ -1,0 +1,8 @@
+use Rattle.std.proofs.Common.{refl}
+use Rattle.npy_format.proofs.FileLaws.{header_pushed}
+use Rattle.npy_format.proofs.file_header.push_header.Goals as goal
+
+pub returns : goal.returns
+returns c =
+    header_pushed c.args.out.now.items _ _ _ _ _ _ _ c.args.text.now c.args.version c.args.width c.spaces_after-spaces.result _ c.spaces_after-spaces.ensures.value refl
+    c.in_ok-extend_from_slice.ensures.items c.in_ok-push.ensures.items c.in_ok-push-2.ensures.items c.in_ok-push_length.ensures c.in_ok-extend_from_slice-2.ensures.items c.in_ok-push_spaces.ensures c.in_ok-push-3.ensures.items

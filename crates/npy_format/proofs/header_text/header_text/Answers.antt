@@ -1,0 +1,10 @@
+use Rattle.std.specs.Prelude.{codes}
+use Rattle.shape_strides.specs.Shapes.{shape_text}
+use Rattle.npy_format.specs.WrittenHeaders.{written_descr, written_truth}
+use Rattle.npy_format.proofs.WrittenEntries.{seven_written}
+use Rattle.npy_format.proofs.header_text.header_text.Goals as goal
+
+pub returns : goal.returns
+returns c =
+    seven_written (codes "{'descr': ") (written_descr c.args.descr.now) (codes ", 'fortran_order': ") (written_truth c.args.fortran) (codes ", 'shape': ") (shape_text c.args.shape.now) (codes ", }") _ _ _ _ _ _ _ _
+    c.new-text.ensures.items c.in_ok-extend_from_slice.ensures.items c.in_ok-push_descr.ensures c.in_ok-extend_from_slice-2.ensures.items c.in_ok-push_truth.ensures c.in_ok-extend_from_slice-3.ensures.items c.in_ok-push_shape.ensures c.in_ok-extend_from_slice-4.ensures.items

@@ -1,0 +1,8 @@
+use Rattle.std.proofs.Common.{◌≡◌, ◌++◌}
+use Rattle.shape_strides.specs.Runs.{run_offsets}
+use Rattle.npy_format.proofs.GatherLaws.{gathered}
+use Rattle.npy_format.proofs.items.push_each.Given as goal
+
+-- the items so far are appended
+abbrev pub invariant-loop-k : goal.invariant-loop-k
+invariant-loop-k l = l.file.items ≡ l.fn.file.items ++ gathered l.width l.bytes (run_offsets (record { offset = l.run.offset; count = l.k; step = l.run.step }))

@@ -1,0 +1,70 @@
+-- Headers of files: one dictionary, and what it says of an array.
+use Rattle.std.specs.Prelude.{ℕ, Bool, false, List, [], ◌∷◌, codes, length, nat_eq, if◌then◌else◌, Result, Ok, Err}
+use Rattle.std.specs.Option.{ok_or}
+use Rattle.std.specs.Str.{bytes_eq}
+use Rattle.elem_descr.specs.declared.refusal.Refusal.{Refusal}
+use Rattle.elem_descr.specs.declared.refusal.Refusal.TheVariants.{BadHeader}
+use Rattle.elem_descr.specs.Refusals.{◌>>=◌, check}
+use Rattle.shape_strides.specs.Shapes.{shape_of}
+use Rattle.npy_format.specs.Tokens.{Token, tokens}
+use Rattle.npy_format.specs.Values.{Round, Text, Integer, Truth}
+use Rattle.npy_format.specs.Listed.{Literal, Plain, Row, Pair, literals_of}
+use Rattle.npy_format.specs.declared.header.Header.{Header}
+use Rattle.npy_format.specs.Literals.{symbol_at, pairs_in, literal_in}
+use Rattle.npy_format.specs.RecordLists.{descr_in}
+
+-- how deep brackets lie in a value of the dictionary
+abbrev pub max_value_depth : ℕ
+max_value_depth = 15
+
+-- the pairs of the one dictionary that the tokens are, with nothing behind it
+abbrev pub dictionary_of : List Token → Result (List Pair) Refusal
+dictionary_of tokens = do
+  inside ← ok_or (symbol_at 123 tokens) BadHeader
+  pairs ← pairs_in (literal_in max_value_depth) inside
+  _ ← check (nat_eq (length pairs.1) 0) BadHeader
+  Ok pairs.0
+
+-- the key of the pair is this string
+abbrev pub is_string : List ℕ → Literal → Bool
+is_string bytes (Plain (Text text)) = bytes_eq bytes text
+is_string bytes other = false
+
+abbrev pub is_key : List ℕ → Pair → Bool
+is_key key pair = is_string key pair.key
+
+abbrev pub value_under : List ℕ → List Pair → Result Literal Refusal
+value_under key [] = Err BadHeader
+value_under key (pair ∷ pairs) = if is_key key pair then Ok pair.value else value_under key pairs
+
+abbrev pub truth_of : Literal → Result Bool Refusal
+truth_of (Plain (Truth truth)) = Ok truth
+truth_of other = Err BadHeader
+
+-- the integers that values are
+abbrev pub integers_of : List Literal → Result (List ℕ) Refusal
+integers_of [] = Ok []
+integers_of (Plain (Integer n) ∷ values) = integers_of values >>= λ integers. Ok (n ∷ integers)
+integers_of (value ∷ values) = Err BadHeader
+
+-- a tuple of integers
+abbrev pub lengths_of : Literal → Result (List ℕ) Refusal
+lengths_of (Row Round values) = integers_of (literals_of values)
+lengths_of other = Err BadHeader
+
+-- The three keys, each once: they are the keys of three pairs. What they say is looked at only once all of it has the right form.
+unfoldable pub header_of : List Pair → Result Header Refusal
+header_of pairs = do
+  _ ← check (nat_eq (length pairs) 3) BadHeader
+  element ← value_under (codes "descr") pairs
+  order ← value_under (codes "fortran_order") pairs
+  fortran ← truth_of order
+  tuple ← value_under (codes "shape") pairs
+  lengths ← lengths_of tuple
+  descr ← descr_in element
+  shape ← shape_of lengths
+  Ok (record { descr = descr; fortran = fortran; shape = shape })
+
+-- what the text of a header says, or the first refusal
+abbrev pub header : List ℕ → Result Header Refusal
+header text = dictionary_of (tokens text) >>= header_of

@@ -1,0 +1,11 @@
+pub mod Tokens
+pub mod Values
+pub mod Listed
+pub mod Literals
+pub mod RecordLists
+pub mod Headers
+pub mod Files
+pub mod WrittenHeaders
+pub mod WrittenFiles
+pub mod SavedFiles
+pub mod inside

@@ -1,0 +1,87 @@
+-- Literals of Python, in productions over tokens. A reading word takes the tokens that are left, and
+-- answers what it reads with the tokens behind it; where there is no such thing, the header is bad.
+use Rattle.std.specs.Prelude.{ℕ, zero, suc, List, [], ◌∷◌, length, nat_eq, if◌then◌else◌, Option, Some, None, Result, Ok, Err}
+use Rattle.std.specs.Option.{ok_or}
+use Rattle.elem_descr.specs.declared.refusal.Refusal.{Refusal}
+use Rattle.elem_descr.specs.declared.refusal.Refusal.TheVariants.{BadHeader}
+use Rattle.elem_descr.specs.Refusals.{◌>>=◌}
+use Rattle.npy_format.specs.Tokens.{Token}
+use Rattle.npy_format.specs.Tokens as token
+use Rattle.npy_format.specs.Values.{Round, Square, Text, Integer, Truth, Nothing, Dictionary, no_values}
+use Rattle.npy_format.specs.Listed.{Literal, Plain, Row, Pair, all_values}
+
+-- what is read behind tokens, and those that are left
+abbrev pub Read : Type 0 → Type 0
+Read A = Result (A × List Token) Refusal
+
+-- this symbol
+abbrev pub symbol_at : ℕ → List Token → Option (List Token)
+symbol_at b (token.Symbol c ∷ rest) = if nat_eq c b then Some rest else None
+symbol_at b _ = None
+
+-- how the reading goes on from what is found, if it is; else the other reading
+abbrev pub if_found : {A B : Type 0} → Option B → (B → A) → A → A
+if_found None next other = other
+if_found (Some found) next other = next found
+
+-- a list that ends here
+abbrev pub ended : {A : Type 0} → List Token → Read (List A)
+ended rest = Ok ([], rest)
+
+-- entries that commas part, up to the symbol that closes them: none or more, a last comma allowed; each takes a token at least, so there are no more turns than tokens
+unfoldable pub entries_in : {A : Type 0} → (List Token → Read A) → ℕ → ℕ → List Token → Read (List A)
+entries_in entry closing zero tokens = Err BadHeader
+entries_in entry closing (suc turns) tokens = if_found (symbol_at closing tokens) ended (do
+  first ← entry tokens
+  others ← if_found (symbol_at closing first.1) ended (if_found (symbol_at 44 first.1) (entries_in entry closing turns) (Err BadHeader))
+  Ok (first.0 ∷ others.0, others.1))
+
+-- behind `(`: nothing, or a value, a comma and further values
+unfoldable pub tuple_in : (List Token → Read Literal) → List Token → Read Literal
+tuple_in value tokens = if_found (symbol_at 41 tokens) (λ rest. Ok (Row Round no_values, rest)) (do
+  first ← value tokens
+  behind ← ok_or (symbol_at 44 first.1) BadHeader
+  others ← entries_in value 41 (length behind) behind
+  Ok (Row Round (all_values (first.0 ∷ others.0)), others.1))
+
+-- behind `[`: values
+unfoldable pub list_in : (List Token → Read Literal) → List Token → Read Literal
+list_in value tokens = do
+  values ← entries_in value 93 (length tokens) tokens
+  Ok (Row Square (all_values values.0), values.1)
+
+-- a key, a colon and a value
+unfoldable pub pair_in : (List Token → Read Literal) → List Token → Read Pair
+pair_in value tokens = do
+  key ← value tokens
+  behind ← ok_or (symbol_at 58 key.1) BadHeader
+  under ← value behind
+  Ok (record { key = key.0; value = under.0 }, under.1)
+
+-- behind `{`: pairs
+abbrev pub pairs_in : (List Token → Read Literal) → List Token → Read (List Pair)
+pairs_in value tokens = entries_in (pair_in value) 125 (length tokens) tokens
+
+unfoldable pub dictionary_in : (List Token → Read Literal) → List Token → Read Literal
+dictionary_in value tokens = do
+  pairs ← pairs_in value tokens
+  Ok (Plain Dictionary, pairs.1)
+
+-- behind a symbol: a tuple, a list or a dictionary
+abbrev pub bracketed : (List Token → Read Literal) → ℕ → List Token → Read Literal
+bracketed value b tokens =
+    if nat_eq b 40 then tuple_in value tokens
+    else if nat_eq b 91 then list_in value tokens
+    else if nat_eq b 123 then dictionary_in value tokens
+    else Err BadHeader
+
+-- a literal in which brackets lie to this depth
+unfoldable pub literal_in : ℕ → List Token → Read Literal
+literal_in depth [] = Err BadHeader
+literal_in depth (token.Text bytes ∷ rest) = Ok (Plain (Text bytes), rest)
+literal_in depth (token.Integer n ∷ rest) = Ok (Plain (Integer n), rest)
+literal_in depth (token.Truth is ∷ rest) = Ok (Plain (Truth is), rest)
+literal_in depth (token.Nothing ∷ rest) = Ok (Plain Nothing, rest)
+literal_in depth (token.Stray ∷ rest) = Err BadHeader
+literal_in zero (token.Symbol b ∷ rest) = Err BadHeader
+literal_in (suc depth) (token.Symbol b ∷ rest) = bracketed (literal_in depth) b rest

@@ -1,0 +1,82 @@
+-- Element types in a header: a type string, or a list of the fields of a record.
+use Rattle.std.specs.Prelude.{ℕ, zero, suc, ◌&&◌, not, List, [], ◌∷◌, nat_eq, nat_le, if◌then◌else◌, Option, Some, None, Result, Ok, Err}
+use Rattle.std.specs.Char.{is_ascii_digit}
+use Rattle.std.specs.List.{list_all}
+use Rattle.elem_descr.specs.declared.refusal.Refusal.{Refusal}
+use Rattle.elem_descr.specs.declared.refusal.Refusal.TheVariants.{BadDescriptor, DescriptorLeftOut}
+use Rattle.elem_descr.specs.declared.descr.Descr.{Descr}
+use Rattle.elem_descr.specs.declared.descr.Descr.TheVariants.{Scalar as ScalarDescr, Record as RecordDescr}
+use Rattle.elem_descr.specs.declared.format_text.draft.Body.{Body}
+use Rattle.elem_descr.specs.declared.format_text.mark.Mark.TheVariants.{Little}
+use Rattle.elem_descr.specs.Refusals.{◌>>=◌, check}
+use Rattle.elem_descr.specs.Names.{is_legal_name}
+use Rattle.elem_descr.specs.TypeStrings.{marked, value_of, typestr}
+use Rattle.elem_descr.specs.FormatLetters.{is_empty, max_size}
+use Rattle.elem_descr.specs.FormatRecords.{Partial, max_depth, empty, checked_name, added, widened, closed_record}
+use Rattle.npy_format.specs.Values.{Round, Square, Text}
+use Rattle.npy_format.specs.Listed.{Literal, Plain, Row, literals_of}
+use Rattle.npy_format.specs.Tokens.{capped}
+
+-- the bytes of padding, unless no item has as many
+abbrev pub pad_count : List ℕ → Option ℕ
+pad_count digits = let n = capped (value_of digits) in if nat_le n max_size then Some n else None
+
+-- V and digits
+abbrev pub pad_kind : List ℕ → Result (Option ℕ) Refusal
+pad_kind [] = Err DescriptorLeftOut
+pad_kind (b ∷ digits) =
+    if nat_eq b 86 && not (is_empty digits) && list_all is_ascii_digit digits then Ok (pad_count digits)
+    else Err DescriptorLeftOut
+
+-- under the name '': a mark or none, V and digits are so many bytes of padding
+abbrev pub pad_in : Partial → Literal → Result Partial Refusal
+pad_in p (Plain (Text text)) = pad_kind (marked text).1 >>= widened p
+pad_in p other = Err DescriptorLeftOut
+
+-- the scalar of a type string
+abbrev pub scalar_in : List ℕ → Result Descr Refusal
+scalar_in text = typestr text >>= λ scalar. Ok (ScalarDescr scalar)
+
+-- the type of a field: a type string, or a list
+abbrev pub type_in : (List Literal → Result Body Refusal) → Literal → Result Descr Refusal
+type_in record_in (Plain (Text text)) = scalar_in text
+type_in record_in (Row Square values) = record_in (literals_of values) >>= λ body. Ok (RecordDescr body.whole)
+type_in record_in other = Err DescriptorLeftOut
+
+-- what reads the fields of a record, after so many leaves of the whole type
+abbrev pub Reader : Type 0
+Reader = ℕ → List Literal → Result Body Refusal
+
+-- a record with a field more, right behind those before it
+unfoldable pub field_in : Reader → Partial → List ℕ → Literal → Result Partial Refusal
+field_in within p name type = do
+  _ ← check (is_legal_name name) DescriptorLeftOut
+  descr ← type_in (within p.leaves) type
+  _ ← checked_name p name
+  added p name 1 descr
+
+-- a name and a type
+abbrev pub named_in : Reader → Partial → List Literal → Result Partial Refusal
+named_in within p (Plain (Text name) ∷ type ∷ []) = if is_empty name then pad_in p type else field_in within p name type
+named_in within p _ = Err DescriptorLeftOut
+
+-- an entry: a tuple of a name and a type
+abbrev pub entry_in : Reader → Partial → Literal → Result Partial Refusal
+entry_in within p (Row Round values) = named_in within p (literals_of values)
+entry_in within p other = Err DescriptorLeftOut
+
+-- the entries one after the other
+abbrev pub fields_in : Reader → Partial → List Literal → Result Partial Refusal
+fields_in within p [] = Ok p
+fields_in within p (entry ∷ more) = entry_in within p entry >>= λ next. fields_in within next more
+
+-- a record in which records lie to this depth, itself counted; nothing in it is aligned
+unfoldable pub record_in : ℕ → Reader
+record_in zero leaves entries = Err DescriptorLeftOut
+record_in (suc levels) leaves entries = fields_in (record_in levels) (empty levels leaves) entries >>= closed_record Little
+
+-- the element type that a value means
+abbrev pub descr_in : Literal → Result Descr Refusal
+descr_in (Plain (Text text)) = scalar_in text
+descr_in (Row Square values) = record_in max_depth 0 (literals_of values) >>= λ body. Ok (RecordDescr body.whole)
+descr_in other = Err BadDescriptor

@@ -1,0 +1,35 @@
+-- The file that is written of an array.
+use Rattle.std.specs.Prelude.{ℕ, ◌*◌, Bool, ◌&&◌, not, List, [], ◌++◌, map, get_or, reverse, nat_le, Result, Ok}
+use Rattle.std.specs.List.{flat_map}
+use Rattle.elem_descr.specs.declared.refusal.Refusal.{Refusal}
+use Rattle.elem_descr.specs.declared.refusal.Refusal.TheVariants.{TooLarge}
+use Rattle.elem_descr.specs.declared.descr.Descr.{Descr}
+use Rattle.elem_descr.specs.Refusals.{◌>>=◌, check}
+use Rattle.elem_descr.specs.Values.{LeafValue}
+use Rattle.elem_descr.specs.Items.{item_size, encode_item}
+use Rattle.shape_strides.specs.declared.memory_order.MemoryOrder.{MemoryOrder}
+use Rattle.shape_strides.specs.declared.memory_order.MemoryOrder.TheVariants.{C, Fortran}
+use Rattle.shape_strides.specs.Limits.{max_bytes}
+use Rattle.shape_strides.specs.Indexes.{count, indexes, rank}
+use Rattle.shape_strides.specs.Contiguity.{is_c_contiguous, is_f_contiguous}
+use Rattle.npy_format.specs.Files.{order_of}
+use Rattle.npy_format.specs.WrittenHeaders.{written_text, written_header}
+
+-- an array is written in Fortran order just where its items, at these addresses, lie one after another so and not in C order
+abbrev pub is_fortran : ℕ → List ℕ → List ℕ → Bool
+is_fortran item shape addresses = is_f_contiguous item shape addresses && not (is_c_contiguous item addresses)
+
+-- items in C order of their indexes, put in an order; in Fortran order the first number of an index runs fastest
+abbrev pub ordered : MemoryOrder → List ℕ → List (List LeafValue) → List (List LeafValue)
+ordered C shape items = items
+ordered Fortran shape items = map (λ index. get_or items (rank shape (reverse index)) []) (indexes (reverse shape))
+
+-- the header, and the bytes of the items one after another, in which padding is zero
+abbrev pub file_of : Descr → Bool → List ℕ → List (List LeafValue) → List ℕ
+file_of descr fortran shape items = written_header (written_text descr fortran shape) ++ flat_map (encode_item descr) (ordered (order_of fortran) shape items)
+
+-- the file of an array whose items have these addresses and values, unless they have more than 2^28 bytes
+unfoldable pub saved : Descr → List ℕ → List ℕ → List (List LeafValue) → Result (List ℕ) Refusal
+saved descr shape addresses items = do
+  _ ← check (nat_le (count shape * item_size descr) max_bytes) TooLarge
+  Ok (file_of descr (is_fortran (item_size descr) shape addresses) shape items)

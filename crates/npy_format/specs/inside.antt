@@ -1,0 +1,6 @@
+pub mod Entries
+pub mod Scanned
+pub mod Places
+pub mod WrittenItems
+pub mod Sound
+pub mod LoadedParts

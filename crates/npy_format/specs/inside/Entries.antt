@@ -1,0 +1,29 @@
+-- What is left behind what is read.
+use Rattle.std.specs.Prelude.{ℕ, List, length, Result, Ok}
+use Rattle.std.specs.Option.{ok_or}
+use Rattle.elem_descr.specs.declared.refusal.Refusal.{Refusal}
+use Rattle.elem_descr.specs.declared.refusal.Refusal.TheVariants.{BadHeader}
+use Rattle.elem_descr.specs.Refusals.{◌>>=◌}
+use Rattle.npy_format.specs.Listed.{Literal}
+use Rattle.npy_format.specs.Tokens.{Token}
+use Rattle.npy_format.specs.Literals.{Read, symbol_at, entries_in, if_found}
+
+-- the tokens behind what is read
+abbrev pub behind : {A : Type 0} → Read A → Result (List Token) Refusal
+behind read = read >>= λ r. Ok r.1
+
+-- those behind entries and the symbol that closes them
+abbrev pub behind_entries : {A : Type 0} → (List Token → Read A) → ℕ → List Token → Result (List Token) Refusal
+behind_entries entry closing tokens = behind (entries_in entry closing (length tokens) tokens)
+
+-- those behind a key and its colon
+abbrev pub behind_key : (List Token → Read Literal) → List Token → Result (List Token) Refusal
+behind_key value tokens = behind (value tokens) >>= λ rest. ok_or (symbol_at 58 rest) BadHeader
+
+-- those behind a comma, if there is one
+abbrev pub behind_comma : List Token → List Token
+behind_comma tokens = if_found (symbol_at 44 tokens) (λ rest. rest) tokens
+
+-- those behind one entry among others: a comma may follow it
+abbrev pub behind_entry : {A : Type 0} → (List Token → Read A) → List Token → Result (List Token) Refusal
+behind_entry entry tokens = behind (entry tokens) >>= λ rest. Ok (behind_comma rest)

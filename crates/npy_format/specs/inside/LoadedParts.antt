@@ -1,0 +1,15 @@
+-- What is loaded of a file behind the text of its header.
+use Rattle.std.specs.Prelude.{ℕ, List, length, nat_le, Result, Ok}
+use Rattle.elem_descr.specs.declared.refusal.Refusal.{Refusal}
+use Rattle.elem_descr.specs.declared.refusal.Refusal.TheVariants.{TooLarge}
+use Rattle.elem_descr.specs.Refusals.{◌>>=◌, check}
+use Rattle.shape_strides.specs.Limits.{max_bytes}
+use Rattle.npy_format.specs.Headers.{header}
+use Rattle.npy_format.specs.Files.{Loaded, split_front, data_size}
+
+unfoldable pub load_behind : List ℕ → List ℕ → Result Loaded Refusal
+load_behind text behind = do
+  head ← header text
+  _ ← check (nat_le (data_size head) max_bytes) TooLarge
+  body ← split_front (data_size head) behind
+  Ok (record { head = head; items = body.0; rest = length body.1 })

@@ -1,0 +1,44 @@
+-- Where in a header its values stand.
+use Rattle.std.specs.Prelude.{◌≡◌, ℕ, List, [], ◌∷◌, Option, Some, None, Ok}
+use Rattle.npy_format.specs.Values.{Text, Round}
+use Rattle.npy_format.specs.Listed.{Literal, Plain, Row, Pair, literals_of}
+use Rattle.npy_format.specs.Tokens.{Token}
+use Rattle.npy_format.specs.Literals.{Read, entries_in, pair_in, literal_in}
+use Rattle.npy_format.specs.Headers.{max_value_depth, integers_of}
+
+abbrev pub value_in : List Token → Read Literal
+value_in = literal_in max_value_depth
+
+-- the tokens begin with this value
+pub record Stands (tokens : List Token) (value : Literal) : Type 0 where
+  pub rest : List Token
+  pub is : value_in tokens ≡ Ok (value, rest)
+
+-- they begin with these entries and the symbol that closes them
+pub record StandIn (A : Type 0) (entry : List Token → Read A) (closing : ℕ) (tokens : List Token) (entries : List A) : Type 0 where
+  pub turns : ℕ
+  pub rest : List Token
+  pub is : entries_in entry closing turns tokens ≡ Ok (entries, rest)
+
+-- with values
+abbrev pub HasValues : ℕ → List Token → List Literal → Type 0
+HasValues closing tokens values = StandIn Literal value_in closing tokens values
+
+-- with the pairs of a dictionary
+abbrev pub HasPairs : List Token → List Pair → Type 0
+HasPairs tokens pairs = StandIn Pair (pair_in value_in) 125 tokens pairs
+
+-- with the integers of a tuple
+pub record HasLengths (tokens : List Token) (lengths : List ℕ) : Type 0 where
+  pub values : List Literal
+  pub stand : HasValues 41 tokens values
+  pub are : integers_of values ≡ Ok lengths
+
+-- the name and the type of an entry
+abbrev pub name_and_type : List Literal → Option (List ℕ × Literal)
+name_and_type (Plain (Text name) ∷ type ∷ []) = Some (name, type)
+name_and_type _ = None
+
+abbrev pub entry_parts : Literal → Option (List ℕ × Literal)
+entry_parts (Row Round values) = name_and_type (literals_of values)
+entry_parts other = None

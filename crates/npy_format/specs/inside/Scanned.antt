@@ -1,0 +1,44 @@
+-- Tokens as they are read straight off a text.
+use Rattle.std.specs.Prelude.{ℕ, List, ◌∷◌, Option, Some, None, Bool, false, Result, Ok, Err}
+use Rattle.std.specs.Str.{bytes_eq}
+use Rattle.elem_descr.specs.declared.refusal.Refusal.{Refusal}
+use Rattle.elem_descr.specs.declared.refusal.Refusal.TheVariants.{BadHeader, DescriptorLeftOut}
+use Rattle.elem_descr.specs.Refusals.{◌>>=◌}
+use Rattle.elem_descr.specs.TypeStrings.{marked}
+use Rattle.elem_descr.specs.FormatRecords.{Partial, widened}
+use Rattle.npy_format.specs.RecordLists.{pad_kind}
+use Rattle.npy_format.specs.declared.token.Token.{Token as Scanned}
+use Rattle.npy_format.specs.declared.token.Token.TheVariants as scanned
+use Rattle.npy_format.specs.Tokens.{Token, Text, Integer, Truth, Nothing, Symbol, Stray}
+
+abbrev pub token_of : Scanned → Token
+token_of (scanned.Text bytes) = Text bytes.now
+token_of (scanned.Integer n) = Integer n
+token_of (scanned.Truth is) = Truth is
+token_of scanned.Nothing = Nothing
+token_of (scanned.Symbol b) = Symbol b
+token_of scanned.Stray = Stray
+
+-- a string that comes next, and what follows it
+abbrev pub string_at : List Token → Option (List ℕ × List Token)
+string_at (Text bytes ∷ rest) = Some (bytes, rest)
+string_at _ = None
+
+-- an integer, and what follows it
+abbrev pub integer_at : List Token → Option (ℕ × List Token)
+integer_at (Integer n ∷ rest) = Some (n, rest)
+integer_at _ = None
+
+abbrev pub truth_at : List Token → Result Bool Refusal
+truth_at (Truth is ∷ rest) = Ok is
+truth_at _ = Err BadHeader
+
+-- what comes next is this string
+abbrev pub is_text : List ℕ → Option (List ℕ × List Token) → Bool
+is_text bytes (Some found) = bytes_eq bytes found.0
+is_text bytes None = false
+
+-- padding, whose type string comes next
+abbrev pub pad_at : Partial → Option (List ℕ × List Token) → Result Partial Refusal
+pad_at p (Some found) = pad_kind (marked found.0).1 >>= widened p
+pad_at p None = Err DescriptorLeftOut

@@ -1,0 +1,71 @@
+//! The bytes of a file before its items.
+ghost use Rattle.std.specs.Prelude.{◌≡◌, ◌≤◌, ◌<◌, ◌+◌, ◌^◌, ◌⊎◌, ◌∷◌, ◌++◌, [], length, replicate, IfOk, OnOk};
+ghost use Rattle.byteorder.specs.Endian.{little_bytes};
+ghost use Rattle.npy_format.specs.Files.{magic};
+ghost use Rattle.npy_format.specs.WrittenHeaders.{spaces_after, padded_text, with_length, written_header};
+
+use byteorder::{ByteOrder, LittleEndian};
+use std::alloc::{AllocError, Global};
+
+/// The longest text of version 1.0.
+const MAX_SHORT_TEXT: usize = 65_525;
+
+/// How many spaces go before the newline, so that so many bytes and both fill whole blocks of 64.
+fn spaces_after(bytes: usize) -> usize
+    requires { bytes + 1 < 2 ^ 64 }
+    ensures value { result ≡ spaces_after bytes }
+    ensures few { result ≤ 64 }
+{
+    (64 - (bytes + 1) % 64) % 64
+}
+
+#[tactic(auto, using(crate::proofs::FileLaws::spaces))]
+fn push_spaces(out: &mut Vec<u8>, n: usize) -> Result<(), AllocError>
+    requires { n ≤ 64 }
+    ensures { OnOk result (out.new.items ≡ out.old.items ++ replicate n 32) }
+{
+    out.extend_from_slice([b' '; 64].as_slice().split_at(n).0)
+}
+
+/// The two or four lowest bytes of a length, the lowest first.
+#[tactic(auto, using(crate::proofs::FileLaws::low_bytes))]
+fn push_length(out: &mut Vec<u8>, width: usize, len: usize) -> Result<(), AllocError>
+    requires { (width ≡ 2) ⊎ (width ≡ 4) }
+    ensures { OnOk result (out.new.items ≡ out.old.items ++ little_bytes width len) }
+{
+    let mut field = [0u8; 8];
+    LittleEndian::write_u64(&mut field, len as u64);
+    out.extend_from_slice(field.as_slice().split_at(width).0)
+}
+
+/// The bytes of a version: what every file begins with, the version, the length of the header in so
+/// many bytes, and the header, which is the text, spaces and a newline.
+fn push_header(out: &mut Vec<u8>, version: u8, width: usize, text: &[u8]) -> Result<(), AllocError>
+    requires width { (width ≡ 2) ⊎ (width ≡ 4) }
+    requires short { length text.now < 2 ^ 63 }
+    ensures { OnOk result (out.new.items ≡ out.old.items ++ (magic ++ (version ∷ (0 ∷ with_length width (padded_text (8 + width) text.now))))) }
+{
+    let spaces = spaces_after(8 + width + text.len());
+    out.extend_from_slice(b"\x93NUMPY")?;
+    out.push(version)?;
+    out.push(0)?;
+    push_length(out, width, text.len() + spaces + 1)?;
+    out.extend_from_slice(text)?;
+    push_spaces(out, spaces)?;
+    out.push(b'\n')?;
+    Ok(())
+}
+
+/// The bytes of a file before its items: version 1.0, or 2.0 where the text is too long for it.
+pub fn file_header(alloc: Global, text: &[u8]) -> Result<Vec<u8>, AllocError>
+    requires { length text.now < 2 ^ 63 }
+    ensures { IfOk result (λ out. out.items ≡ written_header text.now) }
+{
+    let mut out = Vec::new(alloc);
+    if text.len() > MAX_SHORT_TEXT {
+        push_header(&mut out, 2, 4, text)?;
+        return Ok(out);
+    }
+    push_header(&mut out, 1, 2, text)?;
+    Ok(out)
+}

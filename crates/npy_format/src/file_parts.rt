@@ -1,0 +1,36 @@
+//! Files in two parts.
+ghost use Rattle.std.specs.Prelude.{◌≡◌, ◌++◌, IfOk};
+
+use raw_block::RawBlock;
+use std::alloc::{AllocError, Global};
+
+/// A file in two parts, the one behind the other. Wherever it is cut, it is the same file; where it is cut
+/// behind the header of an NPY file, its block can become that of the array.
+#[derive(Drop)]
+pub struct FileParts {
+    pub front: Vec<u8>,
+    pub block: RawBlock,
+}
+
+impl FileParts {
+    /// The file with these bytes, all of them in front.
+    pub fn uncut(alloc: Global, bytes: Vec<u8>) -> Result<FileParts, AllocError>
+        ensures { IfOk result (λ parts. parts.front.items ++ parts.block ≡ bytes.items) }
+    {
+        let block = RawBlock::try_zeroed(alloc, 0)?;
+        Ok(FileParts {
+            front: bytes,
+            block,
+        })
+    }
+
+    /// The bytes of both parts, in memory of the first where that has room.
+    pub fn joined(self) -> Result<Vec<u8>, AllocError>
+        ensures { IfOk result (λ bytes. bytes.items ≡ self.front.items ++ self.block) }
+    {
+        let FileParts { front, block } = self;
+        let mut bytes = front;
+        bytes.extend_from_slice(block.bytes())?;
+        Ok(bytes)
+    }
+}

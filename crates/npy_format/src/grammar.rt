@@ -1,0 +1,192 @@
+//! Literals, straight off the text of a header.
+ghost use Rattle.std.specs.Prelude.{◌≡◌, length, option_copied};
+ghost use Rattle.std.specs.Option.{option_map};
+ghost use Rattle.elem_descr.specs.Refusals.{Answers};
+ghost use Rattle.npy_format.specs.Tokens.{tokens};
+ghost use Rattle.npy_format.specs.Literals.{symbol_at, tuple_in, pair_in, bracketed, literal_in};
+ghost use Rattle.npy_format.specs.inside.Entries.{behind, behind_entries, behind_key, behind_comma, behind_entry};
+ghost use Rattle.npy_format.specs.inside.Places.{value_in};
+ghost use Rattle.npy_format.specs.inside.Scanned.{string_at, integer_at};
+
+use crate::token::{Token, next_token};
+use elem_descr::Refusal;
+
+/// How deep brackets lie in a value of a header.
+const MAX_VALUE_DEPTH: usize = 15;
+
+/// What follows this symbol, which must come next.
+pub fn symbol(expected: u8, text: &[u8]) -> Option<&[u8]>
+    ensures { option_map tokens (option_copied result) ≡ symbol_at expected (tokens text.now) }
+{
+    let (first, rest) = next_token(text)?;
+    match first {
+        Token::Symbol(byte) if byte == expected => Some(rest),
+        _ => None,
+    }
+}
+
+/// The string that comes next, and what follows it.
+pub fn string(text: &[u8]) -> Option<(&[u8], &[u8])>
+    ensures { option_map (λ found. (found.0.now, tokens found.1.now)) result ≡ string_at (tokens text.now) }
+{
+    let (first, rest) = next_token(text)?;
+    match first {
+        Token::Text(bytes) => Some((bytes, rest)),
+        _ => None,
+    }
+}
+
+/// The integer that comes next, and what follows it.
+pub fn integer(text: &[u8]) -> Option<(usize, &[u8])>
+    ensures { option_map (λ found. (found.0, tokens found.1.now)) result ≡ integer_at (tokens text.now) }
+{
+    let (first, rest) = next_token(text)?;
+    match first {
+        Token::Integer(number) => Some((number, rest)),
+        _ => None,
+    }
+}
+
+/// What follows a comma, if one comes next.
+pub fn skip_comma(text: &[u8]) -> &[u8]
+    ensures { tokens result.now ≡ behind_comma (tokens text.now) }
+{
+    symbol(b',', text).unwrap_or(text)
+}
+
+/// What follows values that commas part and the symbol that closes them.
+#[cycle(nesting)]
+fn skip_values(depth: usize, closing: u8, text: &[u8]) -> Result<&[u8], Refusal>
+    ensures { Answers (λ rest. tokens rest.now) result (behind_entries (literal_in depth) closing (tokens text.now)) }
+{
+    let mut rest = text;
+    loop {
+        if let Some(end) = symbol(closing, rest) {
+            return Ok(end);
+        }
+        let after = skip_literal(depth, rest)?;
+        if let Some(end) = symbol(closing, after) {
+            return Ok(end);
+        }
+        let Some(next) = symbol(b',', after) else {
+            return Err(Refusal::BadHeader);
+        };
+        rest = next;
+    }
+}
+
+/// What follows the tuple behind its bracket.
+#[cycle(nesting)]
+fn skip_tuple(depth: usize, text: &[u8]) -> Result<&[u8], Refusal>
+    ensures { Answers (λ rest. tokens rest.now) result (behind (tuple_in (literal_in depth) (tokens text.now))) }
+{
+    if let Some(end) = symbol(b')', text) {
+        return Ok(end);
+    }
+    let after = skip_literal(depth, text)?;
+    let Some(next) = symbol(b',', after) else {
+        return Err(Refusal::BadHeader);
+    };
+    skip_values(depth, b')', next)
+}
+
+/// What follows a key and its colon.
+#[cycle(nesting)]
+fn skip_key(depth: usize, text: &[u8]) -> Result<&[u8], Refusal>
+    ensures { Answers (λ rest. tokens rest.now) result (behind_key (literal_in depth) (tokens text.now)) }
+{
+    let after = skip_literal(depth, text)?;
+    let Some(value) = symbol(b':', after) else {
+        return Err(Refusal::BadHeader);
+    };
+    Ok(value)
+}
+
+/// What follows a key and its value.
+#[cycle(nesting)]
+fn skip_pair(depth: usize, text: &[u8]) -> Result<&[u8], Refusal>
+    ensures { Answers (λ rest. tokens rest.now) result (behind (pair_in (literal_in depth) (tokens text.now))) }
+{
+    let value = skip_key(depth, text)?;
+    skip_literal(depth, value)
+}
+
+/// What follows the pairs of a dictionary behind its bracket.
+#[cycle(nesting)]
+fn skip_pairs(depth: usize, text: &[u8]) -> Result<&[u8], Refusal>
+    ensures { Answers (λ rest. tokens rest.now) result (behind_entries (pair_in (literal_in depth)) 125 (tokens text.now)) }
+{
+    let mut rest = text;
+    loop {
+        if let Some(end) = symbol(b'}', rest) {
+            return Ok(end);
+        }
+        let after = skip_pair(depth, rest)?;
+        if let Some(end) = symbol(b'}', after) {
+            return Ok(end);
+        }
+        let Some(next) = symbol(b',', after) else {
+            return Err(Refusal::BadHeader);
+        };
+        rest = next;
+    }
+}
+
+/// What follows the tuple, the list or the dictionary that this symbol opens.
+#[cycle(nesting)]
+fn skip_bracketed(depth: usize, opening: u8, text: &[u8]) -> Result<&[u8], Refusal>
+    ensures { Answers (λ rest. tokens rest.now) result (behind (bracketed (literal_in depth) opening (tokens text.now))) }
+{
+    match opening {
+        b'(' => skip_tuple(depth, text),
+        b'[' => skip_values(depth, b']', text),
+        b'{' => skip_pairs(depth, text),
+        _ => Err(Refusal::BadHeader),
+    }
+}
+
+/// What follows the literal that comes next, in which brackets lie to this depth.
+#[cycle(nesting)]
+fn skip_literal(depth: usize, text: &[u8]) -> Result<&[u8], Refusal>
+    ensures { Answers (λ rest. tokens rest.now) result (behind (literal_in depth (tokens text.now))) }
+{
+    let Some((first, rest)) = next_token(text) else {
+        return Err(Refusal::BadHeader);
+    };
+    match first {
+        Token::Symbol(opening) if depth > 0 => skip_bracketed(depth - 1, opening, rest),
+        Token::Symbol(_) => Err(Refusal::BadHeader),
+        Token::Stray => Err(Refusal::BadHeader),
+        Token::Text(_) | Token::Integer(_) | Token::Truth(_) | Token::Nothing => Ok(rest),
+    }
+}
+
+/// What follows a value among others, and the comma behind it.
+pub fn behind_value(text: &[u8]) -> Result<&[u8], Refusal>
+    ensures { Answers (λ rest. tokens rest.now) result (behind_entry value_in (tokens text.now)) }
+{
+    let after = skip_literal(MAX_VALUE_DEPTH, text)?;
+    Ok(skip_comma(after))
+}
+
+/// What follows a pair among others, and the comma behind it.
+pub fn behind_pair(text: &[u8]) -> Result<&[u8], Refusal>
+    ensures { Answers (λ rest. tokens rest.now) result (behind_entry (pair_in value_in) (tokens text.now)) }
+{
+    let after = skip_pair(MAX_VALUE_DEPTH, text)?;
+    Ok(skip_comma(after))
+}
+
+/// What follows the key of a pair.
+pub fn behind_key(text: &[u8]) -> Result<&[u8], Refusal>
+    ensures { Answers (λ rest. tokens rest.now) result (behind_key value_in (tokens text.now)) }
+{
+    skip_key(MAX_VALUE_DEPTH, text)
+}
+
+/// What follows all pairs of a header.
+pub fn behind_pairs(text: &[u8]) -> Result<&[u8], Refusal>
+    ensures { Answers (λ rest. tokens rest.now) result (behind_entries (pair_in value_in) 125 (tokens text.now)) }
+{
+    skip_pairs(MAX_VALUE_DEPTH, text)
+}

@@ -1,0 +1,162 @@
+//! The header of a file.
+ghost use Rattle.std.specs.Prelude.{◌≡◌, List, ℕ, length, MatchResult, Ok, Err};
+ghost use Rattle.elem_descr.specs.Refusals.{Answers, Gives};
+ghost use Rattle.shape_strides.specs.Shapes.{shape_of};
+ghost use Rattle.npy_format.specs.Tokens.{tokens};
+ghost use Rattle.npy_format.specs.Listed.{Literal, Pair};
+ghost use Rattle.npy_format.specs.Headers.{dictionary_of, value_under, lengths_of, header_of, header};
+ghost use Rattle.npy_format.specs.inside.Scanned.{string_at, is_text, truth_at};
+ghost use Rattle.npy_format.specs.inside.Places.{Stands, HasPairs, HasLengths};
+
+use crate::grammar::{behind_key, behind_pair, behind_pairs, integer, skip_comma, string, symbol};
+use crate::record_list::descr;
+use crate::token::{Token, next_token};
+use elem_descr::{Descr, Refusal};
+use shape_strides::{MAX_AXES, Shape};
+use std::alloc::Global;
+
+/// What a header says of the array in a file.
+#[derive(Drop)]
+pub struct Header {
+    pub descr: Descr,
+    /// Whether the items lie in Fortran order.
+    pub fortran: bool,
+    pub shape: Shape,
+}
+
+/// The pairs of the one dictionary that the text is, with nothing behind it.
+fn dictionary(text: &[u8]) -> Result<&[u8], Refusal>
+    ensures { MatchResult result
+        (λ pairs. (found : List Pair) × (dictionary_of (tokens text.now) ≡ Ok found) × HasPairs (tokens pairs.now) found)
+        (λ refusal. dictionary_of (tokens text.now) ≡ Err refusal) }
+{
+    let Some(pairs) = symbol(b'{', text) else {
+        return Err(Refusal::BadHeader);
+    };
+    let rest = behind_pairs(pairs)?;
+    if next_token(rest).is_some() {
+        return Err(Refusal::BadHeader);
+    }
+    Ok(pairs)
+}
+
+/// The number of the pairs.
+fn pair_count(pairs: &[u8]) -> Result<usize, Refusal>
+    ensures { (found : List Pair) → HasPairs (tokens pairs.now) found → result ≡ Ok (length found) }
+{
+    let mut count = 0;
+    let mut rest = pairs;
+    while symbol(b'}', rest).is_none() {
+        rest = behind_pair(rest)?;
+        count += 1;
+    }
+    Ok(count)
+}
+
+/// Whether this string comes next.
+fn is_string(bytes: &[u8], text: &[u8]) -> bool
+    ensures { result ≡ is_text bytes.now (string_at (tokens text.now)) }
+{
+    match string(text) {
+        Some((found, _)) => bytes == found,
+        None => false,
+    }
+}
+
+/// Where the value under a key stands.
+fn value_under<'a>(key: &[u8], pairs: &'a [u8]) -> Result<&'a [u8], Refusal>
+    ensures { (found : List Pair) → HasPairs (tokens pairs.now) found → MatchResult result
+        (λ place. (value : Literal) × (value_under key.now found ≡ Ok value) × Stands (tokens place.now) value)
+        (λ refusal. value_under key.now found ≡ Err refusal) }
+{
+    let mut rest = pairs;
+    while symbol(b'}', rest).is_none() {
+        if is_string(key, rest) {
+            return behind_key(rest);
+        }
+        rest = behind_pair(rest)?;
+    }
+    Err(Refusal::BadHeader)
+}
+
+fn truth(text: &[u8]) -> Result<bool, Refusal>
+    ensures { result ≡ truth_at (tokens text.now) }
+{
+    let Some((first, _)) = next_token(text) else {
+        return Err(Refusal::BadHeader);
+    };
+    match first {
+        Token::Truth(truth) => Ok(truth),
+        _ => Err(Refusal::BadHeader),
+    }
+}
+
+/// Where the lengths stand, if the value is a tuple of integers.
+fn lengths(text: &[u8]) -> Result<&[u8], Refusal>
+    ensures { (value : Literal) → Stands (tokens text.now) value → MatchResult result
+        (λ place. (found : List ℕ) × (lengths_of value ≡ Ok found) × HasLengths (tokens place.now) found)
+        (λ refusal. lengths_of value ≡ Err refusal) }
+{
+    let Some(inside) = symbol(b'(', text) else {
+        return Err(Refusal::BadHeader);
+    };
+    let mut rest = inside;
+    while let Some((_, after)) = integer(rest) {
+        rest = skip_comma(after);
+    }
+    if symbol(b')', rest).is_none() {
+        return Err(Refusal::BadHeader);
+    }
+    Ok(inside)
+}
+
+/// The shape with these lengths. No more of them are held than a shape may have.
+fn shape(alloc: Global, lengths: &[u8]) -> Result<Shape, Refusal>
+    ensures { (found : List ℕ) → HasLengths (tokens lengths.now) found → Gives (λ shape. shape) result (shape_of found) }
+{
+    let mut axes = Vec::new(alloc);
+    let mut rest = lengths;
+    while let Some((length, after)) = integer(rest) {
+        if axes.len() == MAX_AXES {
+            return Err(Refusal::TooManyAxes);
+        }
+        axes.push(length)?;
+        rest = skip_comma(after);
+    }
+    Shape::try_new(alloc, axes.as_slice())
+}
+
+/// What the pairs of a header say.
+#[tactic(auto, unfolding(crate::specs::Headers::header_of))]
+fn header_of(alloc: Global, pairs: &[u8]) -> Result<Header, Refusal>
+    ensures { (found : List Pair) → HasPairs (tokens pairs.now) found → Gives (λ header. header) result (header_of found) }
+{
+    if pair_count(pairs)? != 3 {
+        return Err(Refusal::BadHeader);
+    }
+    let element = value_under(b"descr", pairs)?;
+    let order = value_under(b"fortran_order", pairs)?;
+    let fortran = truth(order)?;
+    let tuple = value_under(b"shape", pairs)?;
+    let lengths = lengths(tuple)?;
+    let descr = descr(alloc, element)?;
+    let shape = shape(alloc, lengths)?;
+    Ok(Header {
+        descr,
+        fortran,
+        shape,
+    })
+}
+
+/// Reads the header of a file: one dictionary with the keys `descr`, `fortran_order` and `shape`. Memory
+/// is taken for what the header says alone.
+///
+/// A text that is no such dictionary is `BadHeader`, whatever else is wrong with it. Then the element
+/// type is looked at, from the left (`BadDescriptor`, `DescriptorLeftOut`, `TooLarge`), and then the
+/// shape (`TooManyAxes`, `TooLarge`).
+pub fn header_read(alloc: Global, text: &[u8]) -> Result<Header, Refusal>
+    ensures { Gives (λ header. header) result (header text.now) }
+{
+    let pairs = dictionary(text)?;
+    header_of(alloc, pairs)
+}

@@ -1,0 +1,132 @@
+//! The text of a header.
+ghost use Rattle.std.specs.Prelude.{◌≡◌, ◌++◌, ◌&&◌, nat_eq, IfOk, OnOk};
+ghost use Rattle.elem_descr.specs.TypeStrings.{spelling};
+ghost use Rattle.shape_strides.specs.Shapes.{shape_text};
+ghost use Rattle.npy_format.specs.WrittenHeaders.{quoted, opened_entry, gap, separator, separated, in_brackets, entries, written_descr, written_truth, written_text};
+
+use elem_descr::{Descr, Record, Scalar, typestr_write};
+use itoa::Buffer;
+use shape_strides::Shape;
+use std::alloc::{AllocError, Global};
+
+fn push_separator(text: &mut Vec<u8>, is_first: bool) -> Result<(), AllocError>
+    ensures { OnOk result (text.new.items ≡ text.old.items ++ separator is_first) }
+{
+    if is_first {
+        return Ok(());
+    }
+    text.extend_from_slice(b", ")
+}
+
+/// A string between apostrophes.
+fn push_quoted(text: &mut Vec<u8>, bytes: &[u8]) -> Result<(), AllocError>
+    ensures { OnOk result (text.new.items ≡ text.old.items ++ quoted bytes.now) }
+{
+    text.push(b'\'')?;
+    text.extend_from_slice(bytes)?;
+    text.push(b'\'')?;
+    Ok(())
+}
+
+/// An entry as far as its type.
+fn push_name(text: &mut Vec<u8>, is_first: bool, name: &[u8]) -> Result<(), AllocError>
+    ensures { OnOk result (text.new.items ≡ text.old.items ++ (separator is_first ++ opened_entry name.now)) }
+{
+    push_separator(text, is_first)?;
+    text.push(b'(')?;
+    push_quoted(text, name)?;
+    text.extend_from_slice(b", ")
+}
+
+/// The entry of a gap of so many bytes, where there is one. The answer is whether the next entry is
+/// the first one.
+fn push_gap(text: &mut Vec<u8>, is_first: bool, bytes: usize) -> Result<bool, AllocError>
+    ensures written { OnOk result (text.new.items ≡ text.old.items ++ separated is_first (gap bytes)) }
+    ensures next { IfOk result (λ next. next ≡ (is_first && nat_eq bytes 0)) }
+{
+    if bytes == 0 {
+        return Ok(is_first);
+    }
+    let mut buffer = Buffer::new();
+    push_name(text, is_first, b"")?;
+    text.extend_from_slice(b"'|V")?;
+    text.extend_from_slice(buffer.format(bytes).as_bytes())?;
+    text.extend_from_slice(b"')")?;
+    Ok(false)
+}
+
+fn push_scalar(alloc: Global, text: &mut Vec<u8>, scalar: &Scalar) -> Result<(), AllocError>
+    ensures { OnOk result (text.new.items ≡ text.old.items ++ quoted (spelling scalar.now)) }
+{
+    let spelled = typestr_write(alloc, *scalar)?;
+    push_quoted(text, spelled.as_slice())
+}
+
+/// The list of the fields, and of the gaps before each and after the last.
+#[cycle(written)]
+fn push_record(alloc: Global, text: &mut Vec<u8>, whole: &Record) -> Result<(), AllocError>
+    ensures { OnOk result (text.new.items ≡ text.old.items ++ in_brackets (entries 0 whole.now.fields whole.now.size)) }
+{
+    let size = whole.size();
+    let mut end = 0;
+    let mut is_first = true;
+    text.push(b'[')?;
+    for field in whole.fields() {
+        let next = push_gap(text, is_first, field.at - end)?;
+        push_name(text, next, field.name.as_slice())?;
+        push_descr(alloc, text, &field.descr)?;
+        text.push(b')')?;
+        is_first = false;
+        end = field.at + field.descr.size();
+    }
+    push_gap(text, is_first, size - end)?;
+    text.push(b']')?;
+    Ok(())
+}
+
+/// An element type.
+#[cycle(written)]
+fn push_descr(alloc: Global, text: &mut Vec<u8>, descr: &Descr) -> Result<(), AllocError>
+    ensures { OnOk result (text.new.items ≡ text.old.items ++ written_descr descr.now) }
+{
+    match descr {
+        Descr::Scalar(scalar) => push_scalar(alloc, text, scalar),
+        Descr::Record(whole) => push_record(alloc, text, whole),
+    }
+}
+
+fn push_truth(text: &mut Vec<u8>, truth: bool) -> Result<(), AllocError>
+    ensures { OnOk result (text.new.items ≡ text.old.items ++ written_truth truth) }
+{
+    if truth {
+        return text.extend_from_slice(b"True");
+    }
+    text.extend_from_slice(b"False")
+}
+
+fn push_shape(alloc: Global, text: &mut Vec<u8>, shape: &Shape) -> Result<(), AllocError>
+    ensures { OnOk result (text.new.items ≡ text.old.items ++ shape_text shape.now) }
+{
+    let spelled = format!(in alloc; "{shape}")?;
+    text.extend_from_slice(spelled.as_bytes())
+}
+
+/// The dictionary of a header.
+pub fn header_text(
+    alloc: Global,
+    descr: &Descr,
+    fortran: bool,
+    shape: &Shape,
+) -> Result<Vec<u8>, AllocError>
+    ensures { IfOk result (λ text. text.items ≡ written_text descr.now fortran shape.now) }
+{
+    let mut text = Vec::new(alloc);
+    text.extend_from_slice(b"{'descr': ")?;
+    push_descr(alloc, &mut text, descr)?;
+    text.extend_from_slice(b", 'fortran_order': ")?;
+    push_truth(&mut text, fortran)?;
+    text.extend_from_slice(b", 'shape': ")?;
+    push_shape(alloc, &mut text, shape)?;
+    text.extend_from_slice(b", }")?;
+    Ok(text)
+}

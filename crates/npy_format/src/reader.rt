@@ -1,0 +1,168 @@
+//! Files that are read.
+ghost use Rattle.std.specs.Prelude.{◌≡◌, ◌≤◌, ◌^◌, ◌++◌, length, IfOk};
+ghost use Rattle.elem_descr.specs.Refusals.{Answers, Gives};
+ghost use Rattle.shape_strides.specs.Limits.{max_bytes};
+ghost use Rattle.npy_format.specs.Files.{split_front, begins_well, length_bytes, text_behind, split_header, data_size, order_of, load, HasItems, Loads};
+ghost use Rattle.npy_format.specs.inside.LoadedParts.{load_behind};
+
+use crate::header::{Header, header_read};
+use byteorder::{ByteOrder, LittleEndian};
+use elem_descr::Refusal;
+use overlap_copy::Owned;
+use raw_block::RawBlock;
+use shape_strides::{MAX_BYTES, MemoryOrder};
+use std::alloc::{AllocError, Global};
+
+/// The bytes that every file begins with.
+pub(crate) const MAGIC: [u8; 6] = *b"\x93NUMPY";
+
+/// The longest header that is read.
+pub const MAX_HEADER: usize = 1 << 20;
+
+/// The first `n` bytes and those behind them.
+fn split_front(n: usize, bytes: &[u8]) -> Result<(&[u8], &[u8]), Refusal>
+    ensures answers { Answers (λ parts. (parts.0.now, parts.1.now)) result (split_front n bytes.now) }
+    ensures len { IfOk result (λ parts. length parts.0.now ≡ n) }
+    ensures whole { IfOk result (λ parts. parts.0.now ++ parts.1.now ≡ bytes.now) }
+    ensures rest { IfOk result (λ parts. length parts.1.now ≤ length bytes.now) }
+{
+    if n > bytes.len() {
+        return Err(Refusal::Truncated);
+    }
+    Ok(bytes.split_at(n))
+}
+
+/// Whether a file begins as it must. What is no such file has fewer bytes, or others.
+fn begins_well(file: &[u8]) -> bool
+    ensures { result ≡ begins_well file.now }
+{
+    match file {
+        [0x93, b'N', b'U', b'M', b'P', b'Y', ..] => true,
+        _ => false,
+    }
+}
+
+/// How many bytes tell the length of the header.
+fn length_bytes(version: &[u8]) -> Result<usize, Refusal>
+    ensures value { result ≡ length_bytes version.now }
+    ensures few { IfOk result (λ n. (1 ≤ n) × (n ≤ 4)) }
+{
+    match version {
+        [1, 0] => Ok(2),
+        [2, 0] => Ok(4),
+        _ => Err(Refusal::BadVersion),
+    }
+}
+
+/// The text of the header whose length stands in these bytes, and what follows it.
+fn text_behind<'a>(field: &[u8], behind: &'a [u8]) -> Result<(&'a [u8], &'a [u8]), Refusal>
+    requires some { 1 ≤ length field.now }
+    requires few { length field.now ≤ 4 }
+    ensures answers { Answers (λ parts. (parts.0.now, parts.1.now)) result (text_behind field.now behind.now) }
+    ensures rest { IfOk result (λ parts. length parts.1.now ≤ length behind.now) }
+{
+    let len = LittleEndian::read_uint(field, field.len());
+    if len > MAX_HEADER as u64 {
+        return Err(Refusal::TooLarge);
+    }
+    split_front(len as usize, behind)
+}
+
+/// The text of a file's header, and what follows it.
+#[tactic(auto, unfolding(crate::specs::Files::split_header))]
+pub(crate) fn split_header(file: &[u8]) -> Result<(&[u8], &[u8]), Refusal>
+    ensures answers { Answers (λ parts. (parts.0.now, parts.1.now)) result (split_header file.now) }
+    ensures rest { IfOk result (λ parts. length parts.1.now ≤ length file.now) }
+{
+    if !begins_well(file) {
+        return Err(Refusal::BadMagic);
+    }
+    let (version, rest) = split_front(2, file.split_at(6).1)?;
+    let width = length_bytes(version)?;
+    let (field, behind) = split_front(width, rest)?;
+    text_behind(field, behind)
+}
+
+/// How many bytes of a file stand before its items, where the file's header ends within these first ones,
+/// and else 0.
+pub fn front_len(first: &[u8]) -> usize
+    ensures { result ≤ length first.now }
+{
+    match split_header(first) {
+        Ok((_, behind)) => first.len() - behind.len(),
+        Err(_) => 0,
+    }
+}
+
+fn order_of(fortran: bool) -> MemoryOrder
+    ensures { result ≡ order_of fortran }
+{
+    if fortran {
+        MemoryOrder::Fortran
+    } else {
+        MemoryOrder::C
+    }
+}
+
+/// What a file holds whose header has this text: the header, the bytes of the items, and those left over.
+#[tactic(auto, unfolding(crate::specs::inside::LoadedParts::load_behind))]
+pub(crate) fn contents<'a>(
+    alloc: Global,
+    text: &[u8],
+    behind: &'a [u8],
+) -> Result<(Header, &'a [u8], &'a [u8]), Refusal>
+    ensures gives { Gives (λ c. record { head = c.0; items = c.1.now; rest = length c.2.now }) result (load_behind text.now behind.now) }
+    ensures whole { IfOk result (λ c. length c.1.now ≡ data_size c.0) }
+    ensures small { IfOk result (λ c. length c.1.now ≤ max_bytes) }
+    ensures all { IfOk result (λ c. c.1.now ++ c.2.now ≡ behind.now) }
+{
+    let header = header_read(alloc, text)?;
+    let size = header.shape.items() * header.descr.size();
+    if size > MAX_BYTES {
+        return Err(Refusal::TooLarge);
+    }
+    let (items, rest) = split_front(size, behind)?;
+    Ok((header, items, rest))
+}
+
+/// The array whose items are this block.
+pub(crate) fn array_over(
+    alloc: Global,
+    header: Header,
+    block: RawBlock,
+) -> Result<Owned, AllocError>
+    requires whole { length block ≡ data_size header }
+    requires small { length block ≤ max_bytes }
+    ensures { IfOk result (λ array. HasItems array header block) }
+{
+    let order = order_of(header.fortran);
+    Owned::over(alloc, header.descr, &header.shape, order, block)
+}
+
+/// The array whose items have these bytes.
+pub(crate) fn array(alloc: Global, header: Header, items: &[u8]) -> Result<Owned, AllocError>
+    requires whole { length items.now ≡ data_size header }
+    requires small { length items.now ≤ max_bytes }
+    ensures { IfOk result (λ array. HasItems array header items.now) }
+{
+    let block = RawBlock::try_copied(alloc, items)?;
+    array_over(alloc, header, block)
+}
+
+/// Reads a file of version 1.0 or 2.0: the array in it, whose items lie as they do in the file, and how
+/// many bytes are left over behind them. The bytes of the items are taken over as they are: padding
+/// keeps what it holds, and a bool whose byte is not 0 is true.
+///
+/// What is no such file is `BadMagic`, one of another version `BadVersion`, and one that ends too early
+/// `Truncated`; a header of more than 2^20 bytes, and more than 2^28 bytes of items, are `TooLarge`. The
+/// other refusals are those of `header_read`. The first fault from the left decides, and the limit on
+/// the items goes before their absence.
+#[tactic(auto, unfolding(crate::specs::Files::load))]
+pub fn npy_read(alloc: Global, file: &[u8]) -> Result<(Owned, usize), Refusal>
+    ensures { Loads result (load file.now) }
+{
+    let (text, behind) = split_header(file)?;
+    let (header, items, rest) = contents(alloc, text, behind)?;
+    let array = array(alloc, header, items)?;
+    Ok((array, rest.len()))
+}

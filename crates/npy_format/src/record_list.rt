@@ -1,0 +1,181 @@
+//! Element types in a header.
+ghost use Rattle.std.specs.Prelude.{◌≡◌, ◌≤◌, ℕ, List, IfOk, MatchOption, Some, None};
+ghost use Rattle.std.specs.Char.{is_ascii_digit};
+ghost use Rattle.std.specs.List.{list_all};
+ghost use Rattle.elem_descr.specs.Refusals.{Answers, Gives};
+ghost use Rattle.elem_descr.specs.TypeStrings.{marked};
+ghost use Rattle.elem_descr.specs.FormatRecords.{max_depth, max_leaves};
+ghost use Rattle.elem_descr.specs.inside.Partials.{IsShallow, IsBody};
+ghost use Rattle.npy_format.specs.RecordLists.{pad_count, pad_kind, scalar_in, type_in, field_in, entry_in, record_in, descr_in};
+ghost use Rattle.npy_format.specs.Listed.{Literal};
+ghost use Rattle.npy_format.specs.Tokens.{tokens};
+ghost use Rattle.npy_format.specs.inside.Scanned.{string_at, pad_at};
+ghost use Rattle.npy_format.specs.inside.Places.{Stands, HasValues, entry_parts};
+
+use crate::grammar::{behind_value, string, symbol};
+use crate::token::capped_value;
+use elem_descr::format_text::draft::{Body, Draft};
+use elem_descr::format_text::mark::Mark;
+use elem_descr::name::is_legal_name;
+use elem_descr::scalar::MAX_ITEM_SIZE;
+use elem_descr::{Descr, FieldName, MAX_DEPTH, Refusal, typestr_read};
+use std::alloc::Global;
+
+/// What follows the mark of a type string, if it has one.
+fn unmarked(text: &[u8]) -> &[u8]
+    ensures { result.now ≡ (marked text.now).1 }
+{
+    match text {
+        [b'<' | b'>' | b'|' | b'=', rest @ ..] => rest,
+        _ => text,
+    }
+}
+
+fn are_digits(text: &[u8]) -> bool
+    ensures { result ≡ list_all is_ascii_digit text.now }
+{
+    text.iter().all(|byte| byte.is_ascii_digit())
+}
+
+/// The bytes of padding that digits count, or `None` where no item has as many.
+fn pad_count(digits: &[u8]) -> Option<usize>
+    ensures { result ≡ pad_count digits.now }
+{
+    let count = capped_value(digits);
+    if count > MAX_ITEM_SIZE {
+        return None;
+    }
+    Some(count)
+}
+
+/// The same of a type string without its mark: `V` and digits.
+fn pad_kind(kind: &[u8]) -> Result<Option<usize>, Refusal>
+    ensures { result ≡ pad_kind kind.now }
+{
+    match kind {
+        [b'V', digits @ ..] if !digits.is_empty() && are_digits(digits) => Ok(pad_count(digits)),
+        _ => Err(Refusal::DescriptorLeftOut),
+    }
+}
+
+/// Adds padding.
+fn add_pad(draft: &mut Draft, kind: &[u8]) -> Result<(), Refusal>
+    ensures answers { Answers (λ _. draft.new) result (pad_at draft.old (string_at (tokens kind.now))) }
+    ensures levels { draft.new.levels ≡ draft.old.levels }
+{
+    let Some((kind, _)) = string(kind) else {
+        return Err(Refusal::DescriptorLeftOut);
+    };
+    let count = pad_kind(unmarked(kind))?;
+    draft.pad(count)
+}
+
+/// The scalar that a type string means.
+fn scalar(text: &[u8]) -> Result<Descr, Refusal>
+    ensures value { result ≡ scalar_in text.now }
+    ensures shallow { IfOk result (λ descr. (levels : ℕ) → IsShallow levels descr) }
+{
+    match typestr_read(text) {
+        Ok(scalar) => Ok(Descr::Scalar(scalar)),
+        Err(refusal) => Err(refusal),
+    }
+}
+
+/// The type of a field.
+#[cycle(record)]
+fn field_type(alloc: Global, levels: usize, leaves: usize, kind: &[u8]) -> Result<Descr, Refusal>
+    requires levels { levels ≤ max_depth }
+    requires leaves { leaves ≤ max_leaves }
+    ensures gives { (value : Literal) → Stands (tokens kind.now) value → Gives (λ descr. descr) result (type_in (record_in levels leaves) value) }
+    ensures shallow { IfOk result (λ descr. IsShallow levels descr) }
+{
+    if let Some((kind, _)) = string(kind) {
+        return scalar(kind);
+    }
+    let Some(entries) = symbol(b'[', kind) else {
+        return Err(Refusal::DescriptorLeftOut);
+    };
+    let body = record(alloc, levels, leaves, entries)?;
+    Ok(Descr::Record(body.whole))
+}
+
+/// Adds a field.
+#[cycle(record)]
+fn add_field(alloc: Global, draft: &mut Draft, name: &[u8], kind: &[u8]) -> Result<(), Refusal>
+    ensures gives { (value : Literal) → Stands (tokens kind.now) value → Gives (λ _. draft.new) result (field_in (record_in draft.old.levels) draft.old name.now value) }
+    ensures levels { draft.new.levels ≡ draft.old.levels }
+{
+    if !is_legal_name(name) {
+        return Err(Refusal::DescriptorLeftOut);
+    }
+    let descr = field_type(alloc, draft.levels(), draft.leaves(), kind)?;
+    draft.check_name(name)?;
+    let name = FieldName::from_slice(alloc, name)?;
+    draft.add(name, 1, descr)
+}
+
+/// The name in an entry, a tuple of two, and where its type stands.
+fn entry_parts(entry: &[u8]) -> Option<(&[u8], &[u8])>
+    ensures { (value : Literal) → Stands (tokens entry.now) value → MatchOption result
+        (entry_parts value ≡ None)
+        (λ parts. (kind : Literal) × (entry_parts value ≡ Some (parts.0.now, kind)) × Stands (tokens parts.1.now) kind) }
+{
+    let inside = symbol(b'(', entry)?;
+    let (name, behind) = string(inside)?;
+    let kind = symbol(b',', behind)?;
+    let Ok(rest) = behind_value(kind) else {
+        return None;
+    };
+    symbol(b')', rest)?;
+    Some((name, kind))
+}
+
+/// Adds what an entry of the list means: a field or padding.
+#[cycle(record)]
+fn add_entry(alloc: Global, draft: &mut Draft, entry: &[u8]) -> Result<(), Refusal>
+    ensures gives { (value : Literal) → Stands (tokens entry.now) value → Gives (λ _. draft.new) result (entry_in (record_in draft.old.levels) draft.old value) }
+    ensures levels { draft.new.levels ≡ draft.old.levels }
+{
+    let Some((name, kind)) = entry_parts(entry) else {
+        return Err(Refusal::DescriptorLeftOut);
+    };
+    if name.is_empty() {
+        return add_pad(draft, kind);
+    }
+    add_field(alloc, draft, name, kind)
+}
+
+/// The record whose fields are the entries of a list. `levels` says how many records may lie one within
+/// another, and `leaves` how many leaves the whole type has before this one.
+#[cycle(record)]
+fn record(alloc: Global, levels: usize, leaves: usize, entries: &[u8]) -> Result<Body, Refusal>
+    requires levels { levels ≤ max_depth }
+    requires leaves { leaves ≤ max_leaves }
+    ensures gives { (values : List Literal) → HasValues 93 (tokens entries.now) values → Gives (λ body. body) result (record_in levels leaves values) }
+    ensures good { IfOk result (λ body. IsBody levels body) }
+{
+    if levels == 0 {
+        return Err(Refusal::DescriptorLeftOut);
+    }
+    let mut draft = Draft::new(alloc, levels - 1, leaves);
+    let mut rest = entries;
+    while symbol(b']', rest).is_none() {
+        add_entry(alloc, &mut draft, rest)?;
+        rest = behind_value(rest)?;
+    }
+    draft.close(alloc, Mark::Little)
+}
+
+/// The element type that the value of a header means.
+pub fn descr(alloc: Global, text: &[u8]) -> Result<Descr, Refusal>
+    ensures { (value : Literal) → Stands (tokens text.now) value → Gives (λ descr. descr) result (descr_in value) }
+{
+    if let Some((kind, _)) = string(text) {
+        return scalar(kind);
+    }
+    let Some(entries) = symbol(b'[', text) else {
+        return Err(Refusal::BadDescriptor);
+    };
+    let body = record(alloc, MAX_DEPTH, 0, entries)?;
+    Ok(Descr::Record(body.whole))
+}

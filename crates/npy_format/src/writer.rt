@@ -1,0 +1,122 @@
+//! Files that are written.
+ghost use Rattle.std.specs.Prelude.{◌≡◌, Bool, ◌+◌, ◌*◌, ◌<◌, ◌≤◌, ◌++◌, length, map, take, drop, All, IfOk, Err};
+ghost use Rattle.std.specs.List.{flat_map};
+ghost use Rattle.elem_descr.specs.declared.refusal.Refusal.TheVariants.{TooLarge};
+ghost use Rattle.elem_descr.specs.Refusals.{Gives};
+ghost use Rattle.elem_descr.specs.Items.{item_size, decode_item, encode_item};
+ghost use Rattle.elem_descr.specs.Blocks.{item_from, blocks};
+ghost use Rattle.shape_strides.specs.Limits.{max_bytes};
+ghost use Rattle.shape_strides.specs.Indexes.{count};
+ghost use Rattle.shape_strides.specs.Layouts.{offsets};
+ghost use Rattle.npy_format.specs.WrittenHeaders.{written_text, written_header};
+ghost use Rattle.npy_format.specs.WrittenFiles.{is_fortran, file_of, saved};
+ghost use Rattle.npy_format.specs.SavedFiles.{LoadsAs};
+ghost use Rattle.npy_format.specs.inside.Sound.{IsSound};
+
+use crate::file_header::file_header;
+use crate::header_text::header_text;
+use crate::items::push_items;
+use crate::written_items::write_items;
+use elem_descr::{Descr, Refusal};
+use raw_block::RawBlock;
+use shape_strides::{Layout, MAX_BYTES, Shape};
+use std::alloc::{AllocError, Global};
+
+/// Whether items of `width` bytes lie one right after the other in Fortran order and not in C order.
+pub(crate) fn is_fortran(layout: &Layout, width: usize) -> bool
+    ensures { result ≡ is_fortran width layout.now.shape (offsets layout.now) }
+{
+    if layout.is_c(width) {
+        return false;
+    }
+    layout.is_f(width)
+}
+
+/// The bytes of a file before its items.
+pub(crate) fn header(
+    alloc: Global,
+    descr: &Descr,
+    fortran: bool,
+    shape: &Shape,
+) -> Result<Vec<u8>, AllocError>
+    ensures { IfOk result (λ file. file.items ≡ written_header (written_text descr.now fortran shape.now)) }
+{
+    let text = header_text(alloc, descr, fortran, shape)?;
+    file_header(alloc, text.as_slice())
+}
+
+/// Writes the `count` items behind the first `start` bytes as a file has them.
+fn write_behind(file: &mut Vec<u8>, start: usize, count: usize, descr: &Descr)
+    requires { length file.old.items ≡ start + count * item_size descr.now }
+    ensures { file.new.items ≡ take start file.old.items ++ flat_map (λ item. encode_item descr.now (decode_item descr.now item)) (blocks (item_size descr.now) count (drop start file.old.items)) }
+{
+    write_items(&mut file.as_mut_slice()[start..], count, descr);
+}
+
+/// The file of items that have `len` bytes.
+pub(crate) fn written(
+    alloc: Global,
+    bytes: &[u8],
+    layout: &Layout,
+    descr: &Descr,
+    len: usize,
+) -> Result<Vec<u8>, AllocError>
+    requires inside { All (λ offset. offset + item_size descr.now ≤ length bytes.now) (offsets layout.now) }
+    ensures { IfOk result (λ file. file.items ≡ file_of descr.now (is_fortran (item_size descr.now) layout.now.shape (offsets layout.now)) layout.now.shape (map (item_from descr.now bytes.now) (offsets layout.now))) }
+{
+    let width = descr.size();
+    let fortran = is_fortran(layout, width);
+    let mut file = header(alloc, descr, fortran, &layout.shape)?;
+    let start = file.len();
+    file.reserve_exact(len)?;
+    push_items(&mut file, bytes, layout, width)?;
+    write_behind(&mut file, start, layout.shape.items(), descr);
+    Ok(file)
+}
+
+/// What holds of an element type.
+fn look_at(descr: &Descr)
+    ensures { IsSound descr.now }
+{
+    let _bytes = match descr {
+        Descr::Scalar(scalar) => scalar.size(),
+        Descr::Record(whole) => whole.size(),
+    };
+}
+
+/// What is written of the items of a layout is loaded again.
+pub(crate) fn will_load(bytes: &[u8], layout: &Layout, descr: &Descr)
+    requires inside { All (λ offset. offset + item_size descr.now ≤ length bytes.now) (offsets layout.now) }
+    requires small { count layout.now.shape * item_size descr.now ≤ max_bytes }
+    ensures { (fortran : Bool) → let items = map (item_from descr.now bytes.now) (offsets layout.now) in LoadsAs (file_of descr.now fortran layout.now.shape items) descr.now layout.now.shape items }
+{
+    look_at(descr);
+    let _bytes = bytes.len();
+    let _lengths = layout.shape.as_slice();
+}
+
+/// The file of the items of a layout: of version 1.0, or of 2.0 where the header is too long for that.
+/// The items are in Fortran order where they lie so and not in C order, and else in C order; their
+/// padding is zero, and a bool 0 or 1, whatever the block holds there.
+///
+/// More than 2^28 bytes of items are `TooLarge`. Every other file loads as an array of the same element
+/// type, shape and items.
+pub fn npy_write(
+    alloc: Global,
+    block: &RawBlock,
+    layout: &Layout,
+    descr: &Descr,
+) -> Result<Vec<u8>, Refusal>
+    requires inside { All (λ offset. offset + item_size descr.now ≤ length block.now) (offsets layout.now) }
+    ensures gives { Gives (λ file. file.items) result (saved descr.now layout.now.shape (offsets layout.now) (map (item_from descr.now block.now) (offsets layout.now))) }
+    ensures large { max_bytes < count layout.now.shape * item_size descr.now → result ≡ Err TooLarge }
+    ensures loads { IfOk result (λ file. LoadsAs file.items descr.now layout.now.shape (map (item_from descr.now block.now) (offsets layout.now))) }
+{
+    let len = layout.shape.items() * descr.size();
+    if len > MAX_BYTES {
+        return Err(Refusal::TooLarge);
+    }
+    let bytes = block.bytes();
+    will_load(bytes, layout, descr);
+    Ok(written(alloc, bytes, layout, descr, len)?)
+}
