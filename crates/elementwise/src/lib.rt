@@ -26,6 +26,7 @@ mod runs_of_leaves;
 mod shrunk;
 mod text_comparing;
 mod texts;
+mod trimmed;
 mod typed;
 mod words;
 
