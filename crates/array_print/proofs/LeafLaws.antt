@@ -18,8 +18,8 @@ use Rattle.elem_descr.specs.ItemLaws.{length-leaves_from}
 use Rattle.elem_descr.specs.Values.{LeafValue}
 use Rattle.elem_descr.specs.Encoding.{size, decode, number_of}
 use Rattle.elem_descr.specs.Items.{item_size, leaves_of}
-use Rattle.array_print.specs.Printed.{leaf_text, leaf_texts, first_text, later_texts, leaf_width, leaf_widths, widths, widest, right_justified, all_justified, join_texts, in_parentheses, field_texts, structure_text, items_from}
-use Rattle.array_print.specs.inside.Shown.{IsWidth, AreWidths, integer_at, lead, texts_at, shown}
+use Rattle.array_print.specs.Printed.{leaf_text, leaf_texts, first_text, later_texts, leaf_width, leaf_widths, widths, widest, right_justified, all_justified, join_texts, in_parentheses, field_texts, structure_text}
+use Rattle.array_print.specs.inside.Shown.{IsWidth, AreWidths, lead, texts_at, shown}
 
 -- ---- values in a block
 
@@ -60,7 +60,7 @@ no-width (Byte signed) = tt
 no-width (Int signed wide order) = tt
 no-width (Bytes n) = refl
 
-are-leaf-widths : (leaves : List Leaf) (items : List (List (List ℕ))) → AreWidths leaves (leaf_widths leaves items)
+pub are-leaf-widths : (leaves : List Leaf) (items : List (List (List ℕ))) → AreWidths leaves (leaf_widths leaves items)
 are-leaf-widths [] items = tt
 are-leaf-widths (leaf ∷ leaves) items = (is-width leaf.scalar (map first_text items), are-leaf-widths leaves (map later_texts items))
 
@@ -127,25 +127,6 @@ leaf-width-at (leaf ∷ leaves) bytes offsets (suc k) scalar at below is =
     ap (λ items. get_or (leaf_widths leaves items) k 0) (rest-texts leaf leaves bytes offsets)
     ∙ leaf-width-at leaves bytes offsets k scalar at (omega arith) is
 
--- an array with axes
-pub array-width-at : (descr : Descr) (shape block offsets : List ℕ) (k : ℕ) (scalar : Scalar) (at : ℕ) → 0 < length shape → k < length (leaves_of descr) → IfSome (slice_get (leaves_of descr) k) (λ leaf. (scalar ≡ leaf.scalar) × (at ≡ leaf.at)) →
-    get_or (widths descr shape (items_from descr block offsets)) k 0 ≡ leaf_width scalar (map (λ offset. leaf_text scalar (decode scalar (take (size scalar) (drop at (take (item_size descr) (drop offset block)))))) offsets)
-array-width-at descr [] block offsets k scalar at axes below is = absurd (omega arith)
-array-width-at descr (n ∷ shape) block offsets k scalar at axes below is =
-    leaf-width-at (leaves_of descr) (λ offset. take (item_size descr) (drop offset block)) offsets k scalar at below is
-
-pub bool-width : (descr : Descr) (shape block offsets : List ℕ) (k : ℕ) (scalar : Scalar) (at : ℕ) → scalar ≡ BoolScalar → 0 < length shape → k < length (leaves_of descr) → IfSome (slice_get (leaves_of descr) k) (λ leaf. (scalar ≡ leaf.scalar) × (at ≡ leaf.at)) →
-    5 ≡ get_or (widths descr shape (items_from descr block offsets)) k 0
-bool-width descr shape block offsets k scalar at bool axes below is =
-    let texts = map (λ offset. leaf_text scalar (decode scalar (take (size scalar) (drop at (take (item_size descr) (drop offset block)))))) offsets in
-    sym (array-width-at descr shape block offsets k scalar at axes below is ∙ ap (λ s. leaf_width s texts) bool)
-
-pub bytes-width : (descr : Descr) (shape block offsets : List ℕ) (k : ℕ) (scalar : Scalar) (at n : ℕ) → scalar ≡ Bytes n → 0 < length shape → k < length (leaves_of descr) → IfSome (slice_get (leaves_of descr) k) (λ leaf. (scalar ≡ leaf.scalar) × (at ≡ leaf.at)) →
-    0 ≡ get_or (widths descr shape (items_from descr block offsets)) k 0
-bytes-width descr shape block offsets k scalar at n string axes below is =
-    let texts = map (λ offset. leaf_text scalar (decode scalar (take (size scalar) (drop at (take (item_size descr) (drop offset block)))))) offsets in
-    sym (array-width-at descr shape block offsets k scalar at axes below is ∙ ap (λ s. leaf_width s texts) string)
-
 -- an integer's text and width
 abbrev pub PrintsInteger : Scalar → Type 0
 PrintsInteger scalar = ((texts : List (List ℕ)) → leaf_width scalar texts ≡ widest texts) × ((value : LeafValue) → leaf_text scalar value ≡ signed_decimal (number_of value))
@@ -155,24 +136,6 @@ byte-prints scalar signed is = subst PrintsInteger (sym is) ((λ texts. refl), (
 
 pub int-prints : (scalar : Scalar) (signed : Bool) (wide : Width) (order : Order) → scalar ≡ Int signed wide order → PrintsInteger scalar
 int-prints scalar signed wide order is = subst PrintsInteger (sym is) ((λ texts. refl), (λ value. refl))
-
-integers-at : (scalar : Scalar) (block : List ℕ) (at n : ℕ) (offsets : List ℕ) → PrintsInteger scalar → at + size scalar ≤ n →
-    map (λ offset. leaf_text scalar (decode scalar (take (size scalar) (drop at (take n (drop offset block)))))) offsets ≡ map (λ offset. integer_at scalar block (offset + at)) offsets
-integers-at scalar block at n [] prints fits = refl
-integers-at scalar block at n (offset ∷ offsets) prints fits =
-    let here : leaf_text scalar (decode scalar (take (size scalar) (drop at (take n (drop offset block))))) ≡ integer_at scalar block (offset + at) =
-    prints.1 (decode scalar (take (size scalar) (drop at (take n (drop offset block)))))
-    ∙ ap (λ bytes. signed_decimal (number_of (decode scalar bytes))) (bytes-at block offset at (size scalar) n fits) in
-    λ i. here i ∷ integers-at scalar block at n offsets prints fits i
-
-pub integer-width : (descr : Descr) (shape block offsets walk : List ℕ) (k : ℕ) (scalar : Scalar) (at width : ℕ) → PrintsInteger scalar → at + size scalar ≤ item_size descr → 0 < length shape → k < length (leaves_of descr) →
-    IfSome (slice_get (leaves_of descr) k) (λ leaf. (scalar ≡ leaf.scalar) × (at ≡ leaf.at)) → walk ≡ offsets → width ≡ widest (map (λ offset. integer_at scalar block (offset + at)) walk) → width ≡ get_or (widths descr shape (items_from descr block offsets)) k 0
-integer-width descr shape block offsets walk k scalar at width prints fits axes below is walked wide =
-    wide
-    ∙ ap (λ l. widest (map (λ offset. integer_at scalar block (offset + at)) l)) walked
-    ∙ ap widest (sym (integers-at scalar block at (item_size descr) offsets prints fits))
-    ∙ sym (prints.0 (map (λ offset. leaf_text scalar (decode scalar (take (size scalar) (drop at (take (item_size descr) (drop offset block)))))) offsets))
-    ∙ sym (array-width-at descr shape block offsets k scalar at axes below is)
 
 -- ---- the texts of fields
 

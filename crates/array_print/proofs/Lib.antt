@@ -1,3 +1,4 @@
 pub mod LeafLaws
+pub mod WidthLaws
 pub mod PrintLaws
 pub mod Vectors

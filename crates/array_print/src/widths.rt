@@ -1,19 +1,44 @@
 //! The widths to which the texts of an array are padded.
-ghost use Rattle.std.specs.Prelude.{◌≡◌, ◌+◌, ◌^◌, ◌≤◌, ◌<◌, get_or, length, map, max, All, IfOk};
-ghost use Rattle.elem_descr.specs.Encoding.{IsNumber, size};
+ghost use Rattle.std.specs.Prelude.{◌≡◌, ◌+◌, ◌^◌, ◌≤◌, ◌<◌, ◌∷◌, ◌++◌, [], ℕ, List, get_or, length, max, take, drop, All, IfOk};
+ghost use Rattle.elem_descr.specs.Encoding.{IsNumber, size, decode};
 ghost use Rattle.elem_descr.specs.Items.{item_size, leaves_of};
 ghost use Rattle.shape_strides.specs.Layouts.{offsets, Fits};
-ghost use Rattle.array_print.specs.Printed.{widths, widest, items_from};
-ghost use Rattle.array_print.specs.inside.Shown.{integer_at};
+ghost use Rattle.array_print.specs.Printed.{widths, leaf_width, leaf_widths, leaf_text, items_from};
+ghost use Rattle.array_print.specs.inside.Shown.{integer_at, widths_at};
 
 use elem_descr::{Descr, Scalar, num_read};
 use itoa::Buffer;
-use shape_strides::{Layout, Walk};
+use shape_strides::{FixedWalk, Layout};
 use smallvec::SmallVec;
 use std::alloc::{AllocError, Global};
 
 /// The width of the texts of bools in an array with axes.
 const BOOL_WIDTH: usize = 5;
+
+/// The width of a leaf's texts before any is known.
+fn least_width(descr: &Descr, k: usize) -> usize
+    requires leaf { k < length (leaves_of descr.now) }
+    ensures { result ≡ get_or (leaf_widths (leaves_of descr.now) []) k 0 }
+{
+    let (scalar, _at) = descr.leaf_at(k);
+    match scalar {
+        Scalar::Bool => BOOL_WIDTH,
+        Scalar::Byte { .. } => 0,
+        Scalar::Int { .. } => 0,
+        Scalar::Bytes(_) => 0,
+    }
+}
+
+/// The same of all leaves.
+fn least_widths(alloc: Global, descr: &Descr) -> Result<SmallVec<usize, 8>, AllocError>
+    ensures { IfOk result (λ v. v.items ≡ leaf_widths (leaves_of descr.now) []) }
+{
+    let mut widths = SmallVec::new(alloc);
+    for k in 0..descr.leaf_count() {
+        widths.push(least_width(descr, k))?;
+    }
+    Ok(widths)
+}
 
 /// The greater of a width and the length of the text of an integer.
 fn wider_at(width: usize, scalar: &Scalar, block: &[u8], place: usize) -> usize
@@ -25,41 +50,29 @@ fn wider_at(width: usize, scalar: &Scalar, block: &[u8], place: usize) -> usize
     Buffer::new().format(value).len().max(width)
 }
 
-/// The length of the longest text of the integers that lie `at` bytes behind the offsets.
-fn widest_at(walk: Walk<'_>, scalar: &Scalar, at: usize, block: &[u8]) -> usize
-    requires number { IsNumber scalar.now }
-    requires inside { All (λ offset. offset + (at + size scalar.now) ≤ length block.now) walk }
-    ensures { result ≡ widest (map (λ offset. integer_at scalar.now block.now (offset + at)) walk.entry) }
+/// The width of a leaf's texts where one more of them is known.
+fn widened(width: usize, scalar: &Scalar, block: &[u8], place: usize) -> usize
+    requires inside { place + size scalar.now ≤ length block.now }
+    ensures { (texts : List (List ℕ)) → width ≡ leaf_width scalar.now texts
+        → result ≡ leaf_width scalar.now (texts ++ leaf_text scalar.now (decode scalar.now (take (size scalar.now) (drop place block.now))) ∷ []) }
 {
-    let mut width = 0;
-    for offset in walk {
-        width = wider_at(width, scalar, block, offset + at);
+    match scalar {
+        Scalar::Bool => width,
+        Scalar::Bytes(_) => width,
+        Scalar::Byte { .. } => wider_at(width, scalar, block, place),
+        Scalar::Int { .. } => wider_at(width, scalar, block, place),
     }
-    width
 }
 
-/// The width of the texts of the `k`-th value of each item.
-fn leaf_width(
-    alloc: Global,
-    k: usize,
-    block: &[u8],
-    layout: &Layout,
-    descr: &Descr,
-) -> Result<usize, AllocError>
-    requires leaf { k < length (leaves_of descr.now) }
-    requires inside { All (λ offset. offset + item_size descr.now ≤ length block.now) (offsets layout.now) }
-    ensures { IfOk result (λ width. width
-        ≡ get_or (widths descr.now layout.now.shape (items_from descr.now block.now (offsets layout.now))) k 0) }
+/// Makes the widths of some items those of one more.
+fn widen(widths: &mut [usize], descr: &Descr, block: &[u8], offset: usize)
+    requires leaves { length widths.old ≡ length (leaves_of descr.now) }
+    requires inside { offset + item_size descr.now ≤ length block.now }
+    ensures { (seen : List ℕ) → widths.old ≡ widths_at descr.now block.now seen → widths.new ≡ widths_at descr.now block.now (seen ++ offset ∷ []) }
 {
-    if layout.shape.rank() == 0 {
-        return Ok(0);
-    }
-    let (scalar, at) = descr.leaf_at(k);
-    match &scalar {
-        Scalar::Bool => Ok(BOOL_WIDTH),
-        Scalar::Bytes(_) => Ok(0),
-        Scalar::Byte { .. } => Ok(widest_at(Walk::new(alloc, layout)?, &scalar, at, block)),
-        Scalar::Int { .. } => Ok(widest_at(Walk::new(alloc, layout)?, &scalar, at, block)),
+    for k in 0..widths.len() {
+        let (scalar, at) = descr.leaf_at(k);
+        widths[k] = widened(widths[k], &scalar, block, offset + at);
     }
 }
 
@@ -74,9 +87,12 @@ pub fn widths_of(
     ensures { IfOk result (λ v. v.items
         ≡ widths descr.now layout.now.shape (items_from descr.now block.now (offsets layout.now))) }
 {
-    let mut widths = SmallVec::new(alloc);
-    for k in 0..descr.leaf_count() {
-        widths.push(leaf_width(alloc, k, block, layout, descr)?)?;
+    if layout.shape.rank() == 0 {
+        return SmallVec::from_elem(alloc, 0, descr.leaf_count());
+    }
+    let mut widths = least_widths(alloc, descr)?;
+    for offset in FixedWalk::new(layout) {
+        widen(widths.as_mut_slice(), descr, block, offset);
     }
     Ok(widths)
 }

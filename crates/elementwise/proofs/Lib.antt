@@ -19,6 +19,7 @@ pub mod ComparedLaws
 pub mod IntegerLaws
 pub mod BytesComparedLaws
 pub mod TextWordLaws
+pub mod TrimmedLaws
 pub mod BitLaws
 pub mod WordLaws
 mod Vectors

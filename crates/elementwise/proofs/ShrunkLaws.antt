@@ -1,6 +1,7 @@
 -- What is made of arrays whose items repeat: the result of the items that differ, stretched.
-use Rattle.std.proofs.Common.{◌≡◌, ◌+◌, ◌<◌, ◌≤◌, ℕ, zero, suc, true, Result, Ok, Err, List, [], ◌∷◌, map, length, get_or, All, IfOk, refl, sym, ap, ◌∙◌, arith}
+use Rattle.std.proofs.Common.{◌≡◌, ◌+◌, ◌<◌, ◌≤◌, ℕ, zero, suc, true, Result, Ok, Err, List, [], ◌∷◌, map, length, get_or, All, IfOk, refl, sym, ap, subst, ◌∙◌, arith}
 use Rattle.std.proofs.lemmas.List.{length-map, get_or-map, same_lists}
+use Rattle.std.proofs.lemmas.List.Elements.{All-map}
 use Rattle.std.proofs.lemmas.Simd.{map-map}
 use Rattle.elem_descr.specs.declared.refusal.Refusal.{Refusal}
 use Rattle.elem_descr.specs.declared.descr.Descr.{Descr}
@@ -138,6 +139,21 @@ pub bools_told : (made : Owned) (result : Result Owned Refusal) (shape : List �
     IfOk result (λ o. offsets o.layout ≡ offsets_in C (item_size o.descr) o.layout.shape) → IfOk result (λ o. offsets o.layout ≡ multiples 1 (count shape))
 bools_told made (Ok o) shape is told shape-is order = order ∙ λ i. multiples (item_size ((told ∙ is) i)) (count (shape-is i))
 bools_told made (Err e) shape is told shape-is order = tt
+
+-- ---- what holds of each item
+
+-- of those that are shown, too
+pub all_through : (P : ℕ → Type 0) (os once shape : List ℕ) → can_stretch once shape ≡ true → length os ≡ count once → All P os → All P (view_through os once shape (broadcast_index once))
+all_through P os once shape can many all =
+    All-map P (λ index. get_or os (rank once (broadcast_index once index)) 0) (indexes shape) (λ k d below.
+    let found = index_at shape k (omega (arith, length-indexes shape)) in
+    let here : get_or (indexes shape) k d ≡ found.0 = ap (λ r. get_or (indexes shape) r d) (sym found.2) ∙ get_or-indexes shape found.0 d found.1 in
+    let low : rank once (broadcast_index once found.0) < length os = omega (arith, many, within once shape can found.0 found.1) in
+    subst (λ (index : List ℕ). P (get_or os (rank once (broadcast_index once index)) 0)) (sym here) (all (rank once (broadcast_index once found.0)) 0 low))
+
+pub all_seen : (P : ℕ → Type 0) (l small : Layout) (once : List ℕ) → IsShrunk small l once l.shape → All P (offsets small) → All P (offsets l)
+all_seen P l small once is all =
+    subst (All P) (is.places ∙ stretched-self l) (all_through P (offsets small) small.shape l.shape ((λ i. can_stretch (is.shape_is i) l.shape) ∙ is.can) (length-offsets small) all)
 
 -- ---- what `without_repeats` has to give
 

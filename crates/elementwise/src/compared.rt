@@ -22,9 +22,10 @@ use crate::operands::{Items, read_as};
 use crate::pairing::{Comparing, ComparingSigns, ComparingTexts};
 use crate::promotion::{compared_type, eight_bytes, is_signed, little, scalar_of};
 use crate::shrunk::{spread, without_repeats};
+use crate::trimmed::trimmed_in;
 use crate::typed::{make_cast, make_stretched};
 use broadcasting::{common, repeats};
-use elem_descr::{BytesLen, Refusal, Scalar};
+use elem_descr::{BytesLen, Descr, Refusal, Scalar};
 use overlap_copy::Owned;
 use raw_block::RawBlock;
 use script_lang::Comparison;
@@ -199,6 +200,47 @@ fn compare_texts(
     make_stretched::<ComparingTexts>(alloc, &pairing, first, second, shape)
 }
 
+/// The same, where the NULs at the ends of byte strings that are shown more than once are looked at once.
+fn compare_trimmed(
+    alloc: Global,
+    comparison: Comparison,
+    width: BytesLen,
+    left: Items<'_>,
+    other_width: BytesLen,
+    right: Items<'_>,
+    shape: &Shape,
+) -> Result<Owned, Refusal>
+    requires from { left.descr.now ≡ ScalarDescr (Bytes width) }
+    requires other { right.descr.now ≡ ScalarDescr (Bytes other_width) }
+    requires left { All (λ offset. offset + item_size left.descr.now ≤ length left.block.now) (offsets left.layout.now) }
+    requires right { All (λ offset. offset + item_size right.descr.now ≤ length right.block.now) (offsets right.layout.now) }
+    requires stretches { IsTrue (can_stretch left.layout.now.shape shape.now) }
+    requires also { IsTrue (can_stretch right.layout.now.shape shape.now) }
+    ensures descr { IfOk result (λ o. o.descr ≡ ScalarDescr BoolScalar) }
+    ensures shape { IfOk result (λ o. o.layout.shape ≡ shape.now) }
+    ensures order { IfOk result (λ o. offsets o.layout ≡ multiples 1 (count shape.now)) }
+    ensures items { IfOk result (λ o. map (item_from o.descr o.block) (offsets o.layout)
+        ≡ pairwise (compared_item comparison) (stretched_items left.entry.descr.now left.entry.block.now left.entry.layout.now o.layout.shape)
+        (stretched_items right.entry.descr.now right.entry.block.now right.entry.layout.now o.layout.shape)) }
+    ensures refused { IfErr result (λ refusal. refusal ≡ OutOfMemory) }
+{
+    let first = trimmed_in(alloc, left.block, left.layout, width, shape)?;
+    let second = trimmed_in(alloc, right.block, right.layout, other_width, shape)?;
+    let descr = Descr::Scalar(Scalar::Bytes(first));
+    let other = Descr::Scalar(Scalar::Bytes(second));
+    let cut = Items {
+        block: left.block,
+        layout: left.layout,
+        descr: &descr,
+    };
+    let other_cut = Items {
+        block: right.block,
+        layout: right.layout,
+        descr: &other,
+    };
+    compare_texts(alloc, comparison, first, cut, second, other_cut, shape)
+}
+
 /// A comparison of two arrays of numbers or of byte strings that are stretched to a shape.
 fn compare_scalars(
     alloc: Global,
@@ -225,7 +267,7 @@ fn compare_scalars(
     ensures refused { IfErr result (λ refusal. refusal ≡ OutOfMemory) }
 {
     match (from, other) {
-        (Scalar::Bytes(width), Scalar::Bytes(other_width)) => compare_texts(
+        (Scalar::Bytes(width), Scalar::Bytes(other_width)) => compare_trimmed(
             alloc,
             comparison,
             *width,

@@ -30,6 +30,7 @@ mod sides;
 mod text_comparing;
 mod text_pairs;
 mod texts;
+mod trimmed;
 mod typed;
 mod words;
 

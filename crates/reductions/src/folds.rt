@@ -52,6 +52,18 @@ pub(crate) trait Fold<S: Value> {
         ensures some { RESUMES ≡ true → is_some result ≡ true }
         ensures held { IfSome result (λ held. (first : ℤ) (rest : List ℤ) → Self.Total.value total ≡ meaning (first ∷ rest) → holds held first (first ∷ rest)) };
 
+    /// Whether numbers are looked at in blocks first, since most of them change nothing.
+    fn looks_ahead() -> bool {
+        false
+    }
+
+    /// Whether a number is known to change nothing.
+    fn passes(held: Self::Held, item: S) -> bool
+        ensures { result ≡ true → (first : ℤ) (seen : List ℤ) → holds held first seen → holds held first (seen ++ S.value item ∷ []) }
+    {
+        false
+    }
+
     ghost gives: { (order : Order) (bytes : List ℕ) (numbers : List ℤ) → length numbers < 2 ^ 63
         → decode (Self.Total.scalar Little) bytes ≡ number (meaning numbers) → IsReduced reduction (S.scalar order) numbers bytes };
 
@@ -328,6 +340,16 @@ impl<S: Value> Fold<S> for PlaceOfLeast {
         held
     }
 
+    #[inline(always)]
+    fn looks_ahead() -> bool {
+        true
+    }
+
+    #[inline(always)]
+    fn passes(held: Found<S>, item: S) -> bool {
+        !item.is_less(held.best)
+    }
+
     fn finish(held: Found<S>) -> u64 {
         held.place as u64
     }
@@ -370,6 +392,16 @@ impl<S: Value> Fold<S> for PlaceOfGreatest {
             return Found { best: item, place };
         }
         held
+    }
+
+    #[inline(always)]
+    fn looks_ahead() -> bool {
+        true
+    }
+
+    #[inline(always)]
+    fn passes(held: Found<S>, item: S) -> bool {
+        !held.best.is_less(item)
     }
 
     fn finish(held: Found<S>) -> u64 {

@@ -1,10 +1,11 @@
 //! Items along a line, and what comes of them.
-ghost use Rattle.std.specs.Prelude.{◌≡◌, ◌+◌, ◌*◌, ◌^◌, ◌<◌, ◌≤◌, ◌⊎◌, ℕ, ℤ, List, ◌++◌, pos, length, IsTrue};
+ghost use Rattle.std.specs.Prelude.{◌≡◌, true, ◌+◌, ◌*◌, ◌^◌, ◌<◌, ◌≤◌, ◌⊎◌, ℕ, ℤ, List, ◌++◌, pos, length, IsTrue};
 ghost use Rattle.elem_descr.specs.declared.scalar.Order.TheVariants.{Little};
 ghost use Rattle.elem_descr.specs.Encoding.{decode};
 ghost use Rattle.elem_descr.specs.Values.{number};
 ghost use Rattle.raw_block.specs.Bytes.{place, item_at, EachWithin};
 ghost use Rattle.shape_strides.specs.Runs.{run_along, run_offsets};
+ghost use Rattle.shape_strides.specs.RunPairs.{run_front};
 ghost use Rattle.reductions.specs.inside.Numbers.{number_at, numbers_at, IsReduced};
 
 use crate::folds::Fold;
@@ -21,9 +22,59 @@ pub(crate) fn number_at<S: Number, O: Ordered>(bytes: &[u8], at: usize) -> S
     S::read::<O>(&bytes[at..at + S::WIDTH])
 }
 
-/// Goes over the numbers of a run, which have `seen` before them.
+/// Goes over the numbers of a run from one place to another. They have `seen` before the run.
 #[inline(always)]
 fn fold_each<S: Value, O: Ordered, F: Fold<S>>(
+    held: F::Held,
+    seen: usize,
+    bytes: &[u8],
+    run: Run,
+    from: usize,
+    to: usize,
+) -> F::Held
+    requires few { seen + run.count < 2 ^ 63 }
+    requires within { EachWithin (length bytes.now) run.offset run.step S.WIDTH run.count }
+    requires order { from ≤ to }
+    requires end { to ≤ run.count }
+    ensures { (first : ℤ) (before : List ℤ) → seen ≡ length before → F.holds held first (before ++ numbers_at (S.scalar O.order) bytes.now (run_offsets (run_front from run)))
+        → F.holds result first (before ++ numbers_at (S.scalar O.order) bytes.now (run_offsets (run_front to run))) }
+{
+    let mut held = held;
+    for k in from..to {
+        held = F::step(held, number_at::<S, O>(bytes, place(run, k)), seen + k);
+    }
+    held
+}
+
+/// Whether the numbers of a run from one place to another are known to change nothing.
+#[inline(always)]
+fn all_pass<S: Value, O: Ordered, F: Fold<S>>(
+    held: F::Held,
+    bytes: &[u8],
+    run: Run,
+    from: usize,
+    to: usize,
+) -> bool
+    requires few { run.count < 2 ^ 63 }
+    requires within { EachWithin (length bytes.now) run.offset run.step S.WIDTH run.count }
+    requires order { from ≤ to }
+    requires end { to ≤ run.count }
+    ensures { result ≡ true → (first : ℤ) (before : List ℤ) → F.holds held first (before ++ numbers_at (S.scalar O.order) bytes.now (run_offsets (run_front from run)))
+        → F.holds held first (before ++ numbers_at (S.scalar O.order) bytes.now (run_offsets (run_front to run))) }
+{
+    let mut pass = true;
+    for k in from..to {
+        pass &= F::passes(held, number_at::<S, O>(bytes, place(run, k)));
+    }
+    pass
+}
+
+/// The numbers of a block.
+const BLOCK: usize = 256;
+
+/// Goes over the numbers of a run, block by block: one after the other where some may change what is held.
+#[inline(always)]
+fn fold_blocks<S: Value, O: Ordered, F: Fold<S>>(
     held: F::Held,
     seen: usize,
     bytes: &[u8],
@@ -35,13 +86,19 @@ fn fold_each<S: Value, O: Ordered, F: Fold<S>>(
         → F.holds result first (before ++ numbers_at (S.scalar O.order) bytes.now (run_offsets run)) }
 {
     let mut held = held;
-    for k in 0..run.count {
-        held = F::step(held, number_at::<S, O>(bytes, place(run, k)), seen + k);
+    let mut done = 0;
+    while done < run.count {
+        let next = run.count.min(done + BLOCK);
+        if !all_pass::<S, O, F>(held, bytes, run, done, next) {
+            held = fold_each::<S, O, F>(held, seen, bytes, run, done, next);
+        }
+        done = next;
     }
     held
 }
 
-/// The same, with a loop of its own for numbers that lie one right after the other.
+/// Goes over the numbers of a run, with a loop of its own for numbers that lie one right after the other.
+/// They have `seen` before them.
 pub(crate) fn fold_run<S: Value, O: Ordered, F: Fold<S>>(
     held: F::Held,
     seen: usize,
@@ -53,15 +110,18 @@ pub(crate) fn fold_run<S: Value, O: Ordered, F: Fold<S>>(
     ensures { (first : ℤ) (before : List ℤ) → seen ≡ length before → F.holds held first before
         → F.holds result first (before ++ numbers_at (S.scalar O.order) bytes.now (run_offsets run)) }
 {
-    if run.step == S::WIDTH as isize {
-        let near = Run {
-            offset: run.offset,
-            count: run.count,
-            step: S::WIDTH as isize,
-        };
-        return fold_each::<S, O, F>(held, seen, bytes, near);
+    if run.step != S::WIDTH as isize {
+        return fold_each::<S, O, F>(held, seen, bytes, run, 0, run.count);
     }
-    fold_each::<S, O, F>(held, seen, bytes, run)
+    let near = Run {
+        offset: run.offset,
+        count: run.count,
+        step: S::WIDTH as isize,
+    };
+    if F::looks_ahead() {
+        return fold_blocks::<S, O, F>(held, seen, bytes, near);
+    }
+    fold_each::<S, O, F>(held, seen, bytes, near, 0, near.count)
 }
 
 /// What comes of the numbers of a run.

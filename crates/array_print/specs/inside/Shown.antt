@@ -1,5 +1,5 @@
 -- How parts of an array's text come from its block of bytes.
-use Rattle.std.specs.Prelude.{◌≡◌, ℕ, zero, suc, List, [], take, drop}
+use Rattle.std.specs.Prelude.{◌≡◌, ℕ, zero, suc, List, [], map, take, drop}
 use Rattle.std.specs.Fmt.{signed_decimal}
 use Rattle.std.specs.List.{AllZip}
 use Rattle.elem_descr.specs.declared.scalar.Scalar.{Scalar}
@@ -9,7 +9,7 @@ use Rattle.elem_descr.specs.declared.descr.Descr.{Descr}
 use Rattle.elem_descr.specs.Encoding.{size, decode, number_of}
 use Rattle.elem_descr.specs.Items.{leaves_of}
 use Rattle.elem_descr.specs.Blocks.{item_from}
-use Rattle.array_print.specs.Printed.{leaf_texts, all_justified, item_text}
+use Rattle.array_print.specs.Printed.{leaf_texts, leaf_widths, all_justified, item_text, items_from}
 
 -- the text of the integer whose bytes begin at a place
 abbrev pub integer_at : Scalar → List ℕ → ℕ → List ℕ
@@ -38,3 +38,7 @@ shown descr widths block offset = item_text descr widths (item_from descr block 
 abbrev pub lead : ℕ → List ℕ → List ℕ
 lead zero separator = []
 lead (suc k) separator = separator
+
+-- the widths of the leaves of items that begin at these offsets, in an array with axes
+abbrev pub widths_at : Descr → List ℕ → List ℕ → List ℕ
+widths_at descr block offsets = leaf_widths (leaves_of descr) (map (leaf_texts (leaves_of descr)) (items_from descr block offsets))

@@ -38,5 +38,5 @@ pub returns-clause-ok : goal.returns-clause-ok
 returns-clause-ok c =
     let some : count c.args.layout.now.shape ≡ 0 → ⊥ = λ none. c.if-items-eq0.false (c.items.ensures.value ∙ none) in
     on_ok_weaker c.push_block.result
-    (λ pushed. printed c.args.descr.now c.args.block.now c.args.layout.now.shape c.as_slice-2.result.now (offsets c.args.layout.now) _ c.as_slice.result.now _ _ c.new.ensures.count some c.as_slice-2.ensures.value c.in_ok-walk.ensures.items (c.as_slice.ensures ∙ c.in_ok-widths.ensures) pushed)
+    (λ pushed. printed c.args.descr.now c.args.block.now c.args.layout.now.shape c.as_slice-2.result.now (offsets c.args.layout.now) _ c.as_slice.result.now _ _ c.new-walk.ensures.count some c.as_slice-2.ensures.value c.new-walk.ensures.items (c.as_slice.ensures ∙ c.in_ok-widths.ensures) pushed)
     c.push_block.ensures.ok

@@ -1,22 +1,20 @@
-use Rattle.std.proofs.Common.{◌≡◌, ◌<◌, ◌++◌, ◌∷◌, [], length, sym, ◌∙◌, arith}
-use Rattle.std.proofs.lemmas.List.{take_more, take_all}
-use Rattle.elem_descr.specs.Items.{leaves_of}
+use Rattle.std.proofs.Common.{◌+◌, ◌≤◌, length, ap, ◌∙◌}
+use Rattle.std.proofs.lemmas.List.Elements.{All-rest}
+use Rattle.elem_descr.specs.Items.{item_size}
 use Rattle.shape_strides.specs.Layouts.{offsets}
-use Rattle.array_print.specs.Printed.{widths, items_from}
-use Rattle.array_print.proofs.LeafLaws.{are-widths, count-widths}
+use Rattle.array_print.proofs.WidthLaws.{length-widths-at, one-more, refilled}
 use Rattle.array_print.proofs.widths.widths_of.Goals as goal
 
-pub loop-k-preserved : goal.loop-k-preserved
-loop-k-preserved c =
-    let items = items_from c.args.descr.now c.args.block.now (offsets c.args.layout.now) in
-    let all = widths c.args.descr.now c.args.layout.now.shape items in
-    let many : length all ≡ length (leaves_of c.args.descr.now) = count-widths (leaves_of c.args.descr.now) all (are-widths c.args.descr.now c.args.layout.now.shape items) in
-    let below : c.loop-k.k < length all = omega (arith, many, c.leaf_count-k-end.ensures.value, c.loop-k-test.true) in
-    c.in_ok-push.ensures.ok ∙ (λ i. c.loop-k.invariant i ++ (c.in_ok-leaf_width.ensures i ∷ [])) ∙ sym (take_more all c.loop-k.k 0 below)
+pub widen-requires-clause-leaves : goal.widen-requires-clause-leaves
+widen-requires-clause-leaves c =
+    let so_far = c.loop-offset.invariant.so_far in
+    ap length (c.as_mut_slice.ensures.value ∙ so_far.are) ∙ length-widths-at c.args.descr.now c.args.block.now so_far.seen
 
-pub returns : goal.returns
-returns c =
-    let items = items_from c.args.descr.now c.args.block.now (offsets c.args.layout.now) in
-    let all = widths c.args.descr.now c.args.layout.now.shape items in
-    let many : length all ≡ length (leaves_of c.args.descr.now) = count-widths (leaves_of c.args.descr.now) all (are-widths c.args.descr.now c.args.layout.now.shape items) in
-    c.loop-k.invariant ∙ take_all c.loop-k.k all (omega (arith, many, c.leaf_count-k-end.ensures.value, c.loop-k-test.false))
+pub loop-offset-preserved : goal.loop-offset-preserved
+loop-offset-preserved c =
+    let d = c.args.descr.now in
+    let block = c.args.block.now in
+    record {
+      so_far = one-more d block (offsets c.args.layout.now) _ _ c.loop-offset.widths.items c.as_mut_slice.result.now c.widen.new.widths _ c.in-Some.offset c.in-Some.ensures.steps c.as_mut_slice.ensures.value c.widen.ensures (refilled c.loop-offset.widths.items c.widen.new.widths (c.widen.auto.widths ∙ ap length c.as_mut_slice.ensures.value)) c.loop-offset.invariant.so_far;
+      inside = All-rest (λ offset. offset + item_size d ≤ length block) _ _ _ c.in-Some.ensures.steps c.loop-offset.invariant.inside;
+    }

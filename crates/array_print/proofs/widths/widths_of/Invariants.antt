@@ -1,8 +1,11 @@
-use Rattle.std.proofs.Common.{◌≡◌, take}
+use Rattle.std.proofs.Common.{◌+◌, ◌≤◌, length, All}
+use Rattle.elem_descr.specs.Items.{item_size}
 use Rattle.shape_strides.specs.Layouts.{offsets}
-use Rattle.array_print.specs.Printed.{widths, items_from}
+use Rattle.array_print.proofs.WidthLaws.{AreSoFar}
 use Rattle.array_print.proofs.widths.widths_of.Given as goal
 
--- the widths of the leaves so far
-abbrev pub invariant-loop-k : goal.invariant-loop-k
-invariant-loop-k l = l.widths.items ≡ take l.k (widths l.descr l.layout.shape (items_from l.descr l.block (offsets l.layout)))
+abbrev pub invariant-loop-offset : goal.invariant-loop-offset
+invariant-loop-offset l = record {
+  so_far : AreSoFar l.descr l.block (offsets l.layout) l.offset-iterator l.widths.items;
+  inside : All (λ offset. offset + item_size l.descr ≤ length l.block) l.offset-iterator;
+}

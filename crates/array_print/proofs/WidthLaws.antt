@@ -1,0 +1,70 @@
+-- Widths of leaves, as they grow item by item.
+use Rattle.std.proofs.Common.{◌≡◌, ℕ, ◌+◌, ◌<◌, ◌≤◌, List, [], ◌∷◌, ◌++◌, length, map, max, take, drop, get_or, sym, ap, ◌∙◌, append_assoc}
+use Rattle.std.specs.Prelude.{IfSome, slice_get}
+use Rattle.std.specs.List.{refill}
+use Rattle.std.proofs.Math.Seq.{take-append_seam}
+use Rattle.std.proofs.lemmas.List.{map-append}
+use Rattle.std.proofs.lemmas.List.Sums.{fold-append}
+use Rattle.elem_descr.specs.declared.scalar.Scalar.{Scalar}
+use Rattle.elem_descr.specs.declared.descr.Descr.{Descr}
+use Rattle.elem_descr.specs.Encoding.{size, decode}
+use Rattle.elem_descr.specs.Items.{item_size, leaves_of}
+use Rattle.array_print.specs.Printed.{leaf_text, leaf_texts, leaf_width, leaf_widths, items_from}
+use Rattle.array_print.specs.inside.Shown.{integer_at, widths_at}
+use Rattle.array_print.proofs.LeafLaws.{PrintsInteger, are-leaf-widths, bytes-at, count-widths, leaf-width-at}
+
+-- the widths are those of the items so far
+pub record AreSoFar (descr : Descr) (block all left ws : List ℕ) : Type 0 where
+  pub seen : List ℕ
+  pub whole : seen ++ left ≡ all
+  pub are : ws ≡ widths_at descr block seen
+
+pub length-widths-at : (descr : Descr) (block seen : List ℕ) → length (widths_at descr block seen) ≡ length (leaves_of descr)
+length-widths-at descr block seen =
+    count-widths (leaves_of descr) (widths_at descr block seen) (are-leaf-widths (leaves_of descr) (map (leaf_texts (leaves_of descr)) (items_from descr block seen)))
+
+-- the texts of a leaf
+abbrev texts_of : Descr → List ℕ → Scalar → ℕ → List ℕ → List (List ℕ)
+texts_of descr block scalar at seen = map (λ offset. leaf_text scalar (decode scalar (take (size scalar) (drop at (take (item_size descr) (drop offset block)))))) seen
+
+width-at : (descr : Descr) (block seen : List ℕ) (k : ℕ) (scalar : Scalar) (at : ℕ) → k < length (leaves_of descr) → IfSome (slice_get (leaves_of descr) k) (λ leaf. (scalar ≡ leaf.scalar) × (at ≡ leaf.at)) →
+    get_or (widths_at descr block seen) k 0 ≡ leaf_width scalar (texts_of descr block scalar at seen)
+width-at descr block seen k scalar at below is = leaf-width-at (leaves_of descr) (λ offset. take (item_size descr) (drop offset block)) seen k scalar at below is
+
+-- of no items
+pub least-at : (descr : Descr) (k : ℕ) (scalar : Scalar) (at : ℕ) → k < length (leaves_of descr) → IfSome (slice_get (leaves_of descr) k) (λ leaf. (scalar ≡ leaf.scalar) × (at ≡ leaf.at)) → leaf_width scalar [] ≡ get_or (leaf_widths (leaves_of descr) []) k 0
+least-at descr k scalar at below is = sym (width-at descr [] [] k scalar at below is)
+
+-- of one item more
+pub one-wider : (descr : Descr) (block seen : List ℕ) (offset k : ℕ) (scalar : Scalar) (at width wider : ℕ) → k < length (leaves_of descr) → at + size scalar ≤ item_size descr → IfSome (slice_get (leaves_of descr) k) (λ leaf. (scalar ≡ leaf.scalar) × (at ≡ leaf.at)) →
+    width ≡ get_or (widths_at descr block seen) k 0 →
+    ((texts : List (List ℕ)) → width ≡ leaf_width scalar texts → wider ≡ leaf_width scalar (texts ++ leaf_text scalar (decode scalar (take (size scalar) (drop (offset + at) block))) ∷ [])) →
+    wider ≡ get_or (widths_at descr block (seen ++ offset ∷ [])) k 0
+one-wider descr block seen offset k scalar at width wider below within is so_far grows =
+    let read = λ (o : ℕ). leaf_text scalar (decode scalar (take (size scalar) (drop at (take (item_size descr) (drop o block))))) in
+    grows (texts_of descr block scalar at seen) (so_far ∙ width-at descr block seen k scalar at below is)
+    ∙ ap (λ b. leaf_width scalar (texts_of descr block scalar at seen ++ leaf_text scalar (decode scalar b) ∷ [])) (sym (bytes-at block offset at (size scalar) (item_size descr) within))
+    ∙ ap (leaf_width scalar) (sym (map-append read seen (offset ∷ [])))
+    ∙ sym (width-at descr block (seen ++ offset ∷ []) k scalar at below is)
+
+-- the longest of some texts and one more
+pub one-longer : (scalar : Scalar) (block : List ℕ) (place width wider : ℕ) (texts : List (List ℕ)) → PrintsInteger scalar → wider ≡ max width (length (integer_at scalar block place)) → width ≡ leaf_width scalar texts →
+    wider ≡ leaf_width scalar (texts ++ leaf_text scalar (decode scalar (take (size scalar) (drop place block))) ∷ [])
+one-longer scalar block place width wider texts prints is so_far =
+    let text = leaf_text scalar (decode scalar (take (size scalar) (drop place block))) in
+    is
+    ∙ (λ i. max ((so_far ∙ prints.0 texts) i) (length (sym (prints.1 (decode scalar (take (size scalar) (drop place block)))) i)))
+    ∙ sym (fold-append (λ width item. max width (length item)) 0 texts (text ∷ []))
+    ∙ sym (prints.0 (texts ++ text ∷ []))
+
+-- the next item
+pub one-more : (descr : Descr) (block all left left' ws lent new ws' : List ℕ) (offset : ℕ) → left ≡ offset ∷ left' → lent ≡ ws → ((seen : List ℕ) → lent ≡ widths_at descr block seen → new ≡ widths_at descr block (seen ++ offset ∷ [])) → ws' ≡ new → AreSoFar descr block all left ws → AreSoFar descr block all left' ws'
+one-more descr block all left left' ws lent new ws' offset steps same widened back so_far = record {
+  seen = so_far.seen ++ offset ∷ [];
+  whole = append_assoc so_far.seen (offset ∷ []) left' ∙ ap (λ l. so_far.seen ++ l) (sym steps) ∙ so_far.whole;
+  are = back ∙ widened so_far.seen (same ∙ so_far.are);
+}
+
+-- widths that are written over as many others
+pub refilled : (ws new : List ℕ) → length new ≡ length ws → refill (length ws) ws new ≡ new
+refilled ws new same = ap (λ n. take n (new ++ drop (length new) ws)) (sym same) ∙ take-append_seam new (drop (length new) ws)
