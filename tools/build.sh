@@ -1,6 +1,6 @@
 #!/bin/sh
 # Proves and builds the program with rt, where its sources are newer than it: crates whose dependencies stand side by side, as
-# many as there are cores and memory, 3 GB each.
+# many as there are cores and memory.
 #
 #   tools/build.sh [--plan]     --plan tells the crates, the longest chain of others behind them first, and builds nothing
 #
@@ -15,7 +15,7 @@ cd "$top" || exit 3
 # and by others. The work is counted in lines.
 plan() {
     find crates -name out -prune -o \( -name '*.rt' -o -name '*.antt' \) -exec grep -c '' /dev/null {} + | awk -F: '
-        FILENAME == "-" { split($1, part, "/"); lines[part[2]] += $2; next }
+        /^(crates|\/dev)\// { split($1, part, "/"); lines[part[2]] += $2; next }
         /^[a-z]/ { split($1, words, " "); uses[words[1]] = $2; listed[words[1]] = 1 }
         function visit(crate, below, used, n, i) {
             if (crate in all) return
@@ -41,19 +41,23 @@ plan() {
         }' - crates.txt | sort -t: -k1,1nr -k2
 }
 
-# How many checks the machine has cores and memory for.
+# How many crates at a time, one a core, and how many checks: half as many again, since a check waits for others of its crate at
+# times, and 3 GB of memory for each.
 room() {
     cores=$(nproc 2>/dev/null || getconf _NPROCESSORS_ONLN 2>/dev/null || echo 1)
     fits=$(awk '/^MemAvailable:/ { print int($2 / 3000000) }' /proc/meminfo 2>/dev/null)
-    [ "${fits:-1}" -lt "$cores" ] && cores=${fits:-1}
-    [ "$cores" -lt 1 ] && cores=1
-    echo "${BENCH_JOBS:-$cores}"
+    slots=$((cores + cores / 2))
+    [ "${fits:-1}" -lt "$slots" ] && slots=${fits:-1}
+    [ "$slots" -lt 1 ] && slots=1
+    [ -n "$BENCH_JOBS" ] && cores=$BENCH_JOBS slots=$BENCH_JOBS
+    [ "$slots" -lt "$cores" ] && cores=$slots
 }
 
-# One line on a terminal, which each call writes over; elsewhere a line for each crate that is done.
+# One line on a terminal, which each call writes over, as wide as that is; elsewhere a line for each crate that is done.
 tell() {
     if [ -t 2 ]; then
-        printf '\r\033[K%s' "bench: $1" >&2
+        : "${columns:=$(stty size 2>/dev/null </dev/tty | cut -d' ' -f2)}" "${columns:=80}"
+        printf '\r\033[K%.*s' "$((columns - 1))" "bench: $1" >&2
     elif [ -n "$2" ]; then
         echo "bench: $1" >&2
     fi
@@ -118,10 +122,9 @@ start_some() {
     done
     left=$(echo "$ready" | wc -w)
     for crate in $ready; do
-        [ "$idle" -gt 0 ] || return 0
-        jobs=$((idle / left))
+        [ "$idle" -gt 0 ] && [ "$(echo $running | wc -w)" -lt "$cores" ] || return 0
+        jobs=$(((idle + left - 1) / left))
         [ "$jobs" -gt 4 ] && jobs=4
-        [ "$jobs" -lt 1 ] && jobs=1
         eval "below=\$below_$crate jobs_$crate=$jobs far_$crate="
         left=$((left - 1)) idle=$((idle - jobs))
         waiting=$(without "$waiting" "$crate") running="$running $crate"
@@ -193,12 +196,13 @@ for crate in $crates; do put_back "$crate"; done
 rm -f "$work/events" "$work"/*.log
 mkfifo "$work/events" && exec 3<>"$work/events" || exit 3
 
-total=$(echo "$plan" | wc -l) slots=$(room) finished='' running='' number=0
+room
+total=$(echo "$plan" | wc -l) finished='' running='' number=0
 waiting=$(echo $crates) idle=$slots
 while IFS=: read -r lines crate below; do eval "below_$crate=\$below"; done <<PLAN
 $plan
 PLAN
-echo "bench: proving and building $total crates, up to $slots checks at a time; from nothing this takes about 25 minutes on 4 cores, and 10 GB of disk" >&2
+echo "bench: proving and building $total crates, up to $cores at a time; from nothing this takes about 25 minutes on 4 quiet cores, and 10 GB of disk" >&2
 trap 'stop_all; echo "bench: not built: interrupted" >&2; exit 3' INT TERM HUP
 start_some
 tell "$number of $total crates done; proving $(shown)"
