@@ -66,9 +66,11 @@ def left_out(count: int) -> str:
 
 
 def table(caption: str, rows: list[Row], moves: Iterable[tuple[float, float]] = ()) -> Table:
-    boxes = (box for row in rows for cell in row.cells for box in cell)
-    letters = max((int((len(box.text) + 1.5) / box.width) for box in boxes if box.text), default=0)
-    return Table(caption, max(4, min(LONGEST + 2, letters)), rows, list(moves))
+    """A table whose columns have room for all texts, within bounds."""
+    boxes = [box for row in rows for cell in row.cells for box in cell if box.text]
+    most = LONGEST if all(box.width == 1 for box in boxes) else 5 * LONGEST
+    letters = max((int((len(box.text) + 1.5) / box.width) for box in boxes), default=0)
+    return Table(caption, max(4, min(most + 2, letters)), rows, list(moves))
 
 
 class Drawn:

@@ -25,7 +25,7 @@ text{font:12px ui-monospace,Menlo,Consolas,monospace;fill:var(--ink)}rect{fill:n
 .page{fill:var(--page);stroke:none}.head{font-weight:bold}.place text,.field text,.old text{fill:var(--dim)}
 .place rect,.field rect,.gap{stroke:none}.old rect,.pad,.goes rect{stroke-dasharray:3 2}.old .x+text{text-decoration:line-through}
 .now .x,.grid .x{fill:var(--mark);stroke:var(--ink);stroke-width:2}
-.name rect{fill:var(--c);stroke:var(--page)}.name .label,.name.goes text,.note{fill:var(--c);font-weight:bold}
+.name rect{fill:var(--c);stroke:var(--page)}.name .label,.name.goes text,.note,.grid .label{fill:var(--c);font-weight:bold}
 .name text{fill:var(--page)}.name .x{stroke:var(--ink);stroke-width:2}.name.goes rect{fill:none;stroke:var(--c)}
 path{fill:none;stroke:var(--ink);stroke-width:1.5;marker-end:url(#tip)}#tip path{fill:var(--ink);stroke:none}
 """ + "".join(f".h{k}{{--c:var(--h{k})}}" for k in range(len(HUES[0])))
@@ -49,9 +49,10 @@ def _table(table: Table) -> tuple[list[str], float, int]:
         for line in textwrap.wrap(text, letters):
             drawn.append(_text(8, y, line, f' class="{look}"'))
             y += LINE - 4
-    margin, width = 16 + LETTER * table.margin, table.letters * LETTER
+    margin = 16 + LETTER * table.margin
+    width = min(table.letters * LETTER, WIDTH - margin - 8)
     count = len(table.rows[0].cells)
-    across = max(1, int((WIDTH - margin) / width))
+    across = max(1, int((WIDTH - margin - 7) / width))
     for first in range(0, max(count, 1), across):
         last = min(count, first + across)
         y += 6
