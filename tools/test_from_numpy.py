@@ -13,7 +13,7 @@ import unittest
 import warnings
 
 from companion_trials import COMPANION, PROGRAM, TOP, environment, needs_program, numpy_or_none, share
-from bench_tool import Session, language
+from bench_tool import ProgramEnded, Session, language
 
 np = numpy_or_none()
 needs_numpy = unittest.skipIf(np is None, "left out: NumPy is not installed")
@@ -111,8 +111,11 @@ class FromNumPy(unittest.TestCase):
             program = str(self.theirs / "short")
             pathlib.Path(program).write_text(f'#!/bin/sh\nulimit -v 100000\nexec {PROGRAM} "$@"\n')
             os.chmod(program, 0o755)
-        with self.session(program, dir=folder) as bench:
-            replies = bench.run(before + lines)
+        try:
+            bench = self.session(program, dir=folder)
+        except ProgramEnded:
+            self.skipTest(f"left out: this program does not start with as little memory as {code} wants")
+        replies = bench.run(before + lines)
         (self.ours / "a").unlink(missing_ok=True)
         self.assertEqual([reply.code for reply in replies[:-1]], [""] * (len(replies) - 1))
         return replies[-1]
@@ -122,8 +125,6 @@ class FromNumPy(unittest.TestCase):
         self.assertEqual({code: words for code, words, _ in table}, {code: words for code, (words, _) in language.codes().items()})
         for code, words, cell in table:
             with self.subTest(code):
-                if code == "E40" and "unproved" in PROGRAM:
-                    continue
                 self.assertEqual(self.refused(code, cell).text, f"no {code} {words}")
 
     def test_open_or_wrong(self):

@@ -2,6 +2,7 @@
 import os
 import pathlib
 import pty
+import re
 import select
 import signal
 import subprocess
@@ -10,7 +11,7 @@ import threading
 import time
 import unittest
 
-from companion_trials import PROGRAM, TOOL, environment, needs_program
+from companion_trials import TOOL, TOP, environment, needs_program
 from bench_tool.shell import PROMPT
 
 UP, TAB, CTRL_C, CTRL_D, ENTER = b"\x1b[A", b"\t", b"\x03", b"\x04", b"\r"
@@ -178,6 +179,20 @@ class Shells(unittest.TestCase):
         done = subprocess.run([TOOL, "shell"], input=lines, capture_output=True, text=True, env=environment(), cwd=self.folder)
         self.assertEqual(done.stdout, "ok a <i4 (4,) new\n[0 1 2 3]\nno E03 syntax\n    write: set a[0] = 2\n")
         self.assertEqual((done.stderr, done.returncode), ("", 0))
+
+    def test_pages(self):
+        """The shells that the pages show are as they say."""
+        pages = [TOP / "README.md", TOP / "docs/COMPANION.md"]
+        blocks = [block for page in pages for block in re.findall(r"```\n\$ \S*bench-tool shell\n(.*?)```", page.read_text(), re.S)]
+        self.assertEqual(len(blocks), 2)
+        for block in blocks:
+            lines, told = [], ""
+            for line in block.splitlines(keepends=True):
+                is_asked = line.startswith(PROMPT)
+                lines += [line[len(PROMPT):]] * is_asked
+                told += "" if is_asked else line
+            done = subprocess.run([TOOL, "shell"], input="".join(lines), capture_output=True, text=True, env=environment(), cwd=self.folder)
+            self.assertEqual(done.stdout, told)
 
     def test_program_that_ends(self):
         done = subprocess.run([TOOL, "shell"], input="names\n", capture_output=True, text=True, env=environment(BENCH="/bin/true"))

@@ -54,6 +54,8 @@ class Words(unittest.TestCase):
             self.assertIn("replies", told)
         for code in language.codes():
             self.assertIn(code, language.help_text(code))
+        for word, said in [("types", "type string of NumPy"), ("shapes", "between parentheses"), ("indexes", "a slice `a:b:c`"), ("limits", "65,536")]:
+            self.assertIn(said, language.help_text(word))
 
     def test_manual_pages(self):
         page = re.sub(r"\\(dq|-)", "", read("man/bench.1"))
@@ -132,7 +134,7 @@ class Hints(unittest.TestCase):
             with self.subTest(row.example), tempfile.TemporaryDirectory() as folder, Session(PROGRAM, dir=folder) as bench:
                 self.assertTrue(all(reply.accepted for reply in bench.run(NAMES)))
                 self.assertEqual(bench.send(row.example).code, "E03")
-                self.assertIs(next(other for other in hints.ROWS if other.pattern.fullmatch(row.example)), row)
+                self.assertIs(next(other for other in hints.ROWS if re.fullmatch(other.pattern, row.example)), row)
                 told = hints.written(row.example, hints.Known(bench))
                 self.assertTrue(told)
                 self.assertEqual([reply.text for reply in bench.run(told) if not reply.accepted], [])

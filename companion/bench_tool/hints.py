@@ -8,8 +8,7 @@ from __future__ import annotations
 import difflib
 import os
 import re
-from dataclasses import dataclass
-from typing import Callable, Optional
+from typing import Callable, NamedTuple, Optional
 
 from . import language
 from .session import BenchError, Reply, Session
@@ -17,18 +16,18 @@ from .session import BenchError, Reply, Session
 NAME = r"([A-Za-z_]\w*)"
 SPAN = r"(\[.*\])"
 LITERAL = r"([-+]?\d+|True|False|b'[^']*')"
-BOTH = {"+": "add", "-": "sub", "*": "mul", "//": "fdiv", "%": "mod", "&": "and", "|": "or", "^": "xor", "<<": "shl", ">>": "shr"}
-SIGNS = {**BOTH, "==": "eq", "!=": "ne", "<=": "le", ">=": "ge", "<": "lt", ">": "gt"}
-SIGN = "(" + "|".join(re.escape(sign) for sign in sorted(SIGNS, key=len, reverse=True)) + ")"
-CHANGE = "(" + "|".join(re.escape(sign) for sign in sorted(BOTH, key=len, reverse=True)) + ")="
+SIGNS = {
+    "+": "add", "-": "sub", "*": "mul", "//": "fdiv", "%": "mod", "&": "and", "|": "or", "^": "xor", "<<": "shl", ">>": "shr",
+    "==": "eq", "!=": "ne", "<=": "le", ">=": "ge", "<": "lt", ">": "gt",
+}
+SIGN = r"(//|<<|>>|[=!<>]=|[-+*%&|^<>])"
+CHANGE = r"(//|<<|>>|[-+*%&|^])="
 FOLDS = "(sum|prod|min|max|any|all|argmin|argmax)"
 TWO = "(add|sub|mul|fdiv|mod|and|or|xor|shl|shr|eq|ne|lt|le|gt|ge)"
-TYPES = {
-    "bool": "|b1", "int8": "|i1", "int16": "<i2", "int32": "<i4", "int64": "<i8", "int": "<i8",
-    "uint8": "|u1", "uint16": "<u2", "uint32": "<u4", "uint64": "<u8", "bytes": "|S8", "str": "|S8",
-}
-TYPES.update({kind: ("|" if kind[1:] in "1" else "<") + kind for kind in ("i1", "i2", "i4", "i8", "u1", "u2", "u4", "u8")})
-TYPE = "(?:np\\.)?(" + "|".join(TYPES) + ")"
+TYPES = {kind: ("|" if kind[1] == "1" else "<") + kind for kind in ("i1", "i2", "i4", "i8", "u1", "u2", "u4", "u8")}
+TYPES.update({f"{'u' * (kind[0] == 'u')}int{8 * int(kind[1])}": text for kind, text in list(TYPES.items())})
+TYPES.update({"int": "<i8", "bool": "|b1", "bytes": "|S8", "str": "|S8"})
+TYPE = r"(?:np\.)?(" + "|".join(TYPES) + ")"
 
 
 class Known:
@@ -45,114 +44,86 @@ class Known:
         return self.session.array(name, items=False).type if self.session and name in self.names else "<i8"
 
 
-Write = Callable[["re.Match[str]", Known], str]
-
-
-@dataclass(frozen=True)
-class Row:
-    """An example, the pattern of all like it, and what to write: lines of commands, or a sentence if it begins with `#`."""
+class Row(NamedTuple):
+    """An example, the pattern of all like it, and what to write: commands, or a sentence behind `#`. There `\\1` is a group, `@t` a
+    free name, `@D(name)` its type, `@T(kind)` a type, `@O(sign)` a verb, `@C(..)` numbers with blanks, `@N(..)` their count."""
 
     example: str
-    pattern: re.Pattern[str]
-    write: Write
+    pattern: str
+    write: str
 
 
-def row(example: str, pattern: str, write: str) -> Row:
-    """A row with a template: `\\1` is a group, `@t` a free name, `@D(\\2)` the type of a name, `@O(\\3)` the verb of a sign."""
-
-    def made(found: re.Match[str], known: Known) -> str:
-        text = found.expand(write).replace("@t", known.free())
-        text = re.sub(r"@D\((\w+)\)", lambda name: known.type_of(name[1]), text)
-        text = re.sub(r"@T\((\w+)\)", lambda name: TYPES[name[1]], text)
-        text = re.sub(r"@C\(([^)]*)\)", lambda inner: " ".join(inner[1].replace(",", " ").split()), text)
-        text = re.sub(r"@N\(([^)]*)\)", lambda inner: str(len(inner[1].replace(",", " ").split())), text)
-        return re.sub(r"@O\(([^)]*?)\)", lambda sign: SIGNS[sign[1]], text)
-
-    return Row(example, re.compile(pattern), made)
+def filled(row: Row, found: re.Match[str], known: Known) -> str:
+    """What the row says of a line that is like it."""
+    means: dict[str, Callable[[str], str]] = {
+        "D": known.type_of, "T": TYPES.__getitem__, "O": SIGNS.__getitem__,
+        "C": lambda text: " ".join(text.replace(",", " ").split()), "N": lambda text: str(len(text.replace(",", " ").split())),
+    }
+    text = found.expand(row.write).replace("@t", known.free())
+    return re.sub(r"@([DTOCN])\(([^)]*)\)", lambda part: means[part[1]](part[2]), text)
 
 
 # In the examples a is <i4 (6), m is <i4 (2,3), r is a record with the field x, and i is <i4 (2).
-ROWS = (
-    row("print a # the items", r"([^#]*[^#\s])\s*#.*", r"# a comment has a line of its own" "\n" r"\1"),
-    row("print a;", r"(.*[^;\s])\s*;+\s*", r"\1"),
-    row("print(a)", rf"(print|info|format|del)\s*\({NAME}\)", r"\1 \2"),
-    row("print a[0]", rf"(print|info|format)\s*\(?{NAME}\s*{SPAN}\)?", r"@t = \2\3" "\n" r"\1 @t"),
-    row("shares a[1:] a", rf"shares {NAME}{SPAN} {NAME}", r"@t = \1\2" "\n" r"shares @t \3"),
-    row("save a[1:] \"f.npy\"", rf"save {NAME}{SPAN} (\"[^\"]*\")", r"@t = \1\2" "\n" r"save @t \3"),
-    row("save a f.npy", rf"save {NAME} '?([\w.-]+)'?", r'save \1 "\2"'),
-    row("save \"f.npy\" a", rf"save \"([\w.-]+)\" {NAME}", r'save \2 "\1"'),
-    row("x = load 'a.npy'", rf"{NAME}\s*=\s*load\s*\(?'?([\w.-]+)'?\)?", r'\1 = load "\2"'),
-    row('load "a.npy"', r'load "([\w.-]+)"', r'x = load "\1"'),
-    row("x = field r x", rf"{NAME}\s*=\s*field {NAME} '?(\w+)'?", r'\1 = field \2 "\3"'),
-    row("x = r['x']", rf"{NAME}\s*=\s*{NAME}\[['\"](\w+)['\"]\]", r'\1 = field \2 "\3"'),
-    row("x = field r[0] \"x\"", rf"{NAME}\s*=\s*field {NAME}{SPAN} (\"\w+\")", r'@t = \2\3' "\n" r'\1 = field @t \4'),
-    row("a[0] += 1", rf"(?:set )?{NAME}\s*{SPAN}\s*{CHANGE}\s*(.+)", r"upd \1\2 @O(\3) \4"),
-    row("a += 1", rf"(?:set )?{NAME}\s*{CHANGE}\s*(.+)", r"upd \1[...] @O(\2) \3"),
-    row("upd a add 1", rf"upd {NAME} {TWO} (.+)", r"upd \1[...] \2 \3"),
-    row("upd a[0] += 1", rf"upd {NAME}{SPAN} {CHANGE}\s*(.+)", r"upd \1\2 @O(\3) \4"),
-    row("set a = 5", rf"set {NAME}\s*=\s*(.+)", r"set \1[...] = \2"),
-    row("set a [0] = 5", rf"set {NAME}\s+{SPAN}\s*=\s*(.+)", r"set \1\2 = \3"),
-    row("set a[0] 5", rf"set {NAME}\s*{SPAN}\s+([^=\s].*)", r"set \1\2 = \3"),
-    row("set m[0][0] = 5", rf"(?:set )?{NAME}\[([^][]*)\]\[([^][]*)\]\s*=\s*(.+)", r"@t = \1[\2]" "\n" r"set @t[\3] = \4"),
-    row("a[0] = 5", rf"{NAME}\s*{SPAN}\s*=\s*([^=\s].*)", r"set \1\2 = \3"),
-    row("set a[:] = add a 1", rf"set {NAME}{SPAN}\s*=\s*([a-z]+ .+)", r"@t = \3" "\n" r"set \1\2 = @t"),
-    row("x = m[0][1]", rf"{NAME}\s*=\s*{NAME}\[([^][]*)\]\[([^][]*)\]", r"@t = \2[\3]" "\n" r"\1 = @t[\4]"),
-    row("x = sum a[0]", rf"{NAME}\s*=\s*{FOLDS} {NAME}\s*{SPAN}(.*)", r"@t = \3\4" "\n" r"\1 = \2 @t\5"),
-    row("x = sum m axis=0", rf"{NAME}\s*=\s*{FOLDS} {NAME},?\s*axis\s*=\s*(-?\d+)", r"\1 = \2 \3 \4"),
-    row("x = sum(m)", rf"{NAME}\s*=\s*(?:np\.)?{FOLDS}\({NAME}\)", r"\1 = \2 \3"),
-    row("x = m.sum(0)", rf"{NAME}\s*=\s*{NAME}\.{FOLDS}\((?:axis=)?(-?\d*)\)", r"\1 = \3 \2 \4"),
-    row("x = sum m 0 keepdims", rf"{NAME}\s*=\s*{FOLDS} {NAME} (-?\d+) keepdims.*", r"\1 = \2 \3 \4 keep"),
-    row("sum a", rf"{FOLDS} {NAME}", r"@t = \1 \2" "\n" r"print @t"),
-    row("x = add 5 a", rf"{NAME}\s*=\s*(add|mul|and|or|xor|eq|ne) {LITERAL} {NAME}", r"\1 = \2 \4 \3"),
-    row("x = sub 5 a", rf"{NAME}\s*=\s*{TWO} {LITERAL} {NAME}", r"@t = full @D(\4) () \3" "\n" r"\1 = \2 @t \4"),
-    row("x = a + 1", rf"{NAME}\s*=\s*{NAME}\s*{SIGN}\s*(\S+)", r"\1 = @O(\3) \2 \4"),
-    row("x = 5 - a", rf"{NAME}\s*=\s*{LITERAL}\s*{SIGN}\s*{NAME}", r"@t = full @D(\4) () \2" "\n" r"\1 = @O(\3) @t \4"),
-    row("x = add(a, 1)", rf"{NAME}\s*=\s*(?:np\.)?{TWO}\({NAME},\s*(\S+)\)", r"\1 = \2 \3 \4"),
-    row("x = add a, 1", rf"{NAME}\s*=\s*{TWO} {NAME}, *(\S+)", r"\1 = \2 \3 \4"),
-    row("x = -a", rf"{NAME}\s*=\s*-\s*{NAME}", r"\1 = neg \2"),
-    row("x = ~a", rf"{NAME}\s*=\s*~\s*{NAME}", r"\1 = not \2"),
-    row("a + 1", rf"{NAME}\s*{SIGN}\s*(\S+)", r"@t = @O(\2) \1 \3" "\n" r"print @t"),
-    row("x = a.T", rf"{NAME}\s*=\s*{NAME}\.(?:T|transpose\(\))", r"\1 = transpose \2"),
-    row("x = a.copy()", rf"{NAME}\s*=\s*{NAME}\.copy\(\)", r"\1 = copy \2 C"),
-    row("x = copy a", rf"{NAME}\s*=\s*copy {NAME}", r"\1 = copy \2 C"),
-    row("x = a.astype(int32)", rf"{NAME}\s*=\s*{NAME}\.astype\({TYPE}\)", r"\1 = cast \2 @T(\3)"),
-    row("x = a.reshape(2, 3)", rf"{NAME}\s*=\s*{NAME}\.reshape\(+([^()]*)\)+", r"\1 = reshape \2 (\3)"),
-    row("x = reshape a 2,3", rf"{NAME}\s*=\s*(reshape|broadcast) {NAME} (-?\d+(?:[ ,]+-?\d+)*)", r"\1 = \2 \3 (\4)"),
-    row("x = reshape a[1:5] (2,2)", rf"{NAME}\s*=\s*(reshape|broadcast|transpose|copy|cast) {NAME}{SPAN}(.*)",
+ROWS = tuple(Row(*row) for row in (
+    ("print a # the items", r"([^#]*[^#\s])\s*#.*", r"# a comment has a line of its own" "\n" r"\1"),
+    ("print(a)", rf"(print|info|format|del)\s*\({NAME}\)", r"\1 \2"),
+    ("print a[0]", rf"(print|info|format)\s*\(?{NAME}\s*{SPAN}\)?", r"@t = \2\3" "\n" r"\1 @t"),
+    ("shares a[1:] a", rf"shares {NAME}{SPAN} {NAME}", r"@t = \1\2" "\n" r"shares @t \3"),
+    ("save a f.npy", rf"save {NAME} '?([\w.-]+)'?", r'save \1 "\2"'),
+    ("x = load 'a.npy'", rf"{NAME}\s*=\s*load\s*\(?'?([\w.-]+)'?\)?", r'\1 = load "\2"'),
+    ('load "a.npy"', r'load "([\w.-]+)"', r'x = load "\1"'),
+    ("x = field r x", rf"{NAME}\s*=\s*field {NAME} '?(\w+)'?", r'\1 = field \2 "\3"'),
+    ("x = r['x']", rf"{NAME}\s*=\s*{NAME}\[['\"](\w+)['\"]\]", r'\1 = field \2 "\3"'),
+    ("a[0] += 1", rf"(?:set |upd )?{NAME}\s*{SPAN}\s*{CHANGE}\s*(.+)", r"upd \1\2 @O(\3) \4"),
+    ("a += 1", rf"(?:set |upd )?{NAME}\s*{CHANGE}\s*(.+)", r"upd \1[...] @O(\2) \3"),
+    ("upd a add 1", rf"upd {NAME} {TWO} (.+)", r"upd \1[...] \2 \3"),
+    ("set a = 5", rf"set {NAME}\s*=\s*(.+)", r"set \1[...] = \2"),
+    ("set a [0] = 5", rf"set {NAME}\s+{SPAN}\s*=\s*(.+)", r"set \1\2 = \3"),
+    ("set a[0] 5", rf"set {NAME}\s*{SPAN}\s+([^=\s].*)", r"set \1\2 = \3"),
+    ("set m[0][0] = 5", rf"(?:set )?{NAME}\[([^][]*)\]\[([^][]*)\]\s*=\s*(.+)", r"@t = \1[\2]" "\n" r"set @t[\3] = \4"),
+    ("a[0] = 5", rf"{NAME}\s*{SPAN}\s*=\s*([^=\s].*)", r"set \1\2 = \3"),
+    ("set a[:] = add a 1", rf"set {NAME}{SPAN}\s*=\s*([a-z]+ .+)", r"@t = \3" "\n" r"set \1\2 = @t"),
+    ("x = m[0][1]", rf"{NAME}\s*=\s*{NAME}\[([^][]*)\]\[([^][]*)\]", r"@t = \2[\3]" "\n" r"\1 = @t[\4]"),
+    ("x = sum a[0]", rf"{NAME}\s*=\s*{FOLDS} {NAME}\s*{SPAN}(.*)", r"@t = \3\4" "\n" r"\1 = \2 @t\5"),
+    ("x = sum m axis=0", rf"{NAME}\s*=\s*{FOLDS} {NAME},?\s*axis\s*=\s*(-?\d+)", r"\1 = \2 \3 \4"),
+    ("x = sum(m)", rf"{NAME}\s*=\s*(?:np\.)?{FOLDS}\({NAME}\)", r"\1 = \2 \3"),
+    ("x = m.sum(0)", rf"{NAME}\s*=\s*{NAME}\.{FOLDS}\((?:axis=)?(-?\d*)\)", r"\1 = \3 \2 \4"),
+    ("sum a", rf"{FOLDS} {NAME}", r"@t = \1 \2" "\n" r"print @t"),
+    ("x = add 5 a", rf"{NAME}\s*=\s*(add|mul|and|or|xor|eq|ne) {LITERAL} {NAME}", r"\1 = \2 \4 \3"),
+    ("x = sub 5 a", rf"{NAME}\s*=\s*{TWO} {LITERAL} {NAME}", r"@t = full @D(\4) () \3" "\n" r"\1 = \2 @t \4"),
+    ("x = a + 1", rf"{NAME}\s*=\s*{NAME}\s*{SIGN}\s*(\S+)", r"\1 = @O(\3) \2 \4"),
+    ("x = -a", rf"{NAME}\s*=\s*-\s*{NAME}", r"\1 = neg \2"),
+    ("a + 1", rf"{NAME}\s*{SIGN}\s*(\S+)", r"@t = @O(\2) \1 \3" "\n" r"print @t"),
+    ("x = a.T", rf"{NAME}\s*=\s*{NAME}\.(?:T|transpose\(\))", r"\1 = transpose \2"),
+    ("x = copy a", rf"{NAME}\s*=\s*copy {NAME}", r"\1 = copy \2 C"),
+    ("x = a.astype(int32)", rf"{NAME}\s*=\s*{NAME}\.astype\({TYPE}\)", r"\1 = cast \2 @T(\3)"),
+    ("x = a.reshape(2, 3)", rf"{NAME}\s*=\s*{NAME}\.reshape\(+([^()]*)\)+", r"\1 = reshape \2 (\3)"),
+    ("x = reshape a 2,3", rf"{NAME}\s*=\s*(reshape|broadcast) {NAME} (-?\d+(?:[ ,]+-?\d+)*)", r"\1 = \2 \3 (\4)"),
+    ("x = reshape a[1:5] (2,2)", rf"{NAME}\s*=\s*(reshape|broadcast|transpose|copy|cast) {NAME}{SPAN}(.*)",
         r"@t = \3\4" "\n" r"\1 = \2 @t\5"),
-    row("x = zeros (2,3)", rf"{NAME}\s*=\s*(?:np\.)?zeros\s*\(?(\([^()]*\))\)?", r"\1 = zeros <i8 \2"),
-    row("x = zeros <i4 2,3", rf"{NAME}\s*=\s*zeros (\S+) (\d+(?:[ ,]+\d+)*)", r"\1 = zeros \2 (\3)"),
-    row("x = arange 5", rf"{NAME}\s*=\s*(?:np\.)?arange\s*\(?(\d+)\)?", r"\1 = arange <i8 0 \2 1"),
-    row("x = arange <i4 5", rf"{NAME}\s*=\s*arange (\S+) (\d+)", r"\1 = arange \2 0 \3 1"),
-    row("x = arange <i4 0 5", rf"{NAME}\s*=\s*arange (\S+) (-?\d+)[ ,]+(-?\d+)", r"\1 = arange \2 \3 \4 1"),
-    row("x = array <i4 (3) 1,2,3", rf"{NAME}\s*=\s*array (\S+) (\([^()]*\)) ?\[?([-\d, ]+)\]?", r"\1 = array \2 \3 @C(\4)"),
-    row("x = array <i4 1 2 3", rf"{NAME}\s*=\s*array (\S+) \[?([-\d][-\d, ]*)\]?", r"\1 = array \2 (@N(\3)) @C(\3)"),
-    row("x = [1, 2, 3]", rf"{NAME}\s*=\s*(?:np\.array\()?\[([-\d, ]+)\]\)?", r"\1 = array <i8 (@N(\2)) @C(\2)"),
-    row("x = array |S2 (1) \"ab\"", r"(.*)\"([^\"\\]*)\"", r"\1b'\2'"),
-    row("x = array |S2 (1) 'ab'", r"(.*[ (,])'([^'\\]*)'(.*)", r"\1b'\2'\3"),
-    row("x = 5", rf"{NAME}\s*=\s*(-?\d+)", r"\1 = full <i8 () \2"),
-    row("x = True", rf"{NAME}\s*=\s*(True|False)", r"\1 = full |b1 () \2"),
-    row("a.shape", rf"{NAME}\.(?:shape|strides|flags|ndim|size)", r"info \1"),
-    row("a.dtype", rf"{NAME}\.dtype", r"format \1"),
-    row("shares a, m", rf"shares {NAME}, *{NAME}", r"shares \1 \2"),
-    row("del a, m", rf"del {NAME},? +{NAME}", r"del \1" "\n" r"del \2"),
-    row("undo 2", r"undo \S+", r"undo"),
-    row("PRINT a", r"([A-Z]{3,})( .*)?", r"# commands are written in small letters"),
-    row("a", NAME, r"print \1"),
-    row("a[0]", rf"{NAME}\s*{SPAN}", r"@t = \1\2" "\n" r"print @t"),
-    row("import numpy as np", r"(?:import|from) .*", r"# each line is a command of its own, and nothing is imported"),
-    row("print = a", rf"{NAME}\s*=.*", r"# the words of commands are no names, and `help` lists the commands"),
-)
+    ("x = zeros (2,3)", rf"{NAME}\s*=\s*(?:np\.)?zeros\s*\(?(\([^()]*\))\)?", r"\1 = zeros <i8 \2"),
+    ("x = zeros <i4 2,3", rf"{NAME}\s*=\s*zeros (\S+) (\d+(?:[ ,]+\d+)*)", r"\1 = zeros \2 (\3)"),
+    ("x = arange 5", rf"{NAME}\s*=\s*(?:np\.)?arange\s*\(?(\d+)\)?", r"\1 = arange <i8 0 \2 1"),
+    ("x = arange <i4 5", rf"{NAME}\s*=\s*arange (\S+) (\d+)", r"\1 = arange \2 0 \3 1"),
+    ("x = arange <i4 0 5", rf"{NAME}\s*=\s*arange (\S+) (-?\d+)[ ,]+(-?\d+)", r"\1 = arange \2 \3 \4 1"),
+    ("x = array <i4 (3) 1,2,3", rf"{NAME}\s*=\s*array (\S+) (\([^()]*\)) ?\[?([-\d, ]+)\]?", r"\1 = array \2 \3 @C(\4)"),
+    ("x = array <i4 1 2 3", rf"{NAME}\s*=\s*array (\S+) \[?([-\d][-\d, ]*)\]?", r"\1 = array \2 (@N(\3)) @C(\3)"),
+    ("x = [1, 2, 3]", rf"{NAME}\s*=\s*(?:np\.array\()?\[([-\d, ]+)\]\)?", r"\1 = array <i8 (@N(\2)) @C(\2)"),
+    ("x = array |S2 (1) \"ab\"", r"(.*)\"([^\"\\]*)\"", r"\1b'\2'"),
+    ("x = array |S2 (1) 'ab'", r"(.*[ (,])'([^'\\]*)'(.*)", r"\1b'\2'\3"),
+    ("x = 5", rf"{NAME}\s*=\s*(-?\d+)", r"\1 = full <i8 () \2"),
+    ("a.shape", rf"{NAME}\.(?:shape|strides|flags|ndim|size)", r"info \1"),
+    ("a.dtype", rf"{NAME}\.dtype", r"format \1"),
+    ("a", NAME, r"print \1"),
+    ("a[0]", rf"{NAME}\s*{SPAN}", r"@t = \1\2" "\n" r"print @t"),
+    ("print = a", rf"{NAME}\s*=.*", r"# the words of commands are no names, and `help` lists the commands"),
+))
 
 
 def written(line: str, known: Known) -> str:
     """What to write in the place of a line that is no command; nothing where no row is like it."""
-    text = line.strip()
-    for entry in ROWS:
-        found = entry.pattern.fullmatch(text)
-        if found:
-            return entry.write(found, known)
-    return ""
+    found = ((row, re.fullmatch(row.pattern, line.strip())) for row in ROWS)
+    return next((filled(row, match, known) for row, match in found if match), "")
 
 
 def meant(session: Session, line: str, reply: Reply, folder: str = ".") -> list[str]:
@@ -160,7 +131,7 @@ def meant(session: Session, line: str, reply: Reply, folder: str = ".") -> list[
     try:
         known = Known(session)
         told = written(line, known) if reply.code == "E03" else _of_code(session, known, line, reply.code, folder)
-    except BenchError:
+    except (BenchError, OSError):
         return []
     if reply.code == "E03":
         return [text if text.startswith("#") else f"write: {text}" for text in told.splitlines()]
@@ -170,24 +141,23 @@ def meant(session: Session, line: str, reply: Reply, folder: str = ".") -> list[
 
 def _of_code(session: Session, known: Known, line: str, code: str, folder: str) -> str:
     words = re.findall(r"[A-Za-z_]\w*", line)
-    quoted = re.findall(r'"([^"]*)"', line)
+    bound = [word for word in dict.fromkeys(words) if word in known.names]
     if code == "E02":
         return "bytes of plain ASCII alone, and straight quotes"
     if code in ("E04", "E05"):
         return "; ".join(f"write: {TYPES[word]} for {word}" for word in words if word in TYPES)
     if code == "E06":
-        unknown = [word for word in words if word not in known.names and word not in language.verbs(True) + language.verbs(False)]
+        unknown = set(words).difference(bound, language.verbs(True), language.verbs(False))
         near = [name for word in unknown for name in difflib.get_close_matches(word, known.names)]
-        bound = near or known.names[:10]
-        return ("near it: " if near else "bound: ") + " ".join(bound) if bound else "nothing is bound yet"
+        return f"near it: {' '.join(near)}" if near else f"bound: {' '.join(known.names[:10]) or 'nothing yet'}"
     if code == "E34":
-        near = difflib.get_close_matches(quoted[0] if quoted else "", os.listdir(folder or "."))
+        near = difflib.get_close_matches(line.split('"')[1], os.listdir(folder))
         return f"near it: {' '.join(near)}" if near else f"looked for in {os.path.abspath(folder)}"
     if code == "E19":
-        return "; ".join(f"{word} has {' '.join(fields(session, word)) or 'no fields'}" for word in words if word in known.names)
+        return "; ".join(f"{name} has {' '.join(fields(session, name)) or 'no fields'}" for name in bound)
     if code == "E20":
         return "write: copy X C, and set in the copy"
-    shown = [session.array(word, items=False) for word in dict.fromkeys(words) if word in known.names]
+    shown = [session.array(name, items=False) for name in bound]
     return "; ".join(f"{array.name} is {array.type} {array.shape}" for array in shown)
 
 

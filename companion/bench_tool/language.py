@@ -2,23 +2,21 @@
 from __future__ import annotations
 
 import re
-from dataclasses import dataclass
 from functools import lru_cache
 from pathlib import Path
+from typing import NamedTuple
 
 HERE = Path(__file__).resolve()
-PLACES = (HERE.parent / "LANGUAGE.md", HERE.parents[1] / "LANGUAGE.md", HERE.parents[2] / "docs/LANGUAGE.md")
-CODE = re.compile(r"E\d\d")
+PLACES = (HERE.parents[1] / "LANGUAGE.md", HERE.parents[2] / "docs/LANGUAGE.md")
+LISTS = re.compile(r"(?:OP is one of|the comparisons|RED one of) `([^`]*)`")
 # What the words of the column of refusals stand for.
 GROUPS = {
     "type": "E04 E05 E09", "shape": "E08 E09", "index": "E10 E12 E11 E08 E14 E13 E15",
     "file": "E28 E29 E30 E31 E04 E05 E08 E09",
 }
-LISTS = re.compile(r"(?:OP is one of|the comparisons|RED one of) `([^`]*)`")
 
 
-@dataclass(frozen=True)
-class Command:
+class Command(NamedTuple):
     """A row of the table of commands."""
 
     forms: tuple[str, ...]
@@ -28,45 +26,39 @@ class Command:
 
     def words(self) -> set[str]:
         """The words that name the command: those of its forms, and those that OP and RED stand for."""
-        found = {word for form in self.forms for word in re.findall(r"\b[a-z]{2,}\b", form)}
-        return found.union(*(operations()[key] for key in ("OP", "RED") if key in " ".join(self.forms).split()))
+        parts = " ".join(self.forms).split()
+        return {word for part in parts for word in operations().get(part, re.findall(r"\b[a-z]{2,}\b", part))}
+
+    def told(self) -> str:
+        groups = re.sub(r"\b(type|shape|index|file)\b", lambda found: GROUPS[str(found[1])], self.refused)
+        refusals = [f"          {code} {codes()[code][0]}" for code in dict.fromkeys(re.findall(r"E\d\d", groups))]
+        begin = [*(f"  {form}" for form in self.forms), f"      {self.what}", f"      replies {self.reply}"]
+        return "\n".join(begin + [f"      refused, in this order: {self.refused}"] * bool(refusals) + refusals)
 
 
 @lru_cache(None)
 def text() -> str:
     """The page, empty where it is not installed."""
-    found = next((place for place in PLACES if place.is_file()), None)
-    return found.read_text(encoding="utf-8") if found else ""
+    return next((place.read_text(encoding="utf-8") for place in PLACES if place.is_file()), "")
 
 
 def rows(begin: str) -> list[list[str]]:
-    """The rows of the table whose head begins so, without Markdown's marks."""
-    lines = iter(text().splitlines())
-    if not any(line.startswith(f"| {begin}") for line in lines):
-        return []
-    next(lines)
-    found = []
-    for line in lines:
-        if not line.startswith("|"):
-            break
-        found.append([cell.strip() for cell in re.split(r"(?<!\\)\|", line.strip()[1:-1])])
-    return found
+    """The rows of the table whose head begins so, without Markdown's marks for code."""
+    table = text().partition(f"\n| {begin} |")[2].partition("\n\n")[0].splitlines()[2:]
+    return [[cell.strip() for cell in re.split(r"(?<!\\)\|", line)[1:-1]] for line in table]
 
 
 @lru_cache(None)
-def operations() -> dict[str, tuple[str, ...]]:
+def operations() -> dict[str, list[str]]:
     """The words that OP and RED stand for."""
-    lists = [tuple(words.split()) for words in LISTS.findall(text().replace("\n", " "))]
-    return {"OP": sum(lists[:2], ()), "RED": lists[2] if len(lists) > 2 else ()}
+    lists = [words.split() for words in LISTS.findall(text().replace("\n", " "))]
+    return {"OP": sum(lists[:2], []), "RED": sum(lists[2:], [])}
 
 
 @lru_cache(None)
-def commands() -> tuple[Command, ...]:
-    made = []
-    for form, reply, what, refused in rows("Command"):
-        forms = tuple(re.findall(r"`([^`]*)`", form))
-        made.append(Command(forms, reply.replace("`", ""), what.replace("`", ""), refused))
-    return tuple(made)
+def commands() -> list[Command]:
+    plain = [(forms, *(cell.replace("`", "") for cell in cells)) for forms, *cells in rows("Command")]
+    return [Command(tuple(re.findall(r"`([^`]*)`", forms)), *cells) for forms, *cells in plain]
 
 
 @lru_cache(None)
@@ -77,34 +69,23 @@ def codes() -> dict[str, tuple[str, str]]:
 
 def verbs(behind: bool) -> list[str]:
     """The verbs that begin a line, or those that stand behind `X =`."""
-    forms = [form for command in commands() for form in command.forms]
-    firsts = [form[4:].split()[0] if behind else form.split()[0] for form in forms if form.startswith("X = ") == behind]
-    found = [word for first in firsts for word in operations().get(first, (first,))]
-    return sorted({word for word in found if word[:1].islower()})
+    forms = [form for command in commands() for form in command.forms if form.startswith("X = ") == behind]
+    firsts = [form.replace("X = ", "").split()[0] for form in forms]
+    return sorted({word for first in firsts for word in operations().get(first, [first]) if word[0].islower()})
 
 
 def help_text(word: str = "") -> str:
-    """All forms; or of one command its form, what it does, its reply and its refusals; or of a code when it comes."""
+    """All forms; of one command its form, what it does, its reply and its refusals; of a code when it comes; or a section."""
     if not commands():
         return "LANGUAGE.md, which has the commands, is not installed beside bench-tool"
-    if not word:
-        width = max(len(form) for command in commands() for form in command.forms)
-        shown = [f"  {form:{width}}  {command.what}" for command in commands() for form in command.forms]
-        shown += [f"  {key} is one of {' '.join(words)}" for key, words in operations().items()]
-        return "\n".join([*shown, "help COMMAND tells the refusals too, help E11 when that code comes; quit ends."])
     if word in codes():
         return f"  {word} {codes()[word][0]}: {codes()[word][1]}"
-    found = [command for command in commands() if word in command.words() or word in command.forms]
-    if not found:
-        return f"  there is no command {word}; help alone lists them"
-    return "\n".join(_told(command) for command in found)
-
-
-def _told(command: Command) -> str:
-    lines = [f"  {form}" for form in command.forms]
-    lines += [f"      {command.what}", f"      replies {command.reply}"]
-    if command.refused:
-        lines.append(f"      refused, in this order: {command.refused}")
-        told = re.sub(r"\b(type|shape|index|file)\b", lambda found: GROUPS[found[1]], command.refused)
-        lines += [f"          {code} {codes()[code][0]}" for code in dict.fromkeys(CODE.findall(told)) if code in codes()]
-    return "\n".join(lines)
+    if word:
+        found = [command.told() for command in commands() if word in command.words() or word in command.forms]
+        sections = [part.rstrip() for part in text().split("\n## ") if word in part.partition("\n")[0].lower().split()]
+        return "\n".join(found or sections) or f"  there is no command {word}; help alone lists them"
+    width = max(len(form) for command in commands() for form in command.forms)
+    shown = [f"  {form:{width}}  {command.what or command.reply}" for command in commands() for form in command.forms]
+    shown += [f"  {key} is one of {' '.join(words)}" for key, words in operations().items()]
+    shown += ["help COMMAND tells the refusals too, help E11 when that code comes; help types, help shapes, help indexes and"]
+    return "\n".join([*shown, "help limits tell what these are; quit ends"])

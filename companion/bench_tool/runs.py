@@ -26,12 +26,18 @@ def lines_of(script: BinaryIO) -> Iterator[bytes]:
 def shown(line: bytes) -> str:
     """A line as a message has it: of printable characters, and not too long."""
     text = line.decode("utf-8", "backslashreplace").strip()
-    text = "".join(letter if letter.isprintable() else repr(letter)[1:-1] for letter in text[:SHOWN + 1])
-    return text if len(text) <= SHOWN else text[:SHOWN] + ".."
+    cut = "".join(letter if letter.isprintable() else repr(letter)[1:-1] for letter in text[:SHOWN])
+    return cut + ".." * (len(text) > SHOWN)
 
 
 def tell(text: str) -> None:
     print(text, file=sys.stderr, flush=True)
+
+
+def fault(text: str) -> int:
+    """The program's own word where a run can't end, and its status."""
+    tell(f"bench: {text}")
+    return 3
 
 
 class Run:
@@ -40,52 +46,39 @@ class Run:
     def __init__(self, session: Session, words: argparse.Namespace):
         self.session, self.words = session, words
         self.codes: collections.Counter[str] = collections.Counter()
-        self.answered = 0
 
-    def write(self, part: bytes) -> None:
-        sys.stdout.buffer.write(part)
-        sys.stdout.buffer.flush()
-
-    def line(self, number: int, line: bytes) -> bool:
-        """Sends a line; answers whether it was accepted."""
+    def line(self, number: int, line: bytes) -> None:
+        """Sends a line, and tells what there is to tell of it."""
         begun = time.perf_counter()
-        reply = self.session.send(line, self.write)
+        reply = self.session.send(line, sys.stdout.buffer.write)
+        sys.stdout.buffer.flush()
         took = time.perf_counter() - begun
-        self.answered += reply.text != ""
-        if self.words.time and reply.text:
-            tell(f"{took * 1e3:10.3f} ms  {number:5}  {shown(line)}")
-        if not reply.accepted:
+        if reply.text:
             self.codes[reply.code] += 1
-            self.refusal(number, line, reply)
-        return reply.accepted
+            if self.words.time:
+                tell(f"{took * 1e3:10.3f} ms  {number:5}  {shown(line)}")
+        if not reply.accepted:
+            self.refusal(f"{self.words.script}:{number}:", line, reply)
 
-    def refusal(self, number: int, line: bytes, reply: Reply) -> None:
-        place = f"{self.words.script}:{number}:"
+    def refusal(self, place: str, line: bytes, reply: Reply) -> None:
         tell(f"{place} {reply.code} {reply.meaning}: {shown(line)}")
         if reply.code == "E03" and len(line) <= SHOWN:
             for text in hints.meant(self.session, line.decode("latin-1"), reply):
                 tell(f"{place} note: {text}")
 
-    def summary(self, took: float) -> None:
-        refused = sum(self.codes.values())
-        codes = "".join(f", {count} {code}" for code, count in sorted(self.codes.items()))
-        tell(f"{self.words.script}: {self.answered - refused} accepted, {refused} refused{codes}; {took:.3f} s")
-
     def script(self, script: BinaryIO) -> int:
         """Runs all lines, or with --stop those until one is refused; answers the status."""
         begun = time.perf_counter()
         for number, line in enumerate(lines_of(script), 1):
-            if not self.line(number, line) and self.words.stop:
+            self.line(number, line)
+            if self.words.stop and any(self.codes.keys() - {""}):
                 break
+        accepted = self.codes.pop("", 0)
         if self.words.summary:
-            self.summary(time.perf_counter() - begun)
+            codes = "".join(f", {count} {code}" for code, count in sorted(self.codes.items()))
+            took = time.perf_counter() - begun
+            tell(f"{self.words.script}: {accepted} accepted, {sum(self.codes.values())} refused{codes}; {took:.3f} s")
         return 1 if self.codes else 0
-
-
-def fault(text: str) -> int:
-    """The program's own word where a run can't end, and its status."""
-    tell(f"bench: {text}")
-    return 3
 
 
 def run(words: argparse.Namespace) -> int:
@@ -99,14 +92,13 @@ def run(words: argparse.Namespace) -> int:
         try:
             return Run(session, words).script(script)
         except ProgramEnded as ended:
-            return 3 if ended.status is None or ended.status < 2 else ended.status
+            return max(3, ended.status)
 
 
 def add_to(commands: Any, common: argparse.ArgumentParser) -> None:
-    command = commands.add_parser(
-        "run", parents=[common], help="a script, with the place of each refusal on standard error",
-        description="Runs a script as bench does; each refusal is also told on standard error, as SCRIPT:17: E11 index out of range: c = b[2].",
-    )
+    about = "a script, with the place of each refusal on standard error"
+    form = "SCRIPT:17: E11 index out of range: c = b[2]"
+    command = commands.add_parser("run", parents=[common], help=about, description=f"Runs {about}, as {form}.")
     command.add_argument("script", metavar="SCRIPT", help="the script; - is standard input")
     command.add_argument("--stop", action="store_true", help="end at the first refusal")
     command.add_argument("--summary", action="store_true", help="tell how many lines were accepted and refused")

@@ -3,9 +3,6 @@
     with Session() as bench:
         bench.send("a = arange <i4 0 5 1")
         print(bench.array("a").items)
-
-The program is the one that BENCH names, else the one that is installed beside this package, else the one that the
-repository has built.
 """
 from __future__ import annotations
 
@@ -14,21 +11,21 @@ import re
 import shutil
 import subprocess
 from dataclasses import dataclass
+from math import prod
 from pathlib import Path
 from typing import Any, Callable, Iterable, Iterator, Optional, Union
 
 Line = Union[str, bytes]
-Take = Callable[[bytes], Any]
+Named = Union[str, "os.PathLike[str]"]
 
-# A reply may have several lines or none. So each line is followed by two that are always refused and change nothing: the
-# reply ends where their refusals begin. The first is answered otherwise than the second, so that a reply that is the
-# refusal of either is told from both. No memory is needed for the second; for the first there may be none.
+# A reply may have several lines or none. So each line is followed by two that are always refused and change nothing: the reply
+# ends where their refusals begin. These differ, so that a reply that is the refusal of either is told from both. The second needs
+# no memory; for the first there may be none.
 MARKER = b"\n~\n\x7f\n"
 ENDS = tuple(first + b"\nno E02 byte not allowed\n" for first in (b"no E03 syntax", b"no E40 out of memory"))
 LONGEST = max(map(len, ENDS))
-PIECE = 1 << 16
 REFUSAL = re.compile(r"no (E\d\d) (.*)")
-INFO = re.compile(r"info (\w+) (.*) \(([\d, ]*)\) strides \(([-\d, ]*)\) at (\d+) order ([CF]+|-) write (yes|no)")
+INFO = re.compile(r"info \w+ (.*) \(([\d, ]*)\) strides \(([-\d, ]*)\) at (\d+) order ([CF]+|-) write (yes|no)")
 TOKEN = re.compile(r"b'(?:[^'\\]|\\.)*'|[()]|True|False|-?\d+")
 ESCAPE = re.compile(r"\\x([0-9a-f]{2})")
 
@@ -42,11 +39,9 @@ class ProgramMissing(BenchError):
 
 
 class ProgramEnded(BenchError):
-    """The program is not there any more; `status` is what it ended with, None where it is not known."""
+    """The program is not there any more; `status` is what it ended with."""
 
-    def __init__(self, text: str, status: Optional[int] = None):
-        super().__init__(text)
-        self.status = status
+    status = 0
 
 
 class Refused(BenchError):
@@ -86,20 +81,11 @@ class Array:
 
     def tolist(self) -> Any:
         """The items in lists, one within another as the axes are; of no axes the item itself."""
-        if not self.shape:
-            return self.items[0]
         made: list[Any] = list(self.items)
-        for axis in range(len(self.shape) - 1, 0, -1):
-            length, count = self.shape[axis], _product(self.shape[:axis])
-            made = [made[k * length:(k + 1) * length] for k in range(count)]
-        return made
-
-
-def _product(lengths: Iterable[int]) -> int:
-    product = 1
-    for length in lengths:
-        product *= length
-    return product
+        for axis in reversed(range(len(self.shape))):
+            length = self.shape[axis]
+            made = [made[k * length:(k + 1) * length] for k in range(prod(self.shape[:axis]))]
+        return made[0]
 
 
 def _numbers(text: str) -> tuple[int, ...]:
@@ -116,30 +102,24 @@ def items_of(text: str) -> tuple[Any, ...]:
     """The items of a printed array, in C order: integers, bools, bytes, and tuples for records."""
     if "'" not in text and "(" not in text:
         words = text.replace("[", " ").replace("]", " ").split()
-        return tuple(map(_value, words)) if "e" in text else tuple(map(int, words))
-    open_records: list[list[Any]] = [[]]
+        return tuple(word == "True" for word in words) if "e" in text else tuple(map(int, words))
+    records: list[list[Any]] = [[]]
     for token in TOKEN.findall(text):
         if token == "(":
-            open_records.append([])
-        elif token == ")":
-            record = tuple(open_records.pop())
-            open_records[-1].append(record)
+            records.append([])
         else:
-            open_records[-1].append(_value(token))
-    return tuple(open_records[0])
+            value = tuple(records.pop()) if token == ")" else _value(token)
+            records[-1].append(value)
+    return tuple(records[0])
 
 
 def find_program() -> str:
-    """The path of the program: BENCH, else the installed one, else the one of the repository."""
-    named = os.environ.get("BENCH")
-    if named:
-        return named
+    """The path of the program: BENCH, else the one of the repository or the installed one."""
     top = Path(__file__).resolve().parents[2]
-    for path in (top / "crates/bench_main/out/bench_main", top / "bench", top.parent / "bin" / "bench"):
-        if path.is_file() and os.access(path, os.X_OK):
-            return str(path)
-    found = shutil.which("bench")
-    if found is None:
+    places = (top / "crates/bench_main/out/bench_main", top / "bench", top.parent / "bin/bench")
+    beside = (str(place) for place in places if place.is_file() and os.access(place, os.X_OK))
+    found = os.environ.get("BENCH") or next(beside, None) or shutil.which("bench")
+    if not found:
         raise ProgramMissing("there is no program: BENCH names none, and none is installed or built")
     return found
 
@@ -151,48 +131,45 @@ class Session:
     gets no Ctrl-C of the terminal.
     """
 
-    def __init__(self, program: Union[str, os.PathLike[str], None] = None, undo: int = 16, dir: Union[str, os.PathLike[str]] = "."):
-        self.program = os.fspath(program) if program is not None else find_program()
-        words = [self.program, "--undo", str(undo), f"--dir={os.fspath(dir)}"]
+    def __init__(self, program: Optional[Named] = None, undo: int = 16, dir: Named = "."):
+        self.program = find_program() if program is None else os.fspath(program)
+        words, pipe = [self.program, "--undo", str(undo), f"--dir={os.fspath(dir)}"], subprocess.PIPE
         self._status: Optional[int] = None
         try:
-            self._process = subprocess.Popen(
-                words, stdin=subprocess.PIPE, stdout=subprocess.PIPE, bufsize=0, start_new_session=True
-            )
+            self._process = subprocess.Popen(words, stdin=pipe, stdout=pipe, bufsize=0, start_new_session=True)
         except OSError as fault:
             raise ProgramMissing(f"{self.program} cannot be started: {fault.strerror}") from None
-        try:
-            self.send("")
-        except ProgramEnded as ended:
-            raise ProgramEnded(f"{self.program} does not run: {ended}", ended.status) from None
+        assert self._process.stdin is not None and self._process.stdout is not None
+        self._to, self._from = self._process.stdin, self._process.stdout
+        self.send("")
 
-    def send(self, line: Line, take: Optional[Take] = None) -> Reply:
+    def send(self, line: Line, take: Optional[Callable[[bytes], Any]] = None) -> Reply:
         """The reply to one line. With `take` the reply is handed over in parts as they come, each line of it with its
         newline, and the text of the reply is its begin alone."""
         sent = line.encode("utf-8", "surrogateescape") if isinstance(line, str) else bytes(line)
         if b"\n" in sent:
             raise ValueError("one line at a time: a newline stands within it")
-        head = bytearray()
+        begin = bytearray()
         try:
             self._write(sent + MARKER)
             for part in self._parts():
-                head += part if take is None else part[:max(0, 256 - len(head))]
+                begin += part if take is None else part[:max(0, 256 - len(begin))]
                 if take is not None:
                     take(part)
         except BaseException:
             self.close()
             raise
-        text = head.decode("ascii", "replace")
+        text = begin.decode("ascii", "replace")
         text = text[:-1] if text.endswith("\n") else text
         refused = REFUSAL.fullmatch(text)
         return Reply(refused is None, refused[1] if refused else "", text)
 
     def run(self, lines: Union[str, Iterable[Line]]) -> list[Reply]:
         """The replies to several lines, one for each."""
-        return [self.send(line) for line in (lines.splitlines() if isinstance(lines, str) else lines)]
+        return [self.send(line) for line in (lines.removesuffix("\n").split("\n") if isinstance(lines, str) else lines)]
 
     def ask(self, line: str) -> str:
-        """The reply to a line that is to be accepted."""
+        """The reply to a line that is to be accepted; else `Refused`."""
         reply = self.send(line)
         if not reply.accepted:
             raise Refused(line, reply)
@@ -207,16 +184,15 @@ class Session:
         found = INFO.fullmatch(self.ask(f"info {name}"))
         if found is None:
             raise BenchError(f"the reply to info {name} is not understood")
-        _, type_, shape, strides, at, order, write = found.groups()
+        type_, shape, strides, at, order, write = found.groups()
         values = items_of(self.ask(f"print {name}")) if items else ()
         return Array(name, type_, _numbers(shape), _numbers(strides), int(at), order, write == "yes", values)
 
-    def close(self) -> Optional[int]:
-        """Ends the program, and answers the status that it ended with. A second call does nothing."""
+    def close(self) -> int:
+        """Ends the program, and answers the status that it ended with. A second call does nothing more."""
         if self._status is None:
-            for stream in (self._process.stdin, self._process.stdout):
-                if stream is not None:
-                    stream.close()
+            self._to.close()
+            self._from.close()
             self._status = self._process.wait()
         return self._status
 
@@ -227,28 +203,27 @@ class Session:
         self.close()
 
     def _ended(self) -> ProgramEnded:
-        status = self.close()
-        return ProgramEnded(f"the program has ended, with status {status}", status)
+        ended = ProgramEnded(f"{self.program} has ended, with status {self.close()}")
+        ended.status = self.close()
+        return ended
 
     def _write(self, data: bytes) -> None:
-        if self._status is not None or self._process.stdin is None:
+        if self._status is not None:
             raise self._ended()
         try:
             while data:
-                data = data[self._process.stdin.write(data) or 0:]
+                data = data[self._to.write(data) or 0:]
         except BrokenPipeError:
             raise self._ended() from None
 
     def _parts(self) -> Iterator[bytes]:
         """The reply as it comes, without what the marker is answered."""
-        assert self._process.stdout is not None
         held = b""
         while not held.endswith(ENDS):
-            part = self._process.stdout.read(PIECE)
+            part = self._from.read(1 << 16)
             if not part:
                 raise self._ended()
             if len(held) > LONGEST:
                 yield held[:-LONGEST]
-                held = held[-LONGEST:]
-            held += part
+            held = held[-LONGEST:] + part
         yield held[:-next(len(end) for end in ENDS if held.endswith(end))]

@@ -5,12 +5,12 @@ import argparse
 import os
 import signal
 import sys
+from contextlib import contextmanager, suppress
 from pathlib import Path
-from types import FrameType
-from typing import Any, Optional
+from typing import Any, Iterator, Optional
 
 from . import hints, language
-from .session import BenchError, Reply, Session
+from .session import BenchError, Session
 
 try:
     import readline
@@ -19,150 +19,117 @@ except ImportError:  # a Python without it has a prompt without editing
 
 PROMPT = "bench> "
 GREETING = "help lists the commands, help COMMAND tells one; Tab completes; quit or Ctrl-D ends"
-OWN = ["help", "quit"]
 
 
-class Interrupts:
+@contextmanager
+def interrupts() -> Iterator[list[bool]]:
     """While a reply comes, Ctrl-C only marks that nobody wants the rest, so that the session stays whole."""
-
-    def __init__(self) -> None:
-        self.came = False
-
-    def __enter__(self) -> Interrupts:
-        self._before = signal.signal(signal.SIGINT, self._mark)
-        return self
-
-    def __exit__(self, *_: object) -> None:
-        signal.signal(signal.SIGINT, self._before)
-
-    def _mark(self, _number: int, _frame: Optional[FrameType]) -> None:
-        self.came = True
+    came: list[bool] = []
+    before = signal.signal(signal.SIGINT, lambda *_: came.append(True))
+    try:
+        yield came
+    finally:
+        signal.signal(signal.SIGINT, before)
 
 
-class Completer:
-    """The words that may stand where the cursor is."""
+def words_behind(session: Session, folder: str, before: str) -> list[str]:
+    """What may follow a text: fields and files in quotes, else verbs and names."""
+    said = before.replace("=", " = ").split()
+    if before.count('"') % 2:
+        if "field" in said:
+            return hints.fields(session, said[said.index("field") + 1])
+        return sorted(entry.name for entry in os.scandir(folder or ".") if entry.is_file() and entry.name[0] not in ".-")
+    if said == ["help"]:
+        return sorted({*language.verbs(False), *language.verbs(True), *language.codes()})
+    if said and said[1:] != ["="]:
+        return session.names()
+    verbs = language.verbs(True) if said else sorted(["help", "quit", *language.verbs(False)])
+    return [verb + " " for verb in verbs] + session.names()
+
+
+class Shell:
+    """The prompt, and the session behind it."""
 
     def __init__(self, session: Session, folder: str):
         self.session, self.folder = session, folder
         self.found: list[str] = []
 
-    def __call__(self, text: str, state: int) -> Optional[str]:
+    def complete(self, text: str, state: int) -> Optional[str]:
+        """The words that may stand where the cursor is, one for each state, as readline asks for them."""
         if state == 0:
             before = readline.get_line_buffer()[:readline.get_begidx()]
-            with Interrupts():
-                try:
-                    self.found = [word for word in self.words(before) if word.startswith(text)]
-                except (BenchError, OSError):
-                    self.found = []
+            self.found = []
+            with interrupts(), suppress(BenchError, OSError, IndexError):
+                found = words_behind(self.session, self.folder, before)
+                self.found = [word for word in found if word.startswith(text)]
         return self.found[state] if state < len(self.found) else None
 
-    def words(self, before: str) -> list[str]:
-        """What may follow the text before the word: fields and files in quotes, else verbs and names."""
-        said = before.replace("=", " = ").split()
-        if before.count('"') % 2:
-            return self.fields(said) if "field" in said else self.files()
-        names = self.session.names()
-        if said == ["help"]:
-            return sorted({*language.verbs(False), *language.verbs(True), *language.codes()})
-        if not said or said[1:] == ["="]:
-            verbs = language.verbs(bool(said)) if said else sorted(OWN + language.verbs(False))
-            return [verb + " " for verb in verbs] + names
-        return names
-
-    def fields(self, said: list[str]) -> list[str]:
-        name = said[said.index("field") + 1:][:1]
-        return hints.fields(self.session, name[0]) if name else []
-
-    def files(self) -> list[str]:
-        return sorted(entry.name for entry in os.scandir(self.folder or ".") if entry.is_file() and entry.name[0] not in ".-")
-
-
-def history_path() -> Optional[Path]:
-    """The file of the history: BENCH_HISTORY, where an empty one means none, else one in the state folder of the user."""
-    named = os.environ.get("BENCH_HISTORY")
-    if named is not None:
-        return Path(named) if named else None
-    return Path(os.environ.get("XDG_STATE_HOME") or Path.home() / ".local/state") / "bench" / "history"
-
-
-class Shell:
-    def __init__(self, session: Session, folder: str):
-        self.session, self.folder = session, folder
-
-    def answer(self, line: str) -> Reply:
+    def answer(self, line: str) -> None:
         """Sends a line; writes its reply as it comes, and of a refused one what may be meant."""
-        with Interrupts() as interrupts:
-            reply = self.session.send(line, lambda part: None if interrupts.came else self.write(part))
-            told = [] if reply.accepted else hints.meant(self.session, line, reply, self.folder)
-        if interrupts.came:
-            told = ["", "(the rest of the reply is dropped)"]
-        for text in told:
-            print(f"    {text}" if text else "", flush=True)
-        return reply
+        def write(part: bytes) -> None:
+            if not came:
+                sys.stdout.buffer.write(part)
+                sys.stdout.buffer.flush()
 
-    def write(self, part: bytes) -> None:
-        sys.stdout.buffer.write(part)
-        sys.stdout.buffer.flush()
+        with interrupts() as came:
+            reply = self.session.send(line, write)
+            told = [] if reply.accepted else hints.meant(self.session, line, reply, self.folder)
+        for text in ["", "(the rest of the reply is dropped)"] if came else told:
+            print(f"    {text}" if text else "", flush=True)
 
     def take(self, line: str) -> bool:
         """Does what a line says; answers whether the shell goes on."""
-        words = line.split()
-        if words in (["quit"], ["exit"]):
-            return False
-        if words[:1] == ["help"]:
-            print(language.help_text(" ".join(words[1:])), flush=True)
-        else:
+        first, *rest = line.split() or [""]
+        if first == "help":
+            print(language.help_text(" ".join(rest)), flush=True)
+        elif first != "quit" or rest:
             self.answer(line)
-        return True
+        return first != "quit" or bool(rest)
 
     def loop(self) -> None:
         """Reads and answers lines until there are no more."""
         prompt, end = (PROMPT, "\n") if sys.stdin.isatty() else ("", "")
-        on = True
-        while on:
+        goes_on = True
+        while goes_on:
             try:
-                on = self.take(input(prompt))
+                goes_on = self.take(input(prompt))
             except EOFError:
-                on = False
+                goes_on = False
                 print(end=end)
             except KeyboardInterrupt:
                 print()
 
 
-def prepare(session: Session, folder: str) -> Optional[Path]:
-    """Editing, Tab and the history of earlier shells; answers where the history is to be kept."""
-    if readline is None or not sys.stdin.isatty():
-        return None
-    readline.set_completer(Completer(session, folder))
+@contextmanager
+def editing(complete: Any) -> Iterator[None]:
+    """Editing, Tab, and the history of earlier shells: BENCH_HISTORY, where an empty one means none, else in the user's state."""
+    state = Path(os.environ.get("XDG_STATE_HOME") or Path.home() / ".local/state")
+    path = Path(os.environ.get("BENCH_HISTORY", state / "bench/history") or os.devnull)
+    readline.set_completer(complete)
     readline.set_completer_delims(" \t=[](),:\"")
     readline.parse_and_bind("tab: complete")
-    path = history_path()
-    try:
-        if path is not None:
-            path.parent.mkdir(parents=True, exist_ok=True)
-            readline.read_history_file(path)
-    except OSError:
-        pass
     readline.set_history_length(2000)
-    return path
+    with suppress(OSError):
+        path.parent.mkdir(parents=True, exist_ok=True)
+        readline.read_history_file(path)
+    try:
+        yield
+    finally:
+        with suppress(OSError):
+            readline.write_history_file(path)
 
 
 def shell(words: argparse.Namespace) -> int:
     with Session(undo=words.undo, dir=words.dir) as session:
-        path = prepare(session, words.dir)
-        if sys.stdin.isatty():
+        prompt = Shell(session, words.dir)
+        if readline is None or not sys.stdin.isatty():
+            prompt.loop()
+        else:
             print(GREETING)
-        try:
-            Shell(session, words.dir).loop()
-        finally:
-            if path is not None:
-                try:
-                    readline.write_history_file(path)
-                except OSError:
-                    pass
+            with editing(prompt.complete):
+                prompt.loop()
     return 0
 
 
 def add_to(commands: Any, common: argparse.ArgumentParser) -> None:
-    command = commands.add_parser("shell", parents=[common], help="a prompt with history, Tab and help")
-    command.set_defaults(call=shell)
+    commands.add_parser("shell", parents=[common], help="a prompt with history, Tab and help").set_defaults(call=shell)

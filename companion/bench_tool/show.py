@@ -6,55 +6,33 @@ import os
 import shutil
 import sys
 import tempfile
+from contextlib import suppress
 from pathlib import Path
 from typing import Any
 
 from .session import Session
 
+MOST = 1 << 24  # bytes of a printed array that are looked at for a screen
+
 
 class Full(Exception):
-    """The screen is full."""
+    """There is more than a screen has room for."""
 
 
-class Screen:
-    """Lines cut to a width, as many as there is room for."""
+def cut_to(session: Session, rows: int, columns: int) -> list[str]:
+    """The lines of the printed array that there is room for."""
+    held = bytearray()
 
-    def __init__(self, columns: int, rows: int):
-        self.columns, self.rows = columns, rows
-        self.lines = [""]
-        self.wide = False
-
-    def take(self, part: bytes) -> None:
-        """Takes a part of a text; `Full` where there is no room for what follows."""
-        first, *others = part.decode("ascii").split("\n")
-        self.add(first)
-        for line in others:
-            if len(self.lines) == self.rows + 1:
-                raise Full
-            self.lines.append("")
-            self.add(line)
-        if self.wide and self.rows == 1:
+    def take(part: bytes) -> None:
+        held.extend(part)
+        if held.count(b"\n") > rows or len(held) > MOST:
             raise Full
 
-    def add(self, text: str) -> None:
-        line = self.lines[-1] + text[:self.columns + 1]
-        if len(line) > self.columns:
-            self.wide, line = True, line[:self.columns - 3] + " .."
-        self.lines[-1] = line
-
-
-def show_print(session: Session, rows: int, columns: int) -> None:
-    """The array, as many of its lines as there is room for."""
-    screen, is_cut = Screen(columns, rows), False
-    try:
-        session.send("print x", screen.take)
-    except Full:
-        is_cut = True
-    lines = screen.lines[:-1] if screen.lines[-1] == "" else screen.lines
-    is_cut = is_cut or screen.wide or len(lines) > rows
-    print("\n".join(lines[:rows]))
-    if is_cut:
-        print("(cut to the screen; --all shows all)")
+    with suppress(Full):
+        session.send("print x", take)
+    lines = held.decode("ascii").splitlines()
+    shown = [line if len(line) <= columns else line[:columns - 3] + " .." for line in lines[:rows]]
+    return shown if shown == lines else [*shown, "(cut to the screen; --all shows all)"]
 
 
 def told(session: Session, words: argparse.Namespace) -> int:
@@ -63,15 +41,12 @@ def told(session: Session, words: argparse.Namespace) -> int:
     if not load.accepted:
         print(f"{words.file}: {load.code} {load.meaning}", file=sys.stderr)
         return 1
-    print(load.text)
-    for question in ("info x", "format x"):
-        print(session.ask(question))
-    sys.stdout.flush()
+    print(load.text, session.ask("info x"), session.ask("format x"), sep="\n", flush=True)
     if words.all:
         session.send("print x", sys.stdout.buffer.write)
-        return 0
-    size = shutil.get_terminal_size()
-    show_print(session, max(1, size.lines - 5), max(20, size.columns))
+    else:
+        size = shutil.get_terminal_size()
+        print("\n".join(cut_to(session, max(1, size.lines - 5), max(20, size.columns))))
     return 0
 
 
