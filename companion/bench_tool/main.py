@@ -6,10 +6,10 @@ import os
 import sys
 from typing import Optional, Sequence
 
-from . import runs, shell, show
+from . import page, runs, shell, show
 from .session import BenchError
 
-PARTS = (shell, runs, show)
+PARTS = (shell, runs, show, page)
 
 
 def depth(text: str) -> int:

@@ -1,0 +1,331 @@
+"""What a script does to memory, line by line, as the program alone tells it.
+
+The script runs in a session of its own. Each line that changes something is sent to a second session too, where questions
+are asked: there a line can be tried on other items, and an array be looked at in part, and all that is tried is undone.
+"""
+from __future__ import annotations
+
+import os
+import re
+from collections import deque
+from contextlib import ExitStack
+from dataclasses import dataclass, field
+from functools import cached_property
+from math import prod
+from typing import Any, Iterator, Mapping, NamedTuple, Optional, Union
+
+from .session import Array, BenchError, Reply, Session
+
+MOST_CELLS = 256
+MOST_UNDO = 56  # of the 64 states that the second session keeps, the others are for what is tried
+SIDE = 16  # rows, and columns, of a grid
+AT_ONCE = 1 << 16  # bytes of items that are printed in one go
+WORD = re.compile(r"[A-Za-z_]\w*")
+FIELD = re.compile(r":([^:]*):")
+BOUND = re.compile(r"ok (\w+) .* (new|view|copy)(?: rest \d+)?")
+DIGITS = b"0123456789ABCDEFGHIJKLMNOPQRSTUVWXYZabcdefghijklmnopqrstuvwxyz+-"
+
+Path = Union[str, os.PathLike[str]]
+Values = Mapping[int, Any]
+Place = NamedTuple("Place", [("buffer", int), ("byte", int)])  # where a value begins
+Leaf = NamedTuple("Leaf", [("at", int), ("size", int), ("field", str)])  # a value of an item: its bytes, and which field it is
+
+
+@dataclass(frozen=True)
+class Kind:
+    """An element type as it lies in memory: its bytes, and the fields of a record, each with its first byte."""
+
+    text: str
+    size: int
+    fields: tuple[tuple[int, str, Kind], ...]
+
+    @cached_property
+    def leaves(self) -> list[Leaf]:
+        inner = [(at, name, leaf) for at, name, kind in self.fields for leaf in kind.leaves]
+        found = [Leaf(at + leaf.at, leaf.size, name + ("." + leaf.field if leaf.field else "")) for at, name, leaf in inner]
+        return found or [Leaf(0, self.size, "")]
+
+    def spread(self, item: Any, at: int) -> Iterator[tuple[int, Any]]:
+        """The values of an item that begins at a byte, each with its own byte."""
+        if not self.fields:
+            yield at, item
+        for (offset, _, kind), inner in zip(self.fields, item if self.fields else ()):
+            yield from kind.spread(inner, at + offset)
+
+    def item(self, values: Values, at: int) -> Any:
+        """The item whose values stand at a byte; None for each that is not known."""
+        return tuple(kind.item(values, at + offset) for offset, _, kind in self.fields) if self.fields else values.get(at)
+
+
+@dataclass(frozen=True)
+class Bound:
+    """What a name is bound to: an array in a buffer. Items in places of their own are numbered as they are read first."""
+
+    array: Array
+    buffer: int
+    kind: Kind
+
+    @cached_property
+    def axes(self) -> list[tuple[int, int, int]]:
+        """Each axis: stride, length, and what a step adds to the number, 0 where it leads to the same item."""
+        found: list[tuple[int, int, int]] = []
+        for stride, length in reversed(list(zip(self.array.strides, self.array.shape))):
+            found.insert(0, (stride, length, prod(n for step, n, _ in found if step) if stride else 0))
+        return found
+
+    @cached_property
+    def count(self) -> int:
+        """How many items have places of their own."""
+        return prod(length for stride, length, _ in self.axes if stride) if prod(self.array.shape) else 0
+
+    @property
+    def times(self) -> int:
+        """How many indexes lead to each item."""
+        return prod(self.array.shape) // max(1, self.count)
+
+    def number(self, byte: int) -> Optional[int]:
+        """The number of the item that begins at a byte. The shorter strides lead to less than a step of the longest."""
+        rest = byte - self.array.at - sum(stride * (length - 1) for stride, length, _ in self.axes if stride < 0)
+        number = 0
+        for stride, length, weight in sorted((axis for axis in self.axes if axis[0]), key=lambda axis: -abs(axis[0])):
+            step = max(0, min(rest // abs(stride), length - 1))
+            rest -= step * abs(stride)
+            number += weight * (step if stride > 0 else length - 1 - step)
+        return None if rest or not self.count else number
+
+    def numbers(self, starts: list[int], size: int) -> dict[int, int]:
+        """Of the items in those of `size` bytes that begin at `starts`: the byte and the number, in order."""
+        places = [start + self.array.at % size for start in starts]
+        found = [(number, byte) for byte in places if (number := self.number(byte)) is not None]
+        return {byte: number for number, byte in sorted(found)}
+
+    def grid(self, side: int = SIDE) -> tuple[list[int], list[int], list[list[int]]]:
+        """The rows and columns of an array of two axes that are drawn, and at which bytes their items begin."""
+        if len(self.array.shape) != 2 or not self.count:
+            return [], [], []
+        rows, columns = (ends(length, side) for length in self.array.shape)
+        (down, right), at = self.array.strides, self.array.at
+        return rows, columns, [[at + row * down + column * right for column in columns] for row in rows]
+
+
+@dataclass(frozen=True)
+class Buffer:
+    """A stretch of memory: items one after another, and those of their values that are looked at, by their bytes."""
+
+    kind: Kind
+    count: int
+    values: Values = field(default_factory=dict)
+
+    def starts(self, most: int = MOST_CELLS) -> list[int]:
+        """Where the items begin that are drawn: fewer of long ones and of those with many values."""
+        most = min(most, AT_ONCE // self.kind.size, 4 * MOST_CELLS // len(self.kind.leaves))
+        return [k * self.kind.size for k in ends(self.count, max(4, most))]
+
+
+@dataclass(frozen=True)
+class State:
+    """Names in their order, and buffers by their numbers."""
+
+    names: Mapping[str, Bound] = field(default_factory=dict)
+    buffers: Mapping[int, Buffer] = field(default_factory=dict)
+
+    def inside(self, buffer: int) -> dict[str, Bound]:
+        return {name: bound for name, bound in self.names.items() if bound.buffer == buffer}
+
+
+@dataclass(frozen=True)
+class Moment:
+    """A line of the script with its reply, the states before and after it, and where the values came from that it moved."""
+
+    number: int
+    line: str
+    reply: Reply
+    before: State
+    after: State
+    moved: Mapping[Place, Place]
+
+    @property
+    def touched(self) -> set[int]:
+        """The buffers that differ, and those in which names came or went."""
+        both = ((self.before, self.after), (self.after, self.before))
+        found = {bound.buffer for one, other in both for name, bound in one.names.items() if other.names.get(name) is not bound}
+        return found | {number for number, buffer in self.after.buffers.items() if self.before.buffers.get(number) is not buffer}
+
+
+def ends(count: int, most: int) -> list[int]:
+    """The numbers below count; where they are more than most, those at begin and end."""
+    return list(range(count)) if count <= most else [*range(most // 2), *range(count - most // 2, count)]
+
+
+def literal(item: Any) -> str:
+    """An item as the program prints it; `?` where it is not known."""
+    if isinstance(item, tuple):
+        return f"({', '.join(map(literal, item))}{',' * (len(item) == 1)})"
+    if isinstance(item, bytes):
+        return "b'" + "".join(chr(b) if 32 <= b < 127 and b not in b"'\\" else f"\\x{b:02x}" for b in item) + "'"
+    return "?" if item is None else str(item)
+
+
+class Trace(ExitStack):
+    """A script that is run line by line, until it is closed."""
+
+    def __init__(self, program: Optional[Path] = None, undo: int = 16, dir: Path = ".", script: bytes = b""):
+        super().__init__()
+        if undo > MOST_UNDO:
+            raise BenchError(f"a script that is drawn may go back {MOST_UNDO} changes, not {undo}")
+        taken = set(WORD.findall(script.decode("latin-1")))
+        self._free = next(name for name in (f"_{k}" for k in range(len(taken) + 1)) if name not in taken)
+        self._script = self.enter_context(Session(program, undo, dir))
+        self._second = self.enter_context(Session(program, 64, dir))
+        self._kept: deque[State] = deque(maxlen=MOST_UNDO)
+        self._kinds: dict[str, Kind] = {}
+        self._lines = self._made = 0
+        self.state = State()
+
+    def step(self, line: bytes) -> Moment:
+        """Runs a line, and tells what it did."""
+        self._lines += 1
+        reply = self._script.send(line)
+        before, moved = self.state, {}
+        text = line.removesuffix(b"\r").decode("ascii", "replace")
+        words = [word for word in WORD.findall(text) if word in before.names]
+        verb, *rest = reply.text.split()[1:] if reply.accepted and reply.text.startswith("ok ") else ["save"]
+        if verb != "save":
+            self._again(line, reply)
+        if verb == "undo":
+            self.state = self._kept.pop()
+        elif verb in ("set", "upd"):
+            moved = self._written(line, reply, sorted({before.names[word].buffer for word in words}))
+        elif verb == "del":
+            self._settle({name: bound for name, bound in before.names.items() if name != rest[0]}, before.buffers)
+        elif verb != "save":
+            self._bind(reply, words[1:] if verb in before.names else words)
+        if verb not in ("undo", "save"):
+            self._kept.append(before)
+        return Moment(self._lines, text, reply, before, self.state, moved)
+
+    def _again(self, line: bytes, reply: Reply) -> None:
+        if (answer := self._second.send(line)) != reply:
+            raise BenchError(f"the program answered {reply.text!r}, and then {answer.text!r}")
+
+    def _undo(self, times: int) -> None:
+        for _ in range(times):
+            self._second.ask("undo")
+
+    def _settle(self, names: Mapping[str, Bound], buffers: Mapping[int, Buffer]) -> None:
+        """These names are bound now; buffers without any are gone."""
+        used = {bound.buffer for bound in names.values()}
+        self.state = State(names, {number: buffer for number, buffer in buffers.items() if number in used})
+
+    def _bind(self, reply: Reply, behind: list[str]) -> None:
+        """A name was bound: to a view in the buffer of the first name behind it, or to an array in a buffer of its own."""
+        found = BOUND.fullmatch(reply.text)
+        assert found is not None, reply.text
+        name, how = found.groups()
+        array = self._second.array(name, items=False)
+        bound = Bound(array, self.state.names[behind[0]].buffer if how == "view" else self._made + 1, self._kind(array.type, name))
+        self._made = max(self._made, bound.buffer)
+        buffer = self.state.buffers.get(bound.buffer) or Buffer(bound.kind, prod(array.shape))
+        read = self._read(buffer, {name: bound}, buffer.values)
+        buffer = Buffer(buffer.kind, buffer.count, {**buffer.values, **read}) if read else buffer
+        self._settle({**self.state.names, name: bound}, {**self.state.buffers, bound.buffer: buffer})
+
+    def _kind(self, text: str, name: str) -> Kind:
+        """An element type, which is learnt from an array of two items and from its fields."""
+        if text not in self._kinds:
+            self._second.ask(f"{name} = zeros {text} (2)")
+            size = self._second.array(name, items=False).strides[0]
+            fields = []
+            for word in dict.fromkeys(FIELD.findall(text)):
+                if self._second.send(f'{name} = field {name} "{word}"').accepted:
+                    part = self._second.array(name, items=False)
+                    fields.append((part.at, word, part.type))
+                    self._undo(1)
+            self._undo(1)
+            self._kinds[text] = Kind(text, size, tuple((at, word, self._kind(type_, name)) for at, word, type_ in sorted(fields)))
+        return self._kinds[text]
+
+    def _written(self, line: bytes, reply: Reply, touched: list[int]) -> dict[Place, Place]:
+        """Items were written, in the buffer of one of the names that the line has; where those came from that it moved."""
+        before, moved = self.state, {}
+        fresh = {number: self._reread(number, before) for number in touched}
+        changed = {number: buffer for number, buffer in fresh.items() if buffer.values != before.buffers[number].values}
+        self.state = State(before.names, {**before.buffers, **changed})
+        if changed and reply.text.startswith("ok set "):
+            self._undo(1)
+            for source in touched:
+                moved.update(self._moved(line, before, source, list(changed)))
+            self._again(line, reply)
+        return moved
+
+    def _reread(self, number: int, state: State) -> Buffer:
+        """A buffer as it is now. What no name sees has stayed; other values that are not drawn are forgotten."""
+        old, starts = state.buffers[number], set(state.buffers[number].starts())
+        stays = {at: value for at, value in old.values.items() if at - at % old.kind.size in starts}
+        return Buffer(old.kind, old.count, {**stays, **self._read(old, state.inside(number), {})})
+
+    def _read(self, buffer: Buffer, names: Mapping[str, Bound], known: Values) -> dict[int, Any]:
+        """The values that are drawn and not known, read through the names that see them, the longest arrays first."""
+        read: dict[int, Any] = {}
+        for name, bound in sorted(names.items(), key=lambda pair: -pair[1].count):
+            wanted = bound.numbers(buffer.starts(), buffer.kind.size)
+            wanted.update((at, bound.number(at) or 0) for row in bound.grid()[2] for at in row)
+            leaves = [leaf.at for leaf in bound.kind.leaves]
+            new = [at for at in wanted if any(at + leaf not in known and at + leaf not in read for leaf in leaves)]
+            for at, item in zip(new, self._items(name, bound, [wanted[at] for at in new]) if new else ()):
+                read.update(bound.kind.spread(item, at))
+        return read
+
+    def _items(self, name: str, bound: Bound, numbers: list[int]) -> list[Any]:
+        """Some items of an array, by their numbers. Where it is long, no others are printed."""
+        tried = []
+        if not all(stride for stride, _, _ in bound.axes):
+            tried.append(f"{name} = {name}[{','.join(':' if stride else '0' for stride, _, _ in bound.axes)}]")
+        if is_long := bound.count * bound.kind.size > AT_ONCE:
+            spare = next((other for other in self.state.names if other != name), self._free)
+            tried.append(f"{name} = reshape {name} (-1)")
+            tried.append(f"{spare} = array <i8 ({len(numbers)}) {' '.join(map(str, numbers))}")
+            tried.append(f"{name} = {name}[{spare}]")
+        for line in tried:
+            self._second.ask(line)
+        items = self._second.array(name).items
+        self._undo(len(tried))
+        return list(items) if is_long else [items[number] for number in numbers]
+
+    def _moved(self, line: bytes, before: State, source: int, changed: list[int]) -> dict[Place, Place]:
+        """Where a line put what stood in a buffer: it is run on items that tell their places.
+
+        Each place has a number, of which the line is run on one digit after another, and then on the first digit taken from
+        the greatest: so no value that is the same each time is taken for one that moved.
+        """
+        buffer, starts = before.buffers[source], before.buffers[source].starts()
+        seen = [pair for pair in before.inside(source).items() if pair[1].array.writable and pair[1].count]
+        if not seen or buffer.count > len(starts):
+            return {}
+        name, bound = max(seen, key=lambda pair: pair[1].count)
+        items = list(bound.numbers(starts, buffer.kind.size))
+        places = [at + leaf.at for at in items for leaf in bound.kind.leaves]
+        base = 2 if any(isinstance(buffer.values[place], bool) for place in places) else len(DIGITS)
+        powers = [base ** k for k in range(12) if k == 0 or base ** k < len(places)]
+        rows = [[k // power % base for k in range(len(places))] for power in powers]
+        rows.append([base - 1 - digit for digit in rows[0]])
+        coded = [{place: as_digit(buffer.values[place], digit) for place, digit in zip(places, row)} for row in rows]
+        told = {tuple(code[place] for code in coded): Place(source, place) for place in places}
+        left = [self._tried(line, before, name, [bound.kind.item(code, at) for at in items], changed) for code in coded]
+        origins = {at: told.get(tuple(values.get(at) for values in left), at) for at in (left[0] if all(left) else ())}
+        return {at: origin for at, origin in origins.items() if at != origin}
+
+    def _tried(self, line: bytes, before: State, name: str, items: list[Any], changed: list[int]) -> dict[Place, Any]:
+        """What a line leaves in some buffers where an array had these items before it; nothing where it is refused then."""
+        array = before.names[name].array
+        new = f"{self._free} = array {array.type} ({','.join(map(str, array.shape))}) {' '.join(map(literal, items))}"
+        tried = sum(self._second.send(sent).accepted for sent in (new, f"set {name}[...] = {self._free}", line))
+        fresh = {number: self._reread(number, before).values for number in changed if tried == 3}
+        left = {Place(number, at): value for number, values in fresh.items() for at, value in values.items()}
+        self._undo(tried)
+        return left
+
+
+def as_digit(value: Any, digit: int) -> Any:
+    """A digit as a value of the same type."""
+    return DIGITS[digit:digit + 1] if isinstance(value, bytes) else bool(digit) if isinstance(value, bool) else digit
