@@ -1,13 +1,16 @@
 """`bench-tool draw`: buffers against `shares`, cells and values against `print`, pages of all kinds in a browser, pictures of the docs."""
+import html
 import itertools
 import json
 import pathlib
 import random
 import re
+import shutil
 import subprocess
 import tempfile
 import time
 import unittest
+import xml.etree.ElementTree
 
 import hostile_scripts as scripts
 from companion_trials import PROGRAM, TOOL, TOP, environment, needs_program, share
@@ -16,6 +19,55 @@ from bench_tool.page import page
 from bench_tool.trace import Trace, literal
 
 DATA = re.compile(r'<script type="application/json" id="data">(.*)</script>')
+CHROMIUM = next(filter(None, map(shutil.which, ("chromium", "chromium-browser", "google-chrome"))), None)
+LONG = "name_of_just_thirty_two_bytes_ab"
+SCRIPTS = {
+    "refused in part": ["a = arange <i4 0 3 1", "b = nothing", "set a[3] = 1", "what is this?", "set a[0] = 7", "\x7f", "x = load \"none.npy\""],
+    "no command": ["# a comment", "", "  \t", "# the end"],
+    "nothing": [],
+    "long names": [f"{LONG} = arange <i4 0 4 1", f"{LONG[:-1]}c = {LONG}[::-1]", f"set {LONG}[1:] = {LONG}[:-1]", f"del {LONG}"],
+    "byte strings": ["""s = array |S6 (2,2) b'<&>"' b'</a>' b'-->' b'&lt;\\x27'""", "t = transpose s", "set t[0] = s[1]", "print s"],
+    "records in records": ["r = array T{b:x:T{<i:<y>&:3s:z:}:s:2x} (3) (1,(2,b'ab')) (3,(4,b'c')) (5,(6,b''))", 'f = field r "s"', 'y = field f "<y>&"',
+                           "set y[1:] = y[:-1]", "set r[0] = r[2]", "print r"],
+    "no axes, no items": ["a = full <i4 () 7", "e = zeros <u8 (0,3)", "v = e[:,1]", "w = broadcast a (2,2)", "set a[...] = 9", "c = reshape e (3,0)", "undo"],
+    "what goes and comes back": ["a = arange <i4 0 4 1", "b = a", "c = copy a C", "set a[:2] = c[2:]", "del b", "a = c[::-1]", "undo", "undo", "undo", "del c", "del a"],
+    "grids": ["a = arange <i2 0 12 1", "m = reshape a (3,4)", "t = transpose m", "r = m[::-1,::-2]", "w = broadcast r (2,3,2)", "set r[0] = r[1]", "c = reshape t (12)"],
+    "index arrays": ["a = arange <i8 0 6 1", "i = array <i8 (3) 5 0 3", "b = a[i]", "set a[i] = b", "m = array ? (6) True False True False False True", "set a[m] = a[i]",
+                     "upd a[i] add a[m]"],
+    "many items": ["a = arange <i4 0 600 1", "m = reshape a (20,30)", "t = transpose m", "b = a[300:]", "set b[0] = -1", "set a[1:] = a[:-1]", "del a", "print m"],
+    "long items": ["r = zeros T{" + "".join(f"h:field{k}:" for k in range(64)) + "} (40)", "s = full |S65536 (3) b'x'", "set r[5] = 1", "t = s[1:]"],
+}
+# What a page does while each arrow is pressed, and then the slider is moved, in a frame of some width.
+FRAMES = """<!DOCTYPE html><meta charset="utf-8"><body><pre id="told"></pre><script>
+const told = [], pages = [%s];
+const texts = rows => [...rows].map(row => [...row.querySelectorAll("td > span:not(.pad)")].map(box => box.firstChild ? box.firstChild.data : ""));
+async function tried(page, width) {
+  const frame = document.createElement("iframe");
+  frame.style = `width:${width}px;height:700px`;
+  frame.srcdoc = page.replace("<head>", '<head><script>window.faults=[];addEventListener("error",e=>faults.push(e.message))<\/script>');
+  const loaded = new Promise(done => frame.onload = done);
+  document.body.append(frame);
+  await loaded;
+  const inside = frame.contentWindow, page_ = inside.document, lines = [];
+  const count = page_.querySelectorAll("nav button").length;
+  const press = key => page_.body.dispatchEvent(new inside.KeyboardEvent("keydown", { key, bubbles: true, cancelable: true }));
+  for (let k = 0; k <= count; k++) press("ArrowUp");
+  for (let k = 0; k < count; k++) {
+    lines.push([page_.getElementById("line").textContent, page_.getElementById("words").textContent, texts(page_.querySelectorAll("tr.now")),
+      page_.querySelectorAll("[aria-current]").length, page_.documentElement.scrollWidth <= inside.innerWidth]);
+    press("ArrowDown");
+  }
+  const slider = page_.getElementById("slider");
+  slider.value = 0;
+  slider.dispatchEvent(new inside.Event("input"));
+  told.push({ lines, faults: inside.faults, first: page_.getElementById("line").textContent });
+  frame.remove();
+}
+(async () => {
+  for (const page of pages) for (const width of [1100, 360]) await tried(page, width);
+  document.getElementById("told").textContent = JSON.stringify(told);
+})();
+</script>"""
 
 
 def flat(item):
@@ -120,6 +172,91 @@ class Pictures(unittest.TestCase):
             self.assertEqual(seen[name], wanted, name)
             if len(array.shape) == 2 and array.items:
                 self.assertEqual(grids[name], [list(map(literal, row)) for row in array.tolist()])
+
+    def drawn(self, lines, *words):
+        """The output of `bench-tool draw` on a script."""
+        with tempfile.TemporaryDirectory() as folder:
+            path = pathlib.Path(folder, "made <&>.bench")
+            path.write_bytes(b"".join(line + b"\n" for line in lines))
+            done = subprocess.run([str(TOOL), "draw", str(path), f"--dir={folder}", *words], capture_output=True, env=environment(), timeout=300)
+        self.assertEqual((done.stderr, done.returncode), (b"", 0))
+        return done.stdout.decode()
+
+    def test_pages_and_pictures_of_all_kinds(self):
+        for name, lines in SCRIPTS.items():
+            with self.subTest(name):
+                text = self.drawn([line.encode() for line in lines])
+                self.assertLess(len(text.encode()), 200_000)
+                self.assertNotIn("http", text.replace("http://www.w3.org/2000/svg", ""))
+                answered = [k for k, line in enumerate(lines, 1) if line.strip() and not line.startswith("#")]
+                self.assertEqual([line[0] for line in data_of(text)], answered)
+                if lines:
+                    picture = xml.etree.ElementTree.fromstring(self.drawn([line.encode() for line in lines], "--svg", "--line", str(len(lines))))
+                    self.assertEqual([child.tag.split("}")[1] for child in picture][:2], ["title", "desc"])
+
+    def test_what_is_said(self):
+        lines = [b"a = arange <i4 0 4 1", b"b = a[::2]", b"c = reshape a (2,2)", b"t = transpose c", b"d = reshape t (4)",
+                 b"set a[1:] = a[:-1]", b"del d", b"undo", b"set b[0] = b[0]"]
+        words = [words for _, _, words in data_of(self.drawn(lines))]
+        self.assertEqual(words[0], "Buffer 1 appears. a appears, in buffer 1.")
+        self.assertEqual(words[1], "b appears, in buffer 1.")
+        self.assertEqual(words[4], "Buffer 2 appears. d appears, in buffer 2.")
+        self.assertEqual(words[5], "In buffer 1 changes byte 4 from 1 to 0; byte 8 from 2 to 1; byte 12 from 3 to 2; seen by a, b, c, t. "
+                                   "There went to byte 4 what was at byte 0; to byte 8 what was at byte 4; to byte 12 what was at byte 8.")
+        self.assertEqual((words[6], words[7]), ("Buffer 2 goes. d goes, in buffer 2.", "Buffer 2 comes back. d comes back, in buffer 2."))
+        self.assertEqual(words[8], "Nothing changes.")
+
+    def test_many_names(self):
+        lines = [f"n{k} = arange <i4 0 {k % 5} 1".encode() for k in range(1024)] + [b"one_more = n3", b"n8 = n4", b"set n4[1:] = n4[:-1]", b"del n7", b"undo"]
+        drawn = data_of(self.drawn(lines))
+        self.assertEqual(sum(row[1].startswith("name") for table in drawn[-1][1] for row in table[2]), 1024)
+        self.assertEqual(drawn[-3][2].split(";")[0], "In buffer 5 changes byte 4 from 1 to 0")
+
+    def test_many_items(self):
+        lines = [b"a = arange <i8 0 16777216 1", b"m = reshape a (4096,4096)", b"t = transpose m", b"set t[0] = -5"]
+        with Session(PROGRAM) as bench:
+            begun = time.monotonic()
+            bench.run(lines)
+            if time.monotonic() - begun > 0.5:
+                self.skipTest("left out: this program takes long for 2^24 items alone")
+        begun = time.monotonic()
+        _, tables, words = data_of(self.drawn(lines))[-1]
+        self.assertLess(time.monotonic() - begun, 2)
+        self.assertIn("16776960 items in between are not drawn", tables[0][0])
+        values = next(row[2] for row in tables[0][2] if row[1] == "now")
+        self.assertEqual(values[:3] + values[-2:], [[["-5", "x", 0.0, 1.0, "0 before"]], "1", "2", "16777214", "16777215"])
+        self.assertEqual([boxes(row[2][0])[0][0] for row in tables[1][2]][1:3], ["0→-5", "4096→-5"])
+        self.assertTrue(words.startswith("In buffer 1 changes byte 0 from 0 to -5"))
+
+    def test_in_a_browser(self):
+        if CHROMIUM is None:
+            self.skipTest("left out: no chromium is installed")
+        chosen = {path.stem: scripts.lines_of(path.read_bytes()) for path in sorted((TOP / "examples").glob("*.bench"))}
+        chosen.update((name, [line.encode() for line in lines]) for name, lines in SCRIPTS.items())
+        pages = {name: self.drawn(lines) for name, lines in chosen.items()}
+        with tempfile.TemporaryDirectory() as folder:
+            frames = pathlib.Path(folder, "frames.html")
+            frames.write_text(FRAMES % ",\n".join(json.dumps(text).replace("</", "<\\/").replace("<!--", "<\\u0021--") for text in pages.values()))
+            words = ["--headless", "--no-sandbox", "--disable-gpu", f"--user-data-dir={folder}/user", "--virtual-time-budget=600000", "--dump-dom"]
+            done = subprocess.run([CHROMIUM, *words, frames.as_uri()], capture_output=True, timeout=300)
+        told = re.search(r'<pre id="told">(.*?)</pre>', done.stdout.decode(), re.S)[1]
+        for (name, width), did in zip(itertools.product(pages, (1100, 360)), json.loads(html.unescape(told)), strict=True):
+            with self.subTest(name, width=width):
+                drawn = data_of(pages[name])
+                self.assertEqual(did["faults"], [])
+                self.assertEqual(len(did["lines"]), len(drawn))
+                self.assertEqual(did["first"].split(":")[0], f"Line {drawn[0][0]}" if drawn else "")
+                for (title, words, texts, current, fits), (number, tables, said) in zip(did["lines"], drawn):
+                    rows = [row[2] for table in tables for row in table[2] if row[1] == "now"]
+                    expected = [box[0] for row in rows for cell in row for box in boxes(cell) if box[1] != "pad"]
+                    self.assertEqual((title.split(":")[0], words, current, fits), (f"Line {number}", said, 1, True))
+                    self.assertEqual([text for row in texts for text in row], expected)
+
+    def test_pictures_of_the_docs(self):
+        with tempfile.TemporaryDirectory() as folder:
+            subprocess.run([str(TOP / "tools/pictures.sh"), folder], check=True, env=environment(), timeout=120)
+            made = {path.name: path.read_text() for path in pathlib.Path(folder).iterdir()}
+        self.assertEqual(made, {path.name: path.read_text() for path in (TOP / "docs/pictures").iterdir()}, "make pictures draws them anew")
 
 
 if __name__ == "__main__":

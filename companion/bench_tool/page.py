@@ -10,11 +10,11 @@ from typing import Any, Mapping, Sequence
 
 from . import language
 from .picture import Box, Drawn, Table, cut, drawn, said
-from .runs import fault, lines_of, shown
-from .svg import DARK, HUES, LIGHT, svg
-from .trace import MOST_CELLS, MOST_UNDO, Moment, Trace
+from .runs import fault, lines_of
+from .svg import COLOURS, DARK, HUES, LIGHT, svg
+from .trace import MOST_CELLS, Moment, Trace
 
-LARGEST = 190_000  # letters of a page of few lines, for which fewer cells are drawn
+LARGEST = 190_000  # letters of a page of a FEW lines, for which fewer cells are drawn
 FEW = 50
 TOLD = 1000  # letters of a reply
 
@@ -34,8 +34,8 @@ class Pictures:
                 rest = moment.after.buffers.keys() - tables.keys()
                 plain = {number: plain.get(number) or self.tables(Drawn(moment, number, hues, most)) for number in rest}
                 ids = [id_ for _, each in sorted([*tables.items(), *plain.items()]) for id_ in each]
-                begin = next((k for k, pair in enumerate(zip(ids, last)) if pair[0] != pair[1]), min(len(ids), len(last)))
-                self.lines.append([moment.number, begin, ids[begin:], said(touched.values())])
+                same = next((k for k, pair in enumerate(zip(ids, last)) if pair[0] != pair[1]), min(len(ids), len(last)))
+                self.lines.append([moment.number, same, ids[same:], said(touched.values())])
                 last = ids
 
     def tables(self, each: Drawn) -> list[int]:
@@ -60,25 +60,20 @@ class Pictures:
 
 def script_item(moment: Moment) -> str:
     """A line of the script with its reply, as an item of a list."""
-    if not moment.reply.text:
-        return f'<li value="{moment.number}"><code>{escape(cut(moment.line, TOLD))}</code></li>'
-    reply = cut(moment.reply.text, TOLD)
-    if not moment.reply.accepted and moment.reply.code in language.codes():
-        reply += f": {language.codes()[moment.reply.code][1]}"
-    return (
-        f'<li value="{moment.number}"><button type="button"><code>{escape(cut(moment.line, TOLD))}</code></button>'
-        f'<pre class="{"ok" if moment.reply.accepted else "no"}">{escape(reply)}</pre></li>'
-    )
+    line, reply = f"<code>{escape(cut(moment.line, TOLD))}</code>", cut(moment.reply.text, TOLD)
+    if reply and not moment.reply.accepted:
+        reply += f": {language.codes().get(moment.reply.code, ('', moment.reply.meaning))[1]}"
+    look = "ok" if moment.reply.accepted else "no"
+    told = f'<button type="button">{line}</button><pre class="{look}">{escape(reply)}</pre>' if reply else line
+    return f'<li value="{moment.number}">{told}</li>'
 
 
 def page(title: str, moments: Sequence[Moment], hues: Mapping[str, int], line: int = 0) -> str:
     """The page of a script that was run, which begins with the picture of a line, else with that of the last one."""
-    template = Path(__file__).with_suffix(".html").read_text(encoding="utf-8")
-    colours = "".join(f".h{k}{{--c:var(--h{k})}}" for k in range(len(HUES[0])))
-    filled = {"TITLE": escape(title), "LIGHT": LIGHT, "DARK": DARK, "COLOURS": colours, "LINE": str(line)}
+    filled = {"TITLE": escape(title), "LIGHT": LIGHT, "DARK": DARK, "COLOURS": COLOURS, "LINE": str(line)}
     filled["SCRIPT"] = "\n".join(map(script_item, moments))
     for most in (MOST_CELLS, 64, 16, 4):
-        made = template
+        made = Path(__file__).with_suffix(".html").read_text(encoding="utf-8")
         for word, text in {**filled, "DATA": Pictures(moments, hues, most).json()}.items():
             made = made.replace(f"<!--{word}-->", text)
         if len(made) <= LARGEST or len(moments) > FEW:
@@ -92,15 +87,15 @@ def draw(words: argparse.Namespace) -> int:
             lines = list(lines_of(script))
     except OSError as problem:
         return fault(f"{words.script}: {problem.strerror}")
+    if words.svg and not 1 <= (words.line or 0) <= len(lines):
+        return fault(f"--svg wants --line 1 to {len(lines)}")
     hues: dict[str, int] = {}
     moments = []
     with Trace(undo=words.undo, dir=words.dir, script=b"\n".join(lines)) as trace:
         for line in lines[:words.line if words.svg else None]:
             moments.append(trace.step(line))
             for name in moments[-1].after.names:
-                hues.setdefault(name, len(hues) % len(HUES[0]))
-    if words.svg and not 1 <= (words.line or 0) <= len(lines):
-        return fault(f"--svg wants --line 1 to {len(lines)}")
+                hues.setdefault(name, len(hues) % HUES)
     if words.svg:
         last = moments[-1]
         buffers = drawn(last, {*last.before.buffers, *last.after.buffers}, hues, MOST_CELLS).values()

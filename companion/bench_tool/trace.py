@@ -1,14 +1,14 @@
 """What a script does to memory, line by line, as the program alone tells it.
 
-The script runs in a session of its own. Each line that changes something is sent to a second session too, in which
-questions are asked: there a line can be tried on other items, and an array be looked at in part, since all that is tried
-is undone at once.
+The script runs in a session of its own. Each line that changes something is sent to a second session too, where questions
+are asked: there a line can be tried on other items, and an array be looked at in part, and all that is tried is undone.
 """
 from __future__ import annotations
 
 import os
 import re
 from collections import deque
+from contextlib import ExitStack
 from dataclasses import dataclass, field
 from functools import cached_property
 from math import prod
@@ -25,22 +25,10 @@ FIELD = re.compile(r":([^:]*):")
 BOUND = re.compile(r"ok (\w+) .* (new|view|copy)(?: rest \d+)?")
 DIGITS = b"0123456789ABCDEFGHIJKLMNOPQRSTUVWXYZabcdefghijklmnopqrstuvwxyz+-"
 
+Path = Union[str, os.PathLike[str]]
 Values = Mapping[int, Any]
-
-
-class Place(NamedTuple):
-    """A byte of a buffer at which a value begins."""
-
-    buffer: int
-    byte: int
-
-
-class Leaf(NamedTuple):
-    """A value of an item: its first byte, its bytes, and the field that it is."""
-
-    at: int
-    size: int
-    field: str
+Place = NamedTuple("Place", [("buffer", int), ("byte", int)])  # where a value begins
+Leaf = NamedTuple("Leaf", [("at", int), ("size", int), ("field", str)])  # a value of an item: its bytes, and which field it is
 
 
 @dataclass(frozen=True)
@@ -54,7 +42,7 @@ class Kind:
     @cached_property
     def leaves(self) -> list[Leaf]:
         inner = [(at, name, leaf) for at, name, kind in self.fields for leaf in kind.leaves]
-        found = [Leaf(at + leaf.at, leaf.size, ".".join(filter(None, (name, leaf.field)))) for at, name, leaf in inner]
+        found = [Leaf(at + leaf.at, leaf.size, name + ("." + leaf.field if leaf.field else "")) for at, name, leaf in inner]
         return found or [Leaf(0, self.size, "")]
 
     def spread(self, item: Any, at: int) -> Iterator[tuple[int, Any]]:
@@ -66,15 +54,12 @@ class Kind:
 
     def item(self, values: Values, at: int) -> Any:
         """The item whose values stand at a byte; None for each that is not known."""
-        if not self.fields:
-            return values.get(at)
-        return tuple(kind.item(values, at + offset) for offset, _, kind in self.fields)
+        return tuple(kind.item(values, at + offset) for offset, _, kind in self.fields) if self.fields else values.get(at)
 
 
 @dataclass(frozen=True)
 class Bound:
-    """What a name is bound to: an array in a buffer, without its items. Items that have places of their own are numbered in
-    the order in which they are read first."""
+    """What a name is bound to: an array in a buffer. Items in places of their own are numbered as they are read first."""
 
     array: Array
     buffer: int
@@ -98,13 +83,8 @@ class Bound:
         """How many indexes lead to each item."""
         return prod(self.array.shape) // max(1, self.count)
 
-    @property
-    def has_grid(self) -> bool:
-        return len(self.array.shape) == 2 and self.count > 0
-
     def number(self, byte: int) -> Optional[int]:
-        """The number of the item that begins at a byte. The axis of the longest stride is the outermost in memory, so that the
-        others lead to less than one of its steps."""
+        """The number of the item that begins at a byte. The shorter strides lead to less than a step of the longest."""
         rest = byte - self.array.at - sum(stride * (length - 1) for stride, length, _ in self.axes if stride < 0)
         number = 0
         for stride, length, weight in sorted((axis for axis in self.axes if axis[0]), key=lambda axis: -abs(axis[0])):
@@ -114,13 +94,15 @@ class Bound:
         return None if rest or not self.count else number
 
     def numbers(self, starts: list[int], size: int) -> dict[int, int]:
-        """Of the items in those that begin at `starts`, each of `size` bytes: the byte and the number, in order."""
+        """Of the items in those of `size` bytes that begin at `starts`: the byte and the number, in order."""
         places = [start + self.array.at % size for start in starts]
-        found = {byte: number for byte in places if (number := self.number(byte)) is not None}
-        return dict(sorted(found.items(), key=lambda pair: pair[1]))
+        found = [(number, byte) for byte in places if (number := self.number(byte)) is not None]
+        return {byte: number for number, byte in sorted(found)}
 
-    def grid(self, side: int) -> tuple[list[int], list[int], list[list[int]]]:
+    def grid(self, side: int = SIDE) -> tuple[list[int], list[int], list[list[int]]]:
         """The rows and columns of an array of two axes that are drawn, and at which bytes their items begin."""
+        if len(self.array.shape) != 2 or not self.count:
+            return [], [], []
         rows, columns = (ends(length, side) for length in self.array.shape)
         (down, right), at = self.array.strides, self.array.at
         return rows, columns, [[at + row * down + column * right for column in columns] for row in rows]
@@ -136,8 +118,8 @@ class Buffer:
 
     def starts(self, most: int = MOST_CELLS) -> list[int]:
         """Where the items begin that are drawn: fewer of long ones and of those with many values."""
-        size, most = self.kind.size, min(most, AT_ONCE // self.kind.size, 4 * MOST_CELLS // len(self.kind.leaves))
-        return [k * size for k in ends(self.count, max(4, most))]
+        most = min(most, AT_ONCE // self.kind.size, 4 * MOST_CELLS // len(self.kind.leaves))
+        return [k * self.kind.size for k in ends(self.count, max(4, most))]
 
 
 @dataclass(frozen=True)
@@ -148,7 +130,6 @@ class State:
     buffers: Mapping[int, Buffer] = field(default_factory=dict)
 
     def inside(self, buffer: int) -> dict[str, Bound]:
-        """The names of the arrays in a buffer."""
         return {name: bound for name, bound in self.names.items() if bound.buffer == buffer}
 
 
@@ -185,35 +166,21 @@ def literal(item: Any) -> str:
     return "?" if item is None else str(item)
 
 
-def _digit(value: Any, digit: int) -> Any:
-    """A digit as a value of the same type."""
-    return DIGITS[digit:digit + 1] if isinstance(value, bytes) else bool(digit) if isinstance(value, bool) else digit
+class Trace(ExitStack):
+    """A script that is run line by line, until it is closed."""
 
-
-class Trace:
-    """A script that is run line by line."""
-
-    def __init__(
-        self, program: Union[str, os.PathLike[str], None] = None, undo: int = 16,
-        dir: Union[str, os.PathLike[str]] = ".", script: bytes = b"",
-    ):
-        if not 0 <= undo <= MOST_UNDO:
-            raise BenchError(f"a script that is drawn may go back 0 to {MOST_UNDO} changes, not {undo}")
-        self.state = State()
-        self._lines = self._made = 0
-        self._kept: deque[State] = deque(maxlen=MOST_UNDO)
-        self._kinds: dict[str, Kind] = {}
+    def __init__(self, program: Optional[Path] = None, undo: int = 16, dir: Path = ".", script: bytes = b""):
+        super().__init__()
+        if undo > MOST_UNDO:
+            raise BenchError(f"a script that is drawn may go back {MOST_UNDO} changes, not {undo}")
         taken = set(WORD.findall(script.decode("latin-1")))
         self._free = next(name for name in (f"_{k}" for k in range(len(taken) + 1)) if name not in taken)
-        self._script = Session(program, undo, dir)
-        self._second = Session(program, 64, dir)
-
-    def __enter__(self) -> Trace:
-        return self
-
-    def __exit__(self, *_: object) -> None:
-        self._script.close()
-        self._second.close()
+        self._script = self.enter_context(Session(program, undo, dir))
+        self._second = self.enter_context(Session(program, 64, dir))
+        self._kept: deque[State] = deque(maxlen=MOST_UNDO)
+        self._kinds: dict[str, Kind] = {}
+        self._lines = self._made = 0
+        self.state = State()
 
     def step(self, line: bytes) -> Moment:
         """Runs a line, and tells what it did."""
@@ -253,22 +220,15 @@ class Trace:
     def _bind(self, reply: Reply, behind: list[str]) -> None:
         """A name was bound: to a view in the buffer of the first name behind it, or to an array in a buffer of its own."""
         found = BOUND.fullmatch(reply.text)
-        if found is None:
-            raise BenchError(f"the reply {reply.text!r} is not understood")
+        assert found is not None, reply.text
         name, how = found.groups()
         array = self._second.array(name, items=False)
-        kind = self._kind(array.type, name)
-        if how == "view":
-            number = self.state.names[behind[0]].buffer
-            buffer = self.state.buffers[number]
-        else:
-            number = self._made = self._made + 1
-            buffer = Buffer(kind, prod(array.shape))
-        bound = Bound(array, number, kind)
+        bound = Bound(array, self.state.names[behind[0]].buffer if how == "view" else self._made + 1, self._kind(array.type, name))
+        self._made = max(self._made, bound.buffer)
+        buffer = self.state.buffers.get(bound.buffer) or Buffer(bound.kind, prod(array.shape))
         read = self._read(buffer, {name: bound}, buffer.values)
-        if read or how != "view":
-            buffer = Buffer(buffer.kind, buffer.count, {**buffer.values, **read})
-        self._settle({**self.state.names, name: bound}, {**self.state.buffers, number: buffer})
+        buffer = Buffer(buffer.kind, buffer.count, {**buffer.values, **read}) if read else buffer
+        self._settle({**self.state.names, name: bound}, {**self.state.buffers, bound.buffer: buffer})
 
     def _kind(self, text: str, name: str) -> Kind:
         """An element type, which is learnt from an array of two items and from its fields."""
@@ -287,11 +247,10 @@ class Trace:
 
     def _written(self, line: bytes, reply: Reply, touched: list[int]) -> dict[Place, Place]:
         """Items were written, in the buffer of one of the names that the line has; where those came from that it moved."""
-        before = self.state
+        before, moved = self.state, {}
         fresh = {number: self._reread(number, before) for number in touched}
         changed = {number: buffer for number, buffer in fresh.items() if buffer.values != before.buffers[number].values}
         self.state = State(before.names, {**before.buffers, **changed})
-        moved: dict[Place, Place] = {}
         if changed and reply.text.startswith("ok set "):
             self._undo(1)
             for source in touched:
@@ -310,8 +269,7 @@ class Trace:
         read: dict[int, Any] = {}
         for name, bound in sorted(names.items(), key=lambda pair: -pair[1].count):
             wanted = bound.numbers(buffer.starts(), buffer.kind.size)
-            for at in (at for row in bound.grid(SIDE)[2] for at in row) if bound.has_grid else ():
-                wanted[at] = bound.number(at) or 0
+            wanted.update((at, bound.number(at) or 0) for row in bound.grid()[2] for at in row)
             leaves = [leaf.at for leaf in bound.kind.leaves]
             new = [at for at in wanted if any(at + leaf not in known and at + leaf not in read for leaf in leaves)]
             for at, item in zip(new, self._items(name, bound, [wanted[at] for at in new]) if new else ()):
@@ -323,8 +281,7 @@ class Trace:
         tried = []
         if not all(stride for stride, _, _ in bound.axes):
             tried.append(f"{name} = {name}[{','.join(':' if stride else '0' for stride, _, _ in bound.axes)}]")
-        at_once = bound.count * bound.kind.size <= AT_ONCE
-        if not at_once:
+        if is_long := bound.count * bound.kind.size > AT_ONCE:
             spare = next((other for other in self.state.names if other != name), self._free)
             tried.append(f"{name} = reshape {name} (-1)")
             tried.append(f"{spare} = array <i8 ({len(numbers)}) {' '.join(map(str, numbers))}")
@@ -333,7 +290,7 @@ class Trace:
             self._second.ask(line)
         items = self._second.array(name).items
         self._undo(len(tried))
-        return [items[number] for number in numbers] if at_once else list(items)
+        return list(items) if is_long else [items[number] for number in numbers]
 
     def _moved(self, line: bytes, before: State, source: int, changed: list[int]) -> dict[Place, Place]:
         """Where a line put what stood in a buffer: it is run on items that tell their places.
@@ -349,32 +306,26 @@ class Trace:
         items = list(bound.numbers(starts, buffer.kind.size))
         places = [at + leaf.at for at in items for leaf in bound.kind.leaves]
         base = 2 if any(isinstance(buffer.values[place], bool) for place in places) else len(DIGITS)
-        powers = [1]
-        while powers[-1] * base < len(places):
-            powers.append(powers[-1] * base)
+        powers = [base ** k for k in range(12) if k == 0 or base ** k < len(places)]
         rows = [[k // power % base for k in range(len(places))] for power in powers]
         rows.append([base - 1 - digit for digit in rows[0]])
-        coded = [{place: _digit(buffer.values[place], digit) for place, digit in zip(places, row)} for row in rows]
+        coded = [{place: as_digit(buffer.values[place], digit) for place, digit in zip(places, row)} for row in rows]
         told = {tuple(code[place] for code in coded): Place(source, place) for place in places}
         left = [self._tried(line, before, name, [bound.kind.item(code, at) for at in items], changed) for code in coded]
-        moved: dict[Place, Place] = {}
-        for at in left[0] if all(left) else ():
-            origin = told.get(tuple(values.get(at) for values in left), at)
-            if origin != at:
-                moved[at] = origin
-        return moved
+        origins = {at: told.get(tuple(values.get(at) for values in left), at) for at in (left[0] if all(left) else ())}
+        return {at: origin for at, origin in origins.items() if at != origin}
 
     def _tried(self, line: bytes, before: State, name: str, items: list[Any], changed: list[int]) -> dict[Place, Any]:
         """What a line leaves in some buffers where an array had these items before it; nothing where it is refused then."""
         array = before.names[name].array
-        shape = ",".join(map(str, array.shape))
-        new = f"{self._free} = array {array.type} ({shape}) {' '.join(map(literal, items))}"
-        tried, left = 0, {}
-        for sent in (new, f"set {name}[...] = {self._free}", line):
-            if not self._second.send(sent).accepted:
-                break
-            tried += 1
-        else:
-            left = {Place(number, at): value for number in changed for at, value in self._reread(number, before).values.items()}
+        new = f"{self._free} = array {array.type} ({','.join(map(str, array.shape))}) {' '.join(map(literal, items))}"
+        tried = sum(self._second.send(sent).accepted for sent in (new, f"set {name}[...] = {self._free}", line))
+        fresh = {number: self._reread(number, before).values for number in changed if tried == 3}
+        left = {Place(number, at): value for number, values in fresh.items() for at, value in values.items()}
         self._undo(tried)
         return left
+
+
+def as_digit(value: Any, digit: int) -> Any:
+    """A digit as a value of the same type."""
+    return DIGITS[digit:digit + 1] if isinstance(value, bytes) else bool(digit) if isinstance(value, bool) else digit
