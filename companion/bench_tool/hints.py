@@ -8,7 +8,7 @@ from __future__ import annotations
 import difflib
 import os
 import re
-from typing import Callable, NamedTuple, Optional
+from typing import Callable, NamedTuple
 
 from . import language
 from .session import BenchError, Reply, Session
@@ -33,15 +33,14 @@ TYPE = r"(?:np\.)?(" + "|".join(TYPES) + ")"
 class Known:
     """What a row may ask of the session: a name that is free, and the type of a name."""
 
-    def __init__(self, session: Optional[Session] = None):
-        self.session = session
-        self.names = session.names() if session else []
+    def __init__(self, session: Session):
+        self.session, self.names = session, session.names()
 
     def free(self) -> str:
         return next(name for name in ("t", *(f"t{k}" for k in range(2000))) if name not in self.names)
 
     def type_of(self, name: str) -> str:
-        return self.session.array(name, items=False).type if self.session and name in self.names else "<i8"
+        return self.session.array(name, items=False).type if name in self.names else "<i8"
 
 
 class Row(NamedTuple):
@@ -68,7 +67,6 @@ ROWS = tuple(Row(*row) for row in (
     ("print a # the items", r"([^#]*[^#\s])\s*#.*", r"# a comment has a line of its own" "\n" r"\1"),
     ("print(a)", rf"(print|info|format|del)\s*\({NAME}\)", r"\1 \2"),
     ("print a[0]", rf"(print|info|format)\s*\(?{NAME}\s*{SPAN}\)?", r"@t = \2\3" "\n" r"\1 @t"),
-    ("shares a[1:] a", rf"shares {NAME}{SPAN} {NAME}", r"@t = \1\2" "\n" r"shares @t \3"),
     ("save a f.npy", rf"save {NAME} '?([\w.-]+)'?", r'save \1 "\2"'),
     ("x = load 'a.npy'", rf"{NAME}\s*=\s*load\s*\(?'?([\w.-]+)'?\)?", r'\1 = load "\2"'),
     ('load "a.npy"', r'load "([\w.-]+)"', r'x = load "\1"'),
@@ -79,7 +77,6 @@ ROWS = tuple(Row(*row) for row in (
     ("upd a add 1", rf"upd {NAME} {TWO} (.+)", r"upd \1[...] \2 \3"),
     ("set a = 5", rf"set {NAME}\s*=\s*(.+)", r"set \1[...] = \2"),
     ("set a [0] = 5", rf"set {NAME}\s+{SPAN}\s*=\s*(.+)", r"set \1\2 = \3"),
-    ("set a[0] 5", rf"set {NAME}\s*{SPAN}\s+([^=\s].*)", r"set \1\2 = \3"),
     ("set m[0][0] = 5", rf"(?:set )?{NAME}\[([^][]*)\]\[([^][]*)\]\s*=\s*(.+)", r"@t = \1[\2]" "\n" r"set @t[\3] = \4"),
     ("a[0] = 5", rf"{NAME}\s*{SPAN}\s*=\s*([^=\s].*)", r"set \1\2 = \3"),
     ("set a[:] = add a 1", rf"set {NAME}{SPAN}\s*=\s*([a-z]+ .+)", r"@t = \3" "\n" r"set \1\2 = @t"),
@@ -87,8 +84,6 @@ ROWS = tuple(Row(*row) for row in (
     ("x = sum a[0]", rf"{NAME}\s*=\s*{FOLDS} {NAME}\s*{SPAN}(.*)", r"@t = \3\4" "\n" r"\1 = \2 @t\5"),
     ("x = sum m axis=0", rf"{NAME}\s*=\s*{FOLDS} {NAME},?\s*axis\s*=\s*(-?\d+)", r"\1 = \2 \3 \4"),
     ("x = sum(m)", rf"{NAME}\s*=\s*(?:np\.)?{FOLDS}\({NAME}\)", r"\1 = \2 \3"),
-    ("x = m.sum(0)", rf"{NAME}\s*=\s*{NAME}\.{FOLDS}\((?:axis=)?(-?\d*)\)", r"\1 = \3 \2 \4"),
-    ("sum a", rf"{FOLDS} {NAME}", r"@t = \1 \2" "\n" r"print @t"),
     ("x = add 5 a", rf"{NAME}\s*=\s*(add|mul|and|or|xor|eq|ne) {LITERAL} {NAME}", r"\1 = \2 \4 \3"),
     ("x = sub 5 a", rf"{NAME}\s*=\s*{TWO} {LITERAL} {NAME}", r"@t = full @D(\4) () \3" "\n" r"\1 = \2 @t \4"),
     ("x = a + 1", rf"{NAME}\s*=\s*{NAME}\s*{SIGN}\s*(\S+)", r"\1 = @O(\3) \2 \4"),
@@ -104,19 +99,17 @@ ROWS = tuple(Row(*row) for row in (
     ("x = zeros (2,3)", rf"{NAME}\s*=\s*(?:np\.)?zeros\s*\(?(\([^()]*\))\)?", r"\1 = zeros <i8 \2"),
     ("x = zeros <i4 2,3", rf"{NAME}\s*=\s*zeros (\S+) (\d+(?:[ ,]+\d+)*)", r"\1 = zeros \2 (\3)"),
     ("x = arange 5", rf"{NAME}\s*=\s*(?:np\.)?arange\s*\(?(\d+)\)?", r"\1 = arange <i8 0 \2 1"),
-    ("x = arange <i4 5", rf"{NAME}\s*=\s*arange (\S+) (\d+)", r"\1 = arange \2 0 \3 1"),
     ("x = arange <i4 0 5", rf"{NAME}\s*=\s*arange (\S+) (-?\d+)[ ,]+(-?\d+)", r"\1 = arange \2 \3 \4 1"),
     ("x = array <i4 (3) 1,2,3", rf"{NAME}\s*=\s*array (\S+) (\([^()]*\)) ?\[?([-\d, ]+)\]?", r"\1 = array \2 \3 @C(\4)"),
     ("x = array <i4 1 2 3", rf"{NAME}\s*=\s*array (\S+) \[?([-\d][-\d, ]*)\]?", r"\1 = array \2 (@N(\3)) @C(\3)"),
     ("x = [1, 2, 3]", rf"{NAME}\s*=\s*(?:np\.array\()?\[([-\d, ]+)\]\)?", r"\1 = array <i8 (@N(\2)) @C(\2)"),
-    ("x = array |S2 (1) \"ab\"", r"(.*)\"([^\"\\]*)\"", r"\1b'\2'"),
+    ("x = array |S2 (1) \"ab\"", r"(.*(?:array|full|set) .*)\"([^\"\\]*)\"", r"\1b'\2'"),
     ("x = array |S2 (1) 'ab'", r"(.*[ (,])'([^'\\]*)'(.*)", r"\1b'\2'\3"),
     ("x = 5", rf"{NAME}\s*=\s*(-?\d+)", r"\1 = full <i8 () \2"),
     ("a.shape", rf"{NAME}\.(?:shape|strides|flags|ndim|size)", r"info \1"),
-    ("a.dtype", rf"{NAME}\.dtype", r"format \1"),
     ("a", NAME, r"print \1"),
     ("a[0]", rf"{NAME}\s*{SPAN}", r"@t = \1\2" "\n" r"print @t"),
-    ("print = a", rf"{NAME}\s*=.*", r"# the words of commands are no names, and `help` lists the commands"),
+    ("print = a", rf"{NAME}\s*=.*", r"# `help` lists the commands, whose words are no names"),
 ))
 
 
@@ -127,23 +120,21 @@ def written(line: str, known: Known) -> str:
 
 
 def meant(session: Session, line: str, reply: Reply, folder: str = ".") -> list[str]:
-    """What may be meant by a refused line, in a few lines, and what the code says."""
+    """What may be meant by a refused line, in a few lines; what the code says, and what is bound."""
     try:
         known = Known(session)
-        told = written(line, known) if reply.code == "E03" else _of_code(session, known, line, reply.code, folder)
+        if reply.code == "E03":
+            told = written(line, known).splitlines()
+            return [text if text.startswith("#") else f"write: {text}" for text in told]
+        told = [language.codes().get(reply.code, ("", ""))[1], _of_code(known, line, reply.code, folder)]
+        return list(filter(None, told))
     except (BenchError, OSError):
         return []
-    if reply.code == "E03":
-        return [text if text.startswith("#") else f"write: {text}" for text in told.splitlines()]
-    when = language.codes().get(reply.code, ("", ""))[1]
-    return [text for text in (when, told) if text]
 
 
-def _of_code(session: Session, known: Known, line: str, code: str, folder: str) -> str:
+def _of_code(known: Known, line: str, code: str, folder: str) -> str:
     words = re.findall(r"[A-Za-z_]\w*", line)
     bound = [word for word in dict.fromkeys(words) if word in known.names]
-    if code == "E02":
-        return "bytes of plain ASCII alone, and straight quotes"
     if code in ("E04", "E05"):
         return "; ".join(f"write: {TYPES[word]} for {word}" for word in words if word in TYPES)
     if code == "E06":
@@ -154,10 +145,10 @@ def _of_code(session: Session, known: Known, line: str, code: str, folder: str) 
         near = difflib.get_close_matches(line.split('"')[1], os.listdir(folder))
         return f"near it: {' '.join(near)}" if near else f"looked for in {os.path.abspath(folder)}"
     if code == "E19":
-        return "; ".join(f"{name} has {' '.join(fields(session, name)) or 'no fields'}" for name in bound)
+        return "; ".join(f"{name} has {' '.join(fields(known.session, name)) or 'no fields'}" for name in bound)
     if code == "E20":
         return "write: copy X C, and set in the copy"
-    shown = [session.array(name, items=False) for name in bound]
+    shown = [known.session.array(name, items=False) for name in bound]
     return "; ".join(f"{array.name} is {array.type} {array.shape}" for array in shown)
 
 
