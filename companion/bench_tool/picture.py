@@ -150,7 +150,8 @@ class Drawn:
         if self.changed:
             changes = [f"byte {at} from {cut(literal(self.old[at]))} to {cut(literal(self.values[at]))}" for at in self.changed]
             seen = [name for name, bound, _ in self.names if any(self.has_changed(bound, at) for at in bound.numbers(self.starts, self.size))]
-            told.append(f"In buffer {self.number} changes {some(changes)}; seen by {', '.join(seen) or 'no name'}.")
+            part = ", as far as it is drawn," * (self.count > len(self.column))
+            told.append(f"In buffer {self.number}{part} changes {some(changes)}; seen by {', '.join(seen) or 'no name'}.")
         if self.moved:
             other = {source: f" of buffer {source.buffer}" * (source.buffer != self.number) for source in self.moved.values()}
             moves = [f"to byte {at} what was at byte {source.byte}{other[source]}" for at, source in self.moved.items()]
@@ -162,6 +163,8 @@ def drawn(moment: Moment, numbers: Iterable[int], hues: Mapping[str, int], most:
     return {number: Drawn(moment, number, hues, most) for number in sorted(numbers)}
 
 
-def said(buffers: Iterable[Drawn]) -> str:
+def said(moment: Moment, buffers: Iterable[Drawn]) -> str:
     """What a line did, in words."""
-    return cut(" ".join(filter(None, (each.said() for each in buffers))), 2000) or "Nothing changes."
+    hides = any(buffer.count > len(buffer.starts()) for buffer in moment.after.buffers.values())
+    nothing = "Nothing that is drawn changes." if hides and moment.reply.text[:7] in ("ok set ", "ok upd ") else "Nothing changes."
+    return cut(" ".join(filter(None, (each.said() for each in buffers))), 2000) or nothing
