@@ -35,7 +35,7 @@ class Pictures:
                 plain = {number: plain.get(number) or self.tables(Drawn(moment, number, hues, most)) for number in rest}
                 ids = [id_ for _, each in sorted([*tables.items(), *plain.items()]) for id_ in each]
                 same = next((k for k, pair in enumerate(zip(ids, last)) if pair[0] != pair[1]), min(len(ids), len(last)))
-                self.lines.append([moment.number, same, ids[same:], said(touched.values())])
+                self.lines.append([moment.number, same, ids[same:], said(moment, touched.values())])
                 last = ids
 
     def tables(self, each: Drawn) -> list[int]:
@@ -99,7 +99,7 @@ def draw(words: argparse.Namespace) -> int:
     if words.svg:
         last = moments[-1]
         buffers = drawn(last, {*last.before.buffers, *last.after.buffers}, hues, MOST_CELLS).values()
-        made = svg(last, [table for each in buffers for table in each.tables()], said(buffers))
+        made = svg(last, [table for each in buffers for table in each.tables()], said(last, buffers))
     else:
         made = page(Path(words.script).name, moments, hues, words.line or 0)
     if words.output:

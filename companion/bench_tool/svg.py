@@ -49,6 +49,8 @@ def _table(table: Table) -> tuple[list[str], float, int]:
     for first in range(0, max(count, 1), across):
         last, y = min(count, first + across), y + 6
         for row in table.rows:
+            if row.look == "old" and not any(box.look == "x" for cell in row.cells[first:last] for box in cell):
+                continue
             boxes = (_box(box, margin + (k - first) * width, y, width) for k in range(first, last) for box in row.cells[k])
             label = _text(8, y, row.label, labels, ' class="label"')
             drawn.append(f'<g class="{row.look}">{label}{"".join(boxes)}</g>')

@@ -21,6 +21,7 @@ MOST_UNDO = 56  # of the 64 states that the second session keeps, the others are
 SIDE = 16  # rows, and columns, of a grid
 AT_ONCE = 1 << 16  # bytes of items that are printed in one go
 WORD = re.compile(r"[A-Za-z_]\w*")
+ODD = re.compile(r"[^\t -~]")
 FIELD = re.compile(r":([^:]*):")
 BOUND = re.compile(r"ok (\w+) .* (new|view|copy)(?: rest \d+)?")
 DIGITS = b"0123456789ABCDEFGHIJKLMNOPQRSTUVWXYZabcdefghijklmnopqrstuvwxyz+-"
@@ -77,11 +78,6 @@ class Bound:
     def count(self) -> int:
         """How many items have places of their own."""
         return prod(length for stride, length, _ in self.axes if stride) if prod(self.array.shape) else 0
-
-    @property
-    def times(self) -> int:
-        """How many indexes lead to each item."""
-        return prod(self.array.shape) // max(1, self.count)
 
     def number(self, byte: int) -> Optional[int]:
         """The number of the item that begins at a byte. The shorter strides lead to less than a step of the longest."""
@@ -185,23 +181,24 @@ class Trace(ExitStack):
     def step(self, line: bytes) -> Moment:
         """Runs a line, and tells what it did."""
         self._lines += 1
-        reply = self._script.send(line)
+        reply, text = self._script.send(line), ODD.sub("\ufffd", line.removesuffix(b"\r").decode("latin-1"))
         before, moved = self.state, {}
-        text = line.removesuffix(b"\r").decode("ascii", "replace")
-        words = [word for word in WORD.findall(text) if word in before.names]
+        names, buffers = before.names, before.buffers
+        words = [word for word in WORD.findall(text) if word in names]
         verb, *rest = reply.text.split()[1:] if reply.accepted and reply.text.startswith("ok ") else ["save"]
         if verb != "save":
             self._again(line, reply)
-        if verb == "undo":
-            self.state = self._kept.pop()
-        elif verb in ("set", "upd"):
-            moved = self._written(line, reply, sorted({before.names[word].buffer for word in words}))
-        elif verb == "del":
-            self._settle({name: bound for name, bound in before.names.items() if name != rest[0]}, before.buffers)
-        elif verb != "save":
-            self._bind(reply, words[1:] if verb in before.names else words)
-        if verb not in ("undo", "save"):
-            self._kept.append(before)
+            if verb in ("set", "upd"):
+                buffers, moved = self._written(line, reply, sorted({names[word].buffer for word in words}))
+            elif verb == "del":
+                names = {name: bound for name, bound in names.items() if name != rest[0]}
+            elif verb != "undo":
+                names, buffers = self._bound(reply, words[1:] if verb in names else words)
+            used = {bound.buffer for bound in names.values()}
+            after = State(names, {number: buffer for number, buffer in buffers.items() if number in used})
+            self.state = self._kept.pop() if verb == "undo" else after
+            if verb != "undo":
+                self._kept.append(before)
         return Moment(self._lines, text, reply, before, self.state, moved)
 
     def _again(self, line: bytes, reply: Reply) -> None:
@@ -212,12 +209,7 @@ class Trace(ExitStack):
         for _ in range(times):
             self._second.ask("undo")
 
-    def _settle(self, names: Mapping[str, Bound], buffers: Mapping[int, Buffer]) -> None:
-        """These names are bound now; buffers without any are gone."""
-        used = {bound.buffer for bound in names.values()}
-        self.state = State(names, {number: buffer for number, buffer in buffers.items() if number in used})
-
-    def _bind(self, reply: Reply, behind: list[str]) -> None:
+    def _bound(self, reply: Reply, behind: list[str]) -> tuple[dict[str, Bound], dict[int, Buffer]]:
         """A name was bound: to a view in the buffer of the first name behind it, or to an array in a buffer of its own."""
         found = BOUND.fullmatch(reply.text)
         assert found is not None, reply.text
@@ -228,7 +220,7 @@ class Trace(ExitStack):
         buffer = self.state.buffers.get(bound.buffer) or Buffer(bound.kind, prod(array.shape))
         read = self._read(buffer, {name: bound}, buffer.values)
         buffer = Buffer(buffer.kind, buffer.count, {**buffer.values, **read}) if read else buffer
-        self._settle({**self.state.names, name: bound}, {**self.state.buffers, bound.buffer: buffer})
+        return {**self.state.names, name: bound}, {**self.state.buffers, bound.buffer: buffer}
 
     def _kind(self, text: str, name: str) -> Kind:
         """An element type, which is learnt from an array of two items and from its fields."""
@@ -245,18 +237,17 @@ class Trace(ExitStack):
             self._kinds[text] = Kind(text, size, tuple((at, word, self._kind(type_, name)) for at, word, type_ in sorted(fields)))
         return self._kinds[text]
 
-    def _written(self, line: bytes, reply: Reply, touched: list[int]) -> dict[Place, Place]:
+    def _written(self, line: bytes, reply: Reply, touched: list[int]) -> tuple[dict[int, Buffer], dict[Place, Place]]:
         """Items were written, in the buffer of one of the names that the line has; where those came from that it moved."""
         before, moved = self.state, {}
         fresh = {number: self._reread(number, before) for number in touched}
         changed = {number: buffer for number, buffer in fresh.items() if buffer.values != before.buffers[number].values}
-        self.state = State(before.names, {**before.buffers, **changed})
         if changed and reply.text.startswith("ok set "):
             self._undo(1)
             for source in touched:
                 moved.update(self._moved(line, before, source, list(changed)))
             self._again(line, reply)
-        return moved
+        return {**before.buffers, **changed}, moved
 
     def _reread(self, number: int, state: State) -> Buffer:
         """A buffer as it is now. What no name sees has stayed; other values that are not drawn are forgotten."""
