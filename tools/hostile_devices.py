@@ -141,16 +141,17 @@ class Trials:
         """Reads and writes that a signal interrupts are made again; a stream with nothing to give yet is a fault."""
         library = self.folder / "interrupt_calls.so"
         subprocess.run(["cc", "-O2", "-shared", "-fPIC", "-o", library, TOP / "tools" / "interrupt_calls.c"], check=True)
-        script = self.folder / "plain.bench"
+        script, folder = self.folder / "plain.bench", self.folder / "interrupted"
         script.write_text(SCRIPT)
-        plain = self.run(SCRIPT, ["--dir", self.dir])
+        folder.mkdir()
+        plain = self.run(SCRIPT, ["--dir", folder])
         self.expect("no call interrupted", plain, 0, REPLIES, "")
         for times in (1, 2, 100):
             before = ["env", f"LD_PRELOAD={library}", f"INTERRUPT_TIMES={times}"]
-            self.part.expect(f"each call of standard streams interrupted {times} times", self.run(SCRIPT, ["--dir", self.dir], before), plain)
-            self.part.expect(f"each call of SCRIPT interrupted {times} times", self.run("", ["--dir", self.dir, script], before), plain)
+            self.part.expect(f"each call of standard streams interrupted {times} times", self.run(SCRIPT, ["--dir", folder], before), plain)
+            self.part.expect(f"each call of SCRIPT interrupted {times} times", self.run("", ["--dir", folder, script], before), plain)
         before = ["env", f"LD_PRELOAD={library}", "INTERRUPT_TIMES=1", "INTERRUPT_AGAIN=1"]
-        self.expect("nothing to read yet", self.run(SCRIPT, ["--dir", self.dir], before), 3, "", "bench: read fault\n")
+        self.expect("nothing to read yet", self.run(SCRIPT, ["--dir", folder], before), 3, "", "bench: read fault\n")
 
     def scripts(self):
         """Scripts that are no files."""

@@ -14,18 +14,18 @@ from hostile_scripts import is_silent, own_scripts, random_script, text_of
 
 PAGE = 4096
 LACKING = Ran(3, b"", b"bench: out of memory\n")
-RANDOM_SCRIPTS = 60
+RANDOM_SCRIPTS = 40
 BEFORE, BEHIND = 100 * PAGE, 16 * PAGE
 MOST_STEPS = 400
-FILLED_LIMITS = 120
-FULL = [(24, 24), (20, 16), (16, 16), (12, 32), (8, 32), (4, 16)]
+FILLS, FILLED_LIMITS = b"fills", 20
+FULL = [(22, 24), (18, 16), (14, 16), (12, 32), (8, 32), (4, 16)]
 STACKS = range(PAGE, 2**20 + 1, PAGE)
 ENDS_SHELL, ENDS_PROGRAM = 2**16, 2**19
 
 
 def filling(script):
     """A script after others that take memory in ever smaller pieces, until there is none."""
-    lines = [b"m%d_%d = zeros |u1 (%d)" % (size, k, 2**size) for size, count in FULL for k in range(count)]
+    lines = [FILLS + b"%d_%d = zeros |u1 (%d)" % (size, k, 2**size) for size, count in FULL for k in range(count)]
     return script.lines[:1] + lines + script.lines
 
 
@@ -89,7 +89,11 @@ class Limited:
     def never(self, refused):
         """A line that is never answered so, told as what should have happened, or none."""
         for k in refused:
-            line, reply = self.lines[k], self.expected(tuple(n for n in refused if n < k))[0][k - sum(n < k for n in refused)]
+            line, usual = self.lines[k], self.expected(())[0][k]
+            if line.split()[:1] != [b"undo"] and not usual.startswith(NEVER):
+                continue
+            before = tuple(n for n in refused if n < k)
+            reply = self.expected(before)[0][k - len(before)]
             is_long = reply.startswith(b"no E06 ") and line.count(b",") >= IN_PLACE
             if line.split()[:1] == [b"undo"] or reply.startswith(NEVER) and not is_long:
                 return f"never E40 for {shown(line)}, but {shown(reply)}"
@@ -137,10 +141,10 @@ def trials_of(task):
         ended = words["ended at the start"]
         running = [most for word in words for most in words[word] if word not in ("ended at the start", "not started")]
         above = max(ended) - min(running) if ended and running else 0
-        if number % 4 == 0:
+        if number % 5 == 0:
             lines = filling(asked)
             full = Limited(runner, part, f"{script.name} in full memory", asked, lines)
-            for most in rng.sample(range(2**23, 2**29, PAGE), FILLED_LIMITS // 4):
+            for most in rng.sample(range(2**23, 2**27, PAGE), FILLED_LIMITS):
                 full.trial("as", most)
     return part, above
 
