@@ -12,7 +12,7 @@ from contextlib import ExitStack
 from dataclasses import dataclass, field
 from functools import cached_property
 from math import prod
-from typing import Any, Iterator, Mapping, NamedTuple, Optional, Union
+from typing import Any, Callable, Iterator, Mapping, NamedTuple, Optional, Union
 
 from .session import Array, BenchError, Reply, Session
 
@@ -25,6 +25,7 @@ ODD = re.compile(r"[^\t -~]")
 FIELD = re.compile(r":([^:]*):")
 BOUND = re.compile(r"ok (\w+) .* (new|view|copy)(?: rest \d+)?")
 DIGITS = b"0123456789ABCDEFGHIJKLMNOPQRSTUVWXYZabcdefghijklmnopqrstuvwxyz+-"
+AS_DIGIT: dict[type, Callable[[int], Any]] = {int: int, bool: bool, bytes: lambda digit: DIGITS[digit:digit + 1]}
 
 Path = Union[str, os.PathLike[str]]
 Values = Mapping[int, Any]
@@ -300,7 +301,7 @@ class Trace(ExitStack):
         powers = [base ** k for k in range(12) if k == 0 or base ** k < len(places)]
         rows = [[k // power % base for k in range(len(places))] for power in powers]
         rows.append([base - 1 - digit for digit in rows[0]])
-        coded = [{place: as_digit(buffer.values[place], digit) for place, digit in zip(places, row)} for row in rows]
+        coded = [{place: AS_DIGIT[type(buffer.values[place])](digit) for place, digit in zip(places, row)} for row in rows]
         told = {tuple(code[place] for code in coded): Place(source, place) for place in places}
         left = [self._tried(line, before, name, [bound.kind.item(code, at) for at in items], changed) for code in coded]
         origins = {at: told.get(tuple(values.get(at) for values in left), at) for at in (left[0] if all(left) else ())}
@@ -315,8 +316,3 @@ class Trace(ExitStack):
         left = {Place(number, at): value for number, values in fresh.items() for at, value in values.items()}
         self._undo(tried)
         return left
-
-
-def as_digit(value: Any, digit: int) -> Any:
-    """A digit as a value of the same type."""
-    return DIGITS[digit:digit + 1] if isinstance(value, bytes) else bool(digit) if isinstance(value, bool) else digit
