@@ -4,11 +4,12 @@ from __future__ import annotations
 from math import prod
 from typing import Callable, Iterable, Mapping, NamedTuple, Optional
 
-from .trace import Bound, Moment, Place, Values, literal
+from .trace import Bound, Moment, Values, literal
 
 LONGEST = 40  # letters of a value
 SHORT = 160  # letters of a type
 SAID = 6  # changes that are told in words
+HUES = 8  # colours of names
 
 
 class Box(NamedTuple):
@@ -96,29 +97,21 @@ class Drawn:
             for leaf in self.kind.leaves if start is not None else ():
                 at = (start or 0) + leaf.at
                 is_new = look != "field" and at in self.changed
-                note = self.came_from(at) if look == "now" else ""
+                note = f"{cut(literal(self.old[at]))} before" if is_new and look == "now" else ""
                 cell.append(self.box(text(at, leaf.field), "x" * is_new, leaf.at, leaf.size, note))
             cells.append(sorted(cell, key=lambda box: box.left))
         return Row(label, look, cells)
 
-    def came_from(self, at: int) -> str:
-        """What was at a byte before, and from where the value came that is there now."""
-        told = [f"{cut(literal(self.old[at]))} before"] if at in self.changed else []
-        return ", ".join(told + [f"from {self.place(self.moved[at])}"] if at in self.moved else told)
-
-    def place(self, place: Place) -> str:
-        return f"byte {place.byte}" + (f" of buffer {place.buffer}" if place.buffer != self.number else "")
-
     def name_row(self, name: str, bound: Bound, state: str) -> Row:
         """The cells that a name sees, numbered in the order in which it reads them."""
         cells: list[list[Box]] = [[] for _ in self.columns]
+        array, times = bound.array, prod(bound.array.shape) // max(1, bound.count)
         for byte, number in bound.numbers(self.starts, self.size).items():
-            text = f"{number}×{bound.times}" if bound.times > 1 else str(number)
+            text = f"{number}×{times}" if times > 1 else str(number)
             look = "x" * (not state and self.has_changed(bound, byte))
             cells[self.column[byte - byte % self.size]].append(self.box(text, look, byte % self.size, bound.kind.size))
-        array = bound.array
         facts = f"{cut(array.type, SHORT)} {array.shape}, strides {array.strides}, at {array.at}" + ", read-only" * (not array.writable)
-        facts += f", {bound.times} indexes to each item" if bound.times > 1 else ""
+        facts += f", {times} indexes to each item" if times > 1 else ""
         return Row(name, f"name h{self.hues[name]} {state.partition(' ')[0]}".rstrip(), cells, f"{name} {state}".rstrip() + ": " + facts)
 
     def strip(self) -> Table:
@@ -158,16 +151,22 @@ class Drawn:
         if self.changed:
             changes = [f"byte {at} from {cut(literal(self.old[at]))} to {cut(literal(self.values[at]))}" for at in self.changed]
             seen = [name for name, bound, _ in self.names if any(self.has_changed(bound, at) for at in bound.numbers(self.starts, self.size))]
-            told.append(f"In buffer {self.number} changes {some(changes)}; seen by {', '.join(seen) or 'no name'}.")
+            part = ", as far as it is drawn," * (self.count > len(self.column))
+            told.append(f"In buffer {self.number}{part} changes {some(changes)}; seen by {', '.join(seen) or 'no name'}.")
         if self.moved:
-            told.append("There went " + some([f"to byte {at} what was at {self.place(source)}" for at, source in self.moved.items()]) + ".")
+            other = {source: f" of buffer {source.buffer}" * (source.buffer != self.number) for source in self.moved.values()}
+            moves = [f"to byte {at} what was at byte {source.byte}{other[source]}" for at, source in self.moved.items()]
+            told.append(f"There went {some(moves)}.")
         return " ".join(told)
 
 
-def drawn(moment: Moment, numbers: Iterable[int], hues: Mapping[str, int], most: int) -> dict[int, Drawn]:
-    return {number: Drawn(moment, number, hues, most) for number in sorted(numbers)}
+def hues_of(moments: Iterable[Moment]) -> dict[str, int]:
+    """A colour for each name."""
+    return {name: k % HUES for k, name in enumerate(dict.fromkeys(name for moment in moments for name in moment.after.names))}
 
 
-def said(buffers: Iterable[Drawn]) -> str:
+def said(moment: Moment, buffers: Iterable[Drawn]) -> str:
     """What a line did, in words."""
-    return cut(" ".join(filter(None, (each.said() for each in buffers))), 2000) or "Nothing changes."
+    hides = any(buffer.count > len(buffer.starts()) for buffer in moment.after.buffers.values())
+    nothing = "Nothing that is drawn changes." if hides and moment.reply.text[:7] in ("ok set ", "ok upd ") else "Nothing changes."
+    return cut(" ".join(filter(None, (each.said() for each in buffers))), 2000) or nothing

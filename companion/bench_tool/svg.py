@@ -4,11 +4,10 @@ from __future__ import annotations
 import textwrap
 from html import escape
 
-from .picture import Box, Table
+from .picture import HUES, Box, Table
 from .trace import Moment
 
 WIDTH, LETTER, LINE = 720, 7.3, 21
-HUES = 8
 LIGHT = "--ink:#1a1a1a;--dim:#5f5f5f;--line:#9a9a9a;--page:#fff;--mark:#ffe28a;" \
     "--h0:#0b62a8;--h1:#a34700;--h2:#1b6e3c;--h3:#8a2a8a;--h4:#a3203a;--h5:#0d6b70;--h6:#6b5900;--h7:#4f4fb5"
 DARK = "--ink:#eee;--dim:#aaa;--line:#777;--page:#16181d;--mark:#6b5200;" \
@@ -49,6 +48,8 @@ def _table(table: Table) -> tuple[list[str], float, int]:
     for first in range(0, max(count, 1), across):
         last, y = min(count, first + across), y + 6
         for row in table.rows:
+            if row.look == "old" and not any(box.look == "x" for cell in row.cells[first:last] for box in cell):
+                continue
             boxes = (_box(box, margin + (k - first) * width, y, width) for k in range(first, last) for box in row.cells[k])
             label = _text(8, y, row.label, labels, ' class="label"')
             drawn.append(f'<g class="{row.look}">{label}{"".join(boxes)}</g>')

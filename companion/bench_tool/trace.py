@@ -12,7 +12,7 @@ from contextlib import ExitStack
 from dataclasses import dataclass, field
 from functools import cached_property
 from math import prod
-from typing import Any, Iterator, Mapping, NamedTuple, Optional, Union
+from typing import Any, Callable, Iterator, Mapping, NamedTuple, Optional, Union
 
 from .session import Array, BenchError, Reply, Session
 
@@ -21,9 +21,11 @@ MOST_UNDO = 56  # of the 64 states that the second session keeps, the others are
 SIDE = 16  # rows, and columns, of a grid
 AT_ONCE = 1 << 16  # bytes of items that are printed in one go
 WORD = re.compile(r"[A-Za-z_]\w*")
+ODD = re.compile(r"[^\t -~]")
 FIELD = re.compile(r":([^:]*):")
 BOUND = re.compile(r"ok (\w+) .* (new|view|copy)(?: rest \d+)?")
 DIGITS = b"0123456789ABCDEFGHIJKLMNOPQRSTUVWXYZabcdefghijklmnopqrstuvwxyz+-"
+AS_DIGIT: dict[type, Callable[[int], Any]] = {int: int, bool: bool, bytes: lambda digit: DIGITS[digit:digit + 1]}
 
 Path = Union[str, os.PathLike[str]]
 Values = Mapping[int, Any]
@@ -78,16 +80,16 @@ class Bound:
         """How many items have places of their own."""
         return prod(length for stride, length, _ in self.axes if stride) if prod(self.array.shape) else 0
 
-    @property
-    def times(self) -> int:
-        """How many indexes lead to each item."""
-        return prod(self.array.shape) // max(1, self.count)
+    @cached_property
+    def outwards(self) -> tuple[int, list[tuple[int, int, int]]]:
+        """The first byte of all items, and the axes along which they lie apart, the longest stride first."""
+        low = self.array.at + sum(stride * (length - 1) for stride, length, _ in self.axes if stride < 0)
+        return low, sorted((axis for axis in self.axes if axis[0]), key=lambda axis: -abs(axis[0]))
 
     def number(self, byte: int) -> Optional[int]:
         """The number of the item that begins at a byte. The shorter strides lead to less than a step of the longest."""
-        rest = byte - self.array.at - sum(stride * (length - 1) for stride, length, _ in self.axes if stride < 0)
-        number = 0
-        for stride, length, weight in sorted((axis for axis in self.axes if axis[0]), key=lambda axis: -abs(axis[0])):
+        rest, number = byte - self.outwards[0], 0
+        for stride, length, weight in self.outwards[1]:
             step = max(0, min(rest // abs(stride), length - 1))
             rest -= step * abs(stride)
             number += weight * (step if stride > 0 else length - 1 - step)
@@ -185,23 +187,24 @@ class Trace(ExitStack):
     def step(self, line: bytes) -> Moment:
         """Runs a line, and tells what it did."""
         self._lines += 1
-        reply = self._script.send(line)
+        reply, text = self._script.send(line), ODD.sub("\ufffd", line.removesuffix(b"\r").decode("latin-1"))
         before, moved = self.state, {}
-        text = line.removesuffix(b"\r").decode("ascii", "replace")
-        words = [word for word in WORD.findall(text) if word in before.names]
+        names, buffers = before.names, before.buffers
+        words = [word for word in WORD.findall(text) if word in names]
         verb, *rest = reply.text.split()[1:] if reply.accepted and reply.text.startswith("ok ") else ["save"]
         if verb != "save":
             self._again(line, reply)
-        if verb == "undo":
-            self.state = self._kept.pop()
-        elif verb in ("set", "upd"):
-            moved = self._written(line, reply, sorted({before.names[word].buffer for word in words}))
-        elif verb == "del":
-            self._settle({name: bound for name, bound in before.names.items() if name != rest[0]}, before.buffers)
-        elif verb != "save":
-            self._bind(reply, words[1:] if verb in before.names else words)
-        if verb not in ("undo", "save"):
-            self._kept.append(before)
+            if verb in ("set", "upd"):
+                buffers, moved = self._written(line, reply, sorted({names[word].buffer for word in words}))
+            elif verb == "del":
+                names = {name: bound for name, bound in names.items() if name != rest[0]}
+            elif verb != "undo":
+                names, buffers = self._bound(reply, words[1:] if verb in names else words)
+            used = {bound.buffer for bound in names.values()}
+            after = State(names, {number: buffer for number, buffer in buffers.items() if number in used})
+            self.state = self._kept.pop() if verb == "undo" else after
+            if verb != "undo":
+                self._kept.append(before)
         return Moment(self._lines, text, reply, before, self.state, moved)
 
     def _again(self, line: bytes, reply: Reply) -> None:
@@ -212,12 +215,7 @@ class Trace(ExitStack):
         for _ in range(times):
             self._second.ask("undo")
 
-    def _settle(self, names: Mapping[str, Bound], buffers: Mapping[int, Buffer]) -> None:
-        """These names are bound now; buffers without any are gone."""
-        used = {bound.buffer for bound in names.values()}
-        self.state = State(names, {number: buffer for number, buffer in buffers.items() if number in used})
-
-    def _bind(self, reply: Reply, behind: list[str]) -> None:
+    def _bound(self, reply: Reply, behind: list[str]) -> tuple[dict[str, Bound], dict[int, Buffer]]:
         """A name was bound: to a view in the buffer of the first name behind it, or to an array in a buffer of its own."""
         found = BOUND.fullmatch(reply.text)
         assert found is not None, reply.text
@@ -228,7 +226,7 @@ class Trace(ExitStack):
         buffer = self.state.buffers.get(bound.buffer) or Buffer(bound.kind, prod(array.shape))
         read = self._read(buffer, {name: bound}, buffer.values)
         buffer = Buffer(buffer.kind, buffer.count, {**buffer.values, **read}) if read else buffer
-        self._settle({**self.state.names, name: bound}, {**self.state.buffers, bound.buffer: buffer})
+        return {**self.state.names, name: bound}, {**self.state.buffers, bound.buffer: buffer}
 
     def _kind(self, text: str, name: str) -> Kind:
         """An element type, which is learnt from an array of two items and from its fields."""
@@ -245,18 +243,17 @@ class Trace(ExitStack):
             self._kinds[text] = Kind(text, size, tuple((at, word, self._kind(type_, name)) for at, word, type_ in sorted(fields)))
         return self._kinds[text]
 
-    def _written(self, line: bytes, reply: Reply, touched: list[int]) -> dict[Place, Place]:
+    def _written(self, line: bytes, reply: Reply, touched: list[int]) -> tuple[dict[int, Buffer], dict[Place, Place]]:
         """Items were written, in the buffer of one of the names that the line has; where those came from that it moved."""
         before, moved = self.state, {}
         fresh = {number: self._reread(number, before) for number in touched}
         changed = {number: buffer for number, buffer in fresh.items() if buffer.values != before.buffers[number].values}
-        self.state = State(before.names, {**before.buffers, **changed})
         if changed and reply.text.startswith("ok set "):
             self._undo(1)
             for source in touched:
                 moved.update(self._moved(line, before, source, list(changed)))
             self._again(line, reply)
-        return moved
+        return {**before.buffers, **changed}, moved
 
     def _reread(self, number: int, state: State) -> Buffer:
         """A buffer as it is now. What no name sees has stayed; other values that are not drawn are forgotten."""
@@ -268,21 +265,23 @@ class Trace(ExitStack):
         """The values that are drawn and not known, read through the names that see them, the longest arrays first."""
         read: dict[int, Any] = {}
         for name, bound in sorted(names.items(), key=lambda pair: -pair[1].count):
-            wanted = bound.numbers(buffer.starts(), buffer.kind.size)
-            wanted.update((at, bound.number(at) or 0) for row in bound.grid()[2] for at in row)
+            wanted = dict.fromkeys([*bound.numbers(buffer.starts(), buffer.kind.size), *(at for row in bound.grid()[2] for at in row)])
             leaves = [leaf.at for leaf in bound.kind.leaves]
             new = [at for at in wanted if any(at + leaf not in known and at + leaf not in read for leaf in leaves)]
-            for at, item in zip(new, self._items(name, bound, [wanted[at] for at in new]) if new else ()):
+            for at, item in zip(new, self._items(name, bound, new) if new else ()):
                 read.update(bound.kind.spread(item, at))
         return read
 
-    def _items(self, name: str, bound: Bound, numbers: list[int]) -> list[Any]:
-        """Some items of an array, by their numbers. Where it is long, no others are printed."""
-        tried = []
+    def _items(self, name: str, bound: Bound, places: list[int]) -> list[Any]:
+        """The items of an array that begin at some bytes. Where it is long, no others are printed."""
+        tried, numbers = [], [bound.number(at) or 0 for at in places]
         if not all(stride for stride, _, _ in bound.axes):
             tried.append(f"{name} = {name}[{','.join(':' if stride else '0' for stride, _, _ in bound.axes)}]")
         if is_long := bound.count * bound.kind.size > AT_ONCE:
             spare = next((other for other in self.state.names if other != name), self._free)
+            if bound.array.order == "F":
+                tried.append(f"{name} = transpose {name}")
+                numbers = [(at - bound.array.at) // bound.kind.size for at in places]
             tried.append(f"{name} = reshape {name} (-1)")
             tried.append(f"{spare} = array <i8 ({len(numbers)}) {' '.join(map(str, numbers))}")
             tried.append(f"{name} = {name}[{spare}]")
@@ -309,7 +308,7 @@ class Trace(ExitStack):
         powers = [base ** k for k in range(12) if k == 0 or base ** k < len(places)]
         rows = [[k // power % base for k in range(len(places))] for power in powers]
         rows.append([base - 1 - digit for digit in rows[0]])
-        coded = [{place: as_digit(buffer.values[place], digit) for place, digit in zip(places, row)} for row in rows]
+        coded = [{place: AS_DIGIT[type(buffer.values[place])](digit) for place, digit in zip(places, row)} for row in rows]
         told = {tuple(code[place] for code in coded): Place(source, place) for place in places}
         left = [self._tried(line, before, name, [bound.kind.item(code, at) for at in items], changed) for code in coded]
         origins = {at: told.get(tuple(values.get(at) for values in left), at) for at in (left[0] if all(left) else ())}
@@ -324,8 +323,3 @@ class Trace(ExitStack):
         left = {Place(number, at): value for number, values in fresh.items() for at, value in values.items()}
         self._undo(tried)
         return left
-
-
-def as_digit(value: Any, digit: int) -> Any:
-    """A digit as a value of the same type."""
-    return DIGITS[digit:digit + 1] if isinstance(value, bytes) else bool(digit) if isinstance(value, bool) else digit
