@@ -118,16 +118,14 @@ def items_of_name(row, values):
 class Pictures(unittest.TestCase):
     def run_script(self, script, look=lambda trace, judge, moment: None, folder="."):
         """The moments of a script; after each line `look` is given a session that has had the same lines."""
-        moments, hues = [], {}
+        moments = []
         with Trace(PROGRAM, script.depth or 0, folder, b"\n".join(script.lines)) as trace, Session(PROGRAM, script.depth or 0, folder) as judge:
             for line in script.lines:
                 judge.send(line)
                 moments.append(trace.step(line))
-                for name in moments[-1].after.names:
-                    hues.setdefault(name, len(hues) % 8)
                 with self.subTest(script=script.name, line=line):
                     look(trace, judge, moments[-1])
-        return moments, hues
+        return moments
 
     def test_buffers_against_shares(self):
         def look(trace, judge, moment):
@@ -144,9 +142,9 @@ class Pictures(unittest.TestCase):
         for seed in range(share(6, 200)):
             arrays = []
             with tempfile.TemporaryDirectory() as folder:
-                moments, hues = self.run_script(
+                moments = self.run_script(
                     random_script(-seed - 1, 24), lambda _, judge, __: arrays.append({name: judge.array(name) for name in judge.names()}), folder)
-            drawn = data_of(page("random", moments, hues))
+            drawn = data_of(page("random", moments))
             told = [(moment, array) for moment, array in zip(moments, arrays) if moment.reply.text]
             self.assertEqual([line[0] for line in drawn], [moment.number for moment, _ in told])
             for (_, tables, _), (moment, expected) in zip(drawn, told):

@@ -6,12 +6,13 @@ import json
 import sys
 from html import escape
 from pathlib import Path
-from typing import Any, Mapping, Sequence
+from typing import Any, Sequence
 
 from . import language
-from .picture import Box, Drawn, Table, cut, drawn, said
-from .runs import fault, lines_of
-from .svg import COLOURS, DARK, HUES, LIGHT, svg
+from .picture import Box, Drawn, Table, cut, hues_of, said
+from .runs import lines_of
+from .session import BenchError
+from .svg import COLOURS, DARK, LIGHT, svg
 from .trace import MOST_CELLS, Moment, Trace
 
 LARGEST = 190_000  # letters of a page of a FEW lines, for which fewer cells are drawn
@@ -22,40 +23,33 @@ TOLD = 1000  # letters of a reply
 class Pictures:
     """The tables of all lines, each row and each table once; of each line those that are not as on the line before."""
 
-    def __init__(self, moments: Sequence[Moment], hues: Mapping[str, int], most: int):
+    def __init__(self, moments: Sequence[Moment], most: int):
         self.parts: dict[str, int] = {}
         self.lines: list[Any] = []
+        hues, last = hues_of(moments), list[int]()
         plain: dict[int, list[int]] = {}
-        last: list[int] = []
         for moment in moments:
             if moment.reply.text:
-                touched = drawn(moment, moment.touched, hues, most)
-                tables = {number: self.tables(each) for number, each in touched.items()}
+                touched = {number: Drawn(moment, number, hues, most) for number in sorted(moment.touched)}
+                tables = {number: list(map(self.table, each.tables())) for number, each in touched.items()}
                 rest = moment.after.buffers.keys() - tables.keys()
-                plain = {number: plain.get(number) or self.tables(Drawn(moment, number, hues, most)) for number in rest}
+                plain = {n: plain.get(n) or list(map(self.table, Drawn(moment, n, hues, most).tables())) for n in rest}
                 ids = [id_ for _, each in sorted([*tables.items(), *plain.items()]) for id_ in each]
                 same = next((k for k, pair in enumerate(zip(ids, last)) if pair[0] != pair[1]), min(len(ids), len(last)))
                 self.lines.append([moment.number, same, ids[same:], said(moment, touched.values())])
                 last = ids
 
-    def tables(self, each: Drawn) -> list[int]:
-        return [self.table(table) for table in each.tables()]
-
     def table(self, table: Table) -> int:
-        rows = [self.part([row.label, row.look, [self.cell(cell) for cell in row.cells], row.note]) for row in table.rows]
+        """The number of a table. A text that fills its column stands for its box."""
+        rows = [self.part([row.label, row.look, [cell[0].text if len(cell) == 1 and cell[0] == Box(cell[0].text) else cell for cell in row.cells],
+                           row.note]) for row in table.rows]
         return self.part([table.caption, table.letters, rows, table.moves])
-
-    @staticmethod
-    def cell(cell: list[Box]) -> Any:
-        """A text that fills its column stands for its box."""
-        return cell[0].text if len(cell) == 1 and cell[0] == Box(cell[0].text) else cell
 
     def part(self, value: Any) -> int:
         return self.parts.setdefault(json.dumps(value, separators=(",", ":")), len(self.parts))
 
     def json(self) -> str:
-        lines = json.dumps(self.lines, separators=(",", ":"))
-        return f'{{"lines":{lines},"parts":[{",".join(self.parts)}]}}'.replace("<", "\\u003c")
+        return f'{{"lines":{json.dumps(self.lines)},"parts":[{",".join(self.parts)}]}}'.replace("<", "\\u003c")
 
 
 def script_item(moment: Moment) -> str:
@@ -68,13 +62,13 @@ def script_item(moment: Moment) -> str:
     return f'<li value="{moment.number}">{told}</li>'
 
 
-def page(title: str, moments: Sequence[Moment], hues: Mapping[str, int], line: int = 0) -> str:
+def page(title: str, moments: Sequence[Moment], line: int = 0) -> str:
     """The page of a script that was run, which begins with the picture of a line, else with that of the last one."""
     filled = {"TITLE": escape(title), "LIGHT": LIGHT, "DARK": DARK, "COLOURS": COLOURS, "LINE": str(line)}
     filled["SCRIPT"] = "\n".join(map(script_item, moments))
     for most in (MOST_CELLS, 64, 16, 4):
         made = Path(__file__).with_suffix(".html").read_text(encoding="utf-8")
-        for word, text in {**filled, "DATA": Pictures(moments, hues, most).json()}.items():
+        for word, text in {**filled, "DATA": Pictures(moments, most).json()}.items():
             made = made.replace(f"<!--{word}-->", text)
         if len(made) <= LARGEST or len(moments) > FEW:
             break
@@ -82,26 +76,18 @@ def page(title: str, moments: Sequence[Moment], hues: Mapping[str, int], line: i
 
 
 def draw(words: argparse.Namespace) -> int:
-    try:
-        with sys.stdin.buffer if words.script == "-" else open(words.script, "rb") as script:
-            lines = list(lines_of(script))
-    except OSError as problem:
-        return fault(f"{words.script}: {problem.strerror}")
+    with sys.stdin.buffer if words.script == "-" else open(words.script, "rb") as script:
+        lines = list(lines_of(script))
     if words.svg and not 1 <= (words.line or 0) <= len(lines):
-        return fault(f"--svg wants --line 1 to {len(lines)}")
-    hues: dict[str, int] = {}
-    moments = []
+        raise BenchError(f"--svg wants --line, 1 to {len(lines)}")
     with Trace(undo=words.undo, dir=words.dir, script=b"\n".join(lines)) as trace:
-        for line in lines[:words.line if words.svg else None]:
-            moments.append(trace.step(line))
-            for name in moments[-1].after.names:
-                hues.setdefault(name, len(hues) % HUES)
+        moments = [trace.step(line) for line in lines[:words.line if words.svg else None]]
     if words.svg:
-        last = moments[-1]
-        buffers = drawn(last, {*last.before.buffers, *last.after.buffers}, hues, MOST_CELLS).values()
+        last, hues = moments[-1], hues_of(moments)
+        buffers = [Drawn(last, number, hues, MOST_CELLS) for number in sorted({*last.before.buffers, *last.after.buffers})]
         made = svg(last, [table for each in buffers for table in each.tables()], said(last, buffers))
     else:
-        made = page(Path(words.script).name, moments, hues, words.line or 0)
+        made = page(Path(words.script).name, moments, words.line or 0)
     if words.output:
         Path(words.output).write_text(made, encoding="utf-8")
     else:

@@ -9,6 +9,7 @@ from .trace import Bound, Moment, Values, literal
 LONGEST = 40  # letters of a value
 SHORT = 160  # letters of a type
 SAID = 6  # changes that are told in words
+HUES = 8  # colours of names
 
 
 class Box(NamedTuple):
@@ -159,8 +160,9 @@ class Drawn:
         return " ".join(told)
 
 
-def drawn(moment: Moment, numbers: Iterable[int], hues: Mapping[str, int], most: int) -> dict[int, Drawn]:
-    return {number: Drawn(moment, number, hues, most) for number in sorted(numbers)}
+def hues_of(moments: Iterable[Moment]) -> dict[str, int]:
+    """A colour for each name."""
+    return {name: k % HUES for k, name in enumerate(dict.fromkeys(name for moment in moments for name in moment.after.names))}
 
 
 def said(moment: Moment, buffers: Iterable[Drawn]) -> str:

@@ -4,11 +4,10 @@ from __future__ import annotations
 import textwrap
 from html import escape
 
-from .picture import Box, Table
+from .picture import HUES, Box, Table
 from .trace import Moment
 
 WIDTH, LETTER, LINE = 720, 7.3, 21
-HUES = 8
 LIGHT = "--ink:#1a1a1a;--dim:#5f5f5f;--line:#9a9a9a;--page:#fff;--mark:#ffe28a;" \
     "--h0:#0b62a8;--h1:#a34700;--h2:#1b6e3c;--h3:#8a2a8a;--h4:#a3203a;--h5:#0d6b70;--h6:#6b5900;--h7:#4f4fb5"
 DARK = "--ink:#eee;--dim:#aaa;--line:#777;--page:#16181d;--mark:#6b5200;" \

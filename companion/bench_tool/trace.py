@@ -12,7 +12,7 @@ from contextlib import ExitStack
 from dataclasses import dataclass, field
 from functools import cached_property
 from math import prod
-from typing import Any, Iterator, Mapping, NamedTuple, Optional, Union
+from typing import Any, Callable, Iterator, Mapping, NamedTuple, Optional, Union
 
 from .session import Array, BenchError, Reply, Session
 
@@ -25,6 +25,7 @@ ODD = re.compile(r"[^\t -~]")
 FIELD = re.compile(r":([^:]*):")
 BOUND = re.compile(r"ok (\w+) .* (new|view|copy)(?: rest \d+)?")
 DIGITS = b"0123456789ABCDEFGHIJKLMNOPQRSTUVWXYZabcdefghijklmnopqrstuvwxyz+-"
+AS_DIGIT: dict[type, Callable[[int], Any]] = {int: int, bool: bool, bytes: lambda digit: DIGITS[digit:digit + 1]}
 
 Path = Union[str, os.PathLike[str]]
 Values = Mapping[int, Any]
@@ -79,11 +80,16 @@ class Bound:
         """How many items have places of their own."""
         return prod(length for stride, length, _ in self.axes if stride) if prod(self.array.shape) else 0
 
+    @cached_property
+    def outwards(self) -> tuple[int, list[tuple[int, int, int]]]:
+        """The first byte of all items, and the axes along which they lie apart, the longest stride first."""
+        low = self.array.at + sum(stride * (length - 1) for stride, length, _ in self.axes if stride < 0)
+        return low, sorted((axis for axis in self.axes if axis[0]), key=lambda axis: -abs(axis[0]))
+
     def number(self, byte: int) -> Optional[int]:
         """The number of the item that begins at a byte. The shorter strides lead to less than a step of the longest."""
-        rest = byte - self.array.at - sum(stride * (length - 1) for stride, length, _ in self.axes if stride < 0)
-        number = 0
-        for stride, length, weight in sorted((axis for axis in self.axes if axis[0]), key=lambda axis: -abs(axis[0])):
+        rest, number = byte - self.outwards[0], 0
+        for stride, length, weight in self.outwards[1]:
             step = max(0, min(rest // abs(stride), length - 1))
             rest -= step * abs(stride)
             number += weight * (step if stride > 0 else length - 1 - step)
@@ -259,21 +265,23 @@ class Trace(ExitStack):
         """The values that are drawn and not known, read through the names that see them, the longest arrays first."""
         read: dict[int, Any] = {}
         for name, bound in sorted(names.items(), key=lambda pair: -pair[1].count):
-            wanted = bound.numbers(buffer.starts(), buffer.kind.size)
-            wanted.update((at, bound.number(at) or 0) for row in bound.grid()[2] for at in row)
+            wanted = dict.fromkeys([*bound.numbers(buffer.starts(), buffer.kind.size), *(at for row in bound.grid()[2] for at in row)])
             leaves = [leaf.at for leaf in bound.kind.leaves]
             new = [at for at in wanted if any(at + leaf not in known and at + leaf not in read for leaf in leaves)]
-            for at, item in zip(new, self._items(name, bound, [wanted[at] for at in new]) if new else ()):
+            for at, item in zip(new, self._items(name, bound, new) if new else ()):
                 read.update(bound.kind.spread(item, at))
         return read
 
-    def _items(self, name: str, bound: Bound, numbers: list[int]) -> list[Any]:
-        """Some items of an array, by their numbers. Where it is long, no others are printed."""
-        tried = []
+    def _items(self, name: str, bound: Bound, places: list[int]) -> list[Any]:
+        """The items of an array that begin at some bytes. Where it is long, no others are printed."""
+        tried, numbers = [], [bound.number(at) or 0 for at in places]
         if not all(stride for stride, _, _ in bound.axes):
             tried.append(f"{name} = {name}[{','.join(':' if stride else '0' for stride, _, _ in bound.axes)}]")
         if is_long := bound.count * bound.kind.size > AT_ONCE:
             spare = next((other for other in self.state.names if other != name), self._free)
+            if bound.array.order == "F":
+                tried.append(f"{name} = transpose {name}")
+                numbers = [(at - bound.array.at) // bound.kind.size for at in places]
             tried.append(f"{name} = reshape {name} (-1)")
             tried.append(f"{spare} = array <i8 ({len(numbers)}) {' '.join(map(str, numbers))}")
             tried.append(f"{name} = {name}[{spare}]")
@@ -300,7 +308,7 @@ class Trace(ExitStack):
         powers = [base ** k for k in range(12) if k == 0 or base ** k < len(places)]
         rows = [[k // power % base for k in range(len(places))] for power in powers]
         rows.append([base - 1 - digit for digit in rows[0]])
-        coded = [{place: as_digit(buffer.values[place], digit) for place, digit in zip(places, row)} for row in rows]
+        coded = [{place: AS_DIGIT[type(buffer.values[place])](digit) for place, digit in zip(places, row)} for row in rows]
         told = {tuple(code[place] for code in coded): Place(source, place) for place in places}
         left = [self._tried(line, before, name, [bound.kind.item(code, at) for at in items], changed) for code in coded]
         origins = {at: told.get(tuple(values.get(at) for values in left), at) for at in (left[0] if all(left) else ())}
@@ -315,8 +323,3 @@ class Trace(ExitStack):
         left = {Place(number, at): value for number, values in fresh.items() for at, value in values.items()}
         self._undo(tried)
         return left
-
-
-def as_digit(value: Any, digit: int) -> Any:
-    """A digit as a value of the same type."""
-    return DIGITS[digit:digit + 1] if isinstance(value, bytes) else bool(digit) if isinstance(value, bool) else digit
