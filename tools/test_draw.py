@@ -222,7 +222,7 @@ class Pictures(unittest.TestCase):
         self.assertLess(time.monotonic() - begun, 2)
         self.assertIn("16776960 items in between are not drawn", tables[0][0])
         values = next(row[2] for row in tables[0][2] if row[1] == "now")
-        self.assertEqual(values[:3] + values[-2:], [[["-5", "x", 0.0, 1.0, "0 before"]], "1", "2", "16777214", "16777215"])
+        self.assertEqual(values[:3] + values[-2:], [[["-5", "x", 0.0, 1.0]], "1", "2", "16777214", "16777215"])
         self.assertEqual([boxes(row[2][0])[0][0] for row in tables[1][2]][1:3], ["0→-5", "4096→-5"])
         self.assertTrue(words.startswith("In buffer 1, as far as it is drawn, changes byte 0 from 0 to -5"))
 

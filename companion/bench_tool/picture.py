@@ -19,7 +19,6 @@ class Box(NamedTuple):
     look: str = ""
     left: float = 0
     width: float = 1
-    note: str = ""
 
 
 class Row(NamedTuple):
@@ -83,9 +82,9 @@ class Drawn:
     def has_changed(self, bound: Bound, at: int) -> bool:
         return any(at + leaf.at in self.changed for leaf in bound.kind.leaves)
 
-    def box(self, text: str, look: str, at: int, size: int, note: str = "") -> Box:
+    def box(self, text: str, look: str, at: int, size: int) -> Box:
         """A box for the bytes of an item from `at` on, to scale."""
-        return Box(text, look, round(at / self.size, 4), round(size / self.size, 4), note)
+        return Box(text, look, round(at / self.size, 4), round(size / self.size, 4))
 
     def row(self, label: str, look: str, text: Callable[[int, str], str]) -> Row:
         """The values of the cells, and the bytes between them; of each the text for its byte and field."""
@@ -97,8 +96,7 @@ class Drawn:
             for leaf in self.kind.leaves if start is not None else ():
                 at = (start or 0) + leaf.at
                 is_new = look != "field" and at in self.changed
-                note = f"{cut(literal(self.old[at]))} before" if is_new and look == "now" else ""
-                cell.append(self.box(text(at, leaf.field), "x" * is_new, leaf.at, leaf.size, note))
+                cell.append(self.box(text(at, leaf.field), "x" * is_new, leaf.at, leaf.size))
             cells.append(sorted(cell, key=lambda box: box.left))
         return Row(label, look, cells)
 

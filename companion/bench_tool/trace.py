@@ -217,9 +217,7 @@ class Trace(ExitStack):
 
     def _bound(self, reply: Reply, behind: list[str]) -> tuple[dict[str, Bound], dict[int, Buffer]]:
         """A name was bound: to a view in the buffer of the first name behind it, or to an array in a buffer of its own."""
-        found = BOUND.fullmatch(reply.text)
-        assert found is not None, reply.text
-        name, how = found.groups()
+        [(name, how)] = BOUND.findall(reply.text)
         array = self._second.array(name, items=False)
         bound = Bound(array, self.state.names[behind[0]].buffer if how == "view" else self._made + 1, self._kind(array.type, name))
         self._made = max(self._made, bound.buffer)
