@@ -41,8 +41,10 @@ class Pictures:
 
     def table(self, table: Table) -> int:
         """The number of a table. A text that fills its column stands for its box."""
-        rows = [self.part([row.label, row.look, [cell[0].text if len(cell) == 1 and cell[0] == Box(cell[0].text) else cell for cell in row.cells],
-                           row.note]) for row in table.rows]
+        rows = []
+        for row in table.rows:
+            cells = [cell[0].text if cell and cell == [Box(cell[0].text)] else cell for cell in row.cells]
+            rows.append(self.part([row.label, row.look, cells, row.note]))
         return self.part([table.caption, table.letters, rows, table.moves])
 
     def part(self, value: Any) -> int:
