@@ -208,6 +208,22 @@ class Pictures(unittest.TestCase):
         self.assertEqual((words[6], words[7]), ("Buffer 2 goes. d goes, in buffer 2.", "Buffer 2 comes back. d comes back, in buffer 2."))
         self.assertEqual(words[8], "Nothing changes.")
 
+    def test_large_pages(self):
+        rng = random.Random(1)
+        arrays = [f"a{k} = array <i8 (16,16) " + " ".join(str(rng.randrange(-2**63, 2**63)) for _ in range(256)) for k in range(6)]
+        views = [f"{view}{k} = {what.format(k)}" for k in range(6) for view, what in (("t", "transpose a{}"), ("r", "a{}[::-1,::2]"))]
+        writes = [f"set a{k % 6}[1:] = a{(k + k // 6) % 6}[:-1]" for k in range(32)]
+        text = self.drawn([line.encode() for line in arrays + views + writes])
+        self.assertLess(len(text.encode()), 200_000)
+        self.assertEqual(len(data_of(text)), 50)
+
+    def test_bad_words(self):
+        for script, words, told in ("overlap", ["--undo", "57"], "56 changes, not 57"), ("overlap", ["--svg", "--line", "7"], "1 to 6"), ("no", [], "no.bench"):
+            words = [str(TOOL), "draw", str(TOP / f"examples/{script}.bench"), *words]
+            done = subprocess.run(words, capture_output=True, env=environment(), timeout=60)
+            self.assertEqual((done.returncode, done.stdout), (3, b""))
+            self.assertIn(told, done.stderr.decode())
+
     def test_many_names(self):
         lines = [f"n{k} = arange <i4 0 {k % 5} 1".encode() for k in range(1024)] + [b"one_more = n3", b"n8 = n4", b"set n4[1:] = n4[:-1]", b"del n7", b"undo"]
         drawn = data_of(self.drawn(lines))

@@ -15,8 +15,7 @@ from .session import BenchError
 from .svg import COLOURS, DARK, LIGHT, svg
 from .trace import MOST_CELLS, Moment, Trace
 
-LARGEST = 190_000  # letters of a page of a FEW lines, for which fewer cells are drawn
-FEW = 50
+LARGEST, FEW = 199_000, 50  # bytes of a page of so few lines, for which fewer cells are drawn
 TOLD = 1000  # letters of a reply
 
 
@@ -72,7 +71,7 @@ def page(title: str, moments: Sequence[Moment], line: int = 0) -> str:
         made = Path(__file__).with_suffix(".html").read_text(encoding="utf-8")
         for word, text in {**filled, "DATA": Pictures(moments, most).json()}.items():
             made = made.replace(f"<!--{word}-->", text)
-        if len(made) <= LARGEST or len(moments) > FEW:
+        if len(made.encode()) <= LARGEST or len(moments) > FEW:
             break
     return made
 
