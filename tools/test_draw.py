@@ -149,27 +149,31 @@ class Pictures(unittest.TestCase):
             self.assertEqual([line[0] for line in drawn], [moment.number for moment, _ in told])
             for (_, tables, _), (moment, expected) in zip(drawn, told):
                 with self.subTest(seed=seed, line=moment.line):
-                    self.check_tables(tables, expected, moment.before.names)
+                    self.check_tables(tables, expected)
 
-    def check_tables(self, tables, expected, before):
-        seen, grids = {}, {}
+    def check_tables(self, tables, expected):
+        seen, grids, partly = {}, {}, set()
         for caption, _, rows, _ in tables:
             values = next((row[2] for row in rows if row[1] == "now"), None)
             for row in rows:
                 if row[1].startswith("name") and not row[1].endswith("goes"):
                     seen[row[0]] = items_of_name(row, values)
+                    partly |= {row[0]} if "not drawn" in caption else set()
             if values is None:
-                grids[caption.split()[0]] = [[boxes(cell)[0][0].split("→")[-1] for cell in row[2]] for row in rows[1:]]
+                grids[caption.split()[0]] = {(int(row[0]), int(column)): boxes(cell)[0][0].split("→")[-1]
+                                             for row in rows[1:] for cell, column in zip(row[2], rows[0][2])}
         self.assertEqual(set(seen), set(expected))
         for name, array in expected.items():
             numbers = {}
             for index, item in zip(itertools.product(*map(range, array.shape)), array.items):
                 at = tuple(k if stride else 0 for k, stride in zip(index, array.strides))
                 numbers.setdefault(at, []).append(item)
-            wanted = {k: (list(map(literal, flat(items[0]))), len(items)) for k, items in enumerate(numbers.values())}
+            wanted = {k: (list(map(literal, flat(items[0]))), len(items)) for k, items in enumerate(numbers.values())
+                      if k in seen[name] or name not in partly}
             self.assertEqual(seen[name], wanted, name)
             if len(array.shape) == 2 and array.items:
-                self.assertEqual(grids[name], [list(map(literal, row)) for row in array.tolist()])
+                self.assertEqual(len(grids[name]), min(16, array.shape[0]) * min(16, array.shape[1]))
+                self.assertEqual(grids[name], {(i, j): literal(array.tolist()[i][j]) for i, j in grids[name]})
 
     def drawn(self, lines, *words):
         """The output of `bench-tool draw` on a script."""
@@ -204,6 +208,22 @@ class Pictures(unittest.TestCase):
         self.assertEqual((words[6], words[7]), ("Buffer 2 goes. d goes, in buffer 2.", "Buffer 2 comes back. d comes back, in buffer 2."))
         self.assertEqual(words[8], "Nothing changes.")
 
+    def test_large_pages(self):
+        rng = random.Random(1)
+        arrays = [f"a{k} = array <i8 (16,16) " + " ".join(str(rng.randrange(-2**63, 2**63)) for _ in range(256)) for k in range(6)]
+        views = [f"{view}{k} = {what.format(k)}" for k in range(6) for view, what in (("t", "transpose a{}"), ("r", "a{}[::-1,::2]"))]
+        writes = [f"set a{k % 6}[1:] = a{(k + k // 6) % 6}[:-1]" for k in range(32)]
+        text = self.drawn([line.encode() for line in arrays + views + writes])
+        self.assertLess(len(text.encode()), 200_000)
+        self.assertEqual(len(data_of(text)), 50)
+
+    def test_bad_words(self):
+        for script, words, told in ("overlap", ["--undo", "57"], "56 changes, not 57"), ("overlap", ["--svg", "--line", "7"], "1 to 6"), ("no", [], "no.bench"):
+            words = [str(TOOL), "draw", str(TOP / f"examples/{script}.bench"), *words]
+            done = subprocess.run(words, capture_output=True, env=environment(), timeout=60)
+            self.assertEqual((done.returncode, done.stdout), (3, b""))
+            self.assertIn(told, done.stderr.decode())
+
     def test_many_names(self):
         lines = [f"n{k} = arange <i4 0 {k % 5} 1".encode() for k in range(1024)] + [b"one_more = n3", b"n8 = n4", b"set n4[1:] = n4[:-1]", b"del n7", b"undo"]
         drawn = data_of(self.drawn(lines))
@@ -222,7 +242,7 @@ class Pictures(unittest.TestCase):
         self.assertLess(time.monotonic() - begun, 2)
         self.assertIn("16776960 items in between are not drawn", tables[0][0])
         values = next(row[2] for row in tables[0][2] if row[1] == "now")
-        self.assertEqual(values[:3] + values[-2:], [[["-5", "x", 0.0, 1.0, "0 before"]], "1", "2", "16777214", "16777215"])
+        self.assertEqual(values[:3] + values[-2:], [[["-5", "x", 0.0, 1.0]], "1", "2", "16777214", "16777215"])
         self.assertEqual([boxes(row[2][0])[0][0] for row in tables[1][2]][1:3], ["0→-5", "4096→-5"])
         self.assertTrue(words.startswith("In buffer 1, as far as it is drawn, changes byte 0 from 0 to -5"))
 
@@ -238,7 +258,7 @@ class Pictures(unittest.TestCase):
             words = ["--headless", "--no-sandbox", "--disable-gpu", f"--user-data-dir={folder}/user", "--virtual-time-budget=600000", "--dump-dom"]
             done = subprocess.run([CHROMIUM, *words, frames.as_uri()], capture_output=True, timeout=300)
         told = re.search(r'<pre id="told">(.*?)</pre>', done.stdout.decode(), re.S)[1]
-        for (name, width), did in zip(itertools.product(pages, (1100, 360)), json.loads(html.unescape(told)), strict=True):
+        for (name, width), did in zip(itertools.product(pages, (1100, 360)), json.loads(html.unescape(told))):
             with self.subTest(name, width=width):
                 drawn = data_of(pages[name])
                 self.assertEqual(did["faults"], [])

@@ -15,8 +15,7 @@ from .session import BenchError
 from .svg import COLOURS, DARK, LIGHT, svg
 from .trace import MOST_CELLS, Moment, Trace
 
-LARGEST = 190_000  # letters of a page of a FEW lines, for which fewer cells are drawn
-FEW = 50
+LARGEST, FEW = 199_000, 50  # bytes of a page of so few lines, for which fewer cells are drawn
 TOLD = 1000  # letters of a reply
 
 
@@ -41,8 +40,10 @@ class Pictures:
 
     def table(self, table: Table) -> int:
         """The number of a table. A text that fills its column stands for its box."""
-        rows = [self.part([row.label, row.look, [cell[0].text if len(cell) == 1 and cell[0] == Box(cell[0].text) else cell for cell in row.cells],
-                           row.note]) for row in table.rows]
+        rows = []
+        for row in table.rows:
+            cells = [cell[0].text if cell and cell == [Box(cell[0].text)] else cell for cell in row.cells]
+            rows.append(self.part([row.label, row.look, cells, row.note]))
         return self.part([table.caption, table.letters, rows, table.moves])
 
     def part(self, value: Any) -> int:
@@ -70,7 +71,7 @@ def page(title: str, moments: Sequence[Moment], line: int = 0) -> str:
         made = Path(__file__).with_suffix(".html").read_text(encoding="utf-8")
         for word, text in {**filled, "DATA": Pictures(moments, most).json()}.items():
             made = made.replace(f"<!--{word}-->", text)
-        if len(made) <= LARGEST or len(moments) > FEW:
+        if len(made.encode()) <= LARGEST or len(moments) > FEW:
             break
     return made
 

@@ -19,7 +19,6 @@ class Box(NamedTuple):
     look: str = ""
     left: float = 0
     width: float = 1
-    note: str = ""
 
 
 class Row(NamedTuple):
@@ -83,9 +82,9 @@ class Drawn:
     def has_changed(self, bound: Bound, at: int) -> bool:
         return any(at + leaf.at in self.changed for leaf in bound.kind.leaves)
 
-    def box(self, text: str, look: str, at: int, size: int, note: str = "") -> Box:
+    def box(self, text: str, look: str, at: int, size: int) -> Box:
         """A box for the bytes of an item from `at` on, to scale."""
-        return Box(text, look, round(at / self.size, 4), round(size / self.size, 4), note)
+        return Box(text, look, round(at / self.size, 4), round(size / self.size, 4))
 
     def row(self, label: str, look: str, text: Callable[[int, str], str]) -> Row:
         """The values of the cells, and the bytes between them; of each the text for its byte and field."""
@@ -97,8 +96,7 @@ class Drawn:
             for leaf in self.kind.leaves if start is not None else ():
                 at = (start or 0) + leaf.at
                 is_new = look != "field" and at in self.changed
-                note = f"{cut(literal(self.old[at]))} before" if is_new and look == "now" else ""
-                cell.append(self.box(text(at, leaf.field), "x" * is_new, leaf.at, leaf.size, note))
+                cell.append(self.box(text(at, leaf.field), "x" * is_new, leaf.at, leaf.size))
             cells.append(sorted(cell, key=lambda box: box.left))
         return Row(label, look, cells)
 
@@ -110,9 +108,15 @@ class Drawn:
             text = f"{number}×{times}" if times > 1 else str(number)
             look = "x" * (not state and self.has_changed(bound, byte))
             cells[self.column[byte - byte % self.size]].append(self.box(text, look, byte % self.size, bound.kind.size))
-        facts = f"{cut(array.type, SHORT)} {array.shape}, strides {array.strides}, at {array.at}" + ", read-only" * (not array.writable)
-        facts += f", {times} indexes to each item" if times > 1 else ""
-        return Row(name, f"name h{self.hues[name]} {state.partition(' ')[0]}".rstrip(), cells, f"{name} {state}".rstrip() + ": " + facts)
+        told = f"{name} {state}".rstrip() + f": {cut(array.type, SHORT)} {array.shape}, strides {array.strides}, at {array.at}"
+        told += ", read-only" * (not array.writable) + f", {times} indexes to each item" * (times > 1)
+        return Row(name, f"name h{self.hues[name]} {state.partition(' ')[0]}".rstrip(), cells, told)
+
+    def middle(self, byte: int) -> Optional[float]:
+        """Where the middle of the value at a byte is, in columns, if it is drawn."""
+        middle = {leaf.at: leaf.at + leaf.size / 2 for leaf in self.kind.leaves}[byte % self.size]
+        column = self.column.get(byte - byte % self.size)
+        return None if column is None else round(column + middle / self.size, 3)
 
     def strip(self) -> Table:
         """The cells of the buffer, and under them those of each name."""
@@ -122,13 +126,11 @@ class Drawn:
         if self.changed:
             rows.append(self.row("before", "old", lambda at, field: cut(literal(self.old.get(at)))))
         rows.append(self.row("value", "now", lambda at, field: cut(literal(self.values.get(at)))))
-        middle = {leaf.at: (leaf.at + leaf.size / 2) / self.size for leaf in self.kind.leaves}
-        pairs = [(source.byte, at) for at, source in self.moved.items() if source.buffer == self.number]
-        moves = [tuple(round(self.column[byte - byte % self.size] + middle[byte % self.size], 3) for byte in pair)
-                 for pair in pairs if all(byte - byte % self.size in self.column for byte in pair)]
+        pairs = [(self.middle(source.byte), self.middle(at)) for at, source in self.moved.items() if source.buffer == self.number]
+        moves = [(source, at) for source, at in pairs if source is not None and at is not None]
         caption = f"Buffer {self.number} {self.state}".rstrip() + f": {self.count} items of {cut(self.kind.text, SHORT)}"
         rows += [self.name_row(*each) for each in self.names]
-        return table(f"{caption}, {self.count * self.size} bytes", self.count - len(self.column), rows, moves)  # type: ignore
+        return table(f"{caption}, {self.count * self.size} bytes", self.count - len(self.column), rows, moves)
 
     def grid(self, name: str, bound: Bound) -> Table:
         """The items of an array of two axes in rows and columns, one that has changed as `1→2`."""
@@ -142,7 +144,8 @@ class Drawn:
         return table(f"{name} in rows and columns", prod(bound.array.shape) - len(rows) * len(columns), made)
 
     def tables(self) -> list[Table]:
-        return [self.strip(), *(self.grid(name, bound) for name, bound, state in self.names if state != "goes" and bound.grid()[0])]
+        grids = [self.grid(name, bound) for name, bound, state in self.names if state != "goes" and bound.grid()[0]]
+        return [self.strip(), *grids]
 
     def said(self) -> str:
         """What the line did to the buffer, in words."""
@@ -150,7 +153,8 @@ class Drawn:
         told += [f"{name} {state}, in buffer {self.number}." for name, _, state in self.names if state]
         if self.changed:
             changes = [f"byte {at} from {cut(literal(self.old[at]))} to {cut(literal(self.values[at]))}" for at in self.changed]
-            seen = [name for name, bound, _ in self.names if any(self.has_changed(bound, at) for at in bound.numbers(self.starts, self.size))]
+            seen = [name for name, bound, _ in self.names
+                    if any(self.has_changed(bound, at) for at in bound.numbers(self.starts, self.size))]
             part = ", as far as it is drawn," * (self.count > len(self.column))
             told.append(f"In buffer {self.number}{part} changes {some(changes)}; seen by {', '.join(seen) or 'no name'}.")
         if self.moved:
@@ -168,5 +172,5 @@ def hues_of(moments: Iterable[Moment]) -> dict[str, int]:
 def said(moment: Moment, buffers: Iterable[Drawn]) -> str:
     """What a line did, in words."""
     hides = any(buffer.count > len(buffer.starts()) for buffer in moment.after.buffers.values())
-    nothing = "Nothing that is drawn changes." if hides and moment.reply.text[:7] in ("ok set ", "ok upd ") else "Nothing changes."
+    nothing = "Nothing that is drawn changes." if hides and moment.reply.text[:6] in ("ok set", "ok upd") else "Nothing changes."
     return cut(" ".join(filter(None, (each.said() for each in buffers))), 2000) or nothing

@@ -217,9 +217,7 @@ class Trace(ExitStack):
 
     def _bound(self, reply: Reply, behind: list[str]) -> tuple[dict[str, Bound], dict[int, Buffer]]:
         """A name was bound: to a view in the buffer of the first name behind it, or to an array in a buffer of its own."""
-        found = BOUND.fullmatch(reply.text)
-        assert found is not None, reply.text
-        name, how = found.groups()
+        [(name, how)] = BOUND.findall(reply.text)
         array = self._second.array(name, items=False)
         bound = Bound(array, self.state.names[behind[0]].buffer if how == "view" else self._made + 1, self._kind(array.type, name))
         self._made = max(self._made, bound.buffer)
@@ -292,11 +290,8 @@ class Trace(ExitStack):
         return list(items) if is_long else [items[number] for number in numbers]
 
     def _moved(self, line: bytes, before: State, source: int, changed: list[int]) -> dict[Place, Place]:
-        """Where a line put what stood in a buffer: it is run on items that tell their places.
-
-        Each place has a number, of which the line is run on one digit after another, and then on the first digit taken from
-        the greatest: so no value that is the same each time is taken for one that moved.
-        """
+        """Where a line put what stood in a buffer. It is run on items that tell their places, by one digit after another of a
+        number, and then by the first digit taken from the greatest: so a value that stays the same is not one that moved."""
         buffer, starts = before.buffers[source], before.buffers[source].starts()
         seen = [pair for pair in before.inside(source).items() if pair[1].array.writable and pair[1].count]
         if not seen or buffer.count > len(starts):
