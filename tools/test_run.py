@@ -1,13 +1,16 @@
 """`bench-tool run`: what the program says and leaves, and each refusal at its line."""
+import os
 import pathlib
 import random
 import re
 import subprocess
+import sys
 import tempfile
 import unittest
 
 import hostile_scripts as scripts
-from companion_trials import PROGRAM, TOOL, TOP, environment, needs_program, numpy_or_none, share
+from companion_trials import PROGRAM, TOOL, environment, needs_program, numpy_or_none, share
+from bench_tool import main
 
 TOLD = re.compile(r"(.*):(\d+): (E\d\d) ([^:]*): ?(.*)")
 
@@ -26,14 +29,39 @@ def left_in(folder):
     return {path.name: path.read_bytes() for path in pathlib.Path(folder).iterdir() if path.stat().st_size < 2**20}
 
 
-def ran(command, script, text):
+def program(words):
+    """A run of the program: output, errors, status."""
+    done = subprocess.run([PROGRAM, *words], capture_output=True, stdin=subprocess.DEVNULL, timeout=120)
+    return done.stdout, done.stderr.decode(), done.returncode
+
+
+def companion(words):
+    """The same of `bench-tool run`, in a process that has read the companion already."""
+    with tempfile.TemporaryFile() as output, tempfile.TemporaryFile() as errors:
+        child = os.fork()
+        if child == 0:
+            status = 70
+            try:
+                os.environ["BENCH"] = PROGRAM
+                os.dup2(output.fileno(), 1)
+                os.dup2(errors.fileno(), 2)
+                sys.stdout, sys.stderr = open(1, "w", closefd=False), open(2, "w", closefd=False)
+                status = main.main(["run", *words])
+            finally:
+                os._exit(status)
+        status = os.waitstatus_to_exitcode(os.waitpid(child, 0)[1])
+        for file in (output, errors):
+            file.seek(0)
+        return output.read(), errors.read().decode(), status
+
+
+def ran(how, script, text):
     """The run of a script over a folder of its own: output, errors, status, files left."""
     with tempfile.TemporaryDirectory() as folder:
         put_files(folder, script.files)
-        words = [*command, text, f"--dir={folder if script.has_folder else folder + '/nowhere'}"]
+        words = [text, f"--dir={folder if script.has_folder else folder + '/nowhere'}"]
         words += [] if script.depth is None else ["--undo", str(script.depth)]
-        done = subprocess.run(words, capture_output=True, env=environment(), stdin=subprocess.DEVNULL, timeout=120)
-        return done.stdout, done.stderr.decode(), done.returncode, left_in(folder)
+        return *how(words), left_in(folder)
 
 
 def refusals(lines, output):
@@ -63,11 +91,11 @@ class Runs(unittest.TestCase):
 
     def compare(self, script):
         path = self.written(scripts.text_of(script.lines))
-        program, tool = ran([PROGRAM], script, path), ran([TOOL, "run"], script, path)
-        self.assertEqual((tool[0], tool[2], tool[3]), (program[0], program[2], program[3]))
+        bench, tool = ran(program, script, path), ran(companion, script, path)
+        self.assertEqual((tool[0], tool[2], tool[3]), (bench[0], bench[2], bench[3]))
         told = [TOLD.fullmatch(line) for line in tool[1].splitlines() if ": note: " not in line]
         self.assertNotIn(None, told)
-        self.assertEqual([(int(found[2]), found[3], found[4]) for found in told], refusals(script.lines, program[0]))
+        self.assertEqual([(int(found[2]), found[3], found[4]) for found in told], refusals(script.lines, bench[0]))
         self.assertTrue(all(found[1] == path for found in told))
 
     def test_scripts_of_the_repository(self):
@@ -113,7 +141,7 @@ class Runs(unittest.TestCase):
             done = subprocess.run([TOOL, "run", path], stdout=full, stderr=subprocess.PIPE, env=environment())
         self.assertEqual((done.returncode, done.stderr), (3, b"bench: write fault\n"))
         done = subprocess.run(["sh", "-c", f"{{ {TOOL} run {path}; echo $? >&2; }} | true"], stderr=subprocess.PIPE, env=environment())
-        self.assertEqual(done.stderr, b"3\n")
+        self.assertEqual(done.stderr, b"bench: write fault\n3\n")
 
     def test_place_of_a_refusal(self):
         text = "# a comment\nb = arange <i4 0 2 1\n\nc = b[2]\nprint b[0]\n"

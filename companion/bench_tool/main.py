@@ -42,8 +42,7 @@ def main(arguments: Optional[Sequence[str]] = None) -> int:
     except KeyboardInterrupt:
         return 130
     except OSError as fault:
-        # Whoever closed the pipe wants no more; nothing is left to be written at the end.
+        # Nothing that is left may be written at the end.
         os.dup2(os.open(os.devnull, os.O_WRONLY), 1)
-        if not isinstance(fault, BrokenPipeError):
-            print("bench: write fault" if words.call is runs.run else f"bench-tool: {fault}", file=sys.stderr)
+        print("bench: write fault" if words.call is runs.run else f"bench-tool: {fault}", file=sys.stderr)
         return 3
