@@ -2,13 +2,13 @@
 import html
 import itertools
 import json
+import os
 import pathlib
 import random
 import re
 import shutil
 import subprocess
 import tempfile
-import time
 import unittest
 import xml.etree.ElementTree
 
@@ -73,6 +73,12 @@ async function tried(page, width) {
 def flat(item):
     """The values of an item, those of a record one after another."""
     return [value for inner in item for value in flat(inner)] if isinstance(item, tuple) else [item]
+
+
+def processor_time():
+    """The seconds that programs took which were started and have ended."""
+    used = os.times()
+    return used.children_user + used.children_system
 
 
 def random_script(seed, commands):
@@ -232,14 +238,14 @@ class Pictures(unittest.TestCase):
 
     def test_many_items(self):
         lines = [b"a = arange <i8 0 16777216 1", b"m = reshape a (4096,4096)", b"t = transpose m", b"set t[0] = -5"]
+        begun = processor_time()
         with Session(PROGRAM) as bench:
-            begun = time.monotonic()
             bench.run(lines)
-            if time.monotonic() - begun > 0.5:
-                self.skipTest("left out: this program takes long for 2^24 items alone")
-        begun = time.monotonic()
+        if processor_time() - begun > 1:
+            self.skipTest("left out: this program takes long for 2^24 items alone")
+        begun = processor_time()
         _, tables, words = data_of(self.drawn(lines))[-1]
-        self.assertLess(time.monotonic() - begun, 2)
+        self.assertLess(processor_time() - begun, 2)
         self.assertIn("16776960 items in between are not drawn", tables[0][0])
         values = next(row[2] for row in tables[0][2] if row[1] == "now")
         self.assertEqual(values[:3] + values[-2:], [[["-5", "x", 0.0, 1.0]], "1", "2", "16777214", "16777215"])
