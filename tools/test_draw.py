@@ -2,13 +2,13 @@
 import html
 import itertools
 import json
+import os
 import pathlib
 import random
 import re
 import shutil
 import subprocess
 import tempfile
-import time
 import unittest
 import xml.etree.ElementTree
 
@@ -73,6 +73,12 @@ async function tried(page, width) {
 def flat(item):
     """The values of an item, those of a record one after another."""
     return [value for inner in item for value in flat(inner)] if isinstance(item, tuple) else [item]
+
+
+def processor_time():
+    """The seconds that programs took which were started and have ended."""
+    used = os.times()
+    return used.children_user + used.children_system
 
 
 def random_script(seed, commands):
@@ -203,8 +209,8 @@ class Pictures(unittest.TestCase):
         self.assertEqual(words[0], "Buffer 1 appears. a appears, in buffer 1.")
         self.assertEqual(words[1], "b appears, in buffer 1.")
         self.assertEqual(words[4], "Buffer 2 appears. d appears, in buffer 2.")
-        self.assertEqual(words[5], "In buffer 1 changes byte 4 from 1 to 0; byte 8 from 2 to 1; byte 12 from 3 to 2; seen by a, b, c, t. "
-                                   "There went to byte 4 what was at byte 0; to byte 8 what was at byte 4; to byte 12 what was at byte 8.")
+        self.assertEqual(words[5], "Buffer 1 changes: byte 4 from 1 to 0; byte 8 from 2 to 1; byte 12 from 3 to 2; seen by a, b, c, t. "
+                                   "Moved: to byte 4 from byte 0; to byte 8 from byte 4; to byte 12 from byte 8.")
         self.assertEqual((words[6], words[7]), ("Buffer 2 goes. d goes, in buffer 2.", "Buffer 2 comes back. d comes back, in buffer 2."))
         self.assertEqual(words[8], "Nothing changes.")
 
@@ -228,23 +234,23 @@ class Pictures(unittest.TestCase):
         lines = [f"n{k} = arange <i4 0 {k % 5} 1".encode() for k in range(1024)] + [b"one_more = n3", b"n8 = n4", b"set n4[1:] = n4[:-1]", b"del n7", b"undo"]
         drawn = data_of(self.drawn(lines))
         self.assertEqual(sum(row[1].startswith("name") for table in drawn[-1][1] for row in table[2]), 1024)
-        self.assertEqual(drawn[-3][2].split(";")[0], "In buffer 5 changes byte 4 from 1 to 0")
+        self.assertEqual(drawn[-3][2].split(";")[0], "Buffer 5 changes: byte 4 from 1 to 0")
 
     def test_many_items(self):
         lines = [b"a = arange <i8 0 16777216 1", b"m = reshape a (4096,4096)", b"t = transpose m", b"set t[0] = -5"]
+        begun = processor_time()
         with Session(PROGRAM) as bench:
-            begun = time.monotonic()
             bench.run(lines)
-            if time.monotonic() - begun > 0.5:
-                self.skipTest("left out: this program takes long for 2^24 items alone")
-        begun = time.monotonic()
+        if processor_time() - begun > 1:
+            self.skipTest("left out: this program takes long for 2^24 items alone")
+        begun = processor_time()
         _, tables, words = data_of(self.drawn(lines))[-1]
-        self.assertLess(time.monotonic() - begun, 2)
+        self.assertLess(processor_time() - begun, 2)
         self.assertIn("16776960 items in between are not drawn", tables[0][0])
         values = next(row[2] for row in tables[0][2] if row[1] == "now")
         self.assertEqual(values[:3] + values[-2:], [[["-5", "x", 0.0, 1.0]], "1", "2", "16777214", "16777215"])
         self.assertEqual([boxes(row[2][0])[0][0] for row in tables[1][2]][1:3], ["0→-5", "4096→-5"])
-        self.assertTrue(words.startswith("In buffer 1, as far as it is drawn, changes byte 0 from 0 to -5"))
+        self.assertTrue(words.startswith("Buffer 1 changes, as far as it is drawn: byte 0 from 0 to -5"))
 
     def test_in_a_browser(self):
         if CHROMIUM is None:

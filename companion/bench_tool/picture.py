@@ -155,12 +155,11 @@ class Drawn:
             changes = [f"byte {at} from {cut(literal(self.old[at]))} to {cut(literal(self.values[at]))}" for at in self.changed]
             seen = [name for name, bound, _ in self.names
                     if any(self.has_changed(bound, at) for at in bound.numbers(self.starts, self.size))]
-            part = ", as far as it is drawn," * (self.count > len(self.column))
-            told.append(f"In buffer {self.number}{part} changes {some(changes)}; seen by {', '.join(seen) or 'no name'}.")
+            part = ", as far as it is drawn" * (self.count > len(self.column))
+            told.append(f"Buffer {self.number} changes{part}: {some(changes)}; seen by {', '.join(seen) or 'no name'}.")
         if self.moved:
             other = {source: f" of buffer {source.buffer}" * (source.buffer != self.number) for source in self.moved.values()}
-            moves = [f"to byte {at} what was at byte {source.byte}{other[source]}" for at, source in self.moved.items()]
-            told.append(f"There went {some(moves)}.")
+            told.append(f"Moved: {some([f'to byte {at} from byte {source.byte}{other[source]}' for at, source in self.moved.items()])}.")
         return " ".join(told)
 
 
