@@ -5,11 +5,13 @@ ghost use Rattle.shape_strides.specs.Layouts.{offsets};
 
 use crate::check::{check, check_bytes};
 use crate::made::array_of;
+use broadcasting::stretch;
 use elem_descr::{Refusal, descr_read};
-use elementwise::{Items, apply1, apply2, compare, compare_integer, scalar_of};
+use elementwise::{Items, apply1, apply2, compare, compare_bytes, compare_integer, scalar_of};
 use overlap_copy::Owned;
 use reductions::reduce;
 use script_lang::{BinaryOperation, Comparison, Reduction, UnaryOperation};
+use shape_strides::Shape;
 use std::alloc::Global;
 use std::process::Abort;
 
@@ -279,6 +281,84 @@ fn comparisons(rt: HostRuntime) {
     }
 }
 
+/// Arrays that are stretched to a shape first, with NULs behind byte strings of other lengths.
+const STRETCHED: &[(Comparison, Given, &[usize], Given, Wanted)] = &[
+    (
+        Comparison::Equal,
+        ("|S4", &[1], b"ab\x00\x00"),
+        &[2, 3],
+        ("|S3", &[3], b"ab\x00abca\x00\x00"),
+        Ok(("|b1", &[2, 3], b"\x01\x00\x00\x01\x00\x00")),
+    ),
+    (
+        Comparison::Less,
+        (
+            "|S20",
+            &[],
+            b"abcdefgh\x00\x00\x00\x00\x00\x00\x00\x00\x00\x00\x00\x00",
+        ),
+        &[2, 1],
+        ("|S9", &[3], b"abcdefgh\x00abcdefgi\x00abcdefghz"),
+        Ok(("|b1", &[2, 3], b"\x00\x01\x01\x00\x01\x01")),
+    ),
+    (
+        Comparison::GreaterOrEqual,
+        ("<i2", &[2, 1], b"\x05\x00\xfb\xff"),
+        &[2, 3],
+        ("|u1", &[1, 1], b"\x05"),
+        Ok(("|b1", &[2, 3], b"\x01\x01\x01\x00\x00\x00")),
+    ),
+];
+
+#[test]
+fn comparisons_of_stretched_arrays(rt: HostRuntime) {
+    for (comparison, left, lengths, right, wanted) in STRETCHED {
+        let left = given(&rt, rt.alloc(), *left);
+        let right = given(&rt, rt.alloc(), *right);
+        let shape = Shape::try_new(rt.alloc(), *lengths).expect(&rt, "no shape");
+        let wide = stretch(rt.alloc(), &left.layout, &shape).expect(&rt, "not stretched");
+        check(
+            &rt,
+            wide.fits(left.block.len(), left.descr.size()),
+            "inside",
+        );
+        let operand = Items {
+            block: &left.block,
+            layout: &wide,
+            descr: &left.descr,
+        };
+        let made = compare(rt.alloc(), *comparison, operand, items(&right));
+        gives(&rt, rt.alloc(), &made, *wanted);
+    }
+}
+
+/// Comparisons of byte strings, in an array and stretched from it, with bytes that NULs end.
+#[test]
+fn comparisons_with_bytes(rt: HostRuntime) {
+    let texts = given(&rt, rt.alloc(), ("|S3", &[2, 1], b"ab\x00abc"));
+    let made = compare_bytes(rt.alloc(), Comparison::Equal, items(&texts), b"ab\x00\x00");
+    gives(&rt, rt.alloc(), &made, Ok(("|b1", &[2, 1], b"\x01\x00")));
+    let shape = Shape::try_new(rt.alloc(), &[2, 2]).expect(&rt, "no shape");
+    let wide = stretch(rt.alloc(), &texts.layout, &shape).expect(&rt, "not stretched");
+    check(
+        &rt,
+        wide.fits(texts.block.len(), texts.descr.size()),
+        "inside",
+    );
+    let operand = Items {
+        block: &texts.block,
+        layout: &wide,
+        descr: &texts.descr,
+    };
+    let made = compare_bytes(rt.alloc(), Comparison::Greater, operand, b"ab");
+    gives(
+        &rt,
+        rt.alloc(),
+        &made,
+        Ok(("|b1", &[2, 2], b"\x00\x00\x01\x01")),
+    );
+}
+
 /// Integers that the type has, and others just beyond it and far from it.
 const COMPARED_INTEGERS: &[(Comparison, Given, i128, Wanted)] = &[
     (
@@ -437,5 +517,35 @@ fn reductions_of_arrays(rt: HostRuntime) {
             *keep,
         );
         gives(&rt, rt.alloc(), &made, *wanted);
+    }
+}
+
+/// The first of two greatest numbers and of two least ones, behind many others.
+const PLACES: &[(Reduction, &[u8])] = &[
+    (Reduction::ArgMax, b"\x2c\x01\x00\x00\x00\x00\x00\x00"),
+    (Reduction::ArgMin, b"\x90\x01\x00\x00\x00\x00\x00\x00"),
+];
+
+#[test]
+fn places_behind_many(rt: HostRuntime) {
+    let mut bytes = [5; 700];
+    bytes[300] = 9;
+    bytes[650] = 9;
+    bytes[400] = 1;
+    bytes[500] = 1;
+    let descr = descr_read(rt.alloc(), b"|u1").expect(&rt, "no element type");
+    let owned = array_of(&rt, rt.alloc(), descr, &[700], &bytes);
+    for (reduction, place) in PLACES {
+        let array = items(&owned);
+        let made = reduce(
+            rt.alloc(),
+            *reduction,
+            array.block,
+            array.layout,
+            array.descr,
+            None,
+            false,
+        );
+        gives(&rt, rt.alloc(), &made, Ok(("<i8", &[], *place)));
     }
 }
