@@ -1,6 +1,7 @@
 # make                builds the program; the first time this proves all of its crates
 # make install        puts it in its places below PREFIX, with its launcher, pages, completions and companion
 # make uninstall      takes them away again
+# make pictures       draws the pictures of the docs from scripts in examples/
 # make check          the gate: every proof from nothing, and the tests of the tools
 #
 # DESTDIR is put before PREFIX while files are copied, for packages.
@@ -29,7 +30,10 @@ uninstall:
 	    find "$(to)/$$place" -depth -type d -exec rmdir {} + 2>/dev/null || true; fi; \
 	done
 
+pictures: all
+	@sh tools/pictures.sh
+
 check:
 	@sh tools/check.sh
 
-.PHONY: all install uninstall check
+.PHONY: all install uninstall pictures check

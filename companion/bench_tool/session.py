@@ -116,7 +116,7 @@ def items_of(text: str) -> tuple[Any, ...]:
 def find_program() -> str:
     """The path of the program: BENCH, else the one of the repository or the installed one."""
     top = Path(__file__).resolve().parents[2]
-    places = (top / "crates/bench_main/out/bench_main", top / "bench", top.parent / "bin/bench")
+    places = (top / "crates/bench_main/out/bench_main", top.parent / "bin/bench")
     beside = (str(place) for place in places if place.is_file() and os.access(place, os.X_OK))
     found = os.environ.get("BENCH") or next(beside, None) or shutil.which("bench")
     if not found:
