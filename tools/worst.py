@@ -7,7 +7,8 @@ BENCH is the program that `./bench` builds. The time of a line is the difference
 in processor time, the least of several runs. It is told in nanoseconds for each byte that the line reads, writes and prints,
 and of its own text: an item that is read many times counts once, as the items of an array that `broadcast` made. So a line
 whose number is large is one with which a stranger can keep the program busy. The rows that are marked as a floor do as much work
-as their answer needs: each two items of two long columns are compared. --seconds N ends a run that takes longer.
+as their answer needs: each two items of two long columns are compared, and each pair costs up to a step for each eight
+bytes of the longer one. What takes a millisecond or less has no such number. --seconds N ends a run that takes longer.
 """
 import argparse
 import os
@@ -23,6 +24,7 @@ MOST_ITEMS = 2**24
 MOST_BYTES = 2**28
 LONGEST = 2**16
 COLUMN = MOST_BYTES // LONGEST
+SHORT = 0.001
 FOLDER = tempfile.TemporaryDirectory()
 
 
@@ -99,11 +101,12 @@ ROWS = [
     Row("eq", "one string of 2^16 bytes that is shown 2^24 times, with a literal", shown(LONG, MOST_ITEMS, "b'y'"), "x = eq c b'y'", LONGEST + MOST_ITEMS),
     Row("eq", "the same with itself", shown(LONG, MOST_ITEMS, "b'y'"), "x = eq c c", LONGEST + MOST_ITEMS),
     Row("eq", "the same with 2^24 strings of one byte", [*shown(LONG, MOST_ITEMS, "b'y'"), filled("b", "|S1", MOST_ITEMS, "b'y'")], "x = eq c b", LONGEST + 2 * MOST_ITEMS),
-    Row("eq", "two strings of 2^16 bytes in two axes, shown 4,096 times each", [f"a = full {LONG} (1,1) b'y'", "c = broadcast a (4096,4096)"], "x = lt c b'y'", LONGEST + MOST_ITEMS),
-    Row("eq", "4,096 strings of 2^16 bytes with themselves", [f"a = full {LONG} ({COLUMN // 2}) b'{'y' * 30000}'"], "x = eq a a", MOST_BYTES // 2 + COLUMN),
+    Row("lt", "one string of 2^16 bytes that is shown 4,096 times along each of two axes", [f"a = full {LONG} (1,1) b'y'", "c = broadcast a (4096,4096)"], "x = lt c b'y'", LONGEST + MOST_ITEMS),
+    Row("eq", "2,048 strings of 30,000 bytes with themselves", [f"a = full {LONG} ({COLUMN // 2}) b'{'y' * 30000}'"], "x = eq a a", MOST_BYTES // 2 + COLUMN),
     Row("eq", "4,096 strings of 2^16 bytes, NULs alone, with a literal", [f"a = zeros {LONG} ({COLUMN})"], "x = eq a b''", MOST_BYTES + COLUMN),
-    Row("eq", "512 to 512 equal strings of 30,000 bytes", [f"a = full |S30000 (512,1) b'{'y' * 30000}'", "b = reshape a (1,512)"], "x = eq a b", 512 * 30000 + 512 * 512, True),
-    Row("lt", "2^24 bytes with signs, of 8 bytes without", [filled("a", "<i8", MOST_ITEMS, "-7"), filled("b", "<u8", MOST_ITEMS, "7")], "x = lt a b", 17 * MOST_ITEMS),
+    Row("eq", "each of 512 equal strings of 30,000 bytes with each of 512", [f"a = full |S30000 (512,1) b'{'y' * 30000}'", "b = reshape a (1,512)"], "x = eq a b", 512 * 30000 + 512 * 512, True),
+    Row("eq", "each of 512 strings of 2^16 bytes, one of which is long, with each of 512 of one byte", [f"a = full {LONG} (512,1) b'y'", f"set a[0,0] = b'{'y' * 65000}'", "b = full |S1 (512) b'y'"], "x = eq a b", 512 * LONGEST + 512 * 513, True),
+    Row("lt", "2^24 of 8 bytes with signs and as many without", [filled("a", "<i8", MOST_ITEMS, "-7"), filled("b", "<u8", MOST_ITEMS, "7")], "x = lt a b", 17 * MOST_ITEMS),
     Row("sum", "24 axes in reverse", REVERSED, "x = sum t", MOST_ITEMS),
     Row("sum", "along the first axis of 2^23 x 2", [f"a = zeros |u1 ({MOST_ITEMS // 2},2)"], "x = sum a 0", MOST_ITEMS),
     Row("sum", "along the last axis of 2^23 x 2", [f"a = zeros |u1 ({MOST_ITEMS // 2},2)"], "x = sum a 1", MOST_ITEMS + 8 * MOST_ITEMS // 2),
@@ -123,14 +126,14 @@ ROWS = [
     Row("print", "2^22 numbers of 19 digits", [f"a = full <i8 ({MOST_ITEMS // 4}) -9223372036854775807"], "print a", (8 + 21) * MOST_ITEMS // 4),
     Row("print", "2^22 of one digit", [f"a = zeros |u1 ({MOST_ITEMS // 4})"], "print a", 3 * MOST_ITEMS // 4),
     Row("print", "2^22 rows of one bool", [f"a = zeros |b1 ({MOST_ITEMS // 4},1)"], "print a", 10 * MOST_ITEMS // 4),
-    Row("print", "32,768 bytes that are escaped, 64 times", ["a = full |S16000 (64) b'" + r"\xff" * 16000 + "'"], "print a", 5 * 64 * 16000),
+    Row("print", "64 strings of 16,000 bytes that are escaped", ["a = full |S16000 (64) b'" + r"\xff" * 16000 + "'"], "print a", 5 * 64 * 16000),
     Row("print", "records of 2,048 values", [f"a = zeros {LEAVES} (1024)"], "print a", 4 * 2048 * 1024),
     Row("print", "one number that is shown 2^22 times", shown("<i8", MOST_ITEMS // 4, "7"), "print c", 2 * MOST_ITEMS // 4),
     Row("print", "strings of 2^16 NULs, 4,096 of them", [f"a = zeros {LONG} ({COLUMN})"], "print a", MOST_BYTES),
     Row("info", "of 64 axes", [f"a = zeros |u1 ({MANY_AXES})"], "info a", 64 * 16),
     Row("format", "a record of 2,048 values", [f"a = zeros {LEAVES} (1)"], "format a", 2 * len(LEAVES)),
     Row("shares", "two fields of 2^23 records, one backwards", [f"a = zeros T{{b:x:b:y:}} ({MOST_ITEMS // 2})", 'b = field a "x"', 'c = field a "y"', "c = c[::-1]"], "shares b c", 64),
-    Row("shares", "24 axes of two items at steps of 3 and 5", [f"a = zeros |u1 ({MOST_ITEMS})", "b = a[:15728640]", "b = reshape b (2048,7680)", "b = b[:,::3]", "c = a[1:15728641]", "c = reshape c (1536,10240)", "c = c[:,::5]"], "shares b c", 2 * 64),
+    Row("shares", "grids of every third and every fifth of 2^24 bytes", [f"a = zeros |u1 ({MOST_ITEMS})", "b = a[:15728640]", "b = reshape b (2048,7680)", "b = b[:,::3]", "c = a[1:15728641]", "c = reshape c (1536,10240)", "c = c[:,::5]"], "shares b c", 2 * 64),
     Row("names", "1,024 names", [f"{'n' * 28}{k:04} = zeros |u1 (1)" for k in range(1024)], "names", 33 * 1024),
     Row("del", "the first of 1,024 names", [f"{'n' * 28}{k:04} = zeros |u1 (1)" for k in range(1024)], f"del {'n' * 28}0000", 64),
     Row("undo", "a literal set to 2^24 items", [f"a = zeros |u1 ({MOST_ITEMS})", "set a[:] = 1"], "undo", 2 * MOST_ITEMS),
@@ -167,7 +170,8 @@ def cells(program, row, runs, limit):
         took = max(0.0, least([*row.setup, row.line]) - least(row.setup))
     except subprocess.TimeoutExpired:
         return row.command, row.name, f"above {limit} s", "", ""
-    return row.command, row.name, f"{took * 1e3:.1f}", f"{took * 1e9 / row.touched:.2f}", "floor" if row.floor else reply
+    each = f"{took * 1e9 / row.touched:.2f}" if took > SHORT else ""
+    return row.command, row.name, f"{took * 1e3:.1f}", each, "floor" if row.floor else reply
 
 
 def main():
