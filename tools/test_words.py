@@ -141,7 +141,7 @@ class Hints(unittest.TestCase):
 
     def test_what_is_asked_of_them(self):
         """What newcomers were seen to write."""
-        with Session(PROGRAM) as bench:
+        with tempfile.TemporaryDirectory() as folder, Session(PROGRAM, dir=folder) as bench:
             bench.run(NAMES)
             for line, told in [
                 ("print a[0]", "t = a[0]\nprint t"), ("a[0] = 5", "set a[0] = 5"), ("x = sum a[0]", "t = a[0]\nx = sum t"),
