@@ -14,8 +14,8 @@ import unittest
 import xml.etree.ElementTree
 import zlib
 
+from trials.companion_trials import PROGRAM, TOOL, TOP, environment, needs_program, share
 import hostile_scripts as scripts
-from companion_trials import PROGRAM, TOOL, TOP, environment, needs_program, share
 from bench_tool import Session
 from bench_tool.page import page
 from bench_tool.trace import Trace, literal

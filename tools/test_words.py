@@ -6,7 +6,7 @@ import subprocess
 import tempfile
 import unittest
 
-from companion_trials import PROGRAM, TOP, needs_program
+from trials.companion_trials import PROGRAM, TOP, needs_program
 from bench_tool import Session, hints, language, main
 
 NAMES = """a = arange <i4 0 6 1

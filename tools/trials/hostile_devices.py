@@ -140,7 +140,7 @@ class Trials:
     def interrupted(self):
         """Reads and writes that a signal interrupts are made again; a stream with nothing to give yet is a fault."""
         library = self.folder / "interrupt_calls.so"
-        subprocess.run(["cc", "-O2", "-shared", "-fPIC", "-o", library, TOP / "tools" / "interrupt_calls.c"], check=True)
+        subprocess.run(["cc", "-O2", "-shared", "-fPIC", "-o", library, TOP / "tools/trials/interrupt_calls.c"], check=True)
         script, folder = self.folder / "plain.bench", self.folder / "interrupted"
         script.write_text(SCRIPT)
         folder.mkdir()
@@ -282,12 +282,12 @@ def open_soon(fifo):
     raise TimeoutError
 
 
-def all_trials(given, _with_undo, _folder):
+def all_trials(given, _folder):
     """All devices."""
     folder = temporary_folder()
     folder.chmod(0o755)
     try:
-        trials = Trials(given.bench, pathlib.Path(folder))
+        trials = Trials(given.program, pathlib.Path(folder))
         for kind in (trials.outputs, trials.limited_files, trials.words, trials.interrupted, trials.scripts, trials.folders, trials.files):
             kind()
         return trials.part
