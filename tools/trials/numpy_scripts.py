@@ -406,9 +406,14 @@ class Script:
 
         return f"set {target}[{list_text(items)}] = {text}", reply
 
+    def number(self):
+        """A name, mostly of an array of numbers."""
+        found = [name for name, array in self.world.arrays.items() if computations.is_number(array.dtype)]
+        return self.rng.choice(found) if found and self.rng.random() < 0.9 else self.source()
+
     def operand(self):
         """A name, or some items of its array: the text, the names in it, and what gives the items."""
-        source = self.source()
+        source = self.number()
         if self.rng.random() < 0.5:
             return source, [source], lambda: self.world.array(source)
         items = self.items(self.shape_of(source))
@@ -444,13 +449,13 @@ class Script:
         return self.bound(f"{word} {text}", names, lambda: computations.transformed(word, one()))
 
     def reduction(self):
-        source, word = self.source(), self.rng.choice(computations.REDUCTIONS)
+        source, word = self.number(), self.rng.choice(computations.REDUCTIONS)
         axis, keep = self.rng.choice([None, 0, 1, -1, 2, -2, 3]), self.rng.random() < 0.3
         line = f"{word} {source}{'' if axis is None else f' {axis}'}{' keep' if keep else ''}"
         return self.bound(line, [source], lambda: computations.reduced(word, self.world.array(source), axis, keep))
 
     def update(self):
-        source, word = self.source(), self.rng.choice(WORDS)
+        source, word = self.number(), self.rng.choice(WORDS)
         items = self.items(self.shape_of(source))
         text, names, other = self.argument()
 
