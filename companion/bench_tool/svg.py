@@ -45,7 +45,7 @@ def _block(table: Table, first: int, last: int, margin: float, width: float) -> 
         boxes = [box for box in row.boxes if first <= box.at < last]
         if row.look == "old" and not any(box.look == "x" for box in boxes):
             continue
-        drawn.append(f'<g class="{row.look}">' + _text(4, y, row.label, 16, ' class="label"'))
+        drawn.append(f'<g class="{row.look}">' + _text(4, y, row.label, WIDTH, ' class="label"'))
         for text, at, part, look in boxes:
             left, wide = margin + (at - first) * width, part * width
             drawn.append(f'<rect x="{left:.1f}" y="{y + 1}" width="{wide:.1f}" height="{LINE - 3}" class="{look}"/>')
@@ -65,7 +65,7 @@ def parts(table: Table, room: float) -> Iterator[Block]:
     lines = [(line, look) for text, look in told for line in textwrap.wrap(text, int(room / LETTER) - 1)]
     head = "".join(_text(4, k * (LINE - 4), line, WIDTH, f' class="{look}"') for k, (line, look) in enumerate(lines))
     letters, height = max(len(line) for line, _ in lines), len(lines) * (LINE - 4) + 6
-    margin = 12 + LETTER * min(16, max(len(row.label) for row in table.rows))
+    margin = 12 + LETTER * max(len(row.label) for row in table.rows)
     most = max((len(row.boxes) / table.columns for row in table.rows), default=0) if table.columns else 0
     width = min(table.letters, max(80, int(5 * most))) * LETTER
     across = max(1, int((room - margin) / width))
