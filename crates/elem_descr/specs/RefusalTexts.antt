@@ -1,4 +1,4 @@
--- What a refused line is answered.
+-- What a refused line is answered: `no`, the code and the text of each refusal.
 use Rattle.std.specs.Prelude.{ℕ, List, codes}
 use Rattle.elem_descr.specs.declared.refusal.Refusal.{Refusal}
 use Rattle.elem_descr.specs.declared.refusal.Refusal.TheVariants.{LineTooLong, ByteNotAllowed, Syntax, BadDescriptor, DescriptorLeftOut, UnknownName, TooManyNames, TooManyAxes, TooLarge, TooManyIndices, IndexOutOfRange, ZeroStep, MaskLengths, NotAnIndexType, IndexShapes, ShapesDoNotBroadcast, BadAxis, BadReshape, NoSuchField, ReadOnly, NeedsFloats, NotForThisKind, LiteralOutOfRange, NotSameKind, EmptyReduction, NothingToUndo, StoreFault, BadMagic, BadVersion, BadHeader, Truncated, NumberOfValues, NoSuchCast, NoSuchFile, FileTooLong, OutOfMemory}
