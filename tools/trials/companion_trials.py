@@ -4,11 +4,11 @@ import pathlib
 import sys
 import unittest
 
-TOP = pathlib.Path(__file__).resolve().parent.parent
+TOP = pathlib.Path(__file__).resolve().parents[2]
 COMPANION = TOP / "companion"
 TOOL = COMPANION / "bench-tool"
 BUILT = TOP / "crates/bench_main/out/bench_main"
-sys.path.insert(0, str(COMPANION))
+sys.path[:0] = [str(COMPANION), str(TOP / "tools/trials")]
 
 PROGRAM = os.environ.get("BENCH") or str(BUILT)
 needs_program = unittest.skipUnless(os.access(PROGRAM, os.X_OK), "left out: the program is not built, and BENCH names none")

@@ -1,7 +1,7 @@
 """Random format texts, with what NumPy reads in them."""
 from numpy.core._internal import _dtype_from_pep3118
 
-from expected import format_text
+from world import format_text
 
 
 class Formats:

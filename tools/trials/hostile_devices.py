@@ -1,6 +1,7 @@
 """Devices that fail, over real files, folders and pipes.
 
 What no rule tells, as how a pipe that is closed ends a run, is told as it is found."""
+import fcntl
 import os
 import pathlib
 import shutil
@@ -19,6 +20,7 @@ NOBODY = ["setpriv", "--reuid=65534", "--regid=65534", "--clear-groups"]
 MOST_WAIT = 20
 FAULT = "no E27 store fault"
 LOADS = 3000
+SAVES = 200
 MOST_BLOCKS = 8192
 
 
@@ -138,9 +140,9 @@ class Trials:
             self.part.expect(f"the word {word!r} behind others", refused[0], 2)
 
     def interrupted(self):
-        """Reads and writes that a signal interrupts are made again; a stream with nothing to give yet is a fault."""
+        """Reads, writes, looks, syncs and renames that a signal interrupts are made again; a stream with nothing to give yet is a fault."""
         library = self.folder / "interrupt_calls.so"
-        subprocess.run(["cc", "-O2", "-shared", "-fPIC", "-o", library, TOP / "tools" / "interrupt_calls.c"], check=True)
+        subprocess.run(["cc", "-O2", "-shared", "-fPIC", "-o", library, TOP / "tools/trials/interrupt_calls.c"], check=True)
         script, folder = self.folder / "plain.bench", self.folder / "interrupted"
         script.write_text(SCRIPT)
         folder.mkdir()
@@ -152,6 +154,33 @@ class Trials:
             self.part.expect(f"each call of SCRIPT interrupted {times} times", self.run("", ["--dir", folder, script], before), plain)
         before = ["env", f"LD_PRELOAD={library}", "INTERRUPT_TIMES=1", "INTERRUPT_AGAIN=1"]
         self.expect("nothing to read yet", self.run(SCRIPT, ["--dir", folder], before), 3, "", "bench: read fault\n")
+
+    def writers(self):
+        """Two programs that save one name leave one of the two files, whole, and nothing beside it; while another holds the lock
+        of the hidden file a save is a fault, and leaves it alone."""
+        folder, sizes = self.folder / "writers", {1: 100_000, 2: 300_000}
+        folder.mkdir()
+        running = [self.start(["--dir", folder], stdin=subprocess.PIPE) for _ in sizes]
+        for process, (value, size) in zip(running, sizes.items()):
+            process.stdin.write((f"a = full |u1 ({size}) {value}\n" + 'save a "a.npy"\n' * SAVES).encode())
+            process.stdin.close()
+        for process, size in zip(running, sizes.values()):
+            replies = process.stdout.read().decode().splitlines()[1:]
+            self.part.count("saves beside another program's", len(replies))
+            self.part.count("of them refused", replies.count(FAULT))
+            told = (len(replies), set(replies) <= {FAULT, f"ok save {size + 128}"}, process.stderr.read(), process.wait())
+            self.part.expect("two programs that save one name", told, (SAVES, True, b"", int(FAULT in replies)))
+        found = (folder / "a.npy").read_bytes()
+        self.part.expect("the file that two programs leave", found[128:] in [bytes([value]) * size for value, size in sizes.items()], True)
+        self.part.expect("what lies beside it", os.listdir(folder), ["a.npy"])
+        held, text = folder / ".a.npy.part", 'a = zeros |u1 (3)\nsave a "a.npy"\n'
+        held.write_bytes(b"another's")
+        with open(held, "rb") as locked:
+            fcntl.flock(locked, fcntl.LOCK_EX)
+            self.over("a save while another program saves", folder, f"ok a |u1 (3,) new\n{FAULT}\n", text=text)
+            self.part.expect("what the other has", (held.read_bytes(), (folder / "a.npy").read_bytes() == found), (b"another's", True))
+        self.over("a save once the other has ended", folder, "ok a |u1 (3,) new\nok save 131\n", 0, text=text)
+        self.part.expect("what is left of the other", os.listdir(folder), ["a.npy"])
 
     def scripts(self):
         """Scripts that are no files."""
@@ -282,13 +311,13 @@ def open_soon(fifo):
     raise TimeoutError
 
 
-def all_trials(given, _with_undo, _folder):
+def all_trials(given, _folder):
     """All devices."""
     folder = temporary_folder()
     folder.chmod(0o755)
     try:
-        trials = Trials(given.bench, pathlib.Path(folder))
-        for kind in (trials.outputs, trials.limited_files, trials.words, trials.interrupted, trials.scripts, trials.folders, trials.files):
+        trials = Trials(given.program, pathlib.Path(folder))
+        for kind in (trials.outputs, trials.limited_files, trials.words, trials.interrupted, trials.writers, trials.scripts, trials.folders, trials.files):
             kind()
         return trials.part
     finally:

@@ -218,11 +218,11 @@ def files():
     return found
 
 
-def all_trials(given, _with_undo, _folder):
+def all_trials(given, _folder):
     """Each trial in a run of its own setup, all in one script."""
     part, loaded = Part(), files()
     lines = [(line, reply) for line, reply in trials()] + [(f'x = load "{k}"', reply) for k, (_, reply) in enumerate(loaded)]
-    with Runner(given.bench) as runner:
+    with Runner(given.program) as runner:
         fill(runner.dir, {str(k): file for k, (file, _) in enumerate(loaded)})
         words = ["--dir", str(runner.dir)]
         replies = runner.replies("".join(f"{line}\n" for line in SETUP).encode(), words)

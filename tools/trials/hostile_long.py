@@ -50,23 +50,22 @@ class Long:
             self.part.expect(f"{self.what}: bytes of all replies", replied, replies + len("ok sync <i8 () new\n") + 2 * (len(SYNC[1]) + 1))
 
 
-def cycle(number, with_undo):
+def cycle(number):
     """Ten commands that bind, write, unbind and go back; the arrays are as many after them as before."""
-    back = ["undo", "undo", "undo"] if with_undo else ["info a", "format b", "shares a b"]
     return [
-        f"a = full <i4 (8) {number % 1000}", f"set a[1:] = {number % 7}", "upd a[::2] add a[1::2]", "b = a[::-1]", "c = cast b <i8", "del c", *back, "d = sum a",
+        f"a = full <i4 (8) {number % 1000}", f"set a[1:] = {number % 7}", "upd a[::2] add a[1::2]", "b = a[::-1]", "c = cast b <i8", "del c",
+        "undo", "undo", "undo", "d = sum a",
     ]
 
 
-def many_commands(part, program, with_undo):
+def many_commands(part, program):
     """A million commands at the greatest depth."""
-    what = f"{COMMANDS:,} commands at depth {DEPTH}" if with_undo else f"{COMMANDS:,} commands without undo"
-    run = Long(part, program, what, ["--undo", str(DEPTH)] if with_undo else [])
+    run = Long(part, program, f"{COMMANDS:,} commands at depth {DEPTH}", ["--undo", str(DEPTH)])
     run.say(b"b = zeros <i4 (8)\n")
     for start in range(0, COMMANDS // 10, FIRST // 10):
         if start == FIRST // 10:
             run.is_warm()
-        run.say("".join(f"{line}\n" for k in range(start, start + FIRST // 10) for line in cycle(k, with_undo)).encode())
+        run.say("".join(f"{line}\n" for k in range(start, start + FIRST // 10) for line in cycle(k)).encode())
     run.end(0)
 
 
@@ -111,10 +110,10 @@ def full_lines(part, program):
     run.end(1, LINES // len(commands) * replies)
 
 
-def many_names(part, program, with_undo, seed):
+def many_names(part, program, seed):
     """The greatest number of names, bound and unbound in turn."""
     rng = random.Random(seed)
-    run = Long(part, program, f"{NAMES} names bound and unbound {ROUNDS} times", ["--undo", str(DEPTH)] if with_undo else [])
+    run = Long(part, program, f"{NAMES} names bound and unbound {ROUNDS} times", ["--undo", str(DEPTH)])
     replies, names = 0, [f"n{k:04}" for k in range(NAMES - 1)]
     for number in range(ROUNDS):
         if number == 2:
@@ -128,11 +127,11 @@ def many_names(part, program, with_undo, seed):
     run.end(1, replies)
 
 
-def all_trials(given, with_undo, _folder):
+def all_trials(given, _folder):
     """All long runs."""
     part = Part()
-    many_commands(part, given.bench, with_undo)
-    long_script(part, given.bench)
-    full_lines(part, given.bench)
-    many_names(part, given.bench, with_undo, given.seed)
+    many_commands(part, given.program)
+    long_script(part, given.program)
+    full_lines(part, given.program)
+    many_names(part, given.program, given.seed)
     return part

@@ -4,7 +4,7 @@ import math
 import pathlib
 import re
 
-TOP = pathlib.Path(__file__).resolve().parent.parent
+TOP = pathlib.Path(__file__).resolve().parents[2]
 NAME = re.compile(rb"\s*([A-Za-z_]\w*)\s*=")
 LONGEST_LINE = 65536
 
@@ -82,7 +82,7 @@ def long_scripts():
 def own_scripts():
     """The scripts of the repository."""
     examples = scripts_in(TOP / "examples", "*.bench")
-    return examples + scripts_in(TOP / "tools" / "hostile", "*.bench") + long_scripts()
+    return examples + scripts_in(TOP / "tools/trials/hostile", "*.bench") + long_scripts()
 
 
 INTEGERS = ["|i1", "<i2", ">i4", "<i4", "<i8", "|u1", ">u2", "<u4", "<u8"]

@@ -5,15 +5,9 @@ byte string goes to every byte string, cut to its length. Records go field by fi
 level, and a scalar goes to every leaf of a record. There are no others. `TALLY` counts the casts and
 assignments of arrays with items, and those that NumPy carries out otherwise.
 """
-import collections
-
 import numpy as np
 
-from expected import fields, leaves
-
-TALLY = collections.Counter(dict.fromkeys([
-    "casts", "casts that NumPy does otherwise", "sets", "sets across shared items", "sets that NumPy does otherwise",
-], 0))
+from world import TALLY, fields, leaves
 
 
 def can_cast_scalar(source, target):
@@ -61,12 +55,13 @@ def cast(array, dtype):
     return fresh
 
 
-def assign(target, source, shown):
-    """Writes what is shown of a source, a copy, over the target's items, after NumPy has done so from the source."""
-    fresh = made(shown, target.dtype)
-    target[...] = source
-    if fresh.size:
+def assign(aim, source, shown):
+    """Writes what is shown of a source, a copy, to some items, after NumPy has done so from the source where no array names them."""
+    fresh = made(shown, aim.array.dtype)
+    if fresh.size and aim.places is None:
+        target = aim.read()
+        target[...] = source
         TALLY["sets"] += 1
         TALLY["sets across shared items"] += np.shares_memory(target, source)
         TALLY["sets that NumPy does otherwise"] += target.tolist() != fresh.tolist()
-    target[...] = fresh
+    aim.write(fresh)

@@ -2,7 +2,7 @@
 import numpy as np
 
 import reshapes
-from expected import MOST_BYTES, MOST_ITEMS, tuple_text, type_text
+from world import CODES, MOST_BYTES, MOST_ITEMS, tuple_text, type_text
 
 
 class Limits:
@@ -11,8 +11,7 @@ class Limits:
     ITEM = np.dtype([("x", "<i8"), ("y", ">i8"), ("z", "|b1")])
     AT_LIMIT = MOST_BYTES // 2**16
 
-    def __init__(self, rng, with_casts):
-        self.with_casts = with_casts
+    def __init__(self, rng):
         self.lines = []
         self.replies = []
         self.make("a", np.zeros((2, 1), self.ITEM))
@@ -35,8 +34,7 @@ class Limits:
         self.replies.append(reply)
 
     def add_cast(self, source, text, reply):
-        if self.with_casts:
-            self.add(f"b = cast {source} {text}", reply)
+        self.add(f"b = cast {source} {text}", reply)
 
     def make(self, name, array):
         text, lengths = type_text(array.dtype), ",".join(map(str, array.shape))
@@ -73,13 +71,12 @@ class Limits:
             self.add(f"n8 = reshape y ({lengths})", "no E06 unknown name")
             self.add(f"n8 = reshape n7 ({lengths})", self.small(numbers))
 
-        if self.with_casts:
-            self.add("x = cast n7 <f4", "no E07 too many names")
-            self.add("x = cast y <f4", "no E06 unknown name")
-            self.add("n8 = cast y <f4", "no E06 unknown name")
-            self.add("n8 = cast n7 <f4", "no E05 descriptor left out")
-            self.add("n8 = cast n7 >i8", "ok n8 >i8 (6,) new")
+        self.add("x = cast n7 <f4", "no E07 too many names")
+        self.add("x = cast y <f4", "no E06 unknown name")
+        self.add("n8 = cast y <f4", "no E06 unknown name")
+        self.add("n8 = cast n7 <f4", "no E05 descriptor left out")
+        self.add("n8 = cast n7 >i8", "ok n8 >i8 (6,) new")
 
     def small(self, numbers):
         fault = reshapes.refusal(6, numbers)
-        return f"no {fault}" if fault else f"ok n8 |u1 {tuple_text(reshapes.target(6, numbers))} view"
+        return f"no {fault} {CODES[fault]}" if fault else f"ok n8 |u1 {tuple_text(reshapes.target(6, numbers))} view"

@@ -261,19 +261,19 @@ def expected_of(front, zeros):
         return f"no {refused}", 0
 
 
-def all_trials(given, _with_undo, _folder):
+def all_trials(given, _folder):
     """The told files, those of all lengths of the header, the altered ones and the large ones."""
-    idle, part = reserved_when_idle(given.bench), Part()
+    idle, part = reserved_when_idle(given.program), Part()
     told = told_files()
     for file, should in told:
         if npy_rule.reply(file) != should:
             part.fault(f"the rule, of {shown(file, 1000)}", npy_rule.reply(file), should)
     exact = told + with_replies(length_fields())
-    part.add(loads((given.bench, idle, exact)))
+    part.add(loads((given.program, idle, exact)))
     part.count("of them told or with other lengths", len(exact))
     seeds = [given.seed * 10_000 + number for number in range(math.ceil(ALTERED / BATCH))]
     with multiprocessing.Pool(given.processes) as pool:
-        for found in pool.imap_unordered(batch, [(given.bench, idle, seed) for seed in seeds]):
+        for found in pool.imap_unordered(batch, [(given.program, idle, seed) for seed in seeds]):
             part.add(found)
-    part.add(large_loads(given.bench))
+    part.add(large_loads(given.program))
     return part

@@ -4,19 +4,13 @@ An array is seen in another shape without a copy exactly where some first place 
 items in the new shape. That is worked out here from the addresses of the items, and held against what NumPy does;
 `TALLY` counts how often each came, and how often the two differ.
 """
-import collections
 import itertools
 import math
 import operator
 
 import numpy as np
 
-from expected import FAR, MOST_AXES, MOST_ITEMS
-
-TALLY = collections.Counter(dict.fromkeys([
-    "views", "copies", "refused", "views that NumPy copies", "copies that NumPy shares",
-    "refused by NumPy alone", "taken by NumPy alone",
-], 0))
+from world import FAR, MOST_AXES, MOST_ITEMS, TALLY
 
 
 def refusal(items, numbers):
@@ -24,13 +18,13 @@ def refusal(items, numbers):
     given = math.prod(number for number in numbers if number >= 0)
     left_open = sum(number < 0 for number in numbers)
     if len(numbers) > MOST_AXES:
-        return "E08 too many axes"
+        return "E08"
     if any(number < -1 for number in numbers) or left_open > 1:
-        return "E18 bad reshape"
+        return "E18"
     if given != items if left_open == 0 else given == 0 or items % given != 0:
-        return "E18 bad reshape"
+        return "E18"
     if any(number > MOST_ITEMS for number in numbers):
-        return "E09 too large"
+        return "E09"
     return None
 
 
@@ -42,7 +36,7 @@ def target(items, numbers):
 
 def compare_refusals(array, numbers, refused):
     """Counts the refusal, and where NumPy does otherwise. It takes any number below 0 as left open."""
-    TALLY["refused"] += refused is not None
+    TALLY["reshapes refused"] += refused is not None
     if len(numbers) > 32 or any(number < -1 or number > MOST_ITEMS for number in numbers):
         return
     try:
@@ -87,7 +81,7 @@ def without_copy(array, shape):
 def reshaped(array, shape):
     """The array in a shape, and whether that is a view or a copy."""
     strides, view = strides_for(array, shape), without_copy(array, shape)
-    TALLY["views" if strides is not None else "copies"] += 1
+    TALLY["reshapes to views" if strides is not None else "reshapes to copies"] += 1
     if (strides is None) != (view is None):
         TALLY["views that NumPy copies" if view is None else "copies that NumPy shares"] += 1
     if strides is None:

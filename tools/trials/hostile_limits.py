@@ -164,12 +164,12 @@ def stacks(program, folder):
     return part
 
 
-def all_trials(given, _with_undo, folder):
+def all_trials(given, folder):
     """All limits over all scripts."""
     rng = random.Random(given.seed)
     scripts = own_scripts() + [random_script(rng, number) for number in range(RANDOM_SCRIPTS)]
-    part = stacks(given.bench, folder)
-    tasks = [(given.bench, number, script, rng.random()) for number, script in enumerate(scripts)]
+    part = stacks(given.program, folder)
+    tasks = [(given.program, number, script, rng.random()) for number, script in enumerate(scripts)]
     most = 0
     with multiprocessing.Pool(given.processes) as pool:
         for found, above in pool.imap_unordered(trials_of, tasks):

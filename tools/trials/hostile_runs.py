@@ -9,7 +9,7 @@ import subprocess
 import tempfile
 import threading
 
-TOP = pathlib.Path(__file__).resolve().parent.parent
+TOP = pathlib.Path(__file__).resolve().parents[2]
 IN_MEMORY = "/dev/shm" if os.access("/dev/shm", os.W_OK) else None
 MOST_SECONDS = 60
 MOST_WAIT = 300
@@ -168,8 +168,3 @@ class Talk:
         self.process.stdout.close()
         self.process.stderr.close()
         return status
-
-
-def takes_undo(program):
-    """Whether the program has the word `--undo`."""
-    return b"--undo" in subprocess.run([str(program), "--help"], stdout=subprocess.PIPE).stdout

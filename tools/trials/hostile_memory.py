@@ -51,12 +51,12 @@ def run_refusing(runner, library, text, words, request):
 class Refusing:
     """A script, run again and again with one request for memory refused."""
 
-    def __init__(self, runner, library, script, with_undo):
+    def __init__(self, runner, library, script):
         self.runner, self.library, self.script = runner, library, script
         self.words = ["--dir", str(runner.dir if script.has_folder else runner.folder / "none")]
         depth = script.depth
-        self.words += ["--undo", str(depth)] if with_undo and depth is not None else []
-        self.is_at_depth_0 = depth == 0 or not with_undo
+        self.words += ["--undo", str(depth)] if depth is not None else []
+        self.is_at_depth_0 = depth == 0
         self.saves = any(line.lstrip().startswith(b"save") for line in script.lines)
         self.files = None
         self.without = {}
@@ -173,10 +173,10 @@ class Refusing:
 
 def trials_of(task):
     """All runs over one script."""
-    program, library, script, with_undo, every = task
+    program, library, script, every = task
     part = Part()
     with Runner(program) as runner:
-        trial = Refusing(runner, library, script.asking(), with_undo)
+        trial = Refusing(runner, library, script.asking())
         trial.prepare()
         part.count("scripts")
         part.count("commands", len(trial.script.lines))
@@ -237,15 +237,15 @@ def words_of_the_program(program, library):
     return part
 
 
-def all_trials(given, with_undo, folder):
+def all_trials(given, folder):
     """The refused requests over all scripts."""
     rng = random.Random(given.seed)
     scripts = own_scripts() + [random_script(rng, number) for number in range(RANDOM_SCRIPTS)]
     for rows in given.rows:
         scripts += scripts_in(rows, "*.script")
-    library, part = built_library(folder), within_bounds(given.bench)
-    part.add(words_of_the_program(given.bench, library))
-    tasks = [(given.bench, library, script, with_undo, given.every) for script in scripts]
+    library, part = built_library(folder), within_bounds(given.program)
+    part.add(words_of_the_program(given.program, library))
+    tasks = [(given.program, library, script, given.every) for script in scripts]
     with multiprocessing.Pool(given.processes) as pool:
         for found in pool.imap_unordered(trials_of, tasks):
             part.add(found)
