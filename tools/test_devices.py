@@ -12,6 +12,7 @@ import hostile_devices
 class Devices(unittest.TestCase):
     def tried(self, *kinds):
         folder = pathlib.Path(tempfile.mkdtemp())
+        folder.chmod(0o755)
         self.addCleanup(shutil.rmtree, folder)
         trials = hostile_devices.Trials(PROGRAM, folder)
         for kind in kinds:

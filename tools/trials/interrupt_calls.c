@@ -50,4 +50,9 @@ INTERRUPTED(SYNC, fsync, (int file), (file))
 INTERRUPTED(LOOK, stat64, (const char *path, struct stat64 *found), (path, found))
 INTERRUPTED(LINK_LOOK, lstat64, (const char *path, struct stat64 *found), (path, found))
 INTERRUPTED(OPEN_LOOK, fstat64, (int file, struct stat64 *found), (file, found))
-INTERRUPTED(EXTENDED_LOOK, statx, (int folder, const char *path, int flags, unsigned mask, struct statx *found), (folder, path, flags, mask, found))
+
+/* Looks by a path; one at an open file goes through, as no system interrupts it. */
+int statx(int folder, const char *path, int flags, unsigned mask, struct statx *found)
+{
+    return *path != 0 && is_interrupted(EXTENDED_LOOK) ? -1 : syscall(SYS_statx, folder, path, flags, mask, found);
+}
