@@ -16,7 +16,7 @@ ghost use Rattle.name_store.specs.inside.OldItems.{AreOld};
 use crate::slot::Slot;
 use crate::slots::slot_mut;
 use crate::target::Target;
-use overlap_copy::{Owned, gather, scatter};
+use overlap_copy::{gather, scatter};
 use raw_block::RawBlock;
 use std::alloc::{AllocError, Global};
 
@@ -25,22 +25,6 @@ use std::alloc::{AllocError, Global};
 pub struct OldItems {
     pub block: RawBlock,
     pub width: usize,
-}
-
-impl OldItems {
-    /// Those of an array whose block has them in C order.
-    pub(crate) fn of(owned: Owned) -> OldItems
-        ensures block { result.block ≡ owned.block }
-        ensures width { result.width ≡ item_size owned.descr }
-    {
-        let width = owned.descr.size();
-        let Owned {
-            block,
-            descr: _,
-            layout: _,
-        } = owned;
-        OldItems { block, width }
-    }
 }
 
 /// The items of a target, one after another.
