@@ -3,7 +3,7 @@ use Rattle.elem_descr.specs.declared.scalar.Order.TheVariants.{Little}
 use Rattle.raw_block.specs.Bytes.{item_at}
 use Rattle.reductions.specs.inside.Numbers.{IsStored}
 use Rattle.reductions.proofs.LineLaws.{one_done, before_next}
-use Rattle.reductions.proofs.empties.fill_with.Goals as goal
+use Rattle.reductions.proofs.kinds.fill_with.Goals as goal
 
 pub loop-k-preserved : goal.loop-k-preserved
 loop-k-preserved g c =

@@ -2,7 +2,7 @@ use Rattle.std.proofs.Common.{◌≡◌, ◌*◌, ◌<◌, ℕ, length}
 use Rattle.elem_descr.specs.declared.scalar.Order.TheVariants.{Little}
 use Rattle.raw_block.specs.Bytes.{item_at}
 use Rattle.reductions.specs.inside.Numbers.{IsStored}
-use Rattle.reductions.proofs.empties.fill_with.Given as goal
+use Rattle.reductions.proofs.kinds.fill_with.Given as goal
 
 -- as many are written
 abbrev pub invariant-loop-k : goal.invariant-loop-k
