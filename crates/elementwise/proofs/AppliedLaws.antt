@@ -14,13 +14,13 @@ use Rattle.elem_descr.specs.Encoding.{IsNumber, wrap, number_of}
 use Rattle.elem_descr.specs.Blocks.{item_from}
 use Rattle.shape_strides.specs.Layouts.{offsets}
 use Rattle.overlap_copy.specs.declared.owned.Owned.{Owned}
-use Rattle.script_lang.specs.declared.operation.BinaryOperation.{BinaryOperation}
-use Rattle.script_lang.specs.declared.operation.UnaryOperation.{UnaryOperation}
+use Rattle.machine_numbers.specs.declared.operators.BinOp.{BinOp}
+use Rattle.machine_numbers.specs.declared.operators.UnOp.{UnOp}
 use Rattle.shape_strides.specs.declared.layout.Layout.{Layout}
 use Rattle.std.proofs.lemmas.Simd.{map-map}
 use Rattle.elementwise.proofs.StretchedLaws.{stretched-self}
 use Rattle.elementwise.specs.Casts.{can_cast, cast_item}
-use Rattle.elementwise.specs.Promotion.{little}
+use Rattle.machine_numbers.specs.Kinds.{little}
 use Rattle.elementwise.specs.Operations.{binary, unary}
 use Rattle.elementwise.specs.Results.{value_in, number_as, binary_item, unary_item, pairwise, stretched_items}
 use Rattle.elementwise.specs.inside.PairPasses.{binary_value, unary_value}
@@ -38,7 +38,7 @@ cast_as : (d : Descr) (s : Scalar) (item : List LeafValue) → IsNumber s → ca
 cast_as (ScalarDescr from) s item is can = ap number_of (cast_number s (value_in item) is) ∙ wrap-little s (number_of (value_in item))
 cast_as (RecordDescr structure) s item is can = absurd (false≢true can)
 
-pub combined : (op : BinaryOperation) (s : Scalar) (d d' : Descr) (result : Result Owned Refusal) (shape : List ℕ) (xs ys : List ℕ → List (List LeafValue)) → IsNumber s → can_cast d (ScalarDescr s) ≡ true → can_cast d' (ScalarDescr s) ≡ true →
+pub combined : (op : BinOp) (s : Scalar) (d d' : Descr) (result : Result Owned Refusal) (shape : List ℕ) (xs ys : List ℕ → List (List LeafValue)) → IsNumber s → can_cast d (ScalarDescr s) ≡ true → can_cast d' (ScalarDescr s) ≡ true →
     IfOk result (λ o. o.descr ≡ ScalarDescr (little s)) → IfOk result (λ o. o.layout.shape ≡ shape) →
     IfOk result (λ o. map (item_from (ScalarDescr (little s)) o.block) (offsets o.layout) ≡ pairwise (λ x y. binary_value op (little s) (value_in (cast_item d (ScalarDescr s) x)) (value_in (cast_item d' (ScalarDescr s) y)) ∷ []) (xs shape) (ys shape)) →
     IfOk result (λ o. map (item_from o.descr o.block) (offsets o.layout) ≡ pairwise (binary_item op o.descr) (xs o.layout.shape) (ys o.layout.shape))
@@ -59,7 +59,7 @@ pub pairwise-same : {A B : Type 0} (f : A → A → B) (xs : List A) → pairwis
 pairwise-same f [] = refl
 pairwise-same f (x ∷ xs) = ap (λ rest. f x x ∷ rest) (pairwise-same f xs)
 
-pub changed : (op : UnaryOperation) (s : Scalar) (d : Descr) (result : Result Owned Refusal) (l : Layout) (block : List ℕ) → IsNumber s → can_cast d (ScalarDescr s) ≡ true → IfOk result (λ o. o.descr ≡ ScalarDescr (little s)) →
+pub changed : (op : UnOp) (s : Scalar) (d : Descr) (result : Result Owned Refusal) (l : Layout) (block : List ℕ) → IsNumber s → can_cast d (ScalarDescr s) ≡ true → IfOk result (λ o. o.descr ≡ ScalarDescr (little s)) →
     IfOk result (λ o. map (item_from (ScalarDescr (little s)) o.block) (offsets o.layout) ≡ pairwise (λ x y. unary_value op (little s) (value_in (cast_item d (ScalarDescr s) x)) (value_in (cast_item d (ScalarDescr s) y)) ∷ []) (stretched_items d block l l.shape) (stretched_items d block l l.shape)) →
     IfOk result (λ o. map (item_from o.descr o.block) (offsets o.layout) ≡ map (λ offset. unary_item op o.descr (item_from d block offset)) (offsets l))
 changed op s d (Ok o) l block number-is can is items =

@@ -17,7 +17,7 @@ use Rattle.shape_strides.specs.declared.layout.Layout.{Layout}
 use Rattle.shape_strides.specs.Layouts.{offsets}
 use Rattle.broadcasting.specs.Broadcasts.{common_shape}
 use Rattle.overlap_copy.specs.declared.owned.Owned.{Owned}
-use Rattle.script_lang.specs.declared.operation.Comparison.{Comparison}
+use Rattle.machine_numbers.specs.declared.operators.Comparison.{Comparison}
 use Rattle.elementwise.specs.Comparisons.{text_below}
 use Rattle.elementwise.specs.Promotion.{are_comparable, compared_type}
 use Rattle.elementwise.specs.Results.{scalar_of, compared_result, compared_item, stretched_items, pairwise, value_in}

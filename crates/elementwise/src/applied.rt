@@ -20,15 +20,15 @@ use crate::promotion::{promote, promote_one, scalar_of};
 use crate::typed::make_cast;
 use broadcasting::common;
 use elem_descr::{Refusal, Scalar};
+use machine_numbers::{BinOp, UnOp};
 use overlap_copy::Owned;
-use script_lang::{BinaryOperation, UnaryOperation};
 use shape_strides::Shape;
 use std::alloc::Global;
 
 /// An operation on two arrays of numbers that are stretched to a shape, with results of a scalar.
 fn combine(
     alloc: Global,
-    op: BinaryOperation,
+    op: BinOp,
     scalar: &Scalar,
     left: Items<'_>,
     right: Items<'_>,
@@ -58,12 +58,7 @@ fn combine(
 /// What an operation gives on the items of two arrays that are broadcast together, in a block of their
 /// own in C order, of the type that `promote` tells. Refused as `promote` refuses, records as
 /// `NotForThisKind`; then as `common` refuses: `ShapesDoNotBroadcast`, `TooLarge`.
-pub fn apply2(
-    alloc: Global,
-    op: BinaryOperation,
-    left: Items<'_>,
-    right: Items<'_>,
-) -> Result<Owned, Refusal>
+pub fn apply2(alloc: Global, op: BinOp, left: Items<'_>, right: Items<'_>) -> Result<Owned, Refusal>
     requires left { All (λ offset. offset + item_size left.descr.now ≤ length left.block.now) (offsets left.layout.now) }
     requires right { All (λ offset. offset + item_size right.descr.now ≤ length right.block.now) (offsets right.layout.now) }
     ensures gives { Gives (λ o. (o.descr, o.layout.shape)) result (binary_result op left.entry.descr.now left.entry.layout.now.shape right.entry.descr.now right.entry.layout.now.shape) }
@@ -80,12 +75,7 @@ pub fn apply2(
 }
 
 /// An operation on an array of numbers, with results of a scalar.
-fn change(
-    alloc: Global,
-    op: UnaryOperation,
-    scalar: &Scalar,
-    operand: Items<'_>,
-) -> Result<Owned, Refusal>
+fn change(alloc: Global, op: UnOp, scalar: &Scalar, operand: Items<'_>) -> Result<Owned, Refusal>
     requires native { IsNative scalar.now }
     requires cast { can_cast operand.descr.now (ScalarDescr scalar.now) ≡ true }
     requires inside { All (λ offset. offset + item_size operand.descr.now ≤ length operand.block.now) (offsets operand.layout.now) }
@@ -103,7 +93,7 @@ fn change(
 
 /// What an operation gives on the items of an array, in a block of their own in C order. Refused as
 /// `promote_one` refuses, and records as `NotForThisKind`.
-pub fn apply1(alloc: Global, op: UnaryOperation, operand: Items<'_>) -> Result<Owned, Refusal>
+pub fn apply1(alloc: Global, op: UnOp, operand: Items<'_>) -> Result<Owned, Refusal>
     requires inside { All (λ offset. offset + item_size operand.descr.now ≤ length operand.block.now) (offsets operand.layout.now) }
     ensures gives { Gives (λ o. (o.descr, o.layout.shape)) result (unary_result op operand.entry.descr.now operand.entry.layout.now.shape) }
     ensures order { IfOk result (λ o. offsets o.layout ≡ offsets_in C (item_size o.descr) o.layout.shape) }

@@ -3,24 +3,21 @@ ghost use Rattle.std.specs.Prelude.{◌≡◌, ◌+◌, ◌*◌, ◌≤◌, ◌+
 ghost use Rattle.elem_descr.specs.declared.scalar.Order.TheVariants.{Little};
 ghost use Rattle.elem_descr.specs.Encoding.{IsNumber, size};
 ghost use Rattle.elem_descr.specs.Items.{item_size};
-ghost use Rattle.elementwise.specs.Promotion.{is_division, little};
+ghost use Rattle.machine_numbers.specs.Kinds.{little};
+ghost use Rattle.elementwise.specs.Promotion.{is_division};
 ghost use Rattle.elementwise.specs.Operations.{binary, unary};
 ghost use Rattle.elementwise.specs.inside.PairPasses.{number_pair};
 ghost use Rattle.elementwise.specs.inside.Operands.{pairs_of, made_of_all};
 
-use crate::byte_orders::Ordered;
-use crate::dispatch::{NumberTask, on_number};
 use crate::kernels::{Kernel, Numbers};
-use crate::numbers::Number;
 use crate::operations::{
     Adding, Complementing, Dividing, Flipping, KeepingBoth, KeepingEither, KeepingOne,
     LeavingRests, MovingDown, MovingUp, Multiplying, Negating, Operation, Subtracting,
 };
-use crate::promotion::is_bool;
 use crate::rows::Operands;
 use elem_descr::Scalar;
+use machine_numbers::{BinOp, Number, NumberTask, Ordered, UnOp, is_bool, on_number};
 use raw_block::BlockBuilder;
-use script_lang::{BinaryOperation, UnaryOperation};
 use std::marker::PhantomData;
 
 /// An operation as what is made of two numbers.
@@ -82,7 +79,7 @@ fn combine_numbers<F: Operation>(
 
 /// An operation on numbers of a scalar, by its word.
 pub(crate) fn combine(
-    op: BinaryOperation,
+    op: BinOp,
     scalar: &Scalar,
     block: BlockBuilder,
     operands: Operands<'_>,
@@ -96,23 +93,23 @@ pub(crate) fn combine(
     ensures left { pairs_of operands.entry * size scalar.now + result.1 ≡ block.1 }
 {
     match op {
-        BinaryOperation::Add => combine_numbers::<Adding>(scalar, block, operands),
-        BinaryOperation::Subtract => combine_numbers::<Subtracting>(scalar, block, operands),
-        BinaryOperation::Multiply => combine_numbers::<Multiplying>(scalar, block, operands),
-        BinaryOperation::FloorDivide => combine_numbers::<Dividing>(scalar, block, operands),
-        BinaryOperation::Modulo => combine_numbers::<LeavingRests>(scalar, block, operands),
-        BinaryOperation::And => combine_numbers::<KeepingBoth>(scalar, block, operands),
-        BinaryOperation::Or => combine_numbers::<KeepingEither>(scalar, block, operands),
-        BinaryOperation::Xor => combine_numbers::<KeepingOne>(scalar, block, operands),
-        BinaryOperation::ShiftLeft => combine_numbers::<MovingUp>(scalar, block, operands),
-        BinaryOperation::ShiftRight => combine_numbers::<MovingDown>(scalar, block, operands),
-        BinaryOperation::Divide => unreachable!(),
+        BinOp::Add => combine_numbers::<Adding>(scalar, block, operands),
+        BinOp::Subtract => combine_numbers::<Subtracting>(scalar, block, operands),
+        BinOp::Multiply => combine_numbers::<Multiplying>(scalar, block, operands),
+        BinOp::FloorDivide => combine_numbers::<Dividing>(scalar, block, operands),
+        BinOp::Modulo => combine_numbers::<LeavingRests>(scalar, block, operands),
+        BinOp::And => combine_numbers::<KeepingBoth>(scalar, block, operands),
+        BinOp::Or => combine_numbers::<KeepingEither>(scalar, block, operands),
+        BinOp::Xor => combine_numbers::<KeepingOne>(scalar, block, operands),
+        BinOp::ShiftLeft => combine_numbers::<MovingUp>(scalar, block, operands),
+        BinOp::ShiftRight => combine_numbers::<MovingDown>(scalar, block, operands),
+        BinOp::Divide => unreachable!(),
     }
 }
 
 /// An operation on the second of two numbers of a scalar, by its word.
 pub(crate) fn change(
-    op: UnaryOperation,
+    op: UnOp,
     scalar: &Scalar,
     block: BlockBuilder,
     operands: Operands<'_>,
@@ -125,10 +122,8 @@ pub(crate) fn change(
     ensures left { pairs_of operands.entry * size scalar.now + result.1 ≡ block.1 }
 {
     match op {
-        UnaryOperation::Negate => combine_numbers::<Negating>(scalar, block, operands),
-        UnaryOperation::Invert if is_bool(scalar) => combine_numbers::<Flipping>(
-            scalar, block, operands,
-        ),
-        UnaryOperation::Invert => combine_numbers::<Complementing>(scalar, block, operands),
+        UnOp::Negate => combine_numbers::<Negating>(scalar, block, operands),
+        UnOp::Invert if is_bool(scalar) => combine_numbers::<Flipping>(scalar, block, operands),
+        UnOp::Invert => combine_numbers::<Complementing>(scalar, block, operands),
     }
 }

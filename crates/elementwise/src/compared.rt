@@ -20,15 +20,15 @@ ghost use Rattle.elementwise.specs.inside.PairPasses.{Holds};
 
 use crate::operands::{Items, read_as};
 use crate::pairing::{Comparing, ComparingSigns, ComparingTexts};
-use crate::promotion::{compared_type, eight_bytes, is_signed, little, scalar_of};
+use crate::promotion::{compared_type, eight_bytes, scalar_of};
 use crate::shrunk::{spread, without_repeats};
 use crate::trimmed::trimmed_in;
 use crate::typed::{make_cast, make_stretched};
 use broadcasting::{common, repeats};
 use elem_descr::{BytesLen, Descr, Refusal, Scalar};
+use machine_numbers::{Comparison, is_signed, little};
 use overlap_copy::Owned;
 use raw_block::RawBlock;
-use script_lang::Comparison;
 use shape_strides::Shape;
 use std::alloc::Global;
 

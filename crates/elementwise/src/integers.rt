@@ -13,17 +13,17 @@ ghost use Rattle.shape_strides.specs.declared.memory_order.MemoryOrder.TheVarian
 ghost use Rattle.shape_strides.specs.Indexes.{count};
 ghost use Rattle.shape_strides.specs.Layouts.{offsets, multiples};
 ghost use Rattle.overlap_copy.specs.Blocks.{offsets_in};
-ghost use Rattle.elementwise.specs.Promotion.{little};
+ghost use Rattle.machine_numbers.specs.Kinds.{little};
 ghost use Rattle.elementwise.specs.Results.{integer_compared_result, compared_item, stretched_items, truth_item};
 
 use crate::compared::{compare_held, note_bytes};
 use crate::comparing::says;
 use crate::operands::Items;
-use crate::promotion::{is_text, little, scalar_of};
+use crate::promotion::scalar_of;
 use elem_descr::{Descr, Refusal, Scalar, num_read, num_write};
+use machine_numbers::{Comparison, is_text, little};
 use overlap_copy::Owned;
 use raw_block::RawBlock;
-use script_lang::Comparison;
 use shape_strides::{MemoryOrder, Shape};
 use std::alloc::{AllocError, Global};
 

@@ -3,12 +3,12 @@ ghost use Rattle.std.specs.Prelude.{◌≡◌, ◌+◌, ◌*◌, ◌<◌, ◌≤
 ghost use Rattle.elem_descr.specs.declared.scalar.Order.TheVariants.{Little};
 ghost use Rattle.raw_block.specs.Bytes.{joined};
 ghost use Rattle.elementwise.specs.inside.PairPasses.{number_pair};
-ghost use Rattle.elementwise.specs.inside.Sides.{pair_count, number_in, made_of};
+ghost use Rattle.machine_numbers.specs.Sides.{number_in};
+ghost use Rattle.elementwise.specs.inside.Sides.{pair_count, made_of};
 
-use crate::byte_orders::{LowFirst, Ordered};
-use crate::numbers::Number;
 use crate::rows::Pass;
 use crate::sides::Pairs;
+use machine_numbers::{LowFirst, Number, Ordered};
 use raw_block::BlockBuilder;
 use std::marker::PhantomData;
 

@@ -1,13 +1,13 @@
 //! Operations on machine numbers: each is done on the lowest 64 bits, of which a number keeps its own.
 ghost use Rattle.std.specs.Prelude.{◌≡◌, ℤ, pos, negsuc, ◌-ℤ◌};
 ghost use Rattle.elem_descr.specs.declared.scalar.Order.{Order};
-ghost use Rattle.script_lang.specs.declared.operation.BinaryOperation.TheVariants.{Add, Subtract, Multiply, FloorDivide, Modulo, And, Or, Xor, ShiftLeft, ShiftRight};
+ghost use Rattle.machine_numbers.specs.declared.operators.BinOp.TheVariants.{Add, Subtract, Multiply, FloorDivide, Modulo, And, Or, Xor, ShiftLeft, ShiftRight};
 ghost use Rattle.elem_descr.specs.declared.scalar.Scalar.{Scalar};
 ghost use Rattle.elem_descr.specs.Encoding.{wrap};
 ghost use Rattle.elementwise.specs.Operations.{binary};
 
 use crate::bits;
-use crate::numbers::Number;
+use machine_numbers::Number;
 
 /// An operation on two numbers of one type.
 pub(crate) trait Operation {

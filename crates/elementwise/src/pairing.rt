@@ -7,19 +7,20 @@ ghost use Rattle.elem_descr.specs.declared.scalar.Scalar.{Scalar};
 ghost use Rattle.elem_descr.specs.Values.{LeafValue};
 ghost use Rattle.elem_descr.specs.Encoding.{IsNumber, size, decode, encode};
 ghost use Rattle.elem_descr.specs.Items.{item_size};
-ghost use Rattle.elementwise.specs.Promotion.{is_division, little};
+ghost use Rattle.machine_numbers.specs.Kinds.{little};
+ghost use Rattle.elementwise.specs.Promotion.{is_division};
 ghost use Rattle.elementwise.specs.inside.PairPasses.{value_pair, binary_value, unary_value, compared_value, truth_value};
 ghost use Rattle.elementwise.specs.inside.PairLaws.{binary_reads_back, unary_reads_back, compared_reads_back, truth_reads_back, number_small, bool_small};
 ghost use Rattle.elementwise.specs.inside.Operands.{pairs_of, made_of_all};
 
 use crate::combining::{change, combine};
 use crate::comparing::{compare_alike, compare_mixed};
-use crate::promotion::{eight_bytes, little};
+use crate::promotion::eight_bytes;
 use crate::rows::Operands;
 use crate::text_pairs::Texts;
 use elem_descr::{BytesLen, Scalar};
+use machine_numbers::{BinOp, Comparison, UnOp, little};
 use raw_block::BlockBuilder;
-use script_lang::{BinaryOperation, Comparison, UnaryOperation};
 
 /// What is made of pairs of values of two scalars.
 pub(crate) trait Pairing {
@@ -63,7 +64,7 @@ pub(crate) trait Pairing {
 /// An operation on numbers of a scalar. The results are little-endian.
 #[derive(Clone, Copy)]
 pub(crate) struct Combining {
-    pub(crate) op: BinaryOperation,
+    pub(crate) op: BinOp,
     pub(crate) scalar: Scalar,
 }
 
@@ -102,7 +103,7 @@ impl Pairing for Combining {
 /// An operation on the second of two numbers of a scalar. The results are little-endian.
 #[derive(Clone, Copy)]
 pub(crate) struct Changing {
-    pub(crate) op: UnaryOperation,
+    pub(crate) op: UnOp,
     pub(crate) scalar: Scalar,
 }
 

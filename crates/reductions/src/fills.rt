@@ -5,17 +5,16 @@ ghost use Rattle.raw_block.specs.Bytes.{place, item_at, EachWithin};
 ghost use Rattle.shape_strides.specs.Indexes.{count};
 ghost use Rattle.shape_strides.specs.Layouts.{offsets};
 ghost use Rattle.shape_strides.specs.Runs.{run_along, run_offsets};
-ghost use Rattle.reductions.specs.inside.Numbers.{numbers_at, lines, IsReduced, AreReduced};
+ghost use Rattle.reductions.specs.inside.Numbers.{numbers_at, line_numbers, lines, IsReduced, AreReduced};
 
 use crate::folds::Fold;
 use crate::lines::{fold_run, number_at, store_at};
 use crate::rows::fill_row;
-use crate::values::Value;
-use elementwise::{Number, Ordered};
+use machine_numbers::{Number, Ordered};
 use shape_strides::{Layout, Run, Runs, StridedAxis};
 
 /// Writes what comes of the line along an axis from each item of a run on to the `size` bytes from `at` on.
-fn fill_part<S: Value, O: Ordered, F: Fold<S>>(
+fn fill_part<S: Number, O: Ordered, F: Fold<S>>(
     out: &mut [u8],
     at: usize,
     size: usize,
@@ -29,9 +28,7 @@ fn fill_part<S: Value, O: Ordered, F: Fold<S>>(
     requires few { (axis.len < 2 ^ 63) × (run.count < 2 ^ 63) }
     requires starts { EachWithin (length bytes.now) run.offset run.step S.WIDTH run.count }
     requires lines { (j : ℕ) → j < run.count → EachWithin (length bytes.now) (place run.offset run.step j) axis.stride S.WIDTH axis.len }
-    ensures items { (j : ℕ) → j < run.count → IsReduced F.reduction (S.scalar O.order)
-        (numbers_at (S.scalar O.order) bytes.now (run_offsets (run_along axis (place run.offset run.step j))))
-        (item_at (at + j * F.Total.WIDTH) F.Total.WIDTH out.new) }
+    ensures items { (j : ℕ) → j < run.count → IsReduced F.reduction (S.scalar O.order) (line_numbers (S.scalar O.order) bytes.now run axis j) (item_at (at + j * F.Total.WIDTH) F.Total.WIDTH out.new) }
     ensures before { (offset : ℕ) → offset + F.Total.WIDTH ≤ at → item_at offset F.Total.WIDTH out.new ≡ item_at offset F.Total.WIDTH out.old }
     ensures len { length out.new ≡ length out.old }
 {
@@ -40,7 +37,7 @@ fn fill_part<S: Value, O: Ordered, F: Fold<S>>(
 }
 
 /// Writes what comes of the lines along an axis from the items of runs on.
-fn fill_runs<S: Value, O: Ordered, F: Fold<S>>(
+fn fill_runs<S: Number, O: Ordered, F: Fold<S>>(
     out: &mut [u8],
     runs: Runs<'_>,
     axis: StridedAxis,
@@ -66,7 +63,7 @@ fn fill_runs<S: Value, O: Ordered, F: Fold<S>>(
 }
 
 /// Goes over the numbers of runs.
-fn fold_runs<S: Value, O: Ordered, F: Fold<S>>(
+fn fold_runs<S: Number, O: Ordered, F: Fold<S>>(
     held: F::Held,
     bytes: &[u8],
     runs: Runs<'_>,
@@ -85,7 +82,7 @@ fn fold_runs<S: Value, O: Ordered, F: Fold<S>>(
 }
 
 /// What comes of all items of a layout.
-fn fold_all<S: Value, O: Ordered, F: Fold<S>>(bytes: &[u8], layout: &Layout) -> F::Total
+fn fold_all<S: Number, O: Ordered, F: Fold<S>>(bytes: &[u8], layout: &Layout) -> F::Total
     requires some { 0 < count layout.now.shape }
     requires inside { All (λ offset. offset + S.WIDTH ≤ length bytes.now) (offsets layout.now) }
     ensures { F.Total.value result ≡ F.meaning (numbers_at (S.scalar O.order) bytes.now (offsets layout.now)) }
@@ -97,7 +94,7 @@ fn fold_all<S: Value, O: Ordered, F: Fold<S>>(bytes: &[u8], layout: &Layout) -> 
 }
 
 /// Writes what comes of all items of a layout.
-pub(crate) fn fill_all<S: Value, O: Ordered, F: Fold<S>>(
+pub(crate) fn fill_all<S: Number, O: Ordered, F: Fold<S>>(
     out: &mut [u8],
     layout: &Layout,
     bytes: &[u8],
@@ -113,7 +110,7 @@ pub(crate) fn fill_all<S: Value, O: Ordered, F: Fold<S>>(
 }
 
 /// Writes what comes of the lines along an axis from the items of a layout on.
-pub(crate) fn fill_along<S: Value, O: Ordered, F: Fold<S>>(
+pub(crate) fn fill_along<S: Number, O: Ordered, F: Fold<S>>(
     out: &mut [u8],
     starts: &Layout,
     axis: StridedAxis,

@@ -1,153 +1,131 @@
-//! Which loop reduces the items of a scalar.
-ghost use Rattle.std.specs.Prelude.{◌≡◌, ◌+◌, ◌*◌, ◌≤◌, true, false, length, All};
-ghost use Rattle.elem_descr.specs.declared.scalar.Scalar.TheVariants.{Int};
-ghost use Rattle.elem_descr.specs.Encoding.{IsNumber, size, width_size};
-ghost use Rattle.shape_strides.specs.Layouts.{offsets};
-ghost use Rattle.reductions.specs.Reductions.{result_scalar};
-ghost use Rattle.reductions.specs.inside.Numbers.{AreReduced, lists_from, HaveItems};
+//! All that goes by the word of a reduction: the type of its result, whether it needs items, what it makes of
+//! none, and which loop does it.
+ghost use Rattle.std.specs.Prelude.{◌≡◌, ◌*◌, ◌<◌, ℕ, [], true, length};
+ghost use Rattle.elem_descr.specs.declared.scalar.Order.TheVariants.{Little};
+ghost use Rattle.elem_descr.specs.Encoding.{size};
+ghost use Rattle.raw_block.specs.Bytes.{item_at};
+ghost use Rattle.reductions.specs.Reductions.{wide, result_scalar, needs_items};
+ghost use Rattle.reductions.specs.inside.Numbers.{IsStored, IsReduced, AreReduced, lists_from, HaveItems};
 
 use crate::fills::{fill_all, fill_along};
 use crate::folds::{
     AllTrue, AnyTrue, Fold, Greatest, Least, PlaceOfGreatest, PlaceOfLeast, ProductOf, SumOf,
 };
-use crate::values::Value;
+use crate::lines::store_at;
+use crate::sources::Lists;
 use elem_descr::{Order, Scalar, Width};
-use elementwise::{HighFirst, LowFirst, Ordered};
-use script_lang::Reduction;
-use shape_strides::{Layout, StridedAxis};
+use machine_numbers::{Number, NumberTask, Ordered, Red, little};
 
-/// Writes what comes of all items of a layout, or of those along an axis from each of them on.
-fn fill<S: Value, O: Ordered, F: Fold<S>>(
-    out: &mut [u8],
-    starts: &Layout,
-    axis: Option<StridedAxis>,
-    bytes: &[u8],
-)
-    requires room { length out.old ≡ length (lists_from starts.now axis) * F.Total.WIDTH }
-    requires inside { All (λ offset. offset + S.WIDTH ≤ length bytes.now) (offsets starts.now) }
-    requires items { HaveItems (length bytes.now) S.WIDTH starts.now axis }
-    ensures items { AreReduced F.reduction (S.scalar O.order) bytes.now F.Total.WIDTH (lists_from starts.now axis) out.new }
-    ensures len { length out.new ≡ length out.old }
+/// An integer of 64 bits, with a sign unless the items are integers without one.
+fn wide(scalar: &Scalar) -> Scalar
+    ensures { result ≡ wide scalar.now }
 {
-    match axis {
-        None => fill_all::<S, O, F>(out, starts, bytes),
-        Some(axis) => fill_along::<S, O, F>(out, starts, axis, bytes),
+    let signed = match scalar {
+        Scalar::Byte { signed } => *signed,
+        Scalar::Int { signed, .. } => *signed,
+        _ => true,
+    };
+    Scalar::Int {
+        signed,
+        width: Width::Eight,
+        order: Order::Little,
     }
 }
 
-/// The same for a reduction.
-fn reduce_numbers<S: Value, O: Ordered>(
-    reduction: Reduction,
-    out: &mut [u8],
-    starts: &Layout,
-    axis: Option<StridedAxis>,
-    bytes: &[u8],
-)
-    requires room { length out.old ≡ length (lists_from starts.now axis) * size (result_scalar reduction (S.scalar O.order)) }
-    requires inside { All (λ offset. offset + S.WIDTH ≤ length bytes.now) (offsets starts.now) }
-    requires items { HaveItems (length bytes.now) S.WIDTH starts.now axis }
-    ensures items { AreReduced reduction (S.scalar O.order) bytes.now (size (result_scalar reduction (S.scalar O.order))) (lists_from starts.now axis) out.new }
+/// The type of a result.
+pub(crate) fn result_scalar(reduction: Red, scalar: &Scalar) -> Scalar
+    ensures { result ≡ result_scalar reduction scalar.now }
+{
+    match reduction {
+        Red::Sum | Red::Product => wide(scalar),
+        Red::Minimum | Red::Maximum => little(scalar),
+        Red::Any | Red::All => Scalar::Bool,
+        Red::ArgMin | Red::ArgMax => Scalar::Int {
+            signed: true,
+            width: Width::Eight,
+            order: Order::Little,
+        },
+    }
+}
+
+/// Whether a reduction is one of some items at least.
+pub(crate) fn needs_items(reduction: Red) -> bool
+    ensures { result ≡ needs_items reduction }
+{
+    match reduction {
+        Red::Minimum | Red::Maximum | Red::ArgMin | Red::ArgMax => true,
+        _ => false,
+    }
+}
+
+/// Writes a number `count` times, one after another.
+fn fill_with<T: Number>(value: T, out: &mut [u8], count: usize)
+    requires { length out.old ≡ count * T.WIDTH }
+    ensures items { (k : ℕ) → k < count → IsStored (T.scalar Little) (T.value value) (item_at (k * T.WIDTH) T.WIDTH out.new) }
+    ensures len { length out.new ≡ length out.old }
+{
+    let _len = out.len();
+    for k in 0..count {
+        store_at(value, out, k * T::WIDTH);
+    }
+}
+
+/// Writes what a reduction makes of no items, `count` times, where it is one of no items.
+pub(crate) fn fill_empty(reduction: Red, _scalar: &Scalar, out: &mut [u8], count: usize)
+    requires room { length out.old ≡ count * size (result_scalar reduction _scalar.now) }
+    requires none { needs_items reduction ≡ true → count ≡ 0 }
+    ensures items { (k : ℕ) → k < count → IsReduced reduction _scalar.now []
+        (item_at (k * size (result_scalar reduction _scalar.now)) (size (result_scalar reduction _scalar.now)) out.new) }
     ensures len { length out.new ≡ length out.old }
 {
     match reduction {
-        Reduction::Sum => fill::<S, O, SumOf>(out, starts, axis, bytes),
-        Reduction::Product => fill::<S, O, ProductOf>(out, starts, axis, bytes),
-        Reduction::Minimum => fill::<S, O, Least>(out, starts, axis, bytes),
-        Reduction::Maximum => fill::<S, O, Greatest>(out, starts, axis, bytes),
-        Reduction::Any => fill::<S, O, AnyTrue>(out, starts, axis, bytes),
-        Reduction::All => fill::<S, O, AllTrue>(out, starts, axis, bytes),
-        Reduction::ArgMin => fill::<S, O, PlaceOfLeast>(out, starts, axis, bytes),
-        Reduction::ArgMax => fill::<S, O, PlaceOfGreatest>(out, starts, axis, bytes),
+        Red::Sum => fill_with(0_u64, out, count),
+        Red::Product => fill_with(1_u64, out, count),
+        Red::Any => fill_with(false, out, count),
+        Red::All => fill_with(true, out, count),
+        _ => {}
     }
 }
 
-/// The same for integers of two bytes or more.
-fn reduce_integers(
-    signed: bool,
-    width: Width,
-    order: Order,
-    reduction: Reduction,
-    out: &mut [u8],
-    starts: &Layout,
-    axis: Option<StridedAxis>,
-    bytes: &[u8],
-)
-    requires room { length out.old ≡ length (lists_from starts.now axis) * size (result_scalar reduction (Int signed width order)) }
-    requires inside { All (λ offset. offset + width_size width ≤ length bytes.now) (offsets starts.now) }
-    requires items { HaveItems (length bytes.now) (width_size width) starts.now axis }
-    ensures items { AreReduced reduction (Int signed width order) bytes.now (size (result_scalar reduction (Int signed width order))) (lists_from starts.now axis) out.new }
+/// Writes what comes of each list.
+#[inline(never)]
+fn fill<S: Number, O: Ordered, F: Fold<S>>(out: &mut [u8], lists: Lists<'_>)
+    requires width { lists.width ≡ S.WIDTH }
+    requires items { HaveItems (length lists.bytes.now) S.WIDTH lists.starts.now lists.axis }
+    requires room { length out.old ≡ length (lists_from lists.starts.now lists.axis) * F.Total.WIDTH }
+    ensures items { AreReduced F.reduction (S.scalar O.order) lists.entry.bytes.now F.Total.WIDTH (lists_from lists.entry.starts.now lists.entry.axis) out.new }
     ensures len { length out.new ≡ length out.old }
 {
-    match (signed, width, order) {
-        (false, Width::Two, Order::Little) => reduce_numbers::<u16, LowFirst>(
-            reduction, out, starts, axis, bytes,
-        ),
-        (false, Width::Two, Order::Big) => reduce_numbers::<u16, HighFirst>(
-            reduction, out, starts, axis, bytes,
-        ),
-        (false, Width::Four, Order::Little) => reduce_numbers::<u32, LowFirst>(
-            reduction, out, starts, axis, bytes,
-        ),
-        (false, Width::Four, Order::Big) => reduce_numbers::<u32, HighFirst>(
-            reduction, out, starts, axis, bytes,
-        ),
-        (false, Width::Eight, Order::Little) => reduce_numbers::<u64, LowFirst>(
-            reduction, out, starts, axis, bytes,
-        ),
-        (false, Width::Eight, Order::Big) => reduce_numbers::<u64, HighFirst>(
-            reduction, out, starts, axis, bytes,
-        ),
-        (true, Width::Two, Order::Little) => reduce_numbers::<i16, LowFirst>(
-            reduction, out, starts, axis, bytes,
-        ),
-        (true, Width::Two, Order::Big) => reduce_numbers::<i16, HighFirst>(
-            reduction, out, starts, axis, bytes,
-        ),
-        (true, Width::Four, Order::Little) => reduce_numbers::<i32, LowFirst>(
-            reduction, out, starts, axis, bytes,
-        ),
-        (true, Width::Four, Order::Big) => reduce_numbers::<i32, HighFirst>(
-            reduction, out, starts, axis, bytes,
-        ),
-        (true, Width::Eight, Order::Little) => reduce_numbers::<i64, LowFirst>(
-            reduction, out, starts, axis, bytes,
-        ),
-        (true, Width::Eight, Order::Big) => reduce_numbers::<i64, HighFirst>(
-            reduction, out, starts, axis, bytes,
-        ),
+    match lists.axis {
+        None => fill_all::<S, O, F>(out, lists.starts, lists.bytes),
+        Some(axis) => fill_along::<S, O, F>(out, lists.starts, axis, lists.bytes),
     }
 }
 
-/// Writes what comes of all items of a layout, numbers of this scalar, or of those along an axis from each
-/// of them on.
-pub(crate) fn reduce_scalars(
-    scalar: &Scalar,
-    reduction: Reduction,
-    out: &mut [u8],
-    starts: &Layout,
-    axis: Option<StridedAxis>,
-    bytes: &[u8],
-)
-    requires number { IsNumber scalar.now }
-    requires room { length out.old ≡ length (lists_from starts.now axis) * size (result_scalar reduction scalar.now) }
-    requires inside { All (λ offset. offset + size scalar.now ≤ length bytes.now) (offsets starts.now) }
-    requires items { HaveItems (length bytes.now) (size scalar.now) starts.now axis }
-    ensures items { AreReduced reduction scalar.now bytes.now (size (result_scalar reduction scalar.now)) (lists_from starts.now axis) out.new }
-    ensures len { length out.new ≡ length out.old }
-{
-    match scalar {
-        Scalar::Bool => reduce_numbers::<bool, LowFirst>(reduction, out, starts, axis, bytes),
-        Scalar::Byte { signed: false } => reduce_numbers::<u8, LowFirst>(
-            reduction, out, starts, axis, bytes,
-        ),
-        Scalar::Byte { signed: true } => reduce_numbers::<i8, LowFirst>(
-            reduction, out, starts, axis, bytes,
-        ),
-        Scalar::Int {
-            signed,
-            width,
-            order,
-        } => reduce_integers(*signed, *width, *order, reduction, out, starts, axis, bytes),
-        Scalar::Bytes(_) => unreachable!(),
+/// A reduction of lists, whose results are written one after another.
+pub(crate) struct Reducing<'a> {
+    pub(crate) reduction: Red,
+    pub(crate) lists: Lists<'a>,
+}
+
+impl<'a> NumberTask for Reducing<'a> {
+    type Out = ();
+
+    ghost Needs = { λ t scalar bytes. (t.lists.width ≡ size scalar) × HaveItems (length t.lists.bytes.now) (size scalar) t.lists.starts.now t.lists.axis × (length bytes ≡ length (lists_from t.lists.starts.now t.lists.axis) * size (result_scalar t.reduction scalar)) };
+
+    ghost Gives = { λ t scalar old new _. AreReduced t.reduction scalar t.lists.bytes.now (size (result_scalar t.reduction scalar)) (lists_from t.lists.starts.now t.lists.axis) new × (length new ≡ length old) };
+
+    fn run<N: Number, O: Ordered>(self, bytes: &mut [u8]) {
+        let Reducing { reduction, lists } = self;
+        match reduction {
+            Red::Sum => fill::<N, O, SumOf>(bytes, lists),
+            Red::Product => fill::<N, O, ProductOf>(bytes, lists),
+            Red::Minimum => fill::<N, O, Least>(bytes, lists),
+            Red::Maximum => fill::<N, O, Greatest>(bytes, lists),
+            Red::Any => fill::<N, O, AnyTrue>(bytes, lists),
+            Red::All => fill::<N, O, AllTrue>(bytes, lists),
+            Red::ArgMin => fill::<N, O, PlaceOfLeast>(bytes, lists),
+            Red::ArgMax => fill::<N, O, PlaceOfGreatest>(bytes, lists),
+        }
     }
 }

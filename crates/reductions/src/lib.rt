@@ -3,7 +3,6 @@
 #![tactic(auto)]
 
 mod axes;
-mod empties;
 mod fills;
 mod folds;
 mod kinds;
@@ -11,6 +10,6 @@ mod lines;
 mod outcomes;
 mod reducing;
 mod rows;
-mod values;
+mod sources;
 
 pub use reducing::reduce;

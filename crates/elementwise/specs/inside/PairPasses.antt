@@ -5,9 +5,9 @@ use Rattle.elem_descr.specs.declared.scalar.Scalar.{Scalar}
 use Rattle.elem_descr.specs.declared.scalar.Scalar.TheVariants.{Bool as BoolScalar, Byte, Int, Bytes}
 use Rattle.elem_descr.specs.Values.{LeafValue, number, text}
 use Rattle.elem_descr.specs.Encoding.{IsValueOf, number_of, decode, encode, without_nuls}
-use Rattle.script_lang.specs.declared.operation.BinaryOperation.{BinaryOperation}
-use Rattle.script_lang.specs.declared.operation.UnaryOperation.{UnaryOperation}
-use Rattle.script_lang.specs.declared.operation.Comparison.{Comparison}
+use Rattle.machine_numbers.specs.declared.operators.BinOp.{BinOp}
+use Rattle.machine_numbers.specs.declared.operators.UnOp.{UnOp}
+use Rattle.machine_numbers.specs.declared.operators.Comparison.{Comparison}
 use Rattle.elementwise.specs.Operations.{binary, unary}
 use Rattle.elementwise.specs.Comparisons.{says, compared}
 use Rattle.raw_block.specs.Bytes.{item_at}
@@ -28,7 +28,7 @@ abbrev pub value_pair : Scalar → Scalar → Scalar → (LeafValue → LeafValu
 value_pair left right to f x y = encode to (f (decode left x) (decode right y))
 
 -- an operation on the values of two items
-abbrev pub binary_value : BinaryOperation → Scalar → LeafValue → LeafValue → LeafValue
+abbrev pub binary_value : BinOp → Scalar → LeafValue → LeafValue → LeafValue
 binary_value op scalar x y = number (binary op scalar (number_of x) (number_of y))
 
 -- what f makes of the items at two offsets
@@ -36,7 +36,7 @@ abbrev pub pair_from : (List ℕ → List ℕ → List ℕ) → ℕ → ℕ → 
 pair_from f width width' left right o o' = f (item_at o width left) (item_at o' width' right)
 
 -- an operation on the value of the second item
-abbrev pub unary_value : UnaryOperation → Scalar → LeafValue → LeafValue → LeafValue
+abbrev pub unary_value : UnOp → Scalar → LeafValue → LeafValue → LeafValue
 unary_value op scalar x y = number (unary op scalar (number_of y))
 
 -- what a comparison says of two numbers, as 0 or 1
