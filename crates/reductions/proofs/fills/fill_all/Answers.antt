@@ -1,4 +1,4 @@
-use Rattle.std.proofs.Common.{◌≡◌, ◌*◌, ◌<◌, ◌^◌, zero, suc, length, sym, ap, subst, ◌∙◌, arith, zero-mul}
+use Rattle.std.proofs.Common.{◌≡◌, ◌*◌, ◌<◌, ◌^◌, zero, suc, length, sym, subst, arith, zero-mul}
 use Rattle.std.proofs.lemmas.List.{length-map}
 use Rattle.elem_descr.specs.declared.scalar.Order.TheVariants.{Little}
 use Rattle.raw_block.specs.Bytes.{item_at}

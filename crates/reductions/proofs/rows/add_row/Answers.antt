@@ -1,4 +1,4 @@
-use Rattle.std.proofs.Common.{◌≡◌, ◌*◌, ◌<◌, [], ◌∷◌, ◌++◌, sym, subst}
+use Rattle.std.proofs.Common.{◌*◌, ◌<◌, [], ◌∷◌, ◌++◌, sym, subst}
 use Rattle.elem_descr.specs.declared.scalar.Order.TheVariants.{Little}
 use Rattle.raw_block.specs.Bytes.{place, item_at}
 use Rattle.reductions.specs.inside.Numbers.{number_at, IsStored}
