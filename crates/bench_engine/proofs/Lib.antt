@@ -38,5 +38,6 @@ pub mod Written
 pub mod LiteralLaws
 pub mod Whole
 pub mod Zeros
+pub mod Repeated
 pub mod Stored
 pub mod Copies

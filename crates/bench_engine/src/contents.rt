@@ -15,9 +15,9 @@ ghost use Rattle.bench_engine.specs.inside.OwnContents.{held};
 
 use crate::item::item_of;
 use elem_descr::{Descr, Refusal, Scalar, descr_read};
-use literal_items::{fill, range_len, write_items, write_range};
+use literal_items::{range_len, write_items, write_range};
 use overlap_copy::Owned;
-use raw_block::RawBlock;
+use raw_block::{BlockBuilder, RawBlock};
 use script_lang::{DescrText, Lengths, Literal, Literals};
 use shape_strides::{MAX_BYTES, MemoryOrder, Shape};
 use smallvec::SmallVec;
@@ -73,9 +73,9 @@ pub fn filled(alloc: Global, item: &[u8], items: usize) -> Result<RawBlock, Allo
     ensures whole { IfOk result (λ block. length block ≡ items * length item.now) }
     ensures items { IfOk result (λ block. blocks (length item.now) items block ≡ replicate items item.now) }
 {
-    let mut block = RawBlock::try_zeroed(alloc, items * item.len())?;
-    fill(item, block.bytes_mut(), items);
-    Ok(block)
+    let mut block = BlockBuilder::try_new(alloc, items * item.len())?;
+    block.push_repeated(item, items);
+    Ok(block.finish())
 }
 
 /// `full D S L`
