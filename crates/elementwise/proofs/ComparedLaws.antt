@@ -32,16 +32,6 @@ below-cmp = same_from_slice_cmp nat_cmp is_lt text_below refl (λ _ _. refl) (λ
 pub above-cmp : (xs ys : List ℕ) (o : Ordering) → o ≡ slice_cmp nat_cmp xs ys → is_gt o ≡ text_below ys xs
 above-cmp = same_from_slice_cmp nat_cmp is_gt (λ xs ys. text_below ys xs) refl (λ _ _. refl) (λ _ _. refl) (λ x y xs ys o h. grind (arith, nat_tests))
 
--- all items of two arrays
-pub texts_compared : (comparison : Comparison) (d d' : Descr) (result : Result Owned Refusal) (block block' : List ℕ) (l l' : Layout) (shape : List ℕ) → IfOk result (λ o. o.descr ≡ ScalarDescr BoolScalar) → IfOk result (λ o. o.layout.shape ≡ shape) →
-    IfOk result (λ o. map (item_from (ScalarDescr BoolScalar) o.block) (offsets o.layout) ≡ pairwise (λ x y. truth_value comparison (value_in x) (value_in y) ∷ []) (stretched_items d block l shape) (stretched_items d' block' l' shape)) →
-    IfOk result (λ o. map (item_from o.descr o.block) (offsets o.layout) ≡ pairwise (compared_item comparison) (stretched_items d block l o.layout.shape) (stretched_items d' block' l' o.layout.shape))
-texts_compared comparison d d' (Ok o) block block' l l' shape descr same items =
-    (λ i. map (item_from (descr i) o.block) (offsets o.layout))
-    ∙ items
-    ∙ (λ i. pairwise (compared_item comparison) (stretched_items d block l (sym same i)) (stretched_items d' block' l' (sym same i)))
-texts_compared comparison d d' (Err e) block block' l l' shape descr same items = tt
-
 -- ---- types
 
 -- a comparison gives bools
