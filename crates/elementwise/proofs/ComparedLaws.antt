@@ -1,5 +1,5 @@
 -- What is compared, and what results there are.
-use Rattle.std.proofs.Common.{◌≡◌, ℕ, true, Result, Ok, Err, List, [], ◌∷◌, map, IfOk, refl, sym, ◌∙◌, arith}
+use Rattle.std.proofs.Common.{◌≡◌, ℕ, true, Ok, Err, List, [], ◌∷◌, refl, sym, arith}
 use Rattle.std.specs.declared.cmp.Ordering.{Ordering}
 use Rattle.std.specs.Ordering.{nat_cmp, is_lt, is_gt}
 use Rattle.std.specs.Cmp.Lexicographic.{slice_cmp}
@@ -12,16 +12,10 @@ use Rattle.elem_descr.specs.declared.scalar.Scalar.TheVariants.{Bool as BoolScal
 use Rattle.elem_descr.specs.declared.descr.Descr.{Descr}
 use Rattle.elem_descr.specs.declared.descr.Descr.TheVariants.{Scalar as ScalarDescr}
 use Rattle.elem_descr.specs.RefusalLaws.{same_answer, check_passed}
-use Rattle.elem_descr.specs.Blocks.{item_from}
-use Rattle.shape_strides.specs.declared.layout.Layout.{Layout}
-use Rattle.shape_strides.specs.Layouts.{offsets}
 use Rattle.broadcasting.specs.Broadcasts.{common_shape}
-use Rattle.overlap_copy.specs.declared.owned.Owned.{Owned}
-use Rattle.script_lang.specs.declared.operation.Comparison.{Comparison}
 use Rattle.elementwise.specs.Comparisons.{text_below}
 use Rattle.elementwise.specs.Promotion.{are_comparable, compared_type}
-use Rattle.elementwise.specs.Results.{scalar_of, compared_result, compared_item, stretched_items, pairwise, value_in}
-use Rattle.elementwise.specs.inside.PairPasses.{truth_value}
+use Rattle.elementwise.specs.Results.{scalar_of, compared_result}
 use Rattle.elementwise.proofs.PromotedLaws.{check_test}
 
 -- ---- byte strings

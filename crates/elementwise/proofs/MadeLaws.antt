@@ -1,5 +1,5 @@
 -- Arrays that are made, as the results of calls tell them.
-use Rattle.std.proofs.Common.{inl, ◌≡◌, ◌+◌, ◌-◌, ℕ, Result, Ok, Err, List, [], ◌∷◌, ◌++◌, map, replicate, IfOk, IfErr, refl, sym, ap, subst, ◌∙◌, arith}
+use Rattle.std.proofs.Common.{inl, ◌≡◌, ◌+◌, ◌-◌, ℕ, Result, Ok, Err, List, [], ◌∷◌, ◌++◌, map, replicate, IfOk, IfErr, sym, ap, subst, ◌∙◌, arith}
 use Rattle.std.specs.List.{flat_map}
 use Rattle.std.proofs.lemmas.List.{append-nil}
 use Rattle.elem_descr.specs.declared.refusal.Refusal.{Refusal}

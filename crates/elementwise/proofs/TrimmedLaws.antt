@@ -1,9 +1,8 @@
 -- Byte strings that are cut where NULs end all of them.
-use Rattle.std.proofs.Common.{◌≡◌, ◌+◌, ◌-◌, ◌≤◌, ℕ, true, Result, Ok, Err, List, [], ◌∷◌, ◌++◌, map, length, take, drop, replicate, All, IfOk, refl, sym, ap, ◌∙◌, arith, length-append, length-take, length-drop}
+use Rattle.std.proofs.Common.{◌≡◌, ◌+◌, ◌-◌, ◌≤◌, ℕ, true, List, [], ◌∷◌, ◌++◌, map, length, take, drop, replicate, All, refl, sym, ap, ◌∙◌, arith, length-append, length-take, length-drop}
 use Rattle.std.proofs.lemmas.List.{take-take, take-replicate, length-replicate}
 use Rattle.std.proofs.lemmas.List.Elements.{All-head, All-tail}
 use Rattle.std.proofs.Math.Seq.{take-append-add}
-use Rattle.elem_descr.specs.declared.refusal.Refusal.{Refusal}
 use Rattle.elem_descr.specs.declared.descr.Descr.{Descr}
 use Rattle.elem_descr.specs.declared.descr.Descr.TheVariants.{Scalar as ScalarDescr}
 use Rattle.elem_descr.specs.declared.scalar.Scalar.TheVariants.{Bytes}
@@ -19,7 +18,6 @@ use Rattle.shape_strides.specs.Layouts.{offsets}
 use Rattle.shape_strides.specs.LayoutLaws.{length-offsets}
 use Rattle.view_ops.specs.Views.{view_through}
 use Rattle.broadcasting.specs.Broadcasts.{can_stretch, broadcast_index}
-use Rattle.overlap_copy.specs.declared.owned.Owned.{Owned}
 use Rattle.elementwise.specs.Results.{stretched_items, pairwise}
 use Rattle.elementwise.proofs.ShrunkLaws.{all_through}
 

@@ -39,15 +39,39 @@ pub(crate) fn cast<S: Number, P: Ordered>(
     ensures left { pairs_of operands.entry * size scalar.now + result.1 ≡ block.1 }
 {
     match scalar {
-        Scalar::Bool => operands.push_all(&Numbers::<Casting, S, S, bool, P, LowFirst>::new(), block),
-        Scalar::Byte { .. } => operands.push_all(&Numbers::<Casting, S, S, u8, P, LowFirst>::new(), block),
+        Scalar::Bool => operands.push_all(
+            &Numbers::<Casting, S, S, bool, P, LowFirst>::new(),
+            block,
+        ),
+        Scalar::Byte { .. } => operands.push_all(
+            &Numbers::<Casting, S, S, u8, P, LowFirst>::new(),
+            block,
+        ),
         Scalar::Int { width, order, .. } => match (width, order) {
-            (Width::Two, Order::Little) => operands.push_all(&Numbers::<Casting, S, S, u16, P, LowFirst>::new(), block),
-            (Width::Two, Order::Big) => operands.push_all(&Numbers::<Casting, S, S, u16, P, HighFirst>::new(), block),
-            (Width::Four, Order::Little) => operands.push_all(&Numbers::<Casting, S, S, u32, P, LowFirst>::new(), block),
-            (Width::Four, Order::Big) => operands.push_all(&Numbers::<Casting, S, S, u32, P, HighFirst>::new(), block),
-            (Width::Eight, Order::Little) => operands.push_all(&Numbers::<Casting, S, S, u64, P, LowFirst>::new(), block),
-            (Width::Eight, Order::Big) => operands.push_all(&Numbers::<Casting, S, S, u64, P, HighFirst>::new(), block),
+            (Width::Two, Order::Little) => operands.push_all(
+                &Numbers::<Casting, S, S, u16, P, LowFirst>::new(),
+                block,
+            ),
+            (Width::Two, Order::Big) => operands.push_all(
+                &Numbers::<Casting, S, S, u16, P, HighFirst>::new(),
+                block,
+            ),
+            (Width::Four, Order::Little) => operands.push_all(
+                &Numbers::<Casting, S, S, u32, P, LowFirst>::new(),
+                block,
+            ),
+            (Width::Four, Order::Big) => operands.push_all(
+                &Numbers::<Casting, S, S, u32, P, HighFirst>::new(),
+                block,
+            ),
+            (Width::Eight, Order::Little) => operands.push_all(
+                &Numbers::<Casting, S, S, u64, P, LowFirst>::new(),
+                block,
+            ),
+            (Width::Eight, Order::Big) => operands.push_all(
+                &Numbers::<Casting, S, S, u64, P, HighFirst>::new(),
+                block,
+            ),
         },
         Scalar::Bytes(_) => unreachable!(),
     }

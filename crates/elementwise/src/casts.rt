@@ -64,7 +64,14 @@ fn cast_all(bytes: &mut [u8], to: &Descr, from: Items<'_>)
     for k in 0..to.leaf_count() {
         let leaf = leaf_of(to, k);
         let from_leaf = source_of(from.descr, k);
-        cast_leaf(&from_leaf, &leaf, bytes, item, other, Runs::new(from.layout));
+        cast_leaf(
+            &from_leaf,
+            &leaf,
+            bytes,
+            item,
+            other,
+            Runs::new(from.layout),
+        );
     }
 }
 

@@ -32,16 +32,46 @@ pub(crate) fn combine<N: Number, O: Ordered>(
     ensures left { pairs_of operands.entry * N.WIDTH + result.1 ≡ block.1 }
 {
     match op {
-        BinaryOperation::Add => operands.push_all(&Numbers::<Adding, N, N, N, O, LowFirst>::new(), block),
-        BinaryOperation::Subtract => operands.push_all(&Numbers::<Subtracting, N, N, N, O, LowFirst>::new(), block),
-        BinaryOperation::Multiply => operands.push_all(&Numbers::<Multiplying, N, N, N, O, LowFirst>::new(), block),
-        BinaryOperation::FloorDivide => operands.push_all(&Numbers::<Dividing, N, N, N, O, LowFirst>::new(), block),
-        BinaryOperation::Modulo => operands.push_all(&Numbers::<LeavingRests, N, N, N, O, LowFirst>::new(), block),
-        BinaryOperation::And => operands.push_all(&Numbers::<KeepingBoth, N, N, N, O, LowFirst>::new(), block),
-        BinaryOperation::Or => operands.push_all(&Numbers::<KeepingEither, N, N, N, O, LowFirst>::new(), block),
-        BinaryOperation::Xor => operands.push_all(&Numbers::<KeepingOne, N, N, N, O, LowFirst>::new(), block),
-        BinaryOperation::ShiftLeft => operands.push_all(&Numbers::<MovingUp, N, N, N, O, LowFirst>::new(), block),
-        BinaryOperation::ShiftRight => operands.push_all(&Numbers::<MovingDown, N, N, N, O, LowFirst>::new(), block),
+        BinaryOperation::Add => operands.push_all(
+            &Numbers::<Adding, N, N, N, O, LowFirst>::new(),
+            block,
+        ),
+        BinaryOperation::Subtract => operands.push_all(
+            &Numbers::<Subtracting, N, N, N, O, LowFirst>::new(),
+            block,
+        ),
+        BinaryOperation::Multiply => operands.push_all(
+            &Numbers::<Multiplying, N, N, N, O, LowFirst>::new(),
+            block,
+        ),
+        BinaryOperation::FloorDivide => operands.push_all(
+            &Numbers::<Dividing, N, N, N, O, LowFirst>::new(),
+            block,
+        ),
+        BinaryOperation::Modulo => operands.push_all(
+            &Numbers::<LeavingRests, N, N, N, O, LowFirst>::new(),
+            block,
+        ),
+        BinaryOperation::And => operands.push_all(
+            &Numbers::<KeepingBoth, N, N, N, O, LowFirst>::new(),
+            block,
+        ),
+        BinaryOperation::Or => operands.push_all(
+            &Numbers::<KeepingEither, N, N, N, O, LowFirst>::new(),
+            block,
+        ),
+        BinaryOperation::Xor => operands.push_all(
+            &Numbers::<KeepingOne, N, N, N, O, LowFirst>::new(),
+            block,
+        ),
+        BinaryOperation::ShiftLeft => operands.push_all(
+            &Numbers::<MovingUp, N, N, N, O, LowFirst>::new(),
+            block,
+        ),
+        BinaryOperation::ShiftRight => operands.push_all(
+            &Numbers::<MovingDown, N, N, N, O, LowFirst>::new(),
+            block,
+        ),
         BinaryOperation::Divide => unreachable!(),
     }
 }
@@ -61,8 +91,17 @@ pub(crate) fn change<N: Number, O: Ordered>(
     ensures left { pairs_of operands.entry * N.WIDTH + result.1 ≡ block.1 }
 {
     match op {
-        UnaryOperation::Negate => operands.push_all(&Numbers::<Negating, N, N, N, O, LowFirst>::new(), block),
-        UnaryOperation::Invert if bools => operands.push_all(&Numbers::<Flipping, N, N, N, O, LowFirst>::new(), block),
-        UnaryOperation::Invert => operands.push_all(&Numbers::<Complementing, N, N, N, O, LowFirst>::new(), block),
+        UnaryOperation::Negate => operands.push_all(
+            &Numbers::<Negating, N, N, N, O, LowFirst>::new(),
+            block,
+        ),
+        UnaryOperation::Invert if bools => operands.push_all(
+            &Numbers::<Flipping, N, N, N, O, LowFirst>::new(),
+            block,
+        ),
+        UnaryOperation::Invert => operands.push_all(
+            &Numbers::<Complementing, N, N, N, O, LowFirst>::new(),
+            block,
+        ),
     }
 }

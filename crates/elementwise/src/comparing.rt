@@ -135,11 +135,29 @@ pub(crate) fn compare<A: Number, B: Number, O: Ordered>(
     ensures left { pairs_of operands.entry + result.1 ≡ block.1 }
 {
     match comparison {
-        Comparison::Equal => operands.push_all(&Numbers::<Said<IsEqual>, A, B, bool, O, LowFirst>::new(), block),
-        Comparison::NotEqual => operands.push_all(&Numbers::<Said<IsDifferent>, A, B, bool, O, LowFirst>::new(), block),
-        Comparison::Less => operands.push_all(&Numbers::<Said<IsLess>, A, B, bool, O, LowFirst>::new(), block),
-        Comparison::LessOrEqual => operands.push_all(&Numbers::<Said<IsAtMost>, A, B, bool, O, LowFirst>::new(), block),
-        Comparison::Greater => operands.push_all(&Numbers::<Said<IsGreater>, A, B, bool, O, LowFirst>::new(), block),
-        Comparison::GreaterOrEqual => operands.push_all(&Numbers::<Said<IsAtLeast>, A, B, bool, O, LowFirst>::new(), block),
+        Comparison::Equal => operands.push_all(
+            &Numbers::<Said<IsEqual>, A, B, bool, O, LowFirst>::new(),
+            block,
+        ),
+        Comparison::NotEqual => operands.push_all(
+            &Numbers::<Said<IsDifferent>, A, B, bool, O, LowFirst>::new(),
+            block,
+        ),
+        Comparison::Less => operands.push_all(
+            &Numbers::<Said<IsLess>, A, B, bool, O, LowFirst>::new(),
+            block,
+        ),
+        Comparison::LessOrEqual => operands.push_all(
+            &Numbers::<Said<IsAtMost>, A, B, bool, O, LowFirst>::new(),
+            block,
+        ),
+        Comparison::Greater => operands.push_all(
+            &Numbers::<Said<IsGreater>, A, B, bool, O, LowFirst>::new(),
+            block,
+        ),
+        Comparison::GreaterOrEqual => operands.push_all(
+            &Numbers::<Said<IsAtLeast>, A, B, bool, O, LowFirst>::new(),
+            block,
+        ),
     }
 }

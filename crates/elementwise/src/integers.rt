@@ -85,7 +85,14 @@ fn compare_with_value(
 {
     let item = one_item(alloc, scalar, integer)?;
     let items = operand.items;
-    compare_held(alloc, comparison, scalar, items, item.items(), &items.layout.shape)
+    compare_held(
+        alloc,
+        comparison,
+        scalar,
+        items,
+        item.items(),
+        &items.layout.shape,
+    )
 }
 
 /// One bool so many times, as a block.

@@ -45,8 +45,14 @@ fn push_each<K: Kernel<A, B, T>, A: Number, B: Number, T: Number, O: Ordered, Q:
 #[derive_where(Clone, Copy)]
 pub(crate) struct Numbers<K, A, B, T, O, Q>(PhantomData<(K, A, B, T, O, Q)>);
 
-impl<K: Kernel<A, B, T>, A: Number, B: Number, T: Number, O: Ordered, Q: Ordered>
-    Numbers<K, A, B, T, O, Q> {
+impl<K: Kernel<A, B, T>, A: Number, B: Number, T: Number, O: Ordered, Q: Ordered> Numbers<
+    K,
+    A,
+    B,
+    T,
+    O,
+    Q,
+> {
     pub(crate) fn new() -> Self {
         Numbers(PhantomData)
     }

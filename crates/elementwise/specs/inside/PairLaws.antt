@@ -1,16 +1,15 @@
 -- What is made of two values is read back.
 use Rattle.std.proofs.Common.{◌≡◌, ◌≤◌, true, false, cond, refl, arith}
-use Rattle.std.specs.Prelude.{pos, negsuc, ◌-ℤ◌, int_lt}
+use Rattle.std.specs.Prelude.{pos, int_lt}
 use Rattle.elem_descr.specs.declared.scalar.Width.{Width}
 use Rattle.elem_descr.specs.declared.scalar.Width.TheVariants.{Two, Four, Eight}
 use Rattle.elem_descr.specs.declared.scalar.Scalar.{Scalar}
 use Rattle.elem_descr.specs.declared.scalar.Scalar.TheVariants.{Bool as BoolScalar, Byte, Int, Bytes}
 use Rattle.elem_descr.specs.Values.{LeafValue, number}
 use Rattle.elem_descr.specs.Encoding.{IsNumber, size, width_size, number_of, decode, encode}
-use Rattle.elem_descr.specs.EncodingLaws.{decode_encode}
 use Rattle.script_lang.specs.declared.operation.Comparison.{Comparison}
 use Rattle.elementwise.specs.Comparisons.{says, compared}
-use Rattle.elementwise.specs.Promotion.{is_bool, little}
+use Rattle.elementwise.specs.Promotion.{little}
 use Rattle.elementwise.specs.inside.PairPasses.{IsNative, compared_value, truth_value}
 
 pub native_number : (scalar : Scalar) → IsNative scalar → IsNumber scalar

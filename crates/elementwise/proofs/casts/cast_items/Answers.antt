@@ -1,4 +1,4 @@
-use Rattle.std.proofs.Common.{◌≡◌, ◌*◌, ◌≤◌, true, map, sym, ap, subst, refl, ◌∙◌}
+use Rattle.std.proofs.Common.{◌*◌, ◌≤◌, map, sym, subst, refl, ◌∙◌}
 use Rattle.elem_descr.specs.declared.descr.Descr.{Descr}
 use Rattle.elem_descr.specs.declared.descr.Descr.TheVariants.{Scalar as ScalarDescr}
 use Rattle.elem_descr.specs.Items.{item_size}

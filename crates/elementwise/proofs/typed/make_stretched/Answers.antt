@@ -1,4 +1,4 @@
-use Rattle.std.proofs.Common.{◌≡◌, ◌*◌, length, sym, ap, ◌∙◌, arith}
+use Rattle.std.proofs.Common.{◌≡◌, ◌*◌, sym, ap, ◌∙◌, arith}
 use Rattle.elem_descr.specs.Encoding.{size}
 use Rattle.shape_strides.specs.Indexes.{count}
 use Rattle.shape_strides.specs.Layouts.{offsets}
