@@ -8,9 +8,9 @@ use crate::made::array_of;
 use broadcasting::stretch;
 use elem_descr::{Refusal, descr_read};
 use elementwise::{Items, apply1, apply2, compare, compare_bytes, compare_integer, scalar_of};
+use machine_numbers::{BinOp, Comparison, Red, UnOp};
 use overlap_copy::Owned;
 use reductions::reduce;
-use script_lang::{BinaryOperation, Comparison, Reduction, UnaryOperation};
 use shape_strides::Shape;
 use std::alloc::Global;
 use std::process::Abort;
@@ -55,15 +55,15 @@ fn gives(rt: &impl Abort, alloc: Global, made: &Result<Owned, Refusal>, wanted: 
 
 /// Sums that wrap, quotients and rests of numbers below 0 and by 0, shifts of all bits, two kinds, two
 /// orders of bytes, and two shapes.
-const BINARY: &[(BinaryOperation, Given, Given, Wanted)] = &[
+const BINARY: &[(BinOp, Given, Given, Wanted)] = &[
     (
-        BinaryOperation::Add,
+        BinOp::Add,
         ("|u1", &[2], b"\xfa\x05"),
         ("|u1", &[2], b"\x0a\x05"),
         Ok(("|u1", &[2], b"\x04\x0a")),
     ),
     (
-        BinaryOperation::Add,
+        BinOp::Add,
         ("<i2", &[2, 1], b"\x01\x00\x02\x00"),
         ("|i1", &[3], b"\x0a\x14\x1e"),
         Ok((
@@ -73,73 +73,73 @@ const BINARY: &[(BinaryOperation, Given, Given, Wanted)] = &[
         )),
     ),
     (
-        BinaryOperation::Subtract,
+        BinOp::Subtract,
         ("<i2", &[2], b"\x2c\x01\xff\xff"),
         ("|u1", &[2], b"\x01\xff"),
         Ok(("<i2", &[2], b"\x2b\x01\x00\xff")),
     ),
     (
-        BinaryOperation::Multiply,
+        BinOp::Multiply,
         (">i4", &[1], b"\x00\x01\x86\xa0"),
         ("|i1", &[], b"\xfd"),
         Ok(("<i4", &[1], b"\x20\x6c\xfb\xff")),
     ),
     (
-        BinaryOperation::FloorDivide,
+        BinOp::FloorDivide,
         ("|i1", &[3], b"\xf9\x07\x05"),
         ("|i1", &[3], b"\x02\xfe\x00"),
         Ok(("|i1", &[3], b"\xfc\xfc\x00")),
     ),
     (
-        BinaryOperation::Modulo,
+        BinOp::Modulo,
         ("|i1", &[3], b"\xf9\x07\x05"),
         ("|i1", &[3], b"\x02\xfe\x00"),
         Ok(("|i1", &[3], b"\x01\xff\x00")),
     ),
     (
-        BinaryOperation::And,
+        BinOp::And,
         ("|b1", &[3], b"\x01\x01\x00"),
         ("|b1", &[3], b"\x01\x00\x00"),
         Ok(("|b1", &[3], b"\x01\x00\x00")),
     ),
     (
-        BinaryOperation::Or,
+        BinOp::Or,
         ("|u1", &[1], b"\x0f"),
         ("|u1", &[1], b"\x30"),
         Ok(("|u1", &[1], b"\x3f")),
     ),
     (
-        BinaryOperation::Xor,
+        BinOp::Xor,
         ("|i1", &[2], b"\xff\x05"),
         ("|u1", &[2], b"\x01\x01"),
         Ok(("<i2", &[2], b"\xfe\xff\x04\x00")),
     ),
     (
-        BinaryOperation::ShiftLeft,
+        BinOp::ShiftLeft,
         ("|u1", &[3], b"\x01\x03\x01"),
         ("|u1", &[3], b"\x07\x07\x08"),
         Ok(("|u1", &[3], b"\x80\x80\x00")),
     ),
     (
-        BinaryOperation::ShiftRight,
+        BinOp::ShiftRight,
         ("|i1", &[3], b"\x80\x7f\x80"),
         ("|i1", &[3], b"\x03\x01\x08"),
         Ok(("|i1", &[3], b"\xf0\x3f\xff")),
     ),
     (
-        BinaryOperation::Divide,
+        BinOp::Divide,
         ("|i1", &[1], b"\x06"),
         ("|i1", &[1], b"\x03"),
         Err(Refusal::NeedsFloats),
     ),
     (
-        BinaryOperation::Add,
+        BinOp::Add,
         ("|S1", &[1], b"a"),
         ("|S1", &[1], b"b"),
         Err(Refusal::NotForThisKind),
     ),
     (
-        BinaryOperation::Add,
+        BinOp::Add,
         ("|u1", &[2], b"\x01\x02"),
         ("|u1", &[3], b"\x01\x02\x03"),
         Err(Refusal::ShapesDoNotBroadcast),
@@ -157,24 +157,24 @@ fn operations(rt: HostRuntime) {
 }
 
 /// The lowest number has no negative, bools are inverted as such, and bytes get in order.
-const UNARY: &[(UnaryOperation, Given, Wanted)] = &[
+const UNARY: &[(UnOp, Given, Wanted)] = &[
     (
-        UnaryOperation::Negate,
+        UnOp::Negate,
         ("|i1", &[2], b"\x80\x05"),
         Ok(("|i1", &[2], b"\x80\xfb")),
     ),
     (
-        UnaryOperation::Invert,
+        UnOp::Invert,
         ("|b1", &[2], b"\x01\x00"),
         Ok(("|b1", &[2], b"\x00\x01")),
     ),
     (
-        UnaryOperation::Invert,
+        UnOp::Invert,
         (">u2", &[1, 2], b"\x00\x00\x00\xff"),
         Ok(("<u2", &[1, 2], b"\xff\xff\x00\xff")),
     ),
     (
-        UnaryOperation::Negate,
+        UnOp::Negate,
         ("|b1", &[1], b"\x01"),
         Err(Refusal::NotForThisKind),
     ),
@@ -420,16 +420,16 @@ fn comparisons_with_integers(rt: HostRuntime) {
 const GRID: Given = ("|i1", &[2, 3], b"\x01\xfe\x03\x04\x05\xfa");
 
 /// Each word, of all items and along an axis.
-const REDUCED: &[(Reduction, Given, Option<i128>, bool, Wanted)] = &[
+const REDUCED: &[(Red, Given, Option<i128>, bool, Wanted)] = &[
     (
-        Reduction::Sum,
+        Red::Sum,
         ("|u1", &[2], b"\xc8\x64"),
         None,
         false,
         Ok(("<u8", &[], b"\x2c\x01\x00\x00\x00\x00\x00\x00")),
     ),
     (
-        Reduction::Sum,
+        Red::Sum,
         GRID,
         Some(1),
         true,
@@ -440,57 +440,57 @@ const REDUCED: &[(Reduction, Given, Option<i128>, bool, Wanted)] = &[
         )),
     ),
     (
-        Reduction::Product,
+        Red::Product,
         GRID,
         None,
         false,
         Ok(("<i8", &[], b"\xd0\x02\x00\x00\x00\x00\x00\x00")),
     ),
     (
-        Reduction::Minimum,
+        Red::Minimum,
         GRID,
         None,
         true,
         Ok(("|i1", &[1, 1], b"\xfa")),
     ),
     (
-        Reduction::Maximum,
+        Red::Maximum,
         GRID,
         Some(-2),
         false,
         Ok(("|i1", &[3], b"\x04\x05\x03")),
     ),
     (
-        Reduction::Any,
+        Red::Any,
         ("<u2", &[2, 2], b"\x00\x00\x00\x01\x00\x00\x00\x00"),
         Some(1),
         false,
         Ok(("|b1", &[2], b"\x01\x00")),
     ),
-    (Reduction::All, GRID, None, false, Ok(("|b1", &[], b"\x01"))),
+    (Red::All, GRID, None, false, Ok(("|b1", &[], b"\x01"))),
     (
-        Reduction::ArgMin,
+        Red::ArgMin,
         GRID,
         None,
         false,
         Ok(("<i8", &[], b"\x05\x00\x00\x00\x00\x00\x00\x00")),
     ),
     (
-        Reduction::ArgMax,
+        Red::ArgMax,
         GRID,
         None,
         false,
         Ok(("<i8", &[], b"\x04\x00\x00\x00\x00\x00\x00\x00")),
     ),
     (
-        Reduction::Sum,
+        Red::Sum,
         ("|S1", &[1], b"a"),
         None,
         false,
         Err(Refusal::NotForThisKind),
     ),
     (
-        Reduction::Maximum,
+        Red::Maximum,
         ("|i1", &[0], b""),
         None,
         false,
@@ -502,24 +502,15 @@ const REDUCED: &[(Reduction, Given, Option<i128>, bool, Wanted)] = &[
 fn reductions_of_arrays(rt: HostRuntime) {
     for (reduction, array, axis, keep, wanted) in REDUCED {
         let owned = given(&rt, rt.alloc(), *array);
-        let array = items(&owned);
-        let made = reduce(
-            rt.alloc(),
-            *reduction,
-            array.block,
-            array.layout,
-            array.descr,
-            *axis,
-            *keep,
-        );
+        let made = reduce(rt.alloc(), *reduction, owned.items(), *axis, *keep);
         gives(&rt, rt.alloc(), &made, *wanted);
     }
 }
 
 /// The first of two greatest numbers and of two least ones, behind many others.
-const PLACES: &[(Reduction, &[u8])] = &[
-    (Reduction::ArgMax, b"\x2c\x01\x00\x00\x00\x00\x00\x00"),
-    (Reduction::ArgMin, b"\x90\x01\x00\x00\x00\x00\x00\x00"),
+const PLACES: &[(Red, &[u8])] = &[
+    (Red::ArgMax, b"\x2c\x01\x00\x00\x00\x00\x00\x00"),
+    (Red::ArgMin, b"\x90\x01\x00\x00\x00\x00\x00\x00"),
 ];
 
 #[test]
@@ -532,16 +523,7 @@ fn places_behind_many(rt: HostRuntime) {
     let descr = descr_read(rt.alloc(), b"|u1").expect(&rt, "no element type");
     let owned = array_of(&rt, rt.alloc(), descr, &[700], &bytes);
     for (reduction, place) in PLACES {
-        let array = items(&owned);
-        let made = reduce(
-            rt.alloc(),
-            *reduction,
-            array.block,
-            array.layout,
-            array.descr,
-            None,
-            false,
-        );
+        let made = reduce(rt.alloc(), *reduction, owned.items(), None, false);
         gives(&rt, rt.alloc(), &made, Ok(("<i8", &[], *place)));
     }
 }

@@ -16,7 +16,7 @@ use Rattle.elementwise.specs.Results.{unary_result, unary_item}
 use Rattle.overlap_copy.specs.declared.items.Items.{Items}
 use Rattle.overlap_copy.specs.declared.owned.Owned.{Owned}
 use Rattle.script_lang.specs.declared.operation.Operation.{Operation}
-use Rattle.script_lang.specs.declared.operation.UnaryOperation.{UnaryOperation}
+use Rattle.machine_numbers.specs.declared.operators.UnOp.{UnOp}
 use Rattle.script_lang.specs.declared.command.Operand.{Operand}
 use Rattle.script_lang.specs.declared.command.Argument.{Argument}
 use Rattle.name_store.specs.States.{State, Array}
@@ -76,15 +76,15 @@ combined-part s op left right part good = rw good refl
 
 -- ---- one operand
 
-pub transformed-bad : (s : State) (op : UnaryOperation) (operand : Operand) (e : Refusal) → operand_part s operand ≡ Err e → transformed s op operand ≡ Err e
+pub transformed-bad : (s : State) (op : UnOp) (operand : Operand) (e : Refusal) → operand_part s operand ≡ Err e → transformed s op operand ≡ Err e
 unfolding transformed
 transformed-bad s op operand e bad = rw bad refl
 
-transformed-other : (s : State) (op : UnaryOperation) (operand : Operand) (part : Array) (e : Refusal) → operand_part s operand ≡ Ok part → unary_result op (descr_of s part) part.shape ≡ Err e → transformed s op operand ≡ Err e
+transformed-other : (s : State) (op : UnOp) (operand : Operand) (part : Array) (e : Refusal) → operand_part s operand ≡ Ok part → unary_result op (descr_of s part) part.shape ≡ Err e → transformed s op operand ≡ Err e
 unfolding transformed
 transformed-other s op operand part e good bad = rw (good, bad) refl
 
-transformed-done : (s : State) (op : UnaryOperation) (operand : Operand) (part : Array) (d : Descr) (shape : List ℕ) → operand_part s operand ≡ Ok part → unary_result op (descr_of s part) part.shape ≡ Ok (d, shape) → transformed s op operand ≡ Ok (made d shape (map (unary_item op d) (read s part)))
+transformed-done : (s : State) (op : UnOp) (operand : Operand) (part : Array) (d : Descr) (shape : List ℕ) → operand_part s operand ≡ Ok part → unary_result op (descr_of s part) part.shape ≡ Ok (d, shape) → transformed s op operand ≡ Ok (made d shape (map (unary_item op d) (read s part)))
 unfolding transformed
 transformed-done s op operand part d shape good there = rw (good, there) refl
 
@@ -92,7 +92,7 @@ map-map' : {A B D : Type 0} (f : B → D) (g : A → B) (xs : List A) → map f 
 map-map' f g [] = refl
 map-map' f g (x ∷ xs) = λ i. f (g x) ∷ map-map' f g xs i
 
-pub transformed-gives : (s : State) (op : UnaryOperation) (operand : Operand) (part : Array) (x : Items) (result : Result Owned Refusal) → operand_part s operand ≡ Ok part → StandsFor s part x → Gives (λ o. (o.descr, o.layout.shape)) result (unary_result op x.descr.now x.layout.now.shape) →
+pub transformed-gives : (s : State) (op : UnOp) (operand : Operand) (part : Array) (x : Items) (result : Result Owned Refusal) → operand_part s operand ≡ Ok part → StandsFor s part x → Gives (λ o. (o.descr, o.layout.shape)) result (unary_result op x.descr.now x.layout.now.shape) →
     IfOk result IsInCOrder → IfOk result (λ o. map (item_from o.descr o.block) (offsets o.layout) ≡ map (λ offset. unary_item op o.descr (item_from x.descr.now x.block.now offset)) (offsets x.layout.now)) → Gives held result (transformed s op operand)
 transformed-gives s op operand part x (Ok o) good stands gives order items =
     transformed-done s op operand part o.descr o.layout.shape good ((λ i. unary_result op (stands.descr i) (stands.shape i)) ∙ gives)

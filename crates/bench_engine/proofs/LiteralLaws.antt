@@ -21,14 +21,15 @@ use Rattle.shape_strides.specs.Layouts.{offsets}
 use Rattle.shape_strides.specs.LayoutLaws.{length-offsets}
 use Rattle.broadcasting.specs.Broadcasts.{can_stretch, common_shape}
 use Rattle.broadcasting.specs.BroadcastLaws.{can-itself}
-use Rattle.elementwise.specs.Promotion.{is_text, compared_type, promote}
+use Rattle.machine_numbers.specs.Kinds.{is_text}
+use Rattle.elementwise.specs.Promotion.{compared_type, promote}
 use Rattle.elementwise.specs.Results.{scalar_of, integer_compared_result, bytes_compared_result, compared_item, pairwise}
 use Rattle.overlap_copy.specs.declared.items.Items.{Items}
 use Rattle.overlap_copy.specs.declared.owned.Owned.{Owned}
 use Rattle.overlap_copy.specs.Blocks.{offsets_in}
 use Rattle.literal_items.specs.LiteralItems.{is_castable, item_value, literal_number}
-use Rattle.script_lang.specs.declared.operation.BinaryOperation.{BinaryOperation}
-use Rattle.script_lang.specs.declared.operation.Comparison.{Comparison}
+use Rattle.machine_numbers.specs.declared.operators.BinOp.{BinOp}
+use Rattle.machine_numbers.specs.declared.operators.Comparison.{Comparison}
 use Rattle.script_lang.specs.declared.operation.Operation.{Operation}
 use Rattle.script_lang.specs.declared.operation.Operation.TheVariants.{Binary, Compare}
 use Rattle.script_lang.specs.declared.literal.ScalarLiteral.{ScalarLiteral}
@@ -190,28 +191,28 @@ boolean-items c x b z result is items =
 
 -- ---- the item of a literal in an operation
 
-pub literal-record : (op : BinaryOperation) (d : Descr) (l : Literal) (e : Refusal) → scalar_of d ≡ Err e → worked_literal op d l ≡ Err e
+pub literal-record : (op : BinOp) (d : Descr) (l : Literal) (e : Refusal) → scalar_of d ≡ Err e → worked_literal op d l ≡ Err e
 unfolding worked_literal
 literal-record op d l e bad = rw bad refl
 
-pub literal-other : (op : BinaryOperation) (d : Descr) (l : Literal) (s : Scalar) (e : Refusal) → scalar_of d ≡ Ok s → literal_scalar s l ≡ Err e → worked_literal op d l ≡ Err e
+pub literal-other : (op : BinOp) (d : Descr) (l : Literal) (s : Scalar) (e : Refusal) → scalar_of d ≡ Ok s → literal_scalar s l ≡ Err e → worked_literal op d l ≡ Err e
 unfolding worked_literal
 literal-other op d l s e is bad = rw (is, bad) refl
 
-pub literal-type : (op : BinaryOperation) (d : Descr) (l : Literal) (s own : Scalar) (e : Refusal) → scalar_of d ≡ Ok s → literal_scalar s l ≡ Ok own → promote op s own ≡ Err e → worked_literal op d l ≡ Err e
+pub literal-type : (op : BinOp) (d : Descr) (l : Literal) (s own : Scalar) (e : Refusal) → scalar_of d ≡ Ok s → literal_scalar s l ≡ Ok own → promote op s own ≡ Err e → worked_literal op d l ≡ Err e
 unfolding worked_literal
 literal-type op d l s own e is good bad = rw (is, good, bad) refl
 
-pub literal-range : (op : BinaryOperation) (d : Descr) (l : Literal) (s own to : Scalar) (e : Refusal) → scalar_of d ≡ Ok s → literal_scalar s l ≡ Ok own → promote op s own ≡ Ok to → item_value (ScalarDescr own) l ≡ Err e → worked_literal op d l ≡ Err e
+pub literal-range : (op : BinOp) (d : Descr) (l : Literal) (s own to : Scalar) (e : Refusal) → scalar_of d ≡ Ok s → literal_scalar s l ≡ Ok own → promote op s own ≡ Ok to → item_value (ScalarDescr own) l ≡ Err e → worked_literal op d l ≡ Err e
 unfolding worked_literal
 literal-range op d l s own to e is good typed bad = rw (is, good, typed, bad) refl
 
-pub literal-done : (op : BinaryOperation) (d : Descr) (l : Literal) (s own to : Scalar) (item : List LeafValue) → scalar_of d ≡ Ok s → literal_scalar s l ≡ Ok own → promote op s own ≡ Ok to → item_value (ScalarDescr own) l ≡ Ok item → worked_literal op d l ≡ Ok (one_item (ScalarDescr own) item)
+pub literal-done : (op : BinOp) (d : Descr) (l : Literal) (s own to : Scalar) (item : List LeafValue) → scalar_of d ≡ Ok s → literal_scalar s l ≡ Ok own → promote op s own ≡ Ok to → item_value (ScalarDescr own) l ≡ Ok item → worked_literal op d l ≡ Ok (one_item (ScalarDescr own) item)
 unfolding worked_literal
 literal-done op d l s own to item is good typed there = rw (is, good, typed, there) refl
 
 -- the one item of a block stands for the literal
-pub single-gives : (op : BinaryOperation) (d : Descr) (l : Literal) (s own to : Scalar) (result : Result Owned Refusal) → scalar_of d ≡ Ok s → literal_scalar s l ≡ Ok own → promote op s own ≡ Ok to → IfOk result (λ o. o.descr ≡ ScalarDescr own) → IfOk result (λ o. o.layout.shape ≡ []) →
+pub single-gives : (op : BinOp) (d : Descr) (l : Literal) (s own to : Scalar) (result : Result Owned Refusal) → scalar_of d ≡ Ok s → literal_scalar s l ≡ Ok own → promote op s own ≡ Ok to → IfOk result (λ o. o.descr ≡ ScalarDescr own) → IfOk result (λ o. o.layout.shape ≡ []) →
     IfOk result (λ o. offsets o.layout ≡ 0 ∷ []) → Gives (λ o. item_from o.descr o.block 0) result (item_value (ScalarDescr own) l) → GivesStanding result (worked_literal op d l)
 single-gives op d l s own to (Ok o) is good kind typed shaped laid item =
     subst (GivesStanding (Ok o)) (sym (literal-done op d l s own to (item_from o.descr o.block 0) is good kind item))
@@ -229,7 +230,7 @@ then-each : {X Y : Type 0} (P : Y → Type 0) (r : Result X Refusal) (f : X → 
 then-each P (Ok x) f all = all x
 then-each P (Err e) f all = tt
 
-worked-axes : (op : BinaryOperation) (d : Descr) (l : Literal) → IfOk (worked_literal op d l) (λ w. w.shape ≡ [])
+worked-axes : (op : BinOp) (d : Descr) (l : Literal) → IfOk (worked_literal op d l) (λ w. w.shape ≡ [])
 unfolding worked_literal
 worked-axes op d l =
     then-each (λ (w : Values). w.shape ≡ []) (scalar_of d) _ (λ s. then-each (λ (w : Values). w.shape ≡ []) (literal_scalar s l) _ (λ own. then-each (λ (w : Values). w.shape ≡ []) (promote op s own) _ (λ to. then-each (λ (w : Values). w.shape ≡ []) (item_value (ScalarDescr own) l) _ (λ item. refl))))

@@ -19,7 +19,7 @@ use Rattle.shape_strides.specs.LayoutLaws.{length-offsets}
 use Rattle.shape_strides.specs.Layouts.{offsets}
 use Rattle.view_ops.specs.Slices.{from_front}
 use Rattle.overlap_copy.specs.declared.owned.Owned.{Owned}
-use Rattle.script_lang.specs.declared.operation.Reduction.{Reduction}
+use Rattle.machine_numbers.specs.declared.operators.Red.{Red}
 use Rattle.reductions.specs.Lists.{lists, named_axis, is_axis}
 use Rattle.reductions.specs.ListLaws.{IsIndex-insert}
 use Rattle.reductions.specs.Outcomes as reductions
@@ -83,7 +83,7 @@ check-true : {X : Type 0} (b : Bool) (e : Refusal) (rest : Result X Refusal) (y 
 check-true true e rest y is = refl
 check-true false e rest y is = absurd (false≢true (ap is_ok is))
 
-axis-passed : (reduction : Reduction) (descr : Descr) (shape : List ℕ) (named : Option ℤ) (keep : Bool) (there : reductions.Outcome) → reductions.outcome reduction descr shape named keep ≡ Ok there → is_axis (length shape) named ≡ true
+axis-passed : (reduction : Red) (descr : Descr) (shape : List ℕ) (named : Option ℤ) (keep : Bool) (there : reductions.Outcome) → reductions.outcome reduction descr shape named keep ≡ Ok there → is_axis (length shape) named ≡ true
 unfolding reductions.outcome
 axis-passed reduction descr shape named keep there is =
     let rest = then-ok (number_scalar descr) _ there is in
@@ -99,17 +99,17 @@ is-axis rank (Some axis) is = place-low rank (from_front rank axis) is
 
 -- ---- what is reduced
 
-reduced-bad : (s : State) (reduction : Reduction) (source : List ℕ) (a : Array) (axis : Option ℤ) (keep : Bool) (e : Refusal) → find_array s.names source ≡ Some a → reductions.outcome reduction (descr_of s a) a.shape axis keep ≡ Err e →
+reduced-bad : (s : State) (reduction : Red) (source : List ℕ) (a : Array) (axis : Option ℤ) (keep : Bool) (e : Refusal) → find_array s.names source ≡ Some a → reductions.outcome reduction (descr_of s a) a.shape axis keep ≡ Err e →
     reduced s reduction source axis keep ≡ Err e
 unfolding reduced
 reduced-bad s reduction source a axis keep e found bad = rw (found, bad) refl
 
-reduced-done : (s : State) (reduction : Reduction) (source : List ℕ) (a : Array) (axis : Option ℤ) (keep : Bool) (there : reductions.Outcome) → find_array s.names source ≡ Some a → reductions.outcome reduction (descr_of s a) a.shape axis keep ≡ Ok there →
+reduced-done : (s : State) (reduction : Red) (source : List ℕ) (a : Array) (axis : Option ℤ) (keep : Bool) (there : reductions.Outcome) → find_array s.names source ≡ Some a → reductions.outcome reduction (descr_of s a) a.shape axis keep ≡ Ok there →
     reduced s reduction source axis keep ≡ Ok (made there.descr there.shape (map (λ places. reduced_item reduction there.descr (read s (record a { places = places }))) (lists a.shape (named_axis (length a.shape) axis) a.places)))
 unfolding reduced
 reduced-done s reduction source a axis keep there found good = rw (found, good) refl
 
-pub reduced-gives : (s : State) (reduction : Reduction) (source : List ℕ) (a : Array) (r : ArrayRef) (axis : Option ℤ) (keep : Bool) (result : Result Owned Refusal) → find_array s.names source ≡ Some a → Shows s a r →
+pub reduced-gives : (s : State) (reduction : Red) (source : List ℕ) (a : Array) (r : ArrayRef) (axis : Option ℤ) (keep : Bool) (result : Result Owned Refusal) → find_array s.names source ≡ Some a → Shows s a r →
     Gives outcome_of result (reductions.outcome reduction r.descr.now r.layout.now.shape axis keep) → IfOk result IsInCOrder →
     IfOk result (λ o. map (item_from o.descr o.block) (offsets o.layout) ≡ reduced_items reduction o.descr r.descr.now r.block.now (lists r.layout.now.shape (named_axis (length r.layout.now.shape) axis) (offsets r.layout.now))) → Gives held result (reduced s reduction source axis keep)
 reduced-gives s reduction source a r axis keep (Err e) found shows (inl lacks) order items = inl lacks

@@ -18,8 +18,8 @@ use Rattle.elementwise.specs.Results.{scalar_of, binary_result, compared_result,
 use Rattle.overlap_copy.specs.declared.items.Items.{Items}
 use Rattle.overlap_copy.specs.declared.owned.Owned.{Owned}
 use Rattle.overlap_copy.specs.Blocks.{offsets_in}
-use Rattle.script_lang.specs.declared.operation.BinaryOperation.{BinaryOperation}
-use Rattle.script_lang.specs.declared.operation.Comparison.{Comparison}
+use Rattle.machine_numbers.specs.declared.operators.BinOp.{BinOp}
+use Rattle.machine_numbers.specs.declared.operators.Comparison.{Comparison}
 use Rattle.script_lang.specs.declared.operation.Operation.{Operation}
 use Rattle.script_lang.specs.declared.operation.Operation.TheVariants.{Binary, Compare}
 use Rattle.bench_engine.specs.Contents.{made}
@@ -40,7 +40,7 @@ each-chained : {X Y : Type 0} (x : Result X Refusal) (f g : X → Result Y Refus
 each-chained (Ok a) f g same = same a
 each-chained (Err e) f g same = refl
 
-binary-is : (op : BinaryOperation) (d d' : Descr) (t u : List ℕ) → binary_result op d t d' u ≡ typed_in (result_scalar (Binary op) d d') (common_shape (t ∷ u ∷ []))
+binary-is : (op : BinOp) (d d' : Descr) (t u : List ℕ) → binary_result op d t d' u ≡ typed_in (result_scalar (Binary op) d d') (common_shape (t ∷ u ∷ []))
 unfolding binary_result result_scalar
 binary-is op d d' t u = sym (
     chained (scalar_of d) (λ from. scalar_of d' >>= (λ other. promote op from other)) (λ s. common_shape (t ∷ u ∷ []) >>= (λ l. Ok (ScalarDescr s, l)))
@@ -133,7 +133,7 @@ module _ (op : Operation) (v w : Values) (x y : Items) (sv : Stands v x) (sw : S
   worked-gives (Err e) (inl lacks) order items = inl lacks
   worked-gives (Err e) (inr bad) order items = inr (worked-refused e bad)
 
-pub binary-gives : (op : BinaryOperation) (v w : Values) (x y : Items) (result : Result Owned Refusal) → Stands v x → Stands w y → Gives (λ o. (o.descr, o.layout.shape)) result (binary_result op x.descr.now x.layout.now.shape y.descr.now y.layout.now.shape) → IfOk result IsInCOrder →
+pub binary-gives : (op : BinOp) (v w : Values) (x y : Items) (result : Result Owned Refusal) → Stands v x → Stands w y → Gives (λ o. (o.descr, o.layout.shape)) result (binary_result op x.descr.now x.layout.now.shape y.descr.now y.layout.now.shape) → IfOk result IsInCOrder →
     IfOk result (λ o. map (item_from o.descr o.block) (offsets o.layout) ≡ pairwise (binary_item op o.descr) (stretched_items x.descr.now x.block.now x.layout.now o.layout.shape) (stretched_items y.descr.now y.block.now y.layout.now o.layout.shape)) → Gives held result (worked (Binary op) v w)
 binary-gives op v w x y (Ok o) sv sw is order items =
     worked-gives (Binary op) v w x y sv sw (Ok o) (sym (binary-is op x.descr.now y.descr.now x.layout.now.shape y.layout.now.shape) ∙ is) order

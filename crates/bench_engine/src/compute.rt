@@ -11,8 +11,9 @@ use crate::create::bind_new;
 use crate::operand::{has_bound, is_bound};
 use crate::replies::Origin;
 use elem_descr::Refusal;
+use machine_numbers::{Red, UnOp};
 use name_store::Bench;
-use script_lang::{Argument, Name, Operand, Operation, Reduction, UnaryOperation};
+use script_lang::{Argument, Name, Operand, Operation};
 use std::alloc::Global;
 
 /// Binds a name to what an operation gives on an operand and an argument.
@@ -48,7 +49,7 @@ pub fn transform(
     alloc: Global,
     bench: &mut Bench,
     name: &Name,
-    operation: UnaryOperation,
+    operation: UnOp,
     operand: &Operand,
     out: &mut Vec<u8>,
 ) -> Result<(), Refusal>
@@ -72,7 +73,7 @@ pub fn reduce(
     alloc: Global,
     bench: &mut Bench,
     name: &Name,
-    reduction: Reduction,
+    reduction: Red,
     source: &Name,
     axis: Option<i128>,
     keep: bool,

@@ -13,9 +13,10 @@ use crate::operand::{items_taken, operand_items};
 use crate::work::work_argument;
 use elem_descr::Refusal;
 use elementwise::apply1;
+use machine_numbers::{Red, UnOp};
 use name_store::{ArrayRef, Bench};
-use overlap_copy::Owned;
-use script_lang::{Argument, Operand, Operation, Reduction, UnaryOperation};
+use overlap_copy::{Items, Owned};
+use script_lang::{Argument, Operand, Operation};
 use std::alloc::Global;
 
 /// What an operation gives on an operand and an argument.
@@ -40,7 +41,7 @@ pub fn combined(
 pub fn transformed(
     alloc: Global,
     bench: &Bench,
-    operation: UnaryOperation,
+    operation: UnOp,
     operand: &Operand,
 ) -> Result<Owned, Refusal>
     requires bound { list_all (is_bound bench.now) (names_in_operand operand.now) ≡ true }
@@ -55,7 +56,7 @@ pub fn transformed(
 pub fn reduced(
     alloc: Global,
     array: &ArrayRef<'_>,
-    reduction: Reduction,
+    reduction: Red,
     axis: Option<i128>,
     keep: bool,
 ) -> Result<Owned, Refusal>
@@ -63,13 +64,10 @@ pub fn reduced(
     ensures { (s : State) (source : List ℕ) (a : Array) → find_array s.names source ≡ Some a → Shows s a array.now
         → Gives held result (reduced s reduction source axis keep) }
 {
-    reductions::reduce(
-        alloc,
-        reduction,
-        array.block,
-        array.layout,
-        array.descr,
-        axis,
-        keep,
-    )
+    let items = Items {
+        block: array.block,
+        layout: array.layout,
+        descr: array.descr,
+    };
+    reductions::reduce(alloc, reduction, items, axis, keep)
 }

@@ -26,11 +26,10 @@ use elementwise::{
     Items, apply2, compare, compare_bytes, compare_integer, compared_type, literal_type, promote,
     scalar_of,
 };
+use machine_numbers::{BinOp, Comparison};
 use name_store::Bench;
 use overlap_copy::Owned;
-use script_lang::{
-    Argument, BinaryOperation, Comparison, Literal, Operand, Operation, ScalarLiteral,
-};
+use script_lang::{Argument, Literal, Operand, Operation, ScalarLiteral};
 use shape_strides::{MemoryOrder, Shape};
 use std::alloc::Global;
 
@@ -109,7 +108,7 @@ fn literal_scalar(beside: &Scalar, literal: &Literal) -> Result<Scalar, Refusal>
 }
 
 /// The type of what an operation gives on items of a scalar and a literal of another.
-fn promoted(op: BinaryOperation, beside: &Scalar, scalar: &Scalar) -> Result<Scalar, Refusal>
+fn promoted(op: BinOp, beside: &Scalar, scalar: &Scalar) -> Result<Scalar, Refusal>
     ensures { Answers (λ s. s) result (promote op beside.now scalar.now) }
 {
     promote(op, *beside, *scalar)
@@ -118,7 +117,7 @@ fn promoted(op: BinaryOperation, beside: &Scalar, scalar: &Scalar) -> Result<Sca
 /// The item that a literal is beside items of an element type.
 fn worked_literal(
     alloc: Global,
-    op: BinaryOperation,
+    op: BinOp,
     descr: &Descr,
     literal: &Literal,
 ) -> Result<Owned, Refusal>

@@ -12,10 +12,10 @@ use Rattle.elem_descr.specs.Encoding.{IsNumber, wrap, number_of}
 use Rattle.elem_descr.specs.Blocks.{item_from}
 use Rattle.shape_strides.specs.declared.layout.Layout.{Layout}
 use Rattle.shape_strides.specs.Layouts.{offsets}
-use Rattle.script_lang.specs.declared.operation.BinaryOperation.{BinaryOperation}
-use Rattle.script_lang.specs.declared.operation.UnaryOperation.{UnaryOperation}
+use Rattle.machine_numbers.specs.declared.operators.BinOp.{BinOp}
+use Rattle.machine_numbers.specs.declared.operators.UnOp.{UnOp}
 use Rattle.elementwise.specs.Casts.{can_cast, cast_item}
-use Rattle.elementwise.specs.Promotion.{little}
+use Rattle.machine_numbers.specs.Kinds.{little}
 use Rattle.elementwise.specs.Operations.{binary, unary}
 use Rattle.elementwise.specs.Results.{value_in, number_as, binary_item, unary_item, pairwise, stretched_items}
 use Rattle.elementwise.proofs.StretchedLaws.{stretched-self}
@@ -33,7 +33,7 @@ cast_as : (d : Descr) (s : Scalar) (item : List LeafValue) → IsNumber s → ca
 cast_as (ScalarDescr from) s item is can = ap number_of (cast_number s (value_in item) is) ∙ wrap-little s (number_of (value_in item))
 cast_as (RecordDescr structure) s item is can = absurd (false≢true can)
 
-pub combined : (op : BinaryOperation) (s : Scalar) (d d' : Descr) (xs ys : List (List LeafValue)) → IsNumber s → can_cast d (ScalarDescr s) ≡ true → can_cast d' (ScalarDescr s) ≡ true →
+pub combined : (op : BinOp) (s : Scalar) (d d' : Descr) (xs ys : List (List LeafValue)) → IsNumber s → can_cast d (ScalarDescr s) ≡ true → can_cast d' (ScalarDescr s) ≡ true →
     pairwise (λ x y. number (binary op (little s) (number_of (value_in (cast_item d (ScalarDescr s) x))) (number_of (value_in (cast_item d' (ScalarDescr s) y)))) ∷ []) xs ys ≡ pairwise (binary_item op (ScalarDescr (little s))) xs ys
 combined op s d d' xs ys is can can' = λ i. pairwise (λ x y. number (binary op (little s) (cast_as d s x is can i) (cast_as d' s y is can' i)) ∷ []) xs ys
 
@@ -41,7 +41,7 @@ pub pairwise-same : {A B : Type 0} (f : A → A → B) (xs : List A) → pairwis
 pairwise-same f [] = refl
 pairwise-same f (x ∷ xs) = ap (λ rest. f x x ∷ rest) (pairwise-same f xs)
 
-pub changed : (op : UnaryOperation) (s : Scalar) (d : Descr) (l : Layout) (block : List ℕ) → IsNumber s → can_cast d (ScalarDescr s) ≡ true →
+pub changed : (op : UnOp) (s : Scalar) (d : Descr) (l : Layout) (block : List ℕ) → IsNumber s → can_cast d (ScalarDescr s) ≡ true →
     pairwise (λ x y. number (unary op (little s) (number_of (value_in (cast_item d (ScalarDescr s) y)))) ∷ []) (stretched_items d block l l.shape) (stretched_items d block l l.shape) ≡ map (λ offset. unary_item op (ScalarDescr (little s)) (item_from d block offset)) (offsets l)
 changed op s d l block is can =
     let seen = stretched_items d block l l.shape in

@@ -19,8 +19,8 @@ use Rattle.shape_strides.specs.Indexes.{count}
 use Rattle.shape_strides.specs.Layouts.{offsets, multiples}
 use Rattle.shape_strides.specs.LayoutLaws.{length-offsets}
 use Rattle.overlap_copy.specs.declared.owned.Owned.{Owned}
-use Rattle.script_lang.specs.declared.operation.Comparison.{Comparison}
-use Rattle.elementwise.specs.Promotion.{is_text}
+use Rattle.machine_numbers.specs.declared.operators.Comparison.{Comparison}
+use Rattle.machine_numbers.specs.Kinds.{is_text}
 use Rattle.elementwise.specs.Comparisons.{compared}
 use Rattle.elementwise.specs.Results.{scalar_of, bytes_compared_result, compared_item, truth_item, value_in}
 use Rattle.elementwise.specs.inside.ByteStrings.{says_byte}

@@ -20,7 +20,7 @@ use Rattle.shape_strides.specs.Layouts.{offsets, multiples}
 use Rattle.overlap_copy.specs.Blocks.{offsets_in}
 use Rattle.overlap_copy.specs.declared.owned.Owned.{Owned}
 use Rattle.elementwise.specs.Casts.{can_cast, cast_item}
-use Rattle.elementwise.specs.Promotion.{is_text}
+use Rattle.machine_numbers.specs.Kinds.{is_text}
 use Rattle.elementwise.specs.Results.{pairwise, value_in, stretched_items}
 use Rattle.elementwise.specs.inside.PairPasses.{number_pair}
 use Rattle.elementwise.specs.inside.Made.{IsMade}

@@ -19,9 +19,9 @@ use Rattle.shape_strides.specs.declared.layout.Layout.{Layout}
 use Rattle.shape_strides.specs.Layouts.{offsets}
 use Rattle.view_ops.specs.Views.{view_through}
 use Rattle.broadcasting.specs.Broadcasts.{broadcast_index}
-use Rattle.script_lang.specs.declared.operation.Comparison.{Comparison}
+use Rattle.machine_numbers.specs.declared.operators.Comparison.{Comparison}
 use Rattle.elementwise.specs.Casts.{cast_item}
-use Rattle.elementwise.specs.Promotion.{is_signed, is_text, little}
+use Rattle.machine_numbers.specs.Kinds.{is_signed, is_text, little}
 use Rattle.elementwise.specs.Comparisons.{compared}
 use Rattle.elementwise.specs.Results.{value_in, compared_item, stretched_items, pairwise}
 use Rattle.elementwise.specs.inside.PairPasses.{compared_value, Holds, AreHeld}

@@ -23,13 +23,13 @@ use Rattle.shape_strides.specs.Layouts.{offsets, multiples}
 use Rattle.shape_strides.specs.LayoutLaws.{length-offsets}
 use Rattle.broadcasting.specs.Broadcasts.{all_stretch, can_stretch, broadcast_index}
 use Rattle.overlap_copy.specs.declared.owned.Owned.{Owned}
-use Rattle.script_lang.specs.declared.operation.Comparison.{Comparison}
+use Rattle.machine_numbers.specs.declared.operators.Comparison.{Comparison}
 use Rattle.elem_descr.specs.declared.scalar.Scalar.{Scalar}
 use Rattle.elem_descr.specs.declared.scalar.Scalar.TheVariants.{Bool as BoolScalar, Byte, Int, Bytes}
 use Rattle.elem_descr.specs.declared.scalar.Width.TheVariants.{Two, Four, Eight}
 use Rattle.elem_descr.specs.Encoding.{IsNumber, IsValueOf, FitsBytes, size, width_size, wrap, number_of, decode}
 use Rattle.elem_descr.specs.NumberLaws.{wrap_stays}
-use Rattle.elementwise.specs.Promotion.{is_text, little}
+use Rattle.machine_numbers.specs.Kinds.{is_text, little}
 use Rattle.elementwise.specs.Comparisons.{says, compared}
 use Rattle.elementwise.specs.Results.{scalar_of, integer_compared_result, compared_item, truth_item, stretched_items, pairwise}
 use Rattle.elementwise.specs.inside.Made.{IsMade}

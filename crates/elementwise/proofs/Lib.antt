@@ -1,5 +1,4 @@
 pub mod FieldLaws
-pub mod ByteLaws
 pub mod NulLaws
 pub mod LeafLaws
 pub mod PassLaws

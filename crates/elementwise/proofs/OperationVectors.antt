@@ -5,16 +5,16 @@ use Rattle.elem_descr.specs.declared.scalar.Width.TheVariants.{Four, Eight}
 use Rattle.elem_descr.specs.declared.scalar.Scalar.{Scalar}
 use Rattle.elem_descr.specs.declared.scalar.Scalar.TheVariants.{Bool as BoolScalar, Byte, Int}
 use Rattle.elem_descr.specs.Values.{LeafValue, number, text}
-use Rattle.script_lang.specs.declared.operation.BinaryOperation.{BinaryOperation}
-use Rattle.script_lang.specs.declared.operation.BinaryOperation.TheVariants.{Add, Subtract, Multiply, FloorDivide, Modulo, And, Or, Xor, ShiftLeft, ShiftRight}
-use Rattle.script_lang.specs.declared.operation.UnaryOperation.TheVariants.{Negate, Invert}
-use Rattle.script_lang.specs.declared.operation.Comparison.{Comparison}
-use Rattle.script_lang.specs.declared.operation.Comparison.TheVariants.{Equal, NotEqual, Less, LessOrEqual, Greater, GreaterOrEqual}
+use Rattle.machine_numbers.specs.declared.operators.BinOp.{BinOp}
+use Rattle.machine_numbers.specs.declared.operators.BinOp.TheVariants.{Add, Subtract, Multiply, FloorDivide, Modulo, And, Or, Xor, ShiftLeft, ShiftRight}
+use Rattle.machine_numbers.specs.declared.operators.UnOp.TheVariants.{Negate, Invert}
+use Rattle.machine_numbers.specs.declared.operators.Comparison.{Comparison}
+use Rattle.machine_numbers.specs.declared.operators.Comparison.TheVariants.{Equal, NotEqual, Less, LessOrEqual, Greater, GreaterOrEqual}
 use Rattle.elementwise.specs.Operations.{binary, unary}
 use Rattle.elementwise.specs.Comparisons.{compared}
 
 -- each number of the first list with each of the second
-abbrev table : BinaryOperation → Scalar → List ℤ → List ℤ → List (List ℤ)
+abbrev table : BinOp → Scalar → List ℤ → List ℤ → List (List ℤ)
 table op scalar xs ys = map (λ x. map (λ y. binary op scalar x y) ys) xs
 
 abbrev signed : List ℤ

@@ -15,11 +15,12 @@ use Rattle.elem_descr.specs.Refusals.{◌>>=◌, check}
 use Rattle.elem_descr.specs.RefusalLaws.{same_answer, check_passed}
 use Rattle.elem_descr.specs.Encoding.{IsNumber, size}
 use Rattle.broadcasting.specs.Broadcasts.{common_shape}
-use Rattle.script_lang.specs.declared.operation.BinaryOperation.{BinaryOperation}
-use Rattle.script_lang.specs.declared.operation.UnaryOperation.{UnaryOperation}
-use Rattle.script_lang.specs.declared.operation.UnaryOperation.TheVariants.{Negate, Invert}
+use Rattle.machine_numbers.specs.declared.operators.BinOp.{BinOp}
+use Rattle.machine_numbers.specs.declared.operators.UnOp.{UnOp}
+use Rattle.machine_numbers.specs.declared.operators.UnOp.TheVariants.{Negate, Invert}
 use Rattle.elementwise.specs.Casts.{can_cast}
-use Rattle.elementwise.specs.Promotion.{is_bool, is_text, is_signed, integer_type, little, mixed_type, common_integers, common_type, serves_bools, is_division, promote, serves_one, promote_one}
+use Rattle.machine_numbers.specs.Kinds.{is_bool, is_text, is_signed, little}
+use Rattle.elementwise.specs.Promotion.{integer_type, mixed_type, common_integers, common_type, serves_bools, is_division, promote, serves_one, promote_one}
 use Rattle.elementwise.specs.Results.{scalar_of, binary_result, unary_result}
 use Rattle.elementwise.specs.inside.PairPasses.{IsNative}
 
@@ -82,13 +83,13 @@ neither false b is = (refl, is)
 neither true b is = absurd (false≢true (sym is))
 
 -- a promoted type
-pub record IsPromoted (op : BinaryOperation) (l r s : Scalar) : Type 0 where
+pub record IsPromoted (op : BinOp) (l r s : Scalar) : Type 0 where
   pub native : IsNative s
   pub no_division : is_division op ≡ false
   pub left : is_text l ≡ false
   pub right : is_text r ≡ false
 
-pub promoted : (op : BinaryOperation) (l r s : Scalar) → promote op l r ≡ Ok s → IsPromoted op l r s
+pub promoted : (op : BinOp) (l r s : Scalar) → promote op l r ≡ Ok s → IsPromoted op l r s
 unfolding promote
 promoted op l r s found =
     let texts = not (is_text l || is_text r) in
@@ -136,7 +137,7 @@ is_scalar (RecordDescr r) s found = absurd (false≢true (ap is_ok found))
 
 -- ---- results
 
-module _ (op : BinaryOperation) (l : Descr) (shape : List ℕ) (r : Descr) (other : List ℕ) where
+module _ (op : BinOp) (l : Descr) (shape : List ℕ) (r : Descr) (other : List ℕ) where
   pub left_refused : (e : Refusal) → scalar_of l ≡ Err e → binary_result op l shape r other ≡ Err e
   unfolding binary_result
   left_refused e is = rw is refl
@@ -159,17 +160,17 @@ module _ (op : BinaryOperation) (l : Descr) (shape : List ℕ) (r : Descr) (othe
 
 -- ---- of one operand
 
-serves-number : (op : UnaryOperation) (s : Scalar) → serves_one op s ≡ true → is_text s ≡ false
+serves-number : (op : UnOp) (s : Scalar) → serves_one op s ≡ true → is_text s ≡ false
 serves-number Negate s is = not-true (is_text s) (and_parts (not (is_text s)) (not (is_bool s)) is).0
 serves-number Invert s is = not-true (is_text s) is
 
-pub promoted_one : (op : UnaryOperation) (a s : Scalar) → promote_one op a ≡ Ok s → IsNative s × (is_text a ≡ false)
+pub promoted_one : (op : UnOp) (a s : Scalar) → promote_one op a ≡ Ok s → IsNative s × (is_text a ≡ false)
 unfolding promote_one
 promoted_one op a s found =
     let is = serves-number op a (check_test (serves_one op a) NotForThisKind (Ok (little a)) s found) in
     (subst IsNative (same_answer (little a) s (check_passed (serves_one op a) NotForThisKind (Ok (little a)) s found)) (little-native a is), is)
 
-module _ (op : UnaryOperation) (d : Descr) (shape : List ℕ) where
+module _ (op : UnOp) (d : Descr) (shape : List ℕ) where
   pub operand_refused : (e : Refusal) → scalar_of d ≡ Err e → unary_result op d shape ≡ Err e
   unfolding unary_result
   operand_refused e is = rw is refl

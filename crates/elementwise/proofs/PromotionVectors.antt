@@ -6,9 +6,9 @@ use Rattle.elem_descr.specs.declared.scalar.Order.TheVariants.{Little, Big}
 use Rattle.elem_descr.specs.declared.scalar.Width.TheVariants.{Two, Four, Eight}
 use Rattle.elem_descr.specs.declared.scalar.Scalar.{Scalar}
 use Rattle.elem_descr.specs.declared.scalar.Scalar.TheVariants.{Bool as BoolScalar, Byte, Int, Bytes}
-use Rattle.script_lang.specs.declared.operation.BinaryOperation.{BinaryOperation}
-use Rattle.script_lang.specs.declared.operation.BinaryOperation.TheVariants.{Add, Subtract, Multiply, FloorDivide, Modulo, And, Or, Xor, ShiftLeft, ShiftRight, Divide}
-use Rattle.script_lang.specs.declared.operation.UnaryOperation.TheVariants.{Negate, Invert}
+use Rattle.machine_numbers.specs.declared.operators.BinOp.{BinOp}
+use Rattle.machine_numbers.specs.declared.operators.BinOp.TheVariants.{Add, Subtract, Multiply, FloorDivide, Modulo, And, Or, Xor, ShiftLeft, ShiftRight, Divide}
+use Rattle.machine_numbers.specs.declared.operators.UnOp.TheVariants.{Negate, Invert}
 use Rattle.elementwise.specs.Promotion.{promote, compared_type, literal_type, promote_one, same_kind}
 
 abbrev b1 : Scalar
@@ -44,7 +44,7 @@ s3 = Bytes 3
 abbrev types : List Scalar
 types = b1 ∷ i1 ∷ u1 ∷ i2 ∷ u2 ∷ i4 ∷ u4 ∷ i8 ∷ u8 ∷ []
 
-abbrev row : BinaryOperation → Scalar → List (Result Scalar Refusal)
+abbrev row : BinOp → Scalar → List (Result Scalar Refusal)
 row op left = map (λ right. promote op left right) types
 
 -- np.promote_types of every pair, where it is not a float
@@ -87,7 +87,7 @@ u8_row = refl
 
 -- of two bools
 
-abbrev words : List BinaryOperation
+abbrev words : List BinOp
 words = Add ∷ Subtract ∷ Multiply ∷ FloorDivide ∷ Modulo ∷ And ∷ Or ∷ Xor ∷ ShiftLeft ∷ ShiftRight ∷ Divide ∷ []
 
 of_bools : map (λ op. promote op b1 b1) words ≡ Ok b1 ∷ Err NotForThisKind ∷ Ok b1 ∷ Err NotForThisKind ∷ Err NotForThisKind ∷ Ok b1 ∷ Ok b1 ∷ Ok b1 ∷ Err NotForThisKind ∷ Err NotForThisKind ∷ Err NeedsFloats ∷ []

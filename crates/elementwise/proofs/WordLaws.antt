@@ -13,11 +13,11 @@ use Rattle.elem_descr.specs.declared.scalar.Scalar.TheVariants.{Bool as BoolScal
 use Rattle.elem_descr.specs.Encoding.{IsNumber, width_size, integer, low_bits, wrap, truth}
 use Rattle.elem_descr.specs.EncodingLaws.{low_bits-integer, truth_suc}
 use Rattle.elem_descr.specs.WrapLaws.{integer-differs}
-use Rattle.script_lang.specs.declared.operation.BinaryOperation.{BinaryOperation}
-use Rattle.script_lang.specs.declared.operation.BinaryOperation.TheVariants.{Add, Subtract, Multiply, FloorDivide, Modulo, And, Or, Xor, ShiftLeft, ShiftRight, Divide}
-use Rattle.elementwise.specs.Promotion.{is_bool}
+use Rattle.machine_numbers.specs.declared.operators.BinOp.{BinOp}
+use Rattle.machine_numbers.specs.declared.operators.BinOp.TheVariants.{Add, Subtract, Multiply, FloorDivide, Modulo, And, Or, Xor, ShiftLeft, ShiftRight, Divide}
+use Rattle.machine_numbers.specs.Kinds.{is_bool}
 use Rattle.elementwise.specs.Operations.{exact, binary, of_bits}
-use Rattle.elementwise.specs.Bits.{AreBits}
+use Rattle.machine_numbers.specs.Bits.{AreBits}
 
 -- bits are those of the number that they are
 pub are_bits : (r : ℕ) → r < 2 ^ 64 → AreBits r (pos r)
@@ -70,10 +70,10 @@ abbrev pub IsTruth : ℤ → Type 0
 IsTruth z = (z ≡ pos 0) ⊎ (z ≡ pos 1)
 
 -- operations of two bools give small numbers
-abbrev few : BinaryOperation → ℤ → ℤ → Bool
+abbrev few : BinOp → ℤ → ℤ → Bool
 few op a b = nat_lt (unsigned_abs (exact op BoolScalar a b)) 3
 
-all_few : (op : BinaryOperation) → (few op (pos 0) (pos 0) ≡ true) × (few op (pos 0) (pos 1) ≡ true) × (few op (pos 1) (pos 0) ≡ true) × (few op (pos 1) (pos 1) ≡ true)
+all_few : (op : BinOp) → (few op (pos 0) (pos 0) ≡ true) × (few op (pos 0) (pos 1) ≡ true) × (few op (pos 1) (pos 0) ≡ true) × (few op (pos 1) (pos 1) ≡ true)
 all_few Add = (refl, refl, refl, refl)
 all_few Subtract = (refl, refl, refl, refl)
 all_few Multiply = (refl, refl, refl, refl)
@@ -86,20 +86,20 @@ all_few ShiftLeft = (refl, refl, refl, refl)
 all_few ShiftRight = (refl, refl, refl, refl)
 all_few Divide = (refl, refl, refl, refl)
 
-few-at : (op : BinaryOperation) (a b : ℤ) → IsTruth a → IsTruth b → few op a b ≡ true
+few-at : (op : BinOp) (a b : ℤ) → IsTruth a → IsTruth b → few op a b ≡ true
 few-at op a b (inl is) (inl is') = (λ i. few op (is i) (is' i)) ∙ (all_few op).0
 few-at op a b (inl is) (inr is') = (λ i. few op (is i) (is' i)) ∙ (all_few op).1
 few-at op a b (inr is) (inl is') = (λ i. few op (is i) (is' i)) ∙ (all_few op).2
 few-at op a b (inr is) (inr is') = (λ i. few op (is i) (is' i)) ∙ (all_few op).3
 
-applied_low : (op : BinaryOperation) (s : Scalar) (a b : ℤ) → IsNumber s → (is_bool s ≡ true → IsTruth a) → (is_bool s ≡ true → IsTruth b) → wrap s (pos (low_bits 8 (exact op s a b))) ≡ binary op s a b
+applied_low : (op : BinOp) (s : Scalar) (a b : ℤ) → IsNumber s → (is_bool s ≡ true → IsTruth a) → (is_bool s ≡ true → IsTruth b) → wrap s (pos (low_bits 8 (exact op s a b))) ≡ binary op s a b
 applied_low op BoolScalar a b is truth-a truth-b = ap pos (truth-low (exact op BoolScalar a b) (omega (arith, ltb-true (unsigned_abs (exact op BoolScalar a b)) 3 (few-at op a b (truth-a refl) (truth-b refl)))))
 applied_low op (Byte signed) a b is truth-a truth-b = wrap-low (Byte signed) (exact op (Byte signed) a b) is refl
 applied_low op (Int signed width order) a b is truth-a truth-b = wrap-low (Int signed width order) (exact op (Int signed width order) a b) is refl
 applied_low op (Bytes n) a b never truth-a truth-b = absurd never
 
 -- a number that has the lowest bits of a result
-pub applied : (op : BinaryOperation) (s : Scalar) (a b v : ℤ) (r : ℕ) → IsNumber s → (is_bool s ≡ true → IsTruth a) → (is_bool s ≡ true → IsTruth b) → v ≡ wrap s (pos r) → r ≡ low_bits 8 (exact op s a b) → v ≡ binary op s a b
+pub applied : (op : BinOp) (s : Scalar) (a b v : ℤ) (r : ℕ) → IsNumber s → (is_bool s ≡ true → IsTruth a) → (is_bool s ≡ true → IsTruth b) → v ≡ wrap s (pos r) → r ≡ low_bits 8 (exact op s a b) → v ≡ binary op s a b
 applied op s a b v r is truth-a truth-b made low = made ∙ ap (λ n. wrap s (pos n)) low ∙ applied_low op s a b is truth-a truth-b
 
 -- the same of one number that is not far from 0 where it is a bool

@@ -3,11 +3,11 @@ use Rattle.std.specs.Prelude.{ℕ, zero, suc, ◌*◌, ◌^◌, nat_lt, ℤ, pos
 use Rattle.std.specs.Int.{int_div_euclid}
 use Rattle.elem_descr.specs.declared.scalar.Scalar.{Scalar}
 use Rattle.elem_descr.specs.Encoding.{size, wrap, low_bits}
-use Rattle.script_lang.specs.declared.operation.BinaryOperation.{BinaryOperation}
-use Rattle.script_lang.specs.declared.operation.BinaryOperation.TheVariants.{Add, Subtract, Multiply, FloorDivide, Modulo, And, Or, Xor, ShiftLeft, ShiftRight, Divide}
-use Rattle.script_lang.specs.declared.operation.UnaryOperation.{UnaryOperation}
-use Rattle.script_lang.specs.declared.operation.UnaryOperation.TheVariants.{Negate, Invert}
-use Rattle.elementwise.specs.Promotion.{is_bool}
+use Rattle.machine_numbers.specs.declared.operators.BinOp.{BinOp}
+use Rattle.machine_numbers.specs.declared.operators.BinOp.TheVariants.{Add, Subtract, Multiply, FloorDivide, Modulo, And, Or, Xor, ShiftLeft, ShiftRight, Divide}
+use Rattle.machine_numbers.specs.declared.operators.UnOp.{UnOp}
+use Rattle.machine_numbers.specs.declared.operators.UnOp.TheVariants.{Negate, Invert}
+use Rattle.machine_numbers.specs.Kinds.{is_bool}
 
 -- ---- division
 
@@ -45,7 +45,7 @@ shifted_right bits a (negsuc b) = sign_bits a
 -- ---- all operations
 
 -- on two numbers of the scalar; of bools, as 0 and 1, a sum is not 0 where either is true; true division gives no number
-abbrev pub exact : BinaryOperation → Scalar → ℤ → ℤ → ℤ
+abbrev pub exact : BinOp → Scalar → ℤ → ℤ → ℤ
 exact Add scalar a b = a +ℤ b
 exact Subtract scalar a b = a -ℤ b
 exact Multiply scalar a b = a *ℤ b
@@ -58,10 +58,10 @@ exact ShiftLeft scalar a b = shifted_left (8 * size scalar) a b
 exact ShiftRight scalar a b = shifted_right (8 * size scalar) a b
 exact Divide scalar a b = pos 0
 
-abbrev pub binary : BinaryOperation → Scalar → ℤ → ℤ → ℤ
+abbrev pub binary : BinOp → Scalar → ℤ → ℤ → ℤ
 binary op scalar a b = wrap scalar (exact op scalar a b)
 
 -- on one number of the scalar: its distance from 0 the other way, and all its bits complemented; of a bool the other bool
-abbrev pub unary : UnaryOperation → Scalar → ℤ → ℤ
+abbrev pub unary : UnOp → Scalar → ℤ → ℤ
 unary Negate scalar a = wrap scalar (pos 0 -ℤ a)
 unary Invert scalar a = wrap scalar ((if is_bool scalar then pos 1 else negsuc 0) -ℤ a)

@@ -8,25 +8,13 @@ use Rattle.elem_descr.specs.declared.scalar.Scalar.{Scalar}
 use Rattle.elem_descr.specs.declared.scalar.Scalar.TheVariants.{Bool as BoolScalar, Byte, Int, Bytes}
 use Rattle.elem_descr.specs.Encoding.{size}
 use Rattle.elem_descr.specs.Refusals.{◌>>=◌, check}
-use Rattle.script_lang.specs.declared.operation.BinaryOperation.{BinaryOperation}
-use Rattle.script_lang.specs.declared.operation.BinaryOperation.TheVariants.{Subtract, FloorDivide, Modulo, ShiftLeft, ShiftRight, Divide}
-use Rattle.script_lang.specs.declared.operation.UnaryOperation.{UnaryOperation}
-use Rattle.script_lang.specs.declared.operation.UnaryOperation.TheVariants.{Negate, Invert}
+use Rattle.machine_numbers.specs.Kinds.{is_bool, is_text, is_signed, little}
+use Rattle.machine_numbers.specs.declared.operators.BinOp.{BinOp}
+use Rattle.machine_numbers.specs.declared.operators.BinOp.TheVariants.{Subtract, FloorDivide, Modulo, ShiftLeft, ShiftRight, Divide}
+use Rattle.machine_numbers.specs.declared.operators.UnOp.{UnOp}
+use Rattle.machine_numbers.specs.declared.operators.UnOp.TheVariants.{Negate, Invert}
 
 -- ---- kinds
-
-abbrev pub is_bool : Scalar → Bool
-is_bool BoolScalar = true
-is_bool _ = false
-
-abbrev pub is_text : Scalar → Bool
-is_text (Bytes n) = true
-is_text _ = false
-
-abbrev pub is_signed : Scalar → Bool
-is_signed (Byte signed) = signed
-is_signed (Int signed width order) = signed
-is_signed _ = false
 
 -- the kinds of numbers in their order: bools, integers without sign, integers with one
 abbrev pub rank_of_kind : Scalar → ℕ
@@ -45,11 +33,6 @@ integer_type signed bytes =
     else (if bytes == 2 then Int signed Two Little
     else (if bytes == 4 then Int signed Four Little
     else Int signed Eight Little))
-
--- a scalar in little-endian order
-abbrev pub little : Scalar → Scalar
-little (Int signed width order) = Int signed width Little
-little scalar = scalar
 
 -- the smallest integers with a sign that hold those of so many bytes without one, and those of so many with one
 abbrev pub mixed_type : ℕ → ℕ → Result Scalar Refusal
@@ -74,7 +57,7 @@ common_type left right =
 -- ---- the type of a result
 
 -- which operations there are of two bools
-abbrev pub serves_bools : BinaryOperation → Bool
+abbrev pub serves_bools : BinOp → Bool
 serves_bools Subtract = false
 serves_bools FloorDivide = false
 serves_bools Modulo = false
@@ -82,12 +65,12 @@ serves_bools ShiftLeft = false
 serves_bools ShiftRight = false
 serves_bools _ = true
 
-abbrev pub is_division : BinaryOperation → Bool
+abbrev pub is_division : BinOp → Bool
 is_division Divide = true
 is_division _ = false
 
 -- the type of what an operation gives on two scalars
-unfoldable pub promote : BinaryOperation → Scalar → Scalar → Result Scalar Refusal
+unfoldable pub promote : BinOp → Scalar → Scalar → Result Scalar Refusal
 promote op left right = do
   _ ← check (not (is_text left || is_text right)) NotForThisKind
   _ ← check (serves_bools op || not (is_bool left && is_bool right)) NotForThisKind
@@ -110,12 +93,12 @@ literal_type BoolScalar = Int true Eight Little
 literal_type scalar = little scalar
 
 -- which operations there are of one number
-abbrev pub serves_one : UnaryOperation → Scalar → Bool
+abbrev pub serves_one : UnOp → Scalar → Bool
 serves_one Negate scalar = not (is_text scalar) && not (is_bool scalar)
 serves_one Invert scalar = not (is_text scalar)
 
 -- the type of what an operation gives on one scalar
-unfoldable pub promote_one : UnaryOperation → Scalar → Result Scalar Refusal
+unfoldable pub promote_one : UnOp → Scalar → Result Scalar Refusal
 promote_one op scalar = do
   _ ← check (serves_one op scalar) NotForThisKind
   Ok (little scalar)

@@ -14,10 +14,11 @@ use Rattle.shape_strides.specs.declared.layout.Layout.{Layout}
 use Rattle.shape_strides.specs.Layouts.{offsets}
 use Rattle.view_ops.specs.Views.{view_through}
 use Rattle.broadcasting.specs.Broadcasts.{common_shape, broadcast_index}
-use Rattle.script_lang.specs.declared.operation.BinaryOperation.{BinaryOperation}
-use Rattle.script_lang.specs.declared.operation.UnaryOperation.{UnaryOperation}
-use Rattle.script_lang.specs.declared.operation.Comparison.{Comparison}
-use Rattle.elementwise.specs.Promotion.{is_text, promote, promote_one, compared_type}
+use Rattle.machine_numbers.specs.declared.operators.BinOp.{BinOp}
+use Rattle.machine_numbers.specs.declared.operators.UnOp.{UnOp}
+use Rattle.machine_numbers.specs.declared.operators.Comparison.{Comparison}
+use Rattle.machine_numbers.specs.Kinds.{is_text}
+use Rattle.elementwise.specs.Promotion.{promote, promote_one, compared_type}
 use Rattle.elementwise.specs.Operations.{binary, unary}
 use Rattle.elementwise.specs.Comparisons.{compared}
 
@@ -28,7 +29,7 @@ abbrev pub scalar_of : Descr → Result Scalar Refusal
 scalar_of (ScalarDescr scalar) = Ok scalar
 scalar_of (RecordDescr structure) = Err NotForThisKind
 
-unfoldable pub binary_result : BinaryOperation → Descr → List ℕ → Descr → List ℕ → Result (Descr × List ℕ) Refusal
+unfoldable pub binary_result : BinOp → Descr → List ℕ → Descr → List ℕ → Result (Descr × List ℕ) Refusal
 binary_result op left shape right other = do
   from ← scalar_of left
   from' ← scalar_of right
@@ -36,7 +37,7 @@ binary_result op left shape right other = do
   common ← common_shape (shape ∷ other ∷ [])
   Ok (ScalarDescr scalar, common)
 
-unfoldable pub unary_result : UnaryOperation → Descr → List ℕ → Result (Descr × List ℕ) Refusal
+unfoldable pub unary_result : UnOp → Descr → List ℕ → Result (Descr × List ℕ) Refusal
 unary_result op operand shape = do
   from ← scalar_of operand
   scalar ← promote_one op from
@@ -74,11 +75,11 @@ value_in item = get_or item 0 (number (pos 0))
 abbrev pub number_as : Scalar → List LeafValue → ℤ
 number_as scalar item = wrap scalar (number_of (value_in item))
 
-abbrev pub binary_item : BinaryOperation → Descr → List LeafValue → List LeafValue → List LeafValue
+abbrev pub binary_item : BinOp → Descr → List LeafValue → List LeafValue → List LeafValue
 binary_item op (ScalarDescr scalar) left right = number (binary op scalar (number_as scalar left) (number_as scalar right)) ∷ []
 binary_item op (RecordDescr structure) left right = []
 
-abbrev pub unary_item : UnaryOperation → Descr → List LeafValue → List LeafValue
+abbrev pub unary_item : UnOp → Descr → List LeafValue → List LeafValue
 unary_item op (ScalarDescr scalar) item = number (unary op scalar (number_as scalar item)) ∷ []
 unary_item op (RecordDescr structure) item = []
 

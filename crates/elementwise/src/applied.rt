@@ -16,8 +16,8 @@ use crate::promotion::{promote, promote_one, scalar_of};
 use crate::typed::make_cast;
 use broadcasting::common;
 use elem_descr::Refusal;
+use machine_numbers::{BinOp, UnOp};
 use overlap_copy::{Items, Owned};
-use script_lang::{BinaryOperation, UnaryOperation};
 use std::alloc::Global;
 
 /// What an operation gives on the items of two arrays that are broadcast together, in a block of their
@@ -25,7 +25,7 @@ use std::alloc::Global;
 /// `NotForThisKind`; then as `common` refuses: `ShapesDoNotBroadcast`, `TooLarge`.
 pub fn apply2(
     alloc: Global,
-    op: BinaryOperation,
+    op: BinOp,
     left: Items<'_>,
     right: Items<'_>,
 ) -> Result<Owned, Refusal>
@@ -50,7 +50,7 @@ pub fn apply2(
 
 /// What an operation gives on the items of an array, in a block of their own in C order. Refused as
 /// `promote_one` refuses, and records as `NotForThisKind`.
-pub fn apply1(alloc: Global, op: UnaryOperation, operand: Items<'_>) -> Result<Owned, Refusal>
+pub fn apply1(alloc: Global, op: UnOp, operand: Items<'_>) -> Result<Owned, Refusal>
     ensures gives { Gives (λ o. (o.descr, o.layout.shape)) result (unary_result op operand.entry.descr.now operand.entry.layout.now.shape) }
     ensures order { IfOk result (λ o. offsets o.layout ≡ offsets_in C (item_size o.descr) o.layout.shape) }
     ensures items { IfOk result (λ o. map (item_from o.descr o.block) (offsets o.layout)

@@ -13,20 +13,20 @@ ghost use Rattle.shape_strides.specs.declared.memory_order.MemoryOrder.TheVarian
 ghost use Rattle.shape_strides.specs.Layouts.{offsets};
 ghost use Rattle.overlap_copy.specs.Blocks.{offsets_in};
 ghost use Rattle.overlap_copy.specs.ItemLists.{owned_items};
-ghost use Rattle.elementwise.specs.Promotion.{is_text};
+ghost use Rattle.machine_numbers.specs.Kinds.{is_text};
 ghost use Rattle.elementwise.specs.Results.{bytes_compared_result, compared_item};
 ghost use Rattle.elementwise.specs.inside.ByteStrings.{says_byte};
 ghost use Rattle.elementwise.specs.inside.Made.{IsMade};
 
 use crate::operands::Scalars;
-use crate::promotion::{is_text, scalar_of};
+use crate::promotion::scalar_of;
 use crate::shrunk::{spread, without_repeats};
 use crate::text_comparing::{are_compared, without_nuls};
 use broadcasting::repeats;
 use elem_descr::{Descr, Refusal, Scalar};
+use machine_numbers::{Comparison, is_text};
 use overlap_copy::{Items, Owned};
 use raw_block::{BlockBuilder, RawBlock};
-use script_lang::Comparison;
 use shape_strides::{FixedWalk, MemoryOrder};
 use std::alloc::{AllocError, Global};
 

@@ -6,11 +6,10 @@ ghost use Rattle.elem_descr.specs.Items.{item_size};
 ghost use Rattle.elementwise.specs.inside.PairPasses.{number_pair};
 ghost use Rattle.elementwise.specs.inside.Operands.{pairs_of, made_of_all};
 
-use crate::byte_orders::{HighFirst, LowFirst, Ordered};
 use crate::kernels::{Kernel, Numbers};
-use crate::numbers::Number;
 use crate::rows::Operands;
 use elem_descr::{Order, Scalar, Width};
+use machine_numbers::{HighFirst, LowFirst, Number, Ordered};
 use raw_block::BlockBuilder;
 
 /// The first number as one of another type.

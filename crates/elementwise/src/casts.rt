@@ -16,10 +16,10 @@ ghost use Rattle.elementwise.specs.inside.Made.{IsMade};
 
 use crate::castable::can_cast;
 use crate::pairing::{Alike, Work};
-use crate::promotion::is_text;
 use crate::runs_of_leaves::cast_leaf;
 use crate::typed::make_stretched;
 use elem_descr::{Descr, Leaf, Refusal, Scalar};
+use machine_numbers::is_text;
 use overlap_copy::{Items, Owned};
 use raw_block::RawBlock;
 use shape_strides::{MAX_BYTES, MemoryOrder, Runs};

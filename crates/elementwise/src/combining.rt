@@ -2,25 +2,24 @@
 ghost use Rattle.std.specs.Prelude.{◌≡◌, ◌+◌, ◌*◌, ◌≤◌, ◌++◌, false};
 ghost use Rattle.elem_descr.specs.declared.scalar.Order.TheVariants.{Little};
 ghost use Rattle.elem_descr.specs.Items.{item_size};
-ghost use Rattle.elementwise.specs.Promotion.{is_bool, is_division};
+ghost use Rattle.machine_numbers.specs.Kinds.{is_bool};
+ghost use Rattle.elementwise.specs.Promotion.{is_division};
 ghost use Rattle.elementwise.specs.Operations.{binary, unary};
 ghost use Rattle.elementwise.specs.inside.PairPasses.{number_pair};
 ghost use Rattle.elementwise.specs.inside.Operands.{pairs_of, made_of_all};
 
-use crate::byte_orders::{LowFirst, Ordered};
 use crate::kernels::Numbers;
-use crate::numbers::Number;
 use crate::operations::{
     Adding, Complementing, Dividing, Flipping, KeepingBoth, KeepingEither, KeepingOne,
     LeavingRests, MovingDown, MovingUp, Multiplying, Negating, Subtracting,
 };
 use crate::rows::Operands;
+use machine_numbers::{BinOp, LowFirst, Number, Ordered, UnOp};
 use raw_block::BlockBuilder;
-use script_lang::{BinaryOperation, UnaryOperation};
 
 /// An operation on numbers of one type, whose results are pushed with the lowest byte first.
 pub(crate) fn combine<N: Number, O: Ordered>(
-    op: BinaryOperation,
+    op: BinOp,
     block: BlockBuilder,
     operands: Operands<'_>,
 ) -> BlockBuilder
@@ -32,53 +31,53 @@ pub(crate) fn combine<N: Number, O: Ordered>(
     ensures left { pairs_of operands.entry * N.WIDTH + result.1 ≡ block.1 }
 {
     match op {
-        BinaryOperation::Add => operands.push_all(
+        BinOp::Add => operands.push_all(
             &Numbers::<Adding, N, N, N, O, LowFirst>::new(),
             block,
         ),
-        BinaryOperation::Subtract => operands.push_all(
+        BinOp::Subtract => operands.push_all(
             &Numbers::<Subtracting, N, N, N, O, LowFirst>::new(),
             block,
         ),
-        BinaryOperation::Multiply => operands.push_all(
+        BinOp::Multiply => operands.push_all(
             &Numbers::<Multiplying, N, N, N, O, LowFirst>::new(),
             block,
         ),
-        BinaryOperation::FloorDivide => operands.push_all(
+        BinOp::FloorDivide => operands.push_all(
             &Numbers::<Dividing, N, N, N, O, LowFirst>::new(),
             block,
         ),
-        BinaryOperation::Modulo => operands.push_all(
+        BinOp::Modulo => operands.push_all(
             &Numbers::<LeavingRests, N, N, N, O, LowFirst>::new(),
             block,
         ),
-        BinaryOperation::And => operands.push_all(
+        BinOp::And => operands.push_all(
             &Numbers::<KeepingBoth, N, N, N, O, LowFirst>::new(),
             block,
         ),
-        BinaryOperation::Or => operands.push_all(
+        BinOp::Or => operands.push_all(
             &Numbers::<KeepingEither, N, N, N, O, LowFirst>::new(),
             block,
         ),
-        BinaryOperation::Xor => operands.push_all(
+        BinOp::Xor => operands.push_all(
             &Numbers::<KeepingOne, N, N, N, O, LowFirst>::new(),
             block,
         ),
-        BinaryOperation::ShiftLeft => operands.push_all(
+        BinOp::ShiftLeft => operands.push_all(
             &Numbers::<MovingUp, N, N, N, O, LowFirst>::new(),
             block,
         ),
-        BinaryOperation::ShiftRight => operands.push_all(
+        BinOp::ShiftRight => operands.push_all(
             &Numbers::<MovingDown, N, N, N, O, LowFirst>::new(),
             block,
         ),
-        BinaryOperation::Divide => unreachable!(),
+        BinOp::Divide => unreachable!(),
     }
 }
 
 /// An operation on the second of two numbers of one type, and whether these are bools.
 pub(crate) fn change<N: Number, O: Ordered>(
-    op: UnaryOperation,
+    op: UnOp,
     bools: bool,
     block: BlockBuilder,
     operands: Operands<'_>,
@@ -91,15 +90,15 @@ pub(crate) fn change<N: Number, O: Ordered>(
     ensures left { pairs_of operands.entry * N.WIDTH + result.1 ≡ block.1 }
 {
     match op {
-        UnaryOperation::Negate => operands.push_all(
+        UnOp::Negate => operands.push_all(
             &Numbers::<Negating, N, N, N, O, LowFirst>::new(),
             block,
         ),
-        UnaryOperation::Invert if bools => operands.push_all(
+        UnOp::Invert if bools => operands.push_all(
             &Numbers::<Flipping, N, N, N, O, LowFirst>::new(),
             block,
         ),
-        UnaryOperation::Invert => operands.push_all(
+        UnOp::Invert => operands.push_all(
             &Numbers::<Complementing, N, N, N, O, LowFirst>::new(),
             block,
         ),

@@ -23,15 +23,15 @@ ghost use Rattle.elementwise.specs.inside.Made.{IsMade};
 
 use crate::operands::{Scalars, read_as};
 use crate::pairing::{Alike, ComparingSigns, ComparingTexts, Work};
-use crate::promotion::{compared_type, eight_bytes, is_signed, little, scalar_of};
+use crate::promotion::{compared_type, eight_bytes, scalar_of};
 use crate::shrunk::{spread, without_repeats};
 use crate::trimmed::trimmed_in;
 use crate::typed::{make_cast, make_stretched};
 use broadcasting::{common, repeats};
 use elem_descr::{Descr, Refusal, Scalar};
+use machine_numbers::{Comparison, is_signed, little};
 use overlap_copy::{Items, Owned};
 use raw_block::RawBlock;
-use script_lang::Comparison;
 use shape_strides::Shape;
 use std::alloc::Global;
 

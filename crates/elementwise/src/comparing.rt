@@ -2,19 +2,17 @@
 ghost use Rattle.std.specs.Prelude.{◌≡◌, ◌+◌, ◌≤◌, ◌++◌};
 ghost use Rattle.elem_descr.specs.declared.scalar.Scalar.TheVariants.{Bool as BoolScalar};
 ghost use Rattle.elem_descr.specs.Items.{item_size};
-ghost use Rattle.script_lang.specs.declared.operation.Comparison.{Comparison};
-ghost use Rattle.script_lang.specs.declared.operation.Comparison.TheVariants.{Equal, NotEqual, Less, LessOrEqual, Greater, GreaterOrEqual};
+ghost use Rattle.machine_numbers.specs.declared.operators.Comparison.{Comparison};
+ghost use Rattle.machine_numbers.specs.declared.operators.Comparison.TheVariants.{Equal, NotEqual, Less, LessOrEqual, Greater, GreaterOrEqual};
 ghost use Rattle.elementwise.specs.Comparisons.{says};
 ghost use Rattle.elementwise.specs.inside.PairPasses.{number_pair, says_number};
 ghost use Rattle.elementwise.specs.inside.Operands.{pairs_of, made_of_all};
 
 use crate::bits;
-use crate::byte_orders::{LowFirst, Ordered};
 use crate::kernels::{Kernel, Numbers};
-use crate::numbers::Number;
 use crate::rows::Operands;
+use machine_numbers::{Comparison, LowFirst, Number, Ordered};
 use raw_block::BlockBuilder;
-use script_lang::Comparison;
 use std::marker::PhantomData;
 
 /// A comparison, of two values of which it is known whether the first is below or above the second.

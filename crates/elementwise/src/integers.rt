@@ -15,18 +15,18 @@ ghost use Rattle.shape_strides.specs.Indexes.{count};
 ghost use Rattle.shape_strides.specs.Layouts.{offsets};
 ghost use Rattle.overlap_copy.specs.Blocks.{offsets_in};
 ghost use Rattle.overlap_copy.specs.ItemLists.{owned_items};
-ghost use Rattle.elementwise.specs.Promotion.{little};
+ghost use Rattle.machine_numbers.specs.Kinds.{little};
 ghost use Rattle.elementwise.specs.Results.{integer_compared_result, compared_item, truth_item};
 ghost use Rattle.elementwise.specs.inside.Made.{IsMade};
 
 use crate::compared::{compare_held, note_bytes};
 use crate::comparing::says;
 use crate::operands::Scalars;
-use crate::promotion::{is_text, little, scalar_of};
+use crate::promotion::scalar_of;
 use elem_descr::{Descr, Refusal, Scalar, num_read, num_write};
+use machine_numbers::{Comparison, is_text, little};
 use overlap_copy::{Items, Owned};
 use raw_block::RawBlock;
-use script_lang::Comparison;
 use shape_strides::{MemoryOrder, Shape};
 use std::alloc::{AllocError, Global};
 

@@ -4,10 +4,9 @@ ghost use Rattle.raw_block.specs.Bytes.{joined};
 ghost use Rattle.elementwise.specs.inside.PairPasses.{number_pair};
 ghost use Rattle.elementwise.specs.inside.Sides.{pair_count, made_of};
 
-use crate::byte_orders::Ordered;
-use crate::numbers::Number;
 use crate::rows::Pass;
 use crate::sides::Pairs;
+use machine_numbers::{Number, Ordered};
 use raw_block::BlockBuilder;
 use std::marker::PhantomData;
 

@@ -5,12 +5,10 @@ ghost use Rattle.raw_block.specs.Bytes.{EachWithin};
 ghost use Rattle.elementwise.specs.Casts.{can_cast_scalar};
 ghost use Rattle.elementwise.specs.inside.Passes.{made, leaf_cast};
 
-use crate::byte_orders::{HighFirst, LowFirst, Ordered};
-use crate::dispatch::{NumberTask, on_number};
-use crate::numbers::Number;
 use crate::passes::cast_run;
 use crate::texts::cast_texts;
 use elem_descr::{Order, Scalar, Width};
+use machine_numbers::{HighFirst, LowFirst, Number, NumberTask, Ordered, on_number};
 use shape_strides::Run;
 
 /// Casts the numbers of a run to those of a scalar. Its sign makes no difference to its bytes.

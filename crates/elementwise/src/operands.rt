@@ -1,9 +1,9 @@
 //! The operands of operations.
 ghost use Rattle.std.specs.Prelude.{◌≡◌};
-ghost use Rattle.elementwise.specs.Promotion.{little};
+ghost use Rattle.machine_numbers.specs.Kinds.{little};
 
-use crate::promotion::little;
 use elem_descr::{Descr, Scalar};
+use machine_numbers::little;
 use overlap_copy::Items;
 
 /// Items of a scalar.

@@ -1,13 +1,13 @@
 //! Operations on machine numbers: each is done on the lowest 64 bits, of which a number keeps its own.
 ghost use Rattle.std.specs.Prelude.{pos, negsuc, ◌-ℤ◌};
 ghost use Rattle.elem_descr.specs.declared.scalar.Order.TheVariants.{Little};
-ghost use Rattle.script_lang.specs.declared.operation.BinaryOperation.TheVariants.{Add, Subtract, Multiply, FloorDivide, Modulo, And, Or, Xor, ShiftLeft, ShiftRight};
+ghost use Rattle.machine_numbers.specs.declared.operators.BinOp.TheVariants.{Add, Subtract, Multiply, FloorDivide, Modulo, And, Or, Xor, ShiftLeft, ShiftRight};
 ghost use Rattle.elem_descr.specs.Encoding.{wrap};
 ghost use Rattle.elementwise.specs.Operations.{binary};
 
 use crate::bits;
 use crate::kernels::Kernel;
-use crate::numbers::Number;
+use machine_numbers::Number;
 
 pub(crate) struct Adding;
 

@@ -11,24 +11,22 @@ ghost use Rattle.elementwise.specs.inside.PairPasses.{value_pair, compared_value
 ghost use Rattle.elementwise.specs.inside.PairLaws.{compared_reads_back, truth_reads_back};
 ghost use Rattle.elementwise.specs.inside.Operands.{pairs_of, made_of_all};
 
-use crate::byte_orders::LowFirst;
 use crate::comparing::compare;
-use crate::dispatch::on_number;
-use crate::promotion::{eight_bytes, is_bool, little};
+use crate::promotion::eight_bytes;
 use crate::rows::Operands;
 use crate::text_pairs::Texts;
 use crate::working::Working;
 use elem_descr::{BytesLen, Scalar};
+use machine_numbers::{BinOp, Comparison, LowFirst, UnOp, is_bool, little, on_number};
 use raw_block::BlockBuilder;
-use script_lang::{BinaryOperation, Comparison, UnaryOperation};
 
 /// What is made of two numbers.
 #[derive(Clone, Copy)]
 pub(crate) enum Work {
     /// What an operation gives on them.
-    Combine(BinaryOperation),
+    Combine(BinOp),
     /// What one gives on the second of them.
-    Change(UnaryOperation),
+    Change(UnOp),
     /// What a comparison says of them.
     Compare(Comparison),
     /// The first of them as one of another scalar of numbers.

@@ -3,9 +3,7 @@ ghost use Rattle.std.specs.Prelude.{◌≡◌, ◌+◌, ◌^◌, ◌<◌, ◌≤
 ghost use Rattle.raw_block.specs.Bytes.{put, EachWithin};
 ghost use Rattle.elementwise.specs.inside.Passes.{made, leaf_cast};
 
-use crate::byte_orders::Ordered;
-use crate::numbers::Number;
-use crate::sides::place;
+use machine_numbers::{Number, Ordered, place};
 use shape_strides::Run;
 
 /// Writes what the bytes of a number are as another number.

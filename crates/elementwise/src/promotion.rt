@@ -4,34 +4,12 @@ ghost use Rattle.elem_descr.specs.declared.scalar.Order.TheVariants.{Little};
 ghost use Rattle.elem_descr.specs.declared.scalar.Width.TheVariants.{Eight};
 ghost use Rattle.elem_descr.specs.declared.scalar.Scalar.TheVariants.{Int};
 ghost use Rattle.elem_descr.specs.Refusals.{Answers};
-ghost use Rattle.elementwise.specs.Promotion.{is_bool, is_text, is_signed, rank_of_kind, same_kind, integer_type, little, mixed_type, common_integers, common_type, serves_bools, is_division, promote, are_comparable, compared_type, literal_type, serves_one, promote_one};
+ghost use Rattle.machine_numbers.specs.Kinds.{is_bool, is_text, is_signed, little};
+ghost use Rattle.elementwise.specs.Promotion.{rank_of_kind, same_kind, integer_type, mixed_type, common_integers, common_type, serves_bools, is_division, promote, are_comparable, compared_type, literal_type, serves_one, promote_one};
 ghost use Rattle.elementwise.specs.Results.{scalar_of};
 
 use elem_descr::{Descr, Order, Refusal, Scalar, Width};
-use script_lang::{BinaryOperation, UnaryOperation};
-
-pub(crate) fn is_bool(scalar: &Scalar) -> bool
-    ensures { result ≡ is_bool scalar.now }
-{
-    matches!(scalar, Scalar::Bool)
-}
-
-/// Whether the values are byte strings.
-pub(crate) fn is_text(scalar: &Scalar) -> bool
-    ensures { result ≡ is_text scalar.now }
-{
-    matches!(scalar, Scalar::Bytes(_))
-}
-
-pub(crate) fn is_signed(scalar: &Scalar) -> bool
-    ensures { result ≡ is_signed scalar.now }
-{
-    match scalar {
-        Scalar::Byte { signed } => *signed,
-        Scalar::Int { signed, .. } => *signed,
-        _ => false,
-    }
-}
+use machine_numbers::{BinOp, UnOp, is_bool, is_signed, is_text, little};
 
 /// The place of a kind of numbers in their order.
 fn rank_of_kind(scalar: &Scalar) -> usize
@@ -94,19 +72,6 @@ fn integer_type(signed: bool, bytes: usize) -> Scalar
     }
 }
 
-pub(crate) fn little(scalar: &Scalar) -> Scalar
-    ensures { result ≡ little scalar.now }
-{
-    match scalar {
-        Scalar::Int { signed, width, .. } => Scalar::Int {
-            signed: *signed,
-            width: *width,
-            order: Order::Little,
-        },
-        _ => *scalar,
-    }
-}
-
 /// The smallest integers with a sign that hold those of so many bytes without one, and those of so
 /// many with one.
 fn mixed_type(unsigned: usize, signed: usize) -> Result<Scalar, Refusal>
@@ -144,23 +109,23 @@ fn common_type(left: &Scalar, right: &Scalar) -> Result<Scalar, Refusal>
 }
 
 /// Whether there is an operation of two bools.
-fn serves_bools(op: BinaryOperation) -> bool
+fn serves_bools(op: BinOp) -> bool
     ensures { result ≡ serves_bools op }
 {
     match op {
-        BinaryOperation::Subtract
-        | BinaryOperation::FloorDivide
-        | BinaryOperation::Modulo
-        | BinaryOperation::ShiftLeft
-        | BinaryOperation::ShiftRight => false,
+        BinOp::Subtract
+        | BinOp::FloorDivide
+        | BinOp::Modulo
+        | BinOp::ShiftLeft
+        | BinOp::ShiftRight => false,
         _ => true,
     }
 }
 
-fn is_division(op: BinaryOperation) -> bool
+fn is_division(op: BinOp) -> bool
     ensures { result ≡ is_division op }
 {
-    matches!(op, BinaryOperation::Divide)
+    matches!(op, BinOp::Divide)
 }
 
 fn are_bools(left: &Scalar, right: &Scalar) -> bool
@@ -170,7 +135,7 @@ fn are_bools(left: &Scalar, right: &Scalar) -> bool
 }
 
 /// Whether there is an operation of items of two types, as far as bools go.
-fn serves(op: BinaryOperation, left: &Scalar, right: &Scalar) -> bool
+fn serves(op: BinOp, left: &Scalar, right: &Scalar) -> bool
     ensures { result ≡ (serves_bools op || not (is_bool left.now && is_bool right.now)) }
 {
     serves_bools(op) || !are_bools(left, right)
@@ -180,7 +145,7 @@ fn serves(op: BinaryOperation, left: &Scalar, right: &Scalar) -> bool
 /// holds both, little-endian. `NotForThisKind` for byte strings, and for two bools where there is no
 /// such operation; then `NeedsFloats` for `Divide`, and for integers that no integer type holds.
 #[tactic(auto, unfolding(crate::specs::Promotion::promote))]
-pub fn promote(op: BinaryOperation, left: Scalar, right: Scalar) -> Result<Scalar, Refusal>
+pub fn promote(op: BinOp, left: Scalar, right: Scalar) -> Result<Scalar, Refusal>
     ensures { Answers (λ s. s) result (promote op left right) }
 {
     if has_text(&left, &right) {
@@ -225,19 +190,19 @@ pub fn literal_type(scalar: Scalar) -> Scalar
 }
 
 /// Whether there is an operation of items of a type.
-fn serves_one(op: UnaryOperation, scalar: &Scalar) -> bool
+fn serves_one(op: UnOp, scalar: &Scalar) -> bool
     ensures { result ≡ serves_one op scalar.now }
 {
     match op {
-        UnaryOperation::Negate => !is_text(scalar) && !is_bool(scalar),
-        UnaryOperation::Invert => !is_text(scalar),
+        UnOp::Negate => !is_text(scalar) && !is_bool(scalar),
+        UnOp::Invert => !is_text(scalar),
     }
 }
 
 /// The type of what an operation gives on items of one type. `NotForThisKind` for byte strings, and
 /// for `Negate` of bools.
 #[tactic(auto, unfolding(crate::specs::Promotion::promote_one))]
-pub fn promote_one(op: UnaryOperation, scalar: Scalar) -> Result<Scalar, Refusal>
+pub fn promote_one(op: UnOp, scalar: Scalar) -> Result<Scalar, Refusal>
     ensures { Answers (λ s. s) result (promote_one op scalar) }
 {
     if !serves_one(op, &scalar) {

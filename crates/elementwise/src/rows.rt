@@ -3,7 +3,8 @@ ghost use Rattle.std.specs.Prelude.{◌≡◌, ◌+◌, ◌*◌, ◌≤◌, ◌+
 ghost use Rattle.elem_descr.specs.Items.{item_size};
 ghost use Rattle.raw_block.specs.Bytes.{joined};
 
-use crate::sides::{Pairs, Side};
+use crate::sides::Pairs;
+use machine_numbers::Side;
 use overlap_copy::Items;
 use raw_block::BlockBuilder;
 use shape_strides::RunPairs;

@@ -6,7 +6,7 @@ ghost use Rattle.elementwise.specs.Comparisons.{compared};
 
 use crate::comparing::says;
 use crate::words::{shared_words, without_nul_words};
-use script_lang::Comparison;
+use machine_numbers::Comparison;
 
 /// A byte string without the NULs at its end.
 pub(crate) fn without_nuls(item: &[u8]) -> &[u8]

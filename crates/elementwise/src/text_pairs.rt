@@ -2,13 +2,11 @@
 ghost use Rattle.elementwise.specs.inside.PairPasses.{text_pair};
 ghost use Rattle.std.proofs.Common.{arith};
 
-use crate::byte_orders::LowFirst;
-use crate::numbers::Number;
 use crate::rows::Pass;
 use crate::sides::Pairs;
 use crate::text_comparing::{are_compared, without_nuls};
+use machine_numbers::{Comparison, LowFirst, Number};
 use raw_block::BlockBuilder;
-use script_lang::Comparison;
 
 /// A comparison of byte strings, whose NULs at the end do not count.
 #[derive(Clone, Copy)]

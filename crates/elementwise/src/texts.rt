@@ -4,7 +4,7 @@ ghost use Rattle.elem_descr.specs.Encoding.{padded};
 ghost use Rattle.raw_block.specs.Bytes.{put, EachWithin};
 ghost use Rattle.elementwise.specs.inside.Passes.{made};
 
-use crate::sides::place;
+use machine_numbers::place;
 use shape_strides::Run;
 
 /// Writes the first bytes of a byte string, as far as there is room, and NULs behind them.

@@ -2,7 +2,7 @@
 ghost use Rattle.std.specs.Prelude.{◌≡◌, ◌≤◌, length, take};
 ghost use Rattle.elem_descr.specs.Encoding.{without_nuls};
 
-use crate::byte_orders::{LowFirst, Ordered};
+use machine_numbers::{LowFirst, Ordered};
 
 /// How many bytes two byte strings have in common at the front, as far as whole words go.
 pub(crate) fn shared_words(left: &[u8], right: &[u8]) -> usize

@@ -2,19 +2,17 @@
 ghost use Rattle.std.specs.Prelude.{◌≡◌, ◌+◌, ◌*◌, ◌≤◌, ◌++◌};
 ghost use Rattle.elem_descr.specs.Encoding.{size};
 ghost use Rattle.elem_descr.specs.Items.{item_size};
-ghost use Rattle.elementwise.specs.Promotion.{is_bool};
+ghost use Rattle.machine_numbers.specs.Kinds.{is_bool};
 ghost use Rattle.elementwise.specs.inside.PairPasses.{number_pair};
 ghost use Rattle.elementwise.specs.inside.Operands.{pairs_of, made_of_all};
 ghost use Rattle.elementwise.specs.inside.Works.{target, meaning, IsWork};
 
-use crate::byte_orders::Ordered;
 use crate::casting::cast;
 use crate::combining::{change, combine};
 use crate::comparing::compare;
-use crate::dispatch::NumberTask;
-use crate::numbers::Number;
 use crate::pairing::Work;
 use crate::rows::Operands;
+use machine_numbers::{Number, NumberTask, Ordered};
 use raw_block::BlockBuilder;
 
 /// Work on operands of one scalar, whose results are pushed.

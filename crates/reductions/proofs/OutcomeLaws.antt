@@ -1,8 +1,8 @@
 -- What is refused, and what a result is.
-use Rattle.std.proofs.Common.{◌≡◌, ◌*◌, ◌<◌, ◌≤◌, ℕ, zero, suc, ℤ, true, false, Bool, Option, Some, None, List, [], ◌∷◌, map, drop, length, get_or, Ok, Err, refl, sym, ap, ◌∙◌, arith, zero-mul, mul_comm, one-mul}
+use Rattle.std.proofs.Common.{◌≡◌, ◌+◌, ◌-◌, ◌*◌, ◌++◌, replicate, append-nil, ◌<◌, ◌≤◌, ℕ, zero, suc, ℤ, true, false, Bool, Option, Some, None, List, [], ◌∷◌, map, drop, length, get_or, Ok, Err, refl, sym, ap, ◌∙◌, arith, zero-mul, mul_comm, one-mul}
 use Rattle.std.proofs.lemmas.Bool.{ne_eqb}
 use Rattle.std.specs.Prelude.{nat_eq, Result, ◌&&◌, not, ◌==◌, slice_set, is_ok}
-use Rattle.std.specs.List.{range_with_len, insert, remove}
+use Rattle.std.specs.List.{range_with_len, insert, remove, flat_map}
 use Rattle.std.proofs.lemmas.List.{length-map, get_or-map, same_lists, take-take}
 use Rattle.std.proofs.lemmas.List.FromFn.{length-map-range_with_len, get_or-map-range_with_len}
 use Rattle.elem_descr.specs.declared.descr.Descr.{Descr}
@@ -12,22 +12,24 @@ use Rattle.elem_descr.specs.declared.refusal.Refusal.TheVariants.{EmptyReduction
 use Rattle.elem_descr.specs.declared.scalar.Scalar.{Scalar}
 use Rattle.elem_descr.specs.declared.scalar.Width.TheVariants.{Two, Four, Eight}
 use Rattle.elem_descr.specs.declared.scalar.Scalar.TheVariants.{Bool as BoolScalar, Byte, Int, Bytes}
-use Rattle.elem_descr.specs.Encoding.{IsNumber, size, decode, number_of}
+use Rattle.elem_descr.specs.Encoding.{IsNumber, size, decode, encode, number_of}
 use Rattle.elem_descr.specs.Refusals.{◌>>=◌, check}
 use Rattle.elem_descr.specs.RefusalLaws.{check_passed}
 use Rattle.shape_strides.specs.ShapeLaws.{shape_of-same}
-use Rattle.script_lang.specs.declared.operation.Reduction.TheVariants.{Sum, Product, Minimum, Maximum, Any, All, ArgMin, ArgMax}
+use Rattle.machine_numbers.specs.declared.operators.Red.TheVariants.{Sum, Product, Minimum, Maximum, Any, All, ArgMin, ArgMax}
 use Rattle.reductions.specs.inside.FoldLaws.{wide_size, little_size}
-use Rattle.elem_descr.specs.Values.{number}
+use Rattle.elem_descr.specs.Items.{encode_item}
+use Rattle.elem_descr.specs.Values.{LeafValue, number}
 use Rattle.elem_descr.specs.Blocks.{item_from}
-use Rattle.raw_block.specs.Bytes.{item_at}
+use Rattle.raw_block.specs.Bytes.{item_at, joined}
+use Rattle.raw_block.specs.JoinedLaws.{all_joined, joined-add, joined-same}
 use Rattle.shape_strides.specs.declared.layout.Layout.{Layout}
 use Rattle.shape_strides.specs.Indexes.{count, indexes, rank}
 use Rattle.shape_strides.specs.IndexLaws.{length-indexes}
 use Rattle.shape_strides.specs.Layouts.{offsets, multiples}
 use Rattle.shape_strides.specs.LayoutLaws.{offsets-none}
 use Rattle.shape_strides.specs.Shapes.{shape_of}
-use Rattle.script_lang.specs.declared.operation.Reduction.{Reduction}
+use Rattle.machine_numbers.specs.declared.operators.Red.{Red}
 use Rattle.reductions.specs.Lists.{lists, reduced_shape, list_length, named_axis, is_axis}
 use Rattle.reductions.specs.Outcomes.{needs_items, has_empty_list, number_scalar, outcome, Outcome}
 use Rattle.reductions.specs.Reductions.{result_scalar, reduced, reduced_item, reduced_items, item_number}
@@ -40,11 +42,11 @@ use Rattle.reductions.proofs.AxisLaws.{count-remove}
 pub count-zero : (shape : List ℕ) (k : ℕ) → k < length shape → get_or shape k 0 ≡ 0 → count shape ≡ 0
 count-zero shape k low none = count-remove shape k low ∙ ap (λ g. g * count (remove shape k)) none ∙ zero-mul (count (remove shape k))
 
-pub after_empty : (reduction : Reduction) (shape : List ℕ) (axis : Option ℕ) (keep : Bool) → (needs_items reduction && has_empty_list shape axis (reduced_shape shape axis keep)) ≡ true → shape_after reduction shape axis keep ≡ Err EmptyReduction
+pub after_empty : (reduction : Red) (shape : List ℕ) (axis : Option ℕ) (keep : Bool) → (needs_items reduction && has_empty_list shape axis (reduced_shape shape axis keep)) ≡ true → shape_after reduction shape axis keep ≡ Err EmptyReduction
 unfolding shape_after
 after_empty reduction shape axis keep empty = rw empty refl
 
-pub after_some : (reduction : Reduction) (shape : List ℕ) (axis : Option ℕ) (keep : Bool) → (needs_items reduction && has_empty_list shape axis (reduced_shape shape axis keep)) ≡ false → shape_after reduction shape axis keep ≡ shape_of (reduced_shape shape axis keep)
+pub after_some : (reduction : Red) (shape : List ℕ) (axis : Option ℕ) (keep : Bool) → (needs_items reduction && has_empty_list shape axis (reduced_shape shape axis keep)) ≡ false → shape_after reduction shape axis keep ≡ shape_of (reduced_shape shape axis keep)
 unfolding shape_after
 after_some reduction shape axis keep some = rw some refl
 
@@ -83,7 +85,7 @@ no_items l (Some a) k none low =
 no_answer : (refusal : Refusal) (result : List ℕ) → Err refusal ≡ Ok result → ⊥
 no_answer refusal result same = let is : false ≡ true = ap is_ok same in absurd (cc)
 
-pub some_after : (reduction : Reduction) (shape : List ℕ) (axis : Option ℕ) (keep : Bool) (result : List ℕ) → shape_after reduction shape axis keep ≡ Ok result → needs_items reduction ≡ true → list_length shape axis ≡ 0 → count (reduced_shape shape axis keep) ≡ 0
+pub some_after : (reduction : Red) (shape : List ℕ) (axis : Option ℕ) (keep : Bool) (result : List ℕ) → shape_after reduction shape axis keep ≡ Ok result → needs_items reduction ≡ true → list_length shape axis ≡ 0 → count (reduced_shape shape axis keep) ≡ 0
 unfolding shape_after
 some_after reduction shape axis keep result found needs none = go (count (reduced_shape shape axis keep)) (rw (needs, none) at found)
   where
@@ -92,44 +94,44 @@ some_after reduction shape axis keep result found needs none = go (count (reduce
     go (suc n) found = let other : nat_eq (suc n) 0 ≡ false = ne_eqb (suc n) 0 (λ same. omega (arith, same)) in absurd (no_answer EmptyReduction result (rw other at found))
 
 -- the shape is the one of the result
-pub shape_is : (reduction : Reduction) (shape : List ℕ) (axis : Option ℕ) (keep : Bool) (result : List ℕ) → shape_after reduction shape axis keep ≡ Ok result → reduced_shape shape axis keep ≡ result
+pub shape_is : (reduction : Red) (shape : List ℕ) (axis : Option ℕ) (keep : Bool) (result : List ℕ) → shape_after reduction shape axis keep ≡ Ok result → reduced_shape shape axis keep ≡ result
 unfolding shape_after
 shape_is reduction shape axis keep result found =
     shape_of-same (reduced_shape shape axis keep) result (check_passed (not (needs_items reduction && has_empty_list shape axis (reduced_shape shape axis keep))) EmptyReduction (shape_of (reduced_shape shape axis keep)) result found)
 
 -- ---- the outcome
 
-pub outcome_kind : (reduction : Reduction) (descr : Descr) (shape : List ℕ) (named : Option ℤ) (keep : Bool) (refusal : Refusal) → number_scalar descr ≡ Err refusal → outcome reduction descr shape named keep ≡ Err refusal
+pub outcome_kind : (reduction : Red) (descr : Descr) (shape : List ℕ) (named : Option ℤ) (keep : Bool) (refusal : Refusal) → number_scalar descr ≡ Err refusal → outcome reduction descr shape named keep ≡ Err refusal
 unfolding outcome
 outcome_kind reduction descr shape named keep refusal is = rw is refl
 
-pub outcome_axis : (reduction : Reduction) (descr : Descr) (shape : List ℕ) (named : Option ℤ) (keep : Bool) (scalar : Scalar) → number_scalar descr ≡ Ok scalar → is_axis (length shape) named ≡ false → outcome reduction descr shape named keep ≡ Err BadAxis
+pub outcome_axis : (reduction : Red) (descr : Descr) (shape : List ℕ) (named : Option ℤ) (keep : Bool) (scalar : Scalar) → number_scalar descr ≡ Ok scalar → is_axis (length shape) named ≡ false → outcome reduction descr shape named keep ≡ Err BadAxis
 unfolding outcome
 outcome_axis reduction descr shape named keep scalar is none = rw (is, none) refl
 
-abbrev typed : Reduction → Scalar → List ℕ → Result Outcome Refusal
+abbrev typed : Red → Scalar → List ℕ → Result Outcome Refusal
 typed reduction scalar shape = Ok (record { descr = ScalarDescr (result_scalar reduction scalar); shape = shape })
 
 -- once the axis is found
-outcome_after : (reduction : Reduction) (descr : Descr) (shape : List ℕ) (named : Option ℤ) (keep : Bool) (scalar : Scalar) → number_scalar descr ≡ Ok scalar → is_axis (length shape) named ≡ true →
+outcome_after : (reduction : Red) (descr : Descr) (shape : List ℕ) (named : Option ℤ) (keep : Bool) (scalar : Scalar) → number_scalar descr ≡ Ok scalar → is_axis (length shape) named ≡ true →
     outcome reduction descr shape named keep ≡ (shape_after reduction shape (named_axis (length shape) named) keep >>= (λ _. typed reduction scalar (reduced_shape shape (named_axis (length shape) named) keep)))
 unfolding outcome shape_after
 outcome_after reduction descr shape named keep scalar is found =
     let result = reduced_shape shape (named_axis (length shape) named) keep in
     rw (is, found) (go reduction scalar result (not (needs_items reduction && has_empty_list shape (named_axis (length shape) named) result)))
   where
-    go : (reduction : Reduction) (scalar : Scalar) (result : List ℕ) (test : Bool) → (check test EmptyReduction >>= (λ _. shape_of result >>= (λ _. typed reduction scalar result))) ≡ ((check test EmptyReduction >>= (λ _. shape_of result)) >>= (λ _. typed reduction scalar result))
+    go : (reduction : Red) (scalar : Scalar) (result : List ℕ) (test : Bool) → (check test EmptyReduction >>= (λ _. shape_of result >>= (λ _. typed reduction scalar result))) ≡ ((check test EmptyReduction >>= (λ _. shape_of result)) >>= (λ _. typed reduction scalar result))
     go reduction scalar result true = refl
     go reduction scalar result false = refl
 
-pub outcome_ok : (reduction : Reduction) (descr : Descr) (shape : List ℕ) (named : Option ℤ) (keep : Bool) (scalar : Scalar) (result : List ℕ) → number_scalar descr ≡ Ok scalar → is_axis (length shape) named ≡ true →
+pub outcome_ok : (reduction : Red) (descr : Descr) (shape : List ℕ) (named : Option ℤ) (keep : Bool) (scalar : Scalar) (result : List ℕ) → number_scalar descr ≡ Ok scalar → is_axis (length shape) named ≡ true →
     shape_after reduction shape (named_axis (length shape) named) keep ≡ Ok result → outcome reduction descr shape named keep ≡ Ok (record { descr = ScalarDescr (result_scalar reduction scalar); shape = result })
 outcome_ok reduction descr shape named keep scalar result is found after =
     outcome_after reduction descr shape named keep scalar is found
     ∙ ap (λ answer. answer >>= (λ _. typed reduction scalar (reduced_shape shape (named_axis (length shape) named) keep))) after
     ∙ ap (typed reduction scalar) (shape_is reduction shape (named_axis (length shape) named) keep result after)
 
-pub outcome_shape : (reduction : Reduction) (descr : Descr) (shape : List ℕ) (named : Option ℤ) (keep : Bool) (scalar : Scalar) (refusal : Refusal) → number_scalar descr ≡ Ok scalar → is_axis (length shape) named ≡ true →
+pub outcome_shape : (reduction : Red) (descr : Descr) (shape : List ℕ) (named : Option ℤ) (keep : Bool) (scalar : Scalar) (refusal : Refusal) → number_scalar descr ≡ Ok scalar → is_axis (length shape) named ≡ true →
     shape_after reduction shape (named_axis (length shape) named) keep ≡ Err refusal → outcome reduction descr shape named keep ≡ Err refusal
 outcome_shape reduction descr shape named keep scalar refusal is found after =
     outcome_after reduction descr shape named keep scalar is found ∙ ap (λ answer. answer >>= (λ _. typed reduction scalar (reduced_shape shape (named_axis (length shape) named) keep))) after
@@ -143,7 +145,7 @@ numbers_are : (scalar : Scalar) (block : List ℕ) (list : List ℕ) → map ite
 numbers_are scalar block [] = refl
 numbers_are scalar block (o ∷ list) = λ i. read_number scalar block o i ∷ numbers_are scalar block list i
 
-pub items_are : (reduction : Reduction) (scalar to : Scalar) (block out : List ℕ) (ls : List (List ℕ)) (n : ℕ) → to ≡ result_scalar reduction scalar → n ≡ length ls → AreReduced reduction scalar block (size to) ls out →
+pub items_are : (reduction : Red) (scalar to : Scalar) (block out : List ℕ) (ls : List (List ℕ)) (n : ℕ) → to ≡ result_scalar reduction scalar → n ≡ length ls → AreReduced reduction scalar block (size to) ls out →
     map (item_from (ScalarDescr to) out) (multiples (size to) n) ≡ reduced_items reduction (ScalarDescr to) (ScalarDescr scalar) block ls
 items_are reduction scalar to block out ls n is many are =
     let f = item_from (ScalarDescr to) out in
@@ -159,11 +161,40 @@ items_are reduction scalar to block out ls n is many are =
     ap (decode to) (take-take (size to) (size to) (drop (size to * k) out) (omega arith))
     ∙ ap (λ o. decode to (item_at o (size to) out)) (mul_comm (size to) k)
     ∙ ap (λ s. decode s (item_at (k * size to) (size to) out)) is
-    ∙ are k (omega (arith, low, many))
+    ∙ (are k (omega (arith, low, many))).value
     ∙ ap (λ s. number (reduced reduction s (numbers_at scalar block list))) (sym is)
     ∙ ap (λ numbers. number (reduced reduction to numbers)) (sym (numbers_are scalar block list))
     )
     ∙ sym (get_or-map g ls k [] d (omega (arith, low, many))))
+
+-- ---- the bytes
+
+number_encoded : (to : Scalar) (v : LeafValue) → encode_item (ScalarDescr to) (v ∷ []) ≡ encode to v
+number_encoded to v = let none : size to - (0 + size to) ≡ 0 = omega arith in ap (λ n. encode to v ++ replicate n 0) none ∙ append-nil (encode to v)
+
+joined_list : {X : Type 0} (f : X → List ℕ) (d : X) (xs : List X) → joined (λ k. f (get_or xs k d)) (length xs) ≡ flat_map f xs
+joined_list f d [] = refl
+joined_list f d (x ∷ xs) =
+    let item = λ (k : ℕ). f (get_or (x ∷ xs) k d) in
+    let one : suc (length xs) ≡ 1 + length xs = omega arith in
+    let rest = joined-same (λ k. item (1 + k)) (λ k. f (get_or xs k d)) (length xs) (λ k low. let next : 1 + k ≡ suc k = omega arith in ap item next) in
+    ap (joined item) one ∙ sym (joined-add item 1 (length xs)) ∙ ap (λ bytes. f x ++ bytes) (rest ∙ joined_list f d xs)
+
+pub bytes_are : (reduction : Red) (scalar to : Scalar) (block out : List ℕ) (ls : List (List ℕ)) (n : ℕ) → to ≡ result_scalar reduction scalar → n ≡ length ls → length out ≡ n * size to → AreReduced reduction scalar block (size to) ls out →
+    out ≡ flat_map (encode_item (ScalarDescr to)) (reduced_items reduction (ScalarDescr to) (ScalarDescr scalar) block ls)
+bytes_are reduction scalar to block out ls n is many long are =
+    let f = encode_item (ScalarDescr to) in
+    let g = λ (list : List ℕ). reduced_item reduction (ScalarDescr to) (map (item_from (ScalarDescr scalar) block) list) in
+    let items = map g ls in
+    all_joined (λ k. f (get_or items k [])) (size to) n out long (λ k low.
+    let list = get_or ls k [] in
+    (are k (omega (arith, low, many))).exact
+    ∙ ap (λ s. encode s (number (reduced reduction s (numbers_at scalar block list)))) (sym is)
+    ∙ ap (λ numbers. encode to (number (reduced reduction to numbers))) (sym (numbers_are scalar block list))
+    ∙ sym (number_encoded to (number (reduced reduction to (map item_number (map (item_from (ScalarDescr scalar) block) list)))))
+    ∙ ap f (sym (get_or-map g ls k [] [] (omega (arith, low, many)))))
+    ∙ ap (joined (λ k. f (get_or items k []))) (many ∙ sym (length-map ls g))
+    ∙ joined_list f [] items
 
 number_size : (scalar : Scalar) → IsNumber scalar → size scalar ≤ 8
 number_size BoolScalar is = omega arith
@@ -173,7 +204,7 @@ number_size (Int signed Four order) is = omega arith
 number_size (Int signed Eight order) is = omega arith
 number_size (Bytes n) never = absurd never
 
-pub size_small : (reduction : Reduction) (scalar : Scalar) → IsNumber scalar → size (result_scalar reduction scalar) ≤ 8
+pub size_small : (reduction : Red) (scalar : Scalar) → IsNumber scalar → size (result_scalar reduction scalar) ≤ 8
 size_small Sum scalar is = omega (arith, wide_size scalar)
 size_small Product scalar is = omega (arith, wide_size scalar)
 size_small Minimum scalar is = omega (arith, little_size scalar, number_size scalar is)

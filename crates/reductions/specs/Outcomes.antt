@@ -10,8 +10,8 @@ use Rattle.elem_descr.specs.Refusals.{◌>>=◌, check}
 use Rattle.shape_strides.specs.Indexes.{count}
 use Rattle.shape_strides.specs.Shapes.{shape_of}
 use Rattle.overlap_copy.specs.declared.owned.Owned.{Owned}
-use Rattle.script_lang.specs.declared.operation.Reduction.{Reduction}
-use Rattle.script_lang.specs.declared.operation.Reduction.TheVariants.{Minimum, Maximum, ArgMin, ArgMax}
+use Rattle.machine_numbers.specs.declared.operators.Red.{Red}
+use Rattle.machine_numbers.specs.declared.operators.Red.TheVariants.{Minimum, Maximum, ArgMin, ArgMax}
 use Rattle.reductions.specs.Lists.{named_axis, is_axis, reduced_shape, list_length}
 use Rattle.reductions.specs.Reductions.{result_scalar}
 
@@ -24,7 +24,7 @@ number_scalar (ScalarDescr (Bytes n)) = Err NotForThisKind
 number_scalar (RecordDescr structure) = Err NotForThisKind
 
 -- whether a reduction is one of some items at least
-abbrev pub needs_items : Reduction → Bool
+abbrev pub needs_items : Red → Bool
 needs_items Minimum = true
 needs_items Maximum = true
 needs_items ArgMin = true
@@ -44,7 +44,7 @@ abbrev pub outcome_of : Owned → Outcome
 outcome_of owned = record { descr = owned.descr; shape = owned.layout.shape }
 
 -- the array that a reduction of items of a type in a shape gives, or the first refusal
-unfoldable pub outcome : Reduction → Descr → List ℕ → Option ℤ → Bool → Result Outcome Refusal
+unfoldable pub outcome : Red → Descr → List ℕ → Option ℤ → Bool → Result Outcome Refusal
 outcome reduction descr shape named keep = do
   let axis = named_axis (length shape) named
   let result = reduced_shape shape axis keep

@@ -12,8 +12,9 @@ use Rattle.elem_descr.specs.declared.scalar.Scalar.TheVariants.{Bool as BoolScal
 use Rattle.elem_descr.specs.Blocks.{item_from}
 use Rattle.elem_descr.specs.Values.{LeafValue, number}
 use Rattle.elem_descr.specs.Encoding.{number_of, wrap}
-use Rattle.script_lang.specs.declared.operation.Reduction.{Reduction}
-use Rattle.script_lang.specs.declared.operation.Reduction.TheVariants.{Sum, Product, Minimum, Maximum, Any, All, ArgMin, ArgMax}
+use Rattle.machine_numbers.specs.Kinds.{little}
+use Rattle.machine_numbers.specs.declared.operators.Red.{Red}
+use Rattle.machine_numbers.specs.declared.operators.Red.TheVariants.{Sum, Product, Minimum, Maximum, Any, All, ArgMin, ArgMax}
 
 -- ---- types
 
@@ -23,13 +24,8 @@ wide (Byte signed) = Int signed Eight Little
 wide (Int signed width order) = Int signed Eight Little
 wide _ = Int true Eight Little
 
--- the same numbers, the lowest byte first
-abbrev pub little : Scalar → Scalar
-little (Int signed width order) = Int signed width Little
-little scalar = scalar
-
 -- the type of the result, where the items are of a type of numbers
-abbrev pub result_scalar : Reduction → Scalar → Scalar
+abbrev pub result_scalar : Red → Scalar → Scalar
 result_scalar Sum scalar = wide scalar
 result_scalar Product scalar = wide scalar
 result_scalar Minimum scalar = little scalar
@@ -65,7 +61,7 @@ first_place value [] = 0
 first_place value (first ∷ numbers) = if int_eq first value then 0 else suc (first_place value numbers)
 
 -- what a reduction makes of numbers, as a value of the result's type
-abbrev pub reduced : Reduction → Scalar → List ℤ → ℤ
+abbrev pub reduced : Red → Scalar → List ℤ → ℤ
 reduced Sum scalar numbers = wrap scalar (sum_of numbers)
 reduced Product scalar numbers = wrap scalar (product_of numbers)
 reduced Minimum scalar numbers = least numbers
@@ -82,10 +78,10 @@ abbrev pub item_number : List LeafValue → ℤ
 item_number item = number_of (get_or item 0 (number (pos 0)))
 
 -- what a reduction makes of items, as an item of the result's type
-abbrev pub reduced_item : Reduction → Descr → List (List LeafValue) → List LeafValue
+abbrev pub reduced_item : Red → Descr → List (List LeafValue) → List LeafValue
 reduced_item reduction (ScalarDescr scalar) items = number (reduced reduction scalar (map item_number items)) ∷ []
 reduced_item reduction (RecordDescr structure) items = []
 
 -- and of the items of a block at the offsets of each list
-abbrev pub reduced_items : Reduction → Descr → Descr → List ℕ → List (List ℕ) → List (List LeafValue)
+abbrev pub reduced_items : Red → Descr → Descr → List ℕ → List (List ℕ) → List (List LeafValue)
 reduced_items reduction to from block lists = map (λ list. reduced_item reduction to (map (item_from from block) list)) lists

@@ -1,22 +1,20 @@
 //! Results that are made of no items.
 ghost use Rattle.std.specs.Prelude.{◌≡◌, ◌*◌, ◌<◌, ℕ, [], true, length};
 ghost use Rattle.elem_descr.specs.declared.scalar.Order.TheVariants.{Little};
-ghost use Rattle.elem_descr.specs.Encoding.{decode, size};
-ghost use Rattle.elem_descr.specs.Values.{number};
+ghost use Rattle.elem_descr.specs.Encoding.{size};
 ghost use Rattle.raw_block.specs.Bytes.{item_at};
 ghost use Rattle.reductions.specs.Outcomes.{needs_items};
 ghost use Rattle.reductions.specs.Reductions.{result_scalar};
-ghost use Rattle.reductions.specs.inside.Numbers.{IsReduced};
+ghost use Rattle.reductions.specs.inside.Numbers.{IsStored, IsReduced};
 
 use crate::lines::store_at;
-use crate::values::Value;
 use elem_descr::Scalar;
-use script_lang::Reduction;
+use machine_numbers::{Number, Red};
 
 /// Writes a number `count` times, one after another.
-fn fill_with<T: Value>(value: T, out: &mut [u8], count: usize)
+fn fill_with<T: Number>(value: T, out: &mut [u8], count: usize)
     requires { length out.old ≡ count * T.WIDTH }
-    ensures items { (k : ℕ) → k < count → decode (T.scalar Little) (item_at (k * T.WIDTH) T.WIDTH out.new) ≡ number (T.value value) }
+    ensures items { (k : ℕ) → k < count → IsStored (T.scalar Little) (T.value value) (item_at (k * T.WIDTH) T.WIDTH out.new) }
     ensures len { length out.new ≡ length out.old }
 {
     let _len = out.len();
@@ -26,7 +24,7 @@ fn fill_with<T: Value>(value: T, out: &mut [u8], count: usize)
 }
 
 /// Writes what a reduction makes of no items, `count` times, where it is one of no items.
-pub(crate) fn fill_empty(reduction: Reduction, _scalar: &Scalar, out: &mut [u8], count: usize)
+pub(crate) fn fill_empty(reduction: Red, _scalar: &Scalar, out: &mut [u8], count: usize)
     requires room { length out.old ≡ count * size (result_scalar reduction _scalar.now) }
     requires none { needs_items reduction ≡ true → count ≡ 0 }
     ensures items { (k : ℕ) → k < count → IsReduced reduction _scalar.now []
@@ -34,10 +32,10 @@ pub(crate) fn fill_empty(reduction: Reduction, _scalar: &Scalar, out: &mut [u8],
     ensures len { length out.new ≡ length out.old }
 {
     match reduction {
-        Reduction::Sum => fill_with(0_u64, out, count),
-        Reduction::Product => fill_with(1_u64, out, count),
-        Reduction::Any => fill_with(false, out, count),
-        Reduction::All => fill_with(true, out, count),
+        Red::Sum => fill_with(0_u64, out, count),
+        Red::Product => fill_with(1_u64, out, count),
+        Red::Any => fill_with(false, out, count),
+        Red::All => fill_with(true, out, count),
         _ => {}
     }
 }

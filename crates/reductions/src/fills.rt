@@ -10,12 +10,11 @@ ghost use Rattle.reductions.specs.inside.Numbers.{numbers_at, lines, IsReduced, 
 use crate::folds::Fold;
 use crate::lines::{fold_run, number_at, store_at};
 use crate::rows::fill_row;
-use crate::values::Value;
-use elementwise::{Number, Ordered};
+use machine_numbers::{Number, Ordered};
 use shape_strides::{Layout, Run, Runs, StridedAxis};
 
 /// Writes what comes of the line along an axis from each item of a run on to the `size` bytes from `at` on.
-fn fill_part<S: Value, O: Ordered, F: Fold<S>>(
+fn fill_part<S: Number, O: Ordered, F: Fold<S>>(
     out: &mut [u8],
     at: usize,
     size: usize,
@@ -40,7 +39,7 @@ fn fill_part<S: Value, O: Ordered, F: Fold<S>>(
 }
 
 /// Writes what comes of the lines along an axis from the items of runs on.
-fn fill_runs<S: Value, O: Ordered, F: Fold<S>>(
+fn fill_runs<S: Number, O: Ordered, F: Fold<S>>(
     out: &mut [u8],
     runs: Runs<'_>,
     axis: StridedAxis,
@@ -66,7 +65,7 @@ fn fill_runs<S: Value, O: Ordered, F: Fold<S>>(
 }
 
 /// Goes over the numbers of runs.
-fn fold_runs<S: Value, O: Ordered, F: Fold<S>>(
+fn fold_runs<S: Number, O: Ordered, F: Fold<S>>(
     held: F::Held,
     bytes: &[u8],
     runs: Runs<'_>,
@@ -85,7 +84,7 @@ fn fold_runs<S: Value, O: Ordered, F: Fold<S>>(
 }
 
 /// What comes of all items of a layout.
-fn fold_all<S: Value, O: Ordered, F: Fold<S>>(bytes: &[u8], layout: &Layout) -> F::Total
+fn fold_all<S: Number, O: Ordered, F: Fold<S>>(bytes: &[u8], layout: &Layout) -> F::Total
     requires some { 0 < count layout.now.shape }
     requires inside { All (λ offset. offset + S.WIDTH ≤ length bytes.now) (offsets layout.now) }
     ensures { F.Total.value result ≡ F.meaning (numbers_at (S.scalar O.order) bytes.now (offsets layout.now)) }
@@ -97,7 +96,7 @@ fn fold_all<S: Value, O: Ordered, F: Fold<S>>(bytes: &[u8], layout: &Layout) -> 
 }
 
 /// Writes what comes of all items of a layout.
-pub(crate) fn fill_all<S: Value, O: Ordered, F: Fold<S>>(
+pub(crate) fn fill_all<S: Number, O: Ordered, F: Fold<S>>(
     out: &mut [u8],
     layout: &Layout,
     bytes: &[u8],
@@ -113,7 +112,7 @@ pub(crate) fn fill_all<S: Value, O: Ordered, F: Fold<S>>(
 }
 
 /// Writes what comes of the lines along an axis from the items of a layout on.
-pub(crate) fn fill_along<S: Value, O: Ordered, F: Fold<S>>(
+pub(crate) fn fill_along<S: Number, O: Ordered, F: Fold<S>>(
     out: &mut [u8],
     starts: &Layout,
     axis: StridedAxis,

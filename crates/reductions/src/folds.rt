@@ -4,28 +4,26 @@ ghost use Rattle.std.specs.Int.{int_min, int_max};
 ghost use Rattle.std.specs.List.{fold, list_any, list_all};
 ghost use Rattle.elem_descr.specs.declared.scalar.Order.{Order};
 ghost use Rattle.elem_descr.specs.declared.scalar.Order.TheVariants.{Little};
-ghost use Rattle.elem_descr.specs.Encoding.{decode, low_bits, size};
-ghost use Rattle.elem_descr.specs.Values.{number};
-ghost use Rattle.script_lang.specs.declared.operation.Reduction.{Reduction};
-ghost use Rattle.script_lang.specs.declared.operation.Reduction.TheVariants.{Sum, Product, Minimum, Maximum, Any, All, ArgMin, ArgMax};
+ghost use Rattle.elem_descr.specs.Encoding.{low_bits, size};
+ghost use Rattle.machine_numbers.specs.declared.operators.Red.{Red};
+ghost use Rattle.machine_numbers.specs.declared.operators.Red.TheVariants.{Sum, Product, Minimum, Maximum, Any, All, ArgMin, ArgMax};
 ghost use Rattle.reductions.specs.Reductions.{is_true, sum_of, product_of, least, greatest, first_place, result_scalar};
-ghost use Rattle.reductions.specs.inside.Numbers.{IsReduced};
+ghost use Rattle.reductions.specs.inside.Numbers.{IsStored, IsReduced};
 ghost use Rattle.reductions.specs.inside.FoldLaws.{sum_bits, product_bits, sum_is, product_is, wide_size, least_from, greatest_from, place_is, first_place-lt, is_true_bits, kept_is, kept_size};
 ghost use Rattle.reductions.specs.inside.FoundLaws.{HasFound, less_taken, less_passed, greater_taken, greater_passed};
 
-use crate::values::Value;
-use elementwise::Number;
+use machine_numbers::Number;
 
 /// A reduction of numbers of a type, as it goes over them. It is given the first of them when it starts, and
 /// then all of them, that one too.
-pub(crate) trait Fold<S: Value> {
+pub(crate) trait Fold<S: Number> {
     /// What is known of the numbers so far.
     type Held: Copy;
 
     /// What comes of them.
-    type Total: Value;
+    type Total: Number;
 
-    ghost reduction: { Reduction };
+    ghost reduction: { Red };
 
     // What is held belongs to a first number and the numbers so far.
     ghost holds: { Self.Held → ℤ → List ℤ → Type 0 };
@@ -65,14 +63,14 @@ pub(crate) trait Fold<S: Value> {
     }
 
     ghost gives: { (order : Order) (bytes : List ℕ) (numbers : List ℤ) → length numbers < 2 ^ 63
-        → decode (Self.Total.scalar Little) bytes ≡ number (meaning numbers) → IsReduced reduction (S.scalar order) numbers bytes };
+        → IsStored (Self.Total.scalar Little) (meaning numbers) bytes → IsReduced reduction (S.scalar order) numbers bytes };
 
     ghost has_size: { (order : Order) → size (result_scalar reduction (S.scalar order)) ≡ Self.Total.WIDTH };
 }
 
 pub(crate) struct SumOf;
 
-impl<S: Value> Fold<S> for SumOf {
+impl<S: Number> Fold<S> for SumOf {
     type Held = u64;
 
     type Total = u64;
@@ -110,7 +108,7 @@ impl<S: Value> Fold<S> for SumOf {
 
 pub(crate) struct ProductOf;
 
-impl<S: Value> Fold<S> for ProductOf {
+impl<S: Number> Fold<S> for ProductOf {
     type Held = u64;
 
     type Total = u64;
@@ -148,7 +146,7 @@ impl<S: Value> Fold<S> for ProductOf {
 
 pub(crate) struct Least;
 
-impl<S: Value> Fold<S> for Least {
+impl<S: Number> Fold<S> for Least {
     type Held = S;
 
     type Total = S;
@@ -163,7 +161,7 @@ impl<S: Value> Fold<S> for Least {
 
     ghost RESUMES = { true };
 
-    ghost gives = { λ order bytes numbers few is. kept_is (S.scalar order) (S.scalar Little) bytes (least numbers) (S.Value.is_little order) is };
+    ghost gives = { λ order bytes numbers few is. kept_is (S.scalar order) (S.scalar Little) bytes (least numbers) (S.is_little order) is };
 
     ghost has_size = { λ order. kept_size (S.scalar order) S.WIDTH (S.has_width order) };
 
@@ -186,7 +184,7 @@ impl<S: Value> Fold<S> for Least {
 
 pub(crate) struct Greatest;
 
-impl<S: Value> Fold<S> for Greatest {
+impl<S: Number> Fold<S> for Greatest {
     type Held = S;
 
     type Total = S;
@@ -201,7 +199,7 @@ impl<S: Value> Fold<S> for Greatest {
 
     ghost RESUMES = { true };
 
-    ghost gives = { λ order bytes numbers few is. kept_is (S.scalar order) (S.scalar Little) bytes (greatest numbers) (S.Value.is_little order) is };
+    ghost gives = { λ order bytes numbers few is. kept_is (S.scalar order) (S.scalar Little) bytes (greatest numbers) (S.is_little order) is };
 
     ghost has_size = { λ order. kept_size (S.scalar order) S.WIDTH (S.has_width order) };
 
@@ -224,7 +222,7 @@ impl<S: Value> Fold<S> for Greatest {
 
 pub(crate) struct AnyTrue;
 
-impl<S: Value> Fold<S> for AnyTrue {
+impl<S: Number> Fold<S> for AnyTrue {
     type Held = bool;
 
     type Total = bool;
@@ -262,7 +260,7 @@ impl<S: Value> Fold<S> for AnyTrue {
 
 pub(crate) struct AllTrue;
 
-impl<S: Value> Fold<S> for AllTrue {
+impl<S: Number> Fold<S> for AllTrue {
     type Held = bool;
 
     type Total = bool;
@@ -307,7 +305,7 @@ pub(crate) struct Found<S> {
 
 pub(crate) struct PlaceOfLeast;
 
-impl<S: Value> Fold<S> for PlaceOfLeast {
+impl<S: Number> Fold<S> for PlaceOfLeast {
     type Held = Found<S>;
 
     type Total = u64;
@@ -361,7 +359,7 @@ impl<S: Value> Fold<S> for PlaceOfLeast {
 
 pub(crate) struct PlaceOfGreatest;
 
-impl<S: Value> Fold<S> for PlaceOfGreatest {
+impl<S: Number> Fold<S> for PlaceOfGreatest {
     type Held = Found<S>;
 
     type Total = u64;

@@ -11,6 +11,6 @@ mod lines;
 mod outcomes;
 mod reducing;
 mod rows;
-mod values;
+mod sources;
 
 pub use reducing::reduce;

@@ -1,7 +1,7 @@
 //! Items along a line, and what comes of them.
 ghost use Rattle.std.specs.Prelude.{◌≡◌, true, ◌+◌, ◌*◌, ◌^◌, ◌<◌, ◌≤◌, ◌⊎◌, ℕ, ℤ, List, ◌++◌, pos, length, IsTrue};
 ghost use Rattle.elem_descr.specs.declared.scalar.Order.TheVariants.{Little};
-ghost use Rattle.elem_descr.specs.Encoding.{decode};
+ghost use Rattle.elem_descr.specs.Encoding.{decode, encode};
 ghost use Rattle.elem_descr.specs.Values.{number};
 ghost use Rattle.raw_block.specs.Bytes.{place, item_at, EachWithin};
 ghost use Rattle.shape_strides.specs.Runs.{run_along, run_offsets};
@@ -9,8 +9,7 @@ ghost use Rattle.shape_strides.specs.RunPairs.{run_front};
 ghost use Rattle.reductions.specs.inside.Numbers.{number_at, numbers_at, IsReduced};
 
 use crate::folds::Fold;
-use crate::values::Value;
-use elementwise::{Number, Ordered, place};
+use machine_numbers::{LowFirst, Number, Ordered, place};
 use shape_strides::{Run, StridedAxis};
 
 /// The number at an offset.
@@ -24,7 +23,7 @@ pub(crate) fn number_at<S: Number, O: Ordered>(bytes: &[u8], at: usize) -> S
 
 /// Goes over the numbers of a run from one place to another. They have `seen` before the run.
 #[inline(always)]
-fn fold_each<S: Value, O: Ordered, F: Fold<S>>(
+fn fold_each<S: Number, O: Ordered, F: Fold<S>>(
     held: F::Held,
     seen: usize,
     bytes: &[u8],
@@ -48,7 +47,7 @@ fn fold_each<S: Value, O: Ordered, F: Fold<S>>(
 
 /// Whether the numbers of a run from one place to another are known to change nothing.
 #[inline(always)]
-fn all_pass<S: Value, O: Ordered, F: Fold<S>>(
+fn all_pass<S: Number, O: Ordered, F: Fold<S>>(
     held: F::Held,
     bytes: &[u8],
     run: Run,
@@ -74,7 +73,7 @@ const BLOCK: usize = 256;
 
 /// Goes over the numbers of a run, block by block: one after the other where some may change what is held.
 #[inline(always)]
-fn fold_blocks<S: Value, O: Ordered, F: Fold<S>>(
+fn fold_blocks<S: Number, O: Ordered, F: Fold<S>>(
     held: F::Held,
     seen: usize,
     bytes: &[u8],
@@ -99,7 +98,7 @@ fn fold_blocks<S: Value, O: Ordered, F: Fold<S>>(
 
 /// Goes over the numbers of a run, with a loop of its own for numbers that lie one right after the other.
 /// They have `seen` before them.
-pub(crate) fn fold_run<S: Value, O: Ordered, F: Fold<S>>(
+pub(crate) fn fold_run<S: Number, O: Ordered, F: Fold<S>>(
     held: F::Held,
     seen: usize,
     bytes: &[u8],
@@ -125,7 +124,7 @@ pub(crate) fn fold_run<S: Value, O: Ordered, F: Fold<S>>(
 }
 
 /// What comes of the numbers of a run.
-fn fold_line<S: Value, O: Ordered, F: Fold<S>>(bytes: &[u8], line: Run) -> F::Total
+fn fold_line<S: Number, O: Ordered, F: Fold<S>>(bytes: &[u8], line: Run) -> F::Total
     requires some { 1 ≤ line.count }
     requires few { line.count < 2 ^ 63 }
     requires within { EachWithin (length bytes.now) line.offset line.step S.WIDTH line.count }
@@ -150,17 +149,18 @@ pub(crate) fn line_along(axis: StridedAxis, offset: usize) -> Run
 
 /// Writes a number to the bytes from `at` on, the lowest first.
 #[inline(always)]
-pub(crate) fn store_at<T: Value>(total: T, row: &mut [u8], at: usize)
+pub(crate) fn store_at<T: Number>(total: T, row: &mut [u8], at: usize)
     requires { at + T.WIDTH ≤ length row.old }
     ensures value { decode (T.scalar Little) (item_at at T.WIDTH row.new) ≡ number (T.value total) }
+    ensures exact { item_at at T.WIDTH row.new ≡ encode (T.scalar Little) (number (T.value total)) }
     ensures others { (other : ℕ) → other + T.WIDTH ≤ length row.old → (other + T.WIDTH ≤ at) ⊎ (at + T.WIDTH ≤ other) → item_at other T.WIDTH row.new ≡ item_at other T.WIDTH row.old }
     ensures len { length row.new ≡ length row.old }
 {
-    total.store(&mut row[at..at + T::WIDTH]);
+    total.write::<LowFirst>(&mut row[at..at + T::WIDTH]);
 }
 
 /// Writes what comes of the line along an axis from each item of a run on.
-pub(crate) fn fill_by_lines<S: Value, O: Ordered, F: Fold<S>>(
+pub(crate) fn fill_by_lines<S: Number, O: Ordered, F: Fold<S>>(
     row: &mut [u8],
     starts: Run,
     axis: StridedAxis,

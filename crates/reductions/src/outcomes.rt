@@ -4,13 +4,13 @@ ghost use Rattle.elem_descr.specs.declared.descr.Descr.TheVariants.{Scalar as Sc
 ghost use Rattle.elem_descr.specs.Encoding.{IsNumber};
 ghost use Rattle.elem_descr.specs.Refusals.{Gives};
 ghost use Rattle.shape_strides.specs.Indexes.{count};
-ghost use Rattle.reductions.specs.Reductions.{wide, little, result_scalar};
+ghost use Rattle.reductions.specs.Reductions.{wide, result_scalar};
 ghost use Rattle.reductions.specs.Outcomes.{number_scalar, needs_items, has_empty_list};
 ghost use Rattle.reductions.specs.inside.Axes.{IsAxisOf, shape_after};
 
 use crate::axes::{list_length, reduced_lengths};
 use elem_descr::{Descr, Order, Refusal, Scalar, Width};
-use script_lang::Reduction;
+use machine_numbers::{Red, little};
 use shape_strides::Shape;
 use std::alloc::Global;
 
@@ -42,29 +42,15 @@ fn wide(scalar: &Scalar) -> Scalar
     }
 }
 
-/// The same numbers, the lowest byte first.
-fn little(scalar: &Scalar) -> Scalar
-    ensures { result ≡ little scalar.now }
-{
-    match scalar {
-        Scalar::Int { signed, width, .. } => Scalar::Int {
-            signed: *signed,
-            width: *width,
-            order: Order::Little,
-        },
-        _ => *scalar,
-    }
-}
-
 /// The type of a result.
-pub(crate) fn result_scalar(reduction: Reduction, scalar: &Scalar) -> Scalar
+pub(crate) fn result_scalar(reduction: Red, scalar: &Scalar) -> Scalar
     ensures { result ≡ result_scalar reduction scalar.now }
 {
     match reduction {
-        Reduction::Sum | Reduction::Product => wide(scalar),
-        Reduction::Minimum | Reduction::Maximum => little(scalar),
-        Reduction::Any | Reduction::All => Scalar::Bool,
-        Reduction::ArgMin | Reduction::ArgMax => Scalar::Int {
+        Red::Sum | Red::Product => wide(scalar),
+        Red::Minimum | Red::Maximum => little(scalar),
+        Red::Any | Red::All => Scalar::Bool,
+        Red::ArgMin | Red::ArgMax => Scalar::Int {
             signed: true,
             width: Width::Eight,
             order: Order::Little,
@@ -73,11 +59,11 @@ pub(crate) fn result_scalar(reduction: Reduction, scalar: &Scalar) -> Scalar
 }
 
 /// Whether a reduction is one of some items at least.
-fn needs_items(reduction: Reduction) -> bool
+fn needs_items(reduction: Red) -> bool
     ensures { result ≡ needs_items reduction }
 {
     match reduction {
-        Reduction::Minimum | Reduction::Maximum | Reduction::ArgMin | Reduction::ArgMax => true,
+        Red::Minimum | Red::Maximum | Red::ArgMin | Red::ArgMax => true,
         _ => false,
     }
 }
@@ -95,7 +81,7 @@ fn have_items(lengths: &[usize]) -> bool
 }
 
 /// Whether some item of the result would be made of no items, though a reduction needs some.
-fn lacks_items(reduction: Reduction, shape: &Shape, axis: Option<usize>, lengths: &[usize]) -> bool
+fn lacks_items(reduction: Red, shape: &Shape, axis: Option<usize>, lengths: &[usize]) -> bool
     requires { IsAxisOf (length shape.now) axis }
     ensures { result ≡ (needs_items reduction && has_empty_list shape.now axis lengths.now) }
 {
@@ -111,7 +97,7 @@ fn lacks_items(reduction: Reduction, shape: &Shape, axis: Option<usize>, lengths
 /// The shape of the result.
 pub(crate) fn shape_after(
     alloc: Global,
-    reduction: Reduction,
+    reduction: Red,
     shape: &Shape,
     axis: Option<usize>,
     keep: bool,

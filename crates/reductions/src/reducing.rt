@@ -1,28 +1,32 @@
 //! Reductions of the items of an array.
-ghost use Rattle.std.specs.Prelude.{◌≡◌, ◌+◌, ◌*◌, ◌<◌, ◌≤◌, true, pos, Some, length, map, slice_index, slice_index_or, All, IfOk, IfErr, OnOk};
+ghost use Rattle.std.specs.Prelude.{◌≡◌, ◌+◌, ◌*◌, ◌<◌, ◌≤◌, true, pos, Some, None, length, map, slice_index, slice_index_or, IfOk, IfErr, OnOk};
+ghost use Rattle.std.specs.List.{flat_map};
 ghost use Rattle.elem_descr.specs.declared.refusal.Refusal.TheVariants.{OutOfMemory};
 ghost use Rattle.elem_descr.specs.Blocks.{item_from};
-ghost use Rattle.elem_descr.specs.Encoding.{IsNumber, size};
-ghost use Rattle.elem_descr.specs.Items.{item_size};
+ghost use Rattle.elem_descr.specs.Encoding.{IsNumber};
+ghost use Rattle.elem_descr.specs.Items.{item_size, encode_item};
 ghost use Rattle.elem_descr.specs.Refusals.{Gives};
 ghost use Rattle.shape_strides.specs.declared.memory_order.MemoryOrder.TheVariants.{C};
+ghost use Rattle.shape_strides.specs.Indexes.{count};
 ghost use Rattle.shape_strides.specs.Layouts.{offsets};
 ghost use Rattle.shape_strides.specs.Limits.{max_items};
 ghost use Rattle.overlap_copy.specs.Blocks.{offsets_in};
+ghost use Rattle.overlap_copy.specs.ItemLists.{owned_items};
 ghost use Rattle.reductions.specs.Lists.{named_axis, list_length, lists};
 ghost use Rattle.reductions.specs.Outcomes.{needs_items, outcome, outcome_of};
-ghost use Rattle.reductions.specs.Reductions.{result_scalar, reduced_items};
+ghost use Rattle.reductions.specs.Reductions.{reduced_items};
 ghost use Rattle.reductions.specs.inside.Axes.{IsAxisOf};
-ghost use Rattle.reductions.specs.inside.Numbers.{AreReduced};
+ghost use Rattle.reductions.specs.inside.Sources.{lists_of, result_size, room_for, AreResults};
 
 use crate::axes::{list_length, named_axis, starts_of};
 use crate::empties::fill_empty;
-use crate::kinds::reduce_scalars;
+use crate::kinds::Reducing;
 use crate::outcomes::{number_scalar, result_scalar, shape_after};
-use elem_descr::{Descr, Refusal, Scalar};
-use overlap_copy::Owned;
+use crate::sources::{Lists, Source};
+use elem_descr::{Descr, Refusal};
+use machine_numbers::{Red, on_number};
+use overlap_copy::{Items, Owned};
 use raw_block::RawBlock;
-use script_lang::Reduction;
 use shape_strides::{Layout, MemoryOrder, StridedAxis};
 use std::alloc::Global;
 
@@ -42,126 +46,125 @@ fn axis_at(layout: &Layout, axis: usize) -> StridedAxis
 fn reduce_along(
     alloc: Global,
     out: &mut [u8],
-    reduction: Reduction,
-    scalar: &Scalar,
-    layout: &Layout,
+    reduction: Red,
+    source: Source<'_>,
     axis: usize,
-    bytes: &[u8],
 ) -> Result<(), Refusal>
-    requires number { IsNumber scalar.now }
-    requires axis { axis < length layout.now.shape }
-    requires some { 1 ≤ slice_index layout.now.shape axis }
-    requires room { length out.old ≡ length (lists layout.now.shape (Some axis) (offsets layout.now)) * size (result_scalar reduction scalar.now) }
-    requires inside { All (λ offset. offset + size scalar.now ≤ length bytes.now) (offsets layout.now) }
-    ensures items { OnOk result (AreReduced reduction scalar.now bytes.now (size (result_scalar reduction scalar.now)) (lists layout.now.shape (Some axis) (offsets layout.now)) out.new) }
+    requires number { IsNumber source.scalar.now }
+    requires axis { (source.axis ≡ Some axis) × (axis < length source.layout.now.shape) }
+    requires some { 1 ≤ slice_index source.layout.now.shape axis }
+    requires room { length out.old ≡ room_for reduction source }
+    ensures items { OnOk result (AreResults reduction source.entry out.new) }
     ensures len { length out.new ≡ length out.old }
     ensures err { IfErr result (λ refusal. refusal ≡ OutOfMemory) }
 {
-    let starts = starts_of(alloc, layout, axis)?;
-    let along = axis_at(layout, axis);
-    reduce_scalars(scalar, reduction, out, &starts, Some(along), bytes);
+    let starts = starts_of(alloc, source.layout, axis)?;
+    let lists = Lists {
+        bytes: source.bytes,
+        width: source.scalar.size(),
+        starts: &starts,
+        axis: Some(axis_at(source.layout, axis)),
+    };
+    on_number(source.scalar, Reducing { reduction, lists }, out);
     Ok(())
 }
 
-/// Writes what comes of each list.
+/// Writes what comes of all items, of which there are some.
+fn reduce_all(out: &mut [u8], reduction: Red, source: Source<'_>)
+    requires number { IsNumber source.scalar.now }
+    requires axis { source.axis ≡ None }
+    requires some { 0 < count source.layout.now.shape }
+    requires room { length out.old ≡ room_for reduction source }
+    ensures items { AreResults reduction source.entry out.new }
+    ensures len { length out.new ≡ length out.old }
+{
+    let lists = Lists {
+        bytes: source.bytes,
+        width: source.scalar.size(),
+        starts: source.layout,
+        axis: None,
+    };
+    on_number(source.scalar, Reducing { reduction, lists }, out);
+}
+
+/// Writes what comes of each of so many lists.
 fn reduce_into(
     alloc: Global,
     out: &mut [u8],
     items: usize,
-    reduction: Reduction,
-    scalar: &Scalar,
-    layout: &Layout,
-    axis: Option<usize>,
-    bytes: &[u8],
+    reduction: Red,
+    source: Source<'_>,
 ) -> Result<(), Refusal>
-    requires number { IsNumber scalar.now }
-    requires axis { IsAxisOf (length layout.now.shape) axis }
-    requires items { items ≡ length (lists layout.now.shape axis (offsets layout.now)) }
-    requires some { needs_items reduction ≡ true → list_length layout.now.shape axis ≡ 0 → items ≡ 0 }
-    requires room { length out.old ≡ items * size (result_scalar reduction scalar.now) }
-    requires inside { All (λ offset. offset + size scalar.now ≤ length bytes.now) (offsets layout.now) }
-    ensures items { OnOk result (AreReduced reduction scalar.now bytes.now (size (result_scalar reduction scalar.now)) (lists layout.now.shape axis (offsets layout.now)) out.new) }
+    requires number { IsNumber source.scalar.now }
+    requires axis { IsAxisOf (length source.layout.now.shape) source.axis }
+    requires items { items ≡ length (lists_of source) }
+    requires some { needs_items reduction ≡ true → list_length source.layout.now.shape source.axis ≡ 0 → items ≡ 0 }
+    requires room { length out.old ≡ room_for reduction source }
+    ensures items { OnOk result (AreResults reduction source.entry out.new) }
     ensures len { length out.new ≡ length out.old }
     ensures err { IfErr result (λ refusal. refusal ≡ OutOfMemory) }
 {
-    if list_length(&layout.shape, axis) == 0 {
-        fill_empty(reduction, scalar, out, items);
+    if list_length(&source.layout.shape, source.axis) == 0 {
+        fill_empty(reduction, source.scalar, out, items);
         return Ok(());
     }
-    if let Some(axis) = axis {
-        return reduce_along(alloc, out, reduction, scalar, layout, axis, bytes);
+    if let Some(axis) = source.axis {
+        return reduce_along(alloc, out, reduction, source, axis);
     }
-    reduce_scalars(scalar, reduction, out, layout, None, bytes);
+    reduce_all(out, reduction, source);
     Ok(())
 }
 
-/// A block of what comes of each list.
+/// A block of what comes of each of so many lists.
 fn reduced_block(
     alloc: Global,
     items: usize,
-    reduction: Reduction,
-    scalar: &Scalar,
-    block: &RawBlock,
-    layout: &Layout,
-    axis: Option<usize>,
+    reduction: Red,
+    source: Source<'_>,
 ) -> Result<RawBlock, Refusal>
-    requires number { IsNumber scalar.now }
-    requires axis { IsAxisOf (length layout.now.shape) axis }
-    requires items { items ≡ length (lists layout.now.shape axis (offsets layout.now)) }
+    requires number { IsNumber source.scalar.now }
+    requires axis { IsAxisOf (length source.layout.now.shape) source.axis }
+    requires items { items ≡ length (lists_of source) }
     requires few { items ≤ max_items }
-    requires some { needs_items reduction ≡ true → list_length layout.now.shape axis ≡ 0 → items ≡ 0 }
-    requires inside { All (λ offset. offset + size scalar.now ≤ length block.now) (offsets layout.now) }
-    ensures items { IfOk result (AreReduced reduction scalar.now block.now (size (result_scalar reduction scalar.now)) (lists layout.now.shape axis (offsets layout.now))) }
-    ensures len { IfOk result (λ out. length out ≡ items * size (result_scalar reduction scalar.now)) }
+    requires some { needs_items reduction ≡ true → list_length source.layout.now.shape source.axis ≡ 0 → items ≡ 0 }
+    ensures items { IfOk result (AreResults reduction source.entry) }
+    ensures len { IfOk result (λ out. length out ≡ items * result_size reduction source.entry) }
     ensures err { IfErr result (λ refusal. refusal ≡ OutOfMemory) }
 {
-    let width = result_scalar(reduction, scalar).size();
+    let width = result_scalar(reduction, source.scalar).size();
     let mut out = RawBlock::try_zeroed(alloc, items * width)?;
-    reduce_into(
-        alloc,
-        out.bytes_mut(),
-        items,
-        reduction,
-        scalar,
-        layout,
-        axis,
-        block.bytes(),
-    )?;
+    reduce_into(alloc, out.bytes_mut(), items, reduction, source)?;
     Ok(out)
 }
 
-/// The items of a layout reduced along an axis, where a negative number counts from the end, or all of
+/// Items reduced along an axis, where a negative number counts from the end, or all of
 /// them where no axis is named, in a block of their own in C order. The axes that go have length 1 in the
 /// result if they are to be kept. Refused are, in this order, items that are no numbers as
 /// `NotForThisKind`, an axis out of range as `BadAxis`, the least or greatest of no items and its place as
 /// `EmptyReduction`, and a result of more than 2^24 items as `TooLarge`.
 pub fn reduce(
     alloc: Global,
-    reduction: Reduction,
-    block: &RawBlock,
-    layout: &Layout,
-    descr: &Descr,
+    reduction: Red,
+    items: Items<'_>,
     axis: Option<i128>,
     keep: bool,
 ) -> Result<Owned, Refusal>
-    requires inside { All (λ offset. offset + item_size descr.now ≤ length block.now) (offsets layout.now) }
-    ensures array { Gives outcome_of result (outcome reduction descr.now layout.now.shape axis keep) }
+    ensures array { Gives outcome_of result (outcome reduction items.entry.descr.now items.entry.layout.now.shape axis keep) }
     ensures order { IfOk result (λ o. offsets o.layout ≡ offsets_in C (item_size o.descr) o.layout.shape) }
     ensures items { IfOk result (λ o. map (item_from o.descr o.block) (offsets o.layout)
-        ≡ reduced_items reduction o.descr descr.now block.now (lists layout.now.shape (named_axis (length layout.now.shape) axis) (offsets layout.now))) }
+        ≡ reduced_items reduction o.descr items.entry.descr.now items.entry.block.now (lists items.entry.layout.now.shape (named_axis (length items.entry.layout.now.shape) axis) (offsets items.entry.layout.now))) }
+    ensures bytes { IfOk result (λ o. o.block ≡ flat_map (encode_item o.descr) (owned_items o)) }
 {
-    let scalar = number_scalar(descr)?;
-    let axis = named_axis(layout.shape.rank(), axis)?;
-    let shape = shape_after(alloc, reduction, &layout.shape, axis, keep)?;
-    let out = reduced_block(
-        alloc,
-        shape.items(),
-        reduction,
-        &scalar,
-        block,
-        layout,
+    let scalar = number_scalar(items.descr)?;
+    let axis = named_axis(items.layout.shape.rank(), axis)?;
+    let shape = shape_after(alloc, reduction, &items.layout.shape, axis, keep)?;
+    let source = Source {
+        bytes: items.block.bytes(),
+        layout: items.layout,
+        scalar: &scalar,
         axis,
-    )?;
+    };
+    let out = reduced_block(alloc, shape.items(), reduction, source)?;
     let descr = Descr::Scalar(result_scalar(reduction, &scalar));
     let owned = Owned::over(alloc, descr, &shape, MemoryOrder::C, out)?;
     Ok(owned)

@@ -1,26 +1,23 @@
 //! Rows of items that are taken into a row of results.
 ghost use Rattle.std.specs.Prelude.{◌≡◌, ◌+◌, ◌*◌, ◌^◌, ◌<◌, ◌≤◌, ◌⊎◌, ℕ, ℤ, List, [], ◌∷◌, ◌++◌, true, pos, length, IsTrue};
 ghost use Rattle.elem_descr.specs.declared.scalar.Order.TheVariants.{Little};
-ghost use Rattle.elem_descr.specs.Encoding.{decode};
-ghost use Rattle.elem_descr.specs.Values.{number};
 ghost use Rattle.raw_block.specs.Bytes.{place, item_at, EachWithin};
 ghost use Rattle.shape_strides.specs.Runs.{run_along, run_offsets};
-ghost use Rattle.reductions.specs.inside.Numbers.{number_at, numbers_at, IsReduced};
+ghost use Rattle.reductions.specs.inside.Numbers.{number_at, numbers_at, IsStored, IsReduced};
 
 use crate::folds::Fold;
 use crate::lines::{fill_by_lines, line_along, number_at, store_at};
-use crate::values::Value;
-use elementwise::{LowFirst, Number, Ordered, place};
+use machine_numbers::{LowFirst, Number, Ordered, place};
 use shape_strides::{Run, StridedAxis};
 
 /// Takes a number, which has `seen` before it, into the result at a place.
 #[inline(always)]
-fn add_at<S: Value, F: Fold<S>>(row: &mut [u8], at: usize, item: S, seen: usize)
+fn add_at<S: Number, F: Fold<S>>(row: &mut [u8], at: usize, item: S, seen: usize)
     requires resumes { F.RESUMES ≡ true }
     requires room { at + F.Total.WIDTH ≤ length row.old }
     ensures value { (first : ℤ) (rest : List ℤ) → seen ≡ length (first ∷ rest)
-        → decode (F.Total.scalar Little) (item_at at F.Total.WIDTH row.old) ≡ number (F.meaning (first ∷ rest))
-        → decode (F.Total.scalar Little) (item_at at F.Total.WIDTH row.new) ≡ number (F.meaning (first ∷ (rest ++ S.value item ∷ []))) }
+        → IsStored (F.Total.scalar Little) (F.meaning (first ∷ rest)) (item_at at F.Total.WIDTH row.old)
+        → IsStored (F.Total.scalar Little) (F.meaning (first ∷ (rest ++ S.value item ∷ []))) (item_at at F.Total.WIDTH row.new) }
     ensures others { (other : ℕ) → other + F.Total.WIDTH ≤ length row.old → (other + F.Total.WIDTH ≤ at) ⊎ (at + F.Total.WIDTH ≤ other) → item_at other F.Total.WIDTH row.new ≡ item_at other F.Total.WIDTH row.old }
     ensures len { length row.new ≡ length row.old }
 {
@@ -31,15 +28,14 @@ fn add_at<S: Value, F: Fold<S>>(row: &mut [u8], at: usize, item: S, seen: usize)
 
 /// Takes each number of a run, which have `seen` before them, into a result.
 #[inline(always)]
-fn add_each<S: Value, O: Ordered, F: Fold<S>>(row: &mut [u8], run: Run, bytes: &[u8], seen: usize)
+fn add_each<S: Number, O: Ordered, F: Fold<S>>(row: &mut [u8], run: Run, bytes: &[u8], seen: usize)
     requires resumes { F.RESUMES ≡ true }
     requires room { length row.old ≡ run.count * F.Total.WIDTH }
     requires few { run.count < 2 ^ 63 }
     requires within { EachWithin (length bytes.now) run.offset run.step S.WIDTH run.count }
     ensures values { (j : ℕ) (first : ℤ) (rest : List ℤ) → j < run.count → seen ≡ length (first ∷ rest)
-        → decode (F.Total.scalar Little) (item_at (j * F.Total.WIDTH) F.Total.WIDTH row.old) ≡ number (F.meaning (first ∷ rest))
-        → decode (F.Total.scalar Little) (item_at (j * F.Total.WIDTH) F.Total.WIDTH row.new)
-        ≡ number (F.meaning (first ∷ (rest ++ number_at (S.scalar O.order) bytes.now (place run.offset run.step j) ∷ []))) }
+        → IsStored (F.Total.scalar Little) (F.meaning (first ∷ rest)) (item_at (j * F.Total.WIDTH) F.Total.WIDTH row.old)
+        → IsStored (F.Total.scalar Little) (F.meaning (first ∷ (rest ++ number_at (S.scalar O.order) bytes.now (place run.offset run.step j) ∷ []))) (item_at (j * F.Total.WIDTH) F.Total.WIDTH row.new) }
     ensures len { length row.new ≡ length row.old }
 {
     let _len = row.len();
@@ -72,15 +68,14 @@ fn near(run: Run, width: usize) -> Run
 }
 
 /// The same, with a loop of its own for numbers that lie one right after the other.
-fn add_row<S: Value, O: Ordered, F: Fold<S>>(row: &mut [u8], run: Run, bytes: &[u8], seen: usize)
+fn add_row<S: Number, O: Ordered, F: Fold<S>>(row: &mut [u8], run: Run, bytes: &[u8], seen: usize)
     requires resumes { F.RESUMES ≡ true }
     requires room { length row.old ≡ run.count * F.Total.WIDTH }
     requires few { run.count < 2 ^ 63 }
     requires within { EachWithin (length bytes.now) run.offset run.step S.WIDTH run.count }
     ensures values { (j : ℕ) (first : ℤ) (rest : List ℤ) → j < run.count → seen ≡ length (first ∷ rest)
-        → decode (F.Total.scalar Little) (item_at (j * F.Total.WIDTH) F.Total.WIDTH row.old) ≡ number (F.meaning (first ∷ rest))
-        → decode (F.Total.scalar Little) (item_at (j * F.Total.WIDTH) F.Total.WIDTH row.new)
-        ≡ number (F.meaning (first ∷ (rest ++ number_at (S.scalar O.order) bytes.now (place run.offset run.step j) ∷ []))) }
+        → IsStored (F.Total.scalar Little) (F.meaning (first ∷ rest)) (item_at (j * F.Total.WIDTH) F.Total.WIDTH row.old)
+        → IsStored (F.Total.scalar Little) (F.meaning (first ∷ (rest ++ number_at (S.scalar O.order) bytes.now (place run.offset run.step j) ∷ []))) (item_at (j * F.Total.WIDTH) F.Total.WIDTH row.new) }
     ensures len { length row.new ≡ length row.old }
 {
     if is_near(run, S::WIDTH) {
@@ -91,12 +86,11 @@ fn add_row<S: Value, O: Ordered, F: Fold<S>>(row: &mut [u8], run: Run, bytes: &[
 }
 
 /// Writes what comes of each number of a run alone.
-fn start_row<S: Value, O: Ordered, F: Fold<S>>(row: &mut [u8], run: Run, bytes: &[u8])
+fn start_row<S: Number, O: Ordered, F: Fold<S>>(row: &mut [u8], run: Run, bytes: &[u8])
     requires room { length row.old ≡ run.count * F.Total.WIDTH }
     requires few { run.count < 2 ^ 63 }
     requires within { EachWithin (length bytes.now) run.offset run.step S.WIDTH run.count }
-    ensures values { (j : ℕ) → j < run.count → decode (F.Total.scalar Little) (item_at (j * F.Total.WIDTH) F.Total.WIDTH row.new)
-        ≡ number (F.meaning (number_at (S.scalar O.order) bytes.now (place run.offset run.step j) ∷ [])) }
+    ensures values { (j : ℕ) → j < run.count → IsStored (F.Total.scalar Little) (F.meaning (number_at (S.scalar O.order) bytes.now (place run.offset run.step j) ∷ [])) (item_at (j * F.Total.WIDTH) F.Total.WIDTH row.new) }
     ensures len { length row.new ≡ length row.old }
 {
     let _len = row.len();
@@ -119,7 +113,7 @@ fn moved(run: Run, offset: usize) -> Run
 }
 
 /// Writes what comes of the line along an axis from each item of a run on, row by row.
-pub(crate) fn fill_by_rows<S: Value, O: Ordered, F: Fold<S>>(
+pub(crate) fn fill_by_rows<S: Number, O: Ordered, F: Fold<S>>(
     row: &mut [u8],
     starts: Run,
     axis: StridedAxis,
@@ -151,7 +145,7 @@ fn goes_by_rows(resumes: bool, starts: Run, axis: StridedAxis) -> bool
 }
 
 /// Writes what comes of the line along an axis from each item of a run on.
-pub(crate) fn fill_row<S: Value, O: Ordered, F: Fold<S>>(
+pub(crate) fn fill_row<S: Number, O: Ordered, F: Fold<S>>(
     row: &mut [u8],
     starts: Run,
     axis: StridedAxis,

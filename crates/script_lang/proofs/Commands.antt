@@ -9,7 +9,7 @@ use Rattle.script_lang.specs.declared.command.Computation.{Computation}
 use Rattle.script_lang.specs.declared.command.Value.{Value}
 use Rattle.script_lang.specs.declared.command.Command.{Command}
 use Rattle.script_lang.specs.declared.operation.Operation.{Operation}
-use Rattle.script_lang.specs.declared.operation.UnaryOperation.{UnaryOperation}
+use Rattle.machine_numbers.specs.declared.operators.UnOp.{UnOp}
 use Rattle.script_lang.specs.declared.verb.MakeVerb.{MakeVerb}
 use Rattle.script_lang.specs.declared.verb.ViewVerb.{ViewVerb}
 use Rattle.script_lang.specs.declared.verb.ComputeVerb.{ComputeVerb}
@@ -81,7 +81,7 @@ pub right_room : (operation : Operation) (bytes : List ℕ) (left : Operand × L
 unfolding combine_at
 right_room operation bytes left found known = rw found (after_known HasArgumentRoom HasComputationRoom (argument_at left.1) _ known (λ right more. or_right (operand_room left.0) (argument_room right.0) more))
 
-pub transform_room : (operation : UnaryOperation) (bytes : List ℕ) → IfSome (operand_at bytes) (λ r. IsTrue (operand_room r.0)) → IfSome (transform_at operation bytes) (λ r. IsTrue (computation_room r.0))
+pub transform_room : (operation : UnOp) (bytes : List ℕ) → IfSome (operand_at bytes) (λ r. IsTrue (operand_room r.0)) → IfSome (transform_at operation bytes) (λ r. IsTrue (computation_room r.0))
 unfolding transform_at
 transform_room operation bytes known = after_known HasOperandRoom HasComputationRoom (operand_at bytes) _ known (λ operand more. more)
 

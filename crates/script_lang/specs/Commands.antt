@@ -4,8 +4,8 @@ use Rattle.std.specs.Prelude.{ℕ, ℤ, List, codes, Option, Some, None, is_some
 use Rattle.std.specs.Option.{option_map}
 use Rattle.shape_strides.specs.declared.index_item.IndexItem.{IndexItem}
 use Rattle.script_lang.specs.declared.operation.Operation.{Operation}
-use Rattle.script_lang.specs.declared.operation.UnaryOperation.{UnaryOperation}
-use Rattle.script_lang.specs.declared.operation.Reduction.{Reduction}
+use Rattle.machine_numbers.specs.declared.operators.UnOp.{UnOp}
+use Rattle.machine_numbers.specs.declared.operators.Red.{Red}
 use Rattle.script_lang.specs.declared.verb.Verb.{Verb}
 use Rattle.script_lang.specs.declared.verb.Verb.TheVariants as verb
 use Rattle.script_lang.specs.declared.verb.MakeVerb.{MakeVerb}
@@ -152,13 +152,13 @@ combine_at operation bytes = do
   Some (Combine operation left.0 right.0, right.1)
 
 -- operand, behind `neg` or `not`
-unfoldable pub transform_at : UnaryOperation → List ℕ → Option (Computation × List ℕ)
+unfoldable pub transform_at : UnOp → List ℕ → Option (Computation × List ℕ)
 transform_at operation bytes = do
   operand ← operand_at bytes
   Some (Transform operation operand.0, operand.1)
 
 -- Y [axis] [keep], behind RED
-unfoldable pub reduce_at : Reduction → List ℕ → Option (Computation × List ℕ)
+unfoldable pub reduce_at : Red → List ℕ → Option (Computation × List ℕ)
 reduce_at reduction bytes = do
   source ← name_at bytes
   let axis = optional_integer_at source.1

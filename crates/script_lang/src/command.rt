@@ -3,9 +3,10 @@
 use crate::index::Index;
 use crate::literal::{Literal, Literals};
 use crate::name::Name;
-use crate::operation::{Operation, Reduction, UnaryOperation};
+use crate::operation::Operation;
 use crate::shape::{Integers, Lengths};
 use crate::text::{DescrText, FieldText, FileName};
+use machine_numbers::{Red, UnOp};
 use shape_strides::MemoryOrder;
 
 /// `Y` or `Y[ix]`
@@ -73,12 +74,12 @@ pub enum Computation {
     },
     /// `neg operand` or `not`
     Transform {
-        operation: UnaryOperation,
+        operation: UnOp,
         operand: Operand,
     },
     /// `RED Y [axis] [keep]`
     Reduce {
-        reduction: Reduction,
+        reduction: Red,
         source: Name,
         axis: Option<i128>,
         keep: bool,

@@ -17,7 +17,7 @@ pub use grammar::parse;
 pub use index::Index;
 pub use literal::{ByteText, Literal, Literals, RecordLiteral, ScalarLiteral};
 pub use name::Name;
-pub use operation::{BinaryOperation, Comparison, Operation, Reduction, UnaryOperation};
+pub use operation::Operation;
 pub use refusal_text::word;
 pub use shape::{Integers, Lengths};
 pub use text::{DescrText, FieldText, FileName};

@@ -1,13 +1,14 @@
 //! The words that begin a command or a value.
 
-use crate::operation::BinaryOperation::{
-    Add, And, Divide, FloorDivide, Modulo, Multiply, Or, ShiftLeft, ShiftRight, Subtract, Xor,
-};
-use crate::operation::Comparison::{Equal, Greater, GreaterOrEqual, Less, LessOrEqual, NotEqual};
+use crate::operation::Operation;
 use crate::operation::Operation::{Binary, Compare};
-use crate::operation::{Operation, Reduction, UnaryOperation};
 use crate::verb::ComputeVerb::{Cast, Combine, Duplicate, Reduce, Transform};
 use crate::verb::Verb::Compute;
+use machine_numbers::BinOp::{
+    Add, And, Divide, FloorDivide, Modulo, Multiply, Or, ShiftLeft, ShiftRight, Subtract, Xor,
+};
+use machine_numbers::Comparison::{Equal, Greater, GreaterOrEqual, Less, LessOrEqual, NotEqual};
+use machine_numbers::{Red, UnOp};
 
 /// A word that begins a command, or a value behind `X =`.
 #[derive(Clone, Copy)]
@@ -48,8 +49,8 @@ pub enum ComputeVerb {
     Duplicate,
     Cast,
     Combine(Operation),
-    Transform(UnaryOperation),
-    Reduce(Reduction),
+    Transform(UnOp),
+    Reduce(Red),
 }
 
 /// A word that asks.
@@ -102,14 +103,14 @@ pub const VERBS: [(&[u8], Verb); 48] = [
     (b"le", Compute(Combine(Compare(LessOrEqual)))),
     (b"gt", Compute(Combine(Compare(Greater)))),
     (b"ge", Compute(Combine(Compare(GreaterOrEqual)))),
-    (b"neg", Compute(Transform(UnaryOperation::Negate))),
-    (b"not", Compute(Transform(UnaryOperation::Invert))),
-    (b"sum", Compute(Reduce(Reduction::Sum))),
-    (b"prod", Compute(Reduce(Reduction::Product))),
-    (b"min", Compute(Reduce(Reduction::Minimum))),
-    (b"max", Compute(Reduce(Reduction::Maximum))),
-    (b"any", Compute(Reduce(Reduction::Any))),
-    (b"all", Compute(Reduce(Reduction::All))),
-    (b"argmin", Compute(Reduce(Reduction::ArgMin))),
-    (b"argmax", Compute(Reduce(Reduction::ArgMax))),
+    (b"neg", Compute(Transform(UnOp::Negate))),
+    (b"not", Compute(Transform(UnOp::Invert))),
+    (b"sum", Compute(Reduce(Red::Sum))),
+    (b"prod", Compute(Reduce(Red::Product))),
+    (b"min", Compute(Reduce(Red::Minimum))),
+    (b"max", Compute(Reduce(Red::Maximum))),
+    (b"any", Compute(Reduce(Red::Any))),
+    (b"all", Compute(Reduce(Red::All))),
+    (b"argmin", Compute(Reduce(Red::ArgMin))),
+    (b"argmax", Compute(Reduce(Red::ArgMax))),
 ];

@@ -3,7 +3,7 @@ use Rattle.std.specs.Prelude.{ℕ, if◌then◌else◌, List}
 use Rattle.elem_descr.specs.declared.descr.Descr.{Descr}
 use Rattle.elem_descr.specs.Blocks.{item_from}
 use Rattle.elem_descr.specs.Values.{text}
-use Rattle.script_lang.specs.declared.operation.Comparison.{Comparison}
+use Rattle.machine_numbers.specs.declared.operators.Comparison.{Comparison}
 use Rattle.elementwise.specs.Comparisons.{compared}
 use Rattle.elementwise.specs.Results.{value_in}
 

@@ -7,9 +7,9 @@ use Rattle.elem_descr.specs.declared.scalar.Scalar.{Scalar}
 use Rattle.elem_descr.specs.declared.scalar.Scalar.TheVariants.{Bool as BoolScalar, Byte, Int, Bytes}
 use Rattle.elem_descr.specs.Values.{LeafValue, number}
 use Rattle.elem_descr.specs.Encoding.{IsNumber, size, width_size, number_of, decode, encode}
-use Rattle.script_lang.specs.declared.operation.Comparison.{Comparison}
+use Rattle.machine_numbers.specs.declared.operators.Comparison.{Comparison}
 use Rattle.elementwise.specs.Comparisons.{says, compared}
-use Rattle.elementwise.specs.Promotion.{little}
+use Rattle.machine_numbers.specs.Kinds.{little}
 use Rattle.elementwise.specs.inside.PairPasses.{IsNative, compared_value, truth_value}
 
 pub native_number : (scalar : Scalar) → IsNative scalar → IsNumber scalar

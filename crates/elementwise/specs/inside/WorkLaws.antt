@@ -5,8 +5,8 @@ use Rattle.elem_descr.specs.declared.scalar.Scalar.{Scalar}
 use Rattle.elem_descr.specs.Values.{number}
 use Rattle.elem_descr.specs.Encoding.{IsNumber, size, decode, encode}
 use Rattle.elem_descr.specs.EncodingLaws.{decode_encode}
-use Rattle.script_lang.specs.declared.operation.UnaryOperation.TheVariants.{Negate, Invert}
-use Rattle.elementwise.specs.Promotion.{is_bool, little}
+use Rattle.machine_numbers.specs.declared.operators.UnOp.TheVariants.{Negate, Invert}
+use Rattle.machine_numbers.specs.Kinds.{is_bool, little}
 use Rattle.elementwise.specs.Operations.{exact}
 use Rattle.elementwise.specs.inside.PairLaws.{number-little, number_small, scalar_small, bool_small, compared_reads_back}
 use Rattle.elementwise.specs.inside.Works.{target, meaning, IsWork}

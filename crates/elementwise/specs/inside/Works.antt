@@ -3,7 +3,8 @@ use Rattle.std.specs.Prelude.{◌≡◌, ℤ, false}
 use Rattle.elem_descr.specs.declared.scalar.Scalar.{Scalar}
 use Rattle.elem_descr.specs.declared.scalar.Scalar.TheVariants.{Bool as BoolScalar}
 use Rattle.elem_descr.specs.Encoding.{IsNumber, wrap}
-use Rattle.elementwise.specs.Promotion.{is_division, little}
+use Rattle.machine_numbers.specs.Kinds.{little}
+use Rattle.elementwise.specs.Promotion.{is_division}
 use Rattle.elementwise.specs.Operations.{binary, unary}
 use Rattle.elementwise.specs.inside.PairPasses.{says_number}
 use Rattle.elementwise.specs.declared.pairing.Work.{Work}

@@ -5,7 +5,7 @@ use Rattle.elem_descr.specs.declared.refusal.Refusal.{Refusal}
 use Rattle.elem_descr.specs.declared.refusal.Refusal.TheVariants.{OutOfMemory, EmptyReduction}
 use Rattle.elem_descr.specs.Refusals.{◌>>=◌, check}
 use Rattle.shape_strides.specs.Shapes.{shape_of}
-use Rattle.script_lang.specs.declared.operation.Reduction.{Reduction}
+use Rattle.machine_numbers.specs.declared.operators.Red.{Red}
 use Rattle.reductions.specs.Lists.{reduced_shape}
 use Rattle.reductions.specs.Outcomes.{needs_items, has_empty_list}
 use Rattle.shape_strides.specs.declared.layout.Layout.{Layout}
@@ -27,7 +27,7 @@ IsUnlessMemory x (Ok y) = y ≡ x
 IsUnlessMemory x (Err refusal) = refusal ≡ OutOfMemory
 
 -- the shape of the result, or the first refusal once the axis is found
-unfoldable pub shape_after : Reduction → List ℕ → Option ℕ → Bool → Result (List ℕ) Refusal
+unfoldable pub shape_after : Red → List ℕ → Option ℕ → Bool → Result (List ℕ) Refusal
 shape_after reduction shape axis keep = do
   let result = reduced_shape shape axis keep
   _ ← check (not (needs_items reduction && has_empty_list shape axis result)) EmptyReduction

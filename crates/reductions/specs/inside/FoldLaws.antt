@@ -1,5 +1,5 @@
 -- Reductions that are made number by number.
-use Rattle.std.proofs.Common.{◌≡◌, ◌+◌, ◌*◌, ◌%◌, ◌<◌, ◌≤◌, ◌^◌, ℕ, suc, ℤ, pos, ◌+ℤ◌, ◌*ℤ◌, true, false, cond, Bool, List, [], ◌∷◌, length, refl, sym, ap, ◌∙◌, arith}
+use Rattle.std.proofs.Common.{◌≡◌, ◌+◌, ◌*◌, ◌%◌, ◌<◌, ◌≤◌, ◌^◌, ℕ, suc, ℤ, pos, ◌+ℤ◌, ◌*ℤ◌, true, false, cond, Bool, List, [], ◌∷◌, length, refl, sym, ap, subst, ◌∙◌, arith}
 use Rattle.std.specs.Int.{int_wrap, cast_signed, cast_unsigned, int_min, int_max}
 use Rattle.std.specs.List.{fold}
 use Rattle.std.specs.Ordering.{int_eq}
@@ -10,17 +10,18 @@ use mir.Syntax.{w64}
 use Rattle.std.specs.Prelude.{unsigned_abs, nat_eq, not, ◌==◌}
 use Rattle.std.specs.Cmp.{signed_Decides}
 use Rattle.std.proofs.lemmas.Bool.{false_from_ne_true, eqb-true, lt-ltb}
-use Rattle.elementwise.specs.Bits.{AreBits}
+use Rattle.machine_numbers.specs.Bits.{AreBits}
+use Rattle.machine_numbers.specs.Kinds.{little}
 use Rattle.elem_descr.specs.declared.scalar.Order.TheVariants.{Little}
 use Rattle.elem_descr.specs.declared.scalar.Width.TheVariants.{Eight}
 use Rattle.elem_descr.specs.declared.scalar.Scalar.{Scalar}
 use Rattle.elem_descr.specs.declared.scalar.Scalar.TheVariants.{Bool as BoolScalar, Byte, Int, Bytes}
 use Rattle.elem_descr.specs.Values.{number}
-use Rattle.elem_descr.specs.Encoding.{size, decode, number_of, number_in, integer, low_bits, wrap}
-use Rattle.elem_descr.specs.EncodingLaws.{low_bits-lt}
-use Rattle.script_lang.specs.declared.operation.Reduction.TheVariants.{Sum, Product}
-use Rattle.reductions.specs.Reductions.{wide, little, sum_of, product_of, least, greatest, first_place, is_true}
-use Rattle.reductions.specs.inside.Numbers.{IsReduced}
+use Rattle.elem_descr.specs.Encoding.{size, number_of, number_in, bytes_of, integer, low_bits, wrap}
+use Rattle.elem_descr.specs.EncodingLaws.{low_bits-lt, low_bits-integer}
+use Rattle.machine_numbers.specs.declared.operators.Red.TheVariants.{Sum, Product}
+use Rattle.reductions.specs.Reductions.{wide, sum_of, product_of, least, greatest, first_place, is_true}
+use Rattle.reductions.specs.inside.Numbers.{IsStored, IsReduced}
 
 -- ---- the lowest 64 bits of sums and products
 
@@ -44,19 +45,22 @@ product_bits a b =
 bits_of : (m n : ℕ) → number (pos m) ≡ number (pos n) → m ≡ n
 bits_of m n same = ap (λ value. unsigned_abs (number_of value)) same
 
-wide_total : (signed : Bool) (bytes : List ℕ) (n : ℕ) → decode (Int false Eight Little) bytes ≡ number (pos n) → decode (Int signed Eight Little) bytes ≡ number (integer signed 8 n)
-wide_total signed bytes n is = ap (λ m. number (integer signed 8 m)) (bits_of (number_in Little 8 bytes) n is)
+wide_total : (signed : Bool) (bytes : List ℕ) (n : ℕ) → n < 2 ^ 64 → IsStored (Int false Eight Little) (pos n) bytes → IsStored (Int signed Eight Little) (integer signed 8 n) bytes
+wide_total signed bytes n low is = record {
+  value = ap (λ m. number (integer signed 8 m)) (bits_of (number_in Little 8 bytes) n is.value);
+  exact = is.exact ∙ ap (bytes_of Little 8) (low_bits-integer false 8 n low ∙ sym (low_bits-integer signed 8 n low));
+}
 
-wrapped : (scalar : Scalar) (bytes : List ℕ) (z : ℤ) → decode (Int false Eight Little) bytes ≡ number (pos (low_bits 8 z)) → decode (wide scalar) bytes ≡ number (wrap (wide scalar) z)
-wrapped BoolScalar bytes z is = wide_total true bytes (low_bits 8 z) is
-wrapped (Byte signed) bytes z is = wide_total signed bytes (low_bits 8 z) is
-wrapped (Int signed width order) bytes z is = wide_total signed bytes (low_bits 8 z) is
-wrapped (Bytes n) bytes z is = wide_total true bytes (low_bits 8 z) is
+wrapped : (scalar : Scalar) (bytes : List ℕ) (z : ℤ) → IsStored (Int false Eight Little) (pos (low_bits 8 z)) bytes → IsStored (wide scalar) (wrap (wide scalar) z) bytes
+wrapped BoolScalar bytes z is = wide_total true bytes (low_bits 8 z) (low_bits-lt 8 z) is
+wrapped (Byte signed) bytes z is = wide_total signed bytes (low_bits 8 z) (low_bits-lt 8 z) is
+wrapped (Int signed width order) bytes z is = wide_total signed bytes (low_bits 8 z) (low_bits-lt 8 z) is
+wrapped (Bytes n) bytes z is = wide_total true bytes (low_bits 8 z) (low_bits-lt 8 z) is
 
-pub sum_is : (scalar : Scalar) (bytes : List ℕ) (numbers : List ℤ) → decode (Int false Eight Little) bytes ≡ number (pos (low_bits 8 (sum_of numbers))) → IsReduced Sum scalar numbers bytes
+pub sum_is : (scalar : Scalar) (bytes : List ℕ) (numbers : List ℤ) → IsStored (Int false Eight Little) (pos (low_bits 8 (sum_of numbers))) bytes → IsReduced Sum scalar numbers bytes
 sum_is scalar bytes numbers is = wrapped scalar bytes (sum_of numbers) is
 
-pub product_is : (scalar : Scalar) (bytes : List ℕ) (numbers : List ℤ) → decode (Int false Eight Little) bytes ≡ number (pos (low_bits 8 (product_of numbers))) → IsReduced Product scalar numbers bytes
+pub product_is : (scalar : Scalar) (bytes : List ℕ) (numbers : List ℤ) → IsStored (Int false Eight Little) (pos (low_bits 8 (product_of numbers))) bytes → IsReduced Product scalar numbers bytes
 product_is scalar bytes numbers is = wrapped scalar bytes (product_of numbers) is
 
 pub wide_size : (scalar : Scalar) → size (wide scalar) ≡ 8
@@ -87,8 +91,10 @@ greatest_from first rest = ap (λ z. fold int_max z rest) (same_greatest first)
 
 -- ---- places, which are read with a sign
 
-pub place_is : (bytes : List ℕ) (n : ℕ) → n < 2 ^ 63 → decode (Int false Eight Little) bytes ≡ number (pos n) → decode (Int true Eight Little) bytes ≡ number (pos n)
-place_is bytes n few is = wide_total true bytes n is ∙ ap number (rw (lt-ltb n (2 ^ 63) few) refl)
+pub place_is : (bytes : List ℕ) (n : ℕ) → n < 2 ^ 63 → IsStored (Int false Eight Little) (pos n) bytes → IsStored (Int true Eight Little) (pos n) bytes
+place_is bytes n few is =
+    let same : integer true 8 n ≡ pos n = rw (lt-ltb n (2 ^ 63) few) refl in
+    subst (λ z. IsStored (Int true Eight Little) z bytes) same (wide_total true bytes n (omega (arith, few)) is)
 
 first_place-le : (value : ℤ) (numbers : List ℤ) → first_place value numbers ≤ length numbers
 first_place-le value [] = omega arith
@@ -117,8 +123,8 @@ is_true_bits bits z are =
 
 -- ---- what the least and the greatest are in the lowest byte first
 
-pub kept_is : (scalar kept : Scalar) (bytes : List ℕ) (z : ℤ) → little scalar ≡ kept → decode kept bytes ≡ number z → decode (little scalar) bytes ≡ number z
-kept_is scalar kept bytes z same is = ap (λ s. decode s bytes) same ∙ is
+pub kept_is : (scalar kept : Scalar) (bytes : List ℕ) (z : ℤ) → little scalar ≡ kept → IsStored kept z bytes → IsStored (little scalar) z bytes
+kept_is scalar kept bytes z same is = subst (λ s. IsStored s z bytes) (sym same) is
 
 pub kept_size : (scalar : Scalar) (width : ℕ) → size scalar ≡ width → size (little scalar) ≡ width
 kept_size scalar width is = little_size scalar ∙ is

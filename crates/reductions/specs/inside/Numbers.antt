@@ -2,14 +2,14 @@
 use Rattle.std.specs.Prelude.{◌≡◌, ◌*◌, ◌^◌, ◌<◌, ◌≤◌, ℕ, ℤ, Option, Some, None, List, [], ◌∷◌, length, map, slice_index_or, All}
 use Rattle.elem_descr.specs.declared.scalar.Scalar.{Scalar}
 use Rattle.elem_descr.specs.Values.{number}
-use Rattle.elem_descr.specs.Encoding.{size, decode, number_of}
+use Rattle.elem_descr.specs.Encoding.{size, decode, encode, number_of}
 use Rattle.raw_block.specs.Bytes.{item_at, EachWithin}
 use Rattle.shape_strides.specs.declared.layout.Layout.{Layout}
 use Rattle.shape_strides.specs.Indexes.{count}
 use Rattle.shape_strides.specs.Layouts.{offsets}
 use Rattle.shape_strides.specs.declared.joined.StridedAxis.{StridedAxis}
 use Rattle.shape_strides.specs.Runs.{run_along, run_offsets}
-use Rattle.script_lang.specs.declared.operation.Reduction.{Reduction}
+use Rattle.machine_numbers.specs.declared.operators.Red.{Red}
 use Rattle.reductions.specs.Reductions.{result_scalar, reduced}
 
 -- the number of a scalar that lies at an offset
@@ -19,17 +19,21 @@ number_at scalar bytes offset = number_of (decode scalar (item_at offset (size s
 abbrev pub numbers_at : Scalar → List ℕ → List ℕ → List ℤ
 numbers_at scalar bytes offsets = map (number_at scalar bytes) offsets
 
--- bytes mean what a reduction makes of numbers of a scalar
-abbrev pub IsReduced : Reduction → Scalar → List ℤ → List ℕ → Type 0
-IsReduced reduction scalar numbers bytes =
-    decode (result_scalar reduction scalar) bytes ≡ number (reduced reduction (result_scalar reduction scalar) numbers)
+-- bytes mean a number of a scalar, and are those that it is written as
+pub record IsStored (scalar : Scalar) (z : ℤ) (bytes : List ℕ) : Type 0 where
+  pub value : decode scalar bytes ≡ number z
+  pub exact : bytes ≡ encode scalar (number z)
+
+-- bytes are what a reduction makes of numbers of a scalar
+abbrev pub IsReduced : Red → Scalar → List ℤ → List ℕ → Type 0
+IsReduced reduction scalar numbers bytes = IsStored (result_scalar reduction scalar) (reduced reduction (result_scalar reduction scalar) numbers) bytes
 
 -- the lines that an axis leads along from each of some offsets on
 abbrev pub lines : StridedAxis → List ℕ → List (List ℕ)
 lines axis offsets = map (λ offset. run_offsets (run_along axis offset)) offsets
 
--- items one after another, of `width` bytes, mean what a reduction makes of the numbers at the offsets of each list
-abbrev pub AreReduced : Reduction → Scalar → List ℕ → ℕ → List (List ℕ) → List ℕ → Type 0
+-- items one after another, of `width` bytes, are what a reduction makes of the numbers at the offsets of each list
+abbrev pub AreReduced : Red → Scalar → List ℕ → ℕ → List (List ℕ) → List ℕ → Type 0
 AreReduced reduction scalar bytes width lists out =
     (k : ℕ) → k < length lists → IsReduced reduction scalar (numbers_at scalar bytes (slice_index_or lists k [])) (item_at (k * width) width out)
 

@@ -11,10 +11,11 @@ use crate::grammar::numbers::optional_integer;
 use crate::grammar::tokens::{flag, word};
 use crate::grammar::verbs::order;
 use crate::name::Name;
-use crate::operation::{Operation, Reduction, UnaryOperation};
+use crate::operation::Operation;
 use crate::text::DescrText;
 use crate::verb::ComputeVerb;
 use elem_descr::Refusal;
+use machine_numbers::{Red, UnOp};
 use std::alloc::Global;
 
 /// `Y C` or `Y F`, behind `copy`.
@@ -62,11 +63,7 @@ fn combine(
 
 /// An operand, behind `neg` or `not`.
 #[tactic(auto, unfolding(crate::specs::Commands::transform_at), using(crate::proofs::Commands::transform_room))]
-fn transform(
-    alloc: Global,
-    operation: UnaryOperation,
-    bytes: &[u8],
-) -> Result<(Computation, &[u8]), Refusal>
+fn transform(alloc: Global, operation: UnOp, bytes: &[u8]) -> Result<(Computation, &[u8]), Refusal>
     ensures { Reads (λ r. (r.0, r.1.now)) (λ r. computation_room r.0) result (transform_at operation bytes.now) }
 {
     let (operand, rest) = operand(alloc, bytes)?;
@@ -75,7 +72,7 @@ fn transform(
 
 /// `Y [axis] [keep]`, behind `RED`.
 #[tactic(auto, unfolding(crate::specs::Commands::reduce_at))]
-fn reduce(alloc: Global, reduction: Reduction, bytes: &[u8]) -> Option<(Computation, &[u8])>
+fn reduce(alloc: Global, reduction: Red, bytes: &[u8]) -> Option<(Computation, &[u8])>
     ensures { Scans (λ r. (r.0, r.1.now)) result (reduce_at reduction bytes.now) }
 {
     let (source, rest) = owned_name(alloc, bytes)?;

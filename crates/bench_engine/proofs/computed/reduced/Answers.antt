@@ -1,8 +1,8 @@
 use Rattle.bench_engine.proofs.Reduces.{reduced-gives}
 use Rattle.bench_engine.proofs.computed.reduced.Goals as goal
 
-pub reduce-requires : goal.reduce-requires
-reduce-requires c = record { inside = c.requires.2.inside }
+pub invariant_of-items : goal.invariant_of-items
+invariant_of-items c = record { inside = c.requires.2.inside }
 
 pub returns : goal.returns
 returns c s source a found shows =

@@ -4,7 +4,7 @@ use Rattle.elem_descr.specs.declared.descr.Descr.TheVariants.{Scalar as ScalarDe
 use Rattle.elem_descr.specs.Blocks.{item_from}
 use Rattle.shape_strides.specs.Layouts.{offsets}
 use Rattle.broadcasting.specs.BroadcastLaws.{can-itself}
-use Rattle.elementwise.specs.Promotion.{little}
+use Rattle.machine_numbers.specs.Kinds.{little}
 use Rattle.elementwise.specs.Results.{unary_item}
 use Rattle.elementwise.specs.inside.PairLaws.{scalar_small, number_small}
 use Rattle.elementwise.proofs.MadeLaws.{made-gives, made-order, made-items, made-encoded}

@@ -1,5 +1,5 @@
 use Rattle.std.proofs.Common.{sym, ap, ◌∙◌}
-use Rattle.elementwise.specs.Promotion.{little}
+use Rattle.machine_numbers.specs.Kinds.{little}
 use Rattle.elementwise.proofs.HeldLaws.{holds-little, holds-read, little-little, number-alike}
 use Rattle.elementwise.proofs.compared.compare_numbers.Goals as goal
 

@@ -1,4 +1,4 @@
-use Rattle.std.proofs.Common.{◌*◌, ap, ◌∙◌, length}
+use Rattle.std.proofs.Common.{◌+◌, ◌*◌, ◌≤◌, All, ap, subst, ◌∙◌, length}
 use Rattle.std.proofs.lemmas.List.{length-map}
 use Rattle.shape_strides.specs.Layouts.{offsets}
 use Rattle.shape_strides.specs.LayoutLaws.{length-offsets}
@@ -8,7 +8,7 @@ use Rattle.reductions.proofs.kinds.fill.Goals as goal
 
 pub fill_along-requires-clause-room : goal.fill_along-requires-clause-room
 fill_along-requires-clause-room g c =
-    let starts = c.args.starts.now in
+    let starts = c.args.lists.starts.now in
     let size = g.F.Total.Number.WIDTH in
     c.requires.room
     ∙ ap (λ axis. length (lists_from starts axis) * size) c.in-Some.is

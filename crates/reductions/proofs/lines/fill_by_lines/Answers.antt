@@ -1,11 +1,9 @@
 use Rattle.std.proofs.Common.{◌≡◌, ◌+◌, ◌*◌, ◌<◌, ◌≤◌, ◌^◌, inl, inr, ℕ, length, sym, ap, subst, ◌∙◌, arith}
 use Rattle.std.proofs.lemmas.Bool.{cases_lt}
 use Rattle.elem_descr.specs.declared.scalar.Order.TheVariants.{Little}
-use Rattle.elem_descr.specs.Encoding.{decode}
-use Rattle.elem_descr.specs.Values.{number}
 use Rattle.raw_block.specs.Bytes.{place, item_at}
 use Rattle.shape_strides.specs.Runs.{run_along, run_offsets}
-use Rattle.reductions.specs.inside.Numbers.{numbers_at, IsReduced}
+use Rattle.reductions.specs.inside.Numbers.{numbers_at, IsStored, IsReduced}
 use Rattle.reductions.proofs.LineLaws.{before_next, length-numbers}
 use Rattle.reductions.proofs.lines.fill_by_lines.Goals as goal
 
@@ -18,11 +16,12 @@ loop-j-preserved g c =
     let line = λ (k : ℕ). run_along c.args.axis (place c.args.starts.offset c.args.starts.step k) in
     let at : j * c.WIDTH.result ≡ j * width = ap (λ w. j * w) c.WIDTH.ensures in
     let few : length (numbers_at scalar bytes (run_offsets (line j))) < 2 ^ 63 = omega (arith, c.requires.few.0, length-numbers scalar bytes (line j)) in
-    let is : decode (g.F.Total.Number.scalar Little) (item_at (j * width) width c.store_at.new.row) ≡ number (g.F.Fold.meaning (numbers_at scalar bytes (run_offsets (line j)))) =
-    ap (λ o. decode (g.F.Total.Number.scalar Little) (item_at o width c.store_at.new.row)) (sym at)
-    ∙ c.store_at.ensures.value
-    ∙ ap number c.fold_line-total.ensures
-    ∙ ap (λ run. number (g.F.Fold.meaning (numbers_at scalar bytes (run_offsets run)))) (c.line_along.ensures ∙ ap (run_along c.args.axis) c.place.ensures) in
+    let total = g.F.Total.Number.scalar Little in
+    let meant : g.F.Total.Number.value c.fold_line-total.result ≡ g.F.Fold.meaning (numbers_at scalar bytes (run_offsets (line j))) =
+    c.fold_line-total.ensures ∙ ap (λ run. g.F.Fold.meaning (numbers_at scalar bytes (run_offsets run))) (c.line_along.ensures ∙ ap (run_along c.args.axis) c.place.ensures) in
+    let is : IsStored total (g.F.Fold.meaning (numbers_at scalar bytes (run_offsets (line j)))) (item_at (j * width) width c.store_at.new.row) =
+    subst (λ z. IsStored total z (item_at (j * width) width c.store_at.new.row)) meant
+    (subst (λ o. IsStored total (g.F.Total.Number.value c.fold_line-total.result) (item_at o width c.store_at.new.row)) at (record { value = c.store_at.ensures.value; exact = c.store_at.ensures.exact })) in
     let here : IsReduced g.F.Fold.reduction scalar (numbers_at scalar bytes (run_offsets (line j))) (item_at (j * width) width c.store_at.new.row) =
     g.met.F.Fold.gives g.O.Ordered.order (item_at (j * width) width c.store_at.new.row) (numbers_at scalar bytes (run_offsets (line j))) few is in
     record {

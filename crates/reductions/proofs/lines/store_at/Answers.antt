@@ -4,4 +4,4 @@ use Rattle.reductions.proofs.lines.store_at.Goals as goal
 
 pub returns-clause-others : goal.returns-clause-others
 returns-clause-others g c other within apart =
-    beside c.args.at _ g.T.Number.WIDTH other c.store.new.bytes c.args.row.now (omega (arith, c.store.ensures.len, c.WIDTH.ensures, c.requires)) (omega (arith, c.store.ensures.len, c.WIDTH.ensures, c.requires)) c.requires within apart
+    beside c.args.at _ g.T.Number.WIDTH other c.write.new.bytes c.args.row.now (omega (arith, c.write.auto.bytes, c.WIDTH.ensures, c.requires)) (omega (arith, c.write.auto.bytes, c.WIDTH.ensures, c.requires)) c.requires within apart

@@ -1,8 +1,10 @@
-use Rattle.std.proofs.Common.{◌≡◌, inl, inr, Ok, Err, map, length, refl, sym, ap, subst, ◌∙◌}
+use Rattle.std.proofs.Common.{◌≡◌, ◌+◌, ◌*◌, ◌≤◌, All, inl, inr, Ok, Err, map, length, refl, sym, ap, subst, ◌∙◌}
+use Rattle.std.specs.List.{flat_map}
 use Rattle.std.proofs.lemmas.Result.{err_from_is_err_and}
 use Rattle.elem_descr.specs.declared.descr.Descr.TheVariants.{Scalar as ScalarDescr}
 use Rattle.elem_descr.specs.Blocks.{item_from}
 use Rattle.elem_descr.specs.Encoding.{size}
+use Rattle.elem_descr.specs.Items.{item_size, encode_item}
 use Rattle.elem_descr.specs.Refusals.{Gives}
 use Rattle.shape_strides.specs.Indexes.{count}
 use Rattle.shape_strides.specs.Layouts.{offsets, multiples}
@@ -10,64 +12,72 @@ use Rattle.reductions.specs.Lists.{named_axis, is_axis, lists}
 use Rattle.reductions.specs.Outcomes.{outcome, outcome_of}
 use Rattle.reductions.specs.Reductions.{result_scalar, reduced_items}
 use Rattle.reductions.specs.inside.Axes.{IsAxisOf, shape_after}
-use Rattle.reductions.proofs.OutcomeLaws.{outcome_kind, outcome_axis, outcome_shape, outcome_ok, shape_is, length-lists, some_after, items_are}
+use Rattle.reductions.specs.inside.Numbers.{AreReduced}
+use Rattle.reductions.proofs.OutcomeLaws.{outcome_kind, outcome_axis, outcome_shape, outcome_ok, shape_is, length-lists, some_after, items_are, bytes_are}
 use Rattle.reductions.proofs.reducing.reduce.Goals as goal
 
 pub returns-in_err-scalar-clause-array : goal.returns-in_err-scalar-clause-array
 returns-in_err-scalar-clause-array c =
     let p = err_from_is_err_and c.from_residual.result c.from_residual.ensures.1 in
-    rw (p.1, p.2) (inr (outcome_kind c.args.reduction c.args.descr.now c.args.layout.now.shape c.args.axis c.args.keep c.in_err-scalar.field-0.0 c.in_err-scalar.ensures.err))
+    rw (p.1, p.2) (inr (outcome_kind c.args.reduction c.args.items.descr.now c.args.items.layout.now.shape c.args.axis c.args.keep c.in_err-scalar.field-0.0 c.in_err-scalar.ensures.err))
 
 pub returns-in_err-axis-clause-array : goal.returns-in_err-axis-clause-array
 returns-in_err-axis-clause-array c =
     let p = err_from_is_err_and c.from_residual-in_err-axis.result c.from_residual-in_err-axis.ensures.1 in
     let why = c.in_err-axis.ensures.err in
     rw (p.1, p.2) (inr (
-    outcome_axis c.args.reduction c.args.descr.now c.args.layout.now.shape c.args.axis c.args.keep c.in_ok-scalar.scalar c.in_ok-scalar.ensures.ok.0 (ap (λ n. is_axis n c.args.axis) (sym c.rank.ensures.value) ∙ why.1)
+    outcome_axis c.args.reduction c.args.items.descr.now c.args.items.layout.now.shape c.args.axis c.args.keep c.in_ok-scalar.scalar c.in_ok-scalar.ensures.ok.0 (ap (λ n. is_axis n c.args.axis) (sym c.rank.ensures.value) ∙ why.1)
     ∙ ap Err (sym why.0)
     ))
 
 pub returns-in_err-shape-clause-array : goal.returns-in_err-shape-clause-array
 returns-in_err-shape-clause-array c =
     let p = err_from_is_err_and c.from_residual-in_err-shape.result c.from_residual-in_err-shape.ensures.1 in
-    let shape = c.args.layout.now.shape in
+    let shape = c.args.items.layout.now.shape in
     let found = c.in_ok-axis.ensures.ok in
     let named = ap (λ n. named_axis n c.args.axis) (sym c.rank.ensures.value) ∙ sym found.1 in
     let refusal = c.in_err-shape.field-0.0 in
-    rw (p.1, p.2) (elim c.in_err-shape.ensures as (λ _. Gives outcome_of (Err refusal) (outcome c.args.reduction c.args.descr.now shape c.args.axis c.args.keep)) [
+    rw (p.1, p.2) (elim c.in_err-shape.ensures as (λ _. Gives outcome_of (Err refusal) (outcome c.args.reduction c.args.items.descr.now shape c.args.axis c.args.keep)) [
       | inl lacked ↦ inl lacked
-      | inr refused ↦ inr (outcome_shape c.args.reduction c.args.descr.now shape c.args.axis c.args.keep c.in_ok-scalar.scalar refusal c.in_ok-scalar.ensures.ok.0 (ap (λ n. is_axis n c.args.axis) (sym c.rank.ensures.value) ∙ found.0)
+      | inr refused ↦ inr (outcome_shape c.args.reduction c.args.items.descr.now shape c.args.axis c.args.keep c.in_ok-scalar.scalar refusal c.in_ok-scalar.ensures.ok.0 (ap (λ n. is_axis n c.args.axis) (sym c.rank.ensures.value) ∙ found.0)
           (ap (λ axis. shape_after c.args.reduction shape axis c.args.keep) named ∙ refused))
     ])
 
+pub invariant_of-source : goal.invariant_of-source
+invariant_of-source c = record {
+  inside =
+      subst (λ d. All (λ offset. offset + item_size d ≤ length c.bytes.result.now) (offsets c.args.items.layout.now)) c.in_ok-scalar.ensures.ok.2
+      (subst (λ b. All (λ offset. offset + item_size c.args.items.descr.now ≤ length b) (offsets c.args.items.layout.now)) (sym c.bytes.ensures) c.args.items.inside);
+}
+
 pub reduced_block-requires-clause-items : goal.reduced_block-requires-clause-items
 reduced_block-requires-clause-items c =
-    let shape = c.args.layout.now.shape in
+    let shape = c.args.items.layout.now.shape in
     let is = subst (λ n. IsAxisOf n c.in_ok-axis.axis) c.rank.ensures.value c.in_ok-axis.ensures.ok.2 in
     c.items.ensures.value
     ∙ ap count (sym (shape_is c.args.reduction shape c.in_ok-axis.axis c.args.keep c.in_ok-shape.shape c.in_ok-shape.ensures))
-    ∙ sym (length-lists shape c.in_ok-axis.axis c.args.keep (offsets c.args.layout.now) is)
+    ∙ sym (length-lists shape c.in_ok-axis.axis c.args.keep (offsets c.args.items.layout.now) is)
 
 pub reduced_block-requires-clause-some : goal.reduced_block-requires-clause-some
 reduced_block-requires-clause-some c needs none =
-    let shape = c.args.layout.now.shape in
+    let shape = c.args.items.layout.now.shape in
     c.items.ensures.value
     ∙ ap count (sym (shape_is c.args.reduction shape c.in_ok-axis.axis c.args.keep c.in_ok-shape.shape c.in_ok-shape.ensures))
     ∙ some_after c.args.reduction shape c.in_ok-axis.axis c.args.keep c.in_ok-shape.shape c.in_ok-shape.ensures needs none
 
 pub returns-clause-array : goal.returns-clause-array
 returns-clause-array c =
-    let shape = c.args.layout.now.shape in
+    let shape = c.args.items.layout.now.shape in
     let found = c.in_ok-axis.ensures.ok in
     let named = ap (λ n. named_axis n c.args.axis) (sym c.rank.ensures.value) ∙ sym found.1 in
     let typed = c.in_ok-owned.ensures.descr ∙ ap ScalarDescr c.result_scalar.ensures in
-    outcome_ok c.args.reduction c.args.descr.now shape c.args.axis c.args.keep c.in_ok-scalar.scalar c.in_ok-shape.shape c.in_ok-scalar.ensures.ok.0 (ap (λ n. is_axis n c.args.axis) (sym c.rank.ensures.value) ∙ found.0)
+    outcome_ok c.args.reduction c.args.items.descr.now shape c.args.axis c.args.keep c.in_ok-scalar.scalar c.in_ok-shape.shape c.in_ok-scalar.ensures.ok.0 (ap (λ n. is_axis n c.args.axis) (sym c.rank.ensures.value) ∙ found.0)
     (ap (λ axis. shape_after c.args.reduction shape axis c.args.keep) named ∙ c.in_ok-shape.ensures)
     ∙ (λ i. Ok (record { descr = sym typed i; shape = sym c.in_ok-owned.ensures.shape i }))
 
 pub returns-clause-items : goal.returns-clause-items
 returns-clause-items c =
-    let shape = c.args.layout.now.shape in
+    let shape = c.args.items.layout.now.shape in
     let scalar = c.in_ok-scalar.scalar in
     let to = result_scalar c.args.reduction scalar in
     let found = c.in_ok-axis.ensures.ok in
@@ -75,10 +85,29 @@ returns-clause-items c =
     let typed = c.in_ok-owned.ensures.descr ∙ ap ScalarDescr c.result_scalar.ensures in
     let placed : offsets c.in_ok-owned.owned.layout ≡ multiples (size to) (count c.in_ok-shape.shape) = c.in_ok-owned.ensures.order ∙ ap (λ s. multiples (size s) (count c.in_ok-shape.shape)) c.result_scalar.ensures in
     let is = subst (λ n. IsAxisOf n c.in_ok-axis.axis) c.rank.ensures.value found.2 in
-    let ls = lists shape c.in_ok-axis.axis (offsets c.args.layout.now) in
+    let ls = lists shape c.in_ok-axis.axis (offsets c.args.items.layout.now) in
     let many : count c.in_ok-shape.shape ≡ length ls =
     ap count (sym (shape_is c.args.reduction shape c.in_ok-axis.axis c.args.keep c.in_ok-shape.shape c.in_ok-shape.ensures))
-    ∙ sym (length-lists shape c.in_ok-axis.axis c.args.keep (offsets c.args.layout.now) is) in
+    ∙ sym (length-lists shape c.in_ok-axis.axis c.args.keep (offsets c.args.items.layout.now) is) in
     (λ i. map (item_from (typed i) (c.in_ok-owned.ensures.block i)) (placed i))
-    ∙ items_are c.args.reduction scalar to c.args.block.now c.in_ok-out.out ls (count c.in_ok-shape.shape) refl many c.in_ok-out.ensures.items
-    ∙ (λ i. reduced_items c.args.reduction (sym typed i) (sym c.in_ok-scalar.ensures.ok.2 i) c.args.block.now (lists shape (sym named i) (offsets c.args.layout.now)))
+    ∙ items_are c.args.reduction scalar to c.args.items.block.now c.in_ok-out.out ls (count c.in_ok-shape.shape) refl many (subst (λ b. AreReduced c.args.reduction scalar b (size to) ls c.in_ok-out.out) c.bytes.ensures c.in_ok-out.ensures.items)
+    ∙ (λ i. reduced_items c.args.reduction (sym typed i) (sym c.in_ok-scalar.ensures.ok.2 i) c.args.items.block.now (lists shape (sym named i) (offsets c.args.items.layout.now)))
+
+pub returns-clause-bytes : goal.returns-clause-bytes
+returns-clause-bytes c =
+    let shape = c.args.items.layout.now.shape in
+    let scalar = c.in_ok-scalar.scalar in
+    let to = result_scalar c.args.reduction scalar in
+    let found = c.in_ok-axis.ensures.ok in
+    let named = ap (λ n. named_axis n c.args.axis) (sym c.rank.ensures.value) ∙ sym found.1 in
+    let typed = c.in_ok-owned.ensures.descr ∙ ap ScalarDescr c.result_scalar.ensures in
+    let is = subst (λ n. IsAxisOf n c.in_ok-axis.axis) c.rank.ensures.value found.2 in
+    let ls = lists shape c.in_ok-axis.axis (offsets c.args.items.layout.now) in
+    let many : count c.in_ok-shape.shape ≡ length ls =
+    ap count (sym (shape_is c.args.reduction shape c.in_ok-axis.axis c.args.keep c.in_ok-shape.shape c.in_ok-shape.ensures))
+    ∙ sym (length-lists shape c.in_ok-axis.axis c.args.keep (offsets c.args.items.layout.now) is) in
+    let are = subst (λ b. AreReduced c.args.reduction scalar b (size to) ls c.in_ok-out.out) c.bytes.ensures c.in_ok-out.ensures.items in
+    c.in_ok-owned.ensures.block
+    ∙ bytes_are c.args.reduction scalar to c.args.items.block.now c.in_ok-out.out ls (count c.in_ok-shape.shape) refl many (c.in_ok-out.ensures.len ∙ ap (λ n. n * size to) c.items.ensures.value) are
+    ∙ (λ i. flat_map (encode_item (sym typed i)) (reduced_items c.args.reduction (sym typed i) (sym c.in_ok-scalar.ensures.ok.2 i) c.args.items.block.now (lists shape (sym named i) (offsets c.args.items.layout.now))))
+    ∙ ap (flat_map (encode_item c.in_ok-owned.owned.descr)) (sym (returns-clause-items c))

@@ -8,8 +8,8 @@ use Rattle.reductions.proofs.reducing.reduce_into.Goals as goal
 
 pub returns-then-list_length-eq0-clause-items : goal.returns-then-list_length-eq0-clause-items
 returns-then-list_length-eq0-clause-items c k low =
-    let scalar = c.args.scalar.now in
+    let scalar = c.args.source.scalar.now in
     let width = size (result_scalar c.args.reduction scalar) in
-    subst (λ list. IsReduced c.args.reduction scalar (numbers_at scalar c.args.bytes.now list) (item_at (k * width) width c.fill_empty.new.out))
-    (sym (no_items c.args.layout.now c.args.axis k (sym c.list_length.ensures ∙ c.if-list_length-eq0.true) low))
+    subst (λ list. IsReduced c.args.reduction scalar (numbers_at scalar c.args.source.bytes.now list) (item_at (k * width) width c.fill_empty.new.out))
+    (sym (no_items c.args.source.layout.now c.args.source.axis k (sym c.list_length.ensures ∙ c.if-list_length-eq0.true) low))
     (c.fill_empty.ensures.items k (omega (arith, low, c.requires.items)))

@@ -1,11 +1,9 @@
-use Rattle.std.proofs.Common.{◌≡◌, ◌+◌, ◌*◌, ◌≤◌, inl, inr, [], ◌∷◌, ◌++◌, length, sym, ap, ◌∙◌, arith}
+use Rattle.std.proofs.Common.{◌≡◌, ◌+◌, ◌*◌, ◌≤◌, ℕ, ℤ, inl, inr, [], ◌∷◌, ◌++◌, length, sym, ap, subst, ◌∙◌, arith}
 use Rattle.std.proofs.lemmas.Bool.{cases_lt}
 use Rattle.elem_descr.specs.declared.scalar.Order.TheVariants.{Little}
-use Rattle.elem_descr.specs.Encoding.{decode}
-use Rattle.elem_descr.specs.Values.{number}
 use Rattle.overlap_copy.specs.RunLaws.{place-within}
 use Rattle.raw_block.specs.Bytes.{place, item_at}
-use Rattle.reductions.specs.inside.Numbers.{number_at}
+use Rattle.reductions.specs.inside.Numbers.{number_at, IsStored}
 use Rattle.reductions.proofs.LineLaws.{begins, before_next}
 use Rattle.reductions.proofs.rows.add_each.Goals as goal
 
@@ -28,19 +26,23 @@ loop-j-preserved g c =
     let item = c.number_at-item.ensures ∙ ap (number_at scalar bytes) c.place.ensures in
     record {
       len = c.add_at.ensures.len ∙ c.loop-j.invariant.len;
-      done = λ i first rest low seen before. elim (cases_lt i j) as (λ _. decode total (item_at (i * width) width new) ≡ number (g.F.Fold.meaning (first ∷ (rest ++ number_at scalar bytes (place c.args.run.offset c.args.run.step i) ∷ [])))) [
-        | inl early ↦
-            let apart = before_next i j width early in
-            ap (decode total) (c.add_at.ensures.others (i * width) (omega (arith, apart, last)) (inl (omega (arith, apart, at)))) ∙ c.loop-j.invariant.done i first rest early seen before
-        | inr late ↦
-            let is : j ≡ i = omega (arith, low, late) in
-            let before' = ap (λ o. decode total (item_at o width c.loop-j.row)) at ∙ ap (decode total) (c.loop-j.invariant.later j (omega arith) c.loop-j-test.true) ∙ ap (λ n. decode total (item_at (n * width) width c.args.row.now)) is ∙ before in
-            ap (λ n. decode total (item_at (n * width) width new)) (sym is)
-            ∙ ap (λ o. decode total (item_at o width new)) (sym at)
-            ∙ c.add_at.ensures.value first rest seen before'
-            ∙ ap (λ z. number (g.F.Fold.meaning (first ∷ (rest ++ z ∷ [])))) item
-            ∙ ap (λ n. number (g.F.Fold.meaning (first ∷ (rest ++ number_at scalar bytes (place c.args.run.offset c.args.run.step n) ∷ [])))) is
-      ];
+      done = λ i first rest low seen before.
+          let more = λ (z : ℤ). g.F.Fold.meaning (first ∷ (rest ++ z ∷ [])) in
+          let number = λ (n : ℕ). number_at scalar bytes (place c.args.run.offset c.args.run.step n) in
+          elim (cases_lt i j) as (λ _. IsStored total (more (number i)) (item_at (i * width) width new)) [
+            | inl early ↦
+                let apart = before_next i j width early in
+                let kept = c.add_at.ensures.others (i * width) (omega (arith, apart, last)) (inl (omega (arith, apart, at))) in
+                subst (IsStored total (more (number i))) (sym kept) (c.loop-j.invariant.done i first rest early seen before)
+            | inr late ↦
+                let is : j ≡ i = omega (arith, low, late) in
+                let there : item_at (j * c.WIDTH.result) width c.loop-j.row ≡ item_at (i * width) width c.args.row.now =
+                ap (λ o. item_at o width c.loop-j.row) at ∙ c.loop-j.invariant.later j (omega arith) c.loop-j-test.true ∙ ap (λ n. item_at (n * width) width c.args.row.now) is in
+                let made = c.add_at.ensures.value first rest seen (subst (IsStored total (g.F.Fold.meaning (first ∷ rest))) (sym there) before) in
+                subst (λ n. IsStored total (more (number n)) (item_at (n * width) width new)) is
+                (subst (λ o. IsStored total (more (number j)) (item_at o width new)) at
+                (subst (λ z. IsStored total (more z) (item_at (j * c.WIDTH.result) width new)) item made))
+          ];
       later = λ i high below.
           let apart = before_next j i width (omega (arith, high)) in
           let fits = before_next i c.args.run.count width below in

@@ -2,12 +2,11 @@ use Rattle.std.proofs.Common.{◌≡◌, ◌-◌, ◌*◌, ◌<◌, ◌^◌, Lis
 use Rattle.std.specs.Prelude.{◌+ℤ◌, ◌≤ℤ◌, ◌<ℤ◌}
 use Rattle.std.proofs.lemmas.Int.{ints}
 use Rattle.elem_descr.specs.declared.scalar.Order.TheVariants.{Little}
-use Rattle.elem_descr.specs.Values.{number}
 use Rattle.elem_descr.specs.Steps.{numbers_from}
 use Rattle.raw_block.specs.Bytes.{position, place, item_at, EachWithin}
 use Rattle.shape_strides.specs.Addresses.{natural}
 use Rattle.shape_strides.specs.Runs.{run_along, run_offsets}
-use Rattle.reductions.specs.inside.Numbers.{number_at, numbers_at}
+use Rattle.reductions.specs.inside.Numbers.{number_at, numbers_at, IsStored}
 use Rattle.reductions.proofs.LineLaws.{begins as begins_within, front, numbers-first, numbers-more, length-numbers}
 use Rattle.reductions.proofs.RowLaws.{first_line, row_place, row_within}
 use Rattle.reductions.proofs.rows.fill_by_rows.Goals as goal
@@ -18,7 +17,9 @@ loop-k-init g c =
     let bytes = c.args.bytes.now in
     record {
       len = c.start_row.ensures.len;
-      done = λ j low. c.start_row.ensures.values j low ∙ ap (λ numbers. number (g.F.Fold.meaning numbers)) (sym (numbers-first scalar bytes (front 1 (run_along c.args.axis (place c.args.starts.offset c.args.starts.step j))) 0 refl));
+      done = λ j low. subst (λ numbers. IsStored (g.F.Total.Number.scalar Little) (g.F.Fold.meaning numbers) (item_at (j * g.F.Total.Number.WIDTH) g.F.Total.Number.WIDTH c.start_row.new.row))
+          (sym (numbers-first scalar bytes (front 1 (run_along c.args.axis (place c.args.starts.offset c.args.starts.step j))) 0 refl))
+          (c.start_row.ensures.values j low);
     }
 
 pub place-offset-requires-clause-start : goal.place-offset-requires-clause-start
@@ -67,10 +68,12 @@ loop-k-preserved g c =
           let here = (λ i. place (c.moved.ensures i).offset (c.moved.ensures i).step j) ∙ ap (λ o. place o starts.step j) offset ∙ row_place len g.S.Number.WIDTH starts axis c.requires.some.1 c.requires.starts c.requires.lines j k low c.loop-k-test.true in
           let seen : k ≡ length (first ∷ rest) = sym (length-numbers scalar bytes (front k line)) ∙ ap length begins in
           let low' : j < c.moved.result.count = subst (λ run. j < run.count) (sym c.moved.ensures) low in
-          c.add_row.ensures.values j first rest low' seen (c.loop-k.invariant.done j low ∙ ap (λ ns. number (g.F.Fold.meaning ns)) begins)
-          ∙ ap (λ o. number (g.F.Fold.meaning (first ∷ (rest ++ number_at scalar bytes o ∷ [])))) here
-          ∙ ap (λ (ns : List ℤ). number (g.F.Fold.meaning (ns ++ number_at scalar bytes (place line.offset line.step k) ∷ []))) (sym begins)
-          ∙ ap (λ ns. number (g.F.Fold.meaning ns)) (sym (numbers-more scalar bytes len g.S.Number.WIDTH line k c.loop-k-test.true (c.requires.lines j low)));
+          let before = subst (λ ns. IsStored total (g.F.Fold.meaning ns) (item_at (j * width) width c.loop-k.row)) begins (c.loop-k.invariant.done j low) in
+          let all =
+          ap (λ o. first ∷ (rest ++ number_at scalar bytes o ∷ [])) here
+          ∙ ap (λ (ns : List ℤ). ns ++ number_at scalar bytes (place line.offset line.step k) ∷ []) (sym begins)
+          ∙ sym (numbers-more scalar bytes len g.S.Number.WIDTH line k c.loop-k-test.true (c.requires.lines j low)) in
+          subst (λ ns. IsStored total (g.F.Fold.meaning ns) (item_at (j * width) width c.add_row.new.row)) all (c.add_row.ensures.values j first rest low' seen before);
     }
 
 pub returns-clause-items : goal.returns-clause-items
@@ -82,4 +85,4 @@ returns-clause-items g c j low =
     let whole : c.loop-k.k ≡ c.args.axis.len = omega (arith, c.loop-k-test.false, c.loop-k.auto.k-end, c.requires.some.0) in
     let few : length (numbers_at scalar bytes (run_offsets line)) < 2 ^ 63 = omega (arith, c.requires.few.0, length-numbers scalar bytes line) in
     g.met.F.Fold.gives g.O.Ordered.order (item_at (j * width) width c.loop-k.row) (numbers_at scalar bytes (run_offsets line)) few
-    (c.loop-k.invariant.done j low ∙ ap (λ n. number (g.F.Fold.meaning (numbers_at scalar bytes (run_offsets (front n line))))) whole)
+    (subst (λ n. IsStored (g.F.Total.Number.scalar Little) (g.F.Fold.meaning (numbers_at scalar bytes (run_offsets (front n line)))) (item_at (j * width) width c.loop-k.row)) whole (c.loop-k.invariant.done j low))

@@ -1,10 +1,8 @@
-use Rattle.std.proofs.Common.{◌≡◌, ◌+◌, ◌*◌, ◌≤◌, inl, [], ◌∷◌, length, refl, sym, ap, ◌∙◌, arith}
+use Rattle.std.proofs.Common.{◌≡◌, ◌+◌, ◌*◌, ◌≤◌, inl, [], ◌∷◌, length, refl, sym, ap, subst, ◌∙◌, arith}
 use Rattle.elem_descr.specs.declared.scalar.Order.TheVariants.{Little}
-use Rattle.elem_descr.specs.Encoding.{decode}
-use Rattle.elem_descr.specs.Values.{number}
 use Rattle.overlap_copy.specs.RunLaws.{place-within}
 use Rattle.raw_block.specs.Bytes.{place, item_at}
-use Rattle.reductions.specs.inside.Numbers.{number_at}
+use Rattle.reductions.specs.inside.Numbers.{number_at, IsStored}
 use Rattle.reductions.proofs.LineLaws.{begins, before_next, one_done}
 use Rattle.reductions.proofs.rows.start_row.Goals as goal
 
@@ -28,11 +26,10 @@ loop-j-preserved g c =
     let item = c.number_at-item.ensures ∙ ap (number_at scalar bytes) c.place.ensures in
     record {
       len = c.store_at.ensures.len ∙ c.loop-j.invariant.len;
-      done = one_done (λ k bytes'. decode total bytes' ≡ number (g.F.Fold.meaning (number_at scalar bytes (place c.args.run.offset c.args.run.step k) ∷ []))) width j c.loop-j.row new
+      done = one_done (λ k bytes'. IsStored total (g.F.Fold.meaning (number_at scalar bytes (place c.args.run.offset c.args.run.step k) ∷ [])) bytes') width j c.loop-j.row new
           (λ o low. c.store_at.ensures.others o (omega (arith, low, last)) (inl (omega (arith, low, at))))
           c.loop-j.invariant.done
-          (ap (λ o. decode total (item_at o width new)) (sym at)
-          ∙ c.store_at.ensures.value
-          ∙ ap number (c.finish.ensures v [] (c.step-held.ensures v [] refl c.start.ensures))
-          ∙ ap (λ z. number (g.F.Fold.meaning (z ∷ []))) item);
+          (subst (λ o. IsStored total (g.F.Fold.meaning (number_at scalar bytes (place c.args.run.offset c.args.run.step j) ∷ [])) (item_at o width new)) at
+          (subst (λ z. IsStored total z (item_at (j * c.WIDTH.result) width new)) (c.finish.ensures v [] (c.step-held.ensures v [] refl c.start.ensures) ∙ ap (λ z. g.F.Fold.meaning (z ∷ [])) item)
+          (record { value = c.store_at.ensures.value; exact = c.store_at.ensures.exact })));
     }

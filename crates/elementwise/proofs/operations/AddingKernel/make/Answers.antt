@@ -2,7 +2,7 @@ use Rattle.std.proofs.Common.{sym, ◌∙◌}
 use Rattle.std.specs.Prelude.{pos, ◌+ℤ◌}
 use Rattle.elem_descr.specs.declared.scalar.Order.TheVariants.{Little}
 use Rattle.elem_descr.specs.Encoding.{low_bits}
-use Rattle.script_lang.specs.declared.operation.BinaryOperation.TheVariants.{Add}
+use Rattle.machine_numbers.specs.declared.operators.BinOp.TheVariants.{Add}
 use Rattle.elementwise.proofs.WordLaws.{are_bits, applied}
 use Rattle.elementwise.proofs.operations.AddingKernel.make.Goals as goal
 

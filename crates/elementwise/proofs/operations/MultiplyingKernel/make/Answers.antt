@@ -2,7 +2,7 @@ use Rattle.std.proofs.Common.{sym, ◌∙◌}
 use Rattle.std.specs.Prelude.{pos, ◌*ℤ◌}
 use Rattle.elem_descr.specs.declared.scalar.Order.TheVariants.{Little}
 use Rattle.elem_descr.specs.Encoding.{low_bits}
-use Rattle.script_lang.specs.declared.operation.BinaryOperation.TheVariants.{Multiply}
+use Rattle.machine_numbers.specs.declared.operators.BinOp.TheVariants.{Multiply}
 use Rattle.elementwise.proofs.WordLaws.{are_bits, applied}
 use Rattle.elementwise.proofs.operations.MultiplyingKernel.make.Goals as goal
 

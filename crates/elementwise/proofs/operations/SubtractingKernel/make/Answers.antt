@@ -2,7 +2,7 @@ use Rattle.std.proofs.Common.{sym, ◌∙◌}
 use Rattle.std.specs.Prelude.{pos, ◌-ℤ◌}
 use Rattle.elem_descr.specs.declared.scalar.Order.TheVariants.{Little}
 use Rattle.elem_descr.specs.Encoding.{low_bits}
-use Rattle.script_lang.specs.declared.operation.BinaryOperation.TheVariants.{Subtract}
+use Rattle.machine_numbers.specs.declared.operators.BinOp.TheVariants.{Subtract}
 use Rattle.elementwise.proofs.WordLaws.{are_bits, applied}
 use Rattle.elementwise.proofs.operations.SubtractingKernel.make.Goals as goal
 

@@ -1,5 +1,5 @@
 //! Machine numbers: what they mean, how they are stored, and how one is made of another.
-ghost use Rattle.std.specs.Prelude.{◌≡◌, ◌≤◌, ◌⊎◌, ◌+◌, ◌++◌, ℕ, ℤ, pos, Bool, true, false, length, if◌then◌else◌, refl};
+ghost use Rattle.std.specs.Prelude.{◌≡◌, ◌≤◌, ◌⊎◌, ◌+◌, ◌++◌, ℕ, ℤ, int_lt, pos, Bool, true, false, length, if◌then◌else◌, refl};
 ghost use Rattle.elem_descr.specs.declared.scalar.Order.{Order};
 ghost use Rattle.elem_descr.specs.declared.scalar.Order.TheVariants.{Little};
 ghost use Rattle.elem_descr.specs.declared.scalar.Scalar.{Scalar};
@@ -9,8 +9,8 @@ ghost use Rattle.elem_descr.specs.Values.{number};
 ghost use Rattle.elem_descr.specs.Encoding.{IsNumber, size, decode, encode, wrap, integer};
 ghost use Rattle.std.proofs.Common.{arith, inl, inr};
 ghost use Rattle.std.proofs.lemmas.Bool.{false≢true};
-ghost use Rattle.elementwise.specs.Promotion.{is_bool, little};
-ghost use Rattle.elementwise.specs.Bits.{AreBits};
+ghost use Rattle.machine_numbers.specs.Kinds.{is_bool, little};
+ghost use Rattle.machine_numbers.specs.Bits.{AreBits};
 
 use crate::byte_orders::Ordered;
 use raw_block::BlockBuilder;
@@ -36,10 +36,11 @@ pub trait Number: Copy {
         requires { length bytes.now ≡ WIDTH }
         ensures { decode (scalar O.order) bytes.now ≡ number (value result) };
 
-    /// Writes a number over as many bytes as it has.
+    /// Writes a number over as many bytes as it has, from which it is read back.
     fn write<O: Ordered>(self, bytes: &mut [u8])
         requires { length bytes.old ≡ WIDTH }
-        ensures { bytes.new ≡ encode (scalar O.order) (number (value self)) };
+        ensures bytes { bytes.new ≡ encode (scalar O.order) (number (value self)) }
+        ensures value { decode (scalar O.order) bytes.new ≡ number (value self) };
 
     /// Fills the next bytes of a block with a number, which is stored at once.
     fn push<O: Ordered>(self, block: &mut BlockBuilder)
@@ -55,6 +56,10 @@ pub trait Number: Copy {
     /// The number that has the lowest of these bits, or whether there are any.
     fn of_bits(bits: u64) -> Self
         ensures { (order : Order) (z : ℤ) → AreBits bits z → value result ≡ wrap (scalar order) z };
+
+    /// Whether it is less than another one.
+    fn is_less(self, other: Self) -> bool
+        ensures { result ≡ int_lt (value self) (value other) };
 
     ghost is_number: { (order : Order) → IsNumber (scalar order) };
 
@@ -112,6 +117,10 @@ impl Number for bool {
     fn of_bits(bits: u64) -> bool {
         bits != 0
     }
+
+    fn is_less(self, other: bool) -> bool {
+        !self & other
+    }
 }
 
 impl Number for u8 {
@@ -158,6 +167,10 @@ impl Number for u8 {
 
     fn of_bits(bits: u64) -> u8 {
         (bits % 256) as u8
+    }
+
+    fn is_less(self, other: u8) -> bool {
+        self < other
     }
 }
 
@@ -206,6 +219,10 @@ impl Number for i8 {
     fn of_bits(bits: u64) -> i8 {
         ((bits % 256) as u8).cast_signed()
     }
+
+    fn is_less(self, other: i8) -> bool {
+        self < other
+    }
 }
 
 impl Number for u16 {
@@ -252,6 +269,10 @@ impl Number for u16 {
 
     fn of_bits(bits: u64) -> u16 {
         (bits % 65_536) as u16
+    }
+
+    fn is_less(self, other: u16) -> bool {
+        self < other
     }
 }
 
@@ -300,6 +321,10 @@ impl Number for i16 {
     fn of_bits(bits: u64) -> i16 {
         ((bits % 65_536) as u16).cast_signed()
     }
+
+    fn is_less(self, other: i16) -> bool {
+        self < other
+    }
 }
 
 impl Number for u32 {
@@ -346,6 +371,10 @@ impl Number for u32 {
 
     fn of_bits(bits: u64) -> u32 {
         (bits % 4_294_967_296) as u32
+    }
+
+    fn is_less(self, other: u32) -> bool {
+        self < other
     }
 }
 
@@ -394,6 +423,10 @@ impl Number for i32 {
     fn of_bits(bits: u64) -> i32 {
         ((bits % 4_294_967_296) as u32).cast_signed()
     }
+
+    fn is_less(self, other: i32) -> bool {
+        self < other
+    }
 }
 
 impl Number for u64 {
@@ -441,6 +474,10 @@ impl Number for u64 {
     fn of_bits(bits: u64) -> u64 {
         bits
     }
+
+    fn is_less(self, other: u64) -> bool {
+        self < other
+    }
 }
 
 impl Number for i64 {
@@ -487,5 +524,9 @@ impl Number for i64 {
 
     fn of_bits(bits: u64) -> i64 {
         bits.cast_signed()
+    }
+
+    fn is_less(self, other: i64) -> bool {
+        self < other
     }
 }

@@ -1,0 +1,90 @@
+//! Items at equal steps that are read.
+ghost use Rattle.std.specs.Prelude.{◌≡◌, ◌+◌, ◌^◌, ◌<◌, ◌≤◌, pos, ◌≤ℤ◌, ◌<ℤ◌, length};
+ghost use Rattle.raw_block.specs.Bytes.{position, place, item_at, EachWithin};
+ghost use Rattle.elem_descr.specs.Values.{number};
+ghost use Rattle.elem_descr.specs.Encoding.{decode};
+
+use crate::byte_orders::Ordered;
+use crate::numbers::Number;
+use shape_strides::Run;
+
+/// Where the `k`-th item of a run lies.
+#[inline(always)]
+pub fn place(run: Run, k: usize) -> usize
+    requires few { k < 2 ^ 63 }
+    requires start { run.offset < 2 ^ 63 }
+    requires low { pos 0 ≤ℤ position run.offset run.step k }
+    requires high { position run.offset run.step k <ℤ pos (2 ^ 63) }
+    ensures { result ≡ place run.offset run.step k }
+{
+    (run.offset as isize + k as isize * run.step) as usize
+}
+
+/// A run that is known to have this step.
+#[inline(always)]
+fn with_step(run: Run, step: isize) -> Run
+    requires { run.step ≡ step }
+    ensures { result ≡ run }
+{
+    Run {
+        offset: run.offset,
+        count: run.count,
+        step,
+    }
+}
+
+/// The number that lies at a place.
+#[inline(always)]
+fn read_at<N: Number, O: Ordered>(bytes: &[u8], at: usize) -> N
+    requires { at + N.WIDTH ≤ length bytes.now }
+    ensures { decode (N.scalar O.order) (item_at at N.WIDTH bytes.now) ≡ number (N.value result) }
+{
+    N::read::<O>(&bytes[at..at + N::WIDTH])
+}
+
+/// A run of items, of `width` bytes, that lie in bytes.
+#[derive(Clone, Copy, Drop)]
+pub struct Side<'a> {
+    pub bytes: &'a [u8],
+    pub run: Run,
+    pub width: usize,
+    pub ghost few: { run.count < 2 ^ 63 },
+    pub ghost within: { EachWithin (length bytes.now) run.offset run.step width run.count },
+}
+
+impl<'a> Side<'a> {
+    ghost use Rattle.machine_numbers.specs.Sides.{AreSame, item_in, number_in};
+
+    /// The same, whose step is known to be this one.
+    #[inline(always)]
+    pub fn with_step(self, step: isize) -> Side<'a>
+        requires { self.run.step ≡ step }
+        ensures { AreSame result self.entry }
+    {
+        Side {
+            bytes: self.bytes,
+            run: with_step(self.run, step),
+            width: self.width,
+        }
+    }
+
+    /// The `k`-th number.
+    #[inline(always)]
+    pub fn number<N: Number, O: Ordered>(self, k: usize) -> N
+        requires k { k < self.run.count }
+        requires width { self.width ≡ N.WIDTH }
+        ensures { N.value result ≡ number_in (N.scalar O.order) self.entry k }
+    {
+        read_at::<N, O>(self.bytes, place(self.run, k))
+    }
+
+    /// The bytes of the `k`-th item.
+    #[inline(always)]
+    pub fn item(self, k: usize) -> &'a [u8]
+        requires { k < self.run.count }
+        ensures { result.now ≡ item_in self.entry k }
+    {
+        let at = place(self.run, k);
+        &self.bytes[at..at + self.width]
+    }
+}
