@@ -2,7 +2,8 @@
 """Lists the definitions that the contract of `bench_engine::run` reaches: what a reader has to believe.
 
     tools/believed.py            the definitions, by crate and file
-    tools/believed.py --check    says which of them docs/DEFINITIONS.md does not name, and which names there are none
+    tools/believed.py --write    writes that list to docs/believed.txt
+    tools/believed.py --check    says where that file is not up to date, and which files of it no table of docs/DEFINITIONS.md names
     tools/believed.py --inside   the definitions that no public contract reaches, and so only provers use, which do not stand in
                                  specs/inside/; and those there that one does reach
     tools/believed.py --twice    statements that are proved twice, definitions that stand twice, and public words of specs/
@@ -17,6 +18,9 @@ import re
 import sys
 
 TOP = pathlib.Path(__file__).resolve().parent.parent
+LIST = TOP / "docs/believed.txt"
+# A verdict carries its proof, so that its type says all, whatever the test is that finds it.
+VERDICT = re.compile(r"→ \w+OrNot\b")
 WORD = re.compile(r"[^\s(){}\[\],;]+")
 HEAD = re.compile(r"^(?:(?:abbrev|unfoldable|opaque|pub|record|data)\s+)+(\S+)|^(\S+) : ")
 
@@ -95,7 +99,8 @@ class Repository:
             elif module in self.files and name in self.files[module][1]:
                 done.add((module, name))
                 _, local, names, modules = self.files[module]
-                todo |= {(it[0] or module, it[1]) for it in self.cited(local[name], local, names, modules)}
+                text = local[name].partition(f"\n{name} ")[0] if VERDICT.search(local[name]) else local[name]
+                todo |= {(it[0] or module, it[1]) for it in self.cited(text, local, names, modules)}
         return {it for it in done if ".declared." not in it[0]}
 
 
@@ -239,6 +244,25 @@ def believed():
     return {file: [name for _, name in sorted(names, key=lambda it: order[it[0]].index(it[1]))] for file, names in sorted(by_file.items())}
 
 
+def listed(found):
+    """The list that is kept of what is reached."""
+    return "".join(f"{file}: {' '.join(names)}\n" for file, names in found.items())
+
+
+def unlisted(found):
+    """What the kept list lacks or has too much, and the files of it that stand in no table."""
+    kept = dict(line.split(": ", 1) for line in LIST.read_text().splitlines())
+    there = {file: names.split() for file, names in kept.items()}
+    here = {str(file): names for file, names in found.items()}
+    page = (TOP / "docs/DEFINITIONS.md").read_text()
+    for file in sorted(here.keys() | there.keys()):
+        old, new = there.get(file, []), here.get(file, [])
+        yield from (f"{file}: {name} is reached, and the list does not have it" for name in new if name not in old)
+        yield from (f"{file}: the list has {name}, which is not reached" for name in old if name not in new)
+        if f"`{file.partition('/specs/')[2]}`" not in page or f"`{file.partition('/')[0]}`" not in page:
+            yield f"{file}: no table of DEFINITIONS.md names it"
+
+
 def main():
     if sys.argv[1:] == ["--inside"]:
         inside()
@@ -246,24 +270,15 @@ def main():
     if sys.argv[1:] == ["--twice"]:
         return 1 if twice() else 0
     found = believed()
-    if sys.argv[1:] != ["--check"]:
-        for file, names in found.items():
-            print(f"| `{file}` | {', '.join(f'`{name}`' for name in names)} |")
-        print(f"\n{sum(map(len, found.values()))} definitions")
-        return 0
-    told = {}
-    for file, names in re.findall(r"(?m)^\| `([\w/]+\.antt)` \| (.*?) \|$", (TOP / "docs/DEFINITIONS.md").read_text()):
-        told[file] = re.findall(r"`([^`]+)`", names)
-    faults = 0
-    for file in sorted({str(it) for it in found} | set(told)):
-        here, there = found.get(pathlib.Path(file), []), told.get(file, [])
-        for name in [it for it in here if it not in there]:
-            faults += 1
-            print(f"{file}: {name} is reached, and DEFINITIONS.md does not name it")
-        for name in [it for it in there if it not in here]:
-            faults += 1
-            print(f"{file}: DEFINITIONS.md names {name}, which is not reached")
-    return 1 if faults else 0
+    if sys.argv[1:] == ["--write"]:
+        LIST.write_text(listed(found))
+    elif sys.argv[1:] == ["--check"]:
+        faults = list(unlisted(found))
+        print("\n".join(faults), end="\n" * bool(faults))
+        return 1 if faults else 0
+    else:
+        print(f"{listed(found)}{sum(map(len, found.values()))} definitions")
+    return 0
 
 
 if __name__ == "__main__":

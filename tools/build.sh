@@ -11,11 +11,11 @@ program=$top/crates/bench_main/out/bench_main
 work=$top/out/build
 cd "$top" || exit 3
 
-# The crates that the program needs, those with the most work in the crates behind them first: each with all that it uses, directly
-# and by others. The work is counted in lines.
+# The crates that the program needs, those with the most work in the crates behind them first: each with the lines of these and of its
+# own code, and with all that it uses, directly and by others.
 plan() {
     find crates -name out -prune -o \( -name '*.rt' -o -name '*.antt' \) -exec grep -c '' /dev/null {} + | awk -F: '
-        /^(crates|\/dev)\// { split($1, part, "/"); lines[part[2]] += $2; next }
+        /^(crates|\/dev)\// { split($1, part, "/"); lines[part[2]] += $2; if (part[3] == "src") code[part[2]] += $2; next }
         /^[a-z]/ { split($1, words, " "); uses[words[1]] = $2; listed[words[1]] = 1 }
         function visit(crate, below, used, n, i) {
             if (crate in all) return
@@ -37,16 +37,16 @@ plan() {
                 n = split(all[order[i]], used, " ")
                 for (j = 1; j <= n; j++) if (chain[used[j]] < chain[order[i]]) chain[used[j]] = chain[order[i]]
             }
-            for (i = 1; i <= count; i++) print chain[order[i]] ":" order[i] ":" all[order[i]]
+            for (i = 1; i <= count; i++) print chain[order[i]] ":" code[order[i]] + 0 ":" order[i] ":" all[order[i]]
         }' - crates.txt | sort -t: -k1,1nr -k2
 }
 
-# How many crates at a time, one a core, and how many checks: half as many again, since a check waits for others of its crate at
-# times, and 3 GB of memory for each.
+# How many crates at a time, one a core, and how many checks, 2 GB of memory for each: more than cores, since what a large crate
+# begins with it keeps to its end, and it would be left alone with few.
 room() {
     cores=$(nproc 2>/dev/null || getconf _NPROCESSORS_ONLN 2>/dev/null || echo 1)
-    fits=$(awk '/^MemAvailable:/ { print int($2 / 3000000) }' /proc/meminfo 2>/dev/null)
-    slots=$((cores + cores / 2))
+    fits=$(awk '/^MemAvailable:/ { print int($2 / 2000000) }' /proc/meminfo 2>/dev/null)
+    slots=$((3 * cores))
     [ "${fits:-1}" -lt "$slots" ] && slots=${fits:-1}
     [ "$slots" -lt 1 ] && slots=1
     [ -n "$BENCH_JOBS" ] && cores=$BENCH_JOBS slots=$BENCH_JOBS
@@ -112,7 +112,7 @@ prove() {
     done >"$work/$crate.log"
 }
 
-# Starts each crate that waits for none, with its share of the checks.
+# Starts each crate that waits for none, with a check for each 600 lines of its code, up to four.
 start_some() {
     ready=
     for crate in $waiting; do
@@ -120,13 +120,13 @@ start_some() {
         for used in $below; do has "$finished" "$used" || continue 2; done
         ready="$ready $crate"
     done
-    left=$(echo "$ready" | wc -w)
     for crate in $ready; do
         [ "$idle" -gt 0 ] && [ "$(echo $running | wc -w)" -lt "$cores" ] || return 0
-        jobs=$(((idle + left - 1) / left))
+        eval "below=\$below_$crate jobs=\$((1 + code_$crate / 600)) far_$crate="
         [ "$jobs" -gt 4 ] && jobs=4
-        eval "below=\$below_$crate jobs_$crate=$jobs far_$crate="
-        left=$((left - 1)) idle=$((idle - jobs))
+        [ "$jobs" -gt "$idle" ] && jobs=$idle
+        eval "jobs_$crate=$jobs"
+        idle=$((idle - jobs))
         waiting=$(without "$waiting" "$crate") running="$running $crate"
         set_up "$crate" "$below" || fail "$crate" "no folder for it could be made"
         prove "$crate" "$jobs" &
@@ -172,11 +172,11 @@ fail() {
 }
 
 if [ "$1" = --plan ]; then
-    plan | while IFS=: read -r lines crate below; do echo "$crate ($lines lines):$below"; done
+    plan | while IFS=: read -r lines code crate below; do echo "$crate ($lines lines):$below"; done
     exit
 fi
 plan=$(plan)
-crates=$(echo "$plan" | cut -d: -f2)
+crates=$(echo "$plan" | cut -d: -f3)
 if [ -x "$program" ] && [ -z "$(for crate in $crates; do find "crates/$crate/src" "crates/$crate/specs" "crates/$crate/proofs" -type f -newer "$program"; done; find crates.txt -newer "$program")" ]; then
     echo "bench: no source is newer than the program" >&2
     exit 0
@@ -199,7 +199,7 @@ mkfifo "$work/events" && exec 3<>"$work/events" || exit 3
 room
 total=$(echo "$plan" | wc -l) finished='' running='' number=0
 waiting=$(echo $crates) idle=$slots
-while IFS=: read -r lines crate below; do eval "below_$crate=\$below"; done <<PLAN
+while IFS=: read -r lines code crate below; do eval "below_$crate=\$below code_$crate=\$code"; done <<PLAN
 $plan
 PLAN
 echo "bench: proving and building $total crates, up to $cores at a time; from nothing this takes about 25 minutes on 4 quiet cores, and 10 GB of disk" >&2

@@ -1,20 +1,25 @@
 #!/usr/bin/env python3
 """Times commands of the program and the same work in NumPy, told as ratios.
 
-    tools/speed.py BENCH [--only WORD] [--repeats N] [--runs K] [--undo N]
+    tools/speed.py BENCH [--only WORD] [--sizes N ..] [--undo N ..] [--runs K]
 
 BENCH is the program that `./bench` builds. A script has the set-up of a row and then its line again and again. The
-time of the line is the difference between a run with many repeats of it and a run with a quarter of them, divided by
-the repeats between, so that neither the start of the program nor the set-up counts. NumPy's time is that of `timeit`.
+time of the line is the difference between a run with many repeats of it and a run with fewer, divided by the repeats
+between, so that neither the start of the program nor the set-up counts. Also the shorter run has more repeats than
+the depth of undo, so that what a line replaces is let go as fast as it is kept. NumPy's time is that of `timeit`.
 Both are processor time, the least of several runs; what the program writes goes nowhere. The program runs with the
-environment that `./bench` gives it. What a command replaces is kept for `undo`, in memory of its own: with --undo 0 it
-is not, which tells what the commands themselves take. A ratio above 1 says that the program takes longer than NumPy. A later command is
-one more row.
+environment that `./bench` gives it.
+
+Each row is timed for arrays of each size, at the default depth of undo and with --undo 0, which keeps nothing: the
+geometric mean of the ratios is told for each. A ratio above 1 says that the program takes longer than NumPy. A later
+command is one more row.
 """
 import argparse
+import math
 import os
 import pathlib
 import resource
+import string
 import subprocess
 import sys
 import tempfile
@@ -26,133 +31,207 @@ import numpy as np
 
 TUNABLES = {"hugetlb": 1, "mmap_threshold": 2**26, "trim_threshold": 2**27}
 ENVIRONMENT = {"GLIBC_TUNABLES": ":".join(f"glibc.malloc.{name}={value}" for name, value in TUNABLES.items()), **os.environ}
-COUNT = 2**22
+SIZES = (100, 10000, 2**22)
+DEPTHS = (16, 0)
 MOST_REPEATS = 2**18
-LONG_ENOUGH = 0.25
+BEFORE = 24
+LONG_ENOUGH = 0.15
 HIGH = 2
 FOLDER = tempfile.TemporaryDirectory()
 
 
 class Row(typing.NamedTuple):
-    """A command: the lines before it, its line, both for NumPy, and the words of the program."""
+    """A command: the lines before it, its line, and both for NumPy. $n is the number of items, $side its root, and $half,
+    $fourth and $third are parts of it."""
 
     name: str
-    setup: list
+    setup: str
     line: str
     numpy_setup: str
     numpy: str
-    words: tuple = ()
 
 
-ITEMS = [f"a = full <i4 ({COUNT}) 7"]
-NUMPY_ITEMS = f"a = np.full({COUNT}, 7, '<i4')"
-FEW = ["a = full <i4 (10) 7"]
-NUMPY_FEW = "a = np.full(10, 7, '<i4')"
-NO_UNDO = ("--undo", "0")
-MANY = [f"a = full <i4 ({4 * COUNT}) 7"]
-NUMPY_MANY = f"a = np.full({4 * COUNT}, 7, '<i4')"
-FEWER = [f"a = arange <i4 0 {COUNT // 4} 1"]
-NUMPY_FEWER = f"a = np.arange(0, {COUNT // 4}, 1, '<i4')"
-ROW = ["r = arange <i4 0 1024 1", "a = zeros <i4 (1024,1024)"]
-NUMPY_ROW = "r = np.arange(1024, dtype='<i4'); a = np.zeros((1024, 1024), '<i4')"
-TRANSPOSED = ["m = full <i4 (2048,2048) 7", "a = transpose m"]
-NUMPY_TRANSPOSED = "a = np.full((2048, 2048), 7, '<i4').T"
-TABLE = ["a = array <i4 (100,100) " + " ".join(map(str, range(10000)))]
-NUMPY_TABLE = "a = np.arange(10000, dtype='<i4').reshape(100, 100)"
-EVERY_FOURTH = [f"a = full <i4 ({COUNT}) 7", f"i = arange <i8 0 {COUNT} 4", f"v = arange <i4 0 {COUNT // 4} 1"]
-NUMPY_EVERY_FOURTH = f"a = np.full({COUNT}, 7, '<i4'); i = np.arange(0, {COUNT}, 4); v = np.arange({COUNT // 4}, dtype='<i4')"
-MASKED = [f"a = full <i4 ({COUNT // 2}) 7", f"m = zeros |b1 ({COUNT // 2})", "set m[::2] = True"]
-NUMPY_MASKED = f"a = np.full({COUNT // 2}, 7, '<i4'); m = np.zeros({COUNT // 2}, bool); m[::2] = True"
-ROWS_OF = ["a = full <i4 (1024,1024) 7", "i = arange <i8 0 1024 1", "i = i[::-1]"]
-NUMPY_ROWS_OF = "a = np.full((1024, 1024), 7, '<i4'); i = np.arange(1024)[::-1]"
-WIDE = [f"a = full <i8 ({COUNT}) 7", f"b = full <i8 ({COUNT}) 5"]
-NUMPY_WIDE = f"a = np.full({COUNT}, 7, '<i8'); b = np.full({COUNT}, 5, '<i8')"
-PAIR = [f"a = full <i4 ({COUNT}) 7", f"b = full <i4 ({COUNT}) 5"]
-NUMPY_PAIR = f"a = np.full({COUNT}, 7, '<i4'); b = np.full({COUNT}, 5, '<i4')"
-BIG_ENDIAN = [f"a = full >i4 ({COUNT // 4}) 7", f"b = full >i4 ({COUNT // 4}) 5"]
-NUMPY_BIG_ENDIAN = f"a = np.full({COUNT // 4}, 7, '>i4'); b = np.full({COUNT // 4}, 5, '>i4')"
-RECORDS = [f"t = zeros T{{<i:k:<i:v:}} ({COUNT // 4})", 'a = field t "v"']
-NUMPY_RECORDS = f"a = np.zeros({COUNT // 4}, [('k', '<i4'), ('v', '<i4')])['v']"
-SQUARE = ["a = full <i4 (2048,2048) 7"]
-NUMPY_SQUARE = "a = np.full((2048, 2048), 7, '<i4')"
+def matrix(kind):
+    """A square of that type for both."""
+    return f"a = full {kind} ($side,$side) 7", f"a = np.full(($side, $side), 7, '{kind}')"
+
+
+def two(kind):
+    """Two arrays of that type for both."""
+    return (
+        f"a = full {kind} ($n) 7\nb = full {kind} ($n) 5",
+        f"a = np.full($n, 7, '{kind}'); b = np.full($n, 5, '{kind}')",
+    )
+
+
+def places(kind):
+    """An array, every fourth of its places in that type, and as many numbers, for both."""
+    return (
+        f"a = full <i4 ($n) 7\nt = arange <i8 0 $n 4\ni = cast t {kind}\nv = cast t <i4",
+        f"a = np.full($n, 7, '<i4'); i = np.arange(0, $n, 4).astype('{kind}'); v = i.astype('<i4')",
+    )
+
+
+ITEMS = ("a = full <i4 ($n) 7", "a = np.full($n, 7, '<i4')")
+FEW = ("a = full <i4 (10) 7", "a = np.full(10, 7, '<i4')")
+ROW = (
+    "r = arange <i4 0 $side 1\na = zeros <i4 ($side,$side)",
+    "r = np.arange($side, dtype='<i4'); a = np.zeros(($side, $side), '<i4')",
+)
+SQUARE = matrix("<i4")
+TRANSPOSED = (f"{SQUARE[0]}\nt = transpose a", f"{SQUARE[1]}; t = a.T")
+FORTRAN = (f"{SQUARE[0]}\nf = copy a F", f"{SQUARE[1]}; f = a.copy('F')")
+NARROW = {
+    n: (
+        f"a = full <i4 ($third,{n}) 7\nb = full <i4 ($third,{n}) 5\na = a[:,::-1]",
+        f"a = np.full(($third, {n}), 7, '<i4')[:, ::-1]; b = np.full(($third, {n}), 5, '<i4')",
+    )
+    for n in (2, 3)
+}
+SPREAD = (
+    "r = arange <i4 0 $side 1\nw = broadcast r ($side,$side)\nq = reshape r ($side,1)\nh = broadcast q ($side,$side)",
+    "r = np.arange($side, dtype='<i4'); w = np.broadcast_to(r, ($side, $side)); h = np.broadcast_to(r[:, None], ($side, $side))",
+)
+MASKED = (
+    "a = full <i4 ($n) 7\nm = zeros |b1 ($n)\nset m[::2] = True",
+    "a = np.full($n, 7, '<i4'); m = np.zeros($n, bool); m[::2] = True",
+)
+MASKED_SQUARE = (
+    f"{SQUARE[0]}\nm = zeros |b1 ($side,$side)\nset m[:,::2] = True",
+    f"{SQUARE[1]}; m = np.zeros(($side, $side), bool); m[:, ::2] = True",
+)
+PAIRS = (
+    f"{SQUARE[0]}\nt = arange <i8 0 $side 1\ni = copy t C\nj = t[::-1]\nk = reshape i ($side,1)",
+    f"{SQUARE[1]}; i = np.arange($side); j = i[::-1]; k = i[:, None]",
+)
+RECORDS = (
+    't = zeros T{<i:k:<i:v:} ($n)\na = field t "v"\nb = field t "k"',
+    "t = np.zeros($n, [('k', '<i4'), ('v', '<i4')]); a = t['v']; b = t['k']",
+)
+STRINGS = (
+    'a = full |S8 ($n) "abcdefgh"\nb = full |S8 ($n) "abcdefgi"',
+    "a = np.full($n, b'abcdefgh', '|S8'); b = np.full($n, b'abcdefgi', '|S8')",
+)
+NAMES = ("\n".join(f"n{k} = full <i4 (10) 7" for k in range(1000)) + f"\n{FEW[0]}", FEW[1])
+SAVED = (f'{ITEMS[0]}\nsave a "a.npy"', f"{ITEMS[1]}; f = '{FOLDER.name}/n.npy'; np.save(f, a)")
+
+
+def row(name, sides, line, numpy):
+    """A row whose lines before it are the same for both."""
+    return Row(name, sides[0], line, sides[1], numpy)
+
 
 ROWS = [
-    Row("zeros, 4M of 4 bytes", [], f"x = zeros <i4 ({COUNT})", "", f"x = np.zeros({COUNT}, '<i4')"),
-    Row("full, 4M of 4 bytes", [], f"x = full <i4 ({COUNT}) 7", "", f"x = np.full({COUNT}, 7, '<i4')"),
-    Row("arange, 4M of 4 bytes", [], f"x = arange <i4 0 {COUNT} 1", "", f"x = np.arange(0, {COUNT}, 1, '<i4')"),
-    Row("arange, 4M of 8 bytes", [], f"x = arange <i8 0 {COUNT} 1", "", f"x = np.arange(0, {COUNT}, 1, '<i8')"),
-    Row("set, all of 4M", ITEMS, "set a[:] = 8", NUMPY_ITEMS, "a[:] = 8"),
-    Row("set, every second of 4M", ITEMS, "set a[::2] = 8", NUMPY_ITEMS, "a[::2] = 8"),
-    Row("set, one of 4M", ITEMS, "set a[1234567] = 8", NUMPY_ITEMS, "a[1234567] = 8"),
-    Row("set, one of 4M, without undo", ITEMS, "set a[1234567] = 8", NUMPY_ITEMS, "a[1234567] = 8", NO_UNDO),
-    Row("set, one of 10", FEW, "set a[5] = 8", NUMPY_FEW, "a[5] = 8"),
-    Row("view, every second of 4M", ITEMS, "b = a[::2]", NUMPY_ITEMS, "b = a[::2]"),
-    Row("broadcast, 4M to 3 x 4M", ITEMS, f"b = broadcast a (3,{COUNT})", NUMPY_ITEMS, f"b = np.broadcast_to(a, (3, {COUNT}))"),
-    Row("reshape, 4M shared", ITEMS, "b = reshape a (2048,-1)", NUMPY_ITEMS, "b = a.reshape(2048, -1)"),
-    Row("reshape, 4M transposed, copied", TRANSPOSED, "b = reshape a (-1)", NUMPY_TRANSPOSED, "b = a.reshape(-1)"),
-    Row("copy, 4M", ITEMS, "b = copy a C", NUMPY_ITEMS, "b = a.copy()"),
-    Row("copy, 16M", MANY, "b = copy a C", NUMPY_MANY, "b = a.copy()"),
-    Row("copy, 2048 x 2048 transposed", TRANSPOSED, "b = copy a C", NUMPY_TRANSPOSED, "b = a.copy()"),
-    Row("set, 4M shifted by one", ITEMS, "set a[1:] = a[:-1]", NUMPY_ITEMS, "a[1:] = a[:-1]"),
-    Row("set, 1M reversed", FEWER, "set a[:] = a[::-1]", NUMPY_FEWER, "a[:] = a[::-1]"),
-    Row("set, one row to 1024 rows", ROW, "set a[:] = r", NUMPY_ROW, "a[:] = r"),
-    Row("cast, 4M of 4 bytes to 8", ITEMS, "x = cast a <i8", NUMPY_ITEMS, "x = a.astype('<i8')"),
-    Row("gather, 1M of 4M", EVERY_FOURTH, "x = a[i]", NUMPY_EVERY_FOURTH, "x = a[i]"),
-    Row("mask, 1M of 2M", MASKED, "x = a[m]", NUMPY_MASKED, "x = a[m]"),
-    Row("scatter, 1M to 4M", EVERY_FOURTH, "set a[i] = v", NUMPY_EVERY_FOURTH, "a[i] = v"),
-    Row("rows, 1024 of 1024 x 1024", ROWS_OF, "x = a[i]", NUMPY_ROWS_OF, "x = a[i]"),
-    Row("add, 4M of 4 bytes", PAIR, "x = add a b", NUMPY_PAIR, "x = a + b"),
-    Row("add, 4M of 8 bytes", WIDE, "x = add a b", NUMPY_WIDE, "x = a + b"),
-    Row("add, 1M big-endian", BIG_ENDIAN, "x = add a b", NUMPY_BIG_ENDIAN, "x = a + b"),
-    Row("lt, 4M of 4 bytes", PAIR, "x = lt a b", NUMPY_PAIR, "x = a < b"),
-    Row("upd, 4M add 1", ITEMS, "upd a[:] add 1", NUMPY_ITEMS, "a[:] += 1"),
-    Row("upd, 4M add 1, without undo", ITEMS, "upd a[:] add 1", NUMPY_ITEMS, "a[:] += 1", NO_UNDO),
-    Row("add, one row to 1024 rows", ROW, "x = add a r", NUMPY_ROW, "x = a + r"),
-    Row("add, 1M of a field", RECORDS, "x = add a 1", NUMPY_RECORDS, "x = a + np.int32(1)"),
-    Row("sum, 4M", ITEMS, "x = sum a", NUMPY_ITEMS, "x = a.sum()"),
-    Row("max, 4M", ITEMS, "x = max a", NUMPY_ITEMS, "x = a.max()"),
-    Row("sum, 2048 x 2048 along 0", SQUARE, "x = sum a 0", NUMPY_SQUARE, "x = a.sum(0)"),
-    Row("sum, 2048 x 2048 along 1", SQUARE, "x = sum a 1", NUMPY_SQUARE, "x = a.sum(1)"),
-    Row("save, 16 MB", ITEMS, 'save a "a.npy"', NUMPY_ITEMS + f"; f = '{FOLDER.name}/n.npy'", "np.save(f, a)"),
-    Row("load, 16 MB", [*ITEMS, 'save a "a.npy"'], 'x = load "a.npy"', NUMPY_ITEMS + f"; f = '{FOLDER.name}/n.npy'; np.save(f, a)", "x = np.load(f)"),
-    Row("print, 100 x 100", TABLE, "print a", NUMPY_TABLE, "str(a)"),
+    row("zeros", ("", ""), "x = zeros <i4 ($n)", "x = np.zeros($n, '<i4')"),
+    row("full", ("", ""), "x = full <i4 ($n) 7", "x = np.full($n, 7, '<i4')"),
+    row("arange <i4", ("", ""), "x = arange <i4 0 $n 1", "x = np.arange(0, $n, 1, '<i4')"),
+    row("arange <i8", ("", ""), "x = arange <i8 0 $n 1", "x = np.arange(0, $n, 1, '<i8')"),
+    row("set, one item", ITEMS, "set a[12] = 8", "a[12] = 8"),
+    row("set, one item, 1,000 names", NAMES, "set a[5] = 8", "a[5] = 8"),
+    row("set, one item, blanks", ITEMS, f"set a[12] ={' ' * 200}8", "a[12] = 8"),
+    row("set, a literal", ITEMS, "set a[:] = 5", "a[:] = 5"),
+    row("set, every second", ITEMS, "set a[::2] = 8", "a[::2] = 8"),
+    row("set, whole", two("<i4"), "set a[:] = b", "a[:] = b"),
+    row("set, shifted by one", ITEMS, "set a[1:] = a[:-1]", "a[1:] = a[:-1]"),
+    row("set, reversed", ITEMS, "set a[:] = a[::-1]", "a[:] = a[::-1]"),
+    row("set, a row to every row", ROW, "set a[:] = r", "a[:] = r"),
+    row("set, a transpose", TRANSPOSED, "set a[:] = t", "a[:] = t"),
+    row("view, every second", ITEMS, "x = a[::2]", "x = a[::2]"),
+    row("broadcast", ITEMS, "x = broadcast a (3,$n)", "x = np.broadcast_to(a, (3, $n))"),
+    row("reshape, shared", SQUARE, "x = reshape a (-1)", "x = a.reshape(-1)"),
+    row("reshape, copied", TRANSPOSED, "x = reshape t (-1)", "x = t.reshape(-1)"),
+    row("copy", ITEMS, "x = copy a C", "x = a.copy()"),
+    row("copy, every second", ITEMS, "b = a[::2]\nx = copy b C", "b = a[::2]; x = b.copy()"),
+    row("copy, a transpose", TRANSPOSED, "x = copy t C", "x = t.copy()"),
+    row("copy, C to F", SQUARE, "x = copy a F", "x = a.copy('F')"),
+    row("copy, F to F", FORTRAN, "x = copy f F", "x = f.copy('F')"),
+    row("copy, F to C", FORTRAN, "x = copy f C", "x = f.copy('C')"),
+    row("copy, a broadcast row", SPREAD, "x = copy w C", "x = w.copy()"),
+    row("copy, a broadcast column", SPREAD, "x = copy h C", "x = h.copy('C')"),
+    row("cast <i4 to <i8", ITEMS, "x = cast a <i8", "x = a.astype('<i8')"),
+    row("add <i4", two("<i4"), "x = add a b", "x = a + b"),
+    row("add <i8", two("<i8"), "x = add a b", "x = a + b"),
+    row("add >i4", two(">i4"), "x = add a b", "x = a + b"),
+    row("add, a row to every row", ROW, "x = add a r", "x = a + r"),
+    row("add, rows of 2", NARROW[2], "x = add a b", "x = a + b"),
+    row("add, rows of 3", NARROW[3], "x = add a b", "x = a + b"),
+    row("add, F to F", FORTRAN, "x = add f f", "x = f + f"),
+    row("add, a field", RECORDS, "x = add a 1", "x = a + np.int32(1)"),
+    row("lt", two("<i4"), "x = lt a b", "x = a < b"),
+    row("eq, byte strings", STRINGS, "x = eq a b", "x = a == b"),
+    row("lt, byte strings", STRINGS, "x = lt a b", "x = a < b"),
+    row("upd, whole", ITEMS, "upd a[:] add 1", "a[:] += 1"),
+    row("upd, every second", ITEMS, "upd a[::2] add 1", "a[::2] += 1"),
+    row("upd, a field", RECORDS, "upd a[:] add 1", "a[:] += 1"),
+    *(row(f"index, {kind}", places(kind), "x = a[i]", "x = a[i]") for kind in ("<i4", "<i8", ">i4", "<u2")),
+    row("index, two arrays", PAIRS, "x = a[i,j]", "x = a[i, j]"),
+    row("index, outer", PAIRS, "x = a[k,j]", "x = a[k, j]"),
+    row("index, rows", PAIRS, "x = a[i]", "x = a[i]"),
+    row("set, index <i4", places("<i4"), "set a[i] = v", "a[i] = v"),
+    row("set, index <i8", places("<i8"), "set a[i] = v", "a[i] = v"),
+    row("upd, index <i8", places("<i8"), "upd a[i] add 1", "a[i] += 1"),
+    row("mask", MASKED, "x = a[m]", "x = a[m]"),
+    row("mask, two axes", MASKED_SQUARE, "x = a[m]", "x = a[m]"),
+    row("set, mask", MASKED, "set a[m] = 5", "a[m] = 5"),
+    row("set, mask, two axes", MASKED_SQUARE, "set a[m] = 5", "a[m] = 5"),
+    row("upd, mask", MASKED, "upd a[m] add 1", "a[m] += 1"),
+    row("sum", ITEMS, "x = sum a", "x = a.sum()"),
+    row("max", ITEMS, "x = max a", "x = a.max()"),
+    row("argmax", ITEMS, "x = argmax a", "x = a.argmax()"),
+    row("sum, along 0", SQUARE, "x = sum a 0", "x = a.sum(0)"),
+    row("sum, along 1", SQUARE, "x = sum a 1", "x = a.sum(1)"),
+    row("shares, two fields", RECORDS, "shares a b", "np.shares_memory(a, b)"),
+    row("shares, steps", (f"{ITEMS[0]}\nb = a[::2]\nc = a[1::2]", f"{ITEMS[1]}; b = a[::2]; c = a[1::2]"), "shares b c", "np.shares_memory(b, c)"),
+    row("shares, halves", (f"{ITEMS[0]}\nb = a[:$half]\nc = a[$half:]", f"{ITEMS[1]}; b = a[:$half]; c = a[$half:]"), "shares b c", "np.shares_memory(b, c)"),
+    row("shares, a transpose", TRANSPOSED, "shares a t", "np.shares_memory(a, t)"),
+    row("shares, columns", (f"{SQUARE[0]}\nb = a[:,0]\nc = a[:,1]", f"{SQUARE[1]}; b = a[:, 0]; c = a[:, 1]"), "shares b c", "np.shares_memory(b, c)"),
+    row("save", ITEMS, 'save a "a.npy"', f"np.save('{FOLDER.name}/n.npy', a)"),
+    row("load", SAVED, 'x = load "a.npy"', "x = np.load(f)"),
+    row("print, 100 x 100", ("a = arange <i4 0 10000 1\nb = reshape a (100,100)", "b = np.arange(10000, dtype='<i4').reshape(100, 100)"), "print b", "str(b)"),
 ]
 
 
-def seconds(program, row, repeats):
+def of_size(row, size):
+    """The row for arrays of so many items."""
+    numbers = {"n": size, "side": math.isqrt(size), "half": size // 2, "fourth": size // 4, "third": size // 3}
+    return Row(row.name, *(string.Template(text).substitute(numbers) for text in row[1:]))
+
+
+def seconds(program, row, depth, repeats):
     """The processor time of a run over a script with so many repeats of the row's line."""
     with tempfile.TemporaryFile() as script:
-        script.write("".join(f"{line}\n" for line in row.setup).encode())
+        script.write(f"{row.setup}\n".encode())
         script.write(f"{row.line}\n".encode() * repeats)
         script.seek(0)
         before = resource.getrusage(resource.RUSAGE_CHILDREN)
-        subprocess.run([program, *row.words], stdin=script, stdout=subprocess.DEVNULL, env=ENVIRONMENT, cwd=FOLDER.name, check=True)
+        subprocess.run(
+            [program, "--undo", str(depth)], stdin=script, stdout=subprocess.DEVNULL, env=ENVIRONMENT, cwd=FOLDER.name, check=True
+        )
         after = resource.getrusage(resource.RUSAGE_CHILDREN)
     return after.ru_utime + after.ru_stime - before.ru_utime - before.ru_stime
 
 
 def is_refused(program, row):
     """Whether the program refuses the row's line, or one before it."""
-    text = "".join(f"{line}\n" for line in [*row.setup, row.line])
+    text = f"{row.setup}\n{row.line}\n"
     ran = subprocess.run([program], input=text.encode(), stdout=subprocess.PIPE, env=ENVIRONMENT, cwd=FOLDER.name)
     return any(reply.startswith(b"no E") for reply in ran.stdout.split(b"\n"))
 
 
-def enough_repeats(program, row):
+def enough_repeats(program, row, depth):
     """Repeats that take long enough to be timed."""
-    repeats, start = 4, seconds(program, row, 1)
-    while repeats < MOST_REPEATS and seconds(program, row, repeats) - start < LONG_ENOUGH:
+    repeats, start = 4, seconds(program, row, depth, BEFORE)
+    while repeats < MOST_REPEATS and seconds(program, row, depth, BEFORE + repeats) - start < LONG_ENOUGH:
         repeats *= 2
     return repeats
 
 
-def bench_time(program, row, repeats, runs):
+def bench_time(program, row, depth, runs):
     """The seconds that one line of the program takes."""
-    many = repeats or enough_repeats(program, row)
-    few = max(1, many // 4)
-    pairs = [(seconds(program, row, few), seconds(program, row, many)) for _ in range(runs)]
+    repeats = enough_repeats(program, row, depth)
+    pairs = [(seconds(program, row, depth, BEFORE), seconds(program, row, depth, BEFORE + repeats)) for _ in range(runs)]
     short, long = map(min, zip(*pairs))
-    return (long - short) / (many - few)
+    return (long - short) / repeats
 
 
 def numpy_time(row, runs):
@@ -162,12 +241,17 @@ def numpy_time(row, runs):
     return min(timer.repeat(runs, loops)) / loops
 
 
-def cells(program, row, repeats, runs):
-    """The texts of a row of the report, and its ratio."""
+def cells(program, row, depths, runs):
+    """The texts of a row of the report, and its ratio for each depth."""
     if is_refused(program, row):
-        return (row.name, "refused", "", ""), 0
-    ours, theirs = bench_time(program, row, repeats, runs), numpy_time(row, runs)
-    return (row.name, f"{ours * 1e6:.2f}", f"{theirs * 1e6:.2f}", f"{ours / theirs:.2f}"), ours / theirs
+        return ("refused",), {}
+    theirs = numpy_time(row, runs)
+    ours = {depth: bench_time(program, row, depth, runs) for depth in depths}
+    ratios = {depth: taken / theirs for depth, taken in ours.items()}
+    texts = [f"{theirs * 1e6:.2f}"]
+    for depth in depths:
+        texts += [f"{ours[depth] * 1e6:.2f}", f"{ratios[depth]:.2f}"]
+    return tuple(texts), ratios
 
 
 def words():
@@ -175,30 +259,42 @@ def words():
     parser = argparse.ArgumentParser(description="Times commands of the program and the same work in NumPy.")
     parser.add_argument("bench", type=pathlib.Path, help="the program")
     parser.add_argument("--only", default="", metavar="WORD", help="the rows with this in their names")
-    parser.add_argument("--repeats", type=int, metavar="N", help="repeats of a line, 2 or more (so many as take 0.25 s)")
-    parser.add_argument("--undo", type=int, metavar="N", help="the depth of the rows that name none")
+    parser.add_argument("--sizes", type=int, nargs="+", default=SIZES, metavar="N", help="items of the arrays, 100 or more")
+    parser.add_argument("--undo", type=int, nargs="+", default=DEPTHS, metavar="N", help="depths of undo, 0 to 20")
     parser.add_argument("--runs", type=int, default=5, metavar="K", help="runs of which the least time counts (5)")
     given = parser.parse_args()
-    if given.repeats is not None and given.repeats < 2 or given.runs < 1:
-        parser.error("--repeats is 2 or more, and --runs 1 or more")
+    if given.runs < 1 or min(given.sizes) < 100 or not all(0 <= depth <= 20 for depth in given.undo):
+        parser.error("--runs is 1 or more, each of --sizes 100 or more, and each of --undo 0 to 20")
     return given
+
+
+def told(program, row, given, width):
+    """Prints a row for a size, and gives its ratio for each depth."""
+    texts, ratios = cells(program, row, given.undo, given.runs)
+    print(f"{row.name:{width}}  " + "  ".join(f"{text:>12}" for text in texts), flush=True)
+    return ratios
+
+
+def report(program, size, given):
+    """Prints the rows for a size, and their geometric means."""
+    rows = [of_size(row, size) for row in ROWS if given.only in row.name]
+    width = max([14, *(len(row.name) for row in rows)])
+    heads = ["NumPy us", *(head for depth in given.undo for head in (f"undo {depth} us", "ratio"))]
+    print(f"\n{f'{size:,} items':{width}}  " + "  ".join(f"{head:>12}" for head in heads))
+    ratios = {row.name: told(program, row, given, width) for row in rows}
+    for depth in given.undo:
+        known = {name: of_row[depth] for name, of_row in ratios.items() if depth in of_row}
+        logs = [math.log(max(ratio, 0.001)) for ratio in known.values()]
+        high = [f"{name} ({ratio:.1f})" for name, ratio in known.items() if ratio > HIGH]
+        mean = math.exp(sum(logs) / len(logs)) if logs else 0
+        print(f"undo {depth}: geometric mean {mean:.2f}; above {HIGH}: {'; '.join(high) or 'none'}", flush=True)
 
 
 def main():
     given = words()
     np.set_printoptions(threshold=sys.maxsize, linewidth=sys.maxsize)
-    program = given.bench.resolve()
-    depth = () if given.undo is None else ("--undo", str(given.undo))
-    rows = [row._replace(words=row.words or depth) for row in ROWS if given.only in row.name]
-    width = max([4, *(len(row.name) for row in rows)])
-    high = []
-    print(f"{'':{width}}  {'bench us':>12}  {'NumPy us':>12}  {'ratio':>8}")
-    for row in rows:
-        (name, ours, theirs, ratio), told = cells(program, row, given.repeats, given.runs)
-        print(f"{name:{width}}  {ours:>12}  {theirs:>12}  {ratio:>8}".rstrip(), flush=True)
-        if told > HIGH:
-            high.append(f"{name} ({ratio})")
-    print(f"above {HIGH}: {'; '.join(high) or 'none'}")
+    for size in given.sizes:
+        report(given.bench.resolve(), size, given)
 
 
 if __name__ == "__main__":

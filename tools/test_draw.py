@@ -1,4 +1,5 @@
 """`bench-tool draw`: buffers against `shares`, cells and values against `print`, pages of all kinds in a browser, pictures of the docs."""
+import base64
 import html
 import itertools
 import json
@@ -11,14 +12,15 @@ import subprocess
 import tempfile
 import unittest
 import xml.etree.ElementTree
+import zlib
 
+from trials.companion_trials import PROGRAM, TOOL, TOP, environment, needs_program, share
 import hostile_scripts as scripts
-from companion_trials import PROGRAM, TOOL, TOP, environment, needs_program, share
 from bench_tool import Session
 from bench_tool.page import page
 from bench_tool.trace import Trace, literal
 
-DATA = re.compile(r'<script type="application/json" id="data">(.*)</script>')
+DATA = re.compile(r'<script type="application/octet-stream" id="data">(.*)</script>')
 CHROMIUM = next(filter(None, map(shutil.which, ("chromium", "chromium-browser", "google-chrome"))), None)
 LONG = "name_of_just_thirty_two_bytes_ab"
 SCRIPTS = {
@@ -40,7 +42,8 @@ SCRIPTS = {
 # What a page does while each arrow is pressed, and then the slider is moved, in a frame of some width.
 FRAMES = """<!DOCTYPE html><meta charset="utf-8"><body><pre id="told"></pre><script>
 const told = [], pages = [%s];
-const texts = rows => [...rows].map(row => [...row.querySelectorAll("td > span:not(.pad)")].map(box => box.firstChild ? box.firstChild.data : ""));
+const texts = rows => [...rows].filter(row => row.getClientRects().length).map(row => [...row.querySelectorAll("rect:not(.pad)")].map(
+  box => box.nextSibling?.tagName === "text" ? box.nextSibling.textContent : ""));
 async function tried(page, width) {
   const frame = document.createElement("iframe");
   frame.style = `width:${width}px;height:700px`;
@@ -49,11 +52,12 @@ async function tried(page, width) {
   document.body.append(frame);
   await loaded;
   const inside = frame.contentWindow, page_ = inside.document, lines = [];
+  while (!page_.body.dataset.drawn) await new Promise(done => setTimeout(done, 10));
   const count = page_.querySelectorAll("nav button").length;
   const press = key => page_.body.dispatchEvent(new inside.KeyboardEvent("keydown", { key, bubbles: true, cancelable: true }));
   for (let k = 0; k <= count; k++) press("ArrowUp");
   for (let k = 0; k < count; k++) {
-    lines.push([page_.getElementById("line").textContent, page_.getElementById("words").textContent, texts(page_.querySelectorAll("tr.now")),
+    lines.push([page_.getElementById("line").textContent, page_.getElementById("words").textContent, texts(page_.querySelectorAll("g.now")),
       page_.querySelectorAll("[aria-current]").length, page_.documentElement.scrollWidth <= inside.innerWidth]);
     press("ArrowDown");
   }
@@ -64,7 +68,7 @@ async function tried(page, width) {
   frame.remove();
 }
 (async () => {
-  for (const page of pages) for (const width of [1100, 360]) await tried(page, width);
+  for (const page of pages) for (const width of [1300, 360]) await tried(page, width);
   document.getElementById("told").textContent = JSON.stringify(told);
 })();
 </script>"""
@@ -95,28 +99,49 @@ def bytes_seen(bound):
     return {start + leaf.at for start in starts for leaf in bound.kind.leaves}
 
 
-def data_of(text):
+def block_of(svg):
+    """A block of a table: the lines of its caption, and rows with their boxes, each with its text, look, place and width."""
+    rows = []
+    for group in svg.iter("g"):
+        if "class" in group.attrib:
+            parts = list(group)
+            label = parts.pop(0).text if parts and parts[0].get("class") == "label" else ""
+            boxes = [(after.text if after is not None and after.tag == "text" else "", part.get("class"), float(part.get("x")), float(part.get("width")))
+                     for part, after in itertools.zip_longest(parts, parts[1:]) if part.tag == "rect"]
+            rows.append((label, group.get("class"), boxes))
+    return [text.text for text in svg.iter("text") if text.get("class") == "head"], rows
+
+
+def table_of(figure, narrow=False):
+    """A table that a page draws, wide or narrow: its caption and its blocks."""
+    found = list(xml.etree.ElementTree.fromstring(f"<both>{figure}</both>"))
+    blocks = list(map(block_of, found[-1 if narrow else 0]))
+    return " ".join(line for caption, _ in blocks for line in caption), [rows for _, rows in blocks]
+
+
+def data_of(text, narrow=False):
     """What a page draws: for each line that has a reply its number, its tables and its words."""
-    data = json.loads(DATA.search(text)[1])
-    ids, lines = [], []
-    for number, same, rest, words in data["lines"]:
-        ids = ids[:same] + rest
-        lines.append((number, [[*data["parts"][k][:2], [data["parts"][row] for row in data["parts"][k][2]], data["parts"][k][3]] for k in ids], words))
-    return lines
+    lines, figures = json.loads(zlib.decompress(base64.b64decode(DATA.search(text)[1])))
+    tables = [table_of(figure, narrow) for figure in figures]
+    return [(number, [tables[k] for k in ids], words) for number, ids, words in lines]
 
 
-def boxes(cell):
-    return [(cell, "", 0, 1)] if isinstance(cell, str) else [tuple(box[:4]) for box in cell]
+def rows_of(tables, look):
+    """The rows of a look, of all blocks."""
+    return [row for _, blocks in tables for rows in blocks for row in rows if row[1].split()[0] == look]
+
+
+def texts(row):
+    return [text for text, look, _, _ in row[2] if look != "pad"]
 
 
 def items_of_name(row, values):
     """The items that the row of a name shows, by their numbers: the texts of the values that stand over each."""
     found = {}
-    for cell, over in zip(row[2], values):
-        for text, _, left, width in boxes(cell):
-            number, _, times = text.partition("×")
-            inside = [value for value, look, at, wide in boxes(over) if look != "pad" and left - 1e-3 <= at and at + wide <= left + width + 1e-3]
-            found[int(number)] = (inside, int(times or 1))
+    for text, _, left, width in row[2]:
+        number, _, times = text.partition("×")
+        inside = [value for value, look, at, wide in values[2] if look != "pad" and left - 0.2 <= at and at + wide <= left + width + 0.2]
+        found[int(number)] = (inside, int(times or 1))
     return found
 
 
@@ -159,15 +184,17 @@ class Pictures(unittest.TestCase):
 
     def check_tables(self, tables, expected):
         seen, grids, partly = {}, {}, set()
-        for caption, _, rows, _ in tables:
-            values = next((row[2] for row in rows if row[1] == "now"), None)
-            for row in rows:
-                if row[1].startswith("name") and not row[1].endswith("goes"):
-                    seen[row[0]] = items_of_name(row, values)
-                    partly |= {row[0]} if "not drawn" in caption else set()
-            if values is None:
-                grids[caption.split()[0]] = {(int(row[0]), int(column)): boxes(cell)[0][0].split("→")[-1]
-                                             for row in rows[1:] for cell, column in zip(row[2], rows[0][2])}
+        for caption, blocks in tables:
+            for rows in blocks:
+                values = next((row for row in rows if row[1] == "now"), None)
+                for row in rows:
+                    if row[1].startswith("name") and not row[1].endswith("goes"):
+                        seen.setdefault(row[0], {}).update(items_of_name(row, values))
+                        partly |= {row[0]} if "not drawn" in caption else set()
+                    elif row[1].startswith("grid"):
+                        columns = texts(rows[0])
+                        cells = {(int(row[0]), int(column)): text.split("→")[-1] for text, column in zip(texts(row), columns)}
+                        grids.setdefault(caption.split()[0], {}).update(cells)
         self.assertEqual(set(seen), set(expected))
         for name, array in expected.items():
             numbers = {}
@@ -195,7 +222,7 @@ class Pictures(unittest.TestCase):
             with self.subTest(name):
                 text = self.drawn([line.encode() for line in lines])
                 self.assertLess(len(text.encode()), 200_000)
-                self.assertNotIn("http", text.replace("http://www.w3.org/2000/svg", ""))
+                self.assertNotIn("http", re.sub(DATA, "", text))
                 answered = [k for k, line in enumerate(lines, 1) if line.strip() and not line.startswith("#")]
                 self.assertEqual([line[0] for line in data_of(text)], answered)
                 if lines:
@@ -233,7 +260,7 @@ class Pictures(unittest.TestCase):
     def test_many_names(self):
         lines = [f"n{k} = arange <i4 0 {k % 5} 1".encode() for k in range(1024)] + [b"one_more = n3", b"n8 = n4", b"set n4[1:] = n4[:-1]", b"del n7", b"undo"]
         drawn = data_of(self.drawn(lines))
-        self.assertEqual(sum(row[1].startswith("name") for table in drawn[-1][1] for row in table[2]), 1024)
+        self.assertEqual(len(rows_of(drawn[-1][1], "name")), 1024)
         self.assertEqual(drawn[-3][2].split(";")[0], "Buffer 5 changes: byte 4 from 1 to 0")
 
     def test_many_items(self):
@@ -247,9 +274,9 @@ class Pictures(unittest.TestCase):
         _, tables, words = data_of(self.drawn(lines))[-1]
         self.assertLess(processor_time() - begun, 2)
         self.assertIn("16776960 items in between are not drawn", tables[0][0])
-        values = next(row[2] for row in tables[0][2] if row[1] == "now")
-        self.assertEqual(values[:3] + values[-2:], [[["-5", "x", 0.0, 1.0]], "1", "2", "16777214", "16777215"])
-        self.assertEqual([boxes(row[2][0])[0][0] for row in tables[1][2]][1:3], ["0→-5", "4096→-5"])
+        values = [text for row in rows_of(tables[:1], "now") for text in texts(row)]
+        self.assertEqual(values[:3] + values[-2:], ["-5", "1", "2", "16777214", "16777215"])
+        self.assertEqual([texts(row)[0] for row in rows_of(tables[1:2], "grid")][:2], ["0→-5", "4096→-5"])
         self.assertTrue(words.startswith("Buffer 1 changes, as far as it is drawn: byte 0 from 0 to -5"))
 
     def test_in_a_browser(self):
@@ -264,17 +291,15 @@ class Pictures(unittest.TestCase):
             words = ["--headless", "--no-sandbox", "--disable-gpu", f"--user-data-dir={folder}/user", "--virtual-time-budget=600000", "--dump-dom"]
             done = subprocess.run([CHROMIUM, *words, frames.as_uri()], capture_output=True, timeout=300)
         told = re.search(r'<pre id="told">(.*?)</pre>', done.stdout.decode(), re.S)[1]
-        for (name, width), did in zip(itertools.product(pages, (1100, 360)), json.loads(html.unescape(told))):
+        for (name, width), did in zip(itertools.product(pages, (1300, 360)), json.loads(html.unescape(told))):
             with self.subTest(name, width=width):
-                drawn = data_of(pages[name])
+                drawn = data_of(pages[name], width == 360)
                 self.assertEqual(did["faults"], [])
                 self.assertEqual(len(did["lines"]), len(drawn))
                 self.assertEqual(did["first"].split(":")[0], f"Line {drawn[0][0]}" if drawn else "")
-                for (title, words, texts, current, fits), (number, tables, said) in zip(did["lines"], drawn):
-                    rows = [row[2] for table in tables for row in table[2] if row[1] == "now"]
-                    expected = [box[0] for row in rows for cell in row for box in boxes(cell) if box[1] != "pad"]
+                for (title, words, shown, current, fits), (number, tables, said) in zip(did["lines"], drawn):
                     self.assertEqual((title.split(":")[0], words, current, fits), (f"Line {number}", said, 1, True))
-                    self.assertEqual([text for row in texts for text in row], expected)
+                    self.assertEqual(shown, list(map(texts, rows_of(tables, "now"))))
 
     def test_pictures_of_the_docs(self):
         with tempfile.TemporaryDirectory() as folder:

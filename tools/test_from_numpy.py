@@ -12,7 +12,7 @@ import tempfile
 import unittest
 import warnings
 
-from companion_trials import COMPANION, PROGRAM, TOP, environment, needs_program, numpy_or_none, share
+from trials.companion_trials import COMPANION, PROGRAM, TOP, environment, needs_program, numpy_or_none, share
 from bench_tool import ProgramEnded, Session, language
 
 np = numpy_or_none()

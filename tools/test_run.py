@@ -8,8 +8,8 @@ import sys
 import tempfile
 import unittest
 
+from trials.companion_trials import PROGRAM, TOOL, environment, needs_program, numpy_or_none, share
 import hostile_scripts as scripts
-from companion_trials import PROGRAM, TOOL, environment, needs_program, numpy_or_none, share
 from bench_tool import main
 
 TOLD = re.compile(r"(.*):(\d+): (E\d\d) ([^:]*): ?(.*)")
@@ -111,11 +111,11 @@ class Runs(unittest.TestCase):
     def test_scripts_of_the_comparison_with_numpy(self):
         if numpy_or_none() is None:
             self.skipTest("left out: NumPy is not installed")
-        import gathers
+        import numpy_scripts
         for number in range(share(5, 200)):
-            lines = gathers.script_of(random.Random(f"gathers {number}")).lines
+            made = numpy_scripts.Script(random.Random(f"run {number}"), 30)
             with self.subTest(number):
-                self.compare(scripts.Script("gathers", [line.encode() for line in lines]))
+                self.compare(scripts.Script("of the comparison", [line.encode() for line in made.lines], made.first, made.world.depth))
 
     def test_texts_as_they_are(self):
         """Last lines without a newline, carriage returns, NULs, bytes of no text, no line at all."""

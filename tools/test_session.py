@@ -3,8 +3,8 @@ import os
 import tempfile
 import unittest
 
+from trials.companion_trials import PROGRAM, needs_program
 import hostile_scripts as scripts
-from companion_trials import PROGRAM, needs_program
 from bench_tool import ProgramEnded, ProgramMissing, Refused, Session
 from bench_tool.session import items_of
 

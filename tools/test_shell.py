@@ -11,7 +11,7 @@ import threading
 import time
 import unittest
 
-from companion_trials import TOOL, TOP, environment, needs_program
+from trials.companion_trials import TOOL, TOP, environment, needs_program
 from bench_tool.shell import PROMPT
 
 UP, TAB, CTRL_C, CTRL_D, ENTER = b"\x1b[A", b"\t", b"\x03", b"\x04", b"\r"

@@ -4,7 +4,7 @@ import subprocess
 import tempfile
 import unittest
 
-from companion_trials import PROGRAM, TOOL, environment, needs_program
+from trials.companion_trials import PROGRAM, TOOL, environment, needs_program
 from bench_tool import Session
 
 

@@ -1,12 +1,13 @@
 """The words around the program: help, what is told of refused lines, manual pages, completions, syntax files."""
 import json
+import os
 import re
 import shutil
 import subprocess
 import tempfile
 import unittest
 
-from companion_trials import PROGRAM, TOP, needs_program
+from trials.companion_trials import PROGRAM, TOP, needs_program
 from bench_tool import Session, hints, language, main
 
 NAMES = """a = arange <i4 0 6 1
@@ -45,6 +46,57 @@ class Words(unittest.TestCase):
         self.assertLessEqual(set(reserved), all_verbs())
         for name, told in language.GROUPS.items():
             self.assertLessEqual(set(told.split()), set(language.codes()), name)
+
+    def test_refusals_of_the_source(self):
+        """Codes and texts of the page are those of each table in the source."""
+        told = {f"{code} {text}" for code, (text, _) in language.codes().items()}
+        found = 0
+        for path in sorted((TOP / "crates").glob("*/src/**/refusal*.rt")):
+            texts = set(re.findall(r'=> b?"(?:no )?(E\d\d [a-z -]+)"', path.read_text()))
+            found += bool(texts)
+            self.assertIn(texts, ({*told}, set()), path)
+        self.assertGreater(found, 0)
+
+    def test_words_of_the_source(self):
+        """The words of the table in the source are those of the page, of the help, and of the trials' comparison with NumPy."""
+        source = set(re.findall(r'\(b"([a-z]+)", ', read("crates/script_lang/src/verb.rt")))
+        self.assertEqual(source, all_verbs())
+        self.assertLessEqual(source - {"div"}, set(re.findall(r"[a-z]+", read("docs/help.txt"))))
+        scripts = read("tools/trials/hostile_scripts.py") + read("tools/trials/computations.py")
+        self.assertLessEqual(source, set(re.findall(r"[a-z]+", scripts)))
+
+    def test_depth(self):
+        """How many changes `undo` takes back, at most and where it is not said."""
+        source = read("crates/bench_main/src/command_line.rt")
+        self.assertIn("range(0..=64)", source)
+        self.assertRegex(source, r"const DEPTH: u8 = 16;")
+        pages = ["README.md", "docs/LANGUAGE.md", "docs/help.txt", "man/bench.1", "companion/bench_tool/main.py"]
+        for page in pages:
+            text = " ".join(read(page).replace("\\-", "-").split())
+            self.assertRegex(text, r"0 to 64", page)
+            self.assertRegex(text, r"\b16\b", page)
+
+    def test_examples_of_the_language(self):
+        """The examples can be pasted: each is replied what stands behind it as a comment."""
+        if not os.access(PROGRAM, os.X_OK):
+            self.skipTest("left out: the program is not built")
+        blocks = [block for block in re.findall(r"```\n(.*?)```", read("docs/LANGUAGE.md"), re.S)]
+        self.assertGreater(len(blocks), 10)
+        for block in blocks:
+            with self.subTest(block), tempfile.TemporaryDirectory() as folder:
+                done = subprocess.run([PROGRAM, f"--dir={folder}"], input=block, capture_output=True, text=True)
+                told = "".join(f"{line[2:]}\n" for line in block.splitlines() if line.startswith("# "))
+                self.assertEqual((done.stdout, done.stderr), (told, ""))
+
+    def test_names_of_files(self):
+        """Letters, digits, `_`, `-` and `.`, the last two not first, 64 bytes at most; else the line is no command."""
+        if not os.access(PROGRAM, os.X_OK):
+            self.skipTest("left out: the program is not built")
+        self.assertIn("A file's name is letters, digits, `_`, `-` and `.`,\nbegins with neither of the last two, and has at most 64 bytes", read("docs/LANGUAGE.md"))
+        good, bad = ["a", "_", "9-.x", "x" * 64, "A.b_c-d"], ["", "-a", ".a", "x" * 65, "a/b", "..", "a b", "\xe4"]
+        with Session(PROGRAM, dir="/nowhere") as bench:
+            self.assertEqual([bench.send(f'x = load "{name}"').code for name in good], ["E34"] * len(good))
+            self.assertLessEqual({bench.send(f'x = load "{name}"').code for name in bad}, {"E02", "E03"})
 
     def test_help(self):
         self.assertLessEqual(all_verbs(), set(re.findall(r"\w+", language.help_text())))
@@ -141,7 +193,7 @@ class Hints(unittest.TestCase):
 
     def test_what_is_asked_of_them(self):
         """What newcomers were seen to write."""
-        with Session(PROGRAM) as bench:
+        with tempfile.TemporaryDirectory() as folder, Session(PROGRAM, dir=folder) as bench:
             bench.run(NAMES)
             for line, told in [
                 ("print a[0]", "t = a[0]\nprint t"), ("a[0] = 5", "set a[0] = 5"), ("x = sum a[0]", "t = a[0]\nx = sum t"),

@@ -4,53 +4,47 @@ from __future__ import annotations
 import argparse
 import json
 import sys
+import zlib
+from base64 import b64encode
 from html import escape
 from pathlib import Path
 from typing import Any, Sequence
 
 from . import language
-from .picture import Box, Drawn, Table, cut, hues_of, said
-from .runs import lines_of
+from .picture import Drawn, Table, cut, hues_of, said
 from .session import BenchError
-from .svg import COLOURS, DARK, LIGHT, svg
+from .svg import DARK, LIGHT, RULES, TIP, WIDTH, parts, svg
 from .trace import MOST_CELLS, Moment, Trace
 
 LARGEST, FEW = 199_000, 50  # bytes of a page of so few lines, for which fewer cells are drawn
 TOLD = 1000  # letters of a reply
+PHONE = 344  # the width of a narrow picture
 
 
-class Pictures:
-    """The tables of all lines, each row and each table once; of each line those that are not as on the line before."""
+def figure(table: Table) -> str:
+    """A table, once for a wide page and, where that is not the same, once for a narrow one."""
+    wide, narrow = ("".join(f'<svg width="{width:.0f}" height="{height}">{drawn}</svg>' for drawn, width, height in parts(table, room))
+                    for room in (WIDTH, PHONE))
+    return f"<figure>{wide}</figure>" if wide == narrow else f'<figure class="wide">{wide}</figure><figure class="narrow">{narrow}</figure>'
 
-    def __init__(self, moments: Sequence[Moment], most: int):
-        self.parts: dict[str, int] = {}
-        self.lines: list[Any] = []
-        hues, last = hues_of(moments), list[int]()
-        plain: dict[int, list[int]] = {}
-        for moment in moments:
-            if moment.reply.text:
-                touched = {number: Drawn(moment, number, hues, most) for number in sorted(moment.touched)}
-                tables = {number: list(map(self.table, each.tables())) for number, each in touched.items()}
-                rest = moment.after.buffers.keys() - tables.keys()
-                plain = {n: plain.get(n) or list(map(self.table, Drawn(moment, n, hues, most).tables())) for n in rest}
-                ids = [id_ for _, each in sorted([*tables.items(), *plain.items()]) for id_ in each]
-                same = next((k for k, pair in enumerate(zip(ids, last)) if pair[0] != pair[1]), min(len(ids), len(last)))
-                self.lines.append([moment.number, same, ids[same:], said(moment, touched.values())])
-                last = ids
 
-    def table(self, table: Table) -> int:
-        """The number of a table. A text that fills its column stands for its box."""
-        rows = []
-        for row in table.rows:
-            cells = [cell[0].text if cell and cell == [Box(cell[0].text)] else cell for cell in row.cells]
-            rows.append(self.part([row.label, row.look, cells, row.note]))
-        return self.part([table.caption, table.letters, rows, table.moves])
+def pictures(moments: Sequence[Moment], most: int) -> str:
+    """All figures, each once, and for each line its number, its figures and its words; compressed."""
+    figures: dict[str, int] = {}
+    lines: list[tuple[int, list[int], str]] = []
+    hues, plain = hues_of(moments), dict[int, list[int]]()
 
-    def part(self, value: Any) -> int:
-        return self.parts.setdefault(json.dumps(value, separators=(",", ":")), len(self.parts))
+    def numbers(drawn: Drawn) -> list[int]:
+        return [figures.setdefault(figure(table), len(figures)) for table in drawn.tables()]
 
-    def json(self) -> str:
-        return f'{{"lines":{json.dumps(self.lines)},"parts":[{",".join(self.parts)}]}}'.replace("<", "\\u003c")
+    for moment in filter(lambda moment: moment.reply.text, moments):
+        touched = {number: Drawn(moment, number, hues, most) for number in sorted(moment.touched)}
+        changed = {number: numbers(drawn) for number, drawn in touched.items()}
+        rest = moment.after.buffers.keys() - touched.keys()
+        plain = {number: plain.get(number) or numbers(Drawn(moment, number, hues, most)) for number in rest}
+        ids = [id_ for _, each in sorted([*changed.items(), *plain.items()]) for id_ in each]
+        lines.append((moment.number, ids, said(moment, touched.values())))
+    return b64encode(zlib.compress(json.dumps([lines, list(figures)]).encode(), 9)).decode()
 
 
 def script_item(moment: Moment) -> str:
@@ -65,11 +59,11 @@ def script_item(moment: Moment) -> str:
 
 def page(title: str, moments: Sequence[Moment], line: int = 0) -> str:
     """The page of a script that was run, which begins with the picture of a line, else with that of the last one."""
-    filled = {"TITLE": escape(title), "LIGHT": LIGHT, "DARK": DARK, "COLOURS": COLOURS, "LINE": str(line)}
+    filled = {"TITLE": escape(title), "LIGHT": LIGHT, "DARK": DARK, "RULES": RULES, "TIP": TIP, "LINE": str(line)}
     filled["SCRIPT"] = "\n".join(map(script_item, moments))
     for most in (MOST_CELLS, 64, 16, 4):
         made = Path(__file__).with_suffix(".html").read_text(encoding="utf-8")
-        for word, text in {**filled, "DATA": Pictures(moments, most).json()}.items():
+        for word, text in {**filled, "DATA": pictures(moments, most)}.items():
             made = made.replace(f"<!--{word}-->", text)
         if len(made.encode()) <= LARGEST or len(moments) > FEW:
             break
@@ -78,7 +72,7 @@ def page(title: str, moments: Sequence[Moment], line: int = 0) -> str:
 
 def draw(words: argparse.Namespace) -> int:
     with sys.stdin.buffer if words.script == "-" else open(words.script, "rb") as script:
-        lines = list(lines_of(script))
+        lines = [line.removesuffix(b"\n") for line in script]
     if words.svg and not 1 <= (words.line or 0) <= len(lines):
         raise BenchError(f"--svg wants --line, 1 to {len(lines)}")
     with Trace(undo=words.undo, dir=words.dir, script=b"\n".join(lines)) as trace:
@@ -94,12 +88,3 @@ def draw(words: argparse.Namespace) -> int:
     else:
         sys.stdout.buffer.write(made.encode())
     return 0
-
-
-def add_to(commands: Any, common: argparse.ArgumentParser) -> None:
-    command = commands.add_parser("draw", parents=[common], help="pictures of memory, line by line, as a page or as SVG")
-    command.add_argument("script", metavar="SCRIPT", help="the script; - is standard input")
-    command.add_argument("-o", dest="output", metavar="PAGE.html", help="the file to write, else standard output")
-    command.add_argument("--line", type=int, metavar="N", help="the line with which the page begins, or of which the picture is")
-    command.add_argument("--svg", action="store_true", help="one picture, of line N")
-    command.set_defaults(call=draw)

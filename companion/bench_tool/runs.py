@@ -5,22 +5,12 @@ import argparse
 import collections
 import sys
 import time
-from typing import Any, BinaryIO, Iterator
+from typing import BinaryIO
 
 from . import hints
 from .session import ProgramEnded, Reply, Session
 
-LONG = 65_540  # a longer line is too long for the program whatever follows, so the rest is left out
 SHOWN = 200
-
-
-def lines_of(script: BinaryIO) -> Iterator[bytes]:
-    """The lines of a script, each without its newline; a last one that is empty is none."""
-    while line := script.readline(LONG):
-        rest = line
-        while rest and not rest.endswith(b"\n"):
-            rest = script.readline(LONG)
-        yield line[:-1] if line.endswith(b"\n") else line
 
 
 def shown(line: bytes) -> str:
@@ -69,8 +59,8 @@ class Run:
     def script(self, script: BinaryIO) -> int:
         """Runs all lines, or with --stop those until one is refused; answers the status."""
         begun = time.perf_counter()
-        for number, line in enumerate(lines_of(script), 1):
-            self.line(number, line)
+        for number, line in enumerate(script, 1):
+            self.line(number, line.removesuffix(b"\n"))
             if self.words.stop and any(self.codes.keys() - {""}):
                 break
         accepted = self.codes.pop("", 0)
@@ -93,14 +83,3 @@ def run(words: argparse.Namespace) -> int:
             return Run(session, words).script(script)
         except ProgramEnded as ended:
             return max(3, ended.status)
-
-
-def add_to(commands: Any, common: argparse.ArgumentParser) -> None:
-    about = "a script, with the place of each refusal on standard error"
-    form = "SCRIPT:17: E11 index out of range: c = b[2]"
-    command = commands.add_parser("run", parents=[common], help=about, description=f"Runs {about}, as {form}.")
-    command.add_argument("script", metavar="SCRIPT", help="the script; - is standard input")
-    command.add_argument("--stop", action="store_true", help="end at the first refusal")
-    command.add_argument("--summary", action="store_true", help="tell how many lines were accepted and refused")
-    command.add_argument("--time", action="store_true", help="tell how long each line took")
-    command.set_defaults(call=run)

@@ -10,6 +10,8 @@ import os
 import re
 import shutil
 import subprocess
+from ast import literal_eval
+from contextlib import suppress
 from dataclasses import dataclass
 from math import prod
 from pathlib import Path
@@ -26,8 +28,7 @@ ENDS = tuple(first + b"\nno E02 byte not allowed\n" for first in (b"no E03 synta
 LONGEST = max(map(len, ENDS))
 REFUSAL = re.compile(r"no (E\d\d) (.*)")
 INFO = re.compile(r"info \w+ (.*) \(([\d, ]*)\) strides \(([-\d, ]*)\) at (\d+) order ([CF]+|-) write (yes|no)")
-TOKEN = re.compile(r"b'(?:[^'\\]|\\.)*'|[()]|True|False|-?\d+")
-ESCAPE = re.compile(r"\\x([0-9a-f]{2})")
+TOKEN = re.compile(r"b'(?:[^'\\]|\\.)*'|[()]|[-\w]+")
 
 
 class BenchError(Exception):
@@ -92,25 +93,11 @@ def _numbers(text: str) -> tuple[int, ...]:
     return tuple(int(word) for word in text.replace(",", " ").split())
 
 
-def _value(token: str) -> Any:
-    if token[0] == "b":
-        return ESCAPE.sub(lambda found: chr(int(found[1], 16)), token[2:-1]).encode("latin-1")
-    return token == "True" if token[0] in "TF" else int(token)
-
-
 def items_of(text: str) -> tuple[Any, ...]:
     """The items of a printed array, in C order: integers, bools, bytes, and tuples for records."""
-    if "'" not in text and "(" not in text:
-        words = text.replace("[", " ").replace("]", " ").split()
-        return tuple(word == "True" for word in words) if "e" in text else tuple(map(int, words))
-    records: list[list[Any]] = [[]]
-    for token in TOKEN.findall(text):
-        if token == "(":
-            records.append([])
-        else:
-            value = tuple(records.pop()) if token == ")" else _value(token)
-            records[-1].append(value)
-    return tuple(records[0])
+    if "'" not in text and "(" not in text and "e" not in text:
+        return tuple(map(int, text.replace("[", " ").replace("]", " ").split()))
+    return literal_eval(f"({''.join(token + ',' * (token != '(') for token in TOKEN.findall(text))})")
 
 
 def find_program() -> str:
@@ -136,7 +123,7 @@ class Session:
         words, pipe = [self.program, "--undo", str(undo), f"--dir={os.fspath(dir)}"], subprocess.PIPE
         self._status: Optional[int] = None
         try:
-            self._process = subprocess.Popen(words, stdin=pipe, stdout=pipe, bufsize=0, start_new_session=True)
+            self._process = subprocess.Popen(words, stdin=pipe, stdout=pipe, start_new_session=True)
         except OSError as fault:
             raise ProgramMissing(f"{self.program} cannot be started: {fault.strerror}") from None
         assert self._process.stdin is not None and self._process.stdout is not None
@@ -191,7 +178,8 @@ class Session:
     def close(self) -> int:
         """Ends the program, and answers the status that it ended with. A second call does nothing more."""
         if self._status is None:
-            self._to.close()
+            with suppress(BrokenPipeError):
+                self._to.close()
             self._from.close()
             self._status = self._process.wait()
         return self._status
@@ -211,8 +199,8 @@ class Session:
         if self._status is not None:
             raise self._ended()
         try:
-            while data:
-                data = data[self._to.write(data) or 0:]
+            self._to.write(data)
+            self._to.flush()
         except BrokenPipeError:
             raise self._ended() from None
 
@@ -220,7 +208,7 @@ class Session:
         """The reply as it comes, without what the marker is answered."""
         held = b""
         while not held.endswith(ENDS):
-            part = self._from.read(1 << 16)
+            part = self._from.read1(1 << 16)
             if not part:
                 raise self._ended()
             if len(held) > LONGEST:

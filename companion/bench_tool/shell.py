@@ -129,7 +129,3 @@ def shell(words: argparse.Namespace) -> int:
             with editing(prompt.complete):
                 prompt.loop()
     return 0
-
-
-def add_to(commands: Any, common: argparse.ArgumentParser) -> None:
-    commands.add_parser("shell", parents=[common], help="a prompt with history, Tab and help").set_defaults(call=shell)

@@ -1,10 +1,11 @@
-"""A picture of one line as SVG, for documents."""
+"""Tables drawn as SVG, in blocks of as many columns as there is room for; a picture of one line, for documents."""
 from __future__ import annotations
 
 import textwrap
 from html import escape
+from typing import Iterator, NamedTuple
 
-from .picture import HUES, Box, Table
+from .picture import HUES, Table
 from .trace import Moment
 
 WIDTH, LETTER, LINE = 720, 7.3, 21
@@ -12,8 +13,7 @@ LIGHT = "--ink:#1a1a1a;--dim:#5f5f5f;--line:#9a9a9a;--page:#fff;--mark:#ffe28a;"
     "--h0:#0b62a8;--h1:#a34700;--h2:#1b6e3c;--h3:#8a2a8a;--h4:#a3203a;--h5:#0d6b70;--h6:#6b5900;--h7:#4f4fb5"
 DARK = "--ink:#eee;--dim:#aaa;--line:#777;--page:#16181d;--mark:#6b5200;" \
     "--h0:#6cb6ff;--h1:#ffa657;--h2:#57c785;--h3:#d8a0e8;--h4:#ff8a95;--h5:#4fd1d6;--h6:#d9c04a;--h7:#a5a5ff"
-COLOURS = "".join(f".h{k}{{--c:var(--h{k})}}" for k in range(HUES))
-STYLE = f"svg{{{LIGHT}}}@media(prefers-color-scheme:dark){{svg{{{DARK}}}}}{COLOURS}" """
+RULES = "".join(f".h{k}{{--c:var(--h{k})}}" for k in range(HUES)) + """
 text{font:12px ui-monospace,Menlo,Consolas,monospace;fill:var(--ink)}rect{fill:none;stroke:var(--line)}.head{font-weight:bold}
 .page{fill:var(--page);stroke:none}.place text,.field text,.old text{fill:var(--dim)}.place rect,.field rect,.gap{stroke:none}
 .old rect,.pad,.goes rect{stroke-dasharray:3 2}.old .x+text{text-decoration:line-through}
@@ -21,59 +21,73 @@ text{font:12px ui-monospace,Menlo,Consolas,monospace;fill:var(--ink)}rect{fill:n
 .name text{fill:var(--page)}.name .x{stroke:var(--ink);stroke-width:2}.name.goes rect{fill:none;stroke:var(--c)}
 .name .label,.grid .label,.name.goes text,.note{fill:var(--c);font-weight:bold}
 path{fill:none;stroke:var(--ink);stroke-width:1.5;marker-end:url(#tip)}#tip path{fill:var(--ink);stroke:none}"""
+TIP = '<marker id="tip" viewBox="0 0 8 8" refX="7" refY="4" markerWidth="6" markerHeight="6" orient="auto">' \
+    '<path d="M0 0L8 4L0 8z"/></marker>'
+
+
+class Block(NamedTuple):
+    """A part of a picture, and its size."""
+
+    drawn: str
+    width: float
+    height: int
 
 
 def _text(x: float, y: float, text: str, room: float, more: str = "") -> str:
     text = text if len(text) <= room else text[:max(0, int(room) - 1)] + "…" * (room >= 1)
-    return f'<text x="{x:.1f}" y="{y + 13:.1f}"{more}>{escape(text)}</text>' if text else ""
+    return f'<text x="{x:.1f}" y="{y + 13}"{more}>{escape(text)}</text>' if text else ""
 
 
-def _box(box: Box, x: float, y: float, width: float) -> str:
-    left, wide = x + box.left * width, box.width * width
-    drawn = f'<rect x="{left:.1f}" y="{y}" width="{wide:.1f}" height="{LINE - 3}" class="{box.look}"/>'
-    return drawn + _text(left + wide / 2, y, box.text, (wide + 2) // LETTER, ' text-anchor="middle"')
-
-
-def _table(table: Table) -> tuple[list[str], float, int]:
-    """A table in as many stretches as it needs, how wide it is, and how high."""
-    drawn, y, letters = [], 0, int(WIDTH / LETTER) - 2
-    for text, look in [(table.caption, "head"), *((row.note, f"note {row.look}") for row in table.rows if row.note)]:
-        for line in textwrap.wrap(text, letters):
-            drawn.append(_text(8, y, line, letters, f' class="{look}"'))
-            y += LINE - 4
-    labels, count = min(16, max(len(row.label) for row in table.rows)), len(table.rows[0].cells)
-    margin = 16 + LETTER * labels
-    width = min(table.letters * LETTER, WIDTH - margin - 8)
-    across = max(1, int((WIDTH - margin - 7) / width))
-    for first in range(0, max(count, 1), across):
-        last, y = min(count, first + across), y + 6
-        for row in table.rows:
-            if row.look == "old" and not any(box.look == "x" for cell in row.cells[first:last] for box in cell):
-                continue
-            boxes = (_box(box, margin + (k - first) * width, y, width) for k in range(first, last) for box in row.cells[k])
-            label = _text(8, y, row.label, labels, ' class="label"')
-            drawn.append(f'<g class="{row.look}">{label}{"".join(boxes)}</g>')
+def _block(table: Table, first: int, last: int, margin: float, width: float) -> Block:
+    """The columns of a table from first to last; no values before where none of these has changed."""
+    drawn, y = [], 0
+    for row in table.rows:
+        boxes = [box for box in row.boxes if first <= box.at < last]
+        if row.look == "old" and not any(box.look == "x" for box in boxes):
+            continue
+        drawn.append(f'<g class="{row.look}">' + _text(4, y, row.label, 16, ' class="label"'))
+        for text, at, part, look in boxes:
+            left, wide = margin + (at - first) * width, part * width
+            drawn.append(f'<rect x="{left:.1f}" y="{y + 1}" width="{wide:.1f}" height="{LINE - 3}" class="{look}"/>')
+            drawn.append(_text(left + wide / 2, y, text, (wide + 2) // LETTER, ' text-anchor="middle"'))
+        drawn.append("</g>")
+        y += LINE
+        if row.look == "old" and table.moves:
+            places = [[margin + (min(max(x, first), last) - first) * width for x in pair] for pair in table.moves if first <= pair[1] < last]
+            drawn += [f'<path d="M{begin:.1f} {y - 2}L{end:.1f} {y + 19}"/>' for begin, end in places]
             y += LINE
-            if row.look == "old" and table.moves:
-                y += LINE + 3
-                for source, at in table.moves:
-                    begin, end = (margin + (min(max(x, first), last) - first) * width for x in (source, at))
-                    drawn.append(f'<path d="M{begin:.1f} {y - 26}L{end:.1f} {y - 5}"/>' * (first <= at < last))
-    return drawn, max(margin + min(across, count) * width, 16 + LETTER * min(letters, len(table.caption))), y + 16
+    return Block("".join(drawn), margin + (last - first) * width + 2, y)
+
+
+def parts(table: Table, room: float) -> Iterator[Block]:
+    """A table as blocks of at least one column each, the first below its caption and the notes of its rows."""
+    told = [(table.caption, "head"), *((row.note, f"note {row.look}") for row in table.rows if row.note)]
+    lines = [(line, look) for text, look in told for line in textwrap.wrap(text, int(room / LETTER) - 1)]
+    head = "".join(_text(4, k * (LINE - 4), line, WIDTH, f' class="{look}"') for k, (line, look) in enumerate(lines))
+    letters, height = max(len(line) for line, _ in lines), len(lines) * (LINE - 4) + 6
+    margin = 12 + LETTER * min(16, max(len(row.label) for row in table.rows))
+    most = max((len(row.boxes) / table.columns for row in table.rows), default=0) if table.columns else 0
+    width = min(table.letters, max(80, int(5 * most))) * LETTER
+    across = max(1, int((room - margin) / width))
+    for first in range(0, max(1, table.columns), across):
+        block = _block(table, first, min(table.columns, first + across), margin, width)
+        if first == 0:
+            drawn = f'{head}<g transform="translate(0 {height})">{block.drawn}</g>'
+            block = Block(drawn, max(8 + LETTER * letters, block.width), height + block.height)
+        yield block
 
 
 def svg(moment: Moment, tables: list[Table], words: str) -> str:
-    """The picture of a line, with its text for those who do not see it. Grids stand side by side."""
-    drawn, x, y, below = [_text(8, 6, moment.line, 96)], 0.0, 30, 30
-    for table in tables:
-        made, width, height = _table(table)
-        if x + width > WIDTH or table.rows[-1].note:
-            x, y = 0.0, below
-        drawn += [f'<g transform="translate({x:.1f} {y})">', *made, "</g>"]
-        x, below = WIDTH if table.rows[-1].note else x + width + 24, max(below, y + height)
+    """The picture of a line, with its text for those who do not see it. What has room stands side by side."""
+    drawn, x, y, below, wide = [_text(8, 6, moment.line, 96)], 4.0, 30, 30, WIDTH
+    for part in (part for table in tables for part in parts(table, WIDTH)):
+        if x + part.width > WIDTH:
+            x, y = 4.0, below
+        drawn.append(f'<g transform="translate({x:.1f} {y})">{part.drawn}</g>')
+        x, below, wide = x + part.width + 24, max(below, y + part.height + 14), max(wide, int(part.width) + 8)
     return "\n".join([
-        f'<svg xmlns="http://www.w3.org/2000/svg" viewBox="0 0 {WIDTH} {below}" width="{WIDTH}" height="{below}" role="img" '
+        f'<svg xmlns="http://www.w3.org/2000/svg" viewBox="0 0 {wide} {below}" width="{wide}" height="{below}" role="img" '
         f'aria-labelledby="title words"><title id="title">{escape(moment.line)}</title><desc id="words">{escape(words)}</desc>',
-        f'<style>{STYLE}</style><marker id="tip" viewBox="0 0 8 8" refX="7" refY="4" markerWidth="6" markerHeight="6" orient="auto">'
-        f'<path d="M0 0L8 4L0 8z"/></marker><rect class="page" width="{WIDTH}" height="{below}"/>', *drawn, "</svg>\n",
+        f'<style>svg{{{LIGHT}}}@media(prefers-color-scheme:dark){{svg{{{DARK}}}}}{RULES}</style>{TIP}'
+        f'<rect class="page" width="{wide}" height="{below}"/>', *drawn, "</svg>\n",
     ])

@@ -12,7 +12,7 @@ from contextlib import ExitStack
 from dataclasses import dataclass, field
 from functools import cached_property
 from math import prod
-from typing import Any, Callable, Iterator, Mapping, NamedTuple, Optional, Union
+from typing import Any, Iterator, Mapping, NamedTuple, Optional, Union
 
 from .session import Array, BenchError, Reply, Session
 
@@ -24,8 +24,7 @@ WORD = re.compile(r"[A-Za-z_]\w*")
 ODD = re.compile(r"[^\t -~]")
 FIELD = re.compile(r":([^:]*):")
 BOUND = re.compile(r"ok (\w+) .* (new|view|copy)(?: rest \d+)?")
-DIGITS = b"0123456789ABCDEFGHIJKLMNOPQRSTUVWXYZabcdefghijklmnopqrstuvwxyz+-"
-AS_DIGIT: dict[type, Callable[[int], Any]] = {int: int, bool: bool, bytes: lambda digit: DIGITS[digit:digit + 1]}
+BITS: dict[type, tuple[Any, Any]] = {int: (0, 1), bool: (False, True), bytes: (b"0", b"1")}
 
 Path = Union[str, os.PathLike[str]]
 Values = Mapping[int, Any]
@@ -277,9 +276,6 @@ class Trace(ExitStack):
             tried.append(f"{name} = {name}[{','.join(':' if stride else '0' for stride, _, _ in bound.axes)}]")
         if is_long := bound.count * bound.kind.size > AT_ONCE:
             spare = next((other for other in self.state.names if other != name), self._free)
-            if bound.array.order == "F":
-                tried.append(f"{name} = transpose {name}")
-                numbers = [(at - bound.array.at) // bound.kind.size for at in places]
             tried.append(f"{name} = reshape {name} (-1)")
             tried.append(f"{spare} = array <i8 ({len(numbers)}) {' '.join(map(str, numbers))}")
             tried.append(f"{name} = {name}[{spare}]")
@@ -290,8 +286,8 @@ class Trace(ExitStack):
         return list(items) if is_long else [items[number] for number in numbers]
 
     def _moved(self, line: bytes, before: State, source: int, changed: list[int]) -> dict[Place, Place]:
-        """Where a line put what stood in a buffer. It is run on items that tell their places, by one digit after another of a
-        number, and then by the first digit taken from the greatest: so a value that stays the same is not one that moved."""
+        """Where a line put what stood in a buffer. It is run on items that tell their places, by one bit after another of a number,
+        and then by the first bit turned over: so a value that stays the same is not one that moved."""
         buffer, starts = before.buffers[source], before.buffers[source].starts()
         seen = [pair for pair in before.inside(source).items() if pair[1].array.writable and pair[1].count]
         if not seen or buffer.count > len(starts):
@@ -299,11 +295,9 @@ class Trace(ExitStack):
         name, bound = max(seen, key=lambda pair: pair[1].count)
         items = list(bound.numbers(starts, buffer.kind.size))
         places = [at + leaf.at for at in items for leaf in bound.kind.leaves]
-        base = 2 if any(isinstance(buffer.values[place], bool) for place in places) else len(DIGITS)
-        powers = [base ** k for k in range(12) if k == 0 or base ** k < len(places)]
-        rows = [[k // power % base for k in range(len(places))] for power in powers]
-        rows.append([base - 1 - digit for digit in rows[0]])
-        coded = [{place: AS_DIGIT[type(buffer.values[place])](digit) for place, digit in zip(places, row)} for row in rows]
+        rows = [[k >> power & 1 for k in range(len(places))] for power in range(len(places).bit_length())]
+        rows.append([1 - bit for bit in rows[0]])
+        coded = [{place: BITS[type(buffer.values[place])][bit] for place, bit in zip(places, row)} for row in rows]
         told = {tuple(code[place] for code in coded): Place(source, place) for place in places}
         left = [self._tried(line, before, name, [bound.kind.item(code, at) for at in items], changed) for code in coded]
         origins = {at: told.get(tuple(values.get(at) for values in left), at) for at in (left[0] if all(left) else ())}

@@ -9,7 +9,7 @@ use Rattle.elem_descr.specs.WrittenFormats.{written_format}
 use Rattle.elem_descr.specs.Items.{item_size}
 use Rattle.shape_strides.specs.Shapes.{shape_text}
 use Rattle.shape_strides.specs.Contiguity.{first_address, printed_strides, is_c_contiguous, is_f_contiguous, strides_text}
-use Rattle.script_lang.specs.Refusals.{refusal_text}
+use Rattle.elem_descr.specs.RefusalTexts.{refusal_text}
 use Rattle.name_store.specs.States.{State}
 use Rattle.bench_engine.specs.declared.replies.Origin.{Origin}
 use Rattle.bench_engine.specs.declared.replies.Origin.TheVariants.{New, View, Copy}

@@ -1,4 +1,5 @@
 pub mod Refusals
+pub mod RefusalTexts
 pub mod Values
 pub mod Encoding
 pub mod TypeStrings

@@ -1,5 +1,5 @@
 //! Refusals, with their codes and texts.
-ghost use Rattle.std.specs.Prelude.{◌≡◌};
+ghost use Rattle.std.specs.Prelude.{◌≡◌, ◌≤◌, length};
 ghost use Rattle.elem_descr.specs.declared.refusal.Refusal.TheVariants.{OutOfMemory};
 
 use std::alloc::{AllocError, AllocFailed};
@@ -49,46 +49,56 @@ pub enum Refusal {
 }
 
 impl Refusal {
-    /// The code and the text of a refusal, as a reply shows them.
-    fn text(self) -> &'static str {
+    ghost use Rattle.elem_descr.specs.RefusalTexts.{refusal_text};
+
+    /// The reply to a line that is refused so: `no`, the code and the text, without a newline.
+    pub fn reply(self) -> &'static str
+        ensures text { result.now ≡ refusal_text self }
+        ensures short { length result.now ≤ 64 }
+    {
         match self {
-            Refusal::LineTooLong => "E01 line too long",
-            Refusal::ByteNotAllowed => "E02 byte not allowed",
-            Refusal::Syntax => "E03 syntax",
-            Refusal::BadDescriptor => "E04 bad descriptor",
-            Refusal::DescriptorLeftOut => "E05 descriptor left out",
-            Refusal::UnknownName => "E06 unknown name",
-            Refusal::TooManyNames => "E07 too many names",
-            Refusal::TooManyAxes => "E08 too many axes",
-            Refusal::TooLarge => "E09 too large",
-            Refusal::TooManyIndices => "E10 too many indices",
-            Refusal::IndexOutOfRange => "E11 index out of range",
-            Refusal::ZeroStep => "E12 zero step",
-            Refusal::MaskLengths => "E13 mask lengths",
-            Refusal::NotAnIndexType => "E14 not an index type",
-            Refusal::IndexShapes => "E15 index shapes",
-            Refusal::ShapesDoNotBroadcast => "E16 shapes do not broadcast",
-            Refusal::BadAxis => "E17 bad axis",
-            Refusal::BadReshape => "E18 bad reshape",
-            Refusal::NoSuchField => "E19 no such field",
-            Refusal::ReadOnly => "E20 read-only",
-            Refusal::NeedsFloats => "E21 needs floats",
-            Refusal::NotForThisKind => "E22 not for this kind",
-            Refusal::LiteralOutOfRange => "E23 literal out of range",
-            Refusal::NotSameKind => "E24 not same kind",
-            Refusal::EmptyReduction => "E25 empty reduction",
-            Refusal::NothingToUndo => "E26 nothing to undo",
-            Refusal::StoreFault => "E27 store fault",
-            Refusal::BadMagic => "E28 bad magic",
-            Refusal::BadVersion => "E29 bad version",
-            Refusal::BadHeader => "E30 bad header",
-            Refusal::Truncated => "E31 truncated",
-            Refusal::NumberOfValues => "E32 number of values",
-            Refusal::NoSuchCast => "E33 no such cast",
-            Refusal::NoSuchFile => "E34 no such file",
-            Refusal::FileTooLong => "E35 file too long",
-            Refusal::OutOfMemory => "E40 out of memory",
+            Refusal::LineTooLong => "no E01 line too long",
+            Refusal::ByteNotAllowed => "no E02 byte not allowed",
+            Refusal::Syntax => "no E03 syntax",
+            Refusal::BadDescriptor => "no E04 bad descriptor",
+            Refusal::DescriptorLeftOut => "no E05 descriptor left out",
+            Refusal::UnknownName => "no E06 unknown name",
+            Refusal::TooManyNames => "no E07 too many names",
+            Refusal::TooManyAxes => "no E08 too many axes",
+            Refusal::TooLarge => "no E09 too large",
+            Refusal::TooManyIndices => "no E10 too many indices",
+            Refusal::IndexOutOfRange => "no E11 index out of range",
+            Refusal::ZeroStep => "no E12 zero step",
+            Refusal::MaskLengths => "no E13 mask lengths",
+            Refusal::NotAnIndexType => "no E14 not an index type",
+            Refusal::IndexShapes => "no E15 index shapes",
+            Refusal::ShapesDoNotBroadcast => "no E16 shapes do not broadcast",
+            Refusal::BadAxis => "no E17 bad axis",
+            Refusal::BadReshape => "no E18 bad reshape",
+            Refusal::NoSuchField => "no E19 no such field",
+            Refusal::ReadOnly => "no E20 read-only",
+            Refusal::NeedsFloats => "no E21 needs floats",
+            Refusal::NotForThisKind => "no E22 not for this kind",
+            Refusal::LiteralOutOfRange => "no E23 literal out of range",
+            Refusal::NotSameKind => "no E24 not same kind",
+            Refusal::EmptyReduction => "no E25 empty reduction",
+            Refusal::NothingToUndo => "no E26 nothing to undo",
+            Refusal::StoreFault => "no E27 store fault",
+            Refusal::BadMagic => "no E28 bad magic",
+            Refusal::BadVersion => "no E29 bad version",
+            Refusal::BadHeader => "no E30 bad header",
+            Refusal::Truncated => "no E31 truncated",
+            Refusal::NumberOfValues => "no E32 number of values",
+            Refusal::NoSuchCast => "no E33 no such cast",
+            Refusal::NoSuchFile => "no E34 no such file",
+            Refusal::FileTooLong => "no E35 file too long",
+            Refusal::OutOfMemory => "no E40 out of memory",
         }
+    }
+
+    /// The code and the text, as the reply has them.
+    fn text(self) -> &'static str {
+        self.reply().strip_prefix("no ").unwrap_or_default()
     }
 }
 

@@ -7,7 +7,7 @@ pub mod GatherLaws
 pub mod SingleLaws
 pub mod SourceLaws
 pub mod NumberLoops
-pub mod EightLaws
+pub mod WordLaws
 pub mod BoolLaws
 pub mod PointLaws
 pub mod PartLaws

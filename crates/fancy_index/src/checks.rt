@@ -10,9 +10,9 @@ ghost use Rattle.fancy_index.specs.Indexed.{indexed};
 ghost use Rattle.fancy_index.specs.inside.PartLists.{IsChecked};
 ghost use Rattle.fancy_index.specs.Sources.{array_of, LiesInBlock, item_of, HasItems, IsNamed, items_of};
 
-use crate::eights::{are_eight_places, eights_of};
 use crate::kind::Kind;
 use crate::source::{Indices, kind, number_at, resolved};
+use crate::words::{are_word_places, words_of};
 use elem_descr::Refusal;
 use shape_strides::{FixedWalk, IndexItem};
 use view_ops::{have_steps, is_place};
@@ -157,16 +157,16 @@ fn are_places_each(array: Indices<'_>, n: usize) -> bool
     true
 }
 
-/// Whether each number of an array is one of `n` places, whatever the array broadcasts to. Integers of
-/// eight bytes that lie one right after another need no walk.
+/// Whether each number of an array is one of `n` places, whatever the array broadcasts to. Those that
+/// lie one right after another need no walk.
 fn are_places(array: Indices<'_>, n: usize) -> bool
     requires small { n ≤ max_items }
     requires kind { kind (array_of array) ≢ NoIndex }
     requires lies { LiesInBlock array }
     ensures { result ≡ list_all (is_place n) (array_of array.entry).numbers }
 {
-    if let Some(items) = eights_of(array) {
-        return are_eight_places(items, n);
+    if let Some(words) = words_of(array) {
+        return are_word_places(words, n);
     }
     are_places_each(array, n)
 }

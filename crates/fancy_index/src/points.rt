@@ -11,9 +11,9 @@ ghost use Rattle.fancy_index.specs.Sources.{array_of, LiesInBlock};
 ghost use Rattle.fancy_index.specs.inside.PointLists.{place_of, true_ranks, IsPart};
 
 use crate::bools::{bools_of, true_bytes};
-use crate::eights::{eight_places, eights_of};
 use crate::kind::Kind;
 use crate::source::{Indices, kind, number_at};
+use crate::words::{word_places, words_of};
 use shape_strides::FixedWalk;
 use smallvec::SmallVec;
 use std::alloc::{AllocError, Global};
@@ -51,8 +51,8 @@ fn places_each(alloc: Global, array: Indices<'_>, n: usize) -> Result<Vec<u32>, 
     Ok(places)
 }
 
-/// The places of `n` that the numbers of an array name. Integers of eight bytes that lie one right after
-/// another need no walk.
+/// The places of `n` that the numbers of an array name. Those that lie one right after another need no
+/// walk.
 fn places(alloc: Global, array: Indices<'_>, n: usize) -> Result<Vec<u32>, AllocError>
     requires small { n ≤ max_items }
     requires kind { kind (array_of array) ≢ NoIndex }
@@ -60,8 +60,8 @@ fn places(alloc: Global, array: Indices<'_>, n: usize) -> Result<Vec<u32>, Alloc
     requires within { list_all (is_place n) (array_of array).numbers ≡ true }
     ensures { IfOk result (λ v. v.items ≡ map (place_of n) (array_of array.entry).numbers) }
 {
-    if let Some(items) = eights_of(array) {
-        return eight_places(alloc, items, n);
+    if let Some(words) = words_of(array) {
+        return word_places(alloc, words, n);
     }
     places_each(alloc, array, n)
 }

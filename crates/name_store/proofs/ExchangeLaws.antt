@@ -1,10 +1,12 @@
 -- Blocks are exchanged: what a copy of all the items would have written.
-use Rattle.std.proofs.Common.{◌≡◌, ◌+◌, ◌*◌, ◌≤◌, ◌<◌, ◌==◌, ℕ, zero, suc, true, List, [], ◌∷◌, length, map, refl, sym, ap, subst, ◌∙◌, Option, Some, arith, inl, inr}
+use Rattle.std.proofs.Common.{◌≡◌, ◌+◌, ◌*◌, ◌≤◌, ◌<◌, ◌==◌, ℕ, zero, suc, true, List, [], ◌∷◌, length, map, replicate, refl, sym, ap, subst, ◌∙◌, Option, Some, arith, inl, inr}
 use Rattle.std.specs.List.{AllByRecursion, range_with_len}
 use Rattle.std.proofs.lemmas.Bool.{cases_lt, eqb-true, and_parts}
 use Rattle.std.proofs.lemmas.List.{get_or_past}
 use Rattle.std.proofs.lemmas.List.Elements.{recursion_from_All}
-use Rattle.std.proofs.Math.Nat.{mul-suc}
+use Rattle.std.proofs.Math.Nat.{mul-suc, mul_comm}
+use Rattle.raw_block.specs.Bytes.{item_at, joined}
+use Rattle.raw_block.specs.JoinedLaws.{length-joined, item_of_joined}
 use Rattle.elem_descr.specs.Items.{item_size}
 use Rattle.shape_strides.specs.Contiguity.{is_c_contiguous}
 use Rattle.shape_strides.specs.LayoutLaws.{length-offsets}
@@ -12,13 +14,13 @@ use Rattle.shape_strides.specs.Layouts.{offsets, multiples, Fits}
 use Rattle.overlap_copy.specs.declared.owned.Owned.{Owned}
 use Rattle.overlap_copy.specs.Assignments.{items_at, with_items}
 use Rattle.name_store.specs.declared.home.Home.{Home}
-use Rattle.name_store.specs.declared.items.Items.TheVariants.{Block}
+use Rattle.name_store.specs.declared.items.Items.{Items}
 use Rattle.name_store.specs.declared.old_items.OldItems.{OldItems}
 use Rattle.name_store.specs.declared.slot.Slot.{Slot}
 use Rattle.name_store.specs.declared.target.Target.{Target}
-use Rattle.name_store.specs.inside.Exchanges.{AreExchangeable}
+use Rattle.name_store.specs.inside.Exchanges.{AreAll, IsPacked}
 use Rattle.name_store.specs.inside.OldItems.{AreOld}
-use Rattle.name_store.specs.inside.Puts.{CanPut}
+use Rattle.name_store.specs.inside.Puts.{CanPut, parts_of}
 use Rattle.name_store.specs.Targets.{target_offsets}
 use Rattle.name_store.specs.View.{slot_at}
 use Rattle.name_store.proofs.LaidLaws.{offsets-within}
@@ -63,43 +65,54 @@ all-put width os new old are long whole inside =
       | inr past ↦ inr (get_or_past old k 0 (omega (arith, long, past)) ∙ sym (get_or_past new k 0 past))
     ])
 
-module _ (slots : List (Option Slot)) (home : Home) (target : Target) (owned : Owned) (can : CanPut slots home target (Block owned)) (s : Slot) (there : slot_at slots home.number ≡ Some s) (are : AreExchangeable s.block (target_offsets target) owned) where
+-- one item over and over
+repeated-items : (item : List ℕ) (m a n : ℕ) → a + n ≤ m → items_at (map (λ k. length item * k) (range_with_len a n)) (length item) (joined (λ _. item) m) ≡ replicate n item
+repeated-items item m a zero low = refl
+repeated-items item m a (suc n) low = λ i. one i ∷ repeated-items item m (a + 1) n (omega (arith, low)) i
+  where
+    one : item_at (length item * a) (length item) (joined (λ _. item) m) ≡ item
+    one =
+        ap (λ o. item_at o (length item) (joined (λ _. item) m)) (mul_comm (length item) a)
+        ∙ item_of_joined (λ _. item) (length item) m a (λ j less. refl) (omega (arith, low))
+
+pub repeated-packed : (item block : List ℕ) (n : ℕ) → block ≡ joined (λ _. item) n → IsPacked n (length item) (replicate n item) block
+repeated-packed item block n is = record {
+  long = ap length is ∙ length-joined (λ _. item) (length item) n (λ k less. refl);
+  items = ap (items_at (multiples (length item) n) (length item)) is ∙ repeated-items item n 0 n (omega arith);
+}
+
+-- the items of an array that lie one after another
+pub own-packed : (o : Owned) (width : ℕ) → item_size o.descr ≡ width → is_c_contiguous width (offsets o.layout) ≡ true → IsPacked (length (offsets o.layout)) width (items_at (offsets o.layout) width o.block) o.block
+own-packed o width size test =
+    let whole : length o.block ≡ length (offsets o.layout) * width = o.fills_block.fills ∙ λ i. sym (length-offsets o.layout) i * size i in
+    let inside = offsets-within o.layout (length o.block) width (subst (Fits o.layout (length o.block)) size o.fills_block.fits) in record {
+      long = whole;
+      items = ap (λ os. items_at os width o.block) (sym (c-packed width (offsets o.layout) test (subst (λ n. AllByRecursion (λ a. a + width ≤ n) (offsets o.layout)) whole inside)));
+    }
+
+module _ (slots : List (Option Slot)) (home : Home) (target : Target) (own : Items) (can : CanPut slots home target own) (s : Slot) (there : slot_at slots home.number ≡ Some s) (all : AreAll home.width s.block (target_offsets target)) where
   abbrev os : List ℕ
   os = target_offsets target
 
   abbrev width : ℕ
   width = home.width
 
-  size : item_size owned.descr ≡ width
-  size = can.are.0
-
-  count-is : length (offsets owned.layout) ≡ length os
-  count-is = can.are.1
-
-  whole : length owned.block ≡ length os * width
-  whole = owned.fills_block.fills ∙ λ i. (sym (length-offsets owned.layout) ∙ count-is) i * size i
-
-  inside : AllByRecursion (λ o. o + width ≤ length owned.block) os
-  inside = subst (λ n. AllByRecursion (λ o. o + width ≤ n) os) (sym are.long) (recursion_from_All (λ o. o + width ≤ length s.block) os (can-inside slots home target (Block owned) can s there))
+  inside : AllByRecursion (λ o. o + width ≤ length s.block) os
+  inside = recursion_from_All (λ o. o + width ≤ length s.block) os (can-inside slots home target own can s there)
 
   to-run : os ≡ multiples width (length os)
-  to-run = c-packed width os (subst (λ n. is_c_contiguous n os ≡ true) size are.target) (subst (λ n. AllByRecursion (λ o. o + width ≤ n) os) whole inside)
+  to-run = c-packed width os all.order (subst (λ n. AllByRecursion (λ o. o + width ≤ n) os) all.whole inside)
 
-  from-run : offsets owned.layout ≡ multiples width (length os)
-  from-run =
-      c-packed width (offsets owned.layout) (subst (λ n. is_c_contiguous n (offsets owned.layout) ≡ true) size are.source)
-      (subst (λ n. AllByRecursion (λ o. o + width ≤ n) (offsets owned.layout)) (whole ∙ ap (λ n. n * width) (sym count-is))
-      (offsets-within owned.layout (length owned.block) width (subst (Fits owned.layout (length owned.block)) size owned.fills_block.fits)))
-      ∙ ap (multiples width) count-is
-
-  -- the array's block is what a copy of all items would have made
-  pub exchanged : owned.block ≡ with_items os (items_at (offsets owned.layout) width owned.block) s.block
-  exchanged = sym (ap (λ from. with_items os (items_at from width owned.block) s.block) (from-run ∙ sym to-run) ∙ all-put width os owned.block s.block to-run (sym are.long) whole inside)
+  -- a block of new items is what writing all of them would have made
+  pub replaced : (new : List ℕ) → IsPacked (length os) width (parts_of slots width (length os) own) new → new ≡ with_items os (parts_of slots width (length os) own) s.block
+  replaced new packed =
+      sym (ap (λ parts. with_items os parts s.block) (sym packed.items ∙ ap (λ at. items_at at width new) (sym to-run))
+      ∙ all-put width os new s.block to-run (all.whole ∙ sym packed.long) packed.long (subst (λ n. AllByRecursion (λ o. o + width ≤ n) os) (all.whole ∙ sym packed.long) inside))
 
   -- and the slot's block has the old ones
-  pub exchange-old : (o : OldItems) → o.width ≡ item_size owned.descr → o.block ≡ s.block → AreOld width s.block os o
-  exchange-old o width-is block-is = record {
-    size = width-is ∙ size;
-    whole = ap length block-is ∙ sym are.long ∙ whole ∙ ap (λ n. length os * n) (sym (width-is ∙ size));
-    bytes = (λ i. items_at (multiples ((width-is ∙ size) i) (length os)) ((width-is ∙ size) i) (block-is i)) ∙ ap (λ from. items_at from width s.block) (sym to-run);
+  pub replaced-old : (o : OldItems) → o.width ≡ width → o.block ≡ s.block → AreOld width s.block os o
+  replaced-old o width-is block-is = record {
+    size = width-is;
+    whole = ap length block-is ∙ all.whole ∙ ap (λ n. length os * n) (sym width-is);
+    bytes = (λ i. items_at (multiples (width-is i) (length os)) (width-is i) (block-is i)) ∙ ap (λ from. items_at from width s.block) (sym to-run);
   }

@@ -106,9 +106,6 @@ module _ (es : List (Key × Entry)) (slots : Slots) (ring : Ring Change) (spare 
   pub unbind-occupied : (q : ℕ) → is_some (slot_at slots q) ≡ is_needed names' (ring.items ++ c ∷ []) q
   unbind-occupied = keep-occupied es slots ring spare sound es' slots c before-is holds restored own came
 
-  pub unbind-bound : is_bound (state_of es slots ring) key.bytes.items ≡ true
-  unbind-bound = ap is_some (find-lookup test key.bytes.items is es ∙ ap (option_map array_at) was)
-
   module _ (ring' : Ring Change) (after : Slots) (spare' : ℕ) (ring-is : ring' ≡ buffer (keep_last ring.capacity (ring.items ++ c ∷ [])) ring.capacity) (swept : Swept (is_needed names' ring'.items) slots after) (room : min ring.capacity (length ring.items + 1) ≤ spare') where
     pub unbind-sound : IsSound es' after ring' spare'
     unbind-sound = keep-sound es slots ring spare sound es' slots c before-is holds restored own came ring' after spare' ring-is swept room

@@ -1,52 +1,118 @@
-//! The block of a buffer is exchanged for that of an array which has an item for each of its items, in
-//! the same order: no item is copied.
-ghost use Rattle.std.specs.Prelude.{◌≡◌, IsTrue, false};
+//! Where all the items of a buffer are written, a block of the new ones takes the place of its block, which
+//! is handed out as the old items.
+ghost use Rattle.std.specs.Prelude.{◌≡◌, length, replicate, Some, IsTrue, IsOk, IfOk, IfErr};
+ghost use Rattle.elem_descr.specs.Items.{item_size};
+ghost use Rattle.shape_strides.specs.Contiguity.{is_c_contiguous};
 ghost use Rattle.shape_strides.specs.Layouts.{offsets};
-ghost use Rattle.name_store.specs.declared.items.Items.TheVariants.{Block};
-ghost use Rattle.name_store.specs.inside.Exchanges.{AreExchangeable, Exchanges};
-ghost use Rattle.name_store.specs.inside.Puts.{CanPut};
+ghost use Rattle.overlap_copy.specs.Assignments.{items_at};
+ghost use Rattle.name_store.specs.Targets.{target_offsets};
+ghost use Rattle.name_store.specs.View.{slot_at};
+ghost use Rattle.name_store.specs.declared.slot.Slot.{Slot};
+ghost use Rattle.name_store.specs.inside.Exchanges.{AreAll, IsPacked, are_packed};
+ghost use Rattle.name_store.specs.inside.OldItems.{AreOldAt};
+ghost use Rattle.name_store.specs.inside.Puts.{AreItems, CanPut, Puts, parts_of};
 
 use crate::home::Home;
+use crate::items::Items;
+use crate::old_items::OldItems;
 use crate::slot::Slot;
 use crate::slots::{slot_mut, slot_of};
 use crate::target::Target;
-use overlap_copy::Owned;
-use raw_block::RawBlock;
-use shape_strides::Layout;
+use overlap_copy::{Owned, gather};
+use raw_block::{BlockBuilder, RawBlock};
+use std::alloc::{AllocError, Global};
 use std::mem::swap;
 
-/// Whether a block is of the same length as that of an array, and the items lie one after another in
-/// both, those of a layout in the one, and those of the array in the other.
-fn are_exchangeable(block: &RawBlock, layout: &Layout, owned: &Owned) -> bool
-    ensures sound { IsTrue result → AreExchangeable block.now (offsets layout.now) owned.now }
-    ensures found { AreExchangeable block.now (offsets layout.now) owned.now → IsTrue result }
+/// Whether the items of a target are all those of a block, one after another.
+pub(crate) fn is_all(block: &RawBlock, target: &Target, width: usize) -> bool
+    ensures { IsTrue result → AreAll width block.now (target_offsets target.now) }
 {
-    let width = owned.descr.size();
-    owned.block.len() == block.len() && layout.is_c(width) && owned.layout.is_c(width)
+    match target {
+        Target::View(layout) => {
+            layout.is_c(width) && layout.shape.items().saturating_mul(width) == block.len()
+        }
+        Target::Plan(_) => false,
+    }
 }
 
-/// Writes the items of an array to a target by exchanging the blocks, and answers whether that could be:
-/// the array has the old items then.
-pub(crate) fn exchange(
+/// Whether the items lie in a block of their own, one after another.
+pub(crate) fn are_packed(items: &Items<'_>, width: usize) -> bool
+    ensures { result ≡ are_packed width items.now }
+{
+    match items {
+        Items::Block(owned) => owned.layout.is_c(width),
+        _ => false,
+    }
+}
+
+/// A block of one item, over and over.
+fn repeated(alloc: Global, item: &[u8], count: usize) -> Result<RawBlock, AllocError>
+    ensures { IfOk result (IsPacked count (length item.now) (replicate count item.now)) }
+{
+    let mut items = BlockBuilder::try_new(alloc, count.saturating_mul(item.len()))?;
+    let _filled = items.filled();
+    items.push_repeated(item, count);
+    Ok(items.finish())
+}
+
+/// A block of the items of an array, which is its own where they lie one after another.
+fn own_block(alloc: Global, owned: Owned, width: usize) -> Result<RawBlock, AllocError>
+    requires width { item_size owned.descr ≡ width }
+    ensures packed { IfOk result (IsPacked (length (offsets owned.layout)) width (items_at (offsets owned.layout) width owned.block)) }
+    ensures no_memory { IsTrue (is_c_contiguous width (offsets owned.layout)) → IsOk result }
+{
+    if !owned.layout.is_c(width) {
+        return gather(alloc, &owned.block, &owned.layout, width);
+    }
+    let Owned {
+        block,
+        descr: _,
+        layout: _,
+    } = owned;
+    Ok(block)
+}
+
+/// A block of so many items, one after another.
+fn packed(
+    alloc: Global,
+    slots: &[Option<Slot>],
+    items: Items<'_>,
+    width: usize,
+    count: usize,
+) -> Result<RawBlock, AllocError>
+    requires { AreItems slots.now width count items }
+    ensures packed { IfOk result (IsPacked count width (parts_of slots.now width count items.entry)) }
+    ensures no_memory { IsTrue (are_packed width items.entry) → IsOk result }
+{
+    match items {
+        Items::One(item) => repeated(alloc, item, count),
+        Items::Block(owned) => own_block(alloc, owned, width),
+        Items::Buffer(number, from) => gather(alloc, &slot_of(slots, number).block, &from, width),
+    }
+}
+
+/// Writes the items to a target that has all of its buffer, and hands out the old ones. Memory is asked for
+/// before the change, and only where the items are in no block of their own.
+pub(crate) fn replace(
+    alloc: Global,
     slots: &mut Vec<Option<Slot>>,
     home: Home,
     target: &Target,
-    owned: &mut Owned,
-) -> bool
-    requires { CanPut slots.old.items home target.now (Block owned.old) }
-    ensures done { IsTrue result → Exchanges slots.old.items home target.now owned.old slots.new.items owned.new }
-    ensures slots { result ≡ false → slots.new.items ≡ slots.old.items }
-    ensures owned { result ≡ false → owned.new ≡ owned.old }
+    items: Items<'_>,
+) -> Result<OldItems, AllocError>
+    requires can { CanPut slots.old.items home target.now items }
+    requires all { (s : Slot) → slot_at slots.old.items home.number ≡ Some s → AreAll home.width s.block (target_offsets target.now) }
+    ensures written { IfOk result (λ _. Puts slots.old.items home target.now items.entry slots.new.items) }
+    ensures old { IfOk result (λ old. AreOldAt slots.old.items home target.now old) }
+    ensures kept { IfErr result (λ _. slots.new.items ≡ slots.old.items) }
+    ensures no_memory { IsTrue (are_packed home.width items.entry) → IsOk result }
 {
-    let Target::View(layout) = target else {
-        return false;
-    };
-    let block = &slot_of(slots.as_slice(), home.number).block;
-    if !are_exchangeable(block, layout, owned) {
-        return false;
-    }
+    let mut block = packed(alloc, slots.as_slice(), items, home.width, target.count())?;
     if let Some(slot) = slot_mut(slots, home.number) {
-        swap(&mut slot.block, &mut owned.block);
+        swap(&mut slot.block, &mut block);
     }
-    true
+    Ok(OldItems {
+        block,
+        width: home.width,
+    })
 }

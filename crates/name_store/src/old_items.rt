@@ -1,22 +1,11 @@
 //! The items of a target as they are, and back again.
-ghost use Rattle.std.specs.Prelude.{◌≡◌, ◌+◌, ◌*◌, ◌≤◌, ◌<◌, length, All, IfOk, IfErr, IfSome, Some, vec_len};
-ghost use Rattle.elem_descr.specs.Items.{item_size};
-ghost use Rattle.elem_descr.specs.declared.refusal.Refusal.TheVariants.{OutOfMemory};
-ghost use Rattle.shape_strides.specs.Limits.{max_bytes};
-ghost use Rattle.shape_strides.specs.Layouts.{offsets, multiples};
-ghost use Rattle.overlap_copy.specs.Assignments.{items_at};
+ghost use Rattle.std.specs.Prelude.{◌≡◌, ◌+◌, ◌*◌, ◌≤◌, length, All, IfOk};
 ghost use Rattle.name_store.specs.Kept.{with_old};
-ghost use Rattle.name_store.specs.Invariants.{GoBackAt};
 ghost use Rattle.name_store.specs.Targets.{target_offsets};
-ghost use Rattle.name_store.specs.View.{slot_at};
-ghost use Rattle.name_store.specs.declared.slot.Slot.{Slot};
-ghost use Rattle.name_store.specs.inside.Homes.{HasNew};
 ghost use Rattle.name_store.specs.inside.OldItems.{AreOld};
 
-use crate::slot::Slot;
-use crate::slots::slot_mut;
 use crate::target::Target;
-use overlap_copy::{Owned, gather, scatter};
+use overlap_copy::{gather, scatter};
 use raw_block::RawBlock;
 use std::alloc::{AllocError, Global};
 
@@ -25,22 +14,6 @@ use std::alloc::{AllocError, Global};
 pub struct OldItems {
     pub block: RawBlock,
     pub width: usize,
-}
-
-impl OldItems {
-    /// Those of an array whose block has them in C order.
-    pub(crate) fn of(owned: Owned) -> OldItems
-        ensures block { result.block ≡ owned.block }
-        ensures width { result.width ≡ item_size owned.descr }
-    {
-        let width = owned.descr.size();
-        let Owned {
-            block,
-            descr: _,
-            layout: _,
-        } = owned;
-        OldItems { block, width }
-    }
 }
 
 /// The items of a target, one after another.
@@ -61,7 +34,7 @@ pub(crate) fn old_items(
 }
 
 /// Writes items that lie one after another to a target.
-fn put_back(block: &mut RawBlock, target: &Target, items: &OldItems)
+pub(crate) fn put_back(block: &mut RawBlock, target: &Target, items: &OldItems)
     requires inside { All (λ offset. offset + items.now.width ≤ length block.old) (target_offsets target.now) }
     requires whole { length items.now.block ≡ length (target_offsets target.now) * items.now.width }
     ensures len { length block.new ≡ length block.old }
@@ -70,22 +43,5 @@ fn put_back(block: &mut RawBlock, target: &Target, items: &OldItems)
     match target {
         Target::View(layout) => scatter(block, layout, &items.block, items.width),
         Target::Plan(plan) => plan.scatter(block, &items.block, items.width),
-    }
-}
-
-/// The same in the slot with this number.
-pub(crate) fn put_back_at(
-    slots: &mut Vec<Option<Slot>>,
-    number: usize,
-    target: &Target,
-    items: &OldItems,
-)
-    requires within { number < vec_len slots.old }
-    requires goes { GoBackAt target.now items.now (slot_at slots.old.items number) }
-    ensures { (old : Slot) → slot_at slots.old.items number ≡ Some old
-        → HasNew slots.old.items number old (with_old (target_offsets target.now) items.now old.block) slots.new.items }
-{
-    if let Some(slot) = slot_mut(slots, number) {
-        put_back(&mut slot.block, target, items);
     }
 }

@@ -12,8 +12,9 @@ ghost use Rattle.name_store.specs.inside.Undoes.{Undoes};
 use crate::change::Change;
 use crate::entry::{Entry, Key};
 use crate::keep::release;
-use crate::old_items::{OldItems, put_back_at};
+use crate::old_items::{OldItems, put_back};
 use crate::slot::Slot;
+use crate::slots::slot_mut;
 use crate::target::Target;
 use circular_buffer::HeapCircularBuffer;
 use elem_descr::Refusal;
@@ -77,7 +78,9 @@ fn undo_write(
     requires sound { IsSound names.now.entries slots.old.items (buffer (ring.now.items ++ Write number target.now items.now ∷ []) ring.now.capacity) (spare names.now) }
     ensures { Undoes names.now.entries slots.old.items (Write number target.now items.now) names.now.entries slots.new.items ring.now (spare names.now) }
 {
-    put_back_at(slots, number, target, items);
+    if let Some(slot) = slot_mut(slots, number) {
+        put_back(&mut slot.block, target, items);
+    }
 }
 
 /// Undoes a change. A buffer that nothing needs any more is freed.

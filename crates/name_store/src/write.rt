@@ -4,7 +4,7 @@ ghost use Rattle.name_store.specs.inside.OldItems.{AreSame};
 ghost use Rattle.name_store.specs.inside.Puts.{CanPut, Puts, InPlace, NeedsNone};
 ghost use Rattle.name_store.specs.declared.items.Items.TheVariants.{One, Block, Buffer};
 
-use crate::exchange::exchange;
+use crate::exchange::{are_packed, is_all, replace};
 use crate::home::Home;
 use crate::items::Items;
 use crate::rewrite::{copy_to, fill, move_to};
@@ -120,14 +120,10 @@ pub(crate) fn write_items(
     ensures kept { IfErr result (λ _. AreSame slots.old.items slots.new.items) }
     ensures no_memory { NeedsNone home target.now items.entry → IsOk result }
 {
-    match items {
-        Items::Block(mut owned) => {
-            if exchange(slots, home, target, &mut owned) {
-                return Ok(());
-            }
-            copy_block(slots, home, target, &owned);
-            Ok(())
-        }
-        copied => copy_items(alloc, slots, home, target, &copied),
+    let block = &slot_of(slots.as_slice(), home.number).block;
+    if are_packed(&items, home.width) && is_all(block, target, home.width) {
+        let _old = replace(alloc, slots, home, target, items)?;
+        return Ok(());
     }
+    copy_items(alloc, slots, home, target, &items)
 }

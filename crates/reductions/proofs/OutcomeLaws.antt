@@ -10,14 +10,12 @@ use Rattle.elem_descr.specs.declared.descr.Descr.TheVariants.{Scalar as ScalarDe
 use Rattle.elem_descr.specs.declared.refusal.Refusal.{Refusal}
 use Rattle.elem_descr.specs.declared.refusal.Refusal.TheVariants.{EmptyReduction, BadAxis}
 use Rattle.elem_descr.specs.declared.scalar.Scalar.{Scalar}
-use Rattle.elem_descr.specs.declared.scalar.Width.TheVariants.{Two, Four, Eight}
 use Rattle.elem_descr.specs.declared.scalar.Scalar.TheVariants.{Bool as BoolScalar, Byte, Int, Bytes}
 use Rattle.elem_descr.specs.Encoding.{IsNumber, size, decode, encode, number_of}
 use Rattle.elem_descr.specs.Refusals.{◌>>=◌, check}
 use Rattle.elem_descr.specs.RefusalLaws.{check_passed}
 use Rattle.shape_strides.specs.ShapeLaws.{shape_of-same}
 use Rattle.machine_numbers.specs.declared.operators.Red.TheVariants.{Sum, Product, Minimum, Maximum, Any, All, ArgMin, ArgMax}
-use Rattle.reductions.specs.inside.FoldLaws.{wide_size, little_size}
 use Rattle.elem_descr.specs.Items.{encode_item}
 use Rattle.elem_descr.specs.Values.{LeafValue, number}
 use Rattle.elem_descr.specs.Blocks.{item_from}
@@ -31,8 +29,8 @@ use Rattle.shape_strides.specs.LayoutLaws.{offsets-none}
 use Rattle.shape_strides.specs.Shapes.{shape_of}
 use Rattle.machine_numbers.specs.declared.operators.Red.{Red}
 use Rattle.reductions.specs.Lists.{lists, reduced_shape, list_length, named_axis, is_axis}
-use Rattle.reductions.specs.Outcomes.{needs_items, has_empty_list, number_scalar, outcome, Outcome}
-use Rattle.reductions.specs.Reductions.{result_scalar, reduced, reduced_item, reduced_items, item_number}
+use Rattle.reductions.specs.Outcomes.{has_empty_list, number_scalar, outcome, Outcome}
+use Rattle.reductions.specs.Reductions.{result_scalar, needs_items, reduced, reduced_item, reduced_items, item_number}
 use Rattle.reductions.specs.inside.Axes.{IsAxisOf, shape_after}
 use Rattle.reductions.specs.inside.Numbers.{number_at, numbers_at, AreReduced}
 use Rattle.reductions.proofs.AxisLaws.{count-remove}
@@ -195,21 +193,3 @@ bytes_are reduction scalar to block out ls n is many long are =
     ∙ ap f (sym (get_or-map g ls k [] [] (omega (arith, low, many)))))
     ∙ ap (joined (λ k. f (get_or items k []))) (many ∙ sym (length-map ls g))
     ∙ joined_list f [] items
-
-number_size : (scalar : Scalar) → IsNumber scalar → size scalar ≤ 8
-number_size BoolScalar is = omega arith
-number_size (Byte signed) is = omega arith
-number_size (Int signed Two order) is = omega arith
-number_size (Int signed Four order) is = omega arith
-number_size (Int signed Eight order) is = omega arith
-number_size (Bytes n) never = absurd never
-
-pub size_small : (reduction : Red) (scalar : Scalar) → IsNumber scalar → size (result_scalar reduction scalar) ≤ 8
-size_small Sum scalar is = omega (arith, wide_size scalar)
-size_small Product scalar is = omega (arith, wide_size scalar)
-size_small Minimum scalar is = omega (arith, little_size scalar, number_size scalar is)
-size_small Maximum scalar is = omega (arith, little_size scalar, number_size scalar is)
-size_small Any scalar is = omega arith
-size_small All scalar is = omega arith
-size_small ArgMin scalar is = omega arith
-size_small ArgMax scalar is = omega arith

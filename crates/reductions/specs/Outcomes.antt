@@ -11,9 +11,8 @@ use Rattle.shape_strides.specs.Indexes.{count}
 use Rattle.shape_strides.specs.Shapes.{shape_of}
 use Rattle.overlap_copy.specs.declared.owned.Owned.{Owned}
 use Rattle.machine_numbers.specs.declared.operators.Red.{Red}
-use Rattle.machine_numbers.specs.declared.operators.Red.TheVariants.{Minimum, Maximum, ArgMin, ArgMax}
 use Rattle.reductions.specs.Lists.{named_axis, is_axis, reduced_shape, list_length}
-use Rattle.reductions.specs.Reductions.{result_scalar}
+use Rattle.reductions.specs.Reductions.{result_scalar, needs_items}
 
 -- the scalar of items that are numbers
 abbrev pub number_scalar : Descr → Result Scalar Refusal
@@ -22,14 +21,6 @@ number_scalar (ScalarDescr (Byte signed)) = Ok (Byte signed)
 number_scalar (ScalarDescr (Int signed width order)) = Ok (Int signed width order)
 number_scalar (ScalarDescr (Bytes n)) = Err NotForThisKind
 number_scalar (RecordDescr structure) = Err NotForThisKind
-
--- whether a reduction is one of some items at least
-abbrev pub needs_items : Red → Bool
-needs_items Minimum = true
-needs_items Maximum = true
-needs_items ArgMin = true
-needs_items ArgMax = true
-needs_items _ = false
 
 -- whether some item of the result would be made of no items
 abbrev pub has_empty_list : List ℕ → Option ℕ → List ℕ → Bool

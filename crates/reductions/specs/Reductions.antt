@@ -1,5 +1,5 @@
 -- What reductions give, as NumPy has them: sums and products, least and greatest items, and the places of these.
-use Rattle.std.specs.Prelude.{ℕ, suc, ℤ, pos, ◌+ℤ◌, ◌*ℤ◌, Bool, true, not, if◌then◌else◌, List, [], ◌∷◌, map, get_or}
+use Rattle.std.specs.Prelude.{ℕ, suc, ℤ, pos, ◌+ℤ◌, ◌*ℤ◌, Bool, true, false, not, if◌then◌else◌, List, [], ◌∷◌, map, get_or}
 use Rattle.std.specs.Int.{int_min, int_max}
 use Rattle.std.specs.List.{fold, list_any, list_all}
 use Rattle.std.specs.Ordering.{int_eq}
@@ -34,6 +34,14 @@ result_scalar Any scalar = BoolScalar
 result_scalar All scalar = BoolScalar
 result_scalar ArgMin scalar = Int true Eight Little
 result_scalar ArgMax scalar = Int true Eight Little
+
+-- whether a reduction is one of some items at least
+abbrev pub needs_items : Red → Bool
+needs_items Minimum = true
+needs_items Maximum = true
+needs_items ArgMin = true
+needs_items ArgMax = true
+needs_items _ = false
 
 -- ---- values
 

@@ -5,7 +5,7 @@ ghost use Rattle.raw_block.specs.Bytes.{place, item_at, EachWithin};
 ghost use Rattle.shape_strides.specs.Indexes.{count};
 ghost use Rattle.shape_strides.specs.Layouts.{offsets};
 ghost use Rattle.shape_strides.specs.Runs.{run_along, run_offsets};
-ghost use Rattle.reductions.specs.inside.Numbers.{numbers_at, lines, IsReduced, AreReduced};
+ghost use Rattle.reductions.specs.inside.Numbers.{numbers_at, line_numbers, lines, IsReduced, AreReduced};
 
 use crate::folds::Fold;
 use crate::lines::{fold_run, number_at, store_at};
@@ -28,9 +28,7 @@ fn fill_part<S: Number, O: Ordered, F: Fold<S>>(
     requires few { (axis.len < 2 ^ 63) × (run.count < 2 ^ 63) }
     requires starts { EachWithin (length bytes.now) run.offset run.step S.WIDTH run.count }
     requires lines { (j : ℕ) → j < run.count → EachWithin (length bytes.now) (place run.offset run.step j) axis.stride S.WIDTH axis.len }
-    ensures items { (j : ℕ) → j < run.count → IsReduced F.reduction (S.scalar O.order)
-        (numbers_at (S.scalar O.order) bytes.now (run_offsets (run_along axis (place run.offset run.step j))))
-        (item_at (at + j * F.Total.WIDTH) F.Total.WIDTH out.new) }
+    ensures items { (j : ℕ) → j < run.count → IsReduced F.reduction (S.scalar O.order) (line_numbers (S.scalar O.order) bytes.now run axis j) (item_at (at + j * F.Total.WIDTH) F.Total.WIDTH out.new) }
     ensures before { (offset : ℕ) → offset + F.Total.WIDTH ≤ at → item_at offset F.Total.WIDTH out.new ≡ item_at offset F.Total.WIDTH out.old }
     ensures len { length out.new ≡ length out.old }
 {

@@ -3,7 +3,6 @@
 #![tactic(auto)]
 
 mod axes;
-mod empties;
 mod fills;
 mod folds;
 mod kinds;

@@ -6,7 +6,7 @@ ghost use Rattle.elem_descr.specs.Values.{number};
 ghost use Rattle.raw_block.specs.Bytes.{place, item_at, EachWithin};
 ghost use Rattle.shape_strides.specs.Runs.{run_along, run_offsets};
 ghost use Rattle.shape_strides.specs.RunPairs.{run_front};
-ghost use Rattle.reductions.specs.inside.Numbers.{number_at, numbers_at, IsReduced};
+ghost use Rattle.reductions.specs.inside.Numbers.{number_at, numbers_at, IsReduced, line_numbers};
 
 use crate::folds::Fold;
 use machine_numbers::{LowFirst, Number, Ordered, place};
@@ -171,9 +171,7 @@ pub(crate) fn fill_by_lines<S: Number, O: Ordered, F: Fold<S>>(
     requires few { (axis.len < 2 ^ 63) × (starts.count < 2 ^ 63) }
     requires starts { EachWithin (length bytes.now) starts.offset starts.step S.WIDTH starts.count }
     requires lines { (j : ℕ) → j < starts.count → EachWithin (length bytes.now) (place starts.offset starts.step j) axis.stride S.WIDTH axis.len }
-    ensures items { (j : ℕ) → j < starts.count → IsReduced F.reduction (S.scalar O.order)
-        (numbers_at (S.scalar O.order) bytes.now (run_offsets (run_along axis (place starts.offset starts.step j))))
-        (item_at (j * F.Total.WIDTH) F.Total.WIDTH row.new) }
+    ensures items { (j : ℕ) → j < starts.count → IsReduced F.reduction (S.scalar O.order) (line_numbers (S.scalar O.order) bytes.now starts axis j) (item_at (j * F.Total.WIDTH) F.Total.WIDTH row.new) }
     ensures len { length row.new ≡ length row.old }
 {
     for j in 0..starts.count {

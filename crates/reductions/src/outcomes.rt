@@ -1,16 +1,17 @@
-//! The type of a result, its shape, and what is refused.
+//! The shape of a result, and what is refused.
 ghost use Rattle.std.specs.Prelude.{◌≡◌, ◌&&◌, ◌==◌, not, length, IfOk, IfErr, Ok, Err};
 ghost use Rattle.elem_descr.specs.declared.descr.Descr.TheVariants.{Scalar as ScalarDescr};
 ghost use Rattle.elem_descr.specs.Encoding.{IsNumber};
 ghost use Rattle.elem_descr.specs.Refusals.{Gives};
 ghost use Rattle.shape_strides.specs.Indexes.{count};
-ghost use Rattle.reductions.specs.Reductions.{wide, result_scalar};
-ghost use Rattle.reductions.specs.Outcomes.{number_scalar, needs_items, has_empty_list};
+ghost use Rattle.reductions.specs.Reductions.{needs_items};
+ghost use Rattle.reductions.specs.Outcomes.{number_scalar, has_empty_list};
 ghost use Rattle.reductions.specs.inside.Axes.{IsAxisOf, shape_after};
 
 use crate::axes::{list_length, reduced_lengths};
-use elem_descr::{Descr, Order, Refusal, Scalar, Width};
-use machine_numbers::{Red, little};
+use crate::kinds::needs_items;
+use elem_descr::{Descr, Refusal, Scalar};
+use machine_numbers::Red;
 use shape_strides::Shape;
 use std::alloc::Global;
 
@@ -23,48 +24,6 @@ pub(crate) fn number_scalar(descr: &Descr) -> Result<Scalar, Refusal>
         Descr::Scalar(Scalar::Bytes(_)) => Err(Refusal::NotForThisKind),
         Descr::Scalar(scalar) => Ok(*scalar),
         Descr::Record(_) => Err(Refusal::NotForThisKind),
-    }
-}
-
-/// An integer of 64 bits, with a sign unless the items are integers without one.
-fn wide(scalar: &Scalar) -> Scalar
-    ensures { result ≡ wide scalar.now }
-{
-    let signed = match scalar {
-        Scalar::Byte { signed } => *signed,
-        Scalar::Int { signed, .. } => *signed,
-        _ => true,
-    };
-    Scalar::Int {
-        signed,
-        width: Width::Eight,
-        order: Order::Little,
-    }
-}
-
-/// The type of a result.
-pub(crate) fn result_scalar(reduction: Red, scalar: &Scalar) -> Scalar
-    ensures { result ≡ result_scalar reduction scalar.now }
-{
-    match reduction {
-        Red::Sum | Red::Product => wide(scalar),
-        Red::Minimum | Red::Maximum => little(scalar),
-        Red::Any | Red::All => Scalar::Bool,
-        Red::ArgMin | Red::ArgMax => Scalar::Int {
-            signed: true,
-            width: Width::Eight,
-            order: Order::Little,
-        },
-    }
-}
-
-/// Whether a reduction is one of some items at least.
-fn needs_items(reduction: Red) -> bool
-    ensures { result ≡ needs_items reduction }
-{
-    match reduction {
-        Red::Minimum | Red::Maximum | Red::ArgMin | Red::ArgMax => true,
-        _ => false,
     }
 }
 

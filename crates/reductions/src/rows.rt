@@ -3,7 +3,7 @@ ghost use Rattle.std.specs.Prelude.{◌≡◌, ◌+◌, ◌*◌, ◌^◌, ◌<�
 ghost use Rattle.elem_descr.specs.declared.scalar.Order.TheVariants.{Little};
 ghost use Rattle.raw_block.specs.Bytes.{place, item_at, EachWithin};
 ghost use Rattle.shape_strides.specs.Runs.{run_along, run_offsets};
-ghost use Rattle.reductions.specs.inside.Numbers.{number_at, numbers_at, IsStored, IsReduced};
+ghost use Rattle.reductions.specs.inside.Numbers.{number_at, IsStored, IsReduced, line_numbers};
 
 use crate::folds::Fold;
 use crate::lines::{fill_by_lines, line_along, number_at, store_at};
@@ -125,9 +125,7 @@ pub(crate) fn fill_by_rows<S: Number, O: Ordered, F: Fold<S>>(
     requires few { (axis.len < 2 ^ 63) × (starts.count < 2 ^ 63) }
     requires starts { EachWithin (length bytes.now) starts.offset starts.step S.WIDTH starts.count }
     requires lines { (j : ℕ) → j < starts.count → EachWithin (length bytes.now) (place starts.offset starts.step j) axis.stride S.WIDTH axis.len }
-    ensures items { (j : ℕ) → j < starts.count → IsReduced F.reduction (S.scalar O.order)
-        (numbers_at (S.scalar O.order) bytes.now (run_offsets (run_along axis (place starts.offset starts.step j))))
-        (item_at (j * F.Total.WIDTH) F.Total.WIDTH row.new) }
+    ensures items { (j : ℕ) → j < starts.count → IsReduced F.reduction (S.scalar O.order) (line_numbers (S.scalar O.order) bytes.now starts axis j) (item_at (j * F.Total.WIDTH) F.Total.WIDTH row.new) }
     ensures len { length row.new ≡ length row.old }
 {
     start_row::<S, O, F>(row, starts, bytes);
@@ -156,9 +154,7 @@ pub(crate) fn fill_row<S: Number, O: Ordered, F: Fold<S>>(
     requires few { (axis.len < 2 ^ 63) × (starts.count < 2 ^ 63) }
     requires starts { EachWithin (length bytes.now) starts.offset starts.step S.WIDTH starts.count }
     requires lines { (j : ℕ) → j < starts.count → EachWithin (length bytes.now) (place starts.offset starts.step j) axis.stride S.WIDTH axis.len }
-    ensures items { (j : ℕ) → j < starts.count → IsReduced F.reduction (S.scalar O.order)
-        (numbers_at (S.scalar O.order) bytes.now (run_offsets (run_along axis (place starts.offset starts.step j))))
-        (item_at (j * F.Total.WIDTH) F.Total.WIDTH row.new) }
+    ensures items { (j : ℕ) → j < starts.count → IsReduced F.reduction (S.scalar O.order) (line_numbers (S.scalar O.order) bytes.now starts axis j) (item_at (j * F.Total.WIDTH) F.Total.WIDTH row.new) }
     ensures len { length row.new ≡ length row.old }
 {
     if goes_by_rows(F::RESUMES, starts, axis) {

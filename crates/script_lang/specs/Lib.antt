@@ -8,7 +8,6 @@ pub mod Literals
 pub mod Reading
 pub mod RecordLaws
 pub mod RecordValues
-pub mod Refusals
 pub mod Tokens
 pub mod Verbs
 pub mod inside

@@ -1,24 +1,23 @@
--- Blocks that can be exchanged.
-use Rattle.std.specs.Prelude.{◌≡◌, ℕ, List, length, Option, IsTrue}
-use Rattle.elem_descr.specs.Items.{item_size}
+-- Blocks that take the place of others.
+use Rattle.std.specs.Prelude.{◌≡◌, ◌*◌, ℕ, List, length, Bool, false, IsTrue}
 use Rattle.shape_strides.specs.Contiguity.{is_c_contiguous}
-use Rattle.shape_strides.specs.Layouts.{offsets}
-use Rattle.overlap_copy.specs.declared.owned.Owned.{Owned}
-use Rattle.name_store.specs.declared.home.Home.{Home}
-use Rattle.name_store.specs.declared.items.Items.TheVariants.{Block}
-use Rattle.name_store.specs.declared.slot.Slot.{Slot}
-use Rattle.name_store.specs.declared.target.Target.{Target}
-use Rattle.name_store.specs.inside.OldItems.{AreOldAt}
-use Rattle.name_store.specs.inside.Puts.{Puts}
+use Rattle.shape_strides.specs.Layouts.{offsets, multiples}
+use Rattle.overlap_copy.specs.Assignments.{items_at}
+use Rattle.name_store.specs.declared.items.Items.{Items}
+use Rattle.name_store.specs.declared.items.Items.TheVariants.{One, Block, Buffer}
 
--- the blocks are of the same length, and the items lie one after another in both: at the offsets in the one, and those
--- of an array in the other, which is its own
-pub record AreExchangeable (block os : List ℕ) (o : Owned) : Type 0 where
-  pub long : length o.block ≡ length block
-  pub target : IsTrue (is_c_contiguous (item_size o.descr) os)
-  pub source : IsTrue (is_c_contiguous (item_size o.descr) (offsets o.layout))
+-- the items of so many bytes at these offsets are all that the block has, one after another
+pub record AreAll (width : ℕ) (block os : List ℕ) : Type 0 where
+  pub order : IsTrue (is_c_contiguous width os)
+  pub whole : length block ≡ length os * width
 
--- the items of an array are put at a target, and it has the old ones
-pub record Exchanges (slots : List (Option Slot)) (home : Home) (target : Target) (o : Owned) (slots' : List (Option Slot)) (o' : Owned) : Type 0 where
-  pub puts : Puts slots home target (Block o) slots'
-  pub old : AreOldAt slots home target (record { block = o'.block; width = item_size o'.descr })
+-- the block has n items of so many bytes, one after another
+pub record IsPacked (n width : ℕ) (parts : List (List ℕ)) (block : List ℕ) : Type 0 where
+  pub long : length block ≡ n * width
+  pub items : items_at (multiples width n) width block ≡ parts
+
+-- whether items of so many bytes lie one after another in a block of their own
+abbrev pub are_packed : ℕ → Items → Bool
+are_packed width (One item) = false
+are_packed width (Block owned) = is_c_contiguous width (offsets owned.layout)
+are_packed width (Buffer number layout) = false

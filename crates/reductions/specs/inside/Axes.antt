@@ -7,7 +7,8 @@ use Rattle.elem_descr.specs.Refusals.{◌>>=◌, check}
 use Rattle.shape_strides.specs.Shapes.{shape_of}
 use Rattle.machine_numbers.specs.declared.operators.Red.{Red}
 use Rattle.reductions.specs.Lists.{reduced_shape}
-use Rattle.reductions.specs.Outcomes.{needs_items, has_empty_list}
+use Rattle.reductions.specs.Outcomes.{has_empty_list}
+use Rattle.reductions.specs.Reductions.{needs_items}
 use Rattle.shape_strides.specs.declared.layout.Layout.{Layout}
 
 -- one of so many, or none

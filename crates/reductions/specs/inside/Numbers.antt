@@ -3,11 +3,12 @@ use Rattle.std.specs.Prelude.{◌≡◌, ◌*◌, ◌^◌, ◌<◌, ◌≤◌, �
 use Rattle.elem_descr.specs.declared.scalar.Scalar.{Scalar}
 use Rattle.elem_descr.specs.Values.{number}
 use Rattle.elem_descr.specs.Encoding.{size, decode, encode, number_of}
-use Rattle.raw_block.specs.Bytes.{item_at, EachWithin}
+use Rattle.raw_block.specs.Bytes.{place, item_at, EachWithin}
 use Rattle.shape_strides.specs.declared.layout.Layout.{Layout}
 use Rattle.shape_strides.specs.Indexes.{count}
 use Rattle.shape_strides.specs.Layouts.{offsets}
 use Rattle.shape_strides.specs.declared.joined.StridedAxis.{StridedAxis}
+use Rattle.shape_strides.specs.declared.runs.Run.{Run}
 use Rattle.shape_strides.specs.Runs.{run_along, run_offsets}
 use Rattle.machine_numbers.specs.declared.operators.Red.{Red}
 use Rattle.reductions.specs.Reductions.{result_scalar, reduced}
@@ -27,6 +28,10 @@ pub record IsStored (scalar : Scalar) (z : ℤ) (bytes : List ℕ) : Type 0 wher
 -- bytes are what a reduction makes of numbers of a scalar
 abbrev pub IsReduced : Red → Scalar → List ℤ → List ℕ → Type 0
 IsReduced reduction scalar numbers bytes = IsStored (result_scalar reduction scalar) (reduced reduction (result_scalar reduction scalar) numbers) bytes
+
+-- those of the line along an axis from the k-th item of a run on
+abbrev pub line_numbers : Scalar → List ℕ → Run → StridedAxis → ℕ → List ℤ
+line_numbers scalar bytes starts axis k = numbers_at scalar bytes (run_offsets (run_along axis (place starts.offset starts.step k)))
 
 -- the lines that an axis leads along from each of some offsets on
 abbrev pub lines : StridedAxis → List ℕ → List (List ℕ)

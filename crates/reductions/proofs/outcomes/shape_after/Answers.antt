@@ -3,7 +3,8 @@ use Rattle.std.specs.Prelude.{◌&&◌}
 use Rattle.elem_descr.specs.Refusals.{Gives}
 use Rattle.shape_strides.specs.Shapes.{shape_of}
 use Rattle.reductions.specs.Lists.{reduced_shape}
-use Rattle.reductions.specs.Outcomes.{needs_items, has_empty_list}
+use Rattle.reductions.specs.Outcomes.{has_empty_list}
+use Rattle.reductions.specs.Reductions.{needs_items}
 use Rattle.reductions.proofs.OutcomeLaws.{after_empty, after_some}
 use Rattle.reductions.proofs.outcomes.shape_after.Goals as goal
 

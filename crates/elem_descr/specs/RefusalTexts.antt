@@ -1,0 +1,43 @@
+-- What a refused line is answered: `no`, the code and the text of each refusal.
+use Rattle.std.specs.Prelude.{ℕ, List, codes}
+use Rattle.elem_descr.specs.declared.refusal.Refusal.{Refusal}
+use Rattle.elem_descr.specs.declared.refusal.Refusal.TheVariants.{LineTooLong, ByteNotAllowed, Syntax, BadDescriptor, DescriptorLeftOut, UnknownName, TooManyNames, TooManyAxes, TooLarge, TooManyIndices, IndexOutOfRange, ZeroStep, MaskLengths, NotAnIndexType, IndexShapes, ShapesDoNotBroadcast, BadAxis, BadReshape, NoSuchField, ReadOnly, NeedsFloats, NotForThisKind, LiteralOutOfRange, NotSameKind, EmptyReduction, NothingToUndo, StoreFault, BadMagic, BadVersion, BadHeader, Truncated, NumberOfValues, NoSuchCast, NoSuchFile, FileTooLong, OutOfMemory}
+
+-- `no`, the code and the text
+abbrev pub refusal_text : Refusal → List ℕ
+refusal_text LineTooLong = codes "no E01 line too long"
+refusal_text ByteNotAllowed = codes "no E02 byte not allowed"
+refusal_text Syntax = codes "no E03 syntax"
+refusal_text BadDescriptor = codes "no E04 bad descriptor"
+refusal_text DescriptorLeftOut = codes "no E05 descriptor left out"
+refusal_text UnknownName = codes "no E06 unknown name"
+refusal_text TooManyNames = codes "no E07 too many names"
+refusal_text TooManyAxes = codes "no E08 too many axes"
+refusal_text TooLarge = codes "no E09 too large"
+refusal_text TooManyIndices = codes "no E10 too many indices"
+refusal_text IndexOutOfRange = codes "no E11 index out of range"
+refusal_text ZeroStep = codes "no E12 zero step"
+refusal_text MaskLengths = codes "no E13 mask lengths"
+refusal_text NotAnIndexType = codes "no E14 not an index type"
+refusal_text IndexShapes = codes "no E15 index shapes"
+refusal_text ShapesDoNotBroadcast = codes "no E16 shapes do not broadcast"
+refusal_text BadAxis = codes "no E17 bad axis"
+refusal_text BadReshape = codes "no E18 bad reshape"
+refusal_text NoSuchField = codes "no E19 no such field"
+refusal_text ReadOnly = codes "no E20 read-only"
+refusal_text NeedsFloats = codes "no E21 needs floats"
+refusal_text NotForThisKind = codes "no E22 not for this kind"
+refusal_text LiteralOutOfRange = codes "no E23 literal out of range"
+refusal_text NotSameKind = codes "no E24 not same kind"
+refusal_text EmptyReduction = codes "no E25 empty reduction"
+refusal_text NothingToUndo = codes "no E26 nothing to undo"
+refusal_text StoreFault = codes "no E27 store fault"
+refusal_text BadMagic = codes "no E28 bad magic"
+refusal_text BadVersion = codes "no E29 bad version"
+refusal_text BadHeader = codes "no E30 bad header"
+refusal_text Truncated = codes "no E31 truncated"
+refusal_text NumberOfValues = codes "no E32 number of values"
+refusal_text NoSuchCast = codes "no E33 no such cast"
+refusal_text NoSuchFile = codes "no E34 no such file"
+refusal_text FileTooLong = codes "no E35 file too long"
+refusal_text OutOfMemory = codes "no E40 out of memory"

@@ -1,0 +1,33 @@
+"""What the tests of the companion share: where it and the program are, and how much is tried."""
+import os
+import pathlib
+import sys
+import unittest
+
+TOP = pathlib.Path(__file__).resolve().parents[2]
+COMPANION = TOP / "companion"
+TOOL = COMPANION / "bench-tool"
+BUILT = TOP / "crates/bench_main/out/bench_main"
+sys.path[:0] = [str(COMPANION), str(TOP / "tools/trials")]
+
+PROGRAM = os.environ.get("BENCH") or str(BUILT)
+needs_program = unittest.skipUnless(os.access(PROGRAM, os.X_OK), "left out: the program is not built, and BENCH names none")
+
+
+def share(few, all_):
+    """How many are tried: few, and all with BENCH_TESTS=all."""
+    return all_ if os.environ.get("BENCH_TESTS") == "all" else few
+
+
+def environment(**more):
+    """The environment of a companion that is run."""
+    return {**os.environ, "BENCH": PROGRAM, **more}
+
+
+def numpy_or_none():
+    """NumPy, where it is installed."""
+    try:
+        import numpy
+        return numpy
+    except ImportError:
+        return None

@@ -1,0 +1,50 @@
+"""The program killed at random moments of a save over an old file.
+
+After each kill the file is the old one or the new one, whole. A save in peace then removes what the kill left, and of no other name."""
+import random
+import subprocess
+import time
+
+from hostile_runs import Part, Runner, contents
+
+KILLS = 200
+SIZE = 2**24 - 2**12
+SCRIPT = "x = full |u1 ({}) {}\nsave x \"a.npy\"\n"
+OLD, NEW = SCRIPT.format(SIZE, 7).encode(), SCRIPT.format(SIZE, 9).encode()
+
+
+def killed(runner, words, seconds):
+    """Kills a run after a while."""
+    process = subprocess.Popen([runner.program, *words], stdin=subprocess.PIPE, stdout=subprocess.DEVNULL)
+    process.stdin.write(NEW)
+    process.stdin.close()
+    time.sleep(seconds)
+    process.kill()
+    process.wait()
+
+
+def all_trials(given, _folder):
+    """So many kills, each over the old file."""
+    part, rng, files = Part(), random.Random(given.seed), {}
+    with Runner(given.program) as runner:
+        words = ["--dir", str(runner.dir)]
+        for name, text in (("new", NEW), ("old", OLD)):
+            began = time.monotonic()
+            runner.run(text, words)
+            whole_run = time.monotonic() - began
+            files[contents(runner.dir)["a.npy"]] = name
+        (runner.dir / ".b.npy.part").write_bytes(b"left of another name")
+        for turn in range(KILLS):
+            runner.run(OLD, words)
+            killed(runner, words, rng.uniform(0.1, 1.1) * whole_run)
+            found = contents(runner.dir)
+            left = files.get(found["a.npy"], "neither")
+            part.count("kills")
+            part.count(f"of them left the {left} file")
+            part.count("with a hidden part", ".a.npy.part" in found)
+            if left == "neither":
+                part.fault(f"kill {turn}", f"{len(found['a.npy'])} bytes that are neither file", "the old file or the new one")
+        runner.run(OLD, words)
+        left = {name: files.get(file, file) for name, file in contents(runner.dir).items()}
+        part.expect("after a save in peace", left, {"a.npy": "old", ".b.npy.part": b"left of another name"})
+    return part
