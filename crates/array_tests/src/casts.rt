@@ -302,7 +302,7 @@ fn made_of(
     let count = bytes.len() / descr.size();
     let items = array_of(rt, alloc, descr, &[count], bytes);
     let to = descr_of(rt, alloc, to);
-    cast(alloc, &items.block, &items.layout, &items.descr, &to)
+    cast(alloc, items.items(), &to)
 }
 
 /// The items of a row become these of an element type.

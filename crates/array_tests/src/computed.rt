@@ -30,11 +30,7 @@ fn given(rt: &impl Abort, alloc: Global, array: Given) -> Owned {
 fn items(owned: &Owned) -> Items<'_>
     ensures { All (λ offset. offset + item_size result.descr.now ≤ length result.block.now) (offsets result.layout.now) }
 {
-    Items {
-        block: &owned.block,
-        layout: &owned.layout,
-        descr: &owned.descr,
-    }
+    owned.items()
 }
 
 /// The array has this element type, these lengths and these bytes.

@@ -24,7 +24,7 @@ use Rattle.broadcasting.specs.BroadcastLaws.{can-itself}
 use Rattle.machine_numbers.specs.Kinds.{is_text}
 use Rattle.elementwise.specs.Promotion.{compared_type, promote}
 use Rattle.elementwise.specs.Results.{scalar_of, integer_compared_result, bytes_compared_result, compared_item, pairwise}
-use Rattle.elementwise.specs.declared.operands.Items.{Items}
+use Rattle.overlap_copy.specs.declared.items.Items.{Items}
 use Rattle.overlap_copy.specs.declared.owned.Owned.{Owned}
 use Rattle.overlap_copy.specs.Blocks.{offsets_in}
 use Rattle.literal_items.specs.LiteralItems.{is_castable, item_value, literal_number}

@@ -11,7 +11,7 @@ use Rattle.shape_strides.specs.Indexes.{count}
 use Rattle.view_ops.specs.Views.{View, view_through, IsViewOf}
 use Rattle.broadcasting.specs.Broadcasts.{can_stretch, broadcast_index}
 use Rattle.elementwise.specs.Results.{stretched_items}
-use Rattle.elementwise.specs.declared.operands.Items.{Items}
+use Rattle.overlap_copy.specs.declared.items.Items.{Items}
 use Rattle.overlap_copy.specs.declared.owned.Owned.{Owned}
 use Rattle.name_store.specs.States.{State, Array}
 use Rattle.name_store.specs.Arrays.{buffer_of, span_of, placed_item}
@@ -28,15 +28,15 @@ use Rattle.bench_engine.proofs.StretchLaws.{stretched-same, one-stretched, map-r
 
 -- ---- what is taken of an array
 
+pub view-within : (s : State) (a : Array) (r : ArrayRef) (layout : Layout) (view : View) → Shows s a r → IsViewOf r.layout.now layout view → All (λ offset. offset + item_size r.descr.now ≤ length r.block.now) (offsets layout)
+view-within s a r layout view shows is = all-viewed (λ offset. offset + item_size r.descr.now ≤ length r.block.now) r.layout.now layout view is shows.inside
+
 pub view-stands : (s : State) (a : Array) (r : ArrayRef) (layout : Layout) (view : View) (x : Items) → Shows s a r → IsViewOf r.layout.now layout view → x.block.now ≡ r.block.now → x.layout.now ≡ layout → x.descr.now ≡ r.descr.now → StandsFor s (viewed a view) x
 view-stands s a r layout view x shows is block laid typed = record {
   descr = shows.descr ∙ sym typed;
   shape = sym is.shape ∙ ap (λ (l : Layout). l.shape) (sym laid);
   items = read-part s a (viewed a view) r layout shows (lies-viewed s a a r.layout.now layout view (lies-whole s a r shows) is) ∙ λ i. map (item_from (sym typed i) (sym block i)) (offsets (sym laid i));
-  inside = subst (λ (l : Layout). All (λ offset. offset + item_size x.descr.now ≤ length x.block.now) (offsets l)) (sym laid)
-      (subst (λ (b : List ℕ). All (λ offset. offset + item_size x.descr.now ≤ length b) (offsets layout)) (sym block)
-      (subst (λ (d : Descr). All (λ offset. offset + item_size d ≤ length r.block.now) (offsets layout)) (sym typed)
-      (all-viewed (λ offset. offset + item_size r.descr.now ≤ length r.block.now) r.layout.now layout view is shows.inside)));
+  inside = x.inside;
 }
 
 pub own-inside : (o : Owned) → All (λ offset. offset + item_size o.descr ≤ length o.block) (offsets o.layout)

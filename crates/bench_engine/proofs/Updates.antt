@@ -21,7 +21,7 @@ use Rattle.broadcasting.specs.Broadcasts.{broadcast_index, can_stretch, common_s
 use Rattle.elementwise.specs.Casts.{can_cast, cast_item}
 use Rattle.elementwise.specs.Promotion.{same_kind}
 use Rattle.elementwise.specs.Results.{scalar_of, stretched_items}
-use Rattle.elementwise.specs.declared.operands.Items.{Items}
+use Rattle.overlap_copy.specs.declared.items.Items.{Items}
 use Rattle.shape_strides.specs.LayoutLaws.{length-offsets}
 use Rattle.std.proofs.lemmas.Simd.{map-map}
 use Rattle.bench_engine.proofs.GivenLaws.{cast-lacks}

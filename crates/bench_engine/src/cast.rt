@@ -8,6 +8,7 @@ ghost use Rattle.bench_engine.specs.Machine.{cast_outcome};
 use crate::create::bind_new;
 use crate::replies::Origin;
 use elem_descr::{Refusal, descr_read};
+use elementwise::Items;
 use name_store::{ArrayRef, Bench};
 use overlap_copy::Owned;
 use script_lang::{DescrText, Name};
@@ -19,7 +20,12 @@ fn converted(alloc: Global, array: &ArrayRef<'_>, descr: &DescrText) -> Result<O
     ensures { Casts descr.now array.now result }
 {
     let descr = descr_read(alloc, descr.as_slice())?;
-    elementwise::cast(alloc, array.block, array.layout, array.descr, &descr)
+    let items = Items {
+        block: array.block,
+        layout: array.layout,
+        descr: array.descr,
+    };
+    elementwise::cast(alloc, items, &descr)
 }
 
 /// Binds a name to the items of an array, cast to an element type.

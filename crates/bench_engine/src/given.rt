@@ -19,6 +19,7 @@ use crate::item::item_of;
 use crate::operand::operand_items;
 use crate::taken::Taken;
 use elem_descr::{Descr, Refusal};
+use elementwise::Items;
 use name_store::{ArrayRef, Bench};
 use overlap_copy::Owned;
 use script_lang::{Argument, Name, Operand};
@@ -56,7 +57,12 @@ fn given_view<'a>(
     if elementwise::keeps_items(array.block, array.descr, descr) {
         return Ok(Given::Named(name, wide));
     }
-    let owned = elementwise::cast(alloc, array.block, &wide, array.descr, descr)?;
+    let items = Items {
+        block: array.block,
+        layout: &wide,
+        descr: array.descr,
+    };
+    let owned = elementwise::cast(alloc, items, descr)?;
     Ok(Given::Own(owned))
 }
 
@@ -74,7 +80,12 @@ fn given_copy<'a>(
     if !elementwise::can_cast(&copy.descr, descr) {
         return Err(Refusal::NoSuchCast);
     }
-    let owned = elementwise::cast(alloc, &copy.block, &wide, &copy.descr, descr)?;
+    let items = Items {
+        block: &copy.block,
+        layout: &wide,
+        descr: &copy.descr,
+    };
+    let owned = elementwise::cast(alloc, items, descr)?;
     Ok(Given::Own(owned))
 }
 

@@ -64,6 +64,7 @@ pub fn operand_items(
 
 /// The items that are taken of an array.
 pub fn items_taken<'a>(array: &'a ArrayRef<'_>, taken: &'a Taken) -> Items<'a>
+    requires { (s : State) × (a : Array) × (plain : Bool) × (view : View) × Shows s a array.now × IsTaken s a array.now plain taken.now view }
     ensures { (s : State) (a : Array) (plain : Bool) (view : View) → Shows s a array.now → IsTaken s a array.now plain taken.now view
         → StandsFor s (viewed a view) result }
 {

@@ -34,7 +34,12 @@ fn as_old(alloc: Global, new: Owned, descr: &Descr) -> Result<Owned, Refusal>
     if keeps_items(&new.block, &new.descr, descr) {
         return Ok(new);
     }
-    elementwise::cast(alloc, &new.block, &new.layout, &new.descr, descr)
+    let items = Items {
+        block: &new.block,
+        layout: &new.layout,
+        descr: &new.descr,
+    };
+    elementwise::cast(alloc, items, descr)
 }
 
 /// Items, changed by an operation with other items, which are stretched to their shape.

@@ -40,11 +40,7 @@ pub fn items_of(owned: &Owned) -> Items<'_>
     ensures descr { result.descr.now ≡ owned.now.descr }
     ensures inside { All (λ offset. offset + item_size result.descr.now ≤ length result.block.now) (offsets result.layout.now) }
 {
-    Items {
-        block: &owned.block,
-        layout: &owned.layout,
-        descr: &owned.descr,
-    }
+    owned.items()
 }
 
 /// The type of what an operation gives on items of two types.

@@ -1,6 +1,6 @@
 -- Byte strings that are compared with one.
-use Rattle.std.proofs.Common.{◌≡◌, ◌*◌, ◌<◌, ℕ, zero, suc, Bool, true, false, cond, Result, Ok, Err, List, [], ◌∷◌, ◌++◌, map, length, get_or, take, IfOk, refl, sym, ap, ◌∙◌, arith, append_assoc}
-use Rattle.std.specs.List.{range_with_len}
+use Rattle.std.proofs.Common.{◌≡◌, ◌*◌, ◌<◌, ℕ, zero, suc, Bool, true, false, cond, Ok, Err, List, [], ◌∷◌, ◌++◌, map, length, get_or, take, refl, sym, ap, ◌∙◌, arith, append_assoc}
+use Rattle.std.specs.List.{range_with_len, flat_map}
 use Rattle.std.proofs.lemmas.List.{length-map, get_or-map}
 use Rattle.std.proofs.lemmas.List.FromFn.{fill_by_all}
 use Rattle.std.proofs.lemmas.Simd.{map-map}
@@ -12,6 +12,7 @@ use Rattle.elem_descr.specs.declared.scalar.Scalar.{Scalar}
 use Rattle.elem_descr.specs.declared.scalar.Scalar.TheVariants.{Bool as BoolScalar}
 use Rattle.elem_descr.specs.Values.{text}
 use Rattle.elem_descr.specs.Encoding.{decode}
+use Rattle.elem_descr.specs.Items.{encode_item}
 use Rattle.elem_descr.specs.Blocks.{item_from}
 use Rattle.shape_strides.specs.declared.layout.Layout.{Layout}
 use Rattle.shape_strides.specs.Indexes.{count}
@@ -23,6 +24,8 @@ use Rattle.machine_numbers.specs.Kinds.{is_text}
 use Rattle.elementwise.specs.Comparisons.{compared}
 use Rattle.elementwise.specs.Results.{scalar_of, bytes_compared_result, compared_item, truth_item, value_in}
 use Rattle.elementwise.specs.inside.ByteStrings.{says_byte}
+use Rattle.elementwise.specs.inside.Made.{IsMade}
+use Rattle.elementwise.proofs.MadeLaws.{over-made}
 
 -- one more item
 pub byte_next : (f : ℕ → ℕ) (done new left left' whole : List ℕ) (offset byte : ℕ) → left ≡ offset ∷ left' → byte ≡ f offset → new ≡ done ++ byte ∷ [] → done ++ map f left ≡ whole → new ++ map f left' ≡ whole
@@ -51,18 +54,19 @@ bools_read f os n many =
 pub said_length : (comparison : Comparison) (d : Descr) (block other : List ℕ) (l : Layout) (b : List ℕ) → b ≡ map (says_byte comparison d block other) (offsets l) → length b ≡ count l.shape
 said_length comparison d block other l b is = ap length is ∙ length-map (offsets l) (says_byte comparison d block other) ∙ length-offsets l
 
-pub said_items : (comparison : Comparison) (d : Descr) (block other os : List ℕ) (n : ℕ) (o : Owned) (b : List ℕ) → o.descr ≡ ScalarDescr BoolScalar → offsets o.layout ≡ multiples 1 n → o.block ≡ b → b ≡ map (says_byte comparison d block other) os → length os ≡ n →
-    map (item_from o.descr o.block) (offsets o.layout) ≡ map (λ offset. compared_item comparison (item_from d block offset) (text other ∷ [])) os
-said_items comparison d block other os n o b descr order held is many =
-    (λ i. map (item_from (descr i) ((held ∙ is) i)) (order i))
-    ∙ bools_read (λ offset. compared comparison (value_in (item_from d block offset)) (text other)) os n many
+bool_bytes : (holds : Bool) → (cond holds 1 0 ∷ []) ≡ encode_item (ScalarDescr BoolScalar) (truth_item holds)
+bool_bytes true = refl
+bool_bytes false = refl
 
--- the byte string, as the code passes it on
-pub moved_text : (comparison : Comparison) (d : Descr) (result : Result Owned Refusal) (block : List ℕ) (os a b : List ℕ) → a ≡ b →
-    IfOk result (λ o. map (item_from o.descr o.block) (offsets o.layout) ≡ map (λ offset. compared_item comparison (item_from d block offset) (text a ∷ [])) os) →
-    IfOk result (λ o. map (item_from o.descr o.block) (offsets o.layout) ≡ map (λ offset. compared_item comparison (item_from d block offset) (text b ∷ [])) os)
-moved_text comparison d (Ok o) block os a b same items = items ∙ λ i. map (λ offset. compared_item comparison (item_from d block offset) (text (same i) ∷ [])) os
-moved_text comparison d (Err e) block os a b same items = tt
+bools_encoded : (f : ℕ → Bool) (os : List ℕ) → map (λ o. cond (f o) 1 0) os ≡ flat_map (encode_item (ScalarDescr BoolScalar)) (map (λ o. truth_item (f o)) os)
+bools_encoded f [] = refl
+bools_encoded f (o ∷ os) = λ i. bool_bytes (f o) i ++ bools_encoded f os i
+
+pub said_made : (comparison : Comparison) (d : Descr) (block other os shape : List ℕ) (o : Owned) (b : List ℕ) → o.descr ≡ ScalarDescr BoolScalar → o.layout.shape ≡ shape → offsets o.layout ≡ multiples 1 (count shape) → o.block ≡ b → b ≡ map (says_byte comparison d block other) os → length os ≡ count shape →
+    IsMade (ScalarDescr BoolScalar) shape (map (λ offset. compared_item comparison (item_from d block offset) (text other ∷ [])) os) o
+said_made comparison d block other os shape o b descr same order held is many =
+    let said = λ (offset : ℕ). compared comparison (value_in (item_from d block offset)) (text other) in
+    over-made BoolScalar BoolScalar shape (map (λ offset. truth_item (said offset)) os) o (map (λ offset. cond (said offset) 1 0) os) refl descr same order (held ∙ is) (bools_read said os (count shape) many) (bools_encoded said os)
 
 -- byte strings alone are compared
 module _ (d : Descr) (shape : List ℕ) where

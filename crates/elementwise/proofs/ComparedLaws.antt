@@ -1,5 +1,5 @@
 -- What is compared, and what results there are.
-use Rattle.std.proofs.Common.{◌≡◌, ℕ, true, Result, Ok, Err, List, [], ◌∷◌, map, IfOk, refl, sym, ◌∙◌, arith}
+use Rattle.std.proofs.Common.{◌≡◌, ℕ, true, Ok, Err, List, [], ◌∷◌, refl, sym, arith}
 use Rattle.std.specs.declared.cmp.Ordering.{Ordering}
 use Rattle.std.specs.Ordering.{nat_cmp, is_lt, is_gt}
 use Rattle.std.specs.Cmp.Lexicographic.{slice_cmp}
@@ -12,16 +12,10 @@ use Rattle.elem_descr.specs.declared.scalar.Scalar.TheVariants.{Bool as BoolScal
 use Rattle.elem_descr.specs.declared.descr.Descr.{Descr}
 use Rattle.elem_descr.specs.declared.descr.Descr.TheVariants.{Scalar as ScalarDescr}
 use Rattle.elem_descr.specs.RefusalLaws.{same_answer, check_passed}
-use Rattle.elem_descr.specs.Blocks.{item_from}
-use Rattle.shape_strides.specs.declared.layout.Layout.{Layout}
-use Rattle.shape_strides.specs.Layouts.{offsets}
 use Rattle.broadcasting.specs.Broadcasts.{common_shape}
-use Rattle.overlap_copy.specs.declared.owned.Owned.{Owned}
-use Rattle.machine_numbers.specs.declared.operators.Comparison.{Comparison}
 use Rattle.elementwise.specs.Comparisons.{text_below}
 use Rattle.elementwise.specs.Promotion.{are_comparable, compared_type}
-use Rattle.elementwise.specs.Results.{scalar_of, compared_result, compared_item, stretched_items, pairwise, value_in}
-use Rattle.elementwise.specs.inside.PairPasses.{truth_value}
+use Rattle.elementwise.specs.Results.{scalar_of, compared_result}
 use Rattle.elementwise.proofs.PromotedLaws.{check_test}
 
 -- ---- byte strings
@@ -31,16 +25,6 @@ below-cmp = same_from_slice_cmp nat_cmp is_lt text_below refl (λ _ _. refl) (λ
 
 pub above-cmp : (xs ys : List ℕ) (o : Ordering) → o ≡ slice_cmp nat_cmp xs ys → is_gt o ≡ text_below ys xs
 above-cmp = same_from_slice_cmp nat_cmp is_gt (λ xs ys. text_below ys xs) refl (λ _ _. refl) (λ _ _. refl) (λ x y xs ys o h. grind (arith, nat_tests))
-
--- all items of two arrays
-pub texts_compared : (comparison : Comparison) (d d' : Descr) (result : Result Owned Refusal) (block block' : List ℕ) (l l' : Layout) (shape : List ℕ) → IfOk result (λ o. o.descr ≡ ScalarDescr BoolScalar) → IfOk result (λ o. o.layout.shape ≡ shape) →
-    IfOk result (λ o. map (item_from (ScalarDescr BoolScalar) o.block) (offsets o.layout) ≡ pairwise (λ x y. truth_value comparison (value_in x) (value_in y) ∷ []) (stretched_items d block l shape) (stretched_items d' block' l' shape)) →
-    IfOk result (λ o. map (item_from o.descr o.block) (offsets o.layout) ≡ pairwise (compared_item comparison) (stretched_items d block l o.layout.shape) (stretched_items d' block' l' o.layout.shape))
-texts_compared comparison d d' (Ok o) block block' l l' shape descr same items =
-    (λ i. map (item_from (descr i) o.block) (offsets o.layout))
-    ∙ items
-    ∙ (λ i. pairwise (compared_item comparison) (stretched_items d block l (sym same i)) (stretched_items d' block' l' (sym same i)))
-texts_compared comparison d d' (Err e) block block' l l' shape descr same items = tt
 
 -- ---- types
 

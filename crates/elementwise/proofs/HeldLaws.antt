@@ -1,8 +1,7 @@
 -- Numbers that are compared as those of a larger scalar, which holds them.
-use Rattle.std.proofs.Common.{◌≡◌, ◌≤◌, inl, inr, ℕ, zero, suc, true, false, Bool, cond, Result, Ok, Err, List, [], ◌∷◌, map, take, drop, IfOk, refl, sym, ap, subst, ◌∙◌, arith}
+use Rattle.std.proofs.Common.{◌≡◌, ◌≤◌, inl, inr, ℕ, zero, suc, true, false, Bool, cond, List, [], ◌∷◌, map, take, drop, refl, sym, ap, subst, ◌∙◌, arith}
 use Rattle.std.specs.Prelude.{ℤ, pos}
 use Rattle.std.proofs.lemmas.Int.{ints}
-use Rattle.elem_descr.specs.declared.refusal.Refusal.{Refusal}
 use Rattle.elem_descr.specs.declared.scalar.Order.TheVariants.{Little}
 use Rattle.elem_descr.specs.declared.scalar.Width.{Width}
 use Rattle.elem_descr.specs.declared.scalar.Width.TheVariants.{Two, Four, Eight}
@@ -20,13 +19,12 @@ use Rattle.shape_strides.specs.declared.layout.Layout.{Layout}
 use Rattle.shape_strides.specs.Layouts.{offsets}
 use Rattle.view_ops.specs.Views.{view_through}
 use Rattle.broadcasting.specs.Broadcasts.{broadcast_index}
-use Rattle.overlap_copy.specs.declared.owned.Owned.{Owned}
 use Rattle.machine_numbers.specs.declared.operators.Comparison.{Comparison}
 use Rattle.elementwise.specs.Casts.{cast_item}
 use Rattle.machine_numbers.specs.Kinds.{is_signed, is_text, little}
 use Rattle.elementwise.specs.Comparisons.{compared}
 use Rattle.elementwise.specs.Results.{value_in, compared_item, stretched_items, pairwise}
-use Rattle.elementwise.specs.inside.PairPasses.{compared_value, Holds}
+use Rattle.elementwise.specs.inside.PairPasses.{compared_value, Holds, AreHeld}
 use Rattle.elementwise.specs.inside.PairLaws.{number-little}
 use Rattle.elementwise.proofs.AlikeLaws.{AreBytes, bytes-take, bytes-drop, number-lt}
 use Rattle.elementwise.proofs.LeafLaws.{cast_number}
@@ -137,21 +135,21 @@ one_pair comparison s s' t t' block block' o o' is is' isn isn' holds holds' are
     ∙ ap (λ value. value ∷ []) (compared-numbers comparison s s' _ _ is is')
 
 -- the items of two arrays, as they were before they were cast
-pub compared_all : (comparison : Comparison) (s s' t t' : Scalar) (d d' : Descr) (result : Result Owned Refusal) (block block' : List ℕ) (l l' : Layout) (shape : List ℕ) → d ≡ ScalarDescr s → d' ≡ ScalarDescr s' →
-    IsNumber s → IsNumber s' → IsNumber t → IsNumber t' → Holds s t → Holds s' t' → AreBytes block → AreBytes block' → IfOk result (λ o. o.descr ≡ ScalarDescr BoolScalar) → IfOk result (λ o. o.layout.shape ≡ shape) →
-    IfOk result (λ o. map (item_from (ScalarDescr BoolScalar) o.block) (offsets o.layout) ≡ pairwise (λ x y. compared_value comparison (value_in (cast_item d (ScalarDescr t) x)) (value_in (cast_item d' (ScalarDescr t') y)) ∷ []) (stretched_items d block l shape) (stretched_items d' block' l' shape)) →
-    IfOk result (λ o. map (item_from o.descr o.block) (offsets o.layout) ≡ pairwise (compared_item comparison) (stretched_items d block l o.layout.shape) (stretched_items d' block' l' o.layout.shape))
-compared_all comparison s s' t t' d d' (Ok o) block block' l l' shape one two is is' isn isn' holds holds' are are' descr same items =
+pub compared_all : (comparison : Comparison) (t t' : Scalar) (d d' : Descr) (block block' : List ℕ) (l l' : Layout) (shape : List ℕ) → AreHeld d t → AreHeld d' t' → IsNumber t → IsNumber t' → AreBytes block → AreBytes block' →
+    pairwise (λ x y. compared_value comparison (value_in (cast_item d (ScalarDescr t) x)) (value_in (cast_item d' (ScalarDescr t') y)) ∷ []) (stretched_items d block l shape) (stretched_items d' block' l' shape)
+    ≡ pairwise (compared_item comparison) (stretched_items d block l shape) (stretched_items d' block' l' shape)
+compared_all comparison t t' d d' block block' l l' shape held held' isn isn' are are' =
+    let s = held.0 in
+    let s' = held'.0 in
+    let one = held.1 in
+    let two = held'.1 in
     let xs = view_through (offsets l) l.shape shape (broadcast_index l.shape) in
     let ys = view_through (offsets l') l'.shape shape (broadcast_index l'.shape) in
     let read = item_from (ScalarDescr s) block in
     let read' = item_from (ScalarDescr s') block' in
     let cast = λ (x y : List LeafValue). compared_value comparison (value_in (cast_item (ScalarDescr s) (ScalarDescr t) x)) (value_in (cast_item (ScalarDescr s') (ScalarDescr t') y)) ∷ [] in
-    (λ i. map (item_from (descr i) o.block) (offsets o.layout))
-    ∙ items
-    ∙ (λ i. pairwise (λ x y. compared_value comparison (value_in (cast_item (one i) (ScalarDescr t) x)) (value_in (cast_item (two i) (ScalarDescr t') y)) ∷ []) (map (item_from (one i) block) xs) (map (item_from (two i) block') ys))
+    (λ i. pairwise (λ x y. compared_value comparison (value_in (cast_item (one i) (ScalarDescr t) x)) (value_in (cast_item (two i) (ScalarDescr t') y)) ∷ []) (map (item_from (one i) block) xs) (map (item_from (two i) block') ys))
     ∙ pairwise-map cast read read' xs ys
-    ∙ (λ i. pairwise (λ a b. one_pair comparison s s' t t' block block' a b is is' isn isn' holds holds' are are' i) xs ys)
+    ∙ (λ i. pairwise (λ a b. one_pair comparison s s' t t' block block' a b held.2 held'.2 isn isn' held.3 held'.3 are are' i) xs ys)
     ∙ sym (pairwise-map (compared_item comparison) read read' xs ys)
-    ∙ (λ i. pairwise (compared_item comparison) (stretched_items (sym one i) block l (sym same i)) (stretched_items (sym two i) block' l' (sym same i)))
-compared_all comparison s s' t t' d d' (Err e) block block' l l' shape one two is is' isn isn' holds holds' are are' descr same items = tt
+    ∙ (λ i. pairwise (compared_item comparison) (stretched_items (sym one i) block l shape) (stretched_items (sym two i) block' l' shape))

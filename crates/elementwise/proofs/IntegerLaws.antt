@@ -1,12 +1,12 @@
 -- Numbers that are compared with one integer.
-use Rattle.std.proofs.Common.{◌≡◌, ◌*◌, ◌-◌, ◌^◌, ◌≤◌, ◌<◌, ◌⊎◌, inl, inr, ℕ, zero, suc, Bool, true, false, cond, Result, Ok, Err, List, [], ◌∷◌, ◌++◌, map, length, get_or, take, drop, replicate, IfOk, refl, sym, ap, ◌∙◌, arith}
+use Rattle.std.proofs.Common.{◌≡◌, ◌*◌, ◌-◌, ◌^◌, ◌≤◌, ◌<◌, ◌⊎◌, inl, inr, ℕ, zero, suc, Bool, true, false, cond, Ok, Err, List, [], ◌∷◌, ◌++◌, map, length, get_or, take, drop, replicate, refl, sym, ap, ◌∙◌, arith}
 use Rattle.std.specs.Prelude.{ℤ, pos, negsuc, neg_ℤ, ◌≤ℤ◌, ◌<ℤ◌, int_lt, not, ◌==◌, ◌&&◌, ◌||◌}
 use Rattle.std.proofs.lemmas.Int.{ints}
 use Rattle.std.proofs.lemmas.Nat.{pow_pos}
 use Rattle.std.proofs.lemmas.Bool.{false≢true}
 use Rattle.std.proofs.lemmas.List.{take_all, length-replicate, get_or-replicate, take-replicate, drop-replicate}
 use Rattle.std.proofs.lemmas.List.FromFn.{fill_by_all}
-use Rattle.std.specs.List.{range_with_len}
+use Rattle.std.specs.List.{range_with_len, flat_map}
 use Rattle.std.proofs.lemmas.Simd.{map-map, splat_is_map}
 use Rattle.elem_descr.specs.declared.refusal.Refusal.{Refusal}
 use Rattle.elem_descr.specs.declared.refusal.Refusal.TheVariants.{NotForThisKind}
@@ -14,6 +14,7 @@ use Rattle.elem_descr.specs.declared.scalar.Order.TheVariants.{Little}
 use Rattle.elem_descr.specs.declared.descr.Descr.{Descr}
 use Rattle.elem_descr.specs.declared.descr.Descr.TheVariants.{Scalar as ScalarDescr}
 use Rattle.elem_descr.specs.Values.{LeafValue, number}
+use Rattle.elem_descr.specs.Items.{encode_item}
 use Rattle.elem_descr.specs.Blocks.{item_from}
 use Rattle.shape_strides.specs.declared.layout.Layout.{Layout}
 use Rattle.shape_strides.specs.Indexes.{count, indexes, rank}
@@ -31,6 +32,8 @@ use Rattle.elem_descr.specs.NumberLaws.{wrap_stays}
 use Rattle.machine_numbers.specs.Kinds.{is_text, little}
 use Rattle.elementwise.specs.Comparisons.{says, compared}
 use Rattle.elementwise.specs.Results.{scalar_of, integer_compared_result, compared_item, truth_item, stretched_items, pairwise}
+use Rattle.elementwise.specs.inside.Made.{IsMade}
+use Rattle.elementwise.proofs.MadeLaws.{over-made}
 use Rattle.elementwise.proofs.AlikeLaws.{AreBytes, bytes-take, bytes-drop}
 use Rattle.elementwise.proofs.PairLaws.{pairwise-map}
 use Rattle.elementwise.proofs.AppliedLaws.{pairwise-same}
@@ -128,16 +131,13 @@ one_beyond comparison s block o z are is none =
     (λ i. truth_item (says comparison (sym lies.0 i) (sym lies.1 i)))
     ∙ (λ i. truth_item (compared comparison (is-number s bytes is i) (number z)))
 
-pub all_beyond : (comparison : Comparison) (s : Scalar) (d : Descr) (result : Result Owned Refusal) (block : List ℕ) (l : Layout) (z : ℤ) (holds : Bool) → d ≡ ScalarDescr s → AreBytes block → IsNumber s → (wrap (little s) z ≡ z → ⊥) →
-    holds ≡ says comparison (int_lt (pos 0) z) (not (int_lt (pos 0) z)) → IfOk result (λ o. map (item_from o.descr o.block) (offsets o.layout) ≡ replicate (count l.shape) (truth_item holds)) →
-    IfOk result (λ o. map (item_from o.descr o.block) (offsets o.layout) ≡ map (λ offset. compared_item comparison (item_from d block offset) (number z ∷ [])) (offsets l))
-all_beyond comparison s d (Ok o) block l z holds one are is none said items =
-    items
-    ∙ splat_is_map (offsets l) (count l.shape) (truth_item holds) (length-offsets l)
+pub all_beyond : (comparison : Comparison) (s : Scalar) (d : Descr) (block : List ℕ) (l : Layout) (z : ℤ) (holds : Bool) → d ≡ ScalarDescr s → AreBytes block → IsNumber s → (wrap (little s) z ≡ z → ⊥) →
+    holds ≡ says comparison (int_lt (pos 0) z) (not (int_lt (pos 0) z)) → replicate (count l.shape) (truth_item holds) ≡ map (λ offset. compared_item comparison (item_from d block offset) (number z ∷ [])) (offsets l)
+all_beyond comparison s d block l z holds one are is none said =
+    splat_is_map (offsets l) (count l.shape) (truth_item holds) (length-offsets l)
     ∙ (λ i. map (λ _. truth_item (said i)) (offsets l))
     ∙ (λ i. map (λ offset. one_beyond comparison s block offset z are is none i) (offsets l))
     ∙ (λ i. map (λ offset. compared_item comparison (item_from (sym one i) block offset) (number z ∷ [])) (offsets l))
-all_beyond comparison s d (Err e) block l z holds one are is none said items = tt
 
 -- one bool many times
 bool_read : (holds : Bool) (n k : ℕ) → k < n → item_from (ScalarDescr BoolScalar) (replicate n (cond holds 1 0)) (1 * k) ≡ truth_item holds
@@ -150,14 +150,25 @@ bool_read holds n k low =
     ∙ (λ i. decode BoolScalar (take 1 (take-replicate 1 (n - k) byte few i)) ∷ [])
     ∙ elim holds as (λ t. (decode BoolScalar (take 1 (replicate 1 (cond t 1 0))) ∷ []) ≡ truth_item t) [ true ↦ refl | false ↦ refl ]
 
-pub alike_items : (holds : Bool) (shape : List ℕ) (o : Owned) (b : List ℕ) (n : ℕ) → o.descr ≡ ScalarDescr BoolScalar → offsets o.layout ≡ multiples 1 (count shape) → o.block ≡ b → b ≡ replicate n (cond holds 1 0) → n ≡ count shape →
-    map (item_from o.descr o.block) (offsets o.layout) ≡ replicate (count shape) (truth_item holds)
-alike_items holds shape o b n descr order block filled many =
-    let all = replicate (count shape) (cond holds 1 0) in
+alike_read : (holds : Bool) (n : ℕ) → map (item_from (ScalarDescr BoolScalar) (replicate n (cond holds 1 0))) (multiples 1 n) ≡ replicate n (truth_item holds)
+alike_read holds n =
+    let all = replicate n (cond holds 1 0) in
     let read = λ (k : ℕ). item_from (ScalarDescr BoolScalar) all (1 * k) in
-    (λ i. map (item_from (descr i) ((block ∙ filled ∙ λ j. replicate (many j) (cond holds 1 0)) i)) (order i))
-    ∙ map-map (item_from (ScalarDescr BoolScalar) all) (λ (k : ℕ). 1 * k) (range_with_len 0 (count shape))
-    ∙ sym (fill_by_all read (replicate (count shape) (truth_item holds)) (count shape) [] (length-replicate (count shape) (truth_item holds)) (λ k low. get_or-replicate (count shape) k (truth_item holds) [] low ∙ sym (bool_read holds (count shape) k low)))
+    map-map (item_from (ScalarDescr BoolScalar) all) (λ (k : ℕ). 1 * k) (range_with_len 0 n)
+    ∙ sym (fill_by_all read (replicate n (truth_item holds)) n [] (length-replicate n (truth_item holds)) (λ k low. get_or-replicate n k (truth_item holds) [] low ∙ sym (bool_read holds n k low)))
+
+bool_bytes : (holds : Bool) → (cond holds 1 0 ∷ []) ≡ encode_item (ScalarDescr BoolScalar) (truth_item holds)
+bool_bytes true = refl
+bool_bytes false = refl
+
+alike_encoded : (holds : Bool) (n : ℕ) → replicate n (cond holds 1 0) ≡ flat_map (encode_item (ScalarDescr BoolScalar)) (replicate n (truth_item holds))
+alike_encoded holds zero = refl
+alike_encoded holds (suc n) = λ i. bool_bytes holds i ++ alike_encoded holds n i
+
+pub alike_made : (holds : Bool) (shape : List ℕ) (o : Owned) (b : List ℕ) (n : ℕ) → o.descr ≡ ScalarDescr BoolScalar → o.layout.shape ≡ shape → offsets o.layout ≡ multiples 1 (count shape) → o.block ≡ b → b ≡ replicate n (cond holds 1 0) → n ≡ count shape →
+    IsMade (ScalarDescr BoolScalar) shape (replicate (count shape) (truth_item holds)) o
+alike_made holds shape o b n descr same order block filled many =
+    over-made BoolScalar BoolScalar shape (replicate (count shape) (truth_item holds)) o (replicate (count shape) (cond holds 1 0)) refl descr same order (block ∙ filled ∙ λ i. replicate (many i) (cond holds 1 0)) (alike_read holds (count shape)) (alike_encoded holds (count shape))
 
 -- ---- integers that are values
 
@@ -184,19 +195,14 @@ one-stretched d block l shape item point is =
     ∙ (λ i. map (λ (index : List ℕ). first_item (item_from d block) (offsets l) item is i) (indexes shape))
     ∙ sym (splat_is_map (indexes shape) (count shape) item (length-indexes shape))
 
-pub all_held : (comparison : Comparison) (d : Descr) (result : Result Owned Refusal) (block : List ℕ) (l : Layout) (one : Owned) (item : List LeafValue) → one.layout.shape ≡ [] → map (item_from one.descr one.block) (offsets one.layout) ≡ item ∷ [] →
-    IfOk result (λ o. o.layout.shape ≡ l.shape) →
-    IfOk result (λ o. map (item_from o.descr o.block) (offsets o.layout) ≡ pairwise (compared_item comparison) (stretched_items d block l o.layout.shape) (stretched_items one.descr one.block one.layout o.layout.shape)) →
-    IfOk result (λ o. map (item_from o.descr o.block) (offsets o.layout) ≡ map (λ offset. compared_item comparison (item_from d block offset) item) (offsets l))
-all_held comparison d (Ok o) block l one item point is same items =
+pub all_held : (comparison : Comparison) (d d' : Descr) (block block' : List ℕ) (l l' : Layout) (item : List LeafValue) → l'.shape ≡ [] → map (item_from d' block') (offsets l') ≡ item ∷ [] →
+    pairwise (compared_item comparison) (stretched_items d block l l.shape) (stretched_items d' block' l' l.shape) ≡ map (λ offset. compared_item comparison (item_from d block offset) item) (offsets l)
+all_held comparison d d' block block' l l' item point is =
     let read = item_from d block in
-    items
-    ∙ (λ i. pairwise (compared_item comparison) (stretched_items d block l (same i)) (stretched_items one.descr one.block one.layout (same i)))
-    ∙ (λ i. pairwise (compared_item comparison) (map read (stretched-self l i)) (one-stretched one.descr one.block one.layout l.shape item point is i))
+    (λ i. pairwise (compared_item comparison) (map read (stretched-self l i)) (one-stretched d' block' l' l.shape item point is i))
     ∙ ap (pairwise (compared_item comparison) (map read (offsets l))) (splat_is_map (offsets l) (count l.shape) item (length-offsets l))
     ∙ pairwise-map (compared_item comparison) read (λ _. item) (offsets l) (offsets l)
     ∙ pairwise-same (λ x y. compared_item comparison (read x) item) (offsets l)
-all_held comparison d (Err e) block l one item point is same items = tt
 
 pub one_read : (s : Scalar) (o : Owned) (shape b : List ℕ) (value : LeafValue) → [] ≡ shape → o.descr ≡ ScalarDescr s → offsets o.layout ≡ multiples (size s) (count shape) → o.block ≡ b → length b ≡ size s → decode s b ≡ value →
     map (item_from o.descr o.block) (offsets o.layout) ≡ (value ∷ []) ∷ []
@@ -210,13 +216,6 @@ one_read s o shape b value point descr order block whole is =
     ∙ (λ i. (is i ∷ []) ∷ [])
 
 -- ---- results
-
--- the integer, as the code passes it on
-pub moved_integer : (comparison : Comparison) (d : Descr) (result : Result Owned Refusal) (block : List ℕ) (l : Layout) (a z : ℤ) → a ≡ z →
-    IfOk result (λ o. map (item_from o.descr o.block) (offsets o.layout) ≡ map (λ offset. compared_item comparison (item_from d block offset) (number a ∷ [])) (offsets l)) →
-    IfOk result (λ o. map (item_from o.descr o.block) (offsets o.layout) ≡ map (λ offset. compared_item comparison (item_from d block offset) (number z ∷ [])) (offsets l))
-moved_integer comparison d (Ok o) block l a z same items = items ∙ λ i. map (λ offset. compared_item comparison (item_from d block offset) (number (same i) ∷ [])) (offsets l)
-moved_integer comparison d (Err e) block l a z same items = tt
 
 -- numbers alone are compared
 module _ (d : Descr) (shape : List ℕ) where

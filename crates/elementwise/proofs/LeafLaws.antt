@@ -35,10 +35,10 @@ converted from to item new read written is reads wraps writes =
 abbrev read_as : Scalar → List ℕ → ℤ
 read_as from item = number_of (decode from item)
 
-byte_alike : (from : Scalar) (signed : Bool) (item : List ℕ) → leaf_cast from (Byte false) item ≡ leaf_cast from (Byte signed) item
+pub byte_alike : (from : Scalar) (signed : Bool) (item : List ℕ) → leaf_cast from (Byte false) item ≡ leaf_cast from (Byte signed) item
 byte_alike from signed item = encode_wrap false Little 1 (read_as from item) ∙ sym (encode_wrap signed Little 1 (read_as from item))
 
-int_alike : (from : Scalar) (signed : Bool) (width : Width) (order : Order) (item : List ℕ) → leaf_cast from (Int false width order) item ≡ leaf_cast from (Int signed width order) item
+pub int_alike : (from : Scalar) (signed : Bool) (width : Width) (order : Order) (item : List ℕ) → leaf_cast from (Int false width order) item ≡ leaf_cast from (Int signed width order) item
 int_alike from signed width order item = encode_wrap false order (width_size width) (read_as from item) ∙ sym (encode_wrap signed order (width_size width) (read_as from item))
 
 pub to_byte : (from to : Scalar) (signed : Bool) → to ≡ Byte signed → leaf_cast from (Byte false) ≡ leaf_cast from to

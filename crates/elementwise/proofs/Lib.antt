@@ -7,6 +7,8 @@ pub mod CastLaws
 pub mod AlikeLaws
 pub mod PairLaws
 pub mod AppendedLaws
+pub mod MadeLaws
+pub mod CastingLaws
 pub mod PairedLaws
 pub mod StretchedLaws
 pub mod TypedLaws

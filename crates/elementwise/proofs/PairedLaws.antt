@@ -1,10 +1,11 @@
 -- What is made of the items of two layouts, item by item.
 use Rattle.std.proofs.Common.{◌≡◌, ◌+◌, ◌*◌, ◌≤◌, ◌<◌, ℕ, List, [], ◌∷◌, ◌++◌, map, length, drop, replicate, refl, sym, ap, ◌∙◌, arith, mul_comm}
-use Rattle.std.specs.List.{concat, AllByRecursion as Each}
+use Rattle.std.specs.List.{concat, flat_map, AllByRecursion as Each}
 use Rattle.std.proofs.lemmas.List.{length-replicate, take-take, get_or_default, same_lists}
 use Rattle.std.proofs.lemmas.Simd.{map-map}
 use Rattle.std.proofs.lemmas.List.Elements.{All-from_recursion}
 use Rattle.std.proofs.lemmas.List.FromFn.{length-map-range_with_len, get_or-map-range_with_len}
+use Rattle.elem_descr.specs.declared.descr.Descr.{Descr}
 use Rattle.elem_descr.specs.declared.descr.Descr.TheVariants.{Scalar as ScalarDescr}
 use Rattle.elem_descr.specs.declared.scalar.Scalar.{Scalar}
 use Rattle.elem_descr.specs.Values.{LeafValue}
@@ -12,20 +13,15 @@ use Rattle.elem_descr.specs.Encoding.{size, decode, encode}
 use Rattle.elem_descr.specs.Blocks.{item_from}
 use Rattle.raw_block.specs.Bytes.{item_at}
 use Rattle.shape_strides.specs.Layouts.{multiples}
-use Rattle.shape_strides.specs.Indexes.{count}
-use Rattle.shape_strides.specs.Layouts.{offsets}
-use Rattle.shape_strides.specs.LayoutLaws.{length-offsets}
-use Rattle.elem_descr.specs.Items.{item_size}
-use Rattle.overlap_copy.specs.ItemLists.{items}
+use Rattle.elem_descr.specs.Items.{item_size, encode_item}
 use Rattle.elementwise.specs.Results.{pairwise, value_in}
-use Rattle.elementwise.specs.declared.rows.Operands.{Operands}
-use Rattle.elementwise.specs.inside.Operands.{pairs_of, made_of_all}
 use Rattle.elementwise.specs.inside.Passes.{put_all, row_offsets}
 use Rattle.elementwise.specs.inside.PairPasses.{value_pair, pair_from}
 use Rattle.elementwise.proofs.PassLaws.{length-row}
 use Rattle.elementwise.proofs.AppendedLaws.{put-rows}
 use Rattle.elementwise.proofs.RowLaws.{length-put_all, row-entry, landed, rows-in, rows-lie}
 use Rattle.elementwise.proofs.LeafLaws.{length-encode}
+use Rattle.elementwise.proofs.MadeLaws.{one-encoded}
 use Rattle.elementwise.proofs.PairLaws.{length-pairwise, map-pairwise, pairwise-map}
 
 -- where items lie one after another
@@ -42,12 +38,12 @@ rows-are item n =
 scalar-item : (scalar : Scalar) (bytes : List ℕ) (o : ℕ) → item_from (ScalarDescr scalar) bytes o ≡ decode scalar (item_at o (size scalar) bytes) ∷ []
 scalar-item scalar bytes o = ap (λ b. decode scalar b ∷ []) (take-take (size scalar) (size scalar) (drop o bytes) (omega arith))
 
-pub each-wide : (left right to : Scalar) (gives : LeafValue → LeafValue → LeafValue) (a b xs ys : List ℕ) → Each (λ item. length item ≡ size to) (pairwise (pair_from (value_pair left right to gives) (size left) (size right) a b) xs ys)
+each-wide : (left right to : Scalar) (gives : LeafValue → LeafValue → LeafValue) (a b xs ys : List ℕ) → Each (λ item. length item ≡ size to) (pairwise (pair_from (value_pair left right to gives) (size left) (size right) a b) xs ys)
 each-wide left right to gives a b [] ys = tt
 each-wide left right to gives a b (x ∷ xs) [] = tt
 each-wide left right to gives a b (x ∷ xs) (y ∷ ys) = (length-encode to (gives (decode left (item_at x (size left) a)) (decode right (item_at y (size right) b))), each-wide left right to gives a b xs ys)
 
-pub all_made : (left right to : Scalar) (gives : LeafValue → LeafValue → LeafValue) (a b xs ys bytes bytes' : List ℕ) (n m : ℕ) → length xs ≡ n → length ys ≡ n → m ≡ n → n * size to ≤ length bytes →
+all_made : (left right to : Scalar) (gives : LeafValue → LeafValue → LeafValue) (a b xs ys bytes bytes' : List ℕ) (n m : ℕ) → length xs ≡ n → length ys ≡ n → m ≡ n → n * size to ≤ length bytes →
     ((x y : LeafValue) → decode to (encode to (gives x y)) ≡ gives x y) →
     bytes' ≡ put_all (row_offsets 0 (size to) m) (pairwise (pair_from (value_pair left right to gives) (size left) (size right) a b) xs ys) bytes →
     map (item_from (ScalarDescr to) bytes') (multiples (size to) n) ≡ pairwise (λ x y. gives (value_in x) (value_in y) ∷ []) (map (item_from (ScalarDescr left) a) xs) (map (item_from (ScalarDescr right) b) ys)
@@ -71,12 +67,24 @@ all_made left right to gives a b xs ys bytes bytes' n m many many' counted room 
     ∙ sym (pairwise-map (λ x y. gives (value_in x) (value_in y) ∷ []) (item_from (ScalarDescr left) a) (item_from (ScalarDescr right) b) xs ys
     ∙ λ i. pairwise (λ o o'. gives (value_in (scalar-item left a o i)) (value_in (scalar-item right b o' i)) ∷ []) xs ys)
 
+-- their bytes are the items as they are encoded
+pairs-encoded : (left right to : Scalar) (gives : LeafValue → LeafValue → LeafValue) (a b xs ys : List ℕ) →
+    concat (pairwise (pair_from (value_pair left right to gives) (size left) (size right) a b) xs ys) ≡ flat_map (encode_item (ScalarDescr to)) (pairwise (λ x y. gives (value_in x) (value_in y) ∷ []) (map (item_from (ScalarDescr left) a) xs) (map (item_from (ScalarDescr right) b) ys))
+pairs-encoded left right to gives a b [] ys = refl
+pairs-encoded left right to gives a b (x ∷ xs) [] = refl
+pairs-encoded left right to gives a b (x ∷ xs) (y ∷ ys) =
+    let here : encode to (gives (decode left (item_at x (size left) a)) (decode right (item_at y (size right) b))) ≡ encode_item (ScalarDescr to) (gives (value_in (item_from (ScalarDescr left) a x)) (value_in (item_from (ScalarDescr right) b y)) ∷ []) =
+    sym (one-encoded to (gives (decode left (item_at x (size left) a)) (decode right (item_at y (size right) b))))
+    ∙ λ i. encode_item (ScalarDescr to) (gives (value_in (sym (scalar-item left a x) i)) (value_in (sym (scalar-item right b y) i)) ∷ []) in
+    λ i. here i ++ pairs-encoded left right to gives a b xs ys i
+
 -- the same where nothing else is there, and how long that is
-pub all_appended : (left right to : Scalar) (gives : LeafValue → LeafValue → LeafValue) (a b xs ys bytes : List ℕ) (n : ℕ) → length xs ≡ n → length ys ≡ n →
+all_appended : (left right to : Scalar) (gives : LeafValue → LeafValue → LeafValue) (a b xs ys bytes : List ℕ) (n : ℕ) → length xs ≡ n → length ys ≡ n →
     ((x y : LeafValue) → decode to (encode to (gives x y)) ≡ gives x y) →
     bytes ≡ concat (pairwise (pair_from (value_pair left right to gives) (size left) (size right) a b) xs ys) →
     (length bytes ≡ n * size to)
     × (map (item_from (ScalarDescr to) bytes) (multiples (size to) n) ≡ pairwise (λ x y. gives (value_in x) (value_in y) ∷ []) (map (item_from (ScalarDescr left) a) xs) (map (item_from (ScalarDescr right) b) ys))
+    × (bytes ≡ flat_map (encode_item (ScalarDescr to)) (pairwise (λ x y. gives (value_in x) (value_in y) ∷ []) (map (item_from (ScalarDescr left) a) xs) (map (item_from (ScalarDescr right) b) ys)))
 all_appended left right to gives a b xs ys bytes n many many' back wrote =
     let wide = size to in
     let items = pairwise (pair_from (value_pair left right to gives) (size left) (size right) a b) xs ys in
@@ -86,17 +94,19 @@ all_appended left right to gives a b xs ys bytes n many many' back wrote =
     let over : put_all (row_offsets 0 wide n) items zeros ≡ concat items = put-rows wide items n [] zeros (length-pairwise (pair_from (value_pair left right to gives) (size left) (size right) a b) xs ys (many ∙ sym many') ∙ many) each room in (
       ap length (wrote ∙ sym over) ∙ length-put_all wide (row_offsets 0 wide n) items zeros (rows-in wide n (length zeros) (omega (arith, room)) 0 wide (omega arith)) (All-from_recursion (λ item. length item ≡ wide) items each) ∙ room,
       all_made left right to gives a b xs ys zeros bytes n n many many' refl (omega (arith, room)) back (wrote ∙ sym over),
+      wrote ∙ pairs-encoded left right to gives a b xs ys,
     )
 
--- the same of two operands, as the code has them
-pub operands_made : (left right to : Scalar) (gives : LeafValue → LeafValue → LeafValue) (o : Operands) (empty filled : List ℕ × ℕ) (len : ℕ) → o.left.descr.now ≡ ScalarDescr left → o.right.descr.now ≡ ScalarDescr right →
-    ((x y : LeafValue) → decode to (encode to (gives x y)) ≡ gives x y) → empty ≡ ([], len) → filled.0 ≡ empty.0 ++ made_of_all (value_pair left right to gives) o →
-    (length filled.0 ≡ pairs_of o * size to) × (map (item_from (ScalarDescr to) filled.0) (multiples (size to) (pairs_of o)) ≡ pairwise (λ x y. gives (value_in x) (value_in y) ∷ []) (items o.left) (items o.right))
-operands_made left right to gives o empty filled len one two back none wrote =
-    let a = o.left.block.now in
-    let b = o.right.block.now in
-    let xs = offsets o.left.layout.now in
-    let ys = offsets o.right.layout.now in
-    let all = all_appended left right to gives a b xs ys filled.0 (pairs_of o) (length-offsets o.left.layout.now) (length-offsets o.right.layout.now ∙ ap count (sym o.even)) back
-    (wrote ∙ λ i. (none i).0 ++ concat (pairwise (pair_from (value_pair left right to gives) (item_size (one i)) (item_size (two i)) a b) xs ys)) in
-    (all.0, all.1 ∙ λ i. pairwise (λ x y. gives (value_in x) (value_in y) ∷ []) (map (item_from (sym one i) a) xs) (map (item_from (sym two i) b) ys))
+-- the same of two operands that are stretched, as the code has them
+module _ (left right to : Scalar) (gives : LeafValue → LeafValue → LeafValue) (d d' : Descr) (a b xs ys xs' ys' : List ℕ) where
+  abbrev all-given : List (List LeafValue)
+  all-given = pairwise (λ x y. gives (value_in x) (value_in y) ∷ []) (map (item_from d a) xs') (map (item_from d' b) ys')
+
+  pub all_stretched : (bytes : List ℕ) (n : ℕ) (empty : List ℕ × ℕ) (len : ℕ) → d ≡ ScalarDescr left → d' ≡ ScalarDescr right → length xs ≡ n → length ys ≡ n → xs ≡ xs' → ys ≡ ys' →
+      ((x y : LeafValue) → decode to (encode to (gives x y)) ≡ gives x y) → empty ≡ ([], len) → bytes ≡ empty.0 ++ concat (pairwise (pair_from (value_pair left right to gives) (item_size d) (item_size d') a b) xs ys) →
+      (length bytes ≡ n * size to) × (map (item_from (ScalarDescr to) bytes) (multiples (size to) n) ≡ all-given) × (bytes ≡ flat_map (encode_item (ScalarDescr to)) all-given)
+  all_stretched bytes n empty len one two many many' at at' back none wrote =
+      let all = all_appended left right to gives a b xs ys bytes n many many' back (wrote ∙ λ i. (none i).0 ++ concat (pairwise (pair_from (value_pair left right to gives) (item_size (one i)) (item_size (two i)) a b) xs ys)) in
+      let shown : pairwise (λ x y. gives (value_in x) (value_in y) ∷ []) (map (item_from (ScalarDescr left) a) xs) (map (item_from (ScalarDescr right) b) ys) ≡ all-given =
+      λ i. pairwise (λ x y. gives (value_in x) (value_in y) ∷ []) (map (item_from (sym one i) a) (at i)) (map (item_from (sym two i) b) (at' i)) in
+      (all.0, all.1 ∙ shown, all.2 ∙ ap (flat_map (encode_item (ScalarDescr to))) shown)

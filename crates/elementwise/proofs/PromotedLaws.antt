@@ -1,5 +1,5 @@
 -- What is promoted, and what results there are.
-use Rattle.std.proofs.Common.{◌≡◌, ◌*◌, ℕ, max, nat_le, Bool, true, false, cond, Result, Ok, Err, List, [], ◌∷◌, IfOk, refl, sym, ap, subst, ◌∙◌}
+use Rattle.std.proofs.Common.{◌≡◌, ◌*◌, ℕ, max, nat_le, Bool, true, false, cond, Result, Ok, Err, List, [], ◌∷◌, refl, sym, ap, subst, ◌∙◌}
 use Rattle.std.specs.Prelude.{not, ◌&&◌, ◌||◌, ◌==◌}
 use Rattle.std.specs.Result.{is_ok}
 use Rattle.std.proofs.lemmas.Bool.{false≢true, and_parts}
@@ -15,7 +15,6 @@ use Rattle.elem_descr.specs.Refusals.{◌>>=◌, check}
 use Rattle.elem_descr.specs.RefusalLaws.{same_answer, check_passed}
 use Rattle.elem_descr.specs.Encoding.{IsNumber, size}
 use Rattle.broadcasting.specs.Broadcasts.{common_shape}
-use Rattle.overlap_copy.specs.declared.owned.Owned.{Owned}
 use Rattle.machine_numbers.specs.declared.operators.BinOp.{BinOp}
 use Rattle.machine_numbers.specs.declared.operators.UnOp.{UnOp}
 use Rattle.machine_numbers.specs.declared.operators.UnOp.TheVariants.{Negate, Invert}
@@ -24,7 +23,6 @@ use Rattle.machine_numbers.specs.Kinds.{is_bool, is_text, is_signed, little}
 use Rattle.elementwise.specs.Promotion.{integer_type, mixed_type, common_integers, common_type, serves_bools, is_division, promote, serves_one, promote_one}
 use Rattle.elementwise.specs.Results.{scalar_of, binary_result, unary_result}
 use Rattle.elementwise.specs.inside.PairPasses.{IsNative}
-use Rattle.elementwise.specs.inside.PairLaws.{native_number}
 
 -- ---- native types
 
@@ -109,7 +107,7 @@ promoted op l r s found =
     }
 
 -- a number is cast to a scalar of numbers
-pub can_number : (from to : Scalar) → is_text from ≡ false → IsNumber to → can_cast (ScalarDescr from) (ScalarDescr to) ≡ true
+can_number : (from to : Scalar) → is_text from ≡ false → IsNumber to → can_cast (ScalarDescr from) (ScalarDescr to) ≡ true
 can_number (Bytes n) to is number = absurd (false≢true (sym is))
 can_number from (Bytes n) is never = absurd never
 can_number BoolScalar BoolScalar is number = refl
@@ -122,9 +120,6 @@ can_number (Int sign w o) BoolScalar is number = refl
 can_number (Int sign w o) (Byte signed) is number = refl
 can_number (Int sign w o) (Int signed width order) is number = refl
 
-pub can_scalar : (from to : Scalar) → is_text from ≡ false → IsNative to → can_cast (ScalarDescr from) (ScalarDescr to) ≡ true
-can_scalar from to is native = can_number from to is (native_number to native)
-
 -- a scalar that is the same but for its byte order
 pub number-read : (read s : Scalar) → little read ≡ s → IsNative s → IsNumber read
 number-read BoolScalar s same native = tt
@@ -132,19 +127,8 @@ number-read (Byte signed) s same native = tt
 number-read (Int signed width order) s same native = tt
 number-read (Bytes n) s same native = subst IsNative (sym same) native
 
-pub can-read : (d : Descr) (s read : Scalar) → IsNative s → IsNumber read → can_cast d (ScalarDescr s) ≡ true → can_cast d (ScalarDescr read) ≡ true
-can-read (RecordDescr r) s read native number can = absurd (false≢true can)
-can-read (ScalarDescr BoolScalar) s read native number can = can_number BoolScalar read refl number
-can-read (ScalarDescr (Byte signed)) s read native number can = can_number (Byte signed) read refl number
-can-read (ScalarDescr (Int signed width order)) s read native number can = can_number (Int signed width order) read refl number
-can-read (ScalarDescr (Bytes m)) BoolScalar read native number can = absurd (false≢true can)
-can-read (ScalarDescr (Bytes m)) (Byte signed) read native number can = absurd (false≢true can)
-can-read (ScalarDescr (Bytes m)) (Int signed width order) read native number can = absurd (false≢true can)
-can-read (ScalarDescr (Bytes m)) (Bytes n) read never number can = absurd never
-
-pub descr-read : (result : Result Owned Refusal) (read s : Scalar) → little read ≡ s → IfOk result (λ o. o.descr ≡ ScalarDescr (little read)) → IfOk result (λ o. o.descr ≡ ScalarDescr s)
-descr-read (Ok o) read s same is = is ∙ ap ScalarDescr same
-descr-read (Err e) read s same is = tt
+pub can-number : (d : Descr) (from to : Scalar) → d ≡ ScalarDescr from → is_text from ≡ false → IsNumber to → can_cast d (ScalarDescr to) ≡ true
+can-number d from to is kind number = (λ i. can_cast (is i) (ScalarDescr to)) ∙ can_number from to kind number
 
 -- the scalar of an operand
 pub is_scalar : (d : Descr) (s : Scalar) → scalar_of d ≡ Ok s → d ≡ ScalarDescr s

@@ -1,29 +1,29 @@
 -- What is made of arrays whose items repeat: the result of the items that differ, stretched.
-use Rattle.std.proofs.Common.{◌≡◌, ◌+◌, ◌<◌, ◌≤◌, ℕ, zero, suc, true, Result, Ok, Err, List, [], ◌∷◌, map, length, get_or, All, IfOk, refl, sym, ap, subst, ◌∙◌, arith}
+use Rattle.std.proofs.Common.{◌≡◌, ◌+◌, ◌<◌, ◌≤◌, ℕ, zero, suc, pos, true, List, [], ◌∷◌, map, take, drop, length, get_or, All, refl, sym, ap, subst, ◌∙◌, arith}
 use Rattle.std.proofs.lemmas.List.{length-map, get_or-map, same_lists}
 use Rattle.std.proofs.lemmas.List.Elements.{All-map}
 use Rattle.std.proofs.lemmas.Simd.{map-map}
-use Rattle.elem_descr.specs.declared.refusal.Refusal.{Refusal}
 use Rattle.elem_descr.specs.declared.descr.Descr.{Descr}
 use Rattle.elem_descr.specs.declared.descr.Descr.TheVariants.{Scalar as ScalarDescr}
 use Rattle.elem_descr.specs.declared.scalar.Scalar.TheVariants.{Bool as BoolScalar}
-use Rattle.elem_descr.specs.Values.{LeafValue}
-use Rattle.elem_descr.specs.Items.{item_size}
+use Rattle.elem_descr.specs.declared.scalar.Order.TheVariants.{Little}
+use Rattle.elem_descr.specs.Values.{LeafValue, number}
+use Rattle.elem_descr.specs.Encoding.{truth, wrap, number_of, number_in}
+use Rattle.elem_descr.specs.EncodingLaws.{truth_suc}
 use Rattle.elem_descr.specs.Blocks.{item_from}
 use Rattle.shape_strides.specs.declared.layout.Layout.{Layout}
 use Rattle.shape_strides.specs.Indexes.{count, indexes, rank, IsIndex}
 use Rattle.shape_strides.specs.IndexLaws.{length-indexes, rank-lt, get_or-indexes, index_at}
-use Rattle.shape_strides.specs.Layouts.{offsets, multiples}
+use Rattle.shape_strides.specs.Layouts.{offsets}
 use Rattle.shape_strides.specs.LayoutLaws.{length-offsets}
 use Rattle.view_ops.specs.Views.{view_through}
 use Rattle.broadcasting.specs.Broadcasts.{can_stretch, broadcast_index}
 use Rattle.broadcasting.specs.BroadcastLaws.{IsIndex-broadcast}
 use Rattle.broadcasting.specs.Shrinking.{IsStretchOf}
-use Rattle.shape_strides.specs.declared.memory_order.MemoryOrder.TheVariants.{C}
-use Rattle.overlap_copy.specs.Blocks.{offsets_in}
 use Rattle.overlap_copy.specs.declared.owned.Owned.{Owned}
-use Rattle.elementwise.specs.Results.{stretched_items, pairwise}
+use Rattle.elementwise.specs.Results.{stretched_items, pairwise, value_in}
 use Rattle.elementwise.specs.inside.Shrunk.{IsShrunk}
+use Rattle.elementwise.specs.inside.Made.{IsMade}
 use Rattle.elementwise.proofs.PairLaws.{pairwise-map}
 use Rattle.elementwise.proofs.StretchedLaws.{stretched-self, inside}
 
@@ -95,50 +95,44 @@ result-whole made once shape can is =
     ∙ seen once shape can (item_from made.descr made.block) (offsets made.layout) (length-offsets made.layout ∙ ap count is)
 
 -- of pairs of items
-pub pairs_spread : (f : List LeafValue → List LeafValue → List LeafValue) (d d' : Descr) (block block' : List ℕ) (l l' small small' : Layout) (once shape : List ℕ) (made : Owned) (result : Result Owned Refusal) →
-    IsShrunk small l once shape → IsShrunk small' l' once shape → made.layout.shape ≡ once →
-    map (item_from made.descr made.block) (offsets made.layout) ≡ pairwise f (stretched_items d block small made.layout.shape) (stretched_items d' block' small' made.layout.shape) →
-    IfOk result (λ o. o.layout.shape ≡ shape) → IfOk result (λ o. map (item_from o.descr o.block) (offsets o.layout) ≡ stretched_items made.descr made.block made.layout o.layout.shape) →
-    IfOk result (λ o. map (item_from o.descr o.block) (offsets o.layout) ≡ pairwise f (stretched_items d block l o.layout.shape) (stretched_items d' block' l' o.layout.shape))
-pairs_spread f d d' block block' l l' small small' once shape made (Err e) is is' same items shape-is spread = tt
-pairs_spread f d d' block block' l l' small small' once shape made (Ok o) is is' same items shape-is spread =
+pub pairs_spread : (f : List LeafValue → List LeafValue → List LeafValue) (b d d' : Descr) (block block' : List ℕ) (l l' small small' : Layout) (once shape : List ℕ) (made : Owned) → IsShrunk small l once shape → IsShrunk small' l' once shape →
+    IsMade b once (pairwise f (stretched_items d block small once) (stretched_items d' block' small' once)) made → stretched_items made.descr made.block made.layout shape ≡ pairwise f (stretched_items d block l shape) (stretched_items d' block' l' shape)
+pairs_spread f b d d' block block' l l' small small' once shape made is is' there =
     let xs = map (item_from d block) (offsets small) in
     let ys = map (item_from d' block') (offsets small') in
     let each : map (item_from made.descr made.block) (offsets made.layout) ≡ pairwise f xs ys =
-    items ∙ (λ i. pairwise f (stretched_items d block small (same i)) (stretched_items d' block' small' (same i))) ∙ λ i. pairwise f (own d block small once is.shape_is i) (own d' block' small' once is'.shape_is i) in
-    spread
-    ∙ ap (stretched_items made.descr made.block made.layout) shape-is
-    ∙ result-whole made once shape is.can same
+    (λ i. map (item_from (there.descr_is i) made.block) (offsets made.layout)) ∙ there.items ∙ λ i. pairwise f (own d block small once is.shape_is i) (own d' block' small' once is'.shape_is i) in
+    result-whole made once shape is.can there.shape_is
     ∙ ap (through once shape) each
     ∙ seen-pairs once shape is.can f xs ys (length-items d block small once is.shape_is) (length-items d' block' small' once is'.shape_is)
-    ∙ (λ i. pairwise f (sym (whole d block l small once shape is) i) (sym (whole d' block' l' small' once shape is') i))
-    ∙ λ i. pairwise f (stretched_items d block l (sym shape-is i)) (stretched_items d' block' l' (sym shape-is i))
+    ∙ λ i. pairwise f (sym (whole d block l small once shape is) i) (sym (whole d' block' l' small' once shape is') i)
 
 -- of single items
-pub each_spread : (f : List LeafValue → List LeafValue) (d : Descr) (block : List ℕ) (l small : Layout) (once : List ℕ) (made : Owned) (result : Result Owned Refusal) → IsShrunk small l once l.shape → made.layout.shape ≡ once →
-    map (item_from made.descr made.block) (offsets made.layout) ≡ map (λ offset. f (item_from d block offset)) (offsets small) →
-    IfOk result (λ o. o.layout.shape ≡ l.shape) → IfOk result (λ o. map (item_from o.descr o.block) (offsets o.layout) ≡ stretched_items made.descr made.block made.layout o.layout.shape) →
-    IfOk result (λ o. map (item_from o.descr o.block) (offsets o.layout) ≡ map (λ offset. f (item_from d block offset)) (offsets l))
-each_spread f d block l small once made (Err e) is same items shape-is spread = tt
-each_spread f d block l small once made (Ok o) is same items shape-is spread =
+pub each_spread : (f : List LeafValue → List LeafValue) (b d : Descr) (block : List ℕ) (l small : Layout) (once : List ℕ) (made : Owned) → IsShrunk small l once l.shape →
+    IsMade b small.shape (map (λ offset. f (item_from d block offset)) (offsets small)) made → stretched_items made.descr made.block made.layout l.shape ≡ map (λ offset. f (item_from d block offset)) (offsets l)
+each_spread f b d block l small once made is there =
     let read = λ (offset : ℕ). f (item_from d block offset) in
-    spread
-    ∙ ap (stretched_items made.descr made.block made.layout) shape-is
-    ∙ result-whole made once l.shape is.can same
-    ∙ ap (through once l.shape) items
+    result-whole made once l.shape is.can (there.shape_is ∙ is.shape_is)
+    ∙ ap (through once l.shape) ((λ i. map (item_from (there.descr_is i) made.block) (offsets made.layout)) ∙ there.items)
     ∙ sym (seen once l.shape is.can read (offsets small) (length-offsets small ∙ ap count is.shape_is))
     ∙ (λ i. map read (view_through (offsets small) (sym is.shape_is i) l.shape (broadcast_index (sym is.shape_is i))))
     ∙ ap (map read) (is.places ∙ stretched-self l)
 
--- of bools
-pub descr_told : (made : Owned) (result : Result Owned Refusal) → made.descr ≡ ScalarDescr BoolScalar → IfOk result (λ o. o.descr ≡ made.descr) → IfOk result (λ o. o.descr ≡ ScalarDescr BoolScalar)
-descr_told made (Ok o) is told = told ∙ is
-descr_told made (Err e) is told = tt
+-- bools that are cast to bools
+truth-truth : (n : ℕ) → truth (truth n) ≡ truth n
+truth-truth zero = refl
+truth-truth (suc n) = rw (truth_suc n) refl
 
-pub bools_told : (made : Owned) (result : Result Owned Refusal) (shape : List ℕ) → made.descr ≡ ScalarDescr BoolScalar → IfOk result (λ o. o.descr ≡ made.descr) → IfOk result (λ o. o.layout.shape ≡ shape) →
-    IfOk result (λ o. offsets o.layout ≡ offsets_in C (item_size o.descr) o.layout.shape) → IfOk result (λ o. offsets o.layout ≡ multiples 1 (count shape))
-bools_told made (Ok o) shape is told shape-is order = order ∙ λ i. multiples (item_size ((told ∙ is) i)) (count (shape-is i))
-bools_told made (Err e) shape is told shape-is order = tt
+pub bools_again : (d : Descr) (block : List ℕ) (l : Layout) (shape : List ℕ) → d ≡ ScalarDescr BoolScalar →
+    pairwise (λ x y. number (wrap BoolScalar (number_of (value_in x))) ∷ []) (stretched_items d block l shape) (stretched_items d block l shape) ≡ stretched_items d block l shape
+bools_again d block l shape is =
+    let os = view_through (offsets l) l.shape shape (broadcast_index l.shape) in
+    let again = λ (x : List LeafValue). number (wrap BoolScalar (number_of (value_in x))) ∷ [] in
+    pairwise-self (λ (x y : List LeafValue). again x) (stretched_items d block l shape)
+    ∙ (λ i. map again (map (item_from (is i) block) os))
+    ∙ map-map again (item_from (ScalarDescr BoolScalar) block) os
+    ∙ (λ i. map (λ o. number (pos (truth-truth (number_in Little 1 (take 1 (take 1 (drop o block)))) i)) ∷ []) os)
+    ∙ λ i. map (item_from (sym is i) block) os
 
 -- ---- what holds of each item
 

@@ -1,9 +1,8 @@
 -- Byte strings that are cut where NULs end all of them.
-use Rattle.std.proofs.Common.{◌≡◌, ◌+◌, ◌-◌, ◌≤◌, ℕ, true, Result, Ok, Err, List, [], ◌∷◌, ◌++◌, map, length, take, drop, replicate, All, IfOk, refl, sym, ap, ◌∙◌, arith, length-append, length-take, length-drop}
+use Rattle.std.proofs.Common.{◌≡◌, ◌+◌, ◌-◌, ◌≤◌, ℕ, true, List, [], ◌∷◌, ◌++◌, map, length, take, drop, replicate, All, refl, sym, ap, ◌∙◌, arith, length-append, length-take, length-drop}
 use Rattle.std.proofs.lemmas.List.{take-take, take-replicate, length-replicate}
 use Rattle.std.proofs.lemmas.List.Elements.{All-head, All-tail}
 use Rattle.std.proofs.Math.Seq.{take-append-add}
-use Rattle.elem_descr.specs.declared.refusal.Refusal.{Refusal}
 use Rattle.elem_descr.specs.declared.descr.Descr.{Descr}
 use Rattle.elem_descr.specs.declared.descr.Descr.TheVariants.{Scalar as ScalarDescr}
 use Rattle.elem_descr.specs.declared.scalar.Scalar.TheVariants.{Bytes}
@@ -19,7 +18,6 @@ use Rattle.shape_strides.specs.Layouts.{offsets}
 use Rattle.shape_strides.specs.LayoutLaws.{length-offsets}
 use Rattle.view_ops.specs.Views.{view_through}
 use Rattle.broadcasting.specs.Broadcasts.{can_stretch, broadcast_index}
-use Rattle.overlap_copy.specs.declared.owned.Owned.{Owned}
 use Rattle.elementwise.specs.Results.{stretched_items, pairwise}
 use Rattle.elementwise.proofs.ShrunkLaws.{all_through}
 
@@ -70,15 +68,12 @@ shown_same block width n d l shape is can same =
     same_items block width n (view_through (offsets l) l.shape shape (broadcast_index l.shape)) (all_through (λ offset. without_nuls (item_at offset n block) ≡ without_nuls (item_at offset width block)) (offsets l) l.shape shape can (length-offsets l) same)
     ∙ λ i. stretched_items (sym is i) block l shape
 
-pub trimmed_items : (f : List LeafValue → List LeafValue → List LeafValue) (block block' : List ℕ) (width n width' n' : ℕ) (d d' : Descr) (l l' : Layout) (shape : List ℕ) (result : Result Owned Refusal) → d ≡ ScalarDescr (Bytes width) → d' ≡ ScalarDescr (Bytes width') →
+pub trimmed_items : (f : List LeafValue → List LeafValue → List LeafValue) (block block' : List ℕ) (width n width' n' : ℕ) (d d' : Descr) (l l' : Layout) (shape : List ℕ) → d ≡ ScalarDescr (Bytes width) → d' ≡ ScalarDescr (Bytes width') →
     can_stretch l.shape shape ≡ true → can_stretch l'.shape shape ≡ true →
     All (λ offset. without_nuls (item_at offset n block) ≡ without_nuls (item_at offset width block)) (offsets l) → All (λ offset. without_nuls (item_at offset n' block') ≡ without_nuls (item_at offset width' block')) (offsets l') →
-    IfOk result (λ o. o.layout.shape ≡ shape) → IfOk result (λ o. map (item_from o.descr o.block) (offsets o.layout) ≡ pairwise f (stretched_items (ScalarDescr (Bytes n)) block l o.layout.shape) (stretched_items (ScalarDescr (Bytes n')) block' l' o.layout.shape)) →
-    IfOk result (λ o. map (item_from o.descr o.block) (offsets o.layout) ≡ pairwise f (stretched_items d block l o.layout.shape) (stretched_items d' block' l' o.layout.shape))
-trimmed_items f block block' width n width' n' d d' l l' shape (Err e) is is' can can' same same' shape-is items = tt
-trimmed_items f block block' width n width' n' d d' l l' shape (Ok o) is is' can can' same same' shape-is items =
-    items
-    ∙ λ i. pairwise f (shown_same block width n d l o.layout.shape is (ap (can_stretch l.shape) shape-is ∙ can) same i) (shown_same block' width' n' d' l' o.layout.shape is' (ap (can_stretch l'.shape) shape-is ∙ can') same' i)
+    pairwise f (stretched_items (ScalarDescr (Bytes n)) block l shape) (stretched_items (ScalarDescr (Bytes n')) block' l' shape) ≡ pairwise f (stretched_items d block l shape) (stretched_items d' block' l' shape)
+trimmed_items f block block' width n width' n' d d' l l' shape is is' can can' same same' =
+    λ i. pairwise f (shown_same block width n d l shape is can same i) (shown_same block' width' n' d' l' shape is' can' same' i)
 
 -- what is cut lies where all did
 pub fewer_inside : (block : List ℕ) (width n : ℕ) (d : Descr) (l : Layout) → d ≡ ScalarDescr (Bytes width) → n ≤ width → All (λ offset. offset + item_size d ≤ length block) (offsets l) → All (λ offset. offset + n ≤ length block) (offsets l)

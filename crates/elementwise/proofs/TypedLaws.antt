@@ -1,10 +1,9 @@
 -- Operands that are cast, and what is made of them.
-use Rattle.std.proofs.Common.{◌≡◌, ◌+◌, ◌<◌, ◌≤◌, ℕ, true, Result, Ok, Err, List, [], ◌∷◌, map, length, get_or, All, IfOk, refl, sym, ap, ◌∙◌, arith}
+use Rattle.std.proofs.Common.{◌≡◌, ◌+◌, ◌<◌, ◌≤◌, ℕ, true, List, [], ◌∷◌, map, length, get_or, All, refl, sym, ap, ◌∙◌, arith}
 use Rattle.std.specs.Prelude.{slice_index}
 use Rattle.std.proofs.lemmas.List.{length-map, get_or-map, same_lists}
 use Rattle.std.proofs.lemmas.Simd.{map-map}
 use Rattle.std.proofs.lemmas.List.Elements.{All-head, All-rest}
-use Rattle.elem_descr.specs.declared.refusal.Refusal.{Refusal}
 use Rattle.elem_descr.specs.declared.descr.Descr.{Descr}
 use Rattle.elem_descr.specs.Values.{LeafValue}
 use Rattle.elem_descr.specs.Items.{item_size}
@@ -16,7 +15,6 @@ use Rattle.shape_strides.specs.IndexLaws.{length-indexes, index_at, get_or-index
 use Rattle.shape_strides.specs.LayoutLaws.{length-offsets}
 use Rattle.broadcasting.specs.Broadcasts.{can_stretch, broadcast_index}
 use Rattle.broadcasting.specs.BroadcastLaws.{IsIndex-broadcast}
-use Rattle.overlap_copy.specs.declared.owned.Owned.{Owned}
 use Rattle.elementwise.specs.Casts.{cast_item}
 use Rattle.elementwise.specs.Results.{stretched_items}
 
@@ -27,11 +25,6 @@ kept from to block [] inside same = refl
 kept from to block (o ∷ os) inside same =
     let Ends = λ (offset : ℕ). offset + item_size from ≤ length block in
     λ i. same o (All-head Ends o os inside) i ∷ kept from to block os (All-rest Ends o os (o ∷ os) refl inside) same i
-
--- the items of a result
-pub moved : (result : Result Owned Refusal) (to : Descr) (xs ys : List (List LeafValue)) → xs ≡ ys → IfOk result (λ o. map (item_from to o.block) (offsets o.layout) ≡ xs) → IfOk result (λ o. map (item_from to o.block) (offsets o.layout) ≡ ys)
-moved (Ok o) to xs ys same is = is ∙ same
-moved (Err e) to xs ys same is = tt
 
 -- functions that agree on the indexes
 same_on : {A : Type 0} (shape : List ℕ) (f g : List ℕ → A) → ((index : List ℕ) → IsIndex shape index → f index ≡ g index) → map f (indexes shape) ≡ map g (indexes shape)

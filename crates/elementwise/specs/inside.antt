@@ -8,3 +8,6 @@ pub mod Shrunk
 pub mod Sides
 pub mod Operands
 pub mod Held
+pub mod Works
+pub mod Made
+pub mod WorkLaws

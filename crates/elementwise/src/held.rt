@@ -38,7 +38,7 @@ impl<'a> Held<'a> {
             }));
         }
         let _items = from.layout.shape.items();
-        let made = cast(alloc, from.block, from.layout, from.descr, to)?;
+        let made = cast(alloc, from, to)?;
         Ok(Held::Made(made))
     }
 

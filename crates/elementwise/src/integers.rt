@@ -1,28 +1,31 @@
 //! Comparisons of all items of arrays of numbers with one integer.
-ghost use Rattle.std.specs.Prelude.{◌≡◌, ◌≢◌, ℕ, ℤ, [], ◌∷◌, ◌+◌, ◌≤◌, false, true, length, map, replicate, if◌then◌else◌, All, IfOk, IfErr};
+ghost use Rattle.std.specs.Prelude.{◌≡◌, ◌≢◌, [], ◌∷◌, length, map, replicate, if◌then◌else◌, IfOk, IfErr};
+ghost use Rattle.std.specs.List.{flat_map};
 ghost use Rattle.std.specs.Ordering.{int_eq};
 ghost use Rattle.elem_descr.specs.declared.refusal.Refusal.TheVariants.{OutOfMemory};
 ghost use Rattle.elem_descr.specs.declared.descr.Descr.TheVariants.{Scalar as ScalarDescr};
 ghost use Rattle.elem_descr.specs.declared.scalar.Scalar.TheVariants.{Bool as BoolScalar};
 ghost use Rattle.elem_descr.specs.Encoding.{IsNumber, size, wrap, decode};
-ghost use Rattle.elem_descr.specs.Items.{item_size};
+ghost use Rattle.elem_descr.specs.Items.{item_size, encode_item};
 ghost use Rattle.elem_descr.specs.Blocks.{item_from};
 ghost use Rattle.elem_descr.specs.Refusals.{Gives};
 ghost use Rattle.elem_descr.specs.Values.{number};
 ghost use Rattle.shape_strides.specs.declared.memory_order.MemoryOrder.TheVariants.{C};
 ghost use Rattle.shape_strides.specs.Indexes.{count};
-ghost use Rattle.shape_strides.specs.Layouts.{offsets, multiples};
+ghost use Rattle.shape_strides.specs.Layouts.{offsets};
 ghost use Rattle.overlap_copy.specs.Blocks.{offsets_in};
+ghost use Rattle.overlap_copy.specs.ItemLists.{owned_items};
 ghost use Rattle.machine_numbers.specs.Kinds.{little};
-ghost use Rattle.elementwise.specs.Results.{integer_compared_result, compared_item, stretched_items, truth_item};
+ghost use Rattle.elementwise.specs.Results.{integer_compared_result, compared_item, truth_item};
+ghost use Rattle.elementwise.specs.inside.Made.{IsMade};
 
 use crate::compared::{compare_held, note_bytes};
 use crate::comparing::says;
-use crate::operands::Items;
+use crate::operands::Scalars;
 use crate::promotion::scalar_of;
 use elem_descr::{Descr, Refusal, Scalar, num_read, num_write};
 use machine_numbers::{Comparison, is_text, little};
-use overlap_copy::Owned;
+use overlap_copy::{Items, Owned};
 use raw_block::RawBlock;
 use shape_strides::{MemoryOrder, Shape};
 use std::alloc::{AllocError, Global};
@@ -55,8 +58,7 @@ fn one_item(alloc: Global, scalar: &Scalar, integer: i128) -> Result<Owned, Refu
     requires number { IsNumber scalar.now }
     ensures descr { IfOk result (λ o. o.descr ≡ ScalarDescr scalar.now) }
     ensures shape { IfOk result (λ o. o.layout.shape ≡ []) }
-    ensures inside { IfOk result (λ o. All (λ offset. offset + item_size o.descr ≤ length o.block) (offsets o.layout)) }
-    ensures items { IfOk result (λ o. map (item_from o.descr o.block) (offsets o.layout) ≡ (number (wrap scalar.now integer) ∷ []) ∷ []) }
+    ensures items { IfOk result (λ o. owned_items o ≡ (number (wrap scalar.now integer) ∷ []) ∷ []) }
     ensures refused { IfErr result (λ refusal. refusal ≡ OutOfMemory) }
 {
     let shape = Shape::try_new(alloc, &[])?;
@@ -71,37 +73,25 @@ fn compare_with_value(
     alloc: Global,
     comparison: Comparison,
     scalar: &Scalar,
-    from: &Scalar,
-    operand: Items<'_>,
+    operand: &Scalars<'_>,
     integer: i128,
 ) -> Result<Owned, Refusal>
-    requires scalar { scalar.now ≡ little from.now }
-    requires from { operand.descr.now ≡ ScalarDescr from.now }
-    requires number { IsNumber from.now }
+    requires from { operand.now.items.descr.now ≡ ScalarDescr operand.now.scalar }
+    requires scalar { scalar.now ≡ little operand.now.scalar }
+    requires number { IsNumber operand.now.scalar }
     requires held { wrap scalar.now integer ≡ integer }
-    requires inside { All (λ offset. offset + item_size operand.descr.now ≤ length operand.block.now) (offsets operand.layout.now) }
-    ensures descr { IfOk result (λ o. o.descr ≡ ScalarDescr BoolScalar) }
-    ensures shape { IfOk result (λ o. o.layout.shape ≡ operand.entry.layout.now.shape) }
-    ensures order { IfOk result (λ o. offsets o.layout ≡ multiples 1 (count operand.entry.layout.now.shape)) }
-    ensures items { IfOk result (λ o. map (item_from o.descr o.block) (offsets o.layout)
-        ≡ map (λ offset. compared_item comparison (item_from operand.entry.descr.now operand.entry.block.now offset) (number integer ∷ [])) (offsets operand.entry.layout.now)) }
+    ensures made { IfOk result (IsMade (ScalarDescr BoolScalar) operand.now.items.layout.now.shape (map (λ offset. compared_item comparison (item_from operand.now.items.descr.now operand.now.items.block.now offset) (number integer ∷ [])) (offsets operand.now.items.layout.now))) }
     ensures refused { IfErr result (λ refusal. refusal ≡ OutOfMemory) }
 {
     let item = one_item(alloc, scalar, integer)?;
-    let right = Items {
-        block: &item.block,
-        layout: &item.layout,
-        descr: &item.descr,
-    };
+    let items = operand.items;
     compare_held(
         alloc,
         comparison,
         scalar,
-        from,
-        operand,
-        scalar,
-        right,
-        &operand.layout.shape,
+        items,
+        item.items(),
+        &items.layout.shape,
     )
 }
 
@@ -116,10 +106,7 @@ fn bool_block(alloc: Global, holds: bool, len: usize) -> Result<RawBlock, AllocE
 
 /// One bool for all items of a shape.
 fn all_alike(alloc: Global, holds: bool, shape: &Shape) -> Result<Owned, Refusal>
-    ensures descr { IfOk result (λ o. o.descr ≡ ScalarDescr BoolScalar) }
-    ensures shape { IfOk result (λ o. o.layout.shape ≡ shape.now) }
-    ensures order { IfOk result (λ o. offsets o.layout ≡ multiples 1 (count shape.now)) }
-    ensures items { IfOk result (λ o. map (item_from o.descr o.block) (offsets o.layout) ≡ replicate (count shape.now) (truth_item holds)) }
+    ensures made { IfOk result (IsMade (ScalarDescr BoolScalar) shape.now (replicate (count shape.now) (truth_item holds))) }
     ensures refused { IfErr result (λ refusal. refusal ≡ OutOfMemory) }
 {
     let block = bool_block(alloc, holds, shape.items())?;
@@ -132,24 +119,19 @@ fn all_alike(alloc: Global, holds: bool, shape: &Shape) -> Result<Owned, Refusal
 fn compare_beyond(
     alloc: Global,
     comparison: Comparison,
-    from: &Scalar,
-    operand: Items<'_>,
+    operand: &Scalars<'_>,
     integer: i128,
 ) -> Result<Owned, Refusal>
-    requires from { operand.descr.now ≡ ScalarDescr from.now }
-    requires number { IsNumber from.now }
-    requires beyond { wrap (little from.now) integer ≢ integer }
-    ensures descr { IfOk result (λ o. o.descr ≡ ScalarDescr BoolScalar) }
-    ensures shape { IfOk result (λ o. o.layout.shape ≡ operand.entry.layout.now.shape) }
-    ensures order { IfOk result (λ o. offsets o.layout ≡ multiples 1 (count operand.entry.layout.now.shape)) }
-    ensures items { IfOk result (λ o. map (item_from o.descr o.block) (offsets o.layout)
-        ≡ map (λ offset. compared_item comparison (item_from operand.entry.descr.now operand.entry.block.now offset) (number integer ∷ [])) (offsets operand.entry.layout.now)) }
+    requires from { operand.now.items.descr.now ≡ ScalarDescr operand.now.scalar }
+    requires number { IsNumber operand.now.scalar }
+    requires beyond { wrap (little operand.now.scalar) integer ≢ integer }
+    ensures made { IfOk result (IsMade (ScalarDescr BoolScalar) operand.now.items.layout.now.shape (map (λ offset. compared_item comparison (item_from operand.now.items.descr.now operand.now.items.block.now offset) (number integer ∷ [])) (offsets operand.now.items.layout.now))) }
     ensures refused { IfErr result (λ refusal. refusal ≡ OutOfMemory) }
 {
-    note_bytes(operand.block);
+    note_bytes(operand.items.block);
     let above = integer.is_positive();
     let holds = says(comparison, above, !above);
-    all_alike(alloc, holds, &operand.layout.shape)
+    all_alike(alloc, holds, &operand.items.layout.shape)
 }
 
 /// What a comparison says of the numbers of an array and of an integer, which may be larger than their
@@ -161,19 +143,23 @@ pub fn compare_integer(
     operand: Items<'_>,
     integer: i128,
 ) -> Result<Owned, Refusal>
-    requires inside { All (λ offset. offset + item_size operand.descr.now ≤ length operand.block.now) (offsets operand.layout.now) }
     ensures gives { Gives (λ o. (o.descr, o.layout.shape)) result (integer_compared_result operand.entry.descr.now operand.entry.layout.now.shape) }
     ensures order { IfOk result (λ o. offsets o.layout ≡ offsets_in C (item_size o.descr) o.layout.shape) }
     ensures items { IfOk result (λ o. map (item_from o.descr o.block) (offsets o.layout)
         ≡ map (λ offset. compared_item comparison (item_from operand.entry.descr.now operand.entry.block.now offset) (number integer ∷ [])) (offsets operand.entry.layout.now)) }
+    ensures encoded { IfOk result (λ o. o.block ≡ flat_map (encode_item o.descr) (owned_items o)) }
 {
     let from = scalar_of(operand.descr)?;
     if is_text(&from) {
         return Err(Refusal::NotForThisKind);
     }
+    let numbers = Scalars {
+        items: operand,
+        scalar: from,
+    };
     let scalar = little(&from);
     if is_value(&scalar, integer) {
-        return compare_with_value(alloc, comparison, &scalar, &from, operand, integer);
+        return compare_with_value(alloc, comparison, &scalar, &numbers, integer);
     }
-    compare_beyond(alloc, comparison, &from, operand, integer)
+    compare_beyond(alloc, comparison, &numbers, integer)
 }

@@ -1,14 +1,12 @@
 //! Passes over pairs of numbers: what a kernel makes of them is pushed.
-ghost use Rattle.std.specs.Prelude.{◌≡◌, ◌+◌, ◌*◌, ◌<◌, ◌≤◌, ◌++◌, ℤ};
-ghost use Rattle.elem_descr.specs.declared.scalar.Order.TheVariants.{Little};
+ghost use Rattle.std.specs.Prelude.{◌≡◌, ◌+◌, ◌*◌, ◌≤◌, ◌++◌, ℤ};
 ghost use Rattle.raw_block.specs.Bytes.{joined};
 ghost use Rattle.elementwise.specs.inside.PairPasses.{number_pair};
-ghost use Rattle.machine_numbers.specs.Sides.{number_in};
 ghost use Rattle.elementwise.specs.inside.Sides.{pair_count, made_of};
 
 use crate::rows::Pass;
 use crate::sides::Pairs;
-use machine_numbers::{LowFirst, Number, Ordered};
+use machine_numbers::{Number, Ordered};
 use raw_block::BlockBuilder;
 use std::marker::PhantomData;
 
@@ -20,55 +18,48 @@ pub(crate) trait Kernel<A: Number, B: Number, T: Number> {
         ensures { T.value result ≡ makes (A.value left) (B.value right) };
 }
 
-/// What is made of the `k`-th pair.
+/// Pushes what is made of each pair. The block is taken and given back, so that how far it is filled
+/// stays in a register.
 #[inline(always)]
-fn make_of<K: Kernel<A, B, T>, A: Number, B: Number, T: Number, O: Ordered>(
-    pairs: Pairs<'_>,
-    k: usize,
-) -> T
-    requires k { k < pair_count pairs }
-    requires left { pairs.left.width ≡ A.WIDTH }
-    requires right { pairs.right.width ≡ B.WIDTH }
-    ensures { T.value result ≡ K.makes (number_in (A.scalar O.order) pairs.entry.left k) (number_in (B.scalar O.order) pairs.entry.right k) }
-{
-    let left = pairs.left.number::<A, O>(k);
-    let right = pairs.right.number::<B, O>(k);
-    K::make(left, right)
-}
-
-/// Pushes what is made of each pair, the lowest byte first. The block is taken and given back, so that
-/// how far it is filled stays in a register.
-#[inline(always)]
-fn push_each<K: Kernel<A, B, T>, A: Number, B: Number, T: Number, O: Ordered>(
+fn push_each<K: Kernel<A, B, T>, A: Number, B: Number, T: Number, O: Ordered, Q: Ordered>(
     block: BlockBuilder,
     pairs: Pairs<'_>,
 ) -> BlockBuilder
     requires left { pairs.left.width ≡ A.WIDTH }
     requires right { pairs.right.width ≡ B.WIDTH }
     requires room { pair_count pairs * T.WIDTH ≤ block.1 }
-    ensures bytes { result.0 ≡ block.0 ++ joined (made_of (number_pair (A.scalar O.order) (B.scalar O.order) (T.scalar Little) K.makes) pairs.entry) (pair_count pairs.entry) }
+    ensures bytes { result.0 ≡ block.0 ++ joined (made_of (number_pair (A.scalar O.order) (B.scalar O.order) (T.scalar Q.order) K.makes) pairs.entry) (pair_count pairs.entry) }
     ensures left { pair_count pairs.entry * T.WIDTH + result.1 ≡ block.1 }
 {
     let mut block = block;
     for k in 0..pairs.left.run.count {
-        make_of::<K, A, B, T, O>(pairs, k).push::<LowFirst>(&mut block);
+        let left = pairs.left.number::<A, O>(k);
+        let right = pairs.right.number::<B, O>(k);
+        K::make(left, right).push::<Q>(&mut block);
     }
     block
 }
 
-/// A kernel over numbers that are read in a byte order.
+/// A kernel over numbers that are read in a byte order, and pushed in one.
 #[derive_where(Clone, Copy)]
-pub(crate) struct Numbers<K, A, B, T, O>(PhantomData<(K, A, B, T, O)>);
+pub(crate) struct Numbers<K, A, B, T, O, Q>(PhantomData<(K, A, B, T, O, Q)>);
 
-impl<K: Kernel<A, B, T>, A: Number, B: Number, T: Number, O: Ordered> Numbers<K, A, B, T, O> {
+impl<K: Kernel<A, B, T>, A: Number, B: Number, T: Number, O: Ordered, Q: Ordered> Numbers<
+    K,
+    A,
+    B,
+    T,
+    O,
+    Q,
+> {
     pub(crate) fn new() -> Self {
         Numbers(PhantomData)
     }
 }
 
-impl<K: Kernel<A, B, T>, A: Number, B: Number, T: Number, O: Ordered> Pass
-    for Numbers<K, A, B, T, O> {
-    ghost makes = { λ _. number_pair (A.scalar O.order) (B.scalar O.order) (T.scalar Little) K.makes };
+impl<K: Kernel<A, B, T>, A: Number, B: Number, T: Number, O: Ordered, Q: Ordered> Pass
+    for Numbers<K, A, B, T, O, Q> {
+    ghost makes = { λ _. number_pair (A.scalar O.order) (B.scalar O.order) (T.scalar Q.order) K.makes };
 
     ghost Reads = { λ _ width width'. (width ≡ A.WIDTH) × (width' ≡ B.WIDTH) };
 
@@ -82,19 +73,19 @@ impl<K: Kernel<A, B, T>, A: Number, B: Number, T: Number, O: Ordered> Pass
         let near = A::WIDTH as isize;
         let close = B::WIDTH as isize;
         match (pairs.left.run.step, pairs.right.run.step) {
-            (a, b) if a == near && b == close => push_each::<K, A, B, T, O>(
+            (a, b) if a == near && b == close => push_each::<K, A, B, T, O, Q>(
                 block,
                 pairs.with_steps(A::WIDTH as isize, B::WIDTH as isize),
             ),
-            (a, 0) if a == near => push_each::<K, A, B, T, O>(
+            (a, 0) if a == near => push_each::<K, A, B, T, O, Q>(
                 block,
                 pairs.with_steps(A::WIDTH as isize, 0),
             ),
-            (0, b) if b == close => push_each::<K, A, B, T, O>(
+            (0, b) if b == close => push_each::<K, A, B, T, O, Q>(
                 block,
                 pairs.with_steps(0, B::WIDTH as isize),
             ),
-            _ => push_each::<K, A, B, T, O>(block, pairs),
+            _ => push_each::<K, A, B, T, O, Q>(block, pairs),
         }
     }
 }

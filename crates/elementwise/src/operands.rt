@@ -4,15 +4,13 @@ ghost use Rattle.machine_numbers.specs.Kinds.{little};
 
 use elem_descr::{Descr, Scalar};
 use machine_numbers::little;
-use raw_block::RawBlock;
-use shape_strides::Layout;
+use overlap_copy::Items;
 
-/// The items of a layout, of an element type, in a block.
+/// Items of a scalar.
 #[derive(Clone, Copy, Drop)]
-pub struct Items<'a> {
-    pub block: &'a RawBlock,
-    pub layout: &'a Layout,
-    pub descr: &'a Descr,
+pub(crate) struct Scalars<'a> {
+    pub(crate) items: Items<'a>,
+    pub(crate) scalar: Scalar,
 }
 
 /// A little-endian scalar, in the byte order of an element type that is the same but for it.

@@ -1,128 +1,120 @@
 //! Operations on machine numbers: each is done on the lowest 64 bits, of which a number keeps its own.
-ghost use Rattle.std.specs.Prelude.{◌≡◌, ℤ, pos, negsuc, ◌-ℤ◌};
-ghost use Rattle.elem_descr.specs.declared.scalar.Order.{Order};
+ghost use Rattle.std.specs.Prelude.{pos, negsuc, ◌-ℤ◌};
+ghost use Rattle.elem_descr.specs.declared.scalar.Order.TheVariants.{Little};
 ghost use Rattle.machine_numbers.specs.declared.operators.BinOp.TheVariants.{Add, Subtract, Multiply, FloorDivide, Modulo, And, Or, Xor, ShiftLeft, ShiftRight};
-ghost use Rattle.elem_descr.specs.declared.scalar.Scalar.{Scalar};
 ghost use Rattle.elem_descr.specs.Encoding.{wrap};
 ghost use Rattle.elementwise.specs.Operations.{binary};
 
 use crate::bits;
+use crate::kernels::Kernel;
 use machine_numbers::Number;
-
-/// An operation on two numbers of one type.
-pub(crate) trait Operation {
-    ghost meaning: { Scalar → ℤ → ℤ → ℤ };
-
-    fn apply<N: Number>(left: N, right: N) -> N
-        ensures { (order : Order) → N.value result ≡ meaning (N.scalar order) (N.value left) (N.value right) };
-}
 
 pub(crate) struct Adding;
 
-impl Operation for Adding {
-    ghost meaning = { binary Add };
+impl<N: Number> Kernel<N, N, N> for Adding {
+    ghost makes = { binary Add (N.scalar Little) };
 
     #[inline(always)]
-    fn apply<N: Number>(left: N, right: N) -> N {
+    fn make(left: N, right: N) -> N {
         N::of_bits(bits::sum(left.bits(), right.bits()))
     }
 }
 
 pub(crate) struct Subtracting;
 
-impl Operation for Subtracting {
-    ghost meaning = { binary Subtract };
+impl<N: Number> Kernel<N, N, N> for Subtracting {
+    ghost makes = { binary Subtract (N.scalar Little) };
 
     #[inline(always)]
-    fn apply<N: Number>(left: N, right: N) -> N {
+    fn make(left: N, right: N) -> N {
         N::of_bits(bits::difference(left.bits(), right.bits()))
     }
 }
 
 pub(crate) struct Multiplying;
 
-impl Operation for Multiplying {
-    ghost meaning = { binary Multiply };
+impl<N: Number> Kernel<N, N, N> for Multiplying {
+    ghost makes = { binary Multiply (N.scalar Little) };
 
     #[inline(always)]
-    fn apply<N: Number>(left: N, right: N) -> N {
+    fn make(left: N, right: N) -> N {
         N::of_bits(bits::product(left.bits(), right.bits()))
     }
 }
 
 pub(crate) struct Dividing;
 
-impl Operation for Dividing {
-    ghost meaning = { binary FloorDivide };
+impl<N: Number> Kernel<N, N, N> for Dividing {
+    ghost makes = { binary FloorDivide (N.scalar Little) };
 
     #[inline(always)]
-    fn apply<N: Number>(left: N, right: N) -> N {
+    fn make(left: N, right: N) -> N {
         N::of_bits(bits::quotient(N::SIGNED, left.bits(), right.bits()))
     }
 }
 
 pub(crate) struct LeavingRests;
 
-impl Operation for LeavingRests {
-    ghost meaning = { binary Modulo };
+impl<N: Number> Kernel<N, N, N> for LeavingRests {
+    ghost makes = { binary Modulo (N.scalar Little) };
 
     #[inline(always)]
-    fn apply<N: Number>(left: N, right: N) -> N {
+    fn make(left: N, right: N) -> N {
         N::of_bits(bits::rest(N::SIGNED, left.bits(), right.bits()))
     }
 }
 
 pub(crate) struct KeepingBoth;
 
-impl Operation for KeepingBoth {
-    ghost meaning = { binary And };
+impl<N: Number> Kernel<N, N, N> for KeepingBoth {
+    ghost makes = { binary And (N.scalar Little) };
 
     #[inline(always)]
-    fn apply<N: Number>(left: N, right: N) -> N {
+    fn make(left: N, right: N) -> N {
         N::of_bits(left.bits() & right.bits())
     }
 }
 
 pub(crate) struct KeepingEither;
 
-impl Operation for KeepingEither {
-    ghost meaning = { binary Or };
+impl<N: Number> Kernel<N, N, N> for KeepingEither {
+    ghost makes = { binary Or (N.scalar Little) };
 
     #[inline(always)]
-    fn apply<N: Number>(left: N, right: N) -> N {
+    fn make(left: N, right: N) -> N {
         N::of_bits(left.bits() | right.bits())
     }
 }
 
 pub(crate) struct KeepingOne;
 
-impl Operation for KeepingOne {
-    ghost meaning = { binary Xor };
+impl<N: Number> Kernel<N, N, N> for KeepingOne {
+    ghost makes = { binary Xor (N.scalar Little) };
 
     #[inline(always)]
-    fn apply<N: Number>(left: N, right: N) -> N {
+    fn make(left: N, right: N) -> N {
         N::of_bits(left.bits() ^ right.bits())
     }
 }
 
 pub(crate) struct MovingUp;
 
-impl Operation for MovingUp {
-    ghost meaning = { binary ShiftLeft };
+impl<N: Number> Kernel<N, N, N> for MovingUp {
+    ghost makes = { binary ShiftLeft (N.scalar Little) };
 
     #[inline(always)]
-    fn apply<N: Number>(left: N, right: N) -> N {
+    fn make(left: N, right: N) -> N {
         N::of_bits(bits::moved_up(8 * N::WIDTH as u64, left.bits(), right.bits()))
     }
 }
 
 pub(crate) struct MovingDown;
 
-impl Operation for MovingDown {
-    ghost meaning = { binary ShiftRight };
+impl<N: Number> Kernel<N, N, N> for MovingDown {
+    ghost makes = { binary ShiftRight (N.scalar Little) };
 
     #[inline(always)]
-    fn apply<N: Number>(left: N, right: N) -> N {
+    fn make(left: N, right: N) -> N {
         N::of_bits(bits::moved_down(N::SIGNED, 8 * N::WIDTH as u64, left.bits(), right.bits()))
     }
 }
@@ -130,11 +122,11 @@ impl Operation for MovingDown {
 /// The second number, negated.
 pub(crate) struct Negating;
 
-impl Operation for Negating {
-    ghost meaning = { λ s a b. wrap s (pos 0 -ℤ b) };
+impl<N: Number> Kernel<N, N, N> for Negating {
+    ghost makes = { λ _ b. wrap (N.scalar Little) (pos 0 -ℤ b) };
 
     #[inline(always)]
-    fn apply<N: Number>(_left: N, right: N) -> N {
+    fn make(_left: N, right: N) -> N {
         N::of_bits(bits::difference(0, right.bits()))
     }
 }
@@ -142,11 +134,11 @@ impl Operation for Negating {
 /// All bits of the second number, complemented.
 pub(crate) struct Complementing;
 
-impl Operation for Complementing {
-    ghost meaning = { λ s a b. wrap s (negsuc 0 -ℤ b) };
+impl<N: Number> Kernel<N, N, N> for Complementing {
+    ghost makes = { λ _ b. wrap (N.scalar Little) (negsuc 0 -ℤ b) };
 
     #[inline(always)]
-    fn apply<N: Number>(_left: N, right: N) -> N {
+    fn make(_left: N, right: N) -> N {
         N::of_bits(bits::complement(right.bits()))
     }
 }
@@ -154,11 +146,11 @@ impl Operation for Complementing {
 /// The lowest bit of the second number, complemented: the other bool.
 pub(crate) struct Flipping;
 
-impl Operation for Flipping {
-    ghost meaning = { λ s a b. wrap s (pos 1 -ℤ b) };
+impl<N: Number> Kernel<N, N, N> for Flipping {
+    ghost makes = { λ _ b. wrap (N.scalar Little) (pos 1 -ℤ b) };
 
     #[inline(always)]
-    fn apply<N: Number>(_left: N, right: N) -> N {
+    fn make(_left: N, right: N) -> N {
         N::of_bits(bits::difference(1, right.bits()))
     }
 }

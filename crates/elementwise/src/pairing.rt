@@ -1,26 +1,37 @@
 //! What is made of the items of two operands, pair by pair.
-ghost use Rattle.std.specs.Prelude.{◌≡◌, ◌+◌, ◌*◌, ◌≤◌, ◌++◌, false, not};
+ghost use Rattle.std.specs.Prelude.{◌≡◌, ◌+◌, ◌*◌, ◌≤◌, ◌++◌, not};
 ghost use Rattle.elem_descr.specs.declared.scalar.Order.TheVariants.{Little};
 ghost use Rattle.elem_descr.specs.declared.scalar.Width.TheVariants.{Eight};
 ghost use Rattle.elem_descr.specs.declared.scalar.Scalar.TheVariants.{Bool as BoolScalar, Int, Bytes};
 ghost use Rattle.elem_descr.specs.declared.scalar.Scalar.{Scalar};
-ghost use Rattle.elem_descr.specs.Values.{LeafValue};
-ghost use Rattle.elem_descr.specs.Encoding.{IsNumber, size, decode, encode};
+ghost use Rattle.elem_descr.specs.Values.{LeafValue, number};
+ghost use Rattle.elem_descr.specs.Encoding.{IsNumber, size, decode, encode, number_of};
 ghost use Rattle.elem_descr.specs.Items.{item_size};
-ghost use Rattle.machine_numbers.specs.Kinds.{little};
-ghost use Rattle.elementwise.specs.Promotion.{is_division};
-ghost use Rattle.elementwise.specs.inside.PairPasses.{value_pair, binary_value, unary_value, compared_value, truth_value};
-ghost use Rattle.elementwise.specs.inside.PairLaws.{binary_reads_back, unary_reads_back, compared_reads_back, truth_reads_back, number_small, bool_small};
+ghost use Rattle.elementwise.specs.inside.PairPasses.{value_pair, compared_value, truth_value};
+ghost use Rattle.elementwise.specs.inside.PairLaws.{compared_reads_back, truth_reads_back};
 ghost use Rattle.elementwise.specs.inside.Operands.{pairs_of, made_of_all};
 
-use crate::combining::{change, combine};
-use crate::comparing::{compare_alike, compare_mixed};
+use crate::comparing::compare;
 use crate::promotion::eight_bytes;
 use crate::rows::Operands;
 use crate::text_pairs::Texts;
+use crate::working::Working;
 use elem_descr::{BytesLen, Scalar};
-use machine_numbers::{BinOp, Comparison, UnOp, little};
+use machine_numbers::{BinOp, Comparison, LowFirst, UnOp, is_bool, little, on_number};
 use raw_block::BlockBuilder;
+
+/// What is made of two numbers.
+#[derive(Clone, Copy)]
+pub(crate) enum Work {
+    /// What an operation gives on them.
+    Combine(BinOp),
+    /// What one gives on the second of them.
+    Change(UnOp),
+    /// What a comparison says of them.
+    Compare(Comparison),
+    /// The first of them as one of another scalar of numbers.
+    Cast(Scalar),
+}
 
 /// What is made of pairs of values of two scalars.
 pub(crate) trait Pairing {
@@ -57,31 +68,30 @@ pub(crate) trait Pairing {
         ensures left { pairs_of operands.entry * size (target_scalar self.now) + result.1 ≡ block.1 };
 
     ghost reads_back: { (pairing : Self) (x y : LeafValue) → Can pairing → decode (target_scalar pairing) (encode (target_scalar pairing) (gives pairing x y)) ≡ gives pairing x y };
-
-    ghost is_small: { (pairing : Self) → Can pairing → size (target_scalar pairing) ≤ 8 };
 }
 
-/// An operation on numbers of a scalar. The results are little-endian.
+/// Work on numbers of one scalar.
 #[derive(Clone, Copy)]
-pub(crate) struct Combining {
-    pub(crate) op: BinOp,
+pub(crate) struct Alike {
+    pub(crate) work: Work,
     pub(crate) scalar: Scalar,
 }
 
-impl Pairing for Combining {
-    ghost left_scalar = { λ c. c.scalar };
+impl Pairing for Alike {
+    ghost use Rattle.elementwise.specs.inside.Works.{target, meaning, IsWork};
+    ghost use Rattle.elementwise.specs.inside.WorkLaws.{work_reads_back};
 
-    ghost right_scalar = { λ c. c.scalar };
+    ghost left_scalar = { λ a. a.scalar };
 
-    ghost target_scalar = { λ c. little c.scalar };
+    ghost right_scalar = { λ a. a.scalar };
 
-    ghost gives = { λ c. binary_value c.op (little c.scalar) };
+    ghost target_scalar = { λ a. target a.work a.scalar };
 
-    ghost Can = { λ c. IsNumber c.scalar × (is_division c.op ≡ false) };
+    ghost gives = { λ a x y. number (meaning a.work a.scalar (number_of x) (number_of y)) };
 
-    ghost reads_back = { λ c x y can. binary_reads_back c.op c.scalar x y can.0 };
+    ghost Can = { λ a. IsNumber a.scalar × IsWork a.work };
 
-    ghost is_small = { λ c can. number_small c.scalar can.0 };
+    ghost reads_back = { λ a x y can. work_reads_back a.work a.scalar (number_of x) (number_of y) can.0 can.1 };
 
     fn left(&self) -> Scalar {
         self.scalar
@@ -92,89 +102,22 @@ impl Pairing for Combining {
     }
 
     fn target(&self) -> Scalar {
-        little(&self.scalar)
+        match self.work {
+            Work::Combine(_) => little(&self.scalar),
+            Work::Change(_) => little(&self.scalar),
+            Work::Compare(_) => Scalar::Bool,
+            Work::Cast(to) => to,
+        }
     }
 
     fn push(&self, block: BlockBuilder, operands: Operands<'_>) -> BlockBuilder {
-        combine(self.op, &self.scalar, block, operands)
-    }
-}
-
-/// An operation on the second of two numbers of a scalar. The results are little-endian.
-#[derive(Clone, Copy)]
-pub(crate) struct Changing {
-    pub(crate) op: UnOp,
-    pub(crate) scalar: Scalar,
-}
-
-impl Pairing for Changing {
-    ghost left_scalar = { λ c. c.scalar };
-
-    ghost right_scalar = { λ c. c.scalar };
-
-    ghost target_scalar = { λ c. little c.scalar };
-
-    ghost gives = { λ c. unary_value c.op (little c.scalar) };
-
-    ghost Can = { λ c. IsNumber c.scalar };
-
-    ghost reads_back = { λ c x y can. unary_reads_back c.op c.scalar x y can };
-
-    ghost is_small = { λ c can. number_small c.scalar can };
-
-    fn left(&self) -> Scalar {
-        self.scalar
-    }
-
-    fn right(&self) -> Scalar {
-        self.scalar
-    }
-
-    fn target(&self) -> Scalar {
-        little(&self.scalar)
-    }
-
-    fn push(&self, block: BlockBuilder, operands: Operands<'_>) -> BlockBuilder {
-        change(self.op, &self.scalar, block, operands)
-    }
-}
-
-/// A comparison of numbers of one scalar.
-#[derive(Clone, Copy)]
-pub(crate) struct Comparing {
-    pub(crate) comparison: Comparison,
-    pub(crate) scalar: Scalar,
-}
-
-impl Pairing for Comparing {
-    ghost left_scalar = { λ c. c.scalar };
-
-    ghost right_scalar = { λ c. c.scalar };
-
-    ghost target_scalar = { λ c. BoolScalar };
-
-    ghost gives = { λ c. compared_value c.comparison };
-
-    ghost Can = { λ c. IsNumber c.scalar };
-
-    ghost reads_back = { λ c x y can. compared_reads_back c.comparison x y };
-
-    ghost is_small = { λ c can. bool_small };
-
-    fn left(&self) -> Scalar {
-        self.scalar
-    }
-
-    fn right(&self) -> Scalar {
-        self.scalar
-    }
-
-    fn target(&self) -> Scalar {
-        Scalar::Bool
-    }
-
-    fn push(&self, block: BlockBuilder, operands: Operands<'_>) -> BlockBuilder {
-        compare_alike(self.comparison, &self.scalar, block, operands)
+        let task = Working {
+            work: self.work,
+            bools: is_bool(&self.scalar),
+            operands,
+            block,
+        };
+        on_number(&self.scalar, task, &mut [])
     }
 }
 
@@ -199,8 +142,6 @@ impl Pairing for ComparingSigns {
 
     ghost reads_back = { λ c x y can. compared_reads_back c.comparison x y };
 
-    ghost is_small = { λ c can. bool_small };
-
     fn left(&self) -> Scalar {
         eight_bytes(self.left_signed)
     }
@@ -214,7 +155,10 @@ impl Pairing for ComparingSigns {
     }
 
     fn push(&self, block: BlockBuilder, operands: Operands<'_>) -> BlockBuilder {
-        compare_mixed(self.comparison, self.left_signed, block, operands)
+        match self.left_signed {
+            true => compare::<i64, u64, LowFirst>(self.comparison, block, operands),
+            false => compare::<u64, i64, LowFirst>(self.comparison, block, operands),
+        }
     }
 }
 
@@ -238,8 +182,6 @@ impl Pairing for ComparingTexts {
     ghost Can = { λ c. Unit {0} };
 
     ghost reads_back = { λ c x y can. truth_reads_back c.comparison x y };
-
-    ghost is_small = { λ c can. bool_small };
 
     fn left(&self) -> Scalar {
         Scalar::Bytes(self.width)

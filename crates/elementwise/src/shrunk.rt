@@ -1,20 +1,19 @@
 //! Operands whose items repeat: what is made of the items that differ, stretched.
-ghost use Rattle.std.specs.Prelude.{◌≡◌, ◌≤◌, map, IfOk, IfErr, IsTrue};
+ghost use Rattle.std.specs.Prelude.{◌≡◌, IfOk, IfErr, IsTrue};
 ghost use Rattle.elem_descr.specs.declared.refusal.Refusal.TheVariants.{OutOfMemory};
-ghost use Rattle.elem_descr.specs.Items.{item_size};
-ghost use Rattle.elem_descr.specs.Blocks.{item_from};
-ghost use Rattle.shape_strides.specs.declared.memory_order.MemoryOrder.TheVariants.{C};
-ghost use Rattle.shape_strides.specs.Layouts.{offsets};
+ghost use Rattle.elem_descr.specs.declared.descr.Descr.TheVariants.{Scalar as ScalarDescr};
+ghost use Rattle.elem_descr.specs.declared.scalar.Scalar.TheVariants.{Bool as BoolScalar};
 ghost use Rattle.broadcasting.specs.Broadcasts.{can_stretch};
-ghost use Rattle.overlap_copy.specs.Blocks.{offsets_in};
 ghost use Rattle.elementwise.specs.Results.{stretched_items};
 ghost use Rattle.elementwise.specs.inside.Shrunk.{IsShrunk};
+ghost use Rattle.elementwise.specs.inside.Made.{IsMade};
 
-use crate::typed::stretched_to;
+use crate::pairing::{Alike, Work};
+use crate::typed::{make_stretched, stretched_to};
 use broadcasting::{shrink, shrunk_shape};
-use elem_descr::Refusal;
-use overlap_copy::{Owned, copy};
-use shape_strides::{Layout, MemoryOrder, Shape};
+use elem_descr::{Refusal, Scalar};
+use overlap_copy::Owned;
+use shape_strides::{Layout, Shape};
 use std::alloc::Global;
 
 /// Two layouts of one shape, which show their items once where both repeat them.
@@ -51,18 +50,17 @@ pub(crate) fn without_repeats(
     })
 }
 
-/// The items of an array that is stretched to a shape, in a block of their own.
+/// The bools of an array that is stretched to a shape, in a block of their own.
 pub(crate) fn spread(alloc: Global, made: &Owned, shape: &Shape) -> Result<Owned, Refusal>
-    requires small { item_size made.now.descr ≤ 8 }
+    requires bools { made.now.descr ≡ ScalarDescr BoolScalar }
     requires stretches { IsTrue (can_stretch made.now.layout.shape shape.now) }
-    ensures descr { IfOk result (λ o. o.descr ≡ made.now.descr) }
-    ensures shape { IfOk result (λ o. o.layout.shape ≡ shape.now) }
-    ensures order { IfOk result (λ o. offsets o.layout ≡ offsets_in C (item_size o.descr) o.layout.shape) }
-    ensures items { IfOk result (λ o. map (item_from o.descr o.block) (offsets o.layout)
-        ≡ stretched_items made.now.descr made.now.block made.now.layout o.layout.shape) }
+    ensures made { IfOk result (IsMade (ScalarDescr BoolScalar) shape.now (stretched_items made.now.descr made.now.block made.now.layout shape.now)) }
     ensures refused { IfErr result (λ refusal. refusal ≡ OutOfMemory) }
 {
     let _items = shape.items();
-    let wide = stretched_to(alloc, &made.layout, shape)?;
-    copy(alloc, &made.block, &wide, &made.descr, MemoryOrder::C)
+    let pairing = Alike {
+        work: Work::Cast(Scalar::Bool),
+        scalar: Scalar::Bool,
+    };
+    make_stretched::<Alike>(alloc, &pairing, made.items(), made.items(), shape)
 }

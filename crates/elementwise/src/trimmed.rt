@@ -1,6 +1,8 @@
 //! Byte strings without the NULs that end all of them.
 ghost use Rattle.std.specs.Prelude.{◌≡◌, ◌+◌, ◌≤◌, length, All, IfOk, IfErr, IsTrue};
 ghost use Rattle.elem_descr.specs.declared.refusal.Refusal.TheVariants.{OutOfMemory};
+ghost use Rattle.elem_descr.specs.declared.descr.Descr.TheVariants.{Scalar as ScalarDescr};
+ghost use Rattle.elem_descr.specs.declared.scalar.Scalar.TheVariants.{Bytes};
 ghost use Rattle.elem_descr.specs.Encoding.{without_nuls};
 ghost use Rattle.raw_block.specs.Bytes.{item_at};
 ghost use Rattle.shape_strides.specs.Layouts.{offsets};
@@ -9,7 +11,7 @@ use crate::shrunk::without_repeats;
 use crate::text_comparing::without_nuls;
 use broadcasting::repeats;
 use elem_descr::{BytesLen, Refusal};
-use raw_block::RawBlock;
+use overlap_copy::Items;
 use shape_strides::{FixedWalk, Layout, Shape};
 use std::alloc::Global;
 
@@ -29,37 +31,32 @@ fn longest(block: &[u8], layout: &Layout, width: usize) -> usize
 }
 
 /// The length to which the byte strings of an array can be cut: that of the longest, each looked at once.
-fn trimmed(
-    alloc: Global,
-    block: &RawBlock,
-    layout: &Layout,
-    width: BytesLen,
-) -> Result<BytesLen, Refusal>
-    requires inside { All (λ offset. offset + width ≤ length block.now) (offsets layout.now) }
+fn trimmed(alloc: Global, items: Items<'_>, width: BytesLen) -> Result<BytesLen, Refusal>
+    requires { items.descr.now ≡ ScalarDescr (Bytes width) }
     ensures within { IfOk result (λ n. n ≤ width) }
-    ensures same { IfOk result (λ n. All (λ offset. without_nuls (item_at offset n block.now) ≡ without_nuls (item_at offset width block.now)) (offsets layout.now)) }
+    ensures same { IfOk result (λ n. All (λ offset. without_nuls (item_at offset n items.entry.block.now) ≡ without_nuls (item_at offset width items.entry.block.now)) (offsets items.entry.layout.now)) }
     ensures refused { IfErr result (λ refusal. refusal ≡ OutOfMemory) }
 {
+    let layout = items.layout;
     let small = without_repeats(alloc, layout, layout, &layout.shape)?;
-    let most = longest(block.bytes(), &small.first, width.get());
+    let most = longest(items.block.bytes(), &small.first, width.get());
     Ok(BytesLen::try_new(most).unwrap())
 }
 
 /// The same where the array shows more places in a shape than it has items; else the length that it has.
 pub(crate) fn trimmed_in(
     alloc: Global,
-    block: &RawBlock,
-    layout: &Layout,
+    items: Items<'_>,
     width: BytesLen,
     shape: &Shape,
 ) -> Result<BytesLen, Refusal>
-    requires inside { All (λ offset. offset + width ≤ length block.now) (offsets layout.now) }
+    requires { items.descr.now ≡ ScalarDescr (Bytes width) }
     ensures within { IfOk result (λ n. n ≤ width) }
-    ensures same { IfOk result (λ n. All (λ offset. without_nuls (item_at offset n block.now) ≡ without_nuls (item_at offset width block.now)) (offsets layout.now)) }
+    ensures same { IfOk result (λ n. All (λ offset. without_nuls (item_at offset n items.entry.block.now) ≡ without_nuls (item_at offset width items.entry.block.now)) (offsets items.entry.layout.now)) }
     ensures refused { IfErr result (λ refusal. refusal ≡ OutOfMemory) }
 {
-    if repeats(layout) || layout.shape.items() < shape.items() {
-        return trimmed(alloc, block, layout, width);
+    if repeats(items.layout) || items.layout.shape.items() < shape.items() {
+        return trimmed(alloc, items, width);
     }
     Ok(width)
 }

@@ -7,7 +7,7 @@ use Rattle.elem_descr.specs.Items.{item_size}
 use Rattle.shape_strides.specs.Layouts.{offsets}
 use Rattle.broadcasting.specs.Broadcasts.{can_stretch}
 use Rattle.elementwise.specs.Results.{stretched_items}
-use Rattle.elementwise.specs.declared.operands.Items.{Items}
+use Rattle.overlap_copy.specs.declared.items.Items.{Items}
 use Rattle.overlap_copy.specs.declared.owned.Owned.{Owned}
 use Rattle.elem_descr.specs.declared.descr.Descr.{Descr}
 use Rattle.elem_descr.specs.Values.{LeafValue}

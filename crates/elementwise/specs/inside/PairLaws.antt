@@ -1,21 +1,16 @@
 -- What is made of two values is read back.
 use Rattle.std.proofs.Common.{◌≡◌, ◌≤◌, true, false, cond, refl, arith}
-use Rattle.std.specs.Prelude.{pos, negsuc, ◌-ℤ◌, int_lt}
+use Rattle.std.specs.Prelude.{pos, int_lt}
 use Rattle.elem_descr.specs.declared.scalar.Width.{Width}
 use Rattle.elem_descr.specs.declared.scalar.Width.TheVariants.{Two, Four, Eight}
 use Rattle.elem_descr.specs.declared.scalar.Scalar.{Scalar}
 use Rattle.elem_descr.specs.declared.scalar.Scalar.TheVariants.{Bool as BoolScalar, Byte, Int, Bytes}
 use Rattle.elem_descr.specs.Values.{LeafValue, number}
 use Rattle.elem_descr.specs.Encoding.{IsNumber, size, width_size, number_of, decode, encode}
-use Rattle.elem_descr.specs.EncodingLaws.{decode_encode}
-use Rattle.machine_numbers.specs.declared.operators.BinOp.{BinOp}
-use Rattle.machine_numbers.specs.declared.operators.UnOp.{UnOp}
-use Rattle.machine_numbers.specs.declared.operators.UnOp.TheVariants.{Negate, Invert}
 use Rattle.machine_numbers.specs.declared.operators.Comparison.{Comparison}
 use Rattle.elementwise.specs.Comparisons.{says, compared}
-use Rattle.machine_numbers.specs.Kinds.{is_bool, little}
-use Rattle.elementwise.specs.Operations.{exact}
-use Rattle.elementwise.specs.inside.PairPasses.{IsNative, binary_value, unary_value, compared_value, truth_value}
+use Rattle.machine_numbers.specs.Kinds.{little}
+use Rattle.elementwise.specs.inside.PairPasses.{IsNative, compared_value, truth_value}
 
 pub native_number : (scalar : Scalar) → IsNative scalar → IsNumber scalar
 native_number BoolScalar native = tt
@@ -28,9 +23,6 @@ number-little BoolScalar is = tt
 number-little (Byte signed) is = tt
 number-little (Int signed width order) is = tt
 number-little (Bytes n) never = never
-
-pub binary_reads_back : (op : BinOp) (scalar : Scalar) (x y : LeafValue) → IsNumber scalar → decode (little scalar) (encode (little scalar) (binary_value op (little scalar) x y)) ≡ binary_value op (little scalar) x y
-binary_reads_back op scalar x y is = decode_encode (little scalar) (exact op (little scalar) (number_of x) (number_of y)) (number-little scalar is)
 
 small_width : (width : Width) → width_size width ≤ 8
 small_width Two = omega arith
@@ -48,10 +40,6 @@ number_small scalar is = scalar_small (little scalar) (number-little scalar is)
 
 pub bool_small : size BoolScalar ≤ 8
 bool_small = omega arith
-
-pub unary_reads_back : (op : UnOp) (scalar : Scalar) (x y : LeafValue) → IsNumber scalar → decode (little scalar) (encode (little scalar) (unary_value op (little scalar) x y)) ≡ unary_value op (little scalar) x y
-unary_reads_back Negate scalar x y is = decode_encode (little scalar) (pos 0 -ℤ number_of y) (number-little scalar is)
-unary_reads_back Invert scalar x y is = decode_encode (little scalar) (cond (is_bool (little scalar)) (pos 1) (negsuc 0) -ℤ number_of y) (number-little scalar is)
 
 pub compared_reads_back : (comparison : Comparison) (x y : LeafValue) → decode BoolScalar (encode BoolScalar (compared_value comparison x y)) ≡ compared_value comparison x y
 compared_reads_back comparison x y =

@@ -4,11 +4,10 @@ use Rattle.elem_descr.specs.declared.scalar.Order.TheVariants.{Little}
 use Rattle.elem_descr.specs.declared.scalar.Scalar.{Scalar}
 use Rattle.elem_descr.specs.declared.scalar.Scalar.TheVariants.{Bool as BoolScalar, Byte, Int, Bytes}
 use Rattle.elem_descr.specs.Values.{LeafValue, number, text}
-use Rattle.elem_descr.specs.Encoding.{IsValueOf, number_of, decode, encode, without_nuls}
-use Rattle.machine_numbers.specs.declared.operators.BinOp.{BinOp}
-use Rattle.machine_numbers.specs.declared.operators.UnOp.{UnOp}
+use Rattle.elem_descr.specs.declared.descr.Descr.{Descr}
+use Rattle.elem_descr.specs.declared.descr.Descr.TheVariants.{Scalar as ScalarDescr}
+use Rattle.elem_descr.specs.Encoding.{IsNumber, IsValueOf, number_of, decode, encode, without_nuls}
 use Rattle.machine_numbers.specs.declared.operators.Comparison.{Comparison}
-use Rattle.elementwise.specs.Operations.{binary, unary}
 use Rattle.elementwise.specs.Comparisons.{says, compared}
 use Rattle.raw_block.specs.Bytes.{item_at}
 
@@ -27,17 +26,9 @@ IsNative (Bytes n) = ⊥
 abbrev pub value_pair : Scalar → Scalar → Scalar → (LeafValue → LeafValue → LeafValue) → List ℕ → List ℕ → List ℕ
 value_pair left right to f x y = encode to (f (decode left x) (decode right y))
 
--- an operation on the values of two items
-abbrev pub binary_value : BinOp → Scalar → LeafValue → LeafValue → LeafValue
-binary_value op scalar x y = number (binary op scalar (number_of x) (number_of y))
-
 -- what f makes of the items at two offsets
 abbrev pub pair_from : (List ℕ → List ℕ → List ℕ) → ℕ → ℕ → List ℕ → List ℕ → ℕ → ℕ → List ℕ
 pair_from f width width' left right o o' = f (item_at o width left) (item_at o' width' right)
-
--- an operation on the value of the second item
-abbrev pub unary_value : UnOp → Scalar → LeafValue → LeafValue → LeafValue
-unary_value op scalar x y = number (unary op scalar (number_of y))
 
 -- what a comparison says of two numbers, as 0 or 1
 abbrev pub says_number : Comparison → ℤ → ℤ → ℤ
@@ -58,3 +49,7 @@ text_pair comparison x y = encode BoolScalar (truth_value comparison (text (with
 -- each value of the first scalar is one of the second
 abbrev pub Holds : Scalar → Scalar → Type 0
 Holds from to = (z : ℤ) → IsValueOf from z → IsValueOf to z
+
+-- the items of an element type are numbers, which are values of a scalar
+abbrev pub AreHeld : Descr → Scalar → Type 0
+AreHeld d to = (from : Scalar) × (d ≡ ScalarDescr from) × IsNumber from × Holds from to

@@ -11,8 +11,8 @@ use Rattle.bench_engine.proofs.given.given_copy.Goals as goal
 pub returns-then-not-can_cast : goal.returns-then-not-can_cast
 returns-then-not-can_cast c name = inr (inr (refl, c.in_ok-wide.wide, stretches c.args.copy.now.layout c.in_ok-wide.wide c.args.shape.now c.in_ok-wide.ensures, sym c.if-not-can_cast.ensures))
 
-pub cast-requires : goal.cast-requires
-cast-requires c = record { inside = wide-inside c.args.copy.now.block (item_size c.args.copy.now.descr) c.args.copy.now.layout c.in_ok-wide.wide c.args.shape.now c.in_ok-wide.ensures (offsets_within c.args.copy.now.layout _ _ c.args.copy.now.fills_block.fits) }
+pub invariant_of-items : goal.invariant_of-items
+invariant_of-items c = record { inside = wide-inside c.args.copy.now.block (item_size c.args.copy.now.descr) c.args.copy.now.layout c.in_ok-wide.wide c.args.shape.now c.in_ok-wide.ensures (offsets_within c.args.copy.now.layout _ _ c.args.copy.now.fills_block.fits) }
 
 pub returns-in_err-owned : goal.returns-in_err-owned
 returns-in_err-owned c name =

@@ -23,8 +23,8 @@ returns-then-keeps_items c =
           (wide-inside r.block.now (item_size r.descr.now) c.args.view.now c.in_ok-wide.wide c.args.shape.now c.in_ok-wide.ensures c.requires.inside),
     )
 
-pub cast-requires : goal.cast-requires
-cast-requires c = record { inside = wide-inside c.args.array.now.block.now (item_size c.args.array.now.descr.now) c.args.view.now c.in_ok-wide.wide c.args.shape.now c.in_ok-wide.ensures c.requires.inside }
+pub invariant_of-items : goal.invariant_of-items
+invariant_of-items c = record { inside = wide-inside c.args.array.now.block.now (item_size c.args.array.now.descr.now) c.args.view.now c.in_ok-wide.wide c.args.shape.now c.in_ok-wide.ensures c.requires.inside }
 
 pub returns-in_err-owned : goal.returns-in_err-owned
 returns-in_err-owned c =

@@ -18,8 +18,8 @@ returns-then-keeps_items c =
           ∙ sym (map-map (cast_item o.descr c.args.descr.now) (item_from o.descr o.block) (offsets o.layout)),
     )
 
-pub cast-requires : goal.cast-requires
-cast-requires c = record { inside = own-inside c.args.new }
+pub invariant_of-items : goal.invariant_of-items
+invariant_of-items c = record { inside = own-inside c.args.new }
 
 pub returns : goal.returns
 returns c =

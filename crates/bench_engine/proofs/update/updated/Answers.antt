@@ -15,6 +15,12 @@ changed-requires-clause-inside c =
     let is = subst (λ (t' : Target). IsTarget c.args.bench.now t.0 t.1 t.2 t') c.in-View.is t.4 in
     view-inside c.args.bench.now t.0 t.1 t.2 c.args.array.now t.3 _ is
 
+pub invariant_of-old : goal.invariant_of-old
+invariant_of-old c =
+    let t = c.requires.target in
+    let is = subst (λ (t' : Target). IsTarget c.args.bench.now t.0 t.1 t.2 t') c.in-View.is t.4 in
+    record { inside = view-inside c.args.bench.now t.0 t.1 t.2 c.args.array.now t.3 _ is }
+
 pub returns-in-View : goal.returns-in-View
 returns-in-View c name a part shows target =
     let s = c.args.bench.now in

@@ -24,6 +24,13 @@ returns-in_err-taken c v stands =
     rw (p.1, p.2) (passed (taken s it.0 (unwrap_or c.args.operand.now.index (Ellipsis ∷ []))) _ _
     (λ bad. ap (λ (r : Result Array Refusal). worked_with c.args.operation v (r >>= (λ part. Ok (values_of s part)))) (part-bad s c.args.operand.now it.0 it.1 _ bad)) (c.in_err-taken.ensures it.0 it.2))
 
+pub items_taken-requires : goal.items_taken-requires
+items_taken-requires c =
+    let s = c.args.bench.now in
+    let it = found-array s _ c.unwrap-array.result (rw c.unwrap-array.ensures at c.get.ensures) in
+    let is = given-taken s it.0 c.unwrap-array.result (list_all is_basic (unwrap_or c.args.operand.now.index (Ellipsis ∷ []))) c.in_ok-taken.taken (taken s it.0 (unwrap_or c.args.operand.now.index (Ellipsis ∷ []))) (c.in_ok-taken.ensures it.0 it.2) in
+    (s, it.0, _, is.0, it.2, is.2)
+
 pub work-requires-clause-right : goal.work-requires-clause-right
 work-requires-clause-right c =
     let s = c.args.bench.now in

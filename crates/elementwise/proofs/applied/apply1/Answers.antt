@@ -1,9 +1,15 @@
-use Rattle.std.proofs.Common.{inr, ◌∙◌}
+use Rattle.std.proofs.Common.{inr, Ok, map, sym, ◌∙◌}
 use Rattle.std.proofs.lemmas.Result.{err_from_is_err_and}
 use Rattle.elem_descr.specs.declared.descr.Descr.TheVariants.{Scalar as ScalarDescr}
-use Rattle.elementwise.specs.Casts.{can_cast}
-use Rattle.elementwise.proofs.PromotedLaws.{promoted_one, can_scalar, is_scalar, operand_refused, kind_refused, one_given}
-use Rattle.elementwise.proofs.AppliedLaws.{given}
+use Rattle.elem_descr.specs.Blocks.{item_from}
+use Rattle.shape_strides.specs.Layouts.{offsets}
+use Rattle.broadcasting.specs.BroadcastLaws.{can-itself}
+use Rattle.machine_numbers.specs.Kinds.{little}
+use Rattle.elementwise.specs.Results.{unary_item}
+use Rattle.elementwise.specs.inside.PairLaws.{scalar_small, number_small}
+use Rattle.elementwise.proofs.MadeLaws.{made-gives, made-order, made-items, made-encoded}
+use Rattle.elementwise.proofs.PromotedLaws.{promoted_one, native-little, number-read, can-number, is_scalar, operand_refused, kind_refused, one_given}
+use Rattle.elementwise.proofs.AppliedLaws.{changed}
 use Rattle.elementwise.proofs.applied.apply1.Goals as goal
 
 pub returns-in_err-from-clause-gives : goal.returns-in_err-from-clause-gives
@@ -16,16 +22,52 @@ returns-in_err-scalar-clause-gives c =
     let p = err_from_is_err_and c.from_residual-in_err-scalar.result c.from_residual-in_err-scalar.ensures.1 in
     rw (p.1, p.2) (inr (kind_refused c.args.op c.args.operand.descr.now c.args.operand.layout.now.shape c.in_ok-from.from c.in_err-scalar.field-0.0 c.in_ok-from.ensures c.in_err-scalar.ensures))
 
-pub change-requires-clause-native : goal.change-requires-clause-native
-change-requires-clause-native c = (promoted_one c.args.op c.in_ok-from.from c.in_ok-scalar.scalar c.in_ok-scalar.ensures).0
+pub read_as-read-requires : goal.read_as-read-requires
+read_as-read-requires c = native-little c.in_ok-scalar.scalar (promoted_one c.args.op c.in_ok-from.from c.in_ok-scalar.scalar c.in_ok-scalar.ensures).0
 
-pub change-requires-clause-cast : goal.change-requires-clause-cast
-change-requires-clause-cast c =
+pub make_cast-requires-clause-can : goal.make_cast-requires-clause-can
+make_cast-requires-clause-can c = (number-read c.read_as-read.result c.in_ok-scalar.scalar c.read_as-read.ensures (promoted_one c.args.op c.in_ok-from.from c.in_ok-scalar.scalar c.in_ok-scalar.ensures).0, tt)
+
+pub make_cast-requires-clause-small : goal.make_cast-requires-clause-small
+make_cast-requires-clause-small c =
+    let number = number-read c.read_as-read.result c.in_ok-scalar.scalar c.read_as-read.ensures (promoted_one c.args.op c.in_ok-from.from c.in_ok-scalar.scalar c.in_ok-scalar.ensures).0 in
+    (scalar_small c.read_as-read.result number, scalar_small c.read_as-read.result number, number_small c.read_as-read.result number)
+
+pub make_cast-requires-clause-left : goal.make_cast-requires-clause-left
+make_cast-requires-clause-left c =
     let is = promoted_one c.args.op c.in_ok-from.from c.in_ok-scalar.scalar c.in_ok-scalar.ensures in
-    (λ i. can_cast (is_scalar c.args.operand.descr.now c.in_ok-from.from c.in_ok-from.ensures i) (ScalarDescr c.in_ok-scalar.scalar)) ∙ can_scalar c.in_ok-from.from c.in_ok-scalar.scalar is.1 is.0
+    can-number c.args.operand.descr.now c.in_ok-from.from c.read_as-read.result (is_scalar c.args.operand.descr.now c.in_ok-from.from c.in_ok-from.ensures) is.1 (number-read c.read_as-read.result c.in_ok-scalar.scalar c.read_as-read.ensures is.0)
+
+pub make_cast-requires-clause-right : goal.make_cast-requires-clause-right
+make_cast-requires-clause-right c =
+    let is = promoted_one c.args.op c.in_ok-from.from c.in_ok-scalar.scalar c.in_ok-scalar.ensures in
+    can-number c.args.operand.descr.now c.in_ok-from.from c.read_as-read.result (is_scalar c.args.operand.descr.now c.in_ok-from.from c.in_ok-from.ensures) is.1 (number-read c.read_as-read.result c.in_ok-scalar.scalar c.read_as-read.ensures is.0)
+
+pub make_cast-requires-clause-stretches : goal.make_cast-requires-clause-stretches
+make_cast-requires-clause-stretches c = can-itself c.args.operand.layout.now.shape
+
+pub make_cast-requires-clause-also : goal.make_cast-requires-clause-also
+make_cast-requires-clause-also c = can-itself c.args.operand.layout.now.shape
 
 pub returns-clause-gives : goal.returns-clause-gives
 returns-clause-gives c =
-    given c.change.result _ (ScalarDescr c.in_ok-scalar.scalar) c.args.operand.layout.now.shape
-    (one_given c.args.op c.args.operand.descr.now c.args.operand.layout.now.shape c.in_ok-from.from c.in_ok-scalar.scalar c.in_ok-from.ensures c.in_ok-scalar.ensures)
-    c.change.ensures.descr c.change.ensures.shape c.change.ensures.refused
+    made-gives (ScalarDescr (little c.read_as-read.result)) c.args.operand.layout.now.shape _ c.make_cast.result _
+    (one_given c.args.op c.args.operand.descr.now c.args.operand.layout.now.shape c.in_ok-from.from c.in_ok-scalar.scalar c.in_ok-from.ensures c.in_ok-scalar.ensures
+    ∙ λ i. Ok (ScalarDescr (sym c.read_as-read.ensures i), c.args.operand.layout.now.shape))
+    c.make_cast.ensures.made c.make_cast.ensures.refused
+
+pub returns-clause-order : goal.returns-clause-order
+returns-clause-order c = made-order (ScalarDescr (little c.read_as-read.result)) c.args.operand.layout.now.shape _ c.make_cast.result c.make_cast.ensures.made
+
+pub returns-clause-items : goal.returns-clause-items
+returns-clause-items c =
+    let x = c.args.operand in
+    let read = c.read_as-read.result in
+    let is = promoted_one c.args.op c.in_ok-from.from c.in_ok-scalar.scalar c.in_ok-scalar.ensures in
+    let number = number-read read c.in_ok-scalar.scalar c.read_as-read.ensures is.0 in
+    made-items (ScalarDescr (little read)) x.layout.now.shape _ (λ d _. map (λ offset. unary_item c.args.op d (item_from x.descr.now x.block.now offset)) (offsets x.layout.now)) c.make_cast.result
+    (changed c.args.op read x.descr.now x.layout.now x.block.now number (can-number x.descr.now c.in_ok-from.from read (is_scalar x.descr.now c.in_ok-from.from c.in_ok-from.ensures) is.1 number))
+    c.make_cast.ensures.made
+
+pub returns-clause-encoded : goal.returns-clause-encoded
+returns-clause-encoded c = made-encoded (ScalarDescr (little c.read_as-read.result)) c.args.operand.layout.now.shape _ c.make_cast.result c.make_cast.ensures.made

@@ -1,9 +1,12 @@
-use Rattle.std.proofs.Common.{inl, inr, ◌∙◌}
+use Rattle.std.proofs.Common.{inl, inr, Ok, sym, ◌∙◌}
 use Rattle.std.proofs.lemmas.Result.{err_from_is_err_and}
 use Rattle.elem_descr.specs.declared.descr.Descr.TheVariants.{Scalar as ScalarDescr}
-use Rattle.elementwise.specs.Casts.{can_cast}
-use Rattle.elementwise.proofs.PromotedLaws.{promoted, can_scalar, is_scalar, left_refused, right_refused, promotion_refused, shapes_refused, all_given}
-use Rattle.elementwise.proofs.AppliedLaws.{given}
+use Rattle.machine_numbers.specs.Kinds.{little}
+use Rattle.elementwise.specs.Results.{pairwise, binary_item, stretched_items}
+use Rattle.elementwise.specs.inside.PairLaws.{scalar_small, number_small}
+use Rattle.elementwise.proofs.MadeLaws.{made-gives, made-order, made-items, made-encoded}
+use Rattle.elementwise.proofs.PromotedLaws.{promoted, native-little, number-read, can-number, is_scalar, left_refused, right_refused, promotion_refused, shapes_refused, all_given}
+use Rattle.elementwise.proofs.AppliedLaws.{combined}
 use Rattle.elementwise.proofs.applied.apply2.Goals as goal
 
 pub returns-in_err-from-clause-gives : goal.returns-in_err-from-clause-gives
@@ -29,24 +32,52 @@ returns-in_err-shape-clause-gives c =
       | inr there ↦ inr (shapes_refused c.args.op c.args.left.descr.now c.args.left.layout.now.shape c.args.right.descr.now c.args.right.layout.now.shape c.in_ok-from.from c.in_ok-other.other c.in_ok-scalar.scalar c.in_err-shape.field-0.0 c.in_ok-from.ensures c.in_ok-other.ensures c.in_ok-scalar.ensures there)
     ])
 
-pub combine-requires-clause-native : goal.combine-requires-clause-native
-combine-requires-clause-native c = (promoted c.args.op c.in_ok-from.from c.in_ok-other.other c.in_ok-scalar.scalar c.in_ok-scalar.ensures).native
+pub read_as-read-requires : goal.read_as-read-requires
+read_as-read-requires c = native-little c.in_ok-scalar.scalar (promoted c.args.op c.in_ok-from.from c.in_ok-other.other c.in_ok-scalar.scalar c.in_ok-scalar.ensures).native
 
-pub combine-requires-clause-op : goal.combine-requires-clause-op
-combine-requires-clause-op c = (promoted c.args.op c.in_ok-from.from c.in_ok-other.other c.in_ok-scalar.scalar c.in_ok-scalar.ensures).no_division
-
-pub combine-requires-clause-left_cast : goal.combine-requires-clause-left_cast
-combine-requires-clause-left_cast c =
+pub make_cast-requires-clause-can : goal.make_cast-requires-clause-can
+make_cast-requires-clause-can c =
     let is = promoted c.args.op c.in_ok-from.from c.in_ok-other.other c.in_ok-scalar.scalar c.in_ok-scalar.ensures in
-    (λ i. can_cast (is_scalar c.args.left.descr.now c.in_ok-from.from c.in_ok-from.ensures i) (ScalarDescr c.in_ok-scalar.scalar)) ∙ can_scalar c.in_ok-from.from c.in_ok-scalar.scalar is.left is.native
+    (number-read c.read_as-read.result c.in_ok-scalar.scalar c.read_as-read.ensures is.native, is.no_division)
 
-pub combine-requires-clause-right_cast : goal.combine-requires-clause-right_cast
-combine-requires-clause-right_cast c =
+pub make_cast-requires-clause-small : goal.make_cast-requires-clause-small
+make_cast-requires-clause-small c =
     let is = promoted c.args.op c.in_ok-from.from c.in_ok-other.other c.in_ok-scalar.scalar c.in_ok-scalar.ensures in
-    (λ i. can_cast (is_scalar c.args.right.descr.now c.in_ok-other.other c.in_ok-other.ensures i) (ScalarDescr c.in_ok-scalar.scalar)) ∙ can_scalar c.in_ok-other.other c.in_ok-scalar.scalar is.right is.native
+    let number = number-read c.read_as-read.result c.in_ok-scalar.scalar c.read_as-read.ensures is.native in
+    (scalar_small c.read_as-read.result number, scalar_small c.read_as-read.result number, number_small c.read_as-read.result number)
+
+pub make_cast-requires-clause-left : goal.make_cast-requires-clause-left
+make_cast-requires-clause-left c =
+    let is = promoted c.args.op c.in_ok-from.from c.in_ok-other.other c.in_ok-scalar.scalar c.in_ok-scalar.ensures in
+    can-number c.args.left.descr.now c.in_ok-from.from c.read_as-read.result (is_scalar c.args.left.descr.now c.in_ok-from.from c.in_ok-from.ensures) is.left (number-read c.read_as-read.result c.in_ok-scalar.scalar c.read_as-read.ensures is.native)
+
+pub make_cast-requires-clause-right : goal.make_cast-requires-clause-right
+make_cast-requires-clause-right c =
+    let is = promoted c.args.op c.in_ok-from.from c.in_ok-other.other c.in_ok-scalar.scalar c.in_ok-scalar.ensures in
+    can-number c.args.right.descr.now c.in_ok-other.other c.read_as-read.result (is_scalar c.args.right.descr.now c.in_ok-other.other c.in_ok-other.ensures) is.right (number-read c.read_as-read.result c.in_ok-scalar.scalar c.read_as-read.ensures is.native)
 
 pub returns-clause-gives : goal.returns-clause-gives
 returns-clause-gives c =
-    given c.combine.result _ (ScalarDescr c.in_ok-scalar.scalar) c.in_ok-shape.shape
-    (all_given c.args.op c.args.left.descr.now c.args.left.layout.now.shape c.args.right.descr.now c.args.right.layout.now.shape c.in_ok-from.from c.in_ok-other.other c.in_ok-scalar.scalar c.in_ok-shape.shape c.in_ok-from.ensures c.in_ok-other.ensures c.in_ok-scalar.ensures c.in_ok-shape.ensures.value)
-    c.combine.ensures.descr c.combine.ensures.shape c.combine.ensures.refused
+    made-gives (ScalarDescr (little c.read_as-read.result)) c.in_ok-shape.shape _ c.make_cast.result _
+    (all_given c.args.op c.args.left.descr.now c.args.left.layout.now.shape c.args.right.descr.now c.args.right.layout.now.shape c.in_ok-from.from c.in_ok-other.other c.in_ok-scalar.scalar c.in_ok-shape.shape c.in_ok-from.ensures c.in_ok-other.ensures c.in_ok-scalar.ensures c.in_ok-shape.ensures.value
+    ∙ λ i. Ok (ScalarDescr (sym c.read_as-read.ensures i), c.in_ok-shape.shape))
+    c.make_cast.ensures.made c.make_cast.ensures.refused
+
+pub returns-clause-order : goal.returns-clause-order
+returns-clause-order c = made-order (ScalarDescr (little c.read_as-read.result)) c.in_ok-shape.shape _ c.make_cast.result c.make_cast.ensures.made
+
+pub returns-clause-items : goal.returns-clause-items
+returns-clause-items c =
+    let x = c.args.left in
+    let y = c.args.right in
+    let read = c.read_as-read.result in
+    let shape = c.in_ok-shape.shape in
+    let is = promoted c.args.op c.in_ok-from.from c.in_ok-other.other c.in_ok-scalar.scalar c.in_ok-scalar.ensures in
+    let number = number-read read c.in_ok-scalar.scalar c.read_as-read.ensures is.native in
+    made-items (ScalarDescr (little read)) shape _ (λ d shape. pairwise (binary_item c.args.op d) (stretched_items x.descr.now x.block.now x.layout.now shape) (stretched_items y.descr.now y.block.now y.layout.now shape)) c.make_cast.result
+    (combined c.args.op read x.descr.now y.descr.now (stretched_items x.descr.now x.block.now x.layout.now shape) (stretched_items y.descr.now y.block.now y.layout.now shape) number
+    (can-number x.descr.now c.in_ok-from.from read (is_scalar x.descr.now c.in_ok-from.from c.in_ok-from.ensures) is.left number) (can-number y.descr.now c.in_ok-other.other read (is_scalar y.descr.now c.in_ok-other.other c.in_ok-other.ensures) is.right number))
+    c.make_cast.ensures.made
+
+pub returns-clause-encoded : goal.returns-clause-encoded
+returns-clause-encoded c = made-encoded (ScalarDescr (little c.read_as-read.result)) c.in_ok-shape.shape _ c.make_cast.result c.make_cast.ensures.made

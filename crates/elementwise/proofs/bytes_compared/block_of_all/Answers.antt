@@ -7,7 +7,7 @@ use Rattle.elementwise.proofs.bytes_compared.block_of_all.Goals as goal
 
 pub loop-offset-preserved : goal.loop-offset-preserved
 loop-offset-preserved c =
-    let a = c.args.operand in
+    let a = c.args.operand.now.items in
     let steps = c.in-Some.ensures.steps in
     record {
       inside = All-rest (λ offset. offset + item_size a.descr.now ≤ length a.block.now) _ _ _ steps c.loop-offset.invariant.inside;

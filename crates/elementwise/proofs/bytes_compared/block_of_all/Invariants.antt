@@ -6,7 +6,7 @@ use Rattle.elementwise.proofs.bytes_compared.block_of_all.Given as goal
 
 abbrev pub invariant-loop-offset : goal.invariant-loop-offset
 invariant-loop-offset l = record {
-  inside : All (λ offset. offset + item_size l.operand.descr.now ≤ length l.operand.block.now) l.offset-iterator;
+  inside : All (λ offset. offset + item_size l.operand.items.descr.now ≤ length l.operand.items.block.now) l.offset-iterator;
   room : length l.offset-iterator ≡ l.block.1;
-  left : l.block.0 ++ map (says_byte l.comparison l.operand.descr.now l.operand.block.now l.other) l.offset-iterator ≡ map (says_byte l.comparison l.operand.descr.now l.operand.block.now l.other) (offsets l.operand.layout.now);
+  left : l.block.0 ++ map (says_byte l.comparison l.operand.items.descr.now l.operand.items.block.now l.other) l.offset-iterator ≡ map (says_byte l.comparison l.operand.items.descr.now l.operand.items.block.now l.other) (offsets l.operand.items.layout.now);
 }

@@ -1,10 +1,15 @@
-use Rattle.std.proofs.Common.{inr, sym, ◌∙◌}
+use Rattle.std.proofs.Common.{[], ◌∷◌, map, inr, sym, ◌∙◌}
 use Rattle.std.proofs.lemmas.Result.{err_from_is_err_and}
 use Rattle.elem_descr.specs.declared.descr.Descr.TheVariants.{Scalar as ScalarDescr}
 use Rattle.elem_descr.specs.declared.scalar.Scalar.TheVariants.{Bool as BoolScalar}
 use Rattle.shape_strides.specs.Layouts.{offsets}
-use Rattle.elementwise.proofs.AppliedLaws.{given}
-use Rattle.elementwise.proofs.BytesComparedLaws.{operand_refused, number_refused, one_given, moved_text}
+use Rattle.elem_descr.specs.Values.{text}
+use Rattle.elem_descr.specs.Encoding.{without_nuls}
+use Rattle.elem_descr.specs.Blocks.{item_from}
+use Rattle.elementwise.specs.Results.{compared_item}
+use Rattle.elementwise.proofs.PromotedLaws.{is_scalar}
+use Rattle.elementwise.proofs.MadeLaws.{made-gives, made-order, made-items, made-encoded}
+use Rattle.elementwise.proofs.BytesComparedLaws.{operand_refused, number_refused, one_given}
 use Rattle.elementwise.proofs.bytes_compared.compare_bytes.Goals as goal
 
 pub returns-in_err-from-clause-gives : goal.returns-in_err-from-clause-gives
@@ -16,12 +21,23 @@ pub returns-then-not-is_text-clause-gives : goal.returns-then-not-is_text-clause
 returns-then-not-is_text-clause-gives c =
     inr (number_refused c.args.operand.descr.now c.args.operand.layout.now.shape c.in_ok-from.from c.in_ok-from.ensures (sym c.is_text.ensures ∙ c.if-not-is_text.true))
 
+pub compare_once-requires-clause-from : goal.compare_once-requires-clause-from
+compare_once-requires-clause-from c = is_scalar c.args.operand.descr.now c.in_ok-from.from c.in_ok-from.ensures
+
 pub returns-clause-gives : goal.returns-clause-gives
 returns-clause-gives c =
-    given c.compare_once.result _ (ScalarDescr BoolScalar) c.args.operand.layout.now.shape
+    made-gives (ScalarDescr BoolScalar) c.args.operand.layout.now.shape _ c.compare_once.result _
     (one_given c.args.operand.descr.now c.args.operand.layout.now.shape c.in_ok-from.from c.in_ok-from.ensures (sym c.is_text.ensures ∙ c.if-not-is_text.false))
-    c.compare_once.ensures.descr c.compare_once.ensures.shape c.compare_once.ensures.refused
+    c.compare_once.ensures.made c.compare_once.ensures.refused
+
+pub returns-clause-order : goal.returns-clause-order
+returns-clause-order c = made-order (ScalarDescr BoolScalar) c.args.operand.layout.now.shape _ c.compare_once.result c.compare_once.ensures.made
 
 pub returns-clause-items : goal.returns-clause-items
 returns-clause-items c =
-    moved_text c.args.comparison c.args.operand.descr.now c.compare_once.result c.args.operand.block.now (offsets c.args.operand.layout.now) _ _ c.without_nuls.ensures c.compare_once.ensures.items
+    let x = c.args.operand in
+    made-items (ScalarDescr BoolScalar) x.layout.now.shape _ (λ _ _. map (λ offset. compared_item c.args.comparison (item_from x.descr.now x.block.now offset) (text (without_nuls c.args.bytes.now) ∷ [])) (offsets x.layout.now)) c.compare_once.result
+    (λ i. map (λ offset. compared_item c.args.comparison (item_from x.descr.now x.block.now offset) (text (c.without_nuls.ensures i) ∷ [])) (offsets x.layout.now)) c.compare_once.ensures.made
+
+pub returns-clause-encoded : goal.returns-clause-encoded
+returns-clause-encoded c = made-encoded (ScalarDescr BoolScalar) c.args.operand.layout.now.shape _ c.compare_once.result c.compare_once.ensures.made

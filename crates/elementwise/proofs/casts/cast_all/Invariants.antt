@@ -7,5 +7,5 @@ use Rattle.elementwise.proofs.casts.cast_all.Given as goal
 abbrev pub invariant-loop-k : goal.invariant-loop-k
 invariant-loop-k l = record {
   len : length l.bytes ≡ length l.fn.bytes;
-  done : (k : ℕ) → k < l.k → IsLeafCast l.from l.to l.other (offsets l.layout) l.bytes k;
+  done : (k : ℕ) → k < l.k → IsLeafCast l.from.descr.now l.to l.from.block.now (offsets l.from.layout.now) l.bytes k;
 }

@@ -1,16 +1,19 @@
-use Rattle.std.proofs.Common.{◌∙◌, length, arith, ap}
+use Rattle.std.proofs.Common.{◌∙◌, length}
+use Rattle.elem_descr.specs.declared.descr.Descr.TheVariants.{Scalar as ScalarDescr}
+use Rattle.elem_descr.specs.declared.scalar.Scalar.TheVariants.{Bool as BoolScalar}
 use Rattle.elem_descr.specs.Items.{item_size}
 use Rattle.broadcasting.specs.Broadcasts.{can_stretch}
 use Rattle.broadcasting.specs.BroadcastLaws.{can-itself}
 use Rattle.elementwise.specs.Results.{compared_item}
-use Rattle.elementwise.proofs.ShrunkLaws.{descr_told, bools_told, pairs_spread}
+use Rattle.elementwise.proofs.ShrunkLaws.{pairs_spread}
+use Rattle.elementwise.proofs.MadeLaws.{made-as}
 use Rattle.elementwise.proofs.compared.compare_shrunk.Goals as goal
 
-pub compare_scalars-requires-clause-left : goal.compare_scalars-requires-clause-left
-compare_scalars-requires-clause-left c = c.in_ok-small.ensures.first.inside (length c.args.left.block.now) (item_size c.args.left.descr.now) c.requires.left
+pub invariant_of-first : goal.invariant_of-first
+invariant_of-first c = let x = c.args.left.now.items in record { inside = c.in_ok-small.ensures.first.inside (length x.block.now) (item_size x.descr.now) x.inside }
 
-pub compare_scalars-requires-clause-right : goal.compare_scalars-requires-clause-right
-compare_scalars-requires-clause-right c = c.in_ok-small.ensures.second.inside (length c.args.right.block.now) (item_size c.args.right.descr.now) c.requires.right
+pub invariant_of-second : goal.invariant_of-second
+invariant_of-second c = let y = c.args.right.now.items in record { inside = c.in_ok-small.ensures.second.inside (length y.block.now) (item_size y.descr.now) y.inside }
 
 pub compare_scalars-requires-clause-stretches : goal.compare_scalars-requires-clause-stretches
 compare_scalars-requires-clause-stretches c = let s = c.in_ok-small.small in (λ i. can_stretch (c.in_ok-small.ensures.first.shape_is i) s.shape) ∙ can-itself s.shape
@@ -18,20 +21,18 @@ compare_scalars-requires-clause-stretches c = let s = c.in_ok-small.small in (λ
 pub compare_scalars-requires-clause-also : goal.compare_scalars-requires-clause-also
 compare_scalars-requires-clause-also c = let s = c.in_ok-small.small in (λ i. can_stretch (c.in_ok-small.ensures.second.shape_is i) s.shape) ∙ can-itself s.shape
 
-pub spread-requires-clause-small : goal.spread-requires-clause-small
-spread-requires-clause-small c = omega (arith, ap item_size c.in_ok-made.ensures.descr)
+pub spread-requires-clause-bools : goal.spread-requires-clause-bools
+spread-requires-clause-bools c = c.in_ok-made.ensures.made.descr_is
 
 pub spread-requires-clause-stretches : goal.spread-requires-clause-stretches
-spread-requires-clause-stretches c = (λ i. can_stretch (c.in_ok-made.ensures.shape i) c.args.shape.now) ∙ c.in_ok-small.ensures.first.can
+spread-requires-clause-stretches c = (λ i. can_stretch (c.in_ok-made.ensures.made.shape_is i) c.args.shape.now) ∙ c.in_ok-small.ensures.first.can
 
-pub returns-clause-descr : goal.returns-clause-descr
-returns-clause-descr c = descr_told c.in_ok-made.made c.spread.result c.in_ok-made.ensures.descr c.spread.ensures.descr
-
-pub returns-clause-order : goal.returns-clause-order
-returns-clause-order c = bools_told c.in_ok-made.made c.spread.result c.args.shape.now c.in_ok-made.ensures.descr c.spread.ensures.descr c.spread.ensures.shape c.spread.ensures.order
-
-pub returns-clause-items : goal.returns-clause-items
-returns-clause-items c =
+pub returns-clause-made : goal.returns-clause-made
+returns-clause-made c =
     let s = c.in_ok-small in
-    pairs_spread (compared_item c.args.comparison) c.args.left.descr.now c.args.right.descr.now c.args.left.block.now c.args.right.block.now c.args.left.layout.now c.args.right.layout.now s.small.first s.small.second s.small.shape c.args.shape.now
-    c.in_ok-made.made c.spread.result s.ensures.first s.ensures.second c.in_ok-made.ensures.shape c.in_ok-made.ensures.items c.spread.ensures.shape c.spread.ensures.items
+    let x = c.args.left.now.items in
+    let y = c.args.right.now.items in
+    made-as (ScalarDescr BoolScalar) c.args.shape.now _ _ c.spread.result
+    (pairs_spread (compared_item c.args.comparison) (ScalarDescr BoolScalar) x.descr.now y.descr.now x.block.now y.block.now x.layout.now y.layout.now s.small.first s.small.second s.small.shape c.args.shape.now c.in_ok-made.made
+    s.ensures.first s.ensures.second c.in_ok-made.ensures.made)
+    c.spread.ensures.made

@@ -1,26 +1,30 @@
-use Rattle.std.proofs.Common.{◌∙◌, refl}
+use Rattle.std.proofs.Common.{arith}
 use Rattle.std.specs.Prelude.{not}
 use Rattle.elem_descr.specs.declared.descr.Descr.TheVariants.{Scalar as ScalarDescr}
 use Rattle.elem_descr.specs.declared.scalar.Order.TheVariants.{Little}
 use Rattle.elem_descr.specs.declared.scalar.Width.TheVariants.{Eight}
-use Rattle.elem_descr.specs.declared.scalar.Scalar.TheVariants.{Int}
-use Rattle.elementwise.specs.Casts.{can_cast}
-use Rattle.elementwise.proofs.PromotedLaws.{can_scalar}
+use Rattle.elem_descr.specs.declared.scalar.Scalar.TheVariants.{Bool as BoolScalar, Int}
+use Rattle.elementwise.proofs.PromotedLaws.{can-number}
 use Rattle.elementwise.proofs.HeldLaws.{number-no_text, compared_all}
+use Rattle.elementwise.proofs.MadeLaws.{made-as}
 use Rattle.elementwise.proofs.compared.compare_signs.Goals as goal
 
-pub make_cast-requires-clause-left_cast : goal.make_cast-requires-clause-left_cast
-make_cast-requires-clause-left_cast c =
-    (λ i. can_cast (c.requires.from i) (ScalarDescr (Int c.args.left_signed Eight Little))) ∙ can_scalar c.args.from.now (Int c.args.left_signed Eight Little) (number-no_text c.args.from.now c.requires.left_number) refl
+pub make_cast-requires-clause-can : goal.make_cast-requires-clause-can
+make_cast-requires-clause-can c = tt
 
-pub make_cast-requires-clause-right_cast : goal.make_cast-requires-clause-right_cast
-make_cast-requires-clause-right_cast c =
-    (λ i. can_cast (c.requires.other i) (ScalarDescr (Int (not c.args.left_signed) Eight Little))) ∙ can_scalar c.args.other.now (Int (not c.args.left_signed) Eight Little) (number-no_text c.args.other.now c.requires.right_number) refl
+pub make_cast-requires-clause-small : goal.make_cast-requires-clause-small
+make_cast-requires-clause-small c = (omega arith, omega arith, omega arith)
 
-pub returns-clause-items : goal.returns-clause-items
-returns-clause-items c =
+pub make_cast-requires-clause-left : goal.make_cast-requires-clause-left
+make_cast-requires-clause-left c = let held = c.requires.left in can-number c.args.left.descr.now held.0 (Int c.args.left_signed Eight Little) held.1 (number-no_text held.0 held.2) tt
+
+pub make_cast-requires-clause-right : goal.make_cast-requires-clause-right
+make_cast-requires-clause-right c = let held = c.requires.right in can-number c.args.right.descr.now held.0 (Int (not c.args.left_signed) Eight Little) held.1 (number-no_text held.0 held.2) tt
+
+pub returns-clause-made : goal.returns-clause-made
+returns-clause-made c =
     let s = Int c.args.left_signed Eight Little in
     let t = Int (not c.args.left_signed) Eight Little in
-    compared_all c.args.comparison c.args.from.now c.args.other.now s t c.args.left.descr.now c.args.right.descr.now c.make_cast.result c.args.left.block.now c.args.right.block.now c.args.left.layout.now c.args.right.layout.now c.args.shape.now
-    c.requires.from c.requires.other c.requires.left_number c.requires.right_number tt tt c.requires.left_held c.requires.right_held c.note_bytes.ensures c.note_bytes-2.ensures
-    c.make_cast.ensures.descr c.make_cast.ensures.shape c.make_cast.ensures.items
+    made-as (ScalarDescr BoolScalar) c.args.shape.now _ _ c.make_cast.result
+    (compared_all c.args.comparison s t c.args.left.descr.now c.args.right.descr.now c.args.left.block.now c.args.right.block.now c.args.left.layout.now c.args.right.layout.now c.args.shape.now c.requires.left c.requires.right tt tt c.note_bytes.ensures c.note_bytes-2.ensures)
+    c.make_cast.ensures.made

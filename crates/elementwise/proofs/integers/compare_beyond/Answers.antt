@@ -3,12 +3,18 @@ use Rattle.std.specs.Int.{w128}
 use Rattle.std.specs.Prelude.{int_lt, not}
 use Rattle.std.proofs.lemmas.Int.{to_z-of_z}
 use Rattle.elementwise.specs.Comparisons.{says}
+use Rattle.elem_descr.specs.declared.descr.Descr.TheVariants.{Scalar as ScalarDescr}
+use Rattle.elem_descr.specs.declared.scalar.Scalar.TheVariants.{Bool as BoolScalar}
+use Rattle.elementwise.proofs.MadeLaws.{made-as}
 use Rattle.elementwise.proofs.IntegerLaws.{all_beyond}
 use Rattle.elementwise.proofs.integers.compare_beyond.Goals as goal
 
-pub returns-clause-items : goal.returns-clause-items
-returns-clause-items c =
+pub returns-clause-made : goal.returns-clause-made
+returns-clause-made c =
     let fits = c.ranges.integer in
+    let x = c.args.operand.now in
     let above : c.is_positive-above.result ≡ int_lt (pos 0) c.args.integer = c.is_positive-above.ensures ∙ λ i. int_lt (pos 0) (to_z-of_z w128 c.args.integer fits i) in
-    all_beyond c.args.comparison c.args.from.now c.args.operand.descr.now c.all_alike.result c.args.operand.block.now c.args.operand.layout.now c.args.integer c.says-holds.result
-    c.requires.from c.note_bytes.ensures c.requires.number c.requires.beyond (c.says-holds.ensures ∙ λ i. says c.args.comparison (above i) (not (above i))) c.all_alike.ensures.items
+    made-as (ScalarDescr BoolScalar) x.items.layout.now.shape _ _ c.all_alike.result
+    (all_beyond c.args.comparison x.scalar x.items.descr.now x.items.block.now x.items.layout.now c.args.integer c.says-holds.result c.requires.from c.note_bytes.ensures c.requires.number c.requires.beyond
+    (c.says-holds.ensures ∙ λ i. says c.args.comparison (above i) (not (above i))))
+    c.all_alike.ensures.made

@@ -1,11 +1,16 @@
-use Rattle.std.proofs.Common.{inr, sym, ◌∙◌}
+use Rattle.std.proofs.Common.{[], ◌∷◌, map, inr, sym, ◌∙◌}
 use Rattle.std.specs.Int.{w128}
 use Rattle.std.proofs.lemmas.Int.{to_z-of_z}
 use Rattle.std.proofs.lemmas.Result.{err_from_is_err_and}
 use Rattle.elem_descr.specs.declared.descr.Descr.TheVariants.{Scalar as ScalarDescr}
 use Rattle.elem_descr.specs.declared.scalar.Scalar.TheVariants.{Bool as BoolScalar}
-use Rattle.elementwise.proofs.AppliedLaws.{given}
-use Rattle.elementwise.proofs.IntegerLaws.{operand_refused, text_refused, one_given, moved_integer}
+use Rattle.elem_descr.specs.Values.{number}
+use Rattle.elem_descr.specs.Blocks.{item_from}
+use Rattle.shape_strides.specs.Layouts.{offsets}
+use Rattle.elementwise.specs.Results.{compared_item}
+use Rattle.elementwise.proofs.PromotedLaws.{is_scalar}
+use Rattle.elementwise.proofs.MadeLaws.{made-gives, made-order, made-items, made-encoded}
+use Rattle.elementwise.proofs.IntegerLaws.{operand_refused, text_refused, one_given}
 use Rattle.elementwise.proofs.integers.compare_integer.Goals as goal
 
 pub returns-in_err-from-clause-gives : goal.returns-in_err-from-clause-gives
@@ -17,22 +22,44 @@ pub returns-then-is_text-clause-gives : goal.returns-then-is_text-clause-gives
 returns-then-is_text-clause-gives c =
     inr (text_refused c.args.operand.descr.now c.args.operand.layout.now.shape c.in_ok-from.from c.in_ok-from.ensures (sym c.is_text.ensures ∙ c.if-is_text.true))
 
+pub compare_with_value-requires-clause-from : goal.compare_with_value-requires-clause-from
+compare_with_value-requires-clause-from c = is_scalar c.args.operand.descr.now c.in_ok-from.from c.in_ok-from.ensures
+
+pub compare_beyond-requires-clause-from : goal.compare_beyond-requires-clause-from
+compare_beyond-requires-clause-from c = is_scalar c.args.operand.descr.now c.in_ok-from.from c.in_ok-from.ensures
+
 pub returns-then-is_value-clause-gives : goal.returns-then-is_value-clause-gives
 returns-then-is_value-clause-gives c =
-    given c.compare_with_value.result _ (ScalarDescr BoolScalar) c.args.operand.layout.now.shape
+    made-gives (ScalarDescr BoolScalar) c.args.operand.layout.now.shape _ c.compare_with_value.result _
     (one_given c.args.operand.descr.now c.args.operand.layout.now.shape c.in_ok-from.from c.in_ok-from.ensures (sym c.is_text.ensures ∙ c.if-is_text.false))
-    c.compare_with_value.ensures.descr c.compare_with_value.ensures.shape c.compare_with_value.ensures.refused
+    c.compare_with_value.ensures.made c.compare_with_value.ensures.refused
+
+pub returns-then-is_value-clause-order : goal.returns-then-is_value-clause-order
+returns-then-is_value-clause-order c = made-order (ScalarDescr BoolScalar) c.args.operand.layout.now.shape _ c.compare_with_value.result c.compare_with_value.ensures.made
 
 pub returns-then-is_value-clause-items : goal.returns-then-is_value-clause-items
 returns-then-is_value-clause-items c =
-    moved_integer c.args.comparison c.args.operand.descr.now c.compare_with_value.result c.args.operand.block.now c.args.operand.layout.now _ c.args.integer (to_z-of_z w128 c.args.integer c.ranges.integer) c.compare_with_value.ensures.items
+    let x = c.args.operand in
+    made-items (ScalarDescr BoolScalar) x.layout.now.shape _ (λ _ _. map (λ offset. compared_item c.args.comparison (item_from x.descr.now x.block.now offset) (number c.args.integer ∷ [])) (offsets x.layout.now)) c.compare_with_value.result
+    (λ i. map (λ offset. compared_item c.args.comparison (item_from x.descr.now x.block.now offset) (number (to_z-of_z w128 c.args.integer c.ranges.integer i) ∷ [])) (offsets x.layout.now)) c.compare_with_value.ensures.made
+
+pub returns-then-is_value-clause-encoded : goal.returns-then-is_value-clause-encoded
+returns-then-is_value-clause-encoded c = made-encoded (ScalarDescr BoolScalar) c.args.operand.layout.now.shape _ c.compare_with_value.result c.compare_with_value.ensures.made
 
 pub returns-clause-gives : goal.returns-clause-gives
 returns-clause-gives c =
-    given c.compare_beyond.result _ (ScalarDescr BoolScalar) c.args.operand.layout.now.shape
+    made-gives (ScalarDescr BoolScalar) c.args.operand.layout.now.shape _ c.compare_beyond.result _
     (one_given c.args.operand.descr.now c.args.operand.layout.now.shape c.in_ok-from.from c.in_ok-from.ensures (sym c.is_text.ensures ∙ c.if-is_text.false))
-    c.compare_beyond.ensures.descr c.compare_beyond.ensures.shape c.compare_beyond.ensures.refused
+    c.compare_beyond.ensures.made c.compare_beyond.ensures.refused
+
+pub returns-clause-order : goal.returns-clause-order
+returns-clause-order c = made-order (ScalarDescr BoolScalar) c.args.operand.layout.now.shape _ c.compare_beyond.result c.compare_beyond.ensures.made
 
 pub returns-clause-items : goal.returns-clause-items
 returns-clause-items c =
-    moved_integer c.args.comparison c.args.operand.descr.now c.compare_beyond.result c.args.operand.block.now c.args.operand.layout.now _ c.args.integer (to_z-of_z w128 c.args.integer c.ranges.integer) c.compare_beyond.ensures.items
+    let x = c.args.operand in
+    made-items (ScalarDescr BoolScalar) x.layout.now.shape _ (λ _ _. map (λ offset. compared_item c.args.comparison (item_from x.descr.now x.block.now offset) (number c.args.integer ∷ [])) (offsets x.layout.now)) c.compare_beyond.result
+    (λ i. map (λ offset. compared_item c.args.comparison (item_from x.descr.now x.block.now offset) (number (to_z-of_z w128 c.args.integer c.ranges.integer i) ∷ [])) (offsets x.layout.now)) c.compare_beyond.ensures.made
+
+pub returns-clause-encoded : goal.returns-clause-encoded
+returns-clause-encoded c = made-encoded (ScalarDescr BoolScalar) c.args.operand.layout.now.shape _ c.compare_beyond.result c.compare_beyond.ensures.made

@@ -7,7 +7,6 @@ use Rattle.std.proofs.lemmas.Bool.{false≢true}
 use Rattle.elem_descr.specs.Encoding.{size, wrap}
 use Rattle.elem_descr.specs.Values.{number}
 use Rattle.shape_strides.specs.Indexes.{count}
-use Rattle.shape_strides.specs.LayoutLaws.{offsets_within}
 use Rattle.shape_strides.specs.ShapeLaws.{shape_of-ok, shape_of-same}
 use Rattle.elementwise.proofs.IntegerLaws.{one_read}
 use Rattle.elementwise.proofs.integers.one_item.Goals as goal
@@ -29,9 +28,6 @@ over-requires-clause-whole c =
 
 pub returns-clause-shape : goal.returns-clause-shape
 returns-clause-shape c = c.in_ok-owned.ensures.shape ∙ sym (shape_of-same [] c.in_ok-shape.shape c.in_ok-shape.ensures)
-
-pub returns-clause-inside : goal.returns-clause-inside
-returns-clause-inside c = let o = c.in_ok-owned.owned in offsets_within o.layout _ _ o.fills_block.fits
 
 pub returns-clause-items : goal.returns-clause-items
 returns-clause-items c =

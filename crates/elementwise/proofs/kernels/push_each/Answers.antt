@@ -1,6 +1,5 @@
 use Rattle.std.proofs.Common.{◌≡◌, ◌+◌, ◌*◌, ◌≤◌, ◌++◌, suc, ap, ◌∙◌, append_assoc, arith}
 use Rattle.std.proofs.Math.Nat.{suc-mul, add-mul, mul-le-mul_right}
-use Rattle.elem_descr.specs.declared.scalar.Order.TheVariants.{Little}
 use Rattle.elem_descr.specs.Values.{number}
 use Rattle.elem_descr.specs.Encoding.{encode}
 use Rattle.raw_block.specs.Bytes.{joined}
@@ -16,9 +15,9 @@ push-requires g c =
 pub loop-k-preserved : goal.loop-k-preserved
 loop-k-preserved g c =
     let k = c.loop-k.k in
-    let to = g.T.Number.scalar Little in
+    let to = g.T.Number.scalar g.Q.Ordered.order in
     let made = made_of (number_pair (g.A.Number.scalar g.O.Ordered.order) (g.B.Number.scalar g.O.Ordered.order) to g.K.Kernel.makes) c.args.pairs in
-    let is = ap (λ z. encode to (number z)) c.make_of.ensures in
+    let is = ap (λ z. encode to (number z)) (c.make.ensures ∙ λ i. g.K.Kernel.makes (c.number-left.ensures i) (c.number-right.ensures i)) in
     let next : suc k ≡ k + 1 = omega arith in
     record {
       bytes = c.push.ensures.bytes ∙ (λ i. c.loop-k.invariant.bytes i ++ is i) ∙ append_assoc c.args.block.0 (joined made k) (made k) ∙ ap (λ m. c.args.block.0 ++ joined made m) next;

@@ -1,15 +1,42 @@
-use Rattle.std.proofs.Common.{[], ◌∷◌, map}
-use Rattle.elem_descr.specs.declared.descr.Descr.TheVariants.{Scalar as ScalarDescr}
-use Rattle.elem_descr.specs.Blocks.{item_from}
-use Rattle.elementwise.specs.Results.{pairwise, value_in}
-use Rattle.elementwise.proofs.TypedLaws.{moved}
+use Rattle.std.proofs.Common.{◌≡◌, ◌*◌, sym, ap, ◌∙◌, arith}
+use Rattle.elem_descr.specs.Encoding.{size}
+use Rattle.shape_strides.specs.Indexes.{count}
+use Rattle.shape_strides.specs.Layouts.{offsets}
+use Rattle.shape_strides.specs.LayoutLaws.{length-offsets}
+use Rattle.elementwise.proofs.MadeLaws.{over-made}
+use Rattle.elementwise.proofs.PairedLaws.{all_stretched}
 use Rattle.elementwise.proofs.typed.make_stretched.Goals as goal
 
-pub returns-clause-items : goal.returns-clause-items
-returns-clause-items g c =
+pub push-filled-requires-clause-room : goal.push-filled-requires-clause-room
+push-filled-requires-clause-room g c =
+    let to = size (g.P.Pairing.target_scalar c.args.pairing.now) in
+    let room : count c.in_ok-first.first.shape * to ≡ c.items.result * c.size.result = λ i. (ap count c.in_ok-first.ensures.shape ∙ sym c.items.ensures.value) i * (ap size (sym c.target-scalar.ensures) ∙ sym c.size.ensures.value) i in
+    omega (arith, room, ap (λ e. e.1) c.in_ok-empty.ensures)
+
+pub over-requires-clause-whole : goal.over-requires-clause-whole
+over-requires-clause-whole g c =
     let p = c.args.pairing.now in
     let x = c.args.left in
     let y = c.args.right in
-    moved c.make.result (ScalarDescr (g.P.Pairing.target_scalar p)) _ _
-    (λ i. pairwise (λ x y. g.P.Pairing.gives p (value_in x) (value_in y) ∷ []) (map (item_from x.descr.now x.block.now) (c.in_ok-first.ensures.offsets i)) (map (item_from y.descr.now y.block.now) (c.in_ok-second.ensures.offsets i)))
-    c.make.ensures.items
+    let all = all_stretched (g.P.Pairing.left_scalar p) (g.P.Pairing.right_scalar p) (g.P.Pairing.target_scalar p) (g.P.Pairing.gives p) x.descr.now y.descr.now x.block.now y.block.now (offsets c.in_ok-first.first) (offsets c.in_ok-second.second) _ _ c.finish.result (count c.args.shape.now) c.in_ok-empty.empty _ c.requires.left c.requires.right
+    (length-offsets c.in_ok-first.first ∙ ap count c.in_ok-first.ensures.shape) (length-offsets c.in_ok-second.second ∙ ap count c.in_ok-second.ensures.shape) c.in_ok-first.ensures.offsets c.in_ok-second.ensures.offsets (λ u v. g.met.P.Pairing.reads_back p u v c.requires.can) c.in_ok-empty.ensures (c.finish.ensures ∙ c.push-filled.ensures.bytes) in
+    all.0 ∙ λ i. count c.args.shape.now * size (sym c.target-scalar.ensures i)
+
+pub over-requires-clause-small : goal.over-requires-clause-small
+over-requires-clause-small g c =
+    let p = c.args.pairing.now in
+    let x = c.args.left in
+    let y = c.args.right in
+    let all = all_stretched (g.P.Pairing.left_scalar p) (g.P.Pairing.right_scalar p) (g.P.Pairing.target_scalar p) (g.P.Pairing.gives p) x.descr.now y.descr.now x.block.now y.block.now (offsets c.in_ok-first.first) (offsets c.in_ok-second.second) _ _ c.finish.result (count c.args.shape.now) c.in_ok-empty.empty _ c.requires.left c.requires.right
+    (length-offsets c.in_ok-first.first ∙ ap count c.in_ok-first.ensures.shape) (length-offsets c.in_ok-second.second ∙ ap count c.in_ok-second.ensures.shape) c.in_ok-first.ensures.offsets c.in_ok-second.ensures.offsets (λ u v. g.met.P.Pairing.reads_back p u v c.requires.can) c.in_ok-empty.ensures (c.finish.ensures ∙ c.push-filled.ensures.bytes) in
+    omega (arith, all.0, c.requires.few)
+
+pub returns-clause-made : goal.returns-clause-made
+returns-clause-made g c =
+    let p = c.args.pairing.now in
+    let x = c.args.left in
+    let y = c.args.right in
+    let owned = c.in_ok-owned.ensures in
+    let all = all_stretched (g.P.Pairing.left_scalar p) (g.P.Pairing.right_scalar p) (g.P.Pairing.target_scalar p) (g.P.Pairing.gives p) x.descr.now y.descr.now x.block.now y.block.now (offsets c.in_ok-first.first) (offsets c.in_ok-second.second) _ _ c.finish.result (count c.args.shape.now) c.in_ok-empty.empty _ c.requires.left c.requires.right
+    (length-offsets c.in_ok-first.first ∙ ap count c.in_ok-first.ensures.shape) (length-offsets c.in_ok-second.second ∙ ap count c.in_ok-second.ensures.shape) c.in_ok-first.ensures.offsets c.in_ok-second.ensures.offsets (λ u v. g.met.P.Pairing.reads_back p u v c.requires.can) c.in_ok-empty.ensures (c.finish.ensures ∙ c.push-filled.ensures.bytes) in
+    over-made c.target-scalar.result (g.P.Pairing.target_scalar p) c.args.shape.now _ c.in_ok-owned.owned c.finish.result c.target-scalar.ensures owned.descr owned.shape owned.order owned.block all.1 all.2

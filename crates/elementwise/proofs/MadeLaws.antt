@@ -1,0 +1,65 @@
+-- Arrays that are made, as the results of calls tell them.
+use Rattle.std.proofs.Common.{inl, ◌≡◌, ◌+◌, ◌-◌, ℕ, Result, Ok, Err, List, [], ◌∷◌, ◌++◌, map, replicate, IfOk, IfErr, sym, ap, subst, ◌∙◌, arith}
+use Rattle.std.specs.List.{flat_map}
+use Rattle.std.proofs.lemmas.List.{append-nil}
+use Rattle.elem_descr.specs.declared.refusal.Refusal.{Refusal}
+use Rattle.elem_descr.specs.declared.refusal.Refusal.TheVariants.{OutOfMemory}
+use Rattle.elem_descr.specs.declared.scalar.Scalar.{Scalar}
+use Rattle.elem_descr.specs.declared.descr.Descr.{Descr}
+use Rattle.elem_descr.specs.declared.descr.Descr.TheVariants.{Scalar as ScalarDescr}
+use Rattle.elem_descr.specs.Values.{LeafValue}
+use Rattle.elem_descr.specs.Encoding.{size, encode}
+use Rattle.elem_descr.specs.Items.{item_size, encode_item}
+use Rattle.elem_descr.specs.Blocks.{item_from}
+use Rattle.elem_descr.specs.Refusals.{Gives}
+use Rattle.shape_strides.specs.declared.memory_order.MemoryOrder.TheVariants.{C}
+use Rattle.shape_strides.specs.Indexes.{count}
+use Rattle.shape_strides.specs.Layouts.{offsets, multiples}
+use Rattle.overlap_copy.specs.Blocks.{offsets_in}
+use Rattle.overlap_copy.specs.ItemLists.{owned_items}
+use Rattle.overlap_copy.specs.declared.owned.Owned.{Owned}
+use Rattle.elementwise.specs.inside.Made.{IsMade}
+
+-- the bytes of an item of a scalar are those of its value
+pub one-encoded : (s : Scalar) (value : LeafValue) → encode_item (ScalarDescr s) (value ∷ []) ≡ encode s value
+one-encoded s value =
+    let none : size s - (0 + size s) ≡ 0 = omega arith in
+    ap (λ n. encode s value ++ replicate n 0) none ∙ append-nil (encode s value)
+
+-- an array over a block of items
+pub over-made : (t s : Scalar) (shape : List ℕ) (values : List (List LeafValue)) (o : Owned) (block : List ℕ) → t ≡ s → o.descr ≡ ScalarDescr t → o.layout.shape ≡ shape → offsets o.layout ≡ multiples (size t) (count shape) → o.block ≡ block →
+    map (item_from (ScalarDescr s) block) (multiples (size s) (count shape)) ≡ values → block ≡ flat_map (encode_item (ScalarDescr s)) values → IsMade (ScalarDescr s) shape values o
+over-made t s shape values o block same descr shape-is order is read wrote =
+    let at : offsets o.layout ≡ multiples (size s) (count shape) = order ∙ λ i. multiples (size (same i)) (count shape) in
+    record {
+      descr_is = descr ∙ ap ScalarDescr same;
+      shape_is = shape-is;
+      order = at;
+      items = (λ i. map (item_from (ScalarDescr s) (is i)) (at i)) ∙ read;
+      encoded = is ∙ wrote;
+    }
+
+-- the same items, told otherwise
+pub made-as : (d : Descr) (shape : List ℕ) (xs ys : List (List LeafValue)) (result : Result Owned Refusal) → xs ≡ ys → IfOk result (IsMade d shape xs) → IfOk result (IsMade d shape ys)
+made-as d shape xs ys result same made = subst (λ values. IfOk result (IsMade d shape values)) same made
+
+-- what is told of a result
+module _ (d : Descr) (shape : List ℕ) (values : List (List LeafValue)) where
+  pub made-gives : (result : Result Owned Refusal) (there : Result (Descr × List ℕ) Refusal) → there ≡ Ok (d, shape) → IfOk result (IsMade d shape values) → IfErr result (λ refusal. refusal ≡ OutOfMemory) → Gives (λ o. (o.descr, o.layout.shape)) result there
+  made-gives (Ok o) there is made refused = is ∙ λ i. Ok (sym made.descr_is i, sym made.shape_is i)
+  made-gives (Err e) there is made refused = inl refused
+
+  pub made-order : (result : Result Owned Refusal) → IfOk result (IsMade d shape values) → IfOk result (λ o. offsets o.layout ≡ offsets_in C (item_size o.descr) o.layout.shape)
+  made-order (Ok o) made = made.order ∙ λ i. multiples (item_size (sym made.descr_is i)) (count (sym made.shape_is i))
+  made-order (Err e) made = tt
+
+  pub made-items : (f : Descr → List ℕ → List (List LeafValue)) (result : Result Owned Refusal) → values ≡ f d shape → IfOk result (IsMade d shape values) → IfOk result (λ o. map (item_from o.descr o.block) (offsets o.layout) ≡ f o.descr o.layout.shape)
+  made-items f (Ok o) same made = (λ i. map (item_from (made.descr_is i) o.block) (offsets o.layout)) ∙ made.items ∙ same ∙ λ i. f (sym made.descr_is i) (sym made.shape_is i)
+  made-items f (Err e) same made = tt
+
+  pub made-encoded : (result : Result Owned Refusal) → IfOk result (IsMade d shape values) → IfOk result (λ o. o.block ≡ flat_map (encode_item o.descr) (owned_items o))
+  made-encoded (Ok o) made =
+      made.encoded
+      ∙ ap (flat_map (encode_item d)) (sym made.items)
+      ∙ λ i. flat_map (encode_item (sym made.descr_is i)) (map (item_from (sym made.descr_is i) o.block) (offsets o.layout))
+  made-encoded (Err e) made = tt

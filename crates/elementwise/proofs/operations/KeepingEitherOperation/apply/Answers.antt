@@ -1,9 +1,0 @@
-use Rattle.std.specs.Prelude.{pos, bit_or}
-use Rattle.std.proofs.lemmas.Nat.{or_mod, or_lt}
-use Rattle.elementwise.proofs.WordLaws.{are_bits, bits_applied}
-use Rattle.elementwise.proofs.operations.KeepingEitherOperation.apply.Goals as goal
-
-pub returns : goal.returns
-returns g c = λ order.
-    bits_applied bit_or or_mod (g.N.Number.scalar order) g.N.Number.SIGNED _ _ _ c.bits.result c.bits-2.result (g.met.N.Number.is_number order) c.bits.type_inv c.bits-2.type_inv (g.met.N.Number.is_truth order c.args.left) (g.met.N.Number.is_truth order c.args.right)
-    c.bits.ensures.exact c.bits-2.ensures.exact (c.of_bits.ensures order (pos (bit_or c.bits.result c.bits-2.result)) (are_bits (bit_or c.bits.result c.bits-2.result) (or_lt 64 c.bits.result c.bits-2.result c.bits.type_inv c.bits-2.type_inv)))

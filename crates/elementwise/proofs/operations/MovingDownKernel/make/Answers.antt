@@ -1,0 +1,16 @@
+use Rattle.std.proofs.Common.{sym, ◌∙◌}
+use Rattle.std.specs.Prelude.{pos, ◌*◌}
+use Rattle.elem_descr.specs.declared.scalar.Order.TheVariants.{Little}
+use Rattle.elem_descr.specs.Encoding.{size, low_bits, integer}
+use Rattle.machine_numbers.specs.declared.operators.BinOp.TheVariants.{ShiftRight}
+use Rattle.elementwise.specs.Operations.{shifted_right}
+use Rattle.elementwise.proofs.WordLaws.{are_bits, applied}
+use Rattle.elementwise.proofs.operations.MovingDownKernel.make.Goals as goal
+
+pub returns : goal.returns
+returns g c =
+    applied ShiftRight (g.N.Number.scalar Little) _ _ _ c.moved_down.result (g.met.N.Number.is_number Little) (g.met.N.Number.is_truth Little c.args.left) (g.met.N.Number.is_truth Little c.args.right)
+    (c.of_bits.ensures Little (pos c.moved_down.result) (are_bits c.moved_down.result c.moved_down.type_inv))
+    (c.moved_down.ensures
+    ∙ (λ i. low_bits 8 (shifted_right (8 * (c.WIDTH.ensures ∙ sym (g.met.N.Number.has_width Little)) i) (integer (c.SIGNED.ensures i) 8 c.bits.result) (integer (c.SIGNED.ensures i) 8 c.bits-2.result)))
+    ∙ λ i. low_bits 8 (shifted_right (8 * size (g.N.Number.scalar Little)) (sym c.bits.ensures.exact i) (sym c.bits-2.ensures.exact i)))

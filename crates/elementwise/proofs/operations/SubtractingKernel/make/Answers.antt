@@ -1,0 +1,13 @@
+use Rattle.std.proofs.Common.{sym, ◌∙◌}
+use Rattle.std.specs.Prelude.{pos, ◌-ℤ◌}
+use Rattle.elem_descr.specs.declared.scalar.Order.TheVariants.{Little}
+use Rattle.elem_descr.specs.Encoding.{low_bits}
+use Rattle.machine_numbers.specs.declared.operators.BinOp.TheVariants.{Subtract}
+use Rattle.elementwise.proofs.WordLaws.{are_bits, applied}
+use Rattle.elementwise.proofs.operations.SubtractingKernel.make.Goals as goal
+
+pub returns : goal.returns
+returns g c =
+    applied Subtract (g.N.Number.scalar Little) _ _ _ c.difference.result (g.met.N.Number.is_number Little) (g.met.N.Number.is_truth Little c.args.left) (g.met.N.Number.is_truth Little c.args.right)
+    (c.of_bits.ensures Little (pos c.difference.result) (are_bits c.difference.result c.difference.type_inv))
+    (c.difference.ensures g.N.Number.SIGNED ∙ λ i. low_bits 8 (sym c.bits.ensures.exact i -ℤ sym c.bits-2.ensures.exact i))

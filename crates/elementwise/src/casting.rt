@@ -1,0 +1,77 @@
+//! Casts of the numbers of operands: which kernel does them.
+ghost use Rattle.std.specs.Prelude.{◌≡◌, ◌+◌, ◌*◌, ◌≤◌, ◌++◌};
+ghost use Rattle.elem_descr.specs.declared.scalar.Order.TheVariants.{Little};
+ghost use Rattle.elem_descr.specs.Encoding.{IsNumber, size, wrap};
+ghost use Rattle.elem_descr.specs.Items.{item_size};
+ghost use Rattle.elementwise.specs.inside.PairPasses.{number_pair};
+ghost use Rattle.elementwise.specs.inside.Operands.{pairs_of, made_of_all};
+
+use crate::kernels::{Kernel, Numbers};
+use crate::rows::Operands;
+use elem_descr::{Order, Scalar, Width};
+use machine_numbers::{HighFirst, LowFirst, Number, Ordered};
+use raw_block::BlockBuilder;
+
+/// The first number as one of another type.
+struct Casting;
+
+impl<S: Number, T: Number> Kernel<S, S, T> for Casting {
+    ghost makes = { λ a _. wrap (T.scalar Little) a };
+
+    #[inline(always)]
+    fn make(left: S, _right: S) -> T {
+        T::of_bits(left.bits())
+    }
+}
+
+/// The first of two numbers of one type as one of a scalar. Its sign makes no difference to its bytes.
+pub(crate) fn cast<S: Number, P: Ordered>(
+    scalar: &Scalar,
+    block: BlockBuilder,
+    operands: Operands<'_>,
+) -> BlockBuilder
+    requires number { IsNumber scalar.now }
+    requires left { item_size operands.left.descr.now ≡ S.WIDTH }
+    requires right { item_size operands.right.descr.now ≡ S.WIDTH }
+    requires room { pairs_of operands * size scalar.now ≤ block.1 }
+    ensures bytes { result.0 ≡ block.0 ++ made_of_all (number_pair (S.scalar P.order) (S.scalar P.order) scalar.now (λ a _. wrap scalar.now a)) operands.entry }
+    ensures left { pairs_of operands.entry * size scalar.now + result.1 ≡ block.1 }
+{
+    match scalar {
+        Scalar::Bool => operands.push_all(
+            &Numbers::<Casting, S, S, bool, P, LowFirst>::new(),
+            block,
+        ),
+        Scalar::Byte { .. } => operands.push_all(
+            &Numbers::<Casting, S, S, u8, P, LowFirst>::new(),
+            block,
+        ),
+        Scalar::Int { width, order, .. } => match (width, order) {
+            (Width::Two, Order::Little) => operands.push_all(
+                &Numbers::<Casting, S, S, u16, P, LowFirst>::new(),
+                block,
+            ),
+            (Width::Two, Order::Big) => operands.push_all(
+                &Numbers::<Casting, S, S, u16, P, HighFirst>::new(),
+                block,
+            ),
+            (Width::Four, Order::Little) => operands.push_all(
+                &Numbers::<Casting, S, S, u32, P, LowFirst>::new(),
+                block,
+            ),
+            (Width::Four, Order::Big) => operands.push_all(
+                &Numbers::<Casting, S, S, u32, P, HighFirst>::new(),
+                block,
+            ),
+            (Width::Eight, Order::Little) => operands.push_all(
+                &Numbers::<Casting, S, S, u64, P, LowFirst>::new(),
+                block,
+            ),
+            (Width::Eight, Order::Big) => operands.push_all(
+                &Numbers::<Casting, S, S, u64, P, HighFirst>::new(),
+                block,
+            ),
+        },
+        Scalar::Bytes(_) => unreachable!(),
+    }
+}
