@@ -9,7 +9,7 @@ use Rattle.std.specs.Io.KnownBytes.{Appends}
 use Rattle.bench_engine.specs.Meanings.{AnswersLine}
 use Rattle.bench_engine.specs.Replies.{Reply}
 use Rattle.bench_engine.specs.Lines.{ended, unended, trimmed, whole_lines, lines}
-use Rattle.bench_engine.specs.Runs.{Run, Cut, output, reply_line, accepted_count, refused_count}
+use Rattle.bench_engine.specs.Runs.{Run, BreaksOff, output, reply_line, accepted_count, refused_count}
 use Rattle.npy_files.specs.Stores.{Shelf}
 use Rattle.bench_engine.specs.Worlds.{world}
 use Rattle.bench_engine.specs.inside.Sessions.{HoldsPiece, HoldsBytes, Fed, HasTold, Told, ToldInPart, AnswersHeld}
@@ -34,9 +34,9 @@ told-in-part shelf shelf' old new (Some accepted) written written' some held par
   answers = λ piece holds. subst (λ (replies : List Reply). AnswersLine (world old.bench shelf) (trimmed piece) (world new.bench shelf') replies) held.tells.1 (held.answers piece holds);
   gone = part.0;
   missing = part.1;
-  cut = ap (λ text. text ++ 10 ∷ []) (sym held.tells.3) ∙ part.2;
-  short = part.3;
-  told = part.4;
+  broken = ap (λ text. text ++ 10 ∷ []) (sym held.tells.3) ∙ part.2;
+  some_missing = part.3;
+  sent = part.4;
 }
 
 module _ {World : Type 0} (Answer : World → List ℕ → World → List Reply → Type 0) where
@@ -51,7 +51,7 @@ module _ {World : Type 0} (Answer : World → List ℕ → World → List Reply 
     -- no byte has come
     pub fed-new : (to : World) (s : Session) → to ≡ start → HoldsPiece s.line [] → s.accepted ≡ 0 → s.refused ≡ 0 → Fed Answer start to before before [] s
     fed-new to s at_start empty accepted refused = record {
-      told = record { replies = []; run = (refl, at_start); told = appends_none before; accepted = accepted; refused = refused };
+      told = record { replies = []; run = (refl, at_start); sent = appends_none before; accepted = accepted; refused = refused };
       held = empty;
     }
 
@@ -62,7 +62,7 @@ module _ {World : Type 0} (Answer : World → List ℕ → World → List Reply 
       told = record {
         replies = fed.told.replies;
         run = rw (whole_lines-piece read piece one) fed.told.run;
-        told = fed.told.told;
+        sent = fed.told.sent;
         accepted = same-accepted ∙ fed.told.accepted;
         refused = same-refused ∙ fed.told.refused;
       };
@@ -75,14 +75,14 @@ module _ {World : Type 0} (Answer : World → List ℕ → World → List Reply 
     told-line mid to written written' all piece old new holds line told = record {
       replies = told.replies ++ line.replies;
       run = run_more start mid to all (trimmed piece) told.replies line.replies told.run (line.answers piece holds);
-      told = rw (flat_map-append reply_line told.replies line.replies) (appends_then before written written' (output told.replies) (output line.replies) told.told line.told);
+      sent = rw (flat_map-append reply_line told.replies line.replies) (appends_then before written written' (output told.replies) (output line.replies) told.sent line.sent);
       accepted = line.accepted ∙ ap (λ n. n + accepted_count line.replies) told.accepted ∙ sym (count_by-append (λ r. r.accepted) told.replies line.replies);
       refused = line.refused ∙ ap (λ n. n + refused_count line.replies) told.refused ∙ sym (count_by-append (λ r. not r.accepted) told.replies line.replies);
     }
 
     -- one line more, its reply cut
     cut-line : (mid to : World) (written written' : Option (List ℕ)) (all later : List (List ℕ)) (piece : List ℕ) (old : Session) → HoldsPiece old.line piece → ToldInPart Answer mid to written written' old →
-        HasTold Answer start mid before written all old → Cut Answer start to before written' ((all ++ trimmed piece ∷ []) ++ later)
+        HasTold Answer start mid before written all old → BreaksOff Answer start to before written' ((all ++ trimmed piece ∷ []) ++ later)
     cut-line mid to written written' all later piece old holds part told = record {
       answered = all ++ trimmed piece ∷ [];
       later = later;
@@ -92,9 +92,9 @@ module _ {World : Type 0} (Answer : World → List ℕ → World → List Reply 
       missing = part.missing;
       front = refl;
       run = run_more start mid to all (trimmed piece) told.replies (part.reply ∷ []) told.run (part.answers piece holds);
-      cut = part.cut;
-      short = part.short;
-      told = appends_then before written written' (output told.replies) part.gone told.told part.told;
+      broken = part.broken;
+      some_missing = part.some_missing;
+      sent = appends_then before written written' (output told.replies) part.gone told.sent part.sent;
     }
 
     -- a newline, its line answered
@@ -107,7 +107,7 @@ module _ {World : Type 0} (Answer : World → List ℕ → World → List Reply 
 
     -- a newline, its reply cut
     pub cut-newline : (mid to : World) (written written' : Option (List ℕ)) (read more : List ℕ) (old : Session) → ToldInPart Answer mid to written written' old →
-        Fed Answer start mid before written read old → Cut Answer start to before written' (whole_lines (read ++ 10 ∷ more))
+        Fed Answer start mid before written read old → BreaksOff Answer start to before written' (whole_lines (read ++ 10 ∷ more))
     cut-newline mid to written written' read more old part fed =
         rw (whole_lines-split read more, sym (append_assoc (whole_lines read) (trimmed (unended read) ∷ []) (whole_lines more)))
         (cut-line mid to written written' (whole_lines read) (whole_lines more) (unended read) old fed.held part fed.told)
@@ -119,12 +119,12 @@ module _ {World : Type 0} (Answer : World → List ℕ → World → List Reply 
 
     -- a last line, its reply cut
     pub cut-last : (mid to : World) (written written' : Option (List ℕ)) (read : List ℕ) (old : Session) → 0 < length (unended read) → ToldInPart Answer mid to written written' old →
-        Fed Answer start mid before written read old → Cut Answer start to before written' (lines read)
+        Fed Answer start mid before written read old → BreaksOff Answer start to before written' (lines read)
     cut-last mid to written written' read old some part fed =
         rw (lines-last read some, sym (append-nil (whole_lines read ++ trimmed (unended read) ∷ []))) (cut-line mid to written written' (whole_lines read) [] (unended read) old fed.held part fed.told)
 
     pub fed_along : (to : World) (written : Option (List ℕ)) (xs ys : List ℕ) (s : Session) → xs ≡ ys → Fed Answer start to before written xs s → Fed Answer start to before written ys s
     fed_along to written xs ys s same fed = subst (λ bytes. Fed Answer start to before written bytes s) same fed
 
-    pub cut_along : (to : World) (written : Option (List ℕ)) (xs ys : List ℕ) → xs ≡ ys → Cut Answer start to before written (whole_lines xs) → Cut Answer start to before written (whole_lines ys)
-    cut_along to written xs ys same cut = subst (λ bytes. Cut Answer start to before written (whole_lines bytes)) same cut
+    pub cut_along : (to : World) (written : Option (List ℕ)) (xs ys : List ℕ) → xs ≡ ys → BreaksOff Answer start to before written (whole_lines xs) → BreaksOff Answer start to before written (whole_lines ys)
+    cut_along to written xs ys same cut = subst (λ bytes. BreaksOff Answer start to before written (whole_lines bytes)) same cut

@@ -4,7 +4,7 @@ use Rattle.elem_descr.specs.declared.refusal.Refusal.{Refusal}
 use Rattle.elem_descr.specs.declared.refusal.Refusal.TheVariants.{UnknownName, OutOfMemory}
 use Rattle.elem_descr.specs.Blocks.{item_from}
 use Rattle.shape_strides.specs.Layouts.{offsets}
-use Rattle.npy_files.specs.Stores.{Shelf, IsSameStore, HasCause, IsWritten}
+use Rattle.npy_files.specs.Stores.{Shelf, IsSameStore, HasCause, IsKept, IsWritten}
 use Rattle.npy_format.specs.WrittenFiles.{saved}
 use Rattle.name_store.specs.States.{State, Array}
 use Rattle.name_store.specs.Arrays.{find_array, is_bound, addresses, descr_of, read}
@@ -69,10 +69,14 @@ save-not-stored s old new name file bytes a r e is shows good same puts =
     asked s old new name file bytes (Err e) _ (file-shown s name a r is shows ∙ good) same puts (told-refusal (length bytes) puts.stored e puts.tells)
 
 -- a store that was given the file answers so
-pub puts-answer : (old new : Shelf) (name file bytes : List ℕ) (answer answer' : Stored) (result : Result (Unit {0}) Refusal) → name ≡ file → answer ≡ answer' → HasCause old new answer →
+pub puts-answer : (old new : Shelf) (name file bytes : List ℕ) (answer answer' : Stored) (result : Result (Unit {0}) Refusal) → name ≡ file → answer ≡ answer' → HasCause old new answer → IsKept name answer old.files new.files →
     (old.honest ≡ true → IsWritten old name bytes answer new.files) → result ≡ refused answer' → Puts old new file bytes result
-puts-answer old new name file bytes answer answer' result same is cause written tells = record {
+puts-answer old new name file bytes answer answer' result same is cause kept written tells = record {
   stored = answer;
-  may = record { cause = cause; written = subst (λ (n : List ℕ). old.honest ≡ true → IsWritten old n bytes answer new.files) same written };
+  may = record {
+    cause = cause;
+    kept = subst (λ (n : List ℕ). IsKept n answer old.files new.files) same kept;
+    written = subst (λ (n : List ℕ). old.honest ≡ true → IsWritten old n bytes answer new.files) same written;
+  };
   tells = tells ∙ ap refused (sym is);
 }

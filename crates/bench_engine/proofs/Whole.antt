@@ -1,71 +1,67 @@
--- A run over a script that is known before it is read.
-use Rattle.std.proofs.Common.{◌≡◌, ◌⊎◌, inl, inr, ◌++◌, ap, ◌∙◌, append_assoc, ℕ, List, Option, Some, None, Result, Ok, Err, subst, IfOk, IfSome, IsErrOf}
+-- What a session comes to outside of the run.
+use Rattle.std.proofs.Common.{◌≡◌, ◌⊎◌, inl, inr, ◌++◌, ap, ◌∙◌, append_assoc, ℕ, List, Option, Some, None, Err, subst, IfSome, IsErrOf}
 use Rattle.bench_engine.specs.declared.session.Session.{Session}
 use Rattle.bench_engine.specs.declared.session.Summary.{Summary}
 use Rattle.bench_engine.specs.inside.Sessions.{Ended}
 use Rattle.bench_engine.specs.declared.runner.RunFault.{RunFault}
 use Rattle.npy_files.specs.Stores.{Shelf}
 use Rattle.bench_engine.specs.Worlds.{World}
-use Rattle.bench_engine.specs.Held.{Finished, AnswersAll, StoppedWriting, AnswersInPart}
+use Rattle.bench_engine.specs.Outside.{Outside, first_world, AnswersScript, AnswersInPart, AnswersSome, AnswersFirstLines}
 use Rattle.std.specs.Io.KnownBytes.{Consumes, IsAtEnd}
 use Rattle.bench_engine.specs.Lines.{lines, whole_lines}
 use Rattle.bench_engine.proofs.Lines.{lines-front}
 use Rattle.bench_engine.proofs.Known.{all_read}
 
-known : (h : World) (h' : Shelf) (a b c d : Option (List ℕ)) (s : Summary) → Finished h h' a b c d s → IfSome a (λ script. AnswersAll script h h' c d s)
-known h h' None b c d s f = tt
-known h h' (Some script) b c d s f =
-    subst (λ (input : List ℕ). AnswersAll input h h' c d s) (all_read script b f.input f.consumes f.at_end) f.answers
+known : (a b : Option (List ℕ)) (script : List ℕ) → Consumes a b script → IsAtEnd b → IfSome a (λ bytes. script ≡ bytes)
+known None b script read ended = tt
+known (Some bytes) b script read ended = all_read bytes b script read ended
 
-pub whole : (r : Result Summary RunFault) (h : World) (h' : Shelf) (a b c d : Option (List ℕ)) → IfOk r (Finished h h' a b c d) → IfOk r (λ s. IfSome a (λ script. AnswersAll script h h' c d s))
-whole (Ok s) h h' a b c d f = known h h' a b c d s f
-whole (Err e) h h' a b c d f = tt
+-- the session has come to its end
+pub answers-script : (depth : ℕ) (before after : Outside) (session : Session) (summary : Summary) → Ended depth before after session → summary.bench ≡ session.bench → summary.accepted ≡ session.accepted → summary.refused ≡ session.refused → AnswersScript depth before after summary
+answers-script depth before after session summary end bench accepted refused = record {
+  script = end.input;
+  replies = end.told.replies;
+  read = end.read;
+  ended = end.ended;
+  known = known before.unread after.unread end.input end.read end.ended;
+  run = rw bench end.told.run;
+  sent = end.told.sent;
+  accepted = accepted ∙ end.told.accepted;
+  refused = refused ∙ end.told.refused;
+}
 
 -- some first ones of these lines are some first ones of more
 extended : (h : World) (h' : Shelf) (all more all' : List (List ℕ)) (c d : Option (List ℕ)) → all' ≡ all ++ more → AnswersInPart all h h' c d → AnswersInPart all' h h' c d
-extended h h' all more all' c d is (state, cut) = (
+extended h h' all more all' c d is (state, part) = (
   state,
   record {
-    answered = cut.answered;
-    later = cut.later ++ more;
-    replies = cut.replies;
-    last = cut.last;
-    gone = cut.gone;
-    missing = cut.missing;
-    front = is ∙ ap (λ l. l ++ more) cut.front ∙ append_assoc cut.answered cut.later more;
-    run = cut.run;
-    cut = cut.cut;
-    short = cut.short;
-    told = cut.told;
+    answered = part.answered;
+    later = part.later ++ more;
+    replies = part.replies;
+    last = part.last;
+    gone = part.gone;
+    missing = part.missing;
+    front = is ∙ ap (λ l. l ++ more) part.front ∙ append_assoc part.answered part.later more;
+    run = part.run;
+    broken = part.broken;
+    some_missing = part.some_missing;
+    sent = part.sent;
   },
 )
 
 -- the lines of what was read are first lines of the script
-known-part : (h : World) (h' : Shelf) (script : List ℕ) (b c d : Option (List ℕ)) (input : List ℕ) → Consumes (Some script) b input → AnswersInPart (whole_lines input) h h' c d ⊎ (IsAtEnd b × AnswersInPart (lines input) h h' c d) → AnswersInPart (lines script) h h' c d
-known-part h h' script None c d input read cut = absurd read
-known-part h h' script (Some rest) c d input read (inl cut) = let front = lines-front input rest in extended h h' (whole_lines input) front.0 (lines script) c d (ap lines read ∙ front.1) cut
-known-part h h' script (Some rest) c d input read (inr cut) = subst (λ (bytes : List ℕ). AnswersInPart (lines bytes) h h' c d) (all_read script (Some rest) input read cut.0) cut.1
+known-part : (h : World) (h' : Shelf) (a b c d : Option (List ℕ)) (input : List ℕ) → Consumes a b input → AnswersInPart (whole_lines input) h h' c d ⊎ (IsAtEnd b × AnswersInPart (lines input) h h' c d) → IfSome a (λ script. AnswersInPart (lines script) h h' c d)
+known-part h h' None b c d input read some = tt
+known-part h h' (Some script) None c d input read some = absurd read
+known-part h h' (Some script) (Some rest) c d input read (inl some) = let front = lines-front input rest in extended h h' (whole_lines input) front.0 (lines script) c d (ap lines read ∙ front.1) some
+known-part h h' (Some script) (Some rest) c d input read (inr some) = subst (λ (bytes : List ℕ). AnswersInPart (lines bytes) h h' c d) (all_read script (Some rest) input read some.0) some.1
 
-in-part : (h : World) (h' : Shelf) (a b c d : Option (List ℕ)) → StoppedWriting h h' a b c d → IfSome a (λ script. AnswersInPart (lines script) h h' c d)
-in-part h h' None b c d s = tt
-in-part h h' (Some script) b c d s = known-part h h' script b c d s.input s.consumes s.cut
-
-pub part : {P : Type 0} (h : World) (h' : Shelf) (a b c d : Option (List ℕ)) → (P → StoppedWriting h h' a b c d) → P → IfSome a (λ script. AnswersInPart (lines script) h h' c d)
-part h h' a b c d stopped p = in-part h h' a b c d (stopped p)
-
--- the session has come to its end
-pub finished : (h : World) (h' : Shelf) (a b c d : Option (List ℕ)) (session : Session) (summary : Summary) → Ended h h' a b c d session → summary.bench ≡ session.bench → summary.accepted ≡ session.accepted → summary.refused ≡ session.refused → Finished h h' a b c d summary
-finished h h' a b c d session summary end bench accepted refused = record {
-  input = end.input;
-  consumes = end.consumes;
-  at_end = end.at_end;
-  answers = record {
-    replies = end.told.replies;
-    run = rw bench end.told.run;
-    told = end.told.told;
-    accepted = accepted ∙ end.told.accepted;
-    refused = refused ∙ end.told.refused;
-  };
+pub first-lines : (depth : ℕ) (before after : Outside) (input : List ℕ) → Consumes before.unread after.unread input → AnswersSome depth before after (whole_lines input) ⊎ (IsAtEnd after.unread × AnswersSome depth before after (lines input)) → AnswersFirstLines depth before after
+first-lines depth before after input read some = record {
+  input = input;
+  read = read;
+  some = some;
+  known = known-part (first_world depth before) after.store before.unread after.unread before.written after.written input read some;
 }
 
 -- a fault that is passed on

@@ -1,10 +1,10 @@
 pub mod Contents
-pub mod Held
 pub mod IndexLists
 pub mod Lines
 pub mod Loads
 pub mod Machine
 pub mod Meanings
+pub mod Outside
 pub mod Replies
 pub mod Runs
 pub mod Saves

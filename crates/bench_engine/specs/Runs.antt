@@ -26,7 +26,7 @@ refused_count replies = count_by (λ r. not r.accepted) replies
 
 -- Some first ones of these lines are answered, all their replies have gone out but for a last part of the last one,
 -- and that part is not empty. No later line has led anywhere.
-pub record Cut {World : Type 0} (Answer : World → List ℕ → World → List Reply → Type 0) (start end : World) (written written' : Option (List ℕ)) (all : List (List ℕ)) : Type 0 where
+pub record BreaksOff {World : Type 0} (Answer : World → List ℕ → World → List Reply → Type 0) (start end : World) (written written' : Option (List ℕ)) (all : List (List ℕ)) : Type 0 where
   pub answered : List (List ℕ)
   pub later : List (List ℕ)
   pub replies : List Reply
@@ -35,6 +35,6 @@ pub record Cut {World : Type 0} (Answer : World → List ℕ → World → List 
   pub missing : List ℕ
   pub front : all ≡ answered ++ later
   pub run : Run Answer start answered (replies ++ last ∷ []) end
-  pub cut : reply_line last ≡ gone ++ missing
-  pub short : 0 < length missing
-  pub told : Appends written written' (output replies ++ gone)
+  pub broken : reply_line last ≡ gone ++ missing
+  pub some_missing : 0 < length missing
+  pub sent : Appends written written' (output replies ++ gone)

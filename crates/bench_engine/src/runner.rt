@@ -1,8 +1,6 @@
 //! A whole run: from what is read to what is written.
-ghost use Rattle.std.specs.Prelude.{◌≡◌, ◌≤◌, ◌<◌, ◌+◌, ◌^◌, List, ℕ, Option, length, IfOk, IfSome, IsErrOf};
-ghost use Rattle.bench_engine.specs.Held.{Finished, AnswersAll, AnswersInPart, StoppedReading, StoppedWriting};
-ghost use Rattle.bench_engine.specs.Lines.{lines};
-ghost use Rattle.bench_engine.specs.Worlds.{World, start_with};
+ghost use Rattle.std.specs.Prelude.{◌≡◌, ◌≤◌, ◌<◌, ◌+◌, ◌^◌, ℕ, length, IfOk, IsErrOf};
+ghost use Rattle.bench_engine.specs.Outside.{Outside, outside, AnswersScript, AnswersWholeLines, AnswersFirstLines};
 ghost use Rattle.bench_engine.specs.inside.Sessions.{HasRoom, Reading, Turned};
 ghost use Rattle.bench_engine.specs.declared.runner.RunFault.TheVariants.{Write, Memory};
 
@@ -61,15 +59,15 @@ fn take_turn<S: ScriptSource, W: Write, N: NpyStore>(
     ensures room { HasRoom session.new }
     ensures few { session.new.accepted + session.new.refused ≤ session.old.accepted + session.old.refused + length chunk.old }
     ensures counted { S.reads source.new ≤ S.reads source.old + 1 }
-    ensures ok { IfOk result (λ ended. (first : World) (unread written : Option (List ℕ)) →
-        Reading first (N.shelf store.old) unread (S.remaining source.old) written (W.contents writer.old) session.old →
-        Turned ended first (N.shelf store.new) unread (S.remaining source.new) written (W.contents writer.new) session.new) }
-    ensures read { IsErrOf result RunFault.Read → (first : World) (unread written : Option (List ℕ)) →
-        Reading first (N.shelf store.old) unread (S.remaining source.old) written (W.contents writer.old) session.old →
-        StoppedReading first (N.shelf store.new) unread (S.remaining source.new) written (W.contents writer.new) }
-    ensures write { IsErrOf result RunFault.Write → (first : World) (unread written : Option (List ℕ)) →
-        Reading first (N.shelf store.old) unread (S.remaining source.old) written (W.contents writer.old) session.old →
-        StoppedWriting first (N.shelf store.new) unread (S.remaining source.new) written (W.contents writer.new) }
+    ensures ok { IfOk result (λ ended. (depth : ℕ) (before : Outside) →
+        Reading depth before (outside (S.remaining source.old) (W.contents writer.old) (N.shelf store.old)) session.old →
+        Turned ended depth before (outside (S.remaining source.new) (W.contents writer.new) (N.shelf store.new)) session.new) }
+    ensures read { IsErrOf result RunFault.Read → (depth : ℕ) (before : Outside) →
+        Reading depth before (outside (S.remaining source.old) (W.contents writer.old) (N.shelf store.old)) session.old →
+        AnswersWholeLines depth before (outside (S.remaining source.new) (W.contents writer.new) (N.shelf store.new)) }
+    ensures write { IsErrOf result RunFault.Write → (depth : ℕ) (before : Outside) →
+        Reading depth before (outside (S.remaining source.old) (W.contents writer.old) (N.shelf store.old)) session.old →
+        AnswersFirstLines depth before (outside (S.remaining source.new) (W.contents writer.new) (N.shelf store.new)) }
     ensures memory { ¬ IsErrOf result RunFault.Memory }
 {
     let count = source.read_some(chunk).ok_or(RunFault::Read)?;
@@ -95,10 +93,22 @@ pub fn run_within<S: ScriptSource, W: Write, N: NpyStore>(
     requires reads { reads ≤ 2 ^ 32 }
     requires some { 1 ≤ size }
     requires size { size ≤ 65538 }
-    ensures ok { IfOk result (Finished (start_with depth (N.shelf store.old)) (N.shelf store.new) (S.remaining source.old) (S.remaining source.new) (W.contents writer.old) (W.contents writer.new)) }
-    ensures read { IsErrOf result RunFault.Read → StoppedReading (start_with depth (N.shelf store.old)) (N.shelf store.new) (S.remaining source.old) (S.remaining source.new) (W.contents writer.old) (W.contents writer.new) }
-    ensures write { IsErrOf result RunFault.Write → StoppedWriting (start_with depth (N.shelf store.old)) (N.shelf store.new) (S.remaining source.old) (S.remaining source.new) (W.contents writer.old) (W.contents writer.new) }
-    ensures memory { IsErrOf result RunFault.Memory → (source.new ≡ source.old) × (writer.new ≡ writer.old) × (store.new ≡ store.old) }
+    // Each line was answered by a step of the machine, up to the end of what there was to read.
+    ensures script { IfOk result (AnswersScript depth
+        (outside (S.remaining source.old) (W.contents writer.old) (N.shelf store.old))
+        (outside (S.remaining source.new) (W.contents writer.new) (N.shelf store.new))) }
+    // A read failed, or too many were made: the lines that came whole were answered.
+    ensures read_failed { IsErrOf result RunFault.Read → AnswersWholeLines depth
+        (outside (S.remaining source.old) (W.contents writer.old) (N.shelf store.old))
+        (outside (S.remaining source.new) (W.contents writer.new) (N.shelf store.new)) }
+    // A write failed: some first lines were answered, and of the last reply a last part has not gone out.
+    ensures write_failed { IsErrOf result RunFault.Write → AnswersFirstLines depth
+        (outside (S.remaining source.old) (W.contents writer.old) (N.shelf store.old))
+        (outside (S.remaining source.new) (W.contents writer.new) (N.shelf store.new)) }
+    // No memory was found to begin with: nothing was read, written or stored.
+    ensures no_memory { IsErrOf result RunFault.Memory →
+        (source.new ≡ source.old) × (writer.new ≡ writer.old) × (store.new ≡ store.old) }
+    // So many reads are made at most.
     ensures reads { S.reads source.new ≤ S.reads source.old + reads }
 {
     let mut session = Session::new(alloc, depth)?;
@@ -133,15 +143,22 @@ pub fn run<S: ScriptSource, W: Write, N: NpyStore>(
     depth: usize,
 ) -> Result<Summary, RunFault>
     requires { depth ≤ 64 }
-    // The whole script is known before it is read.
-    ensures script { IfOk result (λ summary. IfSome (S.remaining source.old) (λ script.
-        AnswersAll script (start_with depth (N.shelf store.old)) (N.shelf store.new) (W.contents writer.old) (W.contents writer.new) summary)) }
-    ensures part { IsErrOf result RunFault.Write → IfSome (S.remaining source.old) (λ script.
-        AnswersInPart (lines script) (start_with depth (N.shelf store.old)) (N.shelf store.new) (W.contents writer.old) (W.contents writer.new)) }
-    ensures ok { IfOk result (Finished (start_with depth (N.shelf store.old)) (N.shelf store.new) (S.remaining source.old) (S.remaining source.new) (W.contents writer.old) (W.contents writer.new)) }
-    ensures read { IsErrOf result RunFault.Read → StoppedReading (start_with depth (N.shelf store.old)) (N.shelf store.new) (S.remaining source.old) (S.remaining source.new) (W.contents writer.old) (W.contents writer.new) }
-    ensures write { IsErrOf result RunFault.Write → StoppedWriting (start_with depth (N.shelf store.old)) (N.shelf store.new) (S.remaining source.old) (S.remaining source.new) (W.contents writer.old) (W.contents writer.new) }
-    ensures memory { IsErrOf result RunFault.Memory → (source.new ≡ source.old) × (writer.new ≡ writer.old) × (store.new ≡ store.old) }
+    // Each line was answered by a step of the machine, up to the end of what there was to read.
+    ensures script { IfOk result (AnswersScript depth
+        (outside (S.remaining source.old) (W.contents writer.old) (N.shelf store.old))
+        (outside (S.remaining source.new) (W.contents writer.new) (N.shelf store.new))) }
+    // A read failed, or too many were made: the lines that came whole were answered.
+    ensures read_failed { IsErrOf result RunFault.Read → AnswersWholeLines depth
+        (outside (S.remaining source.old) (W.contents writer.old) (N.shelf store.old))
+        (outside (S.remaining source.new) (W.contents writer.new) (N.shelf store.new)) }
+    // A write failed: some first lines were answered, and of the last reply a last part has not gone out.
+    ensures write_failed { IsErrOf result RunFault.Write → AnswersFirstLines depth
+        (outside (S.remaining source.old) (W.contents writer.old) (N.shelf store.old))
+        (outside (S.remaining source.new) (W.contents writer.new) (N.shelf store.new)) }
+    // No memory was found to begin with: nothing was read, written or stored.
+    ensures no_memory { IsErrOf result RunFault.Memory →
+        (source.new ≡ source.old) × (writer.new ≡ writer.old) × (store.new ≡ store.old) }
+    // So many reads are made at most.
     ensures reads { S.reads source.new ≤ S.reads source.old + 2 ^ 32 }
 {
     run_within(alloc, source, writer, store, depth, MAX_READS, READ_SIZE)

@@ -1,7 +1,7 @@
 //! What a run holds between one read and the next.
 ghost use Rattle.std.specs.Prelude.{◌≡◌, ◌≤◌, ◌<◌, ◌+◌, ◌^◌, ◌++◌, [], ◌∷◌, List, ℕ, Option, length, OnOk, OnErr, IfOk, nat_eq, false};
 ghost use Rattle.std.specs.List.{position};
-ghost use Rattle.bench_engine.specs.Held.{AnswersInPart};
+ghost use Rattle.bench_engine.specs.Outside.{AnswersInPart};
 ghost use Rattle.bench_engine.specs.Lines.{ended, lines, whole_lines};
 ghost use Rattle.bench_engine.specs.Meanings.{AnswersLine};
 ghost use Rattle.bench_engine.specs.inside.Sessions.{HoldsPiece, HasRoom, FedMachine, Told, ToldInPart, AnswersHeld, HasTold, IsNew};

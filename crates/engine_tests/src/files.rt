@@ -119,7 +119,7 @@ const SAVED: [Saved; 4] = [
 const LIMIT: usize = 1 << 16;
 
 /// Runs a script over a store, and compares what it replies.
-fn check_replies<N: NpyStore>(
+pub fn check_replies<N: NpyStore>(
     rt: &impl Abort,
     alloc: Global,
     store: &mut N,

@@ -14,6 +14,8 @@ mod files;
 #[cfg(test)]
 mod gathers;
 #[cfg(test)]
+mod long_headers;
+#[cfg(test)]
 mod memory;
 #[cfg(test)]
 mod replies;

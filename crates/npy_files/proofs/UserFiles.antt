@@ -5,11 +5,11 @@ use Rattle.std.specs.FinMap.{empty, get, insert, get-retain_keys, get-insert, sa
 use Rattle.std.specs.Ordering.{nat_cmp, eq_by_cmp}
 use Rattle.std.proofs.lemmas.Bool.{true≢false}
 use Rattle.std.proofs.lemmas.Slice.Eq.{bytes_eq-Decides}
-use Rattle.disk.specs.Files.{Files}
+use Rattle.disk.specs.Files.{Files, SameBut}
 use Rattle.npy_files.specs.declared.store.StoreFault.{StoreFault}
 use Rattle.npy_files.specs.declared.store.StoreFault.TheVariants.{Device, TooLong, Memory}
 use Rattle.npy_files.specs.Names.{is_user_name}
-use Rattle.npy_files.specs.Stores.{Shelf, IsRead, IsWritten}
+use Rattle.npy_files.specs.Stores.{Shelf, IsRead, IsKept, IsWritten}
 use Rattle.npy_files.specs.Folders.{user_files, folder_shelf, IsPut}
 
 abbrev by_name : List ℕ → List ℕ → Bool
@@ -86,3 +86,34 @@ told_read view false files name limit result honest read = absurd (true≢false 
 pub told_same : (honest : Bool) (old new : Files) → (IsTrue honest → new ≡ old) → cond honest (user_files new) empty ≡ cond honest (user_files old) empty
 told_same true old new same = ap user_files (same refl)
 told_same false old new same = refl
+
+-- what is written in a folder leaves all other names
+insert-others : (files : Files) (name bytes other : List ℕ) → other ≢ name → get (insert files name bytes) other ≡ get files other
+insert-others files name bytes other far =
+    get-insert nat_list_cmp_total files name bytes other
+    ∙ (elim (by_name other name) as (λ b. by_name other name ≡ b → cond b (Some bytes) (get files other) ≡ get files other) [
+      | true ↦ λ is. absurd (far (tied other name is))
+      | false ↦ λ no. refl
+    ] refl)
+
+-- files with one more, or with one anew
+pub insert-kept : (files : Files) (name bytes : List ℕ) (new : Files) → new ≡ insert files name bytes → SameBut name files new
+insert-kept files name bytes new is = λ other far. ap (λ f. get f other) is ∙ insert-others files name bytes other far
+
+written-kept : (shelf : Shelf) (name bytes : List ℕ) (result : Result (Unit {0}) StoreFault) (files : Files) → IsWritten shelf name bytes result files → IsKept name result shelf.files files
+written-kept shelf name bytes (Ok done) files written = insert-kept shelf.files name bytes files written.0
+written-kept shelf name bytes (Err Device) files written = written
+written-kept shelf name bytes (Err TooLong) files written = written.0
+written-kept shelf name bytes (Err Memory) files written = written
+
+-- where nothing is known of the files, none is told
+nothing-kept : (name : List ℕ) (result : Result (Unit {0}) StoreFault) → IsKept {X = Unit {0}} name result empty empty
+nothing-kept name (Ok done) = λ other far. refl
+nothing-kept name (Err Device) = λ other far. refl
+nothing-kept name (Err TooLong) = refl
+nothing-kept name (Err Memory) = refl
+
+pub told_kept : (honest : Bool) (old new : Files) (faults limit : ℕ) (name bytes : List ℕ) (result : Result (Unit {0}) StoreFault)
+    → (IsTrue honest → IsWritten (plain_shelf old faults limit honest) name bytes result (user_files new)) → IsKept name result (cond honest (user_files old) empty) (cond honest (user_files new) empty)
+told_kept true old new faults limit name bytes result written = written-kept (plain_shelf old faults limit true) name bytes result (user_files new) (written refl)
+told_kept false old new faults limit name bytes result written = nothing-kept name result

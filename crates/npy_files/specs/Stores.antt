@@ -1,7 +1,7 @@
 -- What a store of files is, and what its calls answer.
-use Rattle.std.specs.Prelude.{◌≡◌, ◌≢◌, ◌⊎◌, ◌<◌, ◌≤◌, ℕ, Bool, true, false, List, length, Option, Some, None, Result, Ok, Err}
+use Rattle.std.specs.Prelude.{◌≡◌, ◌≢◌, ◌⊎◌, ◌<◌, ◌≤◌, ℕ, Bool, true, List, length, Option, Some, None, Result, Ok, Err}
 use Rattle.std.specs.FinMap.{empty, get, insert}
-use Rattle.disk.specs.Files.{Files}
+use Rattle.disk.specs.Files.{Files, SameBut}
 use Rattle.disk.specs.Calls.{last_count}
 use Rattle.npy_files.specs.declared.store.StoreFault.{StoreFault}
 use Rattle.npy_files.specs.declared.store.StoreFault.TheVariants.{Device, TooLong, Memory}
@@ -40,6 +40,14 @@ IsRead view limit there (Ok (Some bytes)) = (there ≡ Some (view bytes)) × (le
 IsRead view limit there (Err TooLong) = (bytes : List ℕ) × (there ≡ Some bytes) × (limit < length bytes)
 IsRead view limit there (Err Device) = Unit {0}
 IsRead view limit there (Err Memory) = Unit {0}
+
+-- What a write leaves of any store, honest or not: a file that is too long and want of memory change nothing, and no
+-- answer changes another name.
+abbrev pub IsKept : {X : Type 0} → List ℕ → Result X StoreFault → Files → Files → Type 0
+IsKept name (Ok _) old new = SameBut name old new
+IsKept name (Err Device) old new = SameBut name old new
+IsKept name (Err TooLong) old new = new ≡ old
+IsKept name (Err Memory) old new = new ≡ old
 
 -- the files that a write leaves: with Ok they have these bytes under the name and all else as it was;
 -- after a fault of the device nothing is known of that one name

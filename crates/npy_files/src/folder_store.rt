@@ -6,7 +6,7 @@ ghost use Rattle.disk.specs.Crashes.{Leaves};
 ghost use Rattle.disk.specs.Calls as calls;
 ghost use Rattle.npy_files.specs.declared.store.StoreFault.TheVariants.{Device, TooLong};
 ghost use Rattle.npy_files.specs.Names as names;
-ghost use Rattle.npy_files.specs.Stores.{IsSameStore, HasCause, IsRead, IsWritten};
+ghost use Rattle.npy_files.specs.Stores.{IsSameStore, HasCause, IsRead, IsKept, IsWritten};
 ghost use Rattle.npy_files.specs.Folders.{folder_shelf, OldOrNew, IsPut};
 
 use crate::cutter::Cutter;
@@ -117,6 +117,7 @@ impl<D: Disk, C: Cutter> FolderStore<D, C> {
     ) -> Result<(), StoreFault>
         ensures same { IsSameStore (⟦<FolderStore<D, C> as NpyStore>⟧.shelf self.old) (⟦<FolderStore<D, C> as NpyStore>⟧.shelf self.new) }
         ensures cause { HasCause (⟦<FolderStore<D, C> as NpyStore>⟧.shelf self.old) (⟦<FolderStore<D, C> as NpyStore>⟧.shelf self.new) result }
+        ensures kept { IsKept name.now result (⟦<FolderStore<D, C> as NpyStore>⟧.shelf self.old).files (⟦<FolderStore<D, C> as NpyStore>⟧.shelf self.new).files }
         ensures written { IsTrue D.honest → IsWritten (⟦<FolderStore<D, C> as NpyStore>⟧.shelf self.old) name.now (front.now ++ items.now) result (⟦<FolderStore<D, C> as NpyStore>⟧.shelf self.new).files }
         ensures crash { IsTrue D.honest → Leaves (OldOrNew name.now (front.now ++ items.now)) (D.history self.old.disk) (D.history self.new.disk) }
         ensures lasting { IsTrue D.honest → OnOk result (calls.AlwaysHas (D.history self.new.disk) name.now (Some (front.now ++ items.now))) }

@@ -1,7 +1,7 @@
 //! Stores of files.
 ghost use Rattle.std.specs.Prelude.{◌≡◌, ◌<◌, ◌≤◌, ◌+◌, ◌++◌, true, false};
 ghost use Rattle.std.specs.FinMap.{get};
-ghost use Rattle.npy_files.specs.Stores.{Shelf, IsSameStore, HasCause, IsRead, IsWritten};
+ghost use Rattle.npy_files.specs.Stores.{Shelf, IsSameStore, HasCause, IsRead, IsKept, IsWritten};
 
 use disk::DiskFault;
 use npy_format::FileParts;
@@ -60,8 +60,8 @@ pub(crate) fn is_longer(front: usize, items: usize, limit: usize) -> bool
     front > limit || items > limit - front
 }
 
-/// Where files are kept under their names. Its contracts see a store as its shelf; what they say of
-/// files is said of an honest store alone.
+/// Where files are kept under their names. Its contracts see a store as its shelf. What a read gives, what a
+/// name has after a write and when a file is too long is said of an honest store alone.
 pub trait NpyStore {
     ghost shelf: { Self → Shelf };
 
@@ -88,6 +88,7 @@ pub trait NpyStore {
     ) -> Result<(), StoreFault>
         ensures same { IsSameStore (shelf self.old) (shelf self.new) }
         ensures cause { HasCause (shelf self.old) (shelf self.new) result }
+        ensures kept { IsKept name.now result (shelf self.old).files (shelf self.new).files }
         ensures written { (shelf self.old).honest ≡ true → IsWritten (shelf self.old) name.now (front.now ++ items.now) result (shelf self.new).files };
 
     /// The bytes of the file that `read_parts` gives.
@@ -107,6 +108,7 @@ pub trait NpyStore {
     fn write(&mut self, alloc: Global, name: &[u8], bytes: &[u8]) -> Result<(), StoreFault>
         ensures same { IsSameStore (shelf self.old) (shelf self.new) }
         ensures cause { HasCause (shelf self.old) (shelf self.new) result }
+        ensures kept { IsKept name.now result (shelf self.old).files (shelf self.new).files }
         ensures written { (shelf self.old).honest ≡ true → IsWritten (shelf self.old) name.now bytes.now result (shelf self.new).files }
     {
         self.write_parts(alloc, name, bytes, &[])

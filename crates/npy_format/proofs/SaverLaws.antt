@@ -1,5 +1,5 @@
 -- A file whose items lie in their block as the file has them.
-use Rattle.std.proofs.Common.{◌≡◌, ℕ, ◌+◌, ◌*◌, ◌≤◌, true, List, ◌++◌, map, length, drop, All, refl, sym, ap, subst, ◌∙◌, arith, ◌||◌}
+use Rattle.std.proofs.Common.{◌≡◌, ℕ, ◌+◌, ◌*◌, ◌<◌, ◌≤◌, Bool, true, List, ◌++◌, map, length, drop, All, IfOk, refl, sym, ap, subst, ◌∙◌, arith, ◌||◌}
 use Rattle.std.specs.List.{flat_map}
 use Rattle.std.proofs.Math.Seq.{take-append_seam, drop-append_seam}
 use Rattle.raw_block.specs.Bytes.{item_at}
@@ -10,12 +10,15 @@ use Rattle.elem_descr.specs.Blocks.{blocks, item_from}
 use Rattle.shape_strides.specs.Indexes.{count}
 use Rattle.shape_strides.specs.Contiguity.{first_address, is_c_contiguous, is_f_contiguous}
 use Rattle.npy_format.specs.Files.{order_of}
-use Rattle.npy_format.specs.WrittenFiles.{is_fortran, ordered}
+use Rattle.elem_descr.specs.Values.{LeafValue}
+use Rattle.shape_strides.specs.Limits.{max_bytes}
+use Rattle.npy_format.specs.WrittenFiles.{is_fortran, ordered, file_of, saved}
+use Rattle.npy_format.specs.SavedFiles.{LoadsAs}
 use Rattle.npy_format.specs.inside.WrittenItems.{IsPlain, addresses_in_file}
 use Rattle.npy_format.proofs.ScalarBytes.{AreBytes, bytes-drop, bytes-take}
 use Rattle.npy_format.proofs.WrittenItemLaws.{plain_again, all_again}
 use Rattle.npy_format.proofs.GatherLaws.{gathered, together}
-use Rattle.npy_format.proofs.WriterLaws.{file_written}
+use Rattle.npy_format.proofs.WriterLaws.{file_written, saved-large, saved-small}
 
 module _ (descr : Descr) (shape offsets bytes : List ℕ) (start len : ℕ) (long : length offsets ≡ count shape) (inside : All (λ offset. offset + item_size descr ≤ length bytes) offsets)
     (is : (is_c_contiguous (item_size descr) offsets || is_f_contiguous (item_size descr) shape offsets) ≡ true) (first : start ≡ first_address offsets) (sized : len ≡ count shape * item_size descr) where
@@ -37,3 +40,16 @@ module _ (descr : Descr) (shape offsets bytes : List ℕ) (start len : ℕ) (lon
       ap (λ back. head ++ back) (sym lies)
       ∙ file_written shape offsets bytes head file width long inside refl descr file (length head) n refl refl refl
       (ap (λ back. head ++ back) again ∙ sym (λ i. take-append_seam head items i ++ flat_map f (blocks width n (drop-append_seam head items i))))
+
+-- items of too many bytes have no file
+pub large-loads : (descr : Descr) (shape addresses : List ℕ) (items : List (List LeafValue)) → max_bytes < count shape * item_size descr → IfOk (saved descr shape addresses items) (λ file. LoadsAs file descr shape items)
+large-loads descr shape addresses items large = rw (saved-large descr shape addresses items large) tt
+
+-- the file of all others loads again
+pub small-loads : (descr : Descr) (shape addresses bytes block : List ℕ) → bytes ≡ block → count shape * item_size descr ≤ max_bytes
+    → ((fortran : Bool) → LoadsAs (file_of descr fortran shape (map (item_from descr bytes) addresses)) descr shape (map (item_from descr bytes) addresses))
+    → IfOk (saved descr shape addresses (map (item_from descr block) addresses)) (λ file. LoadsAs file descr shape (map (item_from descr block) addresses))
+small-loads descr shape addresses bytes block same small loads =
+    let fortran = is_fortran (item_size descr) shape addresses in
+    rw (saved-small descr shape addresses (map (item_from descr block) addresses) small)
+    (subst (λ (b : List ℕ). LoadsAs (file_of descr fortran shape (map (item_from descr b) addresses)) descr shape (map (item_from descr b) addresses)) same (loads fortran))

@@ -87,7 +87,8 @@ pub fn npy_parts<'a>(
     requires inside { All (λ offset. offset + item_size descr.now ≤ length block.now) (offsets layout.now) }
     ensures gives { Gives (λ parts. parts.front.items ++ parts.items.now) result (saved descr.now layout.now.shape (offsets layout.now) (map (item_from descr.now block.now) (offsets layout.now))) }
     ensures large { max_bytes < count layout.now.shape * item_size descr.now → result ≡ Err TooLarge }
-    ensures loads { IfOk result (λ parts. LoadsAs (parts.front.items ++ parts.items.now) descr.now layout.now.shape (map (item_from descr.now block.now) (offsets layout.now))) }
+    ensures loads { let items = map (item_from descr.now block.now) (offsets layout.now) in
+        IfOk (saved descr.now layout.now.shape (offsets layout.now) items) (λ file. LoadsAs file descr.now layout.now.shape items) }
 {
     let len = layout.shape.items() * descr.size();
     if len > MAX_BYTES {

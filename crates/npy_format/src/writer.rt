@@ -100,7 +100,7 @@ pub(crate) fn will_load(bytes: &[u8], layout: &Layout, descr: &Descr)
 /// padding is zero, and a bool 0 or 1, whatever the block holds there.
 ///
 /// More than 2^28 bytes of items are `TooLarge`. Every other file loads as an array of the same element
-/// type, shape and items.
+/// type, shape and items, whether or not there is memory to write it.
 pub fn npy_write(
     alloc: Global,
     block: &RawBlock,
@@ -110,7 +110,8 @@ pub fn npy_write(
     requires inside { All (λ offset. offset + item_size descr.now ≤ length block.now) (offsets layout.now) }
     ensures gives { Gives (λ file. file.items) result (saved descr.now layout.now.shape (offsets layout.now) (map (item_from descr.now block.now) (offsets layout.now))) }
     ensures large { max_bytes < count layout.now.shape * item_size descr.now → result ≡ Err TooLarge }
-    ensures loads { IfOk result (λ file. LoadsAs file.items descr.now layout.now.shape (map (item_from descr.now block.now) (offsets layout.now))) }
+    ensures loads { let items = map (item_from descr.now block.now) (offsets layout.now) in
+        IfOk (saved descr.now layout.now.shape (offsets layout.now) items) (λ file. LoadsAs file descr.now layout.now.shape items) }
 {
     let len = layout.shape.items() * descr.size();
     if len > MAX_BYTES {

@@ -9,6 +9,7 @@ use Rattle.bench_engine.specs.Lines.{lines, whole_lines, unended, trimmed}
 use Rattle.bench_engine.specs.Meanings.{limit, AnswersLine}
 use Rattle.npy_files.specs.Stores.{Shelf}
 use Rattle.bench_engine.specs.Worlds.{World, world}
+use Rattle.bench_engine.specs.Outside.{Outside, first_world}
 use Rattle.bench_engine.specs.inside.ReadLines.{Tells}
 use Rattle.bench_engine.specs.Runs.{Run, output, reply_line, accepted_count, refused_count}
 
@@ -41,7 +42,7 @@ pub record AnswersHeld (shelf shelf' : Shelf) (old new : Session) (answered : Op
 pub record Told {World : Type 0} (Answer : World → List ℕ → World → List Reply → Type 0) (from to : World) (written written' : Option (List ℕ)) (old new : Session) : Type 0 where
   pub replies : List Reply
   pub answers : (piece : List ℕ) → HoldsPiece old.line piece → Answer from (trimmed piece) to replies
-  pub told : Appends written written' (output replies)
+  pub sent : Appends written written' (output replies)
   pub accepted : new.accepted ≡ old.accepted + accepted_count replies
   pub refused : new.refused ≡ old.refused + refused_count replies
 
@@ -51,15 +52,15 @@ pub record ToldInPart {World : Type 0} (Answer : World → List ℕ → World �
   pub answers : (piece : List ℕ) → HoldsPiece old.line piece → Answer from (trimmed piece) to (reply ∷ [])
   pub gone : List ℕ
   pub missing : List ℕ
-  pub cut : reply_line reply ≡ gone ++ missing
-  pub short : 0 < length missing
-  pub told : Appends written written' gone
+  pub broken : reply_line reply ≡ gone ++ missing
+  pub some_missing : 0 < length missing
+  pub sent : Appends written written' gone
 
 -- Some lines are answered, all replies have gone out, and the session counts them.
 pub record HasTold {World : Type 0} (Answer : World → List ℕ → World → List Reply → Type 0) (from to : World) (written written' : Option (List ℕ)) (all : List (List ℕ)) (s : Session) : Type 0 where
   pub replies : List Reply
   pub run : Run Answer from all replies to
-  pub told : Appends written written' (output replies)
+  pub sent : Appends written written' (output replies)
   pub accepted : s.accepted ≡ accepted_count replies
   pub refused : s.refused ≡ refused_count replies
 
@@ -73,19 +74,19 @@ abbrev pub FedMachine : World → Shelf → Option (List ℕ) → Option (List �
 FedMachine first shelf' written written' bytes s = Fed AnswersLine first (world s.bench shelf') written written' bytes s
 
 -- What was read so far is fed to the session.
-pub record Reading (first : World) (shelf' : Shelf) (unread unread' written written' : Option (List ℕ)) (s : Session) : Type 0 where
+pub record Reading (depth : ℕ) (before after : Outside) (s : Session) : Type 0 where
   pub input : List ℕ
-  pub consumes : Consumes unread unread' input
-  pub fed : FedMachine first shelf' written written' input s
+  pub read : Consumes before.unread after.unread input
+  pub fed : FedMachine (first_world depth before) after.store before.written after.written input s
 
 -- All lines of what was read are answered, and nothing is left.
-pub record Ended (first : World) (shelf' : Shelf) (unread unread' written written' : Option (List ℕ)) (s : Session) : Type 0 where
+pub record Ended (depth : ℕ) (before after : Outside) (s : Session) : Type 0 where
   pub input : List ℕ
-  pub consumes : Consumes unread unread' input
-  pub at_end : IsAtEnd unread'
-  pub told : HasTold AnswersLine first (world s.bench shelf') written written' (lines input) s
+  pub read : Consumes before.unread after.unread input
+  pub ended : IsAtEnd after.unread
+  pub told : HasTold AnswersLine (first_world depth before) (world s.bench after.store) before.written after.written (lines input) s
 
-abbrev pub Turned : Bool → World → Shelf → Option (List ℕ) → Option (List ℕ) → Option (List ℕ) → Option (List ℕ) → Session → Type 0
+abbrev pub Turned : Bool → ℕ → Outside → Outside → Session → Type 0
 Turned true = Ended
 Turned false = Reading
 

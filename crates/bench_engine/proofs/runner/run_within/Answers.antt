@@ -1,21 +1,21 @@
 use Rattle.std.proofs.Common.{arith}
 use Rattle.std.proofs.lemmas.Result.{err_from_is_err_and}
-use Rattle.bench_engine.proofs.Whole.{finished, passed-on}
+use Rattle.bench_engine.proofs.Whole.{answers-script, passed-on}
 use Rattle.bench_engine.proofs.runner.run_within.Goals as goal
 
-pub returns-in_err-take_turn-clause-read : goal.returns-in_err-take_turn-clause-read
-returns-in_err-take_turn-clause-read g c is =
+pub returns-in_err-take_turn-clause-read_failed : goal.returns-in_err-take_turn-clause-read_failed
+returns-in_err-take_turn-clause-read_failed g c is =
     let p = err_from_is_err_and c.from_residual-in_err-take_turn.result c.from_residual-in_err-take_turn.ensures.1 in
-    c.in_err-take_turn.ensures.read (passed-on _ _ (rw p.2 at (rw p.1 at is))) _ _ _ c.loop-turn.invariant.fed
+    c.in_err-take_turn.ensures.read (passed-on _ _ (rw p.2 at (rw p.1 at is))) _ _ c.loop-turn.invariant.fed
 
-pub returns-in_err-take_turn-clause-write : goal.returns-in_err-take_turn-clause-write
-returns-in_err-take_turn-clause-write g c is =
+pub returns-in_err-take_turn-clause-write_failed : goal.returns-in_err-take_turn-clause-write_failed
+returns-in_err-take_turn-clause-write_failed g c is =
     let p = err_from_is_err_and c.from_residual-in_err-take_turn.result c.from_residual-in_err-take_turn.ensures.1 in
-    c.in_err-take_turn.ensures.write (passed-on _ _ (rw p.2 at (rw p.1 at is))) _ _ _ c.loop-turn.invariant.fed
+    c.in_err-take_turn.ensures.write (passed-on _ _ (rw p.2 at (rw p.1 at is))) _ _ c.loop-turn.invariant.fed
 
-pub returns-then-branch-clause-ok : goal.returns-then-branch-clause-ok
-returns-then-branch-clause-ok g c =
-    finished _ _ _ _ _ _ c.take_turn.new.session c.into_summary.result (rw c.if-branch.true at (c.in_ok-take_turn.ensures.ok _ _ _ c.loop-turn.invariant.fed))
+pub returns-then-branch-clause-script : goal.returns-then-branch-clause-script
+returns-then-branch-clause-script g c =
+    answers-script _ _ _ c.take_turn.new.session c.into_summary.result (rw c.if-branch.true at (c.in_ok-take_turn.ensures.ok _ _ c.loop-turn.invariant.fed))
     c.into_summary.ensures.bench c.into_summary.ensures.accepted c.into_summary.ensures.refused
 
 pub loop-turn-preserved : goal.loop-turn-preserved
@@ -24,5 +24,5 @@ loop-turn-preserved g c = record {
   few = omega (arith, c.take_turn.ensures.few, c.as_mut_slice.ensures.len);
   chunk = c.loop-turn.invariant.chunk;
   counted = omega (arith, c.take_turn.ensures.counted, c.loop-turn.invariant.counted);
-  fed = rw c.if-branch.false at (c.in_ok-take_turn.ensures.ok _ _ _ c.loop-turn.invariant.fed);
+  fed = rw c.if-branch.false at (c.in_ok-take_turn.ensures.ok _ _ c.loop-turn.invariant.fed);
 }

@@ -1,5 +1,5 @@
 use Rattle.std.proofs.Common.{◌≡◌, ◌≤◌, ◌+◌, ◌*◌, vec_len}
-use Rattle.bench_engine.specs.Worlds.{start_with}
+use Rattle.bench_engine.specs.Outside.{outside}
 use Rattle.bench_engine.specs.inside.Sessions.{HasRoom, Reading}
 use Rattle.bench_engine.proofs.runner.run_within.Given as goal
 
@@ -10,5 +10,8 @@ invariant-loop-turn g l = record {
   few : l.session.accepted + l.session.refused ≤ 65538 * l.turn;
   chunk : vec_len l.chunk ≡ l.size;
   counted : g.S.ScriptSource.reads l.source ≤ g.S.ScriptSource.reads l.fn.source + l.turn;
-  fed : Reading (start_with l.depth (g.N.NpyStore.shelf l.fn.store)) (g.N.NpyStore.shelf l.store) (g.S.ScriptSource.remaining l.fn.source) (g.S.ScriptSource.remaining l.source) (g.W.Write.contents l.fn.writer) (g.W.Write.contents l.writer) l.session;
+  fed : Reading l.depth
+      (outside (g.S.ScriptSource.remaining l.fn.source) (g.W.Write.contents l.fn.writer) (g.N.NpyStore.shelf l.fn.store))
+      (outside (g.S.ScriptSource.remaining l.source) (g.W.Write.contents l.writer) (g.N.NpyStore.shelf l.store))
+      l.session;
 }

@@ -3,6 +3,7 @@ use Rattle.std.specs.FinMap.{insert}
 use Rattle.npy_files.specs.declared.mem_store.StoredFile.{StoredFile}
 use Rattle.npy_files.specs.inside.Shelves.{files_of, is_called}
 use Rattle.npy_files.proofs.StoreLaws.{overwritten, added}
+use Rattle.npy_files.proofs.UserFiles.{insert-kept}
 use Rattle.npy_files.proofs.mem_store.MemStoreNpyStore.write_parts.Goals as goal
 
 pub returns-in-Some-clause-written : goal.returns-in-Some-clause-written
@@ -26,3 +27,19 @@ returns-clause-written c = λ _.
       ap files_of c.in_ok-push.ensures.items ∙ added files new none ∙ ap (λ q. insert (files_of files) q new.bytes.items) called ∙ ap (insert (files_of files) c.args.name.now) whole,
       omega (arith, within, length-append c.args.front.now c.args.items.now),
     )
+
+-- a file with this name, and no other, has changed
+pub returns-in-Some-clause-kept : goal.returns-in-Some-clause-kept
+returns-in-Some-clause-kept c =
+    let files = c.args.self.now.files.items in
+    insert-kept (files_of files) c.args.name.now _ _
+    (overwritten c.args.name.now files c.in-Some.place c.index_mut.result.now (record { name = c.index_mut.result.now.name; bytes = c.extend_from_slice.new.self }) (ap (position (is_called c.args.name.now)) (sym c.as_slice.ensures.value) ∙ sym c.place_of.ensures.place ∙ c.in-Some.is) (ap (λ f. f.name) c.index_mut.ensures.value))
+
+pub returns-clause-kept : goal.returns-clause-kept
+returns-clause-kept c =
+    let files = c.args.self.now.files.items in
+    let new : StoredFile = record { name = c.in_ok-name.name; bytes = c.extend_from_slice.new.self } in
+    let called = c.in_ok-name.ensures.items in
+    let none = ap (λ q. position (is_called q) files) called ∙ ap (position (is_called c.args.name.now)) (sym c.as_slice.ensures.value) ∙ sym c.place_of.ensures.place ∙ c.in_default.is in
+    insert-kept (files_of files) c.args.name.now _ _
+    (ap files_of c.in_ok-push.ensures.items ∙ added files new none ∙ ap (λ q. insert (files_of files) q new.bytes.items) called)
