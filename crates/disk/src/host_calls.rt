@@ -61,8 +61,8 @@ pub(crate) fn open_file<R: Files>(rt: &R, path: Path) -> io::Result<(R::File, u6
     if !is_there(rt, path)? {
         return Err(io::Error::from(ErrorKind::NotFound));
     }
-    let file = fs::open(rt, path)?;
-    let len = file.metadata()?.len();
+    let file = uninterrupted(|| fs::open(rt, path))?;
+    let len = uninterrupted(|| file.metadata())?.len();
     Ok((file, len))
 }
 
@@ -99,7 +99,7 @@ pub(crate) fn sync_file<F: OpenFile>(file: &F) -> io::Result<()> {
 /// Brings the names in a folder to the disk, where the folder can be opened and its file system can do
 /// that.
 pub(crate) fn sync_folder<R: Files>(rt: &R, dir: Path) -> io::Result<()> {
-    let Ok(folder) = fs::open(rt, dir) else {
+    let Ok(folder) = uninterrupted(|| fs::open(rt, dir)) else {
         return Ok(());
     };
     match sync_file(&folder) {
@@ -114,17 +114,21 @@ fn lies_at<R: Files<File = File>>(rt: &R, file: &File, path: Path) -> io::Result
     let Some(there) = look_at(rt, path)? else {
         return Ok(false);
     };
-    let own = file.metadata()?;
+    let own = uninterrupted(|| file.metadata())?;
     Ok(own.ino() == there.ino() && own.dev() == there.dev())
 }
 
 /// Takes the lock of an open file. Where another program has it, that is a failure; where the file system
 /// has no locks, it is as if no other program had it.
 fn lock(file: &File) -> io::Result<()> {
-    match file.try_lock() {
-        Err(TryLockError::WouldBlock) => Err(io::Error::from(ErrorKind::ResourceBusy)),
-        _ => Ok(()),
+    for _ in 0..u64::MAX {
+        match file.try_lock() {
+            Err(TryLockError::WouldBlock) => return Err(io::Error::from(ErrorKind::ResourceBusy)),
+            Err(TryLockError::Error(error)) if error.kind() == ErrorKind::Interrupted => {}
+            _ => return Ok(()),
+        }
     }
+    Err(io::Error::from(ErrorKind::Interrupted))
 }
 
 /// Removes a file that a program left which has ended: whoever writes one holds its lock.
@@ -134,7 +138,7 @@ fn remove_leftover<R: Files<File = File>>(rt: &R, path: Path) -> io::Result<()> 
         Some(found) if !found.is_file() => return remove_file(rt, path),
         Some(_) => {}
     }
-    let file = fs::open(rt, path)?;
+    let file = uninterrupted(|| fs::open(rt, path))?;
     lock(&file)?;
     if lies_at(rt, &file, path)? {
         return remove_file(rt, path);
@@ -148,7 +152,7 @@ fn claim_file<R: Files<File = File>>(rt: &R, path: Path, mode: u32) -> io::Resul
     remove_leftover(rt, path)?;
     let mut options = OpenOptions::new();
     options.write(true).create_new(true).mode(mode);
-    let file = options.open(rt, path)?;
+    let file = uninterrupted(|| options.open(rt, path))?;
     lock(&file)?;
     if !lies_at(rt, &file, path)? {
         return Err(io::Error::from(ErrorKind::ResourceBusy));
@@ -170,8 +174,8 @@ pub(crate) fn create_file<R: Files<File = File>>(
         return Err(io::Error::from(ErrorKind::InvalidInput));
     }
     let file = claim_file(rt, path, PRIVATE_MODE)?;
-    if file.metadata()?.mode() != old.mode() {
-        file.set_permissions(old.permissions())?;
+    if uninterrupted(|| file.metadata())?.mode() != old.mode() {
+        uninterrupted(|| file.set_permissions(old.permissions()))?;
     }
     Ok(file)
 }
