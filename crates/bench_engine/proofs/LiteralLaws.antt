@@ -27,7 +27,7 @@ use Rattle.elementwise.specs.Results.{scalar_of, integer_compared_result, bytes_
 use Rattle.overlap_copy.specs.declared.items.Items.{Items}
 use Rattle.overlap_copy.specs.declared.owned.Owned.{Owned}
 use Rattle.overlap_copy.specs.Blocks.{offsets_in}
-use Rattle.literal_items.specs.LiteralItems.{is_castable, item_value, literal_number}
+use Rattle.literal_items.specs.LiteralItems.{is_castable, item_value}
 use Rattle.machine_numbers.specs.declared.operators.BinOp.{BinOp}
 use Rattle.machine_numbers.specs.declared.operators.Comparison.{Comparison}
 use Rattle.script_lang.specs.declared.operation.Operation.{Operation}
@@ -183,10 +183,11 @@ unfolding compared_literal
 compared-record c v (literal.Scalar s) not-scalar = absurd (not-scalar s refl)
 compared-record c v (literal.Record values) not-scalar = refl
 
-pub boolean-items : (c : Comparison) (x : Items) (b : Bool) (z : ℤ) (result : Result Owned Refusal) → z ≡ literal_number (Boolean b) →
+-- comparisons with a number are those with an equal one
+pub number-items : (c : Comparison) (x : Items) (z n : ℤ) (result : Result Owned Refusal) → z ≡ n →
     IfOk result (λ o. map (item_from o.descr o.block) (offsets o.layout) ≡ map (λ offset. compared_item c (item_from x.descr.now x.block.now offset) (number z ∷ [])) (offsets x.layout.now)) →
-    IfOk result (λ o. map (item_from o.descr o.block) (offsets o.layout) ≡ map (λ offset. compared_item c (item_from x.descr.now x.block.now offset) (literal_value (Boolean b) ∷ [])) (offsets x.layout.now))
-boolean-items c x b z result is items =
+    IfOk result (λ o. map (item_from o.descr o.block) (offsets o.layout) ≡ map (λ offset. compared_item c (item_from x.descr.now x.block.now offset) (number n ∷ [])) (offsets x.layout.now))
+number-items c x z n result is items =
     subst (λ (z : ℤ). IfOk result (λ o. map (item_from o.descr o.block) (offsets o.layout) ≡ map (λ offset. compared_item c (item_from x.descr.now x.block.now offset) (number z ∷ [])) (offsets x.layout.now))) is items
 
 -- ---- the item of a literal in an operation

@@ -1,7 +1,9 @@
 //! Operands: parts of the arrays of names.
-ghost use Rattle.std.specs.Prelude.{◌≡◌, ◌∷◌, [], ℕ, Bool, List, true, unwrap_or};
+ghost use Rattle.std.specs.Prelude.{◌≡◌, ◌≤◌, ◌+◌, ◌∷◌, [], ℕ, Bool, List, true, length, unwrap_or, All};
 ghost use Rattle.std.specs.List.{list_all};
+ghost use Rattle.elem_descr.specs.Items.{item_size};
 ghost use Rattle.shape_strides.specs.IndexItems.{is_basic};
+ghost use Rattle.shape_strides.specs.Layouts.{offsets};
 ghost use Rattle.shape_strides.specs.declared.index_item.IndexItem.TheVariants.{Ellipsis};
 ghost use Rattle.view_ops.specs.Views.{View};
 ghost use Rattle.name_store.specs.Arrays.{is_bound};
@@ -18,7 +20,7 @@ use elem_descr::Refusal;
 use elementwise::Items;
 use name_store::{ArrayRef, Bench};
 use script_lang::{Argument, Index, Operand};
-use shape_strides::IndexItem;
+use shape_strides::{IndexItem, Layout};
 use std::alloc::Global;
 
 /// Whether the names in an operand are bound.
@@ -62,6 +64,20 @@ pub fn operand_items(
     }
 }
 
+/// The items that a layout shows of the buffer of an array.
+fn items_of_view<'a>(array: &'a ArrayRef<'_>, view: &'a Layout) -> Items<'a>
+    requires inside { All (λ offset. offset + item_size array.now.descr.now ≤ length array.now.block.now) (offsets view.now) }
+    ensures block { result.block.now ≡ array.now.block.now }
+    ensures layout { result.layout.now ≡ view.now }
+    ensures descr { result.descr.now ≡ array.now.descr.now }
+{
+    Items {
+        block: array.block,
+        layout: view,
+        descr: array.descr,
+    }
+}
+
 /// The items that are taken of an array.
 pub fn items_taken<'a>(array: &'a ArrayRef<'_>, taken: &'a Taken) -> Items<'a>
     requires { (s : State) × (a : Array) × (plain : Bool) × (view : View) × Shows s a array.now × IsTaken s a array.now plain taken.now view }
@@ -69,15 +85,7 @@ pub fn items_taken<'a>(array: &'a ArrayRef<'_>, taken: &'a Taken) -> Items<'a>
         → StandsFor s (viewed a view) result }
 {
     match taken {
-        Taken::View(layout) => Items {
-            block: array.block,
-            layout,
-            descr: array.descr,
-        },
-        Taken::Copy(copy) => Items {
-            block: &copy.block,
-            layout: &copy.layout,
-            descr: &copy.descr,
-        },
+        Taken::View(view) => items_of_view(array, view),
+        Taken::Copy(copy) => copy.items(),
     }
 }
