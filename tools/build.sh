@@ -202,7 +202,7 @@ waiting=$(echo $crates) idle=$slots
 while IFS=: read -r lines code crate below; do eval "below_$crate=\$below code_$crate=\$code"; done <<PLAN
 $plan
 PLAN
-echo "bench: proving and building $total crates, up to $cores at a time; from nothing this takes about 25 minutes on 4 quiet cores, and 10 GB of disk" >&2
+echo "bench: proving and building $total crates, up to $cores at a time; from nothing this takes some 40 minutes on 4 quiet cores, and 10 GB of disk" >&2
 trap 'stop_all; echo "bench: not built: interrupted" >&2; exit 3' INT TERM HUP
 start_some
 tell "$number of $total crates done; proving $(shown)"

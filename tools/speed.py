@@ -29,7 +29,7 @@ import typing
 
 import numpy as np
 
-TUNABLES = {"hugetlb": 1, "mmap_threshold": 2**26, "trim_threshold": 2**27}
+TUNABLES = {"hugetlb": 1, "mmap_threshold": 2**29, "trim_threshold": 2**29}
 ENVIRONMENT = {"GLIBC_TUNABLES": ":".join(f"glibc.malloc.{name}={value}" for name, value in TUNABLES.items()), **os.environ}
 SIZES = (100, 10000, 2**22)
 DEPTHS = (16, 0)

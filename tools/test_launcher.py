@@ -11,7 +11,7 @@ import unittest
 TOP = pathlib.Path(__file__).resolve().parent.parent
 PROGRAM = pathlib.Path("crates/bench_main/out/bench_main")
 BUILT = TOP / PROGRAM
-SIZE = "67108864"
+SIZE = "536870912"
 SAYS = """#!/bin/sh
 # A program that says how it was started.
 echo "words: $*"

@@ -18,7 +18,7 @@ import subprocess
 import tempfile
 import typing
 
-TUNABLES = {"hugetlb": 1, "mmap_threshold": 2**26, "trim_threshold": 2**27}
+TUNABLES = {"hugetlb": 1, "mmap_threshold": 2**29, "trim_threshold": 2**29}
 ENVIRONMENT = {"GLIBC_TUNABLES": ":".join(f"glibc.malloc.{name}={value}" for name, value in TUNABLES.items()), **os.environ}
 MOST_ITEMS = 2**24
 MOST_BYTES = 2**28
