@@ -1,6 +1,6 @@
 //! Items as NumPy's `numpy.array` makes them of literals, where it takes the same.
 use elem_descr::{Descr, Refusal, descr_read};
-use literal_items::{can_be_item, fill, write_item, write_items};
+use literal_items::{can_be_item, write_item, write_items};
 use script_lang::{Command, Literal, NewItems, Value, parse};
 use std::alloc::{AllocError, Global};
 use std::process::Abort;
@@ -197,11 +197,4 @@ fn literals_as_bytes(rt: HostRuntime) {
         let made = made(&rt, rt.alloc(), line);
         assert!(rt; is_as_told(&made, told), "{line}");
     }
-}
-
-#[test]
-fn copies_of_an_item(rt: HostRuntime) {
-    let mut block = [9; 6];
-    fill(&[1, 2], &mut block, 3);
-    assert!(rt; block == [1, 2, 1, 2, 1, 2]);
 }
