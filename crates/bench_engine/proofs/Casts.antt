@@ -22,7 +22,7 @@ use Rattle.name_store.specs.Arrays.{find_array, has_room_for, descr_of, read}
 use Rattle.name_store.specs.Shown.{Shows}
 use Rattle.name_store.specs.declared.array_ref.ArrayRef.{ArrayRef}
 use Rattle.bench_engine.specs.declared.replies.Origin.TheVariants as origin
-use Rattle.bench_engine.specs.Contents.{Contents, made}
+use Rattle.bench_engine.specs.Contents.{Contents, new_contents}
 use Rattle.bench_engine.specs.inside.OwnContents.{held}
 use Rattle.bench_engine.specs.Machine.{Choice, cast_items, cast_contents, cast_outcome, bound_new}
 use Rattle.bench_engine.proofs.Copies.{made-held}
@@ -49,7 +49,7 @@ contents-large : (s : State) (a : Array) (text : List ℕ) (descr : Descr) (item
 unfolding cast_contents
 contents-large s a text descr items good there large = rw (good, there, large) refl
 
-contents-done : (s : State) (a : Array) (text : List ℕ) (descr : Descr) (items : List (List LeafValue)) → descriptor text ≡ Ok descr → cast_items s a descr ≡ Ok items → nat_le (count a.shape * item_size descr) max_bytes ≡ true → cast_contents s a text ≡ Ok (made descr a.shape items)
+contents-done : (s : State) (a : Array) (text : List ℕ) (descr : Descr) (items : List (List LeafValue)) → descriptor text ≡ Ok descr → cast_items s a descr ≡ Ok items → nat_le (count a.shape * item_size descr) max_bytes ≡ true → cast_contents s a text ≡ Ok (new_contents descr a.shape items)
 unfolding cast_contents
 contents-done s a text descr items good there small = rw (good, there, small) refl
 
@@ -58,8 +58,8 @@ cast-held : (s : State) (a : Array) (r : ArrayRef) (text : List ℕ) (descr : De
     cast_contents s a text ≡ Ok (held o)
 cast-held s a r text descr o shows good can few typed shaped laid items =
     contents-done s a text descr (map (cast_item (descr_of s a) descr) (read s a)) good (cast-some s a descr (ap (λ (d : Descr). can_cast d descr) shows.descr ∙ can)) (le-leb (count a.shape * item_size descr) max_bytes fits)
-    ∙ ap Ok ((λ i. made descr (sym shows.view.laid.shape i) (map (cast_item (shows.descr i) descr) (shows.reads i)))
-    ∙ ap (made descr r.layout.now.shape) (map-map (cast_item r.descr.now descr) (item_from r.descr.now r.block.now) (offsets r.layout.now))
+    ∙ ap Ok ((λ i. new_contents descr (sym shows.view.laid.shape i) (map (cast_item (shows.descr i) descr) (shows.reads i)))
+    ∙ ap (new_contents descr r.layout.now.shape) (map-map (cast_item r.descr.now descr) (item_from r.descr.now r.block.now) (offsets r.layout.now))
     ∙ made-held C descr r.layout.now.shape (map (λ offset. cast_item r.descr.now descr (item_from r.descr.now r.block.now offset)) (offsets r.layout.now)) o typed shaped laid items)
   where
     fits : count a.shape * item_size descr ≤ max_bytes

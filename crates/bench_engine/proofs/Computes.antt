@@ -21,9 +21,9 @@ use Rattle.script_lang.specs.declared.command.Operand.{Operand}
 use Rattle.script_lang.specs.declared.command.Argument.{Argument}
 use Rattle.name_store.specs.States.{State, Array}
 use Rattle.name_store.specs.Arrays.{find_array, is_bound, descr_of, read}
-use Rattle.bench_engine.specs.Contents.{Contents, made}
+use Rattle.bench_engine.specs.Contents.{Contents, new_contents}
 use Rattle.bench_engine.specs.IndexLists.{taken}
-use Rattle.bench_engine.specs.Machine.{Choice, values_of, viewed, operand_part, argument_values, worked_with, combined, transformed, creation_outcome, computed_outcome}
+use Rattle.bench_engine.specs.Machine.{Choice, operand_values, viewed, operand_part, argument_values, operation_with, operation_contents, transformed, creation_outcome, computed_outcome}
 use Rattle.bench_engine.specs.inside.Contract.{IsRefused}
 use Rattle.bench_engine.specs.inside.Operands.{StandsFor}
 use Rattle.bench_engine.specs.inside.OwnContents.{held, IsInCOrder}
@@ -66,12 +66,12 @@ module _ (s : State) (operand : Operand) (a : Array) (found : find_array s.names
 
 -- ---- two operands
 
-pub combined-bad : (s : State) (op : Operation) (left : Operand) (right : Argument) (e : Refusal) → operand_part s left ≡ Err e → combined s op left right ≡ Err e
-unfolding combined
+pub combined-bad : (s : State) (op : Operation) (left : Operand) (right : Argument) (e : Refusal) → operand_part s left ≡ Err e → operation_contents s op left right ≡ Err e
+unfolding operation_contents
 combined-bad s op left right e bad = rw bad refl
 
-pub combined-part : (s : State) (op : Operation) (left : Operand) (right : Argument) (part : Array) → operand_part s left ≡ Ok part → combined s op left right ≡ worked_with op (values_of s part) (argument_values s op (descr_of s part) right)
-unfolding combined
+pub combined-part : (s : State) (op : Operation) (left : Operand) (right : Argument) (part : Array) → operand_part s left ≡ Ok part → operation_contents s op left right ≡ operation_with op (operand_values s part) (argument_values s op (descr_of s part) right)
+unfolding operation_contents
 combined-part s op left right part good = rw good refl
 
 -- ---- one operand
@@ -84,7 +84,7 @@ transformed-other : (s : State) (op : UnOp) (operand : Operand) (part : Array) (
 unfolding transformed
 transformed-other s op operand part e good bad = rw (good, bad) refl
 
-transformed-done : (s : State) (op : UnOp) (operand : Operand) (part : Array) (d : Descr) (shape : List ℕ) → operand_part s operand ≡ Ok part → unary_result op (descr_of s part) part.shape ≡ Ok (d, shape) → transformed s op operand ≡ Ok (made d shape (map (unary_item op d) (read s part)))
+transformed-done : (s : State) (op : UnOp) (operand : Operand) (part : Array) (d : Descr) (shape : List ℕ) → operand_part s operand ≡ Ok part → unary_result op (descr_of s part) part.shape ≡ Ok (d, shape) → transformed s op operand ≡ Ok (new_contents d shape (map (unary_item op d) (read s part)))
 unfolding transformed
 transformed-done s op operand part d shape good there = rw (good, there) refl
 

@@ -19,22 +19,22 @@ use Rattle.name_store.specs.Arrays.{find_array, has_room_for, descr_of, read}
 use Rattle.name_store.specs.Shown.{Shows}
 use Rattle.name_store.specs.declared.array_ref.ArrayRef.{ArrayRef}
 use Rattle.bench_engine.specs.declared.replies.Origin.TheVariants as origin
-use Rattle.bench_engine.specs.Contents.{Contents, made_in}
+use Rattle.bench_engine.specs.Contents.{Contents, new_contents_in}
 use Rattle.bench_engine.specs.inside.OwnContents.{held}
-use Rattle.bench_engine.specs.Machine.{Choice, copied, copy_outcome, bound_new}
+use Rattle.bench_engine.specs.Machine.{Choice, copied_contents, copy_outcome, bound_new}
 use Rattle.bench_engine.proofs.Stored.{places-stored, stored-is}
 
-pub copied-large : (s : State) (a : Array) (order : MemoryOrder) (shape : List ℕ) → nat_le (count shape * item_size (descr_of s a)) max_bytes ≡ false → copied s a order shape ≡ Err TooLarge
-unfolding copied
+pub copied-large : (s : State) (a : Array) (order : MemoryOrder) (shape : List ℕ) → nat_le (count shape * item_size (descr_of s a)) max_bytes ≡ false → copied_contents s a order shape ≡ Err TooLarge
+unfolding copied_contents
 copied-large s a order shape large = rw large refl
 
-pub copied-done : (s : State) (a : Array) (order : MemoryOrder) (shape : List ℕ) → nat_le (count shape * item_size (descr_of s a)) max_bytes ≡ true → copied s a order shape ≡ Ok (made_in order (descr_of s a) shape (read s a))
-unfolding copied
+pub copied-done : (s : State) (a : Array) (order : MemoryOrder) (shape : List ℕ) → nat_le (count shape * item_size (descr_of s a)) max_bytes ≡ true → copied_contents s a order shape ≡ Ok (new_contents_in order (descr_of s a) shape (read s a))
+unfolding copied_contents
 copied-done s a order shape small = rw small refl
 
 -- what a block holds whose items stand in an order
 pub made-held : (order : MemoryOrder) (descr : Descr) (shape : List ℕ) (items : List (List LeafValue)) (o : Owned) → o.descr ≡ descr → o.layout.shape ≡ shape → offsets o.layout ≡ offsets_in order (item_size descr) shape →
-    map (item_from descr o.block) (offsets o.layout) ≡ items → made_in order descr shape items ≡ held o
+    map (item_from descr o.block) (offsets o.layout) ≡ items → new_contents_in order descr shape items ≡ held o
 made-held order descr shape items o typed shaped laid is = λ i. record {
   shape = sym shaped i;
   places = (sym (places-stored order (item_size descr) shape (omega (arith, o.fills_block.some, ap item_size typed))) ∙ λ j. places_of (item_size (sym typed j)) (sym laid j)) i;
@@ -45,24 +45,24 @@ made-held order descr shape items o typed shaped laid is = λ i. record {
 }
 
 pub items-copied : (s : State) (a : Array) (r : ArrayRef) (order : MemoryOrder) (o : Owned) → Shows s a r → count r.layout.now.shape * item_size r.descr.now ≤ max_bytes → o.descr ≡ r.descr.now → o.layout.shape ≡ r.layout.now.shape →
-    offsets o.layout ≡ offsets_in order (item_size r.descr.now) r.layout.now.shape → map (item_from r.descr.now o.block) (offsets o.layout) ≡ map (item_from r.descr.now r.block.now) (offsets r.layout.now) → copied s a order a.shape ≡ Ok (held o)
+    offsets o.layout ≡ offsets_in order (item_size r.descr.now) r.layout.now.shape → map (item_from r.descr.now o.block) (offsets o.layout) ≡ map (item_from r.descr.now r.block.now) (offsets r.layout.now) → copied_contents s a order a.shape ≡ Ok (held o)
 items-copied s a r order o shows few typed shaped laid items =
     copied-done s a order a.shape (le-leb (count a.shape * item_size (descr_of s a)) max_bytes fits)
-    ∙ ap Ok ((λ i. made_in order (shows.descr i) (sym shows.view.laid.shape i) (shows.reads i)) ∙ made-held order r.descr.now r.layout.now.shape (map (item_from r.descr.now r.block.now) (offsets r.layout.now)) o typed shaped laid items)
+    ∙ ap Ok ((λ i. new_contents_in order (shows.descr i) (sym shows.view.laid.shape i) (shows.reads i)) ∙ made-held order r.descr.now r.layout.now.shape (map (item_from r.descr.now r.block.now) (offsets r.layout.now)) o typed shaped laid items)
   where
     fits : count a.shape * item_size (descr_of s a) ≤ max_bytes
     fits = subst (λ (n : ℕ). n ≤ max_bytes) (λ i. count (shows.view.laid.shape i) * item_size (sym shows.descr i)) few
 
-pub copy-refused : (s : State) (a : Array) (r : ArrayRef) (order : MemoryOrder) (e : Refusal) → Shows s a r → e ≡ (if nat_le (count r.layout.now.shape * item_size r.descr.now) max_bytes then OutOfMemory else TooLarge) → (e ≡ OutOfMemory) ⊎ (copied s a order a.shape ≡ Err e)
+pub copy-refused : (s : State) (a : Array) (r : ArrayRef) (order : MemoryOrder) (e : Refusal) → Shows s a r → e ≡ (if nat_le (count r.layout.now.shape * item_size r.descr.now) max_bytes then OutOfMemory else TooLarge) → (e ≡ OutOfMemory) ⊎ (copied_contents s a order a.shape ≡ Err e)
 copy-refused s a r order e shows is =
-    elim (nat_le (count r.layout.now.shape * item_size r.descr.now) max_bytes) as (λ b. nat_le (count r.layout.now.shape * item_size r.descr.now) max_bytes ≡ b → e ≡ (if b then OutOfMemory else TooLarge) → (e ≡ OutOfMemory) ⊎ (copied s a order a.shape ≡ Err e)) [
+    elim (nat_le (count r.layout.now.shape * item_size r.descr.now) max_bytes) as (λ b. nat_le (count r.layout.now.shape * item_size r.descr.now) max_bytes ≡ b → e ≡ (if b then OutOfMemory else TooLarge) → (e ≡ OutOfMemory) ⊎ (copied_contents s a order a.shape ≡ Err e)) [
       | true ↦ λ _ lacks. inl lacks
       | false ↦ λ large bad. inr (copied-large s a order a.shape ((λ i. nat_le (count (sym shows.view.laid.shape i) * item_size (shows.descr i)) max_bytes) ∙ large) ∙ ap Err (sym bad))
     ] refl is
 
 pub copied-gives : (s : State) (a : Array) (r : ArrayRef) (order : MemoryOrder) (result : Result Owned Refusal) → Shows s a r → IfOk result (λ o. o.descr ≡ r.descr.now) → IfOk result (λ o. o.layout.shape ≡ r.layout.now.shape) → IfOk result (λ o. offsets o.layout ≡ offsets_in order (item_size r.descr.now) r.layout.now.shape) →
     IfOk result (λ o. map (item_from r.descr.now o.block) (offsets o.layout) ≡ map (item_from r.descr.now r.block.now) (offsets r.layout.now)) → IfOk result (λ _. count r.layout.now.shape * item_size r.descr.now ≤ max_bytes) →
-    IfErr result (λ e. e ≡ (if nat_le (count r.layout.now.shape * item_size r.descr.now) max_bytes then OutOfMemory else TooLarge)) → Gives held result (copied s a order a.shape)
+    IfErr result (λ e. e ≡ (if nat_le (count r.layout.now.shape * item_size r.descr.now) max_bytes then OutOfMemory else TooLarge)) → Gives held result (copied_contents s a order a.shape)
 copied-gives s a r order (Ok o) shows typed shaped laid items few refused = items-copied s a r order o shows few typed shaped laid items
 copied-gives s a r order (Err e) shows typed shaped laid items few refused = copy-refused s a r order e shows refused
 
@@ -76,10 +76,10 @@ pub copy-many : (choice : Choice) (s : State) (name source : List ℕ) (order : 
 unfolding copy_outcome
 copy-many choice s name source order a is full = rw (is, full) refl
 
-pub copy-bad : (choice : Choice) (s : State) (name source : List ℕ) (order : MemoryOrder) (a : Array) (e : Refusal) → find_array s.names source ≡ Some a → has_room_for s name ≡ true → copied s a order a.shape ≡ Err e → copy_outcome choice s name source order ≡ Err e
+pub copy-bad : (choice : Choice) (s : State) (name source : List ℕ) (order : MemoryOrder) (a : Array) (e : Refusal) → find_array s.names source ≡ Some a → has_room_for s name ≡ true → copied_contents s a order a.shape ≡ Err e → copy_outcome choice s name source order ≡ Err e
 unfolding copy_outcome
 copy-bad choice s name source order a e is room bad = rw (is, room, bad) refl
 
-pub copy-done : (choice : Choice) (s : State) (name source : List ℕ) (order : MemoryOrder) (a : Array) (new : Contents) → find_array s.names source ≡ Some a → has_room_for s name ≡ true → copied s a order a.shape ≡ Ok new → copy_outcome choice s name source order ≡ bound_new choice s name origin.Copy new
+pub copy-done : (choice : Choice) (s : State) (name source : List ℕ) (order : MemoryOrder) (a : Array) (new : Contents) → find_array s.names source ≡ Some a → has_room_for s name ≡ true → copied_contents s a order a.shape ≡ Ok new → copy_outcome choice s name source order ≡ bound_new choice s name origin.Copy new
 unfolding copy_outcome
 copy-done choice s name source order a new is room good = rw (is, room, good) refl

@@ -12,7 +12,7 @@ use Rattle.name_store.specs.declared.bound.Bound.TheVariants.{Fresh}
 use Rattle.bench_engine.specs.Contents.{Contents, array_over}
 use Rattle.bench_engine.specs.inside.OwnContents.{held}
 use Rattle.bench_engine.specs.inside.Contract.{IsRefused, CarriesOut}
-use Rattle.bench_engine.specs.Machine.{Choice, Outcome, creation_outcome, bound_new, comes_to}
+use Rattle.bench_engine.specs.Machine.{Choice, Outcome, creation_outcome, bound_new, accepted_with}
 use Rattle.bench_engine.specs.declared.replies.Origin.{Origin}
 use Rattle.bench_engine.specs.declared.replies.Origin.TheVariants as origin
 use Rattle.bench_engine.specs.Replies.{bound_text}
@@ -40,9 +40,9 @@ starts before reply after is = ap (take (length before)) is ∙ take-append_seam
 
 -- the name is bound to what a block holds, or refused as out of memory
 pub fresh-answers : (s new : State) (name : List ℕ) (may : Bool) (outcome : Choice → Outcome) (o : Owned) (contents : Contents) (result : Result (Unit {0}) Refusal) (text before after : List ℕ) → may ≡ true → has_room_for s name ≡ true → contents ≡ held o →
-    ((choice : Choice) → outcome choice ≡ comes_to (bound_to s name (array_over choice.fresh contents) contents.buffer) text) → after ≡ before ++ text → AnswersBind s name (Fresh o) result new → CarriesOut may outcome s new before after result
+    ((choice : Choice) → outcome choice ≡ accepted_with (bound_to s name (array_over choice.fresh contents) contents.buffer) text) → after ≡ before ++ text → AnswersBind s name (Fresh o) result new → CarriesOut may outcome s new before after result
 fresh-answers s new name may outcome o contents (Ok done) text before after can room holds is told (_, (number, unused, binds)) =
-    (record { fresh = number }, unused.unused, text, is (record { fresh = number }) ∙ ap (λ (c : Contents). comes_to (bound_to s name (array_over number c) c.buffer) text) holds ∙ ap (λ (t : State). comes_to t text) (sym binds), told)
+    (record { fresh = number }, unused.unused, text, is (record { fresh = number }) ∙ ap (λ (c : Contents). accepted_with (bound_to s name (array_over number c) c.buffer) text) holds ∙ ap (λ (t : State). accepted_with t text) (sym binds), told)
 fresh-answers s new name may outcome o contents (Err e) text before after can room holds is told (kept, inl full) =
     let no : true ≡ false = sym room ∙ full.0 in cc
 fresh-answers s new name may outcome o contents (Err e) text before after can room holds is told (kept, inr lacks) =

@@ -5,7 +5,7 @@ use Rattle.elem_descr.specs.declared.refusal.Refusal.{Refusal}
 use Rattle.elem_descr.specs.declared.refusal.Refusal.TheVariants.{UnknownName, OutOfMemory}
 use Rattle.name_store.specs.States.{State}
 use Rattle.name_store.specs.Arrays.{is_bound, unbound}
-use Rattle.bench_engine.specs.Machine.{delete_outcome, comes_to}
+use Rattle.bench_engine.specs.Machine.{delete_outcome, accepted_with}
 use Rattle.bench_engine.specs.inside.Contract.{IsRefused}
 
 delete-unknown : (s : State) (name : List ℕ) (e : Refusal) → is_bound s name ≡ false → e ≡ UnknownName → delete_outcome s name ≡ Err e
@@ -19,6 +19,6 @@ pub delete-refused : (s : State) (name : List ℕ) (e : Refusal) → (((is_bound
 delete-refused s name e (inl (none, is)) = inr (λ choice. delete-unknown s name e none is)
 delete-refused s name e (inr (bound, is, deep)) = inl (is, may-keep s name bound deep)
 
-pub delete-done : (s new : State) (name : List ℕ) → is_bound s name ≡ true → new ≡ unbound s name → delete_outcome s name ≡ comes_to new (codes "ok del " ++ name)
+pub delete-done : (s new : State) (name : List ℕ) → is_bound s name ≡ true → new ≡ unbound s name → delete_outcome s name ≡ accepted_with new (codes "ok del " ++ name)
 unfolding delete_outcome
 delete-done s new name bound is = rw (bound, is) refl

@@ -8,9 +8,9 @@ use Rattle.bench_engine.specs.declared.session.Session.{Session}
 use Rattle.std.specs.Io.KnownBytes.{Appends}
 use Rattle.bench_engine.specs.Meanings.{AnswersLine}
 use Rattle.bench_engine.specs.Replies.{Reply}
-use Rattle.bench_engine.specs.Lines.{ended, unended, trimmed, whole_lines, lines}
+use Rattle.bench_engine.specs.Lines.{ended_lines, unended, trimmed, whole_lines, lines}
 use Rattle.bench_engine.specs.Runs.{Run, BreaksOff, output, reply_line, accepted_count, refused_count}
-use Rattle.npy_files.specs.Stores.{Shelf}
+use Rattle.npy_files.specs.Stores.{StoreState}
 use Rattle.bench_engine.specs.Worlds.{world}
 use Rattle.bench_engine.specs.inside.Sessions.{HoldsPiece, HoldsBytes, Fed, HasTold, Told, ToldInPart, AnswersHeld}
 use Rattle.bench_engine.proofs.Known.{appends_then, appends_none}
@@ -26,7 +26,7 @@ held-some [] false piece some holds = cc
 held-some (b ∷ bytes) false piece some holds = omega (arith, ap length holds)
 
 -- a reply that stands in out, and a part of it that has gone out
-pub told-in-part : (shelf shelf' : Shelf) (old new : Session) (answered : Option Bool) (written written' : Option (List ℕ)) → true ≡ is_some answered → AnswersHeld shelf shelf' old new answered →
+pub told-in-part : (shelf shelf' : StoreState) (old new : Session) (answered : Option Bool) (written written' : Option (List ℕ)) → true ≡ is_some answered → AnswersHeld shelf shelf' old new answered →
     ((gone missing : List ℕ) × (new.out.items ++ 10 ∷ [] ≡ gone ++ missing) × (0 < length missing) × Appends written written' gone) → ToldInPart AnswersLine (world old.bench shelf) (world new.bench shelf') written written' old
 told-in-part shelf shelf' old new None written written' some held part = cc
 told-in-part shelf shelf' old new (Some accepted) written written' some held part = record {
@@ -56,7 +56,7 @@ module _ {World : Type 0} (Answer : World → List ℕ → World → List Reply 
     }
 
     -- a piece in which no newline stands is held
-    pub fed-piece : (to : World) (written : Option (List ℕ)) (read piece : List ℕ) (old new : Session) → ended piece ≡ [] → new.accepted ≡ old.accepted → new.refused ≡ old.refused →
+    pub fed-piece : (to : World) (written : Option (List ℕ)) (read piece : List ℕ) (old new : Session) → ended_lines piece ≡ [] → new.accepted ≡ old.accepted → new.refused ≡ old.refused →
         ((held : List ℕ) → HoldsPiece old.line held → HoldsPiece new.line (held ++ piece)) → Fed Answer start to before written read old → Fed Answer start to before written (read ++ piece) new
     fed-piece to written read piece old new one same-accepted same-refused holds fed = record {
       told = record {

@@ -22,14 +22,14 @@ use Rattle.view_ops.specs.Views.{View, view_through}
 use Rattle.fancy_index.specs.IndexArrays.{IndexArray, no_array, with_array, with_arrays}
 use Rattle.fancy_index.specs.Indexed.{indexed}
 use Rattle.fancy_index.specs.Plans.{Planned, IsPlanOf, GivesPlan}
-use Rattle.fancy_index.specs.Sources.{array_of, first_number, LiesInBlock, IsNamed}
+use Rattle.fancy_index.specs.Sources.{index_array_of, first_number, LiesInBlock, IsNamed}
 use Rattle.fancy_index.specs.declared.source.Indices.{Indices}
 use Rattle.name_store.specs.States.{State, Array}
 use Rattle.name_store.specs.Arrays.{is_bound, buffer_of, descr_of, addresses, read}
 use Rattle.name_store.specs.Parts.{start_at}
 use Rattle.name_store.specs.Shown.{Shows}
 use Rattle.name_store.specs.declared.array_ref.ArrayRef.{ArrayRef}
-use Rattle.bench_engine.specs.IndexLists.{names_in_item, names_in_index, by_items, with_items, gathered}
+use Rattle.bench_engine.specs.IndexLists.{names_in_item, names_in_index, by_items, array_by_items, gathered}
 use Rattle.bench_engine.specs.Machine.{viewed}
 use Rattle.bench_engine.proofs.Views.{offsets-view}
 
@@ -58,20 +58,20 @@ none-bound s index k item below is none = here s index k item below (ap (λ (i :
 
 -- ---- arrays in the place of names
 
-pub array-is : (s : State) (a : Array) (r : ArrayRef) (indices : Indices) → Shows s a r → indices.descr.now ≡ r.descr.now → indices.layout.now ≡ r.layout.now → indices.block.now ≡ r.block.now → array_of indices ≡ by_items s (Some a)
+pub array-is : (s : State) (a : Array) (r : ArrayRef) (indices : Indices) → Shows s a r → indices.descr.now ≡ r.descr.now → indices.layout.now ≡ r.layout.now → indices.block.now ≡ r.block.now → index_array_of indices ≡ by_items s (Some a)
 array-is s a r indices shows descr layout block = λ i. record {
   descr = (descr ∙ sym shows.descr) i;
   shape = (ap (λ (l : Layout). l.shape) layout ∙ shows.view.laid.shape) i;
   numbers = numbers i;
 }
   where
-    numbers : (array_of indices).numbers ≡ map first_number (read s a)
+    numbers : (index_array_of indices).numbers ≡ map first_number (read s a)
     numbers =
         (λ i. map (λ offset. first_number (item_from (descr i) (block i) offset)) (offsets (layout i)))
         ∙ sym (map-map first_number (item_from r.descr.now r.block.now) (offsets r.layout.now))
         ∙ ap (map first_number) (sym shows.reads)
 
-pub next-array : (arrays : List Indices) (x : Indices) → get_or (map array_of (arrays ++ x ∷ [])) (length arrays) no_array ≡ array_of x
+pub next-array : (arrays : List Indices) (x : Indices) → get_or (map index_array_of (arrays ++ x ∷ [])) (length arrays) no_array ≡ index_array_of x
 next-array [] x = refl
 next-array (a ∷ arrays) x = next-array arrays x
 
@@ -97,15 +97,15 @@ length-map' f [] = refl
 length-map' f (x ∷ xs) = ap suc (length-map' f xs)
 
 -- an item names the same array where more stand behind
-with-more : (arrays more : List Indices) (item : IndexItem ℕ) → IsNamed (length arrays) item → with_array (map array_of (arrays ++ more)) item ≡ with_array (map array_of arrays) item
+with-more : (arrays more : List Indices) (item : IndexItem ℕ) → IsNamed (length arrays) item → with_array (map index_array_of (arrays ++ more)) item ≡ with_array (map index_array_of arrays) item
 with-more arrays more (Integer at) named = refl
 with-more arrays more (Slice start stop step) named = refl
 with-more arrays more Ellipsis named = refl
 with-more arrays more NewAxis named = refl
 with-more arrays more (ArrayItem k) named =
-    ap ArrayItem (ap (λ l. get_or l k no_array) (map-more array_of arrays more) ∙ get_or-more (map array_of arrays) (map array_of more) k no_array (subst (λ n. k < n) (sym (length-map' array_of arrays)) named))
+    ap ArrayItem (ap (λ l. get_or l k no_array) (map-more index_array_of arrays more) ∙ get_or-more (map index_array_of arrays) (map index_array_of more) k no_array (subst (λ n. k < n) (sym (length-map' index_array_of arrays)) named))
 
-pub all-with-more : (arrays more : List Indices) (items : List (IndexItem ℕ)) → All (IsNamed (length arrays)) items → with_arrays (map array_of (arrays ++ more)) items ≡ with_arrays (map array_of arrays) items
+pub all-with-more : (arrays more : List Indices) (items : List (IndexItem ℕ)) → All (IsNamed (length arrays)) items → with_arrays (map index_array_of (arrays ++ more)) items ≡ with_arrays (map index_array_of arrays) items
 all-with-more arrays more [] named = refl
 all-with-more arrays more (item ∷ items) named = λ i. with-more arrays more item (named 0 item (omega arith)) i ∷ all-with-more arrays more items (λ k d below. named (suc k) d (omega (arith, below))) i
 
@@ -125,13 +125,13 @@ all-named-more arrays more items named = λ k d below. named-more arrays more (g
 
 -- one more item, with its array behind the others
 pub item-added : (s : State) (arrays more now : List Indices) (items pushed : List (IndexItem ℕ)) (index : List (IndexItem (List ℕ))) (k : ℕ) (item : IndexItem ℕ) (d : IndexItem (List ℕ)) → now ≡ arrays ++ more → pushed ≡ items ++ item ∷ [] → k < length index →
-    All (IsNamed (length arrays)) items → with_arrays (map array_of arrays) items ≡ map (with_items s) (take k index) → with_array (map array_of now) item ≡ with_items s (get_or index k d) → with_arrays (map array_of now) pushed ≡ map (with_items s) (take (k + 1) index)
+    All (IsNamed (length arrays)) items → with_arrays (map index_array_of arrays) items ≡ map (array_by_items s) (take k index) → with_array (map index_array_of now) item ≡ array_by_items s (get_or index k d) → with_arrays (map index_array_of now) pushed ≡ map (array_by_items s) (take (k + 1) index)
 item-added s arrays more now items pushed index k item d grown put below named before is =
-    (λ i. with_arrays (map array_of now) (put i))
-    ∙ map-more (with_array (map array_of now)) items (item ∷ [])
-    ∙ (λ i. ((λ j. with_arrays (map array_of (grown j)) items) ∙ all-with-more arrays more items named ∙ before) i ++ is i ∷ [])
-    ∙ sym (map-more (with_items s) (take k index) (get_or index k d ∷ []))
-    ∙ ap (map (with_items s)) (sym (take_more index k d below))
+    (λ i. with_arrays (map index_array_of now) (put i))
+    ∙ map-more (with_array (map index_array_of now)) items (item ∷ [])
+    ∙ (λ i. ((λ j. with_arrays (map index_array_of (grown j)) items) ∙ all-with-more arrays more items named ∙ before) i ++ is i ∷ [])
+    ∙ sym (map-more (array_by_items s) (take k index) (get_or index k d ∷ []))
+    ∙ ap (map (array_by_items s)) (sym (take_more index k d below))
 
 pub names-added : (arrays more now : List Indices) (items pushed : List (IndexItem ℕ)) (item : IndexItem ℕ) → now ≡ arrays ++ more → pushed ≡ items ++ item ∷ [] → All (IsNamed (length arrays)) items → IsNamed (length now) item → All (IsNamed (length now)) pushed
 names-added arrays more now items pushed item grown put named is =
@@ -192,21 +192,21 @@ pub given-no_plan : (layout : Layout) (e : Refusal) (there : Result View Refusal
 given-no_plan layout e (Ok view) is = is
 given-no_plan layout e (Err e') is = is
 
-pub gathered-bad : (s : State) (a : Array) (index : List (IndexItem (List ℕ))) (e : Refusal) → indexed a.shape (map (with_items s) index) ≡ Err e → gathered s a index ≡ Err e
+pub gathered-bad : (s : State) (a : Array) (index : List (IndexItem (List ℕ))) (e : Refusal) → indexed a.shape (map (array_by_items s) index) ≡ Err e → gathered s a index ≡ Err e
 unfolding gathered
 gathered-bad s a index e bad = rw bad refl
 
-pub gathered-large : (s : State) (a : Array) (index : List (IndexItem (List ℕ))) (view : View) → indexed a.shape (map (with_items s) index) ≡ Ok view → nat_le (count view.shape * item_size (descr_of s a)) max_bytes ≡ false → gathered s a index ≡ Err TooLarge
+pub gathered-large : (s : State) (a : Array) (index : List (IndexItem (List ℕ))) (view : View) → indexed a.shape (map (array_by_items s) index) ≡ Ok view → nat_le (count view.shape * item_size (descr_of s a)) max_bytes ≡ false → gathered s a index ≡ Err TooLarge
 unfolding gathered
 gathered-large s a index view good large = rw (good, large) refl
 
-pub gathered-done : (s : State) (a : Array) (index : List (IndexItem (List ℕ))) (view : View) → indexed a.shape (map (with_items s) index) ≡ Ok view → nat_le (count view.shape * item_size (descr_of s a)) max_bytes ≡ true → gathered s a index ≡ Ok view
+pub gathered-done : (s : State) (a : Array) (index : List (IndexItem (List ℕ))) (view : View) → indexed a.shape (map (array_by_items s) index) ≡ Ok view → nat_le (count view.shape * item_size (descr_of s a)) max_bytes ≡ true → gathered s a index ≡ Ok view
 unfolding gathered
 gathered-done s a index view good small = rw (good, small) refl
 
 -- a plan of at most 2^28 bytes, and one of more
-module _ (s : State) (a : Array) (r : ArrayRef) (shows : Shows s a r) (index : List (IndexItem (List ℕ))) (items : List (IndexItem IndexArray)) (items-are : items ≡ map (with_items s) index) where
-  there-is : {X : Result View Refusal} → indexed r.layout.now.shape items ≡ X → indexed a.shape (map (with_items s) index) ≡ X
+module _ (s : State) (a : Array) (r : ArrayRef) (shows : Shows s a r) (index : List (IndexItem (List ℕ))) (items : List (IndexItem IndexArray)) (items-are : items ≡ map (array_by_items s) index) where
+  there-is : {X : Result View Refusal} → indexed r.layout.now.shape items ≡ X → indexed a.shape (map (array_by_items s) index) ≡ X
   there-is is = (λ i. indexed (sym shows.view.laid.shape i) (sym items-are i)) ∙ is
 
   pub gathers : (plan : Planned) → GivesPlan r.layout.now (Ok plan) (indexed r.layout.now.shape items) → length plan.offsets * item_size r.descr.now ≤ max_bytes → GivesPlan r.layout.now (Ok plan) (gathered s a index)

@@ -4,19 +4,19 @@ use Rattle.std.specs.List.{position, position_or_len}
 use Rattle.std.proofs.lemmas.Bool.{eqb-true, ltb-false}
 use Rattle.std.proofs.lemmas.List.{map-append, take-append-drop}
 use Rattle.std.proofs.lemmas.List.Quantifiers.{position-Some}
-use Rattle.bench_engine.specs.Lines.{ended, unended, onto_first_piece, before_rest, trimmed, whole_lines, lines, if_any}
+use Rattle.bench_engine.specs.Lines.{ended_lines, unended, onto_first_piece, before_rest, trimmed, whole_lines, lines, if_any}
 
 onto_first_piece-split : (b : ℕ) (pieces : List (List ℕ)) (last : List ℕ) (later : List (List ℕ)) → onto_first_piece b (pieces ++ last ∷ later) ≡ onto_first_piece b pieces ++ before_rest b pieces last ∷ later
 onto_first_piece-split b [] last later = refl
 onto_first_piece-split b (piece ∷ pieces) last later = refl
 
 -- a newline, and more after it
-ended-split : (bytes more : List ℕ) → ended (bytes ++ 10 ∷ more) ≡ ended bytes ++ unended bytes ∷ ended more
+ended-split : (bytes more : List ℕ) → ended_lines (bytes ++ 10 ∷ more) ≡ ended_lines bytes ++ unended bytes ∷ ended_lines more
 ended-split [] more = refl
 ended-split (b ∷ bytes) more =
-    elim (nat_eq b 10) as (λ t. cond t ([] ∷ ended (bytes ++ 10 ∷ more)) (onto_first_piece b (ended (bytes ++ 10 ∷ more))) ≡ cond t ([] ∷ ended bytes) (onto_first_piece b (ended bytes)) ++ cond t (unended bytes) (before_rest b (ended bytes) (unended bytes)) ∷ ended more) [
+    elim (nat_eq b 10) as (λ t. cond t ([] ∷ ended_lines (bytes ++ 10 ∷ more)) (onto_first_piece b (ended_lines (bytes ++ 10 ∷ more))) ≡ cond t ([] ∷ ended_lines bytes) (onto_first_piece b (ended_lines bytes)) ++ cond t (unended bytes) (before_rest b (ended_lines bytes) (unended bytes)) ∷ ended_lines more) [
       | true ↦ ap (λ p. [] ∷ p) (ended-split bytes more)
-      | false ↦ ap (onto_first_piece b) (ended-split bytes more) ∙ onto_first_piece-split b (ended bytes) (unended bytes) (ended more)
+      | false ↦ ap (onto_first_piece b) (ended-split bytes more) ∙ onto_first_piece-split b (ended_lines bytes) (unended bytes) (ended_lines more)
     ]
 
 before_last : (b : ℕ) (pieces : List (List ℕ)) (last rest : List ℕ) → before_rest b (pieces ++ last ∷ []) rest ≡ rest
@@ -26,13 +26,13 @@ before_last b (piece ∷ pieces) last rest = refl
 pub unended-newline : (bytes : List ℕ) → unended (bytes ++ 10 ∷ []) ≡ []
 unended-newline [] = refl
 unended-newline (b ∷ bytes) =
-    elim (nat_eq b 10) as (λ t. cond t (unended (bytes ++ 10 ∷ [])) (before_rest b (ended (bytes ++ 10 ∷ [])) (unended (bytes ++ 10 ∷ []))) ≡ []) [
+    elim (nat_eq b 10) as (λ t. cond t (unended (bytes ++ 10 ∷ [])) (before_rest b (ended_lines (bytes ++ 10 ∷ [])) (unended (bytes ++ 10 ∷ []))) ≡ []) [
       | true ↦ unended-newline bytes
-      | false ↦ rw (ended-split bytes [], unended-newline bytes) (before_last b (ended bytes) (unended bytes) [])
+      | false ↦ rw (ended-split bytes [], unended-newline bytes) (before_last b (ended_lines bytes) (unended bytes) [])
     ]
 
 -- a piece in which no newline stands
-pub ended-piece : (bytes piece : List ℕ) → ended piece ≡ [] → ended (bytes ++ piece) ≡ ended bytes
+pub ended-piece : (bytes piece : List ℕ) → ended_lines piece ≡ [] → ended_lines (bytes ++ piece) ≡ ended_lines bytes
 ended-piece [] piece none = none
 ended-piece (b ∷ bytes) piece none = rw (ended-piece bytes piece none) refl
 
@@ -44,27 +44,27 @@ onto_none : (b : ℕ) (pieces : List (List ℕ)) → onto_first_piece b pieces �
 onto_none b [] none = refl
 onto_none b (piece ∷ pieces) none = cc
 
-unended-whole : (piece : List ℕ) → ended piece ≡ [] → unended piece ≡ piece
+unended-whole : (piece : List ℕ) → ended_lines piece ≡ [] → unended piece ≡ piece
 unended-whole [] none = refl
 unended-whole (b ∷ piece) none =
-    elim (nat_eq b 10) as (λ t. cond t ([] ∷ ended piece) (onto_first_piece b (ended piece)) ≡ [] → cond t (unended piece) (before_rest b (ended piece) (unended piece)) ≡ b ∷ piece) [
+    elim (nat_eq b 10) as (λ t. cond t ([] ∷ ended_lines piece) (onto_first_piece b (ended_lines piece)) ≡ [] → cond t (unended piece) (before_rest b (ended_lines piece) (unended piece)) ≡ b ∷ piece) [
       | true ↦ λ h. cc
-      | false ↦ λ h. let rest = onto_none b (ended piece) h in rw (rest, unended-whole piece rest) refl
+      | false ↦ λ h. let rest = onto_none b (ended_lines piece) h in rw (rest, unended-whole piece rest) refl
     ] none
 
-pub unended-piece : (bytes piece : List ℕ) → ended piece ≡ [] → unended (bytes ++ piece) ≡ unended bytes ++ piece
+pub unended-piece : (bytes piece : List ℕ) → ended_lines piece ≡ [] → unended (bytes ++ piece) ≡ unended bytes ++ piece
 unended-piece [] piece none = unended-whole piece none
 unended-piece (b ∷ bytes) piece none =
-    elim (nat_eq b 10) as (λ t. cond t (unended (bytes ++ piece)) (before_rest b (ended (bytes ++ piece)) (unended (bytes ++ piece))) ≡ cond t (unended bytes) (before_rest b (ended bytes) (unended bytes)) ++ piece) [
+    elim (nat_eq b 10) as (λ t. cond t (unended (bytes ++ piece)) (before_rest b (ended_lines (bytes ++ piece)) (unended (bytes ++ piece))) ≡ cond t (unended bytes) (before_rest b (ended_lines bytes) (unended bytes)) ++ piece) [
       | true ↦ unended-piece bytes piece none
-      | false ↦ rw (ended-piece bytes piece none, unended-piece bytes piece none) (before_rest-append b (ended bytes) (unended bytes) piece)
+      | false ↦ rw (ended-piece bytes piece none, unended-piece bytes piece none) (before_rest-append b (ended_lines bytes) (unended bytes) piece)
     ]
 
-pub whole_lines-piece : (bytes piece : List ℕ) → ended piece ≡ [] → whole_lines (bytes ++ piece) ≡ whole_lines bytes
+pub whole_lines-piece : (bytes piece : List ℕ) → ended_lines piece ≡ [] → whole_lines (bytes ++ piece) ≡ whole_lines bytes
 whole_lines-piece bytes piece none = ap (map trimmed) (ended-piece bytes piece none)
 
 pub whole_lines-split : (bytes more : List ℕ) → whole_lines (bytes ++ 10 ∷ more) ≡ whole_lines bytes ++ trimmed (unended bytes) ∷ whole_lines more
-whole_lines-split bytes more = ap (map trimmed) (ended-split bytes more) ∙ map-append trimmed (ended bytes) (unended bytes ∷ ended more)
+whole_lines-split bytes more = ap (map trimmed) (ended-split bytes more) ∙ map-append trimmed (ended_lines bytes) (unended bytes ∷ ended_lines more)
 
 if_any-some : (piece : List ℕ) → 0 < length piece → if_any piece ≡ piece ∷ []
 if_any-some [] h = absurd (omega arith)
@@ -75,10 +75,10 @@ pub lines-last : (bytes : List ℕ) → 0 < length (unended bytes) → lines byt
 lines-last bytes some = ap (λ last. whole_lines bytes ++ map trimmed last) (if_any-some (unended bytes) some)
 
 -- the bytes before the first newline
-ended-before : (bytes : List ℕ) → ended (take (position_or_len (λ b. nat_eq b 10) bytes) bytes) ≡ []
+ended-before : (bytes : List ℕ) → ended_lines (take (position_or_len (λ b. nat_eq b 10) bytes) bytes) ≡ []
 ended-before [] = refl
 ended-before (b ∷ bytes) =
-    elim (nat_eq b 10) as (λ t. nat_eq b 10 ≡ t → ended (take (cond (not t) (1 + position_or_len (λ x. nat_eq x 10) bytes) 0) (b ∷ bytes)) ≡ []) [
+    elim (nat_eq b 10) as (λ t. nat_eq b 10 ≡ t → ended_lines (take (cond (not t) (1 + position_or_len (λ x. nat_eq x 10) bytes) 0) (b ∷ bytes)) ≡ []) [
       | true ↦ λ _. refl
       | false ↦ λ other. rw (one-add, other, ended-before bytes) refl
     ] refl
@@ -91,10 +91,10 @@ place q n end is =
     ] is
 
 -- the first newline, after bytes without one
-pub first_newline : (bytes : List ℕ) (end : ℕ) → position (λ b. nat_eq b 10) bytes ≡ Some end → (end < length bytes) × (ended (take end bytes) ≡ []) × (get_or bytes end 10 ≡ 10)
+pub first_newline : (bytes : List ℕ) (end : ℕ) → position (λ b. nat_eq b 10) bytes ≡ Some end → (end < length bytes) × (ended_lines (take end bytes) ≡ []) × (get_or bytes end 10 ≡ 10)
 first_newline bytes end is =
     let at = position-Some (λ b. nat_eq b 10) bytes end 10 is in
-    (at.0, subst (λ n. ended (take n bytes) ≡ []) (place (position_or_len (λ b. nat_eq b 10) bytes) (length bytes) end is) (ended-before bytes), eqb-true _ _ at.1)
+    (at.0, subst (λ n. ended_lines (take n bytes) ≡ []) (place (position_or_len (λ b. nat_eq b 10) bytes) (length bytes) end is) (ended-before bytes), eqb-true _ _ at.1)
 
 nowhere : (q n : ℕ) → cond (nat_lt q n) (Some q) None ≡ None → n ≤ q
 nowhere q n is =
@@ -104,9 +104,9 @@ nowhere q n is =
     ] refl is
 
 -- no newline at all
-pub no_newline : (bytes : List ℕ) → position (λ b. nat_eq b 10) bytes ≡ None → ended bytes ≡ []
+pub no_newline : (bytes : List ℕ) → position (λ b. nat_eq b 10) bytes ≡ None → ended_lines bytes ≡ []
 no_newline bytes none =
-    subst (λ piece. ended piece ≡ []) (take_all _ bytes (nowhere (position_or_len (λ b. nat_eq b 10) bytes) (length bytes) none)) (ended-before bytes)
+    subst (λ piece. ended_lines piece ≡ []) (take_all _ bytes (nowhere (position_or_len (λ b. nat_eq b 10) bytes) (length bytes) none)) (ended-before bytes)
 
 -- the bytes before a newline, it, and those after it
 at_newline : (bytes : List ℕ) (end : ℕ) → end < length bytes → get_or bytes end 10 ≡ 10 → bytes ≡ take end bytes ++ 10 ∷ drop (end + 1) bytes
@@ -121,17 +121,17 @@ onto_first_piece-front : (b : ℕ) (pieces more : List (List ℕ)) → (later : 
 onto_first_piece-front b [] more = (onto_first_piece b more, refl)
 onto_first_piece-front b (piece ∷ pieces) more = (more, refl)
 
-ended-front : (bytes more : List ℕ) → (later : List (List ℕ)) × (ended (bytes ++ more) ≡ ended bytes ++ later)
-ended-front [] more = (ended more, refl)
+ended-front : (bytes more : List ℕ) → (later : List (List ℕ)) × (ended_lines (bytes ++ more) ≡ ended_lines bytes ++ later)
+ended-front [] more = (ended_lines more, refl)
 ended-front (b ∷ bytes) more =
     let rest = ended-front bytes more in
-    elim (nat_eq b 10) as (λ t. (later : List (List ℕ)) × (cond t ([] ∷ ended (bytes ++ more)) (onto_first_piece b (ended (bytes ++ more))) ≡ cond t ([] ∷ ended bytes) (onto_first_piece b (ended bytes)) ++ later)) [
+    elim (nat_eq b 10) as (λ t. (later : List (List ℕ)) × (cond t ([] ∷ ended_lines (bytes ++ more)) (onto_first_piece b (ended_lines (bytes ++ more))) ≡ cond t ([] ∷ ended_lines bytes) (onto_first_piece b (ended_lines bytes)) ++ later)) [
       | true ↦ (rest.0, ap (λ p. [] ∷ p) rest.1)
-      | false ↦ let onto = onto_first_piece-front b (ended bytes) rest.0 in (onto.0, ap (onto_first_piece b) rest.1 ∙ onto.1)
+      | false ↦ let onto = onto_first_piece-front b (ended_lines bytes) rest.0 in (onto.0, ap (onto_first_piece b) rest.1 ∙ onto.1)
     ]
 
 pub lines-front : (bytes more : List ℕ) → (later : List (List ℕ)) × (lines (bytes ++ more) ≡ whole_lines bytes ++ later)
 lines-front bytes more =
     let front = ended-front bytes more in
     let last = map trimmed (if_any (unended (bytes ++ more))) in
-    (map trimmed front.0 ++ last, ap (λ pieces. map trimmed pieces ++ last) front.1 ∙ ap (λ l. l ++ last) (map-append trimmed (ended bytes) front.0) ∙ append_assoc (whole_lines bytes) (map trimmed front.0) last)
+    (map trimmed front.0 ++ last, ap (λ pieces. map trimmed pieces ++ last) front.1 ∙ ap (λ l. l ++ last) (map-append trimmed (ended_lines bytes) front.0) ∙ append_assoc (whole_lines bytes) (map trimmed front.0) last)

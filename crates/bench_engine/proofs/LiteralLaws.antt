@@ -37,7 +37,7 @@ use Rattle.script_lang.specs.declared.literal.ScalarLiteral.TheVariants.{Integer
 use Rattle.script_lang.specs.declared.literal.Literal.{Literal}
 use Rattle.script_lang.specs.declared.literal.Literal.TheVariants as literal
 use Rattle.bench_engine.specs.Contents.{Contents}
-use Rattle.bench_engine.specs.Machine.{Values, one_item, literal_value, literal_scalar, worked_literal, compared_literal, literal_values, result_scalar, worked_with}
+use Rattle.bench_engine.specs.Machine.{OperandValues, one_item, literal_value, literal_scalar, operand_of_literal, compared_literal, literal_values, operation_scalar, operation_with}
 use Rattle.bench_engine.specs.inside.Operands.{Stands, OwnStands, GivesStanding}
 use Rattle.bench_engine.specs.inside.OwnContents.{held, IsInCOrder}
 use Rattle.bench_engine.proofs.Copies.{made-held}
@@ -101,8 +101,8 @@ own-compared (Byte signed) = refl
 own-compared (Int signed width order) = refl
 own-compared (BytesScalar n) = refl
 
-own-scalar : (c : Comparison) (d : Descr) (s : Scalar) → scalar_of d ≡ Ok s → result_scalar (Compare c) d d ≡ Ok BoolScalar
-unfolding result_scalar
+own-scalar : (c : Comparison) (d : Descr) (s : Scalar) → scalar_of d ≡ Ok s → operation_scalar (Compare c) d d ≡ Ok BoolScalar
+unfolding operation_scalar
 own-scalar c d s is = rw is (own-compared s)
 
 compared-some : (d : Descr) (l : ScalarLiteral) (s : Scalar) → scalar_of d ≡ Ok s → is_castable s l ≡ true → compared_literal d (literal.Scalar l) ≡ Ok (one_item d (literal_value l ∷ []))
@@ -117,7 +117,7 @@ compared-bad : (d : Descr) (l : ScalarLiteral) (e : Refusal) → scalar_of d ≡
 unfolding compared_literal
 compared-bad d l e bad = rw bad refl
 
-module _ (c : Comparison) (v : Values) (x : Items) (sv : Stands v x) (legal : IsLegal x.layout.now.shape) (l : ScalarLiteral) where
+module _ (c : Comparison) (v : OperandValues) (x : Items) (sv : Stands v x) (legal : IsLegal x.layout.now.shape) (l : ScalarLiteral) where
   abbrev there : Result (Descr × List ℕ) Refusal
   there = truths_of (λ s. is_castable s l) x.descr.now x.layout.now.shape
 
@@ -137,9 +137,9 @@ module _ (c : Comparison) (v : Values) (x : Items) (sv : Stands v x) (legal : Is
       ∙ map-map (λ item. compared_item c item one) (item_from x.descr.now x.block.now) (offsets x.layout.now)
 
   literal-held : (o : Owned) (s : Scalar) → scalar_of x.descr.now ≡ Ok s → is_castable s l ≡ true → o.descr ≡ ScalarDescr BoolScalar → o.layout.shape ≡ x.layout.now.shape → IsInCOrder o →
-      map (item_from o.descr o.block) (offsets o.layout) ≡ map (λ offset. compared_item c (item_from x.descr.now x.block.now offset) one) (offsets x.layout.now) → worked_with (Compare c) v (compared_literal v.descr (literal.Scalar l)) ≡ Ok (held o)
+      map (item_from o.descr o.block) (offsets o.layout) ≡ map (λ offset. compared_item c (item_from x.descr.now x.block.now offset) one) (offsets x.layout.now) → operation_with (Compare c) v (compared_literal v.descr (literal.Scalar l)) ≡ Ok (held o)
   literal-held o s is can typed shaped order items =
-      ap (worked_with (Compare c) v) (compared-some v.descr l s (ap scalar_of sv.descr ∙ is) can)
+      ap (operation_with (Compare c) v) (compared-some v.descr l s (ap scalar_of sv.descr ∙ is) can)
       ∙ worked-done (Compare c) v (one_item v.descr one) BoolScalar x.layout.now.shape (own-scalar c v.descr s (ap scalar_of sv.descr ∙ is)) common
       ∙ ap Ok (made-held C (ScalarDescr BoolScalar) x.layout.now.shape (pairwise (compared_item c) (v.stretched_to x.layout.now.shape) (replicate (count x.layout.now.shape) one)) o typed shaped
       (order ∙ λ i. offsets_in C (item_size (typed i)) (shaped i))
@@ -149,36 +149,36 @@ module _ (c : Comparison) (v : Values) (x : Items) (sv : Stands v x) (legal : Is
   same-parts a a' b b' same = (ap (λ p. p.0) same, ap (λ p. p.1) same)
 
   by-scalar : (result : Result Owned Refusal) (from : Result Scalar Refusal) → scalar_of x.descr.now ≡ from → Gives {Y = Descr × List ℕ} (λ o. (o.descr, o.layout.shape)) result (from >>= (λ s. check (is_castable s l) NotForThisKind >>= (λ _. Ok (ScalarDescr BoolScalar, x.layout.now.shape)))) →
-      IfOk result IsInCOrder → IfOk result (λ o. map (item_from o.descr o.block) (offsets o.layout) ≡ map (λ offset. compared_item c (item_from x.descr.now x.block.now offset) one) (offsets x.layout.now)) → Gives held result (worked_with (Compare c) v (compared_literal v.descr (literal.Scalar l)))
+      IfOk result IsInCOrder → IfOk result (λ o. map (item_from o.descr o.block) (offsets o.layout) ≡ map (λ offset. compared_item c (item_from x.descr.now x.block.now offset) one) (offsets x.layout.now)) → Gives held result (operation_with (Compare c) v (compared_literal v.descr (literal.Scalar l)))
   by-scalar (Ok o) (Err e) is gives order items = absurd (false≢true (ap is_ok gives))
   by-scalar (Err e) from is (inl lacks) order items = inl lacks
   by-scalar (Err e) (Err e') is (inr bad) order items =
-      inr (ap (worked_with (Compare c) v) (compared-bad v.descr l e' (ap scalar_of sv.descr ∙ is)) ∙ again bad)
+      inr (ap (operation_with (Compare c) v) (compared-bad v.descr l e' (ap scalar_of sv.descr ∙ is)) ∙ again bad)
     where
       again : ◌≡◌ {A = Result (Descr × List ℕ) Refusal} (Err e') (Err e) → ◌≡◌ {A = Result Contents Refusal} (Err e') (Err e)
       again h = ap (λ (r : Result (Descr × List ℕ) Refusal). elim r as (λ _. Result Contents Refusal) [ Ok p ↦ Err e' | Err e ↦ Err e ]) h
   by-scalar (Ok o) (Ok s) is gives order items = by-test (is_castable s l) refl gives
     where
-      by-test : (b : Bool) → is_castable s l ≡ b → ◌≡◌ {A = Result (Descr × List ℕ) Refusal} (check b NotForThisKind >>= (λ _. Ok (ScalarDescr BoolScalar, x.layout.now.shape))) (Ok (o.descr, o.layout.shape)) → worked_with (Compare c) v (compared_literal v.descr (literal.Scalar l)) ≡ Ok (held o)
+      by-test : (b : Bool) → is_castable s l ≡ b → ◌≡◌ {A = Result (Descr × List ℕ) Refusal} (check b NotForThisKind >>= (λ _. Ok (ScalarDescr BoolScalar, x.layout.now.shape))) (Ok (o.descr, o.layout.shape)) → operation_with (Compare c) v (compared_literal v.descr (literal.Scalar l)) ≡ Ok (held o)
       by-test true can found =
           let parts = same-parts (ScalarDescr BoolScalar) o.descr x.layout.now.shape o.layout.shape (same_answer {X = Descr × List ℕ} (ScalarDescr BoolScalar, x.layout.now.shape) (o.descr, o.layout.shape) found) in
           literal-held o s is can (sym parts.0) (sym parts.1) order items
       by-test false none found = absurd (false≢true (ap is_ok found))
   by-scalar (Err e) (Ok s) is (inr bad) order items = by-test (is_castable s l) refl bad
     where
-      by-test : (b : Bool) → is_castable s l ≡ b → ◌≡◌ {A = Result (Descr × List ℕ) Refusal} (check b NotForThisKind >>= (λ _. Ok (ScalarDescr BoolScalar, x.layout.now.shape))) (Err e) → (e ≡ OutOfMemory) ⊎ (worked_with (Compare c) v (compared_literal v.descr (literal.Scalar l)) ≡ Err e)
+      by-test : (b : Bool) → is_castable s l ≡ b → ◌≡◌ {A = Result (Descr × List ℕ) Refusal} (check b NotForThisKind >>= (λ _. Ok (ScalarDescr BoolScalar, x.layout.now.shape))) (Err e) → (e ≡ OutOfMemory) ⊎ (operation_with (Compare c) v (compared_literal v.descr (literal.Scalar l)) ≡ Err e)
       by-test true can found = absurd (false≢true (sym (ap is_ok found)))
       by-test false none found =
-          inr (ap (worked_with (Compare c) v) (compared-none v.descr l s (ap scalar_of sv.descr ∙ is) none) ∙ again found)
+          inr (ap (operation_with (Compare c) v) (compared-none v.descr l s (ap scalar_of sv.descr ∙ is) none) ∙ again found)
         where
           again : ◌≡◌ {A = Result (Descr × List ℕ) Refusal} (Err NotForThisKind) (Err e) → ◌≡◌ {A = Result Contents Refusal} (Err NotForThisKind) (Err e)
           again h = ap (λ (r : Result (Descr × List ℕ) Refusal). elim r as (λ _. Result Contents Refusal) [ Ok p ↦ Err NotForThisKind | Err e ↦ Err e ]) h
 
   pub literal-gives : (result : Result Owned Refusal) → Gives {Y = Descr × List ℕ} (λ o. (o.descr, o.layout.shape)) result there → IfOk result IsInCOrder →
-      IfOk result (λ o. map (item_from o.descr o.block) (offsets o.layout) ≡ map (λ offset. compared_item c (item_from x.descr.now x.block.now offset) one) (offsets x.layout.now)) → Gives held result (worked_with (Compare c) v (compared_literal v.descr (literal.Scalar l)))
+      IfOk result (λ o. map (item_from o.descr o.block) (offsets o.layout) ≡ map (λ offset. compared_item c (item_from x.descr.now x.block.now offset) one) (offsets x.layout.now)) → Gives held result (operation_with (Compare c) v (compared_literal v.descr (literal.Scalar l)))
   literal-gives result gives order items = by-scalar result (scalar_of x.descr.now) refl gives order items
 
-pub compared-record : (c : Comparison) (v : Values) (l : Literal) → ((s : ScalarLiteral) → l ≡ literal.Scalar s → ⊥) → worked_with (Compare c) v (compared_literal v.descr l) ≡ Err NotForThisKind
+pub compared-record : (c : Comparison) (v : OperandValues) (l : Literal) → ((s : ScalarLiteral) → l ≡ literal.Scalar s → ⊥) → operation_with (Compare c) v (compared_literal v.descr l) ≡ Err NotForThisKind
 unfolding compared_literal
 compared-record c v (literal.Scalar s) not-scalar = absurd (not-scalar s refl)
 compared-record c v (literal.Record values) not-scalar = refl
@@ -192,36 +192,36 @@ number-items c x z n result is items =
 
 -- ---- the item of a literal in an operation
 
-pub literal-record : (op : BinOp) (d : Descr) (l : Literal) (e : Refusal) → scalar_of d ≡ Err e → worked_literal op d l ≡ Err e
-unfolding worked_literal
+pub literal-record : (op : BinOp) (d : Descr) (l : Literal) (e : Refusal) → scalar_of d ≡ Err e → operand_of_literal op d l ≡ Err e
+unfolding operand_of_literal
 literal-record op d l e bad = rw bad refl
 
-pub literal-other : (op : BinOp) (d : Descr) (l : Literal) (s : Scalar) (e : Refusal) → scalar_of d ≡ Ok s → literal_scalar s l ≡ Err e → worked_literal op d l ≡ Err e
-unfolding worked_literal
+pub literal-other : (op : BinOp) (d : Descr) (l : Literal) (s : Scalar) (e : Refusal) → scalar_of d ≡ Ok s → literal_scalar s l ≡ Err e → operand_of_literal op d l ≡ Err e
+unfolding operand_of_literal
 literal-other op d l s e is bad = rw (is, bad) refl
 
-pub literal-type : (op : BinOp) (d : Descr) (l : Literal) (s own : Scalar) (e : Refusal) → scalar_of d ≡ Ok s → literal_scalar s l ≡ Ok own → promote op s own ≡ Err e → worked_literal op d l ≡ Err e
-unfolding worked_literal
+pub literal-type : (op : BinOp) (d : Descr) (l : Literal) (s own : Scalar) (e : Refusal) → scalar_of d ≡ Ok s → literal_scalar s l ≡ Ok own → promote op s own ≡ Err e → operand_of_literal op d l ≡ Err e
+unfolding operand_of_literal
 literal-type op d l s own e is good bad = rw (is, good, bad) refl
 
-pub literal-range : (op : BinOp) (d : Descr) (l : Literal) (s own to : Scalar) (e : Refusal) → scalar_of d ≡ Ok s → literal_scalar s l ≡ Ok own → promote op s own ≡ Ok to → item_value (ScalarDescr own) l ≡ Err e → worked_literal op d l ≡ Err e
-unfolding worked_literal
+pub literal-range : (op : BinOp) (d : Descr) (l : Literal) (s own to : Scalar) (e : Refusal) → scalar_of d ≡ Ok s → literal_scalar s l ≡ Ok own → promote op s own ≡ Ok to → item_value (ScalarDescr own) l ≡ Err e → operand_of_literal op d l ≡ Err e
+unfolding operand_of_literal
 literal-range op d l s own to e is good typed bad = rw (is, good, typed, bad) refl
 
-pub literal-done : (op : BinOp) (d : Descr) (l : Literal) (s own to : Scalar) (item : List LeafValue) → scalar_of d ≡ Ok s → literal_scalar s l ≡ Ok own → promote op s own ≡ Ok to → item_value (ScalarDescr own) l ≡ Ok item → worked_literal op d l ≡ Ok (one_item (ScalarDescr own) item)
-unfolding worked_literal
+pub literal-done : (op : BinOp) (d : Descr) (l : Literal) (s own to : Scalar) (item : List LeafValue) → scalar_of d ≡ Ok s → literal_scalar s l ≡ Ok own → promote op s own ≡ Ok to → item_value (ScalarDescr own) l ≡ Ok item → operand_of_literal op d l ≡ Ok (one_item (ScalarDescr own) item)
+unfolding operand_of_literal
 literal-done op d l s own to item is good typed there = rw (is, good, typed, there) refl
 
 -- the one item of a block stands for the literal
 pub single-gives : (op : BinOp) (d : Descr) (l : Literal) (s own to : Scalar) (result : Result Owned Refusal) → scalar_of d ≡ Ok s → literal_scalar s l ≡ Ok own → promote op s own ≡ Ok to → IfOk result (λ o. o.descr ≡ ScalarDescr own) → IfOk result (λ o. o.layout.shape ≡ []) →
-    IfOk result (λ o. offsets o.layout ≡ 0 ∷ []) → Gives (λ o. item_from o.descr o.block 0) result (item_value (ScalarDescr own) l) → GivesStanding result (worked_literal op d l)
+    IfOk result (λ o. offsets o.layout ≡ 0 ∷ []) → Gives (λ o. item_from o.descr o.block 0) result (item_value (ScalarDescr own) l) → GivesStanding result (operand_of_literal op d l)
 single-gives op d l s own to (Ok o) is good kind typed shaped laid item =
     subst (GivesStanding (Ok o)) (sym (literal-done op d l s own to (item_from o.descr o.block 0) is good kind item))
     (one-stands (ScalarDescr own) (item_from o.descr o.block 0) o typed shaped (ap (map (item_from o.descr o.block)) laid))
 single-gives op d l s own to (Err e) is good kind typed shaped laid (inl lacks) = inl lacks
 single-gives op d l s own to (Err e) is good kind typed shaped laid (inr bad) = inr (literal-range op d l s own to e is good kind bad)
 
-pub given-standing : (o : Owned) (there : Result Values Refusal) → GivesStanding (Ok o) there → (w : Values) × (there ≡ Ok w) × OwnStands w o
+pub given-standing : (o : Owned) (there : Result OperandValues Refusal) → GivesStanding (Ok o) there → (w : OperandValues) × (there ≡ Ok w) × OwnStands w o
 given-standing o (Ok w) is = (w, refl, is)
 given-standing o (Err e) is = absurd is
 
@@ -231,16 +231,16 @@ then-each : {X Y : Type 0} (P : Y → Type 0) (r : Result X Refusal) (f : X → 
 then-each P (Ok x) f all = all x
 then-each P (Err e) f all = tt
 
-worked-axes : (op : BinOp) (d : Descr) (l : Literal) → IfOk (worked_literal op d l) (λ w. w.shape ≡ [])
-unfolding worked_literal
+worked-axes : (op : BinOp) (d : Descr) (l : Literal) → IfOk (operand_of_literal op d l) (λ w. w.shape ≡ [])
+unfolding operand_of_literal
 worked-axes op d l =
-    then-each (λ (w : Values). w.shape ≡ []) (scalar_of d) _ (λ s. then-each (λ (w : Values). w.shape ≡ []) (literal_scalar s l) _ (λ own. then-each (λ (w : Values). w.shape ≡ []) (promote op s own) _ (λ to. then-each (λ (w : Values). w.shape ≡ []) (item_value (ScalarDescr own) l) _ (λ item. refl))))
+    then-each (λ (w : OperandValues). w.shape ≡ []) (scalar_of d) _ (λ s. then-each (λ (w : OperandValues). w.shape ≡ []) (literal_scalar s l) _ (λ own. then-each (λ (w : OperandValues). w.shape ≡ []) (promote op s own) _ (λ to. then-each (λ (w : OperandValues). w.shape ≡ []) (item_value (ScalarDescr own) l) _ (λ item. refl))))
 
 compared-axes : (d : Descr) (l : Literal) → IfOk (compared_literal d l) (λ w. w.shape ≡ [])
 unfolding compared_literal
 compared-axes d (literal.Record values) = tt
 compared-axes d (literal.Scalar l) =
-    then-each (λ (w : Values). w.shape ≡ []) (scalar_of d) _ (λ s. then-each (λ (w : Values). w.shape ≡ []) (check (is_castable s l) NotForThisKind) _ (λ _. refl))
+    then-each (λ (w : OperandValues). w.shape ≡ []) (scalar_of d) _ (λ s. then-each (λ (w : OperandValues). w.shape ≡ []) (check (is_castable s l) NotForThisKind) _ (λ _. refl))
 
 pub literal-axes : (op : Operation) (d : Descr) (l : Literal) → IfOk (literal_values op d l) (λ w. w.shape ≡ [])
 literal-axes (Binary op) d l = worked-axes op d l

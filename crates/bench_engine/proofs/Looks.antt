@@ -10,7 +10,7 @@ use Rattle.name_store.specs.Arrays.{find_array, is_bound, descr_of, read}
 use Rattle.name_store.specs.Shown.{Finds, Shows}
 use Rattle.name_store.specs.declared.array_ref.ArrayRef.{ArrayRef}
 use Rattle.bench_engine.specs.Replies.{format_text}
-use Rattle.bench_engine.specs.Machine.{print_outcome, format_outcome, comes_to}
+use Rattle.bench_engine.specs.Machine.{print_outcome, format_outcome, accepted_with}
 
 -- what has not changed
 pub unchanged : (xs : List ℕ) → StartsWith xs xs
@@ -32,24 +32,24 @@ pub print-unknown : (s : State) (name : List ℕ) → find_array s.names name �
 unfolding print_outcome
 print-unknown s name none = rw none refl
 
-print-done : (s : State) (name : List ℕ) (a : Array) → find_array s.names name ≡ Some a → print_outcome s name ≡ comes_to s (array_text (descr_of s a) a.shape (read s a))
+print-done : (s : State) (name : List ℕ) (a : Array) → find_array s.names name ≡ Some a → print_outcome s name ≡ accepted_with s (array_text (descr_of s a) a.shape (read s a))
 unfolding print_outcome
 print-done s name a is = rw is refl
 
 pub print-found : (s : State) (name : List ℕ) (a : Array) (r : ArrayRef) → find_array s.names name ≡ Some a → Shows s a r →
-    print_outcome s name ≡ comes_to s (array_text r.descr.now r.layout.now.shape (items_from r.descr.now r.block.now (offsets r.layout.now)))
+    print_outcome s name ≡ accepted_with s (array_text r.descr.now r.layout.now.shape (items_from r.descr.now r.block.now (offsets r.layout.now)))
 print-found s name a r is shows =
     print-done s name a is
-    ∙ λ i. comes_to s (array_text (shows.descr i) (sym shows.view.laid.shape i) (shows.reads i))
+    ∙ λ i. accepted_with s (array_text (shows.descr i) (sym shows.view.laid.shape i) (shows.reads i))
 
 -- format
 pub format-unknown : (s : State) (name : List ℕ) → find_array s.names name ≡ None → format_outcome s name ≡ Err UnknownName
 unfolding format_outcome
 format-unknown s name none = rw none refl
 
-format-done : (s : State) (name : List ℕ) (a : Array) → find_array s.names name ≡ Some a → format_outcome s name ≡ comes_to s (format_text (descr_of s a))
+format-done : (s : State) (name : List ℕ) (a : Array) → find_array s.names name ≡ Some a → format_outcome s name ≡ accepted_with s (format_text (descr_of s a))
 unfolding format_outcome
 format-done s name a is = rw is refl
 
-pub format-found : (s : State) (name : List ℕ) (a : Array) (r : ArrayRef) → find_array s.names name ≡ Some a → Shows s a r → format_outcome s name ≡ comes_to s (format_text r.descr.now)
-format-found s name a r is shows = format-done s name a is ∙ ap (λ (d : Descr). comes_to s (format_text d)) shows.descr
+pub format-found : (s : State) (name : List ℕ) (a : Array) (r : ArrayRef) → find_array s.names name ≡ Some a → Shows s a r → format_outcome s name ≡ accepted_with s (format_text r.descr.now)
+format-found s name a r is shows = format-done s name a is ∙ ap (λ (d : Descr). accepted_with s (format_text d)) shows.descr

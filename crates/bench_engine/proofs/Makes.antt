@@ -25,7 +25,7 @@ use Rattle.script_lang.specs.declared.literal.Literal.{Literal}
 use Rattle.overlap_copy.specs.declared.owned.Owned.{Owned}
 use Rattle.literal_items.specs.LiteralItems.{item_value, item_values}
 use Rattle.literal_items.specs.RangeItems.{range_length, range_items}
-use Rattle.bench_engine.specs.Contents.{made, array_type, zeros_contents, full_contents, array_contents, arange_contents, integer_scalar, integer_type}
+use Rattle.bench_engine.specs.Contents.{new_contents, array_type, zeros_contents, full_contents, array_contents, arange_contents, integer_scalar, range_scalar}
 use Rattle.bench_engine.specs.inside.OwnContents.{held, IsInCOrder}
 use Rattle.bench_engine.proofs.Stored.{divided}
 use Rattle.bench_engine.proofs.Zeros.{items_in-zeros}
@@ -57,7 +57,7 @@ unfolding array_type
 type-done text lengths descr shape good fits small = rw (good, fits, le-leb (count shape * item_size descr) max_bytes small) refl
 
 -- what a block holds
-pub held-is : (o : Owned) (descr : Descr) (shape bytes : List ℕ) (items : List (List LeafValue)) → o.descr ≡ descr → o.layout.shape ≡ shape → o.block ≡ bytes → items ≡ items_in descr (count shape) bytes → IsInCOrder o → made descr shape items ≡ held o
+pub held-is : (o : Owned) (descr : Descr) (shape bytes : List ℕ) (items : List (List LeafValue)) → o.descr ≡ descr → o.layout.shape ≡ shape → o.block ≡ bytes → items ≡ items_in descr (count shape) bytes → IsInCOrder o → new_contents descr shape items ≡ held o
 held-is o descr shape bytes items typed shaped filled is order = λ i. record {
   shape = sym shaped i;
   places = places i;
@@ -131,27 +131,27 @@ array-done text lengths literals descr shape bytes o good many values typed shap
     rw (good, eq-eqb (length literals) (count shape) many, values) (ap Ok (held-is o descr shape bytes _ typed shaped filled (ap (λ n. items_in descr n bytes) many) (in-order o descr shape typed shaped laid)))
 
 -- arange
-pub integer-descr : (text : List ℕ) (e : Refusal) → descriptor text ≡ Err e → integer_type text ≡ Err e
-unfolding integer_type
+pub integer-descr : (text : List ℕ) (e : Refusal) → descriptor text ≡ Err e → range_scalar text ≡ Err e
+unfolding range_scalar
 integer-descr text e bad = rw bad refl
 
-integer-is : (text : List ℕ) (descr : Descr) (scalar : Result Scalar Refusal) → descriptor text ≡ Ok descr → integer_scalar descr ≡ scalar → integer_type text ≡ scalar
-unfolding integer_type
+integer-is : (text : List ℕ) (descr : Descr) (scalar : Result Scalar Refusal) → descriptor text ≡ Ok descr → integer_scalar descr ≡ scalar → range_scalar text ≡ scalar
+unfolding range_scalar
 integer-is text descr scalar good kind = rw good kind
 
-pub integer-given : (text : List ℕ) (descr : Descr) (scalar : Result Scalar Refusal) → descriptor text ≡ Ok descr → Answers (λ s. s) scalar (integer_scalar descr) → Gives (λ s. s) scalar (integer_type text)
+pub integer-given : (text : List ℕ) (descr : Descr) (scalar : Result Scalar Refusal) → descriptor text ≡ Ok descr → Answers (λ s. s) scalar (integer_scalar descr) → Gives (λ s. s) scalar (range_scalar text)
 integer-given text descr (Ok scalar) good is = integer-is text descr (Ok scalar) good is
 integer-given text descr (Err e) good is = inr (integer-is text descr (Err e) good is)
 
-pub arange-type : (text : List ℕ) (start stop step : ℤ) (e : Refusal) → integer_type text ≡ Err e → arange_contents text start stop step ≡ Err e
+pub arange-type : (text : List ℕ) (start stop step : ℤ) (e : Refusal) → range_scalar text ≡ Err e → arange_contents text start stop step ≡ Err e
 unfolding arange_contents
 arange-type text start stop step e bad = rw bad refl
 
-pub arange-length : (text : List ℕ) (start stop step : ℤ) (scalar : Scalar) (e : Refusal) → integer_type text ≡ Ok scalar → range_length start stop step ≡ Err e → arange_contents text start stop step ≡ Err e
+pub arange-length : (text : List ℕ) (start stop step : ℤ) (scalar : Scalar) (e : Refusal) → range_scalar text ≡ Ok scalar → range_length start stop step ≡ Err e → arange_contents text start stop step ≡ Err e
 unfolding arange_contents range_items
 arange-length text start stop step scalar e kind bad = rw (kind, bad) refl
 
-pub arange-range : (text : List ℕ) (start stop step : ℤ) (scalar : Scalar) (e : Refusal) → integer_type text ≡ Ok scalar → range_items scalar start stop step ≡ Err e → arange_contents text start stop step ≡ Err e
+pub arange-range : (text : List ℕ) (start stop step : ℤ) (scalar : Scalar) (e : Refusal) → range_scalar text ≡ Ok scalar → range_items scalar start stop step ≡ Err e → arange_contents text start stop step ≡ Err e
 unfolding arange_contents
 arange-range text start stop step scalar e kind bad = rw (kind, bad) refl
 
@@ -171,7 +171,7 @@ length-blocks : {A : Type 0} (width n : ℕ) (xs : List A) → length (blocks wi
 length-blocks width zero xs = refl
 length-blocks width (suc n) xs = ap suc (length-blocks width n (drop width xs))
 
-pub arange-done : (text : List ℕ) (start stop step : ℤ) (scalar : Scalar) (n : ℕ) (bytes : List ℕ) (o : Owned) → integer_type text ≡ Ok scalar →
+pub arange-done : (text : List ℕ) (start stop step : ℤ) (scalar : Scalar) (n : ℕ) (bytes : List ℕ) (o : Owned) → range_scalar text ≡ Ok scalar →
     range_items scalar start stop step ≡ Ok (map (decode_item (ScalarDescr scalar)) (blocks (size scalar) n bytes)) →
     o.descr ≡ ScalarDescr scalar → o.layout.shape ≡ n ∷ [] → o.block ≡ bytes → IsInCOrder o → arange_contents text start stop step ≡ Ok (held o)
 unfolding arange_contents

@@ -18,7 +18,7 @@ use Rattle.name_store.specs.Arrays.{buffer_of, span_of, placed_item}
 use Rattle.name_store.specs.Parts.{part_at}
 use Rattle.name_store.specs.Shown.{Shows}
 use Rattle.name_store.specs.declared.array_ref.ArrayRef.{ArrayRef}
-use Rattle.bench_engine.specs.Machine.{Values, values_of, one_item, viewed}
+use Rattle.bench_engine.specs.Machine.{OperandValues, operand_values, one_item, viewed}
 use Rattle.bench_engine.specs.inside.Assigns.{Holds}
 use Rattle.bench_engine.specs.inside.Operands.{StandsFor, Stands, OwnStands}
 use Rattle.bench_engine.proofs.Assigns.{lies-whole, lies-viewed}
@@ -54,7 +54,7 @@ copy-stands s part o x holds block laid typed = record {
 
 -- ---- stretched
 
-pub all-stand : (s : State) (part : Array) (x : Items) → StandsFor s part x → Stands (values_of s part) x
+pub all-stand : (s : State) (part : Array) (x : Items) → StandsFor s part x → Stands (operand_values s part) x
 all-stand s part x h = record {
   descr = h.descr;
   shape = h.shape;
@@ -75,7 +75,7 @@ one-stands descr item o typed shaped is = record {
       ∙ sym (stretched-same (item_from o.descr o.block) (λ (at : ℕ). item) (offsets o.layout) (0 ∷ []) o.layout.shape target is (length-offsets o.layout) (ap (λ (shape : List ℕ). can_stretch shape target) shaped ∙ can));
 }
 
-pub own-stands : (v : Values) (o : Owned) (x : Items) → OwnStands v o → x.block.now ≡ o.block → x.layout.now ≡ o.layout → x.descr.now ≡ o.descr → Stands v x
+pub own-stands : (v : OperandValues) (o : Owned) (x : Items) → OwnStands v o → x.block.now ≡ o.block → x.layout.now ≡ o.layout → x.descr.now ≡ o.descr → Stands v x
 own-stands v o x h block laid typed = record {
   descr = h.descr ∙ sym typed;
   shape = h.shape ∙ ap (λ (l : Layout). l.shape) (sym laid);

@@ -8,7 +8,7 @@ use Rattle.name_store.specs.States.{State, Array}
 use Rattle.name_store.specs.Arrays.{find_array, is_bound, has_room_for, descr_of, addresses, share_cells}
 use Rattle.name_store.specs.Calls.{AnswersShares}
 use Rattle.bench_engine.specs.inside.Contract.{IsRefused}
-use Rattle.bench_engine.specs.Machine.{Choice, ViewOrCopy, seen, names_in_viewing, view_outcome, bound_seen, info_outcome, shares_outcome, comes_to}
+use Rattle.bench_engine.specs.Machine.{Choice, ViewOrCopy, seen, names_in_viewing, view_outcome, bound_seen, info_outcome, shares_outcome, accepted_with}
 use Rattle.bench_engine.specs.Replies.{info_text, shares_text}
 
 -- X = Y, seen in some way
@@ -38,12 +38,12 @@ pub info-unknown : (s : State) (name : List ℕ) → find_array s.names name ≡
 unfolding info_outcome
 info-unknown s name none = rw none refl
 
-pub info-done : (s : State) (name : List ℕ) (a : Array) → find_array s.names name ≡ Some a → info_outcome s name ≡ comes_to s (info_text name (descr_of s a) a.shape (addresses s a) a.writable)
+pub info-done : (s : State) (name : List ℕ) (a : Array) → find_array s.names name ≡ Some a → info_outcome s name ≡ accepted_with s (info_text name (descr_of s a) a.shape (addresses s a) a.writable)
 unfolding info_outcome
 info-done s name a is = rw is refl
 
 -- shares
-pub shares-done : (s : State) (left right : List ℕ) (a b : Array) → find_array s.names left ≡ Some a → find_array s.names right ≡ Some b → shares_outcome s left right ≡ comes_to s (shares_text (share_cells s a b))
+pub shares-done : (s : State) (left right : List ℕ) (a b : Array) → find_array s.names left ≡ Some a → find_array s.names right ≡ Some b → shares_outcome s left right ≡ accepted_with s (shares_text (share_cells s a b))
 unfolding shares_outcome
 shares-done s left right a b is-a is-b = rw (is-a, is-b) refl
 

@@ -15,7 +15,7 @@ use Rattle.name_store.specs.States.{State, Array}
 use Rattle.name_store.specs.Arrays.{descr_of, read}
 use Rattle.name_store.specs.Shown.{Shows}
 use Rattle.name_store.specs.declared.array_ref.ArrayRef.{ArrayRef}
-use Rattle.bench_engine.specs.Contents.{made}
+use Rattle.bench_engine.specs.Contents.{new_contents}
 use Rattle.bench_engine.specs.IndexLists.{taken}
 use Rattle.bench_engine.specs.Machine.{a_view, a_copy, viewed, part_seen}
 use Rattle.bench_engine.specs.declared.part.Part.{Part}
@@ -35,7 +35,7 @@ module _ (s : State) (a : Array) (r : ArrayRef) (index : List (IndexItem (List �
   part-viewed : (view : View) → taken s a index ≡ Ok view → list_all is_basic index ≡ true → part_seen s a index ≡ Ok (a_view (viewed a view))
   part-viewed view good plain = rw (good, plain) refl
 
-  part-copied : (view : View) → taken s a index ≡ Ok view → list_all is_basic index ≡ false → part_seen s a index ≡ Ok (a_copy (made (descr_of s a) view.shape (read s (viewed a view))))
+  part-copied : (view : View) → taken s a index ≡ Ok view → list_all is_basic index ≡ false → part_seen s a index ≡ Ok (a_copy (new_contents (descr_of s a) view.shape (read s (viewed a view))))
   part-copied view good arrays = rw (good, arrays) refl
 
   pub indexed-refused : (e : Refusal) → GivesTaken s a r (list_all is_basic index) (Err e) (taken s a index) → (e ≡ OutOfMemory) ⊎ (part_seen s a index ≡ Err e)
@@ -57,7 +57,7 @@ module _ (s : State) (a : Array) (r : ArrayRef) (index : List (IndexItem (List �
       let is = given-taken s a r (list_all is_basic index) (took.Copy o) (taken s a index) gives in
       subst (GivesSeen s r.number (Ok (shown.Copy o))) (sym (part-copied is.0 is.1 is.2.0)) (held-is is.0 is.2.1)
     where
-      held-is : (view : View) (holds : Holds s (viewed a view) o) → made (descr_of s a) view.shape (read s (viewed a view)) ≡ held o
+      held-is : (view : View) (holds : Holds s (viewed a view) o) → new_contents (descr_of s a) view.shape (read s (viewed a view)) ≡ held o
       held-is view holds =
-          sym (ap (λ d. made d view.shape (read s (viewed a view))) holds.descr)
+          sym (ap (λ d. new_contents d view.shape (read s (viewed a view))) holds.descr)
           ∙ made-held C o.descr view.shape (read s (viewed a view)) o refl holds.shape (holds.order ∙ ap (offsets_in C (item_size o.descr)) holds.shape) holds.items

@@ -31,8 +31,8 @@ use Rattle.name_store.specs.Arrays.{find_array, buffer_of, descr_of, read, span_
 use Rattle.name_store.specs.Parts.{part_at}
 use Rattle.name_store.specs.Shown.{Shows}
 use Rattle.name_store.specs.declared.array_ref.ArrayRef.{ArrayRef}
-use Rattle.bench_engine.specs.Contents.{made}
-use Rattle.bench_engine.specs.Machine.{reduced}
+use Rattle.bench_engine.specs.Contents.{new_contents}
+use Rattle.bench_engine.specs.Machine.{reduced_contents}
 use Rattle.bench_engine.specs.inside.OwnContents.{held, IsInCOrder}
 use Rattle.bench_engine.proofs.Copies.{made-held}
 use Rattle.bench_engine.proofs.StretchLaws.{same-on}
@@ -83,8 +83,8 @@ check-true : {X : Type 0} (b : Bool) (e : Refusal) (rest : Result X Refusal) (y 
 check-true true e rest y is = refl
 check-true false e rest y is = absurd (false≢true (ap is_ok is))
 
-axis-passed : (reduction : Red) (descr : Descr) (shape : List ℕ) (named : Option ℤ) (keep : Bool) (there : reductions.Outcome) → reductions.outcome reduction descr shape named keep ≡ Ok there → is_axis (length shape) named ≡ true
-unfolding reductions.outcome
+axis-passed : (reduction : Red) (descr : Descr) (shape : List ℕ) (named : Option ℤ) (keep : Bool) (there : reductions.ReducedType) → reductions.reduced_type reduction descr shape named keep ≡ Ok there → is_axis (length shape) named ≡ true
+unfolding reductions.reduced_type
 axis-passed reduction descr shape named keep there is =
     let rest = then-ok (number_scalar descr) _ there is in
     check-true (is_axis (length shape) named) BadAxis _ there rest.1
@@ -99,24 +99,24 @@ is-axis rank (Some axis) is = place-low rank (from_front rank axis) is
 
 -- ---- what is reduced
 
-reduced-bad : (s : State) (reduction : Red) (source : List ℕ) (a : Array) (axis : Option ℤ) (keep : Bool) (e : Refusal) → find_array s.names source ≡ Some a → reductions.outcome reduction (descr_of s a) a.shape axis keep ≡ Err e →
-    reduced s reduction source axis keep ≡ Err e
-unfolding reduced
+reduced-bad : (s : State) (reduction : Red) (source : List ℕ) (a : Array) (axis : Option ℤ) (keep : Bool) (e : Refusal) → find_array s.names source ≡ Some a → reductions.reduced_type reduction (descr_of s a) a.shape axis keep ≡ Err e →
+    reduced_contents s reduction source axis keep ≡ Err e
+unfolding reduced_contents
 reduced-bad s reduction source a axis keep e found bad = rw (found, bad) refl
 
-reduced-done : (s : State) (reduction : Red) (source : List ℕ) (a : Array) (axis : Option ℤ) (keep : Bool) (there : reductions.Outcome) → find_array s.names source ≡ Some a → reductions.outcome reduction (descr_of s a) a.shape axis keep ≡ Ok there →
-    reduced s reduction source axis keep ≡ Ok (made there.descr there.shape (map (λ places. reduced_item reduction there.descr (read s (record a { places = places }))) (lists a.shape (named_axis (length a.shape) axis) a.places)))
-unfolding reduced
+reduced-done : (s : State) (reduction : Red) (source : List ℕ) (a : Array) (axis : Option ℤ) (keep : Bool) (there : reductions.ReducedType) → find_array s.names source ≡ Some a → reductions.reduced_type reduction (descr_of s a) a.shape axis keep ≡ Ok there →
+    reduced_contents s reduction source axis keep ≡ Ok (new_contents there.descr there.shape (map (λ places. reduced_item reduction there.descr (read s (record a { places = places }))) (lists a.shape (named_axis (length a.shape) axis) a.places)))
+unfolding reduced_contents
 reduced-done s reduction source a axis keep there found good = rw (found, good) refl
 
 pub reduced-gives : (s : State) (reduction : Red) (source : List ℕ) (a : Array) (r : ArrayRef) (axis : Option ℤ) (keep : Bool) (result : Result Owned Refusal) → find_array s.names source ≡ Some a → Shows s a r →
-    Gives outcome_of result (reductions.outcome reduction r.descr.now r.layout.now.shape axis keep) → IfOk result IsInCOrder →
-    IfOk result (λ o. map (item_from o.descr o.block) (offsets o.layout) ≡ reduced_items reduction o.descr r.descr.now r.block.now (lists r.layout.now.shape (named_axis (length r.layout.now.shape) axis) (offsets r.layout.now))) → Gives held result (reduced s reduction source axis keep)
+    Gives outcome_of result (reductions.reduced_type reduction r.descr.now r.layout.now.shape axis keep) → IfOk result IsInCOrder →
+    IfOk result (λ o. map (item_from o.descr o.block) (offsets o.layout) ≡ reduced_items reduction o.descr r.descr.now r.block.now (lists r.layout.now.shape (named_axis (length r.layout.now.shape) axis) (offsets r.layout.now))) → Gives held result (reduced_contents s reduction source axis keep)
 reduced-gives s reduction source a r axis keep (Err e) found shows (inl lacks) order items = inl lacks
 reduced-gives s reduction source a r axis keep (Err e) found shows (inr bad) order items =
-    inr (reduced-bad s reduction source a axis keep e found ((λ i. reductions.outcome reduction (shows.descr i) (sym shows.view.laid.shape i) axis keep) ∙ bad))
+    inr (reduced-bad s reduction source a axis keep e found ((λ i. reductions.reduced_type reduction (shows.descr i) (sym shows.view.laid.shape i) axis keep) ∙ bad))
 reduced-gives s reduction source a r axis keep (Ok o) found shows gives order items =
-    reduced-done s reduction source a axis keep (outcome_of o) found ((λ i. reductions.outcome reduction (shows.descr i) (sym shows.view.laid.shape i) axis keep) ∙ gives)
+    reduced-done s reduction source a axis keep (outcome_of o) found ((λ i. reductions.reduced_type reduction (shows.descr i) (sym shows.view.laid.shape i) axis keep) ∙ gives)
     ∙ ap Ok (made-held C o.descr o.layout.shape (map (λ places. reduced_item reduction o.descr (read s (record a { places = places }))) (lists a.shape (named_axis (length a.shape) axis) a.places)) o refl refl order (items ∙ sym same))
   where
     shape : List ℕ

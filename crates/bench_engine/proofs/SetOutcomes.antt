@@ -14,7 +14,7 @@ use Rattle.name_store.specs.States.{State, Array}
 use Rattle.name_store.specs.Arrays.{find_array, is_bound, descr_of, written}
 use Rattle.name_store.specs.declared.target.Target.{Target}
 use Rattle.bench_engine.specs.IndexLists.{names_in_index}
-use Rattle.bench_engine.specs.Machine.{target_part, new_items, names_in_argument, write_outcome, written_text, comes_to}
+use Rattle.bench_engine.specs.Machine.{target_part, new_items, names_in_argument, write_outcome, write_reply, accepted_with}
 use Rattle.bench_engine.specs.declared.given.Given.{Given}
 use Rattle.bench_engine.specs.inside.Assigns.{IsTarget, GivesTarget, AreFor, given_items, GivesItems}
 
@@ -37,7 +37,7 @@ module _ (s : State) (name : List ℕ) (index : List (IndexItem (List ℕ))) (op
   set-items a part e is named good bad = rw (is, named, good, bad) refl
 
   pub set-done : (a part : Array) (items : List (List LeafValue)) → find_array s.names name ≡ Some a → list_all (is_bound s) (names_in_index index ++ names_in_argument value) ≡ true → target_part s a index ≡ Ok part → new_items s (descr_of s a) part op value ≡ Ok items →
-      write_outcome s name index op value ≡ comes_to (written s a part.places items) (written_text op (count part.shape))
+      write_outcome s name index op value ≡ accepted_with (written s a part.places items) (write_reply op (count part.shape))
   unfolding write_outcome
   set-done a part items is named good given = rw (is, named, good, given) refl
 

@@ -12,9 +12,9 @@ use Rattle.script_lang.specs.Lines.{Line, silent, bad_byte, misspelt, asks}
 use Rattle.script_lang.specs.Reading.{MayLackRoom, Says}
 use Rattle.name_store.specs.States.{State, Array, Buffer}
 use Rattle.bench_engine.specs.Replies.{Reply, refusal}
-use Rattle.bench_engine.specs.Machine.{Choice, IsAllowed, outcome, settled, may_lack_memory}
+use Rattle.bench_engine.specs.Machine.{Choice, IsAllowed, outcome, after_outcome, may_lack_memory}
 use Rattle.bench_engine.specs.inside.Contract.{IsRefused}
-use Rattle.bench_engine.specs.Meanings.{Meaning, too_long, says, Case, WorldCase, Answered}
+use Rattle.bench_engine.specs.Meanings.{Meaning, too_long, says, MayAnswerState, MayAnswer, Answered}
 use Rattle.bench_engine.specs.Worlds.{World}
 use Rattle.bench_engine.specs.inside.ReadLines.{ReadsAs}
 
@@ -56,17 +56,17 @@ spare s =
     )
 
 -- a refused command
-pub refused : (old new : State) (command : Command) (r : Refusal) → new ≡ old → IsRefused (may_lack_memory old command) (λ choice. outcome choice old command) r → Case old command new (refusal r)
+pub refused : (old new : State) (command : Command) (r : Refusal) → new ≡ old → IsRefused (may_lack_memory old command) (λ choice. outcome choice old command) r → MayAnswerState old command new (refusal r)
 refused old new command r same (inl lacks) = inr (lacks.1, (same, ap refusal lacks.0))
 refused old new command r same (inr is) =
     let any = spare old in
-    inl (any.0, any.1, ap (settled old) (is any.0) ∙ ap (λ (s : State). (s, refusal r)) (sym same))
+    inl (any.0, any.1, ap (after_outcome old) (is any.0) ∙ ap (λ (s : State). (s, refusal r)) (sym same))
 
 -- a line that asks for a command
-asked : (old new : World) (line : Line) (command : Command) (reply : Reply) → line ≡ asks command → WorldCase old command new reply → Answered old (says line) new (reply ∷ [])
+asked : (old new : World) (line : Line) (command : Command) (reply : Reply) → line ≡ asks command → MayAnswer old command new reply → Answered old (says line) new (reply ∷ [])
 asked old new line command reply is done = subst (λ (l : Line). Answered old (says l) new (reply ∷ [])) (sym is) (reply, refl, inl done)
 
-pub answered : (old new : World) (meaning : Meaning) (command : Command) (reply : Reply) → ReadsAs (Ok (Some command)) meaning → WorldCase old command new reply → Answered old meaning new (reply ∷ [])
+pub answered : (old new : World) (meaning : Meaning) (command : Command) (reply : Reply) → ReadsAs (Ok (Some command)) meaning → MayAnswer old command new reply → Answered old meaning new (reply ∷ [])
 answered old new too_long command reply is done = cc
 answered old new (says line) command reply is done = asked old new line command reply is done
 

@@ -4,12 +4,12 @@ use Rattle.elem_descr.specs.declared.refusal.Refusal.{Refusal}
 use Rattle.elem_descr.specs.declared.refusal.Refusal.TheVariants.{NothingToUndo}
 use Rattle.name_store.specs.States.{State}
 use Rattle.name_store.specs.Arrays.{has_kept, undone}
-use Rattle.bench_engine.specs.Machine.{undo_outcome, comes_to}
+use Rattle.bench_engine.specs.Machine.{undo_outcome, accepted_with}
 
 pub undo-nothing : (s : State) (e : Refusal) → has_kept s ≡ false → e ≡ NothingToUndo → undo_outcome s ≡ Err e
 unfolding undo_outcome
 undo-nothing s e none is = rw (none, is) refl
 
-pub undo-done : (s new : State) → has_kept s ≡ true → new ≡ undone s → undo_outcome s ≡ comes_to new (codes "ok undo")
+pub undo-done : (s new : State) → has_kept s ≡ true → new ≡ undone s → undo_outcome s ≡ accepted_with new (codes "ok undo")
 unfolding undo_outcome
 undo-done s new kept is = rw (kept, is) refl

@@ -29,7 +29,7 @@ use Rattle.overlap_copy.specs.declared.owned.Owned.{Owned}
 use Rattle.script_lang.specs.declared.literal.Literal.{Literal}
 use Rattle.script_lang.specs.declared.operation.Operation.{Operation}
 use Rattle.bench_engine.specs.Contents.{Contents}
-use Rattle.bench_engine.specs.Machine.{Values, literal_values, result_scalar, worked, worked_with, changed_by, changed_with}
+use Rattle.bench_engine.specs.Machine.{OperandValues, literal_values, operation_scalar, operation_on, operation_with, updated_items, changed_with}
 use Rattle.bench_engine.specs.inside.Operands.{Stands, GivesChanged}
 use Rattle.bench_engine.specs.inside.OwnContents.{held, IsInCOrder}
 use Rattle.bench_engine.proofs.LegalLaws.{IsLegal, legal-common}
@@ -40,30 +40,30 @@ use Rattle.bench_engine.proofs.WorkLaws.{worked-bad, worked-done}
 
 -- ---- the exits
 
-module _ (op : Operation) (d : Descr) (v w : Values) where
-  pub changed-type : (e : Refusal) → result_scalar op d w.descr ≡ Err e → changed_by op d v w ≡ Err e
-  unfolding changed_by
+module _ (op : Operation) (d : Descr) (v w : OperandValues) where
+  pub changed-type : (e : Refusal) → operation_scalar op d w.descr ≡ Err e → updated_items op d v w ≡ Err e
+  unfolding updated_items
   changed-type e bad = rw bad refl
 
-  pub changed-record : (s : Scalar) (e : Refusal) → result_scalar op d w.descr ≡ Ok s → scalar_of d ≡ Err e → changed_by op d v w ≡ Err e
-  unfolding changed_by
+  pub changed-record : (s : Scalar) (e : Refusal) → operation_scalar op d w.descr ≡ Ok s → scalar_of d ≡ Err e → updated_items op d v w ≡ Err e
+  unfolding updated_items
   changed-record s e typed bad = rw (typed, bad) refl
 
-  pub changed-kind : (s from : Scalar) (e : Refusal) → result_scalar op d w.descr ≡ Ok s → scalar_of d ≡ Ok from → same_kind s from ≡ Err e → changed_by op d v w ≡ Err e
-  unfolding changed_by
+  pub changed-kind : (s from : Scalar) (e : Refusal) → operation_scalar op d w.descr ≡ Ok s → scalar_of d ≡ Ok from → same_kind s from ≡ Err e → updated_items op d v w ≡ Err e
+  unfolding updated_items
   changed-kind s from e typed own bad = rw (typed, own, bad) refl
 
-  pub changed-apart : (s from : Scalar) (e : Refusal) → result_scalar op d w.descr ≡ Ok s → scalar_of d ≡ Ok from → same_kind s from ≡ Ok tt → stretched w.shape v.shape ≡ Err e → changed_by op d v w ≡ Err e
-  unfolding changed_by
+  pub changed-apart : (s from : Scalar) (e : Refusal) → operation_scalar op d w.descr ≡ Ok s → scalar_of d ≡ Ok from → same_kind s from ≡ Ok tt → stretched w.shape v.shape ≡ Err e → updated_items op d v w ≡ Err e
+  unfolding updated_items
   changed-apart s from e typed own kind bad = rw (typed, own, kind, bad) refl
 
-  pub changed-worked : (s from : Scalar) (view : View) (e : Refusal) → result_scalar op d w.descr ≡ Ok s → scalar_of d ≡ Ok from → same_kind s from ≡ Ok tt → stretched w.shape v.shape ≡ Ok view → worked op v w ≡ Err e → changed_by op d v w ≡ Err e
-  unfolding changed_by
+  pub changed-worked : (s from : Scalar) (view : View) (e : Refusal) → operation_scalar op d w.descr ≡ Ok s → scalar_of d ≡ Ok from → same_kind s from ≡ Ok tt → stretched w.shape v.shape ≡ Ok view → operation_on op v w ≡ Err e → updated_items op d v w ≡ Err e
+  unfolding updated_items
   changed-worked s from view e typed own kind fits bad = rw (typed, own, kind, fits, bad) refl
 
-  pub changed-done : (s from : Scalar) (view : View) (new : Contents) → result_scalar op d w.descr ≡ Ok s → scalar_of d ≡ Ok from → same_kind s from ≡ Ok tt → stretched w.shape v.shape ≡ Ok view → worked op v w ≡ Ok new →
-      changed_by op d v w ≡ Ok (map (cast_item new.buffer.descr d) new.buffer.items)
-  unfolding changed_by
+  pub changed-done : (s from : Scalar) (view : View) (new : Contents) → operation_scalar op d w.descr ≡ Ok s → scalar_of d ≡ Ok from → same_kind s from ≡ Ok tt → stretched w.shape v.shape ≡ Ok view → operation_on op v w ≡ Ok new →
+      updated_items op d v w ≡ Ok (map (cast_item new.buffer.descr d) new.buffer.items)
+  unfolding updated_items
   changed-done s from view new typed own kind fits good = rw (typed, own, kind, fits, good) refl
 
 -- ---- what is worked has the old shape
@@ -72,30 +72,30 @@ then-parts : {X Y : Type 0} (r : Result X Refusal) (f : X → Result Y Refusal) 
 then-parts (Ok x) f y is = (x, refl, is)
 then-parts (Err e) f y is = absurd (false≢true (ap is_ok is))
 
-worked-parts : (op : Operation) (v w : Values) (new : Contents) → worked op v w ≡ Ok new → (s : Scalar) × (result_scalar op v.descr w.descr ≡ Ok s) × (new.buffer.descr ≡ ScalarDescr s) × (common_shape (v.shape ∷ w.shape ∷ []) ≡ Ok new.shape)
-unfolding worked
+worked-parts : (op : Operation) (v w : OperandValues) (new : Contents) → operation_on op v w ≡ Ok new → (s : Scalar) × (operation_scalar op v.descr w.descr ≡ Ok s) × (new.buffer.descr ≡ ScalarDescr s) × (common_shape (v.shape ∷ w.shape ∷ []) ≡ Ok new.shape)
+unfolding operation_on
 worked-parts op v w new is =
-    let typed = then-parts (result_scalar op v.descr w.descr) _ new is in
+    let typed = then-parts (operation_scalar op v.descr w.descr) _ new is in
     let shaped = then-parts (common_shape (v.shape ∷ w.shape ∷ [])) _ new typed.2 in
     let done = same_answer _ new shaped.2 in
     (typed.0, typed.1, sym (ap (λ (c : Contents). c.buffer.descr) done), shaped.1 ∙ ap Ok (ap (λ (c : Contents). c.shape) done))
 
-pub worked-descr : (op : Operation) (v w : Values) (o : Owned) (s : Scalar) → result_scalar op v.descr w.descr ≡ Ok s → worked op v w ≡ Ok (held o) → o.descr ≡ ScalarDescr s
+pub worked-descr : (op : Operation) (v w : OperandValues) (o : Owned) (s : Scalar) → operation_scalar op v.descr w.descr ≡ Ok s → operation_on op v w ≡ Ok (held o) → o.descr ≡ ScalarDescr s
 worked-descr op v w o s typed is =
     let parts = worked-parts op v w (held o) is in
     parts.2 ∙ ap ScalarDescr (same_answer parts.0 s (sym parts.1 ∙ typed))
 
-pub worked-shape : (op : Operation) (v w : Values) (o : Owned) → can_stretch w.shape v.shape ≡ true → worked op v w ≡ Ok (held o) → o.layout.shape ≡ v.shape
+pub worked-shape : (op : Operation) (v w : OperandValues) (o : Owned) → can_stretch w.shape v.shape ≡ true → operation_on op v w ≡ Ok (held o) → o.layout.shape ≡ v.shape
 worked-shape op v w o can is = common-onto v.shape w.shape o.layout.shape can (worked-parts op v w (held o) is).3
 
 pub view-can : (shape target : List ℕ) (view : View) → stretched shape target ≡ Ok view → can_stretch shape target ≡ true
 view-can shape target view is = stretched-can shape target (ap is_ok is)
 
 -- where the common shape is there, only the type is refused
-pub worked-type : (op : Operation) (v w : Values) (e : Refusal) → common_shape (v.shape ∷ w.shape ∷ []) ≡ Ok v.shape → worked op v w ≡ Err e → result_scalar op v.descr w.descr ≡ Err e
-worked-type op v w e common is = by-type (result_scalar op v.descr w.descr) refl
+pub worked-type : (op : Operation) (v w : OperandValues) (e : Refusal) → common_shape (v.shape ∷ w.shape ∷ []) ≡ Ok v.shape → operation_on op v w ≡ Err e → operation_scalar op v.descr w.descr ≡ Err e
+worked-type op v w e common is = by-type (operation_scalar op v.descr w.descr) refl
   where
-    by-type : (r : Result Scalar Refusal) → result_scalar op v.descr w.descr ≡ r → r ≡ Err e
+    by-type : (r : Result Scalar Refusal) → operation_scalar op v.descr w.descr ≡ r → r ≡ Err e
     by-type (Ok s) typed = absurd (false≢true (sym (ap is_ok is) ∙ ap is_ok (worked-done op v w s v.shape typed common)))
     by-type (Err e') bad = again (sym (worked-bad op v w e' bad) ∙ is)
       where
@@ -150,7 +150,7 @@ cast-changed new d (Err e) can few typed shaped items refused = inl (cast-lacks 
 
 -- ---- items as operands of their own
 
-abbrev pub own_values : Items → Values
+abbrev pub own_values : Items → OperandValues
 own_values x = record { descr = x.descr.now; shape = x.layout.now.shape; stretched_to = stretched_items x.descr.now x.block.now x.layout.now }
 
 pub stands-own : (x : Items) → Stands (own_values x) x
@@ -162,15 +162,15 @@ stretched-is : (shape target : List ℕ) → can_stretch shape target ≡ true �
 unfolding stretched
 stretched-is shape target can = rw can refl
 
-literal-can : (op : Operation) (v w : Values) (l : Literal) → literal_values op v.descr l ≡ Ok w → can_stretch w.shape v.shape ≡ true
+literal-can : (op : Operation) (v w : OperandValues) (l : Literal) → literal_values op v.descr l ≡ Ok w → can_stretch w.shape v.shape ≡ true
 literal-can op v w l is =
-    let axes : w.shape ≡ [] = subst (λ (r : Result Values Refusal). IfOk r (λ w. w.shape ≡ [])) is (literal-axes op v.descr l) in
+    let axes : w.shape ≡ [] = subst (λ (r : Result OperandValues Refusal). IfOk r (λ w. w.shape ≡ [])) is (literal-axes op v.descr l) in
     ap (λ (shape : List ℕ). can_stretch shape v.shape) axes ∙ none-fits v.shape
 
-pub literal-parts : (op : Operation) (d : Descr) (v : Values) (l : Literal) (new : Owned) → v.descr ≡ d → worked_with op v (literal_values op v.descr l) ≡ Ok (held new) →
-    (w : Values) × (s : Scalar) × (literal_values op d l ≡ Ok w) × (worked op v w ≡ Ok (held new)) × (stretched w.shape v.shape ≡ Ok (record { shape = v.shape; leads = broadcast_index w.shape })) × (new.layout.shape ≡ v.shape) × (result_scalar op d w.descr ≡ Ok s) × (new.descr ≡ ScalarDescr s)
+pub literal-parts : (op : Operation) (d : Descr) (v : OperandValues) (l : Literal) (new : Owned) → v.descr ≡ d → operation_with op v (literal_values op v.descr l) ≡ Ok (held new) →
+    (w : OperandValues) × (s : Scalar) × (literal_values op d l ≡ Ok w) × (operation_on op v w ≡ Ok (held new)) × (stretched w.shape v.shape ≡ Ok (record { shape = v.shape; leads = broadcast_index w.shape })) × (new.layout.shape ≡ v.shape) × (operation_scalar op d w.descr ≡ Ok s) × (new.descr ≡ ScalarDescr s)
 literal-parts op d v l new same is =
-    let there = then-parts (literal_values op v.descr l) (worked op v) (held new) is in
+    let there = then-parts (literal_values op v.descr l) (operation_on op v) (held new) is in
     let can = literal-can op v there.0 l there.1 in
     let parts = worked-parts op v there.0 (held new) there.2 in (
       there.0,
@@ -179,18 +179,18 @@ literal-parts op d v l new same is =
       there.2,
       stretched-is there.0.shape v.shape can,
       worked-shape op v there.0 new can there.2,
-      ap (λ (d : Descr). result_scalar op d there.0.descr) (sym same) ∙ parts.1,
+      ap (λ (d : Descr). operation_scalar op d there.0.descr) (sym same) ∙ parts.1,
       parts.2,
     )
 
-pub literal-refused : (op : Operation) (d : Descr) (v : Values) (l : Literal) (e : Refusal) → IsLegal v.shape → v.descr ≡ d → worked_with op v (literal_values op v.descr l) ≡ Err e → changed_with op d v (literal_values op d l) ≡ Err e
+pub literal-refused : (op : Operation) (d : Descr) (v : OperandValues) (l : Literal) (e : Refusal) → IsLegal v.shape → v.descr ≡ d → operation_with op v (literal_values op v.descr l) ≡ Err e → changed_with op d v (literal_values op d l) ≡ Err e
 literal-refused op d v l e legal same is =
     sym (ap (λ (d : Descr). changed_with op d v (literal_values op d l)) same) ∙ by-literal (literal_values op v.descr l) refl is
   where
     again : {X Y : Type 0} (e' : Refusal) → ◌≡◌ {A = Result X Refusal} (Err e') (Err e) → ◌≡◌ {A = Result Y Refusal} (Err e') (Err e)
     again {X} {Y} e' h = ap (λ (r : Result X Refusal). elim r as (λ _. Result Y Refusal) [ Ok x ↦ Err e' | Err e ↦ Err e ]) h
 
-    by-literal : (r : Result Values Refusal) → literal_values op v.descr l ≡ r → worked_with op v r ≡ Err e → changed_with op v.descr v (literal_values op v.descr l) ≡ Err e
+    by-literal : (r : Result OperandValues Refusal) → literal_values op v.descr l ≡ r → operation_with op v r ≡ Err e → changed_with op v.descr v (literal_values op v.descr l) ≡ Err e
     by-literal (Err e') there bad = ap (changed_with op v.descr v) there ∙ again e' bad
     by-literal (Ok w) there bad =
         ap (changed_with op v.descr v) there

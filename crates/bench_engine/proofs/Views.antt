@@ -33,7 +33,7 @@ use Rattle.bench_engine.specs.Contents.{array_over}
 use Rattle.bench_engine.specs.inside.Contract.{CarriesOut, IsRefused}
 use Rattle.bench_engine.specs.declared.replies.Origin.TheVariants as origin
 use Rattle.bench_engine.specs.Replies.{bound_text}
-use Rattle.bench_engine.specs.Machine.{Choice, Outcome, ViewOrCopy, a_view, a_copy, viewed, bound_seen, comes_to}
+use Rattle.bench_engine.specs.Machine.{Choice, Outcome, ViewOrCopy, a_view, a_copy, viewed, bound_seen, accepted_with}
 use Rattle.bench_engine.proofs.Creates.{starts, fresh-answers}
 use Rattle.bench_engine.proofs.Steps.{spare}
 
@@ -117,11 +117,11 @@ pub may-bind : (s : State) (what : Bound) (number : ℕ) (path : List ℕ) (layo
 may-bind s what number path layout writable array is in' = subst (MayBind s) (sym is) (array, in')
 
 bound-answers : (s new : State) (name : List ℕ) (may : Bool) (outcome : Choice → Outcome) (number : ℕ) (path : List ℕ) (layout : Layout) (writable : Bool) (array : Array) (result : Result (Unit {0}) Refusal) (text before after : List ℕ) → may ≡ true →
-    has_room_for s name ≡ true → ((choice : Choice) → outcome choice ≡ comes_to (bound_view s name array) text) → after ≡ before ++ text → IsViewIn s number path layout writable array →
+    has_room_for s name ≡ true → ((choice : Choice) → outcome choice ≡ accepted_with (bound_view s name array) text) → after ≡ before ++ text → IsViewIn s number path layout writable array →
     AnswersBind s name (bound.View number path layout writable) result new → CarriesOut may outcome s new before after result
 bound-answers s new name may outcome number path layout writable array (Ok done) text before after can room is told in' (_, binds) =
     let any = spare s in
-    (any.0, any.1, text, is any.0 ∙ ap (λ (t : State). comes_to t text) (sym (binds array in')), told)
+    (any.0, any.1, text, is any.0 ∙ ap (λ (t : State). accepted_with t text) (sym (binds array in')), told)
 bound-answers s new name may outcome number path layout writable array (Err e) text before after can room is told in' (kept, inl full) =
     let no : true ≡ false = sym room ∙ full.0 in cc
 bound-answers s new name may outcome number path layout writable array (Err e) text before after can room is told in' (kept, inr lacks) =
@@ -129,7 +129,7 @@ bound-answers s new name may outcome number path layout writable array (Err e) t
 
 -- the name is bound to the view, or refused as out of memory
 pub view-answers : (s new : State) (name : List ℕ) (may : Bool) (outcome : Choice → Outcome) (what : Bound) (number : ℕ) (path : List ℕ) (layout : Layout) (writable : Bool) (array : Array) (result : Result (Unit {0}) Refusal) (text before after : List ℕ) →
-    may ≡ true → has_room_for s name ≡ true → ((choice : Choice) → outcome choice ≡ comes_to (bound_view s name array) text) → after ≡ before ++ text → what ≡ bound.View number path layout writable → IsViewIn s number path layout writable array →
+    may ≡ true → has_room_for s name ≡ true → ((choice : Choice) → outcome choice ≡ accepted_with (bound_view s name array) text) → after ≡ before ++ text → what ≡ bound.View number path layout writable → IsViewIn s number path layout writable array →
     AnswersBind s name what result new → CarriesOut may outcome s new before after result
 view-answers s new name may outcome what number path layout writable array result text before after can room is told view in' binds =
     bound-answers s new name may outcome number path layout writable array result text before after can room is told in' (subst (λ (b : Bound). AnswersBind s name b result new) view binds)
@@ -147,14 +147,14 @@ pub seen-answers : (s new : State) (name : List ℕ) (may : Bool) (outcome : Cho
     AnswersBind s name what result new → CarriesOut may outcome s new before after result
 seen-answers s new name may outcome what number (given.Part part) (Ok (a_view array)) result before after can room is told view in' binds =
     view-answers s new name may outcome what number part.path part.layout part.writable array result (bound_text name part.descr.now part.layout.shape origin.View) before after can room
-    (λ choice. is (a_view array) refl choice ∙ λ i. comes_to (bound_view s name array) (bound_text name (in'.descr i) (sym in'.view.laid.shape i) origin.View)) told view in'.view binds
+    (λ choice. is (a_view array) refl choice ∙ λ i. accepted_with (bound_view s name array) (bound_text name (in'.descr i) (sym in'.view.laid.shape i) origin.View)) told view in'.view binds
 seen-answers s new name may outcome what number (given.Part part) (Ok (a_copy contents)) result before after can room is told view in' binds = absurd in'
 seen-answers s new name may outcome what number (given.Part part) (Err e) result before after can room is told view in' binds = absurd in'
 seen-answers s new name may outcome what number (given.Copy o) (Ok (a_view array)) result before after can room is told view in' binds = absurd in'
 seen-answers s new name may outcome what number (given.Copy o) (Err e) result before after can room is told view in' binds = absurd in'
 seen-answers s new name may outcome what number (given.Copy o) (Ok (a_copy contents)) result before after can room is told view in' binds =
     fresh-answers s new name may outcome o contents result (bound_text name o.descr o.layout.shape origin.Copy) before after can room in'
-    (λ choice. is (a_copy contents) refl choice ∙ λ i. comes_to (bound_to s name (array_over choice.fresh contents) contents.buffer) (bound_text name (in' i).buffer.descr (in' i).shape origin.Copy))
+    (λ choice. is (a_copy contents) refl choice ∙ λ i. accepted_with (bound_to s name (array_over choice.fresh contents) contents.buffer) (bound_text name (in' i).buffer.descr (in' i).shape origin.Copy))
     told (subst (λ (b : Bound). AnswersBind s name b result new) view binds)
 
 -- what a call that gives a view answers

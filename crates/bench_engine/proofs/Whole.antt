@@ -4,7 +4,7 @@ use Rattle.bench_engine.specs.declared.session.Session.{Session}
 use Rattle.bench_engine.specs.declared.session.Summary.{Summary}
 use Rattle.bench_engine.specs.inside.Sessions.{Ended}
 use Rattle.bench_engine.specs.declared.runner.RunFault.{RunFault}
-use Rattle.npy_files.specs.Stores.{Shelf}
+use Rattle.npy_files.specs.Stores.{StoreState}
 use Rattle.bench_engine.specs.Worlds.{World}
 use Rattle.bench_engine.specs.Outside.{Outside, first_world, AnswersScript, AnswersInPart, AnswersSome, AnswersFirstLines}
 use Rattle.std.specs.Io.KnownBytes.{Consumes, IsAtEnd}
@@ -31,7 +31,7 @@ answers-script depth before after session summary end bench accepted refused = r
 }
 
 -- some first ones of these lines are some first ones of more
-extended : (h : World) (h' : Shelf) (all more all' : List (List ℕ)) (c d : Option (List ℕ)) → all' ≡ all ++ more → AnswersInPart all h h' c d → AnswersInPart all' h h' c d
+extended : (h : World) (h' : StoreState) (all more all' : List (List ℕ)) (c d : Option (List ℕ)) → all' ≡ all ++ more → AnswersInPart all h h' c d → AnswersInPart all' h h' c d
 extended h h' all more all' c d is (state, part) = (
   state,
   record {
@@ -50,7 +50,7 @@ extended h h' all more all' c d is (state, part) = (
 )
 
 -- the lines of what was read are first lines of the script
-known-part : (h : World) (h' : Shelf) (a b c d : Option (List ℕ)) (input : List ℕ) → Consumes a b input → AnswersInPart (whole_lines input) h h' c d ⊎ (IsAtEnd b × AnswersInPart (lines input) h h' c d) → IfSome a (λ script. AnswersInPart (lines script) h h' c d)
+known-part : (h : World) (h' : StoreState) (a b c d : Option (List ℕ)) (input : List ℕ) → Consumes a b input → AnswersInPart (whole_lines input) h h' c d ⊎ (IsAtEnd b × AnswersInPart (lines input) h h' c d) → IfSome a (λ script. AnswersInPart (lines script) h h' c d)
 known-part h h' None b c d input read some = tt
 known-part h h' (Some script) None c d input read some = absurd read
 known-part h h' (Some script) (Some rest) c d input read (inl some) = let front = lines-front input rest in extended h h' (whole_lines input) front.0 (lines script) c d (ap lines read ∙ front.1) some

@@ -22,8 +22,8 @@ use Rattle.machine_numbers.specs.declared.operators.BinOp.{BinOp}
 use Rattle.machine_numbers.specs.declared.operators.Comparison.{Comparison}
 use Rattle.script_lang.specs.declared.operation.Operation.{Operation}
 use Rattle.script_lang.specs.declared.operation.Operation.TheVariants.{Binary, Compare}
-use Rattle.bench_engine.specs.Contents.{made}
-use Rattle.bench_engine.specs.Machine.{Values, result_scalar, worked, worked_item}
+use Rattle.bench_engine.specs.Contents.{new_contents}
+use Rattle.bench_engine.specs.Machine.{OperandValues, operation_scalar, operation_on, operation_item}
 use Rattle.bench_engine.specs.inside.Operands.{Stands}
 use Rattle.bench_engine.specs.inside.OwnContents.{held, IsInCOrder}
 use Rattle.bench_engine.proofs.Copies.{made-held}
@@ -40,15 +40,15 @@ each-chained : {X Y : Type 0} (x : Result X Refusal) (f g : X → Result Y Refus
 each-chained (Ok a) f g same = same a
 each-chained (Err e) f g same = refl
 
-binary-is : (op : BinOp) (d d' : Descr) (t u : List ℕ) → binary_result op d t d' u ≡ typed_in (result_scalar (Binary op) d d') (common_shape (t ∷ u ∷ []))
-unfolding binary_result result_scalar
+binary-is : (op : BinOp) (d d' : Descr) (t u : List ℕ) → binary_result op d t d' u ≡ typed_in (operation_scalar (Binary op) d d') (common_shape (t ∷ u ∷ []))
+unfolding binary_result operation_scalar
 binary-is op d d' t u = sym (
     chained (scalar_of d) (λ from. scalar_of d' >>= (λ other. promote op from other)) (λ s. common_shape (t ∷ u ∷ []) >>= (λ l. Ok (ScalarDescr s, l)))
     ∙ each-chained (scalar_of d) (λ from. (scalar_of d' >>= (λ other. promote op from other)) >>= (λ s. common_shape (t ∷ u ∷ []) >>= (λ l. Ok (ScalarDescr s, l)))) (λ from. scalar_of d' >>= (λ other. promote op from other >>= (λ s. common_shape (t ∷ u ∷ []) >>= (λ l. Ok (ScalarDescr s, l)))))
     (λ from. chained (scalar_of d') (λ other. promote op from other) (λ s. common_shape (t ∷ u ∷ []) >>= (λ l. Ok (ScalarDescr s, l)))))
 
-compared-is : (c : Comparison) (d d' : Descr) (t u : List ℕ) → compared_result d t d' u ≡ typed_in (result_scalar (Compare c) d d') (common_shape (t ∷ u ∷ []))
-unfolding compared_result result_scalar
+compared-is : (c : Comparison) (d d' : Descr) (t u : List ℕ) → compared_result d t d' u ≡ typed_in (operation_scalar (Compare c) d d') (common_shape (t ∷ u ∷ []))
+unfolding compared_result operation_scalar
 compared-is c d d' t u = sym (
     chained (scalar_of d) (λ from. scalar_of d' >>= (λ other. compared_type from other)) (λ s. common_shape (t ∷ u ∷ []) >>= (λ l. Ok (ScalarDescr s, l)))
     ∙ each-chained (scalar_of d) (λ from. (scalar_of d' >>= (λ other. compared_type from other)) >>= (λ s. common_shape (t ∷ u ∷ []) >>= (λ l. Ok (ScalarDescr s, l)))) (λ from. scalar_of d' >>= (λ other. compared_type from other >>= (λ s. common_shape (t ∷ u ∷ []) >>= (λ l. Ok (ScalarDescr s, l)))))
@@ -56,17 +56,17 @@ compared-is c d d' t u = sym (
 
 -- ---- what is worked
 
-pub worked-bad : (op : Operation) (v w : Values) (e : Refusal) → result_scalar op v.descr w.descr ≡ Err e → worked op v w ≡ Err e
-unfolding worked
+pub worked-bad : (op : Operation) (v w : OperandValues) (e : Refusal) → operation_scalar op v.descr w.descr ≡ Err e → operation_on op v w ≡ Err e
+unfolding operation_on
 worked-bad op v w e bad = rw bad refl
 
-worked-apart : (op : Operation) (v w : Values) (s : Scalar) (e : Refusal) → result_scalar op v.descr w.descr ≡ Ok s → common_shape (v.shape ∷ w.shape ∷ []) ≡ Err e → worked op v w ≡ Err e
-unfolding worked
+worked-apart : (op : Operation) (v w : OperandValues) (s : Scalar) (e : Refusal) → operation_scalar op v.descr w.descr ≡ Ok s → common_shape (v.shape ∷ w.shape ∷ []) ≡ Err e → operation_on op v w ≡ Err e
+unfolding operation_on
 worked-apart op v w s e good apart = rw (good, apart) refl
 
-pub worked-done : (op : Operation) (v w : Values) (s : Scalar) (shape : List ℕ) → result_scalar op v.descr w.descr ≡ Ok s → common_shape (v.shape ∷ w.shape ∷ []) ≡ Ok shape →
-    worked op v w ≡ Ok (made (ScalarDescr s) shape (pairwise (worked_item op s) (v.stretched_to shape) (w.stretched_to shape)))
-unfolding worked
+pub worked-done : (op : Operation) (v w : OperandValues) (s : Scalar) (shape : List ℕ) → operation_scalar op v.descr w.descr ≡ Ok s → common_shape (v.shape ∷ w.shape ∷ []) ≡ Ok shape →
+    operation_on op v w ≡ Ok (new_contents (ScalarDescr s) shape (pairwise (operation_item op s) (v.stretched_to shape) (w.stretched_to shape)))
+unfolding operation_on
 worked-done op v w s shape good there = rw (good, there) refl
 
 -- a type and a shape that come to something
@@ -98,43 +98,43 @@ fits-common t u common is =
     let all = common-fits (t ∷ u ∷ []) common is in
     (all 0 [] (omega arith), all 1 [] (omega arith))
 
-module _ (op : Operation) (v w : Values) (x y : Items) (sv : Stands v x) (sw : Stands w y) where
+module _ (op : Operation) (v w : OperandValues) (x y : Items) (sv : Stands v x) (sw : Stands w y) where
   abbrev there : Result (Descr × List ℕ) Refusal
-  there = typed_in (result_scalar op x.descr.now y.descr.now) (common_shape (x.layout.now.shape ∷ y.layout.now.shape ∷ []))
+  there = typed_in (operation_scalar op x.descr.now y.descr.now) (common_shape (x.layout.now.shape ∷ y.layout.now.shape ∷ []))
 
-  types : result_scalar op v.descr w.descr ≡ result_scalar op x.descr.now y.descr.now
-  types = λ i. result_scalar op (sv.descr i) (sw.descr i)
+  types : operation_scalar op v.descr w.descr ≡ operation_scalar op x.descr.now y.descr.now
+  types = λ i. operation_scalar op (sv.descr i) (sw.descr i)
 
   shapes : common_shape (v.shape ∷ w.shape ∷ []) ≡ common_shape (x.layout.now.shape ∷ y.layout.now.shape ∷ [])
   shapes = λ i. common_shape (sv.shape i ∷ sw.shape i ∷ [])
 
   worked-held : (o : Owned) → there ≡ Ok (o.descr, o.layout.shape) → IsInCOrder o → ((s : Scalar) → o.descr ≡ ScalarDescr s → map (item_from o.descr o.block) (offsets o.layout)
-      ≡ pairwise (worked_item op s) (stretched_items x.descr.now x.block.now x.layout.now o.layout.shape) (stretched_items y.descr.now y.block.now y.layout.now o.layout.shape)) → worked op v w ≡ Ok (held o)
+      ≡ pairwise (operation_item op s) (stretched_items x.descr.now x.block.now x.layout.now o.layout.shape) (stretched_items y.descr.now y.block.now y.layout.now o.layout.shape)) → operation_on op v w ≡ Ok (held o)
   worked-held o is order items =
-      let both = typed-both (result_scalar op x.descr.now y.descr.now) (common_shape (x.layout.now.shape ∷ y.layout.now.shape ∷ [])) o.descr o.layout.shape is in
+      let both = typed-both (operation_scalar op x.descr.now y.descr.now) (common_shape (x.layout.now.shape ∷ y.layout.now.shape ∷ [])) o.descr o.layout.shape is in
       let common : common_shape (v.shape ∷ w.shape ∷ []) ≡ Ok o.layout.shape = shapes ∙ both.2 in
       let fits = fits-common v.shape w.shape o.layout.shape common in
       worked-done op v w both.0 o.layout.shape (types ∙ both.1) common
-      ∙ ap Ok (made-held C (ScalarDescr both.0) o.layout.shape (pairwise (worked_item op both.0) (v.stretched_to o.layout.shape) (w.stretched_to o.layout.shape)) o both.3 refl
+      ∙ ap Ok (made-held C (ScalarDescr both.0) o.layout.shape (pairwise (operation_item op both.0) (v.stretched_to o.layout.shape) (w.stretched_to o.layout.shape)) o both.3 refl
       (subst (λ (d : Descr). offsets o.layout ≡ offsets_in C (item_size d) o.layout.shape) both.3 order)
-      (ap (λ (d : Descr). map (item_from d o.block) (offsets o.layout)) (sym both.3) ∙ items both.0 both.3 ∙ λ i. pairwise (worked_item op both.0) (sym (sv.items o.layout.shape fits.0) i) (sym (sw.items o.layout.shape fits.1) i)))
+      (ap (λ (d : Descr). map (item_from d o.block) (offsets o.layout)) (sym both.3) ∙ items both.0 both.3 ∙ λ i. pairwise (operation_item op both.0) (sym (sv.items o.layout.shape fits.0) i) (sym (sw.items o.layout.shape fits.1) i)))
 
-  worked-refused : (e : Refusal) → there ≡ Err e → worked op v w ≡ Err e
+  worked-refused : (e : Refusal) → there ≡ Err e → operation_on op v w ≡ Err e
   worked-refused e is =
-      elim (typed-neither (result_scalar op x.descr.now y.descr.now) (common_shape (x.layout.now.shape ∷ y.layout.now.shape ∷ [])) e is) as (λ _. worked op v w ≡ Err e) [
+      elim (typed-neither (operation_scalar op x.descr.now y.descr.now) (common_shape (x.layout.now.shape ∷ y.layout.now.shape ∷ [])) e is) as (λ _. operation_on op v w ≡ Err e) [
         | inl bad ↦ worked-bad op v w e (types ∙ bad)
         | inr apart ↦ worked-apart op v w apart.0 e (types ∙ apart.1) (shapes ∙ apart.2)
       ]
 
   pub worked-gives : (result : Result Owned Refusal) → Gives (λ o. (o.descr, o.layout.shape)) result there → IfOk result IsInCOrder →
       IfOk result (λ o. (s : Scalar) → o.descr ≡ ScalarDescr s → map (item_from o.descr o.block) (offsets o.layout)
-      ≡ pairwise (worked_item op s) (stretched_items x.descr.now x.block.now x.layout.now o.layout.shape) (stretched_items y.descr.now y.block.now y.layout.now o.layout.shape)) → Gives held result (worked op v w)
+      ≡ pairwise (operation_item op s) (stretched_items x.descr.now x.block.now x.layout.now o.layout.shape) (stretched_items y.descr.now y.block.now y.layout.now o.layout.shape)) → Gives held result (operation_on op v w)
   worked-gives (Ok o) is order items = worked-held o is order items
   worked-gives (Err e) (inl lacks) order items = inl lacks
   worked-gives (Err e) (inr bad) order items = inr (worked-refused e bad)
 
-pub binary-gives : (op : BinOp) (v w : Values) (x y : Items) (result : Result Owned Refusal) → Stands v x → Stands w y → Gives (λ o. (o.descr, o.layout.shape)) result (binary_result op x.descr.now x.layout.now.shape y.descr.now y.layout.now.shape) → IfOk result IsInCOrder →
-    IfOk result (λ o. map (item_from o.descr o.block) (offsets o.layout) ≡ pairwise (binary_item op o.descr) (stretched_items x.descr.now x.block.now x.layout.now o.layout.shape) (stretched_items y.descr.now y.block.now y.layout.now o.layout.shape)) → Gives held result (worked (Binary op) v w)
+pub binary-gives : (op : BinOp) (v w : OperandValues) (x y : Items) (result : Result Owned Refusal) → Stands v x → Stands w y → Gives (λ o. (o.descr, o.layout.shape)) result (binary_result op x.descr.now x.layout.now.shape y.descr.now y.layout.now.shape) → IfOk result IsInCOrder →
+    IfOk result (λ o. map (item_from o.descr o.block) (offsets o.layout) ≡ pairwise (binary_item op o.descr) (stretched_items x.descr.now x.block.now x.layout.now o.layout.shape) (stretched_items y.descr.now y.block.now y.layout.now o.layout.shape)) → Gives held result (operation_on (Binary op) v w)
 binary-gives op v w x y (Ok o) sv sw is order items =
     worked-gives (Binary op) v w x y sv sw (Ok o) (sym (binary-is op x.descr.now y.descr.now x.layout.now.shape y.layout.now.shape) ∙ is) order
     (λ s typed. items ∙ ap (λ (d : Descr). pairwise (binary_item op d) (stretched_items x.descr.now x.block.now x.layout.now o.layout.shape) (stretched_items y.descr.now y.block.now y.layout.now o.layout.shape)) typed)
@@ -142,8 +142,8 @@ binary-gives op v w x y (Err e) sv sw (inl lacks) order items = inl lacks
 binary-gives op v w x y (Err e) sv sw (inr bad) order items =
     worked-gives (Binary op) v w x y sv sw (Err e) (inr (sym (binary-is op x.descr.now y.descr.now x.layout.now.shape y.layout.now.shape) ∙ bad)) tt tt
 
-pub compared-gives : (c : Comparison) (v w : Values) (x y : Items) (result : Result Owned Refusal) → Stands v x → Stands w y → Gives (λ o. (o.descr, o.layout.shape)) result (compared_result x.descr.now x.layout.now.shape y.descr.now y.layout.now.shape) → IfOk result IsInCOrder →
-    IfOk result (λ o. map (item_from o.descr o.block) (offsets o.layout) ≡ pairwise (compared_item c) (stretched_items x.descr.now x.block.now x.layout.now o.layout.shape) (stretched_items y.descr.now y.block.now y.layout.now o.layout.shape)) → Gives held result (worked (Compare c) v w)
+pub compared-gives : (c : Comparison) (v w : OperandValues) (x y : Items) (result : Result Owned Refusal) → Stands v x → Stands w y → Gives (λ o. (o.descr, o.layout.shape)) result (compared_result x.descr.now x.layout.now.shape y.descr.now y.layout.now.shape) → IfOk result IsInCOrder →
+    IfOk result (λ o. map (item_from o.descr o.block) (offsets o.layout) ≡ pairwise (compared_item c) (stretched_items x.descr.now x.block.now x.layout.now o.layout.shape) (stretched_items y.descr.now y.block.now y.layout.now o.layout.shape)) → Gives held result (operation_on (Compare c) v w)
 compared-gives c v w x y (Ok o) sv sw is order items =
     worked-gives (Compare c) v w x y sv sw (Ok o) (sym (compared-is c x.descr.now y.descr.now x.layout.now.shape y.layout.now.shape) ∙ is) order (λ s typed. items)
 compared-gives c v w x y (Err e) sv sw (inl lacks) order items = inl lacks

@@ -36,16 +36,16 @@ places_in C shape = range_with_len 0 (count shape)
 places_in Fortran shape = map (λ index. rank (reverse shape) (reverse index)) (indexes shape)
 
 -- items in C order of their indices, as they are stored
-abbrev pub stored : MemoryOrder → List ℕ → List (List LeafValue) → List (List LeafValue)
-stored C shape items = items
-stored Fortran shape items = map (λ index. get_or items (rank shape (reverse index)) []) (indexes (reverse shape))
+abbrev pub in_order : MemoryOrder → List ℕ → List (List LeafValue) → List (List LeafValue)
+in_order C shape items = items
+in_order Fortran shape items = map (λ index. get_or items (rank shape (reverse index)) []) (indexes (reverse shape))
 
 -- these items, one for each index of the shape in C order, stored in an order
-abbrev pub made_in : MemoryOrder → Descr → List ℕ → List (List LeafValue) → Contents
-made_in order descr shape items = record { shape = shape; places = places_in order shape; buffer = record { descr = descr; items = stored order shape items } }
+abbrev pub new_contents_in : MemoryOrder → Descr → List ℕ → List (List LeafValue) → Contents
+new_contents_in order descr shape items = record { shape = shape; places = places_in order shape; buffer = record { descr = descr; items = in_order order shape items } }
 
-abbrev pub made : Descr → List ℕ → List (List LeafValue) → Contents
-made descr shape items = made_in C descr shape items
+abbrev pub new_contents : Descr → List ℕ → List (List LeafValue) → Contents
+new_contents descr shape items = new_contents_in C descr shape items
 
 -- a writable array over contents, in the buffer with this number
 abbrev pub array_over : ℕ → Contents → states.Array
@@ -71,14 +71,14 @@ array_type descr lengths = do
 unfoldable pub zeros_contents : List ℕ → List ℕ → Result Contents Refusal
 zeros_contents descr lengths = do
   type ← array_type descr lengths
-  Ok (made type.0 type.1 (replicate (count type.1) (zero_item type.0)))
+  Ok (new_contents type.0 type.1 (replicate (count type.1) (zero_item type.0)))
 
 -- full D S L
 unfoldable pub full_contents : List ℕ → List ℕ → Literal → Result Contents Refusal
 full_contents descr lengths literal = do
   type ← array_type descr lengths
   item ← item_value type.0 literal
-  Ok (made type.0 type.1 (replicate (count type.1) item))
+  Ok (new_contents type.0 type.1 (replicate (count type.1) item))
 
 -- array D S L..
 unfoldable pub array_contents : List ℕ → List ℕ → List Literal → Result Contents Refusal
@@ -86,7 +86,7 @@ array_contents descr lengths literals = do
   type ← array_type descr lengths
   _ ← check (nat_eq (length literals) (count type.1)) NumberOfValues
   items ← item_values type.0 literals
-  Ok (made type.0 type.1 items)
+  Ok (new_contents type.0 type.1 items)
 
 -- the scalar of an element type whose values are integers
 abbrev pub integer_scalar : Descr → Result Scalar Refusal
@@ -95,17 +95,17 @@ integer_scalar (ScalarDescr (Int signed width order)) = Ok (Int signed width ord
 integer_scalar _ = Err NotForThisKind
 
 -- the scalar of a descriptor whose values are integers
-unfoldable pub integer_type : List ℕ → Result Scalar Refusal
-integer_type descr = do
+unfoldable pub range_scalar : List ℕ → Result Scalar Refusal
+range_scalar descr = do
   descr ← descriptor descr
   integer_scalar descr
 
 -- arange D a b s
 unfoldable pub arange_contents : List ℕ → ℤ → ℤ → ℤ → Result Contents Refusal
 arange_contents descr start stop step = do
-  scalar ← integer_type descr
+  scalar ← range_scalar descr
   items ← range_items scalar start stop step
-  Ok (made (ScalarDescr scalar) (length items ∷ []) items)
+  Ok (new_contents (ScalarDescr scalar) (length items ∷ []) items)
 
 -- what a command that makes an array puts into it
 abbrev pub contents_of : List ℕ → NewItems → Result Contents Refusal

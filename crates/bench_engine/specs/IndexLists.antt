@@ -33,17 +33,17 @@ by_items s None = no_array
 by_items s (Some array) = record { descr = descr_of s array; shape = array.shape; numbers = map first_number (read s array) }
 
 -- an item with the array in the place of its name
-abbrev pub with_items : State → IndexItem (List ℕ) → IndexItem IndexArray
-with_items s (Integer at) = Integer at
-with_items s (Slice start stop step) = Slice start stop step
-with_items s Ellipsis = Ellipsis
-with_items s NewAxis = NewAxis
-with_items s (Array name) = Array (by_items s (find_array s.names name))
+abbrev pub array_by_items : State → IndexItem (List ℕ) → IndexItem IndexArray
+array_by_items s (Integer at) = Integer at
+array_by_items s (Slice start stop step) = Slice start stop step
+array_by_items s Ellipsis = Ellipsis
+array_by_items s NewAxis = NewAxis
+array_by_items s (Array name) = Array (by_items s (find_array s.names name))
 
 -- those that arrays lead to, of at most 2^28 bytes
 unfoldable pub gathered : State → states.Array → List (IndexItem (List ℕ)) → Result View Refusal
 gathered s array index = do
-  view ← indexed array.shape (map (with_items s) index)
+  view ← indexed array.shape (map (array_by_items s) index)
   _ ← check (nat_le (count view.shape * item_size (descr_of s array)) max_bytes) TooLarge
   Ok view
 

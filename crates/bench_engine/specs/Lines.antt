@@ -8,9 +8,9 @@ onto_first_piece b [] = []
 onto_first_piece b (piece ∷ pieces) = (b ∷ piece) ∷ pieces
 
 -- the pieces that a newline ends
-abbrev pub ended : List ℕ → List (List ℕ)
-ended [] = []
-ended (b ∷ bytes) = if nat_eq b 10 then [] ∷ ended bytes else onto_first_piece b (ended bytes)
+abbrev pub ended_lines : List ℕ → List (List ℕ)
+ended_lines [] = []
+ended_lines (b ∷ bytes) = if nat_eq b 10 then [] ∷ ended_lines bytes else onto_first_piece b (ended_lines bytes)
 
 -- a byte before what follows the last newline, where no newline comes between
 abbrev pub before_rest : ℕ → List (List ℕ) → List ℕ → List ℕ
@@ -20,7 +20,7 @@ before_rest b (piece ∷ pieces) rest = rest
 -- what follows the last newline
 abbrev pub unended : List ℕ → List ℕ
 unended [] = []
-unended (b ∷ bytes) = if nat_eq b 10 then unended bytes else before_rest b (ended bytes) (unended bytes)
+unended (b ∷ bytes) = if nat_eq b 10 then unended bytes else before_rest b (ended_lines bytes) (unended bytes)
 
 -- a piece without one carriage return at its end
 abbrev pub trimmed : List ℕ → List ℕ
@@ -28,7 +28,7 @@ trimmed piece = if ends_with nat_eq piece (13 ∷ []) then take (length piece - 
 
 -- the lines that newlines end
 abbrev pub whole_lines : List ℕ → List (List ℕ)
-whole_lines bytes = map trimmed (ended bytes)
+whole_lines bytes = map trimmed (ended_lines bytes)
 
 -- one piece, or none where it is empty
 abbrev pub if_any : List ℕ → List (List ℕ)

@@ -7,12 +7,12 @@ use Rattle.script_lang.specs.declared.command.Value.TheVariants.{Load}
 use Rattle.script_lang.specs.declared.command.Command.{Command}
 use Rattle.script_lang.specs.declared.command.Command.TheVariants.{Bind, Save}
 use Rattle.script_lang.specs.Lines.{Line, line_of, silent, bad_byte, misspelt, asks}
-use Rattle.script_lang.specs.Reading.{needs_room}
+use Rattle.script_lang.specs.Reading.{parts_take_memory}
 use Rattle.name_store.specs.States.{State}
 use Rattle.name_store.specs.Arrays.{is_bound, has_room_for}
 use Rattle.npy_files.specs.Stores.{IsSameStore}
 use Rattle.bench_engine.specs.Replies.{Reply, refusal}
-use Rattle.bench_engine.specs.Machine.{Choice, IsAllowed, settled, Step, may_lack_memory}
+use Rattle.bench_engine.specs.Machine.{Choice, IsAllowed, after_outcome, Step, may_lack_memory}
 use Rattle.bench_engine.specs.Loads.{Found, MayFind, load_outcome}
 use Rattle.bench_engine.specs.Saves.{Stored, MayStore, file_of_name, save_reply}
 use Rattle.bench_engine.specs.Worlds.{World}
@@ -38,18 +38,18 @@ abbrev pub LacksMemory : {X : Type 0} → Bool → X → X → Reply → Type 0
 LacksMemory may old new reply = IsTrue may × Refuses old new reply (refusal OutOfMemory)
 
 -- A command is a step of the machine, or refused as out of memory, where it may ask for some.
-abbrev pub Case : State → Command → State → Reply → Type 0
-Case old command new reply = Step old command new reply ⊎ LacksMemory (may_lack_memory old command) old new reply
+abbrev pub MayAnswerState : State → Command → State → Reply → Type 0
+MayAnswerState old command new reply = Step old command new reply ⊎ LacksMemory (may_lack_memory old command) old new reply
 
 -- X = load "f" with an answer that the store may give
 abbrev pub LoadStep : World → List ℕ → List ℕ → World → Reply → Type 0
 LoadStep old name file new reply =
     (choice : Choice) × IsAllowed old.state choice × (found : Found) × MayFind old.shelf new.shelf file found
-    × (settled old.state (load_outcome choice old.state name found) ≡ (new.state, reply))
+    × (after_outcome old.state (load_outcome choice old.state name found) ≡ (new.state, reply))
 
 -- X = load "f" leaves all files as they are. Where there is no room for the name the store is not asked.
-abbrev pub LoadCase : World → List ℕ → List ℕ → World → Reply → Type 0
-LoadCase old name file new reply =
+abbrev pub MayAnswerLoad : World → List ℕ → List ℕ → World → Reply → Type 0
+MayAnswerLoad old name file new reply =
     ((has_room_for old.state name ≡ false) × Refuses old new reply (refusal TooManyNames))
     ⊎ ((has_room_for old.state name ≡ true) × IsSameStore old.shelf new.shelf × (new.shelf.files ≡ old.shelf.files)
     × (LoadStep old name file new reply ⊎ LacksMemory true old.state new.state reply))
@@ -61,26 +61,26 @@ SaveStep old file bytes new reply =
     × (stored : Stored) × MayStore old.shelf new.shelf file bytes stored × (reply ≡ save_reply (length bytes) stored)
 
 -- save X "f": what can be refused without the store is refused before it is asked, with nothing changed.
-abbrev pub SaveCase : World → List ℕ → List ℕ → World → Reply → Type 0
-SaveCase old name file new reply =
+abbrev pub MayAnswerSave : World → List ℕ → List ℕ → World → Reply → Type 0
+MayAnswerSave old name file new reply =
     ((refused : Refusal) × (file_of_name old.state name ≡ Err refused) × Refuses old new reply (refusal refused))
     ⊎ (LacksMemory (is_bound old.state name) old new reply
     ⊎ ((bytes : List ℕ) × (file_of_name old.state name ≡ Ok bytes) × SaveStep old file bytes new reply))
 
 -- A command that asks for no file leaves the store as it is.
-abbrev pub StateCase : World → Command → World → Reply → Type 0
-StateCase old command new reply = (new.shelf ≡ old.shelf) × Case old.state command new.state reply
+abbrev pub MayAnswerInState : World → Command → World → Reply → Type 0
+MayAnswerInState old command new reply = (new.shelf ≡ old.shelf) × MayAnswerState old.state command new.state reply
 
 -- X = ..
-abbrev pub BindCase : World → List ℕ → Value → World → Reply → Type 0
-BindCase old name (Load file) new reply = LoadCase old name file new reply
-BindCase old name value new reply = StateCase old (Bind name value) new reply
+abbrev pub MayAnswerBind : World → List ℕ → Value → World → Reply → Type 0
+MayAnswerBind old name (Load file) new reply = MayAnswerLoad old name file new reply
+MayAnswerBind old name value new reply = MayAnswerInState old (Bind name value) new reply
 
 -- so it is in a world
-abbrev pub WorldCase : World → Command → World → Reply → Type 0
-WorldCase old (Bind name value) new reply = BindCase old name value new reply
-WorldCase old (Save name file) new reply = SaveCase old name file new reply
-WorldCase old command new reply = StateCase old command new reply
+abbrev pub MayAnswer : World → Command → World → Reply → Type 0
+MayAnswer old (Bind name value) new reply = MayAnswerBind old name value new reply
+MayAnswer old (Save name file) new reply = MayAnswerSave old name file new reply
+MayAnswer old command new reply = MayAnswerInState old command new reply
 
 -- what a meaning may be answered, and where it leads
 abbrev pub Answered : World → Meaning → World → List Reply → Type 0
@@ -90,7 +90,7 @@ Answered old (says bad_byte) new replies = (new ≡ old) × (replies ≡ refusal
 Answered old (says misspelt) new replies =
     (reply : Reply) × (replies ≡ reply ∷ []) × (Refuses old new reply (refusal Syntax) ⊎ Refuses old new reply (refusal OutOfMemory))
 Answered old (says (asks command)) new replies =
-    (reply : Reply) × (replies ≡ reply ∷ []) × (WorldCase old command new reply ⊎ LacksMemory (needs_room command) old new reply)
+    (reply : Reply) × (replies ≡ reply ∷ []) × (MayAnswer old command new reply ⊎ LacksMemory (parts_take_memory command) old new reply)
 
 -- what the machine may answer a line
 abbrev pub AnswersLine : World → List ℕ → World → List Reply → Type 0

@@ -3,7 +3,7 @@ use Rattle.std.specs.Prelude.{◌≡◌, ◌⊎◌, ℕ, List, Option, IfSome}
 use Rattle.std.specs.Io.KnownBytes.{Appends, Consumes, IsAtEnd}
 use Rattle.bench_engine.specs.declared.session.Summary.{Summary}
 use Rattle.name_store.specs.States.{State}
-use Rattle.npy_files.specs.Stores.{Shelf}
+use Rattle.npy_files.specs.Stores.{StoreState}
 use Rattle.bench_engine.specs.Replies.{Reply}
 use Rattle.bench_engine.specs.Lines.{lines, whole_lines}
 use Rattle.bench_engine.specs.Meanings.{AnswersLine}
@@ -15,9 +15,9 @@ use Rattle.bench_engine.specs.Runs.{Run, BreaksOff, output, accepted_count, refu
 pub record Outside : Type 0 where
   pub unread : Option (List ℕ)
   pub written : Option (List ℕ)
-  pub store : Shelf
+  pub store : StoreState
 
-abbrev pub outside : Option (List ℕ) → Option (List ℕ) → Shelf → Outside
+abbrev pub outside : Option (List ℕ) → Option (List ℕ) → StoreState → Outside
 outside unread written store = record { unread = unread; written = written; store = store }
 
 -- the world in which a run begins that keeps so many earlier states
@@ -49,7 +49,7 @@ pub record AnswersWholeLines (depth : ℕ) (before after : Outside) : Type 0 whe
 
 -- Some first ones of these lines are answered, and the files are as they leave them, but a last part, not empty, of the last
 -- reply has not gone out.
-abbrev pub AnswersInPart : List (List ℕ) → World → Shelf → Option (List ℕ) → Option (List ℕ) → Type 0
+abbrev pub AnswersInPart : List (List ℕ) → World → StoreState → Option (List ℕ) → Option (List ℕ) → Type 0
 AnswersInPart all first shelf' written written' = (state : State) × BreaksOff AnswersLine first (world state shelf') written written' all
 
 -- The same between what is outside before and after.

@@ -4,7 +4,7 @@ use Rattle.elem_descr.specs.declared.refusal.Refusal.{Refusal}
 use Rattle.elem_descr.specs.Refusals.{◌>>=◌}
 use Rattle.name_store.specs.States.{State}
 use Rattle.name_store.specs.Arrays.{descr_of, addresses, read}
-use Rattle.npy_files.specs.Stores.{Shelf, HasCause, IsKept, IsWritten}
+use Rattle.npy_files.specs.Stores.{StoreState, FaultHasCause, IsKept, IsWritten}
 use Rattle.npy_format.specs.WrittenFiles.{saved}
 use Rattle.npy_files.specs.declared.store.StoreFault.{StoreFault}
 use Rattle.bench_engine.specs.Replies.{Reply, refusal}
@@ -23,8 +23,8 @@ Stored = Result (Unit {0}) StoreFault
 
 -- It may answer so: a fault of its device has a cause, no other name changes, and none where the file was too long or memory
 -- was wanting. An honest store is left as a write with this answer leaves it.
-pub record MayStore (old new : Shelf) (file bytes : List ℕ) (stored : Stored) : Type 0 where
-  pub cause : HasCause old new stored
+pub record MayStore (old new : StoreState) (file bytes : List ℕ) (stored : Stored) : Type 0 where
+  pub cause : FaultHasCause old new stored
   pub kept : IsKept file stored old.files new.files
   pub written : old.honest ≡ true → IsWritten old file bytes stored new.files
 

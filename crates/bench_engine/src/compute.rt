@@ -3,7 +3,7 @@
 ghost use Rattle.std.specs.Prelude.{◌≡◌, ◌≤◌, ◌∷◌, ◌++◌, [], true, vec_capacity};
 ghost use Rattle.std.specs.List.{list_all};
 ghost use Rattle.name_store.specs.Arrays.{is_bound};
-ghost use Rattle.bench_engine.specs.Machine.{computed_outcome, names_in_operand, names_in_argument, combined, transformed, reduced};
+ghost use Rattle.bench_engine.specs.Machine.{computed_outcome, names_in_operand, names_in_argument, operation_contents, transformed, reduced_contents};
 ghost use Rattle.bench_engine.specs.inside.Contract.{CarriesOut};
 
 use crate::computed;
@@ -28,7 +28,7 @@ pub fn combine(
 ) -> Result<(), Refusal>
     ensures room { vec_capacity out.old ≤ vec_capacity out.new }
     ensures answers { CarriesOut (list_all (is_bound bench.old) (names_in_operand left.now ++ names_in_argument right.now))
-        (λ choice. computed_outcome choice bench.old name.now (names_in_operand left.now ++ names_in_argument right.now) (combined bench.old operation left.now right.now))
+        (λ choice. computed_outcome choice bench.old name.now (names_in_operand left.now ++ names_in_argument right.now) (operation_contents bench.old operation left.now right.now))
         bench.old bench.new out.old.items out.new.items result }
 {
     if !is_bound(bench, left) {
@@ -81,7 +81,7 @@ pub fn reduce(
 ) -> Result<(), Refusal>
     ensures room { vec_capacity out.old ≤ vec_capacity out.new }
     ensures answers { CarriesOut (list_all (is_bound bench.old) (source.now ∷ []))
-        (λ choice. computed_outcome choice bench.old name.now (source.now ∷ []) (reduced bench.old reduction source.now axis keep))
+        (λ choice. computed_outcome choice bench.old name.now (source.now ∷ []) (reduced_contents bench.old reduction source.now axis keep))
         bench.old bench.new out.old.items out.new.items result }
 {
     let Some(array) = bench.get(source) else {

@@ -5,7 +5,7 @@ ghost use Rattle.elem_descr.specs.Refusals.{Gives};
 ghost use Rattle.name_store.specs.Arrays.{find_array, is_bound};
 ghost use Rattle.name_store.specs.Shown.{Shows};
 ghost use Rattle.name_store.specs.States.{State, Array};
-ghost use Rattle.bench_engine.specs.Machine.{names_in_operand, names_in_argument, combined, transformed, reduced};
+ghost use Rattle.bench_engine.specs.Machine.{names_in_operand, names_in_argument, operation_contents, transformed, reduced_contents};
 ghost use Rattle.bench_engine.specs.inside.OwnContents.{held};
 ghost use Rattle.bench_engine.specs.inside.Parts.{IsShown};
 
@@ -29,7 +29,7 @@ pub fn combined(
 ) -> Result<Owned, Refusal>
     requires left { list_all (is_bound bench.now) (names_in_operand left.now) ≡ true }
     requires right { list_all (is_bound bench.now) (names_in_argument right.now) ≡ true }
-    ensures { Gives held result (combined bench.now operation left.now right.now) }
+    ensures { Gives held result (operation_contents bench.now operation left.now right.now) }
 {
     let array = bench.get(&left.name).unwrap();
     let taken = operand_items(alloc, bench, &array, &left.index)?;
@@ -62,7 +62,7 @@ pub fn reduced(
 ) -> Result<Owned, Refusal>
     requires { IsShown array.now }
     ensures { (s : State) (source : List ℕ) (a : Array) → find_array s.names source ≡ Some a → Shows s a array.now
-        → Gives held result (reduced s reduction source axis keep) }
+        → Gives held result (reduced_contents s reduction source axis keep) }
 {
     let items = Items {
         block: array.block,

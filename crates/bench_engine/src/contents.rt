@@ -10,7 +10,7 @@ ghost use Rattle.shape_strides.specs.Indexes.{count};
 ghost use Rattle.shape_strides.specs.Shapes.{shape_of};
 ghost use Rattle.literal_items.specs.LiteralItems.{item_values};
 ghost use Rattle.literal_items.specs.RangeItems.{range_count, range_items};
-ghost use Rattle.bench_engine.specs.Contents.{array_type, zeros_contents, full_contents, array_contents, arange_contents, integer_scalar, integer_type};
+ghost use Rattle.bench_engine.specs.Contents.{array_type, zeros_contents, full_contents, array_contents, arange_contents, integer_scalar, range_scalar};
 ghost use Rattle.bench_engine.specs.inside.OwnContents.{held};
 
 use crate::item::item_of;
@@ -141,7 +141,7 @@ fn integer_scalar(descr: &Descr) -> Result<Scalar, Refusal>
 
 /// The scalar of a descriptor whose values are integers.
 fn integer_type(alloc: Global, descr: &DescrText) -> Result<Scalar, Refusal>
-    ensures value { Gives (λ scalar. scalar) result (integer_type descr.now) }
+    ensures value { Gives (λ scalar. scalar) result (range_scalar descr.now) }
     ensures number { IfOk result IsNumber }
 {
     let descr = descr_read(alloc, descr.as_slice())?;

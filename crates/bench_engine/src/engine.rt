@@ -7,7 +7,7 @@ ghost use Rattle.script_lang.specs.declared.command.Command.TheVariants.{Bind};
 ghost use Rattle.bench_engine.specs.inside.Contract.{CarriesOut, Carried};
 ghost use Rattle.bench_engine.specs.Machine.{bind_outcome, question_outcome, bound_in_question, may_lack_memory};
 ghost use Rattle.bench_engine.specs.Replies.{Reply};
-ghost use Rattle.bench_engine.specs.Meanings.{BindCase, WorldCase, Answered};
+ghost use Rattle.bench_engine.specs.Meanings.{MayAnswerBind, MayAnswer, Answered};
 ghost use Rattle.bench_engine.specs.Worlds.{world};
 ghost use Rattle.bench_engine.specs.inside.ReadLines.{ReadsAs, Tells, meaning_of_read};
 
@@ -77,7 +77,7 @@ fn bind<N: NpyStore>(
     value: &Value,
     out: &mut Vec<u8>,
 ) -> Result<(), Refusal>
-    ensures answers { Carried (BindCase (world bench.old (N.shelf store.old)) name.now value.now (world bench.new (N.shelf store.new)))
+    ensures answers { Carried (MayAnswerBind (world bench.old (N.shelf store.old)) name.now value.now (world bench.new (N.shelf store.new)))
         out.old.items out.new.items result }
     ensures room { vec_capacity out.old ≤ vec_capacity out.new }
 {
@@ -120,7 +120,7 @@ fn perform<N: NpyStore>(
     out: &mut Vec<u8>,
 ) -> Result<(), Refusal>
     requires room { vec_len out.old + 64 ≤ vec_capacity out.old }
-    ensures answers { Carried (WorldCase (world bench.old (N.shelf store.old)) command.now (world bench.new (N.shelf store.new)))
+    ensures answers { Carried (MayAnswer (world bench.old (N.shelf store.old)) command.now (world bench.new (N.shelf store.new)))
         out.old.items out.new.items result }
     ensures room { vec_capacity out.old ≤ vec_capacity out.new }
 {
@@ -153,7 +153,7 @@ pub fn execute<N: NpyStore>(
     requires room { vec_len out.old + 64 ≤ vec_capacity out.old }
     ensures case { (reply : Reply) × (out.new.items ≡ out.old.items ++ reply.text)
         × (reply.accepted ≡ result)
-        × WorldCase (world bench.old (N.shelf store.old)) command.now (world bench.new (N.shelf store.new)) reply }
+        × MayAnswer (world bench.old (N.shelf store.old)) command.now (world bench.new (N.shelf store.new)) reply }
     ensures room { vec_capacity out.old ≤ vec_capacity out.new }
 {
     let before = out.len();

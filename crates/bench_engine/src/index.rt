@@ -8,11 +8,11 @@ ghost use Rattle.view_ops.specs.Basics.{basic};
 ghost use Rattle.view_ops.specs.Views.{GivesView, KeepsNested};
 ghost use Rattle.fancy_index.specs.IndexArrays.{with_array, with_arrays};
 ghost use Rattle.fancy_index.specs.Plans.{GivesPlan};
-ghost use Rattle.fancy_index.specs.Sources.{array_of, LiesInBlock, IsNamed};
+ghost use Rattle.fancy_index.specs.Sources.{index_array_of, LiesInBlock, IsNamed};
 ghost use Rattle.name_store.specs.Arrays.{is_bound};
 ghost use Rattle.name_store.specs.Shown.{Shows};
 ghost use Rattle.name_store.specs.States.{Array};
-ghost use Rattle.bench_engine.specs.IndexLists.{names_in_item, names_in_index, with_items, gathered};
+ghost use Rattle.bench_engine.specs.IndexLists.{names_in_item, names_in_index, array_by_items, gathered};
 ghost use Rattle.bench_engine.specs.inside.Numbers.{Extends};
 
 use elem_descr::Refusal;
@@ -73,7 +73,7 @@ fn numbered<'a>(
 ) -> Result<IndexItem<usize>, AllocError>
     requires bound { list_all (is_bound bench.now) (names_in_item item.now) ≡ true }
     requires lie { All LiesInBlock arrays.old.items }
-    ensures item { IfOk result (λ k. with_array (map array_of arrays.new.items) k ≡ with_items bench.now item.now) }
+    ensures item { IfOk result (λ k. with_array (map index_array_of arrays.new.items) k ≡ array_by_items bench.now item.now) }
     ensures named { IfOk result (IsNamed (length arrays.new.items)) }
     ensures kept { Extends arrays.old.items arrays.new.items }
     ensures lie { All LiesInBlock arrays.new.items }
@@ -114,7 +114,7 @@ fn with_numbers<'a>(
     index: &[IndexItem<Name>],
 ) -> Result<NumberedList<'a>, AllocError>
     requires bound { list_all (is_bound bench.now) (names_in_index index.now) ≡ true }
-    ensures items { IfOk result (λ list. with_arrays (map array_of list.arrays.items) list.items.items ≡ map (with_items bench.now) index.now) }
+    ensures items { IfOk result (λ list. with_arrays (map index_array_of list.arrays.items) list.items.items ≡ map (array_by_items bench.now) index.now) }
     ensures named { IfOk result (λ list. All (IsNamed (length list.arrays.items)) list.items.items) }
     ensures lie { IfOk result (λ list. All LiesInBlock list.arrays.items) }
 {

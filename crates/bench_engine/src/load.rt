@@ -7,7 +7,7 @@ ghost use Rattle.bench_engine.specs.declared.replies.Origin.TheVariants as origi
 ghost use Rattle.bench_engine.specs.Replies.{bound_text};
 ghost use Rattle.bench_engine.specs.Worlds.{world};
 ghost use Rattle.bench_engine.specs.Loads.{bound_loaded};
-ghost use Rattle.bench_engine.specs.Meanings.{LoadCase};
+ghost use Rattle.bench_engine.specs.Meanings.{MayAnswerLoad};
 ghost use Rattle.bench_engine.specs.inside.OwnContents.{held};
 ghost use Rattle.bench_engine.specs.inside.Contract.{CarriesOut, Carried};
 ghost use Rattle.bench_engine.specs.inside.LoadedFiles.{Finds};
@@ -101,7 +101,7 @@ pub fn load<N: NpyStore>(
     out: &mut Vec<u8>,
 ) -> Result<(), Refusal>
     ensures room { vec_capacity out.old ≤ vec_capacity out.new }
-    ensures answers { Carried (LoadCase (world bench.old (N.shelf store.old)) name.now file.now (world bench.new (N.shelf store.new)))
+    ensures answers { Carried (MayAnswerLoad (world bench.old (N.shelf store.old)) name.now file.now (world bench.new (N.shelf store.new)))
         out.old.items out.new.items result }
 {
     if !bench.has_room_for(name) {

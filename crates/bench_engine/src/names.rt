@@ -2,7 +2,7 @@
 ghost use Rattle.std.specs.Prelude.{◌≡◌, ◌≤◌, ◌++◌, true, codes, OnOk, vec_capacity};
 ghost use Rattle.std.specs.Io.{StartsWith};
 ghost use Rattle.bench_engine.specs.inside.Contract.{CarriesOut};
-ghost use Rattle.bench_engine.specs.Machine.{comes_to};
+ghost use Rattle.bench_engine.specs.Machine.{accepted_with};
 ghost use Rattle.bench_engine.specs.Replies.{names_text};
 
 use elem_descr::Refusal;
@@ -35,7 +35,7 @@ fn push_names(bench: &Bench, out: &mut Vec<u8>) -> Result<(), AllocError>
 /// Tells the names in the order in which they were first bound.
 pub fn names(bench: &Bench, out: &mut Vec<u8>) -> Result<(), Refusal>
     ensures room { vec_capacity out.old ≤ vec_capacity out.new }
-    ensures answers { CarriesOut true (λ choice. comes_to bench.now (names_text bench.now))
+    ensures answers { CarriesOut true (λ choice. accepted_with bench.now (names_text bench.now))
         bench.now bench.now out.old.items out.new.items result }
 {
     push_names(bench, out)?;

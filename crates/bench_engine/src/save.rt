@@ -2,7 +2,7 @@
 ghost use Rattle.std.specs.Prelude.{◌≡◌, ◌≤◌, ◌+◌, ◌++◌, codes, decimal, vec_len, vec_capacity};
 ghost use Rattle.npy_files.specs.Stores.{IsSameStore};
 ghost use Rattle.bench_engine.specs.Worlds.{world};
-ghost use Rattle.bench_engine.specs.Meanings.{SaveCase};
+ghost use Rattle.bench_engine.specs.Meanings.{MayAnswerSave};
 ghost use Rattle.bench_engine.specs.inside.Contract.{Carried};
 ghost use Rattle.bench_engine.specs.inside.SavedFiles.{Puts};
 
@@ -55,7 +55,7 @@ pub fn save<N: NpyStore>(
 ) -> Result<(), Refusal>
     requires room { vec_len out.old + 64 ≤ vec_capacity out.old }
     ensures room { vec_capacity out.old ≤ vec_capacity out.new }
-    ensures answers { Carried (SaveCase (world bench.now (N.shelf store.old)) name.now file.now (world bench.now (N.shelf store.new)))
+    ensures answers { Carried (MayAnswerSave (world bench.now (N.shelf store.old)) name.now file.now (world bench.now (N.shelf store.new)))
         out.old.items out.new.items result }
 {
     let Some(array) = bench.get(name) else {

@@ -2,7 +2,7 @@
 ghost use Rattle.std.specs.Prelude.{◌≡◌, ◌≤◌, ◌<◌, ◌+◌, ◌^◌, ◌++◌, [], ◌∷◌, List, ℕ, Option, length, OnOk, OnErr, IfOk, nat_eq, false};
 ghost use Rattle.std.specs.List.{position};
 ghost use Rattle.bench_engine.specs.Outside.{AnswersInPart};
-ghost use Rattle.bench_engine.specs.Lines.{ended, lines, whole_lines};
+ghost use Rattle.bench_engine.specs.Lines.{ended_lines, lines, whole_lines};
 ghost use Rattle.bench_engine.specs.Meanings.{AnswersLine};
 ghost use Rattle.bench_engine.specs.inside.Sessions.{HoldsPiece, HasRoom, FedMachine, Told, ToldInPart, AnswersHeld, HasTold, IsNew};
 ghost use Rattle.bench_engine.specs.Worlds.{World, world};
@@ -92,7 +92,7 @@ impl Session {
     ) -> Result<(), WriteFault>
         requires room { HasRoom self.old }
         requires few { self.old.accepted + self.old.refused < 2 ^ 50 }
-        requires one { ended piece.now ≡ [] }
+        requires one { ended_lines piece.now ≡ [] }
         ensures room { HasRoom self.new }
         ensures few { self.new.accepted + self.new.refused ≤ self.old.accepted + self.old.refused + 1 }
         ensures ok { OnOk result ((first : World) (before : Option (List ℕ)) (read : List ℕ) →

@@ -7,7 +7,7 @@ ghost use Rattle.name_store.specs.Arrays.{is_bound};
 ghost use Rattle.name_store.specs.Shown.{Shows};
 ghost use Rattle.name_store.specs.States.{Array};
 ghost use Rattle.bench_engine.specs.IndexLists.{names_in_index};
-ghost use Rattle.bench_engine.specs.Machine.{new_items, write_outcome, written_text, names_in_argument};
+ghost use Rattle.bench_engine.specs.Machine.{new_items, write_outcome, write_reply, names_in_argument};
 ghost use Rattle.bench_engine.specs.inside.Assigns.{IsTarget, GivesItems};
 ghost use Rattle.bench_engine.specs.inside.Contract.{CarriesOut};
 
@@ -26,7 +26,7 @@ use std::alloc::Global;
 fn push_count(out: &mut Vec<u8>, operation: Option<Operation>, count: usize)
     requires count { count ≤ max_items }
     requires room { vec_len out.old + 64 ≤ vec_capacity out.old }
-    ensures told { out.new.items ≡ out.old.items ++ written_text operation count }
+    ensures told { out.new.items ≡ out.old.items ++ write_reply operation count }
     ensures room { vec_capacity out.old ≤ vec_capacity out.new }
 {
     let mut buffer = Buffer::new();

@@ -11,7 +11,7 @@ ghost use Rattle.script_lang.specs.declared.command.Argument.TheVariants as argu
 ghost use Rattle.name_store.specs.Arrays.{is_bound};
 ghost use Rattle.name_store.specs.Shown.{Shows};
 ghost use Rattle.name_store.specs.States.{Array};
-ghost use Rattle.bench_engine.specs.Machine.{Values, argument_values, literal_values, changed_by, changed_with, updated, names_in_argument};
+ghost use Rattle.bench_engine.specs.Machine.{OperandValues, argument_values, literal_values, updated_items, changed_with, updated, names_in_argument};
 ghost use Rattle.bench_engine.specs.inside.Assigns.{IsTarget};
 ghost use Rattle.bench_engine.specs.inside.Operands.{LieInside, Stands, GivesChanged};
 
@@ -52,8 +52,8 @@ fn changed_by_items(
     requires few { count old.layout.now.shape * item_size old.descr.now ≤ max_bytes }
     requires inside { LieInside old }
     requires also { LieInside items }
-    ensures { (v w : Values) → Stands v old.entry → Stands w items.entry
-        → GivesChanged old.entry.descr.now (count v.shape) result (changed_by operation old.entry.descr.now v w) }
+    ensures { (v w : OperandValues) → Stands v old.entry → Stands w items.entry
+        → GivesChanged old.entry.descr.now (count v.shape) result (updated_items operation old.entry.descr.now v w) }
 {
     let scalar = result_scalar(operation, old.descr, items.descr)?;
     same_kind(scalar, scalar_of(old.descr)?)?;
@@ -71,7 +71,7 @@ fn changed_by_literal(
 ) -> Result<Owned, Refusal>
     requires few { count old.layout.now.shape * item_size old.descr.now ≤ max_bytes }
     requires inside { LieInside old }
-    ensures { (v : Values) → Stands v old.entry → GivesChanged old.entry.descr.now (count v.shape) result
+    ensures { (v : OperandValues) → Stands v old.entry → GivesChanged old.entry.descr.now (count v.shape) result
         (changed_with operation old.entry.descr.now v (literal_values operation old.entry.descr.now literal.now)) }
 {
     // What is known of a shape comes with this call.
@@ -93,7 +93,7 @@ fn changed_by_operand(
     requires bound { list_all (is_bound bench.now) (names_in_argument (argument.Operand operand.now)) ≡ true }
     requires few { count old.layout.now.shape * item_size old.descr.now ≤ max_bytes }
     requires inside { LieInside old }
-    ensures { (v : Values) → Stands v old.entry → GivesChanged old.entry.descr.now (count v.shape) result
+    ensures { (v : OperandValues) → Stands v old.entry → GivesChanged old.entry.descr.now (count v.shape) result
         (changed_with operation old.entry.descr.now v (argument_values bench.now operation old.entry.descr.now (argument.Operand operand.now))) }
 {
     let array = bench.get(&operand.name).unwrap();
@@ -112,7 +112,7 @@ fn changed(
     requires bound { list_all (is_bound bench.now) (names_in_argument value.now) ≡ true }
     requires few { count old.layout.now.shape * item_size old.descr.now ≤ max_bytes }
     requires inside { LieInside old }
-    ensures { (v : Values) → Stands v old.entry → GivesChanged old.entry.descr.now (count v.shape) result
+    ensures { (v : OperandValues) → Stands v old.entry → GivesChanged old.entry.descr.now (count v.shape) result
         (changed_with operation old.entry.descr.now v (argument_values bench.now operation old.entry.descr.now value.now)) }
 {
     match value {

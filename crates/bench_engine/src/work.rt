@@ -14,7 +14,7 @@ ghost use Rattle.script_lang.specs.declared.literal.ScalarLiteral.TheVariants.{B
 ghost use Rattle.script_lang.specs.declared.command.Argument.TheVariants as argument;
 ghost use Rattle.script_lang.specs.declared.operation.Operation.TheVariants as operation;
 ghost use Rattle.name_store.specs.Arrays.{is_bound};
-ghost use Rattle.bench_engine.specs.Machine.{Values, literal_value, literal_scalar, worked_literal, compared_literal, literal_values, argument_values, names_in_argument, result_scalar, worked, worked_with};
+ghost use Rattle.bench_engine.specs.Machine.{OperandValues, literal_value, literal_scalar, operand_of_literal, compared_literal, literal_values, argument_values, names_in_argument, operation_scalar, operation_on, operation_with};
 ghost use Rattle.bench_engine.specs.inside.Operands.{Stands, GivesStanding};
 ghost use Rattle.bench_engine.specs.inside.OwnContents.{held, IsInCOrder};
 
@@ -45,7 +45,7 @@ pub fn items_of(owned: &Owned) -> Items<'_>
 
 /// The type of what an operation gives on items of two types.
 pub fn result_scalar(operation: Operation, left: &Descr, right: &Descr) -> Result<Scalar, Refusal>
-    ensures { Answers (λ s. s) result (result_scalar operation left.now right.now) }
+    ensures { Answers (λ s. s) result (operation_scalar operation left.now right.now) }
 {
     let from = scalar_of(left)?;
     let other = scalar_of(right)?;
@@ -64,7 +64,7 @@ pub fn work(
 ) -> Result<Owned, Refusal>
     requires left { All (λ offset. offset + item_size left.descr.now ≤ length left.block.now) (offsets left.layout.now) }
     requires right { All (λ offset. offset + item_size right.descr.now ≤ length right.block.now) (offsets right.layout.now) }
-    ensures gives { (v w : Values) → Stands v left.entry → Stands w right.entry → Gives held result (worked operation v w) }
+    ensures gives { (v w : OperandValues) → Stands v left.entry → Stands w right.entry → Gives held result (operation_on operation v w) }
     ensures order { IfOk result IsInCOrder }
 {
     match operation {
@@ -121,7 +121,7 @@ fn worked_literal(
     descr: &Descr,
     literal: &Literal,
 ) -> Result<Owned, Refusal>
-    ensures { GivesStanding result (worked_literal op descr.now literal.now) }
+    ensures { GivesStanding result (operand_of_literal op descr.now literal.now) }
 {
     let beside = scalar_of(descr)?;
     let scalar = literal_scalar(&beside, literal)?;
@@ -177,7 +177,7 @@ fn compare_literal(
     literal: &Literal,
 ) -> Result<Owned, Refusal>
     requires left { All (λ offset. offset + item_size left.descr.now ≤ length left.block.now) (offsets left.layout.now) }
-    ensures gives { (v : Values) → Stands v left.entry → Gives held result (worked_with (operation.Compare comparison) v (compared_literal v.descr literal.now)) }
+    ensures gives { (v : OperandValues) → Stands v left.entry → Gives held result (operation_with (operation.Compare comparison) v (compared_literal v.descr literal.now)) }
     ensures order { IfOk result IsInCOrder }
 {
     let Literal::Scalar(literal) = literal else {
@@ -200,7 +200,7 @@ pub fn work_literal(
     literal: &Literal,
 ) -> Result<Owned, Refusal>
     requires left { All (λ offset. offset + item_size left.descr.now ≤ length left.block.now) (offsets left.layout.now) }
-    ensures gives { (v : Values) → Stands v left.entry → Gives held result (worked_with operation v (literal_values operation v.descr literal.now)) }
+    ensures gives { (v : OperandValues) → Stands v left.entry → Gives held result (operation_with operation v (literal_values operation v.descr literal.now)) }
     ensures order { IfOk result IsInCOrder }
 {
     match operation {
@@ -224,7 +224,7 @@ fn work_operand(
 ) -> Result<Owned, Refusal>
     requires bound { list_all (is_bound bench.now) (names_in_argument (argument.Operand operand.now)) ≡ true }
     requires left { All (λ offset. offset + item_size left.descr.now ≤ length left.block.now) (offsets left.layout.now) }
-    ensures { (v : Values) → Stands v left.entry → Gives held result (worked_with operation v (argument_values bench.now operation v.descr (argument.Operand operand.now))) }
+    ensures { (v : OperandValues) → Stands v left.entry → Gives held result (operation_with operation v (argument_values bench.now operation v.descr (argument.Operand operand.now))) }
 {
     let array = bench.get(&operand.name).unwrap();
     let taken = operand_items(alloc, bench, &array, &operand.index)?;
@@ -241,7 +241,7 @@ pub fn work_argument(
 ) -> Result<Owned, Refusal>
     requires bound { list_all (is_bound bench.now) (names_in_argument right.now) ≡ true }
     requires left { All (λ offset. offset + item_size left.descr.now ≤ length left.block.now) (offsets left.layout.now) }
-    ensures { (v : Values) → Stands v left.entry → Gives held result (worked_with operation v (argument_values bench.now operation v.descr right.now)) }
+    ensures { (v : OperandValues) → Stands v left.entry → Gives held result (operation_with operation v (argument_values bench.now operation v.descr right.now)) }
 {
     match right {
         Argument::Literal(literal) => work_literal(alloc, operation, left, literal),

@@ -5,7 +5,7 @@ ghost use Rattle.disk.specs.declared.disk.DiskFault.TheVariants.{Failed};
 ghost use Rattle.disk.specs.Files.{SameBut};
 ghost use Rattle.disk.specs.Crashes.{Leaves};
 ghost use Rattle.disk.specs.Calls.{HasCause, HasRisen, Replaces};
-ghost use Rattle.disk.specs.Changes.{after, shown, history_of, IsFound};
+ghost use Rattle.disk.specs.Changes.{after, bytes_of_change, history_of, IsFound};
 
 use crate::disk::{Disk, DiskFault};
 use std::alloc::{AllocError, Global};
@@ -68,7 +68,7 @@ fn bind(
     name: &[u8],
     bytes: Option<Vec<u8>>,
 ) -> Result<(), AllocError>
-    ensures bound { OnOk result (get (after changes.new.items) name.now ≡ shown bytes) }
+    ensures bound { OnOk result (get (after changes.new.items) name.now ≡ bytes_of_change bytes) }
     ensures others { SameBut name.now (after changes.old.items) (after changes.new.items) }
     ensures crash { Leaves (SameBut name.now) (history_of changes.old.items) (history_of changes.new.items) }
 {

@@ -11,7 +11,7 @@ use Rattle.elem_descr.specs.Encoding.{size}
 use Rattle.elem_descr.specs.Fields.{Structure}
 use Rattle.elem_descr.specs.Descriptors.{IsLegal, InOrder, fields_of, listed, before, leaf_count}
 use Rattle.elem_descr.specs.inside.Records.{IsRecord}
-use Rattle.elem_descr.specs.Items.{item_size, leaves_of, leaves_from, leaves_in, fields, no_field, field_at, no_leaf, moved, AreApart, AreInOrder}
+use Rattle.elem_descr.specs.Items.{item_size, leaves_of, leaves_from, leaves_in, fields, no_field, field_at, no_leaf, moved_leaf, LeavesInOrder, AreInOrder}
 use Rattle.elem_descr.specs.ItemLaws.{entry_within, leaf_within, leaves_in_order, length-leaves_from, leaf_count-before, leaves_from-before}
 use Rattle.elem_descr.specs.DescriptorLaws.{field_within, rest_at, listed-fields_of, some_leaves}
 
@@ -44,17 +44,17 @@ leaf_begins from leaves bytes k leaf order l e =
 
 -- ---- the leaves of an item
 
-in_order_apart : (descr : Descr) → AreInOrder 0 (leaves_of descr) (item_size descr) → AreApart descr
+in_order_apart : (descr : Descr) → AreInOrder 0 (leaves_of descr) (item_size descr) → LeavesInOrder descr
 in_order_apart descr order = record {
   some = λ k l. entry_some 0 (leaves_of descr) (item_size descr) k no_leaf order l;
   within = λ k l. entry_within 0 (leaves_of descr) (item_size descr) k no_leaf order l;
   apart = λ j k less l. one_before 0 (leaves_of descr) (item_size descr) j k no_leaf order less l;
 }
 
-pub scalar_apart : (descr : Descr) (scalar : Scalar) → descr ≡ ScalarDescr scalar → 1 ≤ size scalar → AreApart descr
+pub scalar_apart : (descr : Descr) (scalar : Scalar) → descr ≡ ScalarDescr scalar → 1 ≤ size scalar → LeavesInOrder descr
 scalar_apart descr scalar is some = rw is (in_order_apart (ScalarDescr scalar) (omega arith, some, omega arith))
 
-pub record_apart : (descr : Descr) (structure : Structure) → descr ≡ RecordDescr structure → IsLegal structure → AreApart descr
+pub record_apart : (descr : Descr) (structure : Structure) → descr ≡ RecordDescr structure → IsLegal structure → LeavesInOrder descr
 record_apart descr structure is legal = rw is (in_order_apart (RecordDescr structure) (leaves_in_order structure legal))
 
 -- ---- fields one by one
@@ -87,7 +87,7 @@ kept_few size fields leaves h = omega (arith, kept_count size fields leaves h, h
 
 -- ---- the fields that are left
 
-pub leaves_before : (field : Field) (fields : List Field) → leaves_from 0 (listed (field ∷ fields)) ≡ map (moved field.at) (leaves_of field.descr) ++ leaves_from 0 (listed fields)
+pub leaves_before : (field : Field) (fields : List Field) → leaves_from 0 (listed (field ∷ fields)) ≡ map (moved_leaf field.at) (leaves_of field.descr) ++ leaves_from 0 (listed fields)
 leaves_before field fields =
     let none : 0 + field.at ≡ field.at = omega arith in
     rw none at (leaves_from-before 0 field.name field.at field.descr (listed fields))
@@ -103,17 +103,17 @@ leaves_of_one [] k field l is = absurd (omega arith)
 leaves_of_one (first ∷ fields) zero field l is = rw is (omega arith)
 leaves_of_one (first ∷ fields) (suc k) field l is = omega (arith, leaves_of_one fields k field (omega arith) is)
 
-pub leaves_at_one : (fields : List Field) (k : ℕ) (field : Field) → k < length fields → field ≡ get_or fields k field → take (length (leaves_of field.descr)) (drop (leaves_in (take k fields)) (leaves_from 0 (listed fields))) ≡ map (moved field.at) (leaves_of field.descr)
+pub leaves_at_one : (fields : List Field) (k : ℕ) (field : Field) → k < length fields → field ≡ get_or fields k field → take (length (leaves_of field.descr)) (drop (leaves_in (take k fields)) (leaves_from 0 (listed fields))) ≡ map (moved_leaf field.at) (leaves_of field.descr)
 leaves_at_one [] k field l is = absurd (omega arith)
 leaves_at_one (first ∷ fields) zero field l is =
-    let front = map (moved first.at) (leaves_of first.descr) in
+    let front = map (moved_leaf first.at) (leaves_of first.descr) in
     let all = leaves_before first fields in
-    let many = length-map (leaves_of first.descr) (moved first.at) in
+    let many = length-map (leaves_of first.descr) (moved_leaf first.at) in
     rw (is, all, ← many) (take-append_seam front (leaves_from 0 (listed fields)))
 leaves_at_one (first ∷ fields) (suc k) field l is =
-    let front = map (moved first.at) (leaves_of first.descr) in
+    let front = map (moved_leaf first.at) (leaves_of first.descr) in
     let all = leaves_before first fields in
-    let many = length-map (leaves_of first.descr) (moved first.at) in
+    let many = length-map (leaves_of first.descr) (moved_leaf first.at) in
     rw (all, ← many, drop-append-add front (leaves_from 0 (listed fields)) (leaves_in (take k fields))) (leaves_at_one fields k field (omega arith) is)
 
 -- the leaves of a descriptor that has fields

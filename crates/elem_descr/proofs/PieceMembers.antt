@@ -18,7 +18,7 @@ use Rattle.elem_descr.specs.Refusals.{◌>>=◌}
 use Rattle.elem_descr.specs.TypeStrings.{is_one_of}
 use Rattle.elem_descr.specs.FormatLetters.{is_empty, mark_meant, number_letter, count_of, text_member, is_left_out, lettered}
 use Rattle.elem_descr.specs.FormatPieces.{Behind, nothing, between_colons, lone_colon, Piece, letter, opening, is_colon, pieces}
-use Rattle.elem_descr.specs.FormatTexts.{Part, member, part_of}
+use Rattle.elem_descr.specs.FormatTexts.{PieceKind, member, part_of}
 use Rattle.elem_descr.specs.DescrTexts.{begins_with_digit}
 use Rattle.elem_descr.specs.inside.Turns.{after, is_opened, lettered_before, after_count, member_at}
 use Rattle.elem_descr.proofs.Fronts.{front_passes}
@@ -104,7 +104,7 @@ part_single mark b lone_colon unmarked unclosed = rw unclosed refl
 
 -- what a list of pieces begins with, read under a mark
 abbrev pub Then : Type 0
-Then = Part → List Piece → Result Descr Refusal
+Then = PieceKind → List Piece → Result Descr Refusal
 
 abbrev pub front : Mark → Then → List Piece → Result Descr Refusal
 front mark later [] = Err BadDescriptor

@@ -26,10 +26,10 @@ use Rattle.elem_descr.specs.Fields.{Fields, no_more, scalar_field, record_field,
 use Rattle.elem_descr.specs.Names.{is_legal_name}
 use Rattle.elem_descr.specs.Descriptors.{IsLegal, AreNamedWithin, InOrder, fields_of, listed, names_of, depth, leaf_count}
 use Rattle.elem_descr.specs.Items.{item_size, leaves_of, leaves_from}
-use Rattle.elem_descr.specs.FormatLetters.{own_alignment, aligned}
+use Rattle.elem_descr.specs.FormatLetters.{own_alignment, aligned_to}
 use Rattle.elem_descr.specs.FormatRecords.{Partial, is_taken, checked_name, added, widened, closed_size, closed_record}
 use Rattle.elem_descr.specs.FormatTexts.{format}
-use Rattle.elem_descr.specs.inside.Turns.{format_in_turns, member_at, Reader, is_named, marked, closing, scalar_in, pad_in, body_in, field_at, turn, members, record_within, ended, scalar_alone, record_alone, alone}
+use Rattle.elem_descr.specs.inside.Turns.{format_in_turns, member_at, Reader, is_named, marked, closing, scalar_in, pad_in, body_in, next_field, turn, members, record_within, nothing_follows, scalar_alone, record_alone, alone}
 use Rattle.elem_descr.specs.WrittenFormats.{written_mark, written_count, written_letter, written_scalar, written_pad, written_name, braced, written_fields, written_format}
 use Rattle.elem_descr.proofs.Binds.{after_ok}
 use Rattle.elem_descr.proofs.Decimals.{digits-decimal}
@@ -45,7 +45,7 @@ packed levels leaves bytes done = record { size = bytes; alignment = 1; leaves =
 multiple_of_one : (n : ℕ) → next_multiple_of n 1 ≡ n
 multiple_of_one n = omega arith
 
-unaligned : (scalar : Scalar) → aligned (mark_of scalar) (own_alignment scalar) ≡ 1
+unaligned : (scalar : Scalar) → aligned_to (mark_of scalar) (own_alignment scalar) ≡ 1
 unfolding mark_of
 unaligned BoolScalar = refl
 unaligned (Byte signed) = refl
@@ -53,7 +53,7 @@ unaligned (Int signed width Little) = refl
 unaligned (Int signed width Big) = refl
 unaligned (Bytes n) = refl
 
-packed_body : (mark : Mark) → aligned mark 1 ≡ 1
+packed_body : (mark : Mark) → aligned_to mark 1 ≡ 1
 packed_body Aligned = refl
 packed_body Native = refl
 packed_body LittleMark = refl
@@ -85,27 +85,27 @@ record MayGrow (leaves from : ℕ) (done : List Field) (name : List ℕ) (descr 
   counted : leaves + length (leaves_of descr) ≤ 2048
 
 -- one scalar is one turn
-reads_field : (within : Reader) (levels leaves from : ℕ) (done : List Field) (name : List ℕ) (scalar : Scalar) (rest : List ℕ) → MayGrow leaves from done name (ScalarDescr scalar) → field_at within (mark_of scalar) (packed levels leaves from done) (written_count scalar ++ (written_letter scalar ++ (58 ∷ (name ++ 58 ∷ rest)))) ≡ Ok (grown levels leaves from done name (ScalarDescr scalar), mark_of scalar, rest)
-unfolding field_at scalar_in
+reads_field : (within : Reader) (levels leaves from : ℕ) (done : List Field) (name : List ℕ) (scalar : Scalar) (rest : List ℕ) → MayGrow leaves from done name (ScalarDescr scalar) → next_field within (mark_of scalar) (packed levels leaves from done) (written_count scalar ++ (written_letter scalar ++ (58 ∷ (name ++ 58 ∷ rest)))) ≡ Ok (grown levels leaves from done name (ScalarDescr scalar), mark_of scalar, rest)
+unfolding next_field scalar_in
 reads_field within levels leaves from done name scalar rest may =
     let member = reads_scalar scalar (58 ∷ (name ++ 58 ∷ rest)) may.some (omega (arith, may.small)) in
     let called = reads_name (length done) name rest may.legal in
     let allowed = name_ok (packed levels leaves from done) name may.new may.few in
-    let added = added_ok levels leaves from done name (aligned (mark_of scalar) (own_alignment scalar)) (ScalarDescr scalar) (unaligned scalar) may.counted may.small in
+    let added = added_ok levels leaves from done name (aligned_to (mark_of scalar) (own_alignment scalar)) (ScalarDescr scalar) (unaligned scalar) may.counted may.small in
     after_ok _ _ _ member ∙ after_ok _ _ _ called ∙ after_ok _ _ _ allowed ∙ after_ok _ _ _ added
 
 -- so is a record
-reads_body : (within : Reader) (mark later : Mark) (levels leaves from : ℕ) (done : List Field) (name : List ℕ) (structure : Structure) (text rest : List ℕ) → MayGrow leaves from done name (RecordDescr structure) → within mark leaves text ≡ Ok (record { whole = structure; alignment = 1; mark = later }, 58 ∷ (name ++ 58 ∷ rest)) → field_at within mark (packed levels leaves from done) (84 ∷ (123 ∷ text)) ≡ Ok (grown levels leaves from done name (RecordDescr structure), later, rest)
-unfolding field_at body_in
+reads_body : (within : Reader) (mark later : Mark) (levels leaves from : ℕ) (done : List Field) (name : List ℕ) (structure : Structure) (text rest : List ℕ) → MayGrow leaves from done name (RecordDescr structure) → within mark leaves text ≡ Ok (record { whole = structure; alignment = 1; mark = later }, 58 ∷ (name ++ 58 ∷ rest)) → next_field within mark (packed levels leaves from done) (84 ∷ (123 ∷ text)) ≡ Ok (grown levels leaves from done name (RecordDescr structure), later, rest)
+unfolding next_field body_in
 reads_body within mark later levels leaves from done name structure text rest may body =
     let called = reads_name (length done) name rest may.legal in
     let allowed = name_ok (packed levels leaves from done) name may.new may.few in
-    let added = added_ok levels leaves from done name (aligned mark 1) (RecordDescr structure) (packed_body mark) may.counted may.small in
+    let added = added_ok levels leaves from done name (aligned_to mark 1) (RecordDescr structure) (packed_body mark) may.counted may.small in
     after_ok _ _ _ body ∙ after_ok _ _ _ called ∙ after_ok _ _ _ allowed ∙ after_ok _ _ _ added
 
 -- and a gap
-reads_gap : (within : Reader) (mark : Mark) (n levels leaves from : ℕ) (done : List Field) (rest : List ℕ) → from + n ≤ 65536 → is_named rest ≡ false → field_at within mark (packed levels leaves from done) (decimal n ++ 120 ∷ rest) ≡ Ok (packed levels leaves (from + n) done, mark, rest)
-unfolding field_at pad_in widened
+reads_gap : (within : Reader) (mark : Mark) (n levels leaves from : ℕ) (done : List Field) (rest : List ℕ) → from + n ≤ 65536 → is_named rest ≡ false → next_field within mark (packed levels leaves from done) (decimal n ++ 120 ∷ rest) ≡ Ok (packed levels leaves (from + n) done, mark, rest)
+unfolding next_field pad_in widened
 reads_gap within mark n levels leaves from done rest small unnamed =
     after_ok _ _ _ (reads_pad mark n rest (omega arith)) ∙ rw (le-leb (from + n) 65536 small, unnamed) refl
 
@@ -114,7 +114,7 @@ abbrev Reads : Reader → Mark → Partial → List ℕ → Body × List ℕ →
 Reads within mark p text r = (turns : ℕ) → length text ≤ turns → members within turns mark p text ≡ Ok r
 
 -- a member and those after it
-reads_more : (within : Reader) (mark now later : Mark) (p next : Partial) (text unread rest : List ℕ) (r : Body × List ℕ) → marked mark text ≡ (now, unread) → closing unread ≡ None → field_at within now p unread ≡ Ok (next, later, rest) → length rest < length text → Reads within later next rest r → Reads within mark p text r
+reads_more : (within : Reader) (mark now later : Mark) (p next : Partial) (text unread rest : List ℕ) (r : Body × List ℕ) → marked mark text ≡ (now, unread) → closing unread ≡ None → next_field within now p unread ≡ Ok (next, later, rest) → length rest < length text → Reads within later next rest r → Reads within mark p text r
 reads_more within mark now later p next text unread rest r marks no_brace field shorter more zero l = absurd (omega arith)
 reads_more within mark now later p next text unread rest r marks no_brace field shorter more (suc turns) l =
     ap (λ (m : Mark × List ℕ). turn within m.0 p (closing m.1) m.1 (λ q. members within turns q.1 q.0 q.2)) marks
@@ -345,7 +345,7 @@ reads_fields (record_field name at size inner more) (suc levels) mark leaves fro
 
 -- a record alone
 reads_record : (s : Structure) → IsLegal s → format_in_turns (written_format (RecordDescr s)) ≡ Ok (RecordDescr s)
-unfolding record_alone ended
+unfolding record_alone nothing_follows
 reads_record s h =
     let text = written_fields 0 s.fields s.size ++ 125 ∷ [] in
     let may : MayRead 3 0 0 s.size [] s.fields =
@@ -369,7 +369,7 @@ abbrev unmarked_format : Mark × List ℕ → Result Descr Refusal
 unmarked_format m = member_at m.0 m.1 >>= λ member. alone m.0 member.0 member.1
 
 reads_scalar_alone : (scalar : Scalar) → 1 ≤ size scalar → size scalar ≤ 65536 → format_in_turns (written_format (ScalarDescr scalar)) ≡ Ok (ScalarDescr scalar)
-unfolding scalar_alone ended
+unfolding scalar_alone nothing_follows
 reads_scalar_alone scalar some small =
     let text : written_scalar scalar ≡ written_mark scalar ++ (written_count scalar ++ (written_letter scalar ++ [])) = simp (append_assoc, append-nil) in
     ap format_in_turns text ∙ ap unmarked_format (after_letter Aligned scalar [] some small) ∙ after_ok _ _ _ (reads_scalar scalar [] some small)

@@ -20,8 +20,8 @@ use Rattle.elem_descr.specs.TypeStrings.{is_one_of}
 use Rattle.elem_descr.specs.FormatLetters.{is_empty, mark_meant, letters, number_letter, count_of, text_member, is_left_out, lettered}
 use Rattle.elem_descr.specs.FormatRecords.{empty}
 use Rattle.elem_descr.specs.FormatPieces.{Behind, nothing, between_colons, lone_colon, Piece, letter, is_colon, pieces}
-use Rattle.elem_descr.specs.FormatTexts.{part_of, unnamed, Reading, begun, complete, beyond, at_begin, closed_in, at_end, step, read_on, format}
-use Rattle.elem_descr.specs.inside.Turns.{after, marked, is_named, is_opened, lettered_before, after_count, member_at, record_within, ended, scalar_alone, record_alone, alone, format_in_turns}
+use Rattle.elem_descr.specs.FormatTexts.{part_of, unnamed, Reading, begun, complete, beyond, at_begin, closed_in, behind_member, step, read_on, format}
+use Rattle.elem_descr.specs.inside.Turns.{after, marked, is_named, is_opened, lettered_before, after_count, member_at, record_within, nothing_follows, scalar_alone, record_alone, alone, format_in_turns}
 use Rattle.elem_descr.proofs.Pieces.{name_end, behind_colon, behind, behind-colon, pieces-letter, some_piece}
 use Rattle.elem_descr.proofs.PieceMembers.{bind_bind, bind_same, one_of_one, sign_cases, Then, front, met, meant, member_met}
 use Rattle.elem_descr.proofs.SameMembers.{marked_none, Unmarked, unmarked, sign_letter, marks_begun, marks_beyond, marks_read, behind_bare, unnamed_same, members_same}
@@ -76,7 +76,7 @@ count_same mark other digits (b ∷ rest) = bind_bind (lettered_before mark digi
 
 -- what follows under a piece that comes after a whole descriptor
 abbrev then_after : Reading → Then
-then_after now part more = at_end now part >>= λ next. read_on next more
+then_after now part more = behind_member now part >>= λ next. read_on next more
 
 left_met : (now : Reading) (it : Member) (rest : List ℕ) → met (then_after now) it rest ≡ Err DescriptorLeftOut
 left_met now (Value value) rest = refl
@@ -94,7 +94,7 @@ after_plain now (b ∷ rest) plain =
 
 read_beyond : (some : List Piece) → read_on beyond some ≡ front Aligned (then_after beyond) some
 read_beyond [] = refl
-read_beyond (piece ∷ more) = bind_bind (part_of Aligned piece) (at_end beyond) (λ next. read_on next more)
+read_beyond (piece ∷ more) = bind_bind (part_of Aligned piece) (behind_member beyond) (λ next. read_on next more)
 
 aligned_unmarked : (mark : Mark) (text : List ℕ) → Unmarked mark text → Unmarked Aligned text
 aligned_unmarked mark [] plain = tt
@@ -132,12 +132,12 @@ mark_beyond descr next b rest e mark_only =
 abbrev only : Descr → Unit {0} → Result Descr Refusal
 only descr x = Ok descr
 
-ended_blank : (rest : List ℕ) → is_named rest ≡ false → ended (32 ∷ rest) ≡ ended rest
-unfolding ended
+ended_blank : (rest : List ℕ) → is_named rest ≡ false → nothing_follows (32 ∷ rest) ≡ nothing_follows rest
+unfolding nothing_follows
 ended_blank rest e = rw e refl
 
-ended_other : (b : ℕ) (rest : List ℕ) (descr : Descr) → is_colon b ≡ false → is_one_of (32 ∷ []) b ≡ false → (ended (b ∷ rest) >>= only descr) ≡ (member_at (marked Aligned (b ∷ rest)).0 (marked Aligned (b ∷ rest)).1 >>= left_out)
-unfolding ended
+ended_other : (b : ℕ) (rest : List ℕ) (descr : Descr) → is_colon b ≡ false → is_one_of (32 ∷ []) b ≡ false → (nothing_follows (b ∷ rest) >>= only descr) ≡ (member_at (marked Aligned (b ∷ rest)).0 (marked Aligned (b ∷ rest)).1 >>= left_out)
+unfolding nothing_follows
 ended_other b rest descr colon other = by_tests (is_one_of (32 ∷ []) b) (is_colon b) other colon (list_all (is_one_of (32 ∷ [])) rest) (member_at (marked Aligned (b ∷ rest)).0 (marked Aligned (b ∷ rest)).1)
   where
     none_of : {X : Type 0} → X → Result (Unit {0}) Refusal
@@ -153,12 +153,12 @@ ended_other b rest descr colon other = by_tests (is_one_of (32 ∷ []) b) (is_co
     by_tests false false e f all r = by_member r
 
 -- a blank with a name behind it
-blank_named : (descr : Descr) (c : ℕ) (text : List ℕ) → is_colon c ≡ true → read_on (complete descr) (pieces (32 ∷ (c ∷ text))) ≡ (ended (32 ∷ (c ∷ text)) >>= only descr)
-unfolding ended
+blank_named : (descr : Descr) (c : ℕ) (text : List ℕ) → is_colon c ≡ true → read_on (complete descr) (pieces (32 ∷ (c ∷ text))) ≡ (nothing_follows (32 ∷ (c ∷ text)) >>= only descr)
+unfolding nothing_follows
 blank_named descr c text colon =
     ap (read_on (complete descr)) (pieces-letter 32 (c ∷ text) refl refl refl refl ∙ ap (λ s. letter [] 32 s.0 ∷ pieces s.1) (behind-colon c text colon))
     ∙ refused (name_end text)
-    ∙ subst (λ k. Err BadDescriptor ≡ (ended (32 ∷ (k ∷ text)) >>= only descr)) (sym (one_of_one 58 c colon)) refl
+    ∙ subst (λ k. Err BadDescriptor ≡ (nothing_follows (32 ∷ (k ∷ text)) >>= only descr)) (sym (one_of_one 58 c colon)) refl
   where
     refused : (end : Option (List ℕ × List ℕ)) → read_on (complete descr) (letter [] 32 (behind_colon end).0 ∷ pieces (behind_colon end).1) ≡ Err BadDescriptor
     refused None = refl
@@ -167,12 +167,12 @@ blank_named descr c text colon =
 blank_bare : (descr : Descr) (rest : List ℕ) → is_named rest ≡ false → read_on (complete descr) (pieces (32 ∷ rest)) ≡ read_on (complete descr) (pieces rest)
 blank_bare descr rest e = ap (read_on (complete descr)) (pieces-letter 32 rest refl refl refl refl ∙ ap (λ s. letter [] 32 s.0 ∷ pieces s.1) (behind_bare rest e))
 
-ended_same : (descr : Descr) (text : List ℕ) → is_named text ≡ false → read_on (complete descr) (pieces text) ≡ (ended text >>= only descr)
-unfolding ended
+ended_same : (descr : Descr) (text : List ℕ) → is_named text ≡ false → read_on (complete descr) (pieces text) ≡ (nothing_follows text >>= only descr)
+unfolding nothing_follows
 ended_same descr [] e = refl
 ended_same descr (b ∷ rest) e = by_blank (ended_same descr rest)
   where
-    on_blank : (rest : List ℕ) → (is_named rest ≡ false → read_on (complete descr) (pieces rest) ≡ (ended rest >>= only descr)) → read_on (complete descr) (pieces (32 ∷ rest)) ≡ (ended (32 ∷ rest) >>= only descr)
+    on_blank : (rest : List ℕ) → (is_named rest ≡ false → read_on (complete descr) (pieces rest) ≡ (nothing_follows rest >>= only descr)) → read_on (complete descr) (pieces (32 ∷ rest)) ≡ (nothing_follows (32 ∷ rest) >>= only descr)
     on_blank [] later = refl
     on_blank (c ∷ text) later =
         elim (cases_Bool (is_colon c)) [
@@ -184,7 +184,7 @@ ended_same descr (b ∷ rest) e = by_blank (ended_same descr rest)
     plain unmarked_byte =
         let first = some_piece b rest e in
         ap (read_on (complete descr)) first.2
-        ∙ bind_bind (part_of Aligned first.0) (at_end (complete descr)) (λ next. read_on next first.1)
+        ∙ bind_bind (part_of Aligned first.0) (behind_member (complete descr)) (λ next. read_on next first.1)
         ∙ sym (ap (front Aligned (then_after (complete descr))) first.2)
         ∙ after_plain (complete descr) (b ∷ rest) unmarked_byte
 
@@ -192,18 +192,18 @@ ended_same descr (b ∷ rest) e = by_blank (ended_same descr rest)
     by_mark None is other = plain is ∙ ap (λ m. member_at m.0 m.1 >>= left_out) (sym (marked_none Aligned b rest is))
     by_mark (Some next) is other = mark_beyond descr next b rest is other ∙ beyond_same Aligned (b ∷ rest)
 
-    by_blank : (is_named rest ≡ false → read_on (complete descr) (pieces rest) ≡ (ended rest >>= only descr)) → read_on (complete descr) (pieces (b ∷ rest)) ≡ (ended (b ∷ rest) >>= only descr)
+    by_blank : (is_named rest ≡ false → read_on (complete descr) (pieces rest) ≡ (nothing_follows rest >>= only descr)) → read_on (complete descr) (pieces (b ∷ rest)) ≡ (nothing_follows (b ∷ rest) >>= only descr)
     by_blank later =
         elim (cases_Bool (is_one_of (32 ∷ []) b)) [
-          | inl bl ↦ subst (λ c. read_on (complete descr) (pieces (c ∷ rest)) ≡ (ended (c ∷ rest) >>= only descr)) (sym (one_of_one 32 b bl)) (on_blank rest later)
+          | inl bl ↦ subst (λ c. read_on (complete descr) (pieces (c ∷ rest)) ≡ (nothing_follows (c ∷ rest) >>= only descr)) (sym (one_of_one 32 b bl)) (on_blank rest later)
           | inr other ↦ by_mark (after Aligned b) refl other ∙ sym (ended_other b rest descr e other)
         ]
 
 -- where nothing may follow, no name may
-ended_named : (rest : List ℕ) → is_named rest ≡ true → ended rest ≡ Err DescriptorLeftOut
-unfolding ended
+ended_named : (rest : List ℕ) → is_named rest ≡ true → nothing_follows rest ≡ Err DescriptorLeftOut
+unfolding nothing_follows
 ended_named [] e = let never : ⊥ = cc in absurd never
-ended_named (c ∷ text) e = subst (λ k. ended (k ∷ text) ≡ Err DescriptorLeftOut) (sym (one_of_one 58 c e)) refl
+ended_named (c ∷ text) e = subst (λ k. nothing_follows (k ∷ text) ≡ Err DescriptorLeftOut) (sym (one_of_one 58 c e)) refl
 
 -- ---- the whole text
 
@@ -214,14 +214,14 @@ read_begun : (mark : Mark) (some : List Piece) → read_on (begun mark) some ≡
 read_begun mark [] = refl
 read_begun mark (piece ∷ more) = bind_bind (part_of mark piece) (at_begin mark) (λ next. read_on next more)
 
-record_ends : (body : Body) (rest : List ℕ) → (closed_in [] body (behind rest).0 >>= λ next. read_on next (pieces (behind rest).1)) ≡ (ended rest >>= only (RecordDescr body.whole))
+record_ends : (body : Body) (rest : List ℕ) → (closed_in [] body (behind rest).0 >>= λ next. read_on next (pieces (behind rest).1)) ≡ (nothing_follows rest >>= only (RecordDescr body.whole))
 record_ends body rest =
     let descr = RecordDescr body.whole in
     bind_bind (unnamed (behind rest).0) (λ _. Ok (complete descr)) (λ next. read_on next (pieces (behind rest).1))
     ∙ sym (unnamed_same rest (λ r. read_on (complete descr) (pieces r)))
     ∙ by_name (is_named rest) refl
   where
-    by_name : (t : Bool) → is_named rest ≡ t → (check (not (is_named rest)) DescriptorLeftOut >>= λ _. read_on (complete (RecordDescr body.whole)) (pieces rest)) ≡ (ended rest >>= only (RecordDescr body.whole))
+    by_name : (t : Bool) → is_named rest ≡ t → (check (not (is_named rest)) DescriptorLeftOut >>= λ _. read_on (complete (RecordDescr body.whole)) (pieces rest)) ≡ (nothing_follows rest >>= only (RecordDescr body.whole))
     by_name true e = ap (λ t. check (not t) DescriptorLeftOut >>= λ _. read_on (complete (RecordDescr body.whole)) (pieces rest)) e ∙ ap (λ r. r >>= only (RecordDescr body.whole)) (sym (ended_named rest e))
     by_name false e = ap (λ t. check (not t) DescriptorLeftOut >>= λ _. read_on (complete (RecordDescr body.whole)) (pieces rest)) e ∙ ended_same (RecordDescr body.whole) rest e
 
@@ -232,11 +232,11 @@ scalar_ends mark value rest =
     ∙ sym (unnamed_same rest (λ r. (ok_or value TooLarge >>= λ scalar. Ok (complete (ScalarDescr scalar))) >>= λ next. read_on next (pieces r)))
     ∙ by_name value (is_named rest) refl
   where
-    by_name : (value : Option Scalar) (t : Bool) → is_named rest ≡ t → (check (not (is_named rest)) DescriptorLeftOut >>= λ _. (ok_or value TooLarge >>= λ scalar. Ok (complete (ScalarDescr scalar))) >>= λ next. read_on next (pieces rest)) ≡ (check (not (is_named rest)) DescriptorLeftOut >>= λ _. ok_or value TooLarge >>= λ scalar. ended rest >>= only (ScalarDescr scalar))
+    by_name : (value : Option Scalar) (t : Bool) → is_named rest ≡ t → (check (not (is_named rest)) DescriptorLeftOut >>= λ _. (ok_or value TooLarge >>= λ scalar. Ok (complete (ScalarDescr scalar))) >>= λ next. read_on next (pieces rest)) ≡ (check (not (is_named rest)) DescriptorLeftOut >>= λ _. ok_or value TooLarge >>= λ scalar. nothing_follows rest >>= only (ScalarDescr scalar))
     by_name None t e = refl
     by_name (Some scalar) true e =
         ap (λ t. check (not t) DescriptorLeftOut >>= λ _. read_on (complete (ScalarDescr scalar)) (pieces rest)) e
-        ∙ sym (ap (λ t. check (not t) DescriptorLeftOut >>= λ _. ended rest >>= only (ScalarDescr scalar)) e)
+        ∙ sym (ap (λ t. check (not t) DescriptorLeftOut >>= λ _. nothing_follows rest >>= only (ScalarDescr scalar)) e)
     by_name (Some scalar) false e = ap (λ r. check (not (is_named rest)) DescriptorLeftOut >>= λ _. r) (ended_same (ScalarDescr scalar) rest e)
 
 alone_same : (mark : Mark) (it : Member) (rest : List ℕ) → met (then_begin mark) it rest ≡ alone mark it rest
@@ -245,7 +245,7 @@ alone_same mark (Value value) rest = scalar_ends mark value rest
 alone_same mark (Pad count) rest = refl
 alone_same mark Opened rest =
     let inner = drop 1 rest in
-    members_same (length inner) 3 (length inner) mark (empty 3 0) [] inner (λ body. ended body.1 >>= only (RecordDescr body.0.whole)) (omega arith) (omega arith) refl (λ body later l. record_ends body later)
+    members_same (length inner) 3 (length inner) mark (empty 3 0) [] inner (λ body. nothing_follows body.1 >>= only (RecordDescr body.0.whole)) (omega arith) (omega arith) refl (λ body later l. record_ends body later)
 
 text_same : (mark : Mark) (text : List ℕ) → Unmarked mark text → read_on (begun mark) (pieces text) ≡ (member_at mark text >>= λ m. alone mark m.0 m.1)
 text_same mark [] plain = refl

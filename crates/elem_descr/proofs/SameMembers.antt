@@ -18,11 +18,11 @@ use Rattle.elem_descr.specs.Refusals.{◌>>=◌, check}
 use Rattle.elem_descr.specs.Items.{leaves_of}
 use Rattle.elem_descr.specs.Names.{is_legal_name}
 use Rattle.elem_descr.specs.TypeStrings.{is_one_of}
-use Rattle.elem_descr.specs.FormatLetters.{own_alignment, aligned}
+use Rattle.elem_descr.specs.FormatLetters.{own_alignment, aligned_to}
 use Rattle.elem_descr.specs.FormatRecords.{Partial, empty, if_small, with_field, checked_name, added, widened, closed_record}
 use Rattle.elem_descr.specs.FormatPieces.{Behind, nothing, between_colons, lone_colon, Piece, letter, stray, is_colon, pieces}
 use Rattle.elem_descr.specs.FormatTexts.{part_of, called, next_name, with_scalar, with_pad, with_record, opened, unnamed, Reading, begun, within, beyond, closed_in, in_record, step, read_on}
-use Rattle.elem_descr.specs.inside.Turns.{name_at, after, marked, is_named, is_opened, lettered_before, after_count, member_at, named, Later, scalar_in, pad_in, body_in, taken_in, field_at, closing, turn, members, record_within}
+use Rattle.elem_descr.specs.inside.Turns.{name_at, after, marked, is_named, is_opened, lettered_before, after_count, member_at, named, Later, scalar_in, pad_in, body_in, taken_in, next_field, closing, turn, members, record_within}
 use Rattle.elem_descr.proofs.Pieces.{name_end, behind_colon, behind, name_at-ended, ended_name, pieces-colon, behind-colon, behind-other, pieces-letter}
 use Rattle.elem_descr.proofs.PieceMembers.{bind_bind, bind_same, one_of_one, sign_cases, Then, front, met, meant, member_met}
 
@@ -227,14 +227,14 @@ scalar_same mark p None rest =
     ap (λ (r : Result (List ℕ × List ℕ) Refusal). r >>= λ n. checked_name p n.0 >>= λ _. made n.0 >>= further mark n.1) (named_called (length p.fields) rest)
     ∙ with_name (called (length p.fields) (behind rest).0) (checked_name p) made mark (behind rest).1
 scalar_same mark p (Some scalar) rest =
-    let made : List ℕ → Result Partial Refusal = λ bytes. added p bytes (aligned mark (own_alignment scalar)) (ScalarDescr scalar) in
+    let made : List ℕ → Result Partial Refusal = λ bytes. added p bytes (aligned_to mark (own_alignment scalar)) (ScalarDescr scalar) in
     ap (λ (r : Result (List ℕ × List ℕ) Refusal). r >>= λ n. checked_name p n.0 >>= λ _. made n.0 >>= further mark n.1) (named_called (length p.fields) rest)
     ∙ with_name (called (length p.fields) (behind rest).0) (checked_name p) made mark (behind rest).1
 
 body_same : (mark : Mark) (p : Partial) (body : Body) (rest : List ℕ) → body_in mark p body rest ≡ (with_record mark p body (behind rest).0 >>= further body.mark (behind rest).1)
 unfolding body_in
 body_same mark p body rest =
-    let made : List ℕ → Result Partial Refusal = λ bytes. added p bytes (aligned mark body.alignment) (RecordDescr body.whole) in
+    let made : List ℕ → Result Partial Refusal = λ bytes. added p bytes (aligned_to mark body.alignment) (RecordDescr body.whole) in
     ap (λ (r : Result (List ℕ × List ℕ) Refusal). r >>= λ n. checked_name p n.0 >>= λ _. made n.0 >>= further body.mark n.1) (named_called (length p.fields) rest)
     ∙ with_name (called (length p.fields) (behind rest).0) (checked_name p) made body.mark (behind rest).1
 
@@ -277,10 +277,10 @@ unfolding added
 keeps_added p bytes alignment descr = keeps_bind p (check (nat_le (p.leaves + length (leaves_of descr)) 2048) TooLarge) (λ _. if_small (with_field p bytes alignment descr)) (λ _. keeps_small p (with_field p bytes alignment descr) (nat_le (with_field p bytes alignment descr).size 65536) refl)
 
 keeps_scalar : (mark : Mark) (p : Partial) (value : Option Scalar) (behind : Behind) → Keeps p (with_scalar mark p value behind)
-keeps_scalar mark p value behind = keeps_bind p (next_name p behind) _ (λ bytes. keeps_bind p (ok_or value TooLarge) _ (λ scalar. keeps_added p bytes (aligned mark (own_alignment scalar)) (ScalarDescr scalar)))
+keeps_scalar mark p value behind = keeps_bind p (next_name p behind) _ (λ bytes. keeps_bind p (ok_or value TooLarge) _ (λ scalar. keeps_added p bytes (aligned_to mark (own_alignment scalar)) (ScalarDescr scalar)))
 
 keeps_record : (mark : Mark) (p : Partial) (body : Body) (behind : Behind) → Keeps p (with_record mark p body behind)
-keeps_record mark p body behind = keeps_bind p (next_name p behind) _ (λ bytes. keeps_added p bytes (aligned mark body.alignment) (RecordDescr body.whole))
+keeps_record mark p body behind = keeps_bind p (next_name p behind) _ (λ bytes. keeps_added p bytes (aligned_to mark body.alignment) (RecordDescr body.whole))
 
 keeps_pad : (p : Partial) (count : Option ℕ) (behind : Behind) → Keeps p (with_pad p count behind)
 unfolding widened
@@ -367,7 +367,7 @@ member_shorter mark text m is =
     by_count digits (b ∷ rest) is = let same : rest ≡ m.1 = by_member (lettered_before mark digits b rest) rest is in subst (λ (r : List ℕ). length r < suc (length rest)) same (omega arith)
 
 turn_same : (n : ℕ) → Same n → (levels turns : ℕ) (around : List (Mark × Partial)) (text : List ℕ) (ends : Ends) → length text ≤ suc n → length text ≤ suc turns → Goes around text ends → (mark : Mark) (p : Partial) (rest : List ℕ) → p.levels ≡ levels → length rest ≤ length text → Unmarked mark rest → read_on (within mark p around) (pieces rest) ≡ (turn (record_within levels) mark p (closing rest) rest (others levels turns) >>= ends)
-unfolding field_at
+unfolding next_field
 turn_same n same levels turns around text ends few enough goes mark p [] level less plain = refl
 turn_same n same levels turns around text ends few enough goes mark p (b ∷ rest) level less plain =
     elim (cases_Bool (is_one_of (125 ∷ []) b)) [
@@ -388,7 +388,7 @@ turn_same n same levels turns around text ends few enough goes mark p (b ∷ res
     by_body (Ok body) = goes body rest (omega arith)
 
 none_left : (levels turns : ℕ) (mark : Mark) (p : Partial) (ends : Ends) → Err BadDescriptor ≡ (members (record_within levels) turns mark p [] >>= ends)
-unfolding field_at
+unfolding next_field
 none_left levels zero mark p ends = refl
 none_left levels (suc turns) mark p ends = refl
 

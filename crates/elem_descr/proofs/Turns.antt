@@ -4,7 +4,7 @@ use Rattle.elem_descr.specs.declared.format_text.mark.Mark.{Mark}
 use Rattle.elem_descr.specs.declared.refusal.Refusal.TheVariants.{DescriptorLeftOut}
 use Rattle.elem_descr.specs.Refusals.{◌>>=◌}
 use Rattle.elem_descr.specs.FormatRecords.{Partial, empty, closed_record}
-use Rattle.elem_descr.specs.inside.Turns.{Reader, marked, closing, field_at, turn, members, record_within}
+use Rattle.elem_descr.specs.inside.Turns.{Reader, marked, closing, next_field, turn, members, record_within}
 
 -- no record may lie here
 pub no_levels : (levels : ℕ) (mark : Mark) (leaves : ℕ) (text : List ℕ) → levels ≡ 0 → record_within levels mark leaves text ≡ Err DescriptorLeftOut
@@ -31,8 +31,8 @@ members_closed within n i mark later p text unread rest l e brace =
     members_turn within n i mark later p text unread l e
     ∙ ap (λ (found : Option (List ℕ)). turn within later p found unread (λ next. members within (n - (i + 1)) next.1 next.0 next.2)) (sym brace)
 
-pub members_field : (levels n i : ℕ) (mark later : Mark) (p : Partial) (text unread : List ℕ) → p.levels ≡ levels → i < n → (later, unread) ≡ marked mark text → None ≡ closing unread → members (record_within levels) (n - i) mark p text ≡ (field_at (record_within p.levels) later p unread >>= λ next. members (record_within levels) (n - (i + 1)) next.1 next.0 next.2)
+pub members_field : (levels n i : ℕ) (mark later : Mark) (p : Partial) (text unread : List ℕ) → p.levels ≡ levels → i < n → (later, unread) ≡ marked mark text → None ≡ closing unread → members (record_within levels) (n - i) mark p text ≡ (next_field (record_within p.levels) later p unread >>= λ next. members (record_within levels) (n - (i + 1)) next.1 next.0 next.2)
 members_field levels n i mark later p text unread same l e no_brace =
     members_turn (record_within levels) n i mark later p text unread l e
     ∙ ap (λ (found : Option (List ℕ)). turn (record_within levels) later p found unread (λ next. members (record_within levels) (n - (i + 1)) next.1 next.0 next.2)) (sym no_brace)
-    ∙ ap (λ (k : ℕ). field_at (record_within k) later p unread >>= λ next. members (record_within levels) (n - (i + 1)) next.1 next.0 next.2) (sym same)
+    ∙ ap (λ (k : ℕ). next_field (record_within k) later p unread >>= λ next. members (record_within levels) (n - (i + 1)) next.1 next.0 next.2) (sym same)

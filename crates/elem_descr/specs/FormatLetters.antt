@@ -72,8 +72,8 @@ own_alignment (Bytes n) = 1
 own_alignment scalar = size scalar
 
 -- what the offset of a member with its own alignment is a multiple of
-abbrev pub aligned : Mark → ℕ → ℕ
-aligned mark own = if is_aligning mark then own else 1
+abbrev pub aligned_to : Mark → ℕ → ℕ
+aligned_to mark own = if is_aligning mark then own else 1
 
 -- the count that digits spell: 1 where there are none, and none where no item has as many bytes
 abbrev pub count_of : List ℕ → Option ℕ

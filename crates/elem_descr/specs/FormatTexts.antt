@@ -14,23 +14,23 @@ use Rattle.elem_descr.specs.declared.format_text.member.Member.TheVariants.{Valu
 use Rattle.elem_descr.specs.Refusals.{◌>>=◌}
 use Rattle.elem_descr.specs.Names.{is_legal_name}
 use Rattle.elem_descr.specs.TypeStrings.{is_one_of}
-use Rattle.elem_descr.specs.FormatLetters.{is_empty, mark_meant, own_alignment, aligned, lettered}
+use Rattle.elem_descr.specs.FormatLetters.{is_empty, mark_meant, own_alignment, aligned_to, lettered}
 use Rattle.elem_descr.specs.FormatRecords.{max_depth, Partial, empty, checked_name, added, widened, closed_record}
 use Rattle.elem_descr.specs.FormatPieces.{Behind, nothing, between_colons, lone_colon, Piece, letter, opening, brace, stray, pieces}
 
 -- what a piece is under the mark in force: a blank, a mark, a member, or the closing brace of a record
-pub data Part : Type 0 where
-  blank : Part
-  marking : Mark → Part
-  member : Member → Behind → Part
-  closing_brace : Behind → Part
+pub data PieceKind : Type 0 where
+  blank : PieceKind
+  marking : Mark → PieceKind
+  member : Member → Behind → PieceKind
+  closing_brace : Behind → PieceKind
 
 -- blanks and marks have no count and no name
-abbrev pub sign : List ℕ → ℕ → Behind → Option Part
+abbrev pub sign : List ℕ → ℕ → Behind → Option PieceKind
 sign [] b nothing = if is_one_of (codes " ") b then Some blank else option_map marking (mark_meant b)
 sign digits b behind = None
 
-abbrev pub part_of : Mark → Piece → Result Part Refusal
+abbrev pub part_of : Mark → Piece → Result PieceKind Refusal
 part_of mark (letter digits b behind) =
     if is_empty digits && is_one_of (codes "}") b then Ok (closing_brace behind)
     else unwrap_or (option_map Ok (sign digits b behind)) (lettered mark digits b >>= λ it. Ok (member it behind))
@@ -61,7 +61,7 @@ abbrev pub with_scalar : Mark → Partial → Option Scalar → Behind → Resul
 with_scalar mark p value behind = do
   bytes ← next_name p behind
   scalar ← ok_or value TooLarge
-  added p bytes (aligned mark (own_alignment scalar)) (ScalarDescr scalar)
+  added p bytes (aligned_to mark (own_alignment scalar)) (ScalarDescr scalar)
 
 abbrev pub with_pad : Partial → Option ℕ → Behind → Result Partial Refusal
 with_pad p count behind = do
@@ -72,7 +72,7 @@ with_pad p count behind = do
 abbrev pub with_record : Mark → Partial → Body → Behind → Result Partial Refusal
 with_record mark p body behind = do
   bytes ← next_name p behind
-  added p bytes (aligned mark body.alignment) (RecordDescr body.whole)
+  added p bytes (aligned_to mark body.alignment) (RecordDescr body.whole)
 
 -- a record at its opening brace, where so many levels of records may lie
 abbrev pub opened : ℕ → ℕ → Result Partial Refusal
@@ -88,7 +88,7 @@ pub data Reading : Type 0 where
   beyond : Reading
 
 -- a member alone is a scalar or a record
-abbrev pub at_begin : Mark → Part → Result Reading Refusal
+abbrev pub at_begin : Mark → PieceKind → Result Reading Refusal
 at_begin mark blank = Ok (begun mark)
 at_begin mark (marking next) = Ok (begun next)
 at_begin mark (member (Value value) behind) = do
@@ -105,7 +105,7 @@ closed_in [] body behind = unnamed behind >>= λ _. Ok (complete (RecordDescr bo
 closed_in (outer ∷ around) body behind = with_record outer.0 outer.1 body behind >>= λ p. Ok (within body.mark p around)
 
 -- a member, or the end, of a record
-abbrev pub in_record : Mark → Partial → List (Mark × Partial) → Part → Result Reading Refusal
+abbrev pub in_record : Mark → Partial → List (Mark × Partial) → PieceKind → Result Reading Refusal
 in_record mark p around blank = Ok (within mark p around)
 in_record mark p around (marking next) = Ok (within next p around)
 in_record mark p around (member (Value value) behind) = with_scalar mark p value behind >>= λ next. Ok (within mark next around)
@@ -114,18 +114,18 @@ in_record mark p around (member Opened behind) = opened p.levels p.leaves >>= λ
 in_record mark p around (closing_brace behind) = closed_record mark p >>= λ body. closed_in around body behind
 
 -- only blanks may follow: a second member is left out
-abbrev pub at_end : Reading → Part → Result Reading Refusal
-at_end now blank = Ok now
-at_end now (marking next) = Ok beyond
-at_end now (member it behind) = Err DescriptorLeftOut
-at_end now (closing_brace behind) = Err BadDescriptor
+abbrev pub behind_member : Reading → PieceKind → Result Reading Refusal
+behind_member now blank = Ok now
+behind_member now (marking next) = Ok beyond
+behind_member now (member it behind) = Err DescriptorLeftOut
+behind_member now (closing_brace behind) = Err BadDescriptor
 
 -- one piece more
 abbrev pub step : Reading → Piece → Result Reading Refusal
 step (begun mark) piece = part_of mark piece >>= at_begin mark
 step (within mark p around) piece = part_of mark piece >>= in_record mark p around
-step (complete descr) piece = part_of Aligned piece >>= at_end (complete descr)
-step beyond piece = part_of Aligned piece >>= at_end beyond
+step (complete descr) piece = part_of Aligned piece >>= behind_member (complete descr)
+step beyond piece = part_of Aligned piece >>= behind_member beyond
 
 -- what a text means that ends here
 abbrev pub result : Reading → Result Descr Refusal

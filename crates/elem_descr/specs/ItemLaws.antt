@@ -4,7 +4,7 @@ use Rattle.std.proofs.lemmas.List.{map-append}
 use Rattle.elem_descr.specs.declared.leaf.Leaf.{Leaf}
 use Rattle.elem_descr.specs.declared.descr.Descr.{Descr}
 use Rattle.elem_descr.specs.declared.descr.Descr.TheVariants.{Scalar as ScalarDescr, Record as RecordDescr}
-use Rattle.elem_descr.specs.Items.{leaves_of, leaves_from, moved, AreInOrder}
+use Rattle.elem_descr.specs.Items.{leaves_of, leaves_from, moved_leaf, AreInOrder}
 use Rattle.elem_descr.specs.Encoding.{size}
 use Rattle.elem_descr.specs.Fields.{Fields, no_more, scalar_field, record_field, Structure}
 use Rattle.elem_descr.specs.Descriptors.{IsLegal, InOrder, before, leaf_count}
@@ -52,14 +52,14 @@ leaves_in_order s legal =
     rw none at (leaves_from-in_order 0 0 s.fields s.size legal.in_order)
 
 -- a record that begins later has its leaves later
-pub leaves_from-moved : (by start : ℕ) (fields : Fields) → leaves_from (by + start) fields ≡ map (moved by) (leaves_from start fields)
+pub leaves_from-moved : (by start : ℕ) (fields : Fields) → leaves_from (by + start) fields ≡ map (moved_leaf by) (leaves_from start fields)
 leaves_from-moved by start no_more = refl
 leaves_from-moved by start (scalar_field name at scalar rest) =
     let join : by + start + at ≡ by + (start + at) = omega arith in
     rw (join, leaves_from-moved by start rest) refl
 leaves_from-moved by start (record_field name at width inner rest) =
     let join : by + start + at ≡ by + (start + at) = omega arith in
-    rw (join, leaves_from-moved by (start + at) inner, leaves_from-moved by start rest) (sym (map-append (moved by) (leaves_from (start + at) inner) (leaves_from start rest)))
+    rw (join, leaves_from-moved by (start + at) inner, leaves_from-moved by start rest) (sym (map-append (moved_leaf by) (leaves_from (start + at) inner) (leaves_from start rest)))
 
 -- as many as are counted
 pub length-leaves_from : (start : ℕ) (fields : Fields) → length (leaves_from start fields) ≡ leaf_count fields
@@ -73,7 +73,7 @@ pub leaf_count-before : (name : List ℕ) (at : ℕ) (descr : Descr) (rest : Fie
 leaf_count-before name at (ScalarDescr scalar) rest = refl
 leaf_count-before name at (RecordDescr structure) rest = omega (arith, length-leaves_from 0 structure.fields)
 
-pub leaves_from-before : (start : ℕ) (name : List ℕ) (at : ℕ) (descr : Descr) (rest : Fields) → leaves_from start (before name at descr rest) ≡ map (moved (start + at)) (leaves_of descr) ++ leaves_from start rest
+pub leaves_from-before : (start : ℕ) (name : List ℕ) (at : ℕ) (descr : Descr) (rest : Fields) → leaves_from start (before name at descr rest) ≡ map (moved_leaf (start + at)) (leaves_of descr) ++ leaves_from start rest
 leaves_from-before start name at (ScalarDescr scalar) rest = let join : start + at + 0 ≡ start + at = omega arith in rw join refl
 leaves_from-before start name at (RecordDescr structure) rest =
     let join : start + at + 0 ≡ start + at = omega arith in

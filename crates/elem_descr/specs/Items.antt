@@ -31,8 +31,8 @@ abbrev pub no_leaf : Leaf
 no_leaf = record { scalar = BoolScalar; at = 0 }
 
 -- a leaf so many bytes further on
-abbrev pub moved : ℕ → Leaf → Leaf
-moved by leaf = record { scalar = leaf.scalar; at = by + leaf.at }
+abbrev pub moved_leaf : ℕ → Leaf → Leaf
+moved_leaf by leaf = record { scalar = leaf.scalar; at = by + leaf.at }
 
 -- the leaf with a number
 abbrev pub leaf_at : Descr → ℕ → Leaf
@@ -44,7 +44,7 @@ AreInOrder from [] bytes = from ≤ bytes
 AreInOrder from (leaf ∷ leaves) bytes = (from ≤ leaf.at) × (1 ≤ size leaf.scalar) × AreInOrder (leaf.at + size leaf.scalar) leaves bytes
 
 -- each leaf has a byte or more, ends within the item, and begins where those before it end, or later
-pub record AreApart (descr : Descr) : Type 0 where
+pub record LeavesInOrder (descr : Descr) : Type 0 where
   pub some : (k : ℕ) → k < length (leaves_of descr) → 1 ≤ size (leaf_at descr k).scalar
   pub within : (k : ℕ) → k < length (leaves_of descr) → (leaf_at descr k).at + size (leaf_at descr k).scalar ≤ item_size descr
   pub apart : (j k : ℕ) → j < k → k < length (leaves_of descr) → (leaf_at descr j).at + size (leaf_at descr j).scalar ≤ (leaf_at descr k).at

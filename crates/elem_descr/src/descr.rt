@@ -4,7 +4,7 @@ ghost use Rattle.std.specs.Str.{bytes_eq};
 ghost use Rattle.elem_descr.specs.Encoding.{size};
 ghost use Rattle.elem_descr.specs.Fields.{Structure, no_more};
 ghost use Rattle.elem_descr.specs.Descriptors.{IsLegal, fields_of, listed};
-ghost use Rattle.elem_descr.specs.Items.{item_size, leaves_of, leaves_from, leaves_in, moved, fields, field_of, field_at, field_leaves, AreApart, AreInOrder};
+ghost use Rattle.elem_descr.specs.Items.{item_size, leaves_of, leaves_from, leaves_in, moved_leaf, fields, field_of, field_at, field_leaves, LeavesInOrder, AreInOrder};
 
 use crate::leaf::Leaf;
 use crate::name::FieldName;
@@ -81,7 +81,7 @@ fn push_moved(
 ) -> Result<(), AllocError>
     requires in_order { AreInOrder 0 more.now size }
     requires small { by + size ≤ 65536 }
-    ensures { OnOk result (leaves.new.items ≡ leaves.old.items ++ map (moved by) more.now) }
+    ensures { OnOk result (leaves.new.items ≡ leaves.old.items ++ map (moved_leaf by) more.now) }
 {
     for leaf in more {
         leaves.push(Leaf {
@@ -95,7 +95,7 @@ fn push_moved(
 /// Appends the leaves of a field.
 fn push_field(leaves: &mut Vec<Leaf>, field: &Field) -> Result<(), AllocError>
     requires small { field.now.at + item_size field.now.descr ≤ 65536 }
-    ensures { OnOk result (leaves.new.items ≡ leaves.old.items ++ map (moved field.now.at) (leaves_of field.now.descr)) }
+    ensures { OnOk result (leaves.new.items ≡ leaves.old.items ++ map (moved_leaf field.now.at) (leaves_of field.now.descr)) }
 {
     match &field.descr {
         Descr::Scalar(scalar) => leaves.push(Leaf {
@@ -243,7 +243,7 @@ impl Descr {
         ensures value { result ≡ item_size self.now }
         ensures not_empty { 1 ≤ result }
         ensures within { result ≤ 65536 }
-        ensures apart { AreApart self.now }
+        ensures apart { LeavesInOrder self.now }
     {
         match self {
             Descr::Scalar(scalar) => scalar.size(),
@@ -311,7 +311,7 @@ impl Descr {
         ensures value { result ≡ field_leaves self.now field }
         ensures some { 1 ≤ result.1 }
         ensures within { result.0 + result.1 ≤ length (leaves_of self.now) }
-        ensures leaves { let there = field_at self.now field in take result.1 (drop result.0 (leaves_of self.now)) ≡ map (moved there.at) (leaves_of there.descr) }
+        ensures leaves { let there = field_at self.now field in take result.1 (drop result.0 (leaves_of self.now)) ≡ map (moved_leaf there.at) (leaves_of there.descr) }
     {
         let fields = self.fields();
         let before = leaf_sum(&fields[..field]);

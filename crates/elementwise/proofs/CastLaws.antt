@@ -11,7 +11,7 @@ use Rattle.elem_descr.specs.declared.descr.Descr.TheVariants.{Scalar as ScalarDe
 use Rattle.elem_descr.specs.Values.{LeafValue, number}
 use Rattle.elem_descr.specs.Encoding.{size, decode}
 use Rattle.elem_descr.specs.Fields.{Fields, no_more, scalar_field, record_field}
-use Rattle.elem_descr.specs.Items.{item_size, leaves_of, leaves_from, leaf_at, no_leaf, AreApart}
+use Rattle.elem_descr.specs.Items.{item_size, leaves_of, leaves_from, leaf_at, no_leaf, LeavesInOrder}
 use Rattle.elem_descr.specs.Blocks.{item_from}
 use Rattle.raw_block.specs.Bytes.{item_at}
 use Rattle.shape_strides.specs.Layouts.{multiples}
@@ -218,7 +218,7 @@ pub turn-wrote : (from to : Descr) (other offsets all bytes bytes' : List ℕ) (
 turn-wrote from to other offsets all bytes bytes' k item leaf from_leaf is there sized are wrote =
     wrote ∙ (λ i. put_all (row_offsets (is i).at (sized i) (length (are i))) (map (leaf_from (there i) (is i) other) (are i)) bytes)
 
-pub turn-done : (from to : Descr) (other offsets bytes bytes' : List ℕ) (k : ℕ) → k < length (leaves_of to) → length offsets * item_size to ≤ length bytes → AreApart to →
+pub turn-done : (from to : Descr) (other offsets bytes bytes' : List ℕ) (k : ℕ) → k < length (leaves_of to) → length offsets * item_size to ≤ length bytes → LeavesInOrder to →
     bytes' ≡ put_all (row_offsets (leaf_at to k).at (item_size to) (length offsets)) (map (leaf_from (source from k) (leaf_at to k) other) offsets) bytes → ((i : ℕ) → i < k → IsLeafCast from to other offsets bytes i) → (i : ℕ) → i < k + 1 → IsLeafCast from to other offsets bytes' i
 turn-done from to other offsets bytes bytes' k low room apart wrote done i below = elim (cases_lt i k) [
   | inl before ↦ leaf-kept from to other offsets bytes bytes' i k room (apart.apart i k before low) (apart.within k low) wrote (done i before)
@@ -226,6 +226,6 @@ turn-done from to other offsets bytes bytes' k low room apart wrote done i below
 ]
 
 -- what the code requires of a leaf
-pub source-within : (from : Descr) (k : ℕ) → AreApart from → HasSource from k → (source from k).at + size (source from k).scalar ≤ item_size from
+pub source-within : (from : Descr) (k : ℕ) → LeavesInOrder from → HasSource from k → (source from k).at + size (source from k).scalar ≤ item_size from
 source-within (ScalarDescr scalar) k apart has = omega arith
 source-within (RecordDescr structure) k apart has = apart.within k has

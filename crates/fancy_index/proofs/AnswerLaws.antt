@@ -16,7 +16,7 @@ use Rattle.broadcasting.specs.Broadcasts.{common_with, can_stretch}
 use Rattle.broadcasting.specs.FitLaws.{with-fits}
 use Rattle.fancy_index.specs.declared.parts.IndexPart.{IndexPart}
 use Rattle.fancy_index.specs.Parts.{Part, point_shapes}
-use Rattle.fancy_index.specs.Indexed.{told_of_indexes, points_shape, all_axes, indexed_leads, parts_view}
+use Rattle.fancy_index.specs.Indexed.{as_index_shapes, points_shape, all_axes, leads_through, parts_view}
 use Rattle.fancy_index.specs.Plans.{Planned, IsPlanOf, GivesPlan}
 use Rattle.fancy_index.specs.inside.PartLists.{shown_part, AreParts, IsReady}
 use Rattle.fancy_index.proofs.LeadLaws.{all_ready}
@@ -31,7 +31,7 @@ no-shape : (parts : List Part) (points : List ℕ) (e : Refusal) → points_shap
 unfolding parts_view
 no-shape parts points e found there = rw (found, there)
 
-seen : (parts : List Part) (points shape : List ℕ) → points_shape parts ≡ Ok points → shape_of (all_axes points parts) ≡ Ok shape → parts_view parts ≡ Ok (record { shape = shape; leads = indexed_leads (length points) parts })
+seen : (parts : List Part) (points shape : List ℕ) → points_shape parts ≡ Ok points → shape_of (all_axes points parts) ≡ Ok shape → parts_view parts ≡ Ok (record { shape = shape; leads = leads_through (length points) parts })
 unfolding parts_view
 seen parts points shape found there = rw (found, there)
 
@@ -58,20 +58,20 @@ gives_none layout parts points used shape plan found is there none shape-is offs
     subst (GivesPlan layout (Ok plan)) (sym view) (record {
       shape = shape-is;
       leads = λ index in'. absurd (omega (arith, rank-lt shape index in', none));
-      places = offsets-are ∙ sym (nil_from_length _ (length-map (indexes shape) (λ index. get_or (offsets layout) (rank layout.shape (indexed_leads (length points) parts index)) 0) ∙ length-indexes shape ∙ none));
+      places = offsets-are ∙ sym (nil_from_length _ (length-map (indexes shape) (λ index. get_or (offsets layout) (rank layout.shape (leads_through (length points) parts index)) 0) ∙ length-indexes shape ∙ none));
     })
 
 -- the plan of the items
 pub gives_some : (layout : Layout) (parts : List Part) (points used shape : List ℕ) (result : Result Planned Refusal) → points_shape parts ≡ Ok points → used ≡ points → shape_of (all_axes used parts) ≡ Ok shape →
-    IfOk result (λ plan. IsPlanOf layout plan (record { shape = all_axes used parts; leads = indexed_leads (length used) parts })) → IfErr result (λ e. e ≡ OutOfMemory) → GivesPlan layout result (parts_view parts)
+    IfOk result (λ plan. IsPlanOf layout plan (record { shape = all_axes used parts; leads = leads_through (length used) parts })) → IfErr result (λ e. e ≡ OutOfMemory) → GivesPlan layout result (parts_view parts)
 gives_some layout parts points used shape (Ok plan) found is there ok err =
     let view = seen parts points (all_axes used parts) found (ap (λ p. shape_of (all_axes p parts)) (sym is) ∙ there ∙ ap Ok (shape-made parts used shape there)) in
-    subst (GivesPlan layout (Ok plan)) (sym view) (subst (λ p. IsPlanOf layout plan (record { shape = all_axes used parts; leads = indexed_leads (length p) parts })) is ok)
+    subst (GivesPlan layout (Ok plan)) (sym view) (subst (λ p. IsPlanOf layout plan (record { shape = all_axes used parts; leads = leads_through (length p) parts })) is ok)
 gives_some layout parts points used shape (Err e) found is there ok err = inl err
 
 -- ---- points that stretch to what they have in common
 
-common_of_points : (shapes : List (List ℕ)) (points : List ℕ) (r : Result (List ℕ) Refusal) → common_with [] shapes ≡ r → told_of_indexes r ≡ Ok points → All (λ s. IsTrue (can_stretch s points)) shapes
+common_of_points : (shapes : List (List ℕ)) (points : List ℕ) (r : Result (List ℕ) Refusal) → common_with [] shapes ≡ r → as_index_shapes r ≡ Ok points → All (λ s. IsTrue (can_stretch s points)) shapes
 common_of_points shapes points (Ok lengths) found told = (with-fits [] shapes points (found ∙ told)).1
 common_of_points shapes points (Err e) found told = absurd (false≢true (ap is_ok told))
 

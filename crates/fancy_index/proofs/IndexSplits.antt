@@ -11,7 +11,7 @@ use Rattle.shape_strides.specs.Addresses.{natural}
 use Rattle.shape_strides.specs.Indexes.{indexes, IsIndex}
 use Rattle.shape_strides.specs.Layouts.{address, offsets}
 use Rattle.shape_strides.specs.IndexLaws.{length-indexes, get_or-indexes, index_at, same_on_indexes}
-use Rattle.fancy_index.specs.Plans.{moved, shifted, shifted_all, moved_all}
+use Rattle.fancy_index.specs.Plans.{moved_offset, shifted, shifted_all, moved_all}
 
 -- ---- what holds of each index
 
@@ -60,7 +60,7 @@ map-joined f (n ∷ front) back =
 
 -- the offsets of a plan, index by index
 pub moved-joined : (base : ℕ) (outer inner : Layout) (points : List ℕ) (shift : List ℕ → ℕ) (f : List ℕ → ℕ) →
-    ((o at i : List ℕ) → IsIndex outer.shape o → IsIndex points at → IsIndex inner.shape i → moved base (moved base (natural (address outer o)) (shift at)) (natural (address inner i)) ≡ f (o ++ (at ++ i))) →
+    ((o at i : List ℕ) → IsIndex outer.shape o → IsIndex points at → IsIndex inner.shape i → moved_offset base (moved_offset base (natural (address outer o)) (shift at)) (natural (address inner i)) ≡ f (o ++ (at ++ i))) →
     moved_all base (offsets outer) (map shift (indexes points)) (offsets inner) ≡ map f (indexes (outer.shape ++ (points ++ inner.shape)))
 unfolding offsets
 moved-joined base outer inner points shift f same =
@@ -70,7 +70,7 @@ moved-joined base outer inner points shift f same =
     ∙ flat_same outer.shape _ (λ o. map (λ r. f (o ++ r)) (indexes (points ++ inner.shape))) (λ o in-o.
     flat_map-map (shifted base items (places o)) shift (indexes points)
     ∙ flat_same points _ (λ at. map (λ i. f (o ++ (at ++ i))) (indexes inner.shape)) (λ at in-at.
-    map-map (moved base (moved base (places o) (shift at))) (λ i. natural (address inner i)) (indexes inner.shape)
+    map-map (moved_offset base (moved_offset base (places o) (shift at))) (λ i. natural (address inner i)) (indexes inner.shape)
     ∙ same_on_indexes inner.shape _ (λ i. f (o ++ (at ++ i))) (λ i in-i. same o at i in-o in-at in-i))
     ∙ sym (map-joined (λ r. f (o ++ r)) points inner.shape))
     ∙ sym (map-joined f outer.shape (points ++ inner.shape))

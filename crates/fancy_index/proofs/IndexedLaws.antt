@@ -6,7 +6,7 @@ use Rattle.elem_descr.specs.declared.refusal.Refusal.TheVariants.{NotAnIndexType
 use Rattle.shape_strides.specs.declared.index_item.IndexItem.{IndexItem}
 use Rattle.shape_strides.specs.declared.index_item.IndexItem.TheVariants.{Integer, Slice, Ellipsis, NewAxis, Array}
 use Rattle.view_ops.specs.Basics.{has_step}
-use Rattle.fancy_index.specs.IndexArrays.{IndexArray, with_array, is_index, taken, cover, are_within}
+use Rattle.fancy_index.specs.IndexArrays.{IndexArray, with_array, is_index, array_axes_taken, cover, are_within}
 use Rattle.fancy_index.specs.Parts.{parts}
 use Rattle.fancy_index.specs.Indexed.{parts_view, indexed}
 use Rattle.fancy_index.specs.inside.PartLists.{IsChecked}
@@ -15,27 +15,27 @@ pub refused-kind : (shape : List ℕ) (items : List (IndexItem IndexArray)) → 
 unfolding indexed
 refused-kind shape items none = rw none
 
-pub refused-many : (shape : List ℕ) (items : List (IndexItem IndexArray)) → list_all is_index items ≡ true → nat_le (taken items) (length shape) ≡ false → indexed shape items ≡ Err TooManyIndices
+pub refused-many : (shape : List ℕ) (items : List (IndexItem IndexArray)) → list_all is_index items ≡ true → nat_le (array_axes_taken items) (length shape) ≡ false → indexed shape items ≡ Err TooManyIndices
 unfolding indexed
 refused-many shape items index many = rw (index, many)
 
-pub refused-lengths : (shape : List ℕ) (items : List (IndexItem IndexArray)) → list_all is_index items ≡ true → nat_le (taken items) (length shape) ≡ true → cover shape items ≡ false → indexed shape items ≡ Err MaskLengths
+pub refused-lengths : (shape : List ℕ) (items : List (IndexItem IndexArray)) → list_all is_index items ≡ true → nat_le (array_axes_taken items) (length shape) ≡ true → cover shape items ≡ false → indexed shape items ≡ Err MaskLengths
 unfolding indexed
 refused-lengths shape items index enough other = rw (index, enough, other)
 
-pub refused-step : (shape : List ℕ) (items : List (IndexItem IndexArray)) → list_all is_index items ≡ true → nat_le (taken items) (length shape) ≡ true → cover shape items ≡ true → list_all has_step items ≡ false → indexed shape items ≡ Err ZeroStep
+pub refused-step : (shape : List ℕ) (items : List (IndexItem IndexArray)) → list_all is_index items ≡ true → nat_le (array_axes_taken items) (length shape) ≡ true → cover shape items ≡ true → list_all has_step items ≡ false → indexed shape items ≡ Err ZeroStep
 unfolding indexed
 refused-step shape items index enough covers none = rw (index, enough, covers, none)
 
-pub refused-range : (shape : List ℕ) (items : List (IndexItem IndexArray)) → list_all is_index items ≡ true → nat_le (taken items) (length shape) ≡ true → cover shape items ≡ true → list_all has_step items ≡ true → are_within shape items ≡ false → indexed shape items ≡ Err IndexOutOfRange
+pub refused-range : (shape : List ℕ) (items : List (IndexItem IndexArray)) → list_all is_index items ≡ true → nat_le (array_axes_taken items) (length shape) ≡ true → cover shape items ≡ true → list_all has_step items ≡ true → are_within shape items ≡ false → indexed shape items ≡ Err IndexOutOfRange
 unfolding indexed
 refused-range shape items index enough covers steps out = rw (index, enough, covers, steps, out)
 
 pub indexed-parts : (shape : List ℕ) (items : List (IndexItem IndexArray)) → IsChecked shape items → indexed shape items ≡ parts_view (parts shape items)
 unfolding indexed
 indexed-parts shape items c =
-    let few : taken items ≤ length shape = c.enough in
-    let test : nat_le (taken items) (length shape) ≡ true = grind (arith, nat_tests) in
+    let few : array_axes_taken items ≤ length shape = c.enough in
+    let test : nat_le (array_axes_taken items) (length shape) ≡ true = grind (arith, nat_tests) in
     rw (c.index, test, c.covers, c.steps, c.within)
 
 -- an array takes no step

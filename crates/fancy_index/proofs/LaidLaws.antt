@@ -21,8 +21,8 @@ use Rattle.view_ops.specs.Basics.{picked_index}
 use Rattle.view_ops.specs.Views.{view_through}
 use Rattle.fancy_index.specs.declared.parts.IndexPart.{IndexPart}
 use Rattle.fancy_index.specs.Parts.{Part, other_axes, side_by_side, axes_before, points_place, leads}
-use Rattle.fancy_index.specs.Indexed.{all_axes, indexed_leads}
-use Rattle.fancy_index.specs.Plans.{Planned, moved, moved_all, IsPlanOf}
+use Rattle.fancy_index.specs.Indexed.{all_axes, leads_through}
+use Rattle.fancy_index.specs.Plans.{Planned, moved_offset, moved_all, IsPlanOf}
 use Rattle.fancy_index.specs.inside.Kept.{IsMoved, IsStart, AreStarts}
 use Rattle.fancy_index.specs.inside.PartLists.{shown_part, AreParts, IsReady, IsReadyAt, first_at, first_offset, rest_picks, IsRest}
 use Rattle.fancy_index.proofs.CutLaws.{IsIndex-whole, some-behind, address-both}
@@ -132,7 +132,7 @@ module _ (layout rest outer inner : Layout) (parts : List IndexPart) (points : L
   integers at o i in-at in-o in-i =
       let j = o ++ i in
       let in-j = in-rest o i in-o in-i in
-      let picked = λ (x : List ℕ). picked_index (map Rattle.view_ops.specs.Picks.shown (rest_picks parts)) x in
+      let picked = λ (x : List ℕ). picked_index (map Rattle.view_ops.specs.Picks.pick_shown (rest_picks parts)) x in
       let first = first-leads at layout.shape parts laid.are (ready at in-at) zeros-in in
       let outer-is : address outer o ≡ address_at (take k rest.strides) rest.offset o = λ i. address_at (laid.outer_strides i) (laid.outer_offset i) o in
       let inner-is : address inner i ≡ address_at (drop k rest.strides) rest.offset i = λ t. address_at (laid.inner_strides t) (laid.inner_offset t) i in
@@ -189,14 +189,14 @@ module _ (layout rest outer inner : Layout) (parts : List IndexPart) (points : L
   start-is : (at o : List ℕ) → IsIndex points at → IsIndex outer.shape o → item at o inner-zeros + inner.offset ≡ natural (address outer o) + shift at
   start-is at o in-at in-o = omega (arith, sum at o inner-zeros in-at in-o (IsIndex-first inner.shape inner-some), inner-first)
 
-  pub same-offset : (o at i : List ℕ) → IsIndex outer.shape o → IsIndex points at → IsIndex inner.shape i → moved inner.offset (moved inner.offset (natural (address outer o)) (shift at)) (natural (address inner i)) ≡ item at o i
+  pub same-offset : (o at i : List ℕ) → IsIndex outer.shape o → IsIndex points at → IsIndex inner.shape i → moved_offset inner.offset (moved_offset inner.offset (natural (address outer o)) (shift at)) (natural (address inner i)) ≡ item at o i
   same-offset o at i in-o in-at in-i =
       omega (arith, sum at o i in-at in-o in-i, start-is at o in-at in-o)
 
   start-at : (o at : List ℕ) → IsIndex outer.shape o → IsIndex points at → IsStart inner.offset (offsets inner) (natural (address outer o)) (shift at)
   start-at o at in-o in-at = record {
     start = record { from = omega (arith, start-is at o in-at in-o); below = omega (arith, start-is at o in-at in-o, item-low at o inner-zeros in-at in-o (IsIndex-first inner.shape inner-some)) };
-    items = all_offsets (IsMoved inner.offset (moved inner.offset (natural (address outer o)) (shift at))) inner (λ i in-i. record {
+    items = all_offsets (IsMoved inner.offset (moved_offset inner.offset (natural (address outer o)) (shift at))) inner (λ i in-i. record {
       from = omega (arith, sum at o i in-at in-o in-i, start-is at o in-at in-o);
       below = omega (arith, sum at o i in-at in-o in-i, start-is at o in-at in-o, item-low at o i in-at in-o in-i);
     });
@@ -209,7 +209,7 @@ module _ (layout rest outer inner : Layout) (parts : List IndexPart) (points : L
   -- ---- the list of offsets
 
   abbrev view-leads : List ℕ → List ℕ
-  view-leads = indexed_leads (length points) shown
+  view-leads = leads_through (length points) shown
 
   shapes-are : outer.shape ++ (points ++ inner.shape) ≡ all_axes points shown
   shapes-are =
@@ -246,7 +246,7 @@ module _ (layout rest outer inner : Layout) (parts : List IndexPart) (points : L
       let back : IsIndex (drop k (other_axes shown)) (drop (k + length points) index) = subst (IsIndex (drop k (other_axes shown))) (ap (λ n. drop (length points) (drop n index)) size ∙ drop-drop (length points) k index) second.1 in
       leads-to (take (length points) (drop k index)) (take k index ++ drop (k + length points) index) middle (IsIndex-whole (other_axes shown) k laid.some (take k index) (drop (k + length points) index) front back)
 
-  pub is-plan : (plan : Planned) → plan.shape ≡ all_axes points shown → plan.offsets ≡ moved_all inner.offset (offsets outer) (map (first_offset layout parts) (indexes points)) (offsets inner) → IsPlanOf layout plan (record { shape = all_axes points shown; leads = indexed_leads (length points) shown })
+  pub is-plan : (plan : Planned) → plan.shape ≡ all_axes points shown → plan.offsets ≡ moved_all inner.offset (offsets outer) (map (first_offset layout parts) (indexes points)) (offsets inner) → IsPlanOf layout plan (record { shape = all_axes points shown; leads = leads_through (length points) shown })
   is-plan plan shape offsets-are = record { shape = shape; leads = view-in; places = offsets-are ∙ places }
 
   pub count-is : length (moved_all inner.offset (offsets outer) (map (first_offset layout parts) (indexes points)) (offsets inner)) ≡ count (all_axes points shown)

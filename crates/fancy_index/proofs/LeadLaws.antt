@@ -14,7 +14,7 @@ use Rattle.view_ops.specs.declared.pick.AxisPick.{AxisPick}
 use Rattle.view_ops.specs.declared.pick.AxisPick.TheVariants.{At as AtAxis, Along as AlongAxis, New as NewAxis}
 use Rattle.view_ops.specs.Slices.{run_numbers}
 use Rattle.view_ops.specs.Basics.{picked_index}
-use Rattle.view_ops.specs.Picks.{shown, ArePicks}
+use Rattle.view_ops.specs.Picks.{pick_shown, ArePicks}
 use Rattle.view_ops.specs.PickLaws.{length-run, number_at, first_number}
 use Rattle.broadcasting.specs.Broadcasts.{can_stretch, broadcast_index}
 use Rattle.fancy_index.specs.declared.points.PointList.{PointList}
@@ -122,11 +122,11 @@ module _ (at : List ℕ) where
   -- ---- sums
 
   -- points that are 0 add nothing
-  dot-rest : (axes : List ℕ) (strides : List ℤ) (picks : List AxisPick) (index : List ℕ) → dot strides (picked_index (map shown (map (λ _. AtAxis 0) axes ++ picks)) index) ≡ dot (drop (length axes) strides) (picked_index (map shown picks) index)
+  dot-rest : (axes : List ℕ) (strides : List ℤ) (picks : List AxisPick) (index : List ℕ) → dot strides (picked_index (map pick_shown (map (λ _. AtAxis 0) axes ++ picks)) index) ≡ dot (drop (length axes) strides) (picked_index (map pick_shown picks) index)
   dot-rest [] strides picks index = refl
   dot-rest (n ∷ axes) [] picks index = refl
   dot-rest (n ∷ axes) (s ∷ strides) picks index =
-      let later = dot strides (picked_index (map shown (map (λ _. AtAxis 0) axes ++ picks)) index) in
+      let later = dot strides (picked_index (map pick_shown (map (λ _. AtAxis 0) axes ++ picks)) index) in
       ap (λ z. z +ℤ later) (*ℤ-zero s) ∙ +ℤ_idl later ∙ dot-rest axes strides picks index
 
   swapped : (t a b c d : ℤ) → a +ℤ b ≡ c +ℤ d → (t +ℤ a) +ℤ b ≡ (t +ℤ c) +ℤ d
@@ -137,7 +137,7 @@ module _ (at : List ℕ) where
 
   -- the other numbers add the same whatever the point is
   pub split : (strides : List ℤ) (shape : List ℕ) (parts : List IndexPart) (i j : List ℕ) → AreParts shape parts → All (IsReadyAt at) parts → IsIndex (other_axes (map shown_part parts)) i → IsIndex (other_axes (map shown_part parts)) j →
-      dot strides (leads at (map shown_part parts) i) +ℤ dot strides (picked_index (map shown (rest_picks parts)) j) ≡ dot strides (leads at (map shown_part parts) j) +ℤ dot strides (picked_index (map shown (rest_picks parts)) i)
+      dot strides (leads at (map shown_part parts) i) +ℤ dot strides (picked_index (map pick_shown (rest_picks parts)) j) ≡ dot strides (leads at (map shown_part parts) j) +ℤ dot strides (picked_index (map pick_shown (rest_picks parts)) i)
   split strides shape (BetweenPart ∷ parts) i j are ready in-i in-j = split strides shape parts i j are (tail BetweenPart parts ready) in-i in-j
   split strides shape (PointsPart p ∷ parts) i j are ready in-i in-j =
       let has = head (PointsPart p) parts ready in

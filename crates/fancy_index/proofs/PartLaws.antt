@@ -10,11 +10,11 @@ use Rattle.shape_strides.specs.IndexItems.{is_ellipsis}
 use Rattle.view_ops.specs.declared.pick.AxisPick.{AxisPick}
 use Rattle.view_ops.specs.declared.pick.AxisPick.TheVariants.{At as AtAxis, Along as AlongAxis, New as NewAxis}
 use Rattle.view_ops.specs.Basics.{whole, has_step, is_on_axis}
-use Rattle.view_ops.specs.Picks.{shown, ArePicks}
+use Rattle.view_ops.specs.Picks.{pick_shown, ArePicks}
 use Rattle.fancy_index.specs.declared.points.PointList.{PointList}
 use Rattle.fancy_index.specs.declared.parts.IndexPart.{IndexPart}
 use Rattle.fancy_index.specs.declared.parts.IndexPart.TheVariants.{Axis as AxisPart, Points as PointsPart, Between as BetweenPart}
-use Rattle.fancy_index.specs.IndexArrays.{IndexArray, is_index, axes_of, taken, width, placed, left_over, covers, cover, is_within, are_within}
+use Rattle.fancy_index.specs.IndexArrays.{IndexArray, is_index, item_axes, array_axes_taken, array_axes_width, placed_arrays, left_over, covers, cover, is_within, are_within}
 use Rattle.fancy_index.specs.Parts.{Part, Axis, Between, wholes, parts_of, parts}
 use Rattle.fancy_index.specs.inside.PointLists.{place_of, IsPart}
 use Rattle.fancy_index.proofs.PointLaws.{integer-part}
@@ -49,7 +49,7 @@ AreParts-axis (n ∷ m ∷ axes) (AlongAxis run) are = absurd are.1
 pub adds_nothing : (old : List IndexPart) → AddsParts old old [] []
 adds_nothing old = record { added = []; after = sym (append-nil old); are = tt; show = refl }
 
-pub adds_axis : (old new : List IndexPart) (axes : List ℕ) (pick : AxisPick) (parts : List Part) → ArePicks axes (pick ∷ []) → parts ≡ Axis (shown pick) ∷ [] → new ≡ old ++ AxisPart pick ∷ [] → AddsParts old new axes parts
+pub adds_axis : (old new : List IndexPart) (axes : List ℕ) (pick : AxisPick) (parts : List Part) → ArePicks axes (pick ∷ []) → parts ≡ Axis (pick_shown pick) ∷ [] → new ≡ old ++ AxisPart pick ∷ [] → AddsParts old new axes parts
 adds_axis old new axes pick parts are is after = record { added = AxisPart pick ∷ []; after = after; are = AreParts-axis axes pick are; show = sym is }
 
 pub adds_points : (old new : List IndexPart) (axes : List ℕ) (p : PointList) (parts : List Part) → IsPart axes p parts → new ≡ old ++ PointsPart p ∷ [] → AddsParts old new axes parts
@@ -61,12 +61,12 @@ adds_points old new axes p parts is after = record {
 }
 
 -- one more whole axis
-pub whole_more : (old new : List IndexPart) (axes : List ℕ) (n : ℕ) (pick : AxisPick) → ArePicks (n ∷ []) (pick ∷ []) → shown pick ≡ whole n → AddsParts old new axes (wholes axes) → AddsParts old (new ++ AxisPart pick ∷ []) (axes ++ n ∷ []) (wholes (axes ++ n ∷ []))
+pub whole_more : (old new : List IndexPart) (axes : List ℕ) (n : ℕ) (pick : AxisPick) → ArePicks (n ∷ []) (pick ∷ []) → pick_shown pick ≡ whole n → AddsParts old new axes (wholes axes) → AddsParts old (new ++ AxisPart pick ∷ []) (axes ++ n ∷ []) (wholes (axes ++ n ∷ []))
 whole_more old new axes n pick within is adds = record {
   added = adds.added ++ AxisPart pick ∷ [];
   after = ap (λ l. l ++ AxisPart pick ∷ []) adds.after ∙ append_assoc old adds.added (AxisPart pick ∷ []);
   are = AreParts-append axes (n ∷ []) adds.added (AxisPart pick ∷ []) adds.are (AreParts-axis (n ∷ []) pick within);
-  show = map-append shown_part adds.added (AxisPart pick ∷ []) ∙ ap (λ l. l ++ Axis (shown pick) ∷ []) adds.show ∙ ap (λ p. wholes axes ++ Axis p ∷ []) is ∙ sym (map-append (λ n. Axis (whole n)) axes (n ∷ []));
+  show = map-append shown_part adds.added (AxisPart pick ∷ []) ∙ ap (λ l. l ++ Axis (pick_shown pick) ∷ []) adds.show ∙ ap (λ p. wholes axes ++ Axis p ∷ []) is ∙ sym (map-append (λ n. Axis (whole n)) axes (n ∷ []));
 }
 
 -- what stands between, and whole axes after it
@@ -95,20 +95,20 @@ module _ (f : IndexItem ℕ → IndexItem IndexArray) (shape : List ℕ) (items 
     pub low : k < length items
     pub from : axis ≤ end
     pub within : end ≤ length shape
-    pub enough : taken (left (k + 1)) ≤ length shape - end
-    pub is : end ≡ axis + width (length shape - axis) (item k) (left (k + 1))
+    pub enough : array_axes_taken (left (k + 1)) ≤ length shape - end
+    pub is : end ≡ axis + array_axes_width (length shape - axis) (item k) (left (k + 1))
 
-  size : (k axis end : ℕ) → EndsAt k axis end → width (length (drop axis shape)) (item k) (left (k + 1)) ≡ end - axis
-  size k axis end ends = ap (λ n. width n (item k) (left (k + 1))) (length-drop axis shape) ∙ omega (arith, ends.is)
+  size : (k axis end : ℕ) → EndsAt k axis end → array_axes_width (length (drop axis shape)) (item k) (left (k + 1)) ≡ end - axis
+  size k axis end ends = ap (λ n. array_axes_width n (item k) (left (k + 1))) (length-drop axis shape) ∙ omega (arith, ends.is)
 
   on : (k axis end : ℕ) → EndsAt k axis end → drop (end - axis) (drop axis shape) ≡ drop end shape
   on k axis end ends = drop-drop (end - axis) axis shape ∙ ap (λ m. drop m shape) (omega (arith, ends.from))
 
-  placed_more : (k axis end : ℕ) → EndsAt k axis end → placed (drop axis shape) (left k) ≡ record { item = item k; axes = slice_range shape axis end } ∷ placed (drop end shape) (left (k + 1))
+  placed_more : (k axis end : ℕ) → EndsAt k axis end → placed_arrays (drop axis shape) (left k) ≡ record { item = item k; axes = slice_range shape axis end } ∷ placed_arrays (drop end shape) (left (k + 1))
   placed_more k axis end ends =
-      ap (placed (drop axis shape)) (left_more k ends.low)
-      ∙ ap (λ n. record { item = item k; axes = take n (drop axis shape) } ∷ placed (drop n (drop axis shape)) (left (k + 1))) (size k axis end ends)
-      ∙ ap (λ s. record { item = item k; axes = slice_range shape axis end } ∷ placed s (left (k + 1))) (on k axis end ends)
+      ap (placed_arrays (drop axis shape)) (left_more k ends.low)
+      ∙ ap (λ n. record { item = item k; axes = take n (drop axis shape) } ∷ placed_arrays (drop n (drop axis shape)) (left (k + 1))) (size k axis end ends)
+      ∙ ap (λ s. record { item = item k; axes = slice_range shape axis end } ∷ placed_arrays s (left (k + 1))) (on k axis end ends)
 
   left_over_more : (k axis end : ℕ) → EndsAt k axis end → left_over (drop axis shape) (left k) ≡ left_over (drop end shape) (left (k + 1))
   left_over_more k axis end ends =
@@ -119,7 +119,7 @@ module _ (f : IndexItem ℕ → IndexItem IndexArray) (shape : List ℕ) (items 
   parts_more : (k axis end : ℕ) → EndsAt k axis end → parts (drop axis shape) (left k) ≡ parts_of (slice_range shape axis end) (item k) ++ parts (drop end shape) (left (k + 1))
   parts_more k axis end ends =
       let first = parts_of (slice_range shape axis end) (item k) in
-      let later = flat_map (λ p. parts_of p.axes p.item) (placed (drop end shape) (left (k + 1))) in
+      let later = flat_map (λ p. parts_of p.axes p.item) (placed_arrays (drop end shape) (left (k + 1))) in
       (λ i. flat_map (λ p. parts_of p.axes p.item) (placed_more k axis end ends i) ++ wholes (left_over_more k axis end ends i))
       ∙ append_assoc first later (wholes (left_over (drop end shape) (left (k + 1))))
 
@@ -133,7 +133,7 @@ module _ (f : IndexItem ℕ → IndexItem IndexArray) (shape : List ℕ) (items 
   -- the item at k comes to parts
   pub record CanPart (k axis end : ℕ) : Type 0 where
     pub index : is_index (item k) ≡ true
-    pub axes : is_ellipsis (item k) ≡ false → length (slice_range shape axis end) ≡ axes_of (item k)
+    pub axes : is_ellipsis (item k) ≡ false → length (slice_range shape axis end) ≡ item_axes (item k)
     pub covers : covers (slice_range shape axis end) (item k) ≡ true
     pub step : has_step (item k) ≡ true
     pub within : is_within (slice_range shape axis end) (item k) ≡ true
@@ -159,7 +159,7 @@ module _ (f : IndexItem ℕ → IndexItem IndexArray) (shape : List ℕ) (items 
     within = (in_range k axis end ends have.checked.within).0;
   }
     where
-      sized : (n : ℕ) (x : IndexItem IndexArray) (later : List (IndexItem IndexArray)) → is_ellipsis x ≡ false → length (slice_range shape axis end) ≡ width n x later → length (slice_range shape axis end) ≡ axes_of x
+      sized : (n : ℕ) (x : IndexItem IndexArray) (later : List (IndexItem IndexArray)) → is_ellipsis x ≡ false → length (slice_range shape axis end) ≡ array_axes_width n x later → length (slice_range shape axis end) ≡ item_axes x
       sized n (Integer at) later basic is = is
       sized n (Slice start stop step) later basic is = is
       sized n Ellipsis later basic is = absurd (false≢true (sym basic))

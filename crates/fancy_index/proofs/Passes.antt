@@ -11,7 +11,7 @@ use Rattle.shape_strides.specs.Runs.{run_offsets}
 use Rattle.overlap_copy.specs.Assignments.{assigned}
 use Rattle.overlap_copy.specs.RunLaws.{length-run_offsets}
 use lib.IntN.{pos}
-use Rattle.fancy_index.specs.Plans.{moved, shifted_all, moved_all, put_each}
+use Rattle.fancy_index.specs.Plans.{moved_offset, shifted_all, moved_all, put_each}
 use Rattle.fancy_index.specs.inside.Kept.{IsMoved}
 use Rattle.fancy_index.specs.inside.Packed.{packed}
 use Rattle.fancy_index.proofs.RunLaws.{length-packed, packed-append, assigned-append, put_each-append}
@@ -56,10 +56,10 @@ later_runs base start run left have = record {
 
 -- their offsets, where they are moved to
 abbrev pub moved_runs : ℕ → ℕ → List Run → List ℕ
-moved_runs base start left = map (moved base start) (flat_map run_offsets left)
+moved_runs base start left = map (moved_offset base start) (flat_map run_offsets left)
 
-pub moved_next : (base start : ℕ) (run : Run) (left : List Run) → moved_runs base start (run ∷ left) ≡ map (moved base start) (run_offsets run) ++ moved_runs base start left
-moved_next base start run left = map-append (moved base start) (run_offsets run) (flat_map run_offsets left)
+pub moved_next : (base start : ℕ) (run : Run) (left : List Run) → moved_runs base start (run ∷ left) ≡ map (moved_offset base start) (run_offsets run) ++ moved_runs base start left
+moved_next base start run left = map-append (moved_offset base start) (run_offsets run) (flat_map run_offsets left)
 
 -- ---- items that are scattered
 
@@ -177,73 +177,73 @@ filled_front left xs ys item block block' whole split written same have =
 
 -- ---- run after run
 
-long-run : (base start : ℕ) (run : Run) → length (map (moved base start) (run_offsets run)) ≡ run.count
-long-run base start run = length-map (run_offsets run) (moved base start) ∙ length-run_offsets run
+long-run : (base start : ℕ) (run : Run) → length (map (moved_offset base start) (run_offsets run)) ≡ run.count
+long-run base start run = length-map (run_offsets run) (moved_offset base start) ∙ length-run_offsets run
 
-split-runs : (base start : ℕ) (run : Run) (left left' : List Run) → left ≡ run ∷ left' → moved_runs base start left ≡ map (moved base start) (run_offsets run) ++ moved_runs base start left'
+split-runs : (base start : ℕ) (run : Run) (left left' : List Run) → left ≡ run ∷ left' → moved_runs base start left ≡ map (moved_offset base start) (run_offsets run) ++ moved_runs base start left'
 split-runs base start run left left' walked = ap (moved_runs base start) walked ∙ moved_next base start run left'
 
 pub record CanScatterRun (base start at width : ℕ) (run : Run) (items block : List ℕ) : Type 0 where
-  pub inside : All (λ offset. moved base start offset + width ≤ length block) (run_offsets run)
+  pub inside : All (λ offset. moved_offset base start offset + width ≤ length block) (run_offsets run)
   pub room : at + run.count * width ≤ length items
 
-can_run : (base start at width : ℕ) (run : Run) (items block : List ℕ) → CanScatter (map (moved base start) (run_offsets run)) at width items block → CanScatterRun base start at width run items block
+can_run : (base start at width : ℕ) (run : Run) (items block : List ℕ) → CanScatter (map (moved_offset base start) (run_offsets run)) at width items block → CanScatterRun base start at width run items block
 can_run base start at width run items block can = record {
-  inside = All-unmap (λ offset. offset + width ≤ length block) (moved base start) (run_offsets run) can.inside;
+  inside = All-unmap (λ offset. offset + width ≤ length block) (moved_offset base start) (run_offsets run) can.inside;
   room = subst (λ n. at + n * width ≤ length items) (long-run base start run) can.room;
 }
 
 pub scatter_run : (base start at width end : ℕ) (run : Run) (left left' : List Run) (items block whole : List ℕ) → left ≡ run ∷ left' → Scattering (moved_runs base start left) at width end items block whole → CanScatterRun base start at width run items block
 scatter_run base start at width end run left left' items block whole walked have =
-    can_run base start at width run items block (scatter_next (map (moved base start) (run_offsets run)) (moved_runs base start left') at width end items block whole
+    can_run base start at width run items block (scatter_next (map (moved_offset base start) (run_offsets run)) (moved_runs base start left') at width end items block whole
     (subst (λ l. Scattering l at width end items block whole) (split-runs base start run left left' walked) have))
 
 pub scattered_run : (base start at width end : ℕ) (run to from : Run) (left left' : List Run) (items block block' whole : List ℕ) → left ≡ run ∷ left' →
-    run_offsets to ≡ map (moved base start) (run_offsets run) → from ≡ record { offset = at; count = run.count; step = pos width } →
+    run_offsets to ≡ map (moved_offset base start) (run_offsets run) → from ≡ record { offset = at; count = run.count; step = pos width } →
     block' ≡ assigned (run_offsets to) (run_offsets from) width items block → length block' ≡ length block →
     Scattering (moved_runs base start left) at width end items block whole → Scattering (moved_runs base start left') (at + run.count * width) width end items block' whole
 scattered_run base start at width end run to from left left' items block block' whole walked to_is from_is written same have =
-    scattered_next (map (moved base start) (run_offsets run)) (moved_runs base start left') at (at + run.count * width) width end items block block' whole
-    (written ∙ (λ i. assigned (to_is i) (run_offsets (from_is i)) width items block) ∙ ap (λ n. assigned (map (moved base start) (run_offsets run)) (packed at width n) width items block) (sym (long-run base start run)))
+    scattered_next (map (moved_offset base start) (run_offsets run)) (moved_runs base start left') at (at + run.count * width) width end items block block' whole
+    (written ∙ (λ i. assigned (to_is i) (run_offsets (from_is i)) width items block) ∙ ap (λ n. assigned (map (moved_offset base start) (run_offsets run)) (packed at width n) width items block) (sym (long-run base start run)))
     same
     (ap (λ n. at + n * width) (sym (long-run base start run)))
     (subst (λ l. Scattering l at width end items block whole) (split-runs base start run left left' walked) have)
 
 pub gather_run : (base start at width end : ℕ) (run : Run) (left left' : List Run) (block items whole : List ℕ) → left ≡ run ∷ left' → Gathering (moved_runs base start left) at width end block items whole → CanScatterRun base start at width run items block
 gather_run base start at width end run left left' block items whole walked have =
-    can_run base start at width run items block (gather_next (map (moved base start) (run_offsets run)) (moved_runs base start left') at width end block items whole
+    can_run base start at width run items block (gather_next (map (moved_offset base start) (run_offsets run)) (moved_runs base start left') at width end block items whole
     (subst (λ l. Gathering l at width end block items whole) (split-runs base start run left left' walked) have))
 
 pub gathered_run : (base start at width end : ℕ) (run to from : Run) (left left' : List Run) (block items items' whole : List ℕ) → left ≡ run ∷ left' →
-    run_offsets from ≡ map (moved base start) (run_offsets run) → to ≡ record { offset = at; count = run.count; step = pos width } →
+    run_offsets from ≡ map (moved_offset base start) (run_offsets run) → to ≡ record { offset = at; count = run.count; step = pos width } →
     items' ≡ assigned (run_offsets to) (run_offsets from) width block items → length items' ≡ length items →
     Gathering (moved_runs base start left) at width end block items whole → Gathering (moved_runs base start left') (at + run.count * width) width end block items' whole
 gathered_run base start at width end run to from left left' block items items' whole walked from_is to_is written same have =
-    gathered_next (map (moved base start) (run_offsets run)) (moved_runs base start left') at (at + run.count * width) width end block items items' whole
-    (written ∙ (λ i. assigned (run_offsets (to_is i)) (from_is i) width block items) ∙ ap (λ n. assigned (packed at width n) (map (moved base start) (run_offsets run)) width block items) (sym (long-run base start run)))
+    gathered_next (map (moved_offset base start) (run_offsets run)) (moved_runs base start left') at (at + run.count * width) width end block items items' whole
+    (written ∙ (λ i. assigned (run_offsets (to_is i)) (from_is i) width block items) ∙ ap (λ n. assigned (packed at width n) (map (moved_offset base start) (run_offsets run)) width block items) (sym (long-run base start run)))
     same
     (ap (λ n. at + n * width) (sym (long-run base start run)))
     (subst (λ l. Gathering l at width end block items whole) (split-runs base start run left left' walked) have)
 
-pub fill_run : (base start : ℕ) (run : Run) (left left' : List Run) (item block whole : List ℕ) → left ≡ run ∷ left' → Filling (moved_runs base start left) item block whole → All (λ offset. moved base start offset + length item ≤ length block) (run_offsets run)
+pub fill_run : (base start : ℕ) (run : Run) (left left' : List Run) (item block whole : List ℕ) → left ≡ run ∷ left' → Filling (moved_runs base start left) item block whole → All (λ offset. moved_offset base start offset + length item ≤ length block) (run_offsets run)
 fill_run base start run left left' item block whole walked have =
     let ends = subst (All (λ offset. offset + length item ≤ length block)) (split-runs base start run left left' walked) have.inside in
-    All-unmap (λ offset. offset + length item ≤ length block) (moved base start) (run_offsets run) (All-front (λ offset. offset + length item ≤ length block) (map (moved base start) (run_offsets run)) (moved_runs base start left') ends)
+    All-unmap (λ offset. offset + length item ≤ length block) (moved_offset base start) (run_offsets run) (All-front (λ offset. offset + length item ≤ length block) (map (moved_offset base start) (run_offsets run)) (moved_runs base start left') ends)
 
 pub filled_run : (base start : ℕ) (run to : Run) (left left' : List Run) (item block block' whole : List ℕ) → left ≡ run ∷ left' →
-    run_offsets to ≡ map (moved base start) (run_offsets run) → block' ≡ put_each (run_offsets to) item block → length block' ≡ length block →
+    run_offsets to ≡ map (moved_offset base start) (run_offsets run) → block' ≡ put_each (run_offsets to) item block → length block' ≡ length block →
     Filling (moved_runs base start left) item block whole → Filling (moved_runs base start left') item block' whole
 filled_run base start run to left left' item block block' whole walked to_is written same have =
-    filled_next (map (moved base start) (run_offsets run)) (moved_runs base start left') item block block' whole
+    filled_next (map (moved_offset base start) (run_offsets run)) (moved_runs base start left') item block block' whole
     (written ∙ ap (λ l. put_each l item block) to_is) same
     (subst (λ l. Filling l item block whole) (split-runs base start run left left' walked) have)
 
 -- ---- shift after shift, and place after place
 
-pub split-shifts : (base : ℕ) (inner : List ℕ) (place : ℕ) (shifts : List ℕ) (k start : ℕ) → k < length shifts → start ≡ moved base place (get_or shifts k 0) →
-    shifted_all base (drop k shifts) inner place ≡ map (moved base start) inner ++ shifted_all base (drop (k + 1) shifts) inner place
+pub split-shifts : (base : ℕ) (inner : List ℕ) (place : ℕ) (shifts : List ℕ) (k start : ℕ) → k < length shifts → start ≡ moved_offset base place (get_or shifts k 0) →
+    shifted_all base (drop k shifts) inner place ≡ map (moved_offset base start) inner ++ shifted_all base (drop (k + 1) shifts) inner place
 split-shifts base inner place shifts k start low is =
-    ap (λ l. shifted_all base l inner place) (drop_more shifts k 0 low) ∙ ap (λ s. map (moved base s) inner ++ shifted_all base (drop (k + 1) shifts) inner place) (sym is)
+    ap (λ l. shifted_all base l inner place) (drop_more shifts k 0 low) ∙ ap (λ s. map (moved_offset base s) inner ++ shifted_all base (drop (k + 1) shifts) inner place) (sym is)
 
 pub split-places : (base : ℕ) (inner shifts left left' : List ℕ) (place : ℕ) → left ≡ place ∷ left' →
     moved_all base left shifts inner ≡ shifted_all base shifts inner place ++ moved_all base left' shifts inner

@@ -7,7 +7,7 @@ use Rattle.std.proofs.lemmas.Nat.{div-add-mod'}
 use Rattle.std.proofs.lemmas.Bool.{cases_lt}
 use Rattle.std.proofs.Math.Nat.{mul_assoc, mul-le-mul_right}
 use Rattle.shape_strides.specs.CountLaws.{factors_pos}
-use Rattle.fancy_index.specs.Plans.{moved, shifted, shifted_all, moved_all}
+use Rattle.fancy_index.specs.Plans.{moved_offset, shifted, shifted_all, moved_all}
 use Rattle.fancy_index.specs.inside.Kept.{IsMoved, IsStart, AreStarts}
 
 -- ---- lists of one length, one after another
@@ -33,7 +33,7 @@ get_or-even f m even (x ∷ xs) (suc k) j e low within =
 -- ---- the offsets of a plan
 
 length-shifted : (base : ℕ) (shifts inner : List ℕ) (place : ℕ) → length (shifted_all base shifts inner place) ≡ length shifts * length inner
-length-shifted base shifts inner place = length-even (shifted base inner place) (length inner) (λ shift. length-map inner (moved base (moved base place shift))) shifts
+length-shifted base shifts inner place = length-even (shifted base inner place) (length inner) (λ shift. length-map inner (moved_offset base (moved_offset base place shift))) shifts
 
 pub length-moved_all : (base : ℕ) (outer shifts inner : List ℕ) → length (moved_all base outer shifts inner) ≡ length outer * (length shifts * length inner)
 length-moved_all base outer shifts inner = length-even (shifted_all base shifts inner) (length shifts * length inner) (length-shifted base shifts inner) outer
@@ -65,14 +65,14 @@ rank_is rank shifts inner =
     omega (arith, whole, sum, same, mul_assoc a shifts inner)
 
 pub get_or-moved_all : (base : ℕ) (outer shifts inner : List ℕ) (rank a s i : ℕ) → a < length outer → s < length shifts → i < length inner → rank ≡ a * (length shifts * length inner) + (s * length inner + i) →
-    get_or (moved_all base outer shifts inner) rank 0 ≡ moved base (moved base (get_or outer a 0) (get_or shifts s 0)) (get_or inner i 0)
+    get_or (moved_all base outer shifts inner) rank 0 ≡ moved_offset base (moved_offset base (get_or outer a 0) (get_or shifts s 0)) (get_or inner i 0)
 get_or-moved_all base outer shifts inner rank a s i low low' low'' is =
     let place = get_or outer a 0 in
     let shift = get_or shifts s 0 in
     ap (λ r. get_or (moved_all base outer shifts inner) r 0) is
     ∙ get_or-even (shifted_all base shifts inner) (length shifts * length inner) (length-shifted base shifts inner) outer a (s * length inner + i) 0 low (within s (length shifts) i (length inner) low' low'')
-    ∙ get_or-even (shifted base inner place) (length inner) (λ x. length-map inner (moved base (moved base place x))) shifts s i 0 low' low''
-    ∙ get_or-map (moved base (moved base place shift)) inner i 0 0 low''
+    ∙ get_or-even (shifted base inner place) (length inner) (λ x. length-map inner (moved_offset base (moved_offset base place x))) shifts s i 0 low' low''
+    ∙ get_or-map (moved_offset base (moved_offset base place shift)) inner i 0 0 low''
   where
     within : (s n i m : ℕ) → s < n → i < m → s * m + i < n * m
     within s n i m below inside = omega (arith, mul-le-mul_right m below, suc-mul s m)
@@ -82,6 +82,6 @@ pub start_at : (base : ℕ) (outer shifts inner : List ℕ) (a s : ℕ) → a < 
 start_at base outer shifts inner a s low low' starts =
     All-get_or (IsStart base inner (get_or outer a 0)) shifts s 0 low' (All-get_or (AreStarts base inner shifts) outer a 0 low starts)
 
-pub item_at : (base : ℕ) (outer shifts inner : List ℕ) (a s i : ℕ) → a < length outer → s < length shifts → i < length inner → All (AreStarts base inner shifts) outer → IsMoved base (moved base (get_or outer a 0) (get_or shifts s 0)) (get_or inner i 0)
+pub item_at : (base : ℕ) (outer shifts inner : List ℕ) (a s i : ℕ) → a < length outer → s < length shifts → i < length inner → All (AreStarts base inner shifts) outer → IsMoved base (moved_offset base (get_or outer a 0) (get_or shifts s 0)) (get_or inner i 0)
 item_at base outer shifts inner a s i low low' low'' starts =
-    All-get_or (IsMoved base (moved base (get_or outer a 0) (get_or shifts s 0))) inner i 0 low'' (start_at base outer shifts inner a s low low' starts).items
+    All-get_or (IsMoved base (moved_offset base (get_or outer a 0) (get_or shifts s 0))) inner i 0 low'' (start_at base outer shifts inner a s low low' starts).items

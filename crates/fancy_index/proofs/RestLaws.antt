@@ -14,7 +14,7 @@ use Rattle.shape_strides.specs.LayoutLaws.{pos-offset}
 use Rattle.view_ops.specs.declared.pick.AxisPick.{AxisPick}
 use Rattle.view_ops.specs.declared.pick.AxisPick.TheVariants.{At as AtAxis}
 use Rattle.view_ops.specs.Basics.{axis_of, picked_shape, picked_index, shape_picked, picked_view}
-use Rattle.view_ops.specs.Picks.{shown}
+use Rattle.view_ops.specs.Picks.{pick_shown}
 use Rattle.view_ops.specs.Views.{View, IsViewOf, GivesView}
 use Rattle.fancy_index.specs.declared.parts.IndexPart.{IndexPart}
 use Rattle.fancy_index.specs.declared.parts.IndexPart.TheVariants.{Axis as AxisPart, Points as PointsPart, Between as BetweenPart}
@@ -23,23 +23,23 @@ use Rattle.fancy_index.specs.inside.PartLists.{shown_part, rest_picks, IsRest}
 
 -- ---- the shape
 
-zeros-gone : (axes : List ℕ) (picks : List AxisPick) → picked_shape (map shown (map (λ _. AtAxis 0) axes ++ picks)) ≡ picked_shape (map shown picks)
+zeros-gone : (axes : List ℕ) (picks : List AxisPick) → picked_shape (map pick_shown (map (λ _. AtAxis 0) axes ++ picks)) ≡ picked_shape (map pick_shown picks)
 zeros-gone [] picks = refl
 zeros-gone (n ∷ axes) picks = zeros-gone axes picks
 
-pub rest-shape : (parts : List IndexPart) → picked_shape (map shown (rest_picks parts)) ≡ other_axes (map shown_part parts)
+pub rest-shape : (parts : List IndexPart) → picked_shape (map pick_shown (rest_picks parts)) ≡ other_axes (map shown_part parts)
 rest-shape [] = refl
-rest-shape (AxisPart pick ∷ parts) = ap (λ l. axis_of (shown pick) ++ l) (rest-shape parts)
+rest-shape (AxisPart pick ∷ parts) = ap (λ l. axis_of (pick_shown pick) ++ l) (rest-shape parts)
 rest-shape (PointsPart p ∷ parts) = zeros-gone p.axes.items (rest_picks parts) ∙ rest-shape parts
 rest-shape (BetweenPart ∷ parts) = rest-shape parts
 
 -- ---- the layout
 
 view-ok : (parts : List IndexPart) → length (other_axes (map shown_part parts)) ≤ max_axes →
-    picked_view (map shown (rest_picks parts)) ≡ Ok (record { shape = picked_shape (map shown (rest_picks parts)); leads = picked_index (map shown (rest_picks parts)) })
+    picked_view (map pick_shown (rest_picks parts)) ≡ Ok (record { shape = picked_shape (map pick_shown (rest_picks parts)); leads = picked_index (map pick_shown (rest_picks parts)) })
 unfolding picked_view shape_picked
 view-ok parts few =
-    let test : nat_le (length (picked_shape (map shown (rest_picks parts)))) max_axes ≡ true = le-leb (length (picked_shape (map shown (rest_picks parts)))) max_axes (omega (arith, few, ap length (rest-shape parts))) in
+    let test : nat_le (length (picked_shape (map pick_shown (rest_picks parts)))) max_axes ≡ true = le-leb (length (picked_shape (map pick_shown (rest_picks parts)))) max_axes (omega (arith, few, ap length (rest-shape parts))) in
     rw test refl
 
 -- an address of a view is one of the layout that it shows
@@ -56,26 +56,26 @@ address-view old new view is index in' =
     )
     ∙ pos-offset old (view.leads index) 0 (is.leads index in-view)
 
-is-rest : (layout rest : Layout) (parts : List IndexPart) → IsViewOf layout rest (record { shape = picked_shape (map shown (rest_picks parts)); leads = picked_index (map shown (rest_picks parts)) }) → IsRest layout parts rest
+is-rest : (layout rest : Layout) (parts : List IndexPart) → IsViewOf layout rest (record { shape = picked_shape (map pick_shown (rest_picks parts)); leads = picked_index (map pick_shown (rest_picks parts)) }) → IsRest layout parts rest
 is-rest layout rest parts view = record {
   shape = view.shape ∙ rest-shape parts;
   leads = λ index in'. view.leads index (subst (λ (s : List ℕ). IsIndex s index) view.shape in');
   same = address-view layout rest _ view;
 }
 
-pub gives_rest : (layout : Layout) (parts : List IndexPart) (picks : List AxisPick) (result : Result Layout Refusal) → picks ≡ rest_picks parts → length (other_axes (map shown_part parts)) ≤ max_axes → GivesView layout result (picked_view (map shown picks)) → IfOk result (IsRest layout parts)
+pub gives_rest : (layout : Layout) (parts : List IndexPart) (picks : List AxisPick) (result : Result Layout Refusal) → picks ≡ rest_picks parts → length (other_axes (map shown_part parts)) ≤ max_axes → GivesView layout result (picked_view (map pick_shown picks)) → IfOk result (IsRest layout parts)
 gives_rest layout parts picks (Ok rest) is few given =
-    is-rest layout rest parts (subst (GivesView layout (Ok rest)) (ap (λ p. picked_view (map shown p)) is ∙ view-ok parts few) given)
+    is-rest layout rest parts (subst (GivesView layout (Ok rest)) (ap (λ p. picked_view (map pick_shown p)) is ∙ view-ok parts few) given)
 gives_rest layout parts picks (Err e) is few given = tt
 
 only-memory : (e : Refusal) (view : View) → (e ≡ OutOfMemory) ⊎ (Ok view ≡ Err e) → e ≡ OutOfMemory
 only-memory e view (inl memory) = memory
 only-memory e view (inr other) = absurd (false≢true (sym (ap is_ok other)))
 
-pub gives_memory : (layout : Layout) (parts : List IndexPart) (picks : List AxisPick) (result : Result Layout Refusal) → picks ≡ rest_picks parts → length (other_axes (map shown_part parts)) ≤ max_axes → GivesView layout result (picked_view (map shown picks)) → IfErr result (λ e. e ≡ OutOfMemory)
+pub gives_memory : (layout : Layout) (parts : List IndexPart) (picks : List AxisPick) (result : Result Layout Refusal) → picks ≡ rest_picks parts → length (other_axes (map shown_part parts)) ≤ max_axes → GivesView layout result (picked_view (map pick_shown picks)) → IfErr result (λ e. e ≡ OutOfMemory)
 gives_memory layout parts picks (Ok rest) is few given = tt
 gives_memory layout parts picks (Err e) is few given =
-    only-memory e _ (subst (GivesView layout (Err e)) (ap (λ p. picked_view (map shown p)) is ∙ view-ok parts few) given)
+    only-memory e _ (subst (GivesView layout (Err e)) (ap (λ p. picked_view (map pick_shown p)) is ∙ view-ok parts few) given)
 
 -- one more axis of points
 pub zero_more : (axes : List ℕ) (k : ℕ) (picks picks' whole : List AxisPick) → k < length axes → picks' ≡ picks ++ AtAxis 0 ∷ [] → picks ++ map (λ _. AtAxis 0) (drop k axes) ≡ whole → picks' ++ map (λ _. AtAxis 0) (drop (k + 1) axes) ≡ whole

@@ -14,7 +14,7 @@ use Rattle.shape_strides.specs.Limits.{max_bytes}
 use Rattle.shape_strides.specs.Runs.{run_offsets}
 use Rattle.overlap_copy.specs.RunLaws.{fewer, run_offsets-more, length-run_offsets, place-at, lie-within}
 use Rattle.overlap_copy.specs.Assignments.{assigned}
-use Rattle.fancy_index.specs.Plans.{moved, put_each}
+use Rattle.fancy_index.specs.Plans.{moved_offset, put_each}
 use Rattle.fancy_index.specs.inside.Kept.{IsMoved}
 use Rattle.fancy_index.specs.inside.Packed.{packed}
 
@@ -40,7 +40,7 @@ module _ (run : Run) (base start : ℕ) (lies : LieWithin (run.count ∷ []) (ru
       place-zero at step = ap (λ z. nat_abs (pos at +ℤ z)) (zero-*ℤ step) ∙ ap nat_abs (+ℤ_idr (pos at))
 
   -- the position of an item moves as the run does
-  position-moved : 1 ≤ run.count → (k : ℕ) → k < run.count → position (moved base start run.offset) run.step k ≡ pos (moved base start (place run.offset run.step k))
+  position-moved : 1 ≤ run.count → (k : ℕ) → k < run.count → position (moved_offset base start run.offset) run.step k ≡ pos (moved_offset base start (place run.offset run.step k))
   position-moved some k low =
       let is : pos (place run.offset run.step k) ≡ position run.offset run.step k = not_negative (position run.offset run.step k) ((within.each k low).0) in
       let there = moved_at k low in
@@ -50,25 +50,25 @@ module _ (run : Run) (base start : ℕ) (lies : LieWithin (run.count ∷ []) (ru
       slide : (a p b s : ℕ) (z : ℤ) → pos p ≡ pos a +ℤ z → b ≤ s + a → b ≤ s + p → pos (s + a - b) +ℤ z ≡ pos (s + p - b)
       slide a p b s z is low low' = omega (arith, ints)
 
-  pub each-moved : 1 ≤ run.count → (len width : ℕ) → All (λ offset. moved base start offset + width ≤ len) (run_offsets run) → EachWithin len (moved base start run.offset) run.step width run.count
+  pub each-moved : 1 ≤ run.count → (len width : ℕ) → All (λ offset. moved_offset base start offset + width ≤ len) (run_offsets run) → EachWithin len (moved_offset base start run.offset) run.step width run.count
   each-moved some len width ends = record {
     each = λ k low.
-        let here : moved base start (place run.offset run.step k) + width ≤ len =
-        subst (λ o. moved base start o + width ≤ len) (entry k low) (All-get_or (λ o. moved base start o + width ≤ len) (run_offsets run) k 0 (omega (arith, length-run_offsets run)) ends) in
+        let here : moved_offset base start (place run.offset run.step k) + width ≤ len =
+        subst (λ o. moved_offset base start o + width ≤ len) (entry k low) (All-get_or (λ o. moved_offset base start o + width ≤ len) (run_offsets run) k 0 (omega (arith, length-run_offsets run)) ends) in
         rw (position-moved some k low) (omega (arith, ints), omega (arith, ints));
   }
 
-  pub offsets-moved : 1 ≤ run.count → run_offsets (record { offset = moved base start run.offset; count = run.count; step = run.step }) ≡ map (moved base start) (run_offsets run)
+  pub offsets-moved : 1 ≤ run.count → run_offsets (record { offset = moved_offset base start run.offset; count = run.count; step = run.step }) ≡ map (moved_offset base start) (run_offsets run)
   offsets-moved some =
-      let new : Run = record { offset = moved base start run.offset; count = run.count; step = run.step } in
-      same_lists (run_offsets new) (map (moved base start) (run_offsets run)) (length-run_offsets new ∙ sym (length-map (run_offsets run) (moved base start) ∙ length-run_offsets run)) (λ k d below.
+      let new : Run = record { offset = moved_offset base start run.offset; count = run.count; step = run.step } in
+      same_lists (run_offsets new) (map (moved_offset base start) (run_offsets run)) (length-run_offsets new ∙ sym (length-map (run_offsets run) (moved_offset base start) ∙ length-run_offsets run)) (λ k d below.
       let low : k < run.count = omega (arith, below, length-run_offsets new) in
-      let ends : All (λ offset. moved base start offset + 1 ≤ max_bytes) (run_offsets run) = λ j e inside. omega (arith, (moves j e inside).from, (moves j e inside).below) in
+      let ends : All (λ offset. moved_offset base start offset + 1 ≤ max_bytes) (run_offsets run) = λ j e inside. omega (arith, (moves j e inside).from, (moves j e inside).below) in
       let old : k < length (run_offsets run) = omega (arith, length-run_offsets run) in
       default (run_offsets new) k d below
       ∙ place-at max_bytes 1 new k (each-moved some max_bytes 1 ends) low
       ∙ ap abs (position-moved some k low)
-      ∙ sym (get_or-map (moved base start) (run_offsets run) k 0 d old ∙ ap (moved base start) (entry k low)))
+      ∙ sym (get_or-map (moved_offset base start) (run_offsets run) k 0 d old ∙ ap (moved_offset base start) (entry k low)))
     where
       abs : ℤ → ℕ
       abs z = nat_abs z

@@ -7,7 +7,7 @@ use Rattle.shape_strides.specs.Indexes.{count}
 use Rattle.shape_strides.specs.Layouts.{offsets}
 use Rattle.shape_strides.specs.LayoutLaws.{length-offsets, entry-first}
 use Rattle.overlap_copy.specs.Assignments.{assigned}
-use Rattle.fancy_index.specs.Plans.{moved, shifted_all}
+use Rattle.fancy_index.specs.Plans.{moved_offset, shifted_all}
 use Rattle.fancy_index.specs.inside.Kept.{IsMoved, IsStart}
 use Rattle.fancy_index.specs.inside.Packed.{packed}
 use Rattle.fancy_index.proofs.GatherLaws.{packed-suc}
@@ -23,28 +23,28 @@ one-entry (y ∷ z ∷ ys) x one is = absurd (omega (arith, one))
 only-offset : (l : Layout) → count l.shape ≡ 1 → offsets l ≡ l.offset ∷ []
 only-offset l one = one-entry (offsets l) l.offset (length-offsets l ∙ one) (entry-first l (omega (arith, one)))
 
-alone : (base place : ℕ) (shifts : List ℕ) → shifted_all base shifts (base ∷ []) place ≡ map (moved base place) shifts
+alone : (base place : ℕ) (shifts : List ℕ) → shifted_all base shifts (base ∷ []) place ≡ map (moved_offset base place) shifts
 alone base place [] = refl
 alone base place (shift ∷ shifts) =
-    let same : moved base place shift + base - base ≡ moved base place shift = omega arith in
+    let same : moved_offset base place shift + base - base ≡ moved_offset base place shift = omega arith in
     λ i. same i ∷ alone base place shifts i
 
 -- where the one item of a layout lies from a place on that is shifted by each shift
-pub shifted-single : (l : Layout) (shifts : List ℕ) (place : ℕ) → count l.shape ≡ 1 → shifted_all l.offset shifts (offsets l) place ≡ map (moved l.offset place) shifts
+pub shifted-single : (l : Layout) (shifts : List ℕ) (place : ℕ) → count l.shape ≡ 1 → shifted_all l.offset shifts (offsets l) place ≡ map (moved_offset l.offset place) shifts
 shifted-single l shifts place one = ap (λ o. shifted_all l.offset shifts o place) (only-offset l one) ∙ alone l.offset place shifts
 
 pub many-single : (l : Layout) (shifts : List ℕ) (place : ℕ) → count l.shape ≡ 1 → length (shifted_all l.offset shifts (offsets l) place) ≡ length shifts
-many-single l shifts place one = ap length (shifted-single l shifts place one) ∙ length-map shifts (moved l.offset place)
+many-single l shifts place one = ap length (shifted-single l shifts place one) ∙ length-map shifts (moved_offset l.offset place)
 
 pub starts-single : (base : ℕ) (inner : List ℕ) (shifts : List ℕ) (place : ℕ) → All (IsStart base inner place) shifts → All (IsMoved base place) shifts
 starts-single base inner shifts place starts = λ k d below. (starts k d below).start
 
 -- ---- shift after shift
 
-split-single : (base place : ℕ) (shifts : List ℕ) (k start : ℕ) → k < length shifts → start ≡ moved base place (get_or shifts k 0) →
-    map (moved base place) (drop k shifts) ≡ (start ∷ []) ++ map (moved base place) (drop (k + 1) shifts)
+split-single : (base place : ℕ) (shifts : List ℕ) (k start : ℕ) → k < length shifts → start ≡ moved_offset base place (get_or shifts k 0) →
+    map (moved_offset base place) (drop k shifts) ≡ (start ∷ []) ++ map (moved_offset base place) (drop (k + 1) shifts)
 split-single base place shifts k start low is =
-    ap (map (moved base place)) (drop_more shifts k 0 low) ∙ ap (λ s. s ∷ map (moved base place) (drop (k + 1) shifts)) (sym is)
+    ap (map (moved_offset base place)) (drop_more shifts k 0 low) ∙ ap (λ s. s ∷ map (moved_offset base place) (drop (k + 1) shifts)) (sym is)
 
 packed-one : (at width : ℕ) → packed at width 1 ≡ at ∷ []
 packed-one at width = packed-suc at width 0
@@ -59,12 +59,12 @@ can_copy start at width items block can = record {
   room = omega (arith, can.room);
 }
 
-module _ (base place : ℕ) (shifts : List ℕ) (k start : ℕ) (low : k < length shifts) (is : start ≡ moved base place (get_or shifts k 0)) where
+module _ (base place : ℕ) (shifts : List ℕ) (k start : ℕ) (low : k < length shifts) (is : start ≡ moved_offset base place (get_or shifts k 0)) where
   abbrev now : List ℕ
-  now = map (moved base place) (drop k shifts)
+  now = map (moved_offset base place) (drop k shifts)
 
   abbrev later : List ℕ
-  later = map (moved base place) (drop (k + 1) shifts)
+  later = map (moved_offset base place) (drop (k + 1) shifts)
 
   split : now ≡ (start ∷ []) ++ later
   split = split-single base place shifts k start low is

@@ -21,7 +21,7 @@ pub record IndexArray : Type 0 where
 -- Integers index one axis. Bools of an axis or more are a mask of as many axes. Nothing else is an index.
 abbrev pub kind_of : Descr → List ℕ → Kind
 kind_of (ScalarDescr (Byte signed)) shape = Integers
-kind_of (ScalarDescr (Int signed width order)) shape = Integers
+kind_of (ScalarDescr (Int signed array_axes_width order)) shape = Integers
 kind_of (ScalarDescr BoolScalar) (n ∷ shape) = Mask
 kind_of _ _ = NoIndex
 
@@ -52,31 +52,31 @@ axes_of_kind Mask shape = length shape
 axes_of_kind _ shape = 1
 
 -- as many as it stands for, beside those of `...`
-abbrev pub axes_of : IndexItem IndexArray → ℕ
-axes_of Ellipsis = 0
-axes_of NewAxis = 0
-axes_of (Array array) = axes_of_kind (kind array) array.shape
-axes_of _ = 1
+abbrev pub item_axes : IndexItem IndexArray → ℕ
+item_axes Ellipsis = 0
+item_axes NewAxis = 0
+item_axes (Array array) = axes_of_kind (kind array) array.shape
+item_axes _ = 1
 
-abbrev pub taken : List (IndexItem IndexArray) → ℕ
-taken items = sum_by axes_of items
+abbrev pub array_axes_taken : List (IndexItem IndexArray) → ℕ
+array_axes_taken items = sum_by item_axes items
 
 -- how many of the axes that are left an item takes: `...` takes all but those of the items after it
-abbrev pub width : ℕ → IndexItem IndexArray → List (IndexItem IndexArray) → ℕ
-width left Ellipsis later = left - taken later
-width left item later = axes_of item
+abbrev pub array_axes_width : ℕ → IndexItem IndexArray → List (IndexItem IndexArray) → ℕ
+array_axes_width left Ellipsis later = left - array_axes_taken later
+array_axes_width left item later = item_axes item
 
 -- the items of an index with the axes that they take, and the axes after the last item
-abbrev pub placed : List ℕ → List (IndexItem IndexArray) → List (Placed IndexArray)
-placed shape [] = []
-placed shape (item ∷ items) =
-    let n = width (length shape) item items in
-    record { item = item; axes = take n shape } ∷ placed (drop n shape) items
+abbrev pub placed_arrays : List ℕ → List (IndexItem IndexArray) → List (Placed IndexArray)
+placed_arrays shape [] = []
+placed_arrays shape (item ∷ items) =
+    let n = array_axes_width (length shape) item items in
+    record { item = item; axes = take n shape } ∷ placed_arrays (drop n shape) items
 
 -- the axes that no item takes
 abbrev pub left_over : List ℕ → List (IndexItem IndexArray) → List ℕ
 left_over shape [] = shape
-left_over shape (item ∷ items) = left_over (drop (width (length shape) item items) shape) items
+left_over shape (item ∷ items) = left_over (drop (array_axes_width (length shape) item items) shape) items
 
 -- ---- what is refused
 
@@ -98,7 +98,7 @@ covers axes (Array array) = covers_kind (kind array) array.shape axes
 covers axes _ = true
 
 abbrev pub cover : List ℕ → List (IndexItem IndexArray) → Bool
-cover shape items = list_all (λ p. covers p.axes p.item) (placed shape items)
+cover shape items = list_all (λ p. covers p.axes p.item) (placed_arrays shape items)
 
 -- each number of an array of integers is within the axis, whatever it broadcasts to
 abbrev pub are_places : Kind → List ℕ → List ℤ → Bool
@@ -110,4 +110,4 @@ is_within axes (Array array) = are_places (kind array) axes array.numbers
 is_within axes item = is_on_axis axes item
 
 abbrev pub are_within : List ℕ → List (IndexItem IndexArray) → Bool
-are_within shape items = list_all (λ p. is_within p.axes p.item) (placed shape items)
+are_within shape items = list_all (λ p. is_within p.axes p.item) (placed_arrays shape items)

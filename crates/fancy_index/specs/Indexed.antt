@@ -9,25 +9,25 @@ use Rattle.shape_strides.specs.Shapes.{shape_of}
 use Rattle.view_ops.specs.Basics.{has_step}
 use Rattle.view_ops.specs.Views.{View}
 use Rattle.broadcasting.specs.Broadcasts.{common_with}
-use Rattle.fancy_index.specs.IndexArrays.{IndexArray, is_index, taken, cover, are_within}
+use Rattle.fancy_index.specs.IndexArrays.{IndexArray, is_index, array_axes_taken, cover, are_within}
 use Rattle.fancy_index.specs.Parts.{Part, parts, point_shapes, other_axes, points_place, leads}
 
 -- lengths that do not go together are told as those of index arrays
-abbrev pub told_of_indexes : Result (List ℕ) Refusal → Result (List ℕ) Refusal
-told_of_indexes (Ok lengths) = Ok lengths
-told_of_indexes (Err refusal) = Err IndexShapes
+abbrev pub as_index_shapes : Result (List ℕ) Refusal → Result (List ℕ) Refusal
+as_index_shapes (Ok lengths) = Ok lengths
+as_index_shapes (Err refusal) = Err IndexShapes
 
 -- the common lengths of the points, whatever their number
 abbrev pub points_shape : List Part → Result (List ℕ) Refusal
-points_shape parts = told_of_indexes (common_with [] (point_shapes parts))
+points_shape parts = as_index_shapes (common_with [] (point_shapes parts))
 
 -- the axes of the points among the other axes
 abbrev pub all_axes : List ℕ → List Part → List ℕ
 all_axes points parts = take (points_place parts) (other_axes parts) ++ points ++ drop (points_place parts) (other_axes parts)
 
 -- where an index of the result leads, whose numbers on so many axes from the points' place on are those of the points
-abbrev pub indexed_leads : ℕ → List Part → List ℕ → List ℕ
-indexed_leads axes parts index =
+abbrev pub leads_through : ℕ → List Part → List ℕ → List ℕ
+leads_through axes parts index =
     let place = points_place parts in
     leads (take axes (drop place index)) parts (take place index ++ drop (place + axes) index)
 
@@ -36,13 +36,13 @@ unfoldable pub parts_view : List Part → Result View Refusal
 parts_view parts = do
   points ← points_shape parts
   shape ← shape_of (all_axes points parts)
-  Ok (record { shape = shape; leads = indexed_leads (length points) parts })
+  Ok (record { shape = shape; leads = leads_through (length points) parts })
 
 -- the items that an index list with arrays takes, or the first refusal
 unfoldable pub indexed : List ℕ → List (IndexItem IndexArray) → Result View Refusal
 indexed shape items = do
   _ ← check (list_all is_index items) NotAnIndexType
-  _ ← check (nat_le (taken items) (length shape)) TooManyIndices
+  _ ← check (nat_le (array_axes_taken items) (length shape)) TooManyIndices
   _ ← check (cover shape items) MaskLengths
   _ ← check (list_all has_step items) ZeroStep
   _ ← check (are_within shape items) IndexOutOfRange

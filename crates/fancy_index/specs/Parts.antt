@@ -9,7 +9,7 @@ use Rattle.shape_strides.specs.Indexes.{indexes, rank}
 use Rattle.view_ops.specs.Slices.{from_front}
 use Rattle.view_ops.specs.Basics.{Pick, At, Along, New, whole, picks_of, axis_of}
 use Rattle.broadcasting.specs.Broadcasts.{broadcast_index}
-use Rattle.fancy_index.specs.IndexArrays.{IndexArray, kind, placed, left_over}
+use Rattle.fancy_index.specs.IndexArrays.{IndexArray, kind, placed_arrays, left_over}
 use Rattle.fancy_index.specs.declared.kind.Kind.{Kind}
 use Rattle.fancy_index.specs.declared.kind.Kind.TheVariants.{Integers, Mask}
 
@@ -49,7 +49,7 @@ parts_of axes item = map Axis (picks_of axes item)
 
 -- the axes after the last item are whole, with nothing between
 abbrev pub parts : List ℕ → List (IndexItem IndexArray) → List Part
-parts shape items = flat_map (λ p. parts_of p.axes p.item) (placed shape items) ++ wholes (left_over shape items)
+parts shape items = flat_map (λ p. parts_of p.axes p.item) (placed_arrays shape items) ++ wholes (left_over shape items)
 
 -- ---- the axes of the result
 

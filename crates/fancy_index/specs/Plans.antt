@@ -15,12 +15,12 @@ pub record Planned : Type 0 where
   pub offsets : List ℕ
 
 -- an offset, where what began at `base` begins at `start`
-abbrev pub moved : ℕ → ℕ → ℕ → ℕ
-moved base start offset = start + offset - base
+abbrev pub moved_offset : ℕ → ℕ → ℕ → ℕ
+moved_offset base start offset = start + offset - base
 
 -- where the items of the inner axes lie from a place on that is shifted, by one shift and by each
 abbrev pub shifted : ℕ → List ℕ → ℕ → ℕ → List ℕ
-shifted base inner place shift = map (moved base (moved base place shift)) inner
+shifted base inner place shift = map (moved_offset base (moved_offset base place shift)) inner
 
 abbrev pub shifted_all : ℕ → List ℕ → List ℕ → ℕ → List ℕ
 shifted_all base shifts inner place = flat_map (shifted base inner place) shifts

@@ -21,25 +21,25 @@ abbrev pub number_from : Descr → List ℕ → ℕ → ℤ
 number_from descr bytes offset = first_number (item_from descr bytes offset)
 
 -- an array by its items
-abbrev pub array_of : Indices → IndexArray
-array_of a = record { descr = a.descr.now; shape = a.layout.now.shape; numbers = map (number_from a.descr.now a.block.now) (offsets a.layout.now) }
+abbrev pub index_array_of : Indices → IndexArray
+index_array_of a = record { descr = a.descr.now; shape = a.layout.now.shape; numbers = map (number_from a.descr.now a.block.now) (offsets a.layout.now) }
 
 -- each item lies in the block
 abbrev pub LiesInBlock : Indices → Type 0
 LiesInBlock a = All (λ offset. offset + item_size a.descr.now ≤ length a.block.now) (offsets a.layout.now)
 
 -- an item with its array, by the items of the array
-abbrev pub item_of : IndexItem Indices → IndexItem IndexArray
-item_of (Integer at) = Integer at
-item_of (Slice start stop step) = Slice start stop step
-item_of Ellipsis = Ellipsis
-item_of NewAxis = NewAxis
-item_of (Array a) = Array (array_of a)
+abbrev pub index_item_of : IndexItem Indices → IndexItem IndexArray
+index_item_of (Integer at) = Integer at
+index_item_of (Slice start stop step) = Slice start stop step
+index_item_of Ellipsis = Ellipsis
+index_item_of NewAxis = NewAxis
+index_item_of (Array a) = Array (index_array_of a)
 
 -- the array that stands in an item lies in its block
-abbrev pub HasItems : IndexItem Indices → Type 0
-HasItems (Array a) = LiesInBlock a
-HasItems _ = Unit {0}
+abbrev pub ItemsLieInBlock : IndexItem Indices → Type 0
+ItemsLieInBlock (Array a) = LiesInBlock a
+ItemsLieInBlock _ = Unit {0}
 
 -- an item names one of so many arrays
 abbrev pub IsNamed : ℕ → IndexItem ℕ → Type 0
@@ -47,5 +47,5 @@ IsNamed n (Array k) = k < n
 IsNamed n _ = Unit {0}
 
 -- the items of an index list, with arrays in the place of their numbers
-abbrev pub items_of : List Indices → List (IndexItem ℕ) → List (IndexItem IndexArray)
-items_of arrays items = with_arrays (map array_of arrays) items
+abbrev pub index_items : List Indices → List (IndexItem ℕ) → List (IndexItem IndexArray)
+index_items arrays items = with_arrays (map index_array_of arrays) items

@@ -3,7 +3,7 @@ ghost use Rattle.std.specs.Prelude.{◌≡◌, ◌≤◌, ◌++◌, length, map,
 ghost use Rattle.elem_descr.specs.Refusals.{Gives};
 ghost use Rattle.shape_strides.specs.Shapes.{shape_of};
 ghost use Rattle.view_ops.specs.Basics.{axis_of};
-ghost use Rattle.view_ops.specs.Picks.{shown};
+ghost use Rattle.view_ops.specs.Picks.{pick_shown};
 ghost use Rattle.fancy_index.specs.Parts.{axes_of_part, other_axes, points_place};
 ghost use Rattle.fancy_index.specs.Indexed.{all_axes};
 ghost use Rattle.fancy_index.specs.inside.PartLists.{shown_part};
@@ -17,7 +17,7 @@ use std::alloc::{AllocError, Global};
 use view_ops::AxisPick;
 
 fn push_picked(lengths: &mut SmallVec<usize, 8>, pick: AxisPick) -> Result<(), AllocError>
-    ensures { OnOk result (lengths.new.items ≡ lengths.old.items ++ axis_of (shown pick)) }
+    ensures { OnOk result (lengths.new.items ≡ lengths.old.items ++ axis_of (pick_shown pick)) }
 {
     match pick {
         AxisPick::At(_) => Ok(()),

@@ -4,7 +4,7 @@ ghost use Rattle.elem_descr.specs.declared.descr.Descr.TheVariants.{Scalar as Sc
 ghost use Rattle.elem_descr.specs.declared.scalar.Scalar.TheVariants.{Bool as BoolScalar};
 ghost use Rattle.shape_strides.specs.Limits.{max_items};
 ghost use Rattle.raw_block.specs.Bytes.{item_at};
-ghost use Rattle.fancy_index.specs.Sources.{array_of, LiesInBlock};
+ghost use Rattle.fancy_index.specs.Sources.{index_array_of, LiesInBlock};
 ghost use Rattle.fancy_index.specs.inside.Bools.{bool_number};
 ghost use Rattle.fancy_index.specs.inside.PointLists.{true_ranks};
 
@@ -30,7 +30,7 @@ fn bytes_at(bytes: &[u8], at: usize, n: usize) -> &[u8]
 /// The bytes of the bools of an array that lie so.
 pub(crate) fn bools_of<'a>(array: Indices<'a>) -> Option<&'a [u8]>
     requires { LiesInBlock array }
-    ensures numbers { IfSome result (λ bytes. map bool_number bytes.now ≡ (array_of array.entry).numbers) }
+    ensures numbers { IfSome result (λ bytes. map bool_number bytes.now ≡ (index_array_of array.entry).numbers) }
     ensures few { IfSome result (λ bytes. length bytes.now ≤ max_items) }
 {
     if !are_bools(array.descr) {

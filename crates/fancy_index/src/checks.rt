@@ -5,10 +5,10 @@ ghost use Rattle.shape_strides.specs.declared.index_item.IndexItem.TheVariants.{
 ghost use Rattle.shape_strides.specs.Limits.{max_axes, max_items};
 ghost use Rattle.fancy_index.specs.declared.kind.Kind.TheVariants.{NoIndex};
 ghost use Rattle.view_ops.specs.Slices.{is_place};
-ghost use Rattle.fancy_index.specs.IndexArrays.{kind, with_array, is_index, axes_of, taken, width, covers, cover, is_within, are_within};
+ghost use Rattle.fancy_index.specs.IndexArrays.{kind, with_array, is_index, item_axes, array_axes_taken, array_axes_width, covers, cover, is_within, are_within};
 ghost use Rattle.fancy_index.specs.Indexed.{indexed};
 ghost use Rattle.fancy_index.specs.inside.PartLists.{IsChecked};
-ghost use Rattle.fancy_index.specs.Sources.{array_of, LiesInBlock, item_of, HasItems, IsNamed, items_of};
+ghost use Rattle.fancy_index.specs.Sources.{index_array_of, LiesInBlock, index_item_of, ItemsLieInBlock, IsNamed, index_items};
 
 use crate::kind::Kind;
 use crate::source::{Indices, kind, number_at, resolved};
@@ -18,7 +18,7 @@ use shape_strides::{FixedWalk, IndexItem};
 use view_ops::{have_steps, is_place};
 
 fn is_index(item: IndexItem<Indices<'_>>) -> bool
-    ensures { result ≡ is_index (item_of item.entry) }
+    ensures { result ≡ is_index (index_item_of item.entry) }
 {
     match item {
         IndexItem::Array(array) => kind(array) != Kind::NoIndex,
@@ -30,7 +30,7 @@ fn is_index(item: IndexItem<Indices<'_>>) -> bool
 fn are_indexes(items: &[IndexItem<usize>], arrays: &[Indices<'_>]) -> bool
     requires named { All (IsNamed (length arrays.now)) items.now }
     requires lie { All LiesInBlock arrays.now }
-    ensures { result ≡ list_all is_index (items_of arrays.now items.now) }
+    ensures { result ≡ list_all is_index (index_items arrays.now items.now) }
 {
     for item in items {
         if !is_index(resolved(item, arrays)) {
@@ -42,7 +42,7 @@ fn are_indexes(items: &[IndexItem<usize>], arrays: &[Indices<'_>]) -> bool
 
 /// How many axes an item takes, beside those of `...`.
 fn axes_of(item: IndexItem<Indices<'_>>) -> usize
-    ensures value { result ≡ axes_of (item_of item.entry) }
+    ensures value { result ≡ item_axes (index_item_of item.entry) }
     ensures few { result ≤ max_axes }
 {
     match item {
@@ -59,7 +59,7 @@ fn axes_of(item: IndexItem<Indices<'_>>) -> usize
 fn have_axes(items: &[IndexItem<usize>], arrays: &[Indices<'_>], rank: usize) -> bool
     requires named { All (IsNamed (length arrays.now)) items.now }
     requires lie { All LiesInBlock arrays.now }
-    ensures { result ≡ nat_le (taken (items_of arrays.now items.now)) rank }
+    ensures { result ≡ nat_le (array_axes_taken (index_items arrays.now items.now)) rank }
 {
     let mut left = rank;
     for item in items {
@@ -76,8 +76,8 @@ fn have_axes(items: &[IndexItem<usize>], arrays: &[Indices<'_>], rank: usize) ->
 fn taken(items: &[IndexItem<usize>], arrays: &[Indices<'_>]) -> usize
     requires named { All (IsNamed (length arrays.now)) items.now }
     requires lie { All LiesInBlock arrays.now }
-    requires few { taken (items_of arrays.now items.now) ≤ max_axes }
-    ensures { result ≡ taken (items_of arrays.now items.now) }
+    requires few { array_axes_taken (index_items arrays.now items.now) ≤ max_axes }
+    ensures { result ≡ array_axes_taken (index_items arrays.now items.now) }
 {
     let mut axes = 0;
     for item in items {
@@ -99,11 +99,11 @@ pub(crate) fn axes_end(
     requires item { k < length items.now }
     requires rank { rank ≤ max_axes }
     requires axis { axis ≤ rank }
-    requires enough { taken (items_of arrays.now (drop k items.now)) ≤ rank - axis }
-    ensures value { result ≡ axis + width (rank - axis) (with_array (map array_of arrays.now) (slice_index_or items.now k (Integer (pos 0)))) (items_of arrays.now (drop (k + 1) items.now)) }
+    requires enough { array_axes_taken (index_items arrays.now (drop k items.now)) ≤ rank - axis }
+    ensures value { result ≡ axis + array_axes_width (rank - axis) (with_array (map index_array_of arrays.now) (slice_index_or items.now k (Integer (pos 0)))) (index_items arrays.now (drop (k + 1) items.now)) }
     ensures from { axis ≤ result }
     ensures within { result ≤ rank }
-    ensures enough { taken (items_of arrays.now (drop (k + 1) items.now)) ≤ rank - result }
+    ensures enough { array_axes_taken (index_items arrays.now (drop (k + 1) items.now)) ≤ rank - result }
 {
     let item = resolved(&items[k], arrays);
     match item {
@@ -113,7 +113,7 @@ pub(crate) fn axes_end(
 }
 
 fn covers(axes: &[usize], item: IndexItem<Indices<'_>>) -> bool
-    ensures { result ≡ covers axes.now (item_of item.entry) }
+    ensures { result ≡ covers axes.now (index_item_of item.entry) }
 {
     match item {
         IndexItem::Array(array) => match kind(array) {
@@ -129,8 +129,8 @@ fn cover(lengths: &[usize], items: &[IndexItem<usize>], arrays: &[Indices<'_>]) 
     requires named { All (IsNamed (length arrays.now)) items.now }
     requires lie { All LiesInBlock arrays.now }
     requires rank { length lengths.now ≤ max_axes }
-    requires enough { taken (items_of arrays.now items.now) ≤ length lengths.now }
-    ensures { result ≡ cover lengths.now (items_of arrays.now items.now) }
+    requires enough { array_axes_taken (index_items arrays.now items.now) ≤ length lengths.now }
+    ensures { result ≡ cover lengths.now (index_items arrays.now items.now) }
 {
     let mut axis = 0;
     for k in 0..items.len() {
@@ -145,9 +145,9 @@ fn cover(lengths: &[usize], items: &[IndexItem<usize>], arrays: &[Indices<'_>]) 
 
 /// Whether each number of an array is one of `n` places.
 fn are_places_each(array: Indices<'_>, n: usize) -> bool
-    requires kind { kind (array_of array) ≢ NoIndex }
+    requires kind { kind (index_array_of array) ≢ NoIndex }
     requires lies { LiesInBlock array }
-    ensures { result ≡ list_all (is_place n) (array_of array.entry).numbers }
+    ensures { result ≡ list_all (is_place n) (index_array_of array.entry).numbers }
 {
     for offset in FixedWalk::new(array.layout) {
         if !is_place(n, number_at(array, offset)) {
@@ -161,9 +161,9 @@ fn are_places_each(array: Indices<'_>, n: usize) -> bool
 /// lie one right after another need no walk.
 fn are_places(array: Indices<'_>, n: usize) -> bool
     requires small { n ≤ max_items }
-    requires kind { kind (array_of array) ≢ NoIndex }
+    requires kind { kind (index_array_of array) ≢ NoIndex }
     requires lies { LiesInBlock array }
-    ensures { result ≡ list_all (is_place n) (array_of array.entry).numbers }
+    ensures { result ≡ list_all (is_place n) (index_array_of array.entry).numbers }
 {
     if let Some(words) = words_of(array) {
         return are_word_places(words, n);
@@ -173,8 +173,8 @@ fn are_places(array: Indices<'_>, n: usize) -> bool
 
 fn is_within(axes: &[usize], item: IndexItem<Indices<'_>>) -> bool
     requires small { All (λ n. n ≤ max_items) axes.now }
-    requires lies { HasItems item }
-    ensures { result ≡ is_within axes.now (item_of item.entry) }
+    requires lies { ItemsLieInBlock item }
+    ensures { result ≡ is_within axes.now (index_item_of item.entry) }
 {
     match (item, axes) {
         (IndexItem::Integer(at), [n, ..]) => is_place(*n, at),
@@ -192,8 +192,8 @@ fn are_within(lengths: &[usize], items: &[IndexItem<usize>], arrays: &[Indices<'
     requires lie { All LiesInBlock arrays.now }
     requires rank { length lengths.now ≤ max_axes }
     requires small { All (λ n. n ≤ max_items) lengths.now }
-    requires enough { taken (items_of arrays.now items.now) ≤ length lengths.now }
-    ensures { result ≡ are_within lengths.now (items_of arrays.now items.now) }
+    requires enough { array_axes_taken (index_items arrays.now items.now) ≤ length lengths.now }
+    ensures { result ≡ are_within lengths.now (index_items arrays.now items.now) }
 {
     let mut axis = 0;
     for k in 0..items.len() {
@@ -216,8 +216,8 @@ pub(crate) fn check(
     requires lie { All LiesInBlock arrays.now }
     requires rank { length lengths.now ≤ max_axes }
     requires small { All (λ n. n ≤ max_items) lengths.now }
-    ensures ok { IfOk result (λ _. IsChecked lengths.now (items_of arrays.now items.now)) }
-    ensures err { IfErr result (λ refusal. indexed lengths.now (items_of arrays.now items.now) ≡ Err refusal) }
+    ensures ok { IfOk result (λ _. IsChecked lengths.now (index_items arrays.now items.now)) }
+    ensures err { IfErr result (λ refusal. indexed lengths.now (index_items arrays.now items.now) ≡ Err refusal) }
 {
     if !are_indexes(items, arrays) {
         return Err(Refusal::NotAnIndexType);

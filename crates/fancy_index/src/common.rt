@@ -3,7 +3,7 @@ ghost use Rattle.std.specs.Prelude.{map};
 ghost use Rattle.elem_descr.specs.Refusals.{Gives};
 ghost use Rattle.broadcasting.specs.Broadcasts.{common_with};
 ghost use Rattle.fancy_index.specs.Parts.{shapes_of_part};
-ghost use Rattle.fancy_index.specs.Indexed.{told_of_indexes, points_shape};
+ghost use Rattle.fancy_index.specs.Indexed.{as_index_shapes, points_shape};
 ghost use Rattle.fancy_index.specs.inside.PartLists.{shown_part};
 
 use crate::parts::IndexPart;
@@ -18,7 +18,7 @@ fn common_with_part(
     lengths: SmallVec<usize, 8>,
     part: &IndexPart,
 ) -> Result<SmallVec<usize, 8>, Refusal>
-    ensures { Gives (λ v. v.items) result (told_of_indexes (common_with lengths.items (shapes_of_part (shown_part part.now)))) }
+    ensures { Gives (λ v. v.items) result (as_index_shapes (common_with lengths.items (shapes_of_part (shown_part part.now)))) }
 {
     match part {
         IndexPart::Points(points) => {

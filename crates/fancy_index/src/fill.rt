@@ -2,7 +2,7 @@
 ghost use Rattle.std.specs.Prelude.{◌≡◌, ◌+◌, ◌≤◌, length, map, All};
 ghost use Rattle.shape_strides.specs.Limits.{max_bytes};
 ghost use Rattle.shape_strides.specs.Layouts.{offsets};
-ghost use Rattle.fancy_index.specs.Plans.{moved, shifted_all, moved_all, put_each};
+ghost use Rattle.fancy_index.specs.Plans.{moved_offset, shifted_all, moved_all, put_each};
 ghost use Rattle.fancy_index.specs.inside.Kept.{IsMoved, AreStarts};
 
 use crate::plans::moved;
@@ -15,8 +15,8 @@ use shape_strides::{FixedWalk, Layout, Runs};
 fn fill_from(block: &mut RawBlock, inner: &Layout, start: usize, item: &[u8])
     requires base { inner.now.offset ≤ max_bytes }
     requires moved { All (IsMoved inner.now.offset start) (offsets inner.now) }
-    requires inside { All (λ offset. offset + length item.now ≤ length block.old) (map (moved inner.now.offset start) (offsets inner.now)) }
-    ensures written { block.new ≡ put_each (map (moved inner.now.offset start) (offsets inner.now)) item.now block.old }
+    requires inside { All (λ offset. offset + length item.now ≤ length block.old) (map (moved_offset inner.now.offset start) (offsets inner.now)) }
+    ensures written { block.new ≡ put_each (map (moved_offset inner.now.offset start) (offsets inner.now)) item.now block.old }
     ensures len { length block.new ≡ length block.old }
 {
     for run in Runs::new(inner) {

@@ -3,7 +3,7 @@ ghost use Rattle.std.specs.Prelude.{◌≡◌, ◌+◌, ◌*◌, ◌≤◌, leng
 ghost use Rattle.shape_strides.specs.Limits.{max_bytes};
 ghost use Rattle.shape_strides.specs.Layouts.{offsets};
 ghost use Rattle.overlap_copy.specs.Assignments.{assigned};
-ghost use Rattle.fancy_index.specs.Plans.{moved, shifted_all, moved_all};
+ghost use Rattle.fancy_index.specs.Plans.{moved_offset, shifted_all, moved_all};
 ghost use Rattle.fancy_index.specs.inside.Kept.{IsMoved, AreStarts};
 ghost use Rattle.fancy_index.specs.inside.Packed.{packed};
 
@@ -26,11 +26,11 @@ fn gather_from(
 ) -> usize
     requires base { inner.now.offset ≤ max_bytes }
     requires moved { All (IsMoved inner.now.offset start) (offsets inner.now) }
-    requires inside { All (λ offset. offset + width ≤ length block.now) (map (moved inner.now.offset start) (offsets inner.now)) }
-    requires room { at + length (map (moved inner.now.offset start) (offsets inner.now)) * width ≤ length items.old }
-    ensures written { let from = map (moved inner.now.offset start) (offsets inner.now) in items.new ≡ assigned (packed at width (length from)) from width block.now items.old }
+    requires inside { All (λ offset. offset + width ≤ length block.now) (map (moved_offset inner.now.offset start) (offsets inner.now)) }
+    requires room { at + length (map (moved_offset inner.now.offset start) (offsets inner.now)) * width ≤ length items.old }
+    ensures written { let from = map (moved_offset inner.now.offset start) (offsets inner.now) in items.new ≡ assigned (packed at width (length from)) from width block.now items.old }
     ensures len { length items.new ≡ length items.old }
-    ensures end { result ≡ at + length (map (moved inner.now.offset start) (offsets inner.now)) * width }
+    ensures end { result ≡ at + length (map (moved_offset inner.now.offset start) (offsets inner.now)) * width }
 {
     let len = items.len();
     let mut at = at;

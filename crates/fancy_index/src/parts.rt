@@ -4,9 +4,9 @@ ghost use Rattle.elem_descr.specs.declared.refusal.Refusal.TheVariants.{OutOfMem
 ghost use Rattle.shape_strides.specs.Limits.{max_axes, max_items};
 ghost use Rattle.shape_strides.specs.IndexItems.{is_ellipsis};
 ghost use Rattle.view_ops.specs.Basics.{has_step};
-ghost use Rattle.fancy_index.specs.IndexArrays.{is_index, axes_of, covers, is_within};
+ghost use Rattle.fancy_index.specs.IndexArrays.{is_index, item_axes, covers, is_within};
 ghost use Rattle.fancy_index.specs.Parts.{Between, wholes, parts_of, parts};
-ghost use Rattle.fancy_index.specs.Sources.{LiesInBlock, item_of, HasItems, IsNamed, items_of};
+ghost use Rattle.fancy_index.specs.Sources.{LiesInBlock, index_item_of, ItemsLieInBlock, IsNamed, index_items};
 ghost use Rattle.fancy_index.specs.inside.PartLists.{IsChecked, shown_part, AreParts, AddsParts};
 
 use crate::checks::axes_end;
@@ -50,13 +50,13 @@ fn push_parts(
     item: IndexItem<Indices<'_>>,
 ) -> Result<(), Refusal>
     requires small { All (λ n. n ≤ max_items) axes.now }
-    requires lies { HasItems item }
-    requires index { is_index (item_of item) ≡ true }
-    requires axes { is_ellipsis (item_of item) ≡ false → length axes.now ≡ axes_of (item_of item) }
-    requires covers { covers axes.now (item_of item) ≡ true }
-    requires step { has_step (item_of item) ≡ true }
-    requires within { is_within axes.now (item_of item) ≡ true }
-    ensures ok { OnOk result (AddsParts parts.old.items parts.new.items axes.now (parts_of axes.now (item_of item.entry))) }
+    requires lies { ItemsLieInBlock item }
+    requires index { is_index (index_item_of item) ≡ true }
+    requires axes { is_ellipsis (index_item_of item) ≡ false → length axes.now ≡ item_axes (index_item_of item) }
+    requires covers { covers axes.now (index_item_of item) ≡ true }
+    requires step { has_step (index_item_of item) ≡ true }
+    requires within { is_within axes.now (index_item_of item) ≡ true }
+    ensures ok { OnOk result (AddsParts parts.old.items parts.new.items axes.now (parts_of axes.now (index_item_of item.entry))) }
     ensures err { IfErr result (λ refusal. refusal ≡ OutOfMemory) }
 {
     match item {
@@ -88,9 +88,9 @@ pub(crate) fn parts_of(
     requires lie { All LiesInBlock arrays.now }
     requires rank { length lengths.now ≤ max_axes }
     requires small { All (λ n. n ≤ max_items) lengths.now }
-    requires checked { IsChecked lengths.now (items_of arrays.now items.now) }
+    requires checked { IsChecked lengths.now (index_items arrays.now items.now) }
     ensures are { IfOk result (λ v. AreParts lengths.now v.items) }
-    ensures shown { IfOk result (λ v. map shown_part v.items ≡ parts lengths.now (items_of arrays.now items.now)) }
+    ensures shown { IfOk result (λ v. map shown_part v.items ≡ parts lengths.now (index_items arrays.now items.now)) }
     ensures err { IfErr result (λ refusal. refusal ≡ OutOfMemory) }
 {
     let mut parts = Vec::new(alloc);

@@ -2,8 +2,8 @@
 ghost use Rattle.std.specs.Prelude.{◌≡◌, ◌<◌, [], length, map, All, IfOk, IfErr};
 ghost use Rattle.elem_descr.specs.declared.refusal.Refusal.TheVariants.{OutOfMemory};
 ghost use Rattle.shape_strides.specs.Indexes.{count};
-ghost use Rattle.fancy_index.specs.Indexed.{all_axes, indexed_leads, parts_view, indexed};
-ghost use Rattle.fancy_index.specs.Sources.{LiesInBlock, IsNamed, items_of};
+ghost use Rattle.fancy_index.specs.Indexed.{all_axes, leads_through, parts_view, indexed};
+ghost use Rattle.fancy_index.specs.Sources.{LiesInBlock, IsNamed, index_items};
 ghost use Rattle.fancy_index.specs.Plans.{IsPlanOf, GivesPlan};
 ghost use Rattle.fancy_index.specs.inside.PartLists.{shown_part, AreParts, IsReady, IsRest};
 
@@ -45,7 +45,7 @@ fn plan_of_rest(
     requires shape { shape ≡ all_axes points.now (map shown_part parts.old) }
     requires some { 0 < count shape }
     requires rest { IsRest layout.now parts.old rest.now }
-    ensures ok { IfOk result (λ plan. IsPlanOf layout.now plan (record { shape = all_axes points.now (map shown_part parts.old); leads = indexed_leads (length points.now) (map shown_part parts.old) })) }
+    ensures ok { IfOk result (λ plan. IsPlanOf layout.now plan (record { shape = all_axes points.now (map shown_part parts.old); leads = leads_through (length points.now) (map shown_part parts.old) })) }
     ensures err { IfErr result (λ refusal. refusal ≡ OutOfMemory) }
 {
     let _lengths = shape.as_slice();
@@ -70,7 +70,7 @@ fn plan_of_some(
     requires ready { All (IsReady points.now) parts.old }
     requires shape { shape ≡ all_axes points.now (map shown_part parts.old) }
     requires some { 0 < count shape }
-    ensures ok { IfOk result (λ plan. IsPlanOf layout.now plan (record { shape = all_axes points.now (map shown_part parts.old); leads = indexed_leads (length points.now) (map shown_part parts.old) })) }
+    ensures ok { IfOk result (λ plan. IsPlanOf layout.now plan (record { shape = all_axes points.now (map shown_part parts.old); leads = leads_through (length points.now) (map shown_part parts.old) })) }
     ensures err { IfErr result (λ refusal. refusal ≡ OutOfMemory) }
 {
     let _lengths = shape.as_slice();
@@ -112,7 +112,7 @@ pub fn plan(
 ) -> Result<Plan, Refusal>
     requires named { All (IsNamed (length arrays.now)) items.now }
     requires lie { All LiesInBlock arrays.now }
-    ensures { GivesPlan layout.now result (indexed layout.now.shape (items_of arrays.now items.now)) }
+    ensures { GivesPlan layout.now result (indexed layout.now.shape (index_items arrays.now items.now)) }
 {
     let lengths = layout.shape.as_slice();
     check(lengths, items, arrays)?;

@@ -9,7 +9,7 @@ ghost use Rattle.shape_strides.specs.Indexes.{count};
 ghost use Rattle.shape_strides.specs.Layouts.{offsets, multiples};
 ghost use Rattle.overlap_copy.specs.Assignments.{items_at, assigned};
 ghost use Rattle.overlap_copy.specs.Blocks.{offsets_in};
-ghost use Rattle.fancy_index.specs.Plans.{moved, moved_all, put_each};
+ghost use Rattle.fancy_index.specs.Plans.{moved_offset, moved_all, put_each};
 ghost use Rattle.fancy_index.specs.inside.Kept.{IsMoved, AreStarts, offsets_from};
 
 use crate::fill::fill;
@@ -60,7 +60,7 @@ impl Model for Plan {
 pub(crate) fn moved(base: usize, start: usize, offset: usize) -> usize
     requires base { base ≤ max_bytes }
     requires moved { IsMoved base start offset }
-    ensures value { result ≡ moved base start offset }
+    ensures value { result ≡ moved_offset base start offset }
     ensures bound { result < max_bytes }
 {
     start + offset - base

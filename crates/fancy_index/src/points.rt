@@ -7,7 +7,7 @@ ghost use Rattle.view_ops.specs.Slices.{is_place};
 ghost use Rattle.fancy_index.specs.declared.kind.Kind.TheVariants.{NoIndex};
 ghost use Rattle.fancy_index.specs.IndexArrays.{kind, axes_of_kind, covers_kind, are_places};
 ghost use Rattle.fancy_index.specs.Parts.{points_of};
-ghost use Rattle.fancy_index.specs.Sources.{array_of, LiesInBlock};
+ghost use Rattle.fancy_index.specs.Sources.{index_array_of, LiesInBlock};
 ghost use Rattle.fancy_index.specs.inside.PointLists.{place_of, true_ranks, IsPart};
 
 use crate::bools::{bools_of, true_bytes};
@@ -39,10 +39,10 @@ pub(crate) fn place_of(n: usize, at: i128) -> u32
 /// The places of `n` that the numbers of an array name.
 fn places_each(alloc: Global, array: Indices<'_>, n: usize) -> Result<Vec<u32>, AllocError>
     requires small { n ≤ max_items }
-    requires kind { kind (array_of array) ≢ NoIndex }
+    requires kind { kind (index_array_of array) ≢ NoIndex }
     requires lies { LiesInBlock array }
-    requires within { list_all (is_place n) (array_of array).numbers ≡ true }
-    ensures { IfOk result (λ v. v.items ≡ map (place_of n) (array_of array.entry).numbers) }
+    requires within { list_all (is_place n) (index_array_of array).numbers ≡ true }
+    ensures { IfOk result (λ v. v.items ≡ map (place_of n) (index_array_of array.entry).numbers) }
 {
     let mut places = Vec::new(alloc);
     for offset in FixedWalk::new(array.layout) {
@@ -55,10 +55,10 @@ fn places_each(alloc: Global, array: Indices<'_>, n: usize) -> Result<Vec<u32>, 
 /// walk.
 fn places(alloc: Global, array: Indices<'_>, n: usize) -> Result<Vec<u32>, AllocError>
     requires small { n ≤ max_items }
-    requires kind { kind (array_of array) ≢ NoIndex }
+    requires kind { kind (index_array_of array) ≢ NoIndex }
     requires lies { LiesInBlock array }
-    requires within { list_all (is_place n) (array_of array).numbers ≡ true }
-    ensures { IfOk result (λ v. v.items ≡ map (place_of n) (array_of array.entry).numbers) }
+    requires within { list_all (is_place n) (index_array_of array).numbers ≡ true }
+    ensures { IfOk result (λ v. v.items ≡ map (place_of n) (index_array_of array.entry).numbers) }
 {
     if let Some(words) = words_of(array) {
         return word_places(alloc, words, n);
@@ -74,9 +74,9 @@ fn is_zero(number: i128) -> bool
 
 /// The ranks at which a mask is true.
 fn true_ranks_each(alloc: Global, array: Indices<'_>) -> Result<Vec<u32>, AllocError>
-    requires kind { kind (array_of array) ≢ NoIndex }
+    requires kind { kind (index_array_of array) ≢ NoIndex }
     requires lies { LiesInBlock array }
-    ensures { IfOk result (λ v. v.items ≡ true_ranks 0 (array_of array.entry).numbers) }
+    ensures { IfOk result (λ v. v.items ≡ true_ranks 0 (index_array_of array.entry).numbers) }
 {
     let _items = array.layout.shape.items();
     let mut ranks = Vec::new(alloc);
@@ -92,9 +92,9 @@ fn true_ranks_each(alloc: Global, array: Indices<'_>) -> Result<Vec<u32>, AllocE
 
 /// The ranks at which a mask is true. Bools that lie one right after another need no walk.
 fn true_ranks(alloc: Global, array: Indices<'_>) -> Result<Vec<u32>, AllocError>
-    requires kind { kind (array_of array) ≢ NoIndex }
+    requires kind { kind (index_array_of array) ≢ NoIndex }
     requires lies { LiesInBlock array }
-    ensures { IfOk result (λ v. v.items ≡ true_ranks 0 (array_of array.entry).numbers) }
+    ensures { IfOk result (λ v. v.items ≡ true_ranks 0 (index_array_of array.entry).numbers) }
 {
     if let Some(bytes) = bools_of(array) {
         return true_bytes(alloc, bytes);
@@ -123,12 +123,12 @@ pub(crate) fn integer_point(alloc: Global, n: usize, at: i128) -> Result<PointLi
 /// The points of an array of integers along an axis of `n`.
 fn integer_points(alloc: Global, n: usize, array: Indices<'_>) -> Result<PointList, AllocError>
     requires small { n ≤ max_items }
-    requires kind { kind (array_of array) ≢ NoIndex }
+    requires kind { kind (index_array_of array) ≢ NoIndex }
     requires lies { LiesInBlock array }
-    requires within { list_all (is_place n) (array_of array).numbers ≡ true }
-    ensures lengths { IfOk result (λ p. p.lengths.items ≡ (array_of array.entry).shape) }
+    requires within { list_all (is_place n) (index_array_of array).numbers ≡ true }
+    ensures lengths { IfOk result (λ p. p.lengths.items ≡ (index_array_of array.entry).shape) }
     ensures axes { IfOk result (λ p. p.axes.items ≡ n ∷ []) }
-    ensures ranks { IfOk result (λ p. p.ranks.items ≡ map (place_of n) (array_of array.entry).numbers) }
+    ensures ranks { IfOk result (λ p. p.ranks.items ≡ map (place_of n) (index_array_of array.entry).numbers) }
 {
     let lengths = SmallVec::from_slice(alloc, array.layout.shape.as_slice())?;
     let axes = SmallVec::from_slice(alloc, &[n])?;
@@ -142,11 +142,11 @@ fn integer_points(alloc: Global, n: usize, array: Indices<'_>) -> Result<PointLi
 
 /// The points at which a mask is true.
 fn mask_points(alloc: Global, array: Indices<'_>) -> Result<PointList, AllocError>
-    requires kind { kind (array_of array) ≢ NoIndex }
+    requires kind { kind (index_array_of array) ≢ NoIndex }
     requires lies { LiesInBlock array }
     ensures lengths { IfOk result (λ p. p.lengths.items ≡ length p.ranks.items ∷ []) }
-    ensures axes { IfOk result (λ p. p.axes.items ≡ (array_of array.entry).shape) }
-    ensures ranks { IfOk result (λ p. p.ranks.items ≡ true_ranks 0 (array_of array.entry).numbers) }
+    ensures axes { IfOk result (λ p. p.axes.items ≡ (index_array_of array.entry).shape) }
+    ensures ranks { IfOk result (λ p. p.ranks.items ≡ true_ranks 0 (index_array_of array.entry).numbers) }
 {
     let axes = SmallVec::from_slice(alloc, array.layout.shape.as_slice())?;
     let ranks = true_ranks(alloc, array)?;
@@ -165,12 +165,12 @@ pub(crate) fn array_points(
     array: Indices<'_>,
 ) -> Result<PointList, AllocError>
     requires small { All (λ n. n ≤ max_items) axes.now }
-    requires kind { kind (array_of array) ≢ NoIndex }
+    requires kind { kind (index_array_of array) ≢ NoIndex }
     requires lies { LiesInBlock array }
-    requires axes { length axes.now ≡ axes_of_kind (kind (array_of array)) (array_of array).shape }
-    requires covers { covers_kind (kind (array_of array)) (array_of array).shape axes.now ≡ true }
-    requires within { are_places (kind (array_of array)) axes.now (array_of array).numbers ≡ true }
-    ensures { IfOk result (λ p. IsPart axes.now p (points_of (kind (array_of array.entry)) axes.now (array_of array.entry).shape (array_of array.entry).numbers)) }
+    requires axes { length axes.now ≡ axes_of_kind (kind (index_array_of array)) (index_array_of array).shape }
+    requires covers { covers_kind (kind (index_array_of array)) (index_array_of array).shape axes.now ≡ true }
+    requires within { are_places (kind (index_array_of array)) axes.now (index_array_of array).numbers ≡ true }
+    ensures { IfOk result (λ p. IsPart axes.now p (points_of (kind (index_array_of array.entry)) axes.now (index_array_of array.entry).shape (index_array_of array.entry).numbers)) }
 {
     match kind(array) {
         Kind::Mask => Ok(mask_points(alloc, array)?),

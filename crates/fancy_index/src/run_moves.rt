@@ -4,7 +4,7 @@ ghost use Rattle.raw_block.specs.Bytes.{EachWithin};
 ghost use Rattle.shape_strides.specs.Addresses.{LieWithin};
 ghost use Rattle.shape_strides.specs.Limits.{max_bytes};
 ghost use Rattle.shape_strides.specs.Runs.{run_offsets};
-ghost use Rattle.fancy_index.specs.Plans.{moved, put_each};
+ghost use Rattle.fancy_index.specs.Plans.{moved_offset, put_each};
 ghost use Rattle.fancy_index.specs.inside.Kept.{IsMoved};
 
 use crate::plans::moved;
@@ -18,8 +18,8 @@ pub(crate) fn moved_run(run: Run, base: usize, start: usize) -> Run
     requires lies { LieWithin (run.count ∷ []) (run.step ∷ []) run.offset max_bytes 1 }
     requires moved { All (IsMoved base start) (run_offsets run) }
     ensures count { result.count ≡ run.count }
-    ensures offsets { run_offsets result ≡ map (moved base start) (run_offsets run) }
-    ensures within { (len width : ℕ) → All (λ offset. moved base start offset + width ≤ len) (run_offsets run) → EachWithin len result.offset result.step width result.count }
+    ensures offsets { run_offsets result ≡ map (moved_offset base start) (run_offsets run) }
+    ensures within { (len width : ℕ) → All (λ offset. moved_offset base start offset + width ≤ len) (run_offsets run) → EachWithin len result.offset result.step width result.count }
 {
     Run {
         offset: moved(base, start, run.offset),

@@ -3,7 +3,7 @@ ghost use Rattle.std.specs.Prelude.{◌≡◌, ◌+◌, ◌*◌, ◌≤◌, leng
 ghost use Rattle.shape_strides.specs.Limits.{max_bytes};
 ghost use Rattle.shape_strides.specs.Layouts.{offsets};
 ghost use Rattle.overlap_copy.specs.Assignments.{assigned};
-ghost use Rattle.fancy_index.specs.Plans.{moved, shifted_all, moved_all};
+ghost use Rattle.fancy_index.specs.Plans.{moved_offset, shifted_all, moved_all};
 ghost use Rattle.fancy_index.specs.inside.Kept.{IsMoved, AreStarts};
 ghost use Rattle.fancy_index.specs.inside.Packed.{packed};
 
@@ -26,11 +26,11 @@ fn scatter_from(
 ) -> usize
     requires base { inner.now.offset ≤ max_bytes }
     requires moved { All (IsMoved inner.now.offset start) (offsets inner.now) }
-    requires inside { All (λ offset. offset + width ≤ length block.old) (map (moved inner.now.offset start) (offsets inner.now)) }
-    requires room { at + length (map (moved inner.now.offset start) (offsets inner.now)) * width ≤ length items.now }
-    ensures written { let to = map (moved inner.now.offset start) (offsets inner.now) in block.new ≡ assigned to (packed at width (length to)) width items.now block.old }
+    requires inside { All (λ offset. offset + width ≤ length block.old) (map (moved_offset inner.now.offset start) (offsets inner.now)) }
+    requires room { at + length (map (moved_offset inner.now.offset start) (offsets inner.now)) * width ≤ length items.now }
+    ensures written { let to = map (moved_offset inner.now.offset start) (offsets inner.now) in block.new ≡ assigned to (packed at width (length to)) width items.now block.old }
     ensures len { length block.new ≡ length block.old }
-    ensures end { result ≡ at + length (map (moved inner.now.offset start) (offsets inner.now)) * width }
+    ensures end { result ≡ at + length (map (moved_offset inner.now.offset start) (offsets inner.now)) * width }
 {
     let len = items.len();
     let mut at = at;

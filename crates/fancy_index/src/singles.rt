@@ -3,7 +3,7 @@ ghost use Rattle.std.specs.Prelude.{◌≡◌, ◌+◌, ◌*◌, ◌≤◌, leng
 ghost use Rattle.raw_block.specs.Bytes.{item_at, put};
 ghost use Rattle.shape_strides.specs.Limits.{max_bytes};
 ghost use Rattle.overlap_copy.specs.Assignments.{assigned};
-ghost use Rattle.fancy_index.specs.Plans.{moved, put_each};
+ghost use Rattle.fancy_index.specs.Plans.{moved_offset, put_each};
 ghost use Rattle.fancy_index.specs.inside.Kept.{IsMoved};
 ghost use Rattle.fancy_index.specs.inside.Packed.{packed};
 
@@ -67,9 +67,9 @@ fn gather_each(
 ) -> usize
     requires base { base ≤ max_bytes }
     requires moved { All (IsMoved base place) shifts.now }
-    requires inside { All (λ offset. offset + width ≤ length block.now) (map (moved base place) shifts.now) }
+    requires inside { All (λ offset. offset + width ≤ length block.now) (map (moved_offset base place) shifts.now) }
     requires room { at + length shifts.now * width ≤ length items.old }
-    ensures written { items.new ≡ assigned (packed at width (length shifts.now)) (map (moved base place) shifts.now) width block.now items.old }
+    ensures written { items.new ≡ assigned (packed at width (length shifts.now)) (map (moved_offset base place) shifts.now) width block.now items.old }
     ensures len { length items.new ≡ length items.old }
     ensures end { result ≡ at + length shifts.now * width }
 {
@@ -95,9 +95,9 @@ pub(crate) fn gather_singles(
 ) -> usize
     requires base { base ≤ max_bytes }
     requires moved { All (IsMoved base place) shifts.now }
-    requires inside { All (λ offset. offset + width ≤ length block.now) (map (moved base place) shifts.now) }
+    requires inside { All (λ offset. offset + width ≤ length block.now) (map (moved_offset base place) shifts.now) }
     requires room { at + length shifts.now * width ≤ length items.old }
-    ensures written { items.new ≡ assigned (packed at width (length shifts.now)) (map (moved base place) shifts.now) width block.now items.old }
+    ensures written { items.new ≡ assigned (packed at width (length shifts.now)) (map (moved_offset base place) shifts.now) width block.now items.old }
     ensures len { length items.new ≡ length items.old }
     ensures end { result ≡ at + length shifts.now * width }
 {
@@ -125,9 +125,9 @@ fn scatter_each(
 ) -> usize
     requires base { base ≤ max_bytes }
     requires moved { All (IsMoved base place) shifts.now }
-    requires inside { All (λ offset. offset + width ≤ length block.old) (map (moved base place) shifts.now) }
+    requires inside { All (λ offset. offset + width ≤ length block.old) (map (moved_offset base place) shifts.now) }
     requires room { at + length shifts.now * width ≤ length items.now }
-    ensures written { block.new ≡ assigned (map (moved base place) shifts.now) (packed at width (length shifts.now)) width items.now block.old }
+    ensures written { block.new ≡ assigned (map (moved_offset base place) shifts.now) (packed at width (length shifts.now)) width items.now block.old }
     ensures len { length block.new ≡ length block.old }
     ensures end { result ≡ at + length shifts.now * width }
 {
@@ -153,9 +153,9 @@ pub(crate) fn scatter_singles(
 ) -> usize
     requires base { base ≤ max_bytes }
     requires moved { All (IsMoved base place) shifts.now }
-    requires inside { All (λ offset. offset + width ≤ length block.old) (map (moved base place) shifts.now) }
+    requires inside { All (λ offset. offset + width ≤ length block.old) (map (moved_offset base place) shifts.now) }
     requires room { at + length shifts.now * width ≤ length items.now }
-    ensures written { block.new ≡ assigned (map (moved base place) shifts.now) (packed at width (length shifts.now)) width items.now block.old }
+    ensures written { block.new ≡ assigned (map (moved_offset base place) shifts.now) (packed at width (length shifts.now)) width items.now block.old }
     ensures len { length block.new ≡ length block.old }
     ensures end { result ≡ at + length shifts.now * width }
 {
@@ -174,8 +174,8 @@ pub(crate) fn scatter_singles(
 fn fill_each(block: &mut RawBlock, shifts: &[u32], base: usize, place: usize, item: &[u8])
     requires base { base ≤ max_bytes }
     requires moved { All (IsMoved base place) shifts.now }
-    requires inside { All (λ offset. offset + length item.now ≤ length block.old) (map (moved base place) shifts.now) }
-    ensures written { block.new ≡ put_each (map (moved base place) shifts.now) item.now block.old }
+    requires inside { All (λ offset. offset + length item.now ≤ length block.old) (map (moved_offset base place) shifts.now) }
+    ensures written { block.new ≡ put_each (map (moved_offset base place) shifts.now) item.now block.old }
     ensures len { length block.new ≡ length block.old }
 {
     for shift in shifts {
@@ -193,8 +193,8 @@ pub(crate) fn fill_singles(
 )
     requires base { base ≤ max_bytes }
     requires moved { All (IsMoved base place) shifts.now }
-    requires inside { All (λ offset. offset + length item.now ≤ length block.old) (map (moved base place) shifts.now) }
-    ensures written { block.new ≡ put_each (map (moved base place) shifts.now) item.now block.old }
+    requires inside { All (λ offset. offset + length item.now ≤ length block.old) (map (moved_offset base place) shifts.now) }
+    ensures written { block.new ≡ put_each (map (moved_offset base place) shifts.now) item.now block.old }
     ensures len { length block.new ≡ length block.old }
 {
     match *item {

@@ -3,7 +3,7 @@ ghost use Rattle.std.specs.Prelude.{◌≡◌, ◌≢◌, ◌+◌, ◌≤◌, le
 ghost use Rattle.elem_descr.specs.Items.{item_size};
 ghost use Rattle.fancy_index.specs.declared.kind.Kind.TheVariants.{NoIndex};
 ghost use Rattle.fancy_index.specs.IndexArrays.{kind, with_array};
-ghost use Rattle.fancy_index.specs.Sources.{number_from, array_of, LiesInBlock, item_of, HasItems, IsNamed};
+ghost use Rattle.fancy_index.specs.Sources.{number_from, index_array_of, LiesInBlock, index_item_of, ItemsLieInBlock, IsNamed};
 
 use crate::kind::{Kind, kind_of};
 use elem_descr::{Descr, num_read};
@@ -20,14 +20,14 @@ pub struct Indices<'a> {
 
 /// What an array stands for.
 pub(crate) fn kind(array: Indices<'_>) -> Kind
-    ensures { result ≡ kind (array_of array.entry) }
+    ensures { result ≡ kind (index_array_of array.entry) }
 {
     kind_of(array.descr, array.layout.shape.as_slice())
 }
 
 /// The number of an item.
 pub(crate) fn number_at(array: Indices<'_>, offset: usize) -> i128
-    requires kind { kind (array_of array) ≢ NoIndex }
+    requires kind { kind (index_array_of array) ≢ NoIndex }
     requires inside { offset + item_size array.descr.now ≤ length array.block.now }
     ensures { result ≡ number_from array.entry.descr.now array.entry.block.now offset }
 {
@@ -47,8 +47,8 @@ pub(crate) fn resolved<'a>(
 ) -> IndexItem<Indices<'a>>
     requires named { IsNamed (length arrays.now) item.now }
     requires lie { All LiesInBlock arrays.now }
-    ensures item { item_of result ≡ with_array (map array_of arrays.now) item.now }
-    ensures lies { HasItems result }
+    ensures item { index_item_of result ≡ with_array (map index_array_of arrays.now) item.now }
+    ensures lies { ItemsLieInBlock result }
 {
     match *item {
         IndexItem::Integer(at) => IndexItem::Integer(at),

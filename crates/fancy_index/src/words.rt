@@ -6,7 +6,7 @@ ghost use Rattle.raw_block.specs.Bytes.{item_at};
 ghost use Rattle.shape_strides.specs.Layouts.{offsets};
 ghost use Rattle.shape_strides.specs.Limits.{max_items};
 ghost use Rattle.view_ops.specs.Slices.{is_place};
-ghost use Rattle.fancy_index.specs.Sources.{array_of, LiesInBlock};
+ghost use Rattle.fancy_index.specs.Sources.{index_array_of, LiesInBlock};
 ghost use Rattle.fancy_index.specs.inside.Packed.{packed};
 ghost use Rattle.fancy_index.specs.inside.Words.{word, numbers, AreWords};
 ghost use Rattle.fancy_index.specs.inside.PointLists.{place_of};
@@ -88,7 +88,7 @@ fn items_of<'a, const N: usize>(array: Indices<'a>) -> Option<&'a [[u8; N]]>
 /// The bytes of the integers of an array, if they lie one right after another.
 pub(crate) fn words_of<'a>(array: Indices<'a>) -> Option<Words<'a>>
     requires { LiesInBlock array }
-    ensures { IfSome result (λ words. numbers words ≡ (array_of array.entry).numbers) }
+    ensures { IfSome result (λ words. numbers words ≡ (index_array_of array.entry).numbers) }
 {
     let (reading, width) = reading_of(array.descr)?;
     match width {

@@ -16,7 +16,7 @@ use Rattle.elem_descr.specs.Values.{LeafValue, text}
 use Rattle.elem_descr.specs.Encoding.{width_size, bytes_of, low_bits, wrap, padded, without_nuls}
 use Rattle.elem_descr.specs.Fields.{Fields, no_more, scalar_field, record_field, Structure}
 use Rattle.elem_descr.specs.Descriptors.{before, listed, fields_of, InOrder, IsLegal}
-use Rattle.elem_descr.specs.Items.{item_size, moved, leaves_of, leaves_from, AreInOrder, encode_item, decode_item}
+use Rattle.elem_descr.specs.Items.{item_size, moved_leaf, leaves_of, leaves_from, AreInOrder, encode_item, decode_item}
 use Rattle.elem_descr.specs.EncodingLaws.{decode_encode}
 use Rattle.elem_descr.specs.DescriptorLaws.{rest_at, listed-fields_of, field_within}
 use Rattle.elem_descr.specs.ItemLaws.{leaves_from-before, leaves_from-moved}
@@ -160,18 +160,18 @@ leaves_sound [] literal = tt
 leaves_sound (leaf ∷ leaves) literal = (leaf_sound leaf.scalar literal, leaves_sound leaves literal)
 
 -- the leaves of a record that begins at a byte
-pub record_leaves : (by : ℕ) (fields : Fields) → map (moved by) (leaves_from 0 fields) ≡ leaves_from by fields
+pub record_leaves : (by : ℕ) (fields : Fields) → map (moved_leaf by) (leaves_from 0 fields) ≡ leaves_from by fields
 record_leaves by fields = let none : by + 0 ≡ by = omega arith in sym (leaves_from-moved by 0 fields) ∙ ap (λ start. leaves_from start fields) none
 
 sound_along : (leaves others : List Leaf) (values : List LeafValue) → leaves ≡ others → AreSound leaves values → AreSound others values
 sound_along leaves others values same sound = rw (← same) sound
 
-field_sound : (by : ℕ) (descr : Descr) (literal : Literal) → can_be_field descr literal ≡ true → AreSound (map (moved by) (leaves_of descr)) (field_value descr literal)
+field_sound : (by : ℕ) (descr : Descr) (literal : Literal) → can_be_field descr literal ≡ true → AreSound (map (moved_leaf by) (leaves_of descr)) (field_value descr literal)
 field_sound by (ScalarDescr scalar) (ScalarOf literal) can = (leaf_sound scalar literal, tt)
 field_sound by (ScalarDescr scalar) (RecordOf literals) can = cc
 field_sound by (RecordDescr structure) (ScalarOf literal) can = cc
 field_sound by (RecordDescr structure) (RecordOf literals) can =
-    sound_along (leaves_from by structure.fields) (map (moved by) (leaves_from 0 structure.fields)) (field_values structure.fields literals) (sym (record_leaves by structure.fields)) (fields_sound by structure.fields literals can)
+    sound_along (leaves_from by structure.fields) (map (moved_leaf by) (leaves_from 0 structure.fields)) (field_values structure.fields literals) (sym (record_leaves by structure.fields)) (fields_sound by structure.fields literals can)
 
 -- the bytes of each value are as many as its leaf has, and mean it
 pub item_sound : (descr : Descr) (literal : Literal) → can_be_item descr literal ≡ true → AreSound (leaves_of descr) (values_of descr literal)
@@ -191,13 +191,13 @@ field_values-before name at (RecordDescr structure) fields (RecordOf literals) l
 abbrev pub put_fields : List ℕ → ℕ → List Field → List Literal → List ℕ
 put_fields item start fields literals = put_leaves item (leaves_from start (listed fields)) (field_values (listed fields) (all_values literals))
 
-pub put_fields-at : (item : List ℕ) (start : ℕ) (fields : List Field) (literals : List Literal) (k : ℕ) (field : Field) (literal : Literal) → IsTurn fields literals k field literal → can_be_field field.descr literal ≡ true → put_fields (put_leaves item (map (moved (start + field.at)) (leaves_of field.descr)) (field_value field.descr literal)) start (drop (k + 1) fields) (drop (k + 1) literals) ≡ put_fields item start (drop k fields) (drop k literals)
+pub put_fields-at : (item : List ℕ) (start : ℕ) (fields : List Field) (literals : List Literal) (k : ℕ) (field : Field) (literal : Literal) → IsTurn fields literals k field literal → can_be_field field.descr literal ≡ true → put_fields (put_leaves item (map (moved_leaf (start + field.at)) (leaves_of field.descr)) (field_value field.descr literal)) start (drop (k + 1) fields) (drop (k + 1) literals) ≡ put_fields item start (drop k fields) (drop k literals)
 put_fields-at item start fields literals k field literal turn can =
     let later = listed (drop (k + 1) fields) in
     let others = all_values (drop (k + 1) literals) in
     sym ((λ i. put_fields item start (rest_at fields field k turn.low turn.is i) (rest_at literals literal k turn.near turn.there i))
     ∙ (λ i. put_leaves item (leaves_from-before start field.name field.at field.descr later i) (field_values-before field.name field.at field.descr later literal others can i))
-    ∙ put_leaves-append item (map (moved (start + field.at)) (leaves_of field.descr)) (field_value field.descr literal) (leaves_from start later) (field_values later others) (field_sound (start + field.at) field.descr literal can))
+    ∙ put_leaves-append item (map (moved_leaf (start + field.at)) (leaves_of field.descr)) (field_value field.descr literal) (leaves_from start later) (field_values later others) (field_sound (start + field.at) field.descr literal can))
 
 -- no field is left
 pub put_fields-none : (item : List ℕ) (start : ℕ) (fields : List Field) (literals : List Literal) (k : ℕ) → length fields ≤ k → put_fields item start (drop k fields) literals ≡ item
@@ -210,10 +210,10 @@ turn_within structure fields k field legal are low is =
     field_within 0 fields structure.size k field order low is
 
 -- a record that begins at a byte
-pub put_record : (item : List ℕ) (at : ℕ) (descr : Descr) (literal : Literal) (structure : Structure) (values : Values) (literals : List Literal) → descr ≡ RecordDescr structure → literal ≡ RecordOf values → literals ≡ literals_of values → put_leaves item (leaves_from at structure.fields) (field_values structure.fields (all_values literals)) ≡ put_leaves item (map (moved at) (leaves_of descr)) (field_value descr literal)
+pub put_record : (item : List ℕ) (at : ℕ) (descr : Descr) (literal : Literal) (structure : Structure) (values : Values) (literals : List Literal) → descr ≡ RecordDescr structure → literal ≡ RecordOf values → literals ≡ literals_of values → put_leaves item (leaves_from at structure.fields) (field_values structure.fields (all_values literals)) ≡ put_leaves item (map (moved_leaf at) (leaves_of descr)) (field_value descr literal)
 put_record item at descr literal structure values literals is there have =
     (λ i. put_leaves item (sym (record_leaves at structure.fields) i) (field_values structure.fields (seen_values literals values have i)))
-    ∙ sym (λ i. put_leaves item (map (moved at) (leaves_of (is i))) (field_value (is i) (there i)))
+    ∙ sym (λ i. put_leaves item (map (moved_leaf at) (leaves_of (is i))) (field_value (is i) (there i)))
 
 -- ---- a record written over zeros
 

@@ -21,10 +21,10 @@ use Rattle.literal_items.specs.Numbers.{is_value}
 
 -- One value
 
-abbrev pub is_text : ScalarLiteral → Bool
-is_text (Integer value) = false
-is_text (Boolean value) = false
-is_text (Bytes bytes) = true
+abbrev pub is_text_literal : ScalarLiteral → Bool
+is_text_literal (Integer value) = false
+is_text_literal (Boolean value) = false
+is_text_literal (Bytes bytes) = true
 
 -- the number that a literal means: True is 1 and False is 0
 abbrev pub literal_number : ScalarLiteral → ℤ
@@ -40,8 +40,8 @@ literal_bytes (Bytes bytes) = bytes
 
 -- whether a literal can be a value of a scalar: bytes of a byte string, and numbers and bools of the others
 abbrev pub is_castable : Scalar → ScalarLiteral → Bool
-is_castable (BytesScalar n) literal = is_text literal
-is_castable _ literal = not (is_text literal)
+is_castable (BytesScalar n) literal = is_text_literal literal
+is_castable _ literal = not (is_text_literal literal)
 
 -- a bool takes every number, and an integer those that are its values
 abbrev pub takes_number : Scalar → ℤ → Bool

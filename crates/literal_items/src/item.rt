@@ -4,7 +4,7 @@ ghost use Rattle.std.specs.List.{list_all};
 ghost use Rattle.elem_descr.specs.declared.refusal.Refusal.TheVariants.{LiteralOutOfRange};
 ghost use Rattle.elem_descr.specs.declared.descr.Descr.TheVariants.{Record as RecordDescr};
 ghost use Rattle.elem_descr.specs.Descriptors.{IsLegal, listed};
-ghost use Rattle.elem_descr.specs.Items.{AreInOrder, item_size, leaves_of, leaves_from, moved, decode_item, encode_item};
+ghost use Rattle.elem_descr.specs.Items.{AreInOrder, item_size, leaves_of, leaves_from, moved_leaf, decode_item, encode_item};
 ghost use Rattle.elem_descr.specs.Blocks.{blocks};
 ghost use Rattle.script_lang.specs.Listed.{all_values};
 ghost use Rattle.literal_items.specs.LiteralItems.{is_castable, is_in_range, leaf_value, can_hold, are_in_range, field_values, can_be_item, is_item_in_range, values_of, item_value, item_values};
@@ -129,7 +129,7 @@ fn is_item_in_range(descr: &Descr, literal: &Literal) -> bool
 fn write_field(descr: &Descr, literal: &Literal, at: usize, item: &mut [u8])
     requires castable { can_be_field descr.now literal.now ≡ true }
     requires within { at + item_size descr.now ≤ length item.old }
-    ensures { item.new ≡ put_leaves item.old (map (moved at) (leaves_of descr.now)) (field_value descr.now literal.now) }
+    ensures { item.new ≡ put_leaves item.old (map (moved_leaf at) (leaves_of descr.now)) (field_value descr.now literal.now) }
 {
     match (descr, literal) {
         (Descr::Scalar(scalar), Literal::Scalar(value)) => {

@@ -10,8 +10,8 @@ abbrev pub item_in : Side → ℕ → List ℕ
 item_in s k = item_at (place s.run.offset s.run.step k) s.width s.bytes.now
 
 -- the number that they mean
-abbrev pub number_in : Scalar → Side → ℕ → ℤ
-number_in scalar s k = number_of (decode scalar (item_in s k))
+abbrev pub number_of_side : Scalar → Side → ℕ → ℤ
+number_of_side scalar s k = number_of (decode scalar (item_in s k))
 
 -- the same run of items of the same bytes
 abbrev pub AreSame : Side → Side → Type 0

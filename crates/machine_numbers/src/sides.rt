@@ -53,7 +53,7 @@ pub struct Side<'a> {
 }
 
 impl<'a> Side<'a> {
-    ghost use Rattle.machine_numbers.specs.Sides.{AreSame, item_in, number_in};
+    ghost use Rattle.machine_numbers.specs.Sides.{AreSame, item_in, number_of_side};
 
     /// The same, whose step is known to be this one.
     #[inline(always)]
@@ -73,7 +73,7 @@ impl<'a> Side<'a> {
     pub fn number<N: Number, O: Ordered>(self, k: usize) -> N
         requires k { k < self.run.count }
         requires width { self.width ≡ N.WIDTH }
-        ensures { N.value result ≡ number_in (N.scalar O.order) self.entry k }
+        ensures { N.value result ≡ number_of_side (N.scalar O.order) self.entry k }
     {
         read_at::<N, O>(self.bytes, place(self.run, k))
     }

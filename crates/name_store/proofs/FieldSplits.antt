@@ -8,26 +8,26 @@ use Rattle.elem_descr.specs.declared.leaf.Leaf.{Leaf}
 use Rattle.elem_descr.specs.Descriptors.{InOrder, AreNamedWithin, fields_of, depth, leaf_count}
 use Rattle.elem_descr.specs.Encoding.{size}
 use Rattle.elem_descr.specs.Fields.{Fields, no_more, scalar_field, record_field}
-use Rattle.elem_descr.specs.Items.{item_size, leaves_of, leaves_from, leaves_in, fields, field_at, no_field, moved, AreInOrder}
+use Rattle.elem_descr.specs.Items.{item_size, leaves_of, leaves_from, leaves_in, fields, field_at, no_field, moved_leaf, AreInOrder}
 use Rattle.elem_descr.specs.ItemLaws.{leaves_from-in_order, leaves_from-moved, leaves_in_order, length-leaves_from, AreInOrder-earlier, AreInOrder-append}
 use Rattle.elem_descr.specs.DescriptorLaws.{some_leaves, legal_size, InOrder-within, some_depth}
 use Rattle.name_store.specs.Places.{IsElementType}
 
 -- ---- leaves in order
 
-AreInOrder-moved : (by from bytes : ℕ) (leaves : List Leaf) → AreInOrder from leaves bytes → AreInOrder (by + from) (map (moved by) leaves) (by + bytes)
+AreInOrder-moved : (by from bytes : ℕ) (leaves : List Leaf) → AreInOrder from leaves bytes → AreInOrder (by + from) (map (moved_leaf by) leaves) (by + bytes)
 AreInOrder-moved by from bytes [] h = omega (arith, h)
 AreInOrder-moved by from bytes (leaf ∷ leaves) h =
     let join : by + (leaf.at + size leaf.scalar) ≡ by + leaf.at + size leaf.scalar = omega arith in
     (omega (arith, h.0), h.1, rw join at (AreInOrder-moved by (leaf.at + size leaf.scalar) bytes leaves h.2))
 
-moved-none : (leaves : List Leaf) → map (moved 0) leaves ≡ leaves
+moved-none : (leaves : List Leaf) → map (moved_leaf 0) leaves ≡ leaves
 moved-none [] = refl
 moved-none (leaf ∷ leaves) =
     let none : 0 + leaf.at ≡ leaf.at = omega arith in
     λ i. record { scalar = leaf.scalar; at = none i } ∷ moved-none leaves i
 
-moved-moved : (by at : ℕ) (leaves : List Leaf) → map (moved by) (map (moved at) leaves) ≡ map (moved (by + at)) leaves
+moved-moved : (by at : ℕ) (leaves : List Leaf) → map (moved_leaf by) (map (moved_leaf at) leaves) ≡ map (moved_leaf (by + at)) leaves
 moved-moved by at [] = refl
 moved-moved by at (leaf ∷ leaves) =
     let join : by + (at + leaf.at) ≡ by + at + leaf.at = omega arith in
@@ -38,7 +38,7 @@ moved-moved by at (leaf ∷ leaves) =
 pub record Split (leaves : List Leaf) (from start : ℕ) (descr : Descr) (bytes first : ℕ) : Type 0 where
   pub front : List Leaf
   pub back : List Leaf
-  pub all : leaves ≡ front ++ (map (moved start) (leaves_of descr) ++ back)
+  pub all : leaves ≡ front ++ (map (moved_leaf start) (leaves_of descr) ++ back)
   pub before : AreInOrder from front start
   pub after : AreInOrder (start + item_size descr) back bytes
   pub counted : length front ≡ first
@@ -47,7 +47,7 @@ pub split-whole : (descr : Descr) → Split (leaves_of descr) 0 0 descr (item_si
 split-whole descr = record {
   front = [];
   back = [];
-  all = sym (nothing (map (moved 0) (leaves_of descr)) ∙ moved-none (leaves_of descr));
+  all = sym (nothing (map (moved_leaf 0) (leaves_of descr)) ∙ moved-none (leaves_of descr));
   before = omega arith;
   after = omega arith;
   counted = refl;
@@ -61,28 +61,28 @@ split-whole descr = record {
 pub split-within : (leaves : List Leaf) (from at : ℕ) (whole : Descr) (bytes before start first : ℕ) (descr : Descr) →
     Split leaves from at whole bytes before → Split (leaves_of whole) 0 start descr (item_size whole) first → Split leaves from (at + start) descr bytes (before + first)
 split-within leaves from at whole bytes before start first descr outer inner = record {
-  front = outer.front ++ map (moved at) inner.front;
-  back = map (moved at) inner.back ++ outer.back;
+  front = outer.front ++ map (moved_leaf at) inner.front;
+  back = map (moved_leaf at) inner.back ++ outer.back;
   all = outer.all ∙ ap (λ middle. outer.front ++ (middle ++ outer.back)) parts
-      ∙ ap (λ rest. outer.front ++ rest) (append_assoc (map (moved at) inner.front) (own ++ map (moved at) inner.back) outer.back ∙ ap (λ rest. map (moved at) inner.front ++ rest) (append_assoc own (map (moved at) inner.back) outer.back))
-      ∙ sym (append_assoc outer.front (map (moved at) inner.front) (own ++ (map (moved at) inner.back ++ outer.back)));
+      ∙ ap (λ rest. outer.front ++ rest) (append_assoc (map (moved_leaf at) inner.front) (own ++ map (moved_leaf at) inner.back) outer.back ∙ ap (λ rest. map (moved_leaf at) inner.front ++ rest) (append_assoc own (map (moved_leaf at) inner.back) outer.back))
+      ∙ sym (append_assoc outer.front (map (moved_leaf at) inner.front) (own ++ (map (moved_leaf at) inner.back ++ outer.back)));
   before =
       let none : at + 0 ≡ at = omega arith in
-      AreInOrder-append from at (at + start) outer.front (map (moved at) inner.front) outer.before (rw none at (AreInOrder-moved at 0 start inner.front inner.before));
+      AreInOrder-append from at (at + start) outer.front (map (moved_leaf at) inner.front) outer.before (rw none at (AreInOrder-moved at 0 start inner.front inner.before));
   after =
       let join : at + (start + item_size descr) ≡ at + start + item_size descr = omega arith in
-      AreInOrder-append (at + start + item_size descr) (at + item_size whole) bytes (map (moved at) inner.back) outer.back (rw join at (AreInOrder-moved at (start + item_size descr) (item_size whole) inner.back inner.after)) outer.after;
-  counted = omega (arith, length-append outer.front (map (moved at) inner.front), length-map inner.front (moved at), outer.counted, inner.counted);
+      AreInOrder-append (at + start + item_size descr) (at + item_size whole) bytes (map (moved_leaf at) inner.back) outer.back (rw join at (AreInOrder-moved at (start + item_size descr) (item_size whole) inner.back inner.after)) outer.after;
+  counted = omega (arith, length-append outer.front (map (moved_leaf at) inner.front), length-map inner.front (moved_leaf at), outer.counted, inner.counted);
 }
   where
     own : List Leaf
-    own = map (moved (at + start)) (leaves_of descr)
+    own = map (moved_leaf (at + start)) (leaves_of descr)
 
-    parts : map (moved at) (leaves_of whole) ≡ map (moved at) inner.front ++ (own ++ map (moved at) inner.back)
+    parts : map (moved_leaf at) (leaves_of whole) ≡ map (moved_leaf at) inner.front ++ (own ++ map (moved_leaf at) inner.back)
     parts =
-        ap (map (moved at)) inner.all
-        ∙ map-append (moved at) inner.front (map (moved start) (leaves_of descr) ++ inner.back)
-        ∙ ap (λ rest. map (moved at) inner.front ++ rest) (map-append (moved at) (map (moved start) (leaves_of descr)) inner.back ∙ ap (λ rest. rest ++ map (moved at) inner.back) (moved-moved at start (leaves_of descr)))
+        ap (map (moved_leaf at)) inner.all
+        ∙ map-append (moved_leaf at) inner.front (map (moved_leaf start) (leaves_of descr) ++ inner.back)
+        ∙ ap (λ rest. map (moved_leaf at) inner.front ++ rest) (map-append (moved_leaf at) (map (moved_leaf start) (leaves_of descr)) inner.back ∙ ap (λ rest. rest ++ map (moved_leaf at) inner.back) (moved-moved at start (leaves_of descr)))
 
 -- ---- one of some fields
 
@@ -135,7 +135,7 @@ one-split (record_field name at width inner rest) (suc k) from bytes low h =
     record {
       front = leaves_from (0 + at) inner ++ later.front;
       back = later.back;
-      all = ap (λ leaves. leaves_from (0 + at) inner ++ leaves) later.all ∙ sym (append_assoc (leaves_from (0 + at) inner) later.front (map (moved (at_number rest k).at) (leaves_of (at_number rest k).descr) ++ later.back));
+      all = ap (λ leaves. leaves_from (0 + at) inner ++ leaves) later.all ∙ sym (append_assoc (leaves_from (0 + at) inner) later.front (map (moved_leaf (at_number rest k).at) (leaves_of (at_number rest k).descr) ++ later.back));
       before = AreInOrder-append from (at + width) (at_number rest k).at (leaves_from (0 + at) inner) later.front within later.before;
       after = later.after;
       counted = omega (arith, length-append (leaves_from (0 + at) inner) later.front, length-leaves_from (0 + at) inner, length-leaves_from 0 inner, later.counted);

@@ -6,7 +6,7 @@ use Rattle.elem_descr.specs.declared.descr.Descr.{Descr}
 use Rattle.elem_descr.specs.declared.leaf.Leaf.{Leaf}
 use Rattle.elem_descr.specs.Blocks.{item_from}
 use Rattle.elem_descr.specs.Encoding.{size, decode}
-use Rattle.elem_descr.specs.Items.{item_size, leaves_of, leaves_in, fields, field_at, moved, AreInOrder, decode_item}
+use Rattle.elem_descr.specs.Items.{item_size, leaves_of, leaves_in, fields, field_at, moved_leaf, AreInOrder, decode_item}
 use Rattle.elem_descr.specs.Values.{LeafValue}
 use Rattle.elem_descr.specs.ItemLaws.{AreInOrder-within}
 use Rattle.raw_block.specs.Bytes.{put}
@@ -78,7 +78,7 @@ abbrev value_in : List ℕ → Leaf → LeafValue
 value_in bytes leaf = decode leaf.scalar (take (size leaf.scalar) (drop leaf.at bytes))
 
 -- those of leaves further on
-values-moved : (start width from : ℕ) (bytes part : List ℕ) (leaves : List Leaf) → AreInOrder from leaves width → take width (drop start bytes) ≡ part → map (value_in bytes) (map (moved start) leaves) ≡ map (value_in part) leaves
+values-moved : (start width from : ℕ) (bytes part : List ℕ) (leaves : List Leaf) → AreInOrder from leaves width → take width (drop start bytes) ≡ part → map (value_in bytes) (map (moved_leaf start) leaves) ≡ map (value_in part) leaves
 values-moved start width from bytes part [] order is = refl
 values-moved start width from bytes part (leaf ∷ leaves) order is =
     λ i. decode leaf.scalar (there i) ∷ values-moved start width (leaf.at + size leaf.scalar) bytes part leaves order.2 is i
@@ -162,7 +162,7 @@ module _ (descr : Descr) (legal : IsElementType descr) (path : List ℕ) (there 
   -- the leaves of a part are some of the item's
   pub span-within : first_at descr path + length (leaves_of own) ≤ length (leaves_of descr)
   span-within =
-      omega (arith, ap length split.all, split.counted, length-append split.front (map (moved start) (leaves_of own) ++ split.back), length-append (map (moved start) (leaves_of own)) split.back, length-map (leaves_of own) (moved start))
+      omega (arith, ap length split.all, split.counted, length-append split.front (map (moved_leaf start) (leaves_of own) ++ split.back), length-append (map (moved_leaf start) (leaves_of own)) split.back, length-map (leaves_of own) (moved_leaf start))
 
   -- a path to a record may go on
   pub part-deeper : (k : ℕ) → k < length (fields own) → length path < 4
@@ -172,7 +172,7 @@ module _ (descr : Descr) (legal : IsElementType descr) (path : List ℕ) (there 
   pub part-read : (block : List ℕ) (at : ℕ) → part_at (span_at descr path) (item_from descr block at) ≡ item_from own block (at + start)
   part-read block at =
       ap (λ leaves. take (length (leaves_of own)) (drop (first_at descr path) (map (value_in bytes) leaves))) split.all
-      ∙ taken-middle (value_in bytes) split.front (map (moved start) (leaves_of own)) split.back (first_at descr path) (length (leaves_of own)) split.counted (length-map (leaves_of own) (moved start))
+      ∙ taken-middle (value_in bytes) split.front (map (moved_leaf start) (leaves_of own)) split.back (first_at descr path) (length (leaves_of own)) split.counted (length-map (leaves_of own) (moved_leaf start))
       ∙ values-moved start (item_size own) 0 bytes (take (item_size own) (drop (at + start) block)) (leaves_of own) (type-in_order own (path-legal descr path legal there)) same
     where
       bytes : List ℕ
@@ -188,7 +188,7 @@ module _ (descr : Descr) (legal : IsElementType descr) (path : List ℕ) (there 
       decode_item descr (put start part bytes) ≡ with_part (span_at descr path) (decode_item own part) (decode_item descr bytes)
   part-put part bytes whole long =
       ap (map (value_in new)) split.all
-      ∙ three (value_in new) split.front middle split.back (first_at descr path) (length (leaves_of own)) split.counted (length-map (leaves_of own) (moved start))
+      ∙ three (value_in new) split.front middle split.back (first_at descr path) (length (leaves_of own)) split.counted (length-map (leaves_of own) (moved_leaf start))
       ∙ (λ i. before i ++ (here i ++ after i))
       ∙ sym (append_assoc front (decode_item own part) back)
     where
@@ -199,7 +199,7 @@ module _ (descr : Descr) (legal : IsElementType descr) (path : List ℕ) (there 
       new = put start part bytes
 
       middle : List Leaf
-      middle = map (moved start) (leaves_of own)
+      middle = map (moved_leaf start) (leaves_of own)
 
       front : List LeafValue
       front = take (first_at descr path) (decode_item descr bytes)
@@ -211,7 +211,7 @@ module _ (descr : Descr) (legal : IsElementType descr) (path : List ℕ) (there 
       before =
           same-before start 0 part bytes split.front split.before inside
           ∙ sym (ap (λ leaves. take (first_at descr path) (map (value_in bytes) leaves)) split.all
-          ∙ taken-front (value_in bytes) split.front middle split.back (first_at descr path) (length (leaves_of own)) split.counted (length-map (leaves_of own) (moved start)))
+          ∙ taken-front (value_in bytes) split.front middle split.back (first_at descr path) (length (leaves_of own)) split.counted (length-map (leaves_of own) (moved_leaf start)))
 
       here : map (value_in new) middle ≡ decode_item own part
       here =
@@ -221,4 +221,4 @@ module _ (descr : Descr) (legal : IsElementType descr) (path : List ℕ) (there 
       after =
           same-after start (start + item_size own) (item_size descr) part bytes split.back split.after (omega (arith, whole)) inside
           ∙ sym (ap (λ leaves. drop (first_at descr path + length (leaves_of own)) (map (value_in bytes) leaves)) split.all
-          ∙ dropped-back (value_in bytes) split.front middle split.back (first_at descr path) (length (leaves_of own)) split.counted (length-map (leaves_of own) (moved start)))
+          ∙ dropped-back (value_in bytes) split.front middle split.back (first_at descr path) (length (leaves_of own)) split.counted (length-map (leaves_of own) (moved_leaf start)))

@@ -17,7 +17,7 @@ IsElementType (ScalarDescr scalar) = 1 ≤ size scalar
 IsElementType (RecordDescr structure) = IsLegal structure
 
 -- the block has so many items and no other byte
-pub record IsWhole (descr : Descr) (items : ℕ) (block : List ℕ) : Type 0 where
+pub record HasJustItems (descr : Descr) (items : ℕ) (block : List ℕ) : Type 0 where
   pub legal : IsElementType descr
   pub whole : length block ≡ items * item_size descr
   pub small : length block ≤ max_bytes

@@ -2,7 +2,7 @@
 ghost use Rattle.std.specs.Prelude.{◌≡◌, ◌≤◌, ◌*◌, length};
 ghost use Rattle.elem_descr.specs.Items.{item_size};
 ghost use Rattle.shape_strides.specs.Limits.{max_bytes};
-ghost use Rattle.name_store.specs.Places.{IsWhole, IsElementType};
+ghost use Rattle.name_store.specs.Places.{HasJustItems, IsElementType};
 ghost use Rattle.name_store.specs.inside.Props.{IsWhole-prop};
 
 use elem_descr::Descr;
@@ -14,7 +14,7 @@ pub struct Slot {
     pub descr: Descr,
     pub items: usize,
     pub block: RawBlock,
-    ghost is_whole: { IsWhole descr items block } by { IsWhole-prop descr items block },
+    ghost is_whole: { HasJustItems descr items block } by { IsWhole-prop descr items block },
 }
 
 /// The bytes of an item, with what is known of the fields.

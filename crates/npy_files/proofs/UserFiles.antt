@@ -9,7 +9,7 @@ use Rattle.disk.specs.Files.{Files, SameBut}
 use Rattle.npy_files.specs.declared.store.StoreFault.{StoreFault}
 use Rattle.npy_files.specs.declared.store.StoreFault.TheVariants.{Device, TooLong, Memory}
 use Rattle.npy_files.specs.Names.{is_user_name}
-use Rattle.npy_files.specs.Stores.{Shelf, IsRead, IsKept, IsWritten}
+use Rattle.npy_files.specs.Stores.{StoreState, IsRead, IsKept, IsWritten}
 use Rattle.npy_files.specs.Folders.{user_files, folder_shelf, IsPut}
 
 abbrev by_name : List ℕ → List ℕ → Bool
@@ -58,7 +58,7 @@ replaced name bytes old new user put =
         ] refl
 
 -- the shelf of a folder whose disk is honest
-abbrev pub plain_shelf : Files → ℕ → ℕ → Bool → Shelf
+abbrev pub plain_shelf : Files → ℕ → ℕ → Bool → StoreState
 plain_shelf files faults limit honest = record { files = user_files files; failures = faults; limit = limit; honest = honest }
 
 pub failed : (name bytes : List ℕ) (old new : Files) (faults limit : ℕ) (honest : Bool) (fault : StoreFault) → IsTrue (is_user_name name)
@@ -100,7 +100,7 @@ insert-others files name bytes other far =
 pub insert-kept : (files : Files) (name bytes : List ℕ) (new : Files) → new ≡ insert files name bytes → SameBut name files new
 insert-kept files name bytes new is = λ other far. ap (λ f. get f other) is ∙ insert-others files name bytes other far
 
-written-kept : (shelf : Shelf) (name bytes : List ℕ) (result : Result (Unit {0}) StoreFault) (files : Files) → IsWritten shelf name bytes result files → IsKept name result shelf.files files
+written-kept : (shelf : StoreState) (name bytes : List ℕ) (result : Result (Unit {0}) StoreFault) (files : Files) → IsWritten shelf name bytes result files → IsKept name result shelf.files files
 written-kept shelf name bytes (Ok done) files written = insert-kept shelf.files name bytes files written.0
 written-kept shelf name bytes (Err Device) files written = written
 written-kept shelf name bytes (Err TooLong) files written = written.0

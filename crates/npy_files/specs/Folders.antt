@@ -7,14 +7,14 @@ use Rattle.disk.specs.declared.disk.DiskFault.TheVariants as disk_fault
 use Rattle.npy_files.specs.declared.store.StoreFault.{StoreFault}
 use Rattle.npy_files.specs.declared.store.StoreFault.TheVariants as store_fault
 use Rattle.npy_files.specs.Names.{is_user_name}
-use Rattle.npy_files.specs.Stores.{Shelf}
+use Rattle.npy_files.specs.Stores.{StoreState}
 
 -- The store has the files with a user's name, and no other.
 abbrev pub user_files : Files → Files
 user_files files = retain_keys files is_user_name
 
 -- the shelf of a folder whose disk has these files, of which nothing is known where the disk is not honest
-abbrev pub folder_shelf : Files → ℕ → ℕ → Bool → Shelf
+abbrev pub folder_shelf : Files → ℕ → ℕ → Bool → StoreState
 folder_shelf files faults limit honest = record { files = cond honest (user_files files) empty; failures = faults; limit = limit; honest = honest }
 
 -- Each user's name has what it had, and this one has that, or these bytes, whole.

@@ -8,30 +8,30 @@ use Rattle.npy_files.specs.declared.store.StoreFault.TheVariants.{Device, TooLon
 
 -- A store: its files, how often its device has failed, the most bytes of a file, and whether it is
 -- honest. Of a store that is not, nothing is known but its limit and its failures.
-pub record Shelf : Type 0 where
+pub record StoreState : Type 0 where
   pub files : Files
   pub failures : ℕ
   pub limit : ℕ
   pub honest : Bool
 
 -- an honest store without files, which has never failed
-abbrev pub empty_shelf : ℕ → Shelf
+abbrev pub empty_shelf : ℕ → StoreState
 empty_shelf limit = record { files = empty; failures = 0; limit = limit; honest = true }
 
 -- no call changes the limit or the honesty, or forgets a failure
-pub record IsSameStore (old new : Shelf) : Type 0 where
+pub record IsSameStore (old new : StoreState) : Type 0 where
   pub honest : new.honest ≡ old.honest
   pub limit : new.limit ≡ old.limit
   pub failures : old.failures ≤ new.failures
 
 -- the device has failed since
-abbrev pub HasFailed : Shelf → Shelf → Type 0
+abbrev pub HasFailed : StoreState → StoreState → Type 0
 HasFailed old new = (old.failures < new.failures) ⊎ (old.failures ≡ last_count)
 
 -- a fault of the device has a cause
-abbrev pub HasCause : {X : Type 0} → Shelf → Shelf → Result X StoreFault → Type 0
-HasCause old new (Err Device) = HasFailed old new
-HasCause old new answer = Unit {0}
+abbrev pub FaultHasCause : {X : Type 0} → StoreState → StoreState → Result X StoreFault → Type 0
+FaultHasCause old new (Err Device) = HasFailed old new
+FaultHasCause old new answer = Unit {0}
 
 -- what is read of a file that may be there: its bytes, as the view shows them, unless they pass the limit
 abbrev pub IsRead : {V : Type 0} → (V → List ℕ) → ℕ → Option (List ℕ) → Result (Option V) StoreFault → Type 0
@@ -51,7 +51,7 @@ IsKept name (Err Memory) old new = new ≡ old
 
 -- the files that a write leaves: with Ok they have these bytes under the name and all else as it was;
 -- after a fault of the device nothing is known of that one name
-abbrev pub IsWritten : Shelf → List ℕ → List ℕ → Result (Unit {0}) StoreFault → Files → Type 0
+abbrev pub IsWritten : StoreState → List ℕ → List ℕ → Result (Unit {0}) StoreFault → Files → Type 0
 IsWritten old name bytes (Ok _) files = (files ≡ insert old.files name bytes) × (length bytes ≤ old.limit)
 IsWritten old name bytes (Err TooLong) files = (files ≡ old.files) × (old.limit < length bytes)
 IsWritten old name bytes (Err Device) files = (other : List ℕ) → other ≢ name → get files other ≡ get old.files other

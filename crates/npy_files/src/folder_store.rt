@@ -6,7 +6,7 @@ ghost use Rattle.disk.specs.Crashes.{Leaves};
 ghost use Rattle.disk.specs.Calls as calls;
 ghost use Rattle.npy_files.specs.declared.store.StoreFault.TheVariants.{Device, TooLong};
 ghost use Rattle.npy_files.specs.Names as names;
-ghost use Rattle.npy_files.specs.Stores.{IsSameStore, HasCause, IsRead, IsKept, IsWritten};
+ghost use Rattle.npy_files.specs.Stores.{IsSameStore, FaultHasCause, IsRead, IsKept, IsWritten};
 ghost use Rattle.npy_files.specs.Folders.{folder_shelf, OldOrNew, IsPut};
 
 use crate::cutter::Cutter;
@@ -88,7 +88,7 @@ impl<D: Disk, C: Cutter> FolderStore<D, C> {
     pub fn read_file(&mut self, alloc: Global, name: &[u8]) -> Result<Option<FileParts>, StoreFault>
         ensures same { IsSameStore (⟦<FolderStore<D, C> as NpyStore>⟧.shelf self.old) (⟦<FolderStore<D, C> as NpyStore>⟧.shelf self.new) }
         ensures files { (⟦<FolderStore<D, C> as NpyStore>⟧.shelf self.new).files ≡ (⟦<FolderStore<D, C> as NpyStore>⟧.shelf self.old).files }
-        ensures cause { HasCause (⟦<FolderStore<D, C> as NpyStore>⟧.shelf self.old) (⟦<FolderStore<D, C> as NpyStore>⟧.shelf self.new) result }
+        ensures cause { FaultHasCause (⟦<FolderStore<D, C> as NpyStore>⟧.shelf self.old) (⟦<FolderStore<D, C> as NpyStore>⟧.shelf self.new) result }
         ensures found { IsTrue D.honest → IsRead (λ parts. parts.front.items ++ parts.block) self.old.limit (get (⟦<FolderStore<D, C> as NpyStore>⟧.shelf self.old).files name.now) result }
         ensures crash { IsTrue D.honest → Leaves Same (D.history self.old.disk) (D.history self.new.disk) }
         ensures disk { IsTrue D.honest → calls.HasCause Device (D.failures self.old.disk) (D.failures self.new.disk) result }
@@ -116,7 +116,7 @@ impl<D: Disk, C: Cutter> FolderStore<D, C> {
         items: &[u8],
     ) -> Result<(), StoreFault>
         ensures same { IsSameStore (⟦<FolderStore<D, C> as NpyStore>⟧.shelf self.old) (⟦<FolderStore<D, C> as NpyStore>⟧.shelf self.new) }
-        ensures cause { HasCause (⟦<FolderStore<D, C> as NpyStore>⟧.shelf self.old) (⟦<FolderStore<D, C> as NpyStore>⟧.shelf self.new) result }
+        ensures cause { FaultHasCause (⟦<FolderStore<D, C> as NpyStore>⟧.shelf self.old) (⟦<FolderStore<D, C> as NpyStore>⟧.shelf self.new) result }
         ensures kept { IsKept name.now result (⟦<FolderStore<D, C> as NpyStore>⟧.shelf self.old).files (⟦<FolderStore<D, C> as NpyStore>⟧.shelf self.new).files }
         ensures written { IsTrue D.honest → IsWritten (⟦<FolderStore<D, C> as NpyStore>⟧.shelf self.old) name.now (front.now ++ items.now) result (⟦<FolderStore<D, C> as NpyStore>⟧.shelf self.new).files }
         ensures crash { IsTrue D.honest → Leaves (OldOrNew name.now (front.now ++ items.now)) (D.history self.old.disk) (D.history self.new.disk) }

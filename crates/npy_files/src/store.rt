@@ -1,7 +1,7 @@
 //! Stores of files.
 ghost use Rattle.std.specs.Prelude.{◌≡◌, ◌<◌, ◌≤◌, ◌+◌, ◌++◌, true, false};
 ghost use Rattle.std.specs.FinMap.{get};
-ghost use Rattle.npy_files.specs.Stores.{Shelf, IsSameStore, HasCause, IsRead, IsKept, IsWritten};
+ghost use Rattle.npy_files.specs.Stores.{StoreState, IsSameStore, FaultHasCause, IsRead, IsKept, IsWritten};
 
 use disk::DiskFault;
 use npy_format::FileParts;
@@ -63,7 +63,7 @@ pub(crate) fn is_longer(front: usize, items: usize, limit: usize) -> bool
 /// Where files are kept under their names. Its contracts see a store as its shelf. What a read gives, what a
 /// name has after a write and when a file is too long is said of an honest store alone.
 pub trait NpyStore {
-    ghost shelf: { Self → Shelf };
+    ghost shelf: { Self → StoreState };
 
     /// The most bytes that a file may have. It never changes.
     fn limit(&self) -> usize
@@ -74,7 +74,7 @@ pub trait NpyStore {
     fn read_parts(&mut self, alloc: Global, name: &[u8]) -> Result<Option<FileParts>, StoreFault>
         ensures same { IsSameStore (shelf self.old) (shelf self.new) }
         ensures files { (shelf self.new).files ≡ (shelf self.old).files }
-        ensures cause { HasCause (shelf self.old) (shelf self.new) result }
+        ensures cause { FaultHasCause (shelf self.old) (shelf self.new) result }
         ensures found { (shelf self.old).honest ≡ true → IsRead (λ parts. parts.front.items ++ parts.block) (shelf self.old).limit (get (shelf self.old).files name.now) result };
 
     /// Writes the file that has these bytes in front and these items behind them, over the one with this
@@ -87,7 +87,7 @@ pub trait NpyStore {
         items: &[u8],
     ) -> Result<(), StoreFault>
         ensures same { IsSameStore (shelf self.old) (shelf self.new) }
-        ensures cause { HasCause (shelf self.old) (shelf self.new) result }
+        ensures cause { FaultHasCause (shelf self.old) (shelf self.new) result }
         ensures kept { IsKept name.now result (shelf self.old).files (shelf self.new).files }
         ensures written { (shelf self.old).honest ≡ true → IsWritten (shelf self.old) name.now (front.now ++ items.now) result (shelf self.new).files };
 
@@ -95,7 +95,7 @@ pub trait NpyStore {
     fn read(&mut self, alloc: Global, name: &[u8]) -> Result<Option<Vec<u8>>, StoreFault>
         ensures same { IsSameStore (shelf self.old) (shelf self.new) }
         ensures files { (shelf self.new).files ≡ (shelf self.old).files }
-        ensures cause { HasCause (shelf self.old) (shelf self.new) result }
+        ensures cause { FaultHasCause (shelf self.old) (shelf self.new) result }
         ensures found { (shelf self.old).honest ≡ true → IsRead (λ bytes. bytes.items) (shelf self.old).limit (get (shelf self.old).files name.now) result }
     {
         match self.read_parts(alloc, name)? {
@@ -107,7 +107,7 @@ pub trait NpyStore {
     /// Writes the file with these bytes, as `write_parts` does.
     fn write(&mut self, alloc: Global, name: &[u8], bytes: &[u8]) -> Result<(), StoreFault>
         ensures same { IsSameStore (shelf self.old) (shelf self.new) }
-        ensures cause { HasCause (shelf self.old) (shelf self.new) result }
+        ensures cause { FaultHasCause (shelf self.old) (shelf self.new) result }
         ensures kept { IsKept name.now result (shelf self.old).files (shelf self.new).files }
         ensures written { (shelf self.old).honest ≡ true → IsWritten (shelf self.old) name.now bytes.now result (shelf self.new).files }
     {

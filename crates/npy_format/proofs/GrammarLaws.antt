@@ -8,14 +8,14 @@ use Rattle.elem_descr.specs.Refusals.{◌>>=◌}
 use Rattle.npy_format.specs.Tokens.{Token}
 use Rattle.npy_format.specs.Tokens as token
 use Rattle.npy_format.specs.Listed.{Literal}
-use Rattle.npy_format.specs.Literals.{Read, symbol_at, if_found, ended, entries_in, tuple_in, list_in, pair_in, dictionary_in, bracketed, literal_in}
+use Rattle.npy_format.specs.Literals.{Read, symbol_token_at, if_read, list_end, entries_in, tuple_in, list_in, pair_in, dictionary_in, bracketed, literal_in}
 
 -- ---- what is read at a depth is read at a greater one
 
 abbrev Less : {A : Type 0} → Result A Refusal → Result A Refusal → Type 0
 Less {A} r r' = (y : A) → r ≡ Ok y → r' ≡ Ok y
 
-found_less : {A B : Type 0} (o : Option B) (next next' : B → Result A Refusal) (other other' : Result A Refusal) → ((b : B) → Less (next b) (next' b)) → Less other other' → Less (if_found o next other) (if_found o next' other')
+found_less : {A B : Type 0} (o : Option B) (next next' : B → Result A Refusal) (other other' : Result A Refusal) → ((b : B) → Less (next b) (next' b)) → Less other other' → Less (if_read o next other) (if_read o next' other')
 found_less None next next' other other' h k = k
 found_less (Some b) next next' other other' h k = h b
 
@@ -31,15 +31,15 @@ pub entries_less : {A : Type 0} (entry entry' : List Token → Read A) → ((tok
 unfolding entries_in
 entries_less entry entry' h closing zero toks = λ y is. is
 entries_less entry entry' h closing (suc turns) toks =
-    found_less (symbol_at closing toks) _ _ _ _ (λ b y is. is)
+    found_less (symbol_token_at closing toks) _ _ _ _ (λ b y is. is)
     (bind_less (entry toks) (entry' toks) _ _ (h toks) (λ first. bind_less _ _ _ _
-    (found_less (symbol_at closing first.1) _ _ _ _ (λ b y is. is) (found_less (symbol_at 44 first.1) _ _ _ _ (λ b. entries_less entry entry' h closing turns b) (λ y is. is)))
+    (found_less (symbol_token_at closing first.1) _ _ _ _ (λ b y is. is) (found_less (symbol_token_at 44 first.1) _ _ _ _ (λ b. entries_less entry entry' h closing turns b) (λ y is. is)))
     (λ others y is. is)))
 
 module _ (value value' : List Token → Read Literal) (h : (toks : List Token) → Less (value toks) (value' toks)) where
   tuple_less : (toks : List Token) → Less (tuple_in value toks) (tuple_in value' toks)
   unfolding tuple_in
-  tuple_less toks = found_less (symbol_at 41 toks) _ _ _ _ (λ b y is. is)
+  tuple_less toks = found_less (symbol_token_at 41 toks) _ _ _ _ (λ b y is. is)
       (bind_less (value toks) (value' toks) _ _ (h toks) (λ first. bind_less _ _ _ _ (λ y is. is)
       (λ rest. bind_less _ _ _ _ (entries_less value value' h 41 (length rest) rest) (λ others y is. is))))
 
@@ -72,7 +72,7 @@ literal_less (suc depth) (token.Symbol b ∷ rest) = bracketed_less (literal_in 
 
 -- ---- what is read takes a token or more
 
-pub symbol_shorter : (b : ℕ) (toks rest : List Token) → Some rest ≡ symbol_at b toks → length toks ≡ suc (length rest)
+pub symbol_shorter : (b : ℕ) (toks rest : List Token) → Some rest ≡ symbol_token_at b toks → length toks ≡ suc (length rest)
 symbol_shorter b [] rest is = cc
 symbol_shorter b (token.Text bytes ∷ toks) rest is = cc
 symbol_shorter b (token.Integer n ∷ toks) rest is = cc
@@ -92,7 +92,7 @@ Leaves {A} n r = (y : A × List Token) → r ≡ Ok y → length y.1 < n
 abbrev pub Shortens : {A : Type 0} → (List Token → Read A) → Type 0
 Shortens entry = (toks : List Token) → Leaves (length toks) (entry toks)
 
-found_leaves : {A B : Type 0} (n : ℕ) (o : Option B) (next : B → Read A) (other : Read A) → ((b : B) → Some b ≡ o → Leaves n (next b)) → Leaves n other → Leaves n (if_found o next other)
+found_leaves : {A B : Type 0} (n : ℕ) (o : Option B) (next : B → Read A) (other : Read A) → ((b : B) → Some b ≡ o → Leaves n (next b)) → Leaves n other → Leaves n (if_read o next other)
 found_leaves n None next other h k = k
 found_leaves n (Some b) next other h k = h b refl
 
@@ -100,10 +100,10 @@ bind_leaves : {A B : Type 0} (n : ℕ) (r : Read B) (f : B × List Token → Rea
 bind_leaves n (Ok x) f h k = k x (h x refl)
 bind_leaves n (Err e) f h k = λ y is. cc
 
-mark_leaves : {A : Type 0} (n b : ℕ) (toks : List Token) (f : List Token → Read A) → length toks < n → ((rest : List Token) → length rest < n → Leaves n (f rest)) → Leaves n (ok_or (symbol_at b toks) BadHeader >>= f)
-mark_leaves n b toks f less k = go (symbol_at b toks) refl
+mark_leaves : {A : Type 0} (n b : ℕ) (toks : List Token) (f : List Token → Read A) → length toks < n → ((rest : List Token) → length rest < n → Leaves n (f rest)) → Leaves n (ok_or (symbol_token_at b toks) BadHeader >>= f)
+mark_leaves n b toks f less k = go (symbol_token_at b toks) refl
   where
-    go : (o : Option (List Token)) → symbol_at b toks ≡ o → Leaves n (ok_or o BadHeader >>= f)
+    go : (o : Option (List Token)) → symbol_token_at b toks ≡ o → Leaves n (ok_or o BadHeader >>= f)
     go None is = λ y e. cc
     go (Some rest) is = k rest (omega (arith, less, symbol_shorter b toks rest (sym is)))
 
@@ -126,10 +126,10 @@ unfolding entries_in
 entries_leaves entry h closing zero toks = err_leaves _ _
 entries_leaves entry h closing (suc turns) toks =
     let n = length toks in
-    found_leaves n (symbol_at closing toks) ended _ (λ b is. ends_leaves n [] b (omega (arith, symbol_shorter closing toks b is)))
+    found_leaves n (symbol_token_at closing toks) list_end _ (λ b is. ends_leaves n [] b (omega (arith, symbol_shorter closing toks b is)))
     (bind_leaves n (entry toks) _ (h toks) (λ first less. bind_leaves n _ _
-    (found_leaves n (symbol_at closing first.1) ended _ (λ b is. ends_leaves n [] b (omega (arith, less, symbol_shorter closing first.1 b is)))
-    (found_leaves n (symbol_at 44 first.1) _ _ (λ b is. weaker_leaves (length b) n _ (omega (arith, less, symbol_shorter 44 first.1 b is)) (entries_leaves entry h closing turns b)) (err_leaves n BadHeader)))
+    (found_leaves n (symbol_token_at closing first.1) list_end _ (λ b is. ends_leaves n [] b (omega (arith, less, symbol_shorter closing first.1 b is)))
+    (found_leaves n (symbol_token_at 44 first.1) _ _ (λ b is. weaker_leaves (length b) n _ (omega (arith, less, symbol_shorter 44 first.1 b is)) (entries_leaves entry h closing turns b)) (err_leaves n BadHeader)))
     (λ others less'. ends_leaves n (first.0 ∷ others.0) others.1 less')))
 
 module _ (value : List Token → Read Literal) (h : Shortens value) where
@@ -137,7 +137,7 @@ module _ (value : List Token → Read Literal) (h : Shortens value) where
   unfolding tuple_in
   tuple_leaves toks =
       let n = length toks in
-      found_leaves n (symbol_at 41 toks) _ _ (λ b is. ends_leaves n _ b (omega (arith, symbol_shorter 41 toks b is)))
+      found_leaves n (symbol_token_at 41 toks) _ _ (λ b is. ends_leaves n _ b (omega (arith, symbol_shorter 41 toks b is)))
       (bind_leaves n (value toks) _ (h toks) (λ first less. mark_leaves n 44 first.1 _ less
       (λ rest less'. bind_leaves n _ _ (weaker_leaves (length rest) n _ (omega (arith, less')) (entries_leaves value h 41 (length rest) rest)) (λ others less''. ends_leaves n _ others.1 less''))))
 

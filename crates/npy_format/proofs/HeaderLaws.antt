@@ -10,13 +10,13 @@ use Rattle.elem_descr.specs.declared.descr.Descr.{Descr}
 use Rattle.elem_descr.specs.Refusals.{◌>>=◌, Answers}
 use Rattle.shape_strides.specs.Shapes.{shape_of}
 use Rattle.npy_format.specs.Tokens.{Token}
-use Rattle.npy_format.specs.Listed.{Literal, Pair, Row, all_values}
+use Rattle.npy_format.specs.Listed.{Literal, Pair, Row, all_listed_values}
 use Rattle.npy_format.specs.Values.{Round}
-use Rattle.npy_format.specs.Literals.{Read, symbol_at, pair_in, entries_in}
+use Rattle.npy_format.specs.Literals.{Read, symbol_token_at, pair_in, entries_in}
 use Rattle.npy_format.specs.RecordLists.{descr_in}
 use Rattle.npy_format.specs.Headers.{is_key, value_under, truth_of, integers_of, lengths_of, dictionary_of, header_of}
 use Rattle.npy_format.specs.inside.Entries.{behind, behind_comma, behind_entry, behind_key, behind_entries}
-use Rattle.npy_format.specs.inside.Scanned.{string_at, integer_at, is_text}
+use Rattle.npy_format.specs.inside.Scanned.{string_at, integer_at, is_string_token}
 use Rattle.npy_format.specs.inside.Places.{HasPairs, HasValues, HasLengths, Stands, value_in}
 use Rattle.npy_format.proofs.GrammarLaws.{Shortens, symbol_shorter}
 use Rattle.npy_format.proofs.SkipLaws.{behind_ok}
@@ -25,9 +25,9 @@ use Rattle.npy_format.proofs.ValueLaws.{literals_of_listed}
 use Rattle.npy_format.proofs.StandLaws.{text_is, next_stands, is_read, no_integer, integer_stands, integer_front_is, lengths_next, lengths_end}
 
 comma_shorter : (toks : List Token) → length (behind_comma toks) ≤ length toks
-comma_shorter toks = go (symbol_at 44 toks) refl
+comma_shorter toks = go (symbol_token_at 44 toks) refl
   where
-    go : (o : Option (List Token)) → symbol_at 44 toks ≡ o → length (behind_comma toks) ≤ length toks
+    go : (o : Option (List Token)) → symbol_token_at 44 toks ≡ o → length (behind_comma toks) ≤ length toks
     go None is = rw is (omega arith)
     go (Some rest) is = rw is (omega (arith, symbol_shorter 44 toks rest (sym is)))
 
@@ -48,7 +48,7 @@ pub no_token : {A : Type 0} (r : Option A) (P : Type 0) (Q : A → Type 0) → i
 no_token None P Q none is = is
 no_token (Some x) P Q none is = cc
 
-pub dictionary_found : (toks inside rest : List Token) → Some inside ≡ symbol_at 123 toks → behind_entries (pair_in value_in) 125 inside ≡ Ok rest → rest ≡ [] → (pairs : List Pair) × (dictionary_of toks ≡ Ok pairs) × HasPairs inside pairs
+pub dictionary_found : (toks inside rest : List Token) → Some inside ≡ symbol_token_at 123 toks → behind_entries (pair_in value_in) 125 inside ≡ Ok rest → rest ≡ [] → (pairs : List Pair) × (dictionary_of toks ≡ Ok pairs) × HasPairs inside pairs
 dictionary_found toks inside rest opens reads ends =
     let pairs = behind_ok (entries_in (pair_in value_in) 125 (length inside) inside) rest reads in
     (pairs.0, whole pairs.0 pairs.1, record { turns = length inside; rest = rest; is = pairs.1 })
@@ -61,13 +61,13 @@ pub pair_stands : (toks after : List Token) (p : Pair) → pair_in value_in toks
 unfolding pair_in
 pair_stands toks after p is =
     let key = bind_ok (value_in toks) _ _ is in
-    let mark = bind_ok (ok_or (symbol_at 58 key.0.1) BadHeader) _ _ key.2 in
+    let mark = bind_ok (ok_or (symbol_token_at 58 key.0.1) BadHeader) _ _ key.2 in
     let under = bind_ok (value_in mark.0) _ _ mark.2 in
     let pair : Pair = record { key = key.0.0; value = under.0.0 } in
     let same = (same_read pair p under.0.1 after (Ok (pair, under.0.1)) refl under.2).0 in (
       mark.0,
       subst (λ (p : Pair). Stands toks p.key) same (record { rest = key.0.1; is = key.1 }),
-      ap (λ r. behind r >>= λ rest. ok_or (symbol_at 58 rest) BadHeader) key.1 ∙ mark.1,
+      ap (λ r. behind r >>= λ rest. ok_or (symbol_token_at 58 rest) BadHeader) key.1 ∙ mark.1,
       subst (λ (p : Pair). Stands mark.0 p.value) same (record { rest = under.0.1; is = under.1 }),
     )
 
@@ -84,17 +84,17 @@ pub record PairsLeft (whole : List Pair) (count : ℕ) (toks : List Token) : Typ
   pub counted : length whole ≡ count + length left
 
 module _ (whole : List Pair) (count : ℕ) (toks : List Token) (h : PairsLeft whole count toks) where
-  pub count_ends : (end : List Token) → Some end ≡ symbol_at 125 toks → count ≡ length whole
+  pub count_ends : (end : List Token) → Some end ≡ symbol_token_at 125 toks → count ≡ length whole
   count_ends end ends =
       let none = stand_closed (pair_in value_in) 125 toks h.left h.stand end ends in
       omega (arith, h.counted, ap (λ (l : List Pair). length l) none)
 
-  pub count_next : None ≡ symbol_at 125 toks → (rest : List Token) → behind_entry (pair_in value_in) toks ≡ Ok rest → PairsLeft whole (count + 1) rest
+  pub count_next : None ≡ symbol_token_at 125 toks → (rest : List Token) → behind_entry (pair_in value_in) toks ≡ Ok rest → PairsLeft whole (count + 1) rest
   count_next more rest reads =
       let next = next_stands (pair_in value_in) 125 no_125 toks h.left h.stand more rest reads in
       record { left = next.1; stand = next.5; counted = omega (arith, h.counted, ap (λ (l : List Pair). length l) next.4) }
 
-  pub count_read : None ≡ symbol_at 125 toks → (e : Refusal) → behind_entry (pair_in value_in) toks ≡ Err e → ⊥
+  pub count_read : None ≡ symbol_token_at 125 toks → (e : Refusal) → behind_entry (pair_in value_in) toks ≡ Err e → ⊥
   count_read more e fails = is_read (pair_in value_in) 125 no_125 toks h.left h.stand more e fails
 
 -- ---- the value under a key
@@ -105,10 +105,10 @@ pub record KeyLeft (key : List ℕ) (whole : List Pair) (toks : List Token) : Ty
   pub same : value_under key whole ≡ value_under key left
 
 module _ (key : List ℕ) (whole : List Pair) (toks : List Token) (h : KeyLeft key whole toks) where
-  pub key_ends : (end : List Token) → Some end ≡ symbol_at 125 toks → value_under key whole ≡ Err BadHeader
+  pub key_ends : (end : List Token) → Some end ≡ symbol_token_at 125 toks → value_under key whole ≡ Err BadHeader
   key_ends end ends = h.same ∙ ap (value_under key) (stand_closed (pair_in value_in) 125 toks h.left h.stand end ends)
 
-  module _ (more : None ≡ symbol_at 125 toks) where
+  module _ (more : None ≡ symbol_token_at 125 toks) where
     one : (p : Pair) × (others : List Pair) × (after : List Token) × (pair_in value_in toks ≡ Ok (p, after)) × (value_under key whole ≡ value_under key (p ∷ others)) × HasPairs (behind_comma after) others
     one =
         let next = stand_open (pair_in value_in) 125 toks h.left no_125 h.stand more in
@@ -117,7 +117,7 @@ module _ (key : List ℕ) (whole : List Pair) (toks : List Token) (h : KeyLeft k
     pub key_read : (e : Refusal) → behind_entry (pair_in value_in) toks ≡ Err e → ⊥
     key_read e fails = is_read (pair_in value_in) 125 no_125 toks h.left h.stand more e fails
 
-    pub key_next : is_text key (string_at toks) ≡ false → (rest : List Token) → behind_entry (pair_in value_in) toks ≡ Ok rest → KeyLeft key whole rest
+    pub key_next : is_string_token key (string_at toks) ≡ false → (rest : List Token) → behind_entry (pair_in value_in) toks ≡ Ok rest → KeyLeft key whole rest
     key_next other rest reads =
         let p = one in
         let at = pair_stands toks p.2 p.0 p.3 in
@@ -130,7 +130,7 @@ module _ (key : List ℕ) (whole : List Pair) (toks : List Token) (h : KeyLeft k
           same = p.4 ∙ ap (λ (b : Bool). if b then Ok p.0.value else value_under key p.1) test;
         }
 
-    module _ (it : is_text key (string_at toks) ≡ true) where
+    module _ (it : is_string_token key (string_at toks) ≡ true) where
       pub key_found : (place : List Token) → behind_key value_in toks ≡ Ok place → (value : Literal) × (value_under key whole ≡ Ok value) × Stands place value
       key_found place reads =
           let p = one in
@@ -158,12 +158,12 @@ no_41 : let n : ℕ = 41 in n ≢ 44
 no_41 wrong = omega (arith, wrong)
 
 module _ (values : List Literal) (toks : List Token) (h : LengthsLeft values toks) where
-  pub lengths_good : (end : List Token) → Some end ≡ symbol_at 41 toks → (found : List ℕ) × (integers_of values ≡ Ok found)
+  pub lengths_good : (end : List Token) → Some end ≡ symbol_token_at 41 toks → (found : List ℕ) × (integers_of values ≡ Ok found)
   lengths_good end ends =
       let none = stand_closed (value_in) 41 toks h.left h.stand end ends in
       (h.before ++ [], h.same ∙ ap (λ (l : List Literal). integers_of l >>= λ ns. Ok (h.before ++ ns)) none)
 
-  pub lengths_bad : None ≡ integer_at toks → None ≡ symbol_at 41 toks → integers_of values ≡ Err BadHeader
+  pub lengths_bad : None ≡ integer_at toks → None ≡ symbol_token_at 41 toks → integers_of values ≡ Err BadHeader
   lengths_bad none open' =
       let next = stand_open value_in 41 toks h.left no_41 h.stand open' in
       let refused = no_integer toks next.first (record { rest = next.after; is = next.reads }) none next.others in
@@ -172,7 +172,7 @@ module _ (values : List Literal) (toks : List Token) (h : LengthsLeft values tok
   pub lengths_on : (found : ℕ × List Token) → Some found ≡ integer_at toks → LengthsLeft values (behind_comma found.1)
   lengths_on found is =
       let front = integer_front_is toks found is in
-      let open' : None ≡ symbol_at 41 toks = rw front refl in
+      let open' : None ≡ symbol_token_at 41 toks = rw front refl in
       let next = stand_open value_in 41 toks h.left no_41 h.stand open' in
       let stands = integer_stands toks next.first (record { rest = next.after; is = next.reads }) found is in
       record {
@@ -188,7 +188,7 @@ module _ (values : List Literal) (toks : List Token) (h : LengthsLeft values tok
       pushed (Ok ns) before n = ap (λ (l : List ℕ). Ok l) (sym (append_assoc before (n ∷ []) ns))
       pushed (Err e) before n = refl
 
-pub lengths_inside : (v : Literal) (values : List Literal) → v ≡ Row Round (all_values values) → lengths_of v ≡ integers_of values
+pub lengths_inside : (v : Literal) (values : List Literal) → v ≡ Row Round (all_listed_values values) → lengths_of v ≡ integers_of values
 lengths_inside v values is = ap lengths_of is ∙ ap integers_of (literals_of_listed values)
 
 -- ---- the shape

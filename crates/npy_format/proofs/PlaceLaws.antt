@@ -9,8 +9,8 @@ use Rattle.elem_descr.specs.Refusals.{◌>>=◌}
 use Rattle.npy_format.specs.Tokens.{Token}
 use Rattle.npy_format.specs.Tokens as token
 use Rattle.npy_format.specs.Values.{Text, Integer, Truth, Nothing, Dictionary, Round, Square, no_values}
-use Rattle.npy_format.specs.Listed.{Literal, Plain, Row, all_values}
-use Rattle.npy_format.specs.Literals.{Read, symbol_at, if_found, ended, entries_in, tuple_in, list_in, pairs_in, dictionary_in, bracketed, literal_in}
+use Rattle.npy_format.specs.Listed.{Literal, Plain, Row, all_listed_values}
+use Rattle.npy_format.specs.Literals.{Read, symbol_token_at, if_read, list_end, entries_in, tuple_in, list_in, pairs_in, dictionary_in, bracketed, literal_in}
 use Rattle.npy_format.specs.inside.Entries.{behind_comma}
 use Rattle.npy_format.specs.inside.Places.{StandIn, Stands, value_in}
 use Rattle.npy_format.proofs.GrammarLaws.{entries_less, literal_less}
@@ -26,7 +26,7 @@ same_read {A} {B} a a' b b' r is is' = let same : (a, b) ≡ (a', b') = cc in (a
 -- ---- entries, one by one
 
 -- no symbol is two
-one_symbol : (b c : ℕ) → b ≢ c → (toks rest : List Token) → Some rest ≡ symbol_at b toks → None ≡ symbol_at c toks
+one_symbol : (b c : ℕ) → b ≢ c → (toks rest : List Token) → Some rest ≡ symbol_token_at b toks → None ≡ symbol_token_at c toks
 one_symbol b c other [] rest is = refl
 one_symbol b c other (token.Text bytes ∷ toks) rest is = refl
 one_symbol b c other (token.Integer n ∷ toks) rest is = refl
@@ -48,10 +48,10 @@ pub record Next (A : Type 0) (entry : List Token → Read A) (closing : ℕ) (to
   pub reads : entry toks ≡ Ok (first, after)
   pub is : xs ≡ first ∷ others
   pub more : StandIn A entry closing (behind_comma after) others
-  pub alone : None ≡ symbol_at 44 after → others ≡ []
+  pub alone : None ≡ symbol_token_at 44 after → others ≡ []
 
 module _ {A : Type 0} (entry : List Token → Read A) (closing : ℕ) (toks : List Token) (xs : List A) where
-  pub stand_closed : StandIn A entry closing toks xs → (end : List Token) → Some end ≡ symbol_at closing toks → xs ≡ []
+  pub stand_closed : StandIn A entry closing toks xs → (end : List Token) → Some end ≡ symbol_token_at closing toks → xs ≡ []
   unfolding entries_in
   stand_closed s end ends = turn s.turns s.is
     where
@@ -59,13 +59,13 @@ module _ {A : Type 0} (entry : List Token → Read A) (closing : ℕ) (toks : Li
       turn zero is = cc
       turn (suc n) is = let e = rw (← ends) at is in sym (same_read [] xs end s.rest (Ok ([], end)) refl e).0
 
-  pub stand_open : closing ≢ 44 → StandIn A entry closing toks xs → None ≡ symbol_at closing toks → Next A entry closing toks xs
+  pub stand_open : closing ≢ 44 → StandIn A entry closing toks xs → None ≡ symbol_token_at closing toks → Next A entry closing toks xs
   unfolding entries_in
   stand_open other s open' = turn s.turns s.is
     where
       -- behind the first one
-      late : (n : ℕ) (first : A × List Token) → entry toks ≡ Ok first → (others : List A × List Token) → xs ≡ first.0 ∷ others.0 → (end comma : Option (List Token)) → symbol_at closing first.1 ≡ end → symbol_at 44 first.1 ≡ comma
-          → if_found end ended (if_found comma (entries_in entry closing n) (Err BadHeader)) ≡ Ok others → Next A entry closing toks xs
+      late : (n : ℕ) (first : A × List Token) → entry toks ≡ Ok first → (others : List A × List Token) → xs ≡ first.0 ∷ others.0 → (end comma : Option (List Token)) → symbol_token_at closing first.1 ≡ end → symbol_token_at 44 first.1 ≡ comma
+          → if_read end list_end (if_read comma (entries_in entry closing n) (Err BadHeader)) ≡ Ok others → Next A entry closing toks xs
       late n first reads others is (Some end) comma e e' got =
           let none = sym (same_read [] others.0 end others.1 (Ok ([], end)) refl got).0 in
           let no_comma = one_symbol closing 44 other first.1 end (sym e) in
@@ -96,40 +96,40 @@ module _ {A : Type 0} (entry : List Token → Read A) (closing : ℕ) (toks : Li
           let first = bind_ok (entry toks) _ _ e in
           let others = bind_ok _ _ _ first.2 in
           let same = sym (same_read (first.0.0 ∷ others.0.0) xs others.0.1 s.rest (Ok (first.0.0 ∷ others.0.0, others.0.1)) refl others.2).0 in
-          late n first.0 first.1 others.0 same (symbol_at closing first.0.1) (symbol_at 44 first.0.1) refl refl others.1
+          late n first.0 first.1 others.0 same (symbol_token_at closing first.0.1) (symbol_token_at 44 first.0.1) refl refl others.1
 
 -- ---- what begins with a symbol
 
 pub data Boxed (value : List Token → Read Literal) (b : ℕ) (toks : List Token) (v : Literal) : Type 0 where
-  tuple_boxed : (vs : List Literal) → b ≡ 40 → v ≡ Row Round (all_values vs) → StandIn Literal value 41 toks vs → Boxed value b toks v
-  list_boxed : (vs : List Literal) → b ≡ 91 → v ≡ Row Square (all_values vs) → StandIn Literal value 93 toks vs → Boxed value b toks v
+  tuple_boxed : (vs : List Literal) → b ≡ 40 → v ≡ Row Round (all_listed_values vs) → StandIn Literal value 41 toks vs → Boxed value b toks v
+  list_boxed : (vs : List Literal) → b ≡ 91 → v ≡ Row Square (all_listed_values vs) → StandIn Literal value 93 toks vs → Boxed value b toks v
   pairs_boxed : b ≡ 123 → v ≡ Plain Dictionary → Boxed value b toks v
 
 -- what is read of a tuple behind its first value
 abbrev tuple_others : (List Token → Read Literal) → Literal → List Token → Read Literal
-tuple_others value first behind = entries_in value 41 (length behind) behind >>= λ others. Ok (Row Round (all_values (first ∷ others.0)), others.1)
+tuple_others value first behind = entries_in value 41 (length behind) behind >>= λ others. Ok (Row Round (all_listed_values (first ∷ others.0)), others.1)
 
 abbrev tuple_behind : (List Token → Read Literal) → Literal × List Token → Read Literal
-tuple_behind value first = ok_or (symbol_at 44 first.1) BadHeader >>= tuple_others value first.0
+tuple_behind value first = ok_or (symbol_token_at 44 first.1) BadHeader >>= tuple_others value first.0
 
 module _ (value : List Token → Read Literal) (b : ℕ) (toks : List Token) (v : Literal) (rest : List Token) where
   tuple_is : b ≡ 40 → tuple_in value toks ≡ Ok (v, rest) → Boxed value b toks v
   unfolding tuple_in entries_in
-  tuple_is at is = go (symbol_at 41 toks) refl is
+  tuple_is at is = go (symbol_token_at 41 toks) refl is
     where
-      go : (o : Option (List Token)) → symbol_at 41 toks ≡ o → (if_found o (λ rest. Ok (Row Round no_values, rest)) (value toks >>= tuple_behind value)) ≡ Ok (v, rest) → Boxed value b toks v
+      go : (o : Option (List Token)) → symbol_token_at 41 toks ≡ o → (if_read o (λ rest. Ok (Row Round no_values, rest)) (value toks >>= tuple_behind value)) ≡ Ok (v, rest) → Boxed value b toks v
       go (Some end) e got = let same = sym (same_read (Row Round no_values) v end rest (Ok (Row Round no_values, end)) refl got).0 in tuple_boxed [] at same (record { turns = suc zero; rest = end; is = rw e refl })
       go None e got =
           let first = bind_ok (value toks) _ _ got in
-          let mark = bind_ok (ok_or (symbol_at 44 first.0.1) BadHeader) _ _ first.2 in
+          let mark = bind_ok (ok_or (symbol_token_at 44 first.0.1) BadHeader) _ _ first.2 in
           let others = bind_ok (entries_in value 41 (length mark.0) mark.0) _ _ mark.2 in
-          let row = Row Round (all_values (first.0.0 ∷ others.0.0)) in
+          let row = Row Round (all_listed_values (first.0.0 ∷ others.0.0)) in
           let same = sym (same_read row v others.0.1 rest (Ok (row, others.0.1)) refl others.2).0 in
-          let comma = some_mark (symbol_at 44 first.0.1) mark.0 mark.1 in
+          let comma = some_mark (symbol_token_at 44 first.0.1) mark.0 mark.1 in
           let no_end = one_symbol 44 41 (λ wrong. omega (arith, wrong)) first.0.1 mark.0 (sym comma) in
           tuple_boxed (first.0.0 ∷ others.0.0) at same (record { turns = suc (length mark.0); rest = others.0.1; is = late first.0 mark.0 others.0 e first.1 no_end comma others.1 })
         where
-          late : (first : Literal × List Token) (next : List Token) (others : List Literal × List Token) → symbol_at 41 toks ≡ None → value toks ≡ Ok first → None ≡ symbol_at 41 first.1 → symbol_at 44 first.1 ≡ Some next → entries_in value 41 (length next) next ≡ Ok others → entries_in value 41 (suc (length next)) toks ≡ Ok (first.0 ∷ others.0, others.1)
+          late : (first : Literal × List Token) (next : List Token) (others : List Literal × List Token) → symbol_token_at 41 toks ≡ None → value toks ≡ Ok first → None ≡ symbol_token_at 41 first.1 → symbol_token_at 44 first.1 ≡ Some next → entries_in value 41 (length next) next ≡ Ok others → entries_in value 41 (suc (length next)) toks ≡ Ok (first.0 ∷ others.0, others.1)
           late first next others e reads no_end comma got = rw (e, reads, ← no_end, comma, got) refl
 
           some_mark : (o : Option (List Token)) (x : List Token) → ok_or o BadHeader ≡ Ok x → o ≡ Some x
@@ -140,7 +140,7 @@ module _ (value : List Token → Read Literal) (b : ℕ) (toks : List Token) (v 
   unfolding list_in
   list_is at is =
       let values = bind_ok (entries_in value 93 (length toks) toks) _ _ is in
-      let row = Row Square (all_values values.0.0) in
+      let row = Row Square (all_listed_values values.0.0) in
       let same = sym (same_read row v values.0.1 rest (Ok (row, values.0.1)) refl values.2).0 in
       list_boxed values.0.0 at same (record { turns = length toks; rest = values.0.1; is = values.1 })
 

@@ -9,11 +9,11 @@ use Rattle.elem_descr.specs.Refusals.{◌>>=◌}
 use Rattle.shape_strides.specs.Limits.{max_items}
 use Rattle.shape_strides.specs.Shapes.{IsShape, shape_of, shape_text}
 use Rattle.shape_strides.specs.ShapeLaws.{shape_of-ok}
-use Rattle.npy_format.specs.Tokens.{Token, is_plain, tokens}
+use Rattle.npy_format.specs.Tokens.{Token, is_plain_byte, tokens}
 use Rattle.npy_format.specs.Tokens as token
 use Rattle.npy_format.specs.Values.{Round, Text, Integer, Truth}
-use Rattle.npy_format.specs.Listed.{Literal, Plain, Row, Pair, all_values}
-use Rattle.npy_format.specs.Literals.{symbol_at, entries_in, pair_in, tuple_in, literal_in}
+use Rattle.npy_format.specs.Listed.{Literal, Plain, Row, Pair, all_listed_values}
+use Rattle.npy_format.specs.Literals.{symbol_token_at, entries_in, pair_in, tuple_in, literal_in}
 use Rattle.npy_format.specs.RecordLists.{descr_in}
 use Rattle.npy_format.specs.Headers.{integers_of, lengths_of, dictionary_of, header_of, header}
 use Rattle.npy_format.specs.WrittenHeaders.{written_descr, written_truth, written_text}
@@ -46,7 +46,7 @@ record AreBehind (shape rest : List ℕ) (toks : List Token) : Type 0 where
   no_long : nat_eq head 76 ≡ false
   scans : Scans (head ∷ tail) tokens
   longer : length toks < length tokens
-  reads : (depth turns : ℕ) (first : Literal) (before : List Token) → length tokens ≤ turns → None ≡ symbol_at 41 before → literal_in depth before ≡ Ok (first, tokens) → entries_in (literal_in depth) 41 (suc turns) before ≡ Ok (first ∷ integers shape, toks)
+  reads : (depth turns : ℕ) (first : Literal) (before : List Token) → length tokens ≤ turns → None ≡ symbol_token_at 41 before → literal_in depth before ≡ Ok (first, tokens) → entries_in (literal_in depth) 41 (suc turns) before ≡ Ok (first ∷ integers shape, toks)
 
 -- a length and those behind it
 abbrev from_number : ℕ → List ℕ → List ℕ → List ℕ
@@ -91,7 +91,7 @@ behind (n ∷ shape) rest toks few more =
     next later depth (suc turns) enough = later.reads depth turns (Plain (Integer n)) (token.Integer n ∷ later.tokens) (omega (arith, enough)) refl refl
 
 abbrev shape_value : List ℕ → Literal
-shape_value shape = Row Round (all_values (integers shape))
+shape_value shape = Row Round (all_listed_values (integers shape))
 
 -- a tuple of lengths
 shape_scans : (depth : ℕ) (shape : List ℕ) → All (λ n. n ≤ max_items) shape → IsValue (suc depth) (shape_text shape) (shape_value shape)
@@ -156,7 +156,7 @@ truth_scans true rest toks more = scan_token 84 (codes "rue" ++ (44 ∷ rest)) (
 truth_scans false rest toks more = scan_token 70 (codes "alse" ++ (44 ∷ rest)) (token.Truth false) (44 ∷ rest) toks refl refl (omega arith) more
 
 -- a key with its colon
-key_scans : (key rest : List ℕ) (toks : List Token) → list_all (is_plain 39) key ≡ true → Scans rest toks → Scans (39 ∷ (key ++ (39 ∷ (58 ∷ (32 ∷ rest))))) (token.Text key ∷ (token.Symbol 58 ∷ toks))
+key_scans : (key rest : List ℕ) (toks : List Token) → list_all (is_plain_byte 39) key ≡ true → Scans rest toks → Scans (39 ∷ (key ++ (39 ∷ (58 ∷ (32 ∷ rest))))) (token.Text key ∷ (token.Symbol 58 ∷ toks))
 key_scans key rest toks plain more =
     scan_quoted key (58 ∷ (32 ∷ rest)) (token.Symbol 58 ∷ toks) plain (scan_token 58 (32 ∷ rest) (token.Symbol 58) (32 ∷ rest) toks refl refl (omega arith) (scan_space rest toks more))
 

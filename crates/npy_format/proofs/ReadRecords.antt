@@ -25,7 +25,7 @@ use Rattle.elem_descr.specs.ItemLaws.{length-leaves_from}
 use Rattle.elem_descr.specs.TypeStrings.{value_of, spelling}
 use Rattle.elem_descr.specs.FormatRecords.{Partial, is_taken, checked_name, added, widened, closed_record}
 use Rattle.npy_format.specs.Values.{Square, Text}
-use Rattle.npy_format.specs.Listed.{Literal, Plain, Row, all_values}
+use Rattle.npy_format.specs.Listed.{Literal, Plain, Row, all_listed_values}
 use Rattle.npy_format.specs.Tokens.{capped}
 use Rattle.npy_format.specs.RecordLists.{pad_kind, type_in, field_in, entry_in, fields_in, record_in, descr_in, Reader}
 use Rattle.npy_format.specs.inside.Sound.{IsSound}
@@ -165,7 +165,7 @@ record_read levels leaves width inner small some reads =
     after_ok _ _ _ reads ∙ rw (le-leb 1 (length (fields_of inner)) some, le-leb width 65536 small) (ap (λ fields. Ok (record { whole = record { size = width; fields = fields }; alignment = 1; mark = LittleMark })) (listed-fields_of inner))
 
 type_read : (levels leaves width : ℕ) (inner : Fields) → record_in (suc levels) leaves (entry_values 0 inner width) ≡ Ok (record { whole = record { size = width; fields = inner }; alignment = 1; mark = LittleMark })
-    → type_in (record_in (suc levels) leaves) (Row Square (all_values (entry_values 0 inner width))) ≡ Ok (RecordDescr (record { size = width; fields = inner }))
+    → type_in (record_in (suc levels) leaves) (Row Square (all_listed_values (entry_values 0 inner width))) ≡ Ok (RecordDescr (record { size = width; fields = inner }))
 type_read levels leaves width inner reads =
     after_ok _ _ _ (ap (record_in (suc levels) leaves) (literals_of_listed (entry_values 0 inner width)) ∙ reads)
 
@@ -195,7 +195,7 @@ fields_read (record_field name at width inner rest) (suc levels) leaves from byt
     record { order = may.order.2; small = omega (arith, ends, may.small); few = omega (arith, may.within.0.few); legal = may.within.0.named; distinct = may.within.0.distinct; within = may.within.1; shallow = omega (arith, may.shallow); counted = omega (arith, may.counted) } in
     let members = fields_read inner levels leaves 0 width [] inside in
     let body = record_read levels leaves width inner (omega (arith, ends, may.small)) may.within.0.some members in
-    field_and_more (suc levels) leaves from at bytes done name (Row Square (all_values (entry_values 0 inner width))) descr rest may.order.0 (omega (arith, ends, may.small)) legal.0 (omega (arith, may.few)) may.distinct (omega (arith, may.counted, many))
+    field_and_more (suc levels) leaves from at bytes done name (Row Square (all_listed_values (entry_values 0 inner width))) descr rest may.order.0 (omega (arith, ends, may.small)) legal.0 (omega (arith, may.few)) may.distinct (omega (arith, may.counted, many))
     (type_read levels leaves width inner body)
     (fields_read rest (suc levels) (leaves + length (leaves_of descr)) (at + width) bytes (done ++ field_with name at descr ∷ []) later)
     ∙ (λ i. Ok (packed (suc levels) (leaves + (many i + leaf_count rest)) bytes (done ++ field_with name at descr ∷ fields_of rest)))
@@ -204,7 +204,7 @@ fields_read (record_field name at width inner rest) (suc levels) leaves from byt
 
 abbrev pub written_value : Descr → Literal
 written_value (ScalarDescr scalar) = Plain (Text (spelling scalar))
-written_value (RecordDescr structure) = Row Square (all_values (entry_values 0 structure.fields structure.size))
+written_value (RecordDescr structure) = Row Square (all_listed_values (entry_values 0 structure.fields structure.size))
 
 pub descr_read : (descr : Descr) → IsSound descr → descr_in (written_value descr) ≡ Ok descr
 descr_read (ScalarDescr scalar) sound = after_ok _ _ _ (reads_spelling scalar sound.0 sound.1)

@@ -11,7 +11,7 @@ use Rattle.std.proofs.lemmas.Str.Parse.{IsNumeralModel, numerals_by_fold}
 use Rattle.std.proofs.Math.Nat.{min-eq_left}
 use Rattle.elem_descr.specs.TypeStrings.{value_of}
 use Rattle.shape_strides.specs.Limits.{max_items}
-use Rattle.npy_format.specs.Tokens.{Token, Text, Integer, Symbol, Stray, is_space, is_quote, is_plain, text_token, ended_text, capped, is_integer, behind_long, integer_token, word_token, token_from, unspaced, first_token, tokens_in}
+use Rattle.npy_format.specs.Tokens.{Token, Text, Integer, Symbol, Stray, is_space, is_quote, is_plain_byte, text_token, ended_text, capped, is_integer, behind_long, integer_token, word_token, token_from, unspaced_text, first_token, tokens_in}
 
 -- the tokens of a text, in turns enough for its bytes
 abbrev pub Scans : List ℕ → List Token → Type 0
@@ -46,7 +46,7 @@ scan_token b rest token behind toks begins is shorter more (suc turns) few =
     ∙ ap (λ (t : Token × List ℕ). t.0 ∷ tokens_in turns t.1) is
     ∙ ap (λ (l : List Token). token ∷ l) (more turns (omega (arith, few, shorter)))
   where
-    none : unspaced (b ∷ rest) ≡ b ∷ rest
+    none : unspaced_text (b ∷ rest) ≡ b ∷ rest
     none = rw begins refl
 
 -- a prefix that passes a test, before a byte that does not
@@ -57,9 +57,9 @@ prefix_all p (x ∷ xs) b rest all stops =
     rw parts.0 (omega (arith, prefix_all p xs b rest parts.1 stops))
 
 -- a string between apostrophes
-pub scan_quoted : (text rest : List ℕ) (toks : List Token) → list_all (is_plain 39) text ≡ true → Scans rest toks → Scans (39 ∷ (text ++ (39 ∷ rest))) (Text text ∷ toks)
+pub scan_quoted : (text rest : List ℕ) (toks : List Token) → list_all (is_plain_byte 39) text ≡ true → Scans rest toks → Scans (39 ∷ (text ++ (39 ∷ rest))) (Text text ∷ toks)
 scan_quoted text rest toks plain more =
-    let n = prefix_all (is_plain 39) text 39 rest plain refl in
+    let n = prefix_all (is_plain_byte 39) text 39 rest plain refl in
     let all = text ++ (39 ∷ rest) in
     let is : token_from 39 all ≡ (Text text, rest) =
     ap (λ (k : ℕ). ended_text (take k all) 39 (drop k all)) n ∙ (λ i. ended_text (take-append_seam text (39 ∷ rest) i) 39 (drop-append_seam text (39 ∷ rest) i)) in

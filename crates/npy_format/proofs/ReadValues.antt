@@ -13,11 +13,11 @@ use Rattle.elem_descr.specs.Descriptors.{InOrder, AreNamedWithin, names_of, dept
 use Rattle.elem_descr.specs.DescriptorLaws.{InOrder-within, some_depth}
 use Rattle.elem_descr.specs.TypeStrings.{spelling}
 use Rattle.elem_descr.specs.Refusals.{◌>>=◌}
-use Rattle.npy_format.specs.Tokens.{Token, is_plain}
+use Rattle.npy_format.specs.Tokens.{Token, is_plain_byte}
 use Rattle.npy_format.specs.Tokens as token
 use Rattle.npy_format.specs.Values.{Round, Square, Text}
-use Rattle.npy_format.specs.Listed.{Literal, Plain, Row, all_values}
-use Rattle.npy_format.specs.Literals.{symbol_at, entries_in, tuple_in, list_in, literal_in}
+use Rattle.npy_format.specs.Listed.{Literal, Plain, Row, all_listed_values}
+use Rattle.npy_format.specs.Literals.{symbol_token_at, entries_in, tuple_in, list_in, literal_in}
 use Rattle.npy_format.specs.WrittenHeaders.{quoted, entry, gap, separated, in_brackets, entries}
 use Rattle.npy_format.proofs.ReadTokens.{Scans, both, are_digits, scan_token, scan_space, scan_quoted}
 
@@ -27,8 +27,8 @@ pub record IsRead (depth : ℕ) (text : List ℕ) (value : Literal) (toks : List
   pub scans : Scans text tokens
   pub reads : literal_in depth tokens ≡ Ok (value, toks)
   pub longer : length toks < length tokens
-  pub no_square : None ≡ symbol_at 93 tokens
-  pub no_round : None ≡ symbol_at 41 tokens
+  pub no_square : None ≡ symbol_token_at 93 tokens
+  pub no_round : None ≡ symbol_token_at 41 tokens
 
 -- a text is a value, whatever follows it
 abbrev pub IsValue : ℕ → List ℕ → Literal → Type 0
@@ -41,7 +41,7 @@ AreValues depth (text ∷ texts) (value ∷ values) = IsValue depth text value �
 AreValues depth _ _ = ⊥
 
 -- a string
-pub quoted_value : (depth : ℕ) (text : List ℕ) → list_all (is_plain 39) text ≡ true → IsValue depth (quoted text) (Plain (Text text))
+pub quoted_value : (depth : ℕ) (text : List ℕ) → list_all (is_plain_byte 39) text ≡ true → IsValue depth (quoted text) (Plain (Text text))
 unfolding literal_in
 quoted_value depth text plain rest toks more =
     let joined : quoted text ++ rest ≡ 39 ∷ (text ++ (39 ∷ rest)) = ap (λ (l : List ℕ). 39 ∷ l) (append_assoc text (codes "'") rest) in
@@ -65,7 +65,7 @@ pub record AreRead (depth closing : ℕ) (text : List ℕ) (values : List Litera
 record AreBehind (depth closing : ℕ) (text : List ℕ) (values : List Literal) (toks : List Token) : Type 0 where
   tokens : List Token
   scans : Scans text tokens
-  reads : (first : Literal) (before : List Token) (turns : ℕ) → length tokens ≤ turns → None ≡ symbol_at closing before → literal_in depth before ≡ Ok (first, tokens) → entries_in (literal_in depth) closing (suc turns) before ≡ Ok (first ∷ values, toks)
+  reads : (first : Literal) (before : List Token) (turns : ℕ) → length tokens ≤ turns → None ≡ symbol_token_at closing before → literal_in depth before ≡ Ok (first, tokens) → entries_in (literal_in depth) closing (suc turns) before ≡ Ok (first ∷ values, toks)
   longer : length toks < length tokens
 
 behind : (depth : ℕ) (texts : List (List ℕ)) (values : List Literal) (rest : List ℕ) (toks : List Token) → AreValues depth texts values → Scans rest toks → AreBehind depth 93 (separated false texts ++ (93 ∷ rest)) values toks
@@ -125,7 +125,7 @@ all_read depth (text ∷ texts) (value ∷ values) rest toks are more =
     next later one zero few = absurd (omega (arith, few, one.longer))
     next later one (suc turns) few = later.reads value one.tokens turns (omega (arith, few, one.longer)) one.no_square one.reads
 
-pub list_value : (depth : ℕ) (texts : List (List ℕ)) (values : List Literal) → AreValues depth texts values → IsValue (suc depth) (in_brackets texts) (Row Square (all_values values))
+pub list_value : (depth : ℕ) (texts : List (List ℕ)) (values : List Literal) → AreValues depth texts values → IsValue (suc depth) (in_brackets texts) (Row Square (all_listed_values values))
 unfolding literal_in list_in
 list_value depth texts values are rest toks more =
     let all = all_read depth texts values rest toks are more in
@@ -142,12 +142,12 @@ list_value depth texts values are rest toks more =
 
 -- an entry of a record
 abbrev pub entry_literal : List ℕ → Literal → Literal
-entry_literal name type = Row Round (all_values (Plain (Text name) ∷ (type ∷ [])))
+entry_literal name type = Row Round (all_listed_values (Plain (Text name) ∷ (type ∷ [])))
 
 entry_joined : (name type rest : List ℕ) → entry name type ++ rest ≡ 40 ∷ (39 ∷ (name ++ (39 ∷ (44 ∷ (32 ∷ (type ++ (41 ∷ rest)))))))
 entry_joined name type rest = simp append_assoc
 
-pub entry_value : (depth : ℕ) (name text : List ℕ) (type : Literal) → list_all (is_plain 39) name ≡ true → IsValue depth text type → IsValue (suc depth) (entry name text) (entry_literal name type)
+pub entry_value : (depth : ℕ) (name text : List ℕ) (type : Literal) → list_all (is_plain_byte 39) name ≡ true → IsValue depth text type → IsValue (suc depth) (entry name text) (entry_literal name type)
 unfolding literal_in tuple_in entries_in
 entry_value depth name text type plain is rest toks more =
     let closed = scan_token 41 rest (token.Symbol 41) rest toks refl refl (omega arith) more in
@@ -166,7 +166,7 @@ entry_value depth name text type plain is rest toks more =
       no_round = refl;
     }
   where
-    alone : (turns : ℕ) (tokens : List Token) → length (token.Symbol 41 ∷ toks) < turns → None ≡ symbol_at 41 tokens → literal_in depth tokens ≡ Ok (type, token.Symbol 41 ∷ toks) → entries_in (literal_in depth) 41 turns tokens ≡ Ok (type ∷ [], toks)
+    alone : (turns : ℕ) (tokens : List Token) → length (token.Symbol 41 ∷ toks) < turns → None ≡ symbol_token_at 41 tokens → literal_in depth tokens ≡ Ok (type, token.Symbol 41 ∷ toks) → entries_in (literal_in depth) 41 turns tokens ≡ Ok (type ∷ [], toks)
     alone zero tokens few none reads = absurd (omega (arith, few))
     alone (suc turns) tokens few none reads = rw (← none, reads) refl
 
@@ -179,7 +179,7 @@ gap_values (suc n) = entry_literal [] (Plain (Text (codes "|V" ++ decimal (suc n
 abbrev pub entry_values : ℕ → Fields → ℕ → List Literal
 entry_values from no_more bytes = gap_values (bytes - from)
 entry_values from (scalar_field name at scalar rest) bytes = gap_values (at - from) ++ (entry_literal name (Plain (Text (spelling scalar))) ∷ entry_values (at + size scalar) rest bytes)
-entry_values from (record_field name at width inner rest) bytes = gap_values (at - from) ++ (entry_literal name (Row Square (all_values (entry_values 0 inner width))) ∷ entry_values (at + width) rest bytes)
+entry_values from (record_field name at width inner rest) bytes = gap_values (at - from) ++ (entry_literal name (Row Square (all_listed_values (entry_values 0 inner width))) ∷ entry_values (at + width) rest bytes)
 
 AreValues-append : (depth : ℕ) (texts texts' : List (List ℕ)) (values values' : List Literal) → AreValues depth texts values → AreValues depth texts' values' → AreValues depth (texts ++ texts') (values ++ values')
 AreValues-append depth [] texts' [] values' are are' = are'
@@ -193,21 +193,21 @@ all-weaker p q weaker (x ∷ xs) all =
     let parts = both (p x) (list_all p xs) all in
     rw (weaker x parts.0) (all-weaker p q weaker xs parts.1)
 
-plain_digit : (b : ℕ) → is_ascii_digit b ≡ true → is_plain 39 b ≡ true
+plain_digit : (b : ℕ) → is_ascii_digit b ≡ true → is_plain_byte 39 b ≡ true
 plain_digit b is = grind (arith, nat_tests)
 
-plain_name_byte : (b : ℕ) → is_field_name_byte b ≡ true → is_plain 39 b ≡ true
+plain_name_byte : (b : ℕ) → is_field_name_byte b ≡ true → is_plain_byte 39 b ≡ true
 plain_name_byte b is = grind (arith, nat_tests)
 
-plain_decimal : (n : ℕ) → n < 2 ^ 64 → list_all (is_plain 39) (decimal n) ≡ true
-plain_decimal n small = all-weaker is_ascii_digit (is_plain 39) plain_digit (decimal n) (are_digits n small)
+plain_decimal : (n : ℕ) → n < 2 ^ 64 → list_all (is_plain_byte 39) (decimal n) ≡ true
+plain_decimal n small = all-weaker is_ascii_digit (is_plain_byte 39) plain_digit (decimal n) (are_digits n small)
 
-plain_name : (name : List ℕ) → is_legal_name name ≡ true → list_all (is_plain 39) name ≡ true
+plain_name : (name : List ℕ) → is_legal_name name ≡ true → list_all (is_plain_byte 39) name ≡ true
 plain_name name legal =
     let parts = both (nat_le 1 (length name) && nat_le (length name) 64) (list_all is_field_name_byte name) legal in
-    all-weaker is_field_name_byte (is_plain 39) plain_name_byte name parts.1
+    all-weaker is_field_name_byte (is_plain_byte 39) plain_name_byte name parts.1
 
-pub plain_spelling : (scalar : Scalar) → size scalar < 2 ^ 64 → list_all (is_plain 39) (spelling scalar) ≡ true
+pub plain_spelling : (scalar : Scalar) → size scalar < 2 ^ 64 → list_all (is_plain_byte 39) (spelling scalar) ≡ true
 plain_spelling BoolScalar small = plain_decimal 1 small
 plain_spelling (Byte true) small = plain_decimal 1 small
 plain_spelling (Byte false) small = plain_decimal 1 small
@@ -236,7 +236,7 @@ entries_are (record_field name at width inner rest) from bytes (suc (suc levels)
     let ends = InOrder-within (at + width) rest bytes order.3 in
     let legal = both (is_legal_name name) (list_all is_legal_name (names_of rest)) names in
     AreValues-append (suc (suc levels)) (gap (at - from)) _ (gap_values (at - from)) _ (gaps_are (suc levels) (at - from) (omega (arith, small, ends))) (
-      entry_value (suc levels) name (in_brackets (entries 0 inner width)) (Row Square (all_values (entry_values 0 inner width))) (plain_name name legal.0)
+      entry_value (suc levels) name (in_brackets (entries 0 inner width)) (Row Square (all_listed_values (entry_values 0 inner width))) (plain_name name legal.0)
           (list_value levels (entries 0 inner width) (entry_values 0 inner width) (entries_are inner 0 width levels order.2 (omega (arith, small, ends)) (omega (arith, deep)) within.0.named within.1)),
       entries_are rest (at + width) bytes (suc (suc levels)) order.3 small (omega (arith, deep)) legal.1 within.2,
     )

@@ -12,9 +12,9 @@ use Rattle.elem_descr.specs.Names.{is_legal_name}
 use Rattle.elem_descr.specs.FormatLetters.{is_empty}
 use Rattle.elem_descr.specs.FormatRecords.{Partial, max_depth, empty, checked_name, added, closed_record}
 use Rattle.npy_format.specs.Tokens.{Token}
-use Rattle.npy_format.specs.Listed.{Literal, Plain, Row, all_values, literals_of}
+use Rattle.npy_format.specs.Listed.{Literal, Plain, Row, all_listed_values, value_literals}
 use Rattle.npy_format.specs.Values.{Text, Integer, Truth, Nothing, Dictionary, Round, Square}
-use Rattle.npy_format.specs.Literals.{symbol_at}
+use Rattle.npy_format.specs.Literals.{symbol_token_at}
 use Rattle.npy_format.specs.RecordLists.{Reader, pad_in, type_in, field_in, named_in, entry_in, fields_in, record_in, descr_in}
 use Rattle.npy_format.specs.inside.Entries.{behind_entry}
 use Rattle.npy_format.specs.inside.Places.{HasValues, Stands, value_in, name_and_type, entry_parts}
@@ -43,10 +43,10 @@ no_93 : let n : ℕ = 93 in n ≡ 44 → ⊥
 no_93 wrong = omega (arith, wrong)
 
 module _ (levels leaves : ℕ) (whole : List Literal) (p : Partial) (toks : List Token) (h : FieldsLeft levels leaves whole p toks) where
-  pub fields_closed : (end : List Token) → Some end ≡ symbol_at 93 toks → record_in levels leaves whole ≡ closed_record Little p
+  pub fields_closed : (end : List Token) → Some end ≡ symbol_token_at 93 toks → record_in levels leaves whole ≡ closed_record Little p
   fields_closed end ends = h.read ∙ ap (λ (l : List Literal). fields_in (record_in (levels - 1)) p l >>= closed_record Little) (stand_closed value_in 93 toks h.left h.stand end ends)
 
-  module _ (more : None ≡ symbol_at 93 toks) where
+  module _ (more : None ≡ symbol_token_at 93 toks) where
     pub fields_read : (e : Refusal) → behind_entry value_in toks ≡ Err e → ⊥
     fields_read e fails = is_read value_in 93 no_93 toks h.left h.stand more e fails
 
@@ -85,10 +85,10 @@ pub gives_value : {X : Type 0} (r there : Result X Refusal) → there ≡ r → 
 gives_value (Ok x) there is = is
 gives_value (Err e) there is = inr is
 
-pub list_type : (within : List Literal → Result Body Refusal) (v : Literal) (values : List Literal) → v ≡ Row Square (all_values values) → type_in within v ≡ (within values >>= λ body. Ok (RecordDescr body.whole))
+pub list_type : (within : List Literal → Result Body Refusal) (v : Literal) (values : List Literal) → v ≡ Row Square (all_listed_values values) → type_in within v ≡ (within values >>= λ body. Ok (RecordDescr body.whole))
 list_type within v values is = ap (type_in within) is ∙ ap (λ (l : List Literal). within l >>= λ body. Ok (RecordDescr body.whole)) (literals_of_listed values)
 
-pub list_descr : (v : Literal) (values : List Literal) → v ≡ Row Square (all_values values) → descr_in v ≡ (record_in max_depth 0 values >>= λ body. Ok (RecordDescr body.whole))
+pub list_descr : (v : Literal) (values : List Literal) → v ≡ Row Square (all_listed_values values) → descr_in v ≡ (record_in max_depth 0 values >>= λ body. Ok (RecordDescr body.whole))
 list_descr v values is = ap descr_in is ∙ ap (λ (l : List Literal). record_in max_depth 0 l >>= λ body. Ok (RecordDescr body.whole)) (literals_of_listed values)
 
 -- what the parts of an entry mean
@@ -109,7 +109,7 @@ module _ (within : Reader) (p : Partial) where
   named_means (Row brackets row ∷ others) = refl
 
   pub entry_means : (v : Literal) → entry_in within p v ≡ parts_in within p (entry_parts v)
-  entry_means (Row Round row) = named_means (literals_of row)
+  entry_means (Row Round row) = named_means (value_literals row)
   entry_means (Row Square row) = refl
   entry_means (Plain (Text name)) = refl
   entry_means (Plain (Integer n)) = refl

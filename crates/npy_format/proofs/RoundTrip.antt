@@ -30,7 +30,7 @@ use Rattle.shape_strides.specs.IndexLaws.{length-indexes, rank-lt, get_or-indexe
 use Rattle.shape_strides.specs.ReverseLaws.{count-reverse, IsIndex-reverse}
 use Rattle.shape_strides.specs.Shapes.{IsShape}
 use Rattle.overlap_copy.specs.Blocks.{offsets_in}
-use Rattle.npy_format.specs.Files.{load, order_of, data_size, split_front, split_header}
+use Rattle.npy_format.specs.Files.{load, file_order, data_size, split_front, split_header}
 use Rattle.npy_format.specs.Headers.{header}
 use Rattle.npy_format.specs.WrittenHeaders.{written_text, written_header}
 use Rattle.npy_format.specs.WrittenFiles.{ordered, file_of}
@@ -145,7 +145,7 @@ module _ (descr : Descr) (sound : IsSound descr) (block : List ℕ) (are : AreBy
 
   -- the items of a shape, in C order of their indexes
   items_again : (fortran : Bool) (shape offsets : List ℕ) → length offsets ≡ count shape → All (λ offset. offset + item_size descr ≤ length block) offsets
-      → map (item_from descr (flat_map (encode_item descr) (ordered (order_of fortran) shape (map value offsets)))) (offsets_in (order_of fortran) (item_size descr) shape) ≡ map value offsets
+      → map (item_from descr (flat_map (encode_item descr) (ordered (file_order fortran) shape (map value offsets)))) (offsets_in (file_order fortran) (item_size descr) shape) ≡ map value offsets
   items_again false shape offsets long inside =
       let width = item_size descr in
       let all = flat_map (encode_item descr) (map value offsets) in
@@ -183,7 +183,7 @@ module _ (descr : Descr) (sound : IsSound descr) (block : List ℕ) (are : AreBy
       ∙ ap value entry
       ∙ sym (get_or-map value offsets k 0 [] (omega (arith, below, long))))
 
-  items_length : (fortran : Bool) (shape offsets : List ℕ) → length offsets ≡ count shape → length (flat_map (encode_item descr) (ordered (order_of fortran) shape (map value offsets))) ≡ count shape * item_size descr
+  items_length : (fortran : Bool) (shape offsets : List ℕ) → length offsets ≡ count shape → length (flat_map (encode_item descr) (ordered (file_order fortran) shape (map value offsets))) ≡ count shape * item_size descr
   items_length fortran shape offsets long =
       let in_file = if fortran then fortran_order shape offsets else offsets in
       let counted : length in_file ≡ count shape = in_either fortran in
@@ -200,7 +200,7 @@ module _ (descr : Descr) (sound : IsSound descr) (block : List ℕ) (are : AreBy
       → file ≡ file_of descr fortran shape (map value offsets) → LoadsAs file descr shape (map value offsets)
   file_loads fortran shape offsets file is long inside small written =
       let text = written_text descr fortran shape in
-      let items = flat_map (encode_item descr) (ordered (order_of fortran) shape (map value offsets)) in
+      let items = flat_map (encode_item descr) (ordered (file_order fortran) shape (map value offsets)) in
       let parts = written_split text items (omega (arith, short_text descr fortran shape sound is)) in
       record {
         loaded = record { head = record { descr = descr; fortran = fortran; shape = shape }; items = items; rest = 0 };

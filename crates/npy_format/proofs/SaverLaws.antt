@@ -9,7 +9,7 @@ use Rattle.elem_descr.specs.Items.{item_size, leaves_of, AreInOrder, encode_item
 use Rattle.elem_descr.specs.Blocks.{blocks, item_from}
 use Rattle.shape_strides.specs.Indexes.{count}
 use Rattle.shape_strides.specs.Contiguity.{first_address, is_c_contiguous, is_f_contiguous}
-use Rattle.npy_format.specs.Files.{order_of}
+use Rattle.npy_format.specs.Files.{file_order}
 use Rattle.elem_descr.specs.Values.{LeafValue}
 use Rattle.shape_strides.specs.Limits.{max_bytes}
 use Rattle.npy_format.specs.WrittenFiles.{is_fortran, ordered, file_of, saved}
@@ -26,7 +26,7 @@ module _ (descr : Descr) (shape offsets bytes : List ℕ) (start len : ℕ) (lon
   stretch_ends = let ends = (together (item_size descr) shape offsets bytes long inside is).ends in omega (arith, ends, first, sized)
 
   pub stretch_written : (head : List ℕ) → IsPlain 0 (leaves_of descr) (item_size descr) → AreInOrder 0 (leaves_of descr) (item_size descr) → AreBytes bytes
-      → head ++ item_at start len bytes ≡ head ++ flat_map (encode_item descr) (ordered (order_of (is_fortran (item_size descr) shape offsets)) shape (map (item_from descr bytes) offsets))
+      → head ++ item_at start len bytes ≡ head ++ flat_map (encode_item descr) (ordered (file_order (is_fortran (item_size descr) shape offsets)) shape (map (item_from descr bytes) offsets))
   stretch_written head plain order are =
       let width = item_size descr in
       let n = count shape in

@@ -7,7 +7,7 @@ use Rattle.elem_descr.specs.Refusals.{◌>>=◌}
 use Rattle.npy_format.specs.Tokens.{Token}
 use Rattle.npy_format.specs.Tokens as token
 use Rattle.npy_format.specs.Listed.{Literal, Pair}
-use Rattle.npy_format.specs.Literals.{Read, symbol_at, if_found, ended, entries_in, tuple_in, list_in, pair_in, dictionary_in, bracketed, literal_in}
+use Rattle.npy_format.specs.Literals.{Read, symbol_token_at, if_read, list_end, entries_in, tuple_in, list_in, pair_in, dictionary_in, bracketed, literal_in}
 use Rattle.npy_format.specs.inside.Entries.{behind, behind_entries, behind_key}
 use Rattle.npy_format.proofs.GrammarLaws.{Shortens, symbol_shorter}
 
@@ -27,7 +27,7 @@ bind_same : {A B : Type 0} (r : Result A Refusal) (f f' : A → Result B Refusal
 bind_same (Ok x) f f' h = h x refl
 bind_same (Err e) f f' h = refl
 
-found_same : {A B : Type 0} (o : Option B) (next next' : B → A) (other : A) → ((b : B) → Some b ≡ o → next b ≡ next' b) → if_found o next other ≡ if_found o next' other
+found_same : {A B : Type 0} (o : Option B) (next next' : B → A) (other : A) → ((b : B) → Some b ≡ o → next b ≡ next' b) → if_read o next other ≡ if_read o next' other
 found_same None next next' other h = refl
 found_same (Some b) next next' other h = h b refl
 
@@ -41,36 +41,36 @@ module _ {A : Type 0} (entry : List Token → Read A) (shortens : Shortens entry
   entries_turns closing (suc n) zero [] few few' = rw none refl
   entries_turns closing (suc n) zero (t ∷ toks) few few' = absurd (omega (arith, few'))
   entries_turns closing (suc n) (suc m) toks few few' =
-      ap (if_found (symbol_at closing toks) ended) (bind_same (entry toks) _ _ (λ first is. ap (λ (r : Read (List A)). r >>= λ others. Ok (first.0 ∷ others.0, others.1))
-      (ap (if_found (symbol_at closing first.1) ended) (found_same (symbol_at 44 first.1) _ _ (Err BadHeader) (λ b at.
+      ap (if_read (symbol_token_at closing toks) list_end) (bind_same (entry toks) _ _ (λ first is. ap (λ (r : Read (List A)). r >>= λ others. Ok (first.0 ∷ others.0, others.1))
+      (ap (if_read (symbol_token_at closing first.1) list_end) (found_same (symbol_token_at 44 first.1) _ _ (Err BadHeader) (λ b at.
       entries_turns closing n m b (omega (arith, few, shortens toks first is, symbol_shorter 44 first.1 b at)) (omega (arith, few', shortens toks first is, symbol_shorter 44 first.1 b at)))))))
 
   module _ (closing : ℕ) (toks : List Token) where
     begins : behind_entries entry closing toks ≡ behind (entries_in entry closing (suc (length toks)) toks)
     begins = ap (λ (r : Read (List A)). behind r) (entries_turns closing (length toks) (suc (length toks)) toks (omega arith) (omega arith))
 
-    pub skip_closed : (end : List Token) → Some end ≡ symbol_at closing toks → behind_entries entry closing toks ≡ Ok end
+    pub skip_closed : (end : List Token) → Some end ≡ symbol_token_at closing toks → behind_entries entry closing toks ≡ Ok end
     unfolding entries_in
     skip_closed end ends = begins ∙ rw (← ends) refl
 
-    module _ (no_end : None ≡ symbol_at closing toks) where
+    module _ (no_end : None ≡ symbol_token_at closing toks) where
       pub skip_refused : (e : Refusal) → behind (entry toks) ≡ Err e → behind_entries entry closing toks ≡ Err e
       unfolding entries_in
       skip_refused e fails = let is = behind_err (entry toks) e fails in begins ∙ rw (← no_end, is) refl
 
       module _ (after : List Token) (reads : behind (entry toks) ≡ Ok after) where
-        pub skip_last : (end : List Token) → Some end ≡ symbol_at closing after → behind_entries entry closing toks ≡ Ok end
+        pub skip_last : (end : List Token) → Some end ≡ symbol_token_at closing after → behind_entries entry closing toks ≡ Ok end
         unfolding entries_in
         skip_last end ends = let first = behind_ok (entry toks) after reads in begins ∙ rw (← no_end, first.1, ← ends) refl
 
-        pub skip_no_mark : None ≡ symbol_at closing after → None ≡ symbol_at 44 after → behind_entries entry closing toks ≡ Err BadHeader
+        pub skip_no_mark : None ≡ symbol_token_at closing after → None ≡ symbol_token_at 44 after → behind_entries entry closing toks ≡ Err BadHeader
         unfolding entries_in
         skip_no_mark not_last no_comma = let first = behind_ok (entry toks) after reads in begins ∙ rw (← no_end, first.1, ← not_last, ← no_comma) refl
 
         pub skip_shorter : length after < length toks
         skip_shorter = let first = behind_ok (entry toks) after reads in shortens toks (first.0, after) first.1
 
-        pub skip_next : (next : List Token) → None ≡ symbol_at closing after → Some next ≡ symbol_at 44 after → behind_entries entry closing toks ≡ behind_entries entry closing next
+        pub skip_next : (next : List Token) → None ≡ symbol_token_at closing after → Some next ≡ symbol_token_at 44 after → behind_entries entry closing toks ≡ behind_entries entry closing next
         unfolding entries_in
         skip_next next not_last comma =
             let first = behind_ok (entry toks) after reads in
@@ -81,20 +81,20 @@ module _ {A : Type 0} (entry : List Token → Read A) (shortens : Shortens entry
 -- ---- in brackets
 
 module _ (value : List Token → Read Literal) (toks : List Token) where
-  pub tuple_closed : (end : List Token) → Some end ≡ symbol_at 41 toks → behind (tuple_in value toks) ≡ Ok end
+  pub tuple_closed : (end : List Token) → Some end ≡ symbol_token_at 41 toks → behind (tuple_in value toks) ≡ Ok end
   unfolding tuple_in
   tuple_closed end ends = rw (← ends) refl
 
-  module _ (no_end : None ≡ symbol_at 41 toks) where
+  module _ (no_end : None ≡ symbol_token_at 41 toks) where
     pub tuple_refused : (e : Refusal) → behind (value toks) ≡ Err e → behind (tuple_in value toks) ≡ Err e
     unfolding tuple_in
     tuple_refused e fails = let is = behind_err (value toks) e fails in rw (← no_end, is) refl
 
-    pub tuple_no_mark : (after : List Token) → behind (value toks) ≡ Ok after → None ≡ symbol_at 44 after → behind (tuple_in value toks) ≡ Err BadHeader
+    pub tuple_no_mark : (after : List Token) → behind (value toks) ≡ Ok after → None ≡ symbol_token_at 44 after → behind (tuple_in value toks) ≡ Err BadHeader
     unfolding tuple_in
     tuple_no_mark after reads no_comma = let first = behind_ok (value toks) after reads in rw (← no_end, first.1, ← no_comma) refl
 
-    pub tuple_next : (after next : List Token) → behind (value toks) ≡ Ok after → Some next ≡ symbol_at 44 after → behind (tuple_in value toks) ≡ behind_entries value 41 next
+    pub tuple_next : (after next : List Token) → behind (value toks) ≡ Ok after → Some next ≡ symbol_token_at 44 after → behind (tuple_in value toks) ≡ behind_entries value 41 next
     unfolding tuple_in
     tuple_next after next reads comma =
         let first = behind_ok (value toks) after reads in
@@ -119,9 +119,9 @@ module _ (value : List Token → Read Literal) (toks : List Token) where
       colon k None = refl
       colon k (Some rest) = under k (value rest)
 
-      key : (r : Read Literal) → behind {A = Pair} (r >>= λ k. ok_or (symbol_at 58 k.1) BadHeader >>= λ rest. value rest >>= λ u. Ok (record { key = k.0; value = u.0 }, u.1)) ≡ (behind r >>= (λ rest. ok_or (symbol_at 58 rest) BadHeader) >>= λ rest. behind (value rest))
+      key : (r : Read Literal) → behind {A = Pair} (r >>= λ k. ok_or (symbol_token_at 58 k.1) BadHeader >>= λ rest. value rest >>= λ u. Ok (record { key = k.0; value = u.0 }, u.1)) ≡ (behind r >>= (λ rest. ok_or (symbol_token_at 58 rest) BadHeader) >>= λ rest. behind (value rest))
       key (Err e) = refl
-      key (Ok k) = colon k (symbol_at 58 k.1)
+      key (Ok k) = colon k (symbol_token_at 58 k.1)
 
 -- ---- what the readers need
 

@@ -10,12 +10,12 @@ use Rattle.elem_descr.specs.FormatRecords.{Partial}
 use Rattle.npy_format.specs.Tokens.{Token, tokens}
 use Rattle.npy_format.specs.Tokens as token
 use Rattle.npy_format.specs.Values.{Text, Integer, Round, Square}
-use Rattle.npy_format.specs.Listed.{Literal, Plain, Row, all_values}
-use Rattle.npy_format.specs.Literals.{Read, symbol_at, literal_in}
+use Rattle.npy_format.specs.Listed.{Literal, Plain, Row, all_listed_values}
+use Rattle.npy_format.specs.Literals.{Read, symbol_token_at, literal_in}
 use Rattle.npy_format.specs.RecordLists.{pad_in, type_in, descr_in}
 use Rattle.npy_format.specs.Headers.{is_string, truth_of, integers_of, lengths_of}
 use Rattle.npy_format.specs.inside.Entries.{behind_comma, behind_entry}
-use Rattle.npy_format.specs.inside.Scanned.{string_at, integer_at, truth_at, is_text, pad_at}
+use Rattle.npy_format.specs.inside.Scanned.{string_at, integer_at, truth_at, is_string_token, pad_at}
 use Rattle.npy_format.specs.inside.Places.{StandIn, HasValues, HasLengths, Stands, value_in, name_and_type, entry_parts}
 use Rattle.npy_format.proofs.ValueLaws.{literals_of_listed}
 use Rattle.npy_format.proofs.PlaceLaws.{stand_open, stand_closed, Front, text_front, integer_front, truth_front, nothing_front, boxed_front, tuple_boxed, list_boxed, pairs_boxed, front_of, bind_ok, same_read}
@@ -32,10 +32,10 @@ symbol_closed (Some x) there some is = (tokens x.now, is)
 -- ---- plain values
 
 module _ (toks : List Token) (v : Literal) (s : Stands toks v) where
-  pub text_is : (key : List ℕ) → is_text key (string_at toks) ≡ is_string key v
+  pub text_is : (key : List ℕ) → is_string_token key (string_at toks) ≡ is_string key v
   text_is key = go (front_of toks v s)
     where
-      go : Front toks v s.rest → is_text key (string_at toks) ≡ is_string key v
+      go : Front toks v s.rest → is_string_token key (string_at toks) ≡ is_string key v
       go (text_front bytes e e') = rw (e, e') refl
       go (integer_front n e e') = rw (e, e') refl
       go (truth_front truth e e') = rw (e, e') refl
@@ -80,10 +80,10 @@ module _ (toks : List Token) (v : Literal) (s : Stands toks v) where
       go (nothing_front e e') = let w = rw e at is in cc
       go (boxed_front b inside e box) = let w = rw e at is in cc
 
-  pub list_stands : (inside : List Token) → Some inside ≡ symbol_at 91 toks → (vs : List Literal) × (v ≡ Row Square (all_values vs)) × HasValues 93 inside vs
+  pub list_stands : (inside : List Token) → Some inside ≡ symbol_token_at 91 toks → (vs : List Literal) × (v ≡ Row Square (all_listed_values vs)) × HasValues 93 inside vs
   list_stands inside is = go (front_of toks v s)
     where
-      go : Front toks v s.rest → (vs : List Literal) × (v ≡ Row Square (all_values vs)) × HasValues 93 inside vs
+      go : Front toks v s.rest → (vs : List Literal) × (v ≡ Row Square (all_listed_values vs)) × HasValues 93 inside vs
       go (text_front bytes e e') = let w = rw e at is in cc
       go (integer_front n e e') = let w = rw e at is in cc
       go (truth_front truth e e') = let w = rw e at is in cc
@@ -95,10 +95,10 @@ module _ (toks : List Token) (v : Literal) (s : Stands toks v) where
           (vs, e', subst (λ (l : List Token). HasValues 93 l vs) (sym same) st)
       go (boxed_front b inside' e (pairs_boxed at e')) = let w = rw (e, at) at is in cc
 
-  pub tuple_stands : (inside : List Token) → Some inside ≡ symbol_at 40 toks → (vs : List Literal) × (v ≡ Row Round (all_values vs)) × HasValues 41 inside vs
+  pub tuple_stands : (inside : List Token) → Some inside ≡ symbol_token_at 40 toks → (vs : List Literal) × (v ≡ Row Round (all_listed_values vs)) × HasValues 41 inside vs
   tuple_stands inside is = go (front_of toks v s)
     where
-      go : Front toks v s.rest → (vs : List Literal) × (v ≡ Row Round (all_values vs)) × HasValues 41 inside vs
+      go : Front toks v s.rest → (vs : List Literal) × (v ≡ Row Round (all_listed_values vs)) × HasValues 41 inside vs
       go (text_front bytes e e') = let w = rw e at is in cc
       go (integer_front n e e') = let w = rw e at is in cc
       go (truth_front truth e e') = let w = rw e at is in cc
@@ -110,7 +110,7 @@ module _ (toks : List Token) (v : Literal) (s : Stands toks v) where
       go (boxed_front b inside' e (list_boxed vs at e' st)) = let w = rw (e, at) at is in cc
       go (boxed_front b inside' e (pairs_boxed at e')) = let w = rw (e, at) at is in cc
 
-  pub no_type : None ≡ string_at toks → None ≡ symbol_at 91 toks → ((within : List Literal → Result Body Refusal) → type_in within v ≡ Err DescriptorLeftOut) × (descr_in v ≡ Err BadDescriptor)
+  pub no_type : None ≡ string_at toks → None ≡ symbol_token_at 91 toks → ((within : List Literal → Result Body Refusal) → type_in within v ≡ Err DescriptorLeftOut) × (descr_in v ≡ Err BadDescriptor)
   no_type no_text no_list = go (front_of toks v s)
     where
       go : Front toks v s.rest → ((within : List Literal → Result Body Refusal) → type_in within v ≡ Err DescriptorLeftOut) × (descr_in v ≡ Err BadDescriptor)
@@ -122,7 +122,7 @@ module _ (toks : List Token) (v : Literal) (s : Stands toks v) where
       go (boxed_front b inside e (list_boxed vs at e' st)) = let w = rw (e, at) at no_list in cc
       go (boxed_front b inside e (pairs_boxed at e')) = (λ within. rw e' refl, rw e' refl)
 
-  pub no_tuple : None ≡ symbol_at 40 toks → (entry_parts v ≡ None) × (lengths_of v ≡ Err BadHeader)
+  pub no_tuple : None ≡ symbol_token_at 40 toks → (entry_parts v ≡ None) × (lengths_of v ≡ Err BadHeader)
   no_tuple none = go (front_of toks v s)
     where
       go : Front toks v s.rest → (entry_parts v ≡ None) × (lengths_of v ≡ Err BadHeader)
@@ -135,10 +135,10 @@ module _ (toks : List Token) (v : Literal) (s : Stands toks v) where
       go (boxed_front b inside e (pairs_boxed at e')) = (rw e' refl, rw e' refl)
 
   -- no value begins with a round bracket that closes
-  pub no_end : None ≡ symbol_at 41 toks
+  pub no_end : None ≡ symbol_token_at 41 toks
   no_end = go (front_of toks v s)
     where
-      go : Front toks v s.rest → None ≡ symbol_at 41 toks
+      go : Front toks v s.rest → None ≡ symbol_token_at 41 toks
       go (text_front bytes e e') = rw e refl
       go (integer_front n e e') = rw e refl
       go (truth_front truth e e') = rw e refl
@@ -171,10 +171,10 @@ module _ (toks : List Token) (v : Literal) (s : Stands toks v) where
       go (boxed_front b inside e (list_boxed vs at e' st)) = rw e' refl
       go (boxed_front b inside e (pairs_boxed at e')) = rw e' refl
 
-  pub integer_stands : (found : ℕ × List Token) → Some found ≡ integer_at toks → (v ≡ Plain (Integer found.0)) × (s.rest ≡ found.1) × (None ≡ symbol_at 41 toks)
+  pub integer_stands : (found : ℕ × List Token) → Some found ≡ integer_at toks → (v ≡ Plain (Integer found.0)) × (s.rest ≡ found.1) × (None ≡ symbol_token_at 41 toks)
   integer_stands found is = go (front_of toks v s)
     where
-      go : Front toks v s.rest → (v ≡ Plain (Integer found.0)) × (s.rest ≡ found.1) × (None ≡ symbol_at 41 toks)
+      go : Front toks v s.rest → (v ≡ Plain (Integer found.0)) × (s.rest ≡ found.1) × (None ≡ symbol_token_at 41 toks)
       go (text_front bytes e e') = let w = rw e at is in cc
       go (integer_front n e e') =
           let w : Some found ≡ Some (n, s.rest) = rw e at is in
@@ -186,11 +186,11 @@ module _ (toks : List Token) (v : Literal) (s : Stands toks v) where
 
 -- ---- entries
 
-pub comma_is : (toks next : List Token) → Some next ≡ symbol_at 44 toks → behind_comma toks ≡ next
+pub comma_is : (toks next : List Token) → Some next ≡ symbol_token_at 44 toks → behind_comma toks ≡ next
 comma_is toks next is = rw (← is) refl
 
 -- where entries stand, one is read where they do not end
-module _ {A : Type 0} (entry : List Token → Read A) (closing : ℕ) (other : closing ≢ 44) (toks : List Token) (xs : List A) (s : StandIn A entry closing toks xs) (open' : None ≡ symbol_at closing toks) where
+module _ {A : Type 0} (entry : List Token → Read A) (closing : ℕ) (other : closing ≢ 44) (toks : List Token) (xs : List A) (s : StandIn A entry closing toks xs) (open' : None ≡ symbol_token_at closing toks) where
   pub is_read : (e : Refusal) → behind_entry entry toks ≡ Err e → ⊥
   is_read e fails =
       let next = stand_open entry closing toks xs other s open' in
@@ -219,31 +219,31 @@ no_44 wrong = omega (arith, wrong)
 
 module _ (inside : List Token) (vs : List Literal) (s : HasValues 41 inside vs) where
   pub nameless : None ≡ string_at inside → name_and_type vs ≡ None
-  nameless none = go (symbol_at 41 inside) refl
+  nameless none = go (symbol_token_at 41 inside) refl
     where
-      go : (o : Option (List Token)) → symbol_at 41 inside ≡ o → name_and_type vs ≡ None
+      go : (o : Option (List Token)) → symbol_token_at 41 inside ≡ o → name_and_type vs ≡ None
       go (Some end) e = ap name_and_type (stand_closed value_in 41 inside vs s end (sym e))
       go None e =
           let next = stand_open value_in 41 inside vs no_44 s (sym e) in
           ap name_and_type next.is ∙ no_name inside next.first (record { rest = next.after; is = next.reads }) none next.others
 
   -- a name that stands first, and what is behind it
-  pub named : (found : List ℕ × List Token) → Some found ≡ string_at inside → (others : List Literal) × (vs ≡ Plain (Text found.0) ∷ others) × HasValues 41 (behind_comma found.1) others × (None ≡ symbol_at 44 found.1 → others ≡ [])
+  pub named : (found : List ℕ × List Token) → Some found ≡ string_at inside → (others : List Literal) × (vs ≡ Plain (Text found.0) ∷ others) × HasValues 41 (behind_comma found.1) others × (None ≡ symbol_token_at 44 found.1 → others ≡ [])
   unfolding literal_in
   named found is =
       let front = text_front_is inside found is in
-      let open' : None ≡ symbol_at 41 inside = rw front refl in
+      let open' : None ≡ symbol_token_at 41 inside = rw front refl in
       let next = stand_open value_in 41 inside vs no_44 s open' in
       let same = same_read (Plain (Text found.0)) next.first found.1 next.after (Ok (Plain (Text found.0), found.1)) refl (ap value_in (sym front) ∙ next.reads) in
       let first = sym same.0 in
       let after = sym same.1 in
-      (next.others, next.is ∙ ap (λ (x : Literal). x ∷ next.others) first, subst (λ (l : List Token). HasValues 41 (behind_comma l) next.others) after next.more, λ none. next.alone (none ∙ ap (symbol_at 44) (sym after)))
+      (next.others, next.is ∙ ap (λ (x : Literal). x ∷ next.others) first, subst (λ (l : List Token). HasValues 41 (behind_comma l) next.others) after next.more, λ none. next.alone (none ∙ ap (symbol_token_at 44) (sym after)))
 
 module _ (kind : List Token) (others : List Literal) (s : HasValues 41 kind others) where
   pub untyped : (e : Refusal) → behind_entry value_in kind ≡ Err e → others ≡ []
-  untyped e fails = go (symbol_at 41 kind) refl
+  untyped e fails = go (symbol_token_at 41 kind) refl
     where
-      go : (o : Option (List Token)) → symbol_at 41 kind ≡ o → others ≡ []
+      go : (o : Option (List Token)) → symbol_token_at 41 kind ≡ o → others ≡ []
       go (Some end) e' = stand_closed value_in 41 kind others s end (sym e')
       go None e' = absurd (is_read value_in 41 no_44 kind others s (sym e') e fails)
 
@@ -258,28 +258,28 @@ module _ (kind : List Token) (others : List Literal) (s : HasValues 41 kind othe
           (next.0, next.1, next.4, record { rest = next.2; is = next.3 }, next.5)
 
 -- a third value
-pub many : (rest : List Token) (later : List Literal) → HasValues 41 rest later → None ≡ symbol_at 41 rest → (x : Literal) × (more : List Literal) × (later ≡ x ∷ more)
+pub many : (rest : List Token) (later : List Literal) → HasValues 41 rest later → None ≡ symbol_token_at 41 rest → (x : Literal) × (more : List Literal) × (later ≡ x ∷ more)
 many rest later s open' = let next = stand_open value_in 41 rest later no_44 s open' in (next.first, next.others, next.is)
 
 -- the parts of an entry
-module _ (toks : List Token) (v : Literal) (s : Stands toks v) (inside : List Token) (opens : Some inside ≡ symbol_at 40 toks) where
-  parts_of : (vs : List Literal) → v ≡ Row Round (all_values vs) → entry_parts v ≡ name_and_type vs
+module _ (toks : List Token) (v : Literal) (s : Stands toks v) (inside : List Token) (opens : Some inside ≡ symbol_token_at 40 toks) where
+  parts_of : (vs : List Literal) → v ≡ Row Round (all_listed_values vs) → entry_parts v ≡ name_and_type vs
   parts_of vs is = ap entry_parts is ∙ ap name_and_type (literals_of_listed vs)
 
   pub parts_nameless : None ≡ string_at inside → entry_parts v ≡ None
   parts_nameless none = let row = tuple_stands toks v s inside opens in parts_of row.0 row.1 ∙ nameless inside row.0 row.2 none
 
   module _ (found : List ℕ × List Token) (name : Some found ≡ string_at inside) where
-    parts_from : (others : List Literal) × HasValues 41 (behind_comma found.1) others × (None ≡ symbol_at 44 found.1 → others ≡ []) × (entry_parts v ≡ name_and_type (Plain (Text found.0) ∷ others))
+    parts_from : (others : List Literal) × HasValues 41 (behind_comma found.1) others × (None ≡ symbol_token_at 44 found.1 → others ≡ []) × (entry_parts v ≡ name_and_type (Plain (Text found.0) ∷ others))
     parts_from =
         let row = tuple_stands toks v s inside opens in
         let next = named inside row.0 row.2 found name in
         (next.0, next.2, next.3, parts_of row.0 row.1 ∙ ap name_and_type next.1)
 
-    pub parts_alone : None ≡ symbol_at 44 found.1 → entry_parts v ≡ None
+    pub parts_alone : None ≡ symbol_token_at 44 found.1 → entry_parts v ≡ None
     parts_alone none = let p = parts_from in p.3 ∙ ap (λ (l : List Literal). name_and_type (Plain (Text found.0) ∷ l)) (p.2 none)
 
-    module _ (kind : List Token) (comma : Some kind ≡ symbol_at 44 found.1) where
+    module _ (kind : List Token) (comma : Some kind ≡ symbol_token_at 44 found.1) where
       parts_behind : (others : List Literal) × HasValues 41 kind others × (entry_parts v ≡ name_and_type (Plain (Text found.0) ∷ others))
       parts_behind = let p = parts_from in (p.0, subst (λ (l : List Token). HasValues 41 l p.0) (comma_is found.1 kind comma) p.1, p.3)
 
@@ -287,14 +287,14 @@ module _ (toks : List Token) (v : Literal) (s : Stands toks v) (inside : List To
       parts_untyped e fails = let p = parts_behind in p.2 ∙ ap (λ (l : List Literal). name_and_type (Plain (Text found.0) ∷ l)) (untyped kind p.0 p.1 e fails)
 
       module _ (rest : List Token) (reads : behind_entry value_in kind ≡ Ok rest) where
-        pub parts_many : None ≡ symbol_at 41 rest → entry_parts v ≡ None
+        pub parts_many : None ≡ symbol_token_at 41 rest → entry_parts v ≡ None
         parts_many none =
             let p = parts_behind in
             let t = typed kind p.0 p.1 rest reads in
             let third = many rest t.1 t.4 none in
             p.2 ∙ ap (λ (l : List Literal). name_and_type (Plain (Text found.0) ∷ l)) (t.2 ∙ ap (λ (l : List Literal). t.0 ∷ l) third.2)
 
-        pub parts_two : (end : List Token) → Some end ≡ symbol_at 41 rest → (type : Literal) × (entry_parts v ≡ Some (found.0, type)) × Stands kind type
+        pub parts_two : (end : List Token) → Some end ≡ symbol_token_at 41 rest → (type : Literal) × (entry_parts v ≡ Some (found.0, type)) × Stands kind type
         parts_two end ends =
             let p = parts_behind in
             let t = typed kind p.0 p.1 rest reads in
@@ -313,9 +313,9 @@ integer_front_is (token.Stray ∷ toks) found is = cc
 
 module _ (toks : List Token) (lengths : List ℕ) (h : HasLengths toks lengths) where
   pub lengths_end : None ≡ integer_at toks → lengths ≡ []
-  lengths_end none = go (symbol_at 41 toks) refl
+  lengths_end none = go (symbol_token_at 41 toks) refl
     where
-      go : (o : Option (List Token)) → symbol_at 41 toks ≡ o → lengths ≡ []
+      go : (o : Option (List Token)) → symbol_token_at 41 toks ≡ o → lengths ≡ []
       go (Some end) e =
           let none_left = stand_closed value_in 41 toks h.values h.stand end (sym e) in
           let w : Ok [] ≡ Ok lengths = rw none_left at h.are in cc
@@ -330,7 +330,7 @@ module _ (toks : List Token) (lengths : List ℕ) (h : HasLengths toks lengths) 
     where
       go : toks ≡ token.Integer found.0 ∷ found.1 → (later : List ℕ) × (lengths ≡ found.0 ∷ later) × HasLengths (behind_comma found.1) later
       go front =
-          let open' : None ≡ symbol_at 41 toks = rw front refl in
+          let open' : None ≡ symbol_token_at 41 toks = rw front refl in
           let next = stand_open value_in 41 toks h.values no_44 h.stand open' in
           let stands = integer_stands toks next.first (record { rest = next.after; is = next.reads }) found is in
           let are : (integers_of next.others >>= λ ns. Ok (found.0 ∷ ns)) ≡ Ok lengths = ap (λ (x : Literal). integers_of (x ∷ next.others)) (sym stands.0) ∙ ap integers_of (sym next.is) ∙ h.are in

@@ -4,7 +4,7 @@ use Rattle.std.proofs.lemmas.List.{take_all}
 use Rattle.std.specs.Prelude.{nat_eq, if◌then◌else◌}
 use Rattle.std.specs.Char.{is_ascii_digit, is_ascii_alphabetic}
 use Rattle.std.specs.List.{prefix_len}
-use Rattle.npy_format.specs.Tokens.{Token, Symbol, Text, Stray, is_space, is_quote, is_plain, ended_text, text_token, behind_long, integer_token, word_token, token_from, unspaced, first_token, tokens_in, tokens}
+use Rattle.npy_format.specs.Tokens.{Token, Symbol, Text, Stray, is_space, is_quote, is_plain_byte, ended_text, text_token, behind_long, integer_token, word_token, token_from, unspaced_text, first_token, tokens_in, tokens}
 
 -- ---- a token takes a byte or more
 
@@ -20,7 +20,7 @@ shorter_drop : (n : ℕ) (xs : List ℕ) → length (drop n xs) ≤ length xs
 shorter_drop n xs = omega (arith, length-drop n xs)
 
 shorter_text : (quote : ℕ) (bytes : List ℕ) → length (text_token quote bytes).1 ≤ length bytes
-shorter_text quote bytes = let n = prefix_len (is_plain quote) bytes in ended (take n bytes) (drop n bytes) (shorter_drop n bytes)
+shorter_text quote bytes = let n = prefix_len (is_plain_byte quote) bytes in ended (take n bytes) (drop n bytes) (shorter_drop n bytes)
   where
     ended : (plain rest : List ℕ) → length rest ≤ length bytes → length (ended_text plain quote rest).1 ≤ length bytes
     ended plain [] few = few
@@ -57,7 +57,7 @@ tokens_turns zero (suc m) [] few few' = refl
 tokens_turns zero (suc m) (b ∷ bytes) few few' = absurd (omega (arith, few))
 tokens_turns (suc n) zero [] few few' = refl
 tokens_turns (suc n) zero (b ∷ bytes) few few' = absurd (omega (arith, few'))
-tokens_turns (suc n) (suc m) bytes few few' = first (tokens_turns n m) (unspaced bytes) (shorter_drop (prefix_len is_space bytes) bytes)
+tokens_turns (suc n) (suc m) bytes few few' = first (tokens_turns n m) (unspaced_text bytes) (shorter_drop (prefix_len is_space bytes) bytes)
   where
     first : ((later : List ℕ) → length later ≤ n → length later ≤ m → tokens_in n later ≡ tokens_in m later) → (text : List ℕ) → length text ≤ length bytes → first_token (tokens_in n) text ≡ first_token (tokens_in m) text
     first later [] less = refl
@@ -66,9 +66,9 @@ tokens_turns (suc n) (suc m) bytes few few' = first (tokens_turns n m) (unspaced
         let shorter = shorter_token b rest in
         ap (λ (toks : List Token). t.0 ∷ toks) (later t.1 (omega (arith, few, less, shorter)) (omega (arith, few', less, shorter)))
 
-tokens_is : (text : List ℕ) → tokens text ≡ first_token tokens (unspaced text)
+tokens_is : (text : List ℕ) → tokens text ≡ first_token tokens (unspaced_text text)
 unfolding tokens
-tokens_is text = tokens_turns (length text) (suc (length text)) text (omega arith) (omega arith) ∙ first (unspaced text) (shorter_drop (prefix_len is_space text) text)
+tokens_is text = tokens_turns (length text) (suc (length text)) text (omega arith) (omega arith) ∙ first (unspaced_text text) (shorter_drop (prefix_len is_space text) text)
   where
     first : (rest : List ℕ) → length rest ≤ length text → first_token (tokens_in (length text)) rest ≡ first_token tokens rest
     first [] less = refl
@@ -77,14 +77,14 @@ tokens_is text = tokens_turns (length text) (suc (length text)) text (omega arit
         let shorter = shorter_token b rest in
         ap (λ (later : List Token). t.0 ∷ later) (tokens_turns (length text) (length t.1) t.1 (omega (arith, less, shorter)) (omega arith))
 
-pub tokens_none : (text rest : List ℕ) → rest ≡ unspaced text → length rest < 1 → tokens text ≡ []
+pub tokens_none : (text rest : List ℕ) → rest ≡ unspaced_text text → length rest < 1 → tokens text ≡ []
 tokens_none text rest is none = tokens_is text ∙ ap (first_token tokens) (sym is) ∙ empty rest none
   where
     empty : (l : List ℕ) → length l < 1 → first_token tokens l ≡ []
     empty [] few = refl
     empty (b ∷ l) few = absurd (omega (arith, few))
 
-pub tokens_next : (text rest : List ℕ) (d : ℕ) (token : Token) (behind : List ℕ) → rest ≡ unspaced text → 1 ≤ length rest → (token, behind) ≡ token_from (get_or rest 0 d) (take (length rest - 1) (drop 1 rest)) → tokens text ≡ token ∷ tokens behind
+pub tokens_next : (text rest : List ℕ) (d : ℕ) (token : Token) (behind : List ℕ) → rest ≡ unspaced_text text → 1 ≤ length rest → (token, behind) ≡ token_from (get_or rest 0 d) (take (length rest - 1) (drop 1 rest)) → tokens text ≡ token ∷ tokens behind
 tokens_next text rest d token behind is some next = tokens_is text ∙ ap (first_token tokens) (sym is) ∙ one rest some next
   where
     one : (l : List ℕ) → 1 ≤ length l → (token, behind) ≡ token_from (get_or l 0 d) (take (length l - 1) (drop 1 l)) → first_token tokens l ≡ token ∷ tokens behind
@@ -94,7 +94,7 @@ tokens_next text rest d token behind is some next = tokens_is text ∙ ap (first
 -- no more tokens than bytes
 few_in : (turns : ℕ) (text : List ℕ) → length (tokens_in turns text) ≤ turns
 few_in zero text = omega arith
-few_in (suc turns) text = first (few_in turns) (unspaced text)
+few_in (suc turns) text = first (few_in turns) (unspaced_text text)
   where
     first : ((later : List ℕ) → length (tokens_in turns later) ≤ turns) → (rest : List ℕ) → length (first_token (tokens_in turns) rest) ≤ suc turns
     first few [] = omega arith

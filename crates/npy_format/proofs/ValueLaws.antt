@@ -1,8 +1,8 @@
 -- The values of a tuple or a list are those that it was made of.
 use Rattle.std.proofs.Common.{◌≡◌, List, [], ◌∷◌, refl, ap}
-use Rattle.npy_format.specs.Listed.{Literal, Plain, Row, all_values, literals_of}
+use Rattle.npy_format.specs.Listed.{Literal, Plain, Row, all_listed_values, value_literals}
 
-pub literals_of_listed : (literals : List Literal) → literals_of (all_values literals) ≡ literals
+pub literals_of_listed : (literals : List Literal) → value_literals (all_listed_values literals) ≡ literals
 literals_of_listed [] = refl
 literals_of_listed (Plain plain ∷ literals) = ap (λ ls. Plain plain ∷ ls) (literals_of_listed literals)
 literals_of_listed (Row brackets inner ∷ literals) = ap (λ ls. Row brackets inner ∷ ls) (literals_of_listed literals)

@@ -17,7 +17,7 @@ use Rattle.elem_descr.specs.Blocks.{blocks, item_from}
 use Rattle.shape_strides.specs.Limits.{max_bytes}
 use Rattle.shape_strides.specs.Indexes.{count, indexes, rank}
 use Rattle.shape_strides.specs.Contiguity.{fortran_order}
-use Rattle.npy_format.specs.Files.{order_of}
+use Rattle.npy_format.specs.Files.{file_order}
 use Rattle.npy_format.specs.WrittenFiles.{is_fortran, ordered, file_of, saved}
 use Rattle.npy_format.specs.inside.WrittenItems.{addresses_in_file}
 use Rattle.npy_format.proofs.GatherLaws.{gathered, fortran-entry, length-fortran, fortran-within}
@@ -40,7 +40,7 @@ length-gathered width (offset ∷ offsets) bytes inside =
     omega (arith, length-append (item_at offset width bytes) (gathered width bytes offsets), length-item_at offset width bytes (All-head (λ o. o + width ≤ length bytes) offset offsets inside), length-gathered width offsets bytes (All-tail (λ o. o + width ≤ length bytes) offset offsets inside), suc-mul (length offsets) width)
 
 -- items in the order of the file, whether of their addresses or of their values
-pub ordered-items : (g : ℕ → List LeafValue) (fortran : Bool) (shape offsets : List ℕ) → length offsets ≡ count shape → ordered (order_of fortran) shape (map g offsets) ≡ map g (if fortran then fortran_order shape offsets else offsets)
+pub ordered-items : (g : ℕ → List LeafValue) (fortran : Bool) (shape offsets : List ℕ) → length offsets ≡ count shape → ordered (file_order fortran) shape (map g offsets) ≡ map g (if fortran then fortran_order shape offsets else offsets)
 ordered-items g false shape offsets long = refl
 ordered-items g true shape offsets long =
     let all = indexes (reverse shape) in
@@ -70,7 +70,7 @@ module _ (shape offsets bytes head file : List ℕ) (width : ℕ) (long : length
   -- and then as they are written
   pub file_written : (descr : Descr) (file' : List ℕ) (start n : ℕ) → width ≡ item_size descr → start ≡ length head → n ≡ count shape
       → file' ≡ take start file ++ flat_map (λ item. encode_item descr (decode_item descr item)) (blocks (item_size descr) n (drop start file))
-      → file' ≡ head ++ flat_map (encode_item descr) (ordered (order_of (is_fortran width shape offsets)) shape (map (item_from descr bytes) offsets))
+      → file' ≡ head ++ flat_map (encode_item descr) (ordered (file_order (is_fortran width shape offsets)) shape (map (item_from descr bytes) offsets))
   file_written descr file' start n sized begins many written =
       let all = addresses_in_file width shape offsets in
       let f = λ (item : List ℕ). encode_item descr (decode_item descr item) in

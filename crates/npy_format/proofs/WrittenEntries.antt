@@ -9,7 +9,7 @@ use Rattle.elem_descr.specs.Fields.{Fields}
 use Rattle.elem_descr.specs.Descriptors.{InOrder, listed, before}
 use Rattle.elem_descr.specs.Items.{item_size}
 use Rattle.elem_descr.specs.DescriptorLaws.{rest_at, InOrder-before}
-use Rattle.npy_format.specs.WrittenHeaders.{quoted, opened_entry, entry, gap, separator, separated, in_brackets, entries, written_descr}
+use Rattle.npy_format.specs.WrittenHeaders.{quoted, opened_entry, entry, gap, entry_separator, separated, in_brackets, entries, written_descr}
 
 entries_before : (from : ℕ) (name : List ℕ) (at : ℕ) (descr : Descr) (rest : Fields) (bytes : ℕ) → entries from (before name at descr rest) bytes ≡ gap (at - from) ++ (entry name (written_descr descr) ∷ entries (at + item_size descr) rest bytes)
 entries_before from name at (ScalarDescr scalar) rest bytes = refl
@@ -19,18 +19,18 @@ not_first : (first : Bool) → false ≡ (first && false)
 not_first true = refl
 not_first false = refl
 
-after_gap : (first : Bool) (text rest : List ℕ) → separator first ++ (text ++ (codes ", " ++ rest)) ≡ (separator first ++ (text ++ [])) ++ (codes ", " ++ rest)
-after_gap first text rest = sym (append_assoc (separator first) (text ++ []) (codes ", " ++ rest) ∙ ap (λ t. separator first ++ t) (append_assoc text [] (codes ", " ++ rest)))
+after_gap : (first : Bool) (text rest : List ℕ) → entry_separator first ++ (text ++ (codes ", " ++ rest)) ≡ (entry_separator first ++ (text ++ [])) ++ (codes ", " ++ rest)
+after_gap first text rest = sym (append_assoc (entry_separator first) (text ++ []) (codes ", " ++ rest) ∙ ap (λ t. entry_separator first ++ t) (append_assoc text [] (codes ", " ++ rest)))
 
 -- a gap, and an entry behind it
-separated_gap : (first : Bool) (n : ℕ) (text : List ℕ) (texts : List (List ℕ)) → separated first (gap n ++ (text ∷ texts)) ≡ separated first (gap n) ++ (separator (first && nat_eq n 0) ++ (text ++ separated false texts))
+separated_gap : (first : Bool) (n : ℕ) (text : List ℕ) (texts : List (List ℕ)) → separated first (gap n ++ (text ∷ texts)) ≡ separated first (gap n) ++ (entry_separator (first && nat_eq n 0) ++ (text ++ separated false texts))
 separated_gap true zero text texts = refl
 separated_gap false zero text texts = refl
 separated_gap first (suc n) text texts =
     let other : nat_eq (suc n) 0 ≡ false = ne_eqb (suc n) 0 (λ same. omega (arith, same)) in
     let rest = text ++ separated false texts in
     after_gap first (entry [] (quoted (codes "|V" ++ decimal (suc n)))) rest
-    ∙ ap (λ b. separated first (gap (suc n)) ++ (separator b ++ rest)) (not_first first ∙ ap (λ b. first && b) (sym other))
+    ∙ ap (λ b. separated first (gap (suc n)) ++ (entry_separator b ++ rest)) (not_first first ∙ ap (λ b. first && b) (sym other))
 
 -- the first of the fields that are left
 pub first_left : (from bytes : ℕ) (fields : List Field) (field : Field) (i : ℕ) → i < length fields → field ≡ get_or fields i field → InOrder from (listed (drop i fields)) bytes → (from ≤ field.at) × (1 ≤ item_size field.descr) × InOrder (field.at + item_size field.descr) (listed (drop (i + 1) fields)) bytes
@@ -42,7 +42,7 @@ regroup a b c d e f g = simp append_assoc
 -- a field and the gap before it are written
 pub one_written : (from bytes : ℕ) (fields : List Field) (field : Field) (i : ℕ) (first next : Bool) (text padded named spelled whole : List ℕ) → i < length fields → field ≡ get_or fields i field
     → padded ≡ text ++ separated first (gap (field.at - from)) → next ≡ (first && nat_eq (field.at - from) 0)
-    → named ≡ padded ++ (separator next ++ opened_entry field.name) → spelled ≡ named ++ written_descr field.descr
+    → named ≡ padded ++ (entry_separator next ++ opened_entry field.name) → spelled ≡ named ++ written_descr field.descr
     → text ++ separated first (entries from (listed (drop i fields)) bytes) ≡ whole
     → (spelled ++ codes ")") ++ separated false (entries (field.at + item_size field.descr) (listed (drop (i + 1) fields)) bytes) ≡ whole
 one_written from bytes fields field i first next text padded named spelled whole l is pad is_next name descr more =
@@ -51,9 +51,9 @@ one_written from bytes fields field i first next text padded named spelled whole
     let whole_entry = entry field.name (written_descr field.descr) in
     let here = ap (λ (fs : List Field). entries from (listed fs) bytes) (rest_at fields field i l is) ∙ entries_before from field.name field.at field.descr rest bytes in
     let g = field.at - from in
-    let joined = regroup text (separated first (gap g)) (separator next) (opened_entry field.name) (written_descr field.descr) (codes ")") (separated false left) in
+    let joined = regroup text (separated first (gap g)) (entry_separator next) (opened_entry field.name) (written_descr field.descr) (codes ")") (separated false left) in
     rw (descr, name, pad) (joined
-    ∙ ap (λ (b : Bool). text ++ (separated first (gap g) ++ (separator b ++ (whole_entry ++ separated false left)))) is_next
+    ∙ ap (λ (b : Bool). text ++ (separated first (gap g) ++ (entry_separator b ++ (whole_entry ++ separated false left)))) is_next
     ∙ ap (λ (t : List ℕ). text ++ t) (sym (separated_gap first g whole_entry left) ∙ ap (separated first) (sym here))
     ∙ more)
 

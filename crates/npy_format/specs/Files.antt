@@ -74,17 +74,17 @@ load file = do
   Ok (record { head = head; items = body.0; rest = length body.1 })
 
 -- the order in which the items of a file lie
-abbrev pub order_of : Bool → MemoryOrder
-order_of fortran = if fortran then Fortran else C
+abbrev pub file_order : Bool → MemoryOrder
+file_order fortran = if fortran then Fortran else C
 
 -- the array has what a header says, and these bytes: its items lie in it as in the file
-pub record HasItems (array : Owned) (head : Header) (items : List ℕ) : Type 0 where
+pub record HoldsFileItems (array : Owned) (head : Header) (items : List ℕ) : Type 0 where
   pub descr : array.descr ≡ head.descr
   pub shape : array.layout.shape ≡ head.shape
-  pub order : offsets array.layout ≡ offsets_in (order_of head.fortran) (item_size head.descr) head.shape
+  pub order : offsets array.layout ≡ offsets_in (file_order head.fortran) (item_size head.descr) head.shape
   pub block : array.block ≡ items
 
 -- an answer is what is loaded, or the refusal, unless memory ran out
 abbrev pub Loads : Result (Owned × ℕ) Refusal → Result Loaded Refusal → Type 0
-Loads (Ok answer) there = (l : Loaded) × (there ≡ Ok l) × HasItems answer.0 l.head l.items × (answer.1 ≡ l.rest)
+Loads (Ok answer) there = (l : Loaded) × (there ≡ Ok l) × HoldsFileItems answer.0 l.head l.items × (answer.1 ≡ l.rest)
 Loads (Err refusal) there = (refusal ≡ OutOfMemory) ⊎ (there ≡ Err refusal)

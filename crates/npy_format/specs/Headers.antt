@@ -8,9 +8,9 @@ use Rattle.elem_descr.specs.Refusals.{◌>>=◌, check}
 use Rattle.shape_strides.specs.Shapes.{shape_of}
 use Rattle.npy_format.specs.Tokens.{Token, tokens}
 use Rattle.npy_format.specs.Values.{Round, Text, Integer, Truth}
-use Rattle.npy_format.specs.Listed.{Literal, Plain, Row, Pair, literals_of}
+use Rattle.npy_format.specs.Listed.{Literal, Plain, Row, Pair, value_literals}
 use Rattle.npy_format.specs.declared.header.Header.{Header}
-use Rattle.npy_format.specs.Literals.{symbol_at, pairs_in, literal_in}
+use Rattle.npy_format.specs.Literals.{symbol_token_at, pairs_in, literal_in}
 use Rattle.npy_format.specs.RecordLists.{descr_in}
 
 -- how deep brackets lie in a value of the dictionary
@@ -20,7 +20,7 @@ max_value_depth = 15
 -- the pairs of the one dictionary that the tokens are, with nothing behind it
 abbrev pub dictionary_of : List Token → Result (List Pair) Refusal
 dictionary_of tokens = do
-  inside ← ok_or (symbol_at 123 tokens) BadHeader
+  inside ← ok_or (symbol_token_at 123 tokens) BadHeader
   pairs ← pairs_in (literal_in max_value_depth) inside
   _ ← check (nat_eq (length pairs.1) 0) BadHeader
   Ok pairs.0
@@ -49,7 +49,7 @@ integers_of (value ∷ values) = Err BadHeader
 
 -- a tuple of integers
 abbrev pub lengths_of : Literal → Result (List ℕ) Refusal
-lengths_of (Row Round values) = integers_of (literals_of values)
+lengths_of (Row Round values) = integers_of (value_literals values)
 lengths_of other = Err BadHeader
 
 -- The three keys, each once: they are the keys of three pairs. What they say is looked at only once all of it has the right form.

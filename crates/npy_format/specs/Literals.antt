@@ -8,53 +8,53 @@ use Rattle.elem_descr.specs.Refusals.{◌>>=◌}
 use Rattle.npy_format.specs.Tokens.{Token}
 use Rattle.npy_format.specs.Tokens as token
 use Rattle.npy_format.specs.Values.{Round, Square, Text, Integer, Truth, Nothing, Dictionary, no_values}
-use Rattle.npy_format.specs.Listed.{Literal, Plain, Row, Pair, all_values}
+use Rattle.npy_format.specs.Listed.{Literal, Plain, Row, Pair, all_listed_values}
 
 -- what is read behind tokens, and those that are left
 abbrev pub Read : Type 0 → Type 0
 Read A = Result (A × List Token) Refusal
 
 -- this symbol
-abbrev pub symbol_at : ℕ → List Token → Option (List Token)
-symbol_at b (token.Symbol c ∷ rest) = if nat_eq c b then Some rest else None
-symbol_at b _ = None
+abbrev pub symbol_token_at : ℕ → List Token → Option (List Token)
+symbol_token_at b (token.Symbol c ∷ rest) = if nat_eq c b then Some rest else None
+symbol_token_at b _ = None
 
 -- how the reading goes on from what is found, if it is; else the other reading
-abbrev pub if_found : {A B : Type 0} → Option B → (B → A) → A → A
-if_found None next other = other
-if_found (Some found) next other = next found
+abbrev pub if_read : {A B : Type 0} → Option B → (B → A) → A → A
+if_read None next other = other
+if_read (Some found) next other = next found
 
 -- a list that ends here
-abbrev pub ended : {A : Type 0} → List Token → Read (List A)
-ended rest = Ok ([], rest)
+abbrev pub list_end : {A : Type 0} → List Token → Read (List A)
+list_end rest = Ok ([], rest)
 
 -- entries that commas part, up to the symbol that closes them: none or more, a last comma allowed; each takes a token at least, so there are no more turns than tokens
 unfoldable pub entries_in : {A : Type 0} → (List Token → Read A) → ℕ → ℕ → List Token → Read (List A)
 entries_in entry closing zero tokens = Err BadHeader
-entries_in entry closing (suc turns) tokens = if_found (symbol_at closing tokens) ended (do
+entries_in entry closing (suc turns) tokens = if_read (symbol_token_at closing tokens) list_end (do
   first ← entry tokens
-  others ← if_found (symbol_at closing first.1) ended (if_found (symbol_at 44 first.1) (entries_in entry closing turns) (Err BadHeader))
+  others ← if_read (symbol_token_at closing first.1) list_end (if_read (symbol_token_at 44 first.1) (entries_in entry closing turns) (Err BadHeader))
   Ok (first.0 ∷ others.0, others.1))
 
 -- behind `(`: nothing, or a value, a comma and further values
 unfoldable pub tuple_in : (List Token → Read Literal) → List Token → Read Literal
-tuple_in value tokens = if_found (symbol_at 41 tokens) (λ rest. Ok (Row Round no_values, rest)) (do
+tuple_in value tokens = if_read (symbol_token_at 41 tokens) (λ rest. Ok (Row Round no_values, rest)) (do
   first ← value tokens
-  behind ← ok_or (symbol_at 44 first.1) BadHeader
+  behind ← ok_or (symbol_token_at 44 first.1) BadHeader
   others ← entries_in value 41 (length behind) behind
-  Ok (Row Round (all_values (first.0 ∷ others.0)), others.1))
+  Ok (Row Round (all_listed_values (first.0 ∷ others.0)), others.1))
 
 -- behind `[`: values
 unfoldable pub list_in : (List Token → Read Literal) → List Token → Read Literal
 list_in value tokens = do
   values ← entries_in value 93 (length tokens) tokens
-  Ok (Row Square (all_values values.0), values.1)
+  Ok (Row Square (all_listed_values values.0), values.1)
 
 -- a key, a colon and a value
 unfoldable pub pair_in : (List Token → Read Literal) → List Token → Read Pair
 pair_in value tokens = do
   key ← value tokens
-  behind ← ok_or (symbol_at 58 key.1) BadHeader
+  behind ← ok_or (symbol_token_at 58 key.1) BadHeader
   under ← value behind
   Ok (record { key = key.0; value = under.0 }, under.1)
 

@@ -14,7 +14,7 @@ use Rattle.elem_descr.specs.TypeStrings.{marked, value_of, typestr}
 use Rattle.elem_descr.specs.FormatLetters.{is_empty, max_size}
 use Rattle.elem_descr.specs.FormatRecords.{Partial, max_depth, empty, checked_name, added, widened, closed_record}
 use Rattle.npy_format.specs.Values.{Round, Square, Text}
-use Rattle.npy_format.specs.Listed.{Literal, Plain, Row, literals_of}
+use Rattle.npy_format.specs.Listed.{Literal, Plain, Row, value_literals}
 use Rattle.npy_format.specs.Tokens.{capped}
 
 -- the bytes of padding, unless no item has as many
@@ -40,7 +40,7 @@ scalar_in text = typestr text >>= λ scalar. Ok (ScalarDescr scalar)
 -- the type of a field: a type string, or a list
 abbrev pub type_in : (List Literal → Result Body Refusal) → Literal → Result Descr Refusal
 type_in record_in (Plain (Text text)) = scalar_in text
-type_in record_in (Row Square values) = record_in (literals_of values) >>= λ body. Ok (RecordDescr body.whole)
+type_in record_in (Row Square values) = record_in (value_literals values) >>= λ body. Ok (RecordDescr body.whole)
 type_in record_in other = Err DescriptorLeftOut
 
 -- what reads the fields of a record, after so many leaves of the whole type
@@ -62,7 +62,7 @@ named_in within p _ = Err DescriptorLeftOut
 
 -- an entry: a tuple of a name and a type
 abbrev pub entry_in : Reader → Partial → Literal → Result Partial Refusal
-entry_in within p (Row Round values) = named_in within p (literals_of values)
+entry_in within p (Row Round values) = named_in within p (value_literals values)
 entry_in within p other = Err DescriptorLeftOut
 
 -- the entries one after the other
@@ -78,5 +78,5 @@ record_in (suc levels) leaves entries = fields_in (record_in levels) (empty leve
 -- the element type that a value means
 abbrev pub descr_in : Literal → Result Descr Refusal
 descr_in (Plain (Text text)) = scalar_in text
-descr_in (Row Square values) = record_in max_depth 0 (literals_of values) >>= λ body. Ok (RecordDescr body.whole)
+descr_in (Row Square values) = record_in max_depth 0 (value_literals values) >>= λ body. Ok (RecordDescr body.whole)
 descr_in other = Err BadDescriptor

@@ -5,7 +5,7 @@ use Rattle.elem_descr.specs.Values.{LeafValue}
 use Rattle.elem_descr.specs.Items.{item_size}
 use Rattle.elem_descr.specs.Blocks.{item_from}
 use Rattle.overlap_copy.specs.Blocks.{offsets_in}
-use Rattle.npy_format.specs.Files.{Loaded, load, order_of}
+use Rattle.npy_format.specs.Files.{Loaded, load, file_order}
 
 -- a file loads as an array of this element type, this shape and these items, in C order of their indexes, with nothing behind it
 pub record LoadsAs (file : List ℕ) (descr : Descr) (shape : List ℕ) (items : List (List LeafValue)) : Type 0 where
@@ -13,5 +13,5 @@ pub record LoadsAs (file : List ℕ) (descr : Descr) (shape : List ℕ) (items :
   pub loads : load file ≡ Ok loaded
   pub same_descr : loaded.head.descr ≡ descr
   pub same_shape : loaded.head.shape ≡ shape
-  pub same_items : map (item_from descr loaded.items) (offsets_in (order_of loaded.head.fortran) (item_size descr) shape) ≡ items
+  pub same_items : map (item_from descr loaded.items) (offsets_in (file_order loaded.head.fortran) (item_size descr) shape) ≡ items
   pub no_rest : loaded.rest ≡ 0

@@ -24,8 +24,8 @@ abbrev pub is_quote : ℕ → Bool
 is_quote b = nat_eq b 39 || nat_eq b 34
 
 -- a byte of a string between these quotes: 32 to 126, and neither the quote nor a backslash
-abbrev pub is_plain : ℕ → ℕ → Bool
-is_plain quote b = nat_le 32 b && nat_le b 126 && not (nat_eq b quote) && not (nat_eq b 92)
+abbrev pub is_plain_byte : ℕ → ℕ → Bool
+is_plain_byte quote b = nat_le 32 b && nat_le b 126 && not (nat_eq b quote) && not (nat_eq b 92)
 
 -- behind the bytes of a string: its end is the quote
 abbrev pub ended_text : List ℕ → ℕ → List ℕ → Token × List ℕ
@@ -34,7 +34,7 @@ ended_text plain quote (b ∷ rest) = if nat_eq b quote then (Text plain, rest) 
 
 -- behind a quote: a string, and what follows it
 abbrev pub text_token : ℕ → List ℕ → Token × List ℕ
-text_token quote bytes = let n = prefix_len (is_plain quote) bytes in ended_text (take n bytes) quote (drop n bytes)
+text_token quote bytes = let n = prefix_len (is_plain_byte quote) bytes in ended_text (take n bytes) quote (drop n bytes)
 
 -- the length of an axis; all above the greatest that there may be count as one above it
 abbrev pub capped : ℕ → ℕ
@@ -76,8 +76,8 @@ token_from b rest =
     else (Symbol b, rest)
 
 -- a text without the spaces at its front
-abbrev pub unspaced : List ℕ → List ℕ
-unspaced bytes = drop (prefix_len is_space bytes) bytes
+abbrev pub unspaced_text : List ℕ → List ℕ
+unspaced_text bytes = drop (prefix_len is_space bytes) bytes
 
 -- the first token, and those that are read behind it
 abbrev pub first_token : (List ℕ → List Token) → List ℕ → List Token
@@ -87,7 +87,7 @@ first_token later (b ∷ rest) = let t = token_from b rest in t.0 ∷ later t.1
 -- the tokens in so many turns, each of which takes a byte or more; spaces may stand between them, before and after
 abbrev pub tokens_in : ℕ → List ℕ → List Token
 tokens_in zero bytes = []
-tokens_in (suc turns) bytes = first_token (tokens_in turns) (unspaced bytes)
+tokens_in (suc turns) bytes = first_token (tokens_in turns) (unspaced_text bytes)
 
 -- the tokens of a text
 unfoldable pub tokens : List ℕ → List Token

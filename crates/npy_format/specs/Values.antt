@@ -15,7 +15,7 @@ pub data Brackets : Type 0 where
   Square : Brackets
 
 -- the values of a tuple or a list in their order: each a plain one, or a tuple or a list in its turn, before those after it
-pub data Values : Type 0 where
-  no_values : Values
-  plain_value : Plain → Values → Values
-  row_value : Brackets → Values → Values → Values
+pub data ListedValues : Type 0 where
+  no_values : ListedValues
+  plain_value : Plain → ListedValues → ListedValues
+  row_value : Brackets → ListedValues → ListedValues → ListedValues

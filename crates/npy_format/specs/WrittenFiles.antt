@@ -12,7 +12,7 @@ use Rattle.shape_strides.specs.declared.memory_order.MemoryOrder.TheVariants.{C,
 use Rattle.shape_strides.specs.Limits.{max_bytes}
 use Rattle.shape_strides.specs.Indexes.{count, indexes, rank}
 use Rattle.shape_strides.specs.Contiguity.{is_c_contiguous, is_f_contiguous}
-use Rattle.npy_format.specs.Files.{order_of}
+use Rattle.npy_format.specs.Files.{file_order}
 use Rattle.npy_format.specs.WrittenHeaders.{written_text, written_header}
 
 -- an array is written in Fortran order just where its items, at these addresses, lie one after another so and not in C order
@@ -26,7 +26,7 @@ ordered Fortran shape items = map (λ index. get_or items (rank shape (reverse i
 
 -- the header, and the bytes of the items one after another, in which padding is zero
 abbrev pub file_of : Descr → Bool → List ℕ → List (List LeafValue) → List ℕ
-file_of descr fortran shape items = written_header (written_text descr fortran shape) ++ flat_map (encode_item descr) (ordered (order_of fortran) shape items)
+file_of descr fortran shape items = written_header (written_text descr fortran shape) ++ flat_map (encode_item descr) (ordered (file_order fortran) shape items)
 
 -- the file of an array whose items have these addresses and values, unless they have more than 2^28 bytes
 unfoldable pub saved : Descr → List ℕ → List ℕ → List (List LeafValue) → Result (List ℕ) Refusal

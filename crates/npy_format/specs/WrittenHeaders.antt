@@ -26,14 +26,14 @@ gap zero = []
 gap (suc n) = entry [] (quoted (codes "|V" ++ decimal (suc n))) ∷ []
 
 -- what stands before an entry
-abbrev pub separator : Bool → List ℕ
-separator true = []
-separator false = codes ", "
+abbrev pub entry_separator : Bool → List ℕ
+entry_separator true = []
+entry_separator false = codes ", "
 
 -- entries, of which the first is the first of all or not
 abbrev pub separated : Bool → List (List ℕ) → List ℕ
 separated first [] = []
-separated first (text ∷ texts) = separator first ++ (text ++ separated false texts)
+separated first (text ∷ texts) = entry_separator first ++ (text ++ separated false texts)
 
 abbrev pub in_brackets : List (List ℕ) → List ℕ
 in_brackets texts = codes "[" ++ (separated true texts ++ codes "]")

@@ -3,7 +3,7 @@ ghost use Rattle.std.specs.Prelude.{◌≡◌, length, option_copied};
 ghost use Rattle.std.specs.Option.{option_map};
 ghost use Rattle.elem_descr.specs.Refusals.{Answers};
 ghost use Rattle.npy_format.specs.Tokens.{tokens};
-ghost use Rattle.npy_format.specs.Literals.{symbol_at, tuple_in, pair_in, bracketed, literal_in};
+ghost use Rattle.npy_format.specs.Literals.{symbol_token_at, tuple_in, pair_in, bracketed, literal_in};
 ghost use Rattle.npy_format.specs.inside.Entries.{behind, behind_entries, behind_key, behind_comma, behind_entry};
 ghost use Rattle.npy_format.specs.inside.Places.{value_in};
 ghost use Rattle.npy_format.specs.inside.Scanned.{string_at, integer_at};
@@ -16,7 +16,7 @@ const MAX_VALUE_DEPTH: usize = 15;
 
 /// What follows this symbol, which must come next.
 pub fn symbol(expected: u8, text: &[u8]) -> Option<&[u8]>
-    ensures { option_map tokens (option_copied result) ≡ symbol_at expected (tokens text.now) }
+    ensures { option_map tokens (option_copied result) ≡ symbol_token_at expected (tokens text.now) }
 {
     let (first, rest) = next_token(text)?;
     match first {

@@ -5,7 +5,7 @@ ghost use Rattle.shape_strides.specs.Shapes.{shape_of};
 ghost use Rattle.npy_format.specs.Tokens.{tokens};
 ghost use Rattle.npy_format.specs.Listed.{Literal, Pair};
 ghost use Rattle.npy_format.specs.Headers.{dictionary_of, value_under, lengths_of, header_of, header};
-ghost use Rattle.npy_format.specs.inside.Scanned.{string_at, is_text, truth_at};
+ghost use Rattle.npy_format.specs.inside.Scanned.{string_at, is_string_token, truth_at};
 ghost use Rattle.npy_format.specs.inside.Places.{Stands, HasPairs, HasLengths};
 
 use crate::grammar::{behind_key, behind_pair, behind_pairs, integer, skip_comma, string, symbol};
@@ -55,7 +55,7 @@ fn pair_count(pairs: &[u8]) -> Result<usize, Refusal>
 
 /// Whether this string comes next.
 fn is_string(bytes: &[u8], text: &[u8]) -> bool
-    ensures { result ≡ is_text bytes.now (string_at (tokens text.now)) }
+    ensures { result ≡ is_string_token bytes.now (string_at (tokens text.now)) }
 {
     match string(text) {
         Some((found, _)) => bytes == found,

@@ -2,7 +2,7 @@
 ghost use Rattle.std.specs.Prelude.{◌≡◌, ◌++◌, ◌&&◌, nat_eq, IfOk, OnOk};
 ghost use Rattle.elem_descr.specs.TypeStrings.{spelling};
 ghost use Rattle.shape_strides.specs.Shapes.{shape_text};
-ghost use Rattle.npy_format.specs.WrittenHeaders.{quoted, opened_entry, gap, separator, separated, in_brackets, entries, written_descr, written_truth, written_text};
+ghost use Rattle.npy_format.specs.WrittenHeaders.{quoted, opened_entry, gap, entry_separator, separated, in_brackets, entries, written_descr, written_truth, written_text};
 
 use elem_descr::{Descr, Record, Scalar, typestr_write};
 use itoa::Buffer;
@@ -10,7 +10,7 @@ use shape_strides::Shape;
 use std::alloc::{AllocError, Global};
 
 fn push_separator(text: &mut Vec<u8>, is_first: bool) -> Result<(), AllocError>
-    ensures { OnOk result (text.new.items ≡ text.old.items ++ separator is_first) }
+    ensures { OnOk result (text.new.items ≡ text.old.items ++ entry_separator is_first) }
 {
     if is_first {
         return Ok(());
@@ -30,7 +30,7 @@ fn push_quoted(text: &mut Vec<u8>, bytes: &[u8]) -> Result<(), AllocError>
 
 /// An entry as far as its type.
 fn push_name(text: &mut Vec<u8>, is_first: bool, name: &[u8]) -> Result<(), AllocError>
-    ensures { OnOk result (text.new.items ≡ text.old.items ++ (separator is_first ++ opened_entry name.now)) }
+    ensures { OnOk result (text.new.items ≡ text.old.items ++ (entry_separator is_first ++ opened_entry name.now)) }
 {
     push_separator(text, is_first)?;
     text.push(b'(')?;

@@ -2,7 +2,7 @@
 ghost use Rattle.std.specs.Prelude.{◌≡◌, ◌≤◌, ◌^◌, ◌++◌, length, IfOk};
 ghost use Rattle.elem_descr.specs.Refusals.{Answers, Gives};
 ghost use Rattle.shape_strides.specs.Limits.{max_bytes};
-ghost use Rattle.npy_format.specs.Files.{split_front, begins_well, length_bytes, text_behind, split_header, data_size, order_of, load, HasItems, Loads};
+ghost use Rattle.npy_format.specs.Files.{split_front, begins_well, length_bytes, text_behind, split_header, data_size, file_order, load, HoldsFileItems, Loads};
 ghost use Rattle.npy_format.specs.inside.LoadedParts.{load_behind};
 
 use crate::header::{Header, header_read};
@@ -95,7 +95,7 @@ pub fn front_len(first: &[u8]) -> usize
 }
 
 fn order_of(fortran: bool) -> MemoryOrder
-    ensures { result ≡ order_of fortran }
+    ensures { result ≡ file_order fortran }
 {
     if fortran {
         MemoryOrder::Fortran
@@ -133,7 +133,7 @@ pub(crate) fn array_over(
 ) -> Result<Owned, AllocError>
     requires whole { length block ≡ data_size header }
     requires small { length block ≤ max_bytes }
-    ensures { IfOk result (λ array. HasItems array header block) }
+    ensures { IfOk result (λ array. HoldsFileItems array header block) }
 {
     let order = order_of(header.fortran);
     Owned::over(alloc, header.descr, &header.shape, order, block)
@@ -143,7 +143,7 @@ pub(crate) fn array_over(
 pub(crate) fn array(alloc: Global, header: Header, items: &[u8]) -> Result<Owned, AllocError>
     requires whole { length items.now ≡ data_size header }
     requires small { length items.now ≤ max_bytes }
-    ensures { IfOk result (λ array. HasItems array header items.now) }
+    ensures { IfOk result (λ array. HoldsFileItems array header items.now) }
 {
     let block = RawBlock::try_copied(alloc, items)?;
     array_over(alloc, header, block)

@@ -4,7 +4,7 @@ ghost use Rattle.std.specs.Char.{is_ascii_digit, is_ascii_alphabetic};
 ghost use Rattle.std.specs.List.{prefix_len};
 ghost use Rattle.elem_descr.specs.TypeStrings.{value_of};
 ghost use Rattle.shape_strides.specs.Limits.{max_items};
-ghost use Rattle.npy_format.specs.Tokens.{is_space, unspaced, is_quote, is_plain, text_token, capped, is_integer, behind_long, integer_token, word, word_token, token_from, tokens};
+ghost use Rattle.npy_format.specs.Tokens.{is_space, unspaced_text, is_quote, is_plain_byte, text_token, capped, is_integer, behind_long, integer_token, word, word_token, token_from, tokens};
 ghost use Rattle.npy_format.specs.inside.Scanned.{token_of};
 
 use shape_strides::MAX_ITEMS;
@@ -37,13 +37,13 @@ fn is_quote(byte: u8) -> bool
 }
 
 fn is_plain(quote: u8, byte: u8) -> bool
-    ensures { result ≡ is_plain quote byte }
+    ensures { result ≡ is_plain_byte quote byte }
 {
     matches!(byte, b' '..=b'~') && byte != quote && byte != b'\\'
 }
 
 fn plain_len(quote: u8, bytes: &[u8]) -> usize
-    ensures value { result ≡ prefix_len (is_plain quote) bytes.now }
+    ensures value { result ≡ prefix_len (is_plain_byte quote) bytes.now }
     ensures within { result ≤ length bytes.now }
 {
     bytes
@@ -81,7 +81,7 @@ fn spaces_len(bytes: &[u8]) -> usize
 
 /// What follows the spaces at the front.
 fn unspaced(bytes: &[u8]) -> &[u8]
-    ensures { result.now ≡ unspaced bytes.now }
+    ensures { result.now ≡ unspaced_text bytes.now }
 {
     bytes.split_at(spaces_len(bytes)).1
 }

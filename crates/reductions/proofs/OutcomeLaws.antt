@@ -27,7 +27,7 @@ use Rattle.shape_strides.specs.LayoutLaws.{offsets-none}
 use Rattle.shape_strides.specs.Shapes.{shape_of}
 use Rattle.machine_numbers.specs.declared.operators.Red.{Red}
 use Rattle.reductions.specs.Lists.{lists, reduced_shape, list_length, named_axis, is_axis}
-use Rattle.reductions.specs.Outcomes.{has_empty_list, number_scalar, outcome, Outcome}
+use Rattle.reductions.specs.Outcomes.{has_empty_list, number_scalar, reduced_type, ReducedType}
 use Rattle.reductions.specs.Reductions.{result_scalar, needs_items, reduced, reduced_item, reduced_items, item_number}
 use Rattle.reductions.specs.inside.Axes.{IsAxisOf, shape_after}
 use Rattle.reductions.specs.inside.Numbers.{number_at, numbers_at, AreReduced}
@@ -97,21 +97,21 @@ shape_is reduction shape axis keep result found =
 
 -- ---- the outcome
 
-pub outcome_kind : (reduction : Red) (descr : Descr) (shape : List ℕ) (named : Option ℤ) (keep : Bool) (refusal : Refusal) → number_scalar descr ≡ Err refusal → outcome reduction descr shape named keep ≡ Err refusal
-unfolding outcome
+pub outcome_kind : (reduction : Red) (descr : Descr) (shape : List ℕ) (named : Option ℤ) (keep : Bool) (refusal : Refusal) → number_scalar descr ≡ Err refusal → reduced_type reduction descr shape named keep ≡ Err refusal
+unfolding reduced_type
 outcome_kind reduction descr shape named keep refusal is = rw is refl
 
-pub outcome_axis : (reduction : Red) (descr : Descr) (shape : List ℕ) (named : Option ℤ) (keep : Bool) (scalar : Scalar) → number_scalar descr ≡ Ok scalar → is_axis (length shape) named ≡ false → outcome reduction descr shape named keep ≡ Err BadAxis
-unfolding outcome
+pub outcome_axis : (reduction : Red) (descr : Descr) (shape : List ℕ) (named : Option ℤ) (keep : Bool) (scalar : Scalar) → number_scalar descr ≡ Ok scalar → is_axis (length shape) named ≡ false → reduced_type reduction descr shape named keep ≡ Err BadAxis
+unfolding reduced_type
 outcome_axis reduction descr shape named keep scalar is none = rw (is, none) refl
 
-abbrev typed : Red → Scalar → List ℕ → Result Outcome Refusal
+abbrev typed : Red → Scalar → List ℕ → Result ReducedType Refusal
 typed reduction scalar shape = Ok (record { descr = ScalarDescr (result_scalar reduction scalar); shape = shape })
 
 -- once the axis is found
 outcome_after : (reduction : Red) (descr : Descr) (shape : List ℕ) (named : Option ℤ) (keep : Bool) (scalar : Scalar) → number_scalar descr ≡ Ok scalar → is_axis (length shape) named ≡ true →
-    outcome reduction descr shape named keep ≡ (shape_after reduction shape (named_axis (length shape) named) keep >>= (λ _. typed reduction scalar (reduced_shape shape (named_axis (length shape) named) keep)))
-unfolding outcome shape_after
+    reduced_type reduction descr shape named keep ≡ (shape_after reduction shape (named_axis (length shape) named) keep >>= (λ _. typed reduction scalar (reduced_shape shape (named_axis (length shape) named) keep)))
+unfolding reduced_type shape_after
 outcome_after reduction descr shape named keep scalar is found =
     let result = reduced_shape shape (named_axis (length shape) named) keep in
     rw (is, found) (go reduction scalar result (not (needs_items reduction && has_empty_list shape (named_axis (length shape) named) result)))
@@ -121,14 +121,14 @@ outcome_after reduction descr shape named keep scalar is found =
     go reduction scalar result false = refl
 
 pub outcome_ok : (reduction : Red) (descr : Descr) (shape : List ℕ) (named : Option ℤ) (keep : Bool) (scalar : Scalar) (result : List ℕ) → number_scalar descr ≡ Ok scalar → is_axis (length shape) named ≡ true →
-    shape_after reduction shape (named_axis (length shape) named) keep ≡ Ok result → outcome reduction descr shape named keep ≡ Ok (record { descr = ScalarDescr (result_scalar reduction scalar); shape = result })
+    shape_after reduction shape (named_axis (length shape) named) keep ≡ Ok result → reduced_type reduction descr shape named keep ≡ Ok (record { descr = ScalarDescr (result_scalar reduction scalar); shape = result })
 outcome_ok reduction descr shape named keep scalar result is found after =
     outcome_after reduction descr shape named keep scalar is found
     ∙ ap (λ answer. answer >>= (λ _. typed reduction scalar (reduced_shape shape (named_axis (length shape) named) keep))) after
     ∙ ap (typed reduction scalar) (shape_is reduction shape (named_axis (length shape) named) keep result after)
 
 pub outcome_shape : (reduction : Red) (descr : Descr) (shape : List ℕ) (named : Option ℤ) (keep : Bool) (scalar : Scalar) (refusal : Refusal) → number_scalar descr ≡ Ok scalar → is_axis (length shape) named ≡ true →
-    shape_after reduction shape (named_axis (length shape) named) keep ≡ Err refusal → outcome reduction descr shape named keep ≡ Err refusal
+    shape_after reduction shape (named_axis (length shape) named) keep ≡ Err refusal → reduced_type reduction descr shape named keep ≡ Err refusal
 outcome_shape reduction descr shape named keep scalar refusal is found after =
     outcome_after reduction descr shape named keep scalar is found ∙ ap (λ answer. answer >>= (λ _. typed reduction scalar (reduced_shape shape (named_axis (length shape) named) keep))) after
 

@@ -12,7 +12,7 @@ use Rattle.shape_strides.specs.Shapes.{shape_of}
 use Rattle.machine_numbers.specs.declared.operators.Red.TheVariants.{Sum, Product, Minimum, Maximum, Any, All, ArgMin, ArgMax}
 use Rattle.reductions.specs.Lists.{lists}
 use Rattle.reductions.specs.Reductions.{reduced, reduced_item}
-use Rattle.reductions.specs.Outcomes.{outcome}
+use Rattle.reductions.specs.Outcomes.{reduced_type}
 
 abbrev int : Descr
 int = ScalarDescr (Int true Four Little)
@@ -113,94 +113,94 @@ all_true = refl
 -- ---- types and shapes
 
 -- `numpy.zeros((2, 3), 'i4').sum(0)`, `.max(1, keepdims=True)`, `.argmax()`, `.sum(-1)`, `.min(keepdims=True)`
-sum_down : outcome Sum int (2 ∷ 3 ∷ []) (Some (pos 0)) false ≡ Ok (record { descr = ScalarDescr long; shape = 3 ∷ [] })
-unfolding outcome shape_of
+sum_down : reduced_type Sum int (2 ∷ 3 ∷ []) (Some (pos 0)) false ≡ Ok (record { descr = ScalarDescr long; shape = 3 ∷ [] })
+unfolding reduced_type shape_of
 sum_down = refl
 
-kept : outcome Maximum int (2 ∷ 3 ∷ []) (Some (pos 1)) true ≡ Ok (record { descr = int; shape = 2 ∷ 1 ∷ [] })
-unfolding outcome shape_of
+kept : reduced_type Maximum int (2 ∷ 3 ∷ []) (Some (pos 1)) true ≡ Ok (record { descr = int; shape = 2 ∷ 1 ∷ [] })
+unfolding reduced_type shape_of
 kept = refl
 
-place : outcome ArgMax int (2 ∷ 3 ∷ []) None false ≡ Ok (record { descr = ScalarDescr long; shape = [] })
-unfolding outcome shape_of
+place : reduced_type ArgMax int (2 ∷ 3 ∷ []) None false ≡ Ok (record { descr = ScalarDescr long; shape = [] })
+unfolding reduced_type shape_of
 place = refl
 
-from_end : outcome Sum int (2 ∷ 3 ∷ []) (Some (negsuc 0)) false ≡ Ok (record { descr = ScalarDescr long; shape = 2 ∷ [] })
-unfolding outcome shape_of
+from_end : reduced_type Sum int (2 ∷ 3 ∷ []) (Some (negsuc 0)) false ≡ Ok (record { descr = ScalarDescr long; shape = 2 ∷ [] })
+unfolding reduced_type shape_of
 from_end = refl
 
-all_kept : outcome Minimum int (2 ∷ 3 ∷ []) None true ≡ Ok (record { descr = int; shape = 1 ∷ 1 ∷ [] })
-unfolding outcome shape_of
+all_kept : reduced_type Minimum int (2 ∷ 3 ∷ []) None true ≡ Ok (record { descr = int; shape = 1 ∷ 1 ∷ [] })
+unfolding reduced_type shape_of
 all_kept = refl
 
 -- types: `numpy.zeros(2, 'u1').sum()`, `numpy.zeros(2, '?').sum()`, `numpy.zeros(2, '>i2').max()`, `numpy.zeros(2, '?').min()`, `numpy.zeros(2, 'u8').all()`
-unsigned_sum : outcome Sum (ScalarDescr (Byte false)) (2 ∷ []) None false ≡ Ok (record { descr = ScalarDescr (Int false Eight Little); shape = [] })
-unfolding outcome shape_of
+unsigned_sum : reduced_type Sum (ScalarDescr (Byte false)) (2 ∷ []) None false ≡ Ok (record { descr = ScalarDescr (Int false Eight Little); shape = [] })
+unfolding reduced_type shape_of
 unsigned_sum = refl
 
-bool_sum : outcome Sum (ScalarDescr BoolScalar) (2 ∷ []) None false ≡ Ok (record { descr = ScalarDescr long; shape = [] })
-unfolding outcome shape_of
+bool_sum : reduced_type Sum (ScalarDescr BoolScalar) (2 ∷ []) None false ≡ Ok (record { descr = ScalarDescr long; shape = [] })
+unfolding reduced_type shape_of
 bool_sum = refl
 
-big_maximum : outcome Maximum (ScalarDescr (Int true Two Big)) (2 ∷ []) None false ≡ Ok (record { descr = ScalarDescr (Int true Two Little); shape = [] })
-unfolding outcome shape_of
+big_maximum : reduced_type Maximum (ScalarDescr (Int true Two Big)) (2 ∷ []) None false ≡ Ok (record { descr = ScalarDescr (Int true Two Little); shape = [] })
+unfolding reduced_type shape_of
 big_maximum = refl
 
-bool_minimum : outcome Minimum (ScalarDescr BoolScalar) (2 ∷ []) None false ≡ Ok (record { descr = ScalarDescr BoolScalar; shape = [] })
-unfolding outcome shape_of
+bool_minimum : reduced_type Minimum (ScalarDescr BoolScalar) (2 ∷ []) None false ≡ Ok (record { descr = ScalarDescr BoolScalar; shape = [] })
+unfolding reduced_type shape_of
 bool_minimum = refl
 
-unsigned_all : outcome All (ScalarDescr (Int false Eight Little)) (2 ∷ []) None false ≡ Ok (record { descr = ScalarDescr BoolScalar; shape = [] })
-unfolding outcome shape_of
+unsigned_all : reduced_type All (ScalarDescr (Int false Eight Little)) (2 ∷ []) None false ≡ Ok (record { descr = ScalarDescr BoolScalar; shape = [] })
+unfolding reduced_type shape_of
 unsigned_all = refl
 
 -- ---- refusals, of which the first met is told
 
 -- byte strings, also along an axis that is none
-byte_strings : outcome Any (ScalarDescr (Bytes 3)) (2 ∷ []) (Some (pos 5)) false ≡ Err NotForThisKind
-unfolding outcome
+byte_strings : reduced_type Any (ScalarDescr (Bytes 3)) (2 ∷ []) (Some (pos 5)) false ≡ Err NotForThisKind
+unfolding reduced_type
 byte_strings = refl
 
 -- `numpy.zeros((2, 3)).sum(2)`, `.sum(-3)`, and an axis of an array of no axes, also of no items
-high_axis : outcome Sum int (2 ∷ 3 ∷ []) (Some (pos 2)) false ≡ Err BadAxis
-unfolding outcome
+high_axis : reduced_type Sum int (2 ∷ 3 ∷ []) (Some (pos 2)) false ≡ Err BadAxis
+unfolding reduced_type
 high_axis = refl
 
-low_axis : outcome Sum int (2 ∷ 3 ∷ []) (Some (negsuc 2)) false ≡ Err BadAxis
-unfolding outcome
+low_axis : reduced_type Sum int (2 ∷ 3 ∷ []) (Some (negsuc 2)) false ≡ Err BadAxis
+unfolding reduced_type
 low_axis = refl
 
-no_axes : outcome Maximum int [] (Some (pos 0)) false ≡ Err BadAxis
-unfolding outcome
+no_axes : reduced_type Maximum int [] (Some (pos 0)) false ≡ Err BadAxis
+unfolding reduced_type
 no_axes = refl
 
-axis_first : outcome Maximum int (0 ∷ []) (Some (pos 1)) false ≡ Err BadAxis
-unfolding outcome
+axis_first : reduced_type Maximum int (0 ∷ []) (Some (pos 1)) false ≡ Err BadAxis
+unfolding reduced_type
 axis_first = refl
 
 -- `numpy.zeros(0).max()`, `numpy.zeros((0, 3)).max(0)`, and `numpy.zeros((0, 3)).max(1)`, which has no items
-empty_maximum : outcome Maximum int (0 ∷ []) None false ≡ Err EmptyReduction
-unfolding outcome
+empty_maximum : reduced_type Maximum int (0 ∷ []) None false ≡ Err EmptyReduction
+unfolding reduced_type
 empty_maximum = refl
 
-empty_columns : outcome ArgMin int (0 ∷ 3 ∷ []) (Some (pos 0)) true ≡ Err EmptyReduction
-unfolding outcome
+empty_columns : reduced_type ArgMin int (0 ∷ 3 ∷ []) (Some (pos 0)) true ≡ Err EmptyReduction
+unfolding reduced_type
 empty_columns = refl
 
-no_rows : outcome Maximum int (0 ∷ 3 ∷ []) (Some (pos 1)) false ≡ Ok (record { descr = int; shape = 0 ∷ [] })
-unfolding outcome shape_of
+no_rows : reduced_type Maximum int (0 ∷ 3 ∷ []) (Some (pos 1)) false ≡ Ok (record { descr = int; shape = 0 ∷ [] })
+unfolding reduced_type shape_of
 no_rows = refl
 
 -- `numpy.zeros((0, 3)).sum(0)`
-empty_sums : outcome Sum int (0 ∷ 3 ∷ []) (Some (pos 0)) false ≡ Ok (record { descr = ScalarDescr long; shape = 3 ∷ [] })
-unfolding outcome shape_of
+empty_sums : reduced_type Sum int (0 ∷ 3 ∷ []) (Some (pos 0)) false ≡ Ok (record { descr = ScalarDescr long; shape = 3 ∷ [] })
+unfolding reduced_type shape_of
 empty_sums = refl
 
 -- more than 2^24 items, of lists that are empty
-large_sum : outcome Sum int (0 ∷ 16777216 ∷ 16777216 ∷ []) (Some (pos 0)) false ≡ Err TooLarge
-unfolding outcome shape_of
+large_sum : reduced_type Sum int (0 ∷ 16777216 ∷ 16777216 ∷ []) (Some (pos 0)) false ≡ Err TooLarge
+unfolding reduced_type shape_of
 large_sum = refl
 
-large_maximum : outcome Maximum int (0 ∷ 16777216 ∷ 16777216 ∷ []) (Some (pos 0)) false ≡ Err EmptyReduction
-unfolding outcome
+large_maximum : reduced_type Maximum int (0 ∷ 16777216 ∷ 16777216 ∷ []) (Some (pos 0)) false ≡ Err EmptyReduction
+unfolding reduced_type
 large_maximum = refl

@@ -27,16 +27,16 @@ abbrev pub has_empty_list : List ℕ → Option ℕ → List ℕ → Bool
 has_empty_list shape axis result = (list_length shape axis == 0) && not (count result == 0)
 
 -- the type of an array's items, and its shape
-pub record Outcome : Type 0 where
+pub record ReducedType : Type 0 where
   pub descr : Descr
   pub shape : List ℕ
 
-abbrev pub outcome_of : Owned → Outcome
+abbrev pub outcome_of : Owned → ReducedType
 outcome_of owned = record { descr = owned.descr; shape = owned.layout.shape }
 
 -- the array that a reduction of items of a type in a shape gives, or the first refusal
-unfoldable pub outcome : Red → Descr → List ℕ → Option ℤ → Bool → Result Outcome Refusal
-outcome reduction descr shape named keep = do
+unfoldable pub reduced_type : Red → Descr → List ℕ → Option ℤ → Bool → Result ReducedType Refusal
+reduced_type reduction descr shape named keep = do
   let axis = named_axis (length shape) named
   let result = reduced_shape shape axis keep
   scalar ← number_scalar descr

@@ -13,7 +13,7 @@ ghost use Rattle.shape_strides.specs.Limits.{max_items};
 ghost use Rattle.overlap_copy.specs.Blocks.{offsets_in};
 ghost use Rattle.overlap_copy.specs.ItemLists.{owned_items};
 ghost use Rattle.reductions.specs.Lists.{named_axis, list_length, lists};
-ghost use Rattle.reductions.specs.Outcomes.{outcome, outcome_of};
+ghost use Rattle.reductions.specs.Outcomes.{reduced_type, outcome_of};
 ghost use Rattle.reductions.specs.Reductions.{needs_items, reduced_items};
 ghost use Rattle.reductions.specs.inside.Axes.{IsAxisOf};
 ghost use Rattle.reductions.specs.inside.Sources.{lists_of, result_size, room_for, AreResults};
@@ -148,7 +148,7 @@ pub fn reduce(
     axis: Option<i128>,
     keep: bool,
 ) -> Result<Owned, Refusal>
-    ensures array { Gives outcome_of result (outcome reduction items.entry.descr.now items.entry.layout.now.shape axis keep) }
+    ensures array { Gives outcome_of result (reduced_type reduction items.entry.descr.now items.entry.layout.now.shape axis keep) }
     ensures order { IfOk result (λ o. offsets o.layout ≡ offsets_in C (item_size o.descr) o.layout.shape) }
     ensures items { IfOk result (λ o. map (item_from o.descr o.block) (offsets o.layout)
         ≡ reduced_items reduction o.descr items.entry.descr.now items.entry.block.now (lists items.entry.layout.now.shape (named_axis (length items.entry.layout.now.shape) axis) (offsets items.entry.layout.now))) }

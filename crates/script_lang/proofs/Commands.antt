@@ -15,10 +15,10 @@ use Rattle.script_lang.specs.declared.verb.ViewVerb.{ViewVerb}
 use Rattle.script_lang.specs.declared.verb.ComputeVerb.{ComputeVerb}
 use Rattle.script_lang.specs.Verbs.{operation_of}
 use Rattle.script_lang.specs.Tokens.{symbol_at, at_end, word_at, name_at, quoted_at}
-use Rattle.script_lang.specs.Descriptors.{descr_at}
+use Rattle.script_lang.specs.Descriptors.{descriptor_at}
 use Rattle.script_lang.specs.Indexes.{shape_at, signed_shape_at, bracket_at, operand_at, argument_at}
-use Rattle.script_lang.specs.Commands.{new_items_at, make_at, viewing_of, plain_view_at, field_at, transposed_by, transpose_at, reshape_at, broadcast_at, viewing_at, view_at, cast_at, combine_at, transform_at, computation_at, compute_at, value_at, bind_at, set_at, update_at, form_at, command_at}
-use Rattle.script_lang.specs.Reading.{optional_index_room, index_room, operand_room, argument_room, viewing_room, computation_room, value_room, needs_room}
+use Rattle.script_lang.specs.Commands.{new_items_at, make_at, viewing_of, plain_view_at, field_name_at, transposed_by, transpose_at, reshape_at, broadcast_at, viewing_at, view_at, cast_at, combine_at, transform_at, computation_at, compute_at, value_at, bind_at, set_at, update_at, form_at, command_at}
+use Rattle.script_lang.specs.Reading.{optional_index_room, index_room, operand_room, argument_room, viewing_room, computation_room, value_room, parts_take_memory}
 use Rattle.script_lang.proofs.Rooms.{after_step, after_known, or_left, or_right, HasIndexRoom, HasOperandRoom, HasArgumentRoom}
 
 abbrev HasViewingRoom : Viewing × List ℕ → Type 0
@@ -31,11 +31,11 @@ abbrev HasValueRoom : Value × List ℕ → Type 0
 HasValueRoom r = IsTrue (value_room r.0)
 
 abbrev NeedsRoom : Command × List ℕ → Type 0
-NeedsRoom r = IsTrue (needs_room r.0)
+NeedsRoom r = IsTrue (parts_take_memory r.0)
 
 pub make_room : (making : MakeVerb) (bytes : List ℕ) → IfSome (make_at making bytes) (λ r. IsTrue (value_room r.0))
 unfolding make_at
-make_room making bytes = after_step HasValueRoom (descr_at bytes) _ (λ descr. after_step HasValueRoom (new_items_at making descr.1) _ (λ items. refl))
+make_room making bytes = after_step HasValueRoom (descriptor_at bytes) _ (λ descr. after_step HasValueRoom (new_items_at making descr.1) _ (λ items. refl))
 
 seen_room : (index : Option (List (IndexItem (List ℕ)))) → IsTrue (optional_index_room index) → IsTrue (viewing_room (viewing_of index))
 seen_room None room = room
@@ -45,8 +45,8 @@ pub plain_view_room : (bytes : List ℕ) → IfSome (operand_at bytes) (λ r. Is
 unfolding plain_view_at
 plain_view_room bytes known = after_known HasOperandRoom HasValueRoom (operand_at bytes) _ known (λ source more. seen_room source.0.index more)
 
-pub field_room : (bytes : List ℕ) → IfSome (field_at bytes) (λ r. IsTrue (viewing_room r.0))
-unfolding field_at
+pub field_room : (bytes : List ℕ) → IfSome (field_name_at bytes) (λ r. IsTrue (viewing_room r.0))
+unfolding field_name_at
 field_room bytes = after_step HasViewingRoom (quoted_at bytes) _ (λ field. refl)
 
 axes_room : (o : Option (List ℤ × List ℕ)) → IfSome (option_map transposed_by o) HasViewingRoom
@@ -71,7 +71,7 @@ view_room viewing bytes source named known = rw named (after_known HasViewingRoo
 
 pub cast_room : (bytes : List ℕ) → IfSome (cast_at bytes) (λ r. IsTrue (computation_room r.0))
 unfolding cast_at
-cast_room bytes = after_step HasComputationRoom (name_at bytes) _ (λ source. after_step HasComputationRoom (descr_at source.1) _ (λ descr. refl))
+cast_room bytes = after_step HasComputationRoom (name_at bytes) _ (λ source. after_step HasComputationRoom (descriptor_at source.1) _ (λ descr. refl))
 
 pub left_room : (operation : Operation) (bytes : List ℕ) → IfSome (operand_at bytes) (λ r. IsTrue (operand_room r.0)) → IfSome (combine_at operation bytes) (λ r. IsTrue (computation_room r.0))
 unfolding combine_at
@@ -89,26 +89,26 @@ pub compute_room : (computing : ComputeVerb) (bytes : List ℕ) → IfSome (comp
 unfolding compute_at
 compute_room computing bytes known = after_known HasComputationRoom HasValueRoom (computation_at computing bytes) _ known (λ computation more. more)
 
-pub bind_room : (bytes : List ℕ) (name : List ℕ × List ℕ) (rest : List ℕ) → name_at bytes ≡ Some name → symbol_at 61 name.1 ≡ Some rest → IfSome (value_at rest) (λ r. IsTrue (value_room r.0)) → IfSome (bind_at bytes) (λ r. IsTrue (needs_room r.0))
+pub bind_room : (bytes : List ℕ) (name : List ℕ × List ℕ) (rest : List ℕ) → name_at bytes ≡ Some name → symbol_at 61 name.1 ≡ Some rest → IfSome (value_at rest) (λ r. IsTrue (value_room r.0)) → IfSome (bind_at bytes) (λ r. IsTrue (parts_take_memory r.0))
 unfolding bind_at
 bind_room bytes name rest named equals known = rw (named, equals) (after_known HasValueRoom NeedsRoom (value_at rest) _ known (λ value more. more))
 
-pub set_index_room : (bytes : List ℕ) (name : List ℕ × List ℕ) → name_at bytes ≡ Some name → IfSome (bracket_at name.1) (λ r. IsTrue (index_room r.0)) → IfSome (set_at bytes) (λ r. IsTrue (needs_room r.0))
+pub set_index_room : (bytes : List ℕ) (name : List ℕ × List ℕ) → name_at bytes ≡ Some name → IfSome (bracket_at name.1) (λ r. IsTrue (index_room r.0)) → IfSome (set_at bytes) (λ r. IsTrue (parts_take_memory r.0))
 unfolding set_at
 set_index_room bytes name named known = rw named (after_known HasIndexRoom NeedsRoom (bracket_at name.1) _ known (λ index more. after_step NeedsRoom (symbol_at 61 index.1) _ (λ rest. after_step NeedsRoom (argument_at rest) _ (λ value. or_left (index_room index.0) (argument_room value.0) more))))
 
-pub set_value_room : (bytes : List ℕ) (name : List ℕ × List ℕ) (index : List (IndexItem (List ℕ)) × List ℕ) (rest : List ℕ) → name_at bytes ≡ Some name → bracket_at name.1 ≡ Some index → symbol_at 61 index.1 ≡ Some rest → IfSome (argument_at rest) (λ r. IsTrue (argument_room r.0)) → IfSome (set_at bytes) (λ r. IsTrue (needs_room r.0))
+pub set_value_room : (bytes : List ℕ) (name : List ℕ × List ℕ) (index : List (IndexItem (List ℕ)) × List ℕ) (rest : List ℕ) → name_at bytes ≡ Some name → bracket_at name.1 ≡ Some index → symbol_at 61 index.1 ≡ Some rest → IfSome (argument_at rest) (λ r. IsTrue (argument_room r.0)) → IfSome (set_at bytes) (λ r. IsTrue (parts_take_memory r.0))
 unfolding set_at
 set_value_room bytes name index rest named indexed equals known = rw (named, indexed, equals) (after_known HasArgumentRoom NeedsRoom (argument_at rest) _ known (λ value more. or_right (index_room index.0) (argument_room value.0) more))
 
-pub update_index_room : (bytes : List ℕ) (name : List ℕ × List ℕ) → name_at bytes ≡ Some name → IfSome (bracket_at name.1) (λ r. IsTrue (index_room r.0)) → IfSome (update_at bytes) (λ r. IsTrue (needs_room r.0))
+pub update_index_room : (bytes : List ℕ) (name : List ℕ × List ℕ) → name_at bytes ≡ Some name → IfSome (bracket_at name.1) (λ r. IsTrue (index_room r.0)) → IfSome (update_at bytes) (λ r. IsTrue (parts_take_memory r.0))
 unfolding update_at
 update_index_room bytes name named known = rw named (after_known HasIndexRoom NeedsRoom (bracket_at name.1) _ known (λ index more. after_step NeedsRoom (word_at index.1) _ (λ word. after_step NeedsRoom (operation_of word.0) _ (λ operation. after_step NeedsRoom (argument_at word.1) _ (λ value. or_left (index_room index.0) (argument_room value.0) more)))))
 
-pub update_value_room : (bytes : List ℕ) (name : List ℕ × List ℕ) (index : List (IndexItem (List ℕ)) × List ℕ) (word : List ℕ × List ℕ) (operation : Operation) → name_at bytes ≡ Some name → bracket_at name.1 ≡ Some index → word_at index.1 ≡ Some word → operation_of word.0 ≡ Some operation → IfSome (argument_at word.1) (λ r. IsTrue (argument_room r.0)) → IfSome (update_at bytes) (λ r. IsTrue (needs_room r.0))
+pub update_value_room : (bytes : List ℕ) (name : List ℕ × List ℕ) (index : List (IndexItem (List ℕ)) × List ℕ) (word : List ℕ × List ℕ) (operation : Operation) → name_at bytes ≡ Some name → bracket_at name.1 ≡ Some index → word_at index.1 ≡ Some word → operation_of word.0 ≡ Some operation → IfSome (argument_at word.1) (λ r. IsTrue (argument_room r.0)) → IfSome (update_at bytes) (λ r. IsTrue (parts_take_memory r.0))
 unfolding update_at
 update_value_room bytes name index word operation named indexed worded named_operation known = rw (named, indexed, worded, named_operation) (after_known HasArgumentRoom NeedsRoom (argument_at word.1) _ known (λ value more. or_right (index_room index.0) (argument_room value.0) more))
 
-pub whole_line_room : (line : List ℕ) → IfSome (form_at line) (λ r. IsTrue (needs_room r.0)) → IfSome (command_at line) (λ c. IsTrue (needs_room c))
+pub whole_line_room : (line : List ℕ) → IfSome (form_at line) (λ r. IsTrue (parts_take_memory r.0)) → IfSome (command_at line) (λ c. IsTrue (parts_take_memory c))
 unfolding command_at
-whole_line_room line known = after_known NeedsRoom (λ (c : Command). IsTrue (needs_room c)) (form_at line) _ known (λ command more. after_step (λ (c : Command). IsTrue (needs_room c)) (at_end command.1) _ (λ end. more))
+whole_line_room line known = after_known NeedsRoom (λ (c : Command). IsTrue (parts_take_memory c)) (form_at line) _ known (λ command more. after_step (λ (c : Command). IsTrue (parts_take_memory c)) (at_end command.1) _ (λ end. more))

@@ -8,7 +8,7 @@ use Rattle.elem_descr.specs.declared.refusal.Refusal.{Refusal}
 use Rattle.elem_descr.specs.declared.refusal.Refusal.TheVariants.{Syntax, OutOfMemory}
 use Rattle.script_lang.specs.Tokens.{symbol_at, at_end}
 use Rattle.script_lang.specs.Literals.{line_end_at}
-use Rattle.script_lang.specs.Lists.{entries_at, items_at, row_at}
+use Rattle.script_lang.specs.Lists.{entries_at, listed_at, row_at}
 
 -- what is read so far, in front of what is read of the rest
 abbrev pub in_front : {A : Type 0} → List A → Option (List A × List ℕ) → Option (List A × List ℕ)
@@ -81,39 +81,39 @@ module _ {A : Type 0} (entry_at : List ℕ → Option (A × List ℕ)) (closing 
       is ∙ rw turns refl
 
 -- a turn at items that commas part, no last comma
-module _ {A : Type 0} (item_at : List ℕ → Option (A × List ℕ)) (closing : ℕ) (whole : Option (List A × List ℕ)) (read : List A) (len turn : ℕ) (rest : List ℕ) (is : whole ≡ in_front read (items_at item_at closing (len - turn) rest)) where
+module _ {A : Type 0} (item_at : List ℕ → Option (A × List ℕ)) (closing : ℕ) (whole : Option (List A × List ℕ)) (read : List A) (len turn : ℕ) (rest : List ℕ) (is : whole ≡ in_front read (listed_at item_at closing (len - turn) rest)) where
   pub items_no_item : turn < len → item_at rest ≡ None → whole ≡ None
-  unfolding items_at
+  unfolding listed_at
   items_no_item more none =
       let turns : len - turn ≡ suc (len - (turn + 1)) = omega arith in
       is ∙ rw (turns, none) refl
 
   pub items_long : (x : A) (after : List ℕ) → turn < len → item_at rest ≡ Some (x, after) → 8 ≤ length read → Long whole
-  unfolding items_at
+  unfolding listed_at
   items_long x after more first full =
       let turns : len - turn ≡ suc (len - (turn + 1)) = omega arith in
       rw (is, turns, first) (long_in_front read x _ full)
 
   pub items_last : (x : A) (after end : List ℕ) → turn < len → item_at rest ≡ Some (x, after) → symbol_at closing after ≡ Some end → whole ≡ Some (read ++ x ∷ [], end)
-  unfolding items_at
+  unfolding listed_at
   items_last x after end more first ends =
       let turns : len - turn ≡ suc (len - (turn + 1)) = omega arith in
       is ∙ rw (turns, first, ends) refl
 
   pub items_no_mark : (x : A) (after : List ℕ) → turn < len → item_at rest ≡ Some (x, after) → symbol_at closing after ≡ None → symbol_at 44 after ≡ None → whole ≡ None
-  unfolding items_at
+  unfolding listed_at
   items_no_mark x after more first no_end no_comma =
       let turns : len - turn ≡ suc (len - (turn + 1)) = omega arith in
       is ∙ rw (turns, first, no_end, no_comma) refl
 
-  pub items_next : (x : A) (after next : List ℕ) → turn < len → item_at rest ≡ Some (x, after) → symbol_at closing after ≡ None → symbol_at 44 after ≡ Some next → whole ≡ in_front (read ++ x ∷ []) (items_at item_at closing (len - (turn + 1)) next)
-  unfolding items_at
+  pub items_next : (x : A) (after next : List ℕ) → turn < len → item_at rest ≡ Some (x, after) → symbol_at closing after ≡ None → symbol_at 44 after ≡ Some next → whole ≡ in_front (read ++ x ∷ []) (listed_at item_at closing (len - (turn + 1)) next)
+  unfolding listed_at
   items_next x after next more first no_end comma =
       let turns : len - turn ≡ suc (len - (turn + 1)) = omega arith in
-      is ∙ rw (turns, first, no_end, comma) (more_in_front read x (items_at item_at closing (len - (turn + 1)) next))
+      is ∙ rw (turns, first, no_end, comma) (more_in_front read x (listed_at item_at closing (len - (turn + 1)) next))
 
   pub items_no_turn : len ≤ turn → whole ≡ None
-  unfolding items_at
+  unfolding listed_at
   items_no_turn done =
       let turns : len - turn ≡ 0 = omega arith in
       is ∙ rw turns refl

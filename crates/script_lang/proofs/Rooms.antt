@@ -10,9 +10,9 @@ use Rattle.script_lang.specs.declared.literal.Literal.{Literal}
 use Rattle.script_lang.specs.declared.command.Operand.{Operand}
 use Rattle.script_lang.specs.declared.command.Argument.{Argument}
 use Rattle.script_lang.specs.Tokens.{where_true, byte_at, name_at}
-use Rattle.script_lang.specs.Lists.{entries_at, items_at}
-use Rattle.script_lang.specs.Literals.{byte_text_at, bytes_at, scalar_at, scalar_of, record_at, literal_at}
-use Rattle.script_lang.specs.Indexes.{item_at, index_at, optional_index_at, operand_at, operand_of, literal_of, begins_name, argument_at}
+use Rattle.script_lang.specs.Lists.{entries_at, listed_at}
+use Rattle.script_lang.specs.Literals.{byte_text_at, bytes_at, scalar_at, literal_of_scalar, record_at, literal_at}
+use Rattle.script_lang.specs.Indexes.{index_item_at, index_at, optional_index_at, operand_at, operand_of, literal_of, begins_name, argument_at}
 use Rattle.script_lang.specs.Reading.{scalar_room, literal_room, index_room, optional_index_room, operand_room, argument_room}
 
 -- what each step gives, once each goes on
@@ -61,17 +61,17 @@ record_room value_at bytes =
     after_step HasLiteralRoom (entries_at value_at 41 (length bytes) bytes) _
     (λ values. after_step HasLiteralRoom (where_true (not (length values.0 == 0))) _ (λ some. refl))
 
-scalar_kept : (o : Option (ScalarLiteral × List ℕ)) → IfSome o (λ r. IsTrue (scalar_room r.0)) → IfSome (option_map scalar_of o) (λ r. IsTrue (literal_room r.0))
+scalar_kept : (o : Option (ScalarLiteral × List ℕ)) → IfSome o (λ r. IsTrue (scalar_room r.0)) → IfSome (option_map literal_of_scalar o) (λ r. IsTrue (literal_room r.0))
 scalar_kept None known = tt
 scalar_kept (Some r) known = known
 
-pub scalar_literal_room : (bytes : List ℕ) → IfSome (scalar_at bytes) (λ r. IsTrue (scalar_room r.0)) → IfSome (option_map scalar_of (scalar_at bytes)) (λ r. IsTrue (literal_room r.0))
+pub scalar_literal_room : (bytes : List ℕ) → IfSome (scalar_at bytes) (λ r. IsTrue (scalar_room r.0)) → IfSome (option_map literal_of_scalar (scalar_at bytes)) (λ r. IsTrue (literal_room r.0))
 scalar_literal_room bytes known = scalar_kept (scalar_at bytes) known
 
-pub index_list_room : (bytes : List ℕ) → IfSome (items_at item_at 93 (length bytes) bytes) (λ r. IsTrue (index_room r.0)) → IfSome (index_at bytes) (λ r. IsTrue (index_room r.0))
+pub index_list_room : (bytes : List ℕ) → IfSome (listed_at index_item_at 93 (length bytes) bytes) (λ r. IsTrue (index_room r.0)) → IfSome (index_at bytes) (λ r. IsTrue (index_room r.0))
 unfolding index_at
 index_list_room bytes known =
-    after_known HasIndexRoom HasIndexRoom (items_at item_at 93 (length bytes) bytes) _ known
+    after_known HasIndexRoom HasIndexRoom (listed_at index_item_at 93 (length bytes) bytes) _ known
     (λ items more. after_step HasIndexRoom (where_true (nat_le (count_by is_ellipsis items.0) 1)) _ (λ once. more))
 
 index_kept : (o : Option (List (IndexItem (List ℕ)) × List ℕ)) → IfSome o (λ r. IsTrue (index_room r.0)) → IfSome (option_map (λ (index : List (IndexItem (List ℕ)) × List ℕ). (Some index.0, index.1)) o) HasOptionalRoom

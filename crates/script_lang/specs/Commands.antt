@@ -30,7 +30,7 @@ use Rattle.script_lang.specs.declared.command.Command.{Command}
 use Rattle.script_lang.specs.declared.command.Command.TheVariants.{Bind, Set, Update, Delete, Undo, Save, Ask}
 use Rattle.script_lang.specs.Verbs.{verb_of, operation_of, order_of}
 use Rattle.script_lang.specs.Tokens.{◌>>=◌, if_found, symbol_at, at_end, word_at, name_at, integer_at, optional_integer_at, flag_at, quoted_at, file_name_at}
-use Rattle.script_lang.specs.Descriptors.{descr_at}
+use Rattle.script_lang.specs.Descriptors.{descriptor_at}
 use Rattle.script_lang.specs.Literals.{literal_at, literals_at}
 use Rattle.script_lang.specs.Indexes.{shape_at, signed_shape_at, bracket_at, operand_at, argument_at}
 
@@ -58,8 +58,8 @@ arange_at bytes = do
   Some (Arange start.0 stop.0 step.0, step.1)
 
 -- S L.., behind `array D`
-unfoldable pub array_at : List ℕ → Option (NewItems × List ℕ)
-array_at bytes = do
+unfoldable pub new_array_at : List ℕ → Option (NewItems × List ℕ)
+new_array_at bytes = do
   shape ← shape_at bytes
   values ← literals_at shape.1
   Some (Array shape.0 values.0, values.1)
@@ -68,12 +68,12 @@ abbrev pub new_items_at : MakeVerb → List ℕ → Option (NewItems × List ℕ
 new_items_at make.Zeros bytes = zeros_at bytes
 new_items_at make.Full bytes = full_at bytes
 new_items_at make.Arange bytes = arange_at bytes
-new_items_at make.Array bytes = array_at bytes
+new_items_at make.Array bytes = new_array_at bytes
 
 -- a descriptor, and what the items are
 unfoldable pub make_at : MakeVerb → List ℕ → Option (Value × List ℕ)
 make_at making bytes = do
-  descr ← descr_at bytes
+  descr ← descriptor_at bytes
   items ← new_items_at making descr.1
   Some (Make descr.0 items.0, items.1)
 
@@ -90,8 +90,8 @@ plain_view_at bytes = do
   Some (View source.0.name (viewing_of source.0.index), source.1)
 
 -- "f", behind `field Y`
-unfoldable pub field_at : List ℕ → Option (Viewing × List ℕ)
-field_at bytes = do
+unfoldable pub field_name_at : List ℕ → Option (Viewing × List ℕ)
+field_name_at bytes = do
   field ← quoted_at bytes
   Some (Field field.0, field.1)
 
@@ -115,7 +115,7 @@ broadcast_at bytes = do
   Some (Broadcast shape.0, shape.1)
 
 abbrev pub viewing_at : ViewVerb → List ℕ → Option (Viewing × List ℕ)
-viewing_at view.Field bytes = field_at bytes
+viewing_at view.Field bytes = field_name_at bytes
 viewing_at view.Transpose bytes = transpose_at bytes
 viewing_at view.Reshape bytes = reshape_at bytes
 viewing_at view.Broadcast bytes = broadcast_at bytes
@@ -141,7 +141,7 @@ copy_at bytes = do
 unfoldable pub cast_at : List ℕ → Option (Computation × List ℕ)
 cast_at bytes = do
   source ← name_at bytes
-  descr ← descr_at source.1
+  descr ← descriptor_at source.1
   Some (Cast source.0 descr.0, descr.1)
 
 -- operand Z, behind OP

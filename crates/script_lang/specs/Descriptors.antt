@@ -35,7 +35,7 @@ record_text_at bytes inside = do
   Some (take (length bytes - length inside + n) bytes, drop n inside)
 
 -- a descriptor, behind some blanks: a record's text, or the bytes up to the next blank
-unfoldable pub descr_at : List ℕ → Option (List ℕ × List ℕ)
-descr_at bytes = do
+unfoldable pub descriptor_at : List ℕ → Option (List ℕ × List ℕ)
+descriptor_at bytes = do
   blanks ← front_at is_blank bytes
   if_found (record_mark_at blanks.1) (record_text_at blanks.1) (front_at (λ b. not (is_blank b)) blanks.1)

@@ -9,7 +9,7 @@ use Rattle.script_lang.specs.declared.command.Operand.{Operand}
 use Rattle.script_lang.specs.declared.command.Argument.{Argument}
 use Rattle.script_lang.specs.declared.command.Argument.TheVariants as argument
 use Rattle.script_lang.specs.Tokens.{◌>>=◌, ◌or_else◌, if_found, where_true, unspaced, byte_at, symbol_at, bytes_mark_at, keyword_at, name_at, length_at, integer_at, optional_integer_at}
-use Rattle.script_lang.specs.Lists.{entries_at, items_at}
+use Rattle.script_lang.specs.Lists.{entries_at, listed_at}
 use Rattle.script_lang.specs.Literals.{literal_at}
 
 -- S: a shape, lengths in parentheses
@@ -44,25 +44,25 @@ integer_item found = (Integer found.0, found.1)
 unfoldable pub ellipsis_at : List ℕ → Option (List ℕ)
 ellipsis_at bytes = symbol_at 46 bytes >>= byte_at 46 >>= byte_at 46
 
-abbrev pub item_of : IndexItem (List ℕ) → List ℕ → IndexItem (List ℕ) × List ℕ
-item_of item rest = (item, rest)
+abbrev pub item_with_rest : IndexItem (List ℕ) → List ℕ → IndexItem (List ℕ) × List ℕ
+item_with_rest item rest = (item, rest)
 
 abbrev pub array_item : List ℕ × List ℕ → IndexItem (List ℕ) × List ℕ
 array_item found = (Array found.0, found.1)
 
 -- one item of an index list
-unfoldable pub item_at : List ℕ → Option (IndexItem (List ℕ) × List ℕ)
-item_at bytes =
+unfoldable pub index_item_at : List ℕ → Option (IndexItem (List ℕ) × List ℕ)
+index_item_at bytes =
     slice_at bytes
     or_else option_map integer_item (integer_at bytes)
-    or_else option_map (item_of Ellipsis) (ellipsis_at bytes)
-    or_else option_map (item_of NewAxis) (keyword_at (codes "None") bytes)
+    or_else option_map (item_with_rest Ellipsis) (ellipsis_at bytes)
+    or_else option_map (item_with_rest NewAxis) (keyword_at (codes "None") bytes)
     or_else option_map array_item (name_at bytes)
 
 -- ix], behind `[`: the items up to the bracket, `...` at most once
 unfoldable pub index_at : List ℕ → Option (List (IndexItem (List ℕ)) × List ℕ)
 index_at bytes = do
-  items ← items_at item_at 93 (length bytes) bytes
+  items ← listed_at index_item_at 93 (length bytes) bytes
   _ ← where_true (nat_le (count_by is_ellipsis items.0) 1)
   Some items
 

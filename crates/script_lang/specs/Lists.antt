@@ -16,11 +16,11 @@ entries_at entry_at closing (suc turns) bytes = closed (symbol_at closing bytes)
   Some (first.0 ∷ others.0, others.1))
 
 -- Entries that commas part, up to the byte that closes the list: one or more, no last comma.
-unfoldable pub items_at : {A : Type 0} → (List ℕ → Option (A × List ℕ)) → ℕ → ℕ → List ℕ → Option (List A × List ℕ)
-items_at item_at closing zero bytes = None
-items_at item_at closing (suc turns) bytes = do
+unfoldable pub listed_at : {A : Type 0} → (List ℕ → Option (A × List ℕ)) → ℕ → ℕ → List ℕ → Option (List A × List ℕ)
+listed_at item_at closing zero bytes = None
+listed_at item_at closing (suc turns) bytes = do
   first ← item_at bytes
-  others ← closed (symbol_at closing first.1) or_else (symbol_at 44 first.1 >>= items_at item_at closing turns)
+  others ← closed (symbol_at closing first.1) or_else (symbol_at 44 first.1 >>= listed_at item_at closing turns)
   Some (first.0 ∷ others.0, others.1)
 
 -- Entries one behind the other, up to where the list ends: none or more.

@@ -74,13 +74,13 @@ record_at value_at bytes = do
   _ ← where_true (not (length values.0 == 0))
   Some (Record (all_values values.0), values.1)
 
-abbrev pub scalar_of : ScalarLiteral × List ℕ → Literal × List ℕ
-scalar_of found = (Scalar found.0, found.1)
+abbrev pub literal_of_scalar : ScalarLiteral × List ℕ → Literal × List ℕ
+literal_of_scalar found = (Scalar found.0, found.1)
 
 -- a literal of at most this depth: a scalar has depth 0, a record is one deeper than its deepest value
 unfoldable pub literal_within : ℕ → List ℕ → Option (Literal × List ℕ)
-literal_within zero bytes = option_map scalar_of (scalar_at bytes)
-literal_within (suc depth) bytes = if_found (symbol_at 40 bytes) (record_at (literal_within depth)) (option_map scalar_of (scalar_at bytes))
+literal_within zero bytes = option_map literal_of_scalar (scalar_at bytes)
+literal_within (suc depth) bytes = if_found (symbol_at 40 bytes) (record_at (literal_within depth)) (option_map literal_of_scalar (scalar_at bytes))
 
 abbrev pub max_literal_depth : ℕ
 max_literal_depth = 4

@@ -67,18 +67,18 @@ value_room (Load file) = false
 
 -- A command that is held in memory of its own: one with a part that is, or with a descriptor, a
 -- shape, axes, or the name of a field.
-abbrev pub needs_room : Command → Bool
-needs_room (Bind name value) = value_room value
-needs_room (Set name index value) = index_room index || argument_room value
-needs_room (Update name index operation value) = index_room index || argument_room value
-needs_room _ = false
+abbrev pub parts_take_memory : Command → Bool
+parts_take_memory (Bind name value) = value_room value
+parts_take_memory (Set name index value) = index_room index || argument_room value
+parts_take_memory (Update name index operation value) = index_room index || argument_room value
+parts_take_memory _ = false
 
 -- Memory is asked for only on the way to such a command.
 abbrev pub MayLackRoom : Line → Type 0
 MayLackRoom silent = ⊥
 MayLackRoom bad_byte = ⊥
 MayLackRoom misspelt = Unit {0}
-MayLackRoom (asks command) = IsTrue (needs_room command)
+MayLackRoom (asks command) = IsTrue (parts_take_memory command)
 
 -- The command is what the line asks for; a refusal says why there is none, or that memory ran out.
 abbrev pub Says : Result (Option Command) Refusal → Line → Type 0

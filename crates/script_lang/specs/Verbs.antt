@@ -19,14 +19,14 @@ use Rattle.script_lang.specs.declared.verb.ViewVerb.TheVariants as view
 use Rattle.script_lang.specs.declared.verb.ComputeVerb.TheVariants as compute
 use Rattle.script_lang.specs.declared.verb.AskVerb.TheVariants as ask
 
-abbrev pub combined : Operation → Verb
-combined operation = verb.Compute (compute.Combine operation)
+abbrev pub combining_verb : Operation → Verb
+combining_verb operation = verb.Compute (compute.Combine operation)
 
-abbrev pub transformed : UnOp → Verb
-transformed operation = verb.Compute (compute.Transform operation)
+abbrev pub transforming_verb : UnOp → Verb
+transforming_verb operation = verb.Compute (compute.Transform operation)
 
-abbrev pub reduced : Red → Verb
-reduced reduction = verb.Compute (compute.Reduce reduction)
+abbrev pub reducing_verb : Red → Verb
+reducing_verb reduction = verb.Compute (compute.Reduce reduction)
 
 -- each word that begins a command, or a value behind `X =`
 abbrev pub verbs : List (List ℕ × Verb)
@@ -52,33 +52,33 @@ verbs =
     ∷ (codes "format", verb.Ask ask.Format)
     ∷ (codes "names", verb.Ask ask.Names)
     ∷ (codes "shares", verb.Ask ask.Shares)
-    ∷ (codes "add", combined (Binary Add))
-    ∷ (codes "sub", combined (Binary Subtract))
-    ∷ (codes "mul", combined (Binary Multiply))
-    ∷ (codes "fdiv", combined (Binary FloorDivide))
-    ∷ (codes "mod", combined (Binary Modulo))
-    ∷ (codes "and", combined (Binary And))
-    ∷ (codes "or", combined (Binary Or))
-    ∷ (codes "xor", combined (Binary Xor))
-    ∷ (codes "shl", combined (Binary ShiftLeft))
-    ∷ (codes "shr", combined (Binary ShiftRight))
-    ∷ (codes "div", combined (Binary Divide))
-    ∷ (codes "eq", combined (Compare Equal))
-    ∷ (codes "ne", combined (Compare NotEqual))
-    ∷ (codes "lt", combined (Compare Less))
-    ∷ (codes "le", combined (Compare LessOrEqual))
-    ∷ (codes "gt", combined (Compare Greater))
-    ∷ (codes "ge", combined (Compare GreaterOrEqual))
-    ∷ (codes "neg", transformed Negate)
-    ∷ (codes "not", transformed Invert)
-    ∷ (codes "sum", reduced Sum)
-    ∷ (codes "prod", reduced Product)
-    ∷ (codes "min", reduced Minimum)
-    ∷ (codes "max", reduced Maximum)
-    ∷ (codes "any", reduced Any)
-    ∷ (codes "all", reduced All)
-    ∷ (codes "argmin", reduced ArgMin)
-    ∷ (codes "argmax", reduced ArgMax)
+    ∷ (codes "add", combining_verb (Binary Add))
+    ∷ (codes "sub", combining_verb (Binary Subtract))
+    ∷ (codes "mul", combining_verb (Binary Multiply))
+    ∷ (codes "fdiv", combining_verb (Binary FloorDivide))
+    ∷ (codes "mod", combining_verb (Binary Modulo))
+    ∷ (codes "and", combining_verb (Binary And))
+    ∷ (codes "or", combining_verb (Binary Or))
+    ∷ (codes "xor", combining_verb (Binary Xor))
+    ∷ (codes "shl", combining_verb (Binary ShiftLeft))
+    ∷ (codes "shr", combining_verb (Binary ShiftRight))
+    ∷ (codes "div", combining_verb (Binary Divide))
+    ∷ (codes "eq", combining_verb (Compare Equal))
+    ∷ (codes "ne", combining_verb (Compare NotEqual))
+    ∷ (codes "lt", combining_verb (Compare Less))
+    ∷ (codes "le", combining_verb (Compare LessOrEqual))
+    ∷ (codes "gt", combining_verb (Compare Greater))
+    ∷ (codes "ge", combining_verb (Compare GreaterOrEqual))
+    ∷ (codes "neg", transforming_verb Negate)
+    ∷ (codes "not", transforming_verb Invert)
+    ∷ (codes "sum", reducing_verb Sum)
+    ∷ (codes "prod", reducing_verb Product)
+    ∷ (codes "min", reducing_verb Minimum)
+    ∷ (codes "max", reducing_verb Maximum)
+    ∷ (codes "any", reducing_verb Any)
+    ∷ (codes "all", reducing_verb All)
+    ∷ (codes "argmin", reducing_verb ArgMin)
+    ∷ (codes "argmax", reducing_verb ArgMax)
     ∷ []
 
 -- what stands beside the word in a table

@@ -2,7 +2,7 @@
 ghost use Rattle.std.specs.Prelude.{◌≡◌, ◌≤◌, length};
 ghost use Rattle.script_lang.specs.Commands.{load_at, verb_value_at, value_at, bind_at, ask_at, verb_command_at, form_at, command_at};
 ghost use Rattle.script_lang.specs.Lines.{is_silent, line_of};
-ghost use Rattle.script_lang.specs.Reading.{Scans, Reads, Says, value_room, needs_room};
+ghost use Rattle.script_lang.specs.Reading.{Scans, Reads, Says, value_room, parts_take_memory};
 
 mod classes;
 mod computations;
@@ -85,7 +85,7 @@ fn value(alloc: Global, bytes: &[u8]) -> Result<(Value, &[u8]), Refusal>
 /// `X = ..`
 #[tactic(auto, unfolding(crate::specs::Commands::bind_at), using(crate::proofs::Commands::bind_room))]
 fn bind(alloc: Global, bytes: &[u8]) -> Result<(Command, &[u8]), Refusal>
-    ensures { Reads (λ r. (r.0, r.1.now)) (λ r. needs_room r.0) result (bind_at bytes.now) }
+    ensures { Reads (λ r. (r.0, r.1.now)) (λ r. parts_take_memory r.0) result (bind_at bytes.now) }
 {
     let (name, rest) = name(bytes).ok_or(Refusal::Syntax)?;
     let rest = symbol(b'=', rest).ok_or(Refusal::Syntax)?;
@@ -97,7 +97,7 @@ fn bind(alloc: Global, bytes: &[u8]) -> Result<(Command, &[u8]), Refusal>
 /// The command that the verb begins.
 #[tactic(auto, unfolding(crate::specs::Commands::ask_at))]
 fn verb_command(alloc: Global, verb: Verb, bytes: &[u8]) -> Result<(Command, &[u8]), Refusal>
-    ensures { Reads (λ r. (r.0, r.1.now)) (λ r. needs_room r.0) result (verb_command_at verb bytes.now) }
+    ensures { Reads (λ r. (r.0, r.1.now)) (λ r. parts_take_memory r.0) result (verb_command_at verb bytes.now) }
 {
     match verb {
         Verb::Set => set(alloc, bytes),
@@ -116,7 +116,7 @@ fn verb_command(alloc: Global, verb: Verb, bytes: &[u8]) -> Result<(Command, &[u
 /// The command that comes first, and what follows it.
 #[tactic(auto, unfolding(crate::specs::Commands::form_at))]
 fn form(alloc: Global, line: &[u8]) -> Result<(Command, &[u8]), Refusal>
-    ensures { Reads (λ r. (r.0, r.1.now)) (λ r. needs_room r.0) result (form_at line.now) }
+    ensures { Reads (λ r. (r.0, r.1.now)) (λ r. parts_take_memory r.0) result (form_at line.now) }
 {
     let (word, rest) = word(line).ok_or(Refusal::Syntax)?;
     match verb(word) {
@@ -128,7 +128,7 @@ fn form(alloc: Global, line: &[u8]) -> Result<(Command, &[u8]), Refusal>
 /// The command that the whole line spells.
 #[tactic(auto, unfolding(crate::specs::Commands::command_at), using(crate::proofs::Commands::whole_line_room))]
 fn command(alloc: Global, line: &[u8]) -> Result<Command, Refusal>
-    ensures { Reads (λ c. c) needs_room result (command_at line.now) }
+    ensures { Reads (λ c. c) parts_take_memory result (command_at line.now) }
 {
     let (command, rest) = form(alloc, line)?;
     if !is_at_end(rest) {

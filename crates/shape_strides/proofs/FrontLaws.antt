@@ -8,7 +8,7 @@ use Rattle.shape_strides.specs.declared.runs.Run.{Run}
 use Rattle.shape_strides.specs.Indexes.{count}
 use Rattle.shape_strides.specs.Addresses.{natural}
 use Rattle.shape_strides.specs.Layouts.{address}
-use Rattle.shape_strides.specs.Joined.{strided_axes, joined}
+use Rattle.shape_strides.specs.Joined.{strided_axes, all_joined}
 use Rattle.shape_strides.specs.Runs.{run_along, runs_from}
 use Rattle.shape_strides.specs.PairWalks.{IsInBytes}
 use Rattle.shape_strides.specs.inside.Starts.{lengths_of}
@@ -31,7 +31,7 @@ runs_from-front at (axis ∷ inner ∷ front) run =
 
 -- ---- each address lies within the limit
 
-pub in_bytes : (l : Layout) → Each IsInBytes (addresses (pos l.offset) (joined (strided_axes l.strides l.shape)))
+pub in_bytes : (l : Layout) → Each IsInBytes (addresses (pos l.offset) (all_joined (strided_axes l.strides l.shape)))
 in_bytes l =
     let same = addresses-joined (pos l.offset) (strided_axes l.strides l.shape) ∙ addresses-indexes (pos l.offset) l.strides l.shape l.one_stride_an_axis in
     subst (Each IsInBytes) (sym same) (Each-indexes IsInBytes (address l) l.shape (λ index in'. (l.within_limit.from_zero index in', l.within_limit.within index in')))
@@ -46,5 +46,5 @@ lengths-low (n ∷ lengths) top some low =
     let rest : 1 * count lengths ≤ n * count lengths = mul-le-mul_right (count lengths) both.0 in
     (omega arith, lengths-low lengths top both.1 (omega arith))
 
-pub count-whole : (l : Layout) → count (lengths_of (joined (strided_axes l.strides l.shape))) ≡ count l.shape
+pub count-whole : (l : Layout) → count (lengths_of (all_joined (strided_axes l.strides l.shape))) ≡ count l.shape
 count-whole l = count-joined (strided_axes l.strides l.shape) ∙ ap count (lengths_of-axes l.strides l.shape l.one_stride_an_axis)

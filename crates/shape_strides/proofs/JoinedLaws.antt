@@ -15,7 +15,7 @@ use Rattle.shape_strides.specs.declared.joined.StridedAxis.{StridedAxis}
 use Rattle.shape_strides.specs.Indexes.{indexes}
 use Rattle.shape_strides.specs.Addresses.{dot, natural}
 use Rattle.shape_strides.specs.Layouts.{address, offsets}
-use Rattle.shape_strides.specs.Joined.{strided_axes, leads_over, join_outside, joined}
+use Rattle.shape_strides.specs.Joined.{strided_axes, leads_over, join_outside, all_joined}
 
 -- ---- lists
 
@@ -73,10 +73,10 @@ addresses-join_outside at axis (inner ∷ axes) =
     cond_both (axis.len == 1) (inner ∷ axes) _ (λ made. addresses at made ≡ addresses at (axis ∷ inner ∷ axes)) (λ one. addresses-single at axis (inner ∷ axes) (eqb-true axis.len 1 one)) (λ _.
     cond_both (leads_over axis inner) (merged ∷ axes) (axis ∷ inner ∷ axes) (λ made. addresses at made ≡ addresses at (axis ∷ inner ∷ axes)) (λ over. addresses-merged at axis inner axes ((Decides-int_eq axis.stride (inner.stride *ℤ pos inner.len)).0 over)) (λ _. refl))
 
-pub addresses-joined : (at : ℤ) (axes : List StridedAxis) → addresses at (joined axes) ≡ addresses at axes
+pub addresses-joined : (at : ℤ) (axes : List StridedAxis) → addresses at (all_joined axes) ≡ addresses at axes
 addresses-joined at [] = refl
 addresses-joined at (axis ∷ axes) =
-    addresses-join_outside at axis (joined axes) ∙ flat_map_same (λ next. addresses next (joined axes)) (λ next. addresses next axes) (λ next. addresses-joined next axes) (numbers_from at axis.stride axis.len)
+    addresses-join_outside at axis (all_joined axes) ∙ flat_map_same (λ next. addresses next (all_joined axes)) (λ next. addresses next axes) (λ next. addresses-joined next axes) (numbers_from at axis.stride axis.len)
 
 -- ---- the addresses of a layout
 
@@ -97,5 +97,5 @@ unfolding offsets
 offsets-addresses l =
     sym (ap (map natural) (addresses-indexes (pos l.offset) l.strides l.shape l.one_stride_an_axis) ∙ map-map natural (address l) (indexes l.shape))
 
-pub offsets-joined : (l : Layout) → offsets l ≡ map natural (addresses (pos l.offset) (joined (strided_axes l.strides l.shape)))
+pub offsets-joined : (l : Layout) → offsets l ≡ map natural (addresses (pos l.offset) (all_joined (strided_axes l.strides l.shape)))
 offsets-joined l = offsets-addresses l ∙ ap (map natural) (sym (addresses-joined (pos l.offset) (strided_axes l.strides l.shape)))

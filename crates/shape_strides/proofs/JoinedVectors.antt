@@ -1,52 +1,52 @@
 -- Axes that join, and the runs of arrays, at arrays whose shapes and strides NumPy gives.
 use Rattle.std.proofs.Common.{◌≡◌, pos, negsuc, [], ◌∷◌, refl, arith, lit≤}
 use Rattle.shape_strides.specs.declared.layout.Layout.{Layout}
-use Rattle.shape_strides.specs.Joined.{strided_axes, joined}
+use Rattle.shape_strides.specs.Joined.{strided_axes, all_joined}
 use Rattle.shape_strides.specs.Runs.{runs}
 use Rattle.shape_strides.specs.RunPairs.{run_pairs}
 use Rattle.shape_strides.proofs.ReachLaws.{LieWithin-from_reach}
 
 -- `a = numpy.zeros((2, 3, 4), "<i4")`, whose strides are (48, 16, 4)
-c_order : joined (strided_axes (pos 48 ∷ pos 16 ∷ pos 4 ∷ []) (2 ∷ 3 ∷ 4 ∷ [])) ≡ record { len = 24; stride = pos 4 } ∷ []
+c_order : all_joined (strided_axes (pos 48 ∷ pos 16 ∷ pos 4 ∷ []) (2 ∷ 3 ∷ 4 ∷ [])) ≡ record { len = 24; stride = pos 4 } ∷ []
 c_order = refl
 
 -- `a[:, :, :2]`
-shortened : joined (strided_axes (pos 48 ∷ pos 16 ∷ pos 4 ∷ []) (2 ∷ 3 ∷ 2 ∷ [])) ≡ record { len = 6; stride = pos 16 } ∷ record { len = 2; stride = pos 4 } ∷ []
+shortened : all_joined (strided_axes (pos 48 ∷ pos 16 ∷ pos 4 ∷ []) (2 ∷ 3 ∷ 2 ∷ [])) ≡ record { len = 6; stride = pos 16 } ∷ record { len = 2; stride = pos 4 } ∷ []
 shortened = refl
 
 -- `a[:, :2]`
-middle_shortened : joined (strided_axes (pos 48 ∷ pos 16 ∷ pos 4 ∷ []) (2 ∷ 2 ∷ 4 ∷ [])) ≡ record { len = 2; stride = pos 48 } ∷ record { len = 8; stride = pos 4 } ∷ []
+middle_shortened : all_joined (strided_axes (pos 48 ∷ pos 16 ∷ pos 4 ∷ []) (2 ∷ 2 ∷ 4 ∷ [])) ≡ record { len = 2; stride = pos 48 } ∷ record { len = 8; stride = pos 4 } ∷ []
 middle_shortened = refl
 
 -- `a.T`
-transposed_axes : joined (strided_axes (pos 4 ∷ pos 16 ∷ pos 48 ∷ []) (4 ∷ 3 ∷ 2 ∷ [])) ≡ record { len = 4; stride = pos 4 } ∷ record { len = 3; stride = pos 16 } ∷ record { len = 2; stride = pos 48 } ∷ []
+transposed_axes : all_joined (strided_axes (pos 4 ∷ pos 16 ∷ pos 48 ∷ []) (4 ∷ 3 ∷ 2 ∷ [])) ≡ record { len = 4; stride = pos 4 } ∷ record { len = 3; stride = pos 16 } ∷ record { len = 2; stride = pos 48 } ∷ []
 transposed_axes = refl
 
 -- `a[::-1, ::-1, ::-1]`, and `a[::-1]`
-all_backwards : joined (strided_axes (negsuc 47 ∷ negsuc 15 ∷ negsuc 3 ∷ []) (2 ∷ 3 ∷ 4 ∷ [])) ≡ record { len = 24; stride = negsuc 3 } ∷ []
+all_backwards : all_joined (strided_axes (negsuc 47 ∷ negsuc 15 ∷ negsuc 3 ∷ []) (2 ∷ 3 ∷ 4 ∷ [])) ≡ record { len = 24; stride = negsuc 3 } ∷ []
 all_backwards = refl
 
-first_backwards : joined (strided_axes (negsuc 47 ∷ pos 16 ∷ pos 4 ∷ []) (2 ∷ 3 ∷ 4 ∷ [])) ≡ record { len = 2; stride = negsuc 47 } ∷ record { len = 12; stride = pos 4 } ∷ []
+first_backwards : all_joined (strided_axes (negsuc 47 ∷ pos 16 ∷ pos 4 ∷ []) (2 ∷ 3 ∷ 4 ∷ [])) ≡ record { len = 2; stride = negsuc 47 } ∷ record { len = 12; stride = pos 4 } ∷ []
 first_backwards = refl
 
 -- `numpy.broadcast_to(0, (2, 3))`, and `numpy.broadcast_to(numpy.zeros(3, "<i4"), (2, 3))`
-one_item_stretched : joined (strided_axes (pos 0 ∷ pos 0 ∷ []) (2 ∷ 3 ∷ [])) ≡ record { len = 6; stride = pos 0 } ∷ []
+one_item_stretched : all_joined (strided_axes (pos 0 ∷ pos 0 ∷ []) (2 ∷ 3 ∷ [])) ≡ record { len = 6; stride = pos 0 } ∷ []
 one_item_stretched = refl
 
-row_stretched : joined (strided_axes (pos 0 ∷ pos 4 ∷ []) (2 ∷ 3 ∷ [])) ≡ record { len = 2; stride = pos 0 } ∷ record { len = 3; stride = pos 4 } ∷ []
+row_stretched : all_joined (strided_axes (pos 0 ∷ pos 4 ∷ []) (2 ∷ 3 ∷ [])) ≡ record { len = 2; stride = pos 0 } ∷ record { len = 3; stride = pos 4 } ∷ []
 row_stretched = refl
 
 -- `a[:, :1]`, and with odd strides for all axes of length 1, as `numpy.lib.stride_tricks.as_strided` takes them
-middle_single : joined (strided_axes (pos 48 ∷ pos 16 ∷ pos 4 ∷ []) (2 ∷ 1 ∷ 4 ∷ [])) ≡ record { len = 2; stride = pos 48 } ∷ record { len = 4; stride = pos 4 } ∷ []
+middle_single : all_joined (strided_axes (pos 48 ∷ pos 16 ∷ pos 4 ∷ []) (2 ∷ 1 ∷ 4 ∷ [])) ≡ record { len = 2; stride = pos 48 } ∷ record { len = 4; stride = pos 4 } ∷ []
 middle_single = refl
 
-single_axes : joined (strided_axes (pos 5 ∷ pos 16 ∷ negsuc 6 ∷ pos 4 ∷ pos 9 ∷ []) (1 ∷ 3 ∷ 1 ∷ 4 ∷ 1 ∷ [])) ≡ record { len = 12; stride = pos 4 } ∷ []
+single_axes : all_joined (strided_axes (pos 5 ∷ pos 16 ∷ negsuc 6 ∷ pos 4 ∷ pos 9 ∷ []) (1 ∷ 3 ∷ 1 ∷ 4 ∷ 1 ∷ [])) ≡ record { len = 12; stride = pos 4 } ∷ []
 single_axes = refl
 
-one_item : joined (strided_axes (pos 5 ∷ negsuc 6 ∷ []) (1 ∷ 1 ∷ [])) ≡ []
+one_item : all_joined (strided_axes (pos 5 ∷ negsuc 6 ∷ []) (1 ∷ 1 ∷ [])) ≡ []
 one_item = refl
 
-no_axis : joined (strided_axes [] []) ≡ []
+no_axis : all_joined (strided_axes [] []) ≡ []
 no_axis = refl
 
 -- the runs of `numpy.zeros((2, 3), "<i4")[:, :2]`

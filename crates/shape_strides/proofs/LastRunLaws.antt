@@ -10,7 +10,7 @@ use Rattle.shape_strides.specs.declared.runs.Run.{Run}
 use Rattle.shape_strides.specs.Limits.{max_items, max_bytes}
 use Rattle.shape_strides.specs.Indexes.{count, indexes, IsIndex}
 use Rattle.shape_strides.specs.Addresses.{dot, natural, address_at}
-use Rattle.shape_strides.specs.Joined.{strided_axes, leads_over, join_outside, joined}
+use Rattle.shape_strides.specs.Joined.{strided_axes, leads_over, join_outside, all_joined}
 use Rattle.shape_strides.specs.Runs.{run_along, runs_from, runs}
 use Rattle.shape_strides.specs.Walks.{AreAxes, offsets_at}
 use Rattle.shape_strides.specs.inside.AxisIndexes.{padded}
@@ -38,7 +38,7 @@ join-before axis (inner ∷ front) last some =
     cond-false (axis.len == 1) whole _ other
     ∙ cond_both (leads_over axis inner) (merged ∷ front) (axis ∷ inner ∷ front) (λ made. cond (leads_over axis inner) (merged ∷ (front ++ last ∷ [])) (axis ∷ whole) ≡ made ++ last ∷ []) (λ over. cond-true (leads_over axis inner) (merged ∷ (front ++ last ∷ [])) (axis ∷ whole) over) (λ apart. cond-false (leads_over axis inner) (merged ∷ (front ++ last ∷ [])) (axis ∷ whole) apart))
 
-last_split : (strides : List ℤ) (lengths : List ℕ) (j : ℕ) (along : StridedAxis) → length strides ≡ length lengths → j < length lengths → 2 ≤ get_or lengths j 0 → joined (strided_axes (drop j strides) (drop j lengths)) ≡ record { len = get_or lengths j 0; stride = get_or strides j (pos 0) } ∷ along ∷ [] → joined (strided_axes strides lengths) ≡ joined (strided_axes (take (suc j) strides) (take (suc j) lengths)) ++ along ∷ []
+last_split : (strides : List ℤ) (lengths : List ℕ) (j : ℕ) (along : StridedAxis) → length strides ≡ length lengths → j < length lengths → 2 ≤ get_or lengths j 0 → all_joined (strided_axes (drop j strides) (drop j lengths)) ≡ record { len = get_or lengths j 0; stride = get_or strides j (pos 0) } ∷ along ∷ [] → all_joined (strided_axes strides lengths) ≡ all_joined (strided_axes (take (suc j) strides) (take (suc j) lengths)) ++ along ∷ []
 last_split [] [] j along same below long two = absurd (omega arith)
 last_split [] (n ∷ lengths) j along same below long two = absurd (omega arith)
 last_split (s ∷ strides) [] j along same below long two = absurd (omega arith)
@@ -48,7 +48,7 @@ last_split (s ∷ strides) (n ∷ lengths) zero along same below long two =
 last_split (s ∷ strides) (n ∷ lengths) (suc j) along same below long two =
     let axis : StridedAxis = record { len = n; stride = s } in
     let later = last_split strides lengths j along (omega arith) (omega arith) long two in
-    let front = joined (strided_axes (take (suc j) strides) (take (suc j) lengths)) in
+    let front = all_joined (strided_axes (take (suc j) strides) (take (suc j) lengths)) in
     let more = two_of_later strides lengths j (omega arith) (omega (arith, ap length two)) in
     ap (join_outside axis) later ∙ join-before axis front along (omega (arith, more, ap length later, length-append front (along ∷ [])))
 
@@ -78,13 +78,13 @@ runs-last l (suc j) along some last =
     let th = take (suc j) l.shape in
     let same : length ts ≡ length th = omega (arith, length-take (suc j) l.strides, length-take (suc j) l.shape, l.one_stride_an_axis) in
     let before : suc j - 1 ≡ j = omega arith in
-    let two = subst (λ k. joined (strided_axes (drop k l.strides) (drop k l.shape)) ≡ record { len = get_or l.shape k 0; stride = get_or l.strides k (pos 0) } ∷ along ∷ []) before (last.apart (omega arith)) in
+    let two = subst (λ k. all_joined (strided_axes (drop k l.strides) (drop k l.shape)) ≡ record { len = get_or l.shape k 0; stride = get_or l.strides k (pos 0) } ∷ along ∷ []) before (last.apart (omega arith)) in
     let long = subst (λ k. 2 ≤ get_or l.shape k 0) before (last.long (omega arith)) in
     let is = last_split l.strides l.shape j along l.one_stride_an_axis (omega (arith, last.within)) long two in
     let start : ℤ → Run = λ z. run_along along (natural z) in
     starts-are th ts l.offset along same
     ∙ ap (map start) (sym (addresses-joined (pos l.offset) (strided_axes ts th)))
-    ∙ sym (runs-some l some ∙ ap (runs_from (pos l.offset)) is ∙ runs_from-front (pos l.offset) (joined (strided_axes ts th)) along)
+    ∙ sym (runs-some l some ∙ ap (runs_from (pos l.offset)) is ∙ runs_from-front (pos l.offset) (all_joined (strided_axes ts th)) along)
 
 -- and no run where there are no items
 pub runs-empty : (l : Layout) (shape : List ℕ) (strides : List ℤ) (offset : ℕ) (along : StridedAxis) → l.shape ≡ shape → l.strides ≡ strides → l.offset ≡ offset → count l.shape ≡ 0 → map (run_along along) (offsets_at shape strides offset) ≡ runs l

@@ -15,7 +15,7 @@ use Rattle.shape_strides.specs.Limits.{max_bytes, max_items}
 use Rattle.shape_strides.specs.Indexes.{count}
 use Rattle.shape_strides.specs.Addresses.{natural}
 use Rattle.shape_strides.specs.Layouts.{offsets}
-use Rattle.shape_strides.specs.Joined.{strided_axes, joined}
+use Rattle.shape_strides.specs.Joined.{strided_axes, all_joined}
 use Rattle.shape_strides.specs.Runs.{run_offsets, runs_from, runs, GoesBy}
 use Rattle.shape_strides.specs.RunPairs.{run_front, run_after, cut, paired, all_offsets, pairs, pairs_left, run_pairs}
 use Rattle.shape_strides.specs.inside.Starts.{lengths_of}
@@ -206,7 +206,7 @@ whole-runs l items =
           let axes = strided_axes l.strides l.shape in
           let done = IsJoined-joined axes (HasItems-axes l.strides l.shape some) in
           let size = count-whole l in
-          subst AreWhole (sym (runs-some l some)) (runs_from-whole (pos l.offset) (joined axes) (HasItems-joined (joined axes) done) (lengths-low (lengths_of (joined axes)) max_items (omega arith) (omega arith)) (in_bytes l))
+          subst AreWhole (sym (runs-some l some)) (runs_from-whole (pos l.offset) (all_joined axes) (HasItems-joined (all_joined axes) done) (lengths-low (lengths_of (all_joined axes)) max_items (omega arith) (omega arith)) (in_bytes l))
       | inr above ↦ let none : count l.shape ≡ 0 = omega arith in subst AreWhole (sym (runs-none l none)) tt
     ]
 

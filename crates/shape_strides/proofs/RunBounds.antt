@@ -12,7 +12,7 @@ use Rattle.shape_strides.specs.declared.runs.Run.{Run}
 use Rattle.shape_strides.specs.Indexes.{count, IsIndex}
 use Rattle.shape_strides.specs.Addresses.{natural, address_at, LieWithin}
 use Rattle.shape_strides.specs.Layouts.{address, Fits}
-use Rattle.shape_strides.specs.Joined.{strided_axes, joined}
+use Rattle.shape_strides.specs.Joined.{strided_axes, all_joined}
 use Rattle.shape_strides.specs.Runs.{runs_from, runs}
 use Rattle.shape_strides.specs.RunPairs.{run_front, run_after, cut, paired, all_offsets, run_pairs}
 use Rattle.shape_strides.specs.LayoutLaws.{pos-natural}
@@ -56,7 +56,7 @@ runs-within l len item fits =
     let same = addresses-joined (pos l.offset) (strided_axes l.strides l.shape) ∙ addresses-indexes (pos l.offset) l.strides l.shape l.one_stride_an_axis in
     let all = subst (Each (IsWithin len item)) (sym same) (Each-indexes (IsWithin len item) (address l) l.shape (λ index in'. (fits.from_zero index in', fits.within index in'))) in
     elim (cases_lt 0 (count l.shape)) [
-      | inl some ↦ subst (Each (IsRunWithin len item)) (sym (runs-some l some)) (runs_from-within len item (pos l.offset) (joined (strided_axes l.strides l.shape)) all)
+      | inl some ↦ subst (Each (IsRunWithin len item)) (sym (runs-some l some)) (runs_from-within len item (pos l.offset) (all_joined (strided_axes l.strides l.shape)) all)
       | inr above ↦ let none : count l.shape ≡ 0 = omega arith in subst (Each (IsRunWithin len item)) (sym (runs-none l none)) tt
     ]
 

@@ -14,7 +14,7 @@ use Rattle.shape_strides.specs.declared.runs.Run.{Run}
 use Rattle.shape_strides.specs.Indexes.{count, indexes, IsIndex}
 use Rattle.shape_strides.specs.Addresses.{natural}
 use Rattle.shape_strides.specs.Layouts.{address, offsets}
-use Rattle.shape_strides.specs.Joined.{strided_axes, leads_over, join_outside, joined}
+use Rattle.shape_strides.specs.Joined.{strided_axes, leads_over, join_outside, all_joined}
 use Rattle.shape_strides.specs.Runs.{run_offsets, runs_from, runs, GoesBy}
 use Rattle.shape_strides.specs.IndexLaws.{index_at, length-indexes, get_or-indexes}
 use Rattle.shape_strides.specs.LayoutLaws.{pos-natural, offsets-none}
@@ -46,7 +46,7 @@ Each-indexes P f shape holds = recursion_from_All P (map f (indexes shape)) (λ 
 abbrev pub NoneBelow : List ℤ → Type 0
 NoneBelow = Each (λ z. pos 0 ≤ℤ z)
 
-pub none_below : (l : Layout) → NoneBelow (addresses (pos l.offset) (joined (strided_axes l.strides l.shape)))
+pub none_below : (l : Layout) → NoneBelow (addresses (pos l.offset) (all_joined (strided_axes l.strides l.shape)))
 none_below l =
     let same = addresses-joined (pos l.offset) (strided_axes l.strides l.shape) ∙ addresses-indexes (pos l.offset) l.strides l.shape l.one_stride_an_axis in
     subst NoneBelow (sym same) (Each-indexes (λ z. pos 0 ≤ℤ z) (address l) l.shape l.within_limit.from_zero)
@@ -74,13 +74,13 @@ runs_from-offsets at (axis ∷ []) none =
 runs_from-offsets at (axis ∷ inner ∷ axes) none =
     gathered (λ next. runs_from next (inner ∷ axes)) (λ next. addresses next (inner ∷ axes)) (λ next. runs_from-offsets next (inner ∷ axes)) (numbers_from at axis.stride axis.len) none
 
-pub runs-some : (l : Layout) → 0 < count l.shape → runs l ≡ runs_from (pos l.offset) (joined (strided_axes l.strides l.shape))
+pub runs-some : (l : Layout) → 0 < count l.shape → runs l ≡ runs_from (pos l.offset) (all_joined (strided_axes l.strides l.shape))
 unfolding runs
-runs-some l some = cond-false (count l.shape == 0) [] (runs_from (pos l.offset) (joined (strided_axes l.strides l.shape))) (ne_eqb (count l.shape) 0 (λ none. omega arith))
+runs-some l some = cond-false (count l.shape == 0) [] (runs_from (pos l.offset) (all_joined (strided_axes l.strides l.shape))) (ne_eqb (count l.shape) 0 (λ none. omega arith))
 
 pub runs-none : (l : Layout) → count l.shape ≡ 0 → runs l ≡ []
 unfolding runs
-runs-none l none = cond-true (count l.shape == 0) [] (runs_from (pos l.offset) (joined (strided_axes l.strides l.shape))) (eq-eqb (count l.shape) 0 none)
+runs-none l none = cond-true (count l.shape == 0) [] (runs_from (pos l.offset) (all_joined (strided_axes l.strides l.shape))) (eq-eqb (count l.shape) 0 none)
 
 pub empty : {X : Type 0} (xs : List X) → length xs ≡ 0 → xs ≡ []
 empty [] none = refl
@@ -90,7 +90,7 @@ empty (x ∷ xs) none = absurd (omega arith)
 pub runs-offsets : (l : Layout) → flat_map run_offsets (runs l) ≡ offsets l
 runs-offsets l =
     elim (cases_lt 0 (count l.shape)) [
-      | inl some ↦ ap (flat_map run_offsets) (runs-some l some) ∙ runs_from-offsets (pos l.offset) (joined (strided_axes l.strides l.shape)) (none_below l) ∙ sym (offsets-joined l)
+      | inl some ↦ ap (flat_map run_offsets) (runs-some l some) ∙ runs_from-offsets (pos l.offset) (all_joined (strided_axes l.strides l.shape)) (none_below l) ∙ sym (offsets-joined l)
       | inr above ↦ let none : count l.shape ≡ 0 = omega arith in ap (flat_map run_offsets) (runs-none l none) ∙ sym (offsets-none l none)
     ]
 
@@ -129,9 +129,9 @@ IsJoined-join_outside axis (inner ∷ axes) some done =
     cond_both (axis.len == 1) (inner ∷ axes) _ IsJoined (λ _. done) (λ other.
     cond_both (leads_over axis inner) (merged ∷ axes) (axis ∷ inner ∷ axes) IsJoined (λ _. (times-two axis.len inner.len some done.0, IsApart-merged (axis.len * inner.len) inner axes done.1, done.2)) (λ apart. (more_than_one axis.len some other, apart, done)))
 
-pub IsJoined-joined : (axes : List StridedAxis) → HasItems axes → IsJoined (joined axes)
+pub IsJoined-joined : (axes : List StridedAxis) → HasItems axes → IsJoined (all_joined axes)
 IsJoined-joined [] some = tt
-IsJoined-joined (axis ∷ axes) some = IsJoined-join_outside axis (joined axes) some.0 (IsJoined-joined axes some.1)
+IsJoined-joined (axis ∷ axes) some = IsJoined-join_outside axis (all_joined axes) some.0 (IsJoined-joined axes some.1)
 
 -- ---- one run where the offsets go by one step
 
@@ -219,21 +219,21 @@ HasItems-axes (s ∷ strides) (n ∷ shape) some = let both = factors_pos n (cou
 pub runs-alone : (l : Layout) (step : ℤ) → 0 < count l.shape → GoesBy step (offsets l) → length (runs l) ≡ 1
 runs-alone l step some by =
     let axes = strided_axes l.strides l.shape in
-    ap length (runs-some l some) ∙ one_alone step (pos l.offset) (joined axes) (IsJoined-joined axes (HasItems-axes l.strides l.shape some)) (StepsBy-natural step (addresses (pos l.offset) (joined axes)) (none_below l) (subst (GoesBy step) (offsets-joined l) by))
+    ap length (runs-some l some) ∙ one_alone step (pos l.offset) (all_joined axes) (IsJoined-joined axes (HasItems-axes l.strides l.shape some)) (StepsBy-natural step (addresses (pos l.offset) (all_joined axes)) (none_below l) (subst (GoesBy step) (offsets-joined l) by))
 
 -- where two axes are left once all are joined, the offsets do not go by one step
-pub two_never : (l : Layout) (step : ℤ) (outer inner : StridedAxis) (axes : List StridedAxis) → 0 < count l.shape → joined (strided_axes l.strides l.shape) ≡ outer ∷ inner ∷ axes → GoesBy step (offsets l) → ⊥
+pub two_never : (l : Layout) (step : ℤ) (outer inner : StridedAxis) (axes : List StridedAxis) → 0 < count l.shape → all_joined (strided_axes l.strides l.shape) ≡ outer ∷ inner ∷ axes → GoesBy step (offsets l) → ⊥
 two_never l step outer inner axes some are by =
     let all = strided_axes l.strides l.shape in
     let at : ℤ = pos l.offset in
-    let steps = StepsBy-natural step (addresses at (joined all)) (none_below l) (subst (GoesBy step) (offsets-joined l) by) in
+    let steps = StepsBy-natural step (addresses at (all_joined all)) (none_below l) (subst (GoesBy step) (offsets-joined l) by) in
     never step at outer inner axes (subst IsJoined are (IsJoined-joined all (HasItems-axes l.strides l.shape some))) (subst (λ made. StepsBy step (addresses at made)) are steps)
 
 -- the step of offsets that are a run is the run's
-pub run_goes : (l : Layout) (step : ℤ) (axis : StridedAxis) → 2 ≤ axis.len → joined (strided_axes l.strides l.shape) ≡ axis ∷ [] → GoesBy step (offsets l) → axis.stride ≡ step
+pub run_goes : (l : Layout) (step : ℤ) (axis : StridedAxis) → 2 ≤ axis.len → all_joined (strided_axes l.strides l.shape) ≡ axis ∷ [] → GoesBy step (offsets l) → axis.stride ≡ step
 run_goes l step axis two are by =
     let all = strided_axes l.strides l.shape in
     let at : ℤ = pos l.offset in
-    let steps = StepsBy-natural step (addresses at (joined all)) (none_below l) (subst (GoesBy step) (offsets-joined l) by) in
+    let steps = StepsBy-natural step (addresses at (all_joined all)) (none_below l) (subst (GoesBy step) (offsets-joined l) by) in
     let line = subst (StepsBy step) (flat_map-id (numbers_from at axis.stride axis.len)) (subst (λ made. StepsBy step (addresses at made)) are steps) in
     first_step at step axis.stride axis.len [] two (subst (StepsBy step) (sym (append-nil (numbers_from at axis.stride axis.len))) line)

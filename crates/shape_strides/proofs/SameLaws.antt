@@ -9,7 +9,7 @@ use Rattle.shape_strides.specs.declared.joined.StridedAxis.{StridedAxis}
 use Rattle.shape_strides.specs.Indexes.{count}
 use Rattle.shape_strides.specs.Addresses.{natural}
 use Rattle.shape_strides.specs.Layouts.{offsets}
-use Rattle.shape_strides.specs.Joined.{strided_axes, joined}
+use Rattle.shape_strides.specs.Joined.{strided_axes, all_joined}
 use Rattle.shape_strides.specs.inside.Alike.{all_alike}
 use Rattle.shape_strides.specs.LayoutLaws.{pos-natural, length-offsets}
 use Rattle.shape_strides.proofs.JoinedLaws.{addresses, offsets-joined}
@@ -24,7 +24,7 @@ pos-naturals [] none = refl
 pos-naturals (z ∷ zs) none = ap (λ y. y ∷ map pos (map natural zs)) (pos-natural z none.0) ∙ ap (λ ys. z ∷ ys) (pos-naturals zs none.1)
 
 abbrev axes_of : Layout → List StridedAxis
-axes_of l = joined (strided_axes l.strides l.shape)
+axes_of l = all_joined (strided_axes l.strides l.shape)
 
 addresses-offsets : (l : Layout) → addresses (pos l.offset) (axes_of l) ≡ map pos (offsets l)
 addresses-offsets l = sym (ap (map pos) (offsets-joined l) ∙ pos-naturals (addresses (pos l.offset) (axes_of l)) (none_below l))

@@ -9,7 +9,7 @@ use Rattle.shape_strides.specs.Limits.{max_items}
 use Rattle.shape_strides.specs.Indexes.{count}
 use Rattle.shape_strides.specs.Addresses.{LieWithin}
 use Rattle.shape_strides.specs.Layouts.{offsets, Fits}
-use Rattle.shape_strides.specs.Joined.{strided_axes, leads_over, join_outside, joined}
+use Rattle.shape_strides.specs.Joined.{strided_axes, leads_over, join_outside, all_joined}
 use Rattle.shape_strides.specs.Runs.{run_offsets, run_along, runs_from, runs, GoesBy}
 use Rattle.shape_strides.specs.inside.Single.{if_long}
 use Rattle.shape_strides.specs.inside.LastRuns.{AreJoinedFrom, IsLastRun}
@@ -30,35 +30,35 @@ grows axis (inner ∷ axes) two =
     cond_both (axis.len == 1) (inner ∷ axes) _ (λ made. 2 ≤ length made) (λ _. two) (λ _.
     cond_both (leads_over axis inner) (merged ∷ axes) (axis ∷ inner ∷ axes) (λ made. 2 ≤ length made) (λ _. omega (arith, two)) (λ _. omega (arith, two)))
 
-pub two_of_later : (strides : List ℤ) (shape : List ℕ) (j : ℕ) → length strides ≡ length shape → 2 ≤ length (joined (strided_axes (drop j strides) (drop j shape))) → 2 ≤ length (joined (strided_axes strides shape))
+pub two_of_later : (strides : List ℤ) (shape : List ℕ) (j : ℕ) → length strides ≡ length shape → 2 ≤ length (all_joined (strided_axes (drop j strides) (drop j shape))) → 2 ≤ length (all_joined (strided_axes strides shape))
 two_of_later strides shape zero same two = two
 two_of_later [] [] (suc j) same two = two
 two_of_later [] (n ∷ shape) (suc j) same two = absurd (omega (arith, same))
 two_of_later (s ∷ strides) [] (suc j) same two = absurd (omega (arith, same))
-two_of_later (s ∷ strides) (n ∷ shape) (suc j) same two = grows (record { len = n; stride = s }) (joined (strided_axes strides shape)) (two_of_later strides shape j (omega (arith, same)) two)
+two_of_later (s ∷ strides) (n ∷ shape) (suc j) same two = grows (record { len = n; stride = s }) (all_joined (strided_axes strides shape)) (two_of_later strides shape j (omega (arith, same)) two)
 
-pub stay_two : (l : Layout) (strides : List ℤ) (lengths : List ℕ) (j : ℕ) (outer inner : StridedAxis) → strides ≡ l.strides → lengths ≡ l.shape → length strides ≡ length lengths → joined (strided_axes (drop j strides) (drop j lengths)) ≡ outer ∷ inner ∷ [] → 2 ≤ length (joined (strided_axes l.strides l.shape))
+pub stay_two : (l : Layout) (strides : List ℤ) (lengths : List ℕ) (j : ℕ) (outer inner : StridedAxis) → strides ≡ l.strides → lengths ≡ l.shape → length strides ≡ length lengths → all_joined (strided_axes (drop j strides) (drop j lengths)) ≡ outer ∷ inner ∷ [] → 2 ≤ length (all_joined (strided_axes l.strides l.shape))
 stay_two l strides lengths j outer inner are are' same two =
-    subst (λ s. 2 ≤ length (joined (strided_axes s l.shape))) are (subst (λ s. 2 ≤ length (joined (strided_axes strides s))) are' (two_of_later strides lengths j same (omega (arith, ap length two))))
+    subst (λ s. 2 ≤ length (all_joined (strided_axes s l.shape))) are (subst (λ s. 2 ≤ length (all_joined (strided_axes strides s))) are' (two_of_later strides lengths j same (omega (arith, ap length two))))
 
 -- then the layout is no run
-pub no_run : (l : Layout) (step : ℤ) → 0 < count l.shape → 2 ≤ length (joined (strided_axes l.strides l.shape)) → GoesBy step (offsets l) → ⊥
-no_run l step some two by = at (joined (strided_axes l.strides l.shape)) refl two
+pub no_run : (l : Layout) (step : ℤ) → 0 < count l.shape → 2 ≤ length (all_joined (strided_axes l.strides l.shape)) → GoesBy step (offsets l) → ⊥
+no_run l step some two by = at (all_joined (strided_axes l.strides l.shape)) refl two
   where
-    at : (axes : List StridedAxis) → joined (strided_axes l.strides l.shape) ≡ axes → 2 ≤ length axes → ⊥
+    at : (axes : List StridedAxis) → all_joined (strided_axes l.strides l.shape) ≡ axes → 2 ≤ length axes → ⊥
     at [] are more = absurd (omega (arith, more))
     at (axis ∷ []) are more = absurd (omega (arith, more))
     at (outer ∷ inner ∷ axes) are more = two_never l step outer inner axes some are by
 
 -- ---- an axis before those that are joined to one
 
-pub joined_before : (strides : List ℤ) (lengths : List ℕ) (k : ℕ) (along : StridedAxis) → length strides ≡ length lengths → 0 < k → k ≤ length lengths → AreJoinedFrom strides lengths k along → join_outside (record { len = get_or lengths (k - 1) 0; stride = get_or strides (k - 1) (pos 0) }) (if_long along) ≡ joined (strided_axes (drop (k - 1) strides) (drop (k - 1) lengths))
+pub joined_before : (strides : List ℤ) (lengths : List ℕ) (k : ℕ) (along : StridedAxis) → length strides ≡ length lengths → 0 < k → k ≤ length lengths → AreJoinedFrom strides lengths k along → join_outside (record { len = get_or lengths (k - 1) 0; stride = get_or strides (k - 1) (pos 0) }) (if_long along) ≡ all_joined (strided_axes (drop (k - 1) strides) (drop (k - 1) lengths))
 joined_before strides lengths zero along same some most from = absurd (omega arith)
 joined_before strides lengths (suc j) along same some most from =
     let before : suc j - 1 ≡ j = omega arith in
     rw before (ap (join_outside (record { len = get_or lengths j 0; stride = get_or strides j (pos 0) })) from.are ∙ sym (later strides lengths j same (omega (arith, most))))
   where
-    later : (strides : List ℤ) (lengths : List ℕ) (j : ℕ) → length strides ≡ length lengths → j < length lengths → joined (strided_axes (drop j strides) (drop j lengths)) ≡ join_outside (record { len = get_or lengths j 0; stride = get_or strides j (pos 0) }) (joined (strided_axes (drop (suc j) strides) (drop (suc j) lengths)))
+    later : (strides : List ℤ) (lengths : List ℕ) (j : ℕ) → length strides ≡ length lengths → j < length lengths → all_joined (strided_axes (drop j strides) (drop j lengths)) ≡ join_outside (record { len = get_or lengths j 0; stride = get_or strides j (pos 0) }) (all_joined (strided_axes (drop (suc j) strides) (drop (suc j) lengths)))
     later [] [] j same below = absurd (omega arith)
     later [] (n ∷ lengths) j same below = absurd (omega (arith, same))
     later (s ∷ strides) [] j same below = absurd (omega (arith, same))
@@ -108,7 +108,7 @@ outside_no_run l outside along step items last some by =
 
 -- ---- the run
 
-pub is_axis : (l : Layout) (along : StridedAxis) → 2 ≤ count l.shape → AreJoinedFrom l.strides l.shape 0 along → joined (strided_axes l.strides l.shape) ≡ along ∷ []
+pub is_axis : (l : Layout) (along : StridedAxis) → 2 ≤ count l.shape → AreJoinedFrom l.strides l.shape 0 along → all_joined (strided_axes l.strides l.shape) ≡ along ∷ []
 is_axis l along two from = sym from.are ∙ long_axis along (omega (arith, two, from.items))
 
 pub is_run : (l : Layout) (along : StridedAxis) → 2 ≤ count l.shape → AreJoinedFrom l.strides l.shape 0 along → runs l ≡ run_along along l.offset ∷ []

@@ -5,7 +5,7 @@ use Rattle.std.proofs.lemmas.List.{reverse-append, length-map}
 use Rattle.shape_strides.specs.declared.joined.StridedAxis.{StridedAxis}
 use Rattle.shape_strides.specs.Limits.{max_items}
 use Rattle.shape_strides.specs.Indexes.{count}
-use Rattle.shape_strides.specs.Joined.{strided_axes, leads_over, join_outside, joined}
+use Rattle.shape_strides.specs.Joined.{strided_axes, leads_over, join_outside, all_joined}
 use Rattle.shape_strides.specs.inside.Starts.{lengths_of}
 use Rattle.shape_strides.specs.CountLaws.{factors_pos, count-drop}
 
@@ -20,9 +20,9 @@ count-join_outside axis (inner ∷ axes) =
     cond_both (axis.len == 1) (inner ∷ axes) _ (λ made. count (lengths_of made) ≡ axis.len * c) (λ single. sym (ap (λ n. n * c) (eqb-true axis.len 1 single) ∙ one-mul c)) (λ _.
     cond_both (leads_over axis inner) (merged ∷ axes) (axis ∷ inner ∷ axes) (λ made. count (lengths_of made) ≡ axis.len * c) (λ _. mul_assoc axis.len inner.len (count (lengths_of axes))) (λ _. refl))
 
-pub count-joined : (axes : List StridedAxis) → count (lengths_of (joined axes)) ≡ count (lengths_of axes)
+pub count-joined : (axes : List StridedAxis) → count (lengths_of (all_joined axes)) ≡ count (lengths_of axes)
 count-joined [] = refl
-count-joined (axis ∷ axes) = count-join_outside axis (joined axes) ∙ ap (λ c. axis.len * c) (count-joined axes)
+count-joined (axis ∷ axes) = count-join_outside axis (all_joined axes) ∙ ap (λ c. axis.len * c) (count-joined axes)
 
 pub lengths_of-axes : (strides : List ℤ) (shape : List ℕ) → length strides ≡ length shape → lengths_of (strided_axes strides shape) ≡ shape
 lengths_of-axes [] [] same = refl
@@ -67,12 +67,12 @@ count-later (n ∷ lengths) (suc j) some =
 pub record StandsBefore (strides : List ℤ) (lengths : List ℕ) (j : ℕ) (axes : List StridedAxis) : Type 0 where
   pub one_each : length strides ≡ length lengths
   pub below : j < length lengths
-  pub are : reverse axes ≡ joined (strided_axes (drop (j + 1) strides) (drop (j + 1) lengths))
+  pub are : reverse axes ≡ all_joined (strided_axes (drop (j + 1) strides) (drop (j + 1) lengths))
 
-pub stands_before_axis : (strides : List ℤ) (lengths : List ℕ) (k : ℕ) (axes : List StridedAxis) → length strides ≡ length lengths → 0 < k → k ≤ length lengths → reverse axes ≡ joined (strided_axes (drop k strides) (drop k lengths)) → StandsBefore strides lengths (k - 1) axes
+pub stands_before_axis : (strides : List ℤ) (lengths : List ℕ) (k : ℕ) (axes : List StridedAxis) → length strides ≡ length lengths → 0 < k → k ≤ length lengths → reverse axes ≡ all_joined (strided_axes (drop k strides) (drop k lengths)) → StandsBefore strides lengths (k - 1) axes
 stands_before_axis strides lengths k axes same some most are =
     let next : k ≡ k - 1 + 1 = omega arith in
-    record { one_each = same; below = omega arith; are = are ∙ ap (λ i. joined (strided_axes (drop i strides) (drop i lengths))) next }
+    record { one_each = same; below = omega arith; are = are ∙ ap (λ i. all_joined (strided_axes (drop i strides) (drop i lengths))) next }
 
 put-count : (strides : List ℤ) (lengths : List ℕ) (j : ℕ) (axes : List StridedAxis) → StandsBefore strides lengths j axes → get_or lengths j 0 * count (lengths_of (reverse axes)) ≡ count (drop j lengths)
 put-count strides lengths j axes s =

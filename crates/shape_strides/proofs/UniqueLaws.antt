@@ -9,7 +9,7 @@ use Rattle.std.proofs.lemmas.List.{append-nil, append_cancel_left, reverse-rever
 use Rattle.elem_descr.specs.Steps.{numbers_from}
 use Rattle.shape_strides.specs.declared.joined.StridedAxis.{StridedAxis}
 use Rattle.shape_strides.specs.Indexes.{count}
-use Rattle.shape_strides.specs.Joined.{leads_over, join_outside, joined}
+use Rattle.shape_strides.specs.Joined.{leads_over, join_outside, all_joined}
 use Rattle.shape_strides.specs.inside.Starts.{lengths_of}
 use Rattle.shape_strides.specs.CountLaws.{factors_pos}
 use Rattle.elem_descr.specs.StepLaws.{numbers-suc, numbers-split}
@@ -226,16 +226,16 @@ are_joined_onto axis (inner ∷ axes) some are =
     let two : 2 ≤ axis.len = grind (arith, eqb-false axis.len 1 more) in
     cond_both (leads_over axis inner) (merged ∷ axes) (axis ∷ inner ∷ axes) AreJoined (λ _. merged_joined axis inner axes two are) (λ not. (two, not, are)))
 
-pub are_joined : (axes : List StridedAxis) → 0 < count (lengths_of axes) → AreJoined (joined axes)
+pub are_joined : (axes : List StridedAxis) → 0 < count (lengths_of axes) → AreJoined (all_joined axes)
 are_joined [] some = tt
 are_joined (axis ∷ axes) some =
     let both = factors_pos axis.len (count (lengths_of axes)) some in
-    are_joined_onto axis (joined axes) both.0 (are_joined axes both.1)
+    are_joined_onto axis (all_joined axes) both.0 (are_joined axes both.1)
 
 -- axes that lead to the same addresses are the same when they are joined
-pub joined_same : (at : ℤ) (xs ys : List StridedAxis) → 0 < count (lengths_of xs) → 0 < count (lengths_of ys) → addresses at xs ≡ addresses at ys → joined xs ≡ joined ys
+pub joined_same : (at : ℤ) (xs ys : List StridedAxis) → 0 < count (lengths_of xs) → 0 < count (lengths_of ys) → addresses at xs ≡ addresses at ys → all_joined xs ≡ all_joined ys
 joined_same at xs ys some-x some-y same =
-    joined_unique at (joined xs) (joined ys) (are_joined xs some-x) (are_joined ys some-y) (addresses-joined at xs ∙ same ∙ sym (addresses-joined at ys))
+    joined_unique at (all_joined xs) (all_joined ys) (are_joined xs some-x) (are_joined ys some-y) (addresses-joined at xs ∙ same ∙ sym (addresses-joined at ys))
 
 -- where the axes lead first
 pub addresses-first : (at : ℤ) (axes : List StridedAxis) → AreJoined axes → (rest : List ℤ) × (addresses at axes ≡ at ∷ rest)

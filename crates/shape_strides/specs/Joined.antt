@@ -18,6 +18,6 @@ join_outside axis [] = if axis.len == 1 then [] else axis ∷ []
 join_outside axis (inner ∷ axes) = if axis.len == 1 then inner ∷ axes else if leads_over axis inner then record { len = axis.len * inner.len; stride = inner.stride } ∷ axes else axis ∷ inner ∷ axes
 
 -- all axes joined, from the last one to the first
-abbrev pub joined : List StridedAxis → List StridedAxis
-joined [] = []
-joined (axis ∷ axes) = join_outside axis (joined axes)
+abbrev pub all_joined : List StridedAxis → List StridedAxis
+all_joined [] = []
+all_joined (axis ∷ axes) = join_outside axis (all_joined axes)

@@ -7,7 +7,7 @@ use Rattle.shape_strides.specs.declared.joined.StridedAxis.{StridedAxis}
 use Rattle.shape_strides.specs.declared.runs.Run.{Run}
 use Rattle.shape_strides.specs.Indexes.{count}
 use Rattle.shape_strides.specs.Addresses.{natural}
-use Rattle.shape_strides.specs.Joined.{strided_axes, joined}
+use Rattle.shape_strides.specs.Joined.{strided_axes, all_joined}
 
 -- the offsets of a run's items
 abbrev pub run_offsets : Run → List ℕ
@@ -25,7 +25,7 @@ runs_from at (axis ∷ inner ∷ axes) = flat_map (λ next. runs_from next (inne
 
 -- the runs of a layout, over its axes as they are joined; there are none without items
 unfoldable pub runs : Layout → List Run
-runs l = if count l.shape == 0 then [] else runs_from (pos l.offset) (joined (strided_axes l.strides l.shape))
+runs l = if count l.shape == 0 then [] else runs_from (pos l.offset) (all_joined (strided_axes l.strides l.shape))
 
 -- each number is the one before it and the step
 abbrev pub GoesBy : ℤ → List ℕ → Type 0

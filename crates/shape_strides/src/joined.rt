@@ -2,7 +2,7 @@
 ghost use Rattle.std.specs.Prelude.{◌≡◌, ◌*◌, ◌<◌, ◌≤◌, pos, reverse, IfOk, OnOk};
 ghost use Rattle.shape_strides.specs.Limits.{max_items};
 ghost use Rattle.shape_strides.specs.Indexes.{count};
-ghost use Rattle.shape_strides.specs.Joined.{strided_axes, leads_over, join_outside, joined};
+ghost use Rattle.shape_strides.specs.Joined.{strided_axes, leads_over, join_outside, all_joined};
 ghost use Rattle.shape_strides.specs.inside.Starts.{lengths_of};
 
 use crate::layout::Layout;
@@ -58,7 +58,7 @@ pub(crate) fn joined_axes(
     layout: &Layout,
 ) -> Result<SmallVec<StridedAxis, 8>, AllocError>
     requires { 0 < count layout.now.shape }
-    ensures { IfOk result (λ axes. reverse axes.items ≡ joined (strided_axes layout.now.strides layout.now.shape)) }
+    ensures { IfOk result (λ axes. reverse axes.items ≡ all_joined (strided_axes layout.now.strides layout.now.shape)) }
 {
     let lengths = layout.shape.as_slice();
     let strides = layout.strides.as_slice();

@@ -13,8 +13,8 @@ use Rattle.shape_strides.specs.Indexes.{count}
 use Rattle.shape_strides.specs.Shapes.{shape_of}
 use Rattle.shape_strides.specs.ShapeLaws.{shape_of-many}
 use Rattle.view_ops.specs.declared.pick.AxisPick.{AxisPick}
-use Rattle.view_ops.specs.Basics.{taken, has_step, are_on_axes, picks, shape_picked, picked_view, basic}
-use Rattle.view_ops.specs.inside.Picks.{shown, ArePicks}
+use Rattle.view_ops.specs.Basics.{axes_taken, has_step, are_on_axes, picks, shape_picked, picked_view, basic}
+use Rattle.view_ops.specs.inside.Picks.{pick_shown, ArePicks}
 use Rattle.view_ops.specs.Views.{IsViewOf, GivesView}
 use Rattle.view_ops.proofs.PickViews.{shape_of_picks, leads_of_picks, shape_of-picks}
 use Rattle.view_ops.proofs.ViewLaws.{gives_refusal}
@@ -22,7 +22,7 @@ use Rattle.view_ops.proofs.ViewLaws.{gives_refusal}
 -- ---- the view of what is picked
 
 -- the shape that is made of the lengths
-pub shape_of-picked : (shape : List ℕ) (picks : List AxisPick) → ArePicks shape picks → All (λ m. m ≤ max_items) shape → count shape ≤ max_items → shape_of (shape_of_picks picks) ≡ shape_picked (map shown picks)
+pub shape_of-picked : (shape : List ℕ) (picks : List AxisPick) → ArePicks shape picks → All (λ m. m ≤ max_items) shape → count shape ≤ max_items → shape_of (shape_of_picks picks) ≡ shape_picked (map pick_shown picks)
 unfolding shape_picked
 shape_of-picked shape picks are low small =
     elim (cases_lt max_axes (length (shape_of_picks picks))) [
@@ -38,41 +38,41 @@ from_check : (few : Bool) (shape made : List ℕ) (e : Refusal) → (do _ ← ch
 from_check true shape made e is = cc
 from_check false shape made e is = cc
 
-pub made-shape : (picks : List AxisPick) (made : List ℕ) → shape_picked (map shown picks) ≡ Ok made → made ≡ shape_of_picks picks
+pub made-shape : (picks : List AxisPick) (made : List ℕ) → shape_picked (map pick_shown picks) ≡ Ok made → made ≡ shape_of_picks picks
 unfolding shape_picked
 made-shape picks made is = from_check (nat_le (length (shape_of_picks picks)) max_axes) (shape_of_picks picks) made TooManyAxes is
 
-pub gives_picks : (old new : Layout) (picks : List AxisPick) (made : List ℕ) → shape_picked (map shown picks) ≡ Ok made → IsViewOf old new (record { shape = shape_of_picks picks; leads = leads_of_picks picks }) → GivesView old (Ok new) (picked_view (map shown picks))
+pub gives_picks : (old new : Layout) (picks : List AxisPick) (made : List ℕ) → shape_picked (map pick_shown picks) ≡ Ok made → IsViewOf old new (record { shape = shape_of_picks picks; leads = leads_of_picks picks }) → GivesView old (Ok new) (picked_view (map pick_shown picks))
 unfolding picked_view
 gives_picks old new picks made there view = rw (there ∙ ap Ok (made-shape picks made there)) view
 
-pub gives_no_shape : (old : Layout) (picks : List AxisPick) (e : Refusal) → (e ≡ OutOfMemory) ⊎ (shape_picked (map shown picks) ≡ Err e) → GivesView old (Err e) (picked_view (map shown picks))
+pub gives_no_shape : (old : Layout) (picks : List AxisPick) (e : Refusal) → (e ≡ OutOfMemory) ⊎ (shape_picked (map pick_shown picks) ≡ Err e) → GivesView old (Err e) (picked_view (map pick_shown picks))
 unfolding picked_view
-gives_no_shape old picks e (inl memory) = gives_refusal old (picked_view (map shown picks)) e (inl memory)
-gives_no_shape old picks e (inr there) = gives_refusal old (picked_view (map shown picks)) e (inr (rw there))
+gives_no_shape old picks e (inl memory) = gives_refusal old (picked_view (map pick_shown picks)) e (inl memory)
+gives_no_shape old picks e (inr there) = gives_refusal old (picked_view (map pick_shown picks)) e (inr (rw there))
 
 -- ---- a basic index
 
-pub basic-many : {A : Type 0} (shape : List ℕ) (items : List (IndexItem A)) → length shape < taken items → basic shape items ≡ Err TooManyIndices
+pub basic-many : {A : Type 0} (shape : List ℕ) (items : List (IndexItem A)) → length shape < axes_taken items → basic shape items ≡ Err TooManyIndices
 unfolding basic
 basic-many shape items many =
-    let test : nat_le (taken items) (length shape) ≡ false = grind (arith, nat_tests) in
+    let test : nat_le (axes_taken items) (length shape) ≡ false = grind (arith, nat_tests) in
     rw test
 
-pub basic-no_step : {A : Type 0} (shape : List ℕ) (items : List (IndexItem A)) → taken items ≤ length shape → list_all has_step items ≡ false → basic shape items ≡ Err ZeroStep
+pub basic-no_step : {A : Type 0} (shape : List ℕ) (items : List (IndexItem A)) → axes_taken items ≤ length shape → list_all has_step items ≡ false → basic shape items ≡ Err ZeroStep
 unfolding basic
 basic-no_step shape items few none =
-    let test : nat_le (taken items) (length shape) ≡ true = grind (arith, nat_tests) in
+    let test : nat_le (axes_taken items) (length shape) ≡ true = grind (arith, nat_tests) in
     rw (test, none)
 
-pub basic-out : {A : Type 0} (shape : List ℕ) (items : List (IndexItem A)) → taken items ≤ length shape → list_all has_step items ≡ true → are_on_axes shape items ≡ false → basic shape items ≡ Err IndexOutOfRange
+pub basic-out : {A : Type 0} (shape : List ℕ) (items : List (IndexItem A)) → axes_taken items ≤ length shape → list_all has_step items ≡ true → are_on_axes shape items ≡ false → basic shape items ≡ Err IndexOutOfRange
 unfolding basic
 basic-out shape items few steps out =
-    let test : nat_le (taken items) (length shape) ≡ true = grind (arith, nat_tests) in
+    let test : nat_le (axes_taken items) (length shape) ≡ true = grind (arith, nat_tests) in
     rw (test, steps, out)
 
-pub basic-picks : {A : Type 0} (shape : List ℕ) (items : List (IndexItem A)) → taken items ≤ length shape → list_all has_step items ≡ true → are_on_axes shape items ≡ true → basic shape items ≡ picked_view (picks shape items)
+pub basic-picks : {A : Type 0} (shape : List ℕ) (items : List (IndexItem A)) → axes_taken items ≤ length shape → list_all has_step items ≡ true → are_on_axes shape items ≡ true → basic shape items ≡ picked_view (picks shape items)
 unfolding basic
 basic-picks shape items few steps in' =
-    let test : nat_le (taken items) (length shape) ≡ true = grind (arith, nat_tests) in
+    let test : nat_le (axes_taken items) (length shape) ≡ true = grind (arith, nat_tests) in
     rw (test, steps, in')

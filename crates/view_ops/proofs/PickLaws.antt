@@ -14,8 +14,8 @@ use Rattle.view_ops.specs.declared.pick.AxisPick.{AxisPick}
 use Rattle.view_ops.specs.declared.pick.AxisPick.TheVariants.{At as AtAxis, Along as AlongAxis, New as NewAxis}
 use Rattle.view_ops.specs.declared.slice.Progression.{Progression}
 use Rattle.view_ops.specs.Slices.{slice_indices, IsRunWithin}
-use Rattle.view_ops.specs.Basics.{Placed, takes_axis, taken, width, placed, has_step, is_on_axis, are_on_axes, Pick, whole, picks_of, picks}
-use Rattle.view_ops.specs.inside.Picks.{shown, ArePicks, AddsPicks}
+use Rattle.view_ops.specs.Basics.{Placed, takes_axis, axes_taken, width, placed, has_step, is_on_axis, are_on_axes, Pick, whole, picks_of, picks}
+use Rattle.view_ops.specs.inside.Picks.{pick_shown, ArePicks, AddsPicks}
 
 -- ---- items over axes
 
@@ -54,7 +54,7 @@ numbers-whole a (suc n) = rw (one_by_one a) (ap (λ xs. a ∷ xs) (numbers-whole
 abbrev pub whole_run : ℕ → Progression
 whole_run n = record { first = 0; step = pos 1; count = n }
 
-pub shown-whole : (n : ℕ) → shown (AlongAxis (whole_run n)) ≡ whole n
+pub shown-whole : (n : ℕ) → pick_shown (AlongAxis (whole_run n)) ≡ whole n
 shown-whole n = ap Rattle.view_ops.specs.Basics.Along (numbers-whole 0 n)
 
 not_zero : pos 1 ≡ pos 0 → ⊥
@@ -69,12 +69,12 @@ within-whole n = record {
 }
 
 -- one more whole axis
-pub whole_more : (old new : List AxisPick) (axes : List ℕ) (n : ℕ) (pick : AxisPick) → ArePicks (n ∷ []) (pick ∷ []) → shown pick ≡ whole n → AddsPicks old new axes (map whole axes) → AddsPicks old (new ++ pick ∷ []) (axes ++ n ∷ []) (map whole (axes ++ n ∷ []))
+pub whole_more : (old new : List AxisPick) (axes : List ℕ) (n : ℕ) (pick : AxisPick) → ArePicks (n ∷ []) (pick ∷ []) → pick_shown pick ≡ whole n → AddsPicks old new axes (map whole axes) → AddsPicks old (new ++ pick ∷ []) (axes ++ n ∷ []) (map whole (axes ++ n ∷ []))
 whole_more old new axes n pick within is adds = record {
   added = adds.added ++ pick ∷ [];
   after = ap (λ l. l ++ pick ∷ []) adds.after ∙ append_assoc old adds.added (pick ∷ []);
   are = ArePicks-append axes (n ∷ []) adds.added (pick ∷ []) adds.are within;
-  show = map-append shown adds.added (pick ∷ []) ∙ ap (λ l. l ++ shown pick ∷ []) adds.show ∙ ap (λ p. map whole axes ++ p ∷ []) is ∙ sym (map-append whole axes (n ∷ []));
+  show = map-append pick_shown adds.added (pick ∷ []) ∙ ap (λ l. l ++ pick_shown pick ∷ []) adds.show ∙ ap (λ p. map whole axes ++ p ∷ []) is ∙ sym (map-append whole axes (n ∷ []));
 }
 
 pub adds_new : {A : Type 0} (old new : List AxisPick) (axes : List ℕ) (item : IndexItem A) → item ≡ NewItem → axes ≡ [] → new ≡ old ++ NewAxis ∷ [] → AddsPicks old new axes (picks_of axes item)
@@ -93,12 +93,12 @@ has_step-ok n start stop step has = rw has refl
 
 pub record HavePicked {A : Type 0} (shape : List ℕ) (items : List (IndexItem A)) (done : List AxisPick) (k axis : ℕ) : Type 0 where
   pub within : axis ≤ length shape
-  pub enough : taken (drop k items) ≤ length shape - axis
+  pub enough : axes_taken (drop k items) ≤ length shape - axis
   pub basic : list_all is_basic (drop k items) ≡ true
   pub steps : list_all has_step (drop k items) ≡ true
   pub in_range : are_on_axes (drop axis shape) (drop k items) ≡ true
   pub are : (more : List AxisPick) → ArePicks (drop axis shape) more → ArePicks shape (done ++ more)
-  pub show : map shown done ++ picks (drop axis shape) (drop k items) ≡ picks shape items
+  pub show : map pick_shown done ++ picks (drop axis shape) (drop k items) ≡ picks shape items
 
 -- the item at k may be picked
 pub record CanPick {A : Type 0} (shape : List ℕ) (items : List (IndexItem A)) (k axis end : ℕ) : Type 0 where
@@ -142,7 +142,7 @@ can_pick shape items done k axis end low later within is have =
       one = λ takes. omega (arith, length-slice_range shape axis end within, width_one (length shape - axis) x (drop (k + 1) items) takes);
     }
 
-pub picked_more : {A : Type 0} (shape : List ℕ) (items : List (IndexItem A)) (done new : List AxisPick) (k axis end : ℕ) → k < length items → axis ≤ end → end ≤ length shape → taken (drop (k + 1) items) ≤ length shape - end → end ≡ axis + width (length shape - axis) (get_or items k (Integer (pos 0))) (drop (k + 1) items) → HavePicked shape items done k axis → AddsPicks done new (slice_range shape axis end) (picks_of (slice_range shape axis end) (get_or items k (Integer (pos 0)))) → HavePicked shape items new (k + 1) end
+pub picked_more : {A : Type 0} (shape : List ℕ) (items : List (IndexItem A)) (done new : List AxisPick) (k axis end : ℕ) → k < length items → axis ≤ end → end ≤ length shape → axes_taken (drop (k + 1) items) ≤ length shape - end → end ≡ axis + width (length shape - axis) (get_or items k (Integer (pos 0))) (drop (k + 1) items) → HavePicked shape items done k axis → AddsPicks done new (slice_range shape axis end) (picks_of (slice_range shape axis end) (get_or items k (Integer (pos 0)))) → HavePicked shape items new (k + 1) end
 picked_more shape items done new k axis end low later within enough is have adds =
     let x = get_or items k (Integer (pos 0)) in
     let axes = slice_range shape axis end in
@@ -158,5 +158,5 @@ picked_more shape items done new k axis end low later within enough is have adds
       are = λ more are-more.
           let these : ArePicks (drop axis shape) (adds.added ++ more) = rw (drop_split shape axis end later) (ArePicks-append axes (drop end shape) adds.added more adds.are are-more) in
           rw (adds.after, append_assoc done adds.added more) (have.are (adds.added ++ more) these);
-      show = ap (λ l. map shown l ++ left) adds.after ∙ ap (λ l. l ++ left) (map-append shown done adds.added) ∙ ap (λ l. (map shown done ++ l) ++ left) adds.show ∙ append_assoc (map shown done) (picks_of axes x) left ∙ ap (λ l. map shown done ++ flat_map (λ p. picks_of p.axes p.item) l) (sym next) ∙ have.show;
+      show = ap (λ l. map pick_shown l ++ left) adds.after ∙ ap (λ l. l ++ left) (map-append pick_shown done adds.added) ∙ ap (λ l. (map pick_shown done ++ l) ++ left) adds.show ∙ append_assoc (map pick_shown done) (picks_of axes x) left ∙ ap (λ l. map pick_shown done ++ flat_map (λ p. picks_of p.axes p.item) l) (sym next) ∙ have.show;
     }

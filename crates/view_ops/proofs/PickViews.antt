@@ -23,7 +23,7 @@ use Rattle.view_ops.specs.declared.pick.AxisPick.TheVariants.{At as AtAxis, Alon
 use Rattle.view_ops.specs.declared.slice.Progression.{Progression}
 use Rattle.view_ops.specs.Slices.{run_number, run_numbers, IsRunWithin}
 use Rattle.view_ops.specs.Basics.{axis_of, picked_shape, picked_index}
-use Rattle.view_ops.specs.inside.Picks.{shown, ArePicks, first_of, axes_taken, run_stride, stride_of, picked_strides, IsSmallStep, IsSmallPick, HaveSmallSteps}
+use Rattle.view_ops.specs.inside.Picks.{pick_shown, ArePicks, first_of, axes_taken, run_stride, stride_of, picked_strides, IsSmallStep, IsSmallPick, HaveSmallSteps}
 use Rattle.view_ops.specs.Views.{view_through, IsViewOf, KeepsNested}
 use Rattle.view_ops.specs.inside.Shows.{Shows}
 use Rattle.view_ops.specs.PickLaws.{length-run, number_at, first_number}
@@ -33,10 +33,10 @@ use Rattle.view_ops.proofs.StrideLaws.{stride_along, run_number-is, run-one}
 
 -- the lengths and the leads of what is picked
 abbrev pub shape_of_picks : List AxisPick → List ℕ
-shape_of_picks picks = picked_shape (map shown picks)
+shape_of_picks picks = picked_shape (map pick_shown picks)
 
 abbrev pub leads_of_picks : List AxisPick → List ℕ → List ℕ
-leads_of_picks picks = picked_index (map shown picks)
+leads_of_picks picks = picked_index (map pick_shown picks)
 
 abbrev pub firsts : List AxisPick → List ℕ
 firsts picks = flat_map first_of picks
@@ -110,10 +110,10 @@ pub flat_map_on : {X Y : Type 0} (f : X → List Y) (xs : List X) (i : ℕ) (d :
 flat_map_on f xs i d low =
     ap (flat_map f) (take_more xs i d low) ∙ flat_map-append f (take i xs) (get_or xs i d ∷ []) ∙ ap (λ l. flat_map f (take i xs) ++ l) (append-nil (f (get_or xs i d)))
 
-pub lengths_on : (picks : List AxisPick) (i : ℕ) (d : AxisPick) → i < length picks → shape_of_picks (take (i + 1) picks) ≡ shape_of_picks (take i picks) ++ axis_of (shown (get_or picks i d))
+pub lengths_on : (picks : List AxisPick) (i : ℕ) (d : AxisPick) → i < length picks → shape_of_picks (take (i + 1) picks) ≡ shape_of_picks (take i picks) ++ axis_of (pick_shown (get_or picks i d))
 lengths_on picks i d low =
     let pick = get_or picks i d in
-    ap shape_of_picks (take_more picks i d low) ∙ ap picked_shape (map-append shown (take i picks) (pick ∷ [])) ∙ flat_map-append axis_of (map shown (take i picks)) (shown pick ∷ []) ∙ ap (λ l. shape_of_picks (take i picks) ++ l) (append-nil (axis_of (shown pick)))
+    ap shape_of_picks (take_more picks i d low) ∙ ap picked_shape (map-append pick_shown (take i picks) (pick ∷ [])) ∙ flat_map-append axis_of (map pick_shown (take i picks)) (pick_shown pick ∷ []) ∙ ap (λ l. shape_of_picks (take i picks) ++ l) (append-nil (axis_of (pick_shown pick)))
 
 -- the loop over the strides at a pick, with an axis and the picks after it
 pub record CanStep (strides : List ℤ) (axis : ℕ) (pick : AxisPick) (later : List AxisPick) : Type 0 where

@@ -20,13 +20,13 @@ takes_axis NewAxis = false
 takes_axis _ = true
 
 -- how many axes the items take, beside those of `...`
-abbrev pub taken : {A : Type 0} → List (IndexItem A) → ℕ
-taken items = count_by takes_axis items
+abbrev pub axes_taken : {A : Type 0} → List (IndexItem A) → ℕ
+axes_taken items = count_by takes_axis items
 
 -- how many of the axes that are left an item takes: `...` takes all but those of the items after it
 abbrev pub width : {A : Type 0} → ℕ → IndexItem A → List (IndexItem A) → ℕ
-width left Ellipsis later = left - taken later
-width left item later = taken (item ∷ [])
+width left Ellipsis later = left - axes_taken later
+width left item later = axes_taken (item ∷ [])
 
 -- an item, and the lengths of the axes that it takes
 pub record Placed (A : Type 0) : Type 0 where
@@ -111,7 +111,7 @@ picked_view picks = do
 -- the view that a basic index makes, or the first refusal
 unfoldable pub basic : {A : Type 0} → List ℕ → List (IndexItem A) → Result View Refusal
 basic shape items = do
-  _ ← check (nat_le (taken items) (length shape)) TooManyIndices
+  _ ← check (nat_le (axes_taken items) (length shape)) TooManyIndices
   _ ← check (list_all has_step items) ZeroStep
   _ ← check (are_on_axes shape items) IndexOutOfRange
   picked_view (picks shape items)

@@ -5,10 +5,10 @@ use Rattle.view_ops.specs.declared.pick.AxisPick.TheVariants.{At as AtAxis, Alon
 use Rattle.view_ops.specs.Slices.{run_numbers, IsRunWithin}
 use Rattle.view_ops.specs.Basics.{Pick, At, Along, New}
 
-abbrev pub shown : AxisPick → Pick
-shown (AtAxis number) = At number
-shown (AlongAxis run) = Along (run_numbers run)
-shown NewAxis = New
+abbrev pub pick_shown : AxisPick → Pick
+pick_shown (AtAxis number) = At number
+pick_shown (AlongAxis run) = Along (run_numbers run)
+pick_shown NewAxis = New
 
 -- picks of the axes of a shape, each within its axis
 abbrev pub ArePicks : List ℕ → List AxisPick → Type 0

@@ -3,7 +3,7 @@ ghost use Rattle.std.specs.Prelude.{◌≡◌, ◌+◌, ◌-◌, ◌<◌, ◌≤
 ghost use Rattle.std.specs.List.{list_all};
 ghost use Rattle.shape_strides.specs.declared.index_item.IndexItem.TheVariants.{Integer};
 ghost use Rattle.shape_strides.specs.IndexItems.{is_basic};
-ghost use Rattle.view_ops.specs.Basics.{takes_axis, taken, width, has_step};
+ghost use Rattle.view_ops.specs.Basics.{takes_axis, axes_taken, width, has_step};
 
 use shape_strides::IndexItem;
 
@@ -22,7 +22,7 @@ fn takes_axis<A>(item: &IndexItem<A>) -> bool
 
 /// How many axes the items take, beside those of `...`.
 pub(crate) fn taken<A>(items: &[IndexItem<A>]) -> usize
-    ensures { result ≡ taken items.now }
+    ensures { result ≡ axes_taken items.now }
 {
     items.iter().filter(|item| takes_axis(*item)).count()
 }
@@ -31,11 +31,11 @@ pub(crate) fn taken<A>(items: &[IndexItem<A>]) -> usize
 pub(crate) fn axes_end<A>(rank: usize, axis: usize, items: &[IndexItem<A>], k: usize) -> usize
     requires item { k < length items.now }
     requires axis { axis ≤ rank }
-    requires enough { taken (drop k items.now) ≤ rank - axis }
+    requires enough { axes_taken (drop k items.now) ≤ rank - axis }
     ensures value { result ≡ axis + width (rank - axis) (slice_index_or items.now k (Integer (pos 0))) (drop (k + 1) items.now) }
     ensures from { axis ≤ result }
     ensures within { result ≤ rank }
-    ensures enough { taken (drop (k + 1) items.now) ≤ rank - result }
+    ensures enough { axes_taken (drop (k + 1) items.now) ≤ rank - result }
 {
     match items[k] {
         IndexItem::Ellipsis => rank - taken(&items[k + 1..]),

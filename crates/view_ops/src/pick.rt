@@ -4,9 +4,9 @@ ghost use Rattle.std.specs.List.{list_all};
 ghost use Rattle.elem_descr.specs.declared.refusal.Refusal.TheVariants.{OutOfMemory};
 ghost use Rattle.shape_strides.specs.declared.index_item.IndexItem.TheVariants.{NewAxis};
 ghost use Rattle.shape_strides.specs.IndexItems.{is_basic};
-ghost use Rattle.view_ops.specs.Basics.{takes_axis, taken, has_step, is_on_axis, are_on_axes, whole, picks_of, picks};
+ghost use Rattle.view_ops.specs.Basics.{takes_axis, axes_taken, has_step, is_on_axis, are_on_axes, whole, picks_of, picks};
 ghost use Rattle.view_ops.specs.inside.Picks.{AddsPicks};
-ghost use Rattle.view_ops.specs.Picks.{shown, ArePicks};
+ghost use Rattle.view_ops.specs.Picks.{pick_shown, ArePicks};
 
 use crate::index::axes_end;
 use crate::slice::{Progression, from_front, is_place, slice_of};
@@ -35,7 +35,7 @@ fn is_in_range<A>(axes: &[usize], item: &IndexItem<A>) -> bool
 
 /// Whether each integer is within its axis.
 pub(crate) fn are_in_range<A>(lengths: &[usize], items: &[IndexItem<A>]) -> bool
-    requires { taken items.now ≤ length lengths.now }
+    requires { axes_taken items.now ≤ length lengths.now }
     ensures { result ≡ are_on_axes lengths.now items.now }
 {
     let mut axis = 0;
@@ -55,7 +55,7 @@ pub fn pick_of<A>(n: usize, item: &IndexItem<A>) -> Result<AxisPick, Refusal>
     requires basic { is_basic item.now ≡ true }
     requires step { has_step item.now ≡ true }
     requires in_range { is_on_axis (n ∷ []) item.now ≡ true }
-    ensures ok { IfOk result (λ pick. ArePicks (n ∷ []) (pick ∷ []) × (picks_of (n ∷ []) item.now ≡ shown pick ∷ [])) }
+    ensures ok { IfOk result (λ pick. ArePicks (n ∷ []) (pick ∷ []) × (picks_of (n ∷ []) item.now ≡ pick_shown pick ∷ [])) }
     ensures err { IfErr result (λ _. ⊥) }
 {
     match item {
@@ -70,7 +70,7 @@ pub fn pick_of<A>(n: usize, item: &IndexItem<A>) -> Result<AxisPick, Refusal>
 /// All numbers of an axis.
 pub fn whole_axis(n: usize) -> AxisPick
     ensures within { ArePicks (n ∷ []) (result ∷ []) }
-    ensures whole { shown result ≡ whole n }
+    ensures whole { pick_shown result ≡ whole n }
 {
     AxisPick::Along(Progression {
         first: 0,
@@ -117,12 +117,12 @@ pub(crate) fn picks_of<A>(
     lengths: &[usize],
     items: &[IndexItem<A>],
 ) -> Result<SmallVec<AxisPick, 8>, Refusal>
-    requires taken { taken items.now ≤ length lengths.now }
+    requires taken { axes_taken items.now ≤ length lengths.now }
     requires basic { list_all is_basic items.now ≡ true }
     requires steps { list_all has_step items.now ≡ true }
     requires in_range { are_on_axes lengths.now items.now ≡ true }
     ensures are { IfOk result (λ v. ArePicks lengths.now v.items) }
-    ensures shown { IfOk result (λ v. map shown v.items ≡ picks lengths.now items.now) }
+    ensures shown { IfOk result (λ v. map pick_shown v.items ≡ picks lengths.now items.now) }
     ensures err { IfErr result (λ refusal. refusal ≡ OutOfMemory) }
 {
     let mut picks = SmallVec::new(alloc);

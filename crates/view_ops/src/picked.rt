@@ -5,7 +5,7 @@ ghost use Rattle.elem_descr.specs.Refusals.{Gives};
 ghost use Rattle.shape_strides.specs.Limits.{max_axes};
 ghost use Rattle.view_ops.specs.Basics.{axis_of, picked_shape, shape_picked, picked_view};
 ghost use Rattle.view_ops.specs.inside.Picks.{first_of, axes_taken, run_stride, stride_of, picked_strides, IsSmallStep, IsSmallPick, HaveSmallSteps};
-ghost use Rattle.view_ops.specs.Picks.{shown, ArePicks};
+ghost use Rattle.view_ops.specs.Picks.{pick_shown, ArePicks};
 ghost use Rattle.view_ops.specs.Views.{GivesView, KeepsNested};
 
 use crate::pick::AxisPick;
@@ -16,7 +16,7 @@ use smallvec::SmallVec;
 use std::alloc::{AllocError, Global};
 
 fn push_length(lengths: &mut SmallVec<usize, 8>, pick: AxisPick) -> Result<(), AllocError>
-    ensures { OnOk result (lengths.new.items ≡ lengths.old.items ++ axis_of (shown pick)) }
+    ensures { OnOk result (lengths.new.items ≡ lengths.old.items ++ axis_of (pick_shown pick)) }
 {
     match pick {
         AxisPick::At(_) => Ok(()),
@@ -26,7 +26,7 @@ fn push_length(lengths: &mut SmallVec<usize, 8>, pick: AxisPick) -> Result<(), A
 }
 
 fn picked_lengths(alloc: Global, picks: &[AxisPick]) -> Result<SmallVec<usize, 8>, AllocError>
-    ensures { IfOk result (λ v. v.items ≡ picked_shape (map shown picks.now)) }
+    ensures { IfOk result (λ v. v.items ≡ picked_shape (map pick_shown picks.now)) }
 {
     let mut lengths = SmallVec::new(alloc);
     for pick in picks {
@@ -116,7 +116,7 @@ fn picked_strides(
 /// The shape of what is picked of the axes of another one.
 fn shape_picked(alloc: Global, shape: &Shape, picks: &[AxisPick]) -> Result<Shape, Refusal>
     requires { ArePicks shape.now picks.now }
-    ensures { Gives (λ s. s) result (shape_picked (map shown picks.now)) }
+    ensures { Gives (λ s. s) result (shape_picked (map pick_shown picks.now)) }
 {
     let _lengths = shape.as_slice();
     let lengths = picked_lengths(alloc, picks)?;
@@ -127,7 +127,7 @@ fn shape_picked(alloc: Global, shape: &Shape, picks: &[AxisPick]) -> Result<Shap
 /// has strides and offset 0, and an axis of less than two items has stride 0.
 pub fn with_picks(alloc: Global, layout: &Layout, picks: &[AxisPick]) -> Result<Layout, Refusal>
     requires { ArePicks layout.now.shape picks.now }
-    ensures view { GivesView layout.now result (picked_view (map shown picks.now)) }
+    ensures view { GivesView layout.now result (picked_view (map pick_shown picks.now)) }
     ensures nested { IfOk result (KeepsNested layout.now) }
 {
     let _lengths = layout.shape.as_slice();

@@ -5,7 +5,7 @@ use Rattle.elem_descr.specs.declared.refusal.Refusal.{Refusal}
 use Rattle.elem_descr.specs.declared.refusal.Refusal.TheVariants.{OutOfMemory}
 use Rattle.name_store.specs.States.{State}
 use Rattle.bench_engine.specs.Replies.{Reply, refusal}
-use Rattle.bench_engine.specs.Machine.{Choice, Outcome, IsAllowed, comes_to}
+use Rattle.bench_engine.specs.Machine.{Choice, Outcome, IsAllowed, accepted_with}
 
 -- a refusal is that of the machine, whatever it chooses, or out of memory, where that may be
 abbrev pub IsRefused : Bool → (Choice → Outcome) → Refusal → Type 0
@@ -15,7 +15,7 @@ IsRefused may_lack outcome refusal =
 -- Done as the machine does it for some choice, with the reply at the end of out; or refused, with nothing changed.
 abbrev pub CarriesOut : Bool → (Choice → Outcome) → State → State → List ℕ → List ℕ → Result (Unit {0}) Refusal → Type 0
 CarriesOut may_lack outcome old new before after (Ok _) =
-    (choice : Choice) × IsAllowed old choice × (reply : List ℕ) × (outcome choice ≡ comes_to new reply) × (after ≡ before ++ reply)
+    (choice : Choice) × IsAllowed old choice × (reply : List ℕ) × (outcome choice ≡ accepted_with new reply) × (after ≡ before ++ reply)
 CarriesOut may_lack outcome old new before after (Err refusal) =
     (new ≡ old) × StartsWith after before × IsRefused may_lack outcome refusal
 

@@ -14,7 +14,7 @@ use Rattle.elem_descr.specs.Values.{LeafValue}
 use Rattle.name_store.specs.Targets.{HasItems}
 use Rattle.name_store.specs.States.{State, Array}
 use Rattle.name_store.specs.Arrays.{descr_of, read}
-use Rattle.bench_engine.specs.Machine.{Values}
+use Rattle.bench_engine.specs.Machine.{OperandValues}
 
 -- each item lies in the block
 abbrev pub LieInside : Items → Type 0
@@ -28,19 +28,19 @@ pub record StandsFor (s : State) (array : Array) (x : Items) : Type 0 where
   pub inside : LieInside x
 
 -- they are those of an operand, also where they are stretched
-pub record Stands (v : Values) (x : Items) : Type 0 where
+pub record Stands (v : OperandValues) (x : Items) : Type 0 where
   pub descr : v.descr ≡ x.descr.now
   pub shape : v.shape ≡ x.layout.now.shape
   pub items : (target : List ℕ) → IsTrue (can_stretch v.shape target) → v.stretched_to target ≡ stretched_items x.descr.now x.block.now x.layout.now target
 
 -- so are those of a block of its own
-pub record OwnStands (v : Values) (o : Owned) : Type 0 where
+pub record OwnStands (v : OperandValues) (o : Owned) : Type 0 where
   pub descr : v.descr ≡ o.descr
   pub shape : v.shape ≡ o.layout.shape
   pub items : (target : List ℕ) → IsTrue (can_stretch v.shape target) → v.stretched_to target ≡ stretched_items o.descr o.block o.layout target
 
 -- the block has the items of the operand that is there; a refusal is the one that is there, unless memory ran out
-abbrev pub GivesStanding : Result Owned Refusal → Result Values Refusal → Type 0
+abbrev pub GivesStanding : Result Owned Refusal → Result OperandValues Refusal → Type 0
 GivesStanding (Ok o) (Ok v) = OwnStands v o
 GivesStanding (Ok o) (Err refusal) = ⊥
 GivesStanding (Err refusal) there = (refusal ≡ OutOfMemory) ⊎ (there ≡ Err refusal)

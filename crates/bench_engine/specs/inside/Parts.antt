@@ -17,7 +17,7 @@ use Rattle.bench_engine.specs.declared.part.Part.{Part}
 use Rattle.bench_engine.specs.declared.part.PartOrCopy.{PartOrCopy}
 use Rattle.bench_engine.specs.declared.part.PartOrCopy.TheVariants as given
 use Rattle.bench_engine.specs.inside.OwnContents.{held}
-use Rattle.bench_engine.specs.Machine.{ViewOrCopy, a_view, a_copy, cast_contents, copied, duplicated, seen}
+use Rattle.bench_engine.specs.Machine.{ViewOrCopy, a_view, a_copy, cast_contents, copied_contents, as_copy, seen}
 use Rattle.bench_engine.specs.declared.replies.Origin.TheVariants as origin
 use Rattle.bench_engine.specs.Replies.{bound_text}
 
@@ -48,12 +48,12 @@ SeesIn s how r result = (array : Array) → Shows s array r → GivesSeen s r.nu
 
 -- so it is the copy of its items under this shape
 abbrev pub Duplicates : List ℕ → ArrayRef → Result PartOrCopy Refusal → Type 0
-Duplicates shape r result = (s : State) (array : Array) → Shows s array r → GivesSeen s r.number result (duplicated s array shape)
+Duplicates shape r result = (s : State) (array : Array) → Shows s array r → GivesSeen s r.number result (as_copy s array shape)
 
 -- what a block holds is the copy of its items in this order, in each state that has it; a refusal is the one that is there,
 -- unless memory ran out
 abbrev pub Copies : MemoryOrder → ArrayRef → Result Owned Refusal → Type 0
-Copies order r result = (s : State) (array : Array) → Shows s array r → Gives held result (copied s array order array.shape)
+Copies order r result = (s : State) (array : Array) → Shows s array r → Gives held result (copied_contents s array order array.shape)
 
 -- what a block holds is what its items are as those of another element type, in each state that has it; a refusal is the one that
 -- is there, unless memory ran out

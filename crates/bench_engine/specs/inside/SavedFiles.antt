@@ -1,7 +1,7 @@
 -- What is answered where a file is stored.
 use Rattle.std.specs.Prelude.{◌≡◌, ℕ, List, Result, Ok, Err}
 use Rattle.elem_descr.specs.declared.refusal.Refusal.{Refusal}
-use Rattle.npy_files.specs.Stores.{Shelf}
+use Rattle.npy_files.specs.Stores.{StoreState}
 use Rattle.bench_engine.specs.StoreFaults.{store_refusal}
 use Rattle.bench_engine.specs.Saves.{Stored, MayStore}
 
@@ -10,7 +10,7 @@ refused (Ok done) = Ok done
 refused (Err fault) = Err (store_refusal fault)
 
 -- it tells some answer that the store may give
-pub record Puts (old new : Shelf) (file bytes : List ℕ) (result : Result (Unit {0}) Refusal) : Type 0 where
+pub record Puts (old new : StoreState) (file bytes : List ℕ) (result : Result (Unit {0}) Refusal) : Type 0 where
   pub stored : Stored
   pub may : MayStore old new file bytes stored
   pub tells : result ≡ refused stored

@@ -7,7 +7,7 @@ use Rattle.bench_engine.specs.declared.session.Session.{Session}
 use Rattle.bench_engine.specs.Replies.{Reply}
 use Rattle.bench_engine.specs.Lines.{lines, whole_lines, unended, trimmed}
 use Rattle.bench_engine.specs.Meanings.{limit, AnswersLine}
-use Rattle.npy_files.specs.Stores.{Shelf}
+use Rattle.npy_files.specs.Stores.{StoreState}
 use Rattle.bench_engine.specs.Worlds.{World, world}
 use Rattle.bench_engine.specs.Outside.{Outside, first_world}
 use Rattle.bench_engine.specs.inside.ReadLines.{Tells}
@@ -31,7 +31,7 @@ pub record HasRoom (s : Session) : Type 0 where
   pub out : 64 ≤ vec_capacity s.out
 
 -- The line that is held is answered, what is answered stands in out, and the next line is empty.
-pub record AnswersHeld (shelf shelf' : Shelf) (old new : Session) (answered : Option Bool) : Type 0 where
+pub record AnswersHeld (shelf shelf' : StoreState) (old new : Session) (answered : Option Bool) : Type 0 where
   pub replies : List Reply
   pub tells : Tells replies answered new.out.items
   pub answers : (piece : List ℕ) → HoldsPiece old.line piece → AnswersLine (world old.bench shelf) (trimmed piece) (world new.bench shelf') replies
@@ -70,7 +70,7 @@ pub record Fed {World : Type 0} (Answer : World → List ℕ → World → List 
   pub held : HoldsPiece s.line (unended bytes)
 
 -- The same of the machine.
-abbrev pub FedMachine : World → Shelf → Option (List ℕ) → Option (List ℕ) → List ℕ → Session → Type 0
+abbrev pub FedMachine : World → StoreState → Option (List ℕ) → Option (List ℕ) → List ℕ → Session → Type 0
 FedMachine first shelf' written written' bytes s = Fed AnswersLine first (world s.bench shelf') written written' bytes s
 
 -- What was read so far is fed to the session.

@@ -7,10 +7,10 @@ use Rattle.elem_descr.specs.declared.scalar.Scalar.{Scalar}
 use Rattle.elem_descr.specs.Fields.{Fields, no_more, scalar_field, record_field, Structure}
 
 -- what comes next in a list of fields: a scalar, the begin of a record, or its end
-abbrev pub Part : Type 0
-Part = (List ℕ × (ℕ × Scalar)) ⊎ ((List ℕ × (ℕ × ℕ)) ⊎ Unit {0})
+abbrev pub FieldStep : Type 0
+FieldStep = (List ℕ × (ℕ × Scalar)) ⊎ ((List ℕ × (ℕ × ℕ)) ⊎ Unit {0})
 
-abbrev pub parts_of : Fields → List Part → List Part
+abbrev pub parts_of : Fields → List FieldStep → List FieldStep
 parts_of no_more later = later
 parts_of (scalar_field name at scalar rest) later = inl (name, (at, scalar)) ∷ parts_of rest later
 parts_of (record_field name at size inner rest) later = inr (inl (name, (at, size))) ∷ parts_of inner (inr (inr tt) ∷ parts_of rest later)
@@ -23,17 +23,17 @@ abbrev pub others : List Fields → List Fields
 others [] = []
 others (fields ∷ stack) = stack
 
-abbrev pub add_part : Part → List Fields → List Fields
+abbrev pub add_part : FieldStep → List Fields → List Fields
 add_part (inl scalar) stack = scalar_field scalar.0 scalar.1.0 scalar.1.1 (first stack) ∷ others stack
 add_part (inr (inl opened)) stack = record_field opened.0 opened.1.0 opened.1.1 (first stack) (first (others stack)) ∷ others (others stack)
 add_part (inr (inr tt)) stack = no_more ∷ stack
 
 -- the fields that parts spell, read from their end
-abbrev pub stack_of : List Part → List Fields
+abbrev pub stack_of : List FieldStep → List Fields
 stack_of [] = no_more ∷ []
 stack_of (part ∷ parts) = add_part part (stack_of parts)
 
-stack_of-parts : (fields : Fields) (later : List Part) (stack : List Fields) → stack_of later ≡ no_more ∷ stack → stack_of (parts_of fields later) ≡ fields ∷ stack
+stack_of-parts : (fields : Fields) (later : List FieldStep) (stack : List Fields) → stack_of later ≡ no_more ∷ stack → stack_of (parts_of fields later) ≡ fields ∷ stack
 stack_of-parts no_more later stack is = is
 stack_of-parts (scalar_field name at scalar rest) later stack is = ap (add_part (inl (name, (at, scalar)))) (stack_of-parts rest later stack is)
 stack_of-parts (record_field name at size inner rest) later stack is =
@@ -41,10 +41,10 @@ stack_of-parts (record_field name at size inner rest) later stack is =
     let within = stack_of-parts inner (inr (inr tt) ∷ parts_of rest later) (rest ∷ stack) (ap (add_part (inr (inr tt))) behind) in
     ap (add_part (inr (inl (name, (at, size))))) within
 
-abbrev pub split_structure : Structure → ℕ × List Part
+abbrev pub split_structure : Structure → ℕ × List FieldStep
 split_structure s = (s.size, parts_of s.fields [])
 
-abbrev pub join_structure : ℕ × List Part → Structure
+abbrev pub join_structure : ℕ × List FieldStep → Structure
 join_structure pair = record { size = pair.0; fields = first (stack_of pair.1) }
 
 pub join-split_structure : (s : Structure) → join_structure (split_structure s) ≡ s
@@ -52,4 +52,4 @@ join-split_structure s = ap (λ (stack : List Fields). record { size = s.size; f
 
 abbrev pub structure_code : Coded Scalar → Coded Structure
 structure_code scalar =
-    code_by (ℕ × List Part) (coded× coded_ℕ (coded_list (coded⊎ (coded× (coded_list coded_ℕ) (coded× coded_ℕ scalar)) (coded⊎ (coded× (coded_list coded_ℕ) (coded× coded_ℕ coded_ℕ)) coded_unit)))) split_structure join_structure join-split_structure
+    code_by (ℕ × List FieldStep) (coded× coded_ℕ (coded_list (coded⊎ (coded× (coded_list coded_ℕ) (coded× coded_ℕ scalar)) (coded⊎ (coded× (coded_list coded_ℕ) (coded× coded_ℕ coded_ℕ)) coded_unit)))) split_structure join_structure join-split_structure

@@ -16,7 +16,7 @@ use Rattle.elem_descr.specs.declared.format_text.member.Member.TheVariants.{Valu
 use Rattle.elem_descr.specs.Refusals.{◌>>=◌, check}
 use Rattle.elem_descr.specs.Names.{is_legal_name}
 use Rattle.elem_descr.specs.TypeStrings.{is_one_of}
-use Rattle.elem_descr.specs.FormatLetters.{is_empty, mark_meant, own_alignment, aligned, lettered}
+use Rattle.elem_descr.specs.FormatLetters.{is_empty, mark_meant, own_alignment, aligned_to, lettered}
 use Rattle.elem_descr.specs.FormatRecords.{max_depth, Partial, empty, checked_name, added, widened, closed_record}
 use Rattle.elem_descr.specs.FormatPieces.{is_colon}
 
@@ -81,7 +81,7 @@ scalar_in mark p value rest = do
   name ← named (length p.fields) rest
   _ ← checked_name p name.0
   scalar ← ok_or value TooLarge
-  more ← added p name.0 (aligned mark (own_alignment scalar)) (ScalarDescr scalar)
+  more ← added p name.0 (aligned_to mark (own_alignment scalar)) (ScalarDescr scalar)
   Ok (more, mark, name.1)
 
 unfoldable pub pad_in : Mark → Partial → Option ℕ → List ℕ → Result Later Refusal
@@ -94,7 +94,7 @@ unfoldable pub body_in : Mark → Partial → Body → List ℕ → Result Later
 body_in mark p body rest = do
   name ← named (length p.fields) rest
   _ ← checked_name p name.0
-  more ← added p name.0 (aligned mark body.alignment) (RecordDescr body.whole)
+  more ← added p name.0 (aligned_to mark body.alignment) (RecordDescr body.whole)
   Ok (more, body.mark, name.1)
 
 abbrev pub taken_in : Reader → Mark → Partial → Member → List ℕ → Result Later Refusal
@@ -103,8 +103,8 @@ taken_in within mark p (Pad count) rest = pad_in mark p count rest
 taken_in within mark p Opened rest = within mark p.leaves (drop 1 rest) >>= λ body. body_in mark p body.0 body.1
 
 -- the next member of a record
-unfoldable pub field_at : Reader → Mark → Partial → List ℕ → Result Later Refusal
-field_at within mark p text = do
+unfoldable pub next_field : Reader → Mark → Partial → List ℕ → Result Later Refusal
+next_field within mark p text = do
   member ← member_at mark text
   taken_in within mark p member.0 member.1
 
@@ -115,7 +115,7 @@ closing (b ∷ rest) = if is_one_of (codes "}") b then Some rest else None
 
 -- the end of the record at its closing brace, or a member and then those after it
 abbrev pub turn : Reader → Mark → Partial → Option (List ℕ) → List ℕ → (Later → Result (Body × List ℕ) Refusal) → Result (Body × List ℕ) Refusal
-turn within mark p None text later = field_at within mark p text >>= later
+turn within mark p None text later = next_field within mark p text >>= later
 turn within mark p (Some rest) text later = closed_record mark p >>= λ body. Ok (body, rest)
 
 -- the members of a record up to its closing brace, in at most so many turns
@@ -131,8 +131,8 @@ record_within (suc levels) mark leaves text =
     members (record_within levels) (length text) mark (empty levels leaves) text
 
 -- nothing more may follow: a name and a second member are left out, all else does not fit
-unfoldable pub ended : List ℕ → Result (Unit {0}) Refusal
-ended text = if list_all (is_one_of (codes " ")) text then Ok tt else do
+unfoldable pub nothing_follows : List ℕ → Result (Unit {0}) Refusal
+nothing_follows text = if list_all (is_one_of (codes " ")) text then Ok tt else do
   _ ← check (not (is_named text)) DescriptorLeftOut
   _ ← (let m = marked Aligned text in member_at m.0 m.1)
   Err DescriptorLeftOut
@@ -142,13 +142,13 @@ unfoldable pub scalar_alone : Option Scalar → List ℕ → Result Descr Refusa
 scalar_alone value rest = do
   _ ← check (not (is_named rest)) DescriptorLeftOut
   scalar ← ok_or value TooLarge
-  _ ← ended rest
+  _ ← nothing_follows rest
   Ok (ScalarDescr scalar)
 
 unfoldable pub record_alone : Mark → List ℕ → Result Descr Refusal
 record_alone mark text = do
   body ← record_within max_depth mark 0 text
-  _ ← ended body.1
+  _ ← nothing_follows body.1
   Ok (RecordDescr body.0.whole)
 
 abbrev pub alone : Mark → Member → List ℕ → Result Descr Refusal

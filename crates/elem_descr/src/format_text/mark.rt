@@ -1,6 +1,6 @@
 //! The marks of a format text, and the numbers by their letters.
 ghost use Rattle.std.specs.Prelude.{◌≡◌, ◌≤◌};
-ghost use Rattle.elem_descr.specs.FormatLetters.{number_letter, order_under, long_under, is_aligning, aligned, own_alignment};
+ghost use Rattle.elem_descr.specs.FormatLetters.{number_letter, order_under, long_under, is_aligning, aligned_to, own_alignment};
 ghost use Rattle.elem_descr.specs.inside.Turns.{after, marked};
 
 use crate::scalar::{Order, Scalar, Width};
@@ -94,7 +94,7 @@ impl Mark {
     /// What the offset of a member with its own alignment is a multiple of, in bytes.
     pub fn aligned(self, own: usize) -> usize
         requires { (1 ≤ own) × (own ≤ 8) }
-        ensures value { result ≡ aligned self own }
+        ensures value { result ≡ aligned_to self own }
         ensures not_zero { 1 ≤ result }
         ensures within { result ≤ 8 }
     {

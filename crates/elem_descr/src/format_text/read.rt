@@ -4,7 +4,7 @@ ghost use Rattle.std.specs.List.{list_all};
 ghost use Rattle.elem_descr.specs.Refusals.{Answers, Gives};
 ghost use Rattle.elem_descr.specs.TypeStrings.{is_one_of};
 ghost use Rattle.elem_descr.specs.FormatTexts.{format};
-ghost use Rattle.elem_descr.specs.inside.Turns.{ended, scalar_alone, record_alone};
+ghost use Rattle.elem_descr.specs.inside.Turns.{nothing_follows, scalar_alone, record_alone};
 
 use crate::descr::{Descr, MAX_DEPTH};
 use crate::format_text::mark::{Mark, marked};
@@ -21,9 +21,9 @@ fn is_blank(text: &[u8]) -> bool
 }
 
 /// Refuses whatever follows a whole descriptor but blanks.
-#[tactic(auto, unfolding(crate::specs::inside::Turns::ended))]
+#[tactic(auto, unfolding(crate::specs::inside::Turns::nothing_follows))]
 fn ended(text: &[u8]) -> Result<(), Refusal>
-    ensures { Answers (λ _. tt) result (ended text.now) }
+    ensures { Answers (λ _. tt) result (nothing_follows text.now) }
 {
     if is_blank(text) {
         return Ok(());

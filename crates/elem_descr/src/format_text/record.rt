@@ -2,7 +2,7 @@
 ghost use Rattle.std.specs.Prelude.{◌≡◌, ◌≤◌, length, option_copied, IfOk};
 ghost use Rattle.elem_descr.specs.Refusals.{Gives};
 ghost use Rattle.elem_descr.specs.FormatRecords.{max_depth, max_leaves};
-ghost use Rattle.elem_descr.specs.inside.Turns.{closing, record_within, field_at};
+ghost use Rattle.elem_descr.specs.inside.Turns.{closing, record_within, next_field};
 ghost use Rattle.elem_descr.specs.inside.Partials.{IsBody};
 
 use crate::format_text::draft::{Body, Draft};
@@ -59,14 +59,14 @@ pub fn record_within(
 
 /// Adds the next member, and answers the mark then in force and what follows the member.
 #[cycle(record)]
-#[tactic(auto, unfolding(crate::specs::inside::Turns::field_at))]
+#[tactic(auto, unfolding(crate::specs::inside::Turns::next_field))]
 fn field_at<'a>(
     alloc: Global,
     mark: Mark,
     draft: &mut Draft,
     text: &'a [u8],
 ) -> Result<(Mark, &'a [u8]), Refusal>
-    ensures gives { Gives (λ m. (draft.new, m.0, m.1.now)) result (field_at (record_within draft.old.levels) mark draft.old text.now) }
+    ensures gives { Gives (λ m. (draft.new, m.0, m.1.now)) result (next_field (record_within draft.old.levels) mark draft.old text.now) }
     ensures levels { draft.new.levels ≡ draft.old.levels }
 {
     match member_at(mark, text) {

@@ -5,7 +5,7 @@ use Rattle.shape_strides.specs.Indexes.{count}
 use Rattle.shape_strides.specs.Layouts.{offsets}
 use Rattle.fancy_index.specs.declared.plans.Plan.TheInside.{Inside}
 use Rattle.fancy_index.specs.declared.plans.PlanAxes.{PlanAxes}
-use Rattle.fancy_index.specs.Plans.{moved, moved_all}
+use Rattle.fancy_index.specs.Plans.{moved_offset, moved_all}
 
 -- an offset that began at `base` lies within the limit of a buffer where it begins at `start`
 pub record IsMoved (base start offset : ℕ) : Type 0 where
@@ -15,7 +15,7 @@ pub record IsMoved (base start offset : ℕ) : Type 0 where
 -- the items of the inner axes, from a place and a shift on
 pub record IsStart (base : ℕ) (inner : List ℕ) (place shift : ℕ) : Type 0 where
   pub start : IsMoved base place shift
-  pub items : All (IsMoved base (moved base place shift)) inner
+  pub items : All (IsMoved base (moved_offset base place shift)) inner
 
 abbrev pub AreStarts : ℕ → List ℕ → List ℕ → ℕ → Type 0
 AreStarts base inner shifts place = All (IsStart base inner place) shifts

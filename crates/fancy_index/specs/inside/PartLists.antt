@@ -11,26 +11,26 @@ use Rattle.view_ops.specs.declared.pick.AxisPick.{AxisPick}
 use Rattle.view_ops.specs.declared.pick.AxisPick.TheVariants.{At as AtAxis, Along as AlongAxis, New as NewAxis}
 use Rattle.view_ops.specs.Slices.{IsRunWithin}
 use Rattle.view_ops.specs.Basics.{has_step, picked_index}
-use Rattle.view_ops.specs.Picks.{shown}
+use Rattle.view_ops.specs.Picks.{pick_shown}
 use Rattle.view_ops.specs.inside.Picks.{first_of}
 use Rattle.broadcasting.specs.Broadcasts.{can_stretch, broadcast_index}
 use Rattle.fancy_index.specs.declared.points.PointList.{PointList}
 use Rattle.fancy_index.specs.declared.parts.IndexPart.{IndexPart}
 use Rattle.fancy_index.specs.declared.parts.IndexPart.TheVariants.{Axis as AxisPart, Points as PointsPart, Between as BetweenPart}
-use Rattle.fancy_index.specs.IndexArrays.{IndexArray, is_index, taken, cover, are_within}
+use Rattle.fancy_index.specs.IndexArrays.{IndexArray, is_index, array_axes_taken, cover, are_within}
 use Rattle.fancy_index.specs.Parts.{Part, Axis, Between, other_axes}
 use Rattle.fancy_index.specs.inside.PointLists.{tuple, shown_points, IsPointList}
 
 -- an index list of which nothing is refused
 pub record IsChecked (shape : List ℕ) (items : List (IndexItem IndexArray)) : Type 0 where
   pub index : list_all is_index items ≡ true
-  pub enough : taken items ≤ length shape
+  pub enough : array_axes_taken items ≤ length shape
   pub covers : cover shape items ≡ true
   pub steps : list_all has_step items ≡ true
   pub within : are_within shape items ≡ true
 
 abbrev pub shown_part : IndexPart → Part
-shown_part (AxisPart pick) = Axis (shown pick)
+shown_part (AxisPart pick) = Axis (pick_shown pick)
 shown_part (PointsPart p) = shown_points p
 shown_part BetweenPart = Between
 
@@ -99,5 +99,5 @@ rest_picks parts = flat_map rest_of parts
 -- a layout shows what is picked so
 pub record IsRest (layout : Layout) (parts : List IndexPart) (rest : Layout) : Type 0 where
   pub shape : rest.shape ≡ other_axes (map shown_part parts)
-  pub leads : (index : List ℕ) → IsIndex rest.shape index → IsIndex layout.shape (picked_index (map shown (rest_picks parts)) index)
-  pub same : (index : List ℕ) → IsIndex rest.shape index → address rest index ≡ address layout (picked_index (map shown (rest_picks parts)) index)
+  pub leads : (index : List ℕ) → IsIndex rest.shape index → IsIndex layout.shape (picked_index (map pick_shown (rest_picks parts)) index)
+  pub same : (index : List ℕ) → IsIndex rest.shape index → address rest index ≡ address layout (picked_index (map pick_shown (rest_picks parts)) index)

@@ -7,7 +7,7 @@ use Rattle.elem_descr.specs.declared.descr.Descr.TheVariants.{Scalar as ScalarDe
 use Rattle.elem_descr.specs.Descriptors.{IsLegal, InOrder, AreNamed, AreNamedWithin}
 use Rattle.elem_descr.specs.Encoding.{size}
 use Rattle.elem_descr.specs.Fields.{Fields, no_more, scalar_field, record_field, Structure}
-use Rattle.name_store.specs.Places.{IsElementType, IsWhole}
+use Rattle.name_store.specs.Places.{IsElementType, HasJustItems}
 
 InOrder-prop : (from : ℕ) (fields : Fields) (bytes : ℕ) → IsProp (InOrder from fields bytes)
 InOrder-prop from no_more bytes = le_prop
@@ -36,5 +36,5 @@ IsElementType-prop : (descr : Descr) → IsProp (IsElementType descr)
 IsElementType-prop (ScalarDescr scalar) = le_prop
 IsElementType-prop (RecordDescr structure) = IsLegal-prop structure
 
-pub IsWhole-prop : (descr : Descr) (items : ℕ) (block : List ℕ) → IsProp (IsWhole descr items block)
+pub IsWhole-prop : (descr : Descr) (items : ℕ) (block : List ℕ) → IsProp (HasJustItems descr items block)
 IsWhole-prop descr items block = hlevel (IsElementType-prop, props)

@@ -7,7 +7,7 @@ use Rattle.npy_files.specs.declared.store.StoreFault.{StoreFault}
 use Rattle.npy_files.specs.declared.store.StoreFault.TheVariants.{Device, TooLong, Memory}
 use Rattle.disk.specs.Files.{Files}
 use Rattle.disk.specs.Calls.{last_count}
-use Rattle.npy_files.specs.Stores.{Shelf}
+use Rattle.npy_files.specs.Stores.{StoreState}
 
 abbrev pub named_bytes : StoredFile → List ℕ × List ℕ
 named_bytes file = (file.name.items, file.bytes.items)
@@ -21,7 +21,7 @@ abbrev pub files_of : List StoredFile → Files
 files_of files = from_entries (map named_bytes files)
 
 -- files in memory, whose device fails only where it is made to
-abbrev pub shelf_of : List StoredFile → ℕ → ℕ → Shelf
+abbrev pub shelf_of : List StoredFile → ℕ → ℕ → StoreState
 shelf_of files limit failures = record { files = files_of files; failures = failures; limit = limit; honest = true }
 
 -- how often a device has failed that fails once, after so many calls

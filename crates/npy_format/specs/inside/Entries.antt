@@ -6,7 +6,7 @@ use Rattle.elem_descr.specs.declared.refusal.Refusal.TheVariants.{BadHeader}
 use Rattle.elem_descr.specs.Refusals.{◌>>=◌}
 use Rattle.npy_format.specs.Listed.{Literal}
 use Rattle.npy_format.specs.Tokens.{Token}
-use Rattle.npy_format.specs.Literals.{Read, symbol_at, entries_in, if_found}
+use Rattle.npy_format.specs.Literals.{Read, symbol_token_at, entries_in, if_read}
 
 -- the tokens behind what is read
 abbrev pub behind : {A : Type 0} → Read A → Result (List Token) Refusal
@@ -18,11 +18,11 @@ behind_entries entry closing tokens = behind (entries_in entry closing (length t
 
 -- those behind a key and its colon
 abbrev pub behind_key : (List Token → Read Literal) → List Token → Result (List Token) Refusal
-behind_key value tokens = behind (value tokens) >>= λ rest. ok_or (symbol_at 58 rest) BadHeader
+behind_key value tokens = behind (value tokens) >>= λ rest. ok_or (symbol_token_at 58 rest) BadHeader
 
 -- those behind a comma, if there is one
 abbrev pub behind_comma : List Token → List Token
-behind_comma tokens = if_found (symbol_at 44 tokens) (λ rest. rest) tokens
+behind_comma tokens = if_read (symbol_token_at 44 tokens) (λ rest. rest) tokens
 
 -- those behind one entry among others: a comma may follow it
 abbrev pub behind_entry : {A : Type 0} → (List Token → Read A) → List Token → Result (List Token) Refusal

@@ -1,7 +1,7 @@
 -- Where in a header its values stand.
 use Rattle.std.specs.Prelude.{◌≡◌, ℕ, List, [], ◌∷◌, Option, Some, None, Ok}
 use Rattle.npy_format.specs.Values.{Text, Round}
-use Rattle.npy_format.specs.Listed.{Literal, Plain, Row, Pair, literals_of}
+use Rattle.npy_format.specs.Listed.{Literal, Plain, Row, Pair, value_literals}
 use Rattle.npy_format.specs.Tokens.{Token}
 use Rattle.npy_format.specs.Literals.{Read, entries_in, pair_in, literal_in}
 use Rattle.npy_format.specs.Headers.{max_value_depth, integers_of}
@@ -40,5 +40,5 @@ name_and_type (Plain (Text name) ∷ type ∷ []) = Some (name, type)
 name_and_type _ = None
 
 abbrev pub entry_parts : Literal → Option (List ℕ × Literal)
-entry_parts (Row Round values) = name_and_type (literals_of values)
+entry_parts (Row Round values) = name_and_type (value_literals values)
 entry_parts other = None

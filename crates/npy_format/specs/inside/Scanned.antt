@@ -34,9 +34,9 @@ truth_at (Truth is ∷ rest) = Ok is
 truth_at _ = Err BadHeader
 
 -- what comes next is this string
-abbrev pub is_text : List ℕ → Option (List ℕ × List Token) → Bool
-is_text bytes (Some found) = bytes_eq bytes found.0
-is_text bytes None = false
+abbrev pub is_string_token : List ℕ → Option (List ℕ × List Token) → Bool
+is_string_token bytes (Some found) = bytes_eq bytes found.0
+is_string_token bytes None = false
 
 -- padding, whose type string comes next
 abbrev pub pad_at : Partial → Option (List ℕ × List Token) → Result Partial Refusal

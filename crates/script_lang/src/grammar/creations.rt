@@ -1,6 +1,6 @@
 //! The values that make an array.
 ghost use Rattle.std.specs.Prelude.{◌≡◌, true};
-ghost use Rattle.script_lang.specs.Commands.{zeros_at, full_at, arange_at, array_at, new_items_at, make_at};
+ghost use Rattle.script_lang.specs.Commands.{zeros_at, full_at, arange_at, new_array_at, new_items_at, make_at};
 ghost use Rattle.script_lang.specs.Reading.{Scans, Reads, value_room};
 
 use crate::command::{NewItems, Value};
@@ -44,9 +44,9 @@ fn arange(bytes: &[u8]) -> Option<(NewItems, &[u8])>
 }
 
 /// `S L..`, behind `array D`.
-#[tactic(auto, unfolding(crate::specs::Commands::array_at, crate::specs::Literals::literals_at), using(crate::proofs::Lists::any_list))]
+#[tactic(auto, unfolding(crate::specs::Commands::new_array_at, crate::specs::Literals::literals_at), using(crate::proofs::Lists::any_list))]
 fn array(alloc: Global, bytes: &[u8]) -> Result<(NewItems, &[u8]), Refusal>
-    ensures { Reads (λ r. (r.0, r.1.now)) (λ _. true) result (array_at bytes.now) }
+    ensures { Reads (λ r. (r.0, r.1.now)) (λ _. true) result (new_array_at bytes.now) }
 {
     let (shape, rest) = shape(alloc, bytes)?;
     let (values, rest) = literals(alloc, rest)?;

@@ -1,6 +1,6 @@
 //! The text of a descriptor.
 ghost use Rattle.std.specs.Prelude.{◌≡◌, ◌≤◌, ◌<◌, ◌+◌, ◌^◌, length, IfSome, false};
-ghost use Rattle.script_lang.specs.Descriptors.{depth_behind, named_behind, record_mark_at, record_len, record_text_at, descr_at};
+ghost use Rattle.script_lang.specs.Descriptors.{depth_behind, named_behind, record_mark_at, record_len, record_text_at, descriptor_at};
 ghost use Rattle.script_lang.specs.Reading.{Scans};
 
 use crate::grammar::classes::{Class, front_len};
@@ -70,9 +70,9 @@ fn record_text<'a>(bytes: &'a [u8], inside: &'a [u8]) -> Option<(&'a [u8], &'a [
 }
 
 /// The descriptor that comes next, behind at least one blank, and what follows it.
-#[tactic(auto, unfolding(crate::specs::Descriptors::descr_at), using(crate::proofs::Spelling::record_mark_shorter))]
+#[tactic(auto, unfolding(crate::specs::Descriptors::descriptor_at), using(crate::proofs::Spelling::record_mark_shorter))]
 pub fn descr(bytes: &[u8]) -> Option<(&[u8], &[u8])>
-    ensures { Scans (λ w. (w.0.now, w.1.now)) result (descr_at bytes.now) }
+    ensures { Scans (λ w. (w.0.now, w.1.now)) result (descriptor_at bytes.now) }
 {
     let (_, text) = front(Class::Blank, bytes)?;
     if let Some(inside) = record_mark(text) {

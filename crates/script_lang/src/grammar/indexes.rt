@@ -1,8 +1,8 @@
 //! Index lists, and the operands that they stand behind.
 ghost use Rattle.std.specs.Prelude.{◌≡◌, length};
 ghost use Rattle.script_lang.specs.Tokens.{symbol_at};
-ghost use Rattle.script_lang.specs.Lists.{items_at};
-ghost use Rattle.script_lang.specs.Indexes.{step_at, slice_at, ellipsis_at, item_at, index_at, bracket_at, optional_index_at, operand_at, begins_name, argument_at};
+ghost use Rattle.script_lang.specs.Lists.{listed_at};
+ghost use Rattle.script_lang.specs.Indexes.{step_at, slice_at, ellipsis_at, index_item_at, index_at, bracket_at, optional_index_at, operand_at, begins_name, argument_at};
 ghost use Rattle.script_lang.specs.Reading.{Scans, Reads, index_room, optional_index_room, operand_room, argument_room};
 
 use crate::command::{Argument, Operand};
@@ -48,9 +48,9 @@ fn ellipsis(bytes: &[u8]) -> Option<&[u8]>
 }
 
 /// The item of an index list that comes next, and what follows it.
-#[tactic(auto, unfolding(crate::specs::Indexes::item_at))]
+#[tactic(auto, unfolding(crate::specs::Indexes::index_item_at))]
 fn item(alloc: Global, bytes: &[u8]) -> Option<(IndexItem<Name>, &[u8])>
-    ensures { Scans (λ r. (r.0, r.1.now)) result (item_at bytes.now) }
+    ensures { Scans (λ r. (r.0, r.1.now)) result (index_item_at bytes.now) }
 {
     if let Some(found) = slice(bytes) {
         return Some(found);
@@ -70,7 +70,7 @@ fn item(alloc: Global, bytes: &[u8]) -> Option<(IndexItem<Name>, &[u8])>
 
 /// Items that commas part, up to the bracket that ends them, and what follows it.
 fn items(alloc: Global, bytes: &[u8]) -> Result<(Index, &[u8]), Refusal>
-    ensures { Reads (λ r. (r.0, r.1.now)) (λ r. index_room r.0) result (items_at item_at 93 (length bytes.now) bytes.now) }
+    ensures { Reads (λ r. (r.0, r.1.now)) (λ r. index_room r.0) result (listed_at index_item_at 93 (length bytes.now) bytes.now) }
 {
     let mut index = Index::new(alloc);
     let mut rest = bytes;

@@ -1,7 +1,7 @@
 //! The commands that bind no name and ask nothing.
 ghost use Rattle.std.specs.Prelude.{◌≡◌};
 ghost use Rattle.script_lang.specs.Commands.{set_at, update_at, delete_at, save_at};
-ghost use Rattle.script_lang.specs.Reading.{Scans, Reads, needs_room};
+ghost use Rattle.script_lang.specs.Reading.{Scans, Reads, parts_take_memory};
 
 use crate::command::Command;
 use crate::grammar::indexes::{argument, bracket};
@@ -17,7 +17,7 @@ use std::alloc::Global;
 /// `X[ix] = Z`, behind `set`.
 #[tactic(auto, unfolding(crate::specs::Commands::set_at), using(crate::proofs::Commands::set_index_room, crate::proofs::Commands::set_value_room))]
 pub fn set(alloc: Global, bytes: &[u8]) -> Result<(Command, &[u8]), Refusal>
-    ensures { Reads (λ r. (r.0, r.1.now)) (λ r. needs_room r.0) result (set_at bytes.now) }
+    ensures { Reads (λ r. (r.0, r.1.now)) (λ r. parts_take_memory r.0) result (set_at bytes.now) }
 {
     let (name, rest) = name(bytes).ok_or(Refusal::Syntax)?;
     let (index, rest) = bracket(alloc, rest)?;
@@ -30,7 +30,7 @@ pub fn set(alloc: Global, bytes: &[u8]) -> Result<(Command, &[u8]), Refusal>
 /// `X[ix] OP Z`, behind `upd`.
 #[tactic(auto, unfolding(crate::specs::Commands::update_at), using(crate::proofs::Commands::update_index_room, crate::proofs::Commands::update_value_room))]
 pub fn update(alloc: Global, bytes: &[u8]) -> Result<(Command, &[u8]), Refusal>
-    ensures { Reads (λ r. (r.0, r.1.now)) (λ r. needs_room r.0) result (update_at bytes.now) }
+    ensures { Reads (λ r. (r.0, r.1.now)) (λ r. parts_take_memory r.0) result (update_at bytes.now) }
 {
     let (name, rest) = name(bytes).ok_or(Refusal::Syntax)?;
     let (index, rest) = bracket(alloc, rest)?;

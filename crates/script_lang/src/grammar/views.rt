@@ -1,6 +1,6 @@
 //! The values that are the items of another array.
 ghost use Rattle.std.specs.Prelude.{◌≡◌};
-ghost use Rattle.script_lang.specs.Commands.{viewing_of, plain_view_at, field_at, transpose_at, reshape_at, broadcast_at, viewing_at, view_at};
+ghost use Rattle.script_lang.specs.Commands.{viewing_of, plain_view_at, field_name_at, transpose_at, reshape_at, broadcast_at, viewing_at, view_at};
 ghost use Rattle.script_lang.specs.Reading.{Reads, viewing_room, value_room};
 
 use crate::command::{Operand, Value, Viewing};
@@ -36,9 +36,9 @@ pub fn plain_view(alloc: Global, bytes: &[u8]) -> Result<(Value, &[u8]), Refusal
 }
 
 /// `"f"`, behind `field Y`.
-#[tactic(auto, unfolding(crate::specs::Commands::field_at), using(crate::proofs::Commands::field_room))]
+#[tactic(auto, unfolding(crate::specs::Commands::field_name_at), using(crate::proofs::Commands::field_room))]
 fn field(alloc: Global, bytes: &[u8]) -> Result<(Viewing, &[u8]), Refusal>
-    ensures { Reads (λ r. (r.0, r.1.now)) (λ r. viewing_room r.0) result (field_at bytes.now) }
+    ensures { Reads (λ r. (r.0, r.1.now)) (λ r. viewing_room r.0) result (field_name_at bytes.now) }
 {
     let (field, rest) = quoted(bytes).ok_or(Refusal::Syntax)?;
     let field = FieldText::from_slice(alloc, field)?;

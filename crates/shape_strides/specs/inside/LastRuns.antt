@@ -2,12 +2,12 @@
 use Rattle.std.specs.Prelude.{◌≡◌, ℕ, ◌-◌, ◌<◌, ◌≤◌, ℤ, pos, List, [], ◌∷◌, length, drop, slice_index, slice_index_or}
 use Rattle.shape_strides.specs.declared.joined.StridedAxis.{StridedAxis}
 use Rattle.shape_strides.specs.Indexes.{count}
-use Rattle.shape_strides.specs.Joined.{strided_axes, joined}
+use Rattle.shape_strides.specs.Joined.{strided_axes, all_joined}
 use Rattle.shape_strides.specs.inside.Single.{if_long}
 
 -- the axes from `axis` on are joined to one
 pub record AreJoinedFrom (strides : List ℤ) (lengths : List ℕ) (axis : ℕ) (along : StridedAxis) : Type 0 where
-  pub are : if_long along ≡ joined (strided_axes (drop axis strides) (drop axis lengths))
+  pub are : if_long along ≡ all_joined (strided_axes (drop axis strides) (drop axis lengths))
   pub items : along.len ≡ count (drop axis lengths)
   pub single : along.len ≡ 1 → along.stride ≡ pos 0
 
@@ -16,5 +16,5 @@ pub record IsLastRun (strides : List ℤ) (lengths : List ℕ) (outside : ℕ) (
   pub within : outside ≤ length lengths
   pub inside : AreJoinedFrom strides lengths outside along
   pub long : 0 < outside → 2 ≤ slice_index lengths (outside - 1)
-  pub apart : 0 < outside → joined (strided_axes (drop (outside - 1) strides) (drop (outside - 1) lengths))
+  pub apart : 0 < outside → all_joined (strided_axes (drop (outside - 1) strides) (drop (outside - 1) lengths))
       ≡ record { len = slice_index lengths (outside - 1); stride = slice_index_or strides (outside - 1) (pos 0) } ∷ along ∷ []

@@ -4,7 +4,7 @@ use Rattle.shape_strides.specs.Limits.{max_bytes}
 use Rattle.view_ops.specs.declared.pick.AxisPick.{AxisPick}
 use Rattle.view_ops.specs.declared.pick.AxisPick.TheVariants.{At as AtAxis, Along as AlongAxis, New as NewAxis}
 use Rattle.view_ops.specs.declared.slice.Progression.{Progression}
-pub use Rattle.view_ops.specs.Picks.{shown, ArePicks}
+pub use Rattle.view_ops.specs.Picks.{pick_shown, ArePicks}
 use Rattle.view_ops.specs.Basics.{Pick}
 
 -- these picks of these axes come after the old ones
@@ -12,7 +12,7 @@ pub record AddsPicks (old new : List AxisPick) (axes : List ℕ) (picks : List P
   pub added : List AxisPick
   pub after : new ≡ old ++ added
   pub are : ArePicks axes added
-  pub show : map shown added ≡ picks
+  pub show : map pick_shown added ≡ picks
 
 -- the number of the first item that is picked, on the axis that a pick takes
 abbrev pub first_of : AxisPick → List ℕ

@@ -6,7 +6,7 @@ use Rattle.shape_strides.specs.IndexItems.{is_basic}
 use Rattle.shape_strides.specs.declared.index_item.IndexItem.TheVariants.{Ellipsis}
 use Rattle.name_store.specs.ArrayLaws.{found-array}
 use Rattle.bench_engine.specs.IndexLists.{taken}
-use Rattle.bench_engine.specs.Machine.{values_of, viewed}
+use Rattle.bench_engine.specs.Machine.{operand_values, viewed}
 use Rattle.bench_engine.specs.inside.OwnContents.{held}
 use Rattle.bench_engine.proofs.Computes.{part-bad, part-done, combined-bad, combined-part}
 use Rattle.bench_engine.proofs.GivenLaws.{given-taken}
@@ -42,4 +42,4 @@ returns c =
     let is = given-taken s it.0 c.unwrap-array.result (list_all is_basic (unwrap_or c.args.left.now.index (Ellipsis ∷ []))) c.in_ok-taken.taken (taken s it.0 (unwrap_or c.args.left.now.index (Ellipsis ∷ []))) (c.in_ok-taken.ensures it.0 it.2) in
     let stands = c.items_taken-items.ensures s it.0 _ is.0 it.2 is.2 in
     subst (Gives held c.work_argument.result) (sym (combined-part s c.args.operation c.args.left.now c.args.right.now (viewed it.0 is.0) (part-done s c.args.left.now it.0 it.1 is.0 is.1)))
-    (c.work_argument.ensures (values_of s (viewed it.0 is.0)) (all-stand s (viewed it.0 is.0) _ stands))
+    (c.work_argument.ensures (operand_values s (viewed it.0 is.0)) (all-stand s (viewed it.0 is.0) _ stands))

@@ -3,14 +3,14 @@ use Rattle.std.proofs.lemmas.Result.{err_from_is_err_and}
 use Rattle.elem_descr.specs.Encoding.{size}
 use Rattle.shape_strides.specs.Indexes.{count}
 use Rattle.literal_items.specs.RangeItems.{range_items}
-use Rattle.bench_engine.specs.Contents.{integer_type}
+use Rattle.bench_engine.specs.Contents.{range_scalar}
 use Rattle.bench_engine.proofs.Makes.{passed, range-shape, range-shape-refused, arange-type, arange-length, arange-range, arange-done, in-order}
 use Rattle.bench_engine.proofs.contents.arange.Goals as goal
 
 pub returns-in_err-scalar : goal.returns-in_err-scalar
 returns-in_err-scalar c =
     let p = err_from_is_err_and c.from_residual.result c.from_residual.ensures.1 in
-    rw (p.1, p.2) (passed (integer_type c.args.descr.now) _ _ (arange-type _ _ _ _ _) c.in_err-scalar.ensures.value)
+    rw (p.1, p.2) (passed (range_scalar c.args.descr.now) _ _ (arange-type _ _ _ _ _) c.in_err-scalar.ensures.value)
 
 pub returns-in_err-len : goal.returns-in_err-len
 returns-in_err-len c =

@@ -1,7 +1,7 @@
 use Rattle.std.proofs.Common.{◌≡◌, ap, sym, refl, ◌∙◌, map, get_or, length, arith}
 use Rattle.shape_strides.specs.declared.index_item.IndexItem.TheVariants.{Array as ArrayItem}
 use Rattle.fancy_index.specs.IndexArrays.{no_array}
-use Rattle.fancy_index.specs.Sources.{array_of}
+use Rattle.fancy_index.specs.Sources.{index_array_of}
 use Rattle.fancy_index.specs.declared.source.Indices.{Indices}
 use Rattle.name_store.specs.ArrayLaws.{found-array}
 use Rattle.bench_engine.specs.IndexLists.{by_items}
@@ -15,7 +15,7 @@ returns-in_ok-push-in-Array-clause-item c =
     let number : c.len-number.result ≡ length c.args.arrays.now.items = omega (arith, c.len-number.ensures, c.args.arrays.now.ok.0) in
     rw c.in-Array.is
     (ap ArrayItem
-    ((λ i. get_or (map array_of (c.in_ok-push-in-Array.ensures.items i)) (number i) no_array)
+    ((λ i. get_or (map index_array_of (c.in_ok-push-in-Array.ensures.items i)) (number i) no_array)
     ∙ next-array c.args.arrays.now.items x
     ∙ array-is c.args.bench.now it.0 c.unwrap-array.result x it.2 refl refl refl
     ∙ ap (by_items c.args.bench.now) (sym it.1)))

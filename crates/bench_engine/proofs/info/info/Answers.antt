@@ -6,7 +6,7 @@ use Rattle.name_store.specs.ArrayLaws.{found-array as found}
 use Rattle.bench_engine.proofs.Looks.{unchanged, not_found}
 use Rattle.bench_engine.proofs.Outcomes.{info-unknown, info-done}
 use Rattle.bench_engine.proofs.Steps.{spare}
-use Rattle.bench_engine.specs.Machine.{comes_to}
+use Rattle.bench_engine.specs.Machine.{accepted_with}
 use Rattle.bench_engine.proofs.info.info.Goals as goal
 
 pub returns-in_default-clause-answers : goal.returns-in_default-clause-answers
@@ -22,6 +22,6 @@ returns-clause-answers c =
       any.0,
       any.1,
       info_text c.args.name.now r.descr.now r.layout.now.shape (offsets r.layout.now) r.writable,
-      info-done s c.args.name.now it.0 it.1 ∙ (λ i. comes_to s (info_text c.args.name.now (it.2.descr i) (sym it.2.view.laid.shape i) (at i) (sym it.2.view.laid.writable_is i))),
+      info-done s c.args.name.now it.0 it.1 ∙ (λ i. accepted_with s (info_text c.args.name.now (it.2.descr i) (sym it.2.view.laid.shape i) (at i) (sym it.2.view.laid.writable_is i))),
       c.in_ok-push_info_text.ensures.ok,
     )

@@ -6,7 +6,7 @@ use Rattle.shape_strides.specs.declared.index_item.IndexItem.{IndexItem}
 use Rattle.name_store.specs.Arrays.{written}
 use Rattle.name_store.specs.ArrayLaws.{found-array as found}
 use Rattle.name_store.specs.Targets.{target_offsets}
-use Rattle.bench_engine.specs.Machine.{target_part, new_items, written_text, comes_to}
+use Rattle.bench_engine.specs.Machine.{target_part, new_items, write_reply, accepted_with}
 use Rattle.bench_engine.specs.inside.Assigns.{GivesTarget, AreFor, given_items}
 use Rattle.bench_engine.proofs.Looks.{unchanged, not_found}
 use Rattle.bench_engine.proofs.SetOutcomes.{set-unknown, set-unbound, set-target, set-items, set-done, both-bound, all-bound, given-target, given-given}
@@ -119,9 +119,9 @@ returns-clause-answers c =
     let any = spare s in (
       any.0,
       any.1,
-      written_text c.args.operation (count part.0.shape),
+      write_reply c.args.operation (count part.0.shape),
       set-done s c.args.name.now c.args.index.now c.args.operation c.args.value.now it.0 part.0 given.0 it.1 named (ap (target_part s it.0) (sym c.as_slice-2.ensures) ∙ part.1)
           ((λ i. new_items s (it.2.descr i) part.0 c.args.operation c.args.value.now) ∙ given.1)
-          ∙ (λ i. comes_to (sym done i) (written_text c.args.operation (count part.0.shape))),
-      c.push_count.ensures.told ∙ ap (λ n. c.args.out.now.items ++ (written_text c.args.operation n)) n,
+          ∙ (λ i. accepted_with (sym done i) (write_reply c.args.operation (count part.0.shape))),
+      c.push_count.ensures.told ∙ ap (λ n. c.args.out.now.items ++ (write_reply c.args.operation n)) n,
     )

@@ -5,7 +5,7 @@ use Rattle.bench_engine.specs.Replies.{shares_text}
 use Rattle.bench_engine.proofs.Looks.{unchanged}
 use Rattle.bench_engine.proofs.Outcomes.{shares-done, shares-refused}
 use Rattle.bench_engine.proofs.Steps.{spare}
-use Rattle.bench_engine.specs.Machine.{comes_to}
+use Rattle.bench_engine.specs.Machine.{accepted_with}
 use Rattle.bench_engine.proofs.shares.shares.Goals as goal
 
 pub returns-in_err-yes-clause-answers : goal.returns-in_err-yes-clause-answers
@@ -21,6 +21,6 @@ returns-clause-answers c =
       any.0,
       any.1,
       shares_text c.in_ok-yes.yes,
-      shares-done _ _ _ a b c.in_ok-yes.ensures.answers.2 c.in_ok-yes.ensures.answers.3 ∙ ap (λ t. comes_to c.args.bench.now (shares_text t)) (sym c.in_ok-yes.ensures.answers.4),
+      shares-done _ _ _ a b c.in_ok-yes.ensures.answers.2 c.in_ok-yes.ensures.answers.3 ∙ ap (λ t. accepted_with c.args.bench.now (shares_text t)) (sym c.in_ok-yes.ensures.answers.4),
       grind (arith, common_steps),
     )

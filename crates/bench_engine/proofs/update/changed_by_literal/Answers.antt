@@ -12,7 +12,7 @@ use Rattle.shape_strides.specs.Limits.{max_bytes}
 use Rattle.elementwise.specs.Casts.{can_cast}
 use Rattle.elementwise.specs.Promotion.{same_kind}
 use Rattle.elementwise.specs.Results.{scalar_of}
-use Rattle.bench_engine.specs.Machine.{changed_with, literal_values, worked_with}
+use Rattle.bench_engine.specs.Machine.{changed_with, literal_values, operation_with}
 use Rattle.bench_engine.proofs.LegalLaws.{IsLegal}
 use Rattle.bench_engine.proofs.Makes.{passed}
 use Rattle.bench_engine.proofs.Updates.{changed-record, changed-kind, changed-done, changed-gives, kind-casts, scalar-descr, literal-parts, literal-refused, own_values, stands-own}
@@ -23,7 +23,7 @@ returns-in_err-new c v sv =
     let p = err_from_is_err_and c.from_residual.result c.from_residual.ensures.1 in
     let lengths = c.as_slice-lengths.ensures in
     let legal = subst IsLegal (sym sv.shape) (record { axes = lengths.rank; lengths = lengths.lengths; items = lengths.items }) in
-    rw (p.1, p.2) (passed (worked_with c.args.operation v (literal_values c.args.operation v.descr c.args.literal.now)) _ _ (literal-refused c.args.operation c.args.old.descr.now v c.args.literal.now _ legal sv.descr) (c.in_err-new.ensures.gives v sv))
+    rw (p.1, p.2) (passed (operation_with c.args.operation v (literal_values c.args.operation v.descr c.args.literal.now)) _ _ (literal-refused c.args.operation c.args.old.descr.now v c.args.literal.now _ legal sv.descr) (c.in_err-new.ensures.gives v sv))
 
 pub returns-in_err-scalar : goal.returns-in_err-scalar
 returns-in_err-scalar c v sv =

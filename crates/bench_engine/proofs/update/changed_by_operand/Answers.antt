@@ -9,7 +9,7 @@ use Rattle.shape_strides.specs.declared.index_item.IndexItem.TheVariants.{Ellips
 use Rattle.name_store.specs.ArrayLaws.{found-array}
 use Rattle.name_store.specs.States.{Array}
 use Rattle.bench_engine.specs.IndexLists.{taken}
-use Rattle.bench_engine.specs.Machine.{values_of, viewed, changed_with}
+use Rattle.bench_engine.specs.Machine.{operand_values, viewed, changed_with}
 use Rattle.bench_engine.specs.inside.Operands.{GivesChanged}
 use Rattle.bench_engine.proofs.Computes.{part-bad, part-done}
 use Rattle.bench_engine.proofs.GivenLaws.{given-taken}
@@ -23,7 +23,7 @@ returns-in_err-taken c v stands =
     let it = found-array s _ c.unwrap-array.result (rw c.unwrap-array.ensures at c.get.ensures) in
     let p = err_from_is_err_and c.from_residual.result c.from_residual.ensures.1 in
     rw (p.1, p.2) (passed (taken s it.0 (unwrap_or c.args.operand.now.index (Ellipsis ∷ []))) _ _
-    (λ bad. ap (λ (r : Result Array Refusal). changed_with c.args.operation c.args.old.descr.now v (r >>= (λ part. Ok (values_of s part)))) (part-bad s c.args.operand.now it.0 it.1 _ bad)) (c.in_err-taken.ensures it.0 it.2))
+    (λ bad. ap (λ (r : Result Array Refusal). changed_with c.args.operation c.args.old.descr.now v (r >>= (λ part. Ok (operand_values s part)))) (part-bad s c.args.operand.now it.0 it.1 _ bad)) (c.in_err-taken.ensures it.0 it.2))
 
 pub items_taken-requires : goal.items_taken-requires
 items_taken-requires c =
@@ -45,5 +45,5 @@ returns c v stands =
     let it = found-array s _ c.unwrap-array.result (rw c.unwrap-array.ensures at c.get.ensures) in
     let is = given-taken s it.0 c.unwrap-array.result (list_all is_basic (unwrap_or c.args.operand.now.index (Ellipsis ∷ []))) c.in_ok-taken.taken (taken s it.0 (unwrap_or c.args.operand.now.index (Ellipsis ∷ []))) (c.in_ok-taken.ensures it.0 it.2) in
     let other = c.items_taken.ensures s it.0 _ is.0 it.2 is.2 in
-    subst (GivesChanged c.args.old.descr.now (count v.shape) c.changed_by_items.result) (sym (ap (λ (r : Result Array Refusal). changed_with c.args.operation c.args.old.descr.now v (r >>= (λ part. Ok (values_of s part)))) (part-done s c.args.operand.now it.0 it.1 is.0 is.1)))
-    (c.changed_by_items.ensures v (values_of s (viewed it.0 is.0)) stands (all-stand s (viewed it.0 is.0) _ other))
+    subst (GivesChanged c.args.old.descr.now (count v.shape) c.changed_by_items.result) (sym (ap (λ (r : Result Array Refusal). changed_with c.args.operation c.args.old.descr.now v (r >>= (λ part. Ok (operand_values s part)))) (part-done s c.args.operand.now it.0 it.1 is.0 is.1)))
+    (c.changed_by_items.ensures v (operand_values s (viewed it.0 is.0)) stands (all-stand s (viewed it.0 is.0) _ other))

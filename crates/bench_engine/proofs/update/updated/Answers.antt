@@ -3,7 +3,7 @@ use Rattle.name_store.specs.declared.target.Target.{Target}
 use Rattle.elem_descr.specs.declared.descr.Descr.{Descr}
 use Rattle.shape_strides.specs.Indexes.{count}
 use Rattle.bench_engine.specs.inside.Operands.{GivesChanged}
-use Rattle.bench_engine.specs.Machine.{values_of, updated}
+use Rattle.bench_engine.specs.Machine.{operand_values, updated}
 use Rattle.bench_engine.specs.inside.Assigns.{IsTarget}
 use Rattle.bench_engine.proofs.OperandLaws.{all-stand}
 use Rattle.bench_engine.proofs.Written.{old-view, view-inside, plan-inside, old-plan}
@@ -25,7 +25,7 @@ pub returns-in-View : goal.returns-in-View
 returns-in-View c name a part shows target =
     let s = c.args.bench.now in
     let is = subst (λ (t : Target). IsTarget s name a part t) c.in-View.is target in
-    c.changed.ensures (values_of s part) (all-stand s part _ (old-view s name a part c.args.array.now shows _ _ is refl refl refl))
+    c.changed.ensures (operand_values s part) (all-stand s part _ (old-view s name a part c.args.array.now shows _ _ is refl refl refl))
 
 pub gather_owned-requires : goal.gather_owned-requires
 gather_owned-requires c =
@@ -40,4 +40,4 @@ returns-in_ok-old-in-Plan c name a part shows target =
     let e = c.in_ok-old-in-Plan.ensures in
     let own = c.items_of.ensures in
     let stands = all-stand s part c.items_of.result (old-plan s name a part c.args.array.now shows _ c.in_ok-old-in-Plan.old c.items_of.result is e.descr e.shape e.items own.block own.layout own.descr own.inside) in
-    subst (λ (d : Descr). GivesChanged d (count part.shape) c.changed-in-Plan.result (updated s d part c.args.operation c.args.value.now)) (own.descr ∙ e.descr) (c.changed-in-Plan.ensures (values_of s part) stands)
+    subst (λ (d : Descr). GivesChanged d (count part.shape) c.changed-in-Plan.result (updated s d part c.args.operation c.args.value.now)) (own.descr ∙ e.descr) (c.changed-in-Plan.ensures (operand_values s part) stands)

@@ -1,8 +1,8 @@
 use Rattle.std.proofs.Common.{◌≡◌, drop}
 use Rattle.std.specs.List.{list_all}
 use Rattle.fancy_index.specs.IndexArrays.{is_index}
-use Rattle.fancy_index.specs.Sources.{items_of}
+use Rattle.fancy_index.specs.Sources.{index_items}
 use Rattle.fancy_index.proofs.checks.are_indexes.Given as goal
 
 abbrev pub invariant-loop-item : goal.invariant-loop-item
-invariant-loop-item l = list_all is_index (items_of l.arrays (drop l.item-index l.items)) ≡ list_all is_index (items_of l.arrays l.items)
+invariant-loop-item l = list_all is_index (index_items l.arrays (drop l.item-index l.items)) ≡ list_all is_index (index_items l.arrays l.items)

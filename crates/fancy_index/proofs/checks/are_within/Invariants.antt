@@ -1,11 +1,11 @@
 use Rattle.std.proofs.Common.{◌≡◌, ◌-◌, ◌≤◌, length, drop}
-use Rattle.fancy_index.specs.IndexArrays.{taken, are_within}
-use Rattle.fancy_index.specs.Sources.{items_of}
+use Rattle.fancy_index.specs.IndexArrays.{array_axes_taken, are_within}
+use Rattle.fancy_index.specs.Sources.{index_items}
 use Rattle.fancy_index.proofs.checks.are_within.Given as goal
 
 abbrev pub invariant-loop-k : goal.invariant-loop-k
 invariant-loop-k l = record {
   within : l.axis ≤ length l.lengths;
-  enough : taken (items_of l.arrays (drop l.k l.items)) ≤ length l.lengths - l.axis;
-  left : are_within (drop l.axis l.lengths) (items_of l.arrays (drop l.k l.items)) ≡ are_within l.lengths (items_of l.arrays l.items);
+  enough : array_axes_taken (index_items l.arrays (drop l.k l.items)) ≤ length l.lengths - l.axis;
+  left : are_within (drop l.axis l.lengths) (index_items l.arrays (drop l.k l.items)) ≡ are_within l.lengths (index_items l.arrays l.items);
 }

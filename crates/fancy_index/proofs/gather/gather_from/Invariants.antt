@@ -1,7 +1,7 @@
 use Rattle.std.proofs.Common.{◌≡◌, ◌+◌, ◌*◌, length, map}
 use Rattle.shape_strides.specs.Layouts.{offsets}
 use Rattle.overlap_copy.specs.Assignments.{assigned}
-use Rattle.fancy_index.specs.Plans.{moved}
+use Rattle.fancy_index.specs.Plans.{moved_offset}
 use Rattle.fancy_index.specs.inside.Packed.{packed}
 use Rattle.fancy_index.proofs.Passes.{RunsLeft, Gathering, moved_runs}
 use Rattle.fancy_index.proofs.gather.gather_from.Given as goal
@@ -9,7 +9,7 @@ use Rattle.fancy_index.proofs.gather.gather_from.Given as goal
 abbrev pub invariant-loop-run : goal.invariant-loop-run
 invariant-loop-run l = record {
   left : RunsLeft l.inner.offset l.start l.run-iterator;
-  pass : Gathering (moved_runs l.inner.offset l.start l.run-iterator) l.at l.width (l.fn.at + length (map (moved l.inner.offset l.start) (offsets l.inner)) * l.width) l.block l.items
-      (assigned (packed l.fn.at l.width (length (map (moved l.inner.offset l.start) (offsets l.inner)))) (map (moved l.inner.offset l.start) (offsets l.inner)) l.width l.block l.fn.items);
+  pass : Gathering (moved_runs l.inner.offset l.start l.run-iterator) l.at l.width (l.fn.at + length (map (moved_offset l.inner.offset l.start) (offsets l.inner)) * l.width) l.block l.items
+      (assigned (packed l.fn.at l.width (length (map (moved_offset l.inner.offset l.start) (offsets l.inner)))) (map (moved_offset l.inner.offset l.start) (offsets l.inner)) l.width l.block l.fn.items);
   len : length l.items ≡ length l.fn.items;
 }

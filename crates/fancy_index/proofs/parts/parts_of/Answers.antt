@@ -1,6 +1,6 @@
 use Rattle.std.proofs.Common.{map, slice_range, subst}
 use Rattle.fancy_index.specs.IndexArrays.{with_array}
-use Rattle.fancy_index.specs.Sources.{array_of}
+use Rattle.fancy_index.specs.Sources.{index_array_of}
 use Rattle.fancy_index.specs.Parts.{parts_of}
 use Rattle.fancy_index.specs.inside.PartLists.{AddsParts}
 use Rattle.fancy_index.proofs.PartLaws.{EndsAt, parts_on}
@@ -8,7 +8,7 @@ use Rattle.fancy_index.proofs.parts.parts_of.Goals as goal
 
 pub loop-k-preserved : goal.loop-k-preserved
 loop-k-preserved c =
-    let f = with_array (map array_of c.args.arrays.now) in
+    let f = with_array (map index_array_of c.args.arrays.now) in
     let axes = slice_range c.args.lengths.now c.loop-k.axis c.axes_end-end.result in
     let ends : EndsAt f c.args.lengths.now c.args.items.now c.loop-k.k c.loop-k.axis c.axes_end-end.result = record {
       low = c.loop-k-test.true;

@@ -1,7 +1,7 @@
 use Rattle.std.proofs.Common.{◌≡◌, ◌+◌, ◌*◌, ◌<◌, length, get_or, subst, ap, ◌∙◌, sym, arith}
 use Rattle.shape_strides.specs.Layouts.{offsets}
 use Rattle.shape_strides.specs.LayoutLaws.{length-offsets}
-use Rattle.fancy_index.specs.Plans.{moved}
+use Rattle.fancy_index.specs.Plans.{moved_offset}
 use Rattle.fancy_index.specs.inside.Kept.{IsMoved}
 use Rattle.fancy_index.proofs.PlanLaws.{some_of, place_low, get_or-moved_all, start_at, item_at}
 use Rattle.fancy_index.proofs.plans.offset_in.Goals as goal
@@ -46,14 +46,14 @@ moved-requires-clause-moved c =
     let at = c.spot_at-at.result in
     let base = c.args.inner.now.offset in
     let item = item_at base (offsets c.args.outer.now) c.args.shifts.now (offsets c.args.inner.now) at.place at.shift at.item (place-in first) c.spot_at-at.ensures.shift (omega (arith, c.spot_at-at.ensures.item, many first)) c.requires.starts in
-    let start = c.moved-start.ensures.value ∙ ap (λ p. moved base p (get_or c.args.shifts.now at.shift 0)) c.offset_at-place.ensures.entry in
-    subst (λ s. IsMoved base s c.offset_at.result) (sym start) (subst (IsMoved base (moved base (get_or (offsets c.args.outer.now) at.place 0) (get_or c.args.shifts.now at.shift 0))) (sym c.offset_at.ensures.entry) item)
+    let start = c.moved-start.ensures.value ∙ ap (λ p. moved_offset base p (get_or c.args.shifts.now at.shift 0)) c.offset_at-place.ensures.entry in
+    subst (λ s. IsMoved base s c.offset_at.result) (sym start) (subst (IsMoved base (moved_offset base (get_or (offsets c.args.outer.now) at.place 0) (get_or c.args.shifts.now at.shift 0))) (sym c.offset_at.ensures.entry) item)
 
 pub returns : goal.returns
 returns c =
     let first = (goal.at.returns c).After-spot_at-at in
     let at = c.spot_at-at.result in
     let base = c.args.inner.now.offset in
-    let start = c.moved-start.ensures.value ∙ ap (λ p. moved base p (get_or c.args.shifts.now at.shift 0)) c.offset_at-place.ensures.entry in
-    c.moved.ensures.value ∙ (λ i. moved base (start i) (c.offset_at.ensures.entry i))
+    let start = c.moved-start.ensures.value ∙ ap (λ p. moved_offset base p (get_or c.args.shifts.now at.shift 0)) c.offset_at-place.ensures.entry in
+    c.moved.ensures.value ∙ (λ i. moved_offset base (start i) (c.offset_at.ensures.entry i))
     ∙ sym (get_or-moved_all base (offsets c.args.outer.now) c.args.shifts.now (offsets c.args.inner.now) c.args.rank at.place at.shift at.item (place-in first) c.spot_at-at.ensures.shift (omega (arith, c.spot_at-at.ensures.item, many first)) (spread first))

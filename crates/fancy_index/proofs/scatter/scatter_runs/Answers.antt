@@ -1,6 +1,6 @@
 use Rattle.std.proofs.Common.{◌∙◌, map, drop, ◌+◌}
 use Rattle.shape_strides.specs.Layouts.{offsets}
-use Rattle.fancy_index.specs.Plans.{moved, shifted_all}
+use Rattle.fancy_index.specs.Plans.{moved_offset, shifted_all}
 use Rattle.fancy_index.proofs.Passes.{scatter_front, scattered_front, split-shifts}
 use Rattle.fancy_index.proofs.scatter.scatter_runs.Goals as goal
 
@@ -9,14 +9,14 @@ scatter_from-at-requires-clause-inside c =
     let base = c.args.inner.now.offset in
     let inner = offsets c.args.inner.now in
     let split = split-shifts base inner c.args.place c.args.shifts.now c.loop-shift.shift-index c.moved-start.result c.loop-shift-test.true c.moved-start.ensures.value in
-    (scatter_front _ (map (moved base c.moved-start.result) inner) (shifted_all base (drop (c.loop-shift.shift-index + 1) c.args.shifts.now) inner c.args.place) c.loop-shift.at c.args.width _ c.args.items.now c.loop-shift.block _ split c.loop-shift.invariant.pass).inside
+    (scatter_front _ (map (moved_offset base c.moved-start.result) inner) (shifted_all base (drop (c.loop-shift.shift-index + 1) c.args.shifts.now) inner c.args.place) c.loop-shift.at c.args.width _ c.args.items.now c.loop-shift.block _ split c.loop-shift.invariant.pass).inside
 
 pub scatter_from-at-requires-clause-room : goal.scatter_from-at-requires-clause-room
 scatter_from-at-requires-clause-room c =
     let base = c.args.inner.now.offset in
     let inner = offsets c.args.inner.now in
     let split = split-shifts base inner c.args.place c.args.shifts.now c.loop-shift.shift-index c.moved-start.result c.loop-shift-test.true c.moved-start.ensures.value in
-    (scatter_front _ (map (moved base c.moved-start.result) inner) (shifted_all base (drop (c.loop-shift.shift-index + 1) c.args.shifts.now) inner c.args.place) c.loop-shift.at c.args.width _ c.args.items.now c.loop-shift.block _ split c.loop-shift.invariant.pass).room
+    (scatter_front _ (map (moved_offset base c.moved-start.result) inner) (shifted_all base (drop (c.loop-shift.shift-index + 1) c.args.shifts.now) inner c.args.place) c.loop-shift.at c.args.width _ c.args.items.now c.loop-shift.block _ split c.loop-shift.invariant.pass).room
 
 pub loop-shift-preserved : goal.loop-shift-preserved
 loop-shift-preserved c =
@@ -24,6 +24,6 @@ loop-shift-preserved c =
     let inner = offsets c.args.inner.now in
     let split = split-shifts base inner c.args.place c.args.shifts.now c.loop-shift.shift-index c.moved-start.result c.loop-shift-test.true c.moved-start.ensures.value in
     record {
-      pass = scattered_front _ (map (moved base c.moved-start.result) inner) (shifted_all base (drop (c.loop-shift.shift-index + 1) c.args.shifts.now) inner c.args.place) c.loop-shift.at c.scatter_from-at.result c.args.width _ c.args.items.now c.loop-shift.block c.scatter_from-at.new.block _ split c.scatter_from-at.ensures.written c.scatter_from-at.ensures.len c.scatter_from-at.ensures.end c.loop-shift.invariant.pass;
+      pass = scattered_front _ (map (moved_offset base c.moved-start.result) inner) (shifted_all base (drop (c.loop-shift.shift-index + 1) c.args.shifts.now) inner c.args.place) c.loop-shift.at c.scatter_from-at.result c.args.width _ c.args.items.now c.loop-shift.block c.scatter_from-at.new.block _ split c.scatter_from-at.ensures.written c.scatter_from-at.ensures.len c.scatter_from-at.ensures.end c.loop-shift.invariant.pass;
       len = c.scatter_from-at.ensures.len ∙ c.loop-shift.invariant.len;
     }

@@ -1,10 +1,10 @@
 use Rattle.std.proofs.Common.{◌≡◌, length, map, drop}
-use Rattle.fancy_index.specs.Plans.{moved, put_each}
+use Rattle.fancy_index.specs.Plans.{moved_offset, put_each}
 use Rattle.fancy_index.proofs.Passes.{Filling}
 use Rattle.fancy_index.proofs.singles.fill_each.Given as goal
 
 abbrev pub invariant-loop-shift : goal.invariant-loop-shift
 invariant-loop-shift l = record {
-  pass : Filling (map (moved l.base l.place) (drop l.shift-index l.shifts)) l.item l.block (put_each (map (moved l.base l.place) l.shifts) l.item l.fn.block);
+  pass : Filling (map (moved_offset l.base l.place) (drop l.shift-index l.shifts)) l.item l.block (put_each (map (moved_offset l.base l.place) l.shifts) l.item l.fn.block);
   len : length l.block ≡ length l.fn.block;
 }

@@ -1,13 +1,13 @@
 use Rattle.std.proofs.Common.{◌≡◌, ◌+◌, ◌*◌, length, map, drop}
 use Rattle.overlap_copy.specs.Assignments.{assigned}
-use Rattle.fancy_index.specs.Plans.{moved}
+use Rattle.fancy_index.specs.Plans.{moved_offset}
 use Rattle.fancy_index.specs.inside.Packed.{packed}
 use Rattle.fancy_index.proofs.Passes.{Scattering}
 use Rattle.fancy_index.proofs.singles.scatter_each.Given as goal
 
 abbrev pub invariant-loop-shift : goal.invariant-loop-shift
 invariant-loop-shift l = record {
-  pass : Scattering (map (moved l.base l.place) (drop l.shift-index l.shifts)) l.from l.width (l.at + length (map (moved l.base l.place) l.shifts) * l.width) l.items l.block
-      (assigned (map (moved l.base l.place) l.shifts) (packed l.at l.width (length (map (moved l.base l.place) l.shifts))) l.width l.items l.fn.block);
+  pass : Scattering (map (moved_offset l.base l.place) (drop l.shift-index l.shifts)) l.from l.width (l.at + length (map (moved_offset l.base l.place) l.shifts) * l.width) l.items l.block
+      (assigned (map (moved_offset l.base l.place) l.shifts) (packed l.at l.width (length (map (moved_offset l.base l.place) l.shifts))) l.width l.items l.fn.block);
   len : length l.block ≡ length l.fn.block;
 }

@@ -1,5 +1,5 @@
 use Rattle.std.proofs.Common.{◌≡◌, sym, ap, subst, ◌∙◌, arith, length}
-use Rattle.npy_format.specs.Files.{HasItems}
+use Rattle.npy_format.specs.Files.{HoldsFileItems}
 use Rattle.npy_format.specs.inside.LoadedParts.{load_behind}
 use Rattle.npy_format.proofs.PartLaws.{nothing_behind}
 use Rattle.npy_format.proofs.loader.load_behind.Goals as goal
@@ -11,6 +11,6 @@ returns c =
     let all = nothing_behind c.in_ok-header.items.now rest c.args.block (c.in_ok-header.ensures.all ∙ c.bytes.ensures) none in (
       _,
       ap (load_behind c.args.text.now) (sym c.bytes.ensures) ∙ c.in_ok-header.ensures.gives,
-      subst (HasItems c.in_ok-array-2.array c.in_ok-header.header) all c.in_ok-array-2.ensures,
+      subst (HoldsFileItems c.in_ok-array-2.array c.in_ok-header.header) all c.in_ok-array-2.ensures,
       sym none,
     )

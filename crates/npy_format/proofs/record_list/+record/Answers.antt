@@ -6,7 +6,7 @@ use Rattle.elem_descr.specs.Refusals.{◌>>=◌}
 use Rattle.elem_descr.specs.FormatLetters.{is_empty}
 use Rattle.elem_descr.specs.FormatRecords.{Partial}
 use Rattle.npy_format.specs.Tokens.{tokens}
-use Rattle.npy_format.specs.Literals.{symbol_at}
+use Rattle.npy_format.specs.Literals.{symbol_token_at}
 use Rattle.npy_format.specs.RecordLists.{type_in, record_in}
 use Rattle.npy_format.specs.inside.Places.{value_in}
 use Rattle.npy_format.proofs.GrammarLaws.{literal_leaves}
@@ -87,21 +87,21 @@ record-loop-rest-init t c =
 pub record-returns-in_err-add_entry-clause-gives : goal.record-returns-in_err-add_entry-clause-gives
 record-returns-in_err-add_entry-clause-gives t c = λ values s.
     let p = err_from_is_err_and c.from_residual.result c.from_residual.ensures.1 in
-    rw (p.1, p.2) (fields_refused c.args.levels c.args.leaves values c.loop-rest.draft (tokens c.loop-rest.rest.now) (c.loop-rest.invariant.read values s) (symbol_open c.symbol.result (symbol_at 93 (tokens c.loop-rest.rest.now)) c.loop-rest-test.ensures c.symbol.ensures) c.loop-rest.invariant.levels _ c.in_err-add_entry.ensures.gives)
+    rw (p.1, p.2) (fields_refused c.args.levels c.args.leaves values c.loop-rest.draft (tokens c.loop-rest.rest.now) (c.loop-rest.invariant.read values s) (symbol_open c.symbol.result (symbol_token_at 93 (tokens c.loop-rest.rest.now)) c.loop-rest-test.ensures c.symbol.ensures) c.loop-rest.invariant.levels _ c.in_err-add_entry.ensures.gives)
 
 pub record-returns-in_err-rest-clause-gives : goal.record-returns-in_err-rest-clause-gives
-record-returns-in_err-rest-clause-gives t c = λ values s. absurd (fields_read c.args.levels c.args.leaves values c.loop-rest.draft (tokens c.loop-rest.rest.now) (c.loop-rest.invariant.read values s) (symbol_open c.symbol.result (symbol_at 93 (tokens c.loop-rest.rest.now)) c.loop-rest-test.ensures c.symbol.ensures) _ c.in_err-rest.ensures)
+record-returns-in_err-rest-clause-gives t c = λ values s. absurd (fields_read c.args.levels c.args.leaves values c.loop-rest.draft (tokens c.loop-rest.rest.now) (c.loop-rest.invariant.read values s) (symbol_open c.symbol.result (symbol_token_at 93 (tokens c.loop-rest.rest.now)) c.loop-rest-test.ensures c.symbol.ensures) _ c.in_err-rest.ensures)
 
 pub record-loop-rest-smaller : goal.record-loop-rest-smaller
 record-loop-rest-smaller t c = entry_shorter value_in (tokens c.loop-rest.rest.now) (tokens c.in_ok-rest.rest.now) (literal_leaves 15) c.in_ok-rest.ensures
 
 pub record-loop-rest-preserved : goal.record-loop-rest-preserved
 record-loop-rest-preserved t c = record {
-  read = λ values s. fields_next c.args.levels c.args.leaves values c.loop-rest.draft (tokens c.loop-rest.rest.now) (c.loop-rest.invariant.read values s) (symbol_open c.symbol.result (symbol_at 93 (tokens c.loop-rest.rest.now)) c.loop-rest-test.ensures c.symbol.ensures) c.loop-rest.invariant.levels _ c.in_ok-add_entry.ensures.gives (tokens c.in_ok-rest.rest.now) c.in_ok-rest.ensures;
+  read = λ values s. fields_next c.args.levels c.args.leaves values c.loop-rest.draft (tokens c.loop-rest.rest.now) (c.loop-rest.invariant.read values s) (symbol_open c.symbol.result (symbol_token_at 93 (tokens c.loop-rest.rest.now)) c.loop-rest-test.ensures c.symbol.ensures) c.loop-rest.invariant.levels _ c.in_ok-add_entry.ensures.gives (tokens c.in_ok-rest.rest.now) c.in_ok-rest.ensures;
   levels = omega (arith, c.loop-rest.invariant.levels, c.add_entry.ensures.levels);
 }
 
 pub record-returns-clause-gives : goal.record-returns-clause-gives
 record-returns-clause-gives t c = λ values s.
-    let end = symbol_closed c.symbol.result (symbol_at 93 (tokens c.loop-rest.rest.now)) c.loop-rest-test.ensures c.symbol.ensures in
+    let end = symbol_closed c.symbol.result (symbol_token_at 93 (tokens c.loop-rest.rest.now)) c.loop-rest-test.ensures c.symbol.ensures in
     gives_same _ _ _ _ (fields_closed c.args.levels c.args.leaves values c.loop-rest.draft (tokens c.loop-rest.rest.now) (c.loop-rest.invariant.read values s) end.0 end.1) c.close.ensures.gives

@@ -4,7 +4,7 @@ use Rattle.elem_descr.specs.Items.{item_size, encode_item}
 use Rattle.elem_descr.specs.Blocks.{item_from}
 use Rattle.shape_strides.specs.Layouts.{offsets}
 use Rattle.shape_strides.specs.LayoutLaws.{length-offsets}
-use Rattle.npy_format.specs.Files.{order_of}
+use Rattle.npy_format.specs.Files.{file_order}
 use Rattle.npy_format.specs.WrittenHeaders.{written_text, written_header}
 use Rattle.npy_format.specs.WrittenFiles.{is_fortran, ordered}
 use Rattle.npy_format.proofs.SaverLaws.{stretch_ends, stretch_written}
@@ -23,4 +23,4 @@ returns c =
     let fortran = is_fortran (item_size descr) l.shape (offsets l) in
     ap (λ items. c.in_ok-front.front.items ++ items) c.stretch-items.ensures
     ∙ stretch_written descr l.shape (offsets l) c.args.bytes.now c.first_address.result c.args.len (length-offsets l) c.requires.inside c.requires.together c.first_address.ensures c.requires.len c.in_ok-front.front.items c.requires.plain c.requires.in_order (λ i. (c.type_inv.bytes i).fits)
-    ∙ ap (λ head. head ++ flat_map (encode_item descr) (ordered (order_of fortran) l.shape values)) (c.in_ok-front.ensures ∙ ap (λ f. written_header (written_text descr f l.shape)) (c.is_fortran-fortran.ensures ∙ ap (λ w. is_fortran w l.shape (offsets l)) c.size.ensures.value))
+    ∙ ap (λ head. head ++ flat_map (encode_item descr) (ordered (file_order fortran) l.shape values)) (c.in_ok-front.ensures ∙ ap (λ f. written_header (written_text descr f l.shape)) (c.is_fortran-fortran.ensures ∙ ap (λ w. is_fortran w l.shape (offsets l)) c.size.ensures.value))

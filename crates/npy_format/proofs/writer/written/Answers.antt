@@ -4,7 +4,7 @@ use Rattle.elem_descr.specs.Items.{encode_item}
 use Rattle.elem_descr.specs.Blocks.{item_from}
 use Rattle.shape_strides.specs.Layouts.{offsets}
 use Rattle.shape_strides.specs.LayoutLaws.{length-offsets}
-use Rattle.npy_format.specs.Files.{order_of}
+use Rattle.npy_format.specs.Files.{file_order}
 use Rattle.npy_format.specs.WrittenHeaders.{written_text, written_header}
 use Rattle.npy_format.specs.WrittenFiles.{is_fortran, ordered, file_of}
 use Rattle.npy_format.specs.inside.WrittenItems.{addresses_in_file}
@@ -33,5 +33,5 @@ returns c =
     let inside = subst (λ w. All (λ offset. offset + w ≤ length c.args.bytes.now) (offsets l)) (sym sized) c.requires.inside in
     let is : c.push_items.new.file.items ≡ c.in_ok-file.file.items ++ gathered width c.args.bytes.now (addresses_in_file width l.shape (offsets l)) = c.in_ok-push_items.ensures ∙ ap (λ f. f ++ gathered width c.args.bytes.now (addresses_in_file width l.shape (offsets l))) c.in_ok-reserve_exact.ensures.items in
     file_written l.shape (offsets l) c.args.bytes.now c.in_ok-file.file.items c.push_items.new.file.items width (length-offsets l) inside is descr c.write_behind.new.file.items c.len-start.result c.items.result sized begins c.items.ensures.value c.write_behind.ensures
-    ∙ ap (λ head. head ++ flat_map (encode_item descr) (ordered (order_of (is_fortran width l.shape (offsets l))) l.shape values)) (c.in_ok-file.ensures ∙ ap (λ f. written_header (written_text descr f l.shape)) c.is_fortran-fortran.ensures)
+    ∙ ap (λ head. head ++ flat_map (encode_item descr) (ordered (file_order (is_fortran width l.shape (offsets l))) l.shape values)) (c.in_ok-file.ensures ∙ ap (λ f. written_header (written_text descr f l.shape)) c.is_fortran-fortran.ensures)
     ∙ ap (λ w. file_of descr (is_fortran w l.shape (offsets l)) l.shape values) sized

@@ -9,7 +9,7 @@ use Rattle.elem_descr.specs.Refusals.{Gives}
 use Rattle.shape_strides.specs.Indexes.{count}
 use Rattle.shape_strides.specs.Layouts.{offsets, multiples}
 use Rattle.reductions.specs.Lists.{named_axis, is_axis, lists}
-use Rattle.reductions.specs.Outcomes.{outcome, outcome_of}
+use Rattle.reductions.specs.Outcomes.{reduced_type, outcome_of}
 use Rattle.reductions.specs.Reductions.{result_scalar, reduced_items}
 use Rattle.reductions.specs.inside.Axes.{IsAxisOf, shape_after}
 use Rattle.reductions.specs.inside.Numbers.{AreReduced}
@@ -37,7 +37,7 @@ returns-in_err-shape-clause-array c =
     let found = c.in_ok-axis.ensures.ok in
     let named = ap (λ n. named_axis n c.args.axis) (sym c.rank.ensures.value) ∙ sym found.1 in
     let refusal = c.in_err-shape.field-0.0 in
-    rw (p.1, p.2) (elim c.in_err-shape.ensures as (λ _. Gives outcome_of (Err refusal) (outcome c.args.reduction c.args.items.descr.now shape c.args.axis c.args.keep)) [
+    rw (p.1, p.2) (elim c.in_err-shape.ensures as (λ _. Gives outcome_of (Err refusal) (reduced_type c.args.reduction c.args.items.descr.now shape c.args.axis c.args.keep)) [
       | inl lacked ↦ inl lacked
       | inr refused ↦ inr (outcome_shape c.args.reduction c.args.items.descr.now shape c.args.axis c.args.keep c.in_ok-scalar.scalar refusal c.in_ok-scalar.ensures.ok.0 (ap (λ n. is_axis n c.args.axis) (sym c.rank.ensures.value) ∙ found.0)
           (ap (λ axis. shape_after c.args.reduction shape axis c.args.keep) named ∙ refused))
