@@ -23,12 +23,7 @@ use std::alloc::Global;
 /// What an operation gives on the items of two arrays that are broadcast together, in a block of their
 /// own in C order, of the type that `promote` tells. Refused as `promote` refuses, records as
 /// `NotForThisKind`; then as `common` refuses: `ShapesDoNotBroadcast`, `TooLarge`.
-pub fn apply2(
-    alloc: Global,
-    op: BinOp,
-    left: Items<'_>,
-    right: Items<'_>,
-) -> Result<Owned, Refusal>
+pub fn apply2(alloc: Global, op: BinOp, left: Items<'_>, right: Items<'_>) -> Result<Owned, Refusal>
     ensures gives { Gives (λ o. (o.descr, o.layout.shape)) result (binary_result op left.entry.descr.now left.entry.layout.now.shape right.entry.descr.now right.entry.layout.now.shape) }
     ensures order { IfOk result (λ o. offsets o.layout ≡ offsets_in C (item_size o.descr) o.layout.shape) }
     ensures items { IfOk result (λ o. map (item_from o.descr o.block) (offsets o.layout)

@@ -31,10 +31,7 @@ pub(crate) fn combine<N: Number, O: Ordered>(
     ensures left { pairs_of operands.entry * N.WIDTH + result.1 ≡ block.1 }
 {
     match op {
-        BinOp::Add => operands.push_all(
-            &Numbers::<Adding, N, N, N, O, LowFirst>::new(),
-            block,
-        ),
+        BinOp::Add => operands.push_all(&Numbers::<Adding, N, N, N, O, LowFirst>::new(), block),
         BinOp::Subtract => operands.push_all(
             &Numbers::<Subtracting, N, N, N, O, LowFirst>::new(),
             block,
@@ -59,10 +56,7 @@ pub(crate) fn combine<N: Number, O: Ordered>(
             &Numbers::<KeepingEither, N, N, N, O, LowFirst>::new(),
             block,
         ),
-        BinOp::Xor => operands.push_all(
-            &Numbers::<KeepingOne, N, N, N, O, LowFirst>::new(),
-            block,
-        ),
+        BinOp::Xor => operands.push_all(&Numbers::<KeepingOne, N, N, N, O, LowFirst>::new(), block),
         BinOp::ShiftLeft => operands.push_all(
             &Numbers::<MovingUp, N, N, N, O, LowFirst>::new(),
             block,
@@ -90,10 +84,7 @@ pub(crate) fn change<N: Number, O: Ordered>(
     ensures left { pairs_of operands.entry * N.WIDTH + result.1 ≡ block.1 }
 {
     match op {
-        UnOp::Negate => operands.push_all(
-            &Numbers::<Negating, N, N, N, O, LowFirst>::new(),
-            block,
-        ),
+        UnOp::Negate => operands.push_all(&Numbers::<Negating, N, N, N, O, LowFirst>::new(), block),
         UnOp::Invert if bools => operands.push_all(
             &Numbers::<Flipping, N, N, N, O, LowFirst>::new(),
             block,
