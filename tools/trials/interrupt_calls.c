@@ -54,5 +54,5 @@ INTERRUPTED(OPEN_LOOK, fstat64, (int file, struct stat64 *found), (file, found))
 /* Looks by a path; one at an open file goes through, as no system interrupts it. */
 int statx(int folder, const char *path, int flags, unsigned mask, struct statx *found)
 {
-    return *path != 0 && is_interrupted(EXTENDED_LOOK) ? -1 : syscall(SYS_statx, folder, path, flags, mask, found);
+    return is_interrupted(EXTENDED_LOOK) ? -1 : syscall(SYS_statx, folder, path, flags, mask, found);
 }
