@@ -145,18 +145,9 @@ def _of_code(known: Known, line: str, code: str, folder: str) -> str:
         near = difflib.get_close_matches(line.split('"')[1], os.listdir(folder))
         return f"near it: {' '.join(near)}" if near else f"looked for in {os.path.abspath(folder)}"
     if code == "E19":
-        return "; ".join(f"{name} has {' '.join(fields(known.session, name)) or 'no fields'}" for name in bound)
+        return "; ".join(f"{name} has {' '.join(known.session.fields(name)) or 'no fields'}" for name in bound)
     if code == "E20":
         return "write: copy X C, and set in the copy"
     shown = [known.session.array(name, items=False) for name in bound]
     return "; ".join(f"{array.name} is {array.type} {array.shape}" for array in shown)
 
-
-def fields(session: Session, name: str) -> list[str]:
-    """The fields of a record's array, by its format text."""
-    depth, found = 0, []
-    for field, brace in re.findall(r":([^:]*):|([{}])", session.ask(f"format {name}")):
-        depth += {"{": 1, "}": -1}.get(brace, 0)
-        if not brace and depth == 1:
-            found.append(field)
-    return found

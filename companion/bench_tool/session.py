@@ -28,6 +28,7 @@ ENDS = tuple(first + b"\nno E02 byte not allowed\n" for first in (b"no E03 synta
 LONGEST = max(map(len, ENDS))
 REFUSAL = re.compile(r"no (E\d\d) (.*)")
 INFO = re.compile(r"info \w+ (.*) \(([\d, ]*)\) strides \(([-\d, ]*)\) at (\d+) order ([CF]+|-) write (yes|no)")
+FIELD = re.compile(r":([^:]*):|([{}])")
 TOKEN = re.compile(r"b'(?:[^'\\]|\\.)*'|[()]|[-\w]+")
 
 
@@ -103,9 +104,8 @@ def items_of(text: str) -> tuple[Any, ...]:
 def find_program() -> str:
     """The path of the program: BENCH, else the one of the repository or the installed one."""
     top = Path(__file__).resolve().parents[2]
-    places = (top / "crates/bench_main/out/bench_main", top.parent / "bin/bench")
-    beside = (str(place) for place in places if place.is_file() and os.access(place, os.X_OK))
-    found = os.environ.get("BENCH") or next(beside, None) or shutil.which("bench")
+    places = map(str, (top / "crates/bench_main/out/bench_main", top.parent / "bin/bench", "bench"))
+    found = os.environ.get("BENCH") or next(filter(None, map(shutil.which, places)), None)
     if not found:
         raise ProgramMissing("there is no program: BENCH names none, and none is installed or built")
     return found
@@ -136,9 +136,13 @@ class Session:
         sent = line.encode("utf-8", "surrogateescape") if isinstance(line, str) else bytes(line)
         if b"\n" in sent:
             raise ValueError("one line at a time: a newline stands within it")
+        if self._status is not None:
+            raise self._ended()
         begin = bytearray()
         try:
-            self._write(sent + MARKER)
+            with suppress(BrokenPipeError):  # what has ended is seen as its reply is read
+                self._to.write(sent + MARKER)
+                self._to.flush()
             for part in self._parts():
                 begin += part if take is None else part[:max(0, 256 - len(begin))]
                 if take is not None:
@@ -146,8 +150,7 @@ class Session:
         except BaseException:
             self.close()
             raise
-        text = begin.decode("ascii", "replace")
-        text = text[:-1] if text.endswith("\n") else text
+        text = begin.decode("ascii", "replace").removesuffix("\n")
         refused = REFUSAL.fullmatch(text)
         return Reply(refused is None, refused[1] if refused else "", text)
 
@@ -175,6 +178,15 @@ class Session:
         values = items_of(self.ask(f"print {name}")) if items else ()
         return Array(name, type_, _numbers(shape), _numbers(strides), int(at), order, write == "yes", values)
 
+    def fields(self, name: str) -> list[str]:
+        """The fields of a record's array, by its format text."""
+        depth, found = 0, []
+        for field, brace in FIELD.findall(self.ask(f"format {name}")):
+            depth += {"{": 1, "}": -1}.get(brace, 0)
+            if not brace and depth == 1:
+                found.append(field)
+        return found
+
     def close(self) -> int:
         """Ends the program, and answers the status that it ended with. A second call does nothing more."""
         if self._status is None:
@@ -194,15 +206,6 @@ class Session:
         ended = ProgramEnded(f"{self.program} has ended, with status {self.close()}")
         ended.status = self.close()
         return ended
-
-    def _write(self, data: bytes) -> None:
-        if self._status is not None:
-            raise self._ended()
-        try:
-            self._to.write(data)
-            self._to.flush()
-        except BrokenPipeError:
-            raise self._ended() from None
 
     def _parts(self) -> Iterator[bytes]:
         """The reply as it comes, without what the marker is answered."""

@@ -37,7 +37,7 @@ def words_behind(session: Session, folder: str, before: str) -> list[str]:
     said = before.replace("=", " = ").split()
     if before.count('"') % 2:
         if "field" in said:
-            return hints.fields(session, said[said.index("field") + 1])
+            return session.fields(said[said.index("field") + 1])
         return sorted(entry.name for entry in os.scandir(folder or ".") if entry.is_file() and entry.name[0] not in ".-")
     if said == ["help"]:
         return sorted({*language.verbs(False), *language.verbs(True), *language.codes()})
