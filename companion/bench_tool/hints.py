@@ -3,8 +3,6 @@
 There is no grammar here: a row of the table is one way of writing, told by a pattern, and a test tries each row's example
 and what is to be written in its place against the program.
 """
-from __future__ import annotations
-
 import difflib
 import os
 import re

@@ -1,6 +1,4 @@
 """The words of bench-tool."""
-from __future__ import annotations
-
 import argparse
 import os
 import sys

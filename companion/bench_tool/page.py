@@ -1,6 +1,4 @@
 """`draw SCRIPT`: a page of pictures of a script, one for each of its lines, or one of them as SVG."""
-from __future__ import annotations
-
 import argparse
 import json
 import sys

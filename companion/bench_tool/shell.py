@@ -1,13 +1,11 @@
 """`shell`: a prompt over a session, with history, Tab, help, and what may be meant by a refused line."""
-from __future__ import annotations
-
 import argparse
 import os
 import signal
 import sys
 from contextlib import contextmanager, suppress
 from pathlib import Path
-from typing import Any, Iterator, Optional
+from typing import Iterator, Optional
 
 from . import hints, language
 from .session import BenchError, Session
@@ -89,23 +87,21 @@ class Shell:
     def loop(self) -> None:
         """Reads and answers lines until there are no more."""
         prompt, end = (PROMPT, "\n") if sys.stdin.isatty() else ("", "")
-        goes_on = True
-        while goes_on:
-            try:
-                goes_on = self.take(input(prompt))
-            except EOFError:
-                goes_on = False
-                print(end=end)
-            except KeyboardInterrupt:
-                print()
+        with suppress(EOFError):
+            while True:
+                try:
+                    if not self.take(input(prompt)):
+                        return
+                except KeyboardInterrupt:
+                    print()
+        print(end=end)
 
 
-@contextmanager
-def editing(complete: Any) -> Iterator[None]:
+def edited(prompt: Shell) -> None:
     """Editing, Tab, and the history of earlier shells: BENCH_HISTORY, where an empty one means none, else in the user's state."""
     state = Path(os.environ.get("XDG_STATE_HOME") or Path.home() / ".local/state")
     path = Path(os.environ.get("BENCH_HISTORY", state / "bench/history") or os.devnull)
-    readline.set_completer(complete)
+    readline.set_completer(prompt.complete)
     readline.set_completer_delims(" \t=[](),:\"")
     readline.parse_and_bind("tab: complete")
     readline.set_history_length(2000)
@@ -113,7 +109,7 @@ def editing(complete: Any) -> Iterator[None]:
         path.parent.mkdir(parents=True, exist_ok=True)
         readline.read_history_file(path)
     try:
-        yield
+        prompt.loop()
     finally:
         with suppress(OSError):
             readline.write_history_file(path)
@@ -126,6 +122,5 @@ def shell(words: argparse.Namespace) -> int:
             prompt.loop()
         else:
             print(GREETING)
-            with editing(prompt.complete):
-                prompt.loop()
+            edited(prompt)
     return 0

@@ -1,6 +1,4 @@
 """Tables drawn as SVG, in blocks of as many columns as there is room for; a picture of one line, for documents."""
-from __future__ import annotations
-
 import textwrap
 from html import escape
 from typing import Iterator, NamedTuple
