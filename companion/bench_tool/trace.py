@@ -181,7 +181,7 @@ class Trace(ExitStack):
         before, moved = self.state, {}
         names, buffers = before.names, before.buffers
         words = [word for word in WORD.findall(text) if word in names]
-        verb, *rest = reply.text.split()[1:] if reply.accepted and reply.text.startswith("ok ") else ["save"]
+        verb, *rest = reply.text.split()[1:] if reply.text.startswith("ok ") else ["save"]
         if verb != "save":
             self._again(line, reply)
             if verb in ("set", "upd"):
