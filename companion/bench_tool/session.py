@@ -11,7 +11,7 @@ import re
 import shutil
 import subprocess
 from ast import literal_eval
-from contextlib import suppress
+from contextlib import AbstractContextManager, suppress
 from dataclasses import dataclass
 from math import prod
 from pathlib import Path
@@ -27,7 +27,7 @@ MARKER = b"\n~\n\x7f\n"
 ENDS = tuple(first + b"\nno E02 byte not allowed\n" for first in (b"no E03 syntax", b"no E40 out of memory"))
 LONGEST = max(map(len, ENDS))
 REFUSAL = re.compile(r"no (E\d\d) (.*)")
-INFO = re.compile(r"info \w+ (.*) \(([\d, ]*)\) strides \(([-\d, ]*)\) at (\d+) order ([CF]+|-) write (yes|no)")
+INFO = re.compile(r"info \w+ (.*) (\([\d, ]*\)) strides (\([-\d, ]*\)) at (\d+) order ([CF]+|-) write (yes|no)")
 FIELD = re.compile(r":([^:]*):|([{}])")
 TOKEN = re.compile(r"b'(?:[^'\\]|\\.)*'|[()]|[-\w]+")
 
@@ -43,7 +43,9 @@ class ProgramMissing(BenchError):
 class ProgramEnded(BenchError):
     """The program is not there any more; `status` is what it ended with."""
 
-    status = 0
+    def __init__(self, program: str, status: int):
+        super().__init__(f"{program} has ended, with status {status}")
+        self.status = status
 
 
 class Refused(BenchError):
@@ -56,16 +58,13 @@ class Refused(BenchError):
 
 @dataclass(frozen=True)
 class Reply:
-    """The reply to a line: its text without the last newline, none to a blank line and a comment; its code if it is refused."""
+    """The reply to a line: its text without the last newline, none to a blank line and a comment; if it is refused its code, and the
+    words behind that."""
 
     accepted: bool
     code: str
+    meaning: str
     text: str
-
-    @property
-    def meaning(self) -> str:
-        """The words behind the code."""
-        return "" if self.accepted else self.text[len(f"no {self.code} "):]
 
 
 @dataclass(frozen=True)
@@ -90,10 +89,6 @@ class Array:
         return made[0]
 
 
-def _numbers(text: str) -> tuple[int, ...]:
-    return tuple(int(word) for word in text.replace(",", " ").split())
-
-
 def items_of(text: str) -> tuple[Any, ...]:
     """The items of a printed array, in C order: integers, bools, bytes, and tuples for records."""
     if "'" not in text and "(" not in text and "e" not in text:
@@ -111,7 +106,7 @@ def find_program() -> str:
     return found
 
 
-class Session:
+class Session(AbstractContextManager["Session"]):
     """The program with its names and undos, from its start to `close`.
 
     An exception in the midst of a reply ends the session, since the rest would be taken for the next reply. The program
@@ -137,7 +132,7 @@ class Session:
         if b"\n" in sent:
             raise ValueError("one line at a time: a newline stands within it")
         if self._status is not None:
-            raise self._ended()
+            raise ProgramEnded(self.program, self._status)
         begin = bytearray()
         try:
             with suppress(BrokenPipeError):  # what has ended is seen as its reply is read
@@ -152,7 +147,7 @@ class Session:
             raise
         text = begin.decode("ascii", "replace").removesuffix("\n")
         refused = REFUSAL.fullmatch(text)
-        return Reply(refused is None, refused[1] if refused else "", text)
+        return Reply(refused is None, *(refused.groups() if refused else ("", "")), text)
 
     def run(self, lines: Union[str, Iterable[Line]]) -> list[Reply]:
         """The replies to several lines, one for each."""
@@ -176,7 +171,7 @@ class Session:
             raise BenchError(f"the reply to info {name} is not understood")
         type_, shape, strides, at, order, write = found.groups()
         values = items_of(self.ask(f"print {name}")) if items else ()
-        return Array(name, type_, _numbers(shape), _numbers(strides), int(at), order, write == "yes", values)
+        return Array(name, type_, literal_eval(shape), literal_eval(strides), int(at), order, write == "yes", values)
 
     def fields(self, name: str) -> list[str]:
         """The fields of a record's array, by its format text."""
@@ -196,16 +191,8 @@ class Session:
             self._status = self._process.wait()
         return self._status
 
-    def __enter__(self) -> Session:
-        return self
-
     def __exit__(self, *_: object) -> None:
         self.close()
-
-    def _ended(self) -> ProgramEnded:
-        ended = ProgramEnded(f"{self.program} has ended, with status {self.close()}")
-        ended.status = self.close()
-        return ended
 
     def _parts(self) -> Iterator[bytes]:
         """The reply as it comes, without what the marker is answered."""
@@ -213,7 +200,7 @@ class Session:
         while not held.endswith(ENDS):
             part = self._from.read1(1 << 16)
             if not part:
-                raise self._ended()
+                raise ProgramEnded(self.program, self.close())
             if len(held) > LONGEST:
                 yield held[:-LONGEST]
             held = held[-LONGEST:] + part

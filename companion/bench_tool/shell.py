@@ -16,7 +16,6 @@ except ImportError:  # a Python without it has a prompt without editing
     readline = None  # type: ignore[assignment]
 
 PROMPT = "bench> "
-GREETING = "help lists the commands, help COMMAND tells one; Tab completes; quit or Ctrl-D ends"
 
 
 @contextmanager
@@ -121,6 +120,6 @@ def shell(words: argparse.Namespace) -> int:
         if readline is None or not sys.stdin.isatty():
             prompt.loop()
         else:
-            print(GREETING)
+            print("help lists the commands, help COMMAND tells one; Tab completes; quit or Ctrl-D ends")
             edited(prompt)
     return 0
