@@ -109,7 +109,7 @@ RECORDS = (
     "t = np.zeros($n, [('k', '<i4'), ('v', '<i4')]); a = t['v']; b = t['k']",
 )
 STRINGS = (
-    'a = full |S8 ($n) "abcdefgh"\nb = full |S8 ($n) "abcdefgi"',
+    "a = full |S8 ($n) b'abcdefgh'\nb = full |S8 ($n) b'abcdefgi'",
     "a = np.full($n, b'abcdefgh', '|S8'); b = np.full($n, b'abcdefgi', '|S8')",
 )
 NAMES = ("\n".join(f"n{k} = full <i4 (10) 7" for k in range(1000)) + f"\n{FEW[0]}", FEW[1])

@@ -4,7 +4,6 @@ pub mod Decided
 pub mod Leaves
 pub mod Fields
 pub mod Blocked
-pub mod Copied
 pub mod Stepping
 pub mod Ends
 pub mod Scalars

@@ -1,6 +1,6 @@
 //! Literals as items of a descriptor.
 ghost use Rattle.std.specs.Prelude.{◌≡◌, ◌≤◌, ◌+◌, ◌*◌, true, ◌++◌, length, take, drop, map, replicate, Ok, Err, MatchResult, IfOk, OnErr};
-ghost use Rattle.std.specs.List.{list_all, concat};
+ghost use Rattle.std.specs.List.{list_all};
 ghost use Rattle.elem_descr.specs.declared.refusal.Refusal.TheVariants.{LiteralOutOfRange};
 ghost use Rattle.elem_descr.specs.declared.descr.Descr.TheVariants.{Record as RecordDescr};
 ghost use Rattle.elem_descr.specs.Descriptors.{IsLegal, listed};
@@ -270,36 +270,4 @@ pub fn write_items(descr: &Descr, literals: &[Literal], block: &mut [u8]) -> Res
     }
     write_casts(descr, literals, block);
     Ok(())
-}
-
-/// The most items that are copied at once, so that they are read from near memory.
-const MOST_AT_ONCE: usize = 1024;
-
-/// Copies the first `len` bytes to those from `at` on.
-fn copy_front(block: &mut [u8], at: usize, len: usize)
-    requires { (len ≤ at) × (at + len ≤ length block.old) }
-    ensures { block.new ≡ take at block.old ++ take len block.old ++ drop (at + len) block.old }
-{
-    let (front, back) = block.split_at_mut(at);
-    back[..len].copy_from_slice(&front[..len]);
-}
-
-/// Fills a block with n copies of an item. Those that are there are copied again, so that most moves
-/// are long.
-pub fn fill(item: &[u8], block: &mut [u8], n: usize)
-    requires { length block.old ≡ n * length item.now }
-    ensures copies { block.new ≡ concat (replicate n item.now) }
-    ensures items { blocks (length item.now) n block.new ≡ replicate n item.now }
-{
-    if n == 0 {
-        return;
-    }
-    let size = item.len();
-    block[..size].copy_from_slice(item);
-    let mut done = 1;
-    while done < n {
-        let more = done.min(n - done).min(MOST_AT_ONCE);
-        copy_front(block, done * size, more * size);
-        done += more;
-    }
 }

@@ -6,5 +6,5 @@ mod leaf;
 mod number;
 pub mod range;
 
-pub use item::{can_be_item, fill, write_item, write_items};
+pub use item::{can_be_item, write_item, write_items};
 pub use range::{range_len, write_range};
