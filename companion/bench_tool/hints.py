@@ -3,8 +3,6 @@
 There is no grammar here: a row of the table is one way of writing, told by a pattern, and a test tries each row's example
 and what is to be written in its place against the program.
 """
-from __future__ import annotations
-
 import difflib
 import os
 import re
@@ -23,7 +21,7 @@ SIGNS = {
 SIGN = r"(//|<<|>>|[=!<>]=|[-+*%&|^<>])"
 CHANGE = r"(//|<<|>>|[-+*%&|^])="
 FOLDS = "(sum|prod|min|max|any|all|argmin|argmax)"
-TWO = "(add|sub|mul|fdiv|mod|and|or|xor|shl|shr|eq|ne|lt|le|gt|ge)"
+TWO = "(" + "|".join(SIGNS.values()) + ")"
 TYPES = {kind: ("|" if kind[1] == "1" else "<") + kind for kind in ("i1", "i2", "i4", "i8", "u1", "u2", "u4", "u8")}
 TYPES.update({f"{'u' * (kind[0] == 'u')}int{8 * int(kind[1])}": text for kind, text in list(TYPES.items())})
 TYPES.update({"int": "<i8", "bool": "|b1", "bytes": "|S8", "str": "|S8"})
@@ -93,11 +91,10 @@ ROWS = tuple(Row(*row) for row in (
     ("x = copy a", rf"{NAME}\s*=\s*copy {NAME}", r"\1 = copy \2 C"),
     ("x = a.astype(int32)", rf"{NAME}\s*=\s*{NAME}\.astype\({TYPE}\)", r"\1 = cast \2 @T(\3)"),
     ("x = a.reshape(2, 3)", rf"{NAME}\s*=\s*{NAME}\.reshape\(+([^()]*)\)+", r"\1 = reshape \2 (\3)"),
-    ("x = reshape a 2,3", rf"{NAME}\s*=\s*(reshape|broadcast) {NAME} (-?\d+(?:[ ,]+-?\d+)*)", r"\1 = \2 \3 (\4)"),
+    ("x = reshape a 2,3", rf"{NAME}\s*=\s*((?:reshape|broadcast|zeros) [^][\s]+) (-?\d+(?:[ ,]+-?\d+)*)", r"\1 = \2 (\3)"),
     ("x = reshape a[1:5] (2,2)", rf"{NAME}\s*=\s*(reshape|broadcast|transpose|copy|cast) {NAME}{SPAN}(.*)",
         r"@t = \3\4" "\n" r"\1 = \2 @t\5"),
     ("x = zeros (2,3)", rf"{NAME}\s*=\s*(?:np\.)?zeros\s*\(?(\([^()]*\))\)?", r"\1 = zeros <i8 \2"),
-    ("x = zeros <i4 2,3", rf"{NAME}\s*=\s*zeros (\S+) (\d+(?:[ ,]+\d+)*)", r"\1 = zeros \2 (\3)"),
     ("x = arange 5", rf"{NAME}\s*=\s*(?:np\.)?arange\s*\(?(\d+)\)?", r"\1 = arange <i8 0 \2 1"),
     ("x = arange <i4 0 5", rf"{NAME}\s*=\s*arange (\S+) (-?\d+)[ ,]+(-?\d+)", r"\1 = arange \2 \3 \4 1"),
     ("x = array <i4 (3) 1,2,3", rf"{NAME}\s*=\s*array (\S+) (\([^()]*\)) ?\[?([-\d, ]+)\]?", r"\1 = array \2 \3 @C(\4)"),
@@ -145,18 +142,9 @@ def _of_code(known: Known, line: str, code: str, folder: str) -> str:
         near = difflib.get_close_matches(line.split('"')[1], os.listdir(folder))
         return f"near it: {' '.join(near)}" if near else f"looked for in {os.path.abspath(folder)}"
     if code == "E19":
-        return "; ".join(f"{name} has {' '.join(fields(known.session, name)) or 'no fields'}" for name in bound)
+        return "; ".join(f"{name} has {' '.join(known.session.fields(name)) or 'no fields'}" for name in bound)
     if code == "E20":
         return "write: copy X C, and set in the copy"
     shown = [known.session.array(name, items=False) for name in bound]
     return "; ".join(f"{array.name} is {array.type} {array.shape}" for array in shown)
 
-
-def fields(session: Session, name: str) -> list[str]:
-    """The fields of a record's array, by its format text."""
-    depth, found = 0, []
-    for field, brace in re.findall(r":([^:]*):|([{}])", session.ask(f"format {name}")):
-        depth += {"{": 1, "}": -1}.get(brace, 0)
-        if not brace and depth == 1:
-            found.append(field)
-    return found

@@ -1,6 +1,4 @@
 """What docs/LANGUAGE.md says of commands and codes: the words of `help`, of Tab and of refusals, read off its tables."""
-from __future__ import annotations
-
 import re
 from functools import lru_cache
 from pathlib import Path
@@ -38,8 +36,8 @@ class Command(NamedTuple):
 
 @lru_cache(None)
 def text() -> str:
-    """The page, empty where it is not installed."""
-    return next((place.read_text(encoding="utf-8") for place in PLACES if place.is_file()), "")
+    """The page, installed or in the repository."""
+    return next(filter(Path.is_file, PLACES), PLACES[-1]).read_text(encoding="utf-8")
 
 
 def rows(begin: str) -> list[list[str]]:
@@ -76,8 +74,6 @@ def verbs(behind: bool) -> list[str]:
 
 def help_text(word: str = "") -> str:
     """All forms; of one command its form, what it does, its reply and its refusals; of a code when it comes; or a section."""
-    if not commands():
-        return "LANGUAGE.md, which has the commands, is not installed beside bench-tool"
     if word in codes():
         return f"  {word} {codes()[word][0]}: {codes()[word][1]}"
     if word:

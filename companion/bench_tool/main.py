@@ -1,6 +1,4 @@
 """The words of bench-tool."""
-from __future__ import annotations
-
 import argparse
 import os
 import sys
@@ -8,8 +6,6 @@ from typing import Any, Callable, Optional, Sequence
 
 from . import page, runs, shell, show
 from .session import BenchError
-
-FORM = "Each refusal is told on standard error too, as SCRIPT:17: E11 index out of range: c = b[2]."
 
 
 def depth(text: str) -> int:
@@ -27,13 +23,13 @@ def parser() -> argparse.ArgumentParser:
     made = argparse.ArgumentParser(prog="bench-tool", description="The companion of bench, a workbench for strided arrays.")
     commands = made.add_subparsers(metavar="COMMAND", required=True)
 
-    def command(name: str, call: Callable[[argparse.Namespace], int], help: str, *parents: Any, **more: Any) -> argparse.ArgumentParser:
-        added = commands.add_parser(name, parents=[*parents], help=help, **more)
+    def command(name: str, call: Callable[[argparse.Namespace], int], help: str, *parents: Any) -> argparse.ArgumentParser:
+        added = commands.add_parser(name, parents=[*parents], help=help)
         added.set_defaults(call=call)
         return added
 
     command("shell", shell.shell, "a prompt with history, Tab and help", common)
-    run = command("run", runs.run, "a script, with the place of each refusal", script, common, description=FORM)
+    run = command("run", runs.run, "a script, with the place of each refusal", script, common)
     run.add_argument("--stop", action="store_true", help="end at the first refusal")
     run.add_argument("--summary", action="store_true", help="tell how many lines were accepted and refused")
     run.add_argument("--time", action="store_true", help="tell how long each line took")

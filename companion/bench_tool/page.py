@@ -1,8 +1,7 @@
 """`draw SCRIPT`: a page of pictures of a script, one for each of its lines, or one of them as SVG."""
-from __future__ import annotations
-
 import argparse
 import json
+import re
 import sys
 import zlib
 from base64 import b64encode
@@ -23,8 +22,8 @@ PHONE = 344  # the width of a narrow picture
 
 def figure(table: Table) -> str:
     """A table, once for a wide page and, where that is not the same, once for a narrow one."""
-    wide, narrow = ("".join(f'<svg width="{width:.0f}" height="{height}">{drawn}</svg>' for drawn, width, height in parts(table, room))
-                    for room in (WIDTH, PHONE))
+    form = '<svg width="{1:.0f}" height="{2}" viewBox="0 0 {1:.0f} {2}">{0}</svg>'
+    wide, narrow = ("".join(form.format(*block) for block in parts(table, room)) for room in (WIDTH, PHONE))
     return f"<figure>{wide}</figure>" if wide == narrow else f'<figure class="wide">{wide}</figure><figure class="narrow">{narrow}</figure>'
 
 
@@ -61,10 +60,10 @@ def page(title: str, moments: Sequence[Moment], line: int = 0) -> str:
     """The page of a script that was run, which begins with the picture of a line, else with that of the last one."""
     filled = {"TITLE": escape(title), "LIGHT": LIGHT, "DARK": DARK, "RULES": RULES, "TIP": TIP, "LINE": str(line)}
     filled["SCRIPT"] = "\n".join(map(script_item, moments))
+    form = Path(__file__).with_suffix(".html").read_text(encoding="utf-8")
     for most in (MOST_CELLS, 64, 16, 4):
-        made = Path(__file__).with_suffix(".html").read_text(encoding="utf-8")
-        for word, text in {**filled, "DATA": pictures(moments, most)}.items():
-            made = made.replace(f"<!--{word}-->", text)
+        filled["DATA"] = pictures(moments, most)
+        made = re.sub("<!--([A-Z]+)-->", lambda found: filled[found[1]], form)
         if len(made.encode()) <= LARGEST or len(moments) > FEW:
             break
     return made

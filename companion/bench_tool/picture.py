@@ -1,6 +1,4 @@
 """What is drawn of a line: for each buffer a table of its cells and of the names that see them, and grids; in words too."""
-from __future__ import annotations
-
 from math import prod
 from typing import Callable, Iterable, Mapping, NamedTuple, Optional, Sequence
 

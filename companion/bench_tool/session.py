@@ -11,7 +11,7 @@ import re
 import shutil
 import subprocess
 from ast import literal_eval
-from contextlib import suppress
+from contextlib import AbstractContextManager, suppress
 from dataclasses import dataclass
 from math import prod
 from pathlib import Path
@@ -27,7 +27,8 @@ MARKER = b"\n~\n\x7f\n"
 ENDS = tuple(first + b"\nno E02 byte not allowed\n" for first in (b"no E03 syntax", b"no E40 out of memory"))
 LONGEST = max(map(len, ENDS))
 REFUSAL = re.compile(r"no (E\d\d) (.*)")
-INFO = re.compile(r"info \w+ (.*) \(([\d, ]*)\) strides \(([-\d, ]*)\) at (\d+) order ([CF]+|-) write (yes|no)")
+INFO = re.compile(r"info \w+ (.*) (\([\d, ]*\)) strides (\([-\d, ]*\)) at (\d+) order ([CF]+|-) write (yes|no)")
+FIELD = re.compile(r":([^:]*):|([{}])")
 TOKEN = re.compile(r"b'(?:[^'\\]|\\.)*'|[()]|[-\w]+")
 
 
@@ -42,7 +43,9 @@ class ProgramMissing(BenchError):
 class ProgramEnded(BenchError):
     """The program is not there any more; `status` is what it ended with."""
 
-    status = 0
+    def __init__(self, program: str, status: int):
+        super().__init__(f"{program} has ended, with status {status}")
+        self.status = status
 
 
 class Refused(BenchError):
@@ -55,16 +58,13 @@ class Refused(BenchError):
 
 @dataclass(frozen=True)
 class Reply:
-    """The reply to a line: its text without the last newline, none to a blank line and a comment; its code if it is refused."""
+    """The reply to a line: its text without the last newline, none to a blank line and a comment; if it is refused its code, and the
+    words behind that."""
 
     accepted: bool
     code: str
+    meaning: str
     text: str
-
-    @property
-    def meaning(self) -> str:
-        """The words behind the code."""
-        return "" if self.accepted else self.text[len(f"no {self.code} "):]
 
 
 @dataclass(frozen=True)
@@ -89,10 +89,6 @@ class Array:
         return made[0]
 
 
-def _numbers(text: str) -> tuple[int, ...]:
-    return tuple(int(word) for word in text.replace(",", " ").split())
-
-
 def items_of(text: str) -> tuple[Any, ...]:
     """The items of a printed array, in C order: integers, bools, bytes, and tuples for records."""
     if "'" not in text and "(" not in text and "e" not in text:
@@ -103,15 +99,14 @@ def items_of(text: str) -> tuple[Any, ...]:
 def find_program() -> str:
     """The path of the program: BENCH, else the one of the repository or the installed one."""
     top = Path(__file__).resolve().parents[2]
-    places = (top / "crates/bench_main/out/bench_main", top.parent / "bin/bench")
-    beside = (str(place) for place in places if place.is_file() and os.access(place, os.X_OK))
-    found = os.environ.get("BENCH") or next(beside, None) or shutil.which("bench")
+    places = map(str, (top / "crates/bench_main/out/bench_main", top.parent / "bin/bench", "bench"))
+    found = os.environ.get("BENCH") or next(filter(None, map(shutil.which, places)), None)
     if not found:
         raise ProgramMissing("there is no program: BENCH names none, and none is installed or built")
     return found
 
 
-class Session:
+class Session(AbstractContextManager["Session"]):
     """The program with its names and undos, from its start to `close`.
 
     An exception in the midst of a reply ends the session, since the rest would be taken for the next reply. The program
@@ -136,9 +131,13 @@ class Session:
         sent = line.encode("utf-8", "surrogateescape") if isinstance(line, str) else bytes(line)
         if b"\n" in sent:
             raise ValueError("one line at a time: a newline stands within it")
+        if self._status is not None:
+            raise ProgramEnded(self.program, self._status)
         begin = bytearray()
         try:
-            self._write(sent + MARKER)
+            with suppress(BrokenPipeError):  # what has ended is seen as its reply is read
+                self._to.write(sent + MARKER)
+                self._to.flush()
             for part in self._parts():
                 begin += part if take is None else part[:max(0, 256 - len(begin))]
                 if take is not None:
@@ -146,10 +145,9 @@ class Session:
         except BaseException:
             self.close()
             raise
-        text = begin.decode("ascii", "replace")
-        text = text[:-1] if text.endswith("\n") else text
+        text = begin.decode("ascii", "replace").removesuffix("\n")
         refused = REFUSAL.fullmatch(text)
-        return Reply(refused is None, refused[1] if refused else "", text)
+        return Reply(refused is None, *(refused.groups() if refused else ("", "")), text)
 
     def run(self, lines: Union[str, Iterable[Line]]) -> list[Reply]:
         """The replies to several lines, one for each."""
@@ -173,7 +171,16 @@ class Session:
             raise BenchError(f"the reply to info {name} is not understood")
         type_, shape, strides, at, order, write = found.groups()
         values = items_of(self.ask(f"print {name}")) if items else ()
-        return Array(name, type_, _numbers(shape), _numbers(strides), int(at), order, write == "yes", values)
+        return Array(name, type_, literal_eval(shape), literal_eval(strides), int(at), order, write == "yes", values)
+
+    def fields(self, name: str) -> list[str]:
+        """The fields of a record's array, by its format text."""
+        depth, found = 0, []
+        for field, brace in FIELD.findall(self.ask(f"format {name}")):
+            depth += {"{": 1, "}": -1}.get(brace, 0)
+            if not brace and depth == 1:
+                found.append(field)
+        return found
 
     def close(self) -> int:
         """Ends the program, and answers the status that it ended with. A second call does nothing more."""
@@ -184,25 +191,8 @@ class Session:
             self._status = self._process.wait()
         return self._status
 
-    def __enter__(self) -> Session:
-        return self
-
     def __exit__(self, *_: object) -> None:
         self.close()
-
-    def _ended(self) -> ProgramEnded:
-        ended = ProgramEnded(f"{self.program} has ended, with status {self.close()}")
-        ended.status = self.close()
-        return ended
-
-    def _write(self, data: bytes) -> None:
-        if self._status is not None:
-            raise self._ended()
-        try:
-            self._to.write(data)
-            self._to.flush()
-        except BrokenPipeError:
-            raise self._ended() from None
 
     def _parts(self) -> Iterator[bytes]:
         """The reply as it comes, without what the marker is answered."""
@@ -210,7 +200,7 @@ class Session:
         while not held.endswith(ENDS):
             part = self._from.read1(1 << 16)
             if not part:
-                raise self._ended()
+                raise ProgramEnded(self.program, self.close())
             if len(held) > LONGEST:
                 yield held[:-LONGEST]
             held = held[-LONGEST:] + part

@@ -1,13 +1,11 @@
 """`shell`: a prompt over a session, with history, Tab, help, and what may be meant by a refused line."""
-from __future__ import annotations
-
 import argparse
 import os
 import signal
 import sys
 from contextlib import contextmanager, suppress
 from pathlib import Path
-from typing import Any, Iterator, Optional
+from typing import Iterator, Optional
 
 from . import hints, language
 from .session import BenchError, Session
@@ -18,7 +16,6 @@ except ImportError:  # a Python without it has a prompt without editing
     readline = None  # type: ignore[assignment]
 
 PROMPT = "bench> "
-GREETING = "help lists the commands, help COMMAND tells one; Tab completes; quit or Ctrl-D ends"
 
 
 @contextmanager
@@ -37,7 +34,7 @@ def words_behind(session: Session, folder: str, before: str) -> list[str]:
     said = before.replace("=", " = ").split()
     if before.count('"') % 2:
         if "field" in said:
-            return hints.fields(session, said[said.index("field") + 1])
+            return session.fields(said[said.index("field") + 1])
         return sorted(entry.name for entry in os.scandir(folder or ".") if entry.is_file() and entry.name[0] not in ".-")
     if said == ["help"]:
         return sorted({*language.verbs(False), *language.verbs(True), *language.codes()})
@@ -89,23 +86,21 @@ class Shell:
     def loop(self) -> None:
         """Reads and answers lines until there are no more."""
         prompt, end = (PROMPT, "\n") if sys.stdin.isatty() else ("", "")
-        goes_on = True
-        while goes_on:
-            try:
-                goes_on = self.take(input(prompt))
-            except EOFError:
-                goes_on = False
-                print(end=end)
-            except KeyboardInterrupt:
-                print()
+        with suppress(EOFError):
+            while True:
+                try:
+                    if not self.take(input(prompt)):
+                        return
+                except KeyboardInterrupt:
+                    print()
+        print(end=end)
 
 
-@contextmanager
-def editing(complete: Any) -> Iterator[None]:
+def edited(prompt: Shell) -> None:
     """Editing, Tab, and the history of earlier shells: BENCH_HISTORY, where an empty one means none, else in the user's state."""
     state = Path(os.environ.get("XDG_STATE_HOME") or Path.home() / ".local/state")
     path = Path(os.environ.get("BENCH_HISTORY", state / "bench/history") or os.devnull)
-    readline.set_completer(complete)
+    readline.set_completer(prompt.complete)
     readline.set_completer_delims(" \t=[](),:\"")
     readline.parse_and_bind("tab: complete")
     readline.set_history_length(2000)
@@ -113,7 +108,7 @@ def editing(complete: Any) -> Iterator[None]:
         path.parent.mkdir(parents=True, exist_ok=True)
         readline.read_history_file(path)
     try:
-        yield
+        prompt.loop()
     finally:
         with suppress(OSError):
             readline.write_history_file(path)
@@ -125,7 +120,6 @@ def shell(words: argparse.Namespace) -> int:
         if readline is None or not sys.stdin.isatty():
             prompt.loop()
         else:
-            print(GREETING)
-            with editing(prompt.complete):
-                prompt.loop()
+            print("help lists the commands, help COMMAND tells one; Tab completes; quit or Ctrl-D ends")
+            edited(prompt)
     return 0

@@ -1,6 +1,4 @@
 """`show FILE.npy`: what load, info, format and print say of a file, cut to a screen."""
-from __future__ import annotations
-
 import argparse
 import os
 import shutil

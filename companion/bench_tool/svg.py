@@ -1,6 +1,4 @@
 """Tables drawn as SVG, in blocks of as many columns as there is room for; a picture of one line, for documents."""
-from __future__ import annotations
-
 import textwrap
 from html import escape
 from typing import Iterator, NamedTuple
@@ -23,14 +21,7 @@ text{font:12px ui-monospace,Menlo,Consolas,monospace;fill:var(--ink)}rect{fill:n
 path{fill:none;stroke:var(--ink);stroke-width:1.5;marker-end:url(#tip)}#tip path{fill:var(--ink);stroke:none}"""
 TIP = '<marker id="tip" viewBox="0 0 8 8" refX="7" refY="4" markerWidth="6" markerHeight="6" orient="auto">' \
     '<path d="M0 0L8 4L0 8z"/></marker>'
-
-
-class Block(NamedTuple):
-    """A part of a picture, and its size."""
-
-    drawn: str
-    width: float
-    height: int
+Block = NamedTuple("Block", [("drawn", str), ("width", float), ("height", int)])  # a part of a picture, and its size
 
 
 def _text(x: float, y: float, text: str, room: float, more: str = "") -> str:

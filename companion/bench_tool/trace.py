@@ -5,16 +5,15 @@ are asked: there a line can be tried on other items, and an array be looked at i
 """
 from __future__ import annotations
 
-import os
 import re
 from collections import deque
 from contextlib import ExitStack
 from dataclasses import dataclass, field
 from functools import cached_property
 from math import prod
-from typing import Any, Iterator, Mapping, NamedTuple, Optional, Union
+from typing import Any, Iterator, Mapping, NamedTuple, Optional
 
-from .session import Array, BenchError, Reply, Session
+from .session import Array, BenchError, Named, Reply, Session
 
 MOST_CELLS = 256
 MOST_UNDO = 56  # of the 64 states that the second session keeps, the others are for what is tried
@@ -22,11 +21,9 @@ SIDE = 16  # rows, and columns, of a grid
 AT_ONCE = 1 << 16  # bytes of items that are printed in one go
 WORD = re.compile(r"[A-Za-z_]\w*")
 ODD = re.compile(r"[^\t -~]")
-FIELD = re.compile(r":([^:]*):")
 BOUND = re.compile(r"ok (\w+) .* (new|view|copy)(?: rest \d+)?")
 BITS: dict[type, tuple[Any, Any]] = {int: (0, 1), bool: (False, True), bytes: (b"0", b"1")}
 
-Path = Union[str, os.PathLike[str]]
 Values = Mapping[int, Any]
 Place = NamedTuple("Place", [("buffer", int), ("byte", int)])  # where a value begins
 Leaf = NamedTuple("Leaf", [("at", int), ("size", int), ("field", str)])  # a value of an item: its bytes, and which field it is
@@ -68,27 +65,21 @@ class Bound:
 
     @cached_property
     def axes(self) -> list[tuple[int, int, int]]:
-        """Each axis: stride, length, and what a step adds to the number, 0 where it leads to the same item."""
-        found: list[tuple[int, int, int]] = []
-        for stride, length in reversed(list(zip(self.array.strides, self.array.shape))):
-            found.insert(0, (stride, length, prod(n for step, n, _ in found if step) if stride else 0))
-        return found
+        """The axes along which items lie apart, the longest stride first: stride, length, what a step adds to the number."""
+        apart = [(stride, length) for stride, length in zip(self.array.strides, self.array.shape) if stride]
+        found = [(*axis, prod(length for _, length in apart[k:])) for k, axis in enumerate(apart, 1)]
+        return sorted(found, key=lambda axis: -abs(axis[0]))
 
     @cached_property
     def count(self) -> int:
         """How many items have places of their own."""
-        return prod(length for stride, length, _ in self.axes if stride) if prod(self.array.shape) else 0
-
-    @cached_property
-    def outwards(self) -> tuple[int, list[tuple[int, int, int]]]:
-        """The first byte of all items, and the axes along which they lie apart, the longest stride first."""
-        low = self.array.at + sum(stride * (length - 1) for stride, length, _ in self.axes if stride < 0)
-        return low, sorted((axis for axis in self.axes if axis[0]), key=lambda axis: -abs(axis[0]))
+        return prod(length for _, length, _ in self.axes) if prod(self.array.shape) else 0
 
     def number(self, byte: int) -> Optional[int]:
         """The number of the item that begins at a byte. The shorter strides lead to less than a step of the longest."""
-        rest, number = byte - self.outwards[0], 0
-        for stride, length, weight in self.outwards[1]:
+        low = self.array.at + sum(stride * (length - 1) for stride, length, _ in self.axes if stride < 0)
+        rest, number = byte - low, 0
+        for stride, length, weight in self.axes:
             step = max(0, min(rest // abs(stride), length - 1))
             rest -= step * abs(stride)
             number += weight * (step if stride > 0 else length - 1 - step)
@@ -170,7 +161,7 @@ def literal(item: Any) -> str:
 class Trace(ExitStack):
     """A script that is run line by line, until it is closed."""
 
-    def __init__(self, program: Optional[Path] = None, undo: int = 16, dir: Path = ".", script: bytes = b""):
+    def __init__(self, program: Optional[Named] = None, undo: int = 16, dir: Named = ".", script: bytes = b""):
         super().__init__()
         if undo > MOST_UNDO:
             raise BenchError(f"a script that is drawn may go back {MOST_UNDO} changes, not {undo}")
@@ -190,7 +181,7 @@ class Trace(ExitStack):
         before, moved = self.state, {}
         names, buffers = before.names, before.buffers
         words = [word for word in WORD.findall(text) if word in names]
-        verb, *rest = reply.text.split()[1:] if reply.accepted and reply.text.startswith("ok ") else ["save"]
+        verb, *rest = reply.text.split()[1:] if reply.text.startswith("ok ") else ["save"]
         if verb != "save":
             self._again(line, reply)
             if verb in ("set", "upd"):
@@ -231,32 +222,33 @@ class Trace(ExitStack):
             self._second.ask(f"{name} = zeros {text} (2)")
             size = self._second.array(name, items=False).strides[0]
             fields = []
-            for word in dict.fromkeys(FIELD.findall(text)):
-                if self._second.send(f'{name} = field {name} "{word}"').accepted:
-                    part = self._second.array(name, items=False)
-                    fields.append((part.at, word, part.type))
-                    self._undo(1)
+            for word in self._second.fields(name):
+                self._second.ask(f'{name} = field {name} "{word}"')
+                part = self._second.array(name, items=False)
+                fields.append((part.at, word, part.type))
+                self._undo(1)
             self._undo(1)
             self._kinds[text] = Kind(text, size, tuple((at, word, self._kind(type_, name)) for at, word, type_ in sorted(fields)))
         return self._kinds[text]
 
     def _written(self, line: bytes, reply: Reply, touched: list[int]) -> tuple[dict[int, Buffer], dict[Place, Place]]:
         """Items were written, in the buffer of one of the names that the line has; where those came from that it moved."""
-        before, moved = self.state, {}
-        fresh = {number: self._reread(number, before) for number in touched}
-        changed = {number: buffer for number, buffer in fresh.items() if buffer.values != before.buffers[number].values}
+        old, moved = self.state.buffers, {}
+        fresh = {number: self._reread(number) for number in touched}
+        changed = {number: buffer for number, buffer in fresh.items() if buffer.values != old[number].values}
         if changed and reply.text.startswith("ok set "):
             self._undo(1)
             for source in touched:
-                moved.update(self._moved(line, before, source, list(changed)))
+                moved.update(self._moved(line, source, list(changed)))
             self._again(line, reply)
-        return {**before.buffers, **changed}, moved
+        return {**old, **changed}, moved
 
-    def _reread(self, number: int, state: State) -> Buffer:
+    def _reread(self, number: int) -> Buffer:
         """A buffer as it is now. What no name sees has stayed; other values that are not drawn are forgotten."""
-        old, starts = state.buffers[number], set(state.buffers[number].starts())
+        old = self.state.buffers[number]
+        starts = set(old.starts())
         stays = {at: value for at, value in old.values.items() if at - at % old.kind.size in starts}
-        return Buffer(old.kind, old.count, {**stays, **self._read(old, state.inside(number), {})})
+        return Buffer(old.kind, old.count, {**stays, **self._read(old, self.state.inside(number), {})})
 
     def _read(self, buffer: Buffer, names: Mapping[str, Bound], known: Values) -> dict[int, Any]:
         """The values that are drawn and not known, read through the names that see them, the longest arrays first."""
@@ -272,8 +264,8 @@ class Trace(ExitStack):
     def _items(self, name: str, bound: Bound, places: list[int]) -> list[Any]:
         """The items of an array that begin at some bytes. Where it is long, no others are printed."""
         tried, numbers = [], [bound.number(at) or 0 for at in places]
-        if not all(stride for stride, _, _ in bound.axes):
-            tried.append(f"{name} = {name}[{','.join(':' if stride else '0' for stride, _, _ in bound.axes)}]")
+        if not all(bound.array.strides):
+            tried.append(f"{name} = {name}[{','.join(':' if stride else '0' for stride in bound.array.strides)}]")
         if is_long := bound.count * bound.kind.size > AT_ONCE:
             spare = next((other for other in self.state.names if other != name), self._free)
             tried.append(f"{name} = reshape {name} (-1)")
@@ -285,11 +277,12 @@ class Trace(ExitStack):
         self._undo(len(tried))
         return list(items) if is_long else [items[number] for number in numbers]
 
-    def _moved(self, line: bytes, before: State, source: int, changed: list[int]) -> dict[Place, Place]:
+    def _moved(self, line: bytes, source: int, changed: list[int]) -> dict[Place, Place]:
         """Where a line put what stood in a buffer. It is run on items that tell their places, by one bit after another of a number,
         and then by the first bit turned over: so a value that stays the same is not one that moved."""
-        buffer, starts = before.buffers[source], before.buffers[source].starts()
-        seen = [pair for pair in before.inside(source).items() if pair[1].array.writable and pair[1].count]
+        buffer = self.state.buffers[source]
+        starts = buffer.starts()
+        seen = [pair for pair in self.state.inside(source).items() if pair[1].array.writable and pair[1].count]
         if not seen or buffer.count > len(starts):
             return {}
         name, bound = max(seen, key=lambda pair: pair[1].count)
@@ -299,16 +292,16 @@ class Trace(ExitStack):
         rows.append([1 - bit for bit in rows[0]])
         coded = [{place: BITS[type(buffer.values[place])][bit] for place, bit in zip(places, row)} for row in rows]
         told = {tuple(code[place] for code in coded): Place(source, place) for place in places}
-        left = [self._tried(line, before, name, [bound.kind.item(code, at) for at in items], changed) for code in coded]
+        left = [self._tried(line, name, [bound.kind.item(code, at) for at in items], changed) for code in coded]
         origins = {at: told.get(tuple(values.get(at) for values in left), at) for at in (left[0] if all(left) else ())}
         return {at: origin for at, origin in origins.items() if at != origin}
 
-    def _tried(self, line: bytes, before: State, name: str, items: list[Any], changed: list[int]) -> dict[Place, Any]:
+    def _tried(self, line: bytes, name: str, items: list[Any], changed: list[int]) -> dict[Place, Any]:
         """What a line leaves in some buffers where an array had these items before it; nothing where it is refused then."""
-        array = before.names[name].array
+        array = self.state.names[name].array
         new = f"{self._free} = array {array.type} ({','.join(map(str, array.shape))}) {' '.join(map(literal, items))}"
         tried = sum(self._second.send(sent).accepted for sent in (new, f"set {name}[...] = {self._free}", line))
-        fresh = {number: self._reread(number, before).values for number in changed if tried == 3}
+        fresh = {number: self._reread(number).values for number in changed if tried == 3}
         left = {Place(number, at): value for number, values in fresh.items() for at, value in values.items()}
         self._undo(tried)
         return left
