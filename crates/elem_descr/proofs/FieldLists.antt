@@ -7,7 +7,7 @@ use Rattle.elem_descr.specs.Encoding.{size}
 use Rattle.elem_descr.specs.Fields.{Fields, no_more, scalar_field, record_field}
 use Rattle.elem_descr.specs.Descriptors.{InOrder, AreNamedWithin, listed, before, depth, leaf_count}
 use Rattle.elem_descr.specs.Items.{item_size, leaves_of}
-use Rattle.elem_descr.specs.inside.Partials.{IsShallow}
+use Rattle.elem_descr.specs.RecordBuilding.{IsShallow}
 use Rattle.elem_descr.specs.ItemLaws.{leaf_count-before}
 use Rattle.elem_descr.specs.DescriptorLaws.{rest_at, InOrder-before, some_depth}
 

@@ -5,7 +5,7 @@ pub mod FieldLaws
 pub mod FieldLists
 pub mod Marks
 pub mod Fronts
-pub mod Drafts
+pub mod PartialLaws
 pub mod Turns
 pub mod Binds
 pub mod WrittenMembers

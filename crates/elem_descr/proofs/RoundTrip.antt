@@ -17,7 +17,7 @@ use Rattle.elem_descr.specs.declared.scalar.Scalar.TheVariants.{Bool as BoolScal
 use Rattle.elem_descr.specs.declared.descr.Field.{Field}
 use Rattle.elem_descr.specs.declared.descr.Descr.{Descr}
 use Rattle.elem_descr.specs.declared.descr.Descr.TheVariants.{Scalar as ScalarDescr, Record as RecordDescr}
-use Rattle.elem_descr.specs.declared.format_text.draft.Body.{Body}
+use Rattle.elem_descr.specs.declared.format_text.body.Body.{Body}
 use Rattle.elem_descr.specs.declared.format_text.mark.Mark.{Mark}
 use Rattle.elem_descr.specs.declared.format_text.mark.Mark.TheVariants.{Aligned, Native, Little as LittleMark, Big as BigMark}
 use Rattle.elem_descr.specs.Refusals.{◌>>=◌}
@@ -26,8 +26,8 @@ use Rattle.elem_descr.specs.Fields.{Fields, no_more, scalar_field, record_field,
 use Rattle.elem_descr.specs.Names.{is_legal_name}
 use Rattle.elem_descr.specs.Descriptors.{IsLegal, AreNamedWithin, InOrder, fields_of, listed, names_of, depth, leaf_count}
 use Rattle.elem_descr.specs.Items.{item_size, leaves_of, leaves_from}
-use Rattle.elem_descr.specs.FormatLetters.{own_alignment, aligned_to}
-use Rattle.elem_descr.specs.FormatRecords.{Partial, is_taken, checked_name, added, widened, closed_size, closed_record}
+use Rattle.elem_descr.specs.FormatLetters.{is_aligning, own_alignment, aligned_to}
+use Rattle.elem_descr.specs.RecordBuilding.{Partial, is_taken, checked_name, added, widened, closed_size, closed_record}
 use Rattle.elem_descr.specs.FormatTexts.{format}
 use Rattle.elem_descr.specs.inside.Turns.{format_in_turns, member_at, Reader, is_named, marked, closing, scalar_in, pad_in, body_in, next_field, turn, members, record_within, nothing_follows, scalar_alone, record_alone, alone}
 use Rattle.elem_descr.specs.WrittenFormats.{written_mark, written_count, written_letter, written_scalar, written_pad, written_name, braced, written_fields, written_format}
@@ -129,7 +129,7 @@ reads_end within mark levels leaves bytes done rest some small (suc turns) l =
     let whole = closed_packed mark bytes done in
     rw (le-leb 1 (length done) some, whole, le-leb bytes 65536 small) refl
   where
-    closed_packed : (mark : Mark) (bytes : ℕ) (done : List Field) → closed_size mark (packed levels leaves bytes done) ≡ bytes
+    closed_packed : (mark : Mark) (bytes : ℕ) (done : List Field) → closed_size (is_aligning mark) (packed levels leaves bytes done) ≡ bytes
     closed_packed Aligned bytes done = multiple_of_one bytes
     closed_packed Native bytes done = refl
     closed_packed LittleMark bytes done = refl

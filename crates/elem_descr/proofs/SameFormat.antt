@@ -10,7 +10,7 @@ use Rattle.elem_descr.specs.declared.refusal.Refusal.TheVariants.{BadDescriptor,
 use Rattle.elem_descr.specs.declared.scalar.Scalar.{Scalar}
 use Rattle.elem_descr.specs.declared.descr.Descr.{Descr}
 use Rattle.elem_descr.specs.declared.descr.Descr.TheVariants.{Scalar as ScalarDescr, Record as RecordDescr}
-use Rattle.elem_descr.specs.declared.format_text.draft.Body.{Body}
+use Rattle.elem_descr.specs.declared.format_text.body.Body.{Body}
 use Rattle.elem_descr.specs.declared.format_text.mark.Mark.{Mark}
 use Rattle.elem_descr.specs.declared.format_text.mark.Mark.TheVariants.{Aligned}
 use Rattle.elem_descr.specs.declared.format_text.member.Member.{Member}
@@ -18,7 +18,7 @@ use Rattle.elem_descr.specs.declared.format_text.member.Member.TheVariants.{Valu
 use Rattle.elem_descr.specs.Refusals.{◌>>=◌, check}
 use Rattle.elem_descr.specs.TypeStrings.{is_one_of}
 use Rattle.elem_descr.specs.FormatLetters.{is_empty, mark_meant, letters, number_letter, count_of, text_member, is_left_out, lettered}
-use Rattle.elem_descr.specs.FormatRecords.{empty}
+use Rattle.elem_descr.specs.RecordBuilding.{empty}
 use Rattle.elem_descr.specs.FormatPieces.{Behind, nothing, between_colons, lone_colon, Piece, letter, is_colon, pieces}
 use Rattle.elem_descr.specs.FormatTexts.{part_of, unnamed, Reading, begun, complete, beyond, at_begin, closed_in, behind_member, step, read_on, format}
 use Rattle.elem_descr.specs.inside.Turns.{after, marked, is_named, is_opened, lettered_before, after_count, member_at, record_within, nothing_follows, scalar_alone, record_alone, alone, format_in_turns}

@@ -10,7 +10,7 @@ use Rattle.elem_descr.specs.declared.refusal.Refusal.TheVariants.{BadDescriptor,
 use Rattle.elem_descr.specs.declared.scalar.Scalar.{Scalar}
 use Rattle.elem_descr.specs.declared.descr.Descr.{Descr}
 use Rattle.elem_descr.specs.declared.descr.Descr.TheVariants.{Scalar as ScalarDescr, Record as RecordDescr}
-use Rattle.elem_descr.specs.declared.format_text.draft.Body.{Body}
+use Rattle.elem_descr.specs.declared.format_text.body.Body.{Body}
 use Rattle.elem_descr.specs.declared.format_text.mark.Mark.{Mark}
 use Rattle.elem_descr.specs.declared.format_text.member.Member.{Member}
 use Rattle.elem_descr.specs.declared.format_text.member.Member.TheVariants.{Value, Pad, Opened}
@@ -19,9 +19,9 @@ use Rattle.elem_descr.specs.Items.{leaves_of}
 use Rattle.elem_descr.specs.Names.{is_legal_name}
 use Rattle.elem_descr.specs.TypeStrings.{is_one_of}
 use Rattle.elem_descr.specs.FormatLetters.{own_alignment, aligned_to}
-use Rattle.elem_descr.specs.FormatRecords.{Partial, empty, if_small, with_field, checked_name, added, widened, closed_record}
+use Rattle.elem_descr.specs.RecordBuilding.{Partial, empty, if_small, with_field, checked_name, added, widened}
 use Rattle.elem_descr.specs.FormatPieces.{Behind, nothing, between_colons, lone_colon, Piece, letter, stray, is_colon, pieces}
-use Rattle.elem_descr.specs.FormatTexts.{part_of, called, next_name, with_scalar, with_pad, with_record, opened, unnamed, Reading, begun, within, beyond, closed_in, in_record, step, read_on}
+use Rattle.elem_descr.specs.FormatTexts.{closed_body, part_of, called, next_name, with_scalar, with_pad, with_record, opened, unnamed, Reading, begun, within, beyond, closed_in, in_record, step, read_on}
 use Rattle.elem_descr.specs.inside.Turns.{name_at, after, marked, is_named, is_opened, lettered_before, after_count, member_at, named, Later, scalar_in, pad_in, body_in, taken_in, next_field, closing, turn, members, record_within}
 use Rattle.elem_descr.proofs.Pieces.{name_end, behind_colon, behind, name_at-ended, ended_name, pieces-colon, behind-colon, behind-other, pieces-letter}
 use Rattle.elem_descr.proofs.PieceMembers.{bind_bind, bind_same, one_of_one, sign_cases, Then, front, met, meant, member_met}
@@ -371,7 +371,7 @@ unfolding next_field
 turn_same n same levels turns around text ends few enough goes mark p [] level less plain = refl
 turn_same n same levels turns around text ends few enough goes mark p (b ∷ rest) level less plain =
     elim (cases_Bool (is_one_of (125 ∷ []) b)) [
-      | inl brac ↦ subst (λ c. read_on (within mark p around) (pieces (c ∷ rest)) ≡ (turn (record_within levels) mark p (closing (c ∷ rest)) (c ∷ rest) (others levels turns) >>= ends)) (sym (one_of_one 125 b brac)) (ap (read_on (within mark p around)) (pieces-letter 125 rest refl refl refl refl) ∙ by_body (closed_record mark p))
+      | inl brac ↦ subst (λ c. read_on (within mark p around) (pieces (c ∷ rest)) ≡ (turn (record_within levels) mark p (closing (c ∷ rest)) (c ∷ rest) (others levels turns) >>= ends)) (sym (one_of_one 125 b brac)) (ap (read_on (within mark p around)) (pieces-letter 125 rest refl refl refl refl) ∙ by_body (closed_body mark p))
       | inr other ↦
           let open_yet : closing (b ∷ rest) ≡ None = rw other refl in
           read_front mark p around (pieces (b ∷ rest))

@@ -3,7 +3,8 @@ use Rattle.std.proofs.Common.{◌≡◌, ◌<◌, ◌+◌, ◌-◌, ℕ, suc, Li
 use Rattle.elem_descr.specs.declared.format_text.mark.Mark.{Mark}
 use Rattle.elem_descr.specs.declared.refusal.Refusal.TheVariants.{DescriptorLeftOut}
 use Rattle.elem_descr.specs.Refusals.{◌>>=◌}
-use Rattle.elem_descr.specs.FormatRecords.{Partial, empty, closed_record}
+use Rattle.elem_descr.specs.RecordBuilding.{Partial, empty}
+use Rattle.elem_descr.specs.FormatTexts.{closed_body}
 use Rattle.elem_descr.specs.inside.Turns.{Reader, marked, closing, next_field, turn, members, record_within}
 
 -- no record may lie here
@@ -26,7 +27,7 @@ members_turn within n i mark later p text unread l e =
     ap (λ (turns : ℕ). members within turns mark p text) one
     ∙ ap (λ (m : Mark × List ℕ). turn within m.0 p (closing m.1) m.1 (λ next. members within (n - (i + 1)) next.1 next.0 next.2)) (sym e)
 
-pub members_closed : (within : Reader) (n i : ℕ) (mark later : Mark) (p : Partial) (text unread rest : List ℕ) → i < n → (later, unread) ≡ marked mark text → Some rest ≡ closing unread → members within (n - i) mark p text ≡ (closed_record later p >>= λ body. Ok (body, rest))
+pub members_closed : (within : Reader) (n i : ℕ) (mark later : Mark) (p : Partial) (text unread rest : List ℕ) → i < n → (later, unread) ≡ marked mark text → Some rest ≡ closing unread → members within (n - i) mark p text ≡ (closed_body later p >>= λ body. Ok (body, rest))
 members_closed within n i mark later p text unread rest l e brace =
     members_turn within n i mark later p text unread l e
     ∙ ap (λ (found : Option (List ℕ)). turn within later p found unread (λ next. members within (n - (i + 1)) next.1 next.0 next.2)) (sym brace)

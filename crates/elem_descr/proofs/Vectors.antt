@@ -13,7 +13,7 @@ use Rattle.elem_descr.specs.declared.descr.Descr.TheVariants.{Record as RecordDe
 use Rattle.elem_descr.specs.Values.{LeafValue, number, text}
 use Rattle.elem_descr.specs.Fields.{Fields, no_more, scalar_field, record_field}
 use Rattle.elem_descr.specs.Items.{decode_item, encode_item}
-use Rattle.elem_descr.specs.FormatRecords.{checked_name, added, widened, closed_record}
+use Rattle.elem_descr.specs.RecordBuilding.{checked_name, added, widened, closed_record}
 use Rattle.elem_descr.specs.FormatPieces.{nothing, between_colons, letter, opening, pieces}
 use Rattle.elem_descr.specs.FormatTexts.{format}
 use Rattle.elem_descr.specs.WrittenFormats.{written_format}

@@ -14,11 +14,8 @@ use Rattle.elem_descr.specs.declared.format_text.mark.Mark.TheVariants.{Aligned,
 use Rattle.elem_descr.specs.declared.format_text.member.Member.{Member}
 use Rattle.elem_descr.specs.declared.format_text.member.Member.TheVariants.{Value, Pad}
 use Rattle.elem_descr.specs.Encoding.{size}
+use Rattle.elem_descr.specs.RecordBuilding.{max_size}
 use Rattle.elem_descr.specs.TypeStrings.{is_one_of, value_of}
-
--- the most bytes of an item
-abbrev pub max_size : ℕ
-max_size = 65536
 
 -- nothing is left
 abbrev pub is_empty : List ℕ → Bool

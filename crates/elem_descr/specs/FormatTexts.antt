@@ -6,7 +6,7 @@ use Rattle.elem_descr.specs.declared.refusal.Refusal.TheVariants.{BadDescriptor,
 use Rattle.elem_descr.specs.declared.scalar.Scalar.{Scalar}
 use Rattle.elem_descr.specs.declared.descr.Descr.{Descr}
 use Rattle.elem_descr.specs.declared.descr.Descr.TheVariants.{Scalar as ScalarDescr, Record as RecordDescr}
-use Rattle.elem_descr.specs.declared.format_text.draft.Body.{Body}
+use Rattle.elem_descr.specs.declared.format_text.body.Body.{Body}
 use Rattle.elem_descr.specs.declared.format_text.mark.Mark.{Mark}
 use Rattle.elem_descr.specs.declared.format_text.mark.Mark.TheVariants.{Aligned}
 use Rattle.elem_descr.specs.declared.format_text.member.Member.{Member}
@@ -14,8 +14,8 @@ use Rattle.elem_descr.specs.declared.format_text.member.Member.TheVariants.{Valu
 use Rattle.elem_descr.specs.Refusals.{◌>>=◌}
 use Rattle.elem_descr.specs.Names.{is_legal_name}
 use Rattle.elem_descr.specs.TypeStrings.{is_one_of}
-use Rattle.elem_descr.specs.FormatLetters.{is_empty, mark_meant, own_alignment, aligned_to, lettered}
-use Rattle.elem_descr.specs.FormatRecords.{max_depth, Partial, empty, checked_name, added, widened, closed_record}
+use Rattle.elem_descr.specs.FormatLetters.{is_empty, mark_meant, is_aligning, own_alignment, aligned_to, lettered}
+use Rattle.elem_descr.specs.RecordBuilding.{max_depth, Partial, empty, checked_name, added, widened, closed_record}
 use Rattle.elem_descr.specs.FormatPieces.{Behind, nothing, between_colons, lone_colon, Piece, letter, opening, brace, stray, pieces}
 
 -- what a piece is under the mark in force: a blank, a mark, a member, or the closing brace of a record
@@ -79,6 +79,10 @@ abbrev pub opened : ℕ → ℕ → Result Partial Refusal
 opened zero leaves = Err DescriptorLeftOut
 opened (suc levels) leaves = Ok (empty levels leaves)
 
+-- a record at its closing brace, aligned where `@` is in force there
+abbrev pub closed_body : Mark → Partial → Result Body Refusal
+closed_body mark p = closed_record (is_aligning mark) p >>= λ whole. Ok (record { whole = whole; alignment = p.alignment; mark = mark })
+
 -- how far a text is read: no member yet; within a record, in those around it, the innermost first, each
 -- with the mark in force; one whole descriptor; or a mark behind that
 pub data Reading : Type 0 where
@@ -111,7 +115,7 @@ in_record mark p around (marking next) = Ok (within next p around)
 in_record mark p around (member (Value value) behind) = with_scalar mark p value behind >>= λ next. Ok (within mark next around)
 in_record mark p around (member (Pad count) behind) = with_pad p count behind >>= λ next. Ok (within mark next around)
 in_record mark p around (member Opened behind) = opened p.levels p.leaves >>= λ inner. Ok (within mark inner ((mark, p) ∷ around))
-in_record mark p around (closing_brace behind) = closed_record mark p >>= λ body. closed_in around body behind
+in_record mark p around (closing_brace behind) = closed_body mark p >>= λ body. closed_in around body behind
 
 -- only blanks may follow: a second member is left out
 abbrev pub behind_member : Reading → PieceKind → Result Reading Refusal

@@ -10,8 +10,8 @@ pub mod Items
 pub mod Blocks
 pub mod Steps
 pub mod inside
+pub mod RecordBuilding
 pub mod FormatLetters
-pub mod FormatRecords
 pub mod FormatPieces
 pub mod FormatTexts
 pub mod WrittenFormats

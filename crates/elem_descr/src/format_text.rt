@@ -1,8 +1,8 @@
 //! Format texts of PEP 3118.
-pub mod draft;
+mod body;
 mod field;
-pub mod mark;
+mod mark;
 mod member;
-pub mod read;
+pub(crate) mod read;
 mod record;
-pub mod write;
+pub(crate) mod write;

@@ -12,8 +12,6 @@ use Rattle.elem_descr.specs.declared.scalar.Scalar.{Scalar}
 use Rattle.elem_descr.specs.declared.descr.Field.{Field}
 use Rattle.elem_descr.specs.declared.descr.Descr.{Descr}
 use Rattle.elem_descr.specs.declared.descr.Descr.TheVariants.{Scalar as ScalarDescr, Record as RecordDescr}
-use Rattle.elem_descr.specs.declared.format_text.draft.Body.{Body}
-use Rattle.elem_descr.specs.declared.format_text.mark.Mark.TheVariants.{Little as LittleMark}
 use Rattle.elem_descr.specs.Refusals.{◌>>=◌}
 use Rattle.elem_descr.specs.Encoding.{size}
 use Rattle.elem_descr.specs.Fields.{Fields, no_more, scalar_field, record_field, Structure}
@@ -23,7 +21,7 @@ use Rattle.elem_descr.specs.DescriptorLaws.{listed-fields_of, InOrder-within, so
 use Rattle.elem_descr.specs.Items.{item_size, leaves_of}
 use Rattle.elem_descr.specs.ItemLaws.{length-leaves_from}
 use Rattle.elem_descr.specs.TypeStrings.{value_of, spelling}
-use Rattle.elem_descr.specs.FormatRecords.{Partial, is_taken, checked_name, added, widened, closed_record}
+use Rattle.elem_descr.specs.RecordBuilding.{Partial, is_taken, checked_name, added, widened, closed_record}
 use Rattle.npy_format.specs.Values.{Square, Text}
 use Rattle.npy_format.specs.Listed.{Literal, Plain, Row, all_listed_values}
 use Rattle.npy_format.specs.Tokens.{capped}
@@ -155,16 +153,16 @@ field_and_more levels leaves from at bytes done name type descr rest low small l
     reads_padding (record_in levels) levels leaves from (at - from) done entries _ (omega (arith, gap, small))
     (ap (λ n. fields_in (record_in levels) (packed levels leaves n done) entries) gap ∙ one ∙ more ∙ (λ i. Ok (packed levels (sum i) bytes (append_assoc done (field ∷ []) (fields_of rest) i))))
 
-scalar_read : (scalar : Scalar) (within : List Literal → Result Body Refusal) → 1 ≤ size scalar → size scalar ≤ 65536 → type_in within (Plain (Text (spelling scalar))) ≡ Ok (ScalarDescr scalar)
+scalar_read : (scalar : Scalar) (within : List Literal → Result Structure Refusal) → 1 ≤ size scalar → size scalar ≤ 65536 → type_in within (Plain (Text (spelling scalar))) ≡ Ok (ScalarDescr scalar)
 scalar_read scalar within some small = after_ok _ _ _ (reads_spelling scalar some small)
 
 record_read : (levels leaves width : ℕ) (inner : Fields) → width ≤ 65536 → 1 ≤ length (fields_of inner) → fields_in (record_in levels) (packed levels leaves 0 []) (entry_values 0 inner width) ≡ Ok (packed levels (leaves + leaf_count inner) width (fields_of inner))
-    → record_in (suc levels) leaves (entry_values 0 inner width) ≡ Ok (record { whole = record { size = width; fields = inner }; alignment = 1; mark = LittleMark })
+    → record_in (suc levels) leaves (entry_values 0 inner width) ≡ Ok (record { size = width; fields = inner })
 unfolding record_in closed_record
 record_read levels leaves width inner small some reads =
-    after_ok _ _ _ reads ∙ rw (le-leb 1 (length (fields_of inner)) some, le-leb width 65536 small) (ap (λ fields. Ok (record { whole = record { size = width; fields = fields }; alignment = 1; mark = LittleMark })) (listed-fields_of inner))
+    after_ok _ _ _ reads ∙ rw (le-leb 1 (length (fields_of inner)) some, le-leb width 65536 small) (ap (λ fields. Ok (record { size = width; fields = fields })) (listed-fields_of inner))
 
-type_read : (levels leaves width : ℕ) (inner : Fields) → record_in (suc levels) leaves (entry_values 0 inner width) ≡ Ok (record { whole = record { size = width; fields = inner }; alignment = 1; mark = LittleMark })
+type_read : (levels leaves width : ℕ) (inner : Fields) → record_in (suc levels) leaves (entry_values 0 inner width) ≡ Ok (record { size = width; fields = inner })
     → type_in (record_in (suc levels) leaves) (Row Square (all_listed_values (entry_values 0 inner width))) ≡ Ok (RecordDescr (record { size = width; fields = inner }))
 type_read levels leaves width inner reads =
     after_ok _ _ _ (ap (record_in (suc levels) leaves) (literals_of_listed (entry_values 0 inner width)) ∙ reads)

@@ -3,14 +3,13 @@ use Rattle.std.proofs.Common.{◌≡◌, ◌⊎◌, ◌<◌, ◌+◌, ◌-◌, �
 use Rattle.std.specs.Prelude.{if◌then◌else◌}
 use Rattle.elem_descr.specs.declared.refusal.Refusal.{Refusal}
 use Rattle.elem_descr.specs.declared.refusal.Refusal.TheVariants.{DescriptorLeftOut, OutOfMemory}
-use Rattle.elem_descr.specs.declared.format_text.mark.Mark.TheVariants.{Little}
 use Rattle.elem_descr.specs.Refusals.{◌>>=◌, Gives, Answers}
 use Rattle.elem_descr.specs.declared.descr.Descr.{Descr}
 use Rattle.elem_descr.specs.declared.descr.Descr.TheVariants.{Record as RecordDescr}
-use Rattle.elem_descr.specs.declared.format_text.draft.Body.{Body}
+use Rattle.elem_descr.specs.Fields.{Structure}
 use Rattle.elem_descr.specs.Names.{is_legal_name}
 use Rattle.elem_descr.specs.FormatLetters.{is_empty}
-use Rattle.elem_descr.specs.FormatRecords.{Partial, max_depth, empty, checked_name, added, closed_record}
+use Rattle.elem_descr.specs.RecordBuilding.{Partial, max_depth, empty, checked_name, added, closed_record}
 use Rattle.npy_format.specs.Tokens.{Token}
 use Rattle.npy_format.specs.Listed.{Literal, Plain, Row, all_listed_values, value_literals}
 use Rattle.npy_format.specs.Values.{Text, Integer, Truth, Nothing, Dictionary, Round, Square}
@@ -31,7 +30,7 @@ no_levels levels leaves entries none = rw none refl
 pub record FieldsLeft (levels leaves : ℕ) (whole : List Literal) (p : Partial) (toks : List Token) : Type 0 where
   pub left : List Literal
   pub stand : HasValues 93 toks left
-  pub read : record_in levels leaves whole ≡ (fields_in (record_in (levels - 1)) p left >>= closed_record Little)
+  pub read : record_in levels leaves whole ≡ (fields_in (record_in (levels - 1)) p left >>= closed_record false)
 
 pub fields_begin : (levels leaves : ℕ) (whole : List Literal) (toks : List Token) → 0 < levels → HasValues 93 toks whole → FieldsLeft levels leaves whole (empty (levels - 1) leaves) toks
 unfolding record_in
@@ -43,19 +42,19 @@ no_93 : let n : ℕ = 93 in n ≡ 44 → ⊥
 no_93 wrong = omega (arith, wrong)
 
 module _ (levels leaves : ℕ) (whole : List Literal) (p : Partial) (toks : List Token) (h : FieldsLeft levels leaves whole p toks) where
-  pub fields_closed : (end : List Token) → Some end ≡ symbol_token_at 93 toks → record_in levels leaves whole ≡ closed_record Little p
-  fields_closed end ends = h.read ∙ ap (λ (l : List Literal). fields_in (record_in (levels - 1)) p l >>= closed_record Little) (stand_closed value_in 93 toks h.left h.stand end ends)
+  pub fields_closed : (end : List Token) → Some end ≡ symbol_token_at 93 toks → record_in levels leaves whole ≡ closed_record false p
+  fields_closed end ends = h.read ∙ ap (λ (l : List Literal). fields_in (record_in (levels - 1)) p l >>= closed_record false) (stand_closed value_in 93 toks h.left h.stand end ends)
 
   module _ (more : None ≡ symbol_token_at 93 toks) where
     pub fields_read : (e : Refusal) → behind_entry value_in toks ≡ Err e → ⊥
     fields_read e fails = is_read value_in 93 no_93 toks h.left h.stand more e fails
 
     module _ (same : p.levels + 1 ≡ levels) where
-      step : (first : Literal) (others : List Literal) → h.left ≡ first ∷ others → record_in levels leaves whole ≡ ((entry_in (record_in p.levels) p first >>= λ next. fields_in (record_in (levels - 1)) next others) >>= closed_record Little)
+      step : (first : Literal) (others : List Literal) → h.left ≡ first ∷ others → record_in levels leaves whole ≡ ((entry_in (record_in p.levels) p first >>= λ next. fields_in (record_in (levels - 1)) next others) >>= closed_record false)
       step first others is =
           let less : levels - 1 ≡ p.levels = omega (arith, same) in
-          h.read ∙ ap (λ (l : List Literal). fields_in (record_in (levels - 1)) p l >>= closed_record Little) is
-          ∙ ap (λ (n : ℕ). (entry_in (record_in n) p first >>= λ next. fields_in (record_in (levels - 1)) next others) >>= closed_record Little) less
+          h.read ∙ ap (λ (l : List Literal). fields_in (record_in (levels - 1)) p l >>= closed_record false) is
+          ∙ ap (λ (n : ℕ). (entry_in (record_in n) p first >>= λ next. fields_in (record_in (levels - 1)) next others) >>= closed_record false) less
 
       pub fields_next : (next : Partial) → ((v : Literal) → Stands toks v → entry_in (record_in p.levels) p v ≡ Ok next) → (rest : List Token) → behind_entry value_in toks ≡ Ok rest → FieldsLeft levels leaves whole next rest
       fields_next next reads rest behind =
@@ -63,13 +62,13 @@ module _ (levels leaves : ℕ) (whole : List Literal) (p : Partial) (toks : List
           record {
             left = n.1;
             stand = n.5;
-            read = step n.0 n.1 n.4 ∙ ap (λ r. (r >>= λ next. fields_in (record_in (levels - 1)) next n.1) >>= closed_record Little) (reads n.0 (record { rest = n.2; is = n.3 }));
+            read = step n.0 n.1 n.4 ∙ ap (λ r. (r >>= λ next. fields_in (record_in (levels - 1)) next n.1) >>= closed_record false) (reads n.0 (record { rest = n.2; is = n.3 }));
           }
 
       pub fields_refused : (e : Refusal) → ((v : Literal) → Stands toks v → (e ≡ OutOfMemory) ⊎ (entry_in (record_in p.levels) p v ≡ Err e)) → (e ≡ OutOfMemory) ⊎ (record_in levels leaves whole ≡ Err e)
       fields_refused e reads =
           let n = stand_open value_in 93 toks h.left no_93 h.stand more in
-          ⊎_elim inl (λ is. inr (step n.first n.others n.is ∙ ap (λ r. (r >>= λ next. fields_in (record_in (levels - 1)) next n.others) >>= closed_record Little) is)) (reads n.first (record { rest = n.after; is = n.reads }))
+          ⊎_elim inl (λ is. inr (step n.first n.others n.is ∙ ap (λ r. (r >>= λ next. fields_in (record_in (levels - 1)) next n.others) >>= closed_record false) is)) (reads n.first (record { rest = n.after; is = n.reads }))
 
 -- ---- a type, an entry
 
@@ -85,11 +84,11 @@ pub gives_value : {X : Type 0} (r there : Result X Refusal) → there ≡ r → 
 gives_value (Ok x) there is = is
 gives_value (Err e) there is = inr is
 
-pub list_type : (within : List Literal → Result Body Refusal) (v : Literal) (values : List Literal) → v ≡ Row Square (all_listed_values values) → type_in within v ≡ (within values >>= λ body. Ok (RecordDescr body.whole))
-list_type within v values is = ap (type_in within) is ∙ ap (λ (l : List Literal). within l >>= λ body. Ok (RecordDescr body.whole)) (literals_of_listed values)
+pub list_type : (within : List Literal → Result Structure Refusal) (v : Literal) (values : List Literal) → v ≡ Row Square (all_listed_values values) → type_in within v ≡ (within values >>= λ whole. Ok (RecordDescr whole))
+list_type within v values is = ap (type_in within) is ∙ ap (λ (l : List Literal). within l >>= λ whole. Ok (RecordDescr whole)) (literals_of_listed values)
 
-pub list_descr : (v : Literal) (values : List Literal) → v ≡ Row Square (all_listed_values values) → descr_in v ≡ (record_in max_depth 0 values >>= λ body. Ok (RecordDescr body.whole))
-list_descr v values is = ap descr_in is ∙ ap (λ (l : List Literal). record_in max_depth 0 l >>= λ body. Ok (RecordDescr body.whole)) (literals_of_listed values)
+pub list_descr : (v : Literal) (values : List Literal) → v ≡ Row Square (all_listed_values values) → descr_in v ≡ (record_in max_depth 0 values >>= λ whole. Ok (RecordDescr whole))
+list_descr v values is = ap descr_in is ∙ ap (λ (l : List Literal). record_in max_depth 0 l >>= λ whole. Ok (RecordDescr whole)) (literals_of_listed values)
 
 -- what the parts of an entry mean
 abbrev pub parts_in : Reader → Partial → Option (List ℕ × Literal) → Result Partial Refusal

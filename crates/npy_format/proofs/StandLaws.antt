@@ -4,9 +4,9 @@ use Rattle.std.specs.Option.{is_some, option_map}
 use Rattle.std.specs.Prelude.{option_copied}
 use Rattle.elem_descr.specs.declared.refusal.Refusal.{Refusal}
 use Rattle.elem_descr.specs.declared.refusal.Refusal.TheVariants.{BadHeader, BadDescriptor, DescriptorLeftOut}
-use Rattle.elem_descr.specs.declared.format_text.draft.Body.{Body}
+use Rattle.elem_descr.specs.Fields.{Structure}
 use Rattle.elem_descr.specs.Refusals.{◌>>=◌}
-use Rattle.elem_descr.specs.FormatRecords.{Partial}
+use Rattle.elem_descr.specs.RecordBuilding.{Partial}
 use Rattle.npy_format.specs.Tokens.{Token, tokens}
 use Rattle.npy_format.specs.Tokens as token
 use Rattle.npy_format.specs.Values.{Text, Integer, Round, Square}
@@ -110,10 +110,10 @@ module _ (toks : List Token) (v : Literal) (s : Stands toks v) where
       go (boxed_front b inside' e (list_boxed vs at e' st)) = let w = rw (e, at) at is in cc
       go (boxed_front b inside' e (pairs_boxed at e')) = let w = rw (e, at) at is in cc
 
-  pub no_type : None ≡ string_at toks → None ≡ symbol_token_at 91 toks → ((within : List Literal → Result Body Refusal) → type_in within v ≡ Err DescriptorLeftOut) × (descr_in v ≡ Err BadDescriptor)
+  pub no_type : None ≡ string_at toks → None ≡ symbol_token_at 91 toks → ((within : List Literal → Result Structure Refusal) → type_in within v ≡ Err DescriptorLeftOut) × (descr_in v ≡ Err BadDescriptor)
   no_type no_text no_list = go (front_of toks v s)
     where
-      go : Front toks v s.rest → ((within : List Literal → Result Body Refusal) → type_in within v ≡ Err DescriptorLeftOut) × (descr_in v ≡ Err BadDescriptor)
+      go : Front toks v s.rest → ((within : List Literal → Result Structure Refusal) → type_in within v ≡ Err DescriptorLeftOut) × (descr_in v ≡ Err BadDescriptor)
       go (text_front bytes e e') = let w = rw e at no_text in cc
       go (integer_front n e e') = (λ within. rw e' refl, rw e' refl)
       go (truth_front truth e e') = (λ within. rw e' refl, rw e' refl)

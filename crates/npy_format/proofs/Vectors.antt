@@ -9,7 +9,7 @@ use Rattle.elem_descr.specs.declared.scalar.Scalar.TheVariants.{Byte, Int}
 use Rattle.elem_descr.specs.declared.descr.Descr.{Descr}
 use Rattle.elem_descr.specs.declared.descr.Descr.TheVariants.{Scalar as ScalarDescr, Record as RecordDescr}
 use Rattle.elem_descr.specs.Fields.{Fields, no_more, scalar_field, record_field}
-use Rattle.elem_descr.specs.FormatRecords.{checked_name, added, widened, closed_record}
+use Rattle.elem_descr.specs.RecordBuilding.{checked_name, added, widened, closed_record}
 use Rattle.shape_strides.specs.Shapes.{shape_of}
 use Rattle.npy_format.specs.declared.header.Header.{Header}
 use Rattle.npy_format.specs.Tokens.{tokens}

@@ -1,18 +1,17 @@
 -- Element types in a header: a type string, or a list of the fields of a record.
-use Rattle.std.specs.Prelude.{ℕ, zero, suc, ◌&&◌, not, List, [], ◌∷◌, nat_eq, nat_le, if◌then◌else◌, Option, Some, None, Result, Ok, Err}
+use Rattle.std.specs.Prelude.{ℕ, zero, suc, false, ◌&&◌, not, List, [], ◌∷◌, nat_eq, nat_le, if◌then◌else◌, Option, Some, None, Result, Ok, Err}
 use Rattle.std.specs.Char.{is_ascii_digit}
 use Rattle.std.specs.List.{list_all}
 use Rattle.elem_descr.specs.declared.refusal.Refusal.{Refusal}
 use Rattle.elem_descr.specs.declared.refusal.Refusal.TheVariants.{BadDescriptor, DescriptorLeftOut}
 use Rattle.elem_descr.specs.declared.descr.Descr.{Descr}
 use Rattle.elem_descr.specs.declared.descr.Descr.TheVariants.{Scalar as ScalarDescr, Record as RecordDescr}
-use Rattle.elem_descr.specs.declared.format_text.draft.Body.{Body}
-use Rattle.elem_descr.specs.declared.format_text.mark.Mark.TheVariants.{Little}
 use Rattle.elem_descr.specs.Refusals.{◌>>=◌, check}
+use Rattle.elem_descr.specs.Fields.{Structure}
 use Rattle.elem_descr.specs.Names.{is_legal_name}
 use Rattle.elem_descr.specs.TypeStrings.{marked, value_of, typestr}
-use Rattle.elem_descr.specs.FormatLetters.{is_empty, max_size}
-use Rattle.elem_descr.specs.FormatRecords.{Partial, max_depth, empty, checked_name, added, widened, closed_record}
+use Rattle.elem_descr.specs.FormatLetters.{is_empty}
+use Rattle.elem_descr.specs.RecordBuilding.{Partial, max_depth, max_size, empty, checked_name, added, widened, closed_record}
 use Rattle.npy_format.specs.Values.{Round, Square, Text}
 use Rattle.npy_format.specs.Listed.{Literal, Plain, Row, value_literals}
 use Rattle.npy_format.specs.Tokens.{capped}
@@ -38,14 +37,14 @@ abbrev pub scalar_in : List ℕ → Result Descr Refusal
 scalar_in text = typestr text >>= λ scalar. Ok (ScalarDescr scalar)
 
 -- the type of a field: a type string, or a list
-abbrev pub type_in : (List Literal → Result Body Refusal) → Literal → Result Descr Refusal
+abbrev pub type_in : (List Literal → Result Structure Refusal) → Literal → Result Descr Refusal
 type_in record_in (Plain (Text text)) = scalar_in text
-type_in record_in (Row Square values) = record_in (value_literals values) >>= λ body. Ok (RecordDescr body.whole)
+type_in record_in (Row Square values) = record_in (value_literals values) >>= λ whole. Ok (RecordDescr whole)
 type_in record_in other = Err DescriptorLeftOut
 
 -- what reads the fields of a record, after so many leaves of the whole type
 abbrev pub Reader : Type 0
-Reader = ℕ → List Literal → Result Body Refusal
+Reader = ℕ → List Literal → Result Structure Refusal
 
 -- a record with a field more, right behind those before it
 unfoldable pub field_in : Reader → Partial → List ℕ → Literal → Result Partial Refusal
@@ -73,10 +72,10 @@ fields_in within p (entry ∷ more) = entry_in within p entry >>= λ next. field
 -- a record in which records lie to this depth, itself counted; nothing in it is aligned
 unfoldable pub record_in : ℕ → Reader
 record_in zero leaves entries = Err DescriptorLeftOut
-record_in (suc levels) leaves entries = fields_in (record_in levels) (empty levels leaves) entries >>= closed_record Little
+record_in (suc levels) leaves entries = fields_in (record_in levels) (empty levels leaves) entries >>= closed_record false
 
 -- the element type that a value means
 abbrev pub descr_in : Literal → Result Descr Refusal
 descr_in (Plain (Text text)) = scalar_in text
-descr_in (Row Square values) = record_in max_depth 0 (value_literals values) >>= λ body. Ok (RecordDescr body.whole)
+descr_in (Row Square values) = record_in max_depth 0 (value_literals values) >>= λ whole. Ok (RecordDescr whole)
 descr_in other = Err BadDescriptor

@@ -4,8 +4,7 @@ ghost use Rattle.std.specs.Char.{is_ascii_digit};
 ghost use Rattle.std.specs.List.{list_all};
 ghost use Rattle.elem_descr.specs.Refusals.{Answers, Gives};
 ghost use Rattle.elem_descr.specs.TypeStrings.{marked};
-ghost use Rattle.elem_descr.specs.FormatRecords.{max_depth, max_leaves};
-ghost use Rattle.elem_descr.specs.inside.Partials.{IsShallow, IsBody};
+ghost use Rattle.elem_descr.specs.RecordBuilding.{max_depth, max_leaves, IsShallow};
 ghost use Rattle.npy_format.specs.RecordLists.{pad_count, pad_kind, scalar_in, type_in, field_in, entry_in, record_in, descr_in};
 ghost use Rattle.npy_format.specs.Listed.{Literal};
 ghost use Rattle.npy_format.specs.Tokens.{tokens};
@@ -14,11 +13,9 @@ ghost use Rattle.npy_format.specs.inside.Places.{Stands, HasValues, entry_parts}
 
 use crate::grammar::{behind_value, string, symbol};
 use crate::token::capped_value;
-use elem_descr::format_text::draft::{Body, Draft};
-use elem_descr::format_text::mark::Mark;
 use elem_descr::name::is_legal_name;
 use elem_descr::scalar::MAX_ITEM_SIZE;
-use elem_descr::{Descr, FieldName, MAX_DEPTH, Refusal, typestr_read};
+use elem_descr::{Descr, FieldName, MAX_DEPTH, Record, RecordBuilder, Refusal, typestr_read};
 use std::alloc::Global;
 
 /// What follows the mark of a type string, if it has one.
@@ -59,15 +56,15 @@ fn pad_kind(kind: &[u8]) -> Result<Option<usize>, Refusal>
 }
 
 /// Adds padding.
-fn add_pad(draft: &mut Draft, kind: &[u8]) -> Result<(), Refusal>
-    ensures answers { Answers (λ _. draft.new) result (pad_at draft.old (string_at (tokens kind.now))) }
-    ensures levels { draft.new.levels ≡ draft.old.levels }
+fn add_pad(builder: &mut RecordBuilder, kind: &[u8]) -> Result<(), Refusal>
+    ensures answers { Answers (λ _. builder.new) result (pad_at builder.old (string_at (tokens kind.now))) }
+    ensures levels { builder.new.levels ≡ builder.old.levels }
 {
     let Some((kind, _)) = string(kind) else {
         return Err(Refusal::DescriptorLeftOut);
     };
     let count = pad_kind(unmarked(kind))?;
-    draft.pad(count)
+    builder.pad(count)
 }
 
 /// The scalar that a type string means.
@@ -95,23 +92,28 @@ fn field_type(alloc: Global, levels: usize, leaves: usize, kind: &[u8]) -> Resul
     let Some(entries) = symbol(b'[', kind) else {
         return Err(Refusal::DescriptorLeftOut);
     };
-    let body = record(alloc, levels, leaves, entries)?;
-    Ok(Descr::Record(body.whole))
+    let whole = record(alloc, levels, leaves, entries)?;
+    Ok(Descr::Record(whole))
 }
 
 /// Adds a field.
 #[cycle(record)]
-fn add_field(alloc: Global, draft: &mut Draft, name: &[u8], kind: &[u8]) -> Result<(), Refusal>
-    ensures gives { (value : Literal) → Stands (tokens kind.now) value → Gives (λ _. draft.new) result (field_in (record_in draft.old.levels) draft.old name.now value) }
-    ensures levels { draft.new.levels ≡ draft.old.levels }
+fn add_field(
+    alloc: Global,
+    builder: &mut RecordBuilder,
+    name: &[u8],
+    kind: &[u8],
+) -> Result<(), Refusal>
+    ensures gives { (value : Literal) → Stands (tokens kind.now) value → Gives (λ _. builder.new) result (field_in (record_in builder.old.levels) builder.old name.now value) }
+    ensures levels { builder.new.levels ≡ builder.old.levels }
 {
     if !is_legal_name(name) {
         return Err(Refusal::DescriptorLeftOut);
     }
-    let descr = field_type(alloc, draft.levels(), draft.leaves(), kind)?;
-    draft.check_name(name)?;
+    let descr = field_type(alloc, builder.levels(), builder.leaves(), kind)?;
+    builder.check_name(name)?;
     let name = FieldName::from_slice(alloc, name)?;
-    draft.add(name, 1, descr)
+    builder.add(name, 1, descr)
 }
 
 /// The name in an entry, a tuple of two, and where its type stands.
@@ -132,38 +134,38 @@ fn entry_parts(entry: &[u8]) -> Option<(&[u8], &[u8])>
 
 /// Adds what an entry of the list means: a field or padding.
 #[cycle(record)]
-fn add_entry(alloc: Global, draft: &mut Draft, entry: &[u8]) -> Result<(), Refusal>
-    ensures gives { (value : Literal) → Stands (tokens entry.now) value → Gives (λ _. draft.new) result (entry_in (record_in draft.old.levels) draft.old value) }
-    ensures levels { draft.new.levels ≡ draft.old.levels }
+fn add_entry(alloc: Global, builder: &mut RecordBuilder, entry: &[u8]) -> Result<(), Refusal>
+    ensures gives { (value : Literal) → Stands (tokens entry.now) value → Gives (λ _. builder.new) result (entry_in (record_in builder.old.levels) builder.old value) }
+    ensures levels { builder.new.levels ≡ builder.old.levels }
 {
     let Some((name, kind)) = entry_parts(entry) else {
         return Err(Refusal::DescriptorLeftOut);
     };
     if name.is_empty() {
-        return add_pad(draft, kind);
+        return add_pad(builder, kind);
     }
-    add_field(alloc, draft, name, kind)
+    add_field(alloc, builder, name, kind)
 }
 
 /// The record whose fields are the entries of a list. `levels` says how many records may lie one within
 /// another, and `leaves` how many leaves the whole type has before this one.
 #[cycle(record)]
-fn record(alloc: Global, levels: usize, leaves: usize, entries: &[u8]) -> Result<Body, Refusal>
+fn record(alloc: Global, levels: usize, leaves: usize, entries: &[u8]) -> Result<Record, Refusal>
     requires levels { levels ≤ max_depth }
     requires leaves { leaves ≤ max_leaves }
-    ensures gives { (values : List Literal) → HasValues 93 (tokens entries.now) values → Gives (λ body. body) result (record_in levels leaves values) }
-    ensures good { IfOk result (λ body. IsBody levels body) }
+    ensures gives { (values : List Literal) → HasValues 93 (tokens entries.now) values → Gives (λ whole. whole) result (record_in levels leaves values) }
+    ensures shallow { IfOk result (λ whole. IsShallow levels (Descr.Record whole)) }
 {
     if levels == 0 {
         return Err(Refusal::DescriptorLeftOut);
     }
-    let mut draft = Draft::new(alloc, levels - 1, leaves);
+    let mut builder = RecordBuilder::new(alloc, levels - 1, leaves);
     let mut rest = entries;
     while symbol(b']', rest).is_none() {
-        add_entry(alloc, &mut draft, rest)?;
+        add_entry(alloc, &mut builder, rest)?;
         rest = behind_value(rest)?;
     }
-    draft.close(alloc, Mark::Little)
+    builder.close(alloc, false)
 }
 
 /// The element type that the value of a header means.
@@ -176,6 +178,6 @@ pub fn descr(alloc: Global, text: &[u8]) -> Result<Descr, Refusal>
     let Some(entries) = symbol(b'[', text) else {
         return Err(Refusal::BadDescriptor);
     };
-    let body = record(alloc, MAX_DEPTH, 0, entries)?;
-    Ok(Descr::Record(body.whole))
+    let whole = record(alloc, MAX_DEPTH, 0, entries)?;
+    Ok(Descr::Record(whole))
 }

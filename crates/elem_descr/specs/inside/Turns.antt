@@ -8,7 +8,7 @@ use Rattle.elem_descr.specs.declared.refusal.Refusal.TheVariants.{BadDescriptor,
 use Rattle.elem_descr.specs.declared.scalar.Scalar.{Scalar}
 use Rattle.elem_descr.specs.declared.descr.Descr.{Descr}
 use Rattle.elem_descr.specs.declared.descr.Descr.TheVariants.{Scalar as ScalarDescr, Record as RecordDescr}
-use Rattle.elem_descr.specs.declared.format_text.draft.Body.{Body}
+use Rattle.elem_descr.specs.declared.format_text.body.Body.{Body}
 use Rattle.elem_descr.specs.declared.format_text.mark.Mark.{Mark}
 use Rattle.elem_descr.specs.declared.format_text.mark.Mark.TheVariants.{Aligned}
 use Rattle.elem_descr.specs.declared.format_text.member.Member.{Member}
@@ -17,8 +17,9 @@ use Rattle.elem_descr.specs.Refusals.{◌>>=◌, check}
 use Rattle.elem_descr.specs.Names.{is_legal_name}
 use Rattle.elem_descr.specs.TypeStrings.{is_one_of}
 use Rattle.elem_descr.specs.FormatLetters.{is_empty, mark_meant, own_alignment, aligned_to, lettered}
-use Rattle.elem_descr.specs.FormatRecords.{max_depth, Partial, empty, checked_name, added, widened, closed_record}
+use Rattle.elem_descr.specs.RecordBuilding.{max_depth, Partial, empty, checked_name, added, widened}
 use Rattle.elem_descr.specs.FormatPieces.{is_colon}
+use Rattle.elem_descr.specs.FormatTexts.{closed_body}
 
 -- the mark in force after a blank or a mark
 abbrev pub after : Mark → ℕ → Option Mark
@@ -116,7 +117,7 @@ closing (b ∷ rest) = if is_one_of (codes "}") b then Some rest else None
 -- the end of the record at its closing brace, or a member and then those after it
 abbrev pub turn : Reader → Mark → Partial → Option (List ℕ) → List ℕ → (Later → Result (Body × List ℕ) Refusal) → Result (Body × List ℕ) Refusal
 turn within mark p None text later = next_field within mark p text >>= later
-turn within mark p (Some rest) text later = closed_record mark p >>= λ body. Ok (body, rest)
+turn within mark p (Some rest) text later = closed_body mark p >>= λ body. Ok (body, rest)
 
 -- the members of a record up to its closing brace, in at most so many turns
 abbrev pub members : Reader → ℕ → Mark → Partial → List ℕ → Result (Body × List ℕ) Refusal

@@ -3,14 +3,15 @@ ghost use Rattle.std.specs.Prelude.{◌≡◌, ◌≤◌, IsTrue, IfOk};
 ghost use Rattle.elem_descr.specs.Refusals.{Gives, Answers};
 ghost use Rattle.elem_descr.specs.Names.{is_legal_name};
 ghost use Rattle.elem_descr.specs.inside.Partials.{IsBody};
-ghost use Rattle.elem_descr.specs.FormatRecords.{max_fields};
+ghost use Rattle.elem_descr.specs.RecordBuilding.{max_fields};
 ghost use Rattle.elem_descr.specs.inside.Turns.{named, scalar_in, pad_in, body_in};
 
 use crate::descr::Descr;
-use crate::format_text::draft::{Body, Draft};
+use crate::format_text::body::Body;
 use crate::format_text::mark::{Mark, own_alignment};
 use crate::format_text::member::{is_named, name_at};
 use crate::name::FieldName;
+use crate::record_builder::RecordBuilder;
 use crate::refusal::Refusal;
 use crate::scalar::Scalar;
 use std::alloc::Global;
@@ -36,20 +37,20 @@ fn named(alloc: Global, number: usize, text: &[u8]) -> Result<(FieldName, &[u8])
 pub fn add_scalar<'a>(
     alloc: Global,
     mark: Mark,
-    draft: &mut Draft,
+    builder: &mut RecordBuilder,
     value: Option<Scalar>,
     rest: &'a [u8],
 ) -> Result<(Mark, &'a [u8]), Refusal>
-    ensures gives { Gives (λ m. (draft.new, m.0, m.1.now)) result (scalar_in mark draft.old value rest.now) }
-    ensures levels { draft.new.levels ≡ draft.old.levels }
+    ensures gives { Gives (λ m. (builder.new, m.0, m.1.now)) result (scalar_in mark builder.old value rest.now) }
+    ensures levels { builder.new.levels ≡ builder.old.levels }
 {
-    let (name, rest) = named(alloc, draft.len(), rest)?;
-    draft.check_name(name.as_slice())?;
+    let (name, rest) = named(alloc, builder.len(), rest)?;
+    builder.check_name(name.as_slice())?;
     let Some(scalar) = value else {
         return Err(Refusal::TooLarge);
     };
     let alignment = mark.aligned(own_alignment(&scalar));
-    draft.add(name, alignment, Descr::Scalar(scalar))?;
+    builder.add(name, alignment, Descr::Scalar(scalar))?;
     Ok((mark, rest))
 }
 
@@ -57,14 +58,14 @@ pub fn add_scalar<'a>(
 #[tactic(auto, unfolding(crate::specs::inside::Turns::pad_in))]
 pub fn add_pad<'a>(
     mark: Mark,
-    draft: &mut Draft,
+    builder: &mut RecordBuilder,
     count: Option<usize>,
     rest: &'a [u8],
 ) -> Result<(Mark, &'a [u8]), Refusal>
-    ensures gives { Answers (λ m. (draft.new, m.0, m.1.now)) result (pad_in mark draft.old count rest.now) }
-    ensures levels { draft.new.levels ≡ draft.old.levels }
+    ensures gives { Answers (λ m. (builder.new, m.0, m.1.now)) result (pad_in mark builder.old count rest.now) }
+    ensures levels { builder.new.levels ≡ builder.old.levels }
 {
-    draft.pad(count)?;
+    builder.pad(count)?;
     if is_named(rest) {
         return Err(Refusal::DescriptorLeftOut);
     }
@@ -76,18 +77,18 @@ pub fn add_pad<'a>(
 pub fn add_body<'a>(
     alloc: Global,
     mark: Mark,
-    draft: &mut Draft,
+    builder: &mut RecordBuilder,
     body: Body,
     rest: &'a [u8],
 ) -> Result<(Mark, &'a [u8]), Refusal>
-    requires { IsBody draft.old.levels body }
-    ensures gives { Gives (λ m. (draft.new, m.0, m.1.now)) result (body_in mark draft.old body rest.now) }
-    ensures levels { draft.new.levels ≡ draft.old.levels }
+    requires { IsBody builder.old.levels body }
+    ensures gives { Gives (λ m. (builder.new, m.0, m.1.now)) result (body_in mark builder.old body rest.now) }
+    ensures levels { builder.new.levels ≡ builder.old.levels }
 {
-    let (name, rest) = named(alloc, draft.len(), rest)?;
-    draft.check_name(name.as_slice())?;
+    let (name, rest) = named(alloc, builder.len(), rest)?;
+    builder.check_name(name.as_slice())?;
     let alignment = mark.aligned(body.alignment);
     let later = body.mark;
-    draft.add(name, alignment, Descr::Record(body.whole))?;
+    builder.add(name, alignment, Descr::Record(body.whole))?;
     Ok((later, rest))
 }

@@ -1,14 +1,15 @@
 //! The records of a format text, and the records within them.
 ghost use Rattle.std.specs.Prelude.{◌≡◌, ◌≤◌, length, option_copied, IfOk};
 ghost use Rattle.elem_descr.specs.Refusals.{Gives};
-ghost use Rattle.elem_descr.specs.FormatRecords.{max_depth, max_leaves};
+ghost use Rattle.elem_descr.specs.RecordBuilding.{max_depth, max_leaves};
 ghost use Rattle.elem_descr.specs.inside.Turns.{closing, record_within, next_field};
 ghost use Rattle.elem_descr.specs.inside.Partials.{IsBody};
 
-use crate::format_text::draft::{Body, Draft};
+use crate::format_text::body::Body;
 use crate::format_text::field::{add_body, add_pad, add_scalar};
 use crate::format_text::mark::{Mark, marked};
 use crate::format_text::member::{Member, member_at};
+use crate::record_builder::RecordBuilder;
 use crate::refusal::Refusal;
 use std::alloc::Global;
 
@@ -41,16 +42,16 @@ pub fn record_within(
     if levels == 0 {
         return Err(Refusal::DescriptorLeftOut);
     }
-    let mut draft = Draft::new(alloc, levels - 1, leaves);
+    let mut builder = RecordBuilder::new(alloc, levels - 1, leaves);
     let mut mark = mark;
     let mut rest = text;
     for _turn in 0..text.len() {
         let (now, unread) = marked(mark, rest);
         if let Some(after) = closing(unread) {
-            let body = draft.close(alloc, now)?;
+            let body = Body::close(alloc, builder, now)?;
             return Ok((body, after));
         }
-        let (later, more) = field_at(alloc, now, &mut draft, unread)?;
+        let (later, more) = field_at(alloc, now, &mut builder, unread)?;
         mark = later;
         rest = more;
     }
@@ -63,24 +64,24 @@ pub fn record_within(
 fn field_at<'a>(
     alloc: Global,
     mark: Mark,
-    draft: &mut Draft,
+    builder: &mut RecordBuilder,
     text: &'a [u8],
 ) -> Result<(Mark, &'a [u8]), Refusal>
-    ensures gives { Gives (λ m. (draft.new, m.0, m.1.now)) result (next_field (record_within draft.old.levels) mark draft.old text.now) }
-    ensures levels { draft.new.levels ≡ draft.old.levels }
+    ensures gives { Gives (λ m. (builder.new, m.0, m.1.now)) result (next_field (record_within builder.old.levels) mark builder.old text.now) }
+    ensures levels { builder.new.levels ≡ builder.old.levels }
 {
     match member_at(mark, text) {
-        Ok((Member::Value(value), rest)) => add_scalar(alloc, mark, draft, value, rest),
-        Ok((Member::Pad(count), rest)) => add_pad(mark, draft, count, rest),
+        Ok((Member::Value(value), rest)) => add_scalar(alloc, mark, builder, value, rest),
+        Ok((Member::Pad(count), rest)) => add_pad(mark, builder, count, rest),
         Ok((Member::Opened, rest)) => {
             let (body, rest) = record_within(
                 alloc,
-                draft.levels(),
+                builder.levels(),
                 mark,
-                draft.leaves(),
+                builder.leaves(),
                 &rest[1..],
             )?;
-            add_body(alloc, mark, draft, body, rest)
+            add_body(alloc, mark, builder, body, rest)
         }
         Err(refusal) => Err(refusal),
     }

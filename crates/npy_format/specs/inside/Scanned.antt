@@ -5,7 +5,7 @@ use Rattle.elem_descr.specs.declared.refusal.Refusal.{Refusal}
 use Rattle.elem_descr.specs.declared.refusal.Refusal.TheVariants.{BadHeader, DescriptorLeftOut}
 use Rattle.elem_descr.specs.Refusals.{◌>>=◌}
 use Rattle.elem_descr.specs.TypeStrings.{marked}
-use Rattle.elem_descr.specs.FormatRecords.{Partial, widened}
+use Rattle.elem_descr.specs.RecordBuilding.{Partial, widened}
 use Rattle.npy_format.specs.RecordLists.{pad_kind}
 use Rattle.npy_format.specs.declared.token.Token.{Token as Scanned}
 use Rattle.npy_format.specs.declared.token.Token.TheVariants as scanned

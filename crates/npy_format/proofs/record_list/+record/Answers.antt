@@ -4,7 +4,7 @@ use Rattle.elem_descr.specs.declared.descr.Descr.TheVariants.{Record as RecordDe
 use Rattle.elem_descr.specs.Names.{is_legal_name}
 use Rattle.elem_descr.specs.Refusals.{◌>>=◌}
 use Rattle.elem_descr.specs.FormatLetters.{is_empty}
-use Rattle.elem_descr.specs.FormatRecords.{Partial}
+use Rattle.elem_descr.specs.RecordBuilding.{Partial}
 use Rattle.npy_format.specs.Tokens.{tokens}
 use Rattle.npy_format.specs.Literals.{symbol_token_at}
 use Rattle.npy_format.specs.RecordLists.{type_in, record_in}
@@ -16,45 +16,45 @@ use Rattle.npy_format.proofs.RecordListLaws.{no_levels, fields_begin, fields_clo
 use Rattle.npy_format.proofs.record_list.+record.Goals as goal
 
 pub add_entry-returns-in_default-clause-gives : goal.add_entry-returns-in_default-clause-gives
-add_entry-returns-in_default-clause-gives t c = λ v s. inr (entry_means (record_in c.args.draft.now.levels) c.args.draft.now v ∙ ap (parts_in (record_in c.args.draft.now.levels) c.args.draft.now) (c.in_default.ensures v s))
+add_entry-returns-in_default-clause-gives t c = λ v s. inr (entry_means (record_in c.args.builder.now.levels) c.args.builder.now v ∙ ap (parts_in (record_in c.args.builder.now.levels) c.args.builder.now) (c.in_default.ensures v s))
 
 pub add_entry-returns-then-is_empty-clause-gives : goal.add_entry-returns-then-is_empty-clause-gives
 add_entry-returns-then-is_empty-clause-gives t c = λ v s.
     let parts = c.in-Some.ensures v s in
     let none : is_empty c.in-Some.name.now ≡ true = search rules in
-    gives_answer _ _ _ _ (entry_pad (record_in c.args.draft.now.levels) c.args.draft.now v c.in-Some.name.now parts.0 parts.1 none ∙ sym (pad_is (tokens c.in-Some.kind.now) parts.0 parts.2 c.args.draft.now)) c.add_pad.ensures.answers
+    gives_answer _ _ _ _ (entry_pad (record_in c.args.builder.now.levels) c.args.builder.now v c.in-Some.name.now parts.0 parts.1 none ∙ sym (pad_is (tokens c.in-Some.kind.now) parts.0 parts.2 c.args.builder.now)) c.add_pad.ensures.answers
 
 pub add_entry-returns-clause-gives : goal.add_entry-returns-clause-gives
 add_entry-returns-clause-gives t c = λ v s.
     let parts = c.in-Some.ensures v s in
     let some : is_empty c.in-Some.name.now ≡ false = search rules in
-    gives_same _ _ _ _ (entry_field (record_in c.args.draft.now.levels) c.args.draft.now v c.in-Some.name.now parts.0 parts.1 some) (c.add_field.ensures.gives parts.0 parts.2)
+    gives_same _ _ _ _ (entry_field (record_in c.args.builder.now.levels) c.args.builder.now v c.in-Some.name.now parts.0 parts.1 some) (c.add_field.ensures.gives parts.0 parts.2)
 
 pub add_field-returns-then-not-is_legal_name-clause-gives : goal.add_field-returns-then-not-is_legal_name-clause-gives
 add_field-returns-then-not-is_legal_name-clause-gives t c = λ v s.
     let no_name : is_legal_name c.args.name.now ≡ false = search rules in
-    inr (field_illegal (record_in c.args.draft.now.levels) c.args.draft.now c.args.name.now v no_name)
+    inr (field_illegal (record_in c.args.builder.now.levels) c.args.builder.now c.args.name.now v no_name)
 
 pub add_field-returns-in_err-descr-clause-gives : goal.add_field-returns-in_err-descr-clause-gives
 add_field-returns-in_err-descr-clause-gives t c = λ v s.
     let legal : is_legal_name c.args.name.now ≡ true = search rules in
     let p = err_from_is_err_and c.from_residual.result c.from_residual.ensures.1 in
     let refused = rw (c.levels.ensures.value, c.leaves.ensures.value) at (c.in_err-descr.ensures.gives v s) in
-    rw (p.1, p.2) (⊎_elim inl (λ e. inr (field_untyped (record_in c.args.draft.now.levels) c.args.draft.now c.args.name.now v legal _ e)) refused)
+    rw (p.1, p.2) (⊎_elim inl (λ e. inr (field_untyped (record_in c.args.builder.now.levels) c.args.builder.now c.args.name.now v legal _ e)) refused)
 
 pub add_field-returns-in_err-check_name-clause-gives : goal.add_field-returns-in_err-check_name-clause-gives
 add_field-returns-in_err-check_name-clause-gives t c = λ v s.
     let legal : is_legal_name c.args.name.now ≡ true = search rules in
     let p = err_from_is_err_and c.from_residual-in_err-check_name.result c.from_residual-in_err-check_name.ensures.1 in
     let means = rw (c.levels.ensures.value, c.leaves.ensures.value) at (c.in_ok-descr.ensures.gives v s) in
-    rw (p.1, p.2) (inr (field_taken (record_in c.args.draft.now.levels) c.args.draft.now c.args.name.now v legal c.in_ok-descr.descr means _ c.in_err-check_name.ensures.answers))
+    rw (p.1, p.2) (inr (field_taken (record_in c.args.builder.now.levels) c.args.builder.now c.args.name.now v legal c.in_ok-descr.descr means _ c.in_err-check_name.ensures.answers))
 
 pub add_field-returns-clause-gives : goal.add_field-returns-clause-gives
 add_field-returns-clause-gives t c = λ v s.
     let legal : is_legal_name c.args.name.now ≡ true = search rules in
     let means = rw (c.levels.ensures.value, c.leaves.ensures.value) at (c.in_ok-descr.ensures.gives v s) in
     let added = rw c.in_ok-name.ensures at c.add.ensures.gives in
-    gives_same _ _ _ _ (field_added (record_in c.args.draft.now.levels) c.args.draft.now c.args.name.now v legal c.in_ok-descr.descr means c.in_ok-check_name.ensures.answers) added
+    gives_same _ _ _ _ (field_added (record_in c.args.builder.now.levels) c.args.builder.now c.args.name.now v legal c.in_ok-descr.descr means c.in_ok-check_name.ensures.answers) added
 
 pub field_type-returns-in-Some-clause-gives : goal.field_type-returns-in-Some-clause-gives
 field_type-returns-in-Some-clause-gives t c = λ v s. gives_value _ _ (ap (type_in (record_in c.args.levels c.args.leaves)) (string_stands (tokens c.args.kind.now) v s (c.in-Some.kind.now, tokens c.in-Some.field-0-1.now) c.in-Some.ensures) ∙ sym c.scalar.ensures.value)
@@ -62,46 +62,46 @@ field_type-returns-in-Some-clause-gives t c = λ v s. gives_value _ _ (ap (type_
 pub field_type-returns-in_default-symbol-clause-gives : goal.field_type-returns-in_default-symbol-clause-gives
 field_type-returns-in_default-symbol-clause-gives t c = λ v s. inr ((no_type (tokens c.args.kind.now) v s c.in_default.ensures c.in_default-symbol.ensures).0 (record_in c.args.levels c.args.leaves))
 
-pub field_type-returns-in_err-body-clause-gives : goal.field_type-returns-in_err-body-clause-gives
-field_type-returns-in_err-body-clause-gives t c = λ v s.
+pub field_type-returns-in_err-whole-clause-gives : goal.field_type-returns-in_err-whole-clause-gives
+field_type-returns-in_err-whole-clause-gives t c = λ v s.
     let row = list_stands (tokens c.args.kind.now) v s (tokens c.in-Some-symbol.entries.now) c.in-Some-symbol.ensures in
     let p = err_from_is_err_and c.from_residual.result c.from_residual.ensures.1 in
-    rw (p.1, p.2) (⊎_elim inl (λ e. inr (list_type (record_in c.args.levels c.args.leaves) v row.0 row.1 ∙ ap (λ r. r >>= λ body. Ok (RecordDescr body.whole)) e)) (c.in_err-body.ensures.gives row.0 row.2))
+    rw (p.1, p.2) (⊎_elim inl (λ e. inr (list_type (record_in c.args.levels c.args.leaves) v row.0 row.1 ∙ ap (λ r. r >>= λ whole. Ok (RecordDescr whole)) e)) (c.in_err-whole.ensures.gives row.0 row.2))
 
 pub field_type-returns-clause-gives : goal.field_type-returns-clause-gives
 field_type-returns-clause-gives t c = λ v s.
     let row = list_stands (tokens c.args.kind.now) v s (tokens c.in-Some-symbol.entries.now) c.in-Some-symbol.ensures in
-    list_type (record_in c.args.levels c.args.leaves) v row.0 row.1 ∙ ap (λ r. r >>= λ body. Ok (RecordDescr body.whole)) (c.in_ok-body.ensures.gives row.0 row.2)
+    list_type (record_in c.args.levels c.args.leaves) v row.0 row.1 ∙ ap (λ r. r >>= λ whole. Ok (RecordDescr whole)) (c.in_ok-whole.ensures.gives row.0 row.2)
 
 pub record-returns-then-levels-eq0-clause-gives : goal.record-returns-then-levels-eq0-clause-gives
 record-returns-then-levels-eq0-clause-gives t c = λ values s. inr (no_levels c.args.levels c.args.leaves values c.if-levels-eq0.true)
 
 pub record-loop-rest-init : goal.record-loop-rest-init
 record-loop-rest-init t c =
-    let levels = ap (λ (p : Partial). p.levels) c.new-draft.ensures in
+    let levels = ap (λ (p : Partial). p.levels) c.new-builder.ensures in
     record {
-      read = λ values s. rw c.new-draft.ensures (fields_begin c.args.levels c.args.leaves values (tokens c.args.entries.now) (omega arith) s);
+      read = λ values s. rw c.new-builder.ensures (fields_begin c.args.levels c.args.leaves values (tokens c.args.entries.now) (omega arith) s);
       levels = omega (arith, levels, c.if-levels-eq0.false);
     }
 
 pub record-returns-in_err-add_entry-clause-gives : goal.record-returns-in_err-add_entry-clause-gives
 record-returns-in_err-add_entry-clause-gives t c = λ values s.
     let p = err_from_is_err_and c.from_residual.result c.from_residual.ensures.1 in
-    rw (p.1, p.2) (fields_refused c.args.levels c.args.leaves values c.loop-rest.draft (tokens c.loop-rest.rest.now) (c.loop-rest.invariant.read values s) (symbol_open c.symbol.result (symbol_token_at 93 (tokens c.loop-rest.rest.now)) c.loop-rest-test.ensures c.symbol.ensures) c.loop-rest.invariant.levels _ c.in_err-add_entry.ensures.gives)
+    rw (p.1, p.2) (fields_refused c.args.levels c.args.leaves values c.loop-rest.builder (tokens c.loop-rest.rest.now) (c.loop-rest.invariant.read values s) (symbol_open c.symbol.result (symbol_token_at 93 (tokens c.loop-rest.rest.now)) c.loop-rest-test.ensures c.symbol.ensures) c.loop-rest.invariant.levels _ c.in_err-add_entry.ensures.gives)
 
 pub record-returns-in_err-rest-clause-gives : goal.record-returns-in_err-rest-clause-gives
-record-returns-in_err-rest-clause-gives t c = λ values s. absurd (fields_read c.args.levels c.args.leaves values c.loop-rest.draft (tokens c.loop-rest.rest.now) (c.loop-rest.invariant.read values s) (symbol_open c.symbol.result (symbol_token_at 93 (tokens c.loop-rest.rest.now)) c.loop-rest-test.ensures c.symbol.ensures) _ c.in_err-rest.ensures)
+record-returns-in_err-rest-clause-gives t c = λ values s. absurd (fields_read c.args.levels c.args.leaves values c.loop-rest.builder (tokens c.loop-rest.rest.now) (c.loop-rest.invariant.read values s) (symbol_open c.symbol.result (symbol_token_at 93 (tokens c.loop-rest.rest.now)) c.loop-rest-test.ensures c.symbol.ensures) _ c.in_err-rest.ensures)
 
 pub record-loop-rest-smaller : goal.record-loop-rest-smaller
 record-loop-rest-smaller t c = entry_shorter value_in (tokens c.loop-rest.rest.now) (tokens c.in_ok-rest.rest.now) (literal_leaves 15) c.in_ok-rest.ensures
 
 pub record-loop-rest-preserved : goal.record-loop-rest-preserved
 record-loop-rest-preserved t c = record {
-  read = λ values s. fields_next c.args.levels c.args.leaves values c.loop-rest.draft (tokens c.loop-rest.rest.now) (c.loop-rest.invariant.read values s) (symbol_open c.symbol.result (symbol_token_at 93 (tokens c.loop-rest.rest.now)) c.loop-rest-test.ensures c.symbol.ensures) c.loop-rest.invariant.levels _ c.in_ok-add_entry.ensures.gives (tokens c.in_ok-rest.rest.now) c.in_ok-rest.ensures;
+  read = λ values s. fields_next c.args.levels c.args.leaves values c.loop-rest.builder (tokens c.loop-rest.rest.now) (c.loop-rest.invariant.read values s) (symbol_open c.symbol.result (symbol_token_at 93 (tokens c.loop-rest.rest.now)) c.loop-rest-test.ensures c.symbol.ensures) c.loop-rest.invariant.levels _ c.in_ok-add_entry.ensures.gives (tokens c.in_ok-rest.rest.now) c.in_ok-rest.ensures;
   levels = omega (arith, c.loop-rest.invariant.levels, c.add_entry.ensures.levels);
 }
 
 pub record-returns-clause-gives : goal.record-returns-clause-gives
 record-returns-clause-gives t c = λ values s.
     let end = symbol_closed c.symbol.result (symbol_token_at 93 (tokens c.loop-rest.rest.now)) c.loop-rest-test.ensures c.symbol.ensures in
-    gives_same _ _ _ _ (fields_closed c.args.levels c.args.leaves values c.loop-rest.draft (tokens c.loop-rest.rest.now) (c.loop-rest.invariant.read values s) end.0 end.1) c.close.ensures.gives
+    gives_same _ _ _ _ (fields_closed c.args.levels c.args.leaves values c.loop-rest.builder (tokens c.loop-rest.rest.now) (c.loop-rest.invariant.read values s) end.0 end.1) c.close.ensures.gives

@@ -13,16 +13,16 @@ abbrev pub decreases-field_type : goal.decreases-field_type
 decreases-field_type l = 4 * l.levels + 1
 
 abbrev pub decreases-add_field : goal.decreases-add_field
-decreases-add_field l = 4 * l.draft.now.levels + 2
+decreases-add_field l = 4 * l.builder.now.levels + 2
 
 abbrev pub decreases-add_entry : goal.decreases-add_entry
-decreases-add_entry l = 4 * l.draft.now.levels + 3
+decreases-add_entry l = 4 * l.builder.now.levels + 3
 
 -- the entries so far are read
 abbrev pub invariant-record-loop-rest : goal.invariant-record-loop-rest
 invariant-record-loop-rest l = record {
-  read : (values : List Literal) → HasValues 93 (tokens l.entries) values → FieldsLeft l.levels l.leaves values l.draft (tokens l.rest);
-  levels : l.draft.levels + 1 ≡ l.levels;
+  read : (values : List Literal) → HasValues 93 (tokens l.entries) values → FieldsLeft l.levels l.leaves values l.builder (tokens l.rest);
+  levels : l.builder.levels + 1 ≡ l.levels;
 }
 
 abbrev pub decreases-record-loop-rest : goal.decreases-record-loop-rest

@@ -14,13 +14,13 @@ returns-in-Some c = λ v s. gives_value _ _ (ap descr_in (string_stands (tokens 
 pub returns-in_default-symbol : goal.returns-in_default-symbol
 returns-in_default-symbol c = λ v s. inr (no_type (tokens c.args.text.now) v s c.in_default.ensures c.in_default-symbol.ensures).1
 
-pub returns-in_err-body : goal.returns-in_err-body
-returns-in_err-body c = λ v s.
+pub returns-in_err-whole : goal.returns-in_err-whole
+returns-in_err-whole c = λ v s.
     let row = list_stands (tokens c.args.text.now) v s (tokens c.in-Some-symbol.entries.now) c.in-Some-symbol.ensures in
     let p = err_from_is_err_and c.from_residual.result c.from_residual.ensures.1 in
-    rw (p.1, p.2) (⊎_elim inl (λ e. inr (list_descr v row.0 row.1 ∙ ap (λ r. r >>= λ body. Ok (RecordDescr body.whole)) e)) (c.in_err-body.ensures.gives row.0 row.2))
+    rw (p.1, p.2) (⊎_elim inl (λ e. inr (list_descr v row.0 row.1 ∙ ap (λ r. r >>= λ whole. Ok (RecordDescr whole)) e)) (c.in_err-whole.ensures.gives row.0 row.2))
 
 pub returns : goal.returns
 returns c = λ v s.
     let row = list_stands (tokens c.args.text.now) v s (tokens c.in-Some-symbol.entries.now) c.in-Some-symbol.ensures in
-    list_descr v row.0 row.1 ∙ ap (λ r. r >>= λ body. Ok (RecordDescr body.whole)) (c.in_ok-body.ensures.gives row.0 row.2)
+    list_descr v row.0 row.1 ∙ ap (λ r. r >>= λ whole. Ok (RecordDescr whole)) (c.in_ok-whole.ensures.gives row.0 row.2)

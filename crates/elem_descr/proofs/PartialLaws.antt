@@ -7,8 +7,8 @@ use Rattle.elem_descr.specs.declared.descr.Field.{Field}
 use Rattle.elem_descr.specs.Names.{is_legal_name}
 use Rattle.elem_descr.specs.Descriptors.{IsLegal, listed, fields_of}
 use Rattle.elem_descr.specs.Items.{item_size, leaves_of}
-use Rattle.elem_descr.specs.FormatRecords.{Partial, empty, is_taken}
-use Rattle.elem_descr.specs.inside.Partials.{IsPartial, IsShallow}
+use Rattle.elem_descr.specs.RecordBuilding.{Partial, IsShallow, empty, is_taken}
+use Rattle.elem_descr.specs.inside.Partials.{IsPartial}
 use Rattle.elem_descr.proofs.FieldLaws.{fields_of-listed}
 use Rattle.elem_descr.proofs.FieldLists.{in_order_push, InOrder-ends, within_push, depth_push, leaf_count-push}
 

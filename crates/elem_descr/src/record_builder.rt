@@ -1,31 +1,20 @@
-//! A record as far as it is read.
+//! Records, built field by field.
 ghost use Rattle.std.specs.Prelude.{◌≡◌, ◌≤◌, ◌<◌, ◌+◌, length, IsTrue, IfOk, false};
 ghost use Rattle.elem_descr.specs.Refusals.{Answers, Gives};
 ghost use Rattle.elem_descr.specs.Names.{is_legal_name};
 ghost use Rattle.elem_descr.specs.Items.{leaves_of};
-ghost use Rattle.elem_descr.specs.FormatRecords.{max_depth, max_fields, max_leaves, Partial, empty, is_taken, checked_name, added, widened, closed_record, closed_size};
-ghost use Rattle.elem_descr.specs.inside.Partials.{IsShallow, IsBody};
+ghost use Rattle.elem_descr.specs.RecordBuilding.{max_depth, max_fields, max_leaves, Partial, IsShallow, empty, is_taken, checked_name, added, widened, closed_record, closed_size};
 
 use crate::descr::{Descr, Field, MAX_FIELDS, MAX_LEAVES, Record};
-use crate::format_text::mark::Mark;
 use crate::name::FieldName;
 use crate::refusal::Refusal;
 use crate::scalar::MAX_ITEM_SIZE;
 use std::alloc::Global;
 use std::marker::Model;
 
-/// A record that is read, what its offset is a multiple of where `@` is in force, and the mark in
-/// force behind it.
-#[derive(Debug, Drop)]
-pub struct Body {
-    pub whole: Record,
-    pub alignment: usize,
-    pub mark: Mark,
-}
-
 /// A record to which fields and padding are added in their order.
 #[derive(Debug, Drop)]
-pub struct Draft {
+pub struct RecordBuilder {
     size: usize,
     alignment: usize,
     leaves: usize,
@@ -33,8 +22,8 @@ pub struct Draft {
     fields: Vec<Field>,
 }
 
-impl Model for Draft {
-    ghost use Rattle.elem_descr.specs.FormatRecords.{Partial};
+impl Model for RecordBuilder {
+    ghost use Rattle.elem_descr.specs.RecordBuilding.{Partial};
     ghost use Rattle.elem_descr.specs.inside.Partials.{IsPartial};
     ghost use Rattle.elem_descr.specs.contracts.descr.Field as field;
     ghost use Rattle.std.specs.Coded.{codes};
@@ -43,9 +32,9 @@ impl Model for Draft {
 
     ghost coded = { Prim.hlevel (codes, field.the_row.coded) };
 
-    ghost view = { λ d. record { size = d.size; alignment = d.alignment; leaves = d.leaves; levels = d.levels; fields = d.fields.items } };
+    ghost view = { λ b. record { size = b.size; alignment = b.alignment; leaves = b.leaves; levels = b.levels; fields = b.fields.items } };
 
-    ghost invariant = { λ d. IsPartial (record { size = d.size; alignment = d.alignment; leaves = d.leaves; levels = d.levels; fields = d.fields.items }) };
+    ghost invariant = { λ b. IsPartial (record { size = b.size; alignment = b.alignment; leaves = b.leaves; levels = b.levels; fields = b.fields.items }) };
 }
 
 fn is_taken(fields: &[Field], name: &[u8]) -> bool
@@ -54,15 +43,16 @@ fn is_taken(fields: &[Field], name: &[u8]) -> bool
     fields.iter().any(|field| field.name.as_slice() == name)
 }
 
-impl Draft {
-    /// A record before its first member, in a text that has so many leaves before it.
-    #[tactic(auto, using(crate::proofs::Drafts::empty_partial))]
-    pub fn new(alloc: Global, levels: usize, leaves: usize) -> Draft
+impl RecordBuilder {
+    /// A record before its first field, in which `levels` more may lie one within another, after so many
+    /// leaves of the whole type.
+    #[tactic(auto, using(crate::proofs::PartialLaws::empty_partial))]
+    pub fn new(alloc: Global, levels: usize, leaves: usize) -> RecordBuilder
         requires levels { levels < max_depth }
         requires leaves { leaves ≤ max_leaves }
         ensures { result ≡ empty levels leaves }
     {
-        Draft {
+        RecordBuilder {
             size: 0,
             alignment: 1,
             leaves,
@@ -79,7 +69,7 @@ impl Draft {
         self.fields.len()
     }
 
-    /// The leaves of the whole text so far.
+    /// The leaves of the whole type so far.
     pub fn leaves(&self) -> usize
         ensures value { result ≡ self.now.leaves }
         ensures few { result ≤ max_leaves }
@@ -97,7 +87,7 @@ impl Draft {
 
     /// Whether a further field may have this name. A name that is taken is `BadDescriptor`, and a
     /// 65th field is `TooLarge`.
-    #[tactic(auto, unfolding(crate::specs::FormatRecords::checked_name))]
+    #[tactic(auto, unfolding(crate::specs::RecordBuilding::checked_name))]
     pub fn check_name(&self, name: &[u8]) -> Result<(), Refusal>
         ensures answers { Answers (λ _. tt) result (checked_name self.now name.now) }
         ensures new { IfOk result (λ _. is_taken self.now.fields name.now ≡ false) }
@@ -112,9 +102,9 @@ impl Draft {
         Ok(())
     }
 
-    /// Adds a field. More than 2,048 leaves of the text, and an item of more than 65,536 bytes, are
-    /// `TooLarge`.
-    #[tactic(auto, unfolding(crate::specs::FormatRecords::added))]
+    /// Adds a field at the next multiple of its alignment. More than 2,048 leaves of the whole type, and
+    /// an item of more than 65,536 bytes, are `TooLarge`.
+    #[tactic(auto, unfolding(crate::specs::RecordBuilding::added))]
     pub fn add(&mut self, name: FieldName, alignment: usize, descr: Descr) -> Result<(), Refusal>
         requires legal { IsTrue (is_legal_name name) }
         requires new { is_taken self.old.fields name ≡ false }
@@ -141,7 +131,7 @@ impl Draft {
     }
 
     /// Adds padding. An item of more than 65,536 bytes is `TooLarge`.
-    #[tactic(auto, unfolding(crate::specs::FormatRecords::widened))]
+    #[tactic(auto, unfolding(crate::specs::RecordBuilding::widened))]
     pub fn pad(&mut self, count: Option<usize>) -> Result<(), Refusal>
         ensures answers { Answers (λ _. self.new) result (widened self.old count) }
         ensures levels { self.new.levels ≡ self.old.levels }
@@ -156,37 +146,39 @@ impl Draft {
         Ok(())
     }
 
+    /// The greatest alignment of the fields so far.
+    pub fn alignment(&self) -> usize
+        ensures value { result ≡ self.now.alignment }
+        ensures within { (1 ≤ result) × (result ≤ 8) }
+    {
+        self.alignment
+    }
+
     /// The bytes of the record where it ends now.
-    fn closed_size(&self, mark: Mark) -> usize
-        ensures value { result ≡ closed_size mark self.now }
+    fn closed_size(&self, is_aligned: bool) -> usize
+        ensures value { result ≡ closed_size is_aligned self.now }
         ensures later { self.now.size ≤ result }
     {
-        if !mark.is_aligning() {
+        if !is_aligned {
             return self.size;
         }
         self.size.next_multiple_of(self.alignment)
     }
 
-    /// The record, its size rounded up where the mark aligns. A record without a field is
-    /// `DescriptorLeftOut`.
-    #[tactic(auto, unfolding(crate::specs::FormatRecords::closed_record))]
-    pub fn close(self, alloc: Global, mark: Mark) -> Result<Body, Refusal>
-        ensures gives { Gives (λ body. body) result (closed_record mark self) }
-        ensures good { IfOk result (IsBody (1 + self.levels)) }
+    /// The record, its size a multiple of its alignment where it is to be aligned. A record without a
+    /// field is `DescriptorLeftOut`.
+    #[tactic(auto, unfolding(crate::specs::RecordBuilding::closed_record))]
+    pub fn close(self, alloc: Global, is_aligned: bool) -> Result<Record, Refusal>
+        ensures gives { Gives (λ whole. whole) result (closed_record is_aligned self) }
+        ensures shallow { IfOk result (λ whole. IsShallow (1 + self.levels) (Descr.Record whole)) }
     {
         if self.fields.is_empty() {
             return Err(Refusal::DescriptorLeftOut);
         }
-        let size = self.closed_size(mark);
+        let size = self.closed_size(is_aligned);
         if size > MAX_ITEM_SIZE {
             return Err(Refusal::TooLarge);
         }
-        let alignment = self.alignment;
-        let whole = Record::try_new(alloc, size, self.fields)?;
-        Ok(Body {
-            whole,
-            alignment,
-            mark,
-        })
+        Ok(Record::try_new(alloc, size, self.fields)?)
     }
 }

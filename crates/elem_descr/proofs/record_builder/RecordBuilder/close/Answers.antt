@@ -1,7 +1,7 @@
 use Rattle.std.proofs.Common.{◌≡◌, ◌≤◌, length, rules, arith, ap}
-use Rattle.elem_descr.specs.FormatRecords.{Partial}
-use Rattle.elem_descr.proofs.Drafts.{closed_legal}
-use Rattle.elem_descr.proofs.format_text.draft.Draft.close.Goals as goal
+use Rattle.elem_descr.specs.RecordBuilding.{Partial}
+use Rattle.elem_descr.proofs.PartialLaws.{closed_legal}
+use Rattle.elem_descr.proofs.record_builder.RecordBuilder.close.Goals as goal
 
 pub try_new-requires : goal.try_new-requires
 try_new-requires c =

@@ -1,7 +1,7 @@
 use Rattle.std.proofs.Common.{arith}
-use Rattle.elem_descr.specs.FormatRecords.{Partial}
-use Rattle.elem_descr.proofs.Drafts.{widened_partial}
-use Rattle.elem_descr.proofs.format_text.draft.Draft.pad.Goals as goal
+use Rattle.elem_descr.specs.RecordBuilding.{Partial}
+use Rattle.elem_descr.proofs.PartialLaws.{widened_partial}
+use Rattle.elem_descr.proofs.record_builder.RecordBuilder.pad.Goals as goal
 
 pub invariant_of-self : goal.invariant_of-self
 invariant_of-self c =

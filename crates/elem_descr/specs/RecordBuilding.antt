@@ -1,5 +1,5 @@
--- Format texts of PEP 3118: a record as far as it is read.
-use Rattle.std.specs.Prelude.{ℕ, ◌+◌, max, Bool, not, List, [], ◌∷◌, ◌++◌, length, nat_lt, nat_le, if◌then◌else◌, Option, Result, Ok, Err}
+-- A record as far as it is built, field by field.
+use Rattle.std.specs.Prelude.{ℕ, ◌+◌, ◌≤◌, max, Bool, not, List, [], ◌∷◌, ◌++◌, length, nat_lt, nat_le, if◌then◌else◌, Option, Result, Ok, Err}
 use Rattle.std.specs.Int.{next_multiple_of}
 use Rattle.std.specs.List.{list_any}
 use Rattle.std.specs.Option.{ok_or}
@@ -8,26 +8,29 @@ use Rattle.elem_descr.specs.declared.refusal.Refusal.{Refusal}
 use Rattle.elem_descr.specs.declared.refusal.Refusal.TheVariants.{BadDescriptor, DescriptorLeftOut, TooLarge}
 use Rattle.elem_descr.specs.declared.descr.Field.{Field}
 use Rattle.elem_descr.specs.declared.descr.Descr.{Descr}
-use Rattle.elem_descr.specs.declared.format_text.draft.Body.{Body}
-use Rattle.elem_descr.specs.declared.format_text.mark.Mark.{Mark}
+use Rattle.elem_descr.specs.declared.descr.Descr.TheVariants.{Scalar as ScalarDescr, Record as RecordDescr}
 use Rattle.elem_descr.specs.Refusals.{◌>>=◌, check}
-use Rattle.elem_descr.specs.Descriptors.{listed}
+use Rattle.elem_descr.specs.Fields.{Structure}
+use Rattle.elem_descr.specs.Descriptors.{IsLegal, listed, depth}
 use Rattle.elem_descr.specs.Items.{item_size, leaves_of}
-use Rattle.elem_descr.specs.FormatLetters.{max_size, is_aligning}
+
+-- the most bytes of an item
+abbrev pub max_size : ℕ
+max_size = 65536
 
 -- how many records may lie one within another
 abbrev pub max_depth : ℕ
 max_depth = 4
 
--- the most fields of a record, and leaves of a text
+-- the most fields of a record, and leaves of an item
 abbrev pub max_fields : ℕ
 max_fields = 64
 
 abbrev pub max_leaves : ℕ
 max_leaves = 2048
 
--- a record as far as it is read: its bytes so far, the greatest alignment of its members, the leaves
--- of the whole text so far, how many levels of records may lie in it, and its fields
+-- its bytes so far, the greatest alignment of its fields, the leaves of the whole type so far, how many
+-- levels of records may lie in it, and its fields
 pub record Partial : Type 0 where
   pub size : ℕ
   pub alignment : ℕ
@@ -35,7 +38,7 @@ pub record Partial : Type 0 where
   pub levels : ℕ
   pub fields : List Field
 
--- a record before its first member
+-- a record before its first field
 abbrev pub empty : ℕ → ℕ → Partial
 empty levels leaves = record { size = 0; alignment = 1; leaves = leaves; levels = levels; fields = [] }
 
@@ -63,7 +66,7 @@ checked_name p name = do
   _ ← check (not (is_taken p.fields name)) BadDescriptor
   check (nat_lt (length p.fields) max_fields) TooLarge
 
--- the leaves of the text and the bytes of the record are checked with the field
+-- the leaves of the type and the bytes of the record are checked with the field
 unfoldable pub added : Partial → List ℕ → ℕ → Descr → Result Partial Refusal
 added p name alignment descr = do
   _ ← check (nat_le (p.leaves + length (leaves_of descr)) max_leaves) TooLarge
@@ -75,13 +78,18 @@ widened p count = do
   n ← ok_or count TooLarge
   if_small (record p { size = p.size + n })
 
--- the bytes of a record, rounded up where `@` is in force at its end
-abbrev pub closed_size : Mark → Partial → ℕ
-closed_size mark p = if is_aligning mark then next_multiple_of p.size p.alignment else p.size
+-- a field that may lie in a record in which so many levels of records may
+abbrev pub IsShallow : ℕ → Descr → Type 0
+IsShallow levels (ScalarDescr scalar) = Unit {0}
+IsShallow levels (RecordDescr structure) = IsLegal structure × (depth structure.fields ≤ levels)
 
--- a record at its closing brace
-unfoldable pub closed_record : Mark → Partial → Result Body Refusal
-closed_record mark p = do
+-- the bytes of the whole, a multiple of its alignment where it is aligned
+abbrev pub closed_size : Bool → Partial → ℕ
+closed_size is_aligned p = if is_aligned then next_multiple_of p.size p.alignment else p.size
+
+-- the whole record
+unfoldable pub closed_record : Bool → Partial → Result Structure Refusal
+closed_record is_aligned p = do
   _ ← check (nat_le 1 (length p.fields)) DescriptorLeftOut
-  _ ← check (nat_le (closed_size mark p) max_size) TooLarge
-  Ok (record { whole = record { size = closed_size mark p; fields = listed p.fields }; alignment = p.alignment; mark = mark })
+  _ ← check (nat_le (closed_size is_aligned p) max_size) TooLarge
+  Ok (record { size = closed_size is_aligned p; fields = listed p.fields })

@@ -1,9 +1,8 @@
 use Rattle.std.proofs.Common.{◌≡◌, ◌≤◌, false, length, ap, subst, sym, arith}
 use Rattle.elem_descr.specs.declared.descr.Field.{Field}
-use Rattle.elem_descr.specs.FormatRecords.{Partial, is_taken}
-use Rattle.elem_descr.specs.inside.Partials.{IsShallow}
-use Rattle.elem_descr.proofs.Drafts.{partial_push, MayFollow}
-use Rattle.elem_descr.proofs.format_text.draft.Draft.add.Goals as goal
+use Rattle.elem_descr.specs.RecordBuilding.{Partial, IsShallow, is_taken}
+use Rattle.elem_descr.proofs.PartialLaws.{partial_push, MayFollow}
+use Rattle.elem_descr.proofs.record_builder.RecordBuilder.add.Goals as goal
 
 pub invariant_of-self-2 : goal.invariant_of-self-2
 invariant_of-self-2 c =
