@@ -19,12 +19,6 @@ module _ (width : ℕ) (other : List ℕ) where
   put-length : (at offset : ℕ) (block : List ℕ) → IsIn block at → IsIn other offset → length (put at (item_at offset width other) block) ≡ length block
   put-length at offset block in_block in_other = length-put at (item_at offset width other) block (omega (arith, length-item_at offset width other in_other, in_block))
 
-  read-back : (at offset : ℕ) (block : List ℕ) → IsIn block at → IsIn other offset → item_at at width (put at (item_at offset width other) block) ≡ item_at offset width other
-  read-back at offset block in_block in_other =
-      let long = length-item_at offset width other in_other in
-      let item = item_at offset width other in
-      ap (λ n. item_at at n (put at item block)) (sym long) ∙ item_at-put_same at item block (omega (arith, long, in_block))
-
   kept-once : (at offset place : ℕ) (block : List ℕ) → IsIn block at → IsIn other offset → IsIn block place → width ≤ distance place at → item_at place width (put at (item_at offset width other) block) ≡ item_at place width block
   kept-once at offset place block in_block in_other there apart =
       let long = length-item_at offset width other in_other in
@@ -47,28 +41,6 @@ module _ (width : ℕ) (other : List ℕ) where
       let left : All (IsIn next) to = subst (λ n. All (λ o. o + width ≤ n) to) (sym same) (All-rest (IsIn block) at to (at ∷ to) refl in_block) in
       kept place to from next (subst (λ n. place + width ≤ n) (sym same) there) left (All-rest (IsIn other) offset from (offset ∷ from) refl in_other) (All-rest (λ o. width ≤ distance place o) at to (at ∷ to) refl apart)
       ∙ kept-once at offset place block here first there (All-head (λ o. width ≤ distance place o) at to apart)
-
-  apart-first : (at : ℕ) (to : List ℕ) → IsNested (at ∷ to) width → All (λ o. width ≤ distance at o) to
-  apart-first at to nested = All-from_get_or (λ o. width ≤ distance at o) to 0 (λ i inside. nested.apart 0 (suc i) (omega arith) (omega (arith, inside)))
-
-  nested-rest : (at : ℕ) (to : List ℕ) → IsNested (at ∷ to) width → IsNested to width
-  nested-rest at to nested = record { apart = λ j k before inside. nested.apart (suc j) (suc k) (omega (arith, before)) (omega (arith, inside)) }
-
-  -- each item that is copied is read where it was written
-  pub landed : (to from block : List ℕ) → length to ≡ length from → All (IsIn block) to → All (IsIn other) from → IsNested to width → map (λ o. item_at o width (assigned to from width other block)) to ≡ map (λ o. item_at o width other) from
-  landed [] [] block even in_block in_other nested = refl
-  landed [] (offset ∷ from) block even in_block in_other nested = absurd (omega (arith, even))
-  landed (at ∷ to) [] block even in_block in_other nested = absurd (omega (arith, even))
-  landed (at ∷ to) (offset ∷ from) block even in_block in_other nested =
-      let here = All-head (IsIn block) at to in_block in
-      let first = All-head (IsIn other) offset from in_other in
-      let same = put-length at offset block here first in
-      let next = put at (item_at offset width other) block in
-      let left : All (IsIn next) to = subst (λ n. All (λ o. o + width ≤ n) to) (sym same) (All-rest (IsIn block) at to (at ∷ to) refl in_block) in
-      let left' = All-rest (IsIn other) offset from (offset ∷ from) refl in_other in
-      let one = kept at to from next (subst (λ n. at + width ≤ n) (sym same) here) left left' (apart-first at to nested) ∙ read-back at offset block here first in
-      let more = landed to from next (omega (arith, even)) left left' (nested-rest at to nested) in
-      λ i. one i ∷ more i
 
 -- equal bytes are equal items
 pub items-from_bytes : (descr : Descr) (block other to from : List ℕ) → map (λ o. item_at o (item_size descr) block) to ≡ map (λ o. item_at o (item_size descr) other) from → map (item_from descr block) to ≡ map (item_from descr other) from

@@ -5,6 +5,7 @@ pub mod AxesLaws
 pub mod BandLaws
 pub mod ComeLaws
 pub mod CopyLaws
+pub mod FortranLaws
 pub mod LineLaws
 pub mod MarkLaws
 pub mod MoveLaws

@@ -6,62 +6,35 @@ ghost use Rattle.elem_descr.specs.Items.{item_size};
 ghost use Rattle.elem_descr.specs.Blocks.{item_from};
 ghost use Rattle.shape_strides.specs.Limits.{max_bytes};
 ghost use Rattle.shape_strides.specs.Indexes.{count};
-ghost use Rattle.shape_strides.specs.Layouts.{offsets, Fits, IsNested};
+ghost use Rattle.shape_strides.specs.Layouts.{offsets};
+ghost use Rattle.overlap_copy.specs.Assignments.{items_at};
 ghost use Rattle.overlap_copy.specs.Blocks.{offsets_in};
 
-use crate::owned::{Owned, in_order};
+use crate::owned::Owned;
 use crate::packed::gather;
-use crate::run_copies::copy_pairs;
 use elem_descr::{Descr, Refusal};
 use raw_block::RawBlock;
-use shape_strides::{Layout, MAX_BYTES, MemoryOrder, RunPairs};
+use shape_strides::{Layout, MAX_BYTES, MemoryOrder};
 use std::alloc::{AllocError, Global};
 
-/// A block of `len` bytes where the items of a layout lie as the layout `to` says.
-fn copied_to(
+/// The items of `width` bytes of a layout, one after another in this order in a block of their own.
+fn gather_in(
     alloc: Global,
-    to: &Layout,
-    len: usize,
-    block: &RawBlock,
-    layout: &Layout,
-    width: usize,
-) -> Result<RawBlock, AllocError>
-    requires fits { Fits to.now len width }
-    requires nested { IsNested (offsets to.now) width }
-    requires shape { to.now.shape ≡ layout.now.shape }
-    requires inside { All (λ offset. offset + width ≤ length block.now) (offsets layout.now) }
-    ensures len { IfOk result (λ copy. length copy ≡ len) }
-    ensures bytes { IfOk result (λ copy. map (λ offset. item_at offset width copy) (offsets to.now)
-        ≡ map (λ offset. item_at offset width block.now) (offsets layout.now)) }
-{
-    let mut copy = RawBlock::try_zeroed(alloc, len)?;
-    copy_pairs(&mut copy, RunPairs::new(to, layout), block, width);
-    Ok(copy)
-}
-
-/// A block of `len` bytes where the items of a layout lie in this order, as the layout `to` does.
-fn copied(
-    alloc: Global,
-    to: &Layout,
     order: MemoryOrder,
-    len: usize,
     block: &RawBlock,
     layout: &Layout,
     width: usize,
 ) -> Result<RawBlock, AllocError>
-    requires whole { len ≡ count layout.now.shape * width }
-    requires order { offsets to.now ≡ offsets_in order width layout.now.shape }
-    requires fits { Fits to.now len width }
-    requires nested { IsNested (offsets to.now) width }
-    requires shape { to.now.shape ≡ layout.now.shape }
-    requires inside { All (λ offset. offset + width ≤ length block.now) (offsets layout.now) }
-    ensures len { IfOk result (λ copy. length copy ≡ len) }
-    ensures bytes { IfOk result (λ copy. map (λ offset. item_at offset width copy) (offsets to.now)
-        ≡ map (λ offset. item_at offset width block.now) (offsets layout.now)) }
+    requires { All (λ offset. offset + width ≤ length block.now) (offsets layout.now) }
+    ensures len { IfOk result (λ items. length items ≡ count layout.now.shape * width) }
+    ensures items { IfOk result (λ items. items_at (offsets_in order width layout.now.shape) width items ≡ items_at (offsets layout.now) width block.now) }
 {
     match order {
         MemoryOrder::C => gather(alloc, block, layout, width),
-        MemoryOrder::Fortran => copied_to(alloc, to, len, block, layout, width),
+        MemoryOrder::Fortran => {
+            let reversed = Layout::reversed(alloc, layout)?;
+            gather(alloc, block, &reversed, width)
+        }
     }
 }
 
@@ -92,11 +65,7 @@ pub fn copy(
         return Err(Refusal::TooLarge);
     }
     let descr = Descr::try_copy(alloc, descr)?;
-    let to = in_order(alloc, &layout.shape, item, order)?;
-    let block = copied(alloc, &to, order, len, block, layout, item)?;
-    Ok(Owned {
-        block,
-        descr,
-        layout: to,
-    })
+    let block = gather_in(alloc, order, block, layout, item)?;
+    let copy = Owned::over(alloc, descr, &layout.shape, order, block)?;
+    Ok(copy)
 }

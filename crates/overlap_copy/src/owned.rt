@@ -25,7 +25,7 @@ pub struct Owned {
 }
 
 /// The layout of items of `item` bytes, one after another in this order.
-pub(crate) fn in_order(
+fn in_order(
     alloc: Global,
     shape: &Shape,
     item: usize,

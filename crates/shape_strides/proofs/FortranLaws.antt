@@ -1,13 +1,14 @@
 -- Laws of Fortran order: the axes in reverse.
-use Rattle.std.proofs.Common.{◌≡◌, ℕ, zero, suc, ◌+◌, ◌*◌, ◌^◌, ◌-◌, ◌<◌, ◌≤◌, ◌≢◌, true, false, ℤ, pos, ◌+ℤ◌, ◌*ℤ◌, List, [], ◌∷◌, ◌++◌, map, reverse, length, get_or, take, drop, refl, sym, ◌∙◌, ap, arith, mul_comm, mul-one, one-mul, mul-le-mul_left, length-drop, take_all, inl, inr}
+use Rattle.std.proofs.Common.{◌≡◌, ℕ, zero, suc, ◌+◌, ◌*◌, ◌^◌, ◌-◌, ◌<◌, ◌≤◌, ◌≢◌, true, false, ℤ, pos, ◌+ℤ◌, ◌*ℤ◌, List, [], ◌∷◌, ◌++◌, map, reverse, length, get_or, take, drop, refl, sym, ◌∙◌, ap, arith, mul_comm, mul-one, one-mul, mul-le-mul_left, length-drop, take_all, inl, inr, All, subst}
 use Rattle.std.proofs.lemmas.Bool.{cases_order}
 use Rattle.std.proofs.lemmas.Int.{ints}
 use Rattle.std.proofs.lemmas.List.{drop_more, length-reverse, reverse-reverse, reverse-append, take_more, get_or-reverse, take-append-drop, map-append}
 use Rattle.std.proofs.Math.Seq.{drop-append_seam}
 use lib.IntN.{+ℤ_idl, +ℤ_assoc}
 use Rattle.shape_strides.specs.declared.layout.Layout.{Layout}
-use Rattle.shape_strides.specs.Indexes.{count, rank, IsIndex}
-use Rattle.shape_strides.specs.Limits.{max_items, max_bytes}
+use Rattle.shape_strides.specs.Indexes.{count, indexes, rank, IsIndex}
+use Rattle.shape_strides.specs.Limits.{max_axes, max_items, max_bytes}
+use Rattle.shape_strides.specs.Shapes.{IsShape}
 use Rattle.shape_strides.specs.Addresses.{dot, address_at, natural, LieWithin}
 use Rattle.shape_strides.specs.Layouts.{address, offsets, IsNested, distance, multiples, c_strides, f_strides, f_multiples}
 use Rattle.shape_strides.specs.Contiguity.{fortran_order, is_c_contiguous, is_f_contiguous}
@@ -78,6 +79,23 @@ unfolding offsets
 fortran_order-offsets l =
     same_on_indexes (reverse l.shape) (λ index. get_or (offsets l) (rank l.shape (reverse index)) 0) (λ index. natural (address (reversed l) index))
     (λ index in'. get_or-offsets l (reverse index) 0 (IsIndex-from_reverse l.shape index in') ∙ ap natural (sym (address-reversed l index in')))
+
+pub offsets-reversed : (l turned : Layout) → turned.shape ≡ reverse l.shape → turned.strides ≡ reverse l.strides → turned.offset ≡ l.offset → offsets turned ≡ fortran_order l.shape (offsets l)
+unfolding offsets
+offsets-reversed l turned shape strides offset =
+    (λ i. map (λ index. natural (address_at (strides i) (offset i) index)) (indexes (shape i))) ∙ sym (fortran_order-offsets l)
+
+All-reverse : (P : ℕ → Type 0) (xs : List ℕ) → All P xs → All P (reverse xs)
+All-reverse P xs all = λ k d below.
+    let low : k < length xs = omega (arith, length-reverse xs) in
+    subst P (sym (get_or-reverse xs k d low)) (all (length xs - 1 - k) d (omega arith))
+
+pub IsShape-reverse : (shape : List ℕ) → IsShape shape → IsShape (reverse shape)
+IsShape-reverse shape is = record {
+  axes = subst (λ n. n ≤ max_axes) (sym (length-reverse shape)) is.axes;
+  lengths = All-reverse (λ n. n ≤ max_items) shape is.lengths;
+  items = subst (λ n. n ≤ max_items) (sym (count-reverse shape)) is.items;
+}
 
 -- ---- the test of a layout
 

@@ -1,10 +1,10 @@
--- Laws of strides of 0.
+-- Laws of lists that are written over, and of strides of 0.
 use Rattle.std.proofs.Common.{◌≡◌, ℕ, ℤ, pos, List, [], ◌∷◌, map, length, refl, sym, ap, ◌∙◌, arith}
 use Rattle.std.specs.List.{refill}
 use Rattle.std.proofs.Math.Seq.{take-append_seam}
 
--- strides that were written over as many others
-pub refilled : (n : ℕ) (old new : List ℤ) → length new ≡ n → refill n old new ≡ new
+-- numbers that were written over as many others
+pub refilled : {X : Type 0} (n : ℕ) (old new : List X) → length new ≡ n → refill n old new ≡ new
 refilled n old new is = ap (λ m. refill m old new) (sym is) ∙ take-append_seam new _
 
 pub zeros_for : {X Y : Type 0} (xs : List X) (ys : List Y) → length xs ≡ length ys → ◌≡◌ {A = List ℤ} (map (λ _. pos 0) xs) (map (λ _. pos 0) ys)

@@ -1,5 +1,5 @@
 //! Fortran order, and what NumPy says of a layout's strides and of the order of its items.
-ghost use Rattle.std.specs.Prelude.{◌≡◌, ◌≢◌, ◌*◌, ◌<◌, ◌≤◌, pos, length, map, slice_index_or, IfOk, IsTrue, IsFalse};
+ghost use Rattle.std.specs.Prelude.{◌≡◌, ◌≢◌, ◌*◌, ◌<◌, ◌≤◌, pos, length, map, reverse, slice_index_or, IfOk, IsTrue, IsFalse};
 ghost use Rattle.shape_strides.specs.Limits.{max_bytes};
 ghost use Rattle.shape_strides.specs.Indexes.{count};
 ghost use Rattle.shape_strides.specs.Layouts.{offsets, Fits, IsNested, multiples, f_multiples, f_strides};
@@ -56,6 +56,20 @@ impl Layout {
             shape,
             strides,
             offset: 0,
+        })
+    }
+
+    /// The layout with its axes in reverse: its items in C order are those of the layout in Fortran order.
+    pub fn reversed(alloc: Global, layout: &Layout) -> Result<Layout, AllocError>
+        ensures shape { IfOk result (λ l. l.shape ≡ reverse layout.now.shape) }
+        ensures offsets { IfOk result (λ l. offsets l ≡ fortran_order layout.now.shape (offsets layout.now)) }
+    {
+        let shape = Shape::try_copy(alloc, &layout.shape)?;
+        let strides = Strides::from_slice(alloc, layout.strides.as_slice())?;
+        Ok(Layout {
+            shape: shape.reversed(),
+            strides: strides.reversed(),
+            offset: layout.offset,
         })
     }
 

@@ -1,5 +1,5 @@
 //! Shapes: the lengths of an array's axes.
-ghost use Rattle.std.specs.Prelude.{◌≡◌, ◌+◌, ◌≤◌, min, length, nat_le, IsTrue, All, IfOk, Some};
+ghost use Rattle.std.specs.Prelude.{◌≡◌, ◌+◌, ◌≤◌, min, length, reverse, nat_le, IsTrue, All, IfOk, Some};
 ghost use Rattle.std.specs.List.{list_all};
 ghost use Rattle.elem_descr.specs.Refusals.{Gives};
 ghost use Rattle.shape_strides.specs.Limits.{max_axes, max_items};
@@ -112,6 +112,15 @@ impl Shape {
             axes,
             items: shape.items,
         })
+    }
+
+    /// The same axes, the last one first.
+    pub(crate) fn reversed(self) -> Shape
+        ensures { result ≡ reverse self }
+    {
+        let mut shape = self;
+        shape.axes.as_mut_slice().reverse();
+        shape
     }
 }
 

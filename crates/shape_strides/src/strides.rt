@@ -1,5 +1,5 @@
 //! Strides: how many bytes each axis steps over.
-ghost use Rattle.std.specs.Prelude.{◌≡◌, [], ◌∷◌, ◌++◌, pos, map, IfOk, OnOk, OnErr, Some};
+ghost use Rattle.std.specs.Prelude.{◌≡◌, [], ◌∷◌, ◌++◌, pos, map, reverse, IfOk, OnOk, OnErr, Some};
 ghost use Rattle.shape_strides.specs.Contiguity.{strides_text};
 
 use smallvec::SmallVec;
@@ -52,6 +52,15 @@ impl Strides {
         for step in strides.steps.as_mut_slice() {
             *step = 0;
         }
+        strides
+    }
+
+    /// The same strides, the last one first.
+    pub(crate) fn reversed(self) -> Strides
+        ensures { result ≡ reverse self }
+    {
+        let mut strides = self;
+        strides.steps.as_mut_slice().reverse();
         strides
     }
 

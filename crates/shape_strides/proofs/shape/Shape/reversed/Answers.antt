@@ -1,0 +1,14 @@
+use Rattle.std.proofs.Common.{reverse, length, sym, ap, subst, ◌∙◌}
+use Rattle.std.proofs.lemmas.List.{length-reverse}
+use Rattle.shape_strides.specs.Indexes.{count}
+use Rattle.shape_strides.specs.Shapes.{IsShape}
+use Rattle.shape_strides.specs.ReverseLaws.{count-reverse}
+use Rattle.shape_strides.proofs.ZeroLaws.{refilled}
+use Rattle.shape_strides.proofs.FortranLaws.{IsShape-reverse}
+use Rattle.shape_strides.proofs.shape.Shape.reversed.Goals as goal
+
+pub invariant_of-shape : goal.invariant_of-shape
+invariant_of-shape c =
+    let axes = c.shape.inside.axes.items in
+    let is = refilled _ axes c.reverse.new.self (ap length c.reverse.ensures.after ∙ ap (λ l. length (reverse l)) c.as_mut_slice.ensures.value ∙ length-reverse axes) ∙ c.reverse.ensures.after ∙ ap reverse c.as_mut_slice.ensures.value in
+    (subst IsShape (sym is) (IsShape-reverse axes c.shape.invariant.0), c.shape.invariant.1 ∙ sym (count-reverse axes) ∙ ap count (sym is))
