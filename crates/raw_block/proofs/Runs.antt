@@ -81,18 +81,9 @@ item_of_run width at n m k bytes run is enough lt =
     ∙ ap (λ j. take width (drop here (take j (drop at bytes)))) all ∙ ap (take width) (drop-take here left (drop at bytes))
     ∙ take-take width left (drop here (drop at bytes)) (omega (arith, within, next)) ∙ ap (take width) (drop-drop here at bytes)
 
-pub item_of_arrays : (width at n k : ℕ) (bytes : List ℕ) (run : List (List ℕ)) → run ≡ first_chunks width n (take (n * width) (drop at bytes)) → k < n → get_or run k [] ≡ item_at (at + width * k) width bytes
-item_of_arrays width at n k bytes run is lt =
-    let same : n * width ≡ at + width * n - at = mul_comm n width ∙ omega arith in
-    item_of_run width at n n k bytes run (is ∙ ap (λ m. first_chunks width n (take m (drop at bytes))) same) (omega arith) lt
-
 pub length-chunks : (width n : ℕ) (bytes : List ℕ) → length (first_chunks width n bytes) ≡ n
 length-chunks width zero bytes = refl
 length-chunks width (suc n) bytes = ap suc (length-chunks width n (drop width bytes))
-
--- an item that was written leaves the bytes as many as they were
-pub refill-put : (at : ℕ) (item bytes : List ℕ) → at + length item ≤ length bytes → refill (length bytes) bytes (put at item bytes) ≡ put at item bytes
-refill-put at item bytes le = take_at (put at item bytes) (drop (length (put at item bytes)) bytes) (length bytes) (length-put at item bytes le)
 
 -- one item over and over
 same_place : (at k : ℕ) → place at (pos 0) k ≡ at

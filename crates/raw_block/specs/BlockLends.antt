@@ -1,18 +1,13 @@
 -- What a block ends as, once a `&mut` to its bytes has ended.
 use Rattle.std.specs.Prelude.{ℕ, List, length}
 use Rattle.std.specs.Borrow.{Fml, MutBor, Array, Lends, u8}
-use Rattle.std.specs.List.{flat_map, refill}
-use Rattle.raw_block.specs.Bytes.{put}
+use Rattle.std.specs.List.{refill}
 use Rattle.raw_block.specs.contracts.block.RawBlock.{the_row}
 use Rattle.raw_block.specs.contracts.block.builder.BlockBuilder.{the_row as the_builder}
 
 -- its bytes are the last ones written through r
 abbrev pub lends_block : MutBor (List ℕ) → MutBor (List ℕ) → Fml
 lends_block b r = Lends the_row (Array u8 0) b r (λ ws. refill (length b.now) b.now ws)
-
--- the bytes from `at` on are those of the arrays last written through r, one after another
-abbrev pub lends_run : ℕ → ℕ → MutBor (List ℕ) → MutBor (List (List ℕ)) → Fml
-lends_run width at b r = Lends the_row (Array (Array u8 width) 0) b r (λ ws. refill (length b.now) b.now (put at (flat_map (λ x. x) ws) b.now))
 
 -- the bytes that are there are the last ones written through r, and the room after them stays
 abbrev pub lends_filled : MutBor (List ℕ × ℕ) → MutBor (List ℕ) → Fml

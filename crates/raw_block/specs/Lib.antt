@@ -4,5 +4,6 @@ pub mod Bytes
 pub mod BytesLaws
 pub mod ExchangeLaws
 pub mod JoinedLaws
+pub mod NumberRuns
 pub mod Ownership
 pub mod inside

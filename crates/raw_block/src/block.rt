@@ -1,14 +1,16 @@
 //! A block of bytes: made, read and written whole, and dropped.
-ghost use Rattle.std.specs.Prelude.{◌≡◌, ℕ, ◌+◌, ◌*◌, ◌/◌, ◌^◌, ◌<◌, ◌≤◌, List, [], length, replicate, slice_index_or, IfOk};
+ghost use Rattle.std.specs.Prelude.{◌≡◌, ℕ, pos, ◌+◌, ◌*◌, ◌/◌, ◌^◌, ◌<◌, ◌≤◌, List, length, replicate, slice_index_or, IfOk};
 ghost use Rattle.std.specs.Borrow.{sem};
-ghost use Rattle.std.specs.List.{flat_map, refill};
+ghost use Rattle.std.specs.List.{refill};
 ghost use Rattle.raw_block.specs.Bytes.{item_at, put, little_number, little_bytes, EachWithin, copied, copied_within, filled, swapped};
+ghost use Rattle.raw_block.specs.NumberRuns.{number};
 ghost use Rattle.raw_block.specs.inside.Sizes.{IsSizeFor};
 
 mod builder;
 
 use crate::base::{Base, Bytes, Deed, WORD, allocate, deallocate};
 use crate::item::{move_item, number_of, put_item, put_number};
+use crate::number_runs::{RunI32, RunI64, items_at};
 use crate::strided;
 pub use builder::BlockBuilder;
 use std::alloc::{AllocError, Global};
@@ -49,7 +51,7 @@ fn padded(len: usize) -> usize
 }
 
 impl RawBlock {
-    ghost use Rattle.raw_block.specs.BlockLends.{lends_block, lends_run};
+    ghost use Rattle.raw_block.specs.BlockLends.{lends_block};
 
     /// Takes memory for `len` zeros. An `Err` says that there is none; above `isize::MAX - 15` there
     /// never is.
@@ -117,44 +119,22 @@ impl RawBlock {
         self.bytes.as_mut_slice(self.base, self.len)
     }
 
-    /// The `n` items of four bytes that lie one right after the other from `at` on.
-    pub fn run_four(&self, at: usize, n: usize) -> &[[u8; 4]]
+    /// The `n` numbers of four bytes that lie one right after another from `at` on.
+    pub fn run_i32(&self, at: usize, n: usize) -> RunI32<'_>
         requires { at + 4 * n ≤ length self.now }
-        ensures len { length result.now ≡ n }
-        ensures items { (k : ℕ) → k < n → slice_index_or result.now k [] ≡ item_at (at + 4 * k) 4 self.now }
+        ensures len { length result ≡ n }
+        ensures numbers { (k : ℕ) → k < n → slice_index_or result k (pos 0) ≡ number 4 (item_at (at + 4 * k) 4 self.now) }
     {
-        self.bytes()[at..at + 4 * n].as_chunks::<4>().0
+        RunI32::over(items_at::<4>(self.bytes(), at, n))
     }
 
-    /// The same, to write to.
-    pub fn run_four_mut(&mut self, at: usize, n: usize) -> &mut [[u8; 4]]
-        requires { at + 4 * n ≤ length self.old }
-        ensures* writes_back { sem 𝓛 (lends_run 4 at self.entry result) }
-        ensures len { length result.now ≡ n }
-        ensures items { (k : ℕ) → k < n → slice_index_or result.now k [] ≡ item_at (at + 4 * k) 4 self.old }
-        ensures same_len { (ws : List (List ℕ)) → length (flat_map (λ x. x) ws) ≡ 4 * n → let written = put at (flat_map (λ x. x) ws) self.old in refill (length self.old) self.old written ≡ written }
-    {
-        self.bytes.run_mut::<4>(self.base, at, n)
-    }
-
-    /// The `n` items of eight bytes that lie one right after the other from `at` on.
-    pub fn run_eight(&self, at: usize, n: usize) -> &[[u8; 8]]
+    /// The same of eight bytes.
+    pub fn run_i64(&self, at: usize, n: usize) -> RunI64<'_>
         requires { at + 8 * n ≤ length self.now }
-        ensures len { length result.now ≡ n }
-        ensures items { (k : ℕ) → k < n → slice_index_or result.now k [] ≡ item_at (at + 8 * k) 8 self.now }
+        ensures len { length result ≡ n }
+        ensures numbers { (k : ℕ) → k < n → slice_index_or result k (pos 0) ≡ number 8 (item_at (at + 8 * k) 8 self.now) }
     {
-        self.bytes()[at..at + 8 * n].as_chunks::<8>().0
-    }
-
-    /// The same, to write to.
-    pub fn run_eight_mut(&mut self, at: usize, n: usize) -> &mut [[u8; 8]]
-        requires { at + 8 * n ≤ length self.old }
-        ensures* writes_back { sem 𝓛 (lends_run 8 at self.entry result) }
-        ensures len { length result.now ≡ n }
-        ensures items { (k : ℕ) → k < n → slice_index_or result.now k [] ≡ item_at (at + 8 * k) 8 self.old }
-        ensures same_len { (ws : List (List ℕ)) → length (flat_map (λ x. x) ws) ≡ 8 * n → let written = put at (flat_map (λ x. x) ws) self.old in refill (length self.old) self.old written ≡ written }
-    {
-        self.bytes.run_mut::<8>(self.base, at, n)
+        RunI64::over(items_at::<8>(self.bytes(), at, n))
     }
 
     /// The number in the `width` bytes from `at` on, the lowest byte first.

@@ -1,0 +1,102 @@
+//! Numbers that lie one right after another: each is what its bytes mean in two's complement, the
+//! lowest byte first.
+ghost use Rattle.std.specs.Prelude.{◌≡◌, ℕ, pos, ◌+◌, ◌*◌, ◌<◌, ◌≤◌, [], length, slice_index_or};
+ghost use Rattle.raw_block.specs.Bytes.{item_at};
+ghost use Rattle.raw_block.specs.NumberRuns.{numbers};
+
+use byteorder::{ByteOrder, LittleEndian};
+use std::marker::Model;
+
+/// The `n` items of `N` bytes that lie one right after another from `at` on.
+pub(crate) fn items_at<const N: usize>(bytes: &[u8], at: usize, n: usize) -> &[[u8; N]]
+    requires some { 0 < N }
+    requires within { at + N * n ≤ length bytes.now }
+    ensures len { length result.now ≡ n }
+    ensures items { (k : ℕ) → k < n → slice_index_or result.now k [] ≡ item_at (at + N * k) N bytes.now }
+{
+    bytes[at..at + N * n].as_chunks::<N>().0
+}
+
+/// Numbers of four bytes, to read. A contract sees them as a list.
+#[derive(Drop)]
+pub struct RunI32<'a> {
+    items: &'a [[u8; 4]],
+}
+
+impl<'a> Model for RunI32<'a> {
+    ghost use Rattle.std.specs.Prelude.{ℤ, List};
+    ghost use Rattle.raw_block.specs.NumberRuns.{numbers};
+
+    ghost Value = { List ℤ };
+
+    ghost view = { λ r. numbers 4 r.items.now };
+}
+
+impl<'a> RunI32<'a> {
+    /// The numbers in these bytes.
+    pub(crate) fn over(items: &'a [[u8; 4]]) -> RunI32<'a>
+        ensures { result ≡ numbers 4 items.now }
+    {
+        RunI32 { items }
+    }
+
+    /// How many there are.
+    #[inline(always)]
+    pub fn len(&self) -> usize
+        ensures { result ≡ length self.now }
+    {
+        self.items.len()
+    }
+
+    /// The number at this place.
+    #[inline(always)]
+    pub fn get(&self, place: usize) -> i32
+        requires { place < length self.now }
+        ensures { result ≡ slice_index_or self.now place (pos 0) }
+    {
+        let items = self.items;
+        LittleEndian::read_u32(&items[place]).cast_signed()
+    }
+}
+
+/// Numbers of eight bytes, to read. A contract sees them as a list.
+#[derive(Drop)]
+pub struct RunI64<'a> {
+    items: &'a [[u8; 8]],
+}
+
+impl<'a> Model for RunI64<'a> {
+    ghost use Rattle.std.specs.Prelude.{ℤ, List};
+    ghost use Rattle.raw_block.specs.NumberRuns.{numbers};
+
+    ghost Value = { List ℤ };
+
+    ghost view = { λ r. numbers 8 r.items.now };
+}
+
+impl<'a> RunI64<'a> {
+    /// The numbers in these bytes.
+    pub(crate) fn over(items: &'a [[u8; 8]]) -> RunI64<'a>
+        ensures { result ≡ numbers 8 items.now }
+    {
+        RunI64 { items }
+    }
+
+    /// How many there are.
+    #[inline(always)]
+    pub fn len(&self) -> usize
+        ensures { result ≡ length self.now }
+    {
+        self.items.len()
+    }
+
+    /// The number at this place.
+    #[inline(always)]
+    pub fn get(&self, place: usize) -> i64
+        requires { place < length self.now }
+        ensures { result ≡ slice_index_or self.now place (pos 0) }
+    {
+        let items = self.items;
+        LittleEndian::read_u64(&items[place]).cast_signed()
+    }
+}
