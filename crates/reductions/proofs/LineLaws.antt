@@ -1,19 +1,21 @@
 -- Runs that a reduction goes over, item by item.
-use Rattle.std.proofs.Common.{◌≡◌, ◌+◌, ◌-◌, ◌*◌, ◌≤◌, ◌<◌, ℕ, suc, List, [], ◌∷◌, ◌++◌, map, length, sym, ap, subst, ◌∙◌, arith, add-one, append_assoc, take, drop, ◌⊎◌, inl, inr, suc-mul, add-mul, mul-le-mul_right, get_or, get_or-append-add, length-take, length-append}
-use Rattle.std.specs.Prelude.{ℤ, pos, ◌+ℤ◌}
+use Rattle.std.proofs.Common.{◌≡◌, ◌+◌, ◌-◌, ◌*◌, ◌≤◌, ◌<◌, ℕ, zero, suc, List, [], ◌∷◌, ◌++◌, map, length, sym, ap, subst, ◌∙◌, arith, add-one, append_assoc, take, drop, ◌⊎◌, inl, inr, suc-mul, add-mul, mul-le-mul_right, get_or, get_or-append-add, length-take, length-append}
+use Rattle.std.specs.Prelude.{ℤ, pos, ◌+ℤ◌, ◌*ℤ◌, ◌≤ℤ◌}
 use Rattle.std.proofs.lemmas.Int.{ints}
 use Rattle.std.proofs.lemmas.List.{map-append, length-map, drop-drop, get_or-take, get_or-drop, ext_get_or, get_or_append_left}
 use Rattle.std.proofs.lemmas.Bool.{cases_lt}
-use Rattle.std.proofs.Math.IntN.{zero-*ℤ}
+use Rattle.std.proofs.Math.IntN.{zero-*ℤ, suc_ℤ-*ℤ, *ℤ_comm, +ℤ_assoc, +ℤ_idr}
 use Rattle.elem_descr.specs.declared.scalar.Scalar.{Scalar}
 use Rattle.elem_descr.specs.Steps.{numbers_from}
-use Rattle.elem_descr.specs.StepLaws.{numbers-suc}
+use Rattle.elem_descr.specs.StepLaws.{numbers-suc, numbers-split}
 use Rattle.shape_strides.specs.Addresses.{natural}
-use Rattle.raw_block.specs.Bytes.{place, item_at, EachWithin}
-use Rattle.raw_block.specs.BytesLaws.{item_at-put_apart, length-item_at}
+use Rattle.raw_block.specs.Bytes.{position, place, item_at, EachWithin}
+use Rattle.raw_block.specs.BytesLaws.{not_negative, item_at-put_apart, length-item_at}
 use Rattle.shape_strides.specs.declared.runs.Run.{Run}
 use Rattle.shape_strides.specs.Runs.{run_offsets}
 use Rattle.overlap_copy.specs.RunLaws.{run_offsets-more, length-run_offsets}
+use Rattle.reductions.specs.Reductions.{first_place}
+use Rattle.reductions.specs.inside.FoundLaws.{found-next}
 use Rattle.reductions.specs.inside.Numbers.{number_at, numbers_at}
 
 -- a run begins within the bytes
@@ -57,6 +59,66 @@ one_more Holds scalar bytes len width run k before at v low within there is held
     ∙ ap (λ z. before ++ (numbers_at scalar bytes (run_offsets (front k run)) ++ z ∷ [])) (is ∙ ap (number_at scalar bytes) there)
     ∙ ap (λ all. before ++ all) (sym (numbers-more scalar bytes len width run k low within)))
     held
+
+-- ---- some numbers of a run after others
+
+-- n items of a run, after m of them
+abbrev pub part : ℕ → ℕ → Run → Run
+part m n run = record { offset = place run.offset run.step m; count = n; step = run.step }
+
+steps-add : (s : ℤ) (m k : ℕ) → pos m *ℤ s +ℤ pos k *ℤ s ≡ pos (m + k) *ℤ s
+steps-add s m zero = let none : m + zero ≡ m = omega arith in ap (λ z. pos m *ℤ s +ℤ z) (zero-*ℤ s) ∙ +ℤ_idr (pos m *ℤ s) ∙ ap (λ n. pos n *ℤ s) (sym none)
+steps-add s m (suc k) =
+    let more : m + suc k ≡ suc (m + k) = omega arith in
+    let whole : pos (m + suc k) *ℤ s ≡ pos (m + k) *ℤ s +ℤ s = ap (λ n. pos n *ℤ s) more ∙ suc_ℤ-*ℤ (pos (m + k)) s in
+    let last : pos (suc k) *ℤ s ≡ pos k *ℤ s +ℤ s = suc_ℤ-*ℤ (pos k) s in
+    let rest = steps-add s m k in
+    omega (arith, ints, whole, last, rest)
+
+-- where they lie
+part_position : (o : ℕ) (s : ℤ) (m k : ℕ) → pos 0 ≤ℤ position o s m → position (place o s m) s k ≡ position o s (m + k)
+part_position o s m k low =
+    ap (λ z. z +ℤ pos k *ℤ s) (not_negative (position o s m) low) ∙ +ℤ_assoc (pos o) (pos m *ℤ s) (pos k *ℤ s) ∙ ap (λ z. pos o +ℤ z) (steps-add s m k)
+
+pub part_within : (len width : ℕ) (run : Run) (m n : ℕ) → m < run.count → m + n ≤ run.count → EachWithin len run.offset run.step width run.count → EachWithin len (place run.offset run.step m) run.step width n
+part_within len width run m n low few within = record {
+  each = λ k under.
+      let is = part_position run.offset run.step m k (within.each m low).0 in
+      let there = within.each (m + k) (omega (arith, under, few)) in
+      (subst (λ z. pos 0 ≤ℤ z) (sym is) there.0, subst (λ z. (z +ℤ pos width) ≤ℤ pos len) (sym is) there.1);
+}
+
+-- the first numbers, and those after them
+pub numbers-cut : (scalar : Scalar) (bytes : List ℕ) (run : Run) (m n : ℕ) →
+    numbers_at scalar bytes (run_offsets (front (m + n) run)) ≡ numbers_at scalar bytes (run_offsets (front m run)) ++ numbers_at scalar bytes (map natural (numbers_from (pos run.offset +ℤ run.step *ℤ pos m) run.step n))
+numbers-cut scalar bytes run m n =
+    let firsts = numbers_from (pos run.offset) run.step m in
+    let others = numbers_from (pos run.offset +ℤ run.step *ℤ pos m) run.step n in
+    ap (λ zs. numbers_at scalar bytes (map natural zs)) (numbers-split (pos run.offset) run.step m n)
+    ∙ ap (numbers_at scalar bytes) (map-append natural firsts others)
+    ∙ map-append (number_at scalar bytes) (map natural firsts) (map natural others)
+
+pub numbers-part : (scalar : Scalar) (bytes : List ℕ) (len width : ℕ) (run : Run) (m n : ℕ) → m < run.count → EachWithin len run.offset run.step width run.count →
+    numbers_at scalar bytes (run_offsets (front (m + n) run)) ≡ numbers_at scalar bytes (run_offsets (front m run)) ++ numbers_at scalar bytes (run_offsets (part m n run))
+numbers-part scalar bytes len width run m n low within =
+    let at : pos run.offset +ℤ run.step *ℤ pos m ≡ pos (place run.offset run.step m) =
+    ap (λ z. pos run.offset +ℤ z) (*ℤ_comm run.step (pos m)) ∙ sym (not_negative (position run.offset run.step m) (within.each m low).0) in
+    numbers-cut scalar bytes run m n
+    ∙ ap (λ z. numbers_at scalar bytes (run_offsets (front m run)) ++ numbers_at scalar bytes (map natural (numbers_from z run.step n))) at
+
+-- a number that is none of the first ones, but the next
+pub found_in : (scalar : Scalar) (bytes : List ℕ) (len width : ℕ) (run : Run) (k : ℕ) (v : ℤ) → k < run.count → EachWithin len run.offset run.step width run.count → first_place v (numbers_at scalar bytes (run_offsets (front k run))) ≡ k →
+    number_at scalar bytes (place run.offset run.step k) ≡ v → k ≡ first_place v (numbers_at scalar bytes (run_offsets run))
+found_in scalar bytes len width run k v low within none same =
+    let numbers = numbers_at scalar bytes (run_offsets (front k run)) in
+    let next = number_at scalar bytes (place run.offset run.step k) in
+    let others = numbers_at scalar bytes (map natural (numbers_from (pos run.offset +ℤ run.step *ℤ pos (k + 1)) run.step (run.count - (k + 1)))) in
+    let whole : k + 1 + (run.count - (k + 1)) ≡ run.count = omega (arith, low) in
+    let long : length numbers ≡ k = length-numbers scalar bytes (front k run) in
+    sym (ap (λ n. first_place v (numbers_at scalar bytes (run_offsets (front n run)))) (sym whole)
+    ∙ ap (first_place v) (numbers-cut scalar bytes run (k + 1) (run.count - (k + 1)) ∙ ap (λ xs. xs ++ others) (numbers-more scalar bytes len width run k low within))
+    ∙ found-next v next numbers others (none ∙ sym long) same
+    ∙ long)
 
 -- ---- results in a row
 

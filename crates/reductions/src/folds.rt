@@ -5,14 +5,18 @@ ghost use Rattle.std.specs.List.{fold, list_any, list_all};
 ghost use Rattle.elem_descr.specs.declared.scalar.Order.{Order};
 ghost use Rattle.elem_descr.specs.declared.scalar.Order.TheVariants.{Little};
 ghost use Rattle.elem_descr.specs.Encoding.{low_bits, size};
+ghost use Rattle.raw_block.specs.Bytes.{EachWithin};
+ghost use Rattle.shape_strides.specs.Runs.{run_offsets};
 ghost use Rattle.machine_numbers.specs.declared.operators.Red.{Red};
 ghost use Rattle.machine_numbers.specs.declared.operators.Red.TheVariants.{Sum, Product, Minimum, Maximum, Any, All, ArgMin, ArgMax};
 ghost use Rattle.reductions.specs.Reductions.{is_true, sum_of, product_of, least, greatest, first_place, result_scalar};
-ghost use Rattle.reductions.specs.inside.Numbers.{IsStored, IsReduced};
+ghost use Rattle.reductions.specs.inside.Numbers.{numbers_at, IsStored, IsReduced};
 ghost use Rattle.reductions.specs.inside.FoldLaws.{sum_bits, product_bits, sum_is, product_is, wide_size, least_from, greatest_from, place_is, first_place-lt, is_true_bits, kept_is, kept_size};
-ghost use Rattle.reductions.specs.inside.FoundLaws.{HasFound, less_taken, less_passed, greater_taken, greater_passed};
+ghost use Rattle.reductions.specs.inside.FoundLaws.{HasFound};
 
-use machine_numbers::Number;
+use crate::lines::{fold_each, place_of};
+use machine_numbers::{Number, Ordered};
+use shape_strides::Run;
 
 /// A reduction of numbers of a type, as it goes over them. It is given the first of them when it starts, and
 /// then all of them, that one too.
@@ -50,16 +54,25 @@ pub(crate) trait Fold<S: Number> {
         ensures some { RESUMES ≡ true → is_some result ≡ true }
         ensures held { IfSome result (λ held. (first : ℤ) (rest : List ℤ) → Self.Total.value total ≡ meaning (first ∷ rest) → holds held first (first ∷ rest)) };
 
-    /// Whether numbers are looked at in blocks first, since most of them change nothing.
+    /// Whether numbers that lie one right after the other are gone over in blocks.
     fn looks_ahead() -> bool {
         false
     }
 
-    /// Whether a number is known to change nothing.
-    fn passes(held: Self::Held, item: S) -> bool
-        ensures { result ≡ true → (first : ℤ) (seen : List ℤ) → holds held first seen → holds held first (seen ++ S.value item ∷ []) }
+    /// What is held once the numbers of a block, which have `seen` before them, are gone over at once, by a
+    /// reduction that does so.
+    fn fold_block<O: Ordered>(
+        held: Self::Held,
+        seen: usize,
+        bytes: &[u8],
+        block: Run,
+    ) -> Option<Self::Held>
+        requires few { seen + block.count < 2 ^ 63 }
+        requires within { EachWithin (length bytes.now) block.offset block.step S.WIDTH block.count }
+        ensures { IfSome result (λ after. (first : ℤ) (before : List ℤ) → seen ≡ length before → holds held first before
+            → holds after first (before ++ numbers_at (S.scalar O.order) bytes.now (run_offsets block))) }
     {
-        false
+        None
     }
 
     ghost gives: { (order : Order) (bytes : List ℕ) (numbers : List ℤ) → length numbers < 2 ^ 63
@@ -344,8 +357,18 @@ impl<S: Number> Fold<S> for PlaceOfLeast {
     }
 
     #[inline(always)]
-    fn passes(held: Found<S>, item: S) -> bool {
-        !item.is_less(held.best)
+    fn fold_block<O: Ordered>(
+        held: Found<S>,
+        seen: usize,
+        bytes: &[u8],
+        block: Run,
+    ) -> Option<Found<S>> {
+        let best = fold_each::<S, O, Least>(held.best, 0, bytes, block);
+        if !best.is_less(held.best) {
+            return Some(held);
+        }
+        let place = seen + place_of::<S, O>(best, bytes, block);
+        Some(Found { best, place })
     }
 
     fn finish(held: Found<S>) -> u64 {
@@ -398,8 +421,18 @@ impl<S: Number> Fold<S> for PlaceOfGreatest {
     }
 
     #[inline(always)]
-    fn passes(held: Found<S>, item: S) -> bool {
-        !held.best.is_less(item)
+    fn fold_block<O: Ordered>(
+        held: Found<S>,
+        seen: usize,
+        bytes: &[u8],
+        block: Run,
+    ) -> Option<Found<S>> {
+        let best = fold_each::<S, O, Greatest>(held.best, 0, bytes, block);
+        if !held.best.is_less(best) {
+            return Some(held);
+        }
+        let place = seen + place_of::<S, O>(best, bytes, block);
+        Some(Found { best, place })
     }
 
     fn finish(held: Found<S>) -> u64 {

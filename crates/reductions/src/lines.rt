@@ -1,11 +1,11 @@
 //! Items along a line, and what comes of them.
-ghost use Rattle.std.specs.Prelude.{◌≡◌, true, ◌+◌, ◌*◌, ◌^◌, ◌<◌, ◌≤◌, ◌⊎◌, ℕ, ℤ, List, ◌++◌, pos, length, IsTrue};
+ghost use Rattle.std.specs.Prelude.{◌≡◌, ◌+◌, ◌*◌, ◌^◌, ◌<◌, ◌≤◌, ◌⊎◌, ℕ, ℤ, List, ◌++◌, pos, length, IsTrue};
 ghost use Rattle.elem_descr.specs.declared.scalar.Order.TheVariants.{Little};
 ghost use Rattle.elem_descr.specs.Encoding.{decode, encode};
 ghost use Rattle.elem_descr.specs.Values.{number};
 ghost use Rattle.raw_block.specs.Bytes.{place, item_at, EachWithin};
 ghost use Rattle.shape_strides.specs.Runs.{run_along, run_offsets};
-ghost use Rattle.shape_strides.specs.RunPairs.{run_front};
+ghost use Rattle.reductions.specs.Reductions.{first_place};
 ghost use Rattle.reductions.specs.inside.Numbers.{number_at, numbers_at, IsReduced, line_numbers};
 
 use crate::folds::Fold;
@@ -21,57 +21,78 @@ pub(crate) fn number_at<S: Number, O: Ordered>(bytes: &[u8], at: usize) -> S
     S::read::<O>(&bytes[at..at + S::WIDTH])
 }
 
-/// Goes over the numbers of a run from one place to another. They have `seen` before the run.
+/// Goes over the numbers of a run, one by one. They have `seen` before them.
 #[inline(always)]
-fn fold_each<S: Number, O: Ordered, F: Fold<S>>(
+pub(crate) fn fold_each<S: Number, O: Ordered, F: Fold<S>>(
     held: F::Held,
     seen: usize,
     bytes: &[u8],
     run: Run,
-    from: usize,
-    to: usize,
 ) -> F::Held
     requires few { seen + run.count < 2 ^ 63 }
     requires within { EachWithin (length bytes.now) run.offset run.step S.WIDTH run.count }
-    requires order { from ≤ to }
-    requires end { to ≤ run.count }
-    ensures { (first : ℤ) (before : List ℤ) → seen ≡ length before → F.holds held first (before ++ numbers_at (S.scalar O.order) bytes.now (run_offsets (run_front from run)))
-        → F.holds result first (before ++ numbers_at (S.scalar O.order) bytes.now (run_offsets (run_front to run))) }
+    ensures { (first : ℤ) (before : List ℤ) → seen ≡ length before → F.holds held first before
+        → F.holds result first (before ++ numbers_at (S.scalar O.order) bytes.now (run_offsets run)) }
 {
     let mut held = held;
-    for k in from..to {
+    for k in 0..run.count {
         held = F::step(held, number_at::<S, O>(bytes, place(run, k)), seen + k);
     }
     held
 }
 
-/// Whether the numbers of a run from one place to another are known to change nothing.
+/// Where a number stands first in a run; how many there are where it does not.
 #[inline(always)]
-fn all_pass<S: Number, O: Ordered, F: Fold<S>>(
-    held: F::Held,
-    bytes: &[u8],
-    run: Run,
-    from: usize,
-    to: usize,
-) -> bool
+pub(crate) fn place_of<S: Number, O: Ordered>(number: S, bytes: &[u8], run: Run) -> usize
     requires few { run.count < 2 ^ 63 }
     requires within { EachWithin (length bytes.now) run.offset run.step S.WIDTH run.count }
-    requires order { from ≤ to }
-    requires end { to ≤ run.count }
-    ensures { result ≡ true → (first : ℤ) (before : List ℤ) → F.holds held first (before ++ numbers_at (S.scalar O.order) bytes.now (run_offsets (run_front from run)))
-        → F.holds held first (before ++ numbers_at (S.scalar O.order) bytes.now (run_offsets (run_front to run))) }
+    ensures place { result ≡ first_place (S.value number) (numbers_at (S.scalar O.order) bytes.now (run_offsets run)) }
+    ensures within { result ≤ run.count }
 {
-    let mut pass = true;
-    for k in from..to {
-        pass &= F::passes(held, number_at::<S, O>(bytes, place(run, k)));
+    let bits = number.bits();
+    for k in 0..run.count {
+        if number_at::<S, O>(bytes, place(run, k)).bits() == bits {
+            return k;
+        }
     }
-    pass
+    run.count
+}
+
+/// Goes over the numbers of a block: at once, or one by one.
+#[inline(always)]
+fn fold_part<S: Number, O: Ordered, F: Fold<S>>(
+    held: F::Held,
+    seen: usize,
+    bytes: &[u8],
+    block: Run,
+) -> F::Held
+    requires few { seen + block.count < 2 ^ 63 }
+    requires within { EachWithin (length bytes.now) block.offset block.step S.WIDTH block.count }
+    ensures { (first : ℤ) (before : List ℤ) → seen ≡ length before → F.holds held first before
+        → F.holds result first (before ++ numbers_at (S.scalar O.order) bytes.now (run_offsets block)) }
+{
+    match F::fold_block::<O>(held, seen, bytes, block) {
+        Some(after) => after,
+        None => fold_each::<S, O, F>(held, seen, bytes, block),
+    }
+}
+
+/// So many items at the same steps, from another offset on.
+#[inline(always)]
+pub(crate) fn moved(run: Run, offset: usize, count: usize) -> Run
+    ensures { result ≡ record { offset = offset; count = count; step = run.step } }
+{
+    Run {
+        offset,
+        count,
+        step: run.step,
+    }
 }
 
 /// The numbers of a block.
-const BLOCK: usize = 256;
+const BLOCK: usize = 1024;
 
-/// Goes over the numbers of a run, block by block: one after the other where some may change what is held.
+/// Goes over the numbers of a run, block by block.
 #[inline(always)]
 fn fold_blocks<S: Number, O: Ordered, F: Fold<S>>(
     held: F::Held,
@@ -87,11 +108,9 @@ fn fold_blocks<S: Number, O: Ordered, F: Fold<S>>(
     let mut held = held;
     let mut done = 0;
     while done < run.count {
-        let next = run.count.min(done + BLOCK);
-        if !all_pass::<S, O, F>(held, bytes, run, done, next) {
-            held = fold_each::<S, O, F>(held, seen, bytes, run, done, next);
-        }
-        done = next;
+        let block = moved(run, place(run, done), BLOCK.min(run.count - done));
+        held = fold_part::<S, O, F>(held, seen + done, bytes, block);
+        done += block.count;
     }
     held
 }
@@ -110,7 +129,7 @@ pub(crate) fn fold_run<S: Number, O: Ordered, F: Fold<S>>(
         → F.holds result first (before ++ numbers_at (S.scalar O.order) bytes.now (run_offsets run)) }
 {
     if run.step != S::WIDTH as isize {
-        return fold_each::<S, O, F>(held, seen, bytes, run, 0, run.count);
+        return fold_each::<S, O, F>(held, seen, bytes, run);
     }
     let near = Run {
         offset: run.offset,
@@ -120,7 +139,7 @@ pub(crate) fn fold_run<S: Number, O: Ordered, F: Fold<S>>(
     if F::looks_ahead() {
         return fold_blocks::<S, O, F>(held, seen, bytes, near);
     }
-    fold_each::<S, O, F>(held, seen, bytes, near, 0, near.count)
+    fold_each::<S, O, F>(held, seen, bytes, near)
 }
 
 /// What comes of the numbers of a run.

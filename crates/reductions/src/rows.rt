@@ -6,7 +6,7 @@ ghost use Rattle.shape_strides.specs.Runs.{run_along, run_offsets};
 ghost use Rattle.reductions.specs.inside.Numbers.{number_at, IsStored, IsReduced, line_numbers};
 
 use crate::folds::Fold;
-use crate::lines::{fill_by_lines, line_along, number_at, store_at};
+use crate::lines::{fill_by_lines, line_along, moved, number_at, store_at};
 use machine_numbers::{LowFirst, Number, Ordered, place};
 use shape_strides::{Run, StridedAxis};
 
@@ -101,17 +101,6 @@ fn start_row<S: Number, O: Ordered, F: Fold<S>>(row: &mut [u8], run: Run, bytes:
     }
 }
 
-/// As many items at the same steps, from another offset on.
-fn moved(run: Run, offset: usize) -> Run
-    ensures { result ≡ record { offset = offset; count = run.count; step = run.step } }
-{
-    Run {
-        offset,
-        count: run.count,
-        step: run.step,
-    }
-}
-
 /// Writes what comes of the line along an axis from each item of a run on, row by row.
 pub(crate) fn fill_by_rows<S: Number, O: Ordered, F: Fold<S>>(
     row: &mut [u8],
@@ -131,7 +120,7 @@ pub(crate) fn fill_by_rows<S: Number, O: Ordered, F: Fold<S>>(
     start_row::<S, O, F>(row, starts, bytes);
     for k in 1..axis.len {
         let offset = place(line_along(axis, starts.offset), k);
-        add_row::<S, O, F>(row, moved(starts, offset), bytes, k);
+        add_row::<S, O, F>(row, moved(starts, offset, starts.count), bytes, k);
     }
 }
 

@@ -1,12 +1,12 @@
--- The place of the least or of the greatest of some numbers, as it is found number by number.
-use Rattle.std.proofs.Common.{◌≡◌, ◌<◌, ℕ, suc, ℤ, true, false, List, [], ◌∷◌, ◌++◌, All, length, refl, sym, ap, ◌∙◌, arith, length-append}
+-- The place of the least or of the greatest of some numbers, as it is found block by block.
+use Rattle.std.proofs.Common.{◌≡◌, ◌+◌, ◌<◌, ℕ, zero, suc, ℤ, true, false, List, [], ◌∷◌, ◌++◌, All, length, get_or, inl, inr, refl, sym, ap, subst, ◌∙◌, arith, length-append}
 use Rattle.std.specs.Prelude.{int_lt}
 use Rattle.std.specs.Cmp.{signed_Decides}
 use Rattle.std.specs.Int.{int_min, int_max}
 use Rattle.std.specs.List.{fold}
 use Rattle.std.specs.Ordering.{int_eq}
 use Rattle.std.proofs.lemmas.Bool.{false_from_ne_true}
-use Rattle.std.proofs.lemmas.Int.{ints, clamps, fold-int_min_bounds, fold-int_max_bounds}
+use Rattle.std.proofs.lemmas.Int.{ints, clamps, fold-int_min_bounds, fold-int_min_reached, fold-int_max_bounds, fold-int_max_reached}
 use Rattle.std.proofs.lemmas.List.Elements.{All-head, All-tail}
 use Rattle.std.proofs.lemmas.List.Sums.{fold-append}
 use Rattle.reductions.specs.Reductions.{first_place}
@@ -26,24 +26,54 @@ here z rest = let same : int_eq z z ≡ true = (signed_Decides z z).1 refl in rw
 past : (z x : ℤ) (rest : List ℤ) → (x ≡ z → ⊥) → first_place z (x ∷ rest) ≡ suc (first_place z rest)
 past z x rest other = let no : int_eq x z ≡ false = false_from_ne_true (int_eq x z) (λ same. other ((signed_Decides x z).0 same)) in rw no refl
 
--- a number that none so far is stands first where it comes
-comes : (z : ℤ) (seen : List ℤ) → All (λ x. x ≡ z → ⊥) seen → first_place z (seen ++ z ∷ []) ≡ length seen
-comes z [] other = here z []
-comes z (x ∷ seen) other =
-    past z x (seen ++ z ∷ []) (All-head (λ x. x ≡ z → ⊥) x seen other) ∙ ap suc (comes z seen (All-tail (λ x. x ≡ z → ⊥) x seen other))
+absent : (z : ℤ) (xs : List ℤ) → All (λ x. x ≡ z → ⊥) xs → first_place z xs ≡ length xs
+absent z [] other = refl
+absent z (x ∷ xs) other = past z x xs (All-head (λ x. x ≡ z → ⊥) x xs other) ∙ ap suc (absent z xs (All-tail (λ x. x ≡ z → ⊥) x xs other))
 
--- one that stands among them stays there
-stays : (best z : ℤ) (seen : List ℤ) → first_place best seen < length seen → first_place best (seen ++ z ∷ []) ≡ first_place best seen
-stays best z [] low = absurd (omega (arith, low))
-stays best z (x ∷ seen) low =
-    elim (int_eq x best) as (λ t. int_eq x best ≡ t → first_place best (x ∷ seen ++ z ∷ []) ≡ first_place best (x ∷ seen)) [
-      | true ↦ λ e. rw e refl
+-- a number that none so far is stands first among those that come
+comes : (z : ℤ) (seen more : List ℤ) → first_place z seen ≡ length seen → first_place z (seen ++ more) ≡ length seen + first_place z more
+comes z [] more none = omega arith
+comes z (x ∷ seen) more none =
+    elim (int_eq x z) as (λ t. int_eq x z ≡ t → first_place z (x ∷ seen ++ more) ≡ length (x ∷ seen) + first_place z more) [
+      | true ↦ λ e. absurd (omega (arith, (rw e at none)))
       | false ↦ λ e.
-          let less : first_place best seen < length seen = omega (arith, (rw e at low)) in
-          rw e (ap suc (stays best z seen less))
+          let rest : first_place z seen ≡ length seen = omega (arith, (rw e at none)) in
+          rw e (omega (arith, comes z seen more rest))
     ] refl
 
--- ---- one number more
+-- one that stands among them stays there
+stays : (z : ℤ) (seen more : List ℤ) → first_place z seen < length seen → first_place z (seen ++ more) ≡ first_place z seen
+stays z [] more low = absurd (omega (arith, low))
+stays z (x ∷ seen) more low =
+    elim (int_eq x z) as (λ t. int_eq x z ≡ t → first_place z (x ∷ seen ++ more) ≡ first_place z (x ∷ seen)) [
+      | true ↦ λ e. rw e refl
+      | false ↦ λ e.
+          let less : first_place z seen < length seen = omega (arith, (rw e at low)) in
+          rw e (ap suc (stays z seen more less))
+    ] refl
+
+-- one that is among numbers has its place there
+present : (z : ℤ) (xs : List ℤ) (k : ℕ) → k < length xs → get_or xs k z ≡ z → first_place z xs < length xs
+present z [] k low is = absurd (omega (arith, low))
+present z (x ∷ xs) zero low is = omega (arith, ap (λ y. first_place z (y ∷ xs)) is, here z xs)
+present z (x ∷ xs) (suc k) low is =
+    let rest = present z xs k (omega (arith, low)) is in
+    elim (int_eq x z) as (λ t. int_eq x z ≡ t → first_place z (x ∷ xs) < length (x ∷ xs)) [
+      | true ↦ λ e. rw e (omega arith)
+      | false ↦ λ e. rw e (omega (arith, rest))
+    ] refl
+
+-- none of the first numbers, and then the next one, or not this either
+pub found-next : (v z : ℤ) (xs ys : List ℤ) → first_place v xs ≡ length xs → z ≡ v → first_place v (xs ++ z ∷ [] ++ ys) ≡ length xs
+found-next v z xs ys none same =
+    let one : first_place v (z ∷ []) ≡ 0 = ap (λ y. first_place v (y ∷ [])) same ∙ here v [] in
+    let there : first_place v (xs ++ z ∷ []) ≡ length xs = omega (arith, comes v xs (z ∷ []) none, one) in
+    stays v (xs ++ z ∷ []) ys (omega (arith, there, length-append xs (z ∷ []))) ∙ there
+
+pub absent-next : (v z : ℤ) (xs : List ℤ) → first_place v xs ≡ length xs → (z ≡ v → ⊥) → first_place v (xs ++ z ∷ []) ≡ length xs + 1
+absent-next v z xs none other = omega (arith, comes v xs (z ∷ []) none, past v z [] other)
+
+-- ---- some numbers more
 
 abbrev head_or : ℤ → List ℤ → ℤ
 head_or d [] = d
@@ -52,48 +82,84 @@ head_or d (x ∷ xs) = x
 begins : (x first : ℤ) (xs rest : List ℤ) → x ∷ xs ≡ first ∷ rest → x ≡ first
 begins x first xs rest same = ap (head_or x) same
 
--- a better one
-taken : (pick : ℤ → ℤ → ℤ) (best z : ℤ) (place : ℕ) (first : ℤ) (seen : List ℤ) → HasFound pick best place first seen → pick best z ≡ z → All (λ x. x ≡ z → ⊥) seen → HasFound pick z (length seen) first (seen ++ z ∷ [])
-taken pick best z place first seen so_far better other = record {
-  best_is = sym (fold-append pick first seen (z ∷ []) ∙ ap (λ b. pick b z) (sym so_far.best_is) ∙ better);
-  none = λ is. absurd (omega (arith, ap length is, length-append seen (z ∷ [])));
-  place_is = λ rest is. sym (comes z seen other);
-  low = λ some. omega (arith, length-append seen (z ∷ []));
+-- one of which is better
+taken : (pick : ℤ → ℤ → ℤ) (best z : ℤ) (place : ℕ) (first : ℤ) (seen more : List ℤ) → HasFound pick best place first seen → z ≡ fold pick best more →
+    All (λ x. x ≡ z → ⊥) seen → first_place z more < length more → HasFound pick z (length seen + first_place z more) first (seen ++ more)
+taken pick best z place first seen more so_far is other among = record {
+  best_is = is ∙ ap (λ b. fold pick b more) so_far.best_is ∙ sym (fold-append pick first seen more);
+  none = λ none. absurd (omega (arith, ap length none, length-append seen more, among));
+  place_is = λ rest _. sym (comes z seen more (absent z seen other));
+  low = λ some. omega (arith, length-append seen more, among);
 }
 
--- one that is none
-passed : (pick : ℤ → ℤ → ℤ) (best z : ℤ) (place : ℕ) (first : ℤ) (seen : List ℤ) → HasFound pick best place first seen → pick best z ≡ best → HasFound pick best place first (seen ++ z ∷ [])
-passed pick best z place first [] so_far worse = record {
-  best_is = sym (ap (λ b. pick b z) (sym so_far.best_is) ∙ worse);
-  none = λ is. absurd (omega (arith, ap length is));
-  place_is = λ rest is.
-      let same : best ≡ z = so_far.best_is ∙ sym (begins z first [] rest is) in
-      so_far.none refl ∙ sym (ap (λ b. first_place b (z ∷ [])) same ∙ here z []);
-  low = λ some. omega (arith, so_far.none refl);
+-- none of which is
+passed : (pick : ℤ → ℤ → ℤ) (best : ℤ) (place : ℕ) (first : ℤ) (seen more : List ℤ) → HasFound pick best place first seen → best ≡ fold pick best more → HasFound pick best place first (seen ++ more)
+passed pick best place first [] more so_far is = record {
+  best_is = is ∙ ap (λ b. fold pick b more) so_far.best_is;
+  none = λ _. so_far.none refl;
+  place_is = λ rest same.
+      so_far.none refl ∙ sym (ap (first_place best) same ∙ ap (λ b. first_place b (first ∷ rest)) so_far.best_is ∙ here first rest);
+  low = λ some. omega (arith, some, so_far.none refl);
 }
-passed pick best z place first (x ∷ seen) so_far worse = record {
-  best_is = sym (fold-append pick first (x ∷ seen) (z ∷ []) ∙ ap (λ b. pick b z) (sym so_far.best_is) ∙ worse);
-  none = λ is. absurd (omega (arith, ap length is));
-  place_is = λ rest is.
-      let at = so_far.place_is seen (ap (λ y. y ∷ seen) (begins x first (seen ++ z ∷ []) rest is)) in
-      at ∙ sym (stays best z (x ∷ seen) (omega (arith, at, so_far.low (omega arith))));
-  low = λ some. omega (arith, so_far.low (omega arith), length-append seen (z ∷ []));
+passed pick best place first (x ∷ seen) more so_far is = record {
+  best_is = is ∙ ap (λ b. fold pick b more) so_far.best_is ∙ sym (fold-append pick first (x ∷ seen) more);
+  none = λ none. absurd (omega (arith, ap length none));
+  place_is = λ rest same.
+      let at = so_far.place_is seen (ap (λ y. y ∷ seen) (begins x first (seen ++ more) rest same)) in
+      at ∙ sym (stays best (x ∷ seen) more (omega (arith, at, so_far.low (omega arith))));
+  low = λ some. omega (arith, so_far.low (omega arith), length-append seen more);
 }
 
 -- ---- the least, and the greatest
 
-pub less_taken : (best z : ℤ) (place : ℕ) (first : ℤ) (seen : List ℤ) → HasFound int_min best place first seen → int_lt z best ≡ true → HasFound int_min z (length seen) first (seen ++ z ∷ [])
-less_taken best z place first seen so_far less =
+pub less_taken : (best z : ℤ) (place : ℕ) (first : ℤ) (seen more : List ℤ) → HasFound int_min best place first seen → z ≡ fold int_min best more → int_lt z best ≡ true →
+    HasFound int_min z (length seen + first_place z more) first (seen ++ more)
+less_taken best z place first seen more so_far is less =
     let bounds = fold-int_min_bounds first seen best so_far.best_is in
-    taken int_min best z place first seen so_far (omega (arith, ints, clamps)) (λ k d below same. let low = bounds.1 k d below in omega (arith, ints))
+    taken int_min best z place first seen more so_far is (λ k d below same. let low = bounds.1 k d below in omega (arith, ints))
+    (elim (fold-int_min_reached best more z is) as (λ _. first_place z more < length more) [
+      | inl same ↦ absurd (omega (arith, ints))
+      | inr there ↦ present z more there.0 there.1 there.2
+    ])
 
-pub less_passed : (best z : ℤ) (place : ℕ) (first : ℤ) (seen : List ℤ) → HasFound int_min best place first seen → int_lt z best ≡ false → HasFound int_min best place first (seen ++ z ∷ [])
-less_passed best z place first seen so_far more = passed int_min best z place first seen so_far (omega (arith, ints, clamps))
+pub less_passed : (best z : ℤ) (place : ℕ) (first : ℤ) (seen more : List ℤ) → HasFound int_min best place first seen → z ≡ fold int_min best more → int_lt z best ≡ false → HasFound int_min best place first (seen ++ more)
+less_passed best z place first seen more so_far is more_is =
+    let low = (fold-int_min_bounds best more z is).0 in
+    let same : best ≡ z = omega (arith, ints) in
+    passed int_min best place first seen more so_far (same ∙ is)
 
-pub greater_taken : (best z : ℤ) (place : ℕ) (first : ℤ) (seen : List ℤ) → HasFound int_max best place first seen → int_lt best z ≡ true → HasFound int_max z (length seen) first (seen ++ z ∷ [])
-greater_taken best z place first seen so_far greater =
+pub greater_taken : (best z : ℤ) (place : ℕ) (first : ℤ) (seen more : List ℤ) → HasFound int_max best place first seen → z ≡ fold int_max best more → int_lt best z ≡ true →
+    HasFound int_max z (length seen + first_place z more) first (seen ++ more)
+greater_taken best z place first seen more so_far is greater =
     let bounds = fold-int_max_bounds first seen best so_far.best_is in
-    taken int_max best z place first seen so_far (omega (arith, ints, clamps)) (λ k d below same. let high = bounds.1 k d below in omega (arith, ints))
+    taken int_max best z place first seen more so_far is (λ k d below same. let high = bounds.1 k d below in omega (arith, ints))
+    (elim (fold-int_max_reached best more z is) as (λ _. first_place z more < length more) [
+      | inl same ↦ absurd (omega (arith, ints))
+      | inr there ↦ present z more there.0 there.1 there.2
+    ])
 
-pub greater_passed : (best z : ℤ) (place : ℕ) (first : ℤ) (seen : List ℤ) → HasFound int_max best place first seen → int_lt best z ≡ false → HasFound int_max best place first (seen ++ z ∷ [])
-greater_passed best z place first seen so_far less = passed int_max best z place first seen so_far (omega (arith, ints, clamps))
+pub greater_passed : (best z : ℤ) (place : ℕ) (first : ℤ) (seen more : List ℤ) → HasFound int_max best place first seen → z ≡ fold int_max best more → int_lt best z ≡ false → HasFound int_max best place first (seen ++ more)
+greater_passed best z place first seen more so_far is more_is =
+    let high = (fold-int_max_bounds best more z is).0 in
+    let same : best ≡ z = omega (arith, ints) in
+    passed int_max best place first seen more so_far (same ∙ is)
+
+-- ---- one number more
+
+pub less_next : (best z : ℤ) (place at : ℕ) (first : ℤ) (seen : List ℤ) → HasFound int_min best place first seen → at ≡ length seen → int_lt z best ≡ true → HasFound int_min z at first (seen ++ z ∷ [])
+less_next best z place at first seen so_far there less =
+    let is : z ≡ int_min best z = omega (arith, ints, clamps) in
+    let last : length seen + first_place z (z ∷ []) ≡ at = omega (arith, there, here z []) in
+    subst (λ n. HasFound int_min z n first (seen ++ z ∷ [])) last (less_taken best z place first seen (z ∷ []) so_far is less)
+
+pub less_stays : (best z : ℤ) (place : ℕ) (first : ℤ) (seen : List ℤ) → HasFound int_min best place first seen → int_lt z best ≡ false → HasFound int_min best place first (seen ++ z ∷ [])
+less_stays best z place first seen so_far more_is = passed int_min best place first seen (z ∷ []) so_far (omega (arith, ints, clamps))
+
+pub greater_next : (best z : ℤ) (place at : ℕ) (first : ℤ) (seen : List ℤ) → HasFound int_max best place first seen → at ≡ length seen → int_lt best z ≡ true → HasFound int_max z at first (seen ++ z ∷ [])
+greater_next best z place at first seen so_far there greater =
+    let is : z ≡ int_max best z = omega (arith, ints, clamps) in
+    let last : length seen + first_place z (z ∷ []) ≡ at = omega (arith, there, here z []) in
+    subst (λ n. HasFound int_max z n first (seen ++ z ∷ [])) last (greater_taken best z place first seen (z ∷ []) so_far is greater)
+
+pub greater_stays : (best z : ℤ) (place : ℕ) (first : ℤ) (seen : List ℤ) → HasFound int_max best place first seen → int_lt best z ≡ false → HasFound int_max best place first (seen ++ z ∷ [])
+greater_stays best z place first seen so_far more_is = passed int_max best place first seen (z ∷ []) so_far (omega (arith, ints, clamps))

@@ -6,6 +6,5 @@ use Rattle.reductions.proofs.lines.fold_each.Given as goal
 
 -- what is held belongs to the numbers so far
 abbrev pub invariant-loop-k : goal.invariant-loop-k
-invariant-loop-k g l = (first : ℤ) (before : List ℤ) → l.seen ≡ length before
-    → g.F.Fold.holds l.initial.held first (before ++ numbers_at (g.S.Number.scalar g.O.Ordered.order) l.bytes (run_offsets (front l.from l.run)))
+invariant-loop-k g l = (first : ℤ) (before : List ℤ) → l.seen ≡ length before → g.F.Fold.holds l.initial.held first before
     → g.F.Fold.holds l.held first (before ++ numbers_at (g.S.Number.scalar g.O.Ordered.order) l.bytes (run_offsets (front l.k l.run)))

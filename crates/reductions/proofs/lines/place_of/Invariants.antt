@@ -1,0 +1,10 @@
+use Rattle.std.proofs.Common.{◌≡◌}
+use Rattle.shape_strides.specs.Runs.{run_offsets}
+use Rattle.reductions.specs.Reductions.{first_place}
+use Rattle.reductions.specs.inside.Numbers.{numbers_at}
+use Rattle.reductions.proofs.LineLaws.{front}
+use Rattle.reductions.proofs.lines.place_of.Given as goal
+
+-- it is none of the numbers so far
+abbrev pub invariant-loop-k : goal.invariant-loop-k
+invariant-loop-k g l = first_place (g.S.Number.value l.fn.number) (numbers_at (g.S.Number.scalar g.O.Ordered.order) l.bytes (run_offsets (front l.k l.run))) ≡ l.k
