@@ -10,15 +10,15 @@ ghost use Rattle.shape_strides.specs.Indexes.{count};
 ghost use Rattle.shape_strides.specs.Shapes.{shape_of};
 ghost use Rattle.literal_items.specs.LiteralItems.{item_values};
 ghost use Rattle.literal_items.specs.RangeItems.{range_count, range_items};
-ghost use Rattle.bench_engine.specs.Contents.{array_type, zeros_contents, full_contents, array_contents, arange_contents, integer_scalar, range_scalar};
+ghost use Rattle.bench_engine.specs.Contents.{array_type, zeros_contents, full_contents, array_contents, arange_contents, contents_of, integer_scalar, range_scalar};
 ghost use Rattle.bench_engine.specs.inside.OwnContents.{held};
 
 use crate::item::item_of;
 use elem_descr::{Descr, Refusal, Scalar, descr_read};
-use literal_items::{range_len, write_items, write_range};
+use literal_items::{range_block, range_len, write_items};
 use overlap_copy::Owned;
 use raw_block::{BlockBuilder, RawBlock};
-use script_lang::{DescrText, Lengths, Literal, Literals};
+use script_lang::{DescrText, Lengths, Literal, Literals, NewItems};
 use shape_strides::{MAX_BYTES, MemoryOrder, Shape};
 use smallvec::SmallVec;
 use std::alloc::{AllocError, Global};
@@ -60,7 +60,7 @@ fn array_type(
 }
 
 /// `zeros D S`
-pub fn zeros(alloc: Global, descr: &DescrText, lengths: &Lengths) -> Result<Owned, Refusal>
+fn zeros(alloc: Global, descr: &DescrText, lengths: &Lengths) -> Result<Owned, Refusal>
     ensures { Gives held result (zeros_contents descr.now lengths.now) }
 {
     let (descr, shape) = array_type(alloc, descr, lengths)?;
@@ -79,7 +79,7 @@ pub fn filled(alloc: Global, item: &[u8], items: usize) -> Result<RawBlock, Allo
 }
 
 /// `full D S L`
-pub fn full(
+fn full(
     alloc: Global,
     descr: &DescrText,
     lengths: &Lengths,
@@ -107,7 +107,7 @@ fn listed(alloc: Global, descr: &Descr, literals: &[Literal]) -> Result<RawBlock
 }
 
 /// `array D S L..`
-pub fn array(
+fn array(
     alloc: Global,
     descr: &DescrText,
     lengths: &Lengths,
@@ -148,28 +148,8 @@ fn integer_type(alloc: Global, descr: &DescrText) -> Result<Scalar, Refusal>
     integer_scalar(&descr)
 }
 
-/// A block of the numbers of a range.
-fn numbered(
-    alloc: Global,
-    scalar: &Scalar,
-    start: &i128,
-    stop: &i128,
-    step: &i128,
-    len: usize,
-) -> Result<RawBlock, Refusal>
-    requires number { IsNumber scalar.now }
-    requires len { len ≡ range_count start.now stop.now step.now }
-    requires few { len ≤ max_items }
-    ensures whole { IfOk result (λ block. length block ≡ len * size scalar.now) }
-    ensures items { Gives (λ block. map (decode_item (ScalarDescr scalar.now)) (blocks (size scalar.now) len block)) result (range_items scalar.now start.now stop.now step.now) }
-{
-    let mut block = RawBlock::try_zeroed(alloc, len * scalar.size())?;
-    write_range(scalar, start, stop, step, block.bytes_mut())?;
-    Ok(block)
-}
-
 /// `arange D a b s`
-pub fn arange(
+fn arange(
     alloc: Global,
     descr: &DescrText,
     start: &i128,
@@ -181,7 +161,23 @@ pub fn arange(
     let scalar = integer_type(alloc, descr)?;
     let len = range_len(start, stop, step)?;
     let shape = Shape::try_new(alloc, &[len])?;
-    let block = numbered(alloc, &scalar, start, stop, step, len)?;
+    let block = range_block(alloc, &scalar, start, stop, step)?;
     let owned = Owned::over(alloc, Descr::Scalar(scalar), &shape, MemoryOrder::C, block)?;
     Ok(owned)
+}
+
+/// What a command that makes an array puts into it.
+pub fn contents_of(
+    alloc: Global,
+    descr: &DescrText,
+    items: &NewItems,
+) -> Result<Owned, Refusal>
+    ensures { Gives held result (contents_of descr.now items.now) }
+{
+    match items {
+        NewItems::Zeros { shape } => zeros(alloc, descr, shape),
+        NewItems::Full { shape, value } => full(alloc, descr, shape, value),
+        NewItems::Arange { start, stop, step } => arange(alloc, descr, start, stop, step),
+        NewItems::Array { shape, values } => array(alloc, descr, shape, values),
+    }
 }

@@ -1,7 +1,7 @@
 //! `X = zeros ..`, `full`, `arange`, `array`: a name is bound to a new array.
 ghost use Rattle.std.specs.Prelude.{◌≡◌, ◌≤◌, true, vec_capacity};
 ghost use Rattle.name_store.specs.Arrays.{has_room_for};
-ghost use Rattle.bench_engine.specs.Contents.{zeros_contents, full_contents, arange_contents, array_contents, contents_of};
+ghost use Rattle.bench_engine.specs.Contents.{contents_of};
 ghost use Rattle.bench_engine.specs.inside.OwnContents.{held};
 ghost use Rattle.bench_engine.specs.inside.Contract.{CarriesOut};
 ghost use Rattle.bench_engine.specs.Machine.{bound_new, creation_outcome};
@@ -11,7 +11,7 @@ use crate::replies::{Origin, push_bound_text};
 use elem_descr::Refusal;
 use name_store::{Bench, Bound};
 use overlap_copy::Owned;
-use script_lang::{DescrText, Lengths, Literal, Literals, Name, NewItems};
+use script_lang::{DescrText, Name, NewItems};
 use std::alloc::Global;
 
 /// Binds a name, for which there is room, to a new array. The reply is appended before the change,
@@ -33,90 +33,6 @@ pub fn bind_new(
     bench.bind(alloc, name, Bound::Fresh(owned))
 }
 
-/// `X = zeros D S`
-fn zeros(
-    alloc: Global,
-    bench: &mut Bench,
-    name: &Name,
-    descr: &DescrText,
-    shape: &Lengths,
-    out: &mut Vec<u8>,
-) -> Result<(), Refusal>
-    ensures room { vec_capacity out.old ≤ vec_capacity out.new }
-    ensures answers { CarriesOut true (λ choice. creation_outcome choice bench.old name.now (zeros_contents descr.now shape.now))
-        bench.old bench.new out.old.items out.new.items result }
-{
-    if !bench.has_room_for(name) {
-        return Err(Refusal::TooManyNames);
-    }
-    let owned = contents::zeros(alloc, descr, shape)?;
-    bind_new(alloc, bench, name, owned, Origin::New, out)
-}
-
-/// `X = full D S L`
-fn full(
-    alloc: Global,
-    bench: &mut Bench,
-    name: &Name,
-    descr: &DescrText,
-    shape: &Lengths,
-    value: &Literal,
-    out: &mut Vec<u8>,
-) -> Result<(), Refusal>
-    ensures room { vec_capacity out.old ≤ vec_capacity out.new }
-    ensures answers { CarriesOut true (λ choice. creation_outcome choice bench.old name.now (full_contents descr.now shape.now value.now))
-        bench.old bench.new out.old.items out.new.items result }
-{
-    if !bench.has_room_for(name) {
-        return Err(Refusal::TooManyNames);
-    }
-    let owned = contents::full(alloc, descr, shape, value)?;
-    bind_new(alloc, bench, name, owned, Origin::New, out)
-}
-
-/// `X = arange D a b s`
-fn arange(
-    alloc: Global,
-    bench: &mut Bench,
-    name: &Name,
-    descr: &DescrText,
-    start: &i128,
-    stop: &i128,
-    step: &i128,
-    out: &mut Vec<u8>,
-) -> Result<(), Refusal>
-    ensures room { vec_capacity out.old ≤ vec_capacity out.new }
-    ensures answers { CarriesOut true (λ choice. creation_outcome choice bench.old name.now (arange_contents descr.now start.now stop.now step.now))
-        bench.old bench.new out.old.items out.new.items result }
-{
-    if !bench.has_room_for(name) {
-        return Err(Refusal::TooManyNames);
-    }
-    let owned = contents::arange(alloc, descr, start, stop, step)?;
-    bind_new(alloc, bench, name, owned, Origin::New, out)
-}
-
-/// `X = array D S L..`
-fn array(
-    alloc: Global,
-    bench: &mut Bench,
-    name: &Name,
-    descr: &DescrText,
-    shape: &Lengths,
-    values: &Literals,
-    out: &mut Vec<u8>,
-) -> Result<(), Refusal>
-    ensures room { vec_capacity out.old ≤ vec_capacity out.new }
-    ensures answers { CarriesOut true (λ choice. creation_outcome choice bench.old name.now (array_contents descr.now shape.now values.now))
-        bench.old bench.new out.old.items out.new.items result }
-{
-    if !bench.has_room_for(name) {
-        return Err(Refusal::TooManyNames);
-    }
-    let owned = contents::array(alloc, descr, shape, values)?;
-    bind_new(alloc, bench, name, owned, Origin::New, out)
-}
-
 /// Binds a name to a new array.
 pub fn make(
     alloc: Global,
@@ -130,12 +46,9 @@ pub fn make(
     ensures answers { CarriesOut true (λ choice. creation_outcome choice bench.old name.now (contents_of descr.now items.now))
         bench.old bench.new out.old.items out.new.items result }
 {
-    match items {
-        NewItems::Zeros { shape } => zeros(alloc, bench, name, descr, shape, out),
-        NewItems::Full { shape, value } => full(alloc, bench, name, descr, shape, value, out),
-        NewItems::Arange { start, stop, step } => {
-            arange(alloc, bench, name, descr, start, stop, step, out)
-        }
-        NewItems::Array { shape, values } => array(alloc, bench, name, descr, shape, values, out),
+    if !bench.has_room_for(name) {
+        return Err(Refusal::TooManyNames);
     }
+    let owned = contents::contents_of(alloc, descr, items)?;
+    bind_new(alloc, bench, name, owned, Origin::New, out)
 }

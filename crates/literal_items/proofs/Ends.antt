@@ -18,7 +18,7 @@ use Rattle.literal_items.specs.Numbers.{is_value}
 use Rattle.literal_items.proofs.Lists.{all_fails}
 
 -- a value of a scalar
-is_in : (scalar : Scalar) (z : ℤ) → IsNumber scalar → is_value scalar z ≡ true → IsValueOf scalar z
+pub is_in : (scalar : Scalar) (z : ℤ) → IsNumber scalar → is_value scalar z ≡ true → IsValueOf scalar z
 is_in scalar z kind held = let same = (Decides-int_eq (wrap scalar z) z).0 held in subst (IsValueOf scalar) same (wrap_fits scalar z kind)
 
 in_is : (scalar : Scalar) (z : ℤ) → IsValueOf scalar z → is_value scalar z ≡ true

@@ -124,7 +124,7 @@ length-bytes_high_first : (n bits : ℕ) → length (bytes_high_first n bits) �
 length-bytes_high_first zero bits = refl
 length-bytes_high_first (suc n) bits = omega (arith, length-bytes_high_first n bits)
 
-length-bytes_of : (order : Order) (n bits : ℕ) → length (bytes_of order n bits) ≡ n
+pub length-bytes_of : (order : Order) (n bits : ℕ) → length (bytes_of order n bits) ≡ n
 length-bytes_of Little n bits = length-bytes_low_first 0 n bits
 length-bytes_of Big n bits = length-bytes_high_first n bits
 

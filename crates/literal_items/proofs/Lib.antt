@@ -6,5 +6,6 @@ pub mod Fields
 pub mod Blocked
 pub mod Stepping
 pub mod Ends
+pub mod Counted
 pub mod Scalars
 mod Vectors

@@ -14,8 +14,11 @@ use Rattle.literal_items.specs.Numbers.{is_value}
 pub scalar_read : (scalar : Scalar) (item : List ℕ) (value : LeafValue) → length item ≡ size scalar → decode scalar item ≡ value → decode_item (ScalarDescr scalar) item ≡ value ∷ []
 scalar_read scalar item value whole is = ap (λ bytes. decode scalar bytes ∷ []) (take_all (size scalar) item (omega arith)) ∙ ap (λ v. v ∷ []) is
 
+pub wrap_is : (scalar : Scalar) (z : ℤ) → is_value scalar z ≡ true → wrap scalar z ≡ z
+wrap_is scalar z held = (Decides-int_eq (wrap scalar z) z).0 held
+
 pub value_is : (scalar : Scalar) (z : ℤ) → is_value scalar z ≡ true → number (wrap scalar z) ≡ number z
-value_is scalar z held = ap number ((Decides-int_eq (wrap scalar z) z).0 held)
+value_is scalar z held = ap number (wrap_is scalar z held)
 
 -- a number has 8 bytes at most
 pub number_size : (scalar : Scalar) → IsNumber scalar → size scalar ≤ 8

@@ -1,1 +1,2 @@
 pub mod FieldItems
+pub mod Numbered

@@ -7,4 +7,4 @@ mod number;
 pub mod range;
 
 pub use item::{can_be_item, write_item, write_items};
-pub use range::{range_len, write_range};
+pub use range::{range_block, range_len};

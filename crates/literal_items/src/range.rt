@@ -1,20 +1,23 @@
 //! The numbers of a range as items.
-ghost use Rattle.std.specs.Prelude.{◌≡◌, ◌<◌, ◌≤◌, ◌↔◌, ◌*◌, ℕ, ℤ, pos, ◌+ℤ◌, ◌*ℤ◌, FitsSigned, IsTrue, length, map, Ok, Err, ◌∷◌, [], true, IfOk, OnErr, MatchResult};
+ghost use Rattle.std.specs.Prelude.{◌≡◌, ◌<◌, ◌≤◌, ◌↔◌, ◌+◌, ◌*◌, ◌++◌, ℕ, ℤ, pos, ◌+ℤ◌, ◌*ℤ◌, FitsSigned, IsTrue, length, true, IfOk};
 ghost use Rattle.std.specs.List.{list_all};
 ghost use Rattle.std.specs.Int.{w128};
 ghost use Rattle.elem_descr.specs.declared.descr.Descr.TheVariants.{Scalar as ScalarDescr};
-ghost use Rattle.elem_descr.specs.declared.scalar.Scalar.TheVariants.{Int as IntScalar};
-ghost use Rattle.elem_descr.specs.Encoding.{IsNumber, size, width_size};
-ghost use Rattle.elem_descr.specs.Items.{decode_item};
-ghost use Rattle.elem_descr.specs.Blocks.{blocks};
+ghost use Rattle.elem_descr.specs.Refusals.{Gives};
+ghost use Rattle.elem_descr.specs.Encoding.{IsNumber, low_bits, size};
+ghost use Rattle.elem_descr.specs.Blocks.{items_in};
 ghost use Rattle.elem_descr.specs.Steps.{is_before, numbers_from, IsGap};
-ghost use Rattle.elem_descr.specs.Values.{number};
+ghost use Rattle.raw_block.specs.Bytes.{joined};
 ghost use Rattle.shape_strides.specs.Limits.{max_items};
 ghost use Rattle.literal_items.specs.Numbers.{is_value};
 ghost use Rattle.literal_items.specs.RangeItems.{range_numbers, range_count, range_length, range_items};
+ghost use Rattle.literal_items.specs.inside.Numbered.{numbered};
 
 use crate::number::is_value;
-use elem_descr::{Order, Refusal, Scalar, Width, num_write};
+use elem_descr::{Refusal, Scalar};
+use machine_numbers::{Number, NumberTask, Ordered, on_number};
+use raw_block::{BlockBuilder, RawBlock};
+use std::alloc::Global;
 
 /// The most numbers that a range may have.
 const MAX_NUMBERS: u128 = 1 << 24;
@@ -74,119 +77,86 @@ fn are_values(scalar: &Scalar, start: &i128, step: &i128, count: usize) -> bool
     is_value(scalar, start) && is_value(scalar, &number_at(start, step, count - 1))
 }
 
-/// Writes the first `count` of the numbers start, start + step, .. as items one after another. Where it
-/// is called with a scalar that is known, each is stored at once.
-#[inline(always)]
-fn write_each(scalar: &Scalar, start: &i128, step: &i128, count: usize, block: &mut [u8])
-    requires number { IsNumber scalar.now }
-    requires whole { length block.old ≡ count * size scalar.now }
-    requires fits { (k : ℕ) → k < count → FitsSigned w128 (start.now +ℤ step.now *ℤ pos k) }
-    requires values { list_all (is_value scalar.now) (numbers_from start.now step.now count) ≡ true }
-    ensures { map (decode_item (ScalarDescr scalar.now)) (blocks (size scalar.now) count block.new) ≡ map (λ value. number value ∷ []) (numbers_from start.now step.now count) }
+/// The lowest 64 bits of a number.
+fn low_bits(number: &i128) -> u64
+    ensures { result ≡ low_bits 8 number.now }
 {
-    let size = scalar.size();
-    let mut number = *start;
-    for k in 0..count {
-        num_write(*scalar, number, &mut block[k * size..(k + 1) * size]);
-        number = number.wrapping_add(*step);
-    }
+    number.rem_euclid(1 << 64) as u64
 }
 
-/// Writes the first `count` of the numbers start, start + step, .. as integers one after another, with
-/// a loop of its own for each width.
-#[inline(always)]
-fn write_integers(
-    signed: bool,
-    width: Width,
-    order: Order,
+/// Pushes the first `count` of the numbers start, start + step, .., which are counted by their lowest 64
+/// bits.
+fn push_numbers<N: Number, O: Ordered>(
+    block: BlockBuilder,
     start: &i128,
     step: &i128,
     count: usize,
-    block: &mut [u8],
-)
-    requires whole { length block.old ≡ count * width_size width }
-    requires fits { (k : ℕ) → k < count → FitsSigned w128 (start.now +ℤ step.now *ℤ pos k) }
-    requires values { list_all (is_value (IntScalar signed width order)) (numbers_from start.now step.now count) ≡ true }
-    ensures { map (decode_item (ScalarDescr (IntScalar signed width order))) (blocks (width_size width) count block.new) ≡ map (λ value. number value ∷ []) (numbers_from start.now step.now count) }
+) -> BlockBuilder
+    requires values { list_all (is_value (N.scalar O.order)) (numbers_from start.now step.now count) ≡ true }
+    requires room { count * N.WIDTH ≤ block.1 }
+    ensures bytes { result.0 ≡ block.0 ++ joined (numbered (N.scalar O.order) start.now step.now) count }
+    ensures left { count * N.WIDTH + result.1 ≡ block.1 }
 {
-    match width {
-        Width::Two => {
-            let width = Width::Two;
-            let scalar = Scalar::Int {
-                signed,
-                width,
-                order,
-            };
-            write_each(&scalar, start, step, count, block)
-        }
-        Width::Four => {
-            let width = Width::Four;
-            let scalar = Scalar::Int {
-                signed,
-                width,
-                order,
-            };
-            write_each(&scalar, start, step, count, block)
-        }
-        Width::Eight => {
-            let width = Width::Eight;
-            let scalar = Scalar::Int {
-                signed,
-                width,
-                order,
-            };
-            write_each(&scalar, start, step, count, block)
-        }
+    let mut block = block;
+    let mut bits = low_bits(start);
+    let step = low_bits(step);
+    for _done in 0..count {
+        N::of_bits(bits).push::<O>(&mut block);
+        bits = bits.wrapping_add(step);
+    }
+    block
+}
+
+/// The first `count` of the numbers start, start + step, .., that are to be pushed.
+struct Counting<'a> {
+    start: &'a i128,
+    step: &'a i128,
+    count: usize,
+    block: BlockBuilder,
+}
+
+impl<'a> NumberTask for Counting<'a> {
+    type Out = BlockBuilder;
+
+    ghost Needs = { λ t scalar bytes. (list_all (is_value scalar) (numbers_from t.start.now t.step.now t.count) ≡ true) × (t.count * size scalar ≤ t.block.1) };
+
+    ghost Gives = { λ t scalar old new block. (block.0 ≡ t.block.0 ++ joined (numbered scalar t.start.now t.step.now) t.count) × (t.count * size scalar + block.1 ≡ t.block.1) };
+
+    fn run<N: Number, O: Ordered>(self, bytes: &mut [u8]) -> BlockBuilder {
+        let Counting {
+            start,
+            step,
+            count,
+            block,
+        } = self;
+        push_numbers::<N, O>(block, start, step, count)
     }
 }
 
-/// Writes the first `count` of the numbers start, start + step, .. as items one after another.
-fn write_numbers(scalar: &Scalar, start: &i128, step: &i128, count: usize, block: &mut [u8])
-    requires number { IsNumber scalar.now }
-    requires whole { length block.old ≡ count * size scalar.now }
-    requires fits { (k : ℕ) → k < count → FitsSigned w128 (start.now +ℤ step.now *ℤ pos k) }
-    requires values { list_all (is_value scalar.now) (numbers_from start.now step.now count) ≡ true }
-    ensures { map (decode_item (ScalarDescr scalar.now)) (blocks (size scalar.now) count block.new) ≡ map (λ value. number value ∷ []) (numbers_from start.now step.now count) }
-{
-    match *scalar {
-        Scalar::Byte { signed } => {
-            write_each(&Scalar::Byte { signed }, start, step, count, block)
-        }
-        Scalar::Int {
-            signed,
-            width,
-            order: Order::Little,
-        } => write_integers(signed, width, Order::Little, start, step, count, block),
-        Scalar::Int {
-            signed,
-            width,
-            order: Order::Big,
-        } => write_integers(signed, width, Order::Big, start, step, count, block),
-        _ => write_each(scalar, start, step, count, block),
-    }
-}
-
-/// Writes the numbers start, start + step, .. before the stop as items one after another. A step of 0
-/// is refused as `ZeroStep`, more than 2^24 numbers as `TooLarge`, and then a number that is no value
-/// of the scalar as `LiteralOutOfRange`; then the bytes are as before.
-pub fn write_range(
+/// A block of the numbers start, start + step, .. before the stop, one after another. A step of 0 is
+/// refused as `ZeroStep`, more than 2^24 numbers as `TooLarge`, then a number that is no value of the
+/// scalar as `LiteralOutOfRange`.
+pub fn range_block(
+    alloc: Global,
     scalar: &Scalar,
     start: &i128,
     stop: &i128,
     step: &i128,
-    block: &mut [u8],
-) -> Result<(), Refusal>
+) -> Result<RawBlock, Refusal>
     requires number { IsNumber scalar.now }
-    requires whole { length block.old ≡ range_count start.now stop.now step.now * size scalar.now }
-    ensures value { MatchResult result
-        (λ _. range_items scalar.now start.now stop.now step.now ≡ Ok (map (decode_item (ScalarDescr scalar.now)) (blocks (size scalar.now) (range_count start.now stop.now step.now) block.new)))
-        (λ refusal. range_items scalar.now start.now stop.now step.now ≡ Err refusal) }
-    ensures kept { OnErr result (block.new ≡ block.old) }
+    ensures whole { IfOk result (λ block. length block ≡ range_count start.now stop.now step.now * size scalar.now) }
+    ensures items { Gives (λ block. items_in (ScalarDescr scalar.now) (range_count start.now stop.now step.now) block) result (range_items scalar.now start.now stop.now step.now) }
 {
     let count = range_len(start, stop, step)?;
     if !are_values(scalar, start, step, count) {
         return Err(Refusal::LiteralOutOfRange);
     }
-    write_numbers(scalar, start, step, count, block);
-    Ok(())
+    let block = BlockBuilder::try_new(alloc, count * scalar.size())?;
+    let counting = Counting {
+        start,
+        step,
+        count,
+        block,
+    };
+    Ok(on_number(scalar, counting, &mut []).finish())
 }

@@ -1,7 +1,7 @@
 //! Items as NumPy's `numpy.arange` makes them, where it takes the same.
 use crate::literals::{Made, is_as_told};
 use elem_descr::{Refusal, Scalar, typestr_read};
-use literal_items::{range_len, write_range};
+use literal_items::{range_block, range_len};
 use script_lang::{Command, NewItems, Value, parse};
 use std::alloc::Global;
 use std::process::Abort;
@@ -31,7 +31,7 @@ const LINES: &[(&str, Made)] = &[
     ("a = arange <i4 5 5 0", Err(Refusal::ZeroStep)),
 ];
 
-/// The numbers of a range as items over bytes that are not zero.
+/// The numbers of a range as items.
 fn range(
     alloc: Global,
     scalar: &Scalar,
@@ -42,10 +42,10 @@ fn range(
     if matches!(scalar, Scalar::Bytes(_)) {
         return Err(Refusal::NotForThisKind);
     }
-    let count = range_len(start, stop, step)?;
-    let mut block = vec![in alloc; 0xaa; count * scalar.size()]?;
-    write_range(scalar, start, stop, step, block.as_mut_slice())?;
-    Ok(block)
+    let block = range_block(alloc, scalar, start, stop, step)?;
+    let mut bytes = Vec::new(alloc);
+    bytes.extend_from_slice(block.bytes())?;
+    Ok(bytes)
 }
 
 fn range_of(alloc: Global, command: &Command) -> Result<Vec<u8>, Refusal> {

@@ -1,4 +1,4 @@
-use Rattle.std.proofs.Common.{◌≡◌, ◌*◌, ◌∙◌, sym, inl, inr, arith, ap}
+use Rattle.std.proofs.Common.{◌≡◌, ◌*◌, ◌∙◌, [], ◌∷◌, sym, inl, inr, arith, ap}
 use Rattle.std.proofs.lemmas.Result.{err_from_is_err_and}
 use Rattle.elem_descr.specs.Encoding.{size}
 use Rattle.shape_strides.specs.Indexes.{count}
@@ -30,10 +30,11 @@ returns-in_err-block c =
 pub over-requires-clause-whole : goal.over-requires-clause-whole
 over-requires-clause-whole c =
     let once : c.in_ok-len.len ≡ c.in_ok-len.len * 1 = omega arith in
-    c.in_ok-block.ensures.whole ∙ ap (λ n. n * size c.in_ok-scalar.scalar) (once ∙ sym (ap count (range-shape c.in_ok-len.len c.in_ok-shape.shape c.in_ok-len.ensures.few c.in_ok-shape.ensures)))
+    c.in_ok-block.ensures.whole ∙ ap (λ n. n * size c.in_ok-scalar.scalar) (sym c.in_ok-len.ensures.count ∙ once ∙ sym (ap count (range-shape c.in_ok-len.len c.in_ok-shape.shape c.in_ok-len.ensures.few c.in_ok-shape.ensures)))
 
 pub returns : goal.returns
 returns c =
-    arange-done _ _ _ _ _ c.in_ok-len.len c.in_ok-block.block c.in_ok-owned.owned c.in_ok-scalar.ensures.value c.in_ok-block.ensures.items
-    c.in_ok-owned.ensures.descr (c.in_ok-owned.ensures.shape ∙ range-shape c.in_ok-len.len _ c.in_ok-len.ensures.few c.in_ok-shape.ensures) c.in_ok-owned.ensures.block
+    let shaped = c.in_ok-owned.ensures.shape ∙ range-shape c.in_ok-len.len _ c.in_ok-len.ensures.few c.in_ok-shape.ensures in
+    arange-done _ _ _ _ _ _ c.in_ok-block.block c.in_ok-owned.owned c.in_ok-scalar.ensures.value c.in_ok-block.ensures.items
+    c.in_ok-owned.ensures.descr (shaped ∙ ap (λ n. n ∷ []) c.in_ok-len.ensures.count) c.in_ok-owned.ensures.block
     (in-order c.in_ok-owned.owned _ _ c.in_ok-owned.ensures.descr c.in_ok-owned.ensures.shape c.in_ok-owned.ensures.order)

@@ -1,13 +1,17 @@
+use Rattle.std.proofs.Common.{sym, refl, inr}
+use Rattle.std.proofs.lemmas.Result.{err_from_is_err_and}
+use Rattle.bench_engine.specs.Contents.{contents_of}
+use Rattle.bench_engine.proofs.Creates.{creation-many, creation-refused, made-answers}
+use Rattle.bench_engine.proofs.Looks.{unchanged}
 use Rattle.bench_engine.proofs.create.make.Goals as goal
 
-pub returns-in-Zeros-clause-answers : goal.returns-in-Zeros-clause-answers
-returns-in-Zeros-clause-answers c = rw c.in-Zeros.is c.zeros.ensures.answers
+pub returns-then-not-has_room_for-clause-answers : goal.returns-then-not-has_room_for-clause-answers
+returns-then-not-has_room_for-clause-answers c = (refl, unchanged _, inr (λ choice. creation-many choice _ _ _ (sym c.if-not-has_room_for.ensures)))
 
-pub returns-in-Full-clause-answers : goal.returns-in-Full-clause-answers
-returns-in-Full-clause-answers c = rw c.in-Full.is c.full.ensures.answers
+pub returns-in_err-owned-clause-answers : goal.returns-in_err-owned-clause-answers
+returns-in_err-owned-clause-answers c =
+    let p = err_from_is_err_and c.from_residual.result c.from_residual.ensures.1 in
+    rw (p.1, p.2) (refl, unchanged _, creation-refused _ _ (contents_of c.args.descr.now c.args.items.now) _ (sym c.if-not-has_room_for.ensures) c.in_err-owned.ensures)
 
-pub returns-in-Arange-clause-answers : goal.returns-in-Arange-clause-answers
-returns-in-Arange-clause-answers c = rw c.in-Arange.is c.arange.ensures.answers
-
-pub returns-in-Array-clause-answers : goal.returns-in-Array-clause-answers
-returns-in-Array-clause-answers c = rw c.in-Array.is c.array.ensures.answers
+pub returns-clause-answers : goal.returns-clause-answers
+returns-clause-answers c = made-answers _ _ _ (contents_of c.args.descr.now c.args.items.now) c.in_ok-owned.owned _ _ _ (sym c.if-not-has_room_for.ensures) c.in_ok-owned.ensures c.bind_new.ensures.answers

@@ -1,0 +1,132 @@
+-- Numbers that are counted by their lowest 64 bits, and read from their bytes again.
+use Rattle.std.proofs.Common.{◌≡◌, ℕ, zero, suc, ◌+◌, ◌*◌, ◌%◌, ◌^◌, ◌<◌, ◌≤◌, inl, inr, Bool, true, false, List, [], ◌∷◌, ◌++◌, length, take, map, refl, sym, ap, ◌∙◌, subst, arith, ℤ, pos, ◌+ℤ◌, ◌*ℤ◌, append-nil}
+use Rattle.std.specs.Int.{w64, cast_signed, cast_unsigned, int_wrap}
+use Rattle.std.specs.List.{list_all, range_with_len}
+use Rattle.std.proofs.lemmas.Int.{ints, wrapping_add-bits, int_wrap-add_left, int_wrap-add_right, of_z-to_z}
+use Rattle.std.proofs.lemmas.List.{take_all}
+use Rattle.std.proofs.lemmas.Simd.{map-map}
+use Rattle.std.proofs.lemmas.List.FromFn.{map-range_with_len_more, get_or-map-range_with_len}
+use Rattle.std.proofs.lemmas.List.Sums.{AllPass-from_list_all}
+use Rattle.std.proofs.Math.Nat.{mod-lt}
+use Rattle.elem_descr.specs.declared.scalar.Scalar.{Scalar}
+use Rattle.elem_descr.specs.declared.scalar.Scalar.TheVariants.{Bool as BoolScalar, Byte, Int as IntScalar, Bytes as BytesScalar}
+use Rattle.elem_descr.specs.declared.scalar.Width.{Width}
+use Rattle.elem_descr.specs.declared.scalar.Width.TheVariants.{Two, Four, Eight}
+use Rattle.elem_descr.specs.declared.descr.Descr.TheVariants.{Scalar as ScalarDescr}
+use Rattle.elem_descr.specs.Values.{LeafValue, number}
+use Rattle.elem_descr.specs.Encoding.{IsNumber, IsValueOf, FitsBytes, size, width_size, integer, low_bits, wrap, decode, encode}
+use Rattle.elem_descr.specs.EncodingLaws.{low_bits-lt, decode_encode}
+use Rattle.elem_descr.specs.WrapLaws.{integer-low_bits}
+use Rattle.elem_descr.specs.Items.{decode_item}
+use Rattle.elem_descr.specs.Blocks.{blocks, items_in}
+use Rattle.elem_descr.specs.Steps.{numbers_from}
+use Rattle.elem_descr.specs.StepLaws.{next_number, length-numbers_from}
+use Rattle.raw_block.specs.Bytes.{joined}
+use Rattle.raw_block.specs.JoinedLaws.{length-joined}
+use Rattle.machine_numbers.specs.Bits.{AreBits}
+use Rattle.literal_items.specs.Numbers.{is_value}
+use Rattle.literal_items.specs.inside.Numbered.{numbered}
+use Rattle.literal_items.proofs.Blocked.{map-blocks-put}
+use Rattle.literal_items.proofs.Ends.{is_in}
+use Rattle.literal_items.proofs.Fields.{length-bytes_of}
+use Rattle.literal_items.proofs.Scalars.{scalar_read, value_is}
+
+-- ---- the lowest bits of the next number
+
+wrap_is : (z : ℤ) → int_wrap w64 z ≡ cast_signed w64 (low_bits 8 z)
+unfolding int_wrap
+wrap_is z = refl
+
+low_bits-add : (u v : ℤ) → low_bits 8 (u +ℤ v) ≡ (low_bits 8 u + low_bits 8 v) % 2 ^ 64
+low_bits-add u v =
+    let x = low_bits 8 u in
+    let y = low_bits 8 v in
+    let same : cast_signed w64 (low_bits 8 (u +ℤ v)) ≡ cast_signed w64 ((x + y) % 2 ^ 64) =
+    sym (wrap_is (u +ℤ v))
+    ∙ sym (int_wrap-add_left w64 u v)
+    ∙ sym (int_wrap-add_right w64 (int_wrap w64 u) v)
+    ∙ (λ i. int_wrap w64 (wrap_is u i +ℤ wrap_is v i))
+    ∙ sym (wrapping_add-bits w64 x y (low_bits-lt 8 u) (low_bits-lt 8 v)) in
+    sym (of_z-to_z w64 (low_bits 8 (u +ℤ v)) (low_bits-lt 8 (u +ℤ v)))
+    ∙ ap (cast_unsigned w64) same
+    ∙ of_z-to_z w64 ((x + y) % 2 ^ 64) (mod-lt (x + y) (omega arith))
+
+pub next_bits : (start step : ℤ) (k bits : ℕ) → bits ≡ low_bits 8 (start +ℤ step *ℤ pos k) → (bits + low_bits 8 step) % 2 ^ 64 ≡ low_bits 8 (start +ℤ step *ℤ pos (k + 1))
+next_bits start step k bits is =
+    let z = start +ℤ step *ℤ pos k in
+    ap (λ b. (b + low_bits 8 step) % 2 ^ 64) is ∙ sym (low_bits-add z step) ∙ ap (low_bits 8) (next_number start step z k refl)
+
+-- ---- the bits of a value say which it is
+
+wide : (signed : Bool) (width : Width) (z : ℤ) → FitsBytes signed (width_size width) z → FitsBytes signed 8 z
+wide false Two z fits = (fits.0, omega (arith, ints, fits.1))
+wide false Four z fits = (fits.0, omega (arith, ints, fits.1))
+wide false Eight z fits = fits
+wide true Two z fits = (omega (arith, ints, fits.0), omega (arith, ints, fits.1))
+wide true Four z fits = (omega (arith, ints, fits.0), omega (arith, ints, fits.1))
+wide true Eight z fits = fits
+
+fits_eight : (scalar : Scalar) (z : ℤ) → IsValueOf scalar z → (signed : Bool) × FitsBytes signed 8 z
+fits_eight BoolScalar z (inl none) = (false, (omega (arith, ints, none), omega (arith, ints, none)))
+fits_eight BoolScalar z (inr one) = (false, (omega (arith, ints, one), omega (arith, ints, one)))
+fits_eight (Byte false) z fits = (false, (fits.0, omega (arith, ints, fits.1)))
+fits_eight (Byte true) z fits = (true, (omega (arith, ints, fits.0), omega (arith, ints, fits.1)))
+fits_eight (IntScalar signed width order) z fits = (signed, wide signed width z fits)
+fits_eight (BytesScalar n) z never = absurd never
+
+no_bits : (signed : Bool) → integer signed 8 0 ≡ pos 0
+no_bits false = refl
+no_bits true = refl
+
+pub bits_of_value : (scalar : Scalar) (z : ℤ) (bits : ℕ) → IsNumber scalar → is_value scalar z ≡ true → bits ≡ low_bits 8 z → AreBits bits z
+bits_of_value scalar z bits kind held is =
+    let fits = fits_eight scalar z (is_in scalar z kind held) in
+    record {
+      low = sym is;
+      zero = λ none. sym (integer-low_bits fits.0 8 z (omega arith) fits.1) ∙ ap (integer fits.0 8) (sym is ∙ none) ∙ no_bits fits.0;
+    }
+
+-- ---- read again
+
+length-encode : (scalar : Scalar) (z : ℤ) → IsNumber scalar → length (encode scalar (number z)) ≡ size scalar
+length-encode BoolScalar z kind = refl
+length-encode (Byte signed) z kind = refl
+length-encode (IntScalar signed width order) z kind = length-bytes_of order (width_size width) (low_bits (width_size width) z)
+length-encode (BytesScalar n) z never = absurd never
+
+value_read : (scalar : Scalar) (z : ℤ) → IsNumber scalar → is_value scalar z ≡ true → decode_item (ScalarDescr scalar) (encode scalar (number z)) ≡ number z ∷ []
+value_read scalar z kind held =
+    let same = value_is scalar z held in
+    scalar_read scalar (encode scalar (number z)) (number z) (length-encode scalar z kind)
+    (ap (λ value. decode scalar (encode scalar value)) (sym same) ∙ decode_encode scalar z kind ∙ same)
+
+-- items that are joined, read one by one
+read_joined : {B : Type 0} (f : List ℕ → B) (g : ℕ → B) (item : ℕ → List ℕ) (bytes n : ℕ) → ((k : ℕ) → k < n → length (item k) ≡ bytes) → ((k : ℕ) → k < n → f (item k) ≡ g k) → map f (blocks bytes n (joined item n)) ≡ map g (range_with_len 0 n)
+read_joined f g item bytes zero each same = refl
+read_joined f g item bytes (suc n) each same =
+    let before = joined item n in
+    let long : length before ≡ n * bytes = length-joined item bytes n (λ k low. each k (omega arith)) in
+    let next : suc n ≡ n + 1 = omega arith in
+    let cut : before ++ item n ≡ take (n * bytes) before ++ (item n ++ []) = (λ i. sym (take_all (n * bytes) before (omega arith)) i ++ sym (append-nil (item n)) i) in
+    ap (λ m. map f (blocks bytes m (before ++ item n))) next
+    ∙ ap (λ all. map f (blocks bytes (n + 1) all)) cut
+    ∙ map-blocks-put f bytes n (n * bytes) before (item n) [] (map g (range_with_len 0 n)) (g n) refl (omega arith) (each n (omega arith)) (read_joined f g item bytes n (λ k low. each k (omega arith)) (λ k low. same k (omega arith))) (same n (omega arith))
+    ∙ sym (map-range_with_len_more g 0 n n (omega arith))
+    ∙ ap (λ m. map g (range_with_len 0 m)) (sym next)
+
+-- each number of a range of values is one
+pub value_at : (scalar : Scalar) (start step : ℤ) (count k : ℕ) → list_all (is_value scalar) (numbers_from start step count) ≡ true → k < count → is_value scalar (start +ℤ step *ℤ pos k) ≡ true
+value_at scalar start step count k held low =
+    let z = start +ℤ step *ℤ pos k in let long = length-numbers_from start step count in
+    ap (is_value scalar) (sym (get_or-map-range_with_len (λ j. start +ℤ step *ℤ pos j) 0 count k k z low (omega arith)))
+    ∙ AllPass-from_list_all (is_value scalar) (numbers_from start step count) held k z (omega arith)
+
+pub numbers_read : (scalar : Scalar) (start step : ℤ) (count : ℕ) → IsNumber scalar → list_all (is_value scalar) (numbers_from start step count) ≡ true → items_in (ScalarDescr scalar) count (joined (numbered scalar start step) count) ≡ map (λ value. number value ∷ []) (numbers_from start step count)
+numbers_read scalar start step count kind held =
+    read_joined (decode_item (ScalarDescr scalar)) (λ k. number (start +ℤ step *ℤ pos k) ∷ []) (numbered scalar start step) (size scalar) count
+    (λ k low. length-encode scalar (start +ℤ step *ℤ pos k) kind)
+    (λ k low. value_read scalar (start +ℤ step *ℤ pos k) kind (value_at scalar start step count k held low))
+    ∙ sym (map-map (λ value. number value ∷ []) (λ k. start +ℤ step *ℤ pos k) (range_with_len 0 count))
+
+pub length-numbered : (scalar : Scalar) (start step : ℤ) (count : ℕ) → IsNumber scalar → length (joined (numbered scalar start step) count) ≡ count * size scalar
+length-numbered scalar start step count kind = length-joined (numbered scalar start step) (size scalar) count (λ k low. length-encode scalar (start +ℤ step *ℤ pos k) kind)

@@ -1,0 +1,42 @@
+use Rattle.std.proofs.Common.{◌≡◌, ◌+◌, ◌*◌, ◌%◌, ◌^◌, ◌≤◌, ◌++◌, suc, pos, ◌+ℤ◌, ◌*ℤ◌, sym, ap, ◌∙◌, append_assoc, append-nil, arith}
+use Rattle.std.proofs.Math.Nat.{suc-mul, add-mul, zero-mul, mul-le-mul_right}
+use Rattle.elem_descr.specs.Values.{number}
+use Rattle.elem_descr.specs.Encoding.{encode, low_bits}
+use Rattle.elem_descr.specs.StepLaws.{none_more}
+use Rattle.raw_block.specs.Bytes.{joined}
+use Rattle.literal_items.specs.inside.Numbered.{numbered}
+use Rattle.literal_items.proofs.Counted.{next_bits, bits_of_value, value_at}
+use Rattle.literal_items.proofs.Scalars.{wrap_is}
+use Rattle.literal_items.proofs.range.push_numbers.Goals as goal
+
+pub loop-done-init : goal.loop-done-init
+loop-done-init g c =
+    let none : 0 * g.N.Number.WIDTH ≡ 0 = zero-mul g.N.Number.WIDTH in
+    record {
+      bits = c.low_bits-bits.ensures ∙ ap (low_bits 8) (sym (none_more c.args.start.now c.args.step.now));
+      bytes = sym (append-nil c.args.block.0);
+      left = omega (arith, none);
+    }
+
+pub push-requires : goal.push-requires
+push-requires g c =
+    let width = g.N.Number.WIDTH in
+    let most : suc c.loop-done._done * width ≤ c.args.count * width = mul-le-mul_right width c.loop-done-test.true in
+    omega (arith, most, suc-mul c.loop-done._done width, c.requires.room, c.loop-done.invariant.left)
+
+pub loop-done-preserved : goal.loop-done-preserved
+loop-done-preserved g c =
+    let k = c.loop-done._done in
+    let scalar = g.N.Number.scalar g.O.Ordered.order in
+    let start = c.args.start.now in let step = c.args.step.now in
+    let made = numbered scalar start step in
+    let z = start +ℤ step *ℤ pos k in
+    let held = value_at scalar start step c.args.count k c.requires.values c.loop-done-test.true in
+    let are = bits_of_value scalar z c.loop-done.bits (g.met.N.Number.is_number g.O.Ordered.order) held c.loop-done.invariant.bits in
+    let is : g.N.Number.value c.of_bits.result ≡ z = c.of_bits.ensures g.O.Ordered.order z are ∙ wrap_is scalar z held in
+    let next : suc k ≡ k + 1 = omega arith in
+    record {
+      bits = ap (λ s. (c.loop-done.bits + s) % 2 ^ 64) c.low_bits-step.ensures ∙ next_bits start step k c.loop-done.bits c.loop-done.invariant.bits;
+      bytes = c.push.ensures.bytes ∙ (λ i. c.loop-done.invariant.bytes i ++ encode scalar (number (is i))) ∙ append_assoc c.args.block.0 (joined made k) (made k) ∙ ap (λ m. c.args.block.0 ++ joined made m) next;
+      left = let parts = add-mul k 1 g.N.Number.WIDTH in omega (arith, parts, c.push.ensures.left, c.loop-done.invariant.left);
+    }

@@ -1,0 +1,13 @@
+use Rattle.std.proofs.Common.{◌≡◌, ◌+◌, ◌*◌, ◌++◌, pos, ◌+ℤ◌, ◌*ℤ◌}
+use Rattle.elem_descr.specs.Encoding.{low_bits}
+use Rattle.raw_block.specs.Bytes.{joined}
+use Rattle.literal_items.specs.inside.Numbered.{numbered}
+use Rattle.literal_items.proofs.range.push_numbers.Given as goal
+
+-- the numbers so far are pushed, and the lowest bits of the next one are at hand
+abbrev pub invariant-loop-done : goal.invariant-loop-done
+invariant-loop-done g l = record {
+  bits : l.bits ≡ low_bits 8 (l.fn.start +ℤ l.fn.step *ℤ pos l._done);
+  bytes : l.block.0 ≡ l.fn.block.0 ++ joined (numbered (g.N.Number.scalar g.O.Ordered.order) l.fn.start l.fn.step) l._done;
+  left : l._done * g.N.Number.WIDTH + l.block.1 ≡ l.fn.block.1;
+}

@@ -1,0 +1,41 @@
+use Rattle.std.proofs.Common.{◌≡◌, ◌*◌, ◌++◌, ℤ, true, List, [], ◌∷◌, ℕ, length, map, sym, ap, ◌∙◌, inr, arith}
+use Rattle.std.specs.List.{list_all}
+use Rattle.std.proofs.lemmas.Result.{err_from_is_err_and}
+use Rattle.elem_descr.specs.declared.descr.Descr.TheVariants.{Scalar as ScalarDescr}
+use Rattle.elem_descr.specs.Values.{number}
+use Rattle.elem_descr.specs.Encoding.{size}
+use Rattle.elem_descr.specs.Blocks.{items_in}
+use Rattle.elem_descr.specs.Steps.{numbers_from}
+use Rattle.raw_block.specs.Bytes.{joined}
+use Rattle.literal_items.specs.Numbers.{is_value}
+use Rattle.literal_items.specs.RangeItems.{range_numbers, range_count}
+use Rattle.literal_items.specs.inside.Numbered.{numbered}
+use Rattle.literal_items.proofs.Counted.{numbers_read, length-numbered}
+use Rattle.literal_items.proofs.Stepping.{range_items-refused, range_items-beyond, range_items-ok}
+use Rattle.literal_items.proofs.range.range_block.Goals as goal
+
+pub returns-in_err-count-clause-items : goal.returns-in_err-count-clause-items
+returns-in_err-count-clause-items c =
+    let p = err_from_is_err_and c.from_residual.result c.from_residual.ensures.1 in
+    rw (p.1, p.2) (inr (range_items-refused _ _ _ _ _ (sym c.in_err-count.ensures.value)))
+
+pub returns-then-not-are_values-clause-items : goal.returns-then-not-are_values-clause-items
+returns-then-not-are_values-clause-items c =
+    inr (range_items-beyond c.args.scalar.now c.args.start.now c.args.stop.now c.args.step.now c.in_ok-count.count (sym c.in_ok-count.ensures.value)
+    (ap (list_all (is_value c.args.scalar.now)) c.in_ok-count.ensures.numbers ∙ sym c.are_values.ensures ∙ c.if-not-are_values.true))
+
+pub returns-clause-whole : goal.returns-clause-whole
+returns-clause-whole c =
+    let made = numbered c.args.scalar.now c.args.start.now c.args.step.now in
+    let bytes : c.finish.result ≡ joined made c.in_ok-count.count = c.finish.ensures ∙ c.on_number.ensures.0 ∙ ap (λ b. b.0 ++ joined made c.in_ok-count.count) c.in_ok-block.ensures in
+    ap length bytes ∙ length-numbered c.args.scalar.now c.args.start.now c.args.step.now c.in_ok-count.count c.requires.number ∙ ap (λ n. n * size c.args.scalar.now) c.in_ok-count.ensures.count
+
+pub returns-clause-items : goal.returns-clause-items
+returns-clause-items c =
+    let scalar = c.args.scalar.now in let start = c.args.start.now in let step = c.args.step.now in let n = c.in_ok-count.count in
+    let made = numbered scalar start step in
+    let held : list_all (is_value scalar) (numbers_from start step n) ≡ true = sym c.are_values.ensures ∙ c.if-not-are_values.false in
+    let bytes : c.finish.result ≡ joined made n = c.finish.ensures ∙ c.on_number.ensures.0 ∙ ap (λ b. b.0 ++ joined made n) c.in_ok-block.ensures in
+    range_items-ok scalar start c.args.stop.now step n _ (sym c.in_ok-count.ensures.value) (ap (list_all (is_value scalar)) c.in_ok-count.ensures.numbers ∙ held)
+    (ap (map (λ value. number value ∷ [])) c.in_ok-count.ensures.numbers ∙ sym (numbers_read scalar start step n c.requires.number held)
+    ∙ (λ i. items_in (ScalarDescr scalar) (c.in_ok-count.ensures.count i) (sym bytes i)))
