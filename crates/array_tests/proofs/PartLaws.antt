@@ -9,7 +9,7 @@ use Rattle.elem_descr.specs.declared.scalar.Scalar.TheVariants.{Byte}
 use Rattle.elem_descr.specs.Items.{item_size, leaves_of, AreAlike}
 use Rattle.shape_strides.specs.declared.layout.Layout.{Layout}
 use Rattle.shape_strides.specs.Indexes.{indexes, rank}
-use Rattle.shape_strides.specs.Layouts.{offsets}
+use Rattle.shape_strides.specs.Layouts.{offsets, offsets_of}
 use Rattle.shape_strides.specs.IndexLaws.{length-indexes, rank-lt, get_or-indexes, index_at}
 use Rattle.shape_strides.specs.LayoutLaws.{length-offsets}
 use Rattle.shape_strides.specs.Limits.{max_bytes}
@@ -21,7 +21,6 @@ use Rattle.name_store.specs.States.{State, Array}
 use Rattle.name_store.specs.Arrays.{find_array, buffer_of, addresses}
 use Rattle.name_store.specs.ArrayLaws.{offset-at}
 use Rattle.name_store.specs.Parts.{start_at}
-use Rattle.name_store.specs.Places.{offsets_of}
 use Rattle.name_store.specs.Shown.{Shows}
 use Rattle.name_store.specs.Targets.{FitsBuffer, LeadsTo}
 use Rattle.name_store.specs.declared.array_ref.ArrayRef.{ArrayRef}

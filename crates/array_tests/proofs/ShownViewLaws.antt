@@ -9,11 +9,10 @@ use Rattle.elem_descr.specs.declared.refusal.Refusal.{Refusal}
 use Rattle.shape_strides.specs.declared.layout.Layout.{Layout}
 use Rattle.shape_strides.specs.Indexes.{indexes}
 use Rattle.shape_strides.specs.Addresses.{address_at, dot, natural, LieWithin}
-use Rattle.shape_strides.specs.Layouts.{address, offsets, Fits, IsNested}
+use Rattle.shape_strides.specs.Layouts.{address, offsets, Fits, IsNested, offsets_of}
 use Rattle.name_store.specs.States.{State, Array}
 use Rattle.name_store.specs.Arrays.{find_array, buffer_of, descr_of}
 use Rattle.name_store.specs.Parts.{start_at}
-use Rattle.name_store.specs.Places.{offsets_of}
 use Rattle.name_store.specs.Shown.{Shows}
 use Rattle.name_store.specs.Targets.{IsAim, MayWrite}
 use Rattle.name_store.specs.Views.{IsLaidOut, IsViewIn, MayBind}

@@ -2,6 +2,7 @@
 use Rattle.std.proofs.Common.{◌≡◌, ◌&&◌, ℕ, Bool, true, false, Some, None, is_some, unwrap_or, List, [], ◌∷◌, ◌++◌, map, IfOk, Result, Ok, Err, refl, sym, ap, ◌∙◌, inl, inr}
 use Rattle.std.specs.List.{list_all}
 use Rattle.std.proofs.lemmas.List.Folds.{list_all-append}
+use Rattle.std.proofs.lemmas.Simd.{map-map}
 use Rattle.elem_descr.specs.declared.refusal.Refusal.{Refusal}
 use Rattle.elem_descr.specs.declared.refusal.Refusal.TheVariants.{UnknownName}
 use Rattle.elem_descr.specs.declared.descr.Descr.{Descr}
@@ -88,15 +89,11 @@ transformed-done : (s : State) (op : UnOp) (operand : Operand) (part : Array) (d
 unfolding transformed
 transformed-done s op operand part d shape good there = rw (good, there) refl
 
-map-map' : {A B D : Type 0} (f : B → D) (g : A → B) (xs : List A) → map f (map g xs) ≡ map (λ x. f (g x)) xs
-map-map' f g [] = refl
-map-map' f g (x ∷ xs) = λ i. f (g x) ∷ map-map' f g xs i
-
 pub transformed-gives : (s : State) (op : UnOp) (operand : Operand) (part : Array) (x : Items) (result : Result Owned Refusal) → operand_part s operand ≡ Ok part → StandsFor s part x → Gives (λ o. (o.descr, o.layout.shape)) result (unary_result op x.descr.now x.layout.now.shape) →
     IfOk result IsInCOrder → IfOk result (λ o. map (item_from o.descr o.block) (offsets o.layout) ≡ map (λ offset. unary_item op o.descr (item_from x.descr.now x.block.now offset)) (offsets x.layout.now)) → Gives held result (transformed s op operand)
 transformed-gives s op operand part x (Ok o) good stands gives order items =
     transformed-done s op operand part o.descr o.layout.shape good ((λ i. unary_result op (stands.descr i) (stands.shape i)) ∙ gives)
     ∙ ap Ok (made-held C o.descr o.layout.shape (map (unary_item op o.descr) (read s part)) o refl refl order
-    (items ∙ sym (map-map' (unary_item op o.descr) (item_from x.descr.now x.block.now) (offsets x.layout.now)) ∙ ap (map (unary_item op o.descr)) (sym stands.items)))
+    (items ∙ sym (map-map (unary_item op o.descr) (item_from x.descr.now x.block.now) (offsets x.layout.now)) ∙ ap (map (unary_item op o.descr)) (sym stands.items)))
 transformed-gives s op operand part x (Err e) good stands (inl lacks) order items = inl lacks
 transformed-gives s op operand part x (Err e) good stands (inr bad) order items = inr (transformed-other s op operand part e good ((λ i. unary_result op (stands.descr i) (stands.shape i)) ∙ bad))

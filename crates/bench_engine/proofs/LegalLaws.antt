@@ -1,22 +1,15 @@
 -- Shapes within the limits, and items stretched to their own shape.
-use Rattle.std.proofs.Common.{◌≡◌, ◌≤◌, ℕ, zero, suc, nat_le, ◌&&◌, true, List, [], ◌∷◌, length, get_or, All, Result, Ok, Err, refl, sym, ap, ◌∙◌, arith}
+use Rattle.std.proofs.Common.{◌≡◌, ◌≤◌, ℕ, zero, suc, nat_le, ◌&&◌, true, List, [], ◌∷◌, length, All, Result, Ok, Err, refl, sym, ap, ◌∙◌, arith}
 use Rattle.std.specs.List.{list_all}
 use Rattle.std.specs.Result.{is_ok}
 use Rattle.std.proofs.lemmas.Bool.{false≢true, le-leb}
 use Rattle.elem_descr.specs.declared.refusal.Refusal.{Refusal}
 use Rattle.elem_descr.specs.Refusals.{◌>>=◌}
-use Rattle.shape_strides.specs.declared.layout.Layout.{Layout}
 use Rattle.shape_strides.specs.Limits.{max_axes, max_items}
-use Rattle.shape_strides.specs.Addresses.{natural}
-use Rattle.shape_strides.specs.Indexes.{count, rank}
-use Rattle.shape_strides.specs.IndexLaws.{same_on_indexes}
-use Rattle.shape_strides.specs.Layouts.{address, offsets}
-use Rattle.shape_strides.specs.LayoutLaws.{get_or-offsets}
+use Rattle.shape_strides.specs.Indexes.{count}
 use Rattle.shape_strides.specs.Shapes.{shape_of}
 use Rattle.shape_strides.specs.ShapeLaws.{shape_of-ok}
-use Rattle.view_ops.specs.Views.{view_through}
-use Rattle.broadcasting.specs.Broadcasts.{can_stretch, common_shape, broadcast_index}
-use Rattle.broadcasting.specs.BroadcastLaws.{broadcast_index-itself}
+use Rattle.broadcasting.specs.Broadcasts.{can_stretch, common_shape}
 use Rattle.bench_engine.proofs.StretchLaws.{common-lengths}
 
 all-low : (limit : ℕ) (shape : List ℕ) → All (λ n. n ≤ limit) shape → list_all (λ n. nat_le n limit) shape ≡ true
@@ -42,9 +35,3 @@ no-refusal e bad = false≢true (sym (ap is_ok bad) ∙ ap is_ok (legal-shape []
 pub legal-common : (target shape : List ℕ) → IsLegal target → can_stretch shape target ≡ true → common_shape (target ∷ shape ∷ []) ≡ Ok target
 unfolding common_shape
 legal-common target shape is can = ap (λ (r : Result (List ℕ) Refusal). r >>= shape_of) (common-lengths target shape can) ∙ legal-shape target is
-
-pub stretched-self : (l : Layout) → view_through (offsets l) l.shape l.shape (broadcast_index l.shape) ≡ offsets l
-unfolding offsets
-stretched-self l =
-    same_on_indexes l.shape (λ index. get_or (offsets l) (rank l.shape (broadcast_index l.shape index)) 0) (λ index. natural (address l index))
-    (λ index in'. ap (λ j. get_or (offsets l) (rank l.shape j) 0) (broadcast_index-itself l.shape index in') ∙ get_or-offsets l index 0 in')

@@ -20,7 +20,7 @@ use Rattle.shape_strides.specs.Indexes.{count}
 use Rattle.shape_strides.specs.Layouts.{offsets}
 use Rattle.shape_strides.specs.LayoutLaws.{length-offsets}
 use Rattle.broadcasting.specs.Broadcasts.{can_stretch, common_shape}
-use Rattle.broadcasting.specs.BroadcastLaws.{can-itself}
+use Rattle.broadcasting.specs.BroadcastLaws.{can-itself, stretched-self}
 use Rattle.machine_numbers.specs.Kinds.{is_text}
 use Rattle.elementwise.specs.Promotion.{compared_type, promote}
 use Rattle.elementwise.specs.Results.{scalar_of, integer_compared_result, bytes_compared_result, compared_item, pairwise}
@@ -41,7 +41,7 @@ use Rattle.bench_engine.specs.Machine.{OperandValues, one_item, literal_value, l
 use Rattle.bench_engine.specs.inside.Operands.{Stands, OwnStands, GivesStanding}
 use Rattle.bench_engine.specs.inside.OwnContents.{held, IsInCOrder}
 use Rattle.bench_engine.proofs.Copies.{made-held}
-use Rattle.bench_engine.proofs.LegalLaws.{IsLegal, legal-common, stretched-self}
+use Rattle.bench_engine.proofs.LegalLaws.{IsLegal, legal-common}
 use Rattle.bench_engine.proofs.OperandLaws.{one-stands}
 use Rattle.bench_engine.proofs.StretchLaws.{none-fits}
 use Rattle.bench_engine.proofs.WorkLaws.{worked-done}

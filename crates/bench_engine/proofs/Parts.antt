@@ -8,12 +8,11 @@ use Rattle.elem_descr.specs.declared.descr.Descr.{Descr}
 use Rattle.elem_descr.specs.Items.{item_size, fields, field_at, field_of}
 use Rattle.shape_strides.specs.declared.layout.Layout.{Layout}
 use Rattle.shape_strides.specs.Limits.{max_bytes}
-use Rattle.shape_strides.specs.Layouts.{address, offsets, Fits, IsNested}
+use Rattle.shape_strides.specs.Layouts.{address, offsets, Fits, IsNested, offsets_of}
 use Rattle.view_ops.specs.FieldViews.{IsFieldOf, GivesField}
 use Rattle.name_store.specs.States.{State, Array}
 use Rattle.name_store.specs.Arrays.{buffer_of, descr_of}
 use Rattle.name_store.specs.Parts.{descr_at, start_at}
-use Rattle.name_store.specs.Places.{offsets_of}
 use Rattle.name_store.specs.Shown.{Shows}
 use Rattle.name_store.specs.Views.{IsViewIn}
 use Rattle.name_store.specs.Laws.{path-then, descr-then, start-then}

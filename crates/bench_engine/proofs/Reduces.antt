@@ -1,22 +1,23 @@
 -- What a reduction makes of an array.
-use Rattle.std.proofs.Common.{◌≡◌, ◌<◌, ◌≤◌, ◌+◌, ◌&&◌, ℕ, ℤ, pos, zero, suc, Bool, true, false, not, Option, Some, None, List, [], ◌∷◌, length, map, get_or, slice_index, IfOk, Result, Ok, Err, refl, sym, ap, ◌∙◌, inl, inr, arith}
+use Rattle.std.proofs.Common.{◌≡◌, ◌<◌, ◌≤◌, ◌+◌, ℕ, ℤ, zero, suc, Bool, true, Option, Some, None, List, [], ◌∷◌, length, map, get_or, slice_index, IfOk, Result, Ok, Err, refl, sym, ap, ◌∙◌, inl, inr, arith}
 use Rattle.std.specs.List.{insert, remove, range_with_len}
 use Rattle.std.specs.Result.{is_ok}
-use Rattle.std.specs.Prelude.{int_lt, negsuc}
-use Rattle.std.proofs.lemmas.Bool.{false≢true, ltb-true, and_parts}
+use Rattle.std.proofs.lemmas.Bool.{false≢true}
 use Rattle.std.proofs.lemmas.List.{length-map, get_or-map}
+use Rattle.std.proofs.lemmas.Simd.{map-map}
 use Rattle.elem_descr.specs.declared.refusal.Refusal.{Refusal}
 use Rattle.elem_descr.specs.declared.refusal.Refusal.TheVariants.{BadAxis}
 use Rattle.elem_descr.specs.declared.descr.Descr.{Descr}
-use Rattle.elem_descr.specs.Refusals.{Gives, ◌>>=◌, check}
+use Rattle.elem_descr.specs.Refusals.{Gives, ◌>>=◌}
 use Rattle.elem_descr.specs.Blocks.{item_from}
 use Rattle.elem_descr.specs.Values.{LeafValue}
+use Rattle.elem_descr.specs.RefusalLaws.{check_test}
 use Rattle.shape_strides.specs.declared.memory_order.MemoryOrder.TheVariants.{C}
-use Rattle.shape_strides.specs.Addresses.{natural}
 use Rattle.shape_strides.specs.Indexes.{count, indexes, rank, IsIndex}
-use Rattle.shape_strides.specs.IndexLaws.{rank-lt}
+use Rattle.shape_strides.specs.IndexLaws.{rank-lt, same_on_indexes}
 use Rattle.shape_strides.specs.LayoutLaws.{length-offsets}
 use Rattle.shape_strides.specs.Layouts.{offsets}
+use Rattle.shape_strides.specs.AxisLaws.{axis_below}
 use Rattle.view_ops.specs.Slices.{from_front}
 use Rattle.overlap_copy.specs.declared.owned.Owned.{Owned}
 use Rattle.machine_numbers.specs.declared.operators.Red.{Red}
@@ -35,7 +36,6 @@ use Rattle.bench_engine.specs.Contents.{new_contents}
 use Rattle.bench_engine.specs.Machine.{reduced_contents}
 use Rattle.bench_engine.specs.inside.OwnContents.{held, IsInCOrder}
 use Rattle.bench_engine.proofs.Copies.{made-held}
-use Rattle.bench_engine.proofs.StretchLaws.{same-on}
 
 -- ---- lists of places and lists of offsets
 
@@ -43,17 +43,13 @@ same-range : {A : Type 0} (f g : ℕ → A) (a n : ℕ) → ((k : ℕ) → a ≤
 same-range f g a zero same = refl
 same-range f g a (suc n) same = λ i. same a (omega arith) (omega arith) i ∷ same-range f g (a + 1) n (λ k low high. same k (omega (arith, low)) (omega (arith, high))) i
 
-map-twice : {A B D : Type 0} (f : B → D) (g : A → B) (xs : List A) → map f (map g xs) ≡ map (λ x. f (g x)) xs
-map-twice f g [] = refl
-map-twice f g (x ∷ xs) = λ i. f (g x) ∷ map-twice f g xs i
-
 -- lists of which each item gives the same give the same along an axis
 lists-same : {A : Type 0} (f g : ℕ → A) (shape : List ℕ) (axis : Option ℕ) (xs ys : List ℕ) → IsAxisOf (length shape) axis → length xs ≡ count shape → map f xs ≡ map g ys → map (map f) (lists shape axis xs) ≡ map (map g) (lists shape axis ys)
 lists-same f g shape None xs ys is whole same = λ i. same i ∷ []
 lists-same f g shape (Some a) xs ys is whole same =
-    map-twice (map f) (row xs) (indexes (remove shape a))
-    ∙ same-on (remove shape a) (λ index. map f (row xs index)) (λ index. map g (row ys index)) each
-    ∙ sym (map-twice (map g) (row ys) (indexes (remove shape a)))
+    map-map (map f) (row xs) (indexes (remove shape a))
+    ∙ same_on_indexes (remove shape a) (λ index. map f (row xs index)) (λ index. map g (row ys index)) each
+    ∙ sym (map-map (map g) (row ys) (indexes (remove shape a)))
   where
     n : ℕ
     n = slice_index shape a
@@ -68,10 +64,10 @@ lists-same f g shape (Some a) xs ys is whole same =
 
     each : (index : List ℕ) → IsIndex (remove shape a) index → map f (row xs index) ≡ map g (row ys index)
     each index in' =
-        map-twice f (λ k. slice_index xs (rank shape (insert index a k))) (range_with_len 0 n)
+        map-map f (λ k. slice_index xs (rank shape (insert index a k))) (range_with_len 0 n)
         ∙ same-range (λ k. f (slice_index xs (rank shape (insert index a k)))) (λ k. g (slice_index ys (rank shape (insert index a k)))) 0 n
         (λ k low high. item (rank shape (insert index a k)) (omega (arith, whole, rank-lt shape (insert index a k) (IsIndex-insert shape index a k is in' (omega (arith, high))))))
-        ∙ sym (map-twice g (λ k. slice_index ys (rank shape (insert index a k))) (range_with_len 0 n))
+        ∙ sym (map-map g (λ k. slice_index ys (rank shape (insert index a k))) (range_with_len 0 n))
 
 -- ---- the axis is one of the array's
 
@@ -79,23 +75,15 @@ then-ok : {X Y : Type 0} (r : Result X Refusal) (f : X → Result Y Refusal) (y 
 then-ok (Ok x) f y is = (x, is)
 then-ok (Err e) f y is = absurd (false≢true (ap is_ok is))
 
-check-true : {X : Type 0} (b : Bool) (e : Refusal) (rest : Result X Refusal) (y : X) → check b e >>= (λ _. rest) ≡ Ok y → b ≡ true
-check-true true e rest y is = refl
-check-true false e rest y is = absurd (false≢true (ap is_ok is))
-
 axis-passed : (reduction : Red) (descr : Descr) (shape : List ℕ) (named : Option ℤ) (keep : Bool) (there : reductions.ReducedType) → reductions.reduced_type reduction descr shape named keep ≡ Ok there → is_axis (length shape) named ≡ true
 unfolding reductions.reduced_type
 axis-passed reduction descr shape named keep there is =
     let rest = then-ok (number_scalar descr) _ there is in
-    check-true (is_axis (length shape) named) BadAxis _ there rest.1
-
-place-low : (n : ℕ) (z : ℤ) → (not (int_lt z (pos 0)) && int_lt z (pos n)) ≡ true → natural z < n
-place-low n (pos k) is = ltb-true k n (and_parts (not (int_lt (pos k) (pos 0))) (int_lt (pos k) (pos n)) is).1
-place-low n (negsuc k) is = absurd (false≢true is)
+    check_test (is_axis (length shape) named) BadAxis _ there rest.1
 
 is-axis : (rank : ℕ) (named : Option ℤ) → is_axis rank named ≡ true → IsAxisOf rank (named_axis rank named)
 is-axis rank None is = tt
-is-axis rank (Some axis) is = place-low rank (from_front rank axis) is
+is-axis rank (Some axis) is = axis_below rank (from_front rank axis) is
 
 -- ---- what is reduced
 
@@ -135,6 +123,6 @@ reduced-gives s reduction source a r axis keep (Ok o) found shows gives order it
     same : map (λ places. reduced_item reduction o.descr (read s (record a { places = places }))) (lists a.shape (named_axis (length a.shape) axis) a.places) ≡ reduced_items reduction o.descr r.descr.now r.block.now (lists shape at (offsets r.layout.now))
     same =
         (λ i. map (λ places. reduced_item reduction o.descr (map value places)) (lists (sym shows.view.laid.shape i) (named_axis (length (sym shows.view.laid.shape i)) axis) a.places))
-        ∙ sym (map-twice (reduced_item reduction o.descr) (map value) (lists shape at a.places))
+        ∙ sym (map-map (reduced_item reduction o.descr) (map value) (lists shape at a.places))
         ∙ ap (map (reduced_item reduction o.descr)) each
-        ∙ map-twice (reduced_item reduction o.descr) (map (item_from r.descr.now r.block.now)) (lists shape at (offsets r.layout.now))
+        ∙ map-map (reduced_item reduction o.descr) (map (item_from r.descr.now r.block.now)) (lists shape at (offsets r.layout.now))

@@ -3,12 +3,12 @@ use Rattle.std.proofs.Common.{◌≡◌, ◌<◌, ℕ, zero, suc, ◌-◌, ◌&&
 use Rattle.std.specs.Result.{is_ok}
 use Rattle.std.proofs.lemmas.Bool.{false≢true, and_parts}
 use Rattle.std.proofs.lemmas.Bool.Decides.{nat_tests}
-use Rattle.std.proofs.lemmas.List.{length-map, get_or-map, same_lists}
+use Rattle.std.proofs.lemmas.List.{length-map, get_or-map}
 use Rattle.std.proofs.lemmas.Simd.{map-map}
 use Rattle.elem_descr.specs.declared.refusal.Refusal.{Refusal}
 use Rattle.elem_descr.specs.Refusals.{◌>>=◌}
 use Rattle.shape_strides.specs.Indexes.{count, indexes, rank, IsIndex}
-use Rattle.shape_strides.specs.IndexLaws.{length-indexes, index_at, get_or-indexes, rank-lt}
+use Rattle.shape_strides.specs.IndexLaws.{length-indexes, rank-lt, same_on_indexes}
 use Rattle.shape_strides.specs.Shapes.{shape_of}
 use Rattle.shape_strides.specs.ShapeLaws.{shape_of-same}
 use Rattle.view_ops.specs.Views.{view_through}
@@ -18,22 +18,12 @@ use Rattle.broadcasting.specs.FitLaws.{common-some, few-axes}
 
 -- ---- items, stretched
 
--- functions that agree on the indexes
-pub same-on : {A : Type 0} (shape : List ℕ) (f g : List ℕ → A) → ((index : List ℕ) → IsIndex shape index → f index ≡ g index) → map f (indexes shape) ≡ map g (indexes shape)
-same-on shape f g agree =
-    same_lists (map f (indexes shape)) (map g (indexes shape)) (length-map (indexes shape) f ∙ sym (length-map (indexes shape) g)) (λ k d below.
-    let low : k < count shape = omega (arith, length-map (indexes shape) f, length-indexes shape) in
-    let inside : k < length (indexes shape) = omega (arith, length-indexes shape) in
-    let found = index_at shape k low in
-    let here : get_or (indexes shape) k [] ≡ found.0 = ap (λ r. get_or (indexes shape) r []) (sym found.2) ∙ get_or-indexes shape found.0 [] found.1 in
-    get_or-map f (indexes shape) k [] d inside ∙ ap f here ∙ agree found.0 found.1 ∙ ap g (sym here) ∙ sym (get_or-map g (indexes shape) k [] d inside))
-
 -- lists that give the same items give the same ones where they are stretched
 pub stretched-same : {A : Type 0} (f g : ℕ → A) (xs ys shape target : List ℕ) → map f xs ≡ map g ys → length xs ≡ count shape → can_stretch shape target ≡ true →
     map f (view_through xs shape target (broadcast_index shape)) ≡ map g (view_through ys shape target (broadcast_index shape))
 stretched-same f g xs ys shape target same whole can =
     map-map f (λ index. slice_index xs (rank shape (broadcast_index shape index))) (indexes target)
-    ∙ same-on target (λ index. f (slice_index xs (rank shape (broadcast_index shape index)))) (λ index. g (slice_index ys (rank shape (broadcast_index shape index)))) each
+    ∙ same_on_indexes target (λ index. f (slice_index xs (rank shape (broadcast_index shape index)))) (λ index. g (slice_index ys (rank shape (broadcast_index shape index)))) each
     ∙ sym (map-map g (λ index. slice_index ys (rank shape (broadcast_index shape index))) (indexes target))
   where
     each : (index : List ℕ) → IsIndex target index → f (slice_index xs (rank shape (broadcast_index shape index))) ≡ g (slice_index ys (rank shape (broadcast_index shape index)))

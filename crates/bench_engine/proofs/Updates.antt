@@ -18,6 +18,7 @@ use Rattle.shape_strides.specs.Limits.{max_bytes}
 use Rattle.shape_strides.specs.Layouts.{offsets}
 use Rattle.view_ops.specs.Views.{View}
 use Rattle.broadcasting.specs.Broadcasts.{broadcast_index, can_stretch, common_shape, stretched}
+use Rattle.broadcasting.specs.BroadcastLaws.{stretched-ok}
 use Rattle.elementwise.specs.Casts.{can_cast, cast_item}
 use Rattle.elementwise.specs.Promotion.{same_kind}
 use Rattle.elementwise.specs.Results.{scalar_of, stretched_items}
@@ -158,10 +159,6 @@ stands-own x = record { descr = refl; shape = refl; items = λ target can. refl 
 
 -- ---- a literal
 
-stretched-is : (shape target : List ℕ) → can_stretch shape target ≡ true → stretched shape target ≡ Ok (record { shape = target; leads = broadcast_index shape })
-unfolding stretched
-stretched-is shape target can = rw can refl
-
 literal-can : (op : Operation) (v w : OperandValues) (l : Literal) → literal_values op v.descr l ≡ Ok w → can_stretch w.shape v.shape ≡ true
 literal-can op v w l is =
     let axes : w.shape ≡ [] = subst (λ (r : Result OperandValues Refusal). IfOk r (λ w. w.shape ≡ [])) is (literal-axes op v.descr l) in
@@ -177,7 +174,7 @@ literal-parts op d v l new same is =
       parts.0,
       ap (λ (d : Descr). literal_values op d l) (sym same) ∙ there.1,
       there.2,
-      stretched-is there.0.shape v.shape can,
+      stretched-ok there.0.shape v.shape can,
       worked-shape op v there.0 new can there.2,
       ap (λ (d : Descr). operation_scalar op d there.0.descr) (sym same) ∙ parts.1,
       parts.2,

@@ -10,14 +10,13 @@ use Rattle.elem_descr.specs.declared.descr.Descr.{Descr}
 use Rattle.elem_descr.specs.Items.{item_size}
 use Rattle.shape_strides.specs.declared.layout.Layout.{Layout}
 use Rattle.shape_strides.specs.Indexes.{indexes, rank}
-use Rattle.shape_strides.specs.Layouts.{offsets}
+use Rattle.shape_strides.specs.Layouts.{offsets, offsets_of}
 use Rattle.view_ops.specs.Views.{View, view_through, IsViewOf, GivesView, KeepsNested}
 use Rattle.name_store.specs.States.{State, Array}
 use Rattle.name_store.specs.Arrays.{find_array, has_room_for, bound_to, bound_view, buffer_of, addresses}
 use Rattle.name_store.specs.Calls.{AnswersBind}
 use Rattle.name_store.specs.Views.{IsViewIn, MayBind}
 use Rattle.name_store.specs.Parts.{start_at}
-use Rattle.name_store.specs.Places.{offsets_of}
 use Rattle.name_store.specs.Shown.{Shows}
 use Rattle.name_store.specs.Targets.{LeadsTo, MayWrite}
 use Rattle.name_store.specs.declared.bound.Bound.{Bound}

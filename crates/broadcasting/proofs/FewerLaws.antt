@@ -3,13 +3,14 @@ use Rattle.std.proofs.Common.{◌≡◌, ◌⊎◌, inl, inr, Ok, Err, ℕ, zero
 use Rattle.std.specs.List.{list_all}
 use Rattle.std.specs.Result.{is_ok}
 use Rattle.std.proofs.lemmas.Bool.{false≢true, eqb-true, and_parts, le-leb}
-use Rattle.std.proofs.lemmas.List.{length-drop, take_all}
+use Rattle.std.proofs.lemmas.List.{length-drop}
 use Rattle.std.proofs.lemmas.List.Elements.{All-drop}
 use Rattle.std.proofs.lemmas.List.Sums.{list_all-from_AllPass}
 use lib.IntN.{+ℤ_idl, *ℤ-zero}
 use Rattle.elem_descr.specs.declared.refusal.Refusal.{Refusal}
 use Rattle.elem_descr.specs.declared.refusal.Refusal.TheVariants.{OutOfMemory}
 use Rattle.elem_descr.specs.RefusalLaws.{same_answer}
+use Rattle.elem_descr.specs.ListLaws.{slice-rest}
 use Rattle.shape_strides.specs.declared.layout.Layout.{Layout}
 use Rattle.shape_strides.specs.Limits.{max_axes, max_items, max_bytes}
 use Rattle.shape_strides.specs.Indexes.{count, IsIndex}
@@ -34,10 +35,6 @@ all_short shape short = list_all-from_AllPass (λ n. nat_le n max_items) shape (
 shape_of-rest : (k : ℕ) (shape : List ℕ) → list_all (λ n. n == 1) (take k shape) ≡ true → length shape ≤ max_axes → All (λ n. n ≤ max_items) shape → count shape ≤ max_items → shape_of (drop k shape) ≡ Ok (drop k shape)
 shape_of-rest k shape single few short small =
     shape_of-ok (drop k shape) (omega (arith, length-drop k shape)) (all_short (drop k shape) (All-drop (λ n. n ≤ max_items) k shape short)) (omega (arith, count-rest k shape single))
-
--- a slice from a place on
-pub slice-rest : {X : Type 0} (k : ℕ) (whole : List X) → take (length whole - k) (drop k whole) ≡ drop k whole
-slice-rest k whole = take_all (length whole - k) (drop k whole) (omega (arith, length-drop k whole))
 
 -- ---- where an index leads
 

@@ -10,7 +10,8 @@ use Rattle.shape_strides.specs.declared.layout.Layout.{Layout}
 use Rattle.view_ops.specs.Views.{View, IsViewOf, GivesView}
 use Rattle.view_ops.specs.ViewLaws.{view-twice}
 use Rattle.broadcasting.specs.Broadcasts.{can_stretch, broadcast_index, stretched, axes_beyond, stretched_into}
-use Rattle.broadcasting.proofs.StretchLaws.{stretched-ok, stretched-err}
+use Rattle.broadcasting.proofs.StretchLaws.{stretched-err}
+use Rattle.broadcasting.specs.BroadcastLaws.{stretched-ok}
 
 -- ---- views of views, and refusals
 

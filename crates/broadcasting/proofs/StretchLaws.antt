@@ -16,7 +16,7 @@ use Rattle.view_ops.specs.inside.Shows.{Shows, IsView}
 use Rattle.view_ops.specs.ViewLaws.{LieWithin-view, inside-view, offsets-view}
 use Rattle.broadcasting.specs.Broadcasts.{can_stretch, within_axes, broadcast_index, stretched}
 use Rattle.broadcasting.specs.inside.Stretches.{kept_strides}
-use Rattle.broadcasting.specs.BroadcastLaws.{broadcast_index-is, IsIndex-broadcast}
+use Rattle.broadcasting.specs.BroadcastLaws.{broadcast_index-is, IsIndex-broadcast, stretched-ok}
 use Rattle.broadcasting.specs.FitLaws.{few-axes}
 
 -- ---- addresses
@@ -113,10 +113,6 @@ made_numbers result new shape target strides offset is same shape-is strides-are
   strides_are = λ some. subst (λ r. IfSome r (λ l. 0 < count shape → l.strides ≡ strides)) is strides-are (omega (arith, ap count same));
   offset_is = λ some. subst (λ r. IfSome r (λ l. 0 < count shape → l.offset ≡ offset)) is offset-is (omega (arith, ap count same));
 }
-
-pub stretched-ok : (shape target : List ℕ) → can_stretch shape target ≡ true → stretched shape target ≡ Ok (record { shape = target; leads = broadcast_index shape })
-unfolding stretched
-stretched-ok shape target can = rw can
 
 pub stretched-err : (shape target : List ℕ) → can_stretch shape target ≡ false → stretched shape target ≡ Err ShapesDoNotBroadcast
 unfolding stretched

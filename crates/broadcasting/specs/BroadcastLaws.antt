@@ -1,5 +1,5 @@
 -- Laws of broadcasting: a shape stretches to itself as it is, and what is stretched into a target has its shape.
-use Rattle.std.proofs.Common.{◌≡◌, Result, Ok, Err, ℕ, zero, suc, ◌-◌, ◌<◌, ◌==◌, ◌&&◌, ◌||◌, true, false, if◌then◌else◌, List, [], ◌∷◌, ◌++◌, length, take, drop, replicate, refl, sym, ap, ◌∙◌, arith}
+use Rattle.std.proofs.Common.{◌≡◌, Result, Ok, Err, ℕ, zero, suc, ◌-◌, ◌<◌, ◌==◌, ◌&&◌, ◌||◌, true, false, if◌then◌else◌, List, [], ◌∷◌, ◌++◌, length, take, drop, replicate, refl, sym, ap, ◌∙◌, arith, get_or}
 use Rattle.std.specs.List.{list_all}
 use Rattle.std.specs.Result.{is_ok}
 use Rattle.std.proofs.lemmas.Bool.{false≢true, eqb-true, and_parts}
@@ -8,9 +8,13 @@ use Rattle.elem_descr.specs.declared.refusal.Refusal.{Refusal}
 use Rattle.elem_descr.specs.declared.refusal.Refusal.TheVariants.{ShapesDoNotBroadcast}
 use Rattle.elem_descr.specs.Refusals.{◌>>=◌}
 use Rattle.elem_descr.specs.RefusalLaws.{same_answer, check_passed}
-use Rattle.shape_strides.specs.Indexes.{IsIndex}
-use Rattle.shape_strides.specs.IndexLaws.{length-index}
-use Rattle.view_ops.specs.Views.{View}
+use Rattle.shape_strides.specs.Indexes.{IsIndex, rank}
+use Rattle.shape_strides.specs.IndexLaws.{length-index, same_on_indexes}
+use Rattle.shape_strides.specs.declared.layout.Layout.{Layout}
+use Rattle.shape_strides.specs.Addresses.{natural}
+use Rattle.shape_strides.specs.Layouts.{address, offsets}
+use Rattle.shape_strides.specs.LayoutLaws.{get_or-offsets}
+use Rattle.view_ops.specs.Views.{View, view_through}
 use Rattle.broadcasting.specs.Broadcasts.{stretches, all_stretch, can_stretch, within_axes, broadcast_index, stretched, axes_beyond, stretched_into}
 
 -- ---- a shape and itself
@@ -103,3 +107,14 @@ unfolding stretched_into
 into-shape shape target view found =
     let more = axes_beyond (length target) shape in
     with-shape target (λ seen index. replicate more 0 ++ seen.leads index) (stretched (drop more shape) target) view (check_passed (list_all (λ n. n == 1) (take more shape)) ShapesDoNotBroadcast _ view found)
+
+-- an array that is stretched to its own shape
+pub stretched-self : (l : Layout) → view_through (offsets l) l.shape l.shape (broadcast_index l.shape) ≡ offsets l
+unfolding offsets
+stretched-self l =
+    same_on_indexes l.shape (λ index. get_or (offsets l) (rank l.shape (broadcast_index l.shape index)) 0) (λ index. natural (address l index))
+    (λ index in'. ap (λ j. get_or (offsets l) (rank l.shape j) 0) (broadcast_index-itself l.shape index in') ∙ get_or-offsets l index 0 in')
+
+pub stretched-ok : (shape target : List ℕ) → can_stretch shape target ≡ true → stretched shape target ≡ Ok (record { shape = target; leads = broadcast_index shape })
+unfolding stretched
+stretched-ok shape target can = rw can

@@ -1,5 +1,5 @@
 -- A list of fields: one more at its end, and one after the other from its begin.
-use Rattle.std.proofs.Common.{◌≡◌, ◌≤◌, ◌<◌, ◌+◌, ℕ, List, [], ◌∷◌, ◌++◌, length, get_or, drop, max, refl, arith}
+use Rattle.std.proofs.Common.{◌≡◌, ◌≤◌, ◌+◌, ℕ, List, [], ◌∷◌, ◌++◌, length, max, refl, arith}
 use Rattle.elem_descr.specs.declared.descr.Field.{Field}
 use Rattle.elem_descr.specs.declared.descr.Descr.{Descr}
 use Rattle.elem_descr.specs.declared.descr.Descr.TheVariants.{Scalar as ScalarDescr, Record as RecordDescr}
@@ -9,7 +9,7 @@ use Rattle.elem_descr.specs.Descriptors.{InOrder, AreNamedWithin, listed, before
 use Rattle.elem_descr.specs.Items.{item_size, leaves_of}
 use Rattle.elem_descr.specs.RecordBuilding.{IsShallow}
 use Rattle.elem_descr.specs.ItemLaws.{leaf_count-before}
-use Rattle.elem_descr.specs.DescriptorLaws.{rest_at, InOrder-before, some_depth}
+use Rattle.elem_descr.specs.DescriptorLaws.{some_depth}
 
 -- fields in order, with a later end
 InOrder-later : (from : ℕ) (fields : Fields) (bytes more : ℕ) → InOrder from fields bytes → bytes ≤ more → InOrder from fields more
@@ -93,7 +93,3 @@ pub leaf_count-push : (fields : List Field) (field : Field) → leaf_count (list
 leaf_count-push [] field = omega (arith, leaf_count-before field.name field.at field.descr no_more)
 leaf_count-push (first ∷ fields) field =
     omega (arith, leaf_count-push fields field, leaf_count-before first.name first.at first.descr (listed fields), leaf_count-before first.name first.at first.descr (listed (fields ++ field ∷ [])))
-
--- the field at an index, and those behind it
-pub first_field : (from bytes : ℕ) (fields : List Field) (field : Field) (i : ℕ) → i < length fields → field ≡ get_or fields i field → InOrder from (listed (drop i fields)) bytes → (from ≤ field.at) × (1 ≤ item_size field.descr) × InOrder (field.at + item_size field.descr) (listed (drop (i + 1) fields)) bytes
-first_field from bytes fields field i l e h = InOrder-before from field.name field.at field.descr (listed (drop (i + 1) fields)) bytes (rw (rest_at fields field i l e) at h)

@@ -1,8 +1,10 @@
 -- The longest front of a list whose elements pass a test.
 use Rattle.std.proofs.Common.{◌≡◌, ◌+◌, ℕ, zero, suc, Bool, true, false, List, [], ◌∷◌, take, cond, refl, IsTrue, arith}
 use Rattle.std.specs.List.{list_all, prefix_len}
+use Rattle.std.proofs.lemmas.Bool.Decides.{nat_tests}
+use Rattle.elem_descr.specs.FormatLetters.{is_empty}
 
-one_more : (n : ℕ) → 1 + n ≡ suc n
+pub one_more : (n : ℕ) → 1 + n ≡ suc n
 one_more n = omega arith
 
 pub front_passes : {X : Type 0} (p : X → Bool) (xs : List X) → IsTrue (list_all p (take (prefix_len p xs) xs))
@@ -12,3 +14,6 @@ front_passes p (x ∷ xs) =
       | true ↦ λ e. rw (one_more (prefix_len p xs), e) (front_passes p xs)
       | false ↦ λ _. refl
     ] refl
+
+pub some_left : (b : ℕ) (rest : List ℕ) → is_empty (b ∷ rest) ≡ false
+some_left b rest = grind (arith, nat_tests)

@@ -3,7 +3,7 @@ use Rattle.std.proofs.Common.{◌≡◌, ◌≤◌, ◌+◌, inl, inr, ℕ, zero
 use Rattle.std.specs.Prelude.{unwrap_or}
 use Rattle.std.specs.Char.{is_ascii_digit}
 use Rattle.std.specs.List.{list_all, prefix_len}
-use Rattle.std.proofs.lemmas.Bool.{cases_eq, cases_Bool}
+use Rattle.std.proofs.lemmas.Bool.{cases_eq, cases_Bool, and_parts}
 use Rattle.std.proofs.lemmas.Bool.Decides.{nat_tests}
 use Rattle.std.proofs.lemmas.List.{take-append-drop}
 use Rattle.elem_descr.specs.declared.refusal.Refusal.{Refusal}
@@ -21,7 +21,7 @@ use Rattle.elem_descr.specs.FormatPieces.{Behind, nothing, between_colons, lone_
 use Rattle.elem_descr.specs.FormatTexts.{PieceKind, member, part_of}
 use Rattle.elem_descr.specs.DescrTexts.{begins_with_digit}
 use Rattle.elem_descr.specs.inside.Turns.{after, is_opened, lettered_before, after_count, member_at}
-use Rattle.elem_descr.proofs.Fronts.{front_passes}
+use Rattle.elem_descr.proofs.Fronts.{front_passes, one_more, some_left}
 use Rattle.elem_descr.proofs.Pieces.{behind, pieces-colon, pieces-byte, pieces-letter, pieces-opening, pieces-digits_letter, pieces-digits_opening, CountsNothing, LastDigit, last_digit}
 
 -- ---- steps that may be refused
@@ -30,14 +30,7 @@ pub bind_bind : {X Y Z : Type 0} (r : Result X Refusal) (f : X → Result Y Refu
 bind_bind (Ok x) f g = refl
 bind_bind (Err e) f g = refl
 
-pub bind_same : {X Y : Type 0} (r : Result X Refusal) (f g : X → Result Y Refusal) → ((x : X) → r ≡ Ok x → f x ≡ g x) → (r >>= f) ≡ (r >>= g)
-bind_same (Ok x) f g same = same x refl
-bind_same (Err e) f g same = refl
-
 -- ---- bytes by their meaning
-
-some_left : (b : ℕ) (rest : List ℕ) → is_empty (b ∷ rest) ≡ false
-some_left b rest = grind (arith, nat_tests)
 
 pub one_of_one : (k b : ℕ) → is_one_of (k ∷ []) b ≡ true → b ≡ k
 one_of_one k b e = grind (arith, nat_tests)
@@ -178,10 +171,6 @@ letter_met mark later digits b rest all plain colon brac digit bare =
     ∙ lettered_met mark later digits b rest
     ∙ ap (λ r. (r >>= λ it. Ok (it, rest)) >>= meant later) (sym before)
 
-pub both : (a b : Bool) → (a && b) ≡ true → (a ≡ true) × (b ≡ true)
-both true b e = (refl, e)
-both false b e = let never : ⊥ = cc in absurd never
-
 -- digits, and what follows them
 digits_met : (mark : Mark) (later : Then) (digits text : List ℕ) → list_all is_ascii_digit digits ≡ true → begins_with_digit text ≡ false → Plain mark (digits ++ text) → front mark later (pieces (digits ++ text)) ≡ (after_count mark digits text >>= meant later)
 digits_met mark later digits [] all stops plain = fits_nowhere mark later digits [] all (λ d. refl) refl
@@ -193,7 +182,7 @@ digits_met mark later digits (b ∷ rest) all stops plain =
             | inl brac ↦ at_byte 123 (one_of_one 123 b brac) (brace_met mark later digits rest all)
             | inr nor ↦
                 elim (cases_Bool (is_one_of (84 ∷ []) b && is_opened rest)) [
-                  | inl opens ↦ let h = both (is_one_of (84 ∷ []) b) (is_opened rest) opens in at_byte 84 (one_of_one 84 b h.0) (opened_at rest h.1)
+                  | inl opens ↦ let h = and_parts (is_one_of (84 ∷ []) b) (is_opened rest) opens in at_byte 84 (one_of_one 84 b h.0) (opened_at rest h.1)
                   | inr bare ↦ letter_met mark later digits b rest all plain other nor stops bare
                 ]
           ]
@@ -205,9 +194,6 @@ digits_met mark later digits (b ∷ rest) all stops plain =
     opened_at : (rest : List ℕ) → is_opened rest ≡ true → front mark later (pieces (digits ++ 84 ∷ rest)) ≡ (after_count mark digits (84 ∷ rest) >>= meant later)
     opened_at [] e = let never : ⊥ = cc in absurd never
     opened_at (c ∷ text) e = subst (λ k. front mark later (pieces (digits ++ 84 ∷ (k ∷ text))) ≡ (after_count mark digits (84 ∷ (k ∷ text)) >>= meant later)) (sym (one_of_one 123 c e)) (opening_met mark later digits text all)
-
-one_more : (n : ℕ) → 1 + n ≡ suc n
-one_more n = omega arith
 
 digits_stop : (text : List ℕ) → begins_with_digit (drop (prefix_len is_ascii_digit text) text) ≡ false
 digits_stop [] = refl

@@ -1,9 +1,10 @@
 -- The pieces of a text that goes on after its first byte.
-use Rattle.std.proofs.Common.{◌&&◌, ◌≡◌, ◌+◌, ℕ, suc, Bool, true, false, not, List, [], ◌∷◌, ◌++◌, take, drop, Option, Some, None, Result, Ok, Err, if◌then◌else◌, refl, sym, ap, ◌∙◌, arith}
+use Rattle.std.proofs.Common.{◌&&◌, ◌≡◌, ◌+◌, ℕ, Bool, true, false, not, List, [], ◌∷◌, ◌++◌, take, drop, Option, Some, None, Result, Ok, Err, if◌then◌else◌, refl, sym, ap, ◌∙◌, arith}
 use Rattle.std.specs.Char.{is_ascii_digit}
 use Rattle.std.specs.List.{list_all, prefix_len}
 use Rattle.std.specs.Option.{option_map}
 use Rattle.std.proofs.lemmas.Bool.Decides.{nat_tests}
+use Rattle.std.proofs.lemmas.Bool.{and_parts}
 use Rattle.elem_descr.specs.declared.refusal.Refusal.{Refusal}
 use Rattle.elem_descr.specs.declared.refusal.Refusal.TheVariants.{BadDescriptor, DescriptorLeftOut}
 use Rattle.elem_descr.specs.Names.{is_legal_name}
@@ -11,6 +12,7 @@ use Rattle.elem_descr.specs.TypeStrings.{is_one_of}
 use Rattle.elem_descr.specs.FormatLetters.{is_empty}
 use Rattle.elem_descr.specs.FormatPieces.{Behind, nothing, between_colons, lone_colon, Piece, letter, opening, brace, stray, digit_onto, letter_onto, byte_onto, is_colon, cut_at_colons, pieces_between, pieces}
 use Rattle.elem_descr.specs.inside.Turns.{is_opened, name_at}
+use Rattle.elem_descr.proofs.Fronts.{one_more, some_left}
 
 -- a name up to its colon, and what follows that
 abbrev pub name_end : List ℕ → Option (List ℕ × List ℕ)
@@ -32,12 +34,6 @@ behind (b ∷ text) = if is_colon b then behind_colon (name_end text) else (noth
 if_map : {X Y : Type 0} (t : Bool) (f : X → Y) (x : X) → option_map f (if t then None else Some x) ≡ (if t then None else Some (f x))
 if_map true f x = refl
 if_map false f x = refl
-
-some_left : (b : ℕ) (rest : List ℕ) → is_empty (b ∷ rest) ≡ false
-some_left b rest = grind (arith, nat_tests)
-
-one_more : (n : ℕ) → 1 + n ≡ suc n
-one_more n = omega arith
 
 abbrev no_colon_in : ℕ → Bool
 no_colon_in b = not (is_colon b)
@@ -178,20 +174,16 @@ digit_brace d e = grind (arith, nat_tests)
 pieces-digit : (d : ℕ) (text : List ℕ) → is_ascii_digit d ≡ true → pieces (d ∷ text) ≡ digit_onto d (pieces text)
 pieces-digit d text e = pieces-byte d text (digit_colon d e) ∙ byte_digit d (pieces text) (digit_brace d e) e
 
-both : (a b : Bool) → (a && b) ≡ true → (a ≡ true) × (b ≡ true)
-both true b e = (refl, e)
-both false b e = let never : ⊥ = cc in absurd never
-
 pub pieces-digits_letter : (digits text : List ℕ) (b : ℕ) (behind : Behind) (more : List Piece) → list_all is_ascii_digit digits ≡ true → pieces text ≡ letter [] b behind ∷ more → pieces (digits ++ text) ≡ letter digits b behind ∷ more
 pieces-digits_letter [] text b behind more all is = is
 pieces-digits_letter (d ∷ digits) text b behind more all is =
-    let h = both (is_ascii_digit d) (list_all is_ascii_digit digits) all in
+    let h = and_parts (is_ascii_digit d) (list_all is_ascii_digit digits) all in
     pieces-digit d (digits ++ text) h.0 ∙ ap (digit_onto d) (pieces-digits_letter digits text b behind more h.1 is)
 
 pub pieces-digits_opening : (digits text : List ℕ) (more : List Piece) → list_all is_ascii_digit digits ≡ true → pieces text ≡ opening [] ∷ more → pieces (digits ++ text) ≡ opening digits ∷ more
 pieces-digits_opening [] text more all is = is
 pieces-digits_opening (d ∷ digits) text more all is =
-    let h = both (is_ascii_digit d) (list_all is_ascii_digit digits) all in
+    let h = and_parts (is_ascii_digit d) (list_all is_ascii_digit digits) all in
     pieces-digit d (digits ++ text) h.0 ∙ ap (digit_onto d) (pieces-digits_opening digits text more h.1 is)
 
 -- digits that count nothing
@@ -207,10 +199,10 @@ pub record LastDigit (text : List ℕ) : Type 0 where
 
 pub last_digit : (d : ℕ) (digits text : List ℕ) → list_all is_ascii_digit (d ∷ digits) ≡ true → CountsNothing (pieces text) → LastDigit (d ∷ (digits ++ text))
 last_digit d [] text all nothing_counted =
-    let h = both (is_ascii_digit d) true all in
+    let h = and_parts (is_ascii_digit d) true all in
     record { digits = []; last = d; more = pieces text; digit = h.0; is = pieces-digit d text h.0 ∙ nothing_counted d }
 last_digit d (e ∷ digits) text all nothing_counted =
-    let h = both (is_ascii_digit d) (list_all is_ascii_digit (e ∷ digits)) all in
+    let h = and_parts (is_ascii_digit d) (list_all is_ascii_digit (e ∷ digits)) all in
     let later = last_digit e digits text h.1 nothing_counted in
     record { digits = d ∷ later.digits; last = later.last; more = later.more; digit = later.digit; is = pieces-digit d (e ∷ (digits ++ text)) h.0 ∙ ap (digit_onto d) later.is }
 

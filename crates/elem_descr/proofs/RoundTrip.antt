@@ -5,7 +5,7 @@ use Rattle.std.specs.Fmt.{decimal}
 use Rattle.std.specs.Int.{next_multiple_of}
 use Rattle.std.specs.List.{IsDistinct, list_all, AllByRecursion}
 use Rattle.std.specs.Str.{bytes_eq}
-use Rattle.std.proofs.lemmas.Bool.{le-leb, lt-ltb}
+use Rattle.std.proofs.lemmas.Bool.{le-leb, lt-ltb, and_parts}
 use Rattle.std.proofs.lemmas.Bool.Decides.{nat_tests}
 use Rattle.std.proofs.lemmas.Fmt.{decimal_nonempty}
 use Rattle.std.proofs.lemmas.List.{append-nil}
@@ -33,10 +33,10 @@ use Rattle.elem_descr.specs.inside.Turns.{format_in_turns, member_at, Reader, is
 use Rattle.elem_descr.specs.WrittenFormats.{written_mark, written_count, written_letter, written_scalar, written_pad, written_name, braced, written_fields, written_format}
 use Rattle.elem_descr.proofs.Binds.{after_ok}
 use Rattle.elem_descr.proofs.Decimals.{digits-decimal}
-use Rattle.elem_descr.specs.DescriptorLaws.{listed-fields_of, InOrder-within}
+use Rattle.elem_descr.specs.DescriptorLaws.{listed-fields_of, InOrder-within, some_depth}
 use Rattle.elem_descr.specs.ItemLaws.{length-leaves_from}
 use Rattle.elem_descr.proofs.SameFormat.{same_format}
-use Rattle.elem_descr.proofs.WrittenMembers.{both, mark_of, marked_digits, after_letter, reads_scalar, reads_pad, reads_name}
+use Rattle.elem_descr.proofs.WrittenMembers.{mark_of, marked_digits, after_letter, reads_scalar, reads_pad, reads_name}
 
 -- a record as far as it is read, where nothing aligns
 abbrev packed : ℕ → ℕ → ℕ → List Field → Partial
@@ -137,7 +137,7 @@ reads_end within mark levels leaves bytes done rest some small (suc turns) l =
 
 no_brace_digits : (digits rest : List ℕ) → list_all is_ascii_digit digits ≡ true → 0 < length digits → closing (digits ++ rest) ≡ None
 no_brace_digits [] rest all some = absurd (omega arith)
-no_brace_digits (d ∷ digits) rest all some = no_brace_digit d (digits ++ rest) (both (is_ascii_digit d) (list_all is_ascii_digit digits) all).0
+no_brace_digits (d ∷ digits) rest all some = no_brace_digit d (digits ++ rest) (and_parts (is_ascii_digit d) (list_all is_ascii_digit digits) all).0
   where
     no_brace_digit : (d : ℕ) (rest : List ℕ) → is_ascii_digit d ≡ true → closing (d ∷ rest) ≡ None
     no_brace_digit d rest e = grind (arith, nat_tests)
@@ -248,7 +248,7 @@ behind_scalar levels leaves from bytes at done name scalar rest may =
       small = may.small;
       some = omega (arith, many);
       few = omega (arith, many, may.few);
-      legal = (both (is_legal_name name) (list_all is_legal_name (names_of rest)) may.legal).1;
+      legal = (and_parts (is_legal_name name) (list_all is_legal_name (names_of rest)) may.legal).1;
       distinct = rw join may.distinct;
       within = may.within;
       shallow = may.shallow;
@@ -265,7 +265,7 @@ behind_record levels leaves from bytes at done name size inner rest may =
       small = may.small;
       some = omega (arith, many);
       few = omega (arith, many, may.few);
-      legal = (both (is_legal_name name) (list_all is_legal_name (names_of rest)) may.legal).1;
+      legal = (and_parts (is_legal_name name) (list_all is_legal_name (names_of rest)) may.legal).1;
       distinct = rw join may.distinct;
       within = may.within.2;
       shallow = omega (arith, may.shallow);
@@ -288,11 +288,6 @@ inside_record levels leaves from bytes at done name size inner rest may =
       counted = omega (arith, may.counted);
     }
 
-some_depth : (fields : Fields) → 1 ≤ depth fields
-some_depth no_more = omega arith
-some_depth (scalar_field name at scalar rest) = some_depth rest
-some_depth (record_field name at size inner rest) = omega (arith, some_depth rest)
-
 -- a record that is read from its first member on
 reads_inner : (levels : ℕ) (mark later : Mark) (leaves : ℕ) (text rest : List ℕ) (structure : Structure) → Reads (record_within levels) mark (packed levels leaves 0 []) text (record { whole = structure; alignment = 1; mark = later }, rest) → record_within (suc levels) mark leaves text ≡ Ok (record { whole = structure; alignment = 1; mark = later }, rest)
 unfolding record_within
@@ -312,7 +307,7 @@ reads_fields (scalar_field name at scalar more) levels mark leaves from bytes do
     let descr = ScalarDescr scalar in
     let ends = InOrder-within (at + size scalar) more bytes may.order.2 in
     let gap : from + (at - from) ≡ at = omega (arith, may.order.0) in
-    let legal = both (is_legal_name name) (list_all is_legal_name (names_of more)) may.legal in
+    let legal = and_parts (is_legal_name name) (list_all is_legal_name (names_of more)) may.legal in
     let grows = next_grows levels leaves from bytes at done name descr (fields_of more) may.order.1 (omega (arith, may.small)) legal.0 (omega (arith, may.few)) may.distinct (omega (arith, may.counted)) in
     let tail = written_fields (at + size scalar) more bytes ++ 125 ∷ rest in
     let result : Body × List ℕ = (body_of bytes (done ++ field_of name at descr ∷ fields_of more) (mark_behind (mark_of scalar) more), rest) in
@@ -328,7 +323,7 @@ reads_fields (record_field name at size inner more) (suc levels) mark leaves fro
     let descr = RecordDescr structure in
     let ends = InOrder-within (at + size) more bytes may.order.3 in
     let gap : from + (at - from) ≡ at = omega (arith, may.order.0) in
-    let legal = both (is_legal_name name) (list_all is_legal_name (names_of more)) may.legal in
+    let legal = and_parts (is_legal_name name) (list_all is_legal_name (names_of more)) may.legal in
     let grows = next_grows (suc levels) leaves from bytes at done name descr (fields_of more) may.order.1 (omega (arith, may.small)) legal.0 (omega (arith, may.few)) may.distinct (omega (arith, may.counted, length-leaves_from 0 inner)) in
     let tail = written_fields (at + size) more bytes ++ 125 ∷ rest in
     let behind = mark_behind mark inner in

@@ -23,8 +23,9 @@ use Rattle.elem_descr.specs.FormatPieces.{Behind, nothing, between_colons, lone_
 use Rattle.elem_descr.specs.FormatTexts.{part_of, unnamed, Reading, begun, complete, beyond, at_begin, closed_in, behind_member, step, read_on, format}
 use Rattle.elem_descr.specs.inside.Turns.{after, marked, is_named, is_opened, lettered_before, after_count, member_at, record_within, nothing_follows, scalar_alone, record_alone, alone, format_in_turns}
 use Rattle.elem_descr.proofs.Pieces.{name_end, behind_colon, behind, behind-colon, pieces-letter, some_piece}
-use Rattle.elem_descr.proofs.PieceMembers.{bind_bind, bind_same, one_of_one, sign_cases, Then, front, met, meant, member_met}
+use Rattle.elem_descr.proofs.PieceMembers.{bind_bind, one_of_one, sign_cases, Then, front, met, meant, member_met}
 use Rattle.elem_descr.proofs.SameMembers.{marked_none, Unmarked, unmarked, sign_letter, marks_begun, marks_beyond, marks_read, behind_bare, unnamed_same, members_same}
+use Rattle.elem_descr.specs.RefusalLaws.{bind_same}
 
 -- ---- what follows a whole descriptor
 

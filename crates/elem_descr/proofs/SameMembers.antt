@@ -24,7 +24,8 @@ use Rattle.elem_descr.specs.FormatPieces.{Behind, nothing, between_colons, lone_
 use Rattle.elem_descr.specs.FormatTexts.{closed_body, part_of, called, next_name, with_scalar, with_pad, with_record, opened, unnamed, Reading, begun, within, beyond, closed_in, in_record, step, read_on}
 use Rattle.elem_descr.specs.inside.Turns.{name_at, after, marked, is_named, is_opened, lettered_before, after_count, member_at, named, Later, scalar_in, pad_in, body_in, taken_in, next_field, closing, turn, members, record_within}
 use Rattle.elem_descr.proofs.Pieces.{name_end, behind_colon, behind, name_at-ended, ended_name, pieces-colon, behind-colon, behind-other, pieces-letter}
-use Rattle.elem_descr.proofs.PieceMembers.{bind_bind, bind_same, one_of_one, sign_cases, Then, front, met, meant, member_met}
+use Rattle.elem_descr.proofs.PieceMembers.{bind_bind, one_of_one, sign_cases, Then, front, met, meant, member_met}
+use Rattle.elem_descr.specs.RefusalLaws.{bind_same}
 
 bind_three : {X Y Z W : Type 0} (r : Result X Refusal) (f : X → Result Y Refusal) (g : Y → Result Z Refusal) (h : Z → Result W Refusal) → (r >>= λ x. (f x >>= g) >>= h) ≡ (((r >>= f) >>= g) >>= h)
 bind_three (Ok x) f g h = refl

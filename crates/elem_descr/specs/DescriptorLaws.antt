@@ -1,5 +1,5 @@
 -- Laws of the fields of a record: where they lie, and how many they are.
-use Rattle.std.proofs.Common.{◌≡◌, ℕ, zero, suc, ◌+◌, ◌<◌, ◌≤◌, ◌∷◌, length, get_or, refl, sym, ap, ◌∙◌, arith, List, [], drop, add-one, drop-cons}
+use Rattle.std.proofs.Common.{◌≡◌, ℕ, zero, suc, ◌+◌, ◌<◌, ◌≤◌, ◌∷◌, length, get_or, refl, sym, ap, ◌∙◌, arith, List, [], drop, add-one, drop-cons, ◌-◌, subst}
 use Rattle.elem_descr.specs.declared.descr.Descr.{Descr}
 use Rattle.elem_descr.specs.declared.descr.Descr.TheVariants.{Scalar as ScalarDescr, Record as RecordDescr}
 use Rattle.elem_descr.specs.declared.descr.Field.{Field}
@@ -69,3 +69,11 @@ pub weight-one : (fields : List Field) (k : ℕ) (field : Field) → k < length 
 weight-one [] k field l is = absurd (omega arith)
 weight-one (first ∷ fields) zero field l is = rw is (omega (arith, weight-before first.name first.at first.descr (listed fields)))
 weight-one (first ∷ fields) (suc k) field l is = omega (arith, weight-one fields k field (omega arith) is, weight-before first.name first.at first.descr (listed fields))
+
+-- the first of the fields that are left
+pub first_field : (from bytes : ℕ) (fields : List Field) (field : Field) (i : ℕ) → i < length fields → field ≡ get_or fields i field → InOrder from (listed (drop i fields)) bytes → (from ≤ field.at) × (1 ≤ item_size field.descr) × InOrder (field.at + item_size field.descr) (listed (drop (i + 1) fields)) bytes
+first_field from bytes fields field i l is order = InOrder-before from field.name field.at field.descr (listed (drop (i + 1) fields)) bytes (subst (λ fs. InOrder from (listed fs) bytes) (rest_at fields field i l is) order)
+
+-- the fields of a record, seen one by one
+pub seen_fields : (fields : List Field) (all : Fields) → fields ≡ fields_of all → listed fields ≡ all
+seen_fields fields all are = ap listed are ∙ listed-fields_of all

@@ -24,3 +24,5 @@ pub mod RefusalLaws
 pub mod WrapLaws
 pub mod NumberLaws
 pub mod NulLaws
+pub mod ListLaws
+pub mod ByteLaws

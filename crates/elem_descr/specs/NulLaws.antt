@@ -8,7 +8,7 @@ use Rattle.std.proofs.lemmas.List.Sums.{prefix_len_passes, suffix_len-le-length}
 use Rattle.elem_descr.specs.Encoding.{without_nuls}
 use Rattle.elem_descr.specs.inside.Nuls.{nuls}
 
-nul_at : (bytes : List ℕ) (k d : ℕ) → length bytes - nuls bytes ≤ k → k < length bytes → get_or bytes k d ≡ 0
+pub nul_at : (bytes : List ℕ) (k d : ℕ) → length bytes - nuls bytes ≤ k → k < length bytes → get_or bytes k d ≡ 0
 nul_at bytes k d late within =
     let j = length bytes - 1 - k in
     let few = suffix_len-le-length (λ b. nat_eq b 0) bytes in
@@ -18,7 +18,7 @@ nul_at bytes k d late within =
     ap (λ i. get_or bytes i d) (sym same) ∙ sym (get_or-reverse bytes j d (omega arith)) ∙ eqb-true (get_or (reverse bytes) j d) 0 test
 
 -- the NULs at the end
-back_nuls : (bytes : List ℕ) → drop (length bytes - nuls bytes) bytes ≡ replicate (nuls bytes) 0
+pub back_nuls : (bytes : List ℕ) → drop (length bytes - nuls bytes) bytes ≡ replicate (nuls bytes) 0
 back_nuls bytes =
     let few = suffix_len-le-length (λ b. nat_eq b 0) bytes in
     let long : length (drop (length bytes - nuls bytes) bytes) ≡ nuls bytes = length-drop (length bytes - nuls bytes) bytes ∙ omega arith in
@@ -31,11 +31,11 @@ back_nuls bytes =
 pub without_nuls-back : (bytes : List ℕ) → without_nuls bytes ++ replicate (nuls bytes) 0 ≡ bytes
 without_nuls-back bytes = ap (λ back. without_nuls bytes ++ back) (sym (back_nuls bytes)) ∙ take-append-drop (length bytes - nuls bytes) bytes
 
-prefix_of_zeros : (n : ℕ) (bytes : List ℕ) → prefix_len (λ b. nat_eq b 0) (replicate n 0 ++ bytes) ≡ n + prefix_len (λ b. nat_eq b 0) bytes
+pub prefix_of_zeros : (n : ℕ) (bytes : List ℕ) → prefix_len (λ b. nat_eq b 0) (replicate n 0 ++ bytes) ≡ n + prefix_len (λ b. nat_eq b 0) bytes
 prefix_of_zeros zero bytes = omega arith
 prefix_of_zeros (suc n) bytes = let more = prefix_of_zeros n bytes in omega arith
 
-reverse-replicate : (n : ℕ) → reverse {A = ℕ} (replicate n 0) ≡ replicate n 0
+pub reverse-replicate : (n : ℕ) → reverse {A = ℕ} (replicate n 0) ≡ replicate n 0
 reverse-replicate n =
     same_lists (reverse {A = ℕ} (replicate n 0)) (replicate n 0) (length-reverse (replicate n 0))
     (λ k d low.
@@ -45,7 +45,7 @@ reverse-replicate n =
     let near : k < n = omega arith in
     get_or-reverse (replicate n 0) k d (omega arith) ∙ get_or-replicate n (length (replicate n 0) - 1 - k) 0 d (omega arith) ∙ sym (get_or-replicate n k 0 d near))
 
-nuls-more : (bytes : List ℕ) (n : ℕ) → nuls (bytes ++ replicate n 0) ≡ n + nuls bytes
+pub nuls-more : (bytes : List ℕ) (n : ℕ) → nuls (bytes ++ replicate n 0) ≡ n + nuls bytes
 nuls-more bytes n =
     ap (prefix_len (λ b. nat_eq b 0)) (reverse-append bytes (replicate n 0) ∙ ap (λ front. front ++ reverse bytes) (reverse-replicate n))
     ∙ prefix_of_zeros n (reverse bytes)

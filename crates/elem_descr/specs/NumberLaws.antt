@@ -10,7 +10,7 @@ use Rattle.elem_descr.specs.Encoding.{width_size, IsNumber, IsValueOf, WrapsTo, 
 use Rattle.elem_descr.specs.EncodingLaws.{truth_suc, low_bits-lt, low_bits-integer}
 use Rattle.elem_descr.specs.WrapLaws.{integer-fits, integer-differs, integer-low_bits}
 
-some_bytes : (width : Width) → 1 ≤ width_size width
+pub some_bytes : (width : Width) → 1 ≤ width_size width
 some_bytes Two = omega arith
 some_bytes Four = omega arith
 some_bytes Eight = omega arith

@@ -1,22 +1,18 @@
 -- Casts that leave items as they are.
-use Rattle.std.proofs.Common.{◌≡◌, ◌+◌, ◌*◌, ◌^◌, ◌<◌, ◌≤◌, inl, inr, ℕ, true, false, cond, pos, List, [], ◌∷◌, map, length, get_or, take, drop, refl, sym, ap, subst, ◌∙◌, arith, length-take}
-use Rattle.std.specs.Prelude.{nat_eq}
-use Rattle.std.proofs.lemmas.Bool.{cases_lt}
-use Rattle.std.proofs.lemmas.List.{get_or-take, get_or-drop, ext_get_or, get_or_past}
-use Rattle.byteorder.specs.Numbers.{big_from-lt, little_from-lt}
-use Rattle.byteorder.proofs.Bytes.{pow256}
+use Rattle.std.proofs.Common.{◌≡◌, ◌<◌, ◌≤◌, ℕ, pos, List, [], ◌∷◌, map, length, take, drop, refl, sym, ap, ◌∙◌, arith, length-take}
+use Rattle.std.proofs.lemmas.List.{ext_get_or}
 use Rattle.elem_descr.specs.declared.leaf.Leaf.{Leaf}
-use Rattle.elem_descr.specs.declared.scalar.Order.{Order}
-use Rattle.elem_descr.specs.declared.scalar.Order.TheVariants.{Little, Big}
+use Rattle.elem_descr.specs.declared.scalar.Order.TheVariants.{Little}
 use Rattle.elem_descr.specs.declared.scalar.Scalar.{Scalar}
 use Rattle.elem_descr.specs.declared.scalar.Scalar.TheVariants.{Bool as BoolScalar, Byte, Int, Bytes}
 use Rattle.elem_descr.specs.declared.descr.Descr.{Descr}
 use Rattle.elem_descr.specs.declared.descr.Descr.TheVariants.{Scalar as ScalarDescr, Record as RecordDescr}
 use Rattle.elem_descr.specs.Values.{LeafValue, number, text}
-use Rattle.elem_descr.specs.Encoding.{size, decode, integer, number_in, truth, width_size}
+use Rattle.elem_descr.specs.Encoding.{size, decode, integer, number_in, width_size}
 use Rattle.elem_descr.specs.EncodingLaws.{low_bits-integer}
 use Rattle.elem_descr.specs.Items.{item_size, leaves_of, leaf_at, no_leaf, AreAlike}
 use Rattle.elem_descr.specs.Blocks.{item_from}
+use Rattle.elem_descr.specs.ByteLaws.{AreBytes, bytes-drop, bytes-take, number-lt, truth-twice}
 use Rattle.elementwise.specs.Casts.{cast_value, cast_values, cast_item}
 use Rattle.elementwise.proofs.NulLaws.{text_stays}
 
@@ -25,25 +21,6 @@ pub alike : (a b : Descr) (k : ℕ) → item_size a ≡ item_size b → length (
 alike a b k sized even whole same = record { leaves = ext_get_or no_leaf (leaves_of a) (leaves_of b) even (λ i low. same i (omega (arith, low, whole))); size = sized }
 
 -- ---- bytes
-
-abbrev pub AreBytes : List ℕ → Type 0
-AreBytes bytes = (i : ℕ) → get_or bytes i 0 < 256
-
-pub bytes-drop : (n : ℕ) (bytes : List ℕ) → AreBytes bytes → AreBytes (drop n bytes)
-bytes-drop n bytes are i = subst (λ b. b < 256) (sym (get_or-drop n bytes i 0)) (are (n + i))
-
-pub bytes-take : (n : ℕ) (bytes : List ℕ) → AreBytes bytes → AreBytes (take n bytes)
-bytes-take n bytes are i = elim (cases_lt i n) [
-  | inl low ↦ subst (λ b. b < 256) (sym (get_or-take n bytes i 0 low)) (are i)
-  | inr high ↦ subst (λ b. b < 256) (sym (get_or_past (take n bytes) i 0 (omega (arith, high, length-take n bytes)))) (omega arith)
-]
-
-pub number-lt : (order : Order) (n : ℕ) (bytes : List ℕ) → AreBytes bytes → number_in order n bytes < 2 ^ (8 * n)
-number-lt Little n bytes are = subst (λ m. number_in Little n bytes < m) (pow256 n) (little_from-lt 0 n bytes are)
-number-lt Big n bytes are = subst (λ m. number_in Big n bytes < m) (pow256 n) (big_from-lt 0 n bytes are)
-
-truth-twice : (n : ℕ) → truth (truth n) ≡ truth n
-truth-twice n = elim (nat_eq n 0) as (λ t. truth (cond t 0 1) ≡ cond t 0 1) [ true ↦ refl | false ↦ refl ]
 
 -- a value that was read is one of its scalar
 value_stays : (scalar : Scalar) (bytes : List ℕ) → AreBytes bytes → length bytes ≤ size scalar → cast_value scalar (decode scalar bytes) ≡ decode scalar bytes

@@ -3,25 +3,23 @@ use Rattle.std.proofs.Common.{subst, ◌≡◌, ◌+◌, ◌*◌, ℕ, zero, suc
 use Rattle.std.specs.List.{concat, AllByRecursion as Each}
 use Rattle.std.proofs.Math.Seq.{take-append_seam, drop-append-add}
 use Rattle.std.proofs.lemmas.List.Folds.{concat-append}
+use Rattle.std.proofs.lemmas.List.{nil_from_length}
 use Rattle.raw_block.specs.Bytes.{place, put, item_at, joined, EachWithin}
 use Rattle.shape_strides.specs.declared.runs.Run.{Run}
 use Rattle.shape_strides.specs.declared.run_pairs.RunPair.{RunPair}
 use Rattle.shape_strides.specs.Runs.{run_offsets}
-use Rattle.overlap_copy.specs.RunLaws.{length-run_offsets}
+use Rattle.shape_strides.specs.WalkLaws.{length-run_offsets}
 use Rattle.elementwise.specs.Results.{pairwise}
-use Rattle.elementwise.specs.inside.Passes.{put_all, row_offsets}
+use Rattle.elementwise.specs.inside.Passes.{put_all}
 use Rattle.elementwise.specs.inside.PairPasses.{pair_from}
-use Rattle.elementwise.proofs.PassLaws.{row-split}
 use Rattle.elementwise.proofs.PairLaws.{pairwise-append, joined_pairs, firsts, seconds}
+use Rattle.overlap_copy.specs.PackedLaws.{row-split}
+use Rattle.overlap_copy.specs.inside.Packed.{row_offsets}
 
 -- ---- items put over bytes that are behind others
 
-none-left : (zs : List ℕ) → length zs ≡ 0 → zs ≡ []
-none-left [] none = refl
-none-left (z ∷ zs) none = absurd (omega (arith, none))
-
 pub put-rows : (w : ℕ) (items : List (List ℕ)) (n : ℕ) (xs zs : List ℕ) → length items ≡ n → Each (λ item. length item ≡ w) items → length zs ≡ n * w → put_all (row_offsets (length xs) w n) items (xs ++ zs) ≡ xs ++ concat items
-put-rows w [] zero xs zs many wide room = ap (λ l. xs ++ l) (none-left zs (omega (arith, room)))
+put-rows w [] zero xs zs many wide room = ap (λ l. xs ++ l) (nil_from_length zs (omega (arith, room)))
 put-rows w [] (suc n) xs zs many wide room = absurd (omega (arith, many))
 put-rows w (item ∷ items) zero xs zs many wide room = absurd (omega (arith, many))
 put-rows w (item ∷ items) (suc n) xs zs many wide room =

@@ -18,8 +18,8 @@ use Rattle.elementwise.specs.Casts.{can_cast, cast_item}
 use Rattle.machine_numbers.specs.Kinds.{little}
 use Rattle.elementwise.specs.Operations.{binary, unary}
 use Rattle.elementwise.specs.Results.{value_in, number_as, binary_item, unary_item, pairwise, stretched_items}
-use Rattle.elementwise.proofs.StretchedLaws.{stretched-self}
 use Rattle.elementwise.proofs.LeafLaws.{cast_number}
+use Rattle.broadcasting.specs.BroadcastLaws.{stretched-self}
 
 -- a byte order makes no difference to what is wrapped
 wrap-little : (s : Scalar) (z : ℤ) → wrap s z ≡ wrap (little s) z

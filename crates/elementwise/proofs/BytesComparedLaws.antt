@@ -25,7 +25,7 @@ use Rattle.elementwise.specs.Comparisons.{compared}
 use Rattle.elementwise.specs.Results.{scalar_of, bytes_compared_result, compared_item, truth_item, value_in}
 use Rattle.elementwise.specs.inside.ByteStrings.{says_byte}
 use Rattle.elementwise.specs.inside.Made.{IsMade}
-use Rattle.elementwise.proofs.MadeLaws.{over-made}
+use Rattle.elementwise.proofs.MadeLaws.{over-made, bool_bytes}
 
 -- one more item
 pub byte_next : (f : ℕ → ℕ) (done new left left' whole : List ℕ) (offset byte : ℕ) → left ≡ offset ∷ left' → byte ≡ f offset → new ≡ done ++ byte ∷ [] → done ++ map f left ≡ whole → new ++ map f left' ≡ whole
@@ -53,10 +53,6 @@ bools_read f os n many =
 
 pub said_length : (comparison : Comparison) (d : Descr) (block other : List ℕ) (l : Layout) (b : List ℕ) → b ≡ map (says_byte comparison d block other) (offsets l) → length b ≡ count l.shape
 said_length comparison d block other l b is = ap length is ∙ length-map (offsets l) (says_byte comparison d block other) ∙ length-offsets l
-
-bool_bytes : (holds : Bool) → (cond holds 1 0 ∷ []) ≡ encode_item (ScalarDescr BoolScalar) (truth_item holds)
-bool_bytes true = refl
-bool_bytes false = refl
 
 bools_encoded : (f : ℕ → Bool) (os : List ℕ) → map (λ o. cond (f o) 1 0) os ≡ flat_map (encode_item (ScalarDescr BoolScalar)) (map (λ o. truth_item (f o)) os)
 bools_encoded f [] = refl

@@ -16,11 +16,12 @@ use Rattle.elem_descr.specs.Blocks.{item_from}
 use Rattle.raw_block.specs.Bytes.{item_at}
 use Rattle.shape_strides.specs.Layouts.{multiples}
 use Rattle.elementwise.specs.Casts.{can_cast, can_cast_scalar, can_cast_fields, cast_value, cast_values, cast_item}
-use Rattle.elementwise.specs.inside.Passes.{put_all, row_offsets, leaf_from}
+use Rattle.elementwise.specs.inside.Passes.{put_all, leaf_from}
 use Rattle.elementwise.specs.inside.LeafCasts.{source, HasSource, IsLeafCast}
-use Rattle.elementwise.proofs.PassLaws.{length-row}
 use Rattle.elementwise.proofs.RowLaws.{row-entry, AreBeside, landed, kept, rows-in, rows-lie, rows-beside}
 use Rattle.elementwise.proofs.LeafLaws.{length-leaf_cast, cast_read_back}
+use Rattle.overlap_copy.specs.PackedLaws.{length-row}
+use Rattle.overlap_copy.specs.inside.Packed.{row_offsets}
 
 -- ---- which leaves are cast to which
 

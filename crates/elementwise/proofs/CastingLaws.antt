@@ -25,8 +25,8 @@ use Rattle.elementwise.specs.Results.{pairwise, value_in, stretched_items}
 use Rattle.elementwise.specs.inside.PairPasses.{number_pair}
 use Rattle.elementwise.specs.inside.Made.{IsMade}
 use Rattle.elementwise.proofs.AppliedLaws.{pairwise-same}
-use Rattle.elementwise.proofs.StretchedLaws.{stretched-self}
 use Rattle.elementwise.proofs.LeafLaws.{cast_number, byte_alike, int_alike}
+use Rattle.broadcasting.specs.BroadcastLaws.{stretched-self}
 
 -- a sign makes no difference to the bytes
 pub as_byte : (from to : Scalar) (signed : Bool) → to ≡ Byte signed → number_pair from from (Byte false) (λ a _. wrap (Byte false) a) ≡ number_pair from from to (λ a _. wrap to a)

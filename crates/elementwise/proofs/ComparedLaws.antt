@@ -11,12 +11,11 @@ use Rattle.elem_descr.specs.declared.scalar.Scalar.{Scalar}
 use Rattle.elem_descr.specs.declared.scalar.Scalar.TheVariants.{Bool as BoolScalar}
 use Rattle.elem_descr.specs.declared.descr.Descr.{Descr}
 use Rattle.elem_descr.specs.declared.descr.Descr.TheVariants.{Scalar as ScalarDescr}
-use Rattle.elem_descr.specs.RefusalLaws.{same_answer, check_passed}
+use Rattle.elem_descr.specs.RefusalLaws.{same_answer, check_passed, check_test}
 use Rattle.broadcasting.specs.Broadcasts.{common_shape}
 use Rattle.elementwise.specs.Comparisons.{text_below}
 use Rattle.elementwise.specs.Promotion.{are_comparable, compared_type}
 use Rattle.elementwise.specs.Results.{scalar_of, compared_result}
-use Rattle.elementwise.proofs.PromotedLaws.{check_test}
 
 -- ---- byte strings
 

@@ -8,7 +8,7 @@ use Rattle.elem_descr.specs.declared.descr.Descr.TheVariants.{Scalar as ScalarDe
 use Rattle.elem_descr.specs.declared.descr.Field.{Field}
 use Rattle.elem_descr.specs.Fields.{Fields, no_more, Structure}
 use Rattle.elem_descr.specs.Descriptors.{before, listed, fields_of}
-use Rattle.elem_descr.specs.DescriptorLaws.{rest_at, listed-fields_of}
+use Rattle.elem_descr.specs.DescriptorLaws.{rest_at, seen_fields}
 use Rattle.elementwise.specs.Casts.{can_cast_fields}
 use Rattle.elementwise.specs.inside.FieldCasts.{can_cast_field}
 
@@ -43,10 +43,6 @@ turn_passes from to k field other turn passes = sym (at-turn from to k field oth
 
 pub none_left : (from to : List Field) (k : ℕ) → length from ≤ k → length to ≤ k → left from to k ≡ true
 none_left from to k past over = λ i. can_cast_fields (listed (drop_all k from past i)) (listed (drop_all k to over i))
-
--- the fields of a record, seen one by one
-pub seen_fields : (fields : List Field) (all : Fields) → fields ≡ fields_of all → listed fields ≡ all
-seen_fields fields all are = ap listed are ∙ listed-fields_of all
 
 pub records : (from to : Descr) (structure other : Structure) (fields others : List Field) → from ≡ RecordDescr structure → to ≡ RecordDescr other → fields ≡ fields_of structure.fields → others ≡ fields_of other.fields → can_cast_fields (listed fields) (listed others) ≡ can_cast_field from to
 records from to structure other fields others is there are have =

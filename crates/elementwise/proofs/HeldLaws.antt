@@ -1,5 +1,5 @@
 -- Numbers that are compared as those of a larger scalar, which holds them.
-use Rattle.std.proofs.Common.{◌≡◌, ◌≤◌, inl, inr, ℕ, zero, suc, true, false, Bool, cond, List, [], ◌∷◌, map, take, drop, refl, sym, ap, subst, ◌∙◌, arith}
+use Rattle.std.proofs.Common.{◌≡◌, inl, inr, ℕ, zero, suc, true, false, Bool, cond, List, [], ◌∷◌, map, take, drop, refl, sym, ap, subst, ◌∙◌, arith}
 use Rattle.std.specs.Prelude.{ℤ, pos}
 use Rattle.std.proofs.lemmas.Int.{ints}
 use Rattle.elem_descr.specs.declared.scalar.Order.TheVariants.{Little}
@@ -11,10 +11,11 @@ use Rattle.elem_descr.specs.declared.descr.Descr.{Descr}
 use Rattle.elem_descr.specs.declared.descr.Descr.TheVariants.{Scalar as ScalarDescr}
 use Rattle.elem_descr.specs.Values.{LeafValue, number}
 use Rattle.elem_descr.specs.Encoding.{IsNumber, IsValueOf, FitsBytes, size, width_size, number_in, truth, number_of, decode}
-use Rattle.elem_descr.specs.NumberLaws.{wrap_stays}
+use Rattle.elem_descr.specs.NumberLaws.{wrap_stays, some_bytes}
 use Rattle.elem_descr.specs.WrapLaws.{integer-fits}
 use Rattle.elem_descr.specs.EncodingLaws.{truth_suc}
 use Rattle.elem_descr.specs.Blocks.{item_from}
+use Rattle.elem_descr.specs.ByteLaws.{AreBytes, bytes-drop, bytes-take, number-lt}
 use Rattle.shape_strides.specs.declared.layout.Layout.{Layout}
 use Rattle.shape_strides.specs.Layouts.{offsets}
 use Rattle.view_ops.specs.Views.{view_through}
@@ -26,7 +27,6 @@ use Rattle.elementwise.specs.Comparisons.{compared}
 use Rattle.elementwise.specs.Results.{value_in, compared_item, stretched_items, pairwise}
 use Rattle.elementwise.specs.inside.PairPasses.{compared_value, Holds, AreHeld}
 use Rattle.elementwise.specs.inside.PairLaws.{number-little}
-use Rattle.elementwise.proofs.AlikeLaws.{AreBytes, bytes-take, bytes-drop, number-lt}
 use Rattle.elementwise.proofs.LeafLaws.{cast_number}
 use Rattle.elementwise.proofs.PairLaws.{pairwise-map}
 
@@ -36,16 +36,11 @@ truth-is : (n : ℕ) → IsValueOf BoolScalar (pos (truth n))
 truth-is zero = inl refl
 truth-is (suc n) = inr (ap pos (truth_suc n))
 
-some_width : (width : Width) → 1 ≤ width_size width
-some_width Two = omega arith
-some_width Four = omega arith
-some_width Eight = omega arith
-
 -- what is read is a value of its scalar
 pub value-of : (s : Scalar) (bytes : List ℕ) → AreBytes bytes → IsNumber s → IsValueOf s (number_of (decode s bytes))
 value-of BoolScalar bytes are is = truth-is (number_in Little 1 bytes)
 value-of (Byte signed) bytes are is = integer-fits signed 1 (number_in Little 1 bytes) (omega arith) (number-lt Little 1 bytes are)
-value-of (Int signed width order) bytes are is = integer-fits signed (width_size width) (number_in order (width_size width) bytes) (some_width width) (number-lt order (width_size width) bytes are)
+value-of (Int signed width order) bytes are is = integer-fits signed (width_size width) (number_in order (width_size width) bytes) (some_bytes width) (number-lt order (width_size width) bytes are)
 value-of (Bytes n) bytes are never = absurd never
 
 -- in little-endian order there are the same, and integers of eight bytes hold those of their sign

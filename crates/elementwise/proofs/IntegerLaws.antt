@@ -22,38 +22,22 @@ use Rattle.shape_strides.specs.IndexLaws.{length-indexes}
 use Rattle.shape_strides.specs.Layouts.{offsets, multiples}
 use Rattle.shape_strides.specs.LayoutLaws.{length-offsets}
 use Rattle.broadcasting.specs.Broadcasts.{all_stretch, can_stretch, broadcast_index}
+use Rattle.broadcasting.specs.BroadcastLaws.{stretched-self}
 use Rattle.overlap_copy.specs.declared.owned.Owned.{Owned}
 use Rattle.machine_numbers.specs.declared.operators.Comparison.{Comparison}
 use Rattle.elem_descr.specs.declared.scalar.Scalar.{Scalar}
 use Rattle.elem_descr.specs.declared.scalar.Scalar.TheVariants.{Bool as BoolScalar, Byte, Int, Bytes}
-use Rattle.elem_descr.specs.declared.scalar.Width.TheVariants.{Two, Four, Eight}
 use Rattle.elem_descr.specs.Encoding.{IsNumber, IsValueOf, FitsBytes, size, width_size, wrap, number_of, decode}
 use Rattle.elem_descr.specs.NumberLaws.{wrap_stays}
+use Rattle.elem_descr.specs.ByteLaws.{AreBytes, bytes-drop, bytes-take}
 use Rattle.machine_numbers.specs.Kinds.{is_text, little}
 use Rattle.elementwise.specs.Comparisons.{says, compared}
 use Rattle.elementwise.specs.Results.{scalar_of, integer_compared_result, compared_item, truth_item, stretched_items, pairwise}
 use Rattle.elementwise.specs.inside.Made.{IsMade}
-use Rattle.elementwise.proofs.MadeLaws.{over-made}
-use Rattle.elementwise.proofs.AlikeLaws.{AreBytes, bytes-take, bytes-drop}
+use Rattle.elementwise.proofs.MadeLaws.{over-made, bool_bytes}
 use Rattle.elementwise.proofs.PairLaws.{pairwise-map}
 use Rattle.elementwise.proofs.AppliedLaws.{pairwise-same}
-use Rattle.elementwise.proofs.StretchedLaws.{stretched-self}
 use Rattle.elementwise.proofs.HeldLaws.{value-of, is-number}
-
--- a number has 8 bytes at most
-pub number_size : (scalar : Scalar) → IsNumber scalar → size scalar ≤ 8
-number_size BoolScalar is = omega arith
-number_size (Byte signed) is = omega arith
-number_size (Int signed Two order) is = omega arith
-number_size (Int signed Four order) is = omega arith
-number_size (Int signed Eight order) is = omega arith
-number_size (Bytes n) is = absurd is
-
-pub number-little : (s : Scalar) → IsNumber s → IsNumber (little s)
-number-little BoolScalar is = tt
-number-little (Byte signed) is = tt
-number-little (Int signed width order) is = tt
-number-little (Bytes n) is = absurd is
 
 -- ---- integers that are no values
 
@@ -156,10 +140,6 @@ alike_read holds n =
     let read = λ (k : ℕ). item_from (ScalarDescr BoolScalar) all (1 * k) in
     map-map (item_from (ScalarDescr BoolScalar) all) (λ (k : ℕ). 1 * k) (range_with_len 0 n)
     ∙ sym (fill_by_all read (replicate n (truth_item holds)) n [] (length-replicate n (truth_item holds)) (λ k low. get_or-replicate n k (truth_item holds) [] low ∙ sym (bool_read holds n k low)))
-
-bool_bytes : (holds : Bool) → (cond holds 1 0 ∷ []) ≡ encode_item (ScalarDescr BoolScalar) (truth_item holds)
-bool_bytes true = refl
-bool_bytes false = refl
 
 alike_encoded : (holds : Bool) (n : ℕ) → replicate n (cond holds 1 0) ≡ flat_map (encode_item (ScalarDescr BoolScalar)) (replicate n (truth_item holds))
 alike_encoded holds zero = refl

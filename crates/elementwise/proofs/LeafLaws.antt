@@ -1,17 +1,16 @@
 -- Values of leaves that are cast, and their bytes.
-use Rattle.std.proofs.Common.{◌≡◌, ◌-◌, ℕ, Bool, false, List, length, take, replicate, refl, sym, ap, ◌∙◌, arith, length-take, length-append}
+use Rattle.std.proofs.Common.{◌≡◌, ◌-◌, ℕ, Bool, false, List, length, take, refl, sym, ap, ◌∙◌, arith, length-take}
 use Rattle.std.specs.Prelude.{ℤ}
 use Rattle.elem_descr.specs.declared.scalar.Order.{Order}
-use Rattle.elem_descr.specs.declared.scalar.Order.TheVariants.{Little, Big}
+use Rattle.elem_descr.specs.declared.scalar.Order.TheVariants.{Little}
 use Rattle.elem_descr.specs.declared.scalar.Width.{Width}
 use Rattle.elem_descr.specs.declared.scalar.Scalar.{Scalar}
 use Rattle.elem_descr.specs.declared.scalar.Scalar.TheVariants.{Bool as BoolScalar, Byte, Int, Bytes}
 use Rattle.elem_descr.specs.Values.{LeafValue, number, text}
-use Rattle.elem_descr.specs.Encoding.{IsNumber, size, padded, width_size, low_bits, bytes_of, wrap, number_of, text_of, decode, encode}
-use Rattle.std.proofs.lemmas.List.{length-replicate}
-use Rattle.byteorder.specs.Numbers.{length-bytes_low_first, length-bytes_high_first}
+use Rattle.elem_descr.specs.Encoding.{IsNumber, size, padded, width_size, wrap, number_of, text_of, decode, encode}
 use Rattle.elem_descr.specs.EncodingLaws.{decode_encode}
 use Rattle.elem_descr.specs.NumberLaws.{encode_wrap}
+use Rattle.elem_descr.specs.ByteLaws.{length-encode}
 use Rattle.elementwise.specs.Casts.{cast_value}
 use Rattle.elementwise.proofs.NulLaws.{text_encoded, text_read_back}
 use Rattle.elementwise.specs.inside.Passes.{leaf_cast}
@@ -58,21 +57,6 @@ pub text_size : (from : Scalar) (m : ℕ) → from ≡ Bytes m → (width : ℕ)
 text_size from m is width wide = wide ∙ ap size (sym is)
 
 -- ---- read again
-
-length-bytes_of : (order : Order) (n bits : ℕ) → length (bytes_of order n bits) ≡ n
-length-bytes_of Little n bits = length-bytes_low_first 0 n bits
-length-bytes_of Big n bits = length-bytes_high_first n bits
-
-length-padded : (n : ℕ) (bytes : List ℕ) → length (padded n bytes) ≡ n
-length-padded n bytes =
-    let zeros : length {A = ℕ} (replicate (n - length bytes) 0) ≡ n - length bytes = length-replicate (n - length bytes) 0 in
-    omega (arith, zeros, length-take n bytes, length-append (take n bytes) (replicate (n - length bytes) 0))
-
-pub length-encode : (to : Scalar) (value : LeafValue) → length (encode to value) ≡ size to
-length-encode BoolScalar value = refl
-length-encode (Byte signed) value = refl
-length-encode (Int signed width order) value = length-bytes_of order (width_size width) (low_bits (width_size width) (number_of value))
-length-encode (Bytes n) value = length-padded n (text_of value)
 
 pub length-leaf_cast : (from to : Scalar) (item : List ℕ) → length (leaf_cast from to item) ≡ size to
 length-leaf_cast from to item = length-encode to (cast_value to (decode from item))

@@ -1,17 +1,17 @@
 -- Arrays that are made, as the results of calls tell them.
-use Rattle.std.proofs.Common.{inl, ◌≡◌, ◌+◌, ◌-◌, ℕ, Result, Ok, Err, List, [], ◌∷◌, ◌++◌, map, replicate, IfOk, IfErr, sym, ap, subst, ◌∙◌, arith}
+use Rattle.std.proofs.Common.{inl, ◌≡◌, ◌-◌, ℕ, Result, Ok, Err, List, map, IfOk, IfErr, sym, ap, subst, ◌∙◌, Bool, true, false, cond, [], ◌∷◌, refl}
 use Rattle.std.specs.List.{flat_map}
-use Rattle.std.proofs.lemmas.List.{append-nil}
 use Rattle.elem_descr.specs.declared.refusal.Refusal.{Refusal}
 use Rattle.elem_descr.specs.declared.refusal.Refusal.TheVariants.{OutOfMemory}
 use Rattle.elem_descr.specs.declared.scalar.Scalar.{Scalar}
 use Rattle.elem_descr.specs.declared.descr.Descr.{Descr}
 use Rattle.elem_descr.specs.declared.descr.Descr.TheVariants.{Scalar as ScalarDescr}
 use Rattle.elem_descr.specs.Values.{LeafValue}
-use Rattle.elem_descr.specs.Encoding.{size, encode}
+use Rattle.elem_descr.specs.Encoding.{size}
 use Rattle.elem_descr.specs.Items.{item_size, encode_item}
 use Rattle.elem_descr.specs.Blocks.{item_from}
 use Rattle.elem_descr.specs.Refusals.{Gives}
+use Rattle.elem_descr.specs.declared.scalar.Scalar.TheVariants.{Bool as BoolScalar}
 use Rattle.shape_strides.specs.declared.memory_order.MemoryOrder.TheVariants.{C}
 use Rattle.shape_strides.specs.Indexes.{count}
 use Rattle.shape_strides.specs.Layouts.{offsets, multiples}
@@ -19,12 +19,7 @@ use Rattle.overlap_copy.specs.Blocks.{offsets_in}
 use Rattle.overlap_copy.specs.ItemLists.{owned_items}
 use Rattle.overlap_copy.specs.declared.owned.Owned.{Owned}
 use Rattle.elementwise.specs.inside.Made.{IsMade}
-
--- the bytes of an item of a scalar are those of its value
-pub one-encoded : (s : Scalar) (value : LeafValue) → encode_item (ScalarDescr s) (value ∷ []) ≡ encode s value
-one-encoded s value =
-    let none : size s - (0 + size s) ≡ 0 = omega arith in
-    ap (λ n. encode s value ++ replicate n 0) none ∙ append-nil (encode s value)
+use Rattle.elementwise.specs.Results.{truth_item}
 
 -- an array over a block of items
 pub over-made : (t s : Scalar) (shape : List ℕ) (values : List (List LeafValue)) (o : Owned) (block : List ℕ) → t ≡ s → o.descr ≡ ScalarDescr t → o.layout.shape ≡ shape → offsets o.layout ≡ multiples (size t) (count shape) → o.block ≡ block →
@@ -63,3 +58,7 @@ module _ (d : Descr) (shape : List ℕ) (values : List (List LeafValue)) where
       ∙ ap (flat_map (encode_item d)) (sym made.items)
       ∙ λ i. flat_map (encode_item (sym made.descr_is i)) (map (item_from (sym made.descr_is i) o.block) (offsets o.layout))
   made-encoded (Err e) made = tt
+
+pub bool_bytes : (holds : Bool) → (cond holds 1 0 ∷ []) ≡ encode_item (ScalarDescr BoolScalar) (truth_item holds)
+bool_bytes true = refl
+bool_bytes false = refl

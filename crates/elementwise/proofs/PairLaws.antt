@@ -1,13 +1,14 @@
 -- Pairs of items of two lists, and what is made of them one after another.
-use Rattle.std.proofs.Common.{◌≡◌, ℕ, zero, suc, ℤ, List, [], ◌∷◌, ◌++◌, map, length, All, refl, sym, ap, subst, ◌∙◌, arith, append_assoc}
+use Rattle.std.proofs.Common.{◌≡◌, ℕ, zero, suc, ℤ, List, [], ◌∷◌, ◌++◌, map, length, refl, sym, ap, ◌∙◌, arith, append_assoc}
 use Rattle.std.specs.List.{concat, flat_map}
 use Rattle.std.proofs.lemmas.List.{append-nil}
-use Rattle.std.proofs.lemmas.List.Elements.{All-head}
 use Rattle.raw_block.specs.Bytes.{place, joined, EachWithin}
+use Rattle.raw_block.specs.BytesLaws.{fewer}
 use Rattle.shape_strides.specs.declared.runs.Run.{Run}
 use Rattle.shape_strides.specs.declared.run_pairs.RunPair.{RunPair}
 use Rattle.shape_strides.specs.Runs.{run_offsets}
-use Rattle.overlap_copy.specs.RunLaws.{fewer, run_offsets-more, length-run_offsets}
+use Rattle.shape_strides.specs.WalkLaws.{length-run_offsets}
+use Rattle.overlap_copy.specs.RunLaws.{run_offsets-more}
 use Rattle.elementwise.specs.Results.{pairwise}
 
 -- ---- pairs of two lists
@@ -66,6 +67,3 @@ firsts pairs = flat_map (λ pair. run_offsets pair.first) pairs
 
 abbrev pub seconds : List RunPair → List ℕ
 seconds pairs = flat_map (λ pair. run_offsets pair.second) pairs
-
-pub next : (P : RunPair → Type 0) (left left' : List RunPair) (pair : RunPair) → left ≡ pair ∷ left' → All P left → P pair
-next P left left' pair walked all = All-head P pair left' (subst (All P) walked all)

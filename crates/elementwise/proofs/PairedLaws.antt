@@ -1,10 +1,9 @@
 -- What is made of the items of two layouts, item by item.
-use Rattle.std.proofs.Common.{◌≡◌, ◌+◌, ◌*◌, ◌≤◌, ◌<◌, ℕ, List, [], ◌∷◌, ◌++◌, map, length, drop, replicate, refl, sym, ap, ◌∙◌, arith, mul_comm}
+use Rattle.std.proofs.Common.{◌≡◌, ◌+◌, ◌*◌, ◌≤◌, ℕ, List, [], ◌∷◌, ◌++◌, map, length, drop, replicate, refl, sym, ap, ◌∙◌, arith}
 use Rattle.std.specs.List.{concat, flat_map, AllByRecursion as Each}
-use Rattle.std.proofs.lemmas.List.{length-replicate, take-take, get_or_default, same_lists}
+use Rattle.std.proofs.lemmas.List.{length-replicate, take-take}
 use Rattle.std.proofs.lemmas.Simd.{map-map}
 use Rattle.std.proofs.lemmas.List.Elements.{All-from_recursion}
-use Rattle.std.proofs.lemmas.List.FromFn.{length-map-range_with_len, get_or-map-range_with_len}
 use Rattle.elem_descr.specs.declared.descr.Descr.{Descr}
 use Rattle.elem_descr.specs.declared.descr.Descr.TheVariants.{Scalar as ScalarDescr}
 use Rattle.elem_descr.specs.declared.scalar.Scalar.{Scalar}
@@ -14,25 +13,15 @@ use Rattle.elem_descr.specs.Blocks.{item_from}
 use Rattle.raw_block.specs.Bytes.{item_at}
 use Rattle.shape_strides.specs.Layouts.{multiples}
 use Rattle.elem_descr.specs.Items.{item_size, encode_item}
+use Rattle.elem_descr.specs.ByteLaws.{length-encode, one-encoded}
 use Rattle.elementwise.specs.Results.{pairwise, value_in}
-use Rattle.elementwise.specs.inside.Passes.{put_all, row_offsets}
+use Rattle.elementwise.specs.inside.Passes.{put_all}
 use Rattle.elementwise.specs.inside.PairPasses.{value_pair, pair_from}
-use Rattle.elementwise.proofs.PassLaws.{length-row}
 use Rattle.elementwise.proofs.AppendedLaws.{put-rows}
-use Rattle.elementwise.proofs.RowLaws.{length-put_all, row-entry, landed, rows-in, rows-lie}
-use Rattle.elementwise.proofs.LeafLaws.{length-encode}
-use Rattle.elementwise.proofs.MadeLaws.{one-encoded}
+use Rattle.elementwise.proofs.RowLaws.{length-put_all, landed, rows-in, rows-lie}
 use Rattle.elementwise.proofs.PairLaws.{length-pairwise, map-pairwise, pairwise-map}
-
--- where items lie one after another
-rows-are : (item n : ℕ) → row_offsets 0 item n ≡ multiples item n
-rows-are item n =
-    let place = λ (k : ℕ). item * k in
-    let counted : length (multiples item n) ≡ n = length-map-range_with_len place 0 n in
-    same_lists (row_offsets 0 item n) (multiples item n) (length-row 0 item n ∙ sym counted) (λ k d inside.
-    let low : k < n = omega (arith, inside, length-row 0 item n) in
-    let here : 0 + k * item ≡ item * k = omega (arith, mul_comm item k) in
-    get_or_default (row_offsets 0 item n) k d 0 inside ∙ row-entry 0 item n k low ∙ here ∙ sym (get_or-map-range_with_len place 0 n k k d low (omega arith)))
+use Rattle.overlap_copy.specs.PackedLaws.{length-row, row-multiples}
+use Rattle.overlap_copy.specs.inside.Packed.{row_offsets}
 
 -- the item of a scalar is its value
 scalar-item : (scalar : Scalar) (bytes : List ℕ) (o : ℕ) → item_from (ScalarDescr scalar) bytes o ≡ decode scalar (item_at o (size scalar) bytes) ∷ []
@@ -58,7 +47,7 @@ all_made left right to gives a b xs ys bytes bytes' n m many many' counted room 
     let there : map read rows ≡ pairwise make xs ys =
     ap (λ all. map (λ o. item_at o wide all) rows) written
     ∙ landed wide rows (pairwise make xs ys) bytes even (rows-in wide n (length bytes) room 0 wide (omega arith)) (All-from_recursion (λ item. length item ≡ wide) (pairwise make xs ys) (each-wide left right to gives a b xs ys)) (rows-lie wide n (length bytes) room 0 wide (omega arith)) in
-    ap (map (item_from (ScalarDescr to) bytes')) (sym (rows-are wide n))
+    ap (map (item_from (ScalarDescr to) bytes')) (sym (row-multiples wide n))
     ∙ (λ i. map (λ o. scalar-item to bytes' o i) rows)
     ∙ sym (map-map value read rows)
     ∙ ap (map value) there

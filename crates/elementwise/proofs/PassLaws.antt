@@ -1,28 +1,20 @@
 -- Passes over items at equal steps.
-use Rattle.std.proofs.Common.{◌≡◌, ◌+◌, ◌-◌, ◌*◌, ◌≤◌, ◌<◌, ℕ, zero, suc, List, [], ◌∷◌, ◌++◌, map, length, take, drop, refl, sym, ap, ◌∙◌, arith, add-one, suc-mul, mul_comm, mul-le-mul_right, add-mul, length-append}
-use Rattle.std.specs.List.{flat_map}
-use Rattle.std.specs.Prelude.{ℤ, pos, ◌+ℤ◌, ◌*ℤ◌}
+use Rattle.std.proofs.Common.{◌≡◌, ◌+◌, ◌-◌, ◌*◌, ◌≤◌, ◌<◌, ℕ, zero, suc, List, [], ◌∷◌, ◌++◌, map, length, take, drop, refl, sym, ap, ◌∙◌, arith, add-one, suc-mul, mul-le-mul_right}
+use Rattle.std.specs.Prelude.{ℤ, pos}
 use Rattle.std.proofs.lemmas.List.{map-append, length-map, get_or-map, same_lists}
-use Rattle.raw_block.specs.BytesLaws.{not_negative}
+use Rattle.raw_block.specs.BytesLaws.{not_negative, fewer}
 use Rattle.elem_descr.specs.declared.leaf.Leaf.{Leaf}
 use Rattle.elem_descr.specs.Encoding.{size}
-use Rattle.elem_descr.specs.Steps.{numbers_from}
-use Rattle.elem_descr.specs.StepLaws.{numbers-split}
-use Rattle.shape_strides.specs.Addresses.{natural}
 use Rattle.shape_strides.specs.Runs.{run_offsets}
-use Rattle.overlap_copy.specs.RunLaws.{fewer, run_offsets-more, length-run_offsets, place-at}
-use Rattle.std.proofs.Math.IntN.{zero-*ℤ}
+use Rattle.overlap_copy.specs.RunLaws.{run_offsets-more, place-at}
+use Rattle.overlap_copy.specs.PackedLaws.{length-next, length-row, row-split}
+use Rattle.overlap_copy.specs.inside.Packed.{row_offsets}
 use Rattle.std.proofs.lemmas.Int.{ints}
 use Rattle.raw_block.specs.Bytes.{position, place, put, item_at, EachWithin}
 use Rattle.shape_strides.specs.declared.runs.Run.{Run}
-use Rattle.elementwise.specs.inside.Passes.{made, put_all, row_offsets, leaf_cast, leaf_from}
-
--- the first item lies within the bytes
-pub begins : (len at : ℕ) (step : ℤ) (width n k : ℕ) → EachWithin len at step width n → k < n → at ≤ len
-begins len at step width n k within low =
-    let first = (within.each 0 (omega (arith, low))).1 in
-    let none = zero-*ℤ step in
-    omega (arith, ints)
+use Rattle.shape_strides.specs.WalkLaws.{length-run_offsets}
+use Rattle.shape_strides.specs.RunPairs.{all_offsets}
+use Rattle.elementwise.specs.inside.Passes.{made, put_all, leaf_cast, leaf_from}
 
 -- one item more
 pub made-next : (f : List ℕ → List ℕ) (width : ℕ) (other : List ℕ) (to from : Run) (k : ℕ) (start bytes bytes' : List ℕ) (target source width' : ℕ) → bytes ≡ made f width other to from k start →
@@ -94,16 +86,6 @@ row-within len at item width n some fits ends = record {
       (omega (arith, ints), omega (arith, ints, most, suc-mul k item));
 }
 
-pub row-split : (at item n m : ℕ) → row_offsets at item (n + m) ≡ row_offsets at item n ++ row_offsets (at + n * item) item m
-row-split at item n m =
-    let next : pos at +ℤ pos item *ℤ pos n ≡ pos (at + n * item) = ap (λ k. pos (at + k)) (mul_comm item n) in
-    ap (map natural) (numbers-split (pos at) (pos item) n m)
-    ∙ map-append natural (numbers_from (pos at) (pos item) n) (numbers_from (pos at +ℤ pos item *ℤ pos n) (pos item) m)
-    ∙ ap (λ z. row_offsets at item n ++ map natural (numbers_from z (pos item) m)) next
-
-pub length-row : (at item n : ℕ) → length (row_offsets at item n) ≡ n
-length-row at item n = length-run_offsets (record { offset = at; count = n; step = pos item })
-
 -- a run of leaves is written
 pub leaf-run : (from leaf : Leaf) (at item : ℕ) (other bytes bytes' : List ℕ) (run : Run) (far step : ℤ) → 1 ≤ run.count → EachWithin (length other) run.offset run.step (from.at + size from.scalar) run.count → leaf.at + size leaf.scalar ≤ item →
     at + run.count * item ≤ length bytes → far ≡ pos item → step ≡ run.step →
@@ -116,28 +98,15 @@ leaf-run from leaf at item other bytes bytes' run far step some within fits room
 
 -- ---- run after run
 
--- the offsets of all items of runs
-abbrev pub all_of : List Run → List ℕ
-all_of runs = flat_map run_offsets runs
-
-length-next : (run : Run) (left : List Run) → length (all_of (run ∷ left)) ≡ run.count + length (all_of left)
-length-next run left = omega (arith, length-append (run_offsets run) (all_of left), length-run_offsets run)
-
--- there is room for the next run, and for those after it
-pub room-next : (left left' : List Run) (run : Run) (at item len : ℕ) → left ≡ run ∷ left' → at + length (all_of left) * item ≤ len → (at + run.count * item ≤ len) × (at + run.count * item + length (all_of left') * item ≤ len)
-room-next left left' run at item len walked room =
-    let sum : length (all_of left) * item ≡ run.count * item + length (all_of left') * item = ap (λ n. n * item) (ap (λ l. length (all_of l)) walked ∙ length-next run left') ∙ add-mul run.count (length (all_of left')) item in
-    (omega (arith, room, sum), omega (arith, room, sum))
-
 -- the next run is written
 pub written-next : (make : ℕ → List ℕ) (left left' : List Run) (run : Run) (at by item : ℕ) (bytes bytes' whole : List ℕ) → left ≡ run ∷ left' → bytes' ≡ put_all (row_offsets (at + by) item run.count) (map make (run_offsets run)) bytes →
-    put_all (row_offsets (at + by) item (length (all_of left))) (map make (all_of left)) bytes ≡ whole → put_all (row_offsets (at + run.count * item + by) item (length (all_of left'))) (map make (all_of left')) bytes' ≡ whole
+    put_all (row_offsets (at + by) item (length (all_offsets left))) (map make (all_offsets left)) bytes ≡ whole → put_all (row_offsets (at + run.count * item + by) item (length (all_offsets left'))) (map make (all_offsets left')) bytes' ≡ whole
 written-next make left left' run at by item bytes bytes' whole walked wrote so_far =
-    let n = length (all_of left') in
+    let n = length (all_offsets left') in
     let further : at + run.count * item + by ≡ at + by + run.count * item = omega arith in
     let even : length (row_offsets (at + by) item run.count) ≡ length (map make (run_offsets run)) = length-row (at + by) item run.count ∙ sym (length-map (run_offsets run) make ∙ length-run_offsets run) in
-    (λ i. put_all (row_offsets (further i) item n) (map make (all_of left')) (wrote i))
-    ∙ sym (put_all-append (row_offsets (at + by) item run.count) (row_offsets (at + by + run.count * item) item n) (map make (run_offsets run)) (map make (all_of left')) bytes even)
-    ∙ (λ i. put_all (sym (ap (row_offsets (at + by) item) (length-next run left') ∙ row-split (at + by) item run.count n) i) (sym (map-append make (run_offsets run) (all_of left')) i) bytes)
-    ∙ (λ i. put_all (row_offsets (at + by) item (length (all_of (sym walked i)))) (map make (all_of (sym walked i))) bytes)
+    (λ i. put_all (row_offsets (further i) item n) (map make (all_offsets left')) (wrote i))
+    ∙ sym (put_all-append (row_offsets (at + by) item run.count) (row_offsets (at + by + run.count * item) item n) (map make (run_offsets run)) (map make (all_offsets left')) bytes even)
+    ∙ (λ i. put_all (sym (ap (row_offsets (at + by) item) (length-next run left') ∙ row-split (at + by) item run.count n) i) (sym (map-append make (run_offsets run) (all_offsets left')) i) bytes)
+    ∙ (λ i. put_all (row_offsets (at + by) item (length (all_offsets (sym walked i)))) (map make (all_offsets (sym walked i))) bytes)
     ∙ so_far

@@ -2,7 +2,7 @@
 use Rattle.std.proofs.Common.{◌≡◌, ◌*◌, ℕ, max, nat_le, Bool, true, false, cond, Result, Ok, Err, List, [], ◌∷◌, refl, sym, ap, subst, ◌∙◌}
 use Rattle.std.specs.Prelude.{not, ◌&&◌, ◌||◌, ◌==◌}
 use Rattle.std.specs.Result.{is_ok}
-use Rattle.std.proofs.lemmas.Bool.{false≢true, and_parts}
+use Rattle.std.proofs.lemmas.Bool.{false≢true, and_parts, not-true}
 use Rattle.elem_descr.specs.declared.refusal.Refusal.{Refusal}
 use Rattle.elem_descr.specs.declared.refusal.Refusal.TheVariants.{NotForThisKind, NeedsFloats}
 use Rattle.elem_descr.specs.declared.scalar.Order.TheVariants.{Little}
@@ -12,7 +12,7 @@ use Rattle.elem_descr.specs.declared.scalar.Scalar.TheVariants.{Bool as BoolScal
 use Rattle.elem_descr.specs.declared.descr.Descr.{Descr}
 use Rattle.elem_descr.specs.declared.descr.Descr.TheVariants.{Scalar as ScalarDescr, Record as RecordDescr}
 use Rattle.elem_descr.specs.Refusals.{◌>>=◌, check}
-use Rattle.elem_descr.specs.RefusalLaws.{same_answer, check_passed}
+use Rattle.elem_descr.specs.RefusalLaws.{same_answer, check_passed, check_test}
 use Rattle.elem_descr.specs.Encoding.{IsNumber, size}
 use Rattle.broadcasting.specs.Broadcasts.{common_shape}
 use Rattle.machine_numbers.specs.declared.operators.BinOp.{BinOp}
@@ -69,14 +69,6 @@ native-little (Int signed width order) native = λ i. Int signed width (sym nati
 native-little (Bytes n) never = absurd never
 
 -- ---- what was checked
-
-pub check_test : {X : Type 0} (test : Bool) (refusal : Refusal) (rest : Result X Refusal) (x : X) → check test refusal >>= (λ _. rest) ≡ Ok x → test ≡ true
-check_test true refusal rest x found = refl
-check_test false refusal rest x found = absurd (false≢true (ap is_ok found))
-
-not-true : (b : Bool) → not b ≡ true → b ≡ false
-not-true false is = refl
-not-true true is = absurd (false≢true is)
 
 neither : (a b : Bool) → (a || b) ≡ false → (a ≡ false) × (b ≡ false)
 neither false b is = (refl, is)

@@ -6,8 +6,10 @@ use Rattle.raw_block.specs.Bytes.{put, item_at, place}
 use Rattle.raw_block.specs.BytesLaws.{length-put, item_at-put_same, item_at-put_apart}
 use Rattle.shape_strides.specs.declared.runs.Run.{Run}
 use Rattle.overlap_copy.specs.RunLaws.{place-at}
-use Rattle.elementwise.specs.inside.Passes.{put_all, row_offsets}
-use Rattle.elementwise.proofs.PassLaws.{row-within, length-row}
+use Rattle.overlap_copy.specs.PackedLaws.{length-row}
+use Rattle.overlap_copy.specs.inside.Packed.{row_offsets}
+use Rattle.elementwise.specs.inside.Passes.{put_all}
+use Rattle.elementwise.proofs.PassLaws.{row-within}
 
 -- where the k-th item begins
 pub row-entry : (at item n k : ℕ) → k < n → get_or (row_offsets at item n) k 0 ≡ at + k * item

@@ -1,6 +1,6 @@
 -- What is made of arrays whose items repeat: the result of the items that differ, stretched.
 use Rattle.std.proofs.Common.{◌≡◌, ◌+◌, ◌<◌, ◌≤◌, ℕ, zero, suc, pos, true, List, [], ◌∷◌, map, take, drop, length, get_or, All, refl, sym, ap, subst, ◌∙◌, arith}
-use Rattle.std.proofs.lemmas.List.{length-map, get_or-map, same_lists}
+use Rattle.std.proofs.lemmas.List.{length-map, get_or-map}
 use Rattle.std.proofs.lemmas.List.Elements.{All-map}
 use Rattle.std.proofs.lemmas.Simd.{map-map}
 use Rattle.elem_descr.specs.declared.descr.Descr.{Descr}
@@ -8,37 +8,25 @@ use Rattle.elem_descr.specs.declared.descr.Descr.TheVariants.{Scalar as ScalarDe
 use Rattle.elem_descr.specs.declared.scalar.Scalar.TheVariants.{Bool as BoolScalar}
 use Rattle.elem_descr.specs.declared.scalar.Order.TheVariants.{Little}
 use Rattle.elem_descr.specs.Values.{LeafValue, number}
-use Rattle.elem_descr.specs.Encoding.{truth, wrap, number_of, number_in}
-use Rattle.elem_descr.specs.EncodingLaws.{truth_suc}
+use Rattle.elem_descr.specs.Encoding.{wrap, number_of, number_in}
 use Rattle.elem_descr.specs.Blocks.{item_from}
+use Rattle.elem_descr.specs.ByteLaws.{truth-twice}
 use Rattle.shape_strides.specs.declared.layout.Layout.{Layout}
 use Rattle.shape_strides.specs.Indexes.{count, indexes, rank, IsIndex}
-use Rattle.shape_strides.specs.IndexLaws.{length-indexes, rank-lt, get_or-indexes, index_at}
+use Rattle.shape_strides.specs.IndexLaws.{length-indexes, rank-lt, get_or-indexes, index_at, same_on_indexes}
 use Rattle.shape_strides.specs.Layouts.{offsets}
 use Rattle.shape_strides.specs.LayoutLaws.{length-offsets}
 use Rattle.view_ops.specs.Views.{view_through}
 use Rattle.broadcasting.specs.Broadcasts.{can_stretch, broadcast_index}
-use Rattle.broadcasting.specs.BroadcastLaws.{IsIndex-broadcast}
+use Rattle.broadcasting.specs.BroadcastLaws.{IsIndex-broadcast, stretched-self}
 use Rattle.broadcasting.specs.Shrinking.{IsStretchOf}
 use Rattle.overlap_copy.specs.declared.owned.Owned.{Owned}
 use Rattle.elementwise.specs.Results.{stretched_items, pairwise, value_in}
 use Rattle.elementwise.specs.inside.Shrunk.{IsShrunk}
 use Rattle.elementwise.specs.inside.Made.{IsMade}
 use Rattle.elementwise.proofs.PairLaws.{pairwise-map}
-use Rattle.elementwise.proofs.StretchedLaws.{stretched-self, inside}
-
--- functions that agree on the indexes
-agree : {X : Type 0} (shape : List ℕ) (f g : List ℕ → X) → ((index : List ℕ) → IsIndex shape index → f index ≡ g index) → map f (indexes shape) ≡ map g (indexes shape)
-agree shape f g same =
-    same_lists (map f (indexes shape)) (map g (indexes shape)) (length-map (indexes shape) f ∙ sym (length-map (indexes shape) g)) (λ k d below.
-    let within : k < length (indexes shape) = omega (arith, length-map (indexes shape) f) in
-    let found = index_at shape k (omega (arith, length-indexes shape)) in
-    let here : get_or (indexes shape) k [] ≡ found.0 = ap (λ r. get_or (indexes shape) r []) (sym found.2) ∙ get_or-indexes shape found.0 [] found.1 in
-    get_or-map f (indexes shape) k [] d within ∙ ap f here ∙ same found.0 found.1 ∙ ap g (sym here) ∙ sym (get_or-map g (indexes shape) k [] d within))
-
-pairwise-self : {A B : Type 0} (f : A → A → B) (xs : List A) → pairwise f xs xs ≡ map (λ x. f x x) xs
-pairwise-self f [] = refl
-pairwise-self f (x ∷ xs) = ap (λ rest. f x x ∷ rest) (pairwise-self f xs)
+use Rattle.elementwise.proofs.StretchedLaws.{inside}
+use Rattle.elementwise.proofs.AppliedLaws.{pairwise-same}
 
 get_or-pairwise : {A B : Type 0} (f : A → A → B) (xs ys : List A) (k : ℕ) (d : A) (e : B) → k < length xs → length xs ≡ length ys → get_or (pairwise f xs ys) k e ≡ f (get_or xs k d) (get_or ys k d)
 get_or-pairwise f [] ys k d e below even = absurd (omega arith)
@@ -59,15 +47,15 @@ module _ (once shape : List ℕ) (can : can_stretch once shape ≡ true) where
   seen read os many =
       let at = λ (index : List ℕ). rank once (broadcast_index once index) in
       map-map read (λ index. get_or os (at index) 0) (indexes shape)
-      ∙ agree shape (λ index. read (get_or os (at index) 0)) (λ index. get_or (map read os) (at index) []) (λ index in'. sym (get_or-map read os (at index) 0 [] (omega (arith, within index in', many))))
+      ∙ same_on_indexes shape (λ index. read (get_or os (at index) 0)) (λ index. get_or (map read os) (at index) []) (λ index in'. sym (get_or-map read os (at index) 0 [] (omega (arith, within index in', many))))
 
   seen-pairs : (f : List LeafValue → List LeafValue → List LeafValue) (xs ys : List (List LeafValue)) → length xs ≡ count once → length ys ≡ count once → through once shape (pairwise f xs ys) ≡ pairwise f (through once shape xs) (through once shape ys)
   seen-pairs f xs ys many many' =
       let at = λ (index : List ℕ). rank once (broadcast_index once index) in
       let x = λ (index : List ℕ). get_or xs (at index) [] in
       let y = λ (index : List ℕ). get_or ys (at index) [] in
-      agree shape (λ index. get_or (pairwise f xs ys) (at index) []) (λ index. f (x index) (y index)) (λ index in'. get_or-pairwise f xs ys (at index) [] [] (omega (arith, within index in', many)) (many ∙ sym many'))
-      ∙ sym (pairwise-self (λ i j. f (x i) (y j)) (indexes shape))
+      same_on_indexes shape (λ index. get_or (pairwise f xs ys) (at index) []) (λ index. f (x index) (y index)) (λ index in'. get_or-pairwise f xs ys (at index) [] [] (omega (arith, within index in', many)) (many ∙ sym many'))
+      ∙ sym (pairwise-same (λ i j. f (x i) (y j)) (indexes shape))
       ∙ sym (pairwise-map f x y (indexes shape) (indexes shape))
 
 -- ---- operands
@@ -118,20 +106,15 @@ each_spread f b d block l small once made is there =
     ∙ (λ i. map read (view_through (offsets small) (sym is.shape_is i) l.shape (broadcast_index (sym is.shape_is i))))
     ∙ ap (map read) (is.places ∙ stretched-self l)
 
--- bools that are cast to bools
-truth-truth : (n : ℕ) → truth (truth n) ≡ truth n
-truth-truth zero = refl
-truth-truth (suc n) = rw (truth_suc n) refl
-
 pub bools_again : (d : Descr) (block : List ℕ) (l : Layout) (shape : List ℕ) → d ≡ ScalarDescr BoolScalar →
     pairwise (λ x y. number (wrap BoolScalar (number_of (value_in x))) ∷ []) (stretched_items d block l shape) (stretched_items d block l shape) ≡ stretched_items d block l shape
 bools_again d block l shape is =
     let os = view_through (offsets l) l.shape shape (broadcast_index l.shape) in
     let again = λ (x : List LeafValue). number (wrap BoolScalar (number_of (value_in x))) ∷ [] in
-    pairwise-self (λ (x y : List LeafValue). again x) (stretched_items d block l shape)
+    pairwise-same (λ (x y : List LeafValue). again x) (stretched_items d block l shape)
     ∙ (λ i. map again (map (item_from (is i) block) os))
     ∙ map-map again (item_from (ScalarDescr BoolScalar) block) os
-    ∙ (λ i. map (λ o. number (pos (truth-truth (number_in Little 1 (take 1 (take 1 (drop o block)))) i)) ∷ []) os)
+    ∙ (λ i. map (λ o. number (pos (truth-twice (number_in Little 1 (take 1 (take 1 (drop o block)))) i)) ∷ []) os)
     ∙ λ i. map (item_from (sym is i) block) os
 
 -- ---- what holds of each item

@@ -7,11 +7,7 @@ use Rattle.elem_descr.specs.declared.refusal.Refusal.{Refusal}
 use Rattle.elem_descr.specs.declared.refusal.Refusal.TheVariants.{OutOfMemory}
 use Rattle.shape_strides.specs.declared.layout.Layout.{Layout}
 use Rattle.shape_strides.specs.Indexes.{indexes, rank}
-use Rattle.shape_strides.specs.Addresses.{natural}
-use Rattle.shape_strides.specs.Layouts.{address, offsets}
-use Rattle.shape_strides.specs.IndexLaws.{same_on_indexes}
-use Rattle.shape_strides.specs.LayoutLaws.{get_or-offsets}
-use Rattle.broadcasting.specs.BroadcastLaws.{broadcast_index-itself}
+use Rattle.shape_strides.specs.Layouts.{offsets}
 use Rattle.view_ops.specs.Views.{View, view_through, IsViewOf, GivesView}
 use Rattle.broadcasting.specs.Broadcasts.{can_stretch, broadcast_index, stretched}
 
@@ -50,10 +46,3 @@ pub given_refusal : (old : Layout) (shape : List ℕ) (result : Result Layout Re
 given_refusal old shape (Ok new) can gives = tt
 given_refusal old shape (Err e) can (inl is) = is
 given_refusal old shape (Err e) can (inr there) = absurd (false≢true (sym (ap is_ok there) ∙ ap is_ok (stretched-is old.shape shape can)))
-
--- an array that is stretched to its own shape
-pub stretched-self : (l : Layout) → view_through (offsets l) l.shape l.shape (broadcast_index l.shape) ≡ offsets l
-unfolding offsets
-stretched-self l =
-    same_on_indexes l.shape (λ index. get_or (offsets l) (rank l.shape (broadcast_index l.shape index)) 0) (λ index. natural (address l index))
-    (λ index in'. ap (λ j. get_or (offsets l) (rank l.shape j) 0) (broadcast_index-itself l.shape index in') ∙ get_or-offsets l index 0 in')

@@ -1,7 +1,7 @@
 -- Operands that are cast, and what is made of them.
 use Rattle.std.proofs.Common.{◌≡◌, ◌+◌, ◌<◌, ◌≤◌, ℕ, true, List, [], ◌∷◌, map, length, get_or, All, refl, sym, ap, ◌∙◌, arith}
 use Rattle.std.specs.Prelude.{slice_index}
-use Rattle.std.proofs.lemmas.List.{length-map, get_or-map, same_lists}
+use Rattle.std.proofs.lemmas.List.{length-map, get_or-map}
 use Rattle.std.proofs.lemmas.Simd.{map-map}
 use Rattle.std.proofs.lemmas.List.Elements.{All-head, All-rest}
 use Rattle.elem_descr.specs.declared.descr.Descr.{Descr}
@@ -10,8 +10,8 @@ use Rattle.elem_descr.specs.Items.{item_size}
 use Rattle.elem_descr.specs.Blocks.{item_from}
 use Rattle.shape_strides.specs.Layouts.{offsets}
 use Rattle.shape_strides.specs.declared.layout.Layout.{Layout}
-use Rattle.shape_strides.specs.Indexes.{count, indexes, rank, IsIndex}
-use Rattle.shape_strides.specs.IndexLaws.{length-indexes, index_at, get_or-indexes, rank-lt}
+use Rattle.shape_strides.specs.Indexes.{count, indexes, rank}
+use Rattle.shape_strides.specs.IndexLaws.{rank-lt, same_on_indexes}
 use Rattle.shape_strides.specs.LayoutLaws.{length-offsets}
 use Rattle.broadcasting.specs.Broadcasts.{can_stretch, broadcast_index}
 use Rattle.broadcasting.specs.BroadcastLaws.{IsIndex-broadcast}
@@ -26,16 +26,6 @@ kept from to block (o ∷ os) inside same =
     let Ends = λ (offset : ℕ). offset + item_size from ≤ length block in
     λ i. same o (All-head Ends o os inside) i ∷ kept from to block os (All-rest Ends o os (o ∷ os) refl inside) same i
 
--- functions that agree on the indexes
-same_on : {A : Type 0} (shape : List ℕ) (f g : List ℕ → A) → ((index : List ℕ) → IsIndex shape index → f index ≡ g index) → map f (indexes shape) ≡ map g (indexes shape)
-same_on shape f g agree =
-    same_lists (map f (indexes shape)) (map g (indexes shape)) (length-map (indexes shape) f ∙ sym (length-map (indexes shape) g)) (λ k d below.
-    let low : k < count shape = omega (arith, length-map (indexes shape) f, length-indexes shape) in
-    let inside : k < length (indexes shape) = omega (arith, length-indexes shape) in
-    let found = index_at shape k low in
-    let here : get_or (indexes shape) k [] ≡ found.0 = ap (λ r. get_or (indexes shape) r []) (sym found.2) ∙ get_or-indexes shape found.0 [] found.1 in
-    get_or-map f (indexes shape) k [] d inside ∙ ap f here ∙ agree found.0 found.1 ∙ ap g (sym here) ∙ sym (get_or-map g (indexes shape) k [] d inside))
-
 -- items that are cast and then stretched are those that are stretched and then cast
 pub stretched-cast : (cast : List LeafValue → List LeafValue) (d d' : Descr) (b b' : List ℕ) (l l' : Layout) (shape : List ℕ) → l'.shape ≡ l.shape → can_stretch l.shape shape ≡ true →
     map (item_from d' b') (offsets l') ≡ map cast (map (item_from d b) (offsets l)) → stretched_items d' b' l' shape ≡ map cast (stretched_items d b l shape)
@@ -45,7 +35,7 @@ stretched-cast cast d d' b b' l l' shape same can cast-is =
     let pick = λ (index : List ℕ). slice_index (offsets l) (rank l.shape (broadcast_index l.shape index)) in
     let pick' = λ (index : List ℕ). slice_index (offsets l') (rank l'.shape (broadcast_index l'.shape index)) in
     map-map read' pick' (indexes shape)
-    ∙ same_on shape (λ index. read' (pick' index)) (λ index. cast (read (pick index))) (λ index in'.
+    ∙ same_on_indexes shape (λ index. read' (pick' index)) (λ index. cast (read (pick index))) (λ index in'.
     let r = rank l.shape (broadcast_index l.shape index) in
     let low : r < count l.shape = rank-lt l.shape (broadcast_index l.shape index) (IsIndex-broadcast l.shape shape index can in') in
     let here : r < length (offsets l) = omega (arith, low, length-offsets l) in

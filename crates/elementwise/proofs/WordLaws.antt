@@ -6,8 +6,6 @@ use Rattle.std.proofs.Math.Pow.{mod-mod-pow}
 use Rattle.std.proofs.lemmas.Bool.{false≢true, ltb-true}
 use Rattle.std.proofs.lemmas.Int.{ints, int_rem_euclid_is}
 use Rattle.std.proofs.lemmas.Nat.{pow_pos, pow-add}
-use Rattle.elem_descr.specs.declared.scalar.Width.{Width}
-use Rattle.elem_descr.specs.declared.scalar.Width.TheVariants.{Two, Four, Eight}
 use Rattle.elem_descr.specs.declared.scalar.Scalar.{Scalar}
 use Rattle.elem_descr.specs.declared.scalar.Scalar.TheVariants.{Bool as BoolScalar, Byte, Int, Bytes}
 use Rattle.elem_descr.specs.Encoding.{IsNumber, width_size, integer, low_bits, wrap, truth}
@@ -17,6 +15,7 @@ use Rattle.machine_numbers.specs.declared.operators.BinOp.{BinOp}
 use Rattle.machine_numbers.specs.declared.operators.BinOp.TheVariants.{Add, Subtract, Multiply, FloorDivide, Modulo, And, Or, Xor, ShiftLeft, ShiftRight, Divide}
 use Rattle.machine_numbers.specs.Kinds.{is_bool}
 use Rattle.elementwise.specs.Operations.{exact, binary, of_bits}
+use Rattle.elementwise.specs.inside.PairLaws.{small_width}
 use Rattle.machine_numbers.specs.Bits.{AreBits}
 
 -- bits are those of the number that they are
@@ -47,11 +46,6 @@ low_bits-fewer n (negsuc a) few =
     ]
 
 -- ---- results of the lowest bits
-
-small_width : (width : Width) → width_size width ≤ 8
-small_width Two = omega arith
-small_width Four = omega arith
-small_width Eight = omega arith
 
 wrap-low : (s : Scalar) (z : ℤ) → IsNumber s → is_bool s ≡ false → wrap s (pos (low_bits 8 z)) ≡ wrap s z
 wrap-low BoolScalar z is other = absurd (false≢true (sym other))

@@ -1,5 +1,5 @@
 -- A layout that is cut between two axes: the first axes where the others are 0, and the others where the first are 0.
-use Rattle.std.proofs.Common.{◌≡◌, ◌⊎◌, inl, inr, Result, Ok, Err, ℕ, ◌-◌, ◌*◌, ◌<◌, ◌≤◌, nat_le, true, List, [], ◌∷◌, ◌++◌, length, get_or, take, drop, All, refl, sym, ap, subst, ◌∙◌, arith, length-drop, length-take-le, take_all, mul-le-mul_left, mul-le-mul_right, mul-one, one-mul}
+use Rattle.std.proofs.Common.{◌≡◌, ◌⊎◌, inl, inr, Result, Ok, Err, ℕ, ◌-◌, ◌*◌, ◌<◌, ◌≤◌, nat_le, true, List, [], ◌∷◌, ◌++◌, length, get_or, take, drop, All, refl, sym, ap, subst, ◌∙◌, arith, length-drop, length-take-le, mul-le-mul_left, mul-le-mul_right, mul-one, one-mul}
 use Rattle.std.specs.List.{list_all}
 use Rattle.std.specs.Result.{is_ok}
 use Rattle.std.proofs.lemmas.Bool.{false≢true, le-leb}
@@ -11,6 +11,7 @@ use lib.IntN.{ℤ, pos, ◌+ℤ◌, ◌*ℤ◌, +ℤ_idl, +ℤ_idr, +ℤ_assoc}
 use Rattle.elem_descr.specs.declared.refusal.Refusal.{Refusal}
 use Rattle.elem_descr.specs.declared.refusal.Refusal.TheVariants.{OutOfMemory}
 use Rattle.elem_descr.specs.RefusalLaws.{same_answer}
+use Rattle.elem_descr.specs.ListLaws.{slice-rest}
 use Rattle.shape_strides.specs.declared.layout.Layout.{Layout}
 use Rattle.shape_strides.specs.Limits.{max_axes, max_items, max_bytes}
 use Rattle.shape_strides.specs.Indexes.{count, IsIndex}
@@ -124,10 +125,6 @@ module _ (rest : Layout) (k : ℕ) (within : k ≤ length rest.shape) (some : 0 
 
   pub strides-behind : length (drop k rest.strides) ≡ length (drop k rest.shape)
   strides-behind = omega (arith, length-drop k rest.strides, length-drop k rest.shape, rest.one_stride_an_axis)
-
--- a slice from a place on
-pub slice-rest : {X : Type 0} (k : ℕ) (whole : List X) → take (length whole - k) (drop k whole) ≡ drop k whole
-slice-rest k whole = take_all (length whole - k) (drop k whole) (omega (arith, length-drop k whole))
 
 pub made-before : (shape seen made : List ℕ) (k : ℕ) → 0 < count shape → k ≤ length shape → length shape ≤ max_axes → All (λ n. n ≤ max_items) shape → count shape ≤ max_items → seen ≡ shape → shape_of (take k seen) ≡ Ok made → made ≡ take k shape
 made-before shape seen made k some within few short small is there =

@@ -1,8 +1,6 @@
 -- Indexes of axes that are joined, and lists over them.
 use Rattle.std.proofs.Common.{◌≡◌, ℕ, List, [], ◌∷◌, ◌++◌, map, length, get_or, take, drop, All, refl, sym, ap, ◌∙◌, arith, append-nil}
 use Rattle.std.specs.List.{flat_map, range_with_len}
-use Rattle.std.proofs.lemmas.List.{map-append}
-use Rattle.std.proofs.lemmas.List.Concat.{flat_map-append}
 use Rattle.std.proofs.lemmas.List.Elements.{All-map, All-head, All-tail}
 use Rattle.std.proofs.lemmas.List.Folds.{flat_map-map}
 use Rattle.std.proofs.lemmas.Simd.{map-map}
@@ -12,6 +10,7 @@ use Rattle.shape_strides.specs.Indexes.{indexes, IsIndex}
 use Rattle.shape_strides.specs.Layouts.{address, offsets}
 use Rattle.shape_strides.specs.IndexLaws.{length-indexes, get_or-indexes, index_at, same_on_indexes}
 use Rattle.fancy_index.specs.Plans.{moved_offset, shifted, shifted_all, moved_all}
+use Rattle.elem_descr.specs.ListLaws.{flat_map_same, flat_map-flat_map, map-flat_map}
 
 -- ---- what holds of each index
 
@@ -35,18 +34,6 @@ flat_same shape f g each = flat_map_all f g (indexes shape) (all_indexes (λ ind
 
 -- ---- indexes of joined axes
 
-map-flat : {X Y Z : Type 0} (f : Y → Z) (g : X → List Y) (xs : List X) → map f (flat_map g xs) ≡ flat_map (λ x. map f (g x)) xs
-map-flat f g [] = refl
-map-flat f g (x ∷ xs) = map-append f (g x) (flat_map g xs) ∙ ap (λ l. map f (g x) ++ l) (map-flat f g xs)
-
-flat-flat : {X Y Z : Type 0} (f : Y → List Z) (g : X → List Y) (xs : List X) → flat_map f (flat_map g xs) ≡ flat_map (λ x. flat_map f (g x)) xs
-flat-flat f g [] = refl
-flat-flat f g (x ∷ xs) = flat_map-append f (g x) (flat_map g xs) ∙ ap (λ l. flat_map f (g x) ++ l) (flat-flat f g xs)
-
-flat-each : {X Y : Type 0} (f g : X → List Y) → ((x : X) → f x ≡ g x) → (xs : List X) → flat_map f xs ≡ flat_map g xs
-flat-each f g same [] = refl
-flat-each f g same (x ∷ xs) = λ i. same x i ++ flat-each f g same xs i
-
 pub map-joined : {Y : Type 0} (f : List ℕ → Y) (front back : List ℕ) → map f (indexes (front ++ back)) ≡ flat_map (λ i. map (λ j. f (i ++ j)) (indexes back)) (indexes front)
 map-joined f [] back = sym (append-nil (map f (indexes back)))
 map-joined f (n ∷ front) back =
@@ -54,9 +41,9 @@ map-joined f (n ∷ front) back =
     let later : List ℕ → List _ = λ i. map (λ j. f (i ++ j)) (indexes back) in
     let row : (k : ℕ) → map f (map (λ i. k ∷ i) (indexes (front ++ back))) ≡ flat_map later (map (λ i. k ∷ i) (indexes front)) = λ k.
     map-map f (λ i. k ∷ i) (indexes (front ++ back)) ∙ map-joined (λ i. f (k ∷ i)) front back ∙ sym (flat_map-map later (λ i. k ∷ i) (indexes front)) in
-    map-flat f (λ k. map (λ i. k ∷ i) (indexes (front ++ back))) numbers
-    ∙ flat-each (λ k. map f (map (λ i. k ∷ i) (indexes (front ++ back)))) (λ k. flat_map later (map (λ i. k ∷ i) (indexes front))) row numbers
-    ∙ sym (flat-flat later (λ k. map (λ i. k ∷ i) (indexes front)) numbers)
+    map-flat_map f (λ k. map (λ i. k ∷ i) (indexes (front ++ back))) numbers
+    ∙ flat_map_same (λ k. map f (map (λ i. k ∷ i) (indexes (front ++ back)))) (λ k. flat_map later (map (λ i. k ∷ i) (indexes front))) row numbers
+    ∙ sym (flat_map-flat_map later (λ k. map (λ i. k ∷ i) (indexes front)) numbers)
 
 -- the offsets of a plan, index by index
 pub moved-joined : (base : ℕ) (outer inner : Layout) (points : List ℕ) (shift : List ℕ → ℕ) (f : List ℕ → ℕ) →

@@ -1,28 +1,21 @@
 -- Passes over the offsets of a plan: what is left to be done leads to what all of it does.
 use Rattle.std.proofs.Common.{◌≡◌, ℕ, ◌+◌, ◌-◌, ◌*◌, ◌<◌, ◌≤◌, List, [], ◌∷◌, ◌++◌, map, length, get_or, drop, All, refl, sym, ap, subst, ◌∙◌, arith, add-mul, length-append}
 use Rattle.std.specs.List.{flat_map}
-use Rattle.std.proofs.lemmas.List.{get_or_append_left, get_or-append_right, get_or-map, length-map, map-append, drop_more}
+use Rattle.std.proofs.lemmas.List.{get_or-map, length-map, map-append, drop_more}
 use Rattle.std.proofs.lemmas.List.Elements.{All-head, All-tail}
 use Rattle.raw_block.specs.Bytes.{put, item_at}
 use Rattle.shape_strides.specs.declared.runs.Run.{Run}
 use Rattle.shape_strides.specs.Addresses.{LieWithin}
 use Rattle.shape_strides.specs.Limits.{max_bytes}
 use Rattle.shape_strides.specs.Runs.{run_offsets}
+use Rattle.shape_strides.specs.WalkLaws.{length-run_offsets}
 use Rattle.overlap_copy.specs.Assignments.{assigned}
-use Rattle.overlap_copy.specs.RunLaws.{length-run_offsets}
+use Rattle.overlap_copy.specs.RunLaws.{All-back, All-front, assigned-append, put_each-append}
 use lib.IntN.{pos}
 use Rattle.fancy_index.specs.Plans.{moved_offset, shifted_all, moved_all, put_each}
 use Rattle.fancy_index.specs.inside.Kept.{IsMoved}
 use Rattle.fancy_index.specs.inside.Packed.{packed}
-use Rattle.fancy_index.proofs.RunLaws.{length-packed, packed-append, assigned-append, put_each-append}
-
-pub All-front : (P : ℕ → Type 0) (xs ys : List ℕ) → All P (xs ++ ys) → All P xs
-All-front P xs ys all = λ k d below. subst P (get_or_append_left xs ys d k below) (all k d (omega (arith, length-append xs ys)))
-
-pub All-back : (P : ℕ → Type 0) (xs ys : List ℕ) → All P (xs ++ ys) → All P ys
-All-back P xs ys all = λ k d below.
-    let after : length xs + k - length xs ≡ k = omega arith in
-    subst P (get_or-append_right xs ys (length xs) (length xs + k) d refl (omega arith) ∙ ap (λ m. get_or ys m d) after) (all (length xs + k) d (omega (arith, length-append xs ys)))
+use Rattle.fancy_index.proofs.RunLaws.{length-packed, packed-append}
 
 pub All-unmap : (P : ℕ → Type 0) (f : ℕ → ℕ) (xs : List ℕ) → All P (map f xs) → All (λ x. P (f x)) xs
 All-unmap P f xs all = λ k d below. subst P (get_or-map f xs k d (f d) below) (all k (f d) (omega (arith, length-map xs f)))

@@ -1,17 +1,16 @@
 -- Points on axes are those of the definitions.
-use Rattle.std.proofs.Common.{◌≡◌, ℕ, ◌+◌, ◌<◌, Bool, true, false, not, ◌&&◌, cond, int_lt, List, [], ◌∷◌, map, length, get_or, drop, All, refl, sym, ap, subst, ◌∙◌, arith}
+use Rattle.std.proofs.Common.{◌≡◌, ℕ, ◌+◌, ◌<◌, Bool, true, false, cond, List, [], ◌∷◌, map, length, get_or, drop, All, refl, sym, ap, subst, ◌∙◌, arith}
 use Rattle.std.specs.List.{list_all}
 use Rattle.std.specs.Ordering.{int_eq}
 use Rattle.std.specs.Str.{bytes_eq}
-use Rattle.std.proofs.lemmas.Bool.{and_parts, false≢true}
-use Rattle.std.proofs.lemmas.Bool.Decides.{nat_tests}
+use Rattle.std.proofs.lemmas.Bool.{and_parts}
 use Rattle.std.proofs.lemmas.List.{length-map, drop_more}
 use Rattle.std.proofs.lemmas.List.Elements.{All-cons}
 use Rattle.std.proofs.lemmas.Slice.Eq.{bytes_eq-Decides}
 use lib.IntN.{ℤ, pos, negsuc}
-use Rattle.shape_strides.specs.Addresses.{natural}
 use Rattle.shape_strides.specs.Indexes.{count, indexes, rank}
 use Rattle.shape_strides.specs.IndexLaws.{get_or-indexes, length-indexes}
+use Rattle.shape_strides.specs.AxisLaws.{axis_below}
 use Rattle.view_ops.specs.Slices.{from_front, is_place}
 use Rattle.fancy_index.specs.declared.points.PointList.{PointList}
 use Rattle.fancy_index.specs.declared.kind.Kind.{Kind}
@@ -19,10 +18,6 @@ use Rattle.fancy_index.specs.declared.kind.Kind.TheVariants.{Integers, Mask, NoI
 use Rattle.fancy_index.specs.IndexArrays.{axes_of_kind, covers_kind, are_places}
 use Rattle.fancy_index.specs.Parts.{Points, true_indexes, point_at, points_of}
 use Rattle.fancy_index.specs.inside.PointLists.{place_of, true_ranks, tuple, IsPart}
-
-axis_below : (n : ℕ) (z : ℤ) → (not (int_lt z (pos 0)) && int_lt z (pos n)) ≡ true → natural z < n
-axis_below n (pos k) test = grind (arith, nat_tests)
-axis_below n (negsuc k) test = absurd (false≢true (and_parts false (int_lt (negsuc k) (pos n)) test).0)
 
 pub place-low : (n : ℕ) (at : ℤ) → is_place n at ≡ true → place_of n at < n
 place-low n at test = axis_below n (from_front n at) test

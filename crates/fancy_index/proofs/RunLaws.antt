@@ -1,20 +1,20 @@
 -- Runs that are moved, and runs of items that are copied and filled.
-use Rattle.std.proofs.Common.{◌≡◌, ℕ, zero, suc, ◌+◌, ◌-◌, ◌*◌, ◌<◌, ◌≤◌, List, [], ◌∷◌, ◌++◌, map, length, get_or, All, refl, sym, ap, subst, ◌∙◌, arith, mul_comm}
+use Rattle.std.proofs.Common.{◌≡◌, ℕ, ◌+◌, ◌-◌, ◌*◌, ◌<◌, ◌≤◌, List, [], ◌∷◌, ◌++◌, map, length, get_or, All, sym, ap, subst, ◌∙◌, arith, mul_comm}
 use Rattle.std.proofs.lemmas.Int.{ints}
 use Rattle.std.proofs.lemmas.List.{length-map, get_or-map, get_or_default, map-append, same_lists}
 use Rattle.std.proofs.lemmas.List.Elements.{All-get_or}
 use lib.IntN.{ℤ, pos, nat_abs, ◌+ℤ◌, ◌*ℤ◌, zero-*ℤ, +ℤ_idr}
 use Rattle.elem_descr.specs.Steps.{numbers_from}
 use Rattle.elem_descr.specs.StepLaws.{numbers-split}
-use Rattle.raw_block.specs.Bytes.{put, item_at, position, place, EachWithin, filled}
+use Rattle.raw_block.specs.Bytes.{position, place, EachWithin}
 use Rattle.raw_block.specs.BytesLaws.{not_negative}
 use Rattle.shape_strides.specs.declared.runs.Run.{Run}
 use Rattle.shape_strides.specs.Addresses.{natural, LieWithin}
 use Rattle.shape_strides.specs.Limits.{max_bytes}
 use Rattle.shape_strides.specs.Runs.{run_offsets}
-use Rattle.overlap_copy.specs.RunLaws.{fewer, run_offsets-more, length-run_offsets, place-at, lie-within}
-use Rattle.overlap_copy.specs.Assignments.{assigned}
-use Rattle.fancy_index.specs.Plans.{moved_offset, put_each}
+use Rattle.shape_strides.specs.WalkLaws.{length-run_offsets}
+use Rattle.overlap_copy.specs.RunLaws.{place-at, lie-within}
+use Rattle.fancy_index.specs.Plans.{moved_offset}
 use Rattle.fancy_index.specs.inside.Kept.{IsMoved}
 use Rattle.fancy_index.specs.inside.Packed.{packed}
 
@@ -90,25 +90,3 @@ packed-append at width n m =
     ∙ ap (λ z. packed at width n ++ map natural (numbers_from z (pos width) m)) next
 
 -- ---- runs that are filled
-
--- first these items, then those
-pub assigned-append : (to from to' from' : List ℕ) (width : ℕ) (other block : List ℕ) → length to ≡ length from →
-    assigned (to ++ to') (from ++ from') width other block ≡ assigned to' from' width other (assigned to from width other block)
-assigned-append [] [] to' from' width other block even = refl
-assigned-append [] (offset ∷ from) to' from' width other block even = absurd (omega (arith, even))
-assigned-append (at ∷ to) [] to' from' width other block even = absurd (omega (arith, even))
-assigned-append (at ∷ to) (offset ∷ from) to' from' width other block even =
-    assigned-append to from to' from' width other (put at (item_at offset width other) block) (omega (arith, even))
-
-pub put_each-append : (to to' item block : List ℕ) → put_each (to ++ to') item block ≡ put_each to' item (put_each to item block)
-put_each-append [] to' item block = refl
-put_each-append (at ∷ to) to' item block = put_each-append to to' item (put at item block)
-
-pub filled-run : (len at : ℕ) (step : ℤ) (item : List ℕ) (n : ℕ) (block : List ℕ) → EachWithin len at step (length item) n →
-    filled at step item n block ≡ put_each (run_offsets (record { offset = at; count = n; step = step })) item block
-filled-run len at step item zero block to = refl
-filled-run len at step item (suc n) block to =
-    let here : Run = record { offset = at; count = n; step = step } in
-    ap (put (place at step n) item) (filled-run len at step item n block (fewer len at step (length item) n to))
-    ∙ sym (put_each-append (run_offsets here) (place at step n ∷ []) item block)
-    ∙ λ i. put_each (sym (run_offsets-more len at step (length item) n to) i) item block

@@ -1,7 +1,6 @@
 -- Points of an index of the common lengths, and the first item with each.
 use Rattle.std.proofs.Common.{◌≡◌, ℕ, zero, suc, ◌+◌, ◌-◌, ◌*◌, ◌<◌, ◌≤◌, ◌==◌, if◌then◌else◌, List, [], ◌∷◌, ◌++◌, map, length, get_or, take, drop, All, refl, sym, ap, subst, ◌∙◌, arith, add-mul, mul_assoc, mul-le-mul_left, mul-one, length-drop}
 use Rattle.std.proofs.lemmas.List.{drop_more, drop_all, take_more, map-append, get_or-drop, get_or_default}
-use Rattle.std.proofs.Math.Seq.{take-append_seam}
 use Rattle.shape_strides.specs.declared.layout.Layout.{Layout}
 use Rattle.shape_strides.specs.Indexes.{count, indexes, rank, IsIndex}
 use Rattle.shape_strides.specs.IndexLaws.{length-index, length-indexes, rank-lt, get_or-indexes, index_at}
@@ -106,10 +105,6 @@ shift_more layout parts points r shift shifts shifts' low is so_far after =
     ∙ (λ i. so_far i ++ is i ∷ [])
     ∙ sym (map-append (first_offset layout parts) (take r (indexes points)) (tuple points r ∷ []))
     ∙ ap (map (first_offset layout parts)) (sym (take_more (indexes points) r [] (omega (arith, low, length-indexes points))))
-
--- the first numbers that were written over
-pub front-of : (n : ℕ) (xs rest : List ℕ) → length xs ≡ n → take n (xs ++ rest) ≡ xs
-front-of n xs rest is = ap (λ m. take m (xs ++ rest)) (sym is) ∙ take-append_seam xs rest
 
 -- a point, whatever is read where there is no rank
 pub point-is : (at : List ℕ) (p : PointList) (d : ℕ) → HasPointAt at p → tuple p.axes.items (get_or p.ranks.items (rank p.lengths.items (broadcast_index p.lengths.items at)) d) ≡ point_of p at

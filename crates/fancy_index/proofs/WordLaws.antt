@@ -4,7 +4,7 @@ use Rattle.std.proofs.Math.Nat.{mul-suc, mul-div_cancel_left, mul-le-mul_left}
 use Rattle.std.specs.List.{list_all, range_with_len}
 use Rattle.std.specs.Simd.{first_chunks}
 use Rattle.std.proofs.lemmas.List.{take-take, drop-take, drop-drop, same_lists, get_or-map, length-map}
-use Rattle.std.proofs.lemmas.List.FromFn.{length-map-range_with_len, get_or-map-range_with_len}
+use Rattle.std.proofs.lemmas.List.FromFn.{get_or-map-range_with_len}
 use Rattle.std.proofs.lemmas.Bool.{and_parts}
 use Rattle.std.proofs.lemmas.List.Elements.{All-cons, All-nil}
 use Rattle.std.proofs.lemmas.Simd.{map-map}
@@ -18,6 +18,7 @@ use Rattle.fancy_index.specs.declared.words.Reading.{Reading}
 use Rattle.fancy_index.specs.inside.Words.{word, AreWords}
 use Rattle.fancy_index.specs.inside.Packed.{packed}
 use Rattle.fancy_index.specs.inside.PointLists.{place_of}
+use Rattle.fancy_index.proofs.RunLaws.{length-packed}
 
 packed-is : (at width n : ℕ) → packed at width n ≡ map (λ k. at + width * k) (range_with_len 0 n)
 packed-is at width n =
@@ -28,9 +29,6 @@ packed-is at width n =
 
 pub packed-entry : (at width n k d : ℕ) → k < n → get_or (packed at width n) k d ≡ at + width * k
 packed-entry at width n k d low = ap (λ l. get_or l k d) (packed-is at width n) ∙ get_or-map-range_with_len (λ k. at + width * k) 0 n k k d (omega arith) (omega arith)
-
-pub length-packed : (at width n : ℕ) → length (packed at width n) ≡ n
-length-packed at width n = ap length (packed-is at width n) ∙ length-map-range_with_len (λ k. at + width * k) 0 n
 
 -- n items, the last of which ends within so many bytes
 pub packed-end : (at width n len : ℕ) (offsets : List ℕ) → 1 ≤ n → offsets ≡ packed at width n → All (λ offset. offset + width ≤ len) offsets → at + width * n ≤ len

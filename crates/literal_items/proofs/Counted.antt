@@ -21,6 +21,7 @@ use Rattle.elem_descr.specs.Items.{decode_item}
 use Rattle.elem_descr.specs.Blocks.{blocks, items_in}
 use Rattle.elem_descr.specs.Steps.{numbers_from}
 use Rattle.elem_descr.specs.StepLaws.{next_number, length-numbers_from}
+use Rattle.elem_descr.specs.ByteLaws.{length-bytes_of}
 use Rattle.raw_block.specs.Bytes.{joined}
 use Rattle.raw_block.specs.JoinedLaws.{length-joined}
 use Rattle.machine_numbers.specs.Bits.{AreBits}
@@ -28,7 +29,6 @@ use Rattle.literal_items.specs.Numbers.{is_value}
 use Rattle.literal_items.specs.inside.Numbered.{numbered}
 use Rattle.literal_items.proofs.Blocked.{map-blocks-put}
 use Rattle.literal_items.proofs.Ends.{is_in}
-use Rattle.literal_items.proofs.Fields.{length-bytes_of}
 use Rattle.literal_items.proofs.Scalars.{scalar_read, value_is}
 
 -- ---- the lowest bits of the next number

@@ -1,25 +1,24 @@
 -- Fields and their literals, one by one.
-use Rattle.std.proofs.Common.{◌≡◌, ◌+◌, ◌-◌, ◌<◌, ◌≤◌, ℕ, zero, suc, Bool, true, false, List, [], ◌∷◌, ◌++◌, length, get_or, take, drop, map, min, replicate, refl, sym, ap, ◌∙◌, arith, length-take, length-append}
+use Rattle.std.proofs.Common.{◌≡◌, ◌+◌, ◌-◌, ◌<◌, ◌≤◌, ℕ, zero, suc, Bool, true, false, List, [], ◌∷◌, ◌++◌, length, get_or, take, drop, map, min, replicate, refl, sym, ap, ◌∙◌, arith}
 use Rattle.std.specs.Prelude.{◌&&◌}
 use Rattle.std.specs.Int.{bytes_low_first, bytes_high_first}
-use Rattle.std.proofs.lemmas.List.{length-replicate, drop_all}
+use Rattle.std.proofs.lemmas.List.{drop_all}
 use Rattle.std.proofs.lemmas.Bool.{and_parts}
 use Rattle.elem_descr.specs.declared.leaf.Leaf.{Leaf}
 use Rattle.elem_descr.specs.declared.scalar.Scalar.{Scalar}
 use Rattle.elem_descr.specs.declared.scalar.Scalar.TheVariants.{Bool as BoolScalar, Byte, Int, Bytes as BytesScalar}
-use Rattle.elem_descr.specs.declared.scalar.Order.{Order}
-use Rattle.elem_descr.specs.declared.scalar.Order.TheVariants.{Little, Big}
 use Rattle.elem_descr.specs.declared.descr.Descr.{Descr}
 use Rattle.elem_descr.specs.declared.descr.Descr.TheVariants.{Scalar as ScalarDescr, Record as RecordDescr}
 use Rattle.elem_descr.specs.declared.descr.Field.{Field}
 use Rattle.elem_descr.specs.Values.{LeafValue, text}
-use Rattle.elem_descr.specs.Encoding.{width_size, bytes_of, low_bits, wrap, padded, without_nuls}
+use Rattle.elem_descr.specs.Encoding.{width_size, low_bits, wrap, without_nuls}
 use Rattle.elem_descr.specs.Fields.{Fields, no_more, scalar_field, record_field, Structure}
 use Rattle.elem_descr.specs.Descriptors.{before, listed, fields_of, InOrder, IsLegal}
 use Rattle.elem_descr.specs.Items.{item_size, moved_leaf, leaves_of, leaves_from, AreInOrder, encode_item, decode_item}
 use Rattle.elem_descr.specs.EncodingLaws.{decode_encode}
-use Rattle.elem_descr.specs.DescriptorLaws.{rest_at, listed-fields_of, field_within}
+use Rattle.elem_descr.specs.DescriptorLaws.{rest_at, field_within, seen_fields}
 use Rattle.elem_descr.specs.ItemLaws.{leaves_from-before, leaves_from-moved}
+use Rattle.elem_descr.specs.ByteLaws.{length-bytes_of, length-padded}
 use Rattle.script_lang.specs.declared.literal.ScalarLiteral.{ScalarLiteral}
 use Rattle.script_lang.specs.declared.literal.Literal.{Literal}
 use Rattle.script_lang.specs.declared.literal.Literal.TheVariants.{Scalar as ScalarOf, Record as RecordOf}
@@ -73,10 +72,6 @@ turn_passed test fields literals k field literal turn passed =
 pub none_left : (test : Scalar → ScalarLiteral → Bool) (fields : List Field) (literals : List Literal) (k : ℕ) → length fields ≤ k → length literals ≤ k → stand_for test (listed (drop k fields)) (all_values (drop k literals)) ≡ true
 none_left test fields literals k past over = λ i. stand_for test (listed (drop_all k fields past i)) (all_values (drop_all k literals over i))
 
--- a record, and the values of a record literal, seen one by one
-pub seen_fields : (fields : List Field) (all : Fields) → fields ≡ fields_of all → listed fields ≡ all
-seen_fields fields all are = ap listed are ∙ listed-fields_of all
-
 pub seen_values : (literals : List Literal) (all : Values) → literals ≡ literals_of all → all_values literals ≡ all
 seen_values literals all are = ap all_values are ∙ listed_literals_of all
 
@@ -110,12 +105,6 @@ stand_for-length test (field ∷ fields) (literal ∷ literals) passed =
 
 -- ---- the values of leaves
 
-length-padded : (n : ℕ) (bytes : List ℕ) → length (padded n bytes) ≡ n
-length-padded n bytes =
-    let zeros : length {A = ℕ} (replicate (n - length bytes) 0) ≡ n - length bytes = length-replicate (n - length bytes) 0 in
-    let front = length-take n bytes in
-    length-append (take n bytes) (replicate (n - length bytes) 0) ∙ omega arith
-
 length-bytes_low_first : (i n bits : ℕ) → length (bytes_low_first i n bits) ≡ n
 length-bytes_low_first i zero bits = refl
 length-bytes_low_first i (suc n) bits = omega (arith, length-bytes_low_first (suc i) n bits)
@@ -123,10 +112,6 @@ length-bytes_low_first i (suc n) bits = omega (arith, length-bytes_low_first (su
 length-bytes_high_first : (n bits : ℕ) → length (bytes_high_first n bits) ≡ n
 length-bytes_high_first zero bits = refl
 length-bytes_high_first (suc n) bits = omega (arith, length-bytes_high_first n bits)
-
-pub length-bytes_of : (order : Order) (n bits : ℕ) → length (bytes_of order n bits) ≡ n
-length-bytes_of Little n bits = length-bytes_low_first 0 n bits
-length-bytes_of Big n bits = length-bytes_high_first n bits
 
 leaf_sound : (scalar : Scalar) (literal : ScalarLiteral) → ReadsBack scalar (leaf_value scalar literal)
 leaf_sound BoolScalar literal = record { whole = refl; same = decode_encode BoolScalar (literal_number literal) tt }

@@ -4,7 +4,7 @@ use Rattle.std.specs.List.{AllByRecursion}
 use Rattle.std.proofs.lemmas.List.Elements.{All-from_recursion}
 use Rattle.elem_descr.specs.Items.{item_size, decode_item}
 use Rattle.shape_strides.specs.declared.layout.Layout.{Layout}
-use Rattle.shape_strides.specs.Layouts.{offsets, Fits, IsNested}
+use Rattle.shape_strides.specs.Layouts.{offsets, Fits, IsNested, offsets_of}
 use Rattle.overlap_copy.specs.declared.owned.Owned.{Owned}
 use Rattle.overlap_copy.specs.Assignments.{items_at, with_items}
 use Rattle.name_store.specs.States.{State, Array}
@@ -12,7 +12,6 @@ use Rattle.name_store.specs.Arrays.{find_array, descr_of, written}
 use Rattle.name_store.specs.Calls.{AnswersWrite}
 use Rattle.name_store.specs.Invariants.{Holds}
 use Rattle.name_store.specs.Parts.{start_at}
-use Rattle.name_store.specs.Places.{offsets_of}
 use Rattle.name_store.specs.Targets.{IsAim, IsFor, MayWrite, LeadsTo, target_offsets, source_items, items_of}
 use Rattle.name_store.specs.View.{named_array, present}
 use Rattle.name_store.specs.declared.entry.Entry.{Entry}

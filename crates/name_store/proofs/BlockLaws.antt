@@ -1,16 +1,13 @@
 -- Items in a block of bytes, one after another.
 use Rattle.std.proofs.Common.{◌≡◌, ◌≤◌, ◌<◌, ◌+◌, ◌*◌, ℕ, zero, suc, List, [], ◌∷◌, ◌++◌, length, take, drop, map, refl, sym, ap, ◌∙◌, Some, slice_get, slice_set, append_assoc, arith, length-take, length-drop}
 use Rattle.std.proofs.Math.Nat.{mul-suc, suc-mul, mul-le-mul_left}
-use Rattle.std.proofs.Math.Seq.{take-add, take-append_seam, drop-append_seam}
+use Rattle.std.proofs.Math.Seq.{take-add, drop-append_seam}
 use Rattle.std.proofs.lemmas.List.{map-set}
 use Rattle.elem_descr.specs.declared.descr.Descr.{Descr}
 use Rattle.elem_descr.specs.Items.{item_size, decode_item}
 use Rattle.raw_block.specs.Bytes.{put}
 use Rattle.elem_descr.specs.Blocks.{blocks, items_in, item_from}
-
--- the front of so many bytes, and what follows it
-take_front : (width : ℕ) (front back : List ℕ) → length front ≡ width → take width (front ++ back) ≡ front
-take_front width front back is = ap (λ n. take n (front ++ back)) (sym is) ∙ take-append_seam front back
+use Rattle.elem_descr.specs.ListLaws.{take_front}
 
 drop_front : (width : ℕ) (front back : List ℕ) → length front ≡ width → drop width (front ++ back) ≡ back
 drop_front width front back is = ap (λ n. drop n (front ++ back)) (sym is) ∙ drop-append_seam front back

@@ -19,6 +19,7 @@ use Rattle.name_store.specs.declared.target.Target.{Target}
 use Rattle.name_store.proofs.NameLaws.{all-both, all-in_use, in_front, in_tail, either}
 use Rattle.name_store.proofs.PastLaws.{Restored, restored-shape, SameShape, shape, needed-parts, needed-drop, same-buffers, kept-push, kept-free, kept-drop, kept-length, undoable-push, undoable-drop, undoable-still}
 use Rattle.name_store.proofs.StateLaws.{Slots, Swept}
+use Rattle.elem_descr.specs.ListLaws.{same_test}
 
 -- What goes when a change is kept is the first, or nothing goes.
 
@@ -92,12 +93,6 @@ shape-some now before same = one now ∙ ap is_some same ∙ sym (one before)
     one None = refl
     one (Some s) = refl
 
-both-ways : (a b : Bool) → (a ≡ true → b ≡ true) → (b ≡ true → a ≡ true) → a ≡ b
-both-ways true true f g = refl
-both-ways false false f g = refl
-both-ways true false f g = sym (f refl)
-both-ways false true f g = g refl
-
 -- A change was made to names and slots.
 module _ (es : List (Key × Entry)) (slots : Slots) (ring : Ring Change) (spare : ℕ) (sound : IsSound es slots ring spare) (es' : List (Key × Entry)) (now : Slots) (c : Change)
     (before-is : names_before c (map named_array es') ≡ map named_array es) (holds : Holds es' now) (restored : (q : ℕ) → is_needed (map named_array es) ring.items q ≡ true → Restored c q (slot_at now q) (slot_at slots q))
@@ -112,7 +107,7 @@ module _ (es : List (Key × Entry)) (slots : Slots) (ring : Ring Change) (spare 
   all = ring.items ++ c ∷ []
 
   pub keep-occupied : (q : ℕ) → is_some (slot_at now q) ≡ is_needed names' all q
-  keep-occupied q = both-ways (is_some (slot_at now q)) (is_needed names' all q) (came q) there
+  keep-occupied q = same_test (is_some (slot_at now q)) (is_needed names' all q) (came q) there
     where
       there : is_needed names' all q ≡ true → is_some (slot_at now q) ≡ true
       there needed =

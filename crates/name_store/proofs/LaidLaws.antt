@@ -8,10 +8,9 @@ use Rattle.elem_descr.specs.declared.descr.Descr.{Descr}
 use Rattle.elem_descr.specs.Items.{item_size}
 use Rattle.shape_strides.specs.declared.layout.Layout.{Layout}
 use Rattle.shape_strides.specs.Indexes.{indexes, IsIndex}
-use Rattle.shape_strides.specs.Layouts.{address, natural, offsets, Fits}
+use Rattle.shape_strides.specs.Layouts.{address, natural, offsets, Fits, offsets_of}
 use Rattle.name_store.specs.States.{Array}
 use Rattle.name_store.specs.Parts.{descr_at, start_at}
-use Rattle.name_store.specs.Places.{offsets_of}
 use Rattle.name_store.specs.Views.{IsLaidOut}
 
 -- all indexes of a shape

@@ -8,10 +8,11 @@ use Rattle.raw_block.specs.Bytes.{put}
 use Rattle.overlap_copy.specs.Assignments.{with_items}
 use Rattle.name_store.specs.Arrays.{placed_item, write}
 use Rattle.name_store.specs.Parts.{IsPathOf, descr_at, start_at, span_at, part_at, with_part}
-use Rattle.name_store.specs.Places.{offsets_of, IsElementType}
+use Rattle.name_store.specs.Places.{IsElementType}
 use Rattle.raw_block.specs.BytesLaws.{length-put}
 use Rattle.name_store.proofs.BlockLaws.{drop-drop, put-add, put-item, item-at, item-inside}
 use Rattle.name_store.proofs.PartLaws.{put-front, part-within, part-read, part-put}
+use Rattle.shape_strides.specs.Layouts.{offsets_of}
 
 -- bytes put within an item are the item put, with these bytes in it
 put-part : (width at start : ℕ) (part block : List ℕ) → start + length part ≤ width → at + width ≤ length block →

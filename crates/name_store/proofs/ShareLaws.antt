@@ -10,7 +10,7 @@ use Rattle.elem_descr.specs.declared.descr.Descr.{Descr}
 use Rattle.elem_descr.specs.Items.{item_size, leaves_of, leaves_in, fields, field_at}
 use Rattle.shape_strides.specs.declared.layout.Layout.{Layout}
 use Rattle.shape_strides.specs.Limits.{max_bytes}
-use Rattle.shape_strides.specs.Layouts.{address, offsets, Fits}
+use Rattle.shape_strides.specs.Layouts.{address, offsets, Fits, offsets_of}
 use Rattle.overlap_copy.specs.Blocks.{places_of}
 use Rattle.overlap_copy.specs.Overlaps.{have_common_byte}
 use Rattle.shape_strides.specs.CountLaws.{mul-step}
@@ -18,7 +18,7 @@ use Rattle.name_store.specs.States.{Buffer}
 use Rattle.name_store.specs.Arrays.{buffer_of, share_cells}
 use Rattle.name_store.specs.Invariants.{Holds, LiesIn}
 use Rattle.name_store.specs.Parts.{IsPathOf, descr_at, start_at, first_at, have_common, share_leaves}
-use Rattle.name_store.specs.Places.{IsElementType, offsets_of}
+use Rattle.name_store.specs.Places.{IsElementType}
 use Rattle.name_store.specs.View.{array_at, slot_at, present}
 use Rattle.name_store.specs.declared.entry.Entry.{Entry}
 use Rattle.name_store.specs.declared.entry.Key.{Key}

@@ -7,14 +7,13 @@ use Rattle.std.proofs.lemmas.List.Elements.{All-from_recursion}
 use Rattle.std.proofs.Math.Nat.{mul-suc, mul-le-mul_left}
 use Rattle.elem_descr.specs.declared.descr.Descr.{Descr}
 use Rattle.elem_descr.specs.Items.{item_size, fields}
-use Rattle.shape_strides.specs.Layouts.{offsets}
+use Rattle.shape_strides.specs.Layouts.{offsets, offsets_of}
 use Rattle.shape_strides.specs.Limits.{max_bytes}
 use Rattle.name_store.specs.States.{State, Array, Buffer}
 use Rattle.name_store.specs.Arrays.{buffer_of, descr_of, placed_item, no_buffer, read, is_in_use}
 use Rattle.elem_descr.specs.Blocks.{items_in, item_from}
 use Rattle.name_store.specs.Parts.{descr_at, start_at, span_at, part_at}
 use Rattle.name_store.specs.Invariants.{LiesIn}
-use Rattle.name_store.specs.Places.{offsets_of}
 use Rattle.name_store.specs.Shown.{Shows, Finds}
 use Rattle.circular_buffer.specs.Buffer.{Buffer as Ring}
 use Rattle.name_store.specs.View.{array_at, named_array, buffer_in, slot_at, present, state_of}

@@ -11,7 +11,7 @@ use Rattle.elem_descr.specs.Values.{number}
 use Rattle.name_store.specs.States.{Array, State, start}
 use Rattle.name_store.specs.Arrays.{no_buffer, is_in_use, share_cells, bound_view, unbound, written, keeping, has_kept, undone, write}
 use Rattle.name_store.specs.Parts.{descr_at, start_at, span_at, part_at, with_part, have_common, share_leaves}
-use Rattle.name_store.specs.Places.{offsets_of}
+use Rattle.shape_strides.specs.Layouts.{offsets_of}
 
 abbrev at_places : ℕ → List ℕ → List ℕ → Array
 at_places buffer path places = record { buffer = buffer; path = path; shape = []; places = places; writable = true }

@@ -3,12 +3,11 @@ use Rattle.std.proofs.Common.{◌≡◌, ◌<◌, ℕ, Bool, List, length, map, 
 use Rattle.std.specs.Option.{option_map}
 use Rattle.elem_descr.specs.Items.{item_size}
 use Rattle.shape_strides.specs.declared.layout.Layout.{Layout}
-use Rattle.shape_strides.specs.Layouts.{offsets}
+use Rattle.shape_strides.specs.Layouts.{offsets, offsets_of}
 use Rattle.name_store.specs.States.{Array, Buffer}
 use Rattle.name_store.specs.Arrays.{buffer_of, is_in_use, no_buffer}
 use Rattle.name_store.specs.Invariants.{LiesIn}
 use Rattle.name_store.specs.Parts.{start_at, IsPathOf}
-use Rattle.name_store.specs.Places.{offsets_of}
 use Rattle.overlap_copy.specs.Blocks.{places_of}
 use Rattle.name_store.specs.View.{array_at, named_array, buffer_in, slot_at, present}
 use Rattle.name_store.specs.Views.{IsViewIn}

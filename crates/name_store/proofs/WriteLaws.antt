@@ -10,7 +10,7 @@ use Rattle.std.proofs.lemmas.List.Elements.{All-contains, All-head, All-tail, Al
 use Rattle.elem_descr.specs.Blocks.{items_in, item_from}
 use Rattle.elem_descr.specs.Items.{item_size, decode_item}
 use Rattle.shape_strides.specs.declared.layout.Layout.{Layout}
-use Rattle.shape_strides.specs.Layouts.{offsets, Fits}
+use Rattle.shape_strides.specs.Layouts.{offsets, Fits, offsets_of}
 use Rattle.overlap_copy.specs.Assignments.{with_items}
 use Rattle.overlap_copy.specs.Blocks.{places_of}
 use Rattle.name_store.specs.ArrayLaws.{places-offsets}
@@ -18,7 +18,6 @@ use Rattle.name_store.specs.States.{State, Array, Buffer}
 use Rattle.name_store.specs.Arrays.{find_array, buffer_of, descr_of, span_of, addresses, read, placed_item, write, written, is_in_use, is_bound}
 use Rattle.name_store.specs.Invariants.{Holds, LiesAt, LiesIn}
 use Rattle.name_store.specs.Parts.{descr_at, start_at, span_at, part_at}
-use Rattle.name_store.specs.Places.{offsets_of}
 use Rattle.name_store.specs.Targets.{target_offsets, items_of, FitsBuffer, LeadsTo}
 use Rattle.name_store.specs.inside.Homes.{IsHome, HasNew}
 use Rattle.name_store.specs.View.{array_at, named_array, buffer_in, slot_at, present}

@@ -5,12 +5,11 @@ use Rattle.std.proofs.Math.Nat.{mul_comm}
 use Rattle.elem_descr.specs.declared.descr.Descr.{Descr}
 use Rattle.elem_descr.specs.Items.{item_size}
 use Rattle.shape_strides.specs.declared.layout.Layout.{Layout}
-use Rattle.shape_strides.specs.Layouts.{offsets}
+use Rattle.shape_strides.specs.Layouts.{offsets, offsets_of}
 use Rattle.overlap_copy.specs.Blocks.{places_of}
 use Rattle.name_store.specs.States.{State, Array}
 use Rattle.name_store.specs.Arrays.{find_array, buffer_of, addresses, read}
 use Rattle.name_store.specs.Parts.{start_at}
-use Rattle.name_store.specs.Places.{offsets_of}
 use Rattle.name_store.specs.Shown.{Shows, Finds}
 use Rattle.name_store.specs.Targets.{items_of, source_items}
 use Rattle.name_store.specs.declared.array_ref.ArrayRef.{ArrayRef}

@@ -13,8 +13,8 @@ use Rattle.elem_descr.specs.declared.scalar.Order.TheVariants.{Little}
 use Rattle.elem_descr.specs.Items.{item_size}
 use Rattle.elem_descr.specs.Values.{LeafValue}
 use Rattle.name_store.specs.Parts.{descr_at, start_at, span_at, part_at, with_part, have_common, share_leaves}
-use Rattle.name_store.specs.Places.{offsets_of}
 use Rattle.name_store.specs.States.{Buffer, Array, State}
+use Rattle.shape_strides.specs.Layouts.{offsets_of}
 
 -- States that are kept
 

@@ -1,15 +1,11 @@
 -- Places in a buffer, and the offsets of their items in its block.
-use Rattle.std.specs.Prelude.{◌≡◌, ◌≤◌, ℕ, ◌+◌, ◌*◌, List, map, length}
+use Rattle.std.specs.Prelude.{◌≡◌, ◌≤◌, ℕ, ◌*◌, List, length}
 use Rattle.elem_descr.specs.declared.descr.Descr.{Descr}
 use Rattle.elem_descr.specs.declared.descr.Descr.TheVariants.{Scalar as ScalarDescr, Record as RecordDescr}
 use Rattle.elem_descr.specs.Descriptors.{IsLegal}
 use Rattle.elem_descr.specs.Encoding.{size}
 use Rattle.elem_descr.specs.Items.{item_size}
 use Rattle.shape_strides.specs.Limits.{max_bytes}
-
--- where a part of the items at these places begins, if each has so many bytes, and the part so many before it
-abbrev pub offsets_of : ℕ → ℕ → List ℕ → List ℕ
-offsets_of item start places = map (λ place. item * place + start) places
 
 -- a scalar of a byte or more, or a legal record
 abbrev pub IsElementType : Descr → Type 0

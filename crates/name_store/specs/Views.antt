@@ -4,11 +4,10 @@ use Rattle.std.specs.FinMap.{get}
 use Rattle.elem_descr.specs.declared.descr.Descr.{Descr}
 use Rattle.elem_descr.specs.Items.{item_size}
 use Rattle.shape_strides.specs.declared.layout.Layout.{Layout}
-use Rattle.shape_strides.specs.Layouts.{offsets, Fits, IsNested}
+use Rattle.shape_strides.specs.Layouts.{offsets, Fits, IsNested, offsets_of}
 use Rattle.name_store.specs.States.{State, Array}
 use Rattle.name_store.specs.Arrays.{buffer_of}
 use Rattle.name_store.specs.Parts.{descr_at, start_at, IsPathOf}
-use Rattle.name_store.specs.Places.{offsets_of}
 use Rattle.name_store.specs.declared.bound.Bound.{Bound}
 use Rattle.name_store.specs.declared.bound.Bound.TheVariants.{Fresh, View}
 

@@ -1,6 +1,6 @@
 -- Bytes that are read piece by piece.
-use Rattle.std.proofs.Common.{◌≡◌, ◌≤◌, ◌+◌, ◌-◌, [], ◌∷◌, ◌++◌, ℕ, List, length, refl, take, drop, sym, ap, ◌∙◌, arith, append_assoc, length-append, length-drop, take-append-drop}
-use Rattle.std.proofs.lemmas.List.{take_at, length-take-le, append-nil}
+use Rattle.std.proofs.Common.{◌≡◌, ◌≤◌, ◌+◌, ◌-◌, ◌++◌, ℕ, List, length, take, drop, sym, ap, ◌∙◌, arith, append_assoc, length-append, length-drop, take-append-drop}
+use Rattle.std.proofs.lemmas.List.{take_at, length-take-le, append-nil, nil_from_length}
 use borrow.Rule.Slice.PartMut.{put_mid}
 
 -- a piece is put in place of the end of some bytes, and the first of its bytes were read
@@ -23,16 +23,12 @@ module _ (bytes piece rest next : List ℕ) (at count : ℕ) (within : at ≤ le
       same ∙ ap (λ r. take at bytes ++ r) taken ∙ sym (append_assoc (take at bytes) (take count piece) next)
       ∙ ap (λ l. l ++ next) (sym (ap (take (at + count)) cut ∙ take_at front (drop count piece ++ tail) (at + count) size))
 
-nothing : (l : List ℕ) → length l ≡ 0 → l ≡ []
-nothing [] none = refl
-nothing (x ∷ l) none = absurd (omega (arith, none))
-
 -- bytes of which as many are there as were to come
 pub none_left : (filled new rest next : List ℕ) (len : ℕ) → filled ++ rest ≡ new ++ next → length filled + length rest ≡ len → length new ≡ len → length next ≡ 0
 none_left filled new rest next len read told whole = omega (arith, ap length read, length-append filled rest, length-append new next, told, whole)
 
 pub all_read : (begin filled new rest next : List ℕ) → filled ≡ begin → filled ++ rest ≡ new ++ next → length next ≡ 0 → new ≡ begin ++ rest
-all_read begin filled new rest next is read none = sym (ap (λ l. new ++ l) (nothing next none) ∙ append-nil new) ∙ sym read ∙ ap (λ l. l ++ rest) is
+all_read begin filled new rest next is read none = sym (ap (λ l. new ++ l) (nil_from_length next none) ∙ append-nil new) ∙ sym read ∙ ap (λ l. l ++ rest) is
 
 -- bytes that are cut in two
 pub cut_read : (front rest whole now block : List ℕ) (cut : ℕ) → whole ≡ front ++ rest → now ≡ take cut front → block ≡ drop cut front ++ rest → now ++ block ≡ whole

@@ -11,7 +11,7 @@ use Rattle.std.proofs.lemmas.List.Quantifiers.{position-Some}
 use Rattle.npy_files.specs.declared.mem_store.StoredFile.{StoredFile}
 use Rattle.npy_files.specs.inside.Shelves.{named_bytes, is_called, files_of}
 
-abbrev by_name : List ℕ → List ℕ → Bool
+abbrev pub by_name : List ℕ → List ℕ → Bool
 by_name a b = eq_by_cmp (slice_cmp nat_cmp) a b
 
 -- the test in the code is that of the map
@@ -92,7 +92,7 @@ find-put q r (f ∷ files) (suc k) none new is same =
     (λ a b. let one : q ≡ f.name.items = sym (tied r q b) ∙ tied r f.name.items a in
     true≢false (sym ((bytes_eq-Decides q f.name.items).1 one) ∙ is.before 0 (omega arith)))
 
-exact : IsAntisymmetric (slice_cmp nat_cmp)
+pub exact : IsAntisymmetric (slice_cmp nat_cmp)
 exact = slice_cmp-IsAntisymmetric nat_cmp-IsAntisymmetric
 
 -- the files of a name written over

@@ -1,8 +1,7 @@
 -- The files that a user sees of a folder.
 use Rattle.std.proofs.Common.{◌≡◌, ◌≢◌, ℕ, Bool, true, false, List, Option, Some, None, Ok, Err, Result, IsTrue, cond, refl, sym, ap, ◌∙◌, subst}
-use Rattle.std.specs.Cmp.Lexicographic.{slice_cmp, texts_ties, nat_list_cmp_total}
-use Rattle.std.specs.FinMap.{empty, get, insert, get-retain_keys, get-insert, same_map, IsAntisymmetric, nat_cmp-IsAntisymmetric, slice_cmp-IsAntisymmetric}
-use Rattle.std.specs.Ordering.{nat_cmp, eq_by_cmp}
+use Rattle.std.specs.Cmp.Lexicographic.{texts_ties, nat_list_cmp_total}
+use Rattle.std.specs.FinMap.{empty, get, insert, get-retain_keys, get-insert, same_map}
 use Rattle.std.proofs.lemmas.Bool.{true≢false}
 use Rattle.std.proofs.lemmas.Slice.Eq.{bytes_eq-Decides}
 use Rattle.disk.specs.Files.{Files, SameBut}
@@ -11,12 +10,7 @@ use Rattle.npy_files.specs.declared.store.StoreFault.TheVariants.{Device, TooLon
 use Rattle.npy_files.specs.Names.{is_user_name}
 use Rattle.npy_files.specs.Stores.{StoreState, IsRead, IsKept, IsWritten}
 use Rattle.npy_files.specs.Folders.{user_files, folder_shelf, IsPut}
-
-abbrev by_name : List ℕ → List ℕ → Bool
-by_name a b = eq_by_cmp (slice_cmp nat_cmp) a b
-
-exact : IsAntisymmetric (slice_cmp nat_cmp)
-exact = slice_cmp-IsAntisymmetric nat_cmp-IsAntisymmetric
+use Rattle.npy_files.proofs.StoreLaws.{exact, by_name}
 
 tied : (a b : List ℕ) → by_name a b ≡ true → a ≡ b
 tied a b is = (bytes_eq-Decides a b).0 (texts_ties a b ∙ is)

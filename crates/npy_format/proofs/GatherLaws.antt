@@ -1,15 +1,14 @@
 -- Items that are appended one after another.
 use Rattle.std.proofs.Common.{◌≡◌, inl, inr, ℕ, suc, ◌+◌, ◌-◌, ◌*◌, ◌^◌, ◌<◌, ◌≤◌, ◌&&◌, ◌||◌, not, true, false, Bool, pos, List, [], ◌∷◌, ◌++◌, length, get_or, take, drop, replicate, reverse, All, refl, sym, ap, subst, ◌∙◌, arith, append_assoc, zero-mul, suc-mul, length-append}
-use Rattle.std.specs.Prelude.{ℤ, ◌==◌, if◌then◌else◌}
+use Rattle.std.specs.Prelude.{◌==◌, if◌then◌else◌}
 use Rattle.std.specs.List.{flat_map, AllByRecursion as Each}
 use Rattle.std.proofs.Math.Seq.{take-add}
 use Rattle.std.proofs.lemmas.Bool.{eqb-true, true≢false, cases_lt}
-use Rattle.std.proofs.Math.IntN.{zero-*ℤ}
 use Rattle.std.proofs.lemmas.Grind.{flat_map-append}
-use Rattle.std.proofs.lemmas.Int.{ints}
-use Rattle.std.proofs.lemmas.List.{append-nil, drop-drop, length-map, get_or-map, get_or_past, length-replicate, length-reverse, get_or-reverse, get_or-replicate, same_lists}
+use Rattle.std.proofs.lemmas.List.{append-nil, drop-drop, length-map, get_or-map, get_or_past, length-reverse}
 use Rattle.std.proofs.lemmas.List.Elements.{All-head, All-tail, All-from_recursion}
 use Rattle.raw_block.specs.Bytes.{place, item_at, EachWithin}
+use Rattle.raw_block.specs.BytesLaws.{begins_within}
 use Rattle.shape_strides.specs.declared.runs.Run.{Run}
 use Rattle.shape_strides.specs.Indexes.{count, indexes, rank}
 use Rattle.shape_strides.specs.IndexLaws.{length-indexes, rank-lt, get_or-indexes, index_at}
@@ -22,15 +21,11 @@ use Rattle.shape_strides.specs.Limits.{max_items}
 use Rattle.shape_strides.specs.Layouts.{offsets}
 use Rattle.shape_strides.specs.LayoutLaws.{length-offsets}
 use Rattle.shape_strides.specs.Runs.{run_offsets, runs}
-use Rattle.overlap_copy.specs.RunLaws.{run_offsets-more, length-run_offsets, place-at, run-ends}
+use Rattle.shape_strides.specs.ContiguityLaws.{first_address-entry}
+use Rattle.shape_strides.specs.WalkLaws.{length-run_offsets}
+use Rattle.overlap_copy.specs.RunLaws.{run_offsets-more, place-at, run-ends}
 use Rattle.npy_format.specs.inside.WrittenItems.{addresses_in_file}
-
--- the first item lies within the bytes
-pub begins : (len at : ℕ) (step : ℤ) (width n k : ℕ) → EachWithin len at step width n → k < n → at ≤ len
-begins len at step width n k within low =
-    let first = (within.each 0 (omega (arith, low))).1 in
-    let none = zero-*ℤ step in
-    omega (arith, ints)
+use Rattle.elem_descr.specs.NulLaws.{reverse-replicate}
 
 -- the items at these offsets
 abbrev pub gathered : ℕ → List ℕ → List ℕ → List ℕ
@@ -87,7 +82,7 @@ pub stretch : (len width : ℕ) (run : Run) (bytes : List ℕ) → EachWithin le
 stretch len width run bytes within some step =
     let adjacent = adjacent-run len width run within step in
     let long = length-run_offsets run in (
-      subst (λ n. run.offset + n * width ≤ len) long (adjacent-ends width run.offset len (run_offsets run) adjacent (run-ends len width run within) (begins len run.offset run.step width run.count 0 within some)),
+      subst (λ n. run.offset + n * width ≤ len) long (adjacent-ends width run.offset len (run_offsets run) adjacent (run-ends len width run within) (begins_within len run.offset run.step width run.count 0 within some)),
       gathered-adjacent width run.offset (run_offsets run) bytes adjacent ∙ ap (λ n. item_at run.offset (n * width) bytes) long,
     )
 
@@ -165,15 +160,6 @@ zeros-padded : (shape : List ℕ) → padded shape [] ≡ replicate (length shap
 zeros-padded [] = refl
 zeros-padded (n ∷ shape) = ap (λ index. 0 ∷ index) (zeros-padded shape)
 
-reverse-zeros : (n : ℕ) → reverse {A = ℕ} (replicate n 0) ≡ replicate n 0
-reverse-zeros n =
-    same_lists (reverse {A = ℕ} (replicate n 0)) (replicate n 0) (length-reverse (replicate n 0))
-    (λ k d low.
-    let zeros : List ℕ = replicate n 0 in
-    let long : length (reverse zeros) ≡ length zeros = length-reverse zeros in
-    let size : length zeros ≡ n = length-replicate n 0 in
-    get_or-reverse (replicate n 0) k d (omega (arith, low, long)) ∙ get_or-replicate n (length (replicate n 0) - 1 - k) 0 d (omega (arith, low, long, size)) ∙ sym (get_or-replicate n k 0 d (omega (arith, low, long, size))))
-
 fortran-first : (shape offsets : List ℕ) → 0 < count shape → get_or (fortran_order shape offsets) 0 0 ≡ get_or offsets 0 0
 fortran-first shape offsets some =
     let f = λ (index : List ℕ). get_or offsets (rank shape (reverse index)) 0 in
@@ -181,12 +167,8 @@ fortran-first shape offsets some =
     let zeros = padded (reverse shape) [] in
     let some' : 0 < count (reverse shape) = omega (arith, some, count-reverse shape) in
     let here : get_or all 0 [] ≡ zeros = ap (λ r. get_or all r []) (sym (rank-zeros (reverse shape))) ∙ get_or-indexes (reverse shape) zeros [] (IsIndex-first (reverse shape) some') in
-    let back : reverse zeros ≡ padded shape [] = ap reverse (zeros-padded (reverse shape)) ∙ reverse-zeros (length (reverse shape)) ∙ ap (λ n. replicate n 0) (length-reverse shape) ∙ sym (zeros-padded shape) in
+    let back : reverse zeros ≡ padded shape [] = ap reverse (zeros-padded (reverse shape)) ∙ reverse-replicate (length (reverse shape)) ∙ ap (λ n. replicate n 0) (length-reverse shape) ∙ sym (zeros-padded shape) in
     get_or-map f all 0 [] 0 (omega (arith, some', length-indexes (reverse shape))) ∙ ap f here ∙ ap (λ index. get_or offsets (rank shape index) 0) back ∙ ap (λ r. get_or offsets r 0) (rank-zeros shape)
-
-first-entry : (offsets : List ℕ) → first_address offsets ≡ get_or offsets 0 0
-first-entry [] = refl
-first-entry (offset ∷ offsets) = refl
 
 -- ---- all items
 
@@ -228,10 +210,10 @@ first-within width len (offset ∷ offsets) inside = let here = All-head (λ o. 
 
 first-same : (shape offsets : List ℕ) → length offsets ≡ count shape → first_address (fortran_order shape offsets) ≡ first_address offsets
 first-same shape offsets long = elim (cases_lt 0 (count shape)) [
-  | inl some ↦ first-entry (fortran_order shape offsets) ∙ fortran-first shape offsets some ∙ sym (first-entry offsets)
+  | inl some ↦ first_address-entry (fortran_order shape offsets) ∙ fortran-first shape offsets some ∙ sym (first_address-entry offsets)
   | inr none ↦
-      first-entry (fortran_order shape offsets) ∙ get_or_past (fortran_order shape offsets) 0 0 (omega (arith, none, length-fortran shape offsets))
-      ∙ sym (get_or_past offsets 0 0 (omega (arith, none, long))) ∙ sym (first-entry offsets)
+      first_address-entry (fortran_order shape offsets) ∙ get_or_past (fortran_order shape offsets) 0 0 (omega (arith, none, length-fortran shape offsets))
+      ∙ sym (get_or_past offsets 0 0 (omega (arith, none, long))) ∙ sym (first_address-entry offsets)
 ]
 
 pub together : (width : ℕ) (shape offsets bytes : List ℕ) → length offsets ≡ count shape → All (λ offset. offset + width ≤ length bytes) offsets → (is_c_contiguous width offsets || is_f_contiguous width shape offsets) ≡ true

@@ -8,6 +8,7 @@ use Rattle.elem_descr.specs.declared.refusal.Refusal.{Refusal}
 use Rattle.elem_descr.specs.declared.refusal.Refusal.TheVariants.{BadHeader, TooManyAxes}
 use Rattle.elem_descr.specs.declared.descr.Descr.{Descr}
 use Rattle.elem_descr.specs.Refusals.{◌>>=◌, Answers}
+use Rattle.elem_descr.specs.RefusalLaws.{bind_ok}
 use Rattle.shape_strides.specs.Shapes.{shape_of}
 use Rattle.npy_format.specs.Tokens.{Token}
 use Rattle.npy_format.specs.Listed.{Literal, Pair, Row, all_listed_values}
@@ -20,7 +21,7 @@ use Rattle.npy_format.specs.inside.Scanned.{string_at, integer_at, is_string_tok
 use Rattle.npy_format.specs.inside.Places.{HasPairs, HasValues, HasLengths, Stands, value_in}
 use Rattle.npy_format.proofs.GrammarLaws.{Shortens, symbol_shorter}
 use Rattle.npy_format.proofs.SkipLaws.{behind_ok}
-use Rattle.npy_format.proofs.PlaceLaws.{stand_open, stand_closed, bind_ok, same_read}
+use Rattle.npy_format.proofs.PlaceLaws.{stand_open, stand_closed, same_read}
 use Rattle.npy_format.proofs.ValueLaws.{literals_of_listed}
 use Rattle.npy_format.proofs.StandLaws.{text_is, next_stands, is_read, no_integer, integer_stands, integer_front_is, lengths_next, lengths_end}
 

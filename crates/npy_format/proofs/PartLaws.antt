@@ -1,5 +1,5 @@
 -- Files in two parts: a header that stands in the first.
-use Rattle.std.proofs.Common.{◌≡◌, ◌⊎◌, ◌<◌, ◌≤◌, ℕ, Bool, true, false, List, [], ◌∷◌, ◌++◌, length, take, drop, Result, Ok, Err, refl, sym, ap, ◌∙◌, arith, length-append, length-take, nat_le, inl, inr}
+use Rattle.std.proofs.Common.{◌≡◌, ◌⊎◌, ◌<◌, ◌≤◌, ℕ, Bool, true, false, List, [], ◌∷◌, ◌++◌, length, take, drop, Ok, Err, refl, sym, ap, ◌∙◌, arith, length-append, length-take, nat_le, inl, inr}
 use Rattle.std.specs.Prelude.{if◌then◌else◌}
 use Rattle.std.proofs.lemmas.Bool.{le-leb, leb-true, cases_lt}
 use Rattle.std.proofs.lemmas.Slice.Eq.{bytes_eq-Decides}
@@ -8,14 +8,11 @@ use Rattle.std.specs.Str.{bytes_eq}
 use Rattle.byteorder.specs.Endian.{little_number}
 use Rattle.elem_descr.specs.declared.refusal.Refusal.{Refusal}
 use Rattle.elem_descr.specs.declared.refusal.Refusal.TheVariants.{BadMagic, Truncated, TooLarge}
-use Rattle.elem_descr.specs.Refusals.{◌>>=◌, check}
+use Rattle.elem_descr.specs.Refusals.{check}
+use Rattle.elem_descr.specs.RefusalLaws.{bind_ok}
 use Rattle.npy_format.specs.Files.{magic, max_header, split_front, begins_well, length_bytes, text_behind, split_header, load}
 use Rattle.npy_format.specs.inside.LoadedParts.{load_behind}
 use Rattle.npy_format.proofs.FileLaws.{header_split}
-
-passed : {X Y : Type 0} (r : Result X Refusal) (f : X → Result Y Refusal) (y : Y) → (r >>= f) ≡ Ok y → (x : X) × (r ≡ Ok x) × (f x ≡ Ok y)
-passed (Ok x) f y e = (x, refl, e)
-passed (Err refusal) f y e = absurd cc
 
 checked : (test : Bool) (refusal : Refusal) (u : Unit {0}) → check test refusal ≡ Ok u → test ≡ true
 checked true refusal u e = refl
@@ -48,18 +45,18 @@ well_more bytes more well = by_length (cases_lt (length bytes) 6)
 behind_more : (field bytes more text behind : List ℕ) → text_behind field bytes ≡ Ok (text, behind) → text_behind field (bytes ++ more) ≡ Ok (text, behind ++ more)
 behind_more field bytes more text behind e =
     let n = little_number (length field) field in
-    let low = passed (check (nat_le n max_header) TooLarge) (λ _. split_front n bytes) (text, behind) e in
+    let low = bind_ok (check (nat_le n max_header) TooLarge) (λ _. split_front n bytes) (text, behind) e in
     rw (checked (nat_le n max_header) TooLarge low.0 low.1) (cut_more n bytes more text behind low.2)
 
 -- a header that was found is found with more behind it
 pub header_more : (file more text behind : List ℕ) → split_header file ≡ Ok (text, behind) → split_header (file ++ more) ≡ Ok (text, behind ++ more)
 unfolding split_header
 header_more file more text behind e =
-    let one = passed (check (begins_well file) BadMagic) _ (text, behind) e in
+    let one = bind_ok (check (begins_well file) BadMagic) _ (text, behind) e in
     let well = checked (begins_well file) BadMagic one.0 one.1 in
-    let two = passed (split_front 2 (drop 6 file)) _ (text, behind) one.2 in
-    let three = passed (length_bytes two.0.0) _ (text, behind) two.2 in
-    let four = passed (split_front three.0 two.0.1) _ (text, behind) three.2 in
+    let two = bind_ok (split_front 2 (drop 6 file)) _ (text, behind) one.2 in
+    let three = bind_ok (length_bytes two.0.0) _ (text, behind) two.2 in
+    let four = bind_ok (split_front three.0 two.0.1) _ (text, behind) three.2 in
     let same : take 6 file ≡ magic = (bytes_eq-Decides (take 6 file) magic).0 well in
     let long : 6 ≤ length file = omega (arith, length-take 6 file, ap length same) in
     header_split (file ++ more) two.0.0 (two.0.1 ++ more) four.0.0 (four.0.1 ++ more) three.0 (well_more file more well)

@@ -6,6 +6,7 @@ use Rattle.std.proofs.lemmas.Bool.{eqb-true}
 use Rattle.elem_descr.specs.declared.refusal.Refusal.{Refusal}
 use Rattle.elem_descr.specs.declared.refusal.Refusal.TheVariants.{BadHeader}
 use Rattle.elem_descr.specs.Refusals.{◌>>=◌}
+use Rattle.elem_descr.specs.RefusalLaws.{bind_ok}
 use Rattle.npy_format.specs.Tokens.{Token}
 use Rattle.npy_format.specs.Tokens as token
 use Rattle.npy_format.specs.Values.{Text, Integer, Truth, Nothing, Dictionary, Round, Square, no_values}
@@ -14,10 +15,6 @@ use Rattle.npy_format.specs.Literals.{Read, symbol_token_at, if_read, list_end, 
 use Rattle.npy_format.specs.inside.Entries.{behind_comma}
 use Rattle.npy_format.specs.inside.Places.{StandIn, Stands, value_in}
 use Rattle.npy_format.proofs.GrammarLaws.{entries_less, literal_less}
-
-pub bind_ok : {A B : Type 0} (r : Result A Refusal) (f : A → Result B Refusal) (y : B) → (r >>= f) ≡ Ok y → (x : A) × (r ≡ Ok x) × (f x ≡ Ok y)
-bind_ok (Ok x) f y is = (x, refl, is)
-bind_ok (Err e) f y is = cc
 
 -- a call has one answer
 pub same_read : {A B : Type 0} (a a' : A) (b b' : B) (r : Result (A × B) Refusal) → r ≡ Ok (a, b) → r ≡ Ok (a', b') → (a ≡ a') × (b ≡ b')

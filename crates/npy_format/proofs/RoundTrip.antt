@@ -24,6 +24,7 @@ use Rattle.elem_descr.specs.Encoding.{size, decode, encode, truth}
 use Rattle.elem_descr.specs.Items.{item_size, leaves_of, AreInOrder, encode_from, encode_item, decode_item}
 use Rattle.elem_descr.specs.ItemLaws.{AreInOrder-within, leaves_in_order}
 use Rattle.elem_descr.specs.Blocks.{item_from}
+use Rattle.elem_descr.specs.ByteLaws.{AreBytes, bytes-drop, bytes-take, truth-twice, length-encode}
 use Rattle.shape_strides.specs.Limits.{max_bytes}
 use Rattle.shape_strides.specs.Indexes.{count, indexes, rank}
 use Rattle.shape_strides.specs.IndexLaws.{length-indexes, rank-lt, get_or-indexes, index_at}
@@ -37,8 +38,8 @@ use Rattle.npy_format.specs.WrittenFiles.{ordered, file_of}
 use Rattle.npy_format.specs.SavedFiles.{LoadsAs}
 use Rattle.npy_format.specs.inside.Sound.{IsSound}
 use Rattle.npy_format.specs.inside.WrittenItems.{read_leaf}
-use Rattle.npy_format.proofs.ScalarBytes.{AreBytes, bytes-drop, bytes-take, scalar_again, truth-twice}
-use Rattle.npy_format.proofs.WrittenItemLaws.{length-encode, length-written}
+use Rattle.npy_format.proofs.ScalarBytes.{scalar_again}
+use Rattle.npy_format.proofs.WrittenItemLaws.{length-written}
 use Rattle.npy_format.proofs.LoadLaws.{written_split, front_split}
 use Rattle.npy_format.proofs.ReadHeaders.{header_read}
 use Rattle.npy_format.proofs.TextLengths.{short_text}

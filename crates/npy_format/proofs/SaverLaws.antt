@@ -11,11 +11,11 @@ use Rattle.shape_strides.specs.Indexes.{count}
 use Rattle.shape_strides.specs.Contiguity.{first_address, is_c_contiguous, is_f_contiguous}
 use Rattle.npy_format.specs.Files.{file_order}
 use Rattle.elem_descr.specs.Values.{LeafValue}
+use Rattle.elem_descr.specs.ByteLaws.{AreBytes, bytes-drop, bytes-take}
 use Rattle.shape_strides.specs.Limits.{max_bytes}
 use Rattle.npy_format.specs.WrittenFiles.{is_fortran, ordered, file_of, saved}
 use Rattle.npy_format.specs.SavedFiles.{LoadsAs}
 use Rattle.npy_format.specs.inside.WrittenItems.{IsPlain, addresses_in_file}
-use Rattle.npy_format.proofs.ScalarBytes.{AreBytes, bytes-drop, bytes-take}
 use Rattle.npy_format.proofs.WrittenItemLaws.{plain_again, all_again}
 use Rattle.npy_format.proofs.GatherLaws.{gathered, together}
 use Rattle.npy_format.proofs.WriterLaws.{file_written, saved-large, saved-small}

@@ -1,9 +1,10 @@
 -- What is left behind entries, read turn by turn, and behind what stands in brackets.
-use Rattle.std.proofs.Common.{◌≡◌, ◌<◌, ◌≤◌, ◌-◌, ℕ, zero, suc, Bool, List, [], ◌∷◌, length, Option, Some, None, Result, Ok, Err, refl, ap, ◌∙◌, arith}
+use Rattle.std.proofs.Common.{◌≡◌, ◌<◌, ◌≤◌, ◌-◌, ℕ, zero, suc, Bool, List, [], ◌∷◌, length, Option, Some, None, Ok, Err, refl, ap, ◌∙◌, arith}
 use Rattle.std.specs.Option.{ok_or}
 use Rattle.elem_descr.specs.declared.refusal.Refusal.{Refusal}
 use Rattle.elem_descr.specs.declared.refusal.Refusal.TheVariants.{BadHeader}
 use Rattle.elem_descr.specs.Refusals.{◌>>=◌}
+use Rattle.elem_descr.specs.RefusalLaws.{bind_same}
 use Rattle.npy_format.specs.Tokens.{Token}
 use Rattle.npy_format.specs.Tokens as token
 use Rattle.npy_format.specs.Listed.{Literal, Pair}
@@ -22,10 +23,6 @@ behind_err (Err e) refusal is = let same : e ≡ refusal = cc in ap (λ (e : Ref
 behind_other : {A B : Type 0} (r : Read A) (f : A → B) → behind (r >>= λ x. Ok (f x.0, x.1)) ≡ behind r
 behind_other (Ok x) f = refl
 behind_other (Err e) f = refl
-
-bind_same : {A B : Type 0} (r : Result A Refusal) (f f' : A → Result B Refusal) → ((x : A) → r ≡ Ok x → f x ≡ f' x) → (r >>= f) ≡ (r >>= f')
-bind_same (Ok x) f f' h = h x refl
-bind_same (Err e) f f' h = refl
 
 found_same : {A B : Type 0} (o : Option B) (next next' : B → A) (other : A) → ((b : B) → Some b ≡ o → next b ≡ next' b) → if_read o next other ≡ if_read o next' other
 found_same None next next' other h = refl

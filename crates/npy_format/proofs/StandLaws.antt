@@ -7,6 +7,7 @@ use Rattle.elem_descr.specs.declared.refusal.Refusal.TheVariants.{BadHeader, Bad
 use Rattle.elem_descr.specs.Fields.{Structure}
 use Rattle.elem_descr.specs.Refusals.{◌>>=◌}
 use Rattle.elem_descr.specs.RecordBuilding.{Partial}
+use Rattle.elem_descr.specs.RefusalLaws.{bind_ok}
 use Rattle.npy_format.specs.Tokens.{Token, tokens}
 use Rattle.npy_format.specs.Tokens as token
 use Rattle.npy_format.specs.Values.{Text, Integer, Round, Square}
@@ -18,7 +19,7 @@ use Rattle.npy_format.specs.inside.Entries.{behind_comma, behind_entry}
 use Rattle.npy_format.specs.inside.Scanned.{string_at, integer_at, truth_at, is_string_token, pad_at}
 use Rattle.npy_format.specs.inside.Places.{StandIn, HasValues, HasLengths, Stands, value_in, name_and_type, entry_parts}
 use Rattle.npy_format.proofs.ValueLaws.{literals_of_listed}
-use Rattle.npy_format.proofs.PlaceLaws.{stand_open, stand_closed, Front, text_front, integer_front, truth_front, nothing_front, boxed_front, tuple_boxed, list_boxed, pairs_boxed, front_of, bind_ok, same_read}
+use Rattle.npy_format.proofs.PlaceLaws.{stand_open, stand_closed, Front, text_front, integer_front, truth_front, nothing_front, boxed_front, tuple_boxed, list_boxed, pairs_boxed, front_of, same_read}
 
 -- a symbol that is there, or not
 pub symbol_open : (r : Option (Bor (List ℕ))) (there : Option (List Token)) → is_some r ≡ false → option_map tokens (option_copied r) ≡ there → None ≡ there

@@ -1,7 +1,7 @@
 -- How long the text of a header may be.
 use Rattle.std.proofs.Common.{◌≡◌, ℕ, zero, suc, ◌+◌, ◌-◌, ◌*◌, ◌≤◌, ◌&&◌, Bool, true, false, All, List, [], ◌∷◌, ◌++◌, length, codes, decimal, arith, length-append, suc-mul, mul-le-mul_left, nat_le}
 use Rattle.std.specs.List.{list_all, flat_map}
-use Rattle.std.proofs.lemmas.Bool.{leb-true}
+use Rattle.std.proofs.lemmas.Bool.{leb-true, and_parts}
 use Rattle.std.proofs.lemmas.Fmt.{length-decimal-le}
 use Rattle.std.proofs.lemmas.List.Elements.{All-head, All-tail}
 use Rattle.std.proofs.Math.Nat.{mul-add}
@@ -20,7 +20,6 @@ use Rattle.shape_strides.specs.Limits.{max_items}
 use Rattle.shape_strides.specs.Shapes.{IsShape, shape_text}
 use Rattle.npy_format.specs.inside.Sound.{IsSound}
 use Rattle.npy_format.specs.WrittenHeaders.{quoted, opened_entry, entry, gap, separated, in_brackets, entries, written_descr, written_truth, written_text}
-use Rattle.npy_format.proofs.ReadTokens.{both}
 
 short_decimal : (n : ℕ) → n ≤ 65536 → length (decimal n) ≤ 5
 short_decimal n small = length-decimal-le 5 n (omega arith) (omega (arith, small)) (omega (arith, small))
@@ -62,8 +61,8 @@ short_gap (suc n) small =
 
 short_name : (name : List ℕ) → is_legal_name name ≡ true → length name ≤ 64
 short_name name legal =
-    let parts = both (nat_le 1 (length name) && nat_le (length name) 64) (list_all is_field_name_byte name) legal in
-    leb-true (length name) 64 (both (nat_le 1 (length name)) (nat_le (length name) 64) parts.0).1
+    let parts = and_parts (nat_le 1 (length name) && nat_le (length name) 64) (list_all is_field_name_byte name) legal in
+    leb-true (length name) 64 (and_parts (nat_le 1 (length name)) (nat_le (length name) 64) parts.0).1
 
 length-brackets : (texts : List (List ℕ)) → length (in_brackets texts) ≤ 2 + length (separated false texts)
 length-brackets texts = omega (arith, length-append (separated true texts) (codes "]"), first-shorter texts)
@@ -73,13 +72,13 @@ short_entries : (fields : Fields) (from bytes : ℕ) → InOrder from fields byt
 short_entries no_more from bytes order small names within = omega (arith, short_gap (bytes - from) (omega (arith, small)))
 short_entries (scalar_field name at scalar rest) from bytes order small names within =
     let ends = InOrder-within (at + size scalar) rest bytes order.2 in
-    let legal = both (is_legal_name name) (list_all is_legal_name (names_of rest)) names in
+    let legal = and_parts (is_legal_name name) (list_all is_legal_name (names_of rest)) names in
     let type = quoted (spelling scalar) in
     let later = entries (at + size scalar) rest bytes in
     omega (arith, separated-append (gap (at - from)) (entry name type ∷ later), length-separated (entry name type) later, short_gap (at - from) (omega (arith, small, ends)), length-entry name type, short_name name legal.0, length-quoted (spelling scalar), short_spelling scalar (omega (arith, small, ends)), short_entries rest (at + size scalar) bytes order.2 small legal.1 within)
 short_entries (record_field name at width inner rest) from bytes order small names within =
     let ends = InOrder-within (at + width) rest bytes order.3 in
-    let legal = both (is_legal_name name) (list_all is_legal_name (names_of rest)) names in
+    let legal = and_parts (is_legal_name name) (list_all is_legal_name (names_of rest)) names in
     let type = in_brackets (entries 0 inner width) in
     let later = entries (at + width) rest bytes in
     omega (arith, separated-append (gap (at - from)) (entry name type ∷ later), length-separated (entry name type) later, short_gap (at - from) (omega (arith, small, ends)), length-entry name type, short_name name legal.0, length-brackets (entries 0 inner width), short_entries inner 0 width order.2 (omega (arith, small, ends)) within.0.named within.1, short_entries rest (at + width) bytes order.3 small legal.1 within.2)

@@ -1,14 +1,14 @@
 -- The entries of a list, written one after the other.
-use Rattle.std.proofs.Common.{◌≡◌, ◌≤◌, ◌<◌, ◌+◌, ◌-◌, ℕ, zero, suc, Bool, true, false, ◌&&◌, List, [], ◌∷◌, ◌++◌, codes, decimal, length, get_or, drop, refl, sym, ap, subst, ◌∙◌, append_assoc, nat_eq, arith}
+use Rattle.std.proofs.Common.{◌≡◌, ◌≤◌, ◌<◌, ◌+◌, ◌-◌, ℕ, zero, suc, Bool, true, false, ◌&&◌, List, [], ◌∷◌, ◌++◌, codes, decimal, length, get_or, drop, refl, sym, ap, ◌∙◌, append_assoc, nat_eq, arith}
 use Rattle.std.proofs.lemmas.List.{at_drop_all}
 use Rattle.std.proofs.lemmas.Bool.{ne_eqb}
 use Rattle.elem_descr.specs.declared.descr.Field.{Field}
 use Rattle.elem_descr.specs.declared.descr.Descr.{Descr}
 use Rattle.elem_descr.specs.declared.descr.Descr.TheVariants.{Scalar as ScalarDescr, Record as RecordDescr}
 use Rattle.elem_descr.specs.Fields.{Fields}
-use Rattle.elem_descr.specs.Descriptors.{InOrder, listed, before}
+use Rattle.elem_descr.specs.Descriptors.{listed, before}
 use Rattle.elem_descr.specs.Items.{item_size}
-use Rattle.elem_descr.specs.DescriptorLaws.{rest_at, InOrder-before}
+use Rattle.elem_descr.specs.DescriptorLaws.{rest_at}
 use Rattle.npy_format.specs.WrittenHeaders.{quoted, opened_entry, entry, gap, entry_separator, separated, in_brackets, entries, written_descr}
 
 entries_before : (from : ℕ) (name : List ℕ) (at : ℕ) (descr : Descr) (rest : Fields) (bytes : ℕ) → entries from (before name at descr rest) bytes ≡ gap (at - from) ++ (entry name (written_descr descr) ∷ entries (at + item_size descr) rest bytes)
@@ -31,10 +31,6 @@ separated_gap first (suc n) text texts =
     let rest = text ++ separated false texts in
     after_gap first (entry [] (quoted (codes "|V" ++ decimal (suc n)))) rest
     ∙ ap (λ b. separated first (gap (suc n)) ++ (entry_separator b ++ rest)) (not_first first ∙ ap (λ b. first && b) (sym other))
-
--- the first of the fields that are left
-pub first_left : (from bytes : ℕ) (fields : List Field) (field : Field) (i : ℕ) → i < length fields → field ≡ get_or fields i field → InOrder from (listed (drop i fields)) bytes → (from ≤ field.at) × (1 ≤ item_size field.descr) × InOrder (field.at + item_size field.descr) (listed (drop (i + 1) fields)) bytes
-first_left from bytes fields field i l is order = InOrder-before from field.name field.at field.descr (listed (drop (i + 1) fields)) bytes (subst (λ fs. InOrder from (listed fs) bytes) (rest_at fields field i l is) order)
 
 regroup : (a b c d e f g : List ℕ) → ((((a ++ b) ++ (c ++ d)) ++ e) ++ f) ++ g ≡ a ++ (b ++ (c ++ ((d ++ (e ++ f)) ++ g)))
 regroup a b c d e f g = simp append_assoc

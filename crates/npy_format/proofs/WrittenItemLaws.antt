@@ -3,20 +3,18 @@ use Rattle.std.proofs.Common.{◌≡◌, ℕ, zero, suc, ◌+◌, ◌-◌, ◌*�
 use Rattle.std.specs.List.{flat_map}
 use Rattle.std.proofs.Math.Seq.{take-add, take-append_seam, drop-append_seam}
 use Rattle.std.proofs.lemmas.List.{append-nil, take_all, drop_all, take-append-drop, drop-drop, length-replicate}
-use Rattle.byteorder.specs.Numbers.{length-bytes_low_first, length-bytes_high_first}
 use Rattle.raw_block.specs.Bytes.{item_at, put}
 use Rattle.raw_block.specs.BytesLaws.{length-put, front_length}
 use Rattle.elem_descr.specs.declared.leaf.Leaf.{Leaf}
-use Rattle.elem_descr.specs.declared.scalar.Order.TheVariants.{Little, Big}
 use Rattle.elem_descr.specs.declared.scalar.Scalar.{Scalar}
-use Rattle.elem_descr.specs.declared.scalar.Scalar.TheVariants.{Bool as BoolScalar, Byte, Int, Bytes}
-use Rattle.elem_descr.specs.Values.{LeafValue}
-use Rattle.elem_descr.specs.Encoding.{size, decode, encode, truth, width_size, low_bits, number_of, text_of}
+use Rattle.elem_descr.specs.declared.scalar.Scalar.TheVariants.{Bool as BoolScalar}
+use Rattle.elem_descr.specs.Encoding.{size, decode, encode, truth}
 use Rattle.elem_descr.specs.Items.{AreInOrder, encode_from}
 use Rattle.elem_descr.specs.ItemLaws.{AreInOrder-within}
 use Rattle.elem_descr.specs.Blocks.{blocks}
+use Rattle.elem_descr.specs.ByteLaws.{AreBytes, bytes-drop, bytes-take, length-encode}
 use Rattle.npy_format.specs.inside.WrittenItems.{read_leaf, written_item, is_bool, IsPlain}
-use Rattle.npy_format.proofs.ScalarBytes.{AreBytes, bytes-drop, bytes-take, scalar_again, bool_again}
+use Rattle.npy_format.proofs.ScalarBytes.{scalar_again, bool_again}
 
 -- ---- bytes that are put
 
@@ -38,15 +36,6 @@ put_again at n bytes within =
     ∙ take-append-drop (at + n) bytes
 
 -- ---- leaves
-
-pub length-encode : (scalar : Scalar) (value : LeafValue) → length (encode scalar value) ≡ size scalar
-length-encode BoolScalar value = refl
-length-encode (Byte signed) value = length-bytes_low_first 0 1 (low_bits 1 (number_of value))
-length-encode (Int signed width Little) value = length-bytes_low_first 0 (width_size width) (low_bits (width_size width) (number_of value))
-length-encode (Int signed width Big) value = length-bytes_high_first (width_size width) (low_bits (width_size width) (number_of value))
-length-encode (Bytes n) value =
-    let bytes = text_of value in
-    omega (arith, length-append (take n bytes) (replicate (n - length bytes) 0), length-take n bytes, length-replicate {A = ℕ} (n - length bytes) 0)
 
 -- the byte of a bool
 pub bool_written : (at b : ℕ) (scalar : Scalar) (item : List ℕ) → scalar ≡ BoolScalar → at + size scalar ≤ length item → b ≡ truth (get_or item at 0) → slice_set item at b ≡ put at (encode scalar (decode scalar (item_at at (size scalar) item))) item

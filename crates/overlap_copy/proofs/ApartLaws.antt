@@ -6,7 +6,7 @@ use Rattle.std.specs.Prelude.{unsigned_abs, neg_ℤ}
 use Rattle.std.proofs.lemmas.Bool.{cases_lt, cond-true, le-leb, false_from_ne_true}
 use Rattle.std.proofs.lemmas.Int.{ints}
 use Rattle.std.proofs.lemmas.List.Elements.{recursion_from_All, All-from_recursion}
-use Rattle.std.proofs.lemmas.Nat.Gcd.{dvd_refl, dvd-zero, dvd_trans, dvd_antisymm, mod-eq-zero_of_dvd}
+use Rattle.std.proofs.lemmas.Nat.Gcd.{dvd_refl, dvd-zero, dvd_trans, dvd_antisymm}
 use Rattle.std.proofs.lemmas.List.{drop_all}
 use Rattle.std.proofs.Math.Nat.{div-add-mod, add-mul-mod_self_left, mod-mod, mod-lt}
 use Rattle.std.proofs.Math.IntN.{*ℤ-zero}
@@ -17,6 +17,7 @@ use Rattle.shape_strides.specs.Layouts.{address, offsets}
 use Rattle.shape_strides.specs.Stacks.{axes}
 use Rattle.shape_strides.specs.IndexLaws.{index_at}
 use Rattle.shape_strides.specs.LayoutLaws.{length-offsets, pos-offset}
+use Rattle.shape_strides.specs.CountLaws.{times_of}
 use Rattle.overlap_copy.specs.Overlaps.{have_common_byte}
 use Rattle.overlap_copy.specs.Apart.{step_of, steps, IsGreatestDivisor, LieBetween}
 use Rattle.overlap_copy.proofs.OverlapLaws.{common_from_test}
@@ -77,9 +78,6 @@ pub same_divisor : (g h : ℕ) (numbers : List ℕ) → IsGreatestDivisor g numb
 same_divisor g h numbers a b = dvd_antisymm (b.greatest g a.divides) (a.greatest h b.divides)
 
 -- ---- addresses in steps of a common divisor
-
-times_of : (g n : ℕ) → g ∣ n → n ≡ g * (n / g)
-times_of g n divides = omega (arith, div-add-mod n g, mod-eq-zero_of_dvd g divides)
 
 -- a number of steps above a number, less a number of steps
 pub record IsStepsFrom (g : ℕ) (z : ℤ) : Type 0 where

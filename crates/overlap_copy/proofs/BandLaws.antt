@@ -1,12 +1,12 @@
 -- Laws of grids that grow row by row.
-use Rattle.std.proofs.Common.{◌≡◌, ℕ, suc, ◌*◌, ◌<◌, ◌≤◌, inl, inr, List, ◌++◌, sym, ap, subst, ◌∙◌, arith, zero-mul, mul_comm, mul-le-mul_right}
+use Rattle.std.proofs.Common.{◌≡◌, ℕ, suc, ◌*◌, ◌<◌, ◌≤◌, inl, inr, List, ◌++◌, sym, ap, subst, ◌∙◌, arith, mul_comm, mul-le-mul_right}
 use Rattle.std.proofs.Math.IntN.{suc_ℤ-*ℤ}
 use Rattle.std.proofs.lemmas.Int.{ints}
 use lib.IntN.{ℤ, pos, negsuc, nat_abs, ◌+ℤ◌, ◌*ℤ◌}
 use lib.Signed.{◌≤ℤ◌}
 use Rattle.raw_block.specs.declared.grid.Grid.{Grid}
 use Rattle.raw_block.specs.Bytes.{position, place, item_at, joined, grid_item, grid_items, EachWithin, GridWithin}
-use Rattle.raw_block.specs.BytesLaws.{not_negative}
+use Rattle.raw_block.specs.BytesLaws.{not_negative, first_position}
 use Rattle.raw_block.specs.ExchangeLaws.{last_or_before}
 use Rattle.raw_block.specs.JoinedLaws.{joined-same}
 use Rattle.shape_strides.specs.declared.runs.Run.{Run}
@@ -18,15 +18,10 @@ use Rattle.overlap_copy.proofs.PackedLaws.{joined-offsets}
 pub position-suc : (at : ℕ) (step : ℤ) (k : ℕ) → position at step (suc k) ≡ position at step k +ℤ step
 position-suc at step k = let more : pos (suc k) *ℤ step ≡ pos k *ℤ step +ℤ step = suc_ℤ-*ℤ (pos k) step in omega (arith, ints, more)
 
--- the first of items at equal steps
-pub first-position : (at : ℕ) (step : ℤ) → position at step 0 ≡ pos at
-first-position at (pos s) = let none : 0 * s ≡ 0 = zero-mul s in omega (arith, ints)
-first-position at (negsuc s) = let none : 0 * suc s ≡ 0 = zero-mul (suc s) in omega (arith, ints)
-
 -- it begins within the bytes
 pub begins : (len at width n : ℕ) (step : ℤ) → 1 ≤ n → EachWithin len at step width n → at ≤ len
 begins len at width n step some within =
-    let last : (pos at +ℤ pos width) ≤ℤ pos len = subst (λ z. (z +ℤ pos width) ≤ℤ pos len) (first-position at step) (within.each 0 some).1 in omega (arith, ints, last)
+    let last : (pos at +ℤ pos width) ≤ℤ pos len = subst (λ z. (z +ℤ pos width) ≤ℤ pos len) (first_position at step) (within.each 0 some).1 in omega (arith, ints, last)
 
 -- a grid of which no row is known yet, whose first will be a run
 abbrev pub begun : ℤ → Run → Grid

@@ -74,7 +74,7 @@ once : (s : ℤ) → pos 1 *ℤ s ≡ s
 unfolding one
 once s = *ℤ_comm (pos 1) s ∙ *ℤ-one s
 
-first_place : (run : Run) → place_in run 0 ≡ run.offset
+pub first_place : (run : Run) → place_in run 0 ≡ run.offset
 first_place run = ap (λ z. nat_abs (pos run.offset +ℤ z)) (zero-*ℤ run.step) ∙ ap nat_abs (+ℤ_idr (pos run.offset))
 
 second_place : (run : Run) → pos 0 ≤ℤ position run.offset run.step 1 → pos (place_in run 1) ≡ pos run.offset +ℤ run.step

@@ -7,12 +7,12 @@ use Rattle.raw_block.specs.Bytes.{item_at, EachWithin, copied_within}
 use Rattle.shape_strides.specs.declared.runs.Run.{Run}
 use Rattle.shape_strides.specs.Layouts.{IsNested, distance}
 use Rattle.shape_strides.specs.Runs.{run_offsets}
-use Rattle.overlap_copy.specs.RunLaws.{length-run_offsets, place-at, run-ends}
+use Rattle.shape_strides.specs.WalkLaws.{length-run_offsets}
+use Rattle.overlap_copy.specs.RunLaws.{place-at, run-ends, All-back, All-front, assigned-append}
 use Rattle.overlap_copy.specs.Assignments.{items_at, with_items, assigned}
 use Rattle.overlap_copy.specs.inside.Moves.{IsAssigned, LiesApart, LieApart, place_in}
 use Rattle.overlap_copy.proofs.CopyLaws.{kept}
 use Rattle.overlap_copy.proofs.MoveLaws.{same_assigned, retold, assigned_is, passed}
-use Rattle.overlap_copy.proofs.RunCopies.{assigned-append}
 
 -- ---- parts of lists
 
@@ -24,16 +24,10 @@ pub Each-back : (P : ℕ → Type 0) (xs ys : List ℕ) → Each P (xs ++ ys) �
 Each-back P [] ys each = each
 Each-back P (x ∷ xs) ys each = Each-back P xs ys each.1
 
-All-front : (P : ℕ → Type 0) (xs ys : List ℕ) → All P (xs ++ ys) → All P xs
-All-front P xs ys all = λ k d below. subst P (get_or_append_left xs ys d k below) (all k d (omega (arith, length-append xs ys)))
-
 right : (xs ys : List ℕ) (k d : ℕ) → k < length ys → get_or (xs ++ ys) (length xs + k) d ≡ get_or ys k d
 right xs ys k d below =
     let after : length xs + k - length xs ≡ k = omega arith in
     get_or-append_right xs ys (length xs) (length xs + k) d refl (omega arith) ∙ ap (λ m. get_or ys m d) after
-
-All-back : (P : ℕ → Type 0) (xs ys : List ℕ) → All P (xs ++ ys) → All P ys
-All-back P xs ys all = λ k d below. subst P (right xs ys k d below) (all (length xs + k) d (omega (arith, length-append xs ys)))
 
 pub nested-front : (xs ys : List ℕ) (width : ℕ) → IsNested (xs ++ ys) width → IsNested xs width
 nested-front xs ys width nested = record {

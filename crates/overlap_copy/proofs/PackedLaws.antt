@@ -1,25 +1,22 @@
 -- Laws of items that lie one after another.
-use Rattle.std.proofs.Common.{◌≡◌, ◌+◌, ◌*◌, ◌<◌, ◌≤◌, ℕ, zero, suc, pos, ◌+ℤ◌, ◌*ℤ◌, List, [], ◌∷◌, ◌++◌, All, map, length, take, refl, sym, ap, ◌∙◌, arith, zero-mul, mul-zero, suc-mul, mul_comm, add-mul, mul-le-mul_right, append_assoc, append-nil, length-append}
+use Rattle.std.proofs.Common.{◌≡◌, ◌+◌, ◌*◌, ◌<◌, ◌≤◌, ℕ, zero, suc, pos, List, [], ◌∷◌, ◌++◌, All, map, length, take, refl, sym, ap, ◌∙◌, arith, zero-mul, mul-zero, suc-mul, add-mul, mul-le-mul_right, append_assoc, append-nil, length-append}
 use Rattle.std.specs.List.{flat_map, range_with_len}
-use Rattle.std.proofs.lemmas.Simd.{map-map}
 use Rattle.std.proofs.lemmas.Int.{ints}
-use Rattle.std.proofs.lemmas.List.{map-append}
-use Rattle.elem_descr.specs.Steps.{numbers_from}
-use Rattle.elem_descr.specs.StepLaws.{numbers-split}
 use Rattle.std.proofs.Math.Nat.{mul-suc}
 use Rattle.std.proofs.Math.Seq.{take-append_seam, drop-append_seam}
 use Rattle.std.proofs.lemmas.Grind.{flat_map-append}
 use Rattle.std.proofs.lemmas.List.Elements.{All-head, All-tail}
 use Rattle.raw_block.specs.Bytes.{place, item_at, joined, EachWithin}
-use Rattle.raw_block.specs.BytesLaws.{length-item_at}
+use Rattle.raw_block.specs.BytesLaws.{length-item_at, fewer}
 use Rattle.shape_strides.specs.declared.runs.Run.{Run}
-use Rattle.shape_strides.specs.Addresses.{natural}
 use Rattle.shape_strides.specs.Layouts.{IsNested, multiples}
 use Rattle.shape_strides.specs.Runs.{run_offsets}
-use Rattle.overlap_copy.specs.RunLaws.{fewer, run_offsets-more, length-run_offsets, place-at}
+use Rattle.shape_strides.specs.WalkLaws.{length-run_offsets}
+use Rattle.shape_strides.specs.RunPairs.{all_offsets}
+use Rattle.overlap_copy.specs.RunLaws.{run_offsets-more, place-at, assigned-append}
 use Rattle.overlap_copy.specs.Assignments.{assigned}
 use Rattle.overlap_copy.specs.inside.Packed.{row, row_offsets, joined_at}
-use Rattle.overlap_copy.proofs.RunCopies.{assigned-append}
+use Rattle.overlap_copy.specs.PackedLaws.{length-next, length-row, row-split}
 
 pub row-within : (len at width n : ℕ) → at + n * width ≤ len → EachWithin len at (pos width) width n
 row-within len at width n ends = record {
@@ -27,25 +24,6 @@ row-within len at width n ends = record {
       let most : suc k * width ≤ n * width = mul-le-mul_right width low in
       (omega (arith, ints), omega (arith, ints, most, suc-mul k width));
 }
-
--- so many items, and so many after them
-pub row-split : (at width n m : ℕ) → row_offsets at width (n + m) ≡ row_offsets at width n ++ row_offsets (at + n * width) width m
-row-split at width n m =
-    let next : pos at +ℤ pos width *ℤ pos n ≡ pos (at + n * width) = ap (λ k. pos (at + k)) (mul_comm width n) in
-    ap (map natural) (numbers-split (pos at) (pos width) n m)
-    ∙ map-append natural (numbers_from (pos at) (pos width) n) (numbers_from (pos at +ℤ pos width *ℤ pos n) (pos width) m)
-    ∙ ap (λ z. row_offsets at width n ++ map natural (numbers_from z (pos width) m)) next
-
--- from the start on they are the multiples
-pub row-multiples : (width n : ℕ) → row_offsets 0 width n ≡ multiples width n
-row-multiples width n =
-    map-map natural (λ k. pos 0 +ℤ pos width *ℤ pos k) (range_with_len 0 n) ∙ (λ i. map (λ k. same k i) (range_with_len 0 n))
-  where
-    same : (k : ℕ) → natural (pos 0 +ℤ pos width *ℤ pos k) ≡ width * k
-    same k = omega arith
-
-pub length-row : (at width n : ℕ) → length (row_offsets at width n) ≡ n
-length-row at width n = length-run_offsets (row at width n)
 
 pub row-nested : (len at width n : ℕ) → at + n * width ≤ len → IsNested (row_offsets at width n) width
 row-nested len at width n ends = record {
@@ -56,17 +34,10 @@ row-nested len at width n ends = record {
       omega (arith, gap, suc-mul j width, place-at len width (row at width n) j within (omega (arith, before, low)), place-at len width (row at width n) k within low);
 }
 
--- the offsets of all items of runs
-abbrev pub all_of : List Run → List ℕ
-all_of runs = flat_map run_offsets runs
-
-pub length-next : (run : Run) (left : List Run) → length (all_of (run ∷ left)) ≡ run.count + length (all_of left)
-length-next run left = omega (arith, length-append (run_offsets run) (all_of left), length-run_offsets run)
-
 -- the items of a run, and of those after it
-pub parts : (left left' : List Run) (run : Run) (width : ℕ) → left ≡ run ∷ left' → length (all_of left) * width ≡ run.count * width + length (all_of left') * width
+pub parts : (left left' : List Run) (run : Run) (width : ℕ) → left ≡ run ∷ left' → length (all_offsets left) * width ≡ run.count * width + length (all_offsets left') * width
 parts left left' run width walked =
-    ap (λ l. length (all_of l) * width) walked ∙ ap (λ n. n * width) (length-next run left') ∙ add-mul run.count (length (all_of left')) width
+    ap (λ l. length (all_offsets l) * width) walked ∙ ap (λ n. n * width) (length-next run left') ∙ add-mul run.count (length (all_offsets left')) width
 
 -- its items, joined by their numbers and by their offsets
 pub joined-offsets : (len width : ℕ) (run : Run) (block : List ℕ) → EachWithin len run.offset run.step width run.count
@@ -86,11 +57,11 @@ joined-offsets len width run block within = by_count run.count within
 
 -- a run is pushed
 pub joined-next : (left left' : List Run) (run : Run) (width : ℕ) (block pushed before : List ℕ) → left ≡ run ∷ left' → pushed ≡ before ++ joined_at (run_offsets run) width block
-    → pushed ++ joined_at (all_of left') width block ≡ before ++ joined_at (all_of left) width block
+    → pushed ++ joined_at (all_offsets left') width block ≡ before ++ joined_at (all_offsets left) width block
 joined-next left left' run width block pushed before walked is =
     let item = λ (o : ℕ). item_at o width block in
-    ap (λ l. l ++ joined_at (all_of left') width block) is ∙ append_assoc before (joined_at (run_offsets run) width block) (joined_at (all_of left') width block)
-    ∙ ap (λ l. before ++ l) (sym (flat_map-append item (run_offsets run) (all_of left'))) ∙ ap (λ l. before ++ joined_at (all_of l) width block) (sym walked)
+    ap (λ l. l ++ joined_at (all_offsets left') width block) is ∙ append_assoc before (joined_at (run_offsets run) width block) (joined_at (all_offsets left') width block)
+    ∙ ap (λ l. before ++ l) (sym (flat_map-append item (run_offsets run) (all_offsets left'))) ∙ ap (λ l. before ++ joined_at (all_offsets l) width block) (sym walked)
 
 -- what is joined has so many bytes
 pub length-joined_at : (width : ℕ) (os block : List ℕ) → All (λ o. o + width ≤ length block) os → length (joined_at os width block) ≡ length os * width
@@ -120,17 +91,11 @@ joined-items width os block inside = behind [] 0 os (omega (arith, mul-zero widt
 
 -- and scattered
 pub scattered-next : (left left' : List Run) (run from : Run) (at width : ℕ) (other block block' whole : List ℕ) → left ≡ run ∷ left' → from ≡ row at width run.count → block' ≡ assigned (run_offsets run) (run_offsets from) width other block →
-    assigned (all_of left) (row_offsets at width (length (all_of left))) width other block ≡ whole → assigned (all_of left') (row_offsets (at + run.count * width) width (length (all_of left'))) width other block' ≡ whole
+    assigned (all_offsets left) (row_offsets at width (length (all_offsets left))) width other block ≡ whole → assigned (all_offsets left') (row_offsets (at + run.count * width) width (length (all_offsets left'))) width other block' ≡ whole
 scattered-next left left' run from at width other block block' whole walked is moved so_far =
-    let next = row_offsets (at + run.count * width) width (length (all_of left')) in
-    ap (assigned (all_of left') next width other) (moved ∙ ap (λ r. assigned (run_offsets run) (run_offsets r) width other block) is)
-    ∙ sym (assigned-append (run_offsets run) (row_offsets at width run.count) (all_of left') next width other block (length-run_offsets run ∙ sym (length-row at width run.count)))
-    ∙ ap (λ l. assigned (all_of (run ∷ left')) l width other block) (sym (ap (row_offsets at width) (length-next run left') ∙ row-split at width run.count (length (all_of left'))))
-    ∙ (λ i. assigned (all_of (sym walked i)) (row_offsets at width (length (all_of (sym walked i)))) width other block)
+    let next = row_offsets (at + run.count * width) width (length (all_offsets left')) in
+    ap (assigned (all_offsets left') next width other) (moved ∙ ap (λ r. assigned (run_offsets run) (run_offsets r) width other block) is)
+    ∙ sym (assigned-append (run_offsets run) (row_offsets at width run.count) (all_offsets left') next width other block (length-run_offsets run ∙ sym (length-row at width run.count)))
+    ∙ ap (λ l. assigned (all_offsets (run ∷ left')) l width other block) (sym (ap (row_offsets at width) (length-next run left') ∙ row-split at width run.count (length (all_offsets left'))))
+    ∙ (λ i. assigned (all_offsets (sym walked i)) (row_offsets at width (length (all_offsets (sym walked i)))) width other block)
     ∙ so_far
-
--- there is room for the next run, and for those after it
-pub room-next : (left left' : List Run) (run : Run) (at width len : ℕ) → left ≡ run ∷ left' → at + length (all_of left) * width ≤ len → (at + run.count * width ≤ len) × (at + run.count * width + length (all_of left') * width ≤ len)
-room-next left left' run at width len walked room =
-    let sum : length (all_of left) * width ≡ run.count * width + length (all_of left') * width = ap (λ n. n * width) (ap (λ l. length (all_of l)) walked ∙ length-next run left') ∙ add-mul run.count (length (all_of left')) width in
-    (omega (arith, room, sum), omega (arith, room, sum))

@@ -1,23 +1,16 @@
 -- Runs of items that are copied: what the operations of a block do, item by item.
-use Rattle.std.proofs.Common.{◌≡◌, ℕ, zero, suc, ◌+◌, ◌≤◌, List, [], ◌∷◌, ◌++◌, All, length, refl, sym, ap, subst, ◌∙◌, arith}
+use Rattle.std.proofs.Common.{◌≡◌, ℕ, zero, suc, ◌+◌, ◌≤◌, List, [], ◌∷◌, ◌++◌, All, length, refl, sym, ap, subst, ◌∙◌}
 use Rattle.std.specs.List.{flat_map, AllByRecursion as Each}
-use Rattle.std.proofs.lemmas.List.Elements.{All-head, All-from_recursion, recursion_from_All}
+use Rattle.std.proofs.lemmas.List.Elements.{All-from_recursion, recursion_from_All}
 use lib.IntN.{ℤ}
 use Rattle.raw_block.specs.Bytes.{put, item_at, place, EachWithin, copied}
+use Rattle.raw_block.specs.BytesLaws.{fewer}
 use Rattle.shape_strides.specs.declared.runs.Run.{Run}
 use Rattle.shape_strides.specs.declared.run_pairs.RunPair.{RunPair}
 use Rattle.shape_strides.specs.Runs.{run_offsets}
-use Rattle.overlap_copy.specs.RunLaws.{fewer, run_offsets-more, length-run_offsets, run-ends}
+use Rattle.shape_strides.specs.WalkLaws.{length-run_offsets}
+use Rattle.overlap_copy.specs.RunLaws.{run_offsets-more, run-ends, assigned-append}
 use Rattle.overlap_copy.specs.Assignments.{assigned}
-
--- first these items, then those
-pub assigned-append : (to from to' from' : List ℕ) (width : ℕ) (other block : List ℕ) → length to ≡ length from →
-    assigned (to ++ to') (from ++ from') width other block ≡ assigned to' from' width other (assigned to from width other block)
-assigned-append [] [] to' from' width other block even = refl
-assigned-append [] (offset ∷ from) to' from' width other block even = absurd (omega (arith, even))
-assigned-append (at ∷ to) [] to' from' width other block even = absurd (omega (arith, even))
-assigned-append (at ∷ to) (offset ∷ from) to' from' width other block even =
-    assigned-append to from to' from' width other (put at (item_at offset width other) block) (omega (arith, even))
 
 -- ---- at equal steps
 
@@ -57,10 +50,6 @@ copied-pair left left' pair width other block block' whole walked even is so_far
     ∙ sym (assigned-append (run_offsets pair.first) (run_offsets pair.second) (firsts left') (seconds left') width other block (length-run_offsets pair.first ∙ even ∙ sym (length-run_offsets pair.second)))
     ∙ (λ i. assigned (firsts (sym walked i)) (seconds (sym walked i)) width other block)
     ∙ so_far
-
--- what holds of all that is left holds of the next pair
-pub next : (P : RunPair → Type 0) (left left' : List RunPair) (pair : RunPair) → left ≡ pair ∷ left' → All P left → P pair
-next P left left' pair walked all = All-head P pair left' (subst (All P) walked all)
 
 -- the items of all runs end within the bytes
 ends-of : (run_of : RunPair → Run) (pairs : List RunPair) (len width : ℕ) → Each (λ pair. EachWithin len (run_of pair).offset (run_of pair).step width (run_of pair).count) pairs → Each (λ offset. offset + width ≤ len) (flat_map (λ pair. run_offsets (run_of pair)) pairs)

@@ -1,5 +1,5 @@
 -- Items that move by as many bytes each, in the order of their addresses.
-use Rattle.std.proofs.Common.{◌≡◌, ◌+◌, ◌-◌, ◌*◌, ◌<◌, ◌≤◌, ℕ, zero, suc, ℤ, pos, negsuc, ◌+ℤ◌, ◌*ℤ◌, ◌≤ℤ◌, List, [], ◌∷◌, ◌++◌, length, get_or, All, refl, sym, ap, subst, ◌∙◌, arith, length-append, get_or-append-add, one-mul}
+use Rattle.std.proofs.Common.{◌≡◌, ◌+◌, ◌-◌, ◌*◌, ◌<◌, ◌≤◌, ℕ, zero, suc, ℤ, pos, ◌+ℤ◌, ◌*ℤ◌, ◌≤ℤ◌, List, [], ◌∷◌, ◌++◌, length, get_or, All, refl, sym, ap, subst, ◌∙◌, arith, length-append, get_or-append-add, one-mul}
 use Rattle.std.specs.Prelude.{nat_abs}
 use Rattle.std.specs.List.{flat_map}
 use Rattle.std.proofs.Math.IntN.{*ℤ_comm}
@@ -14,7 +14,8 @@ use Rattle.shape_strides.specs.Addresses.{LieWithin, address_at}
 use Rattle.shape_strides.specs.Indexes.{IsIndex}
 use Rattle.shape_strides.specs.Layouts.{offsets, IsNested, distance}
 use Rattle.shape_strides.specs.Runs.{run_offsets}
-use Rattle.overlap_copy.specs.RunLaws.{length-run_offsets, place-at, run-ends, lie-within, runs-within}
+use Rattle.shape_strides.specs.WalkLaws.{length-run_offsets}
+use Rattle.overlap_copy.specs.RunLaws.{place-at, run-ends, lie-within, runs-within, All-back, All-front}
 use Rattle.overlap_copy.specs.Assignments.{assigned}
 use Rattle.overlap_copy.specs.inside.Moves.{IsAssigned, IsLine, IsTurned, AreSpaced, LiesApart, LieApart, place_in}
 use Rattle.overlap_copy.specs.inside.Shifts.{source, sources, source_run, MayCome}
@@ -22,10 +23,11 @@ use Rattle.overlap_copy.proofs.MoveLaws.{reordered, retold}
 use Rattle.overlap_copy.proofs.MovingLaws.{nested-front, nested-back, IsMoving, moving_on}
 use Rattle.overlap_copy.proofs.RunCopyLaws.{whole_moved}
 use Rattle.overlap_copy.proofs.TurnLaws.{turned_place, turned_within}
+use Rattle.overlap_copy.proofs.LineLaws.{first_place}
 
 -- ---- a run, from its first item to its last and back
 
-add-nothing : (at z y : ℤ) → z ≡ y → at +ℤ (z +ℤ pos 0) ≡ at +ℤ y
+pub add-nothing : (at z y : ℤ) → z ≡ y → at +ℤ (z +ℤ pos 0) ≡ at +ℤ y
 add-nothing at z y same = omega (arith, ints, same)
 
 pub lies-from : (len item : ℕ) (run : Run) → EachWithin len run.offset run.step item run.count → LieWithin (run.count ∷ []) (run.step ∷ []) run.offset len item
@@ -74,34 +76,23 @@ back-moved to to' from from' width old new t t' even moved =
     (sym (turned_place to to' j t low ∙ ap (place_in to) back), sym (turned_place from from' j t' (omega (arith, low, even)) ∙ ap (place_in from) back')))
     (subst (λ m. IsAssigned m (place_in to') (place_in from') width old old new) t.count moved)
 
--- a run of one item
-first-place : (run : Run) → place_in run 0 ≡ run.offset
-first-place run = ap nat_abs (add-zero (pos run.offset) (pos 0 *ℤ run.step) (*ℤ_comm (pos 0) run.step ∙ none run.step))
-  where
-    add-zero : (at z : ℤ) → z ≡ pos 0 → at +ℤ z ≡ at
-    add-zero at z is = omega (arith, ints, is)
-
-    none : (s : ℤ) → s *ℤ pos 0 ≡ pos 0
-    none (pos n) = omega (arith, ints)
-    none (negsuc n) = omega (arith, ints)
-
 pub one-within : (len width : ℕ) (run : Run) → 1 ≤ run.count → EachWithin len run.offset run.step width run.count → run.offset + width ≤ len
 one-within len width run some within =
     let first = place-at len width run 0 within (omega (arith, some)) in
     let ends = run-ends len width run within 0 0 (omega (arith, some, length-run_offsets run)) in
-    omega (arith, ends, first, first-place run)
+    omega (arith, ends, first, first_place run)
 
 pub one-moved : (to from : Run) (width : ℕ) (old new : List ℕ) → to.count ≡ 1 → to.offset + width ≤ length old → from.offset + width ≤ length old → new ≡ put to.offset (item_at from.offset width old) old → IsAssigned to.count (place_in to) (place_in from) width old old new
 one-moved to from width old new single in_to in_from moved =
     let wide : 1 * width ≡ width = one-mul width in
     let whole = whole_moved to.offset from.offset width 1 old (omega (arith, in_to, wide)) (omega (arith, in_from, wide)) in
     let here = subst (IsAssigned 1 (place to.offset (pos width)) (place from.offset (pos width)) width old old) (ap (λ w. put to.offset (item_at from.offset w old) old) wide ∙ sym moved) whole in
-    let row = λ (at : ℕ). first-place (record { offset = at; count = 1; step = pos width }) in
+    let row = λ (at : ℕ). first_place (record { offset = at; count = 1; step = pos width }) in
     subst (λ n. IsAssigned n (place_in to) (place_in from) width old old new) (sym single)
     (retold 1 (place_in to) (place_in from) (place to.offset (pos width)) (place from.offset (pos width)) width old old new (λ k below.
     let none : k ≡ 0 = omega (arith, below) in (
-      ap (place_in to) none ∙ first-place to ∙ sym (row to.offset) ∙ ap (place to.offset (pos width)) (sym none),
-      ap (place_in from) none ∙ first-place from ∙ sym (row from.offset) ∙ ap (place from.offset (pos width)) (sym none),
+      ap (place_in to) none ∙ first_place to ∙ sym (row to.offset) ∙ ap (place to.offset (pos width)) (sym none),
+      ap (place_in from) none ∙ first_place from ∙ sym (row from.offset) ∙ ap (place from.offset (pos width)) (sym none),
     )) here)
 
 -- ---- where the items of a run come from
@@ -123,7 +114,7 @@ module _ (len width to from : ℕ) (run : Run) (some : 1 ≤ run.count) (within 
   listed k below = omega (arith, below, length-run_offsets run)
 
   pub low-first : to ≤ run.offset + from
-  low-first = omega (arith, come.low 0 0 (listed 0 (omega (arith, some))), place-of 0 (omega (arith, some)), first-place run)
+  low-first = omega (arith, come.low 0 0 (listed 0 (omega (arith, some))), place-of 0 (omega (arith, some)), first_place run)
 
   source-place : (k : ℕ) → k < run.count → place_in (source_run to from run) k ≡ source to from (place_in run k)
   source-place k below =
@@ -178,19 +169,13 @@ at-front xs ys k below = (omega (arith, below, length-append xs ys), get_or_appe
 at-back : (xs ys : List ℕ) (k d : ℕ) → k < length ys → (length xs + k < length (xs ++ ys)) × (get_or (xs ++ ys) (length xs + k) d ≡ get_or ys k d)
 at-back xs ys k d below = (omega (arith, below, length-append xs ys), get_or-append-add xs ys k d)
 
-all-front : (P : ℕ → Type 0) (xs ys : List ℕ) → All P (xs ++ ys) → All P xs
-all-front P xs ys all = λ k d below. subst P (get_or_append_left xs ys d k below) (all k d (at-front xs ys k below).0)
-
-all-back : (P : ℕ → Type 0) (xs ys : List ℕ) → All P (xs ++ ys) → All P ys
-all-back P xs ys all = λ k d below. subst P (at-back xs ys k d below).1 (all (length xs + k) d (at-back xs ys k d below).0)
-
 pub come-front : (len width to from : ℕ) (xs ys : List ℕ) → MayCome len width to from (xs ++ ys) → MayCome len width to from xs
 come-front len width to from xs ys come = record {
   few = omega (arith, come.few, length-append xs ys);
-  targets = all-front (λ o. o + width ≤ len) xs ys come.targets;
-  low = all-front (λ o. to ≤ o + from) xs ys come.low;
-  sources_are = all-front (λ o. source to from o + width ≤ len) xs ys come.sources_are;
-  begin = all-front (λ o. source to from o + 1 ≤ max_bytes) xs ys come.begin;
+  targets = All-front (λ o. o + width ≤ len) xs ys come.targets;
+  low = All-front (λ o. to ≤ o + from) xs ys come.low;
+  sources_are = All-front (λ o. source to from o + width ≤ len) xs ys come.sources_are;
+  begin = All-front (λ o. source to from o + 1 ≤ max_bytes) xs ys come.begin;
   nested = nested-front xs ys width come.nested;
   unread = λ j k before below.
       let first = at-front xs ys j (omega (arith, before, below)) in
@@ -201,10 +186,10 @@ come-front len width to from xs ys come = record {
 pub come-back : (len width to from : ℕ) (xs ys : List ℕ) → MayCome len width to from (xs ++ ys) → MayCome len width to from ys
 come-back len width to from xs ys come = record {
   few = omega (arith, come.few, length-append xs ys);
-  targets = all-back (λ o. o + width ≤ len) xs ys come.targets;
-  low = all-back (λ o. to ≤ o + from) xs ys come.low;
-  sources_are = all-back (λ o. source to from o + width ≤ len) xs ys come.sources_are;
-  begin = all-back (λ o. source to from o + 1 ≤ max_bytes) xs ys come.begin;
+  targets = All-back (λ o. o + width ≤ len) xs ys come.targets;
+  low = All-back (λ o. to ≤ o + from) xs ys come.low;
+  sources_are = All-back (λ o. source to from o + width ≤ len) xs ys come.sources_are;
+  begin = All-back (λ o. source to from o + 1 ≤ max_bytes) xs ys come.begin;
   nested = nested-back xs ys width come.nested;
   unread = λ j k before below.
       let first = at-back xs ys j 0 (omega (arith, before, below)) in

@@ -13,16 +13,14 @@ use Rattle.shape_strides.specs.Indexes.{IsIndex}
 use Rattle.shape_strides.specs.Layouts.{distance}
 use Rattle.overlap_copy.specs.inside.Moves.{IsAssigned, IsLine, AreSpaced, IsTurned, place_in}
 use Rattle.overlap_copy.proofs.MoveLaws.{reordered, passed}
+use Rattle.overlap_copy.proofs.ShiftLaws.{add-nothing}
 
 -- ---- where the items of a run lie
-
-turned_sum : (at z y : ℤ) → z ≡ y → at +ℤ (z +ℤ pos 0) ≡ at +ℤ y
-turned_sum at z y same = omega (arith, ints, same)
 
 pub line_within : (len item : ℕ) (run : Run) → IsLine len item run → EachWithin len run.offset run.step item run.count
 line_within len item run line = record {
   each = λ k below.
-      let is : pos run.offset +ℤ (run.step *ℤ pos k +ℤ pos 0) ≡ position run.offset run.step k = turned_sum (pos run.offset) (run.step *ℤ pos k) (pos k *ℤ run.step) (*ℤ_comm run.step (pos k)) in
+      let is : pos run.offset +ℤ (run.step *ℤ pos k +ℤ pos 0) ≡ position run.offset run.step k = add-nothing (pos run.offset) (run.step *ℤ pos k) (pos k *ℤ run.step) (*ℤ_comm run.step (pos k)) in
       (subst (λ z. pos 0 ≤ℤ z) is (line.lies.from_zero (k ∷ []) (below, tt)), subst (λ z. (z +ℤ pos item) ≤ℤ pos len) is (line.lies.within (k ∷ []) (below, tt)));
 }
 

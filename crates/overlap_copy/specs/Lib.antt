@@ -5,3 +5,4 @@ pub mod RunLaws
 pub mod Assignments
 pub mod Apart
 pub mod inside
+pub mod PackedLaws

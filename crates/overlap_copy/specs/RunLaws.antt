@@ -1,5 +1,5 @@
 -- Laws of runs, whose items the operations of a block go over.
---     place-within                 each item lies within the bytes
+--     place_within                 each item lies within the bytes
 --     fewer, run_offsets-more      a run with one item fewer, and with one more
 --     length-run_offsets           a run has as many offsets as items
 --     place-at, run-ends           where an item lies; each ends within the bytes
@@ -9,17 +9,22 @@ use Rattle.std.proofs.Common.{◌≡◌, ℕ, zero, suc, ◌+◌, ◌-◌, ◌<�
 use Rattle.std.specs.List.{flat_map, range_with_len, AllByRecursion as Each}
 use Rattle.std.proofs.Math.IntN.{*ℤ_comm, +ℤ_idr}
 use Rattle.std.proofs.lemmas.Int.{ints}
-use Rattle.std.proofs.lemmas.List.{map-append, length-map, get_or-map, get_or_append_left, get_or-append_right}
+use Rattle.std.proofs.lemmas.List.{map-append, get_or-map, get_or_append_left, get_or-append_right}
 use Rattle.std.proofs.lemmas.List.Elements.{All-head, All-tail, All-from_get_or, All-from_recursion}
 use Rattle.std.proofs.lemmas.List.FromFn.{length-map-range_with_len, get_or-map-range_with_len}
 use lib.IntN.{ℤ, pos, negsuc, nat_abs, ◌+ℤ◌, ◌*ℤ◌}
 use lib.Signed.{◌≤ℤ◌}
-use Rattle.raw_block.specs.Bytes.{position, place, EachWithin}
+use Rattle.raw_block.specs.Bytes.{position, place, EachWithin, put, item_at, filled}
+use Rattle.raw_block.specs.BytesLaws.{place_within, fewer}
 use Rattle.elem_descr.specs.Steps.{numbers_from}
 use Rattle.shape_strides.specs.declared.runs.Run.{Run}
 use Rattle.shape_strides.specs.Addresses.{natural, LieWithin}
 use Rattle.shape_strides.specs.Limits.{max_bytes}
 use Rattle.shape_strides.specs.Runs.{run_offsets}
+use Rattle.shape_strides.specs.WalkLaws.{length-run_offsets}
+use Rattle.shape_strides.specs.declared.run_pairs.RunPair.{RunPair}
+use Rattle.overlap_copy.specs.Assignments.{assigned}
+use Rattle.fancy_index.specs.Plans.{put_each}
 
 -- ---- where an item lies
 
@@ -37,13 +42,7 @@ below : (z : ℤ) (width len : ℕ) → pos 0 ≤ℤ z → (z +ℤ pos width) �
 below (pos n) width len low high = omega (arith, ints)
 below (negsuc n) width len low high = absurd (omega (arith, ints))
 
-pub place-within : (len at : ℕ) (step : ℤ) (width n k : ℕ) → EachWithin len at step width n → k < n → place at step k + width ≤ len
-place-within len at step width n k within low = let here = within.each k low in below (position at step k) width len here.0 here.1
-
 -- ---- one item more
-
-pub fewer : (len at : ℕ) (step : ℤ) (width n : ℕ) → EachWithin len at step width (suc n) → EachWithin len at step width n
-fewer len at step width n within = record { each = λ k low. within.each k (omega arith) }
 
 range-more : (a n : ℕ) → range_with_len a (suc n) ≡ range_with_len a n ++ (a + n) ∷ []
 range-more a zero = ap (λ m. m ∷ []) same
@@ -71,11 +70,6 @@ run_offsets-more len at step width n within =
     numbers-more at step n
     ∙ ap (λ o. map natural (numbers_from (pos at) step n) ++ o ∷ []) (natural-place at step n (within.each n (omega arith)).0)
 
-pub length-run_offsets : (run : Run) → length (run_offsets run) ≡ run.count
-length-run_offsets run =
-    let number = λ (k : ℕ). pos run.offset +ℤ run.step *ℤ pos k in
-    length-map (numbers_from (pos run.offset) run.step run.count) natural ∙ length-map-range_with_len number 0 run.count
-
 -- ---- runs within some bytes
 
 -- the item after k others
@@ -94,7 +88,7 @@ place-at len width run k within low = nth-offset run k low ∙ natural-place run
 pub run-ends : (len width : ℕ) (run : Run) → EachWithin len run.offset run.step width run.count → All (λ offset. offset + width ≤ len) (run_offsets run)
 run-ends len width run within = All-from_get_or (λ offset. offset + width ≤ len) (run_offsets run) 0 (λ k inside.
     let low : k < run.count = omega (arith, length-run_offsets run) in
-    subst (λ o. o + width ≤ len) (sym (place-at len width run k within low)) (place-within len run.offset run.step width run.count k within low))
+    subst (λ o. o + width ≤ len) (sym (place-at len width run k within low)) (place_within len run.offset run.step width run.count k within low))
 
 -- from an item of a run on
 turned' : (run : Run) (k : ℕ) → pos run.offset +ℤ (run.step *ℤ pos k +ℤ pos 0) ≡ position run.offset run.step k
@@ -153,3 +147,29 @@ runs-within {X} len width run_of xs begin ends = All-from_recursion (λ x. EachW
           run-within len width (run_of x) (All-head begins x xs begin) (All-front ends-in (run_offsets (run_of x)) rest ends),
           each xs (All-tail begins x xs begin) (All-back ends-in (run_offsets (run_of x)) rest ends),
         )
+
+-- what holds of all that is left holds of the next_pair pair
+pub next_pair : (P : RunPair → Type 0) (left left' : List RunPair) (pair : RunPair) → left ≡ pair ∷ left' → All P left → P pair
+next_pair P left left' pair walked all = All-head P pair left' (subst (All P) walked all)
+
+-- first these items, then those
+pub assigned-append : (to from to' from' : List ℕ) (width : ℕ) (other block : List ℕ) → length to ≡ length from →
+    assigned (to ++ to') (from ++ from') width other block ≡ assigned to' from' width other (assigned to from width other block)
+assigned-append [] [] to' from' width other block even = refl
+assigned-append [] (offset ∷ from) to' from' width other block even = absurd (omega (arith, even))
+assigned-append (at ∷ to) [] to' from' width other block even = absurd (omega (arith, even))
+assigned-append (at ∷ to) (offset ∷ from) to' from' width other block even =
+    assigned-append to from to' from' width other (put at (item_at offset width other) block) (omega (arith, even))
+
+pub put_each-append : (to to' item block : List ℕ) → put_each (to ++ to') item block ≡ put_each to' item (put_each to item block)
+put_each-append [] to' item block = refl
+put_each-append (at ∷ to) to' item block = put_each-append to to' item (put at item block)
+
+pub filled-run : (len at : ℕ) (step : ℤ) (item : List ℕ) (n : ℕ) (block : List ℕ) → EachWithin len at step (length item) n →
+    filled at step item n block ≡ put_each (run_offsets (record { offset = at; count = n; step = step })) item block
+filled-run len at step item zero block to = refl
+filled-run len at step item (suc n) block to =
+    let here : Run = record { offset = at; count = n; step = step } in
+    ap (put (place at step n) item) (filled-run len at step item n block (fewer len at step (length item) n to))
+    ∙ sym (put_each-append (run_offsets here) (place at step n ∷ []) item block)
+    ∙ λ i. put_each (sym (run_offsets-more len at step (length item) n to) i) item block

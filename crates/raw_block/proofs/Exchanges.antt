@@ -1,20 +1,17 @@
 -- Items that lie apart change places at once, and so do those of runs that lie beside one another.
-use Rattle.std.proofs.Common.{◌≡◌, ℕ, suc, ◌+◌, ◌-◌, ◌*◌, ◌<◌, ◌≤◌, ◌⊎◌, inl, inr, max, min, List, length, drop, get_or, sym, ap, ◌∙◌, arith}
+use Rattle.std.proofs.Common.{◌≡◌, ℕ, suc, ◌+◌, ◌-◌, ◌*◌, ◌<◌, ◌≤◌, ◌⊎◌, inl, inr, max, min, List, length, get_or, sym, ap, ◌∙◌, arith}
 use Rattle.std.proofs.Math.Nat.{mul-le-mul_right, zero-mul}
 use Rattle.std.proofs.lemmas.Bool.{cases_lt}
 use Rattle.std.proofs.lemmas.Int.{ints}
-use Rattle.std.proofs.lemmas.List.{ext_get_or, get_or-take, get_or-drop}
+use Rattle.std.proofs.lemmas.List.{ext_get_or}
 use lib.IntN.{ℤ, pos, negsuc}
 use lib.Signed.{◌≤ℤ◌}
 use Rattle.raw_block.specs.Bytes.{position, place, EachWithin, put, item_at, exchanged}
-use Rattle.raw_block.specs.BytesLaws.{length-item_at, length-put, get_or-put_before, get_or-put_after, item_at-put_same, not_negative}
+use Rattle.raw_block.specs.BytesLaws.{length-item_at, length-put, get_or-put_before, get_or-put_after, item_at-put_same, not_negative, byte_of}
 use Rattle.raw_block.specs.ExchangeLaws.{length-exchanged, exchanged-outside, exchanged-first, exchanged-second}
 use Rattle.raw_block.specs.inside.Pairs.{LieApart}
 
 -- ---- two items that lie apart
-
-byte_of : (at width i : ℕ) (bytes : List ℕ) → i < width → get_or (item_at at width bytes) i 0 ≡ get_or bytes (at + i) 0
-byte_of at width i bytes lt = get_or-take width (drop at bytes) i 0 lt ∙ get_or-drop at bytes i 0
 
 module _ (at : ℕ) (xs bytes : List ℕ) (le : at + length xs ≤ length bytes) where
   get_or-put_inside : (i : ℕ) → i < length xs → get_or (put at xs bytes) (at + i) 0 ≡ get_or xs i 0

@@ -1,8 +1,11 @@
 -- What a write into bytes changes and leaves, and where items at equal steps lie.
-use Rattle.std.proofs.Common.{◌≡◌, ℕ, suc, ◌+◌, ◌-◌, refl, sym, ap, ◌∙◌, arith, ◌<◌, ◌≤◌, List, length, get_or, ◌++◌, take, drop, append_assoc, length-append, length-take, length-drop, ◌⊎◌, inl, inr}
+use Rattle.std.proofs.Common.{◌≡◌, ℕ, suc, ◌+◌, ◌-◌, refl, sym, ap, ◌∙◌, arith, ◌<◌, ◌≤◌, List, length, get_or, ◌++◌, take, drop, append_assoc, length-append, length-take, length-drop, ◌⊎◌, inl, inr, ◌*◌}
 use Rattle.std.proofs.lemmas.List.{get_or-append_right, get_or_append_left, get_or-take, get_or-drop, ext_get_or}
 use Rattle.std.proofs.Math.Seq.{take-append_seam, drop-append_seam}
 use Rattle.std.proofs.lemmas.Int.{ints}
+use Rattle.std.specs.Prelude.{ℤ, ◌*ℤ◌}
+use Rattle.std.proofs.Math.IntN.{zero-*ℤ}
+use Rattle.std.proofs.Math.Nat.{zero-mul}
 use lib.IntN.{ℤ, pos, negsuc, nat_abs}
 use lib.Signed.{◌≤ℤ◌}
 use Rattle.raw_block.specs.Bytes.{position, place, EachWithin, put, item_at}
@@ -61,3 +64,18 @@ place_within len at step width n k h lt =
 -- so do fewer
 pub fewer : (len at : ℕ) (step : ℤ) (width n : ℕ) → EachWithin len at step width (suc n) → EachWithin len at step width n
 fewer len at step width n h = record { each = λ k lt. h.each k (omega arith) }
+
+-- the first item lies within the bytes
+pub begins_within : (len at : ℕ) (step : ℤ) (width n k : ℕ) → EachWithin len at step width n → k < n → at ≤ len
+begins_within len at step width n k within low =
+    let first = (within.each 0 (omega (arith, low))).1 in
+    let none = zero-*ℤ step in
+    omega (arith, ints)
+
+-- the first of some items at equal steps
+pub first_position : (at : ℕ) (step : ℤ) → position at step 0 ≡ pos at
+first_position at (pos s) = let none : 0 * s ≡ 0 = zero-mul s in omega (arith, ints)
+first_position at (negsuc s) = let none : 0 * suc s ≡ 0 = zero-mul (suc s) in omega (arith, ints)
+
+pub byte_of : (at width i : ℕ) (bytes : List ℕ) → i < width → get_or (item_at at width bytes) i 0 ≡ get_or bytes (at + i) 0
+byte_of at width i bytes lt = get_or-take width (drop at bytes) i 0 lt ∙ get_or-drop at bytes i 0

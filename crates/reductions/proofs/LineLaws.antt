@@ -2,7 +2,7 @@
 use Rattle.std.proofs.Common.{◌≡◌, ◌+◌, ◌-◌, ◌*◌, ◌≤◌, ◌<◌, ℕ, zero, suc, List, [], ◌∷◌, ◌++◌, map, length, sym, ap, subst, ◌∙◌, arith, add-one, append_assoc, take, drop, ◌⊎◌, inl, inr, suc-mul, add-mul, mul-le-mul_right, get_or, get_or-append-add, length-take, length-append}
 use Rattle.std.specs.Prelude.{ℤ, pos, ◌+ℤ◌, ◌*ℤ◌, ◌≤ℤ◌}
 use Rattle.std.proofs.lemmas.Int.{ints}
-use Rattle.std.proofs.lemmas.List.{map-append, length-map, drop-drop, get_or-take, get_or-drop, ext_get_or, get_or_append_left}
+use Rattle.std.proofs.lemmas.List.{map-append, length-map, drop-drop, ext_get_or, get_or_append_left}
 use Rattle.std.proofs.lemmas.Bool.{cases_lt}
 use Rattle.std.proofs.Math.IntN.{zero-*ℤ, suc_ℤ-*ℤ, *ℤ_comm, +ℤ_assoc, +ℤ_idr}
 use Rattle.elem_descr.specs.declared.scalar.Scalar.{Scalar}
@@ -10,20 +10,14 @@ use Rattle.elem_descr.specs.Steps.{numbers_from}
 use Rattle.elem_descr.specs.StepLaws.{numbers-suc, numbers-split}
 use Rattle.shape_strides.specs.Addresses.{natural}
 use Rattle.raw_block.specs.Bytes.{position, place, item_at, EachWithin}
-use Rattle.raw_block.specs.BytesLaws.{not_negative, item_at-put_apart, length-item_at}
+use Rattle.raw_block.specs.BytesLaws.{not_negative, item_at-put_apart, length-item_at, byte_of}
 use Rattle.shape_strides.specs.declared.runs.Run.{Run}
 use Rattle.shape_strides.specs.Runs.{run_offsets}
-use Rattle.overlap_copy.specs.RunLaws.{run_offsets-more, length-run_offsets}
+use Rattle.shape_strides.specs.WalkLaws.{length-run_offsets}
+use Rattle.overlap_copy.specs.RunLaws.{run_offsets-more}
 use Rattle.reductions.specs.Reductions.{first_place}
 use Rattle.reductions.specs.inside.FoundLaws.{found-next}
 use Rattle.reductions.specs.inside.Numbers.{number_at, numbers_at}
-
--- a run begins within the bytes
-pub begins : (len at : ℕ) (step : ℤ) (width n k : ℕ) → EachWithin len at step width n → k < n → at ≤ len
-begins len at step width n k within low =
-    let first = (within.each 0 (omega (arith, low))).1 in
-    let none = zero-*ℤ step in
-    omega (arith, ints)
 
 -- the first n items of a run
 abbrev pub front : ℕ → Run → Run
@@ -135,10 +129,6 @@ beside at n width other new row whole wide within within' apart =
 pub before_next : (j k width : ℕ) → j < k → j * width + width ≤ k * width
 before_next j k width low = let most : suc j * width ≤ k * width = mul-le-mul_right width low in omega (arith, most, suc-mul j width)
 
--- the bytes of an item, one by one
-read : (o w i : ℕ) (bytes : List ℕ) → i < w → get_or (item_at o w bytes) i 0 ≡ get_or bytes (o + i) 0
-read o w i bytes low = get_or-take w (drop o bytes) i 0 low ∙ get_or-drop o bytes i 0
-
 -- what lies in a row that is put among others
 pub amid : (at n o width : ℕ) (row out : List ℕ) → at ≤ length out → o + width ≤ length row → item_at (at + o) width (take at out ++ (row ++ drop n (drop at out))) ≡ item_at o width row
 amid at n o width row out low fits =
@@ -149,11 +139,11 @@ amid at n o width row out low fits =
     ext_get_or 0 (item_at (at + o) width whole) (item_at o width row) (length-item_at (at + o) width whole far ∙ sym (length-item_at o width row fits)) (λ i inside.
     let here : i < width = omega (arith, inside, length-item_at (at + o) width whole far) in
     let on : at + o + i ≡ length (take at out) + (o + i) = omega (arith, long) in
-    read (at + o) width i whole here
+    byte_of (at + o) width i whole here
     ∙ ap (λ p. get_or whole p 0) on
     ∙ get_or-append-add (take at out) (row ++ rest) (o + i) 0
     ∙ get_or_append_left row rest 0 (o + i) (omega (arith, here, fits))
-    ∙ sym (read o width i row here))
+    ∙ sym (byte_of o width i row here))
 
 -- what lies before such a row is as it was
 pub front_kept : (at n m o width : ℕ) (row out : List ℕ) → length row ≡ n → m ≡ n → at + n ≤ length out → o + width ≤ at → item_at o width (take at out ++ (row ++ drop m (drop at out))) ≡ item_at o width out

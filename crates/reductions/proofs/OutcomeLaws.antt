@@ -1,5 +1,5 @@
 -- What is refused, and what a result is.
-use Rattle.std.proofs.Common.{◌≡◌, ◌+◌, ◌-◌, ◌*◌, ◌++◌, replicate, append-nil, ◌<◌, ℕ, zero, suc, ℤ, true, false, Bool, Option, Some, None, List, [], ◌∷◌, map, drop, length, get_or, Ok, Err, refl, sym, ap, ◌∙◌, arith, zero-mul, mul_comm, one-mul}
+use Rattle.std.proofs.Common.{◌≡◌, ◌+◌, ◌-◌, ◌*◌, ◌++◌, ◌<◌, ℕ, zero, suc, ℤ, true, false, Bool, Option, Some, None, List, [], ◌∷◌, map, drop, length, get_or, Ok, Err, refl, sym, ap, ◌∙◌, arith, mul_comm, one-mul}
 use Rattle.std.proofs.lemmas.Bool.{ne_eqb}
 use Rattle.std.specs.Prelude.{nat_eq, Result, ◌&&◌, not, ◌==◌, slice_set, is_ok}
 use Rattle.std.specs.List.{range_with_len, insert, remove, flat_map}
@@ -15,8 +15,9 @@ use Rattle.elem_descr.specs.Refusals.{◌>>=◌, check}
 use Rattle.elem_descr.specs.RefusalLaws.{check_passed}
 use Rattle.shape_strides.specs.ShapeLaws.{shape_of-same}
 use Rattle.elem_descr.specs.Items.{encode_item}
-use Rattle.elem_descr.specs.Values.{LeafValue, number}
+use Rattle.elem_descr.specs.Values.{number}
 use Rattle.elem_descr.specs.Blocks.{item_from}
+use Rattle.elem_descr.specs.ByteLaws.{one-encoded}
 use Rattle.raw_block.specs.Bytes.{item_at, joined}
 use Rattle.raw_block.specs.JoinedLaws.{all_joined, joined-add, joined-same}
 use Rattle.shape_strides.specs.declared.layout.Layout.{Layout}
@@ -31,12 +32,8 @@ use Rattle.reductions.specs.Outcomes.{has_empty_list, number_scalar, reduced_typ
 use Rattle.reductions.specs.Reductions.{result_scalar, needs_items, reduced, reduced_item, reduced_items, item_number}
 use Rattle.reductions.specs.inside.Axes.{IsAxisOf, shape_after}
 use Rattle.reductions.specs.inside.Numbers.{number_at, numbers_at, AreReduced}
-use Rattle.reductions.proofs.AxisLaws.{count-remove}
 
 -- ---- lengths
-
-pub count-zero : (shape : List ℕ) (k : ℕ) → k < length shape → get_or shape k 0 ≡ 0 → count shape ≡ 0
-count-zero shape k low none = count-remove shape k low ∙ ap (λ g. g * count (remove shape k)) none ∙ zero-mul (count (remove shape k))
 
 pub after_empty : (reduction : Red) (shape : List ℕ) (axis : Option ℕ) (keep : Bool) → (needs_items reduction && has_empty_list shape axis (reduced_shape shape axis keep)) ≡ true → shape_after reduction shape axis keep ≡ Err EmptyReduction
 unfolding shape_after
@@ -165,9 +162,6 @@ items_are reduction scalar to block out ls n is many are =
 
 -- ---- the bytes
 
-number_encoded : (to : Scalar) (v : LeafValue) → encode_item (ScalarDescr to) (v ∷ []) ≡ encode to v
-number_encoded to v = let none : size to - (0 + size to) ≡ 0 = omega arith in ap (λ n. encode to v ++ replicate n 0) none ∙ append-nil (encode to v)
-
 joined_list : {X : Type 0} (f : X → List ℕ) (d : X) (xs : List X) → joined (λ k. f (get_or xs k d)) (length xs) ≡ flat_map f xs
 joined_list f d [] = refl
 joined_list f d (x ∷ xs) =
@@ -187,7 +181,7 @@ bytes_are reduction scalar to block out ls n is many long are =
     (are k (omega (arith, low, many))).exact
     ∙ ap (λ s. encode s (number (reduced reduction s (numbers_at scalar block list)))) (sym is)
     ∙ ap (λ numbers. encode to (number (reduced reduction to numbers))) (sym (numbers_are scalar block list))
-    ∙ sym (number_encoded to (number (reduced reduction to (map item_number (map (item_from (ScalarDescr scalar) block) list)))))
+    ∙ sym (one-encoded to (number (reduced reduction to (map item_number (map (item_from (ScalarDescr scalar) block) list)))))
     ∙ ap f (sym (get_or-map g ls k [] [] (omega (arith, low, many)))))
     ∙ ap (joined (λ k. f (get_or items k []))) (many ∙ sym (length-map ls g))
     ∙ joined_list f [] items

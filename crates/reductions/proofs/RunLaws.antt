@@ -1,21 +1,18 @@
 -- Runs that are gone over one after the other.
 use Rattle.std.proofs.Common.{◌≡◌, ◌+◌, ◌*◌, ◌≤◌, ◌<◌, ℕ, List, [], ◌∷◌, ◌++◌, take, drop, length, get_or, refl, sym, ap, ◌∙◌, arith, length-append, length-take, append_assoc, add-mul, mul-le-mul_right}
-use Rattle.std.specs.List.{flat_map}
 use Rattle.std.proofs.lemmas.List.{drop-drop, get_or-drop, get_or_append_left, take-append-drop}
 use Rattle.std.proofs.Math.Seq.{drop-append_seam, take-append_seam}
 use Rattle.raw_block.specs.Bytes.{place, EachWithin}
 use Rattle.shape_strides.specs.declared.runs.Run.{Run}
 use Rattle.shape_strides.specs.Runs.{run_offsets}
-use Rattle.overlap_copy.specs.RunLaws.{length-run_offsets, place-at}
-
--- the offsets of runs
-abbrev pub all_of : List Run → List ℕ
-all_of runs = flat_map run_offsets runs
+use Rattle.shape_strides.specs.WalkLaws.{length-run_offsets}
+use Rattle.shape_strides.specs.RunPairs.{all_offsets}
+use Rattle.overlap_copy.specs.RunLaws.{place-at}
 
 -- the runs after the first `done` items are these
 pub record AreLeft (all : List ℕ) (done : ℕ) (left : List Run) : Type 0 where
-  pub rest : drop done all ≡ all_of left
-  pub counted : done + length (all_of left) ≡ length all
+  pub rest : drop done all ≡ all_offsets left
+  pub counted : done + length (all_offsets left) ≡ length all
 
 take_on : (all xs ys : List ℕ) (m n : ℕ) → m ≤ length all → length xs ≡ n → drop m all ≡ xs ++ ys → take (m + n) all ≡ take m all ++ xs
 take_on all xs ys m n low whole is =
@@ -25,11 +22,11 @@ take_on all xs ys m n low whole is =
     ∙ take-append_seam (take m all ++ xs) ys
 
 module _ (all : List ℕ) (done : ℕ) (run : Run) (runs left : List Run) (are : AreLeft all done left) (steps : left ≡ run ∷ runs) where
-  next : drop done all ≡ run_offsets run ++ all_of runs
-  next = are.rest ∙ ap all_of steps
+  next : drop done all ≡ run_offsets run ++ all_offsets runs
+  next = are.rest ∙ ap all_offsets steps
 
-  long : length (all_of left) ≡ run.count + length (all_of runs)
-  long = ap (λ rs. length (all_of rs)) steps ∙ length-append (run_offsets run) (all_of runs) ∙ ap (λ n. n + length (all_of runs)) (length-run_offsets run)
+  long : length (all_offsets left) ≡ run.count + length (all_offsets runs)
+  long = ap (λ rs. length (all_offsets rs)) steps ∙ length-append (run_offsets run) (all_offsets runs) ∙ ap (λ n. n + length (all_offsets runs)) (length-run_offsets run)
 
   -- there is room for one run more
   pub run_fits : done + run.count ≤ length all
@@ -43,25 +40,25 @@ module _ (all : List ℕ) (done : ℕ) (run : Run) (runs left : List Run) (are :
   entry len width j within low =
       sym (get_or-drop done all j 0)
       ∙ ap (λ l. get_or l j 0) next
-      ∙ get_or_append_left (run_offsets run) (all_of runs) 0 j (omega (arith, low, length-run_offsets run))
+      ∙ get_or_append_left (run_offsets run) (all_offsets runs) 0 j (omega (arith, low, length-run_offsets run))
       ∙ place-at len width run j within low
 
   pub after : AreLeft all (done + run.count) runs
   after = record {
-    rest = sym (drop-drop run.count done all) ∙ ap (drop run.count) next ∙ ap (λ n. drop n (run_offsets run ++ all_of runs)) (sym (length-run_offsets run)) ∙ drop-append_seam (run_offsets run) (all_of runs);
+    rest = sym (drop-drop run.count done all) ∙ ap (drop run.count) next ∙ ap (λ n. drop n (run_offsets run ++ all_offsets runs)) (sym (length-run_offsets run)) ∙ drop-append_seam (run_offsets run) (all_offsets runs);
     counted = omega (arith, long, are.counted);
   }
 
   -- the items before the run, and with it
   pub taken_more : take (done + run.count) all ≡ take done all ++ run_offsets run
-  taken_more = take_on all (run_offsets run) (all_of runs) done run.count (omega (arith, are.counted)) (length-run_offsets run) next
+  taken_more = take_on all (run_offsets run) (all_offsets runs) done run.count (omega (arith, are.counted)) (length-run_offsets run) next
 
-pub start : (runs : List Run) → AreLeft (all_of runs) 0 runs
+pub start : (runs : List Run) → AreLeft (all_offsets runs) 0 runs
 start runs = record { rest = refl; counted = omega arith }
 
 -- no run is left
 pub ended : (all : List ℕ) (done : ℕ) (left : List Run) → AreLeft all done left → left ≡ [] → done ≡ length all
-ended all done left are none = omega (arith, are.counted, ap (λ rs. length (all_of rs)) none)
+ended all done left are none = omega (arith, are.counted, ap (λ rs. length (all_offsets rs)) none)
 
 -- a list with items begins with the first one
 pub headed : (xs : List ℕ) → 0 < length xs → xs ≡ get_or xs 0 0 ∷ drop 1 xs

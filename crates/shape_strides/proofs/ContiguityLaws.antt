@@ -18,6 +18,7 @@ use Rattle.shape_strides.specs.ContiguityLaws.{first_address-entry, printed-at}
 use Rattle.shape_strides.specs.IndexLaws.{rank-lt, index_at}
 use Rattle.shape_strides.specs.inside.Reach.{max_reach}
 use Rattle.shape_strides.specs.CountLaws.{factors_pos, count-drop}
+use Rattle.shape_strides.specs.PermutationLaws.{factor-pos}
 
 -- ---- addresses that go up by an item
 
@@ -116,11 +117,6 @@ steps_from_GoesUp l item axis some below long up =
 
 -- ---- the test of a layout
 
-pub lengths-pos : (shape : List ℕ) (axis : ℕ) → 0 < count shape → axis < length shape → 0 < get_or shape axis 0
-lengths-pos [] axis some below = absurd (omega arith)
-lengths-pos (n ∷ shape) zero some below = (factors_pos n (count shape) some).0
-lengths-pos (n ∷ shape) (suc axis) some below = lengths-pos shape axis (factors_pos n (count shape) some).1 (omega arith)
-
 pub is_c-empty : (l : Layout) (item : ℕ) → count l.shape ≡ 0 → is_c_contiguous item (offsets l) ≡ true
 is_c-empty l item none =
     test_from_GoesUp item (offsets l) (record { next = λ k below. absurd (omega (arith, length-offsets l)) })
@@ -131,7 +127,7 @@ is_c-true l item steps = test_from_GoesUp item (offsets l) (GoesUp-steps l item 
 -- one axis that steps over other bytes
 pub is_c-false : (l : Layout) (item axis bytes : ℕ) → 0 < count l.shape → axis < length l.shape → bytes ≡ count (drop (axis + 1) l.shape) * item → get_or l.shape axis 0 ≢ 1 → get_or l.strides axis (pos 0) ≢ pos bytes → is_c_contiguous item (offsets l) ≡ false
 is_c-false l item axis bytes some below is long other =
-    let some_there = lengths-pos l.shape axis some below in
+    let some_there = factor-pos l.shape axis some below in
     false_from_ne_true (is_c_contiguous item (offsets l)) (λ test.
     other (steps_from_GoesUp l item axis some below (omega (arith, long)) (GoesUp-from_test item (offsets l) test) ∙ ap pos (sym (is ∙ ap (λ k. count (drop k l.shape) * item) (add-one axis)))))
 

@@ -2,6 +2,7 @@
 use Rattle.std.proofs.Common.{◌≡◌, ℕ, ◌*◌, ◌<◌, ◌≤◌, ℤ, pos, List, [], ◌∷◌, ◌++◌, map, refl, sym, ◌∙◌, ap, subst, arith, mul-le-mul_left, mul-le-mul_right}
 use Rattle.std.specs.List.{AllByRecursion as Each}
 use Rattle.elem_descr.specs.Steps.{numbers_from}
+use Rattle.elem_descr.specs.ListLaws.{flat_map_same, map-flat_map}
 use Rattle.shape_strides.specs.declared.layout.Layout.{Layout}
 use Rattle.shape_strides.specs.declared.joined.StridedAxis.{StridedAxis}
 use Rattle.shape_strides.specs.declared.runs.Run.{Run}
@@ -13,7 +14,7 @@ use Rattle.shape_strides.specs.Runs.{run_along, runs_from}
 use Rattle.shape_strides.specs.PairWalks.{IsInBytes}
 use Rattle.shape_strides.specs.inside.Starts.{lengths_of}
 use Rattle.shape_strides.specs.CountLaws.{factors_pos}
-use Rattle.shape_strides.proofs.JoinedLaws.{map-flat_map, flat_map_same, addresses, addresses-indexes, addresses-joined}
+use Rattle.shape_strides.proofs.JoinedLaws.{addresses, addresses-indexes, addresses-joined}
 use Rattle.shape_strides.proofs.RunLaws.{Each-indexes}
 use Rattle.shape_strides.proofs.StartLaws.{count-joined, lengths_of-axes}
 

@@ -1,10 +1,9 @@
 -- Laws of two layouts walked together: the pairs lay out the items of both.
 use Rattle.std.proofs.Common.{◌≡◌, ℕ, zero, suc, ◌+◌, ◌-◌, ◌<◌, ◌≤◌, ◌==◌, min, ℤ, pos, ◌+ℤ◌, ◌*ℤ◌, List, [], ◌∷◌, ◌++◌, Option, Some, None, All, map, length, inl, inr, refl, sym, ◌∙◌, ap, subst, arith, append_assoc, length-append}
-use Rattle.std.specs.List.{flat_map, range_with_len, AllByRecursion as Each}
+use Rattle.std.specs.List.{flat_map, AllByRecursion as Each}
 use Rattle.std.proofs.lemmas.Bool.{cases_lt, cond_both, cond-true, eq-eqb, eqb-true, eqb-false}
 use Rattle.std.proofs.lemmas.Int.{ints}
-use Rattle.std.proofs.lemmas.List.{length-map, map-append}
-use Rattle.std.proofs.lemmas.List.FromFn.{length-range_with_len}
+use Rattle.std.proofs.lemmas.List.{map-append}
 use Rattle.std.proofs.lemmas.List.Elements.{All-from_recursion}
 use Rattle.elem_descr.specs.Steps.{numbers_from}
 use Rattle.shape_strides.specs.declared.layout.Layout.{Layout}
@@ -26,14 +25,11 @@ use Rattle.elem_descr.specs.StepLaws.{numbers-split, numbers-suc}
 use Rattle.shape_strides.proofs.JoinedLaws.{flat_map-id, addresses}
 use Rattle.shape_strides.proofs.RunLaws.{NoneBelow, Each-front, Each-back, numbers-natural, empty, IsJoined, HasItems, IsJoined-joined, HasItems-axes, runs-some, runs-none, runs-offsets, runs-alone}
 use Rattle.shape_strides.proofs.FrontLaws.{in_bytes, lengths-low, count-whole}
+use Rattle.shape_strides.specs.WalkLaws.{length-run_offsets}
 
 none_low : (zs : List ℤ) → Each IsInBytes zs → NoneBelow zs
 none_low [] each = tt
 none_low (z ∷ zs) each = (each.0.0, none_low zs each.1)
-
-pub length-run_offsets : (run : Run) → length (run_offsets run) ≡ run.count
-length-run_offsets run =
-    length-map (numbers_from (pos run.offset) run.step run.count) natural ∙ length-map (range_with_len 0 run.count) (λ k. pos run.offset +ℤ run.step *ℤ pos k) ∙ length-range_with_len 0 run.count
 
 pub split : (run : Run) (n : ℕ) → n ≤ run.count → numbers_from (pos run.offset) run.step run.count ≡ numbers_from (pos run.offset) run.step n ++ numbers_from (pos run.offset +ℤ run.step *ℤ pos n) run.step (run.count - n)
 split run n low =

@@ -15,7 +15,7 @@ use Rattle.shape_strides.specs.LayoutLaws.{pos-natural, length-offsets}
 use Rattle.shape_strides.proofs.JoinedLaws.{addresses, offsets-joined}
 use Rattle.shape_strides.proofs.RunLaws.{NoneBelow, none_below}
 use Rattle.shape_strides.proofs.StartLaws.{lengths_of-axes}
-use Rattle.shape_strides.proofs.UniqueLaws.{AreJoined, joined_unique, are_joined, addresses-first}
+use Rattle.shape_strides.proofs.UniqueLaws.{AreJoined, joined_unique, are_joined, addresses-first, same_axis}
 
 -- ---- addresses and offsets
 
@@ -56,9 +56,6 @@ same_offsets a b first axes = offsets-joined a ∙ ap (λ o. map natural (addres
 
 -- ---- axes that are compared
 
-same_of_parts : (x y : StridedAxis) → x.len ≡ y.len → x.stride ≡ y.stride → x ≡ y
-same_of_parts x y len stride = ap (λ n. let axis : StridedAxis = record { len = n; stride = x.stride } in axis) len ∙ ap (λ s. let axis : StridedAxis = record { len = y.len; stride = s } in axis) stride
-
 alike-same : (xs ys : List StridedAxis) → all_alike xs ys ≡ true → xs ≡ ys
 alike-same [] [] alike = refl
 alike-same [] (y ∷ ys) alike = absurd (false≢true alike)
@@ -66,7 +63,7 @@ alike-same (x ∷ xs) [] alike = absurd (false≢true alike)
 alike-same (x ∷ xs) (y ∷ ys) alike =
     let both = and_parts ((x.len == y.len) && int_eq x.stride y.stride) (all_alike xs ys) alike in
     let parts = and_parts (x.len == y.len) (int_eq x.stride y.stride) both.0 in
-    ap (λ z. z ∷ xs) (same_of_parts x y (eqb-true x.len y.len parts.0) ((Decides-int_eq x.stride y.stride).0 parts.1)) ∙ ap (λ zs. y ∷ zs) (alike-same xs ys both.1)
+    ap (λ z. z ∷ xs) (same_axis x y (eqb-true x.len y.len parts.0) ((Decides-int_eq x.stride y.stride).0 parts.1)) ∙ ap (λ zs. y ∷ zs) (alike-same xs ys both.1)
 
 alike-itself : (xs : List StridedAxis) → all_alike xs xs ≡ true
 alike-itself [] = refl

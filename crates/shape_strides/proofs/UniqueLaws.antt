@@ -1,5 +1,5 @@
 -- Axes that are joined are known by the addresses to which they lead.
-use Rattle.std.proofs.Common.{◌≡◌, ℕ, zero, suc, ◌+◌, ◌-◌, ◌*◌, ◌<◌, ◌≤◌, ◌==◌, false, ℤ, pos, ◌+ℤ◌, ◌*ℤ◌, List, [], ◌∷◌, ◌++◌, length, get_or, drop, reverse, inl, inr, refl, sym, ◌∙◌, ap, subst, arith, append_assoc, mul-le-mul_left}
+use Rattle.std.proofs.Common.{◌≡◌, ℕ, zero, suc, ◌+◌, ◌-◌, ◌*◌, ◌<◌, ◌≤◌, ◌==◌, false, ℤ, pos, ◌+ℤ◌, ◌*ℤ◌, List, [], ◌∷◌, ◌++◌, length, drop, reverse, inl, inr, refl, sym, ◌∙◌, ap, subst, arith, append_assoc, mul-le-mul_left}
 use Rattle.std.specs.List.{flat_map}
 use Rattle.std.proofs.lemmas.Bool.{cases_lt, cond_both, eqb-false, false≢true}
 use Rattle.std.proofs.lemmas.Bool.Decides.{Decides-int_eq}
@@ -13,7 +13,8 @@ use Rattle.shape_strides.specs.Joined.{leads_over, join_outside, all_joined}
 use Rattle.shape_strides.specs.inside.Starts.{lengths_of}
 use Rattle.shape_strides.specs.CountLaws.{factors_pos}
 use Rattle.elem_descr.specs.StepLaws.{numbers-suc, numbers-split}
-use Rattle.shape_strides.proofs.JoinedLaws.{flat_map_same, flat_map-id, flat_map-flat_map, addresses, addresses-joined}
+use Rattle.elem_descr.specs.ListLaws.{flat_map_same, flat_map-flat_map, first_is}
+use Rattle.shape_strides.proofs.JoinedLaws.{flat_map-id, addresses, addresses-joined}
 
 -- ---- axes as they stand joined
 
@@ -65,9 +66,6 @@ addresses-out at (axis ∷ axes) =
     flat_map_same (λ z. addresses z axes) (λ z. addresses_out z (reverse axes)) (λ z. addresses-out z axes) (numbers_from at axis.stride axis.len) ∙ sym (ap (addresses_out at) (reverse_onto axes axis []) ∙ addresses_out-last at (reverse axes) axis)
 
 -- ---- the first addresses
-
-first_is : (x y : ℤ) (xs ys : List ℤ) → x ∷ xs ≡ y ∷ ys → x ≡ y
-first_is x y xs ys same = ap (λ zs. get_or zs 0 (pos 0)) same
 
 rest_is : (x y : ℤ) (xs ys : List ℤ) → x ∷ xs ≡ y ∷ ys → xs ≡ ys
 rest_is x y xs ys same = ap (drop 1) same
@@ -160,7 +158,7 @@ one_of_two at axis axes are is =
     let two = two_out at axis axes are in
     none_is (at +ℤ axis.stride) two.0 (rest_is at at [] ((at +ℤ axis.stride) ∷ two.0) (sym is ∙ two.1))
 
-same_axis : (x y : StridedAxis) → x.len ≡ y.len → x.stride ≡ y.stride → x ≡ y
+pub same_axis : (x y : StridedAxis) → x.len ≡ y.len → x.stride ≡ y.stride → x ≡ y
 same_axis x y len stride = ap (λ n. let axis : StridedAxis = record { len = n; stride = x.stride } in axis) len ∙ ap (λ s. let axis : StridedAxis = record { len = y.len; stride = s } in axis) stride
 
 same_stride : (at : ℤ) (x y : StridedAxis) (xs ys : List StridedAxis) → AreJoinedOut (x ∷ xs) → AreJoinedOut (y ∷ ys) → addresses_out at (x ∷ xs) ≡ addresses_out at (y ∷ ys) → x.stride ≡ y.stride

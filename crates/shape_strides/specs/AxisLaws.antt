@@ -1,8 +1,10 @@
 -- What single axes add to an address and to a rank, and strides that are all 0.
-use Rattle.std.proofs.Common.{◌≡◌, ℕ, zero, suc, ◌+◌, ◌*◌, ◌<◌, ◌≤◌, ℤ, pos, negsuc, ◌+ℤ◌, ◌*ℤ◌, List, [], ◌∷◌, length, get_or, drop, refl, sym, ◌∙◌, ap, arith, map, zero-mul, one-mul}
+use Rattle.std.proofs.Common.{◌≡◌, ℕ, zero, suc, ◌+◌, ◌*◌, ◌<◌, ◌≤◌, ℤ, pos, negsuc, ◌+ℤ◌, ◌*ℤ◌, List, [], ◌∷◌, length, get_or, drop, refl, sym, ◌∙◌, ap, arith, map, zero-mul, one-mul, ◌&&◌, true, not}
 use Rattle.std.proofs.lemmas.List.{length-map, get_or-map, same_lists, get_or_default}
+use Rattle.std.specs.Prelude.{int_lt, negsuc}
+use Rattle.std.proofs.lemmas.Bool.{false≢true, ltb-true, and_parts}
 use lib.IntN.{neg_ℤ, neg_ℤ-+ℤ, +ℤ_idr, *ℤ-zero, +ℤ_idl, one, *ℤ-one}
-use Rattle.shape_strides.specs.Addresses.{dot}
+use Rattle.shape_strides.specs.Addresses.{dot, natural}
 use Rattle.shape_strides.specs.Indexes.{count, rank, IsIndex}
 use Rattle.shape_strides.specs.inside.AxisIndexes.{padded, unit}
 use Rattle.shape_strides.specs.CountLaws.{factors_pos}
@@ -62,3 +64,7 @@ pub *ℤ-more : (s : ℤ) (k : ℕ) → s *ℤ pos (k + 1) ≡ s *ℤ pos k +ℤ
 *ℤ-more (negsuc a) k =
     let sum : suc a * (k + 1) ≡ suc a * k + suc a * 1 = omega arith in
     ap (λ n. neg_ℤ (pos n)) sum ∙ neg_ℤ-+ℤ (pos (suc a * k)) (pos (suc a * 1))
+
+pub axis_below : (n : ℕ) (z : ℤ) → (not (int_lt z (pos 0)) && int_lt z (pos n)) ≡ true → natural z < n
+axis_below n (pos k) is = ltb-true k n (and_parts (not (int_lt (pos k) (pos 0))) (int_lt (pos k) (pos n)) is).1
+axis_below n (negsuc k) is = absurd (false≢true is)

@@ -1,8 +1,10 @@
 -- Laws of products, and of the number of items.
-use Rattle.std.proofs.Common.{◌≡◌, ℕ, ◌<◌, ◌≤◌, List, length, arith, zero, suc, ◌+◌, ◌*◌, get_or, sym, ◌∙◌, ap, zero-mul, mul-zero, min, drop, inl, inr, mul-suc, mul-le-mul_left}
-use Rattle.std.proofs.Math.Nat.{min-eq_left, min-eq_right}
+use Rattle.std.proofs.Common.{◌≡◌, ℕ, ◌<◌, ◌≤◌, List, length, arith, zero, suc, ◌+◌, ◌*◌, get_or, sym, ◌∙◌, ap, zero-mul, mul-zero, min, drop, inl, inr, mul-suc, mul-le-mul_left, ◌-◌, ◌/◌}
+use Rattle.std.proofs.Math.Nat.{min-eq_left, min-eq_right, div-add-mod}
 use Rattle.std.proofs.lemmas.Bool.{cases_lt}
 use Rattle.std.proofs.lemmas.List.{drop_more}
+use Rattle.std.specs.Int.{◌∣◌}
+use Rattle.std.proofs.lemmas.Nat.Gcd.{mod-eq-zero_of_dvd}
 use Rattle.shape_strides.specs.Indexes.{count}
 
 -- a factor of a product that is above a number
@@ -35,3 +37,6 @@ min-mul a (suc c) top =
 -- the count from an axis on is that axis's length times the count after it
 pub count-drop : (shape : List ℕ) (k : ℕ) → k < length shape → count (drop k shape) ≡ get_or shape k 0 * count (drop (k + 1) shape)
 count-drop shape k below = ap count (drop_more shape k 0 below)
+
+pub times_of : (g n : ℕ) → g ∣ n → n ≡ g * (n / g)
+times_of g n divides = omega (arith, div-add-mod n g, mod-eq-zero_of_dvd g divides)

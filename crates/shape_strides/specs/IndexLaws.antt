@@ -65,7 +65,7 @@ index_at (n ∷ shape) k below =
     (k / c ∷ rest.0, (div_below k c n some below, rest.1), ap (λ r. k / c * c + r) rest.2 ∙ div-add-mod' k c)
 
 -- functions that agree on the indexes
-pub same_on_indexes : (shape : List ℕ) (f g : List ℕ → ℕ) → ((index : List ℕ) → IsIndex shape index → f index ≡ g index) → map f (indexes shape) ≡ map g (indexes shape)
+pub same_on_indexes : {A : Type 0} (shape : List ℕ) (f g : List ℕ → A) → ((index : List ℕ) → IsIndex shape index → f index ≡ g index) → map f (indexes shape) ≡ map g (indexes shape)
 same_on_indexes shape f g agree =
     same_lists (map f (indexes shape)) (map g (indexes shape)) (length-map (indexes shape) f ∙ sym (length-map (indexes shape) g)) (λ k d below.
     let low : k < count shape = omega (arith, length-map (indexes shape) f, length-indexes shape) in

@@ -1,6 +1,7 @@
 -- The addresses of a layout's items, in bytes.
 use Rattle.std.specs.Prelude.{ℕ, ◌+◌, ◌-◌, ◌*◌, ◌<◌, ◌≤◌, ℤ, pos, List, [], ◌∷◌, length, map, reverse, slice_index}
 use Rattle.std.specs.List.{range_with_len}
+use Rattle.std.proofs.Common.{ℕ, ◌+◌, ◌*◌, List, map}
 use Rattle.shape_strides.specs.declared.layout.Layout.{Layout}
 use Rattle.shape_strides.specs.Indexes.{count, indexes, rank}
 pub use Rattle.shape_strides.specs.Addresses.{dot, natural}
@@ -43,3 +44,7 @@ f_strides item (n ∷ shape) = pos item ∷ f_strides (item * n) shape
 -- the offsets of items in Fortran order: each is the item's size times its rank, where the first axis runs fastest
 abbrev pub f_multiples : ℕ → List ℕ → List ℕ
 f_multiples item shape = map (λ index. item * rank (reverse shape) (reverse index)) (indexes shape)
+
+-- the offsets of items of so many bytes, each of which begins so many bytes after its place
+abbrev pub offsets_of : ℕ → ℕ → List ℕ → List ℕ
+offsets_of item start places = map (λ place. item * place + start) places

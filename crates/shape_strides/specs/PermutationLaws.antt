@@ -23,12 +23,12 @@ count-set (n ∷ ms) zero x below = turn x (count ms) n
 count-set (n ∷ ms) (suc i) x below =
     mul_assoc n (count (set ms i x)) (get_or ms i 0) ∙ ap (λ m. n * m) (count-set ms i x (omega arith)) ∙ sym (mul_assoc n (count ms) x)
 
-factor-pos : (ms : List ℕ) (i : ℕ) → 0 < count ms → i < length ms → 0 < get_or ms i 0
+pub factor-pos : (ms : List ℕ) (i : ℕ) → 0 < count ms → i < length ms → 0 < get_or ms i 0
 factor-pos [] i some below = absurd (omega arith)
 factor-pos (n ∷ ms) zero some below = (factors_pos n (count ms) some).0
 factor-pos (n ∷ ms) (suc i) some below = factor-pos ms i (factors_pos n (count ms) some).1 (omega arith)
 
-cancel : (m n b : ℕ) → 0 < b → m * b ≡ n * b → m ≡ n
+pub cancel : (m n b : ℕ) → 0 < b → m * b ≡ n * b → m ≡ n
 cancel m n zero some same = absurd (omega arith)
 cancel m n (suc b) some same = elim (cases_lt m n) [
   | inl low ↦ absurd (omega (arith, same, less m n b low))
@@ -77,7 +77,7 @@ zero-factor (suc n ∷ ms) none =
     let rest = zero-factor ms (omega arith) in
     (suc rest.0, omega (arith, rest.1), rest.2)
 
-zero-count : (ms : List ℕ) (k : ℕ) → k < length ms → get_or ms k 0 ≡ 0 → count ms ≡ 0
+pub zero-count : (ms : List ℕ) (k : ℕ) → k < length ms → get_or ms k 0 ≡ 0 → count ms ≡ 0
 zero-count [] k below is = absurd (omega arith)
 zero-count (n ∷ ms) zero below is = ap (λ m. m * count ms) is ∙ zero-mul (count ms)
 zero-count (n ∷ ms) (suc k) below is = ap (λ m. n * m) (zero-count ms k (omega arith) is) ∙ mul-zero n

@@ -1,7 +1,19 @@
 -- For a loop over a walk.
-use Rattle.std.proofs.Common.{◌≡◌, List, [], ◌∷◌, ◌++◌, map, sym, ◌∙◌, ap, append_assoc}
+use Rattle.std.proofs.Common.{◌≡◌, List, [], ◌∷◌, ◌++◌, map, sym, ◌∙◌, ap, append_assoc, ℕ, ◌+◌, ◌-◌, length}
+use Rattle.std.proofs.lemmas.List.{length-map}
+use Rattle.std.proofs.lemmas.List.FromFn.{length-map-range_with_len}
+use Rattle.std.specs.Prelude.{pos, ◌+ℤ◌, ◌*ℤ◌}
+use Rattle.elem_descr.specs.Steps.{numbers_from}
+use Rattle.shape_strides.specs.declared.runs.Run.{Run}
+use Rattle.shape_strides.specs.Addresses.{natural}
+use Rattle.shape_strides.specs.Runs.{run_offsets}
 
 -- One more item of a list that is mapped as it is walked: what was made of the front, with what the rest will make, is the whole.
 pub mapped_more : {X Y : Type 0} (f : X → Y) (made made' : List Y) (left left' all : List X) (x : X) → made' ≡ made ++ f x ∷ [] → left ≡ x ∷ left' → made ++ map f left ≡ map f all → made' ++ map f left' ≡ map f all
 mapped_more f made made' left left' all x pushed walked so_far =
     ap (λ m. m ++ map f left') pushed ∙ append_assoc made (f x ∷ []) (map f left') ∙ ap (λ l. made ++ map f l) (sym walked) ∙ so_far
+
+pub length-run_offsets : (run : Run) → length (run_offsets run) ≡ run.count
+length-run_offsets run =
+    let number = λ (k : ℕ). pos run.offset +ℤ run.step *ℤ pos k in
+    length-map (numbers_from (pos run.offset) run.step run.count) natural ∙ length-map-range_with_len number 0 run.count

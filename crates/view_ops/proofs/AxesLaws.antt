@@ -1,7 +1,7 @@
 -- Which axes a list of numbers names.
-use Rattle.std.proofs.Common.{◌≡◌, ◌≢◌, ℕ, zero, suc, ◌+◌, ◌-◌, ◌<◌, ◌≤◌, ◌==◌, Bool, true, false, not, ◌&&◌, ℤ, pos, negsuc, int_lt, Option, Some, None, List, [], ◌∷◌, map, length, get_or, Result, Ok, Err, inl, inr, refl, sym, ap, ◌∙◌, arith}
+use Rattle.std.proofs.Common.{◌≡◌, ◌≢◌, ℕ, zero, suc, ◌+◌, ◌-◌, ◌<◌, ◌≤◌, ◌==◌, true, false, not, ℤ, Option, Some, None, List, [], ◌∷◌, map, length, get_or, Result, Ok, Err, inl, inr, refl, sym, ap, ◌∙◌, arith}
 use Rattle.std.specs.List.{list_any, list_all, range_with_len}
-use Rattle.std.proofs.lemmas.Bool.{cases_Bool, cases_eq, and_parts, false≢true}
+use Rattle.std.proofs.lemmas.Bool.{cases_Bool, cases_eq, and_parts, false≢true, not-true}
 use Rattle.std.specs.Result.{is_ok}
 use Rattle.elem_descr.specs.declared.refusal.Refusal.{Refusal}
 use Rattle.std.proofs.lemmas.Bool.Decides.{nat_tests}
@@ -9,6 +9,7 @@ use Rattle.std.proofs.lemmas.List.{length-map}
 use Rattle.std.proofs.lemmas.List.FromFn.{length-range_with_len}
 use Rattle.elem_descr.specs.declared.refusal.Refusal.TheVariants.{BadAxis}
 use Rattle.shape_strides.specs.Layouts.{natural}
+use Rattle.shape_strides.specs.AxisLaws.{axis_below}
 use Rattle.elem_descr.specs.RefusalLaws.{same_answer}
 use Rattle.view_ops.specs.Slices.{from_front, is_place}
 use Rattle.view_ops.specs.Transposes.{are_distinct, axes_of}
@@ -46,20 +47,13 @@ axis-lt n [] k are low = absurd (omega arith)
 axis-lt n (a ∷ axes) zero are low = are.0
 axis-lt n (a ∷ axes) (suc k) are low = axis-lt n axes k are.2 (omega arith)
 
-not_true : (x : Bool) → not x ≡ true → x ≡ false
-not_true x test = grind arith
-
-axis_below : (n : ℕ) (z : ℤ) → (not (int_lt z (pos 0)) && int_lt z (pos n)) ≡ true → natural z < n
-axis_below n (pos k) test = grind (arith, nat_tests)
-axis_below n (negsuc k) test = absurd (false≢true (and_parts false (int_lt (negsuc k) (pos n)) test).0)
-
 AreAxes-counted : (n : ℕ) (named : List ℤ) → list_all (is_place n) named ≡ true → are_distinct (map (λ axis. natural (from_front n axis)) named) ≡ true → AreAxes n (map (λ axis. natural (from_front n axis)) named)
 AreAxes-counted n [] within once = tt
 AreAxes-counted n (axis ∷ named) within once =
     let rest = map (λ z. natural (from_front n z)) named in
     let a = natural (from_front n axis) in (
       axis_below n (from_front n axis) (and_parts (is_place n axis) (list_all (is_place n) named) within).0,
-      not_true (list_any (λ other. other == a) rest) (and_parts (not (list_any (λ other. other == a) rest)) (are_distinct rest) once).0,
+      not-true (list_any (λ other. other == a) rest) (and_parts (not (list_any (λ other. other == a) rest)) (are_distinct rest) once).0,
       AreAxes-counted n named (and_parts (is_place n axis) (list_all (is_place n) named) within).1 (and_parts (not (list_any (λ other. other == a) rest)) (are_distinct rest) once).1,
     )
 

@@ -1,10 +1,9 @@
 -- Laws of strides and steps.
-use Rattle.std.proofs.Common.{◌≡◌, ℕ, zero, suc, ◌+◌, ◌*◌, ◌<◌, ◌≤◌, ℤ, pos, negsuc, neg_ℤ, unsigned_abs, ◌+ℤ◌, ◌*ℤ◌, inl, inr, sym, ap, ◌∙◌, arith, add-mul, zero-mul}
-use Rattle.std.proofs.Math.Nat.{mul-le-mul_right}
-use Rattle.std.proofs.lemmas.Bool.{cases_lt}
+use Rattle.std.proofs.Common.{◌≡◌, ℕ, zero, suc, ◌+◌, ◌*◌, ◌<◌, ℤ, pos, negsuc, neg_ℤ, unsigned_abs, ◌+ℤ◌, ◌*ℤ◌, sym, ap, ◌∙◌, arith, zero-mul}
 use Rattle.std.proofs.lemmas.Int.{ints, by_lt_z}
 use lib.IntN.{negsuc-*ℤ-pos, pos-*ℤ-negsuc, negsuc-*ℤ-negsuc}
 use Rattle.shape_strides.specs.LayoutLaws.{pos-natural}
+use Rattle.shape_strides.specs.PermutationLaws.{cancel}
 use Rattle.view_ops.specs.declared.slice.Progression.{Progression}
 use Rattle.view_ops.specs.Slices.{run_number, IsRunWithin}
 use Rattle.elem_descr.specs.StepLaws.{product_back, product_forth, abs_pos}
@@ -55,16 +54,6 @@ stride_along (negsuc a) (negsuc b) x f k is =
 pub run_number-is : (run : Progression) (n k : ℕ) → IsRunWithin run n → k < run.count → pos (run_number run k) ≡ pos run.first +ℤ run.step *ℤ pos k
 run_number-is run n k within low = pos-natural (pos run.first +ℤ run.step *ℤ pos k) (within.from_zero k low)
 
-same_times : (k l s : ℕ) → 0 < s → k * s ≡ l * s → k ≡ l
-same_times k l s some same =
-    elim (cases_lt k l) [
-      | inl less ↦ let more : (k + 1) * s ≤ l * s = mul-le-mul_right s (omega arith) in absurd (omega (arith, add-mul k 1 s))
-      | inr above ↦ elim (cases_lt l k) [
-        | inl less ↦ let more : (l + 1) * s ≤ k * s = mul-le-mul_right s (omega arith) in absurd (omega (arith, add-mul l 1 s))
-        | inr below ↦ omega arith
-      ]
-    ]
-
 same_steps : (x y f p q : ℤ) → x ≡ f +ℤ p → y ≡ f +ℤ q → x ≡ y → p ≡ q
 same_steps x y f p q first second same = omega (arith, ints)
 
@@ -72,6 +61,6 @@ same_steps x y f p q first second same = omega (arith, ints)
 pub run-one : (run : Progression) (n k l : ℕ) → IsRunWithin run n → k < run.count → l < run.count → run_number run k ≡ run_number run l → k ≡ l
 run-one run n k l within low-k low-l same =
     let steps = same_steps (pos (run_number run k)) (pos (run_number run l)) (pos run.first) (run.step *ℤ pos k) (run.step *ℤ pos l) (run_number-is run n k within low-k) (run_number-is run n l within low-l) (ap pos same) in
-    same_times k l (unsigned_abs run.step) (abs_pos run.step within.moves) (by_lt_z run.step (pos 0)
+    cancel k l (unsigned_abs run.step) (abs_pos run.step within.moves) (by_lt_z run.step (pos 0)
     (λ below. let p = product_back run.step k below in let q = product_back run.step l below in omega (arith, ints))
     (λ above. let p = product_forth run.step k above in let q = product_forth run.step l above in omega (arith, ints)))

@@ -24,7 +24,7 @@ number-little (Byte signed) is = tt
 number-little (Int signed width order) is = tt
 number-little (Bytes n) never = never
 
-small_width : (width : Width) → width_size width ≤ 8
+pub small_width : (width : Width) → width_size width ≤ 8
 small_width Two = omega arith
 small_width Four = omega arith
 small_width Eight = omega arith

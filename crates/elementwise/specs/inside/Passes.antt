@@ -23,10 +23,6 @@ abbrev pub put_all : List ℕ → List (List ℕ) → List ℕ → List ℕ
 put_all (at ∷ ats) (item ∷ items) bytes = put_all ats items (put at item bytes)
 put_all _ _ bytes = bytes
 
--- from `at` on, where n items of so many bytes begin
-abbrev pub row_offsets : ℕ → ℕ → ℕ → List ℕ
-row_offsets at item n = run_offsets (record { offset = at; count = n; step = pos item })
-
 -- the bytes of a leaf of the item at an offset, as those of another leaf
 abbrev pub leaf_from : Leaf → Leaf → List ℕ → ℕ → List ℕ
 leaf_from from to other offset = leaf_cast from.scalar to.scalar (item_at (offset + from.at) (size from.scalar) other)

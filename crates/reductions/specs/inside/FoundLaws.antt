@@ -10,6 +10,7 @@ use Rattle.std.proofs.lemmas.Int.{ints, clamps, fold-int_min_bounds, fold-int_mi
 use Rattle.std.proofs.lemmas.List.Elements.{All-head, All-tail}
 use Rattle.std.proofs.lemmas.List.Sums.{fold-append}
 use Rattle.reductions.specs.Reductions.{first_place}
+use Rattle.elem_descr.specs.ListLaws.{first_is}
 
 -- so far a number is the best one, and this is its first place, where the first number is the one that was given
 pub record HasFound (pick : ℤ → ℤ → ℤ) (best : ℤ) (place : ℕ) (first : ℤ) (seen : List ℤ) : Type 0 where
@@ -79,9 +80,6 @@ abbrev head_or : ℤ → List ℤ → ℤ
 head_or d [] = d
 head_or d (x ∷ xs) = x
 
-begins : (x first : ℤ) (xs rest : List ℤ) → x ∷ xs ≡ first ∷ rest → x ≡ first
-begins x first xs rest same = ap (head_or x) same
-
 -- one of which is better
 taken : (pick : ℤ → ℤ → ℤ) (best z : ℤ) (place : ℕ) (first : ℤ) (seen more : List ℤ) → HasFound pick best place first seen → z ≡ fold pick best more →
     All (λ x. x ≡ z → ⊥) seen → first_place z more < length more → HasFound pick z (length seen + first_place z more) first (seen ++ more)
@@ -105,7 +103,7 @@ passed pick best place first (x ∷ seen) more so_far is = record {
   best_is = is ∙ ap (λ b. fold pick b more) so_far.best_is ∙ sym (fold-append pick first (x ∷ seen) more);
   none = λ none. absurd (omega (arith, ap length none));
   place_is = λ rest same.
-      let at = so_far.place_is seen (ap (λ y. y ∷ seen) (begins x first (seen ++ more) rest same)) in
+      let at = so_far.place_is seen (ap (λ y. y ∷ seen) (first_is x first (seen ++ more) rest same)) in
       at ∙ sym (stays best (x ∷ seen) more (omega (arith, at, so_far.low (omega arith))));
   low = λ some. omega (arith, so_far.low (omega arith), length-append seen more);
 }

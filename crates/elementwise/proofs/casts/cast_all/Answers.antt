@@ -1,4 +1,4 @@
-use Rattle.elementwise.specs.inside.Passes.{put_all, row_offsets, leaf_from}
+use Rattle.elementwise.specs.inside.Passes.{put_all, leaf_from}
 use Rattle.std.proofs.Common.{◌≡◌, ℕ, List, map, ◌*◌, ◌+◌, ◌<◌, ◌≤◌, All, length, sym, ap, subst, ◌∙◌, arith}
 use Rattle.std.specs.List.{flat_map}
 use Rattle.elem_descr.specs.Encoding.{size}
@@ -6,6 +6,7 @@ use Rattle.raw_block.specs.Bytes.{EachWithin}
 use Rattle.shape_strides.specs.Indexes.{count}
 use Rattle.shape_strides.specs.Limits.{max_bytes}
 use Rattle.overlap_copy.specs.RunLaws.{runs-within}
+use Rattle.overlap_copy.specs.inside.Packed.{row_offsets}
 use Rattle.elementwise.specs.Casts.{can_cast_scalar}
 use Rattle.elem_descr.specs.Items.{item_size, leaves_of}
 use Rattle.shape_strides.specs.Layouts.{offsets}

@@ -3,8 +3,9 @@ use Rattle.std.proofs.lemmas.List.Elements.{All-rest}
 use Rattle.elem_descr.specs.Encoding.{size}
 use Rattle.raw_block.specs.Bytes.{EachWithin}
 use Rattle.elementwise.specs.inside.Passes.{leaf_from}
-use Rattle.elementwise.proofs.PassLaws.{room-next, written-next}
+use Rattle.elementwise.proofs.PassLaws.{written-next}
 use Rattle.elementwise.proofs.runs_of_leaves.cast_leaf.Goals as goal
+use Rattle.overlap_copy.specs.PackedLaws.{room-next}
 
 pub cast_run_of_leaf-requires-clause-room : goal.cast_run_of_leaf-requires-clause-room
 cast_run_of_leaf-requires-clause-room c =

@@ -1,9 +1,9 @@
 use Rattle.std.proofs.Common.{◌≡◌, ◌+◌, ◌≤◌, List, length, get_or, take, drop, All, sym, ap, subst, arith}
 use Rattle.fancy_index.specs.declared.parts.IndexPart.{IndexPart}
 use Rattle.fancy_index.specs.inside.Lone.{IsPlain}
-use Rattle.fancy_index.proofs.CutLaws.{slice-rest}
 use Rattle.fancy_index.proofs.LoneLaws.{is-lone}
 use Rattle.fancy_index.proofs.lone.lone_points.Goals as goal
+use Rattle.elem_descr.specs.ListLaws.{slice-rest}
 
 pub returns-clause-lone : goal.returns-clause-lone
 returns-clause-lone c =

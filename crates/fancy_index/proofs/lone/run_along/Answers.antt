@@ -6,9 +6,9 @@ use Rattle.shape_strides.specs.declared.runs.Run.{Run}
 use Rattle.shape_strides.specs.Indexes.{IsIndex}
 use Rattle.shape_strides.specs.Layouts.{address}
 use Rattle.fancy_index.specs.inside.PartLists.{first_at}
-use Rattle.fancy_index.proofs.CutLaws.{slice-rest}
 use Rattle.fancy_index.proofs.LoneLaws.{index-made, base-in, axis-low, all-reached, shifts-are}
 use Rattle.fancy_index.proofs.lone.run_along.Goals as goal
+use Rattle.elem_descr.specs.ListLaws.{slice-rest}
 
 pub at-requires : goal.at-requires
 at-requires c =

@@ -2,8 +2,8 @@ use Rattle.std.proofs.Common.{rules, w64, ap, length, ◌∙◌}
 use Rattle.std.proofs.lemmas.Int.{to_z-of_z}
 use mir.Val.{SFits}
 use Rattle.raw_block.specs.Bytes.{filled}
-use Rattle.fancy_index.proofs.RunLaws.{filled-run}
 use Rattle.fancy_index.proofs.run_moves.fill_run.Goals as goal
+use Rattle.overlap_copy.specs.RunLaws.{filled-run}
 
 pub returns-clause-written : goal.returns-clause-written
 returns-clause-written c =

@@ -4,8 +4,9 @@ use Rattle.shape_strides.specs.Indexes.{rank}
 use Rattle.shape_strides.specs.IndexLaws.{length-index}
 use Rattle.broadcasting.specs.Broadcasts.{broadcast_index}
 use Rattle.fancy_index.specs.inside.PointLists.{tuple}
-use Rattle.fancy_index.proofs.ShiftLaws.{rank-low, point-low, point-is, tuple-is, front-of}
+use Rattle.fancy_index.proofs.ShiftLaws.{rank-low, point-low, point-is, tuple-is}
 use Rattle.fancy_index.proofs.shifts.push_point.Goals as goal
+use Rattle.elem_descr.specs.ListLaws.{take_front}
 
 pub index-rank-requires : goal.index-rank-requires
 index-rank-requires c =
@@ -27,6 +28,6 @@ returns c =
     let point = c.index-rank.ensures ∙ ap (λ r. get_or p.ranks.items r c.index-rank.result.now) is in
     let axes = c.as_slice-axes.result.now in
     let new = c.index_at.new.index in
-    let same = front-of (length axes) new _ (length-index axes new c.index_at.ensures.index) ∙ tuple-is axes new _ c.index_at.ensures.index c.index_at.ensures.rank in
+    let same = take_front (length axes) new _ (length-index axes new c.index_at.ensures.index) ∙ tuple-is axes new _ c.index_at.ensures.index c.index_at.ensures.rank in
     let shown = (λ i. tuple (c.as_slice-axes.ensures i) (point i)) ∙ point-is c.args.at.now p c.index-rank.result.now c.requires in
     subst (λ (xs : List ℕ). OnOk c.extend_from_slice.result (c.extend_from_slice.new.self.items ≡ c.args.numbers.now.items ++ xs)) (same ∙ shown) c.extend_from_slice.ensures.ok

@@ -1,9 +1,9 @@
 use Rattle.std.proofs.Common.{sym, ap, ◌∙◌, arith}
 use Rattle.elem_descr.specs.Fields.{total}
 use Rattle.elem_descr.specs.inside.Weights.{weight}
-use Rattle.elem_descr.specs.DescriptorLaws.{weight-one}
+use Rattle.elem_descr.specs.DescriptorLaws.{weight-one, seen_fields}
 use Rattle.literal_items.specs.LiteralItems.{is_castable, is_in_range}
-use Rattle.literal_items.proofs.Fields.{IsTurn, turn_fails, turn_passes, turn_passed, seen_fields, stand_for-record, stand_for-length}
+use Rattle.literal_items.proofs.Fields.{IsTurn, turn_fails, turn_passes, turn_passed, stand_for-record, stand_for-length}
 use Rattle.literal_items.proofs.item.+are_in_range.Goals as goal
 
 pub are_in_range-is_field_in_range-requires : goal.are_in_range-is_field_in_range-requires

@@ -1,9 +1,9 @@
 use Rattle.std.proofs.Common.{◌≡◌, ◌++◌, ℕ, List, refl, ap, ◌∙◌, arith}
 use Rattle.elem_descr.specs.Fields.{Fields}
 use Rattle.elem_descr.specs.Descriptors.{listed}
-use Rattle.elem_descr.specs.DescriptorLaws.{listed-fields_of, field_within, weight-one}
+use Rattle.elem_descr.specs.DescriptorLaws.{listed-fields_of, field_within, weight-one, first_field}
 use Rattle.npy_format.specs.WrittenHeaders.{opened_entry, entry_separator, in_brackets, entries}
-use Rattle.npy_format.proofs.WrittenEntries.{first_left, one_written, list_written}
+use Rattle.npy_format.proofs.WrittenEntries.{one_written, list_written}
 use Rattle.npy_format.proofs.header_text.+written.Goals as goal
 
 pub push_record-loop-field-init : goal.push_record-loop-field-init
@@ -25,7 +25,7 @@ push_record-overflow_add-end t c =
 pub push_record-loop-field-preserved : goal.push_record-loop-field-preserved
 push_record-loop-field-preserved t c =
     let items = c.fields-field-items.result.now in
-    let parts = first_left c.loop-field.end c.size-size.result items c.field-item.result c.loop-field.field-index c.loop-field-test.true c.field-item.is c.loop-field.invariant.in_order in
+    let parts = first_field c.loop-field.end c.size-size.result items c.field-item.result c.loop-field.field-index c.loop-field-test.true c.field-item.is c.loop-field.invariant.in_order in
     let name = c.as_slice.ensures in
     let more = one_written c.loop-field.end c.size-size.result items c.field-item.result c.loop-field.field-index c.loop-field.is_first c.in_ok-next.next c.loop-field.text.items c.push_gap.new.text.items c.push_name.new.text.items c.push_descr.new.text.items _ c.loop-field-test.true c.field-item.is c.in_ok-next.ensures.written c.in_ok-next.ensures.next (c.in_ok-push_name.ensures ∙ ap (λ (n : List ℕ). c.push_gap.new.text.items ++ (entry_separator c.in_ok-next.next ++ opened_entry n)) name) c.in_ok-push_descr.ensures c.loop-field.invariant.text in
     record { text = rw (c.in_ok-push-2.ensures.items, c.size.ensures.value) more; in_order = rw c.size.ensures.value parts.2 }

@@ -1,14 +1,15 @@
 use Rattle.std.proofs.Common.{◌++◌, length, sym, ap, ◌∙◌, arith}
 use Rattle.std.proofs.lemmas.List.{append-nil}
 use Rattle.shape_strides.specs.Runs.{run_offsets}
-use Rattle.npy_format.proofs.GatherLaws.{begins, gathered, item_pushed}
+use Rattle.npy_format.proofs.GatherLaws.{gathered, item_pushed}
 use Rattle.npy_format.proofs.items.push_each.Goals as goal
+use Rattle.raw_block.specs.BytesLaws.{begins_within}
 
 pub loop-k-init : goal.loop-k-init
 loop-k-init c = sym (append-nil c.args.file.now.items)
 
 pub place-at-requires-clause-start : goal.place-at-requires-clause-start
-place-at-requires-clause-start c = omega (arith, begins _ _ _ _ _ _ c.requires.within c.loop-k-test.true)
+place-at-requires-clause-start c = omega (arith, begins_within _ _ _ _ _ _ c.requires.within c.loop-k-test.true)
 
 pub loop-k-preserved : goal.loop-k-preserved
 loop-k-preserved c =

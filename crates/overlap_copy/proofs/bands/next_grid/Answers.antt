@@ -5,9 +5,10 @@ use lib.IntN.{pos, ◌+ℤ◌}
 use mir.Val.{SFits, of_z, to_z}
 use Rattle.raw_block.specs.declared.grid.Grid.{Grid}
 use Rattle.raw_block.specs.Bytes.{position, grid_items, GridWithin}
+use Rattle.raw_block.specs.BytesLaws.{first_position}
 use Rattle.shape_strides.specs.Runs.{run_offsets}
 use Rattle.overlap_copy.specs.inside.Packed.{joined_at}
-use Rattle.overlap_copy.proofs.BandLaws.{begun, with_row, begun-within, more-within, more-items, first-position, position-suc}
+use Rattle.overlap_copy.proofs.BandLaws.{begun, with_row, begun-within, more-within, more-items, position-suc}
 use Rattle.overlap_copy.proofs.bands.next_grid.Goals as goal
 use Rattle.overlap_copy.proofs.bands.next_grid.Goals.{Then-is_next_row, After-push_grid}
 
@@ -59,10 +60,10 @@ returns-clause-bytes g c =
     let now = (goal.at.returns-clause-bytes g c).After-push_grid in let a = c.args in let N = g.row.N in let block = a.block.now in let len = length block in
     let first = begun a.grid.row_step a.run in
     (λ i. c.push_grid.ensures.bytes i ++ grid_items (alone g now i) N block)
-    ∙ ap (λ l. (a.items.now.0 ++ grid_items a.grid N block) ++ l) (more-items len N first a.run (begun-within len N a.grid.row_step a.run c.requires.lies) c.requires.lies refl refl (sym (first-position a.run.offset a.grid.row_step)) block)
+    ∙ ap (λ l. (a.items.now.0 ++ grid_items a.grid N block) ++ l) (more-items len N first a.run (begun-within len N a.grid.row_step a.run c.requires.lies) c.requires.lies refl refl (sym (first_position a.run.offset a.grid.row_step)) block)
 
 pub returns-clause-within : goal.returns-clause-within
 returns-clause-within g c =
     let now = (goal.at.returns-clause-within g c).After-push_grid in let a = c.args in let len = length a.block.now in
     subst (λ (b : Grid). GridWithin len b g.row.N) (sym (alone g now))
-    (more-within len g.row.N (begun a.grid.row_step a.run) a.run (begun-within len g.row.N a.grid.row_step a.run c.requires.lies) c.requires.lies refl refl (sym (first-position a.run.offset a.grid.row_step)))
+    (more-within len g.row.N (begun a.grid.row_step a.run) a.run (begun-within len g.row.N a.grid.row_step a.run c.requires.lies) c.requires.lies refl refl (sym (first_position a.run.offset a.grid.row_step)))

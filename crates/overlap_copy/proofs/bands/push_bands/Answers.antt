@@ -2,8 +2,9 @@ use Rattle.std.proofs.Common.{◌*◌, ◌≤◌, ◌++◌, length, All, sym, ap
 use Rattle.std.proofs.lemmas.List.Elements.{All-rest, All-head}
 use Rattle.raw_block.specs.Bytes.{grid_items, EachWithin}
 use Rattle.shape_strides.specs.declared.runs.Run.{Run}
+use Rattle.shape_strides.specs.RunPairs.{all_offsets}
 use Rattle.overlap_copy.specs.inside.Packed.{joined_at}
-use Rattle.overlap_copy.proofs.PackedLaws.{all_of, parts, joined-next}
+use Rattle.overlap_copy.proofs.PackedLaws.{parts, joined-next}
 use Rattle.overlap_copy.proofs.BandLaws.{begins}
 use Rattle.overlap_copy.proofs.bands.push_bands.Goals as goal
 
@@ -39,9 +40,9 @@ loop-run-preserved g c =
 pub returns-clause-bytes : goal.returns-clause-bytes
 returns-clause-bytes g c =
     let N = g.row.N in let block = c.args.block.now in let done = c.loop-run.items.0 ++ grid_items c.loop-run.grid N block in
-    c.push_grid.ensures.bytes ∙ sym (append-nil done) ∙ ap (λ l. done ++ joined_at (all_of l) N block) (sym c.in-None.ensures.steps.0) ∙ c.loop-run.invariant.bytes
+    c.push_grid.ensures.bytes ∙ sym (append-nil done) ∙ ap (λ l. done ++ joined_at (all_offsets l) N block) (sym c.in-None.ensures.steps.0) ∙ c.loop-run.invariant.bytes
 
 pub returns-clause-left : goal.returns-clause-left
 returns-clause-left g c =
-    let none = ap (λ l. length (all_of l) * g.row.N) c.in-None.ensures.steps.0 in
+    let none = ap (λ l. length (all_offsets l) * g.row.N) c.in-None.ensures.steps.0 in
     omega (arith, none, c.push_grid.ensures.left, c.loop-run.invariant.left)

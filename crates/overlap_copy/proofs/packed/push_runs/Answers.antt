@@ -5,8 +5,9 @@ use mir.Val.{SFits}
 use Rattle.raw_block.specs.Bytes.{place, item_at, joined, EachWithin}
 use Rattle.shape_strides.specs.declared.runs.Run.{Run}
 use Rattle.shape_strides.specs.Runs.{run_offsets}
+use Rattle.shape_strides.specs.RunPairs.{all_offsets}
 use Rattle.overlap_copy.specs.inside.Packed.{joined_at}
-use Rattle.overlap_copy.proofs.PackedLaws.{all_of, parts, joined-offsets, joined-next}
+use Rattle.overlap_copy.proofs.PackedLaws.{parts, joined-offsets, joined-next}
 use Rattle.overlap_copy.proofs.packed.push_runs.Goals as goal
 
 pub push_strided-requires-clause-room : goal.push_strided-requires-clause-room
@@ -32,4 +33,4 @@ loop-run-preserved c =
 pub returns-clause-bytes : goal.returns-clause-bytes
 returns-clause-bytes c =
     let items = c.loop-run.items.0 in
-    sym (append-nil items) ∙ ap (λ l. items ++ joined_at (all_of l) c.args.width c.args.block.now) (sym c.in-None.ensures.steps.0) ∙ c.loop-run.invariant.bytes
+    sym (append-nil items) ∙ ap (λ l. items ++ joined_at (all_offsets l) c.args.width c.args.block.now) (sym c.in-None.ensures.steps.0) ∙ c.loop-run.invariant.bytes

@@ -3,12 +3,12 @@ use Rattle.std.specs.List.{flat_map}
 use Rattle.shape_strides.specs.Layouts.{offsets}
 use Rattle.overlap_copy.specs.Assignments.{assigned}
 use Rattle.overlap_copy.specs.inside.Packed.{row_offsets}
-use Rattle.overlap_copy.proofs.PackedLaws.{row-multiples}
 use Rattle.raw_block.specs.Bytes.{EachWithin}
 use Rattle.shape_strides.specs.Limits.{max_bytes}
 use Rattle.shape_strides.specs.Runs.{run_offsets, runs}
 use Rattle.overlap_copy.specs.RunLaws.{runs-within}
 use Rattle.overlap_copy.proofs.packed.scatter.Goals as goal
+use Rattle.overlap_copy.specs.PackedLaws.{row-multiples}
 
 pub scatter_runs-requires-clause-to : goal.scatter_runs-requires-clause-to
 scatter_runs-requires-clause-to c =

@@ -1,8 +1,9 @@
 use Rattle.std.proofs.Common.{◌≤◌, length, ◌∙◌, arith}
 use Rattle.std.proofs.lemmas.List.Elements.{All-rest}
 use Rattle.raw_block.specs.Bytes.{EachWithin}
-use Rattle.overlap_copy.proofs.PackedLaws.{room-next, scattered-next}
+use Rattle.overlap_copy.proofs.PackedLaws.{scattered-next}
 use Rattle.overlap_copy.proofs.packed.scatter_runs.Goals as goal
+use Rattle.overlap_copy.specs.PackedLaws.{room-next}
 
 pub packed_run-requires-clause-within : goal.packed_run-requires-clause-within
 packed_run-requires-clause-within c =

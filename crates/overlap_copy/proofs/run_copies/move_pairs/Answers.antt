@@ -3,12 +3,13 @@ use Rattle.std.proofs.lemmas.List.Elements.{All-rest}
 use Rattle.raw_block.specs.Bytes.{EachWithin}
 use Rattle.shape_strides.specs.Layouts.{IsNested}
 use Rattle.shape_strides.specs.Runs.{run_offsets}
-use Rattle.overlap_copy.specs.RunLaws.{length-run_offsets}
+use Rattle.shape_strides.specs.WalkLaws.{length-run_offsets}
 use Rattle.overlap_copy.specs.Assignments.{assigned}
 use Rattle.overlap_copy.specs.inside.Moves.{LieApart}
-use Rattle.overlap_copy.proofs.RunCopies.{firsts, seconds, next, firsts-end, seconds-end}
+use Rattle.overlap_copy.proofs.RunCopies.{firsts, seconds, firsts-end, seconds-end}
 use Rattle.overlap_copy.proofs.MovingLaws.{IsMoving, moving_begins, moving_on, nested-front, nested-back, fewer-targets, fewer-sources}
 use Rattle.overlap_copy.proofs.run_copies.move_pairs.Goals as goal
+use Rattle.overlap_copy.specs.RunLaws.{next_pair}
 
 pub loop-pair-init : goal.loop-pair-init
 loop-pair-init c =
@@ -53,7 +54,7 @@ loop-pair-preserved c =
     let to = run_offsets pair.first in
     let from = run_offsets pair.second in
     let len = length c.args.block.now in
-    let even = length-run_offsets pair.first ∙ next (λ p. p.first.count ≡ p.second.count) _ _ _ steps inv.counts ∙ sym (length-run_offsets pair.second) in
+    let even = length-run_offsets pair.first ∙ next_pair (λ p. p.first.count ≡ p.second.count) _ _ _ steps inv.counts ∙ sym (length-run_offsets pair.second) in
     let both = fewer-targets width to (firsts left) (from ++ seconds left) (subst (λ l. LieApart width (firsts l) (seconds l)) steps inv.apart) in
     record {
       moving = moving_on to (firsts left) from (seconds left) width c.args.block.now c.loop-pair.block c.move_apart.new.block _ even (fewer-sources width to from (seconds left) both.0).1 c.move_apart.ensures.written c.move_apart.ensures.len

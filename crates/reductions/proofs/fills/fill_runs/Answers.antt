@@ -2,32 +2,33 @@ use Rattle.std.proofs.Common.{◌≡◌, ◌+◌, ◌*◌, ℕ, All, length, get
 use Rattle.std.proofs.lemmas.List.Elements.{All-head, All-rest}
 use Rattle.raw_block.specs.Bytes.{place, item_at, EachWithin}
 use Rattle.shape_strides.specs.Runs.{run_along, run_offsets}
+use Rattle.shape_strides.specs.RunPairs.{all_offsets}
 use Rattle.reductions.specs.inside.Numbers.{numbers_at, IsReduced}
 use Rattle.reductions.proofs.LineLaws.{in_turn}
-use Rattle.reductions.proofs.RunLaws.{all_of, room_for, run_fits, entry, after}
+use Rattle.reductions.proofs.RunLaws.{room_for, run_fits, entry, after}
 use Rattle.reductions.proofs.fills.fill_runs.Goals as goal
 
 pub overflow_mul-run : goal.overflow_mul-run
 overflow_mul-run g c =
-    let room = room_for (all_of c.args.runs) c.loop-run.done c.in-Some.run' c.next.new.self c.loop-run.run-iterator c.loop-run.invariant.left c.in-Some.ensures.steps c.WIDTH-width.result in
-    let whole : length (all_of c.args.runs) * c.WIDTH-width.result ≡ length (all_of c.args.runs) * g.F.Total.Number.WIDTH = ap (λ w. length (all_of c.args.runs) * w) c.WIDTH-width.ensures in
+    let room = room_for (all_offsets c.args.runs) c.loop-run.done c.in-Some.run' c.next.new.self c.loop-run.run-iterator c.loop-run.invariant.left c.in-Some.ensures.steps c.WIDTH-width.result in
+    let whole : length (all_offsets c.args.runs) * c.WIDTH-width.result ≡ length (all_offsets c.args.runs) * g.F.Total.Number.WIDTH = ap (λ w. length (all_offsets c.args.runs) * w) c.WIDTH-width.ensures in
     record { fits = omega (arith, room, whole, c.requires.room) }
 
 pub fill_part-requires-clause-room : goal.fill_part-requires-clause-room
 fill_part-requires-clause-room g c =
-    let room = room_for (all_of c.args.runs) c.loop-run.done c.in-Some.run' c.next.new.self c.loop-run.run-iterator c.loop-run.invariant.left c.in-Some.ensures.steps c.WIDTH-width.result in
-    let whole : length (all_of c.args.runs) * c.WIDTH-width.result ≡ length (all_of c.args.runs) * g.F.Total.Number.WIDTH = ap (λ w. length (all_of c.args.runs) * w) c.WIDTH-width.ensures in
+    let room = room_for (all_offsets c.args.runs) c.loop-run.done c.in-Some.run' c.next.new.self c.loop-run.run-iterator c.loop-run.invariant.left c.in-Some.ensures.steps c.WIDTH-width.result in
+    let whole : length (all_offsets c.args.runs) * c.WIDTH-width.result ≡ length (all_offsets c.args.runs) * g.F.Total.Number.WIDTH = ap (λ w. length (all_offsets c.args.runs) * w) c.WIDTH-width.ensures in
     omega (arith, room, whole, c.requires.room, c.loop-run.invariant.len)
 
 pub fill_part-requires-clause-few : goal.fill_part-requires-clause-few
 fill_part-requires-clause-few g c = (
   c.requires.few.0,
-  omega (arith, c.requires.few.1, run_fits (all_of c.args.runs) c.loop-run.done c.in-Some.run' c.next.new.self c.loop-run.run-iterator c.loop-run.invariant.left c.in-Some.ensures.steps),
+  omega (arith, c.requires.few.1, run_fits (all_offsets c.args.runs) c.loop-run.done c.in-Some.run' c.next.new.self c.loop-run.run-iterator c.loop-run.invariant.left c.in-Some.ensures.steps),
 )
 
 pub fill_part-requires-clause-lines : goal.fill_part-requires-clause-lines
 fill_part-requires-clause-lines g c j low =
-    let all = all_of c.args.runs in
+    let all = all_offsets c.args.runs in
     let run = c.in-Some.run' in
     let len = length c.args.bytes.now in
     let width = g.S.Number.WIDTH in
@@ -39,13 +40,13 @@ fill_part-requires-clause-lines g c j low =
 
 pub overflow_add-done : goal.overflow_add-done
 overflow_add-done g c =
-    record { fits = omega (arith, c.requires.few.1, run_fits (all_of c.args.runs) c.loop-run.done c.in-Some.run' c.next.new.self c.loop-run.run-iterator c.loop-run.invariant.left c.in-Some.ensures.steps) }
+    record { fits = omega (arith, c.requires.few.1, run_fits (all_offsets c.args.runs) c.loop-run.done c.in-Some.run' c.next.new.self c.loop-run.run-iterator c.loop-run.invariant.left c.in-Some.ensures.steps) }
 
 pub loop-run-preserved : goal.loop-run-preserved
 loop-run-preserved g c =
     let scalar = g.S.Number.scalar g.O.Ordered.order in
     let bytes = c.args.bytes.now in
-    let all = all_of c.args.runs in
+    let all = all_offsets c.args.runs in
     let run = c.in-Some.run' in
     let done = c.loop-run.done in
     let len = length bytes in

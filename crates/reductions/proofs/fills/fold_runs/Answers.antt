@@ -3,19 +3,20 @@ use Rattle.std.proofs.lemmas.List.{map-append, length-map}
 use Rattle.std.proofs.lemmas.List.Elements.{All-rest}
 use Rattle.raw_block.specs.Bytes.{EachWithin}
 use Rattle.shape_strides.specs.Runs.{run_offsets}
+use Rattle.shape_strides.specs.RunPairs.{all_offsets}
 use Rattle.reductions.specs.inside.Numbers.{number_at, numbers_at}
-use Rattle.reductions.proofs.RunLaws.{all_of, run_fits, taken_more, after}
+use Rattle.reductions.proofs.RunLaws.{run_fits, taken_more, after}
 use Rattle.reductions.proofs.fills.fold_runs.Goals as goal
 
 pub fold_run-held-requires-clause-few : goal.fold_run-held-requires-clause-few
 fold_run-held-requires-clause-few g c =
-    omega (arith, run_fits (all_of c.args.runs) c.loop-run.seen c.in-Some.run' c.next.new.self c.loop-run.run-iterator c.loop-run.invariant.left c.in-Some.ensures.steps, c.requires.few)
+    omega (arith, run_fits (all_offsets c.args.runs) c.loop-run.seen c.in-Some.run' c.next.new.self c.loop-run.run-iterator c.loop-run.invariant.left c.in-Some.ensures.steps, c.requires.few)
 
 pub loop-run-preserved : goal.loop-run-preserved
 loop-run-preserved g c =
     let scalar = g.S.Number.scalar g.O.Ordered.order in
     let bytes = c.args.bytes.now in
-    let all = all_of c.args.runs in
+    let all = all_offsets c.args.runs in
     let run = c.in-Some.run' in
     let seen = c.loop-run.seen in
     let left = c.loop-run.invariant.left in
@@ -33,4 +34,4 @@ loop-run-preserved g c =
 
 pub overflow_add-seen : goal.overflow_add-seen
 overflow_add-seen g c =
-    record { fits = omega (arith, run_fits (all_of c.args.runs) c.loop-run.seen c.in-Some.run' c.next.new.self c.loop-run.run-iterator c.loop-run.invariant.left c.in-Some.ensures.steps, c.requires.few) }
+    record { fits = omega (arith, run_fits (all_offsets c.args.runs) c.loop-run.seen c.in-Some.run' c.next.new.self c.loop-run.run-iterator c.loop-run.invariant.left c.in-Some.ensures.steps, c.requires.few) }

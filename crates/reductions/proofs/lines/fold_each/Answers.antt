@@ -1,9 +1,9 @@
 use Rattle.std.proofs.Common.{◌++◌, length, subst, arith, length-append}
-use Rattle.overlap_copy.specs.RunLaws.{place-within}
 use Rattle.shape_strides.specs.Runs.{run_offsets}
 use Rattle.reductions.specs.inside.Numbers.{numbers_at}
-use Rattle.reductions.proofs.LineLaws.{front, begins, one_more, length-numbers}
+use Rattle.reductions.proofs.LineLaws.{front, one_more, length-numbers}
 use Rattle.reductions.proofs.lines.fold_each.Goals as goal
+use Rattle.raw_block.specs.BytesLaws.{place_within, begins_within}
 
 pub loop-k-preserved : goal.loop-k-preserved
 loop-k-preserved g c first before seen held =
@@ -15,10 +15,10 @@ loop-k-preserved g c first before seen held =
     (c.step-held.ensures first (before ++ numbers) (omega (arith, seen, length-append before numbers, length-numbers scalar bytes (front k c.args.run))) (c.loop-k.invariant first before seen held))
 
 pub place-requires-clause-start : goal.place-requires-clause-start
-place-requires-clause-start g c = omega (arith, begins _ _ _ _ _ _ c.requires.within c.loop-k-test.true)
+place-requires-clause-start g c = omega (arith, begins_within _ _ _ _ _ _ c.requires.within c.loop-k-test.true)
 
 pub number_at-requires : goal.number_at-requires
-number_at-requires g c = omega (arith, c.place.ensures, place-within _ _ _ _ _ _ c.requires.within c.loop-k-test.true)
+number_at-requires g c = omega (arith, c.place.ensures, place_within _ _ _ _ _ _ c.requires.within c.loop-k-test.true)
 
 pub returns : goal.returns
 returns g c first before seen held =

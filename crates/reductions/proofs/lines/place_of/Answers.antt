@@ -1,18 +1,18 @@
 use Rattle.std.proofs.Common.{◌≡◌, ◌+◌, ◌∷◌, [], ◌++◌, length, sym, ap, ◌∙◌, arith}
-use Rattle.overlap_copy.specs.RunLaws.{place-within}
 use Rattle.elem_descr.specs.Encoding.{integer, low_bits}
 use Rattle.shape_strides.specs.Runs.{run_offsets}
 use Rattle.reductions.specs.Reductions.{first_place}
 use Rattle.reductions.specs.inside.FoundLaws.{absent-next}
 use Rattle.reductions.specs.inside.Numbers.{number_at, numbers_at}
-use Rattle.reductions.proofs.LineLaws.{front, begins, numbers-more, length-numbers, found_in}
+use Rattle.reductions.proofs.LineLaws.{front, numbers-more, length-numbers, found_in}
 use Rattle.reductions.proofs.lines.place_of.Goals as goal
+use Rattle.raw_block.specs.BytesLaws.{place_within, begins_within}
 
 pub place-requires-clause-start : goal.place-requires-clause-start
-place-requires-clause-start g c = omega (arith, begins _ _ _ _ _ _ c.requires.within c.loop-k-test.true)
+place-requires-clause-start g c = omega (arith, begins_within _ _ _ _ _ _ c.requires.within c.loop-k-test.true)
 
 pub number_at-requires : goal.number_at-requires
-number_at-requires g c = omega (arith, c.place.ensures, place-within _ _ _ _ _ _ c.requires.within c.loop-k-test.true)
+number_at-requires g c = omega (arith, c.place.ensures, place_within _ _ _ _ _ _ c.requires.within c.loop-k-test.true)
 
 pub returns-then-bits-clause-place : goal.returns-then-bits-clause-place
 returns-then-bits-clause-place g c =

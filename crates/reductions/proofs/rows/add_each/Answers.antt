@@ -1,17 +1,17 @@
 use Rattle.std.proofs.Common.{◌≡◌, ◌+◌, ◌*◌, ◌≤◌, ℕ, ℤ, inl, inr, [], ◌∷◌, ◌++◌, length, sym, ap, subst, ◌∙◌, arith}
 use Rattle.std.proofs.lemmas.Bool.{cases_lt}
 use Rattle.elem_descr.specs.declared.scalar.Order.TheVariants.{Little}
-use Rattle.overlap_copy.specs.RunLaws.{place-within}
 use Rattle.raw_block.specs.Bytes.{place, item_at}
+use Rattle.raw_block.specs.BytesLaws.{place_within, begins_within}
 use Rattle.reductions.specs.inside.Numbers.{number_at, IsStored}
-use Rattle.reductions.proofs.LineLaws.{begins, before_next}
+use Rattle.reductions.proofs.LineLaws.{before_next}
 use Rattle.reductions.proofs.rows.add_each.Goals as goal
 
 pub place-requires-clause-start : goal.place-requires-clause-start
-place-requires-clause-start g c = omega (arith, begins _ _ _ _ _ _ c.requires.within c.loop-j-test.true)
+place-requires-clause-start g c = omega (arith, begins_within _ _ _ _ _ _ c.requires.within c.loop-j-test.true)
 
 pub number_at-item-requires : goal.number_at-item-requires
-number_at-item-requires g c = omega (arith, c.place.ensures, place-within _ _ _ _ _ _ c.requires.within c.loop-j-test.true)
+number_at-item-requires g c = omega (arith, c.place.ensures, place_within _ _ _ _ _ _ c.requires.within c.loop-j-test.true)
 
 pub loop-j-preserved : goal.loop-j-preserved
 loop-j-preserved g c =

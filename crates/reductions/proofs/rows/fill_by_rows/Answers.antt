@@ -4,10 +4,11 @@ use Rattle.std.proofs.lemmas.Int.{ints}
 use Rattle.elem_descr.specs.declared.scalar.Order.TheVariants.{Little}
 use Rattle.elem_descr.specs.Steps.{numbers_from}
 use Rattle.raw_block.specs.Bytes.{position, place, item_at, EachWithin}
+use Rattle.raw_block.specs.BytesLaws.{begins_within}
 use Rattle.shape_strides.specs.Addresses.{natural}
 use Rattle.shape_strides.specs.Runs.{run_along, run_offsets}
 use Rattle.reductions.specs.inside.Numbers.{number_at, numbers_at, IsStored}
-use Rattle.reductions.proofs.LineLaws.{begins as begins_within, front, numbers-first, numbers-more, length-numbers}
+use Rattle.reductions.proofs.LineLaws.{front, numbers-first, numbers-more, length-numbers}
 use Rattle.reductions.proofs.RowLaws.{first_line, row_place, row_within}
 use Rattle.reductions.proofs.rows.fill_by_rows.Goals as goal
 

@@ -7,11 +7,11 @@ use Rattle.shape_strides.specs.Limits.{max_bytes}
 use Rattle.shape_strides.specs.Layouts.{offsets}
 use Rattle.shape_strides.specs.LayoutLaws.{length-offsets}
 use Rattle.shape_strides.specs.RunPairs.{run_pairs}
-use Rattle.overlap_copy.specs.RunLaws.{runs-within}
+use Rattle.overlap_copy.specs.RunLaws.{runs-within, next_pair}
 use Rattle.elementwise.specs.Results.{pairwise}
 use Rattle.elementwise.specs.inside.PairPasses.{pair_from}
 use Rattle.elementwise.specs.inside.Operands.{pairs_of}
-use Rattle.elementwise.proofs.PairLaws.{firsts, seconds, next}
+use Rattle.elementwise.proofs.PairLaws.{firsts, seconds}
 use Rattle.elementwise.proofs.AppendedLaws.{pushed-next, bytes-next, lies-in, row-made}
 use Rattle.elementwise.proofs.rows.Operands.push_all.Goals as goal
 
@@ -53,7 +53,7 @@ invariant_of-pairs g c =
     let row = c.in-Some.row in
     let some : 1 ≤ wide = g.met.P.Pass.not_empty c.args.pass.now in
     let least : 1 * row.first.count ≤ wide * row.first.count = mul-le-mul_right row.first.count some in
-    let there = next (λ q. EachWithin (length o.left.block.now) q.first.offset q.first.step (item_size o.left.descr.now) q.first.count) _ _ row steps inv.first in
+    let there = next_pair (λ q. EachWithin (length o.left.block.now) q.first.offset q.first.step (item_size o.left.descr.now) q.first.count) _ _ row steps inv.first in
     record {
       few = omega (arith, least, mul_comm wide row.first.count, bytes-next wide _ _ row steps, inv.room, inv.shrinks, c.filled-filled.ensures.small);
       within = lies-in _ _ _ _ row.first c.bytes-left.ensures c.size-left_width.ensures.value there;
@@ -68,15 +68,15 @@ invariant_of-pairs-in-loop-row g c =
     let row = c.in-Some.row in
     let some : 1 ≤ wide = g.met.P.Pass.not_empty c.args.pass.now in
     let least : 1 * row.first.count ≤ wide * row.first.count = mul-le-mul_right row.first.count some in
-    let even = next (λ q. q.first.count ≡ q.second.count) _ _ row steps inv.even in
-    let there = next (λ q. EachWithin (length o.right.block.now) q.second.offset q.second.step (item_size o.right.descr.now) q.second.count) _ _ row steps inv.second in
+    let even = next_pair (λ q. q.first.count ≡ q.second.count) _ _ row steps inv.even in
+    let there = next_pair (λ q. EachWithin (length o.right.block.now) q.second.offset q.second.step (item_size o.right.descr.now) q.second.count) _ _ row steps inv.second in
     record {
       few = omega (arith, even, least, mul_comm wide row.first.count, bytes-next wide _ _ row steps, inv.room, inv.shrinks, c.filled-filled.ensures.small);
       within = lies-in _ _ _ _ row.second c.bytes-right.ensures c.size-right_width.ensures.value there;
     }
 
 pub invariant_of-pairs-in-loop-row-2 : goal.invariant_of-pairs-in-loop-row-2
-invariant_of-pairs-in-loop-row-2 g c = record { even = next (λ q. q.first.count ≡ q.second.count) _ _ c.in-Some.row c.in-Some.ensures.steps c.loop-row.invariant.even }
+invariant_of-pairs-in-loop-row-2 g c = record { even = next_pair (λ q. q.first.count ≡ q.second.count) _ _ c.in-Some.row c.in-Some.ensures.steps c.loop-row.invariant.even }
 
 pub push_row-block-requires-clause-room : goal.push_row-block-requires-clause-room
 push_row-block-requires-clause-room g c = omega (arith, bytes-next (g.P.Pass.width c.args.pass.now) _ _ c.in-Some.row c.in-Some.ensures.steps, c.loop-row.invariant.room)
@@ -94,9 +94,9 @@ loop-row-preserved g c =
     let steps = c.in-Some.ensures.steps in
     let row = c.in-Some.row in
     let more = bytes-next wide _ _ row steps in
-    let even = next (λ q. q.first.count ≡ q.second.count) _ _ row steps inv.even in
-    let lies = next (λ q. EachWithin (length left) q.first.offset q.first.step width q.first.count) _ _ row steps inv.first in
-    let lies' = next (λ q. EachWithin (length right) q.second.offset q.second.step width' q.second.count) _ _ row steps inv.second in
+    let even = next_pair (λ q. q.first.count ≡ q.second.count) _ _ row steps inv.even in
+    let lies = next_pair (λ q. EachWithin (length left) q.first.offset q.first.step width q.first.count) _ _ row steps inv.first in
+    let lies' = next_pair (λ q. EachWithin (length right) q.second.offset q.second.step width' q.second.count) _ _ row steps inv.second in
     record {
       bytes = pushed-next (pair_from makes width width' left right) _ _ row c.loop-row.block.0 c.push_row-block.result.0 _ steps even
           (row-made makes width width' _ _ left right _ _ row c.loop-row.block.0 c.push_row-block.result.0 c.size-left_width.ensures.value c.size-right_width.ensures.value c.bytes-left.ensures c.bytes-right.ensures even lies lies' c.push_row-block.ensures.bytes) inv.bytes;
