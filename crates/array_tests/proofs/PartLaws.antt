@@ -1,5 +1,5 @@
 -- Layouts that show items of an array, to be written or read.
-use Rattle.std.proofs.Common.{◌≡◌, ◌<◌, ◌≤◌, false, ◌+◌, ◌*◌, ℕ, zero, suc, List, [], ◌∷◌, length, map, refl, sym, ap, subst, ◌∙◌, get_or, Result, Ok, Err, slice_index, Some, true, All, Contains, arith}
+use Rattle.std.proofs.Common.{◌≡◌, ◌<◌, ◌≤◌, false, ◌+◌, ◌*◌, ℕ, zero, suc, List, [], ◌∷◌, length, sym, ap, subst, ◌∙◌, get_or, Result, Ok, Err, slice_index, Some, true, All, Contains, arith}
 use Rattle.std.proofs.lemmas.List.{length-map}
 use Rattle.std.proofs.lemmas.List.Elements.{All-map, All-contains, All-contains_itself, Contains-get_or}
 use Rattle.elem_descr.specs.declared.refusal.Refusal.{Refusal}
@@ -9,7 +9,7 @@ use Rattle.elem_descr.specs.declared.scalar.Scalar.TheVariants.{Byte}
 use Rattle.elem_descr.specs.Items.{item_size, leaves_of, AreAlike}
 use Rattle.shape_strides.specs.declared.layout.Layout.{Layout}
 use Rattle.shape_strides.specs.Indexes.{indexes, rank}
-use Rattle.shape_strides.specs.Layouts.{offsets, offsets_of}
+use Rattle.shape_strides.specs.Layouts.{offsets}
 use Rattle.shape_strides.specs.IndexLaws.{length-indexes, rank-lt, get_or-indexes, index_at}
 use Rattle.shape_strides.specs.LayoutLaws.{length-offsets}
 use Rattle.shape_strides.specs.Limits.{max_bytes}
@@ -19,7 +19,7 @@ use Rattle.fancy_index.specs.declared.source.Indices.{Indices}
 use Rattle.view_ops.specs.Views.{View as Seen, view_through, IsViewOf, GivesView}
 use Rattle.name_store.specs.States.{State, Array}
 use Rattle.name_store.specs.Arrays.{find_array, buffer_of, addresses}
-use Rattle.name_store.specs.ArrayLaws.{offset-at}
+use Rattle.name_store.specs.ArrayLaws.{offsets-at}
 use Rattle.name_store.specs.Parts.{start_at}
 use Rattle.name_store.specs.Shown.{Shows}
 use Rattle.name_store.specs.Targets.{FitsBuffer, LeadsTo}
@@ -41,13 +41,6 @@ whole-part s array r shows = record {
   among = All-contains_itself array.places;
   fits = shows.view.laid.fits;
 }
-
-offsets-at : (item start : ℕ) (places shape : List ℕ) (leads : List ℕ → List ℕ) (is : List (List ℕ)) → All (λ i. rank shape (leads i) < length places) is →
-    map (λ i. slice_index (offsets_of item start places) (rank shape (leads i))) is ≡ offsets_of item start (map (λ i. slice_index places (rank shape (leads i))) is)
-offsets-at item start places shape leads [] inside = refl
-offsets-at item start places shape leads (i ∷ is) inside = λ j.
-    offset-at item start places (rank shape (leads i)) (inside zero i (omega arith)) j
-    ∷ offsets-at item start places shape leads is (λ k d below. inside (suc k) d (omega (arith, below))) j
 
 -- those of a list of a layout's items to which a view leads
 led : List ℕ → Layout → Seen → List ℕ

@@ -1,7 +1,7 @@
 -- Items that are to be written: stretched into a shape, and cast.
 use Rattle.std.proofs.Common.{◌≡◌, ◌<◌, ◌≤◌, ◌+◌, ◌*◌, ℕ, zero, suc, Bool, true, false, nat_le, if◌then◌else◌, List, [], ◌∷◌, length, map, get_or, slice_index, unwrap_or, Some, refl, sym, ap, ◌∙◌, subst, All, Bor, Result, Ok, Err, inl, inr, arith}
 use Rattle.std.proofs.lemmas.Bool.{le-leb}
-use Rattle.std.proofs.lemmas.List.{get_or-map}
+use Rattle.std.proofs.lemmas.List.{get_or-map, length-map}
 use Rattle.std.proofs.lemmas.List.Elements.{All-map}
 use Rattle.std.proofs.lemmas.Simd.{map-map}
 use Rattle.elem_descr.specs.declared.refusal.Refusal.{Refusal}
@@ -40,10 +40,6 @@ use Rattle.bench_engine.specs.inside.Assigns.{Holds, IsTaken, GivesTaken, LiesIn
 use Rattle.bench_engine.proofs.Assigns.{lies-whole, lies-viewed, stretched-shape}
 use Rattle.bench_engine.proofs.Sets.{read-part}
 use Rattle.bench_engine.proofs.Views.{given-view}
-
-length-mapped : {A B : Type 0} (f : A → B) (xs : List A) → length (map f xs) ≡ length xs
-length-mapped f [] = refl
-length-mapped f (x ∷ xs) = ap suc (length-mapped f xs)
 
 -- what holds of all offsets of a layout holds of those of a view of it
 pub all-viewed : (P : ℕ → Type 0) (old new : Layout) (view : View) → IsViewOf old new view → All P (offsets old) → All P (offsets new)
@@ -185,7 +181,7 @@ module _ (s : State) (operand : Operand) (descr : Descr) (shape : List ℕ) (b :
         ∙ get_or-map (λ place. part_at (span_of s b) (placed_item (buffer_of s b).items place)) (viewed b view).places k 0 [] (omega (arith, below, counted))
       where
         counted : length (offsets o.layout) ≡ length (viewed b view).places
-        counted = sym (length-mapped (item_from o.descr o.block) (offsets o.layout)) ∙ ap length holds.items ∙ length-mapped (λ place. part_at (span_of s b) (placed_item (buffer_of s b).items place)) (viewed b view).places
+        counted = sym (length-map (offsets o.layout) (item_from o.descr o.block)) ∙ ap length holds.items ∙ length-map (viewed b view) (λ place. part_at (span_of s b) (placed_item (buffer_of s b).items place)).places
 
     copy-wide : (wide : Layout) (seen : View) → IsViewOf o.layout wide seen → map (item_from o.descr o.block) (offsets wide) ≡ read s (viewed (viewed b view) seen)
     copy-wide wide seen is =

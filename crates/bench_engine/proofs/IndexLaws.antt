@@ -2,7 +2,7 @@
 use Rattle.std.proofs.Common.{◌≡◌, ◌⊎◌, ◌<◌, ◌≤◌, ◌+◌, ◌*◌, ◌&&◌, ℕ, zero, suc, Bool, true, false, nat_le, List, [], ◌∷◌, ◌++◌, length, map, take, get_or, slice_index, Some, refl, sym, ap, ◌∙◌, subst, All, Result, Ok, Err, inl, inr, arith}
 use Rattle.std.specs.List.{Contains, list_all}
 use Rattle.std.proofs.lemmas.Bool.{le-leb, lt-leb, and_parts}
-use Rattle.std.proofs.lemmas.List.{take_more}
+use Rattle.std.proofs.lemmas.List.{take_more, length-map}
 use Rattle.std.proofs.lemmas.List.Elements.{All-map, All-append, Contains-get_or}
 use Rattle.std.proofs.lemmas.List.Folds.{list_all-append}
 use Rattle.std.proofs.lemmas.Simd.{map-map}
@@ -92,10 +92,6 @@ map-more : {A B : Type 0} (f : A → B) (xs more : List A) → map f (xs ++ more
 map-more f [] more = refl
 map-more f (x ∷ xs) more = ap (λ l. f x ∷ l) (map-more f xs more)
 
-length-map' : {A B : Type 0} (f : A → B) (xs : List A) → length (map f xs) ≡ length xs
-length-map' f [] = refl
-length-map' f (x ∷ xs) = ap suc (length-map' f xs)
-
 -- an item names the same array where more stand behind
 with-more : (arrays more : List Indices) (item : IndexItem ℕ) → IsNamed (length arrays) item → with_array (map index_array_of (arrays ++ more)) item ≡ with_array (map index_array_of arrays) item
 with-more arrays more (Integer at) named = refl
@@ -103,7 +99,7 @@ with-more arrays more (Slice start stop step) named = refl
 with-more arrays more Ellipsis named = refl
 with-more arrays more NewAxis named = refl
 with-more arrays more (ArrayItem k) named =
-    ap ArrayItem (ap (λ l. get_or l k no_array) (map-more index_array_of arrays more) ∙ get_or-more (map index_array_of arrays) (map index_array_of more) k no_array (subst (λ n. k < n) (sym (length-map' index_array_of arrays)) named))
+    ap ArrayItem (ap (λ l. get_or l k no_array) (map-more index_array_of arrays more) ∙ get_or-more (map index_array_of arrays) (map index_array_of more) k no_array (subst (λ n. k < n) (sym (length-map arrays index_array_of)) named))
 
 pub all-with-more : (arrays more : List Indices) (items : List (IndexItem ℕ)) → All (IsNamed (length arrays)) items → with_arrays (map index_array_of (arrays ++ more)) items ≡ with_arrays (map index_array_of arrays) items
 all-with-more arrays more [] named = refl
@@ -158,11 +154,11 @@ plan-inside layout plan view is k d below =
     rw here (omega (arith, length-offsets layout, rank-lt layout.shape (view.leads found.0) (is.leads found.0 found.1)))
 
 pub plan-counted : (layout : Layout) (plan : Planned) (view : View) → IsPlanOf layout plan view → length plan.offsets ≡ count plan.shape
-plan-counted layout plan view is = ap length is.places ∙ length-map' (λ index. slice_index (offsets layout) (rank layout.shape (view.leads index))) (indexes view.shape) ∙ length-indexes view.shape ∙ ap count (sym is.shape)
+plan-counted layout plan view is = ap length is.places ∙ length-map (indexes view.shape) (λ index. slice_index (offsets layout) (rank layout.shape (view.leads index))) ∙ length-indexes view.shape ∙ ap count (sym is.shape)
 
 module _ (s : State) (a : Array) (r : ArrayRef) (shows : Shows s a r) (plan : Planned) (view : View) (is : IsPlanOf r.layout.now plan view) where
   counted : length (offsets r.layout.now) ≡ length a.places
-  counted = ap length shows.view.laid.places ∙ length-map' (λ place. item_size (buffer_of s a).descr * place + start_at (buffer_of s a).descr a.path) a.places
+  counted = ap length shows.view.laid.places ∙ length-map a.places (λ place. item_size (buffer_of s a).descr * place + start_at (buffer_of s a).descr a.path)
 
   inside : All (λ index. rank a.shape (view.leads index) < length a.places) (indexes view.shape)
   inside = λ k d below.

@@ -19,6 +19,7 @@ use Rattle.shape_strides.specs.declared.memory_order.MemoryOrder.TheVariants.{C}
 use Rattle.shape_strides.specs.Indexes.{count}
 use Rattle.shape_strides.specs.Layouts.{offsets}
 use Rattle.shape_strides.specs.LayoutLaws.{length-offsets}
+use Rattle.shape_strides.specs.Shapes.{IsShape}
 use Rattle.broadcasting.specs.Broadcasts.{can_stretch, common_shape}
 use Rattle.broadcasting.specs.BroadcastLaws.{can-itself, stretched-self}
 use Rattle.machine_numbers.specs.Kinds.{is_text}
@@ -41,7 +42,7 @@ use Rattle.bench_engine.specs.Machine.{OperandValues, one_item, literal_value, l
 use Rattle.bench_engine.specs.inside.Operands.{Stands, OwnStands, GivesStanding}
 use Rattle.bench_engine.specs.inside.OwnContents.{held, IsInCOrder}
 use Rattle.bench_engine.proofs.Copies.{made-held}
-use Rattle.bench_engine.proofs.LegalLaws.{IsLegal, legal-common}
+use Rattle.bench_engine.proofs.LegalLaws.{legal-common}
 use Rattle.bench_engine.proofs.OperandLaws.{one-stands}
 use Rattle.bench_engine.proofs.StretchLaws.{none-fits}
 use Rattle.bench_engine.proofs.WorkLaws.{worked-done}
@@ -117,7 +118,7 @@ compared-bad : (d : Descr) (l : ScalarLiteral) (e : Refusal) → scalar_of d ≡
 unfolding compared_literal
 compared-bad d l e bad = rw bad refl
 
-module _ (c : Comparison) (v : OperandValues) (x : Items) (sv : Stands v x) (legal : IsLegal x.layout.now.shape) (l : ScalarLiteral) where
+module _ (c : Comparison) (v : OperandValues) (x : Items) (sv : Stands v x) (legal : IsShape x.layout.now.shape) (l : ScalarLiteral) where
   abbrev there : Result (Descr × List ℕ) Refusal
   there = truths_of (λ s. is_castable s l) x.descr.now x.layout.now.shape
 

@@ -24,6 +24,7 @@ use Rattle.elementwise.specs.Promotion.{same_kind}
 use Rattle.elementwise.specs.Results.{scalar_of, stretched_items}
 use Rattle.overlap_copy.specs.declared.items.Items.{Items}
 use Rattle.shape_strides.specs.LayoutLaws.{length-offsets}
+use Rattle.shape_strides.specs.Shapes.{IsShape}
 use Rattle.std.proofs.lemmas.Simd.{map-map}
 use Rattle.bench_engine.proofs.GivenLaws.{cast-lacks}
 use Rattle.overlap_copy.specs.declared.owned.Owned.{Owned}
@@ -33,7 +34,7 @@ use Rattle.bench_engine.specs.Contents.{Contents}
 use Rattle.bench_engine.specs.Machine.{OperandValues, literal_values, operation_scalar, operation_on, operation_with, updated_items, changed_with}
 use Rattle.bench_engine.specs.inside.Operands.{Stands, GivesChanged}
 use Rattle.bench_engine.specs.inside.OwnContents.{held, IsInCOrder}
-use Rattle.bench_engine.proofs.LegalLaws.{IsLegal, legal-common}
+use Rattle.bench_engine.proofs.LegalLaws.{legal-common}
 use Rattle.bench_engine.proofs.LiteralLaws.{literal-axes}
 use Rattle.bench_engine.proofs.Stored.{items-from}
 use Rattle.bench_engine.proofs.StretchLaws.{common-onto, none-fits, stretched-can}
@@ -121,10 +122,6 @@ kind-casts (Int signed width order) BoolScalar is = refl
 kind-casts (Int signed width order) (Byte signed') is = refl
 kind-casts (Int signed width order) (Int signed' width' order') is = refl
 
-pub scalar-descr : (d : Descr) (s : Scalar) → scalar_of d ≡ Ok s → d ≡ ScalarDescr s
-scalar-descr (ScalarDescr own) s is = ap ScalarDescr (same_answer own s is)
-scalar-descr _ s is = absurd (false≢true (ap is_ok is))
-
 -- ---- the items that are written
 
 -- those of a block in C order
@@ -180,7 +177,7 @@ literal-parts op d v l new same is =
       parts.2,
     )
 
-pub literal-refused : (op : Operation) (d : Descr) (v : OperandValues) (l : Literal) (e : Refusal) → IsLegal v.shape → v.descr ≡ d → operation_with op v (literal_values op v.descr l) ≡ Err e → changed_with op d v (literal_values op d l) ≡ Err e
+pub literal-refused : (op : Operation) (d : Descr) (v : OperandValues) (l : Literal) (e : Refusal) → IsShape v.shape → v.descr ≡ d → operation_with op v (literal_values op v.descr l) ≡ Err e → changed_with op d v (literal_values op d l) ≡ Err e
 literal-refused op d v l e legal same is =
     sym (ap (λ (d : Descr). changed_with op d v (literal_values op d l)) same) ∙ by-literal (literal_values op v.descr l) refl is
   where

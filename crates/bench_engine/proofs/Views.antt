@@ -1,5 +1,5 @@
 -- Views of arrays: places for offsets, and names that are bound to them.
-use Rattle.std.proofs.Common.{◌≡◌, ◌⊎◌, ◌<◌, ◌+◌, ◌*◌, ℕ, zero, suc, Bool, true, false, List, [], ◌∷◌, ◌++◌, length, map, refl, sym, ap, ◌∙◌, subst, get_or, Some, Result, Ok, Err, inl, inr, slice_index, All, Bor, IsTrue, arith}
+use Rattle.std.proofs.Common.{◌≡◌, ◌⊎◌, ◌<◌, ◌+◌, ◌*◌, ℕ, Bool, true, false, List, ◌++◌, length, refl, sym, ap, ◌∙◌, subst, get_or, Some, Result, Ok, Err, inl, inr, slice_index, All, Bor, IsTrue}
 use Rattle.std.specs.List.{Contains}
 use Rattle.std.proofs.lemmas.List.{length-map}
 use Rattle.std.proofs.lemmas.List.Elements.{All-map, Contains-get_or}
@@ -23,7 +23,7 @@ use Rattle.name_store.specs.declared.bound.Bound.{Bound}
 use Rattle.name_store.specs.declared.bound.Bound.TheVariants as bound
 use Rattle.name_store.specs.declared.target.Target.TheVariants as target
 use Rattle.name_store.specs.declared.array_ref.ArrayRef.{ArrayRef}
-use Rattle.name_store.specs.ArrayLaws.{offset-at}
+use Rattle.name_store.specs.ArrayLaws.{offsets-at}
 use Rattle.bench_engine.specs.declared.part.Part.{Part}
 use Rattle.bench_engine.specs.declared.part.PartOrCopy.{PartOrCopy}
 use Rattle.bench_engine.specs.declared.part.PartOrCopy.TheVariants as given
@@ -35,13 +35,6 @@ use Rattle.bench_engine.specs.Replies.{bound_text}
 use Rattle.bench_engine.specs.Machine.{Choice, Outcome, ViewOrCopy, a_view, a_copy, viewed, bound_seen, accepted_with}
 use Rattle.bench_engine.proofs.Creates.{starts, fresh-answers}
 use Rattle.bench_engine.proofs.Steps.{spare}
-
-offsets-at : (item start : ℕ) (places shape : List ℕ) (leads : List ℕ → List ℕ) (is : List (List ℕ)) → All (λ i. rank shape (leads i) < length places) is →
-    map (λ i. slice_index (offsets_of item start places) (rank shape (leads i))) is ≡ offsets_of item start (map (λ i. slice_index places (rank shape (leads i))) is)
-offsets-at item start places shape leads [] inside = refl
-offsets-at item start places shape leads (i ∷ is) inside = λ j.
-    offset-at item start places (rank shape (leads i)) (inside zero i (omega arith)) j
-    ∷ offsets-at item start places shape leads is (λ k d below. inside (suc k) d (omega (arith, below))) j
 
 -- a view of the offsets of some places has the offsets of the view of the places
 pub offsets-view : (item start : ℕ) (places shape new : List ℕ) (leads : List ℕ → List ℕ) → All (λ i. rank shape (leads i) < length places) (indexes new) →

@@ -1,5 +1,5 @@
 -- What stays so of a record as fields and padding are added to it.
-use Rattle.std.proofs.Common.{◌≡◌, ◌≤◌, ◌<◌, ◌+◌, ℕ, Bool, true, false, List, [], ◌∷◌, ◌++◌, length, map, refl, ap, IsTrue, arith, length-append, ◌||◌}
+use Rattle.std.proofs.Common.{◌≡◌, ◌≤◌, ◌<◌, ◌+◌, ℕ, Bool, true, false, List, [], ◌∷◌, ◌++◌, length, refl, ap, IsTrue, arith, length-append, ◌||◌}
 use Rattle.std.specs.List.{IsDistinct, list_all, AllByRecursion}
 use Rattle.std.specs.Str.{bytes_eq}
 use Rattle.std.proofs.lemmas.List.Folds.{list_all-append}
@@ -11,9 +11,7 @@ use Rattle.elem_descr.specs.RecordBuilding.{Partial, IsShallow, empty, is_taken}
 use Rattle.elem_descr.specs.inside.Partials.{IsPartial}
 use Rattle.elem_descr.proofs.FieldLaws.{fields_of-listed}
 use Rattle.elem_descr.proofs.FieldLists.{in_order_push, InOrder-ends, within_push, depth_push, leaf_count-push}
-
-abbrev names : List Field → List (List ℕ)
-names fields = map (λ field. field.name) fields
+use Rattle.elem_descr.specs.BuildingLaws.{names}
 
 pub empty_partial : (levels leaves : ℕ) → levels < 4 → leaves ≤ 2048 → IsPartial (empty levels leaves)
 unfolding IsDistinct

@@ -1,11 +1,10 @@
 -- What is written as a format text reads as the same descriptor.
-use Rattle.std.proofs.Common.{◌≡◌, ◌≤◌, ◌<◌, ◌+◌, ◌-◌, ℕ, zero, suc, true, false, List, [], ◌∷◌, ◌++◌, length, map, None, Result, Ok, refl, ap, subst, sym, ◌∙◌, arith, append_assoc, length-append, add-zero}
+use Rattle.std.proofs.Common.{◌≡◌, ◌≤◌, ◌<◌, ◌+◌, ◌-◌, ℕ, zero, suc, true, false, List, [], ◌∷◌, ◌++◌, length, None, Result, Ok, refl, ap, subst, sym, ◌∙◌, arith, append_assoc, length-append, add-zero}
 use Rattle.std.specs.Char.{is_ascii_digit}
 use Rattle.std.specs.Fmt.{decimal}
-use Rattle.std.specs.Int.{next_multiple_of}
-use Rattle.std.specs.List.{IsDistinct, list_all, AllByRecursion}
+use Rattle.std.specs.List.{IsDistinct, list_all}
 use Rattle.std.specs.Str.{bytes_eq}
-use Rattle.std.proofs.lemmas.Bool.{le-leb, lt-ltb, and_parts}
+use Rattle.std.proofs.lemmas.Bool.{le-leb, and_parts}
 use Rattle.std.proofs.lemmas.Bool.Decides.{nat_tests}
 use Rattle.std.proofs.lemmas.Fmt.{decimal_nonempty}
 use Rattle.std.proofs.lemmas.List.{append-nil}
@@ -27,23 +26,17 @@ use Rattle.elem_descr.specs.Names.{is_legal_name}
 use Rattle.elem_descr.specs.Descriptors.{IsLegal, AreNamedWithin, InOrder, fields_of, listed, names_of, depth, leaf_count}
 use Rattle.elem_descr.specs.Items.{item_size, leaves_of, leaves_from}
 use Rattle.elem_descr.specs.FormatLetters.{is_aligning, own_alignment, aligned_to}
-use Rattle.elem_descr.specs.RecordBuilding.{Partial, is_taken, checked_name, added, widened, closed_size, closed_record}
+use Rattle.elem_descr.specs.RecordBuilding.{Partial, is_taken, added, widened, closed_size, closed_record}
 use Rattle.elem_descr.specs.FormatTexts.{format}
 use Rattle.elem_descr.specs.inside.Turns.{format_in_turns, member_at, Reader, is_named, marked, closing, scalar_in, pad_in, body_in, next_field, turn, members, record_within, nothing_follows, scalar_alone, record_alone, alone}
 use Rattle.elem_descr.specs.WrittenFormats.{written_mark, written_count, written_letter, written_scalar, written_pad, written_name, braced, written_fields, written_format}
 use Rattle.elem_descr.proofs.Binds.{after_ok}
-use Rattle.elem_descr.proofs.Decimals.{digits-decimal}
+use Rattle.elem_descr.specs.DecimalLaws.{digits-decimal}
 use Rattle.elem_descr.specs.DescriptorLaws.{listed-fields_of, InOrder-within, some_depth}
 use Rattle.elem_descr.specs.ItemLaws.{length-leaves_from}
 use Rattle.elem_descr.proofs.SameFormat.{same_format}
 use Rattle.elem_descr.proofs.WrittenMembers.{mark_of, marked_digits, after_letter, reads_scalar, reads_pad, reads_name}
-
--- a record as far as it is read, where nothing aligns
-abbrev packed : ℕ → ℕ → ℕ → List Field → Partial
-packed levels leaves bytes done = record { size = bytes; alignment = 1; leaves = leaves; levels = levels; fields = done }
-
-multiple_of_one : (n : ℕ) → next_multiple_of n 1 ≡ n
-multiple_of_one n = omega arith
+use Rattle.elem_descr.specs.BuildingLaws.{names, packed, field_of, grown, multiple_of_one, name_ok, not_taken}
 
 unaligned : (scalar : Scalar) → aligned_to (mark_of scalar) (own_alignment scalar) ≡ 1
 unfolding mark_of
@@ -58,17 +51,6 @@ packed_body Aligned = refl
 packed_body Native = refl
 packed_body LittleMark = refl
 packed_body BigMark = refl
-
-abbrev field_of : List ℕ → ℕ → Descr → Field
-field_of name at descr = record { name = name; at = at; descr = descr }
-
--- the record with a field after the bytes so far
-abbrev grown : ℕ → ℕ → ℕ → List Field → List ℕ → Descr → Partial
-grown levels leaves from done name descr = packed levels (leaves + length (leaves_of descr)) (from + item_size descr) (done ++ field_of name from descr ∷ [])
-
-name_ok : (p : Partial) (name : List ℕ) → is_taken p.fields name ≡ false → length p.fields < 64 → checked_name p name ≡ Ok tt
-unfolding checked_name
-name_ok p name new few = rw (new, lt-ltb (length p.fields) 64 few) refl
 
 added_ok : (levels leaves from : ℕ) (done : List Field) (name : List ℕ) (alignment : ℕ) (descr : Descr) → alignment ≡ 1 → leaves + length (leaves_of descr) ≤ 2048 → from + item_size descr ≤ 65536 → added (packed levels leaves from done) name alignment descr ≡ Ok (grown levels leaves from done name descr)
 unfolding added
@@ -191,19 +173,6 @@ reads_within within mark later levels leaves from done name structure text rest 
   where
     longer : (text name rest : List ℕ) → length rest < length (84 ∷ (123 ∷ (text ++ 125 ∷ (58 ∷ (name ++ 58 ∷ rest)))))
     longer text name rest = simp length-append (omega arith)
-
--- the name of a field that follows is not taken
-abbrev names : List Field → List (List ℕ)
-names fields = map (λ field. field.name) fields
-
-not_taken : (done later : List Field) (field : Field) → IsDistinct bytes_eq (names (done ++ field ∷ later)) → is_taken done field.name ≡ false
-unfolding IsDistinct
-not_taken [] later field h = refl
-not_taken (first ∷ done) later field h = rw (apart first.name done later field h.0) (not_taken done later field h.1)
-  where
-    apart : (name : List ℕ) (done later : List Field) (field : Field) → AllByRecursion (λ other. bytes_eq name other ≡ false) (names (done ++ field ∷ later)) → bytes_eq name field.name ≡ false
-    apart name [] later field h = h.0
-    apart name (first ∷ done) later field h = apart name done later field h.1
 
 unnamed_scalar : (scalar : Scalar) (rest : List ℕ) → is_named (written_scalar scalar ++ rest) ≡ false
 unnamed_scalar BoolScalar rest = refl

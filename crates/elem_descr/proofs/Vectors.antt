@@ -17,6 +17,7 @@ use Rattle.elem_descr.specs.RecordBuilding.{checked_name, added, widened, closed
 use Rattle.elem_descr.specs.FormatPieces.{nothing, between_colons, letter, opening, pieces}
 use Rattle.elem_descr.specs.FormatTexts.{format}
 use Rattle.elem_descr.specs.WrittenFormats.{written_format}
+use Rattle.elem_descr.specs.SpellingLaws.{one}
 
 abbrev whole : ℕ → Fields → Descr
 whole size fields = RecordDescr (record { size = size; fields = fields })
@@ -35,9 +36,6 @@ encoded = refl
 -- padding is ignored, and a bool is true where its byte is not 0
 pub decoded : decode_item descr (254 ∷ (255 ∷ (255 ∷ (255 ∷ (9 ∷ (9 ∷ (1 ∷ (44 ∷ (97 ∷ (98 ∷ (0 ∷ (99 ∷ (0 ∷ (7 ∷ (9 ∷ []))))))))))))))) ≡ values
 decoded = refl
-
-one : decimal 1 ≡ 49 ∷ []
-one = decimal_digit 1 (lit< tt)
 
 three : decimal 3 ≡ 51 ∷ []
 three = decimal_digit 3 (lit< tt)

@@ -21,7 +21,7 @@ use Rattle.elem_descr.specs.FormatLetters.{count_of, text_member}
 use Rattle.elem_descr.specs.FormatPieces.{is_colon}
 use Rattle.elem_descr.specs.inside.Turns.{after, marked, after_count, member_at, name_at, named}
 use Rattle.elem_descr.specs.WrittenFormats.{written_mark, written_count, written_letter}
-use Rattle.elem_descr.proofs.Decimals.{digits-decimal, value_of-decimal}
+use Rattle.elem_descr.specs.DecimalLaws.{digits-decimal, value_of-decimal}
 use Rattle.elem_descr.proofs.Fronts.{some_left}
 
 -- the front of a list that passes a test, before one that does not

@@ -26,3 +26,6 @@ pub mod NumberLaws
 pub mod NulLaws
 pub mod ListLaws
 pub mod ByteLaws
+pub mod BuildingLaws
+pub mod DecimalLaws
+pub mod SpellingLaws

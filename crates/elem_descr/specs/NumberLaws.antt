@@ -1,12 +1,13 @@
 -- The laws of wrapping, scalar by scalar.
-use Rattle.std.proofs.Common.{◌≡◌, ◌≤◌, ℕ, zero, suc, Bool, refl, ap, inl, inr, arith}
+use Rattle.std.proofs.Common.{◌≡◌, ◌≤◌, ℕ, zero, suc, Bool, refl, ap, inl, inr, arith, true, false}
 use Rattle.std.specs.Prelude.{ℤ, pos, negsuc}
+use Rattle.std.proofs.lemmas.Int.{ints}
 use Rattle.elem_descr.specs.declared.scalar.Order.{Order}
 use Rattle.elem_descr.specs.declared.scalar.Width.{Width}
 use Rattle.elem_descr.specs.declared.scalar.Width.TheVariants.{Two, Four, Eight}
 use Rattle.elem_descr.specs.declared.scalar.Scalar.{Scalar}
 use Rattle.elem_descr.specs.declared.scalar.Scalar.TheVariants.{Bool as BoolScalar, Byte, Int, Bytes}
-use Rattle.elem_descr.specs.Encoding.{width_size, IsNumber, IsValueOf, WrapsTo, bytes_of, low_bits, integer, wrap}
+use Rattle.elem_descr.specs.Encoding.{width_size, IsNumber, IsValueOf, WrapsTo, bytes_of, low_bits, integer, wrap, FitsBytes}
 use Rattle.elem_descr.specs.EncodingLaws.{truth_suc, low_bits-lt, low_bits-integer}
 use Rattle.elem_descr.specs.WrapLaws.{integer-fits, integer-differs, integer-low_bits}
 
@@ -43,3 +44,11 @@ wrap_stays (Bytes n) value never = absurd never
 -- what is written of the lowest bits is what is written of the wrapped value
 pub encode_wrap : (signed : Bool) (order : Order) (n : ℕ) (value : ℤ) → bytes_of order n (low_bits n (integer signed n (low_bits n value))) ≡ bytes_of order n (low_bits n value)
 encode_wrap signed order n value = ap (bytes_of order n) (low_bits-integer signed n (low_bits n value) (low_bits-lt n value))
+
+pub fits_eight_bytes : (signed : Bool) (width : Width) (z : ℤ) → FitsBytes signed (width_size width) z → FitsBytes signed 8 z
+fits_eight_bytes false Two z fits = (fits.0, omega (arith, ints, fits.1))
+fits_eight_bytes false Four z fits = (fits.0, omega (arith, ints, fits.1))
+fits_eight_bytes false Eight z fits = fits
+fits_eight_bytes true Two z fits = (omega (arith, ints, fits.0), omega (arith, ints, fits.1))
+fits_eight_bytes true Four z fits = (omega (arith, ints, fits.0), omega (arith, ints, fits.1))
+fits_eight_bytes true Eight z fits = fits

@@ -1,7 +1,7 @@
 -- Wrapped numbers: the lowest bits of a number, and the integer that they mean.
 use Rattle.std.proofs.Common.{◌≡◌, ◌≤◌, ◌<◌, ◌+◌, ◌-◌, ◌*◌, ◌/◌, ◌^◌, ℕ, zero, suc, Bool, true, false, List, ◌++◌, length, drop, refl, sym, ap, ◌∙◌, inl, inr, arith}
 use Rattle.std.specs.Prelude.{ℤ, pos, negsuc, neg_ℤ, ◌+ℤ◌, ◌-ℤ◌, ◌≤ℤ◌, ◌<ℤ◌, unsigned_abs, FitsSigned}
-use Rattle.std.specs.Int.{w128, cast_unsigned, int_rem_euclid}
+use Rattle.std.specs.Int.{w128, cast_unsigned, int_rem_euclid, w64, cast_signed, int_wrap}
 use Rattle.std.proofs.lemmas.Int.{ints, int_rem_euclid_is}
 use Rattle.std.proofs.lemmas.List.{append-nil, drop_all}
 use Rattle.std.proofs.lemmas.Nat.{pow_pos, pow-add}
@@ -81,3 +81,7 @@ integer-low_bits true n z some fits =
 pub written_whole : (n : ℕ) (z : ℤ) (f : ℕ → ℕ → List ℕ) (old new : List ℕ) → n ≤ 8 → FitsSigned w128 z → length old ≡ n → new ≡ f n (low_bytes w128 n z) ++ drop n old → new ≡ f n (low_bits n z)
 written_whole n z f old new few fits whole e =
     e ∙ ap (λ (rest : List ℕ). f n (low_bytes w128 n z) ++ rest) (drop_all n old (omega arith)) ∙ append-nil (f n (low_bytes w128 n z)) ∙ ap (f n) (low_bits-128 n z (omega arith) fits)
+
+pub int_wrap-low_bits : (z : ℤ) → int_wrap w64 z ≡ cast_signed w64 (low_bits 8 z)
+unfolding int_wrap
+int_wrap-low_bits z = refl

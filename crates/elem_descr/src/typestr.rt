@@ -126,7 +126,7 @@ fn letter(scalar: &Scalar) -> u8
 }
 
 /// Writes the type string of a scalar: its mark, the letter of its kind, and the bytes of an item.
-#[tactic(auto, using(crate::proofs::Spellings::reads_spelling))]
+#[tactic(auto, using(crate::specs::SpellingLaws::reads_spelling))]
 pub fn typestr_write(alloc: Global, scalar: Scalar) -> Result<Vec<u8>, AllocError>
     ensures spelled { IfOk result (λ text. text.items ≡ spelling scalar) }
     ensures reads_back { typestr (spelling scalar) ≡ Ok scalar }

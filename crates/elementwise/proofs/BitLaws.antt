@@ -10,12 +10,9 @@ use Rattle.std.proofs.Math.Nat.{mod-lt, mod-eq_of_lt, pos_of_ne-zero}
 use Rattle.std.proofs.Math.Bool.{beq}
 use Rattle.elem_descr.specs.Encoding.{integer, low_bits}
 use Rattle.elem_descr.specs.EncodingLaws.{low_bits-lt, low_bits-integer}
+use Rattle.elem_descr.specs.WrapLaws.{int_wrap-low_bits}
 use Rattle.elementwise.specs.Operations.{modulo, shifted_left}
 use Rattle.elementwise.specs.Bits.{is_negative, magnitude_of}
-
-wrap_is : (z : ℤ) → int_wrap w64 z ≡ cast_signed w64 (low_bits 8 z)
-unfolding int_wrap
-wrap_is z = refl
 
 -- the lowest bits of a product are those of the product of the lowest bits
 pub low_bits-mul : (u v : ℤ) → low_bits 8 (u *ℤ v) ≡ (low_bits 8 u * low_bits 8 v) % 2 ^ 64
@@ -23,10 +20,10 @@ low_bits-mul u v =
     let x = low_bits 8 u in
     let y = low_bits 8 v in
     let same : cast_signed w64 (low_bits 8 (u *ℤ v)) ≡ cast_signed w64 ((x * y) % 2 ^ 64) =
-    sym (wrap_is (u *ℤ v))
+    sym (int_wrap-low_bits (u *ℤ v))
     ∙ sym (int_wrap-mul_left w64 u v)
     ∙ sym (int_wrap-mul_right w64 (int_wrap w64 u) v)
-    ∙ (λ i. int_wrap w64 (wrap_is u i *ℤ wrap_is v i))
+    ∙ (λ i. int_wrap w64 (int_wrap-low_bits u i *ℤ int_wrap-low_bits v i))
     ∙ sym (wrapping_mul-bits w64 x y (low_bits-lt 8 u) (low_bits-lt 8 v)) in
     sym (of_z-to_z w64 (low_bits 8 (u *ℤ v)) (low_bits-lt 8 (u *ℤ v)))
     ∙ ap (cast_unsigned w64) same

@@ -3,15 +3,14 @@ use Rattle.std.proofs.Common.{◌≡◌, inl, inr, ℕ, zero, suc, true, false, 
 use Rattle.std.specs.Prelude.{ℤ, pos}
 use Rattle.std.proofs.lemmas.Int.{ints}
 use Rattle.elem_descr.specs.declared.scalar.Order.TheVariants.{Little}
-use Rattle.elem_descr.specs.declared.scalar.Width.{Width}
-use Rattle.elem_descr.specs.declared.scalar.Width.TheVariants.{Two, Four, Eight}
+use Rattle.elem_descr.specs.declared.scalar.Width.TheVariants.{Eight}
 use Rattle.elem_descr.specs.declared.scalar.Scalar.{Scalar}
 use Rattle.elem_descr.specs.declared.scalar.Scalar.TheVariants.{Bool as BoolScalar, Byte, Int, Bytes}
 use Rattle.elem_descr.specs.declared.descr.Descr.{Descr}
 use Rattle.elem_descr.specs.declared.descr.Descr.TheVariants.{Scalar as ScalarDescr}
 use Rattle.elem_descr.specs.Values.{LeafValue, number}
 use Rattle.elem_descr.specs.Encoding.{IsNumber, IsValueOf, FitsBytes, size, width_size, number_in, truth, number_of, decode}
-use Rattle.elem_descr.specs.NumberLaws.{wrap_stays, some_bytes}
+use Rattle.elem_descr.specs.NumberLaws.{wrap_stays, some_bytes, fits_eight_bytes}
 use Rattle.elem_descr.specs.WrapLaws.{integer-fits}
 use Rattle.elem_descr.specs.EncodingLaws.{truth_suc}
 use Rattle.elem_descr.specs.Blocks.{item_from}
@@ -75,14 +74,6 @@ holds-order from (Bytes n) holds z fits = holds z fits
 pub holds-read : (from read s : Scalar) → little read ≡ s → Holds from s → Holds from read
 holds-read from read s same holds = holds-order from read (subst (Holds from) (sym same) holds)
 
-widened : (signed : Bool) (width : Width) (z : ℤ) → FitsBytes signed (width_size width) z → FitsBytes signed 8 z
-widened false Two z fits = (fits.0, omega (arith, ints, fits.1))
-widened false Four z fits = (fits.0, omega (arith, ints, fits.1))
-widened false Eight z fits = fits
-widened true Two z fits = (omega (arith, ints, fits.0), omega (arith, ints, fits.1))
-widened true Four z fits = (omega (arith, ints, fits.0), omega (arith, ints, fits.1))
-widened true Eight z fits = fits
-
 widened-byte : (signed : Bool) (z : ℤ) → FitsBytes signed 1 z → FitsBytes signed 8 z
 widened-byte false z fits = (fits.0, omega (arith, ints, fits.1))
 widened-byte true z fits = (omega (arith, ints, fits.0), omega (arith, ints, fits.1))
@@ -91,7 +82,7 @@ pub holds-wide : (s : Scalar) → IsNumber s → Holds s (Int (is_signed s) Eigh
 holds-wide BoolScalar is z (inl e) = (omega (arith, ints, e), omega (arith, ints, e))
 holds-wide BoolScalar is z (inr e) = (omega (arith, ints, e), omega (arith, ints, e))
 holds-wide (Byte signed) is z fits = widened-byte signed z fits
-holds-wide (Int signed width order) is z fits = widened signed width z fits
+holds-wide (Int signed width order) is z fits = fits_eight_bytes signed width z fits
 holds-wide (Bytes n) never z fits = absurd never
 
 -- ---- items

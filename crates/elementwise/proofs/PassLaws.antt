@@ -7,12 +7,12 @@ use Rattle.elem_descr.specs.declared.leaf.Leaf.{Leaf}
 use Rattle.elem_descr.specs.Encoding.{size}
 use Rattle.shape_strides.specs.Runs.{run_offsets}
 use Rattle.overlap_copy.specs.RunLaws.{run_offsets-more, place-at}
-use Rattle.overlap_copy.specs.PackedLaws.{length-next, length-row, row-split}
+use Rattle.overlap_copy.specs.PackedLaws.{length-row, row-split}
 use Rattle.overlap_copy.specs.inside.Packed.{row_offsets}
 use Rattle.std.proofs.lemmas.Int.{ints}
 use Rattle.raw_block.specs.Bytes.{position, place, put, item_at, EachWithin}
 use Rattle.shape_strides.specs.declared.runs.Run.{Run}
-use Rattle.shape_strides.specs.WalkLaws.{length-run_offsets}
+use Rattle.shape_strides.specs.WalkLaws.{length-run_offsets, length-first}
 use Rattle.shape_strides.specs.RunPairs.{all_offsets}
 use Rattle.elementwise.specs.inside.Passes.{made, put_all, leaf_cast, leaf_from}
 
@@ -107,6 +107,6 @@ written-next make left left' run at by item bytes bytes' whole walked wrote so_f
     let even : length (row_offsets (at + by) item run.count) ≡ length (map make (run_offsets run)) = length-row (at + by) item run.count ∙ sym (length-map (run_offsets run) make ∙ length-run_offsets run) in
     (λ i. put_all (row_offsets (further i) item n) (map make (all_offsets left')) (wrote i))
     ∙ sym (put_all-append (row_offsets (at + by) item run.count) (row_offsets (at + by + run.count * item) item n) (map make (run_offsets run)) (map make (all_offsets left')) bytes even)
-    ∙ (λ i. put_all (sym (ap (row_offsets (at + by) item) (length-next run left') ∙ row-split (at + by) item run.count n) i) (sym (map-append make (run_offsets run) (all_offsets left')) i) bytes)
+    ∙ (λ i. put_all (sym (ap (row_offsets (at + by) item) (length-first run left') ∙ row-split (at + by) item run.count n) i) (sym (map-append make (run_offsets run) (all_offsets left')) i) bytes)
     ∙ (λ i. put_all (row_offsets (at + by) item (length (all_offsets (sym walked i)))) (map make (all_offsets (sym walked i))) bytes)
     ∙ so_far

@@ -1,7 +1,6 @@
 -- What is promoted, and what results there are.
-use Rattle.std.proofs.Common.{◌≡◌, ◌*◌, ℕ, max, nat_le, Bool, true, false, cond, Result, Ok, Err, List, [], ◌∷◌, refl, sym, ap, subst, ◌∙◌}
+use Rattle.std.proofs.Common.{◌≡◌, ◌*◌, ℕ, max, nat_le, Bool, true, false, cond, Result, Ok, Err, List, [], ◌∷◌, refl, sym, subst, ◌∙◌}
 use Rattle.std.specs.Prelude.{not, ◌&&◌, ◌||◌, ◌==◌}
-use Rattle.std.specs.Result.{is_ok}
 use Rattle.std.proofs.lemmas.Bool.{false≢true, and_parts, not-true}
 use Rattle.elem_descr.specs.declared.refusal.Refusal.{Refusal}
 use Rattle.elem_descr.specs.declared.refusal.Refusal.TheVariants.{NotForThisKind, NeedsFloats}
@@ -10,7 +9,7 @@ use Rattle.elem_descr.specs.declared.scalar.Width.TheVariants.{Two, Four, Eight}
 use Rattle.elem_descr.specs.declared.scalar.Scalar.{Scalar}
 use Rattle.elem_descr.specs.declared.scalar.Scalar.TheVariants.{Bool as BoolScalar, Byte, Int, Bytes}
 use Rattle.elem_descr.specs.declared.descr.Descr.{Descr}
-use Rattle.elem_descr.specs.declared.descr.Descr.TheVariants.{Scalar as ScalarDescr, Record as RecordDescr}
+use Rattle.elem_descr.specs.declared.descr.Descr.TheVariants.{Scalar as ScalarDescr}
 use Rattle.elem_descr.specs.Refusals.{◌>>=◌, check}
 use Rattle.elem_descr.specs.RefusalLaws.{same_answer, check_passed, check_test}
 use Rattle.elem_descr.specs.Encoding.{IsNumber, size}
@@ -121,11 +120,6 @@ number-read (Bytes n) s same native = subst IsNative (sym same) native
 
 pub can-number : (d : Descr) (from to : Scalar) → d ≡ ScalarDescr from → is_text from ≡ false → IsNumber to → can_cast d (ScalarDescr to) ≡ true
 can-number d from to is kind number = (λ i. can_cast (is i) (ScalarDescr to)) ∙ can_number from to kind number
-
--- the scalar of an operand
-pub is_scalar : (d : Descr) (s : Scalar) → scalar_of d ≡ Ok s → d ≡ ScalarDescr s
-is_scalar (ScalarDescr a) s found = ap ScalarDescr (same_answer a s found)
-is_scalar (RecordDescr r) s found = absurd (false≢true (ap is_ok found))
 
 -- ---- results
 

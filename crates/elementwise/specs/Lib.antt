@@ -5,3 +5,4 @@ pub mod Comparisons
 pub mod Results
 pub mod Bits
 pub mod inside
+pub mod ResultLaws

@@ -11,6 +11,7 @@ use Rattle.std.proofs.lemmas.Simd.{map-map}
 use lib.IntN.{pos, ◌+ℤ◌, ◌*ℤ◌}
 use Rattle.elem_descr.specs.declared.descr.Descr.{Descr}
 use Rattle.raw_block.specs.Bytes.{item_at}
+use Rattle.raw_block.specs.BytesLaws.{length-chunks, item_of_chunks}
 use Rattle.shape_strides.specs.Addresses.{natural}
 use Rattle.view_ops.specs.Slices.{is_place}
 use Rattle.fancy_index.specs.Sources.{number_from}
@@ -36,17 +37,6 @@ packed-end at width n len offsets some is within =
     let last : n ≡ suc (n - 1) = omega (arith, some) in
     let end : width * n ≡ width * (n - 1) + width = ap (λ m. width * m) last ∙ mul-suc width (n - 1) ∙ omega arith in
     omega (arith, end, within (n - 1) 0 (omega (arith, some, ap length is, length-packed at width n)), ap (λ l. get_or l (n - 1) 0) is, packed-entry at width n (n - 1) 0 (omega (arith, some)))
-
-item_of_chunks : (width n k : ℕ) (bytes : List ℕ) → k < n → get_or (first_chunks width n bytes) k [] ≡ item_at (width * k) width bytes
-item_of_chunks width zero k bytes low = absurd (omega arith)
-item_of_chunks width (suc n) zero bytes low = let none : 0 ≡ width * 0 = omega arith in ap (λ m. take width (drop m bytes)) none
-item_of_chunks width (suc n) (suc k) bytes low =
-    let next : width + width * k ≡ width * suc k = omega (arith, mul-suc width k) in
-    item_of_chunks width n k (drop width bytes) (omega arith) ∙ ap (take width) (drop-drop (width * k) width bytes ∙ ap (λ m. drop m bytes) next)
-
-length-chunks : (width n : ℕ) (bytes : List ℕ) → length (first_chunks width n bytes) ≡ n
-length-chunks width zero bytes = refl
-length-chunks width (suc n) bytes = ap suc (length-chunks width n (drop width bytes))
 
 chunk_at : (width at n k : ℕ) (bytes : List ℕ) → k < n → get_or (first_chunks width n (take (at + width * n - at) (drop at bytes))) k [] ≡ item_at (at + width * k) width bytes
 chunk_at width at n k bytes low =

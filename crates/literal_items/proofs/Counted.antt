@@ -10,18 +10,17 @@ use Rattle.std.proofs.lemmas.List.Sums.{AllPass-from_list_all}
 use Rattle.std.proofs.Math.Nat.{mod-lt}
 use Rattle.elem_descr.specs.declared.scalar.Scalar.{Scalar}
 use Rattle.elem_descr.specs.declared.scalar.Scalar.TheVariants.{Bool as BoolScalar, Byte, Int as IntScalar, Bytes as BytesScalar}
-use Rattle.elem_descr.specs.declared.scalar.Width.{Width}
-use Rattle.elem_descr.specs.declared.scalar.Width.TheVariants.{Two, Four, Eight}
 use Rattle.elem_descr.specs.declared.descr.Descr.TheVariants.{Scalar as ScalarDescr}
 use Rattle.elem_descr.specs.Values.{LeafValue, number}
 use Rattle.elem_descr.specs.Encoding.{IsNumber, IsValueOf, FitsBytes, size, width_size, integer, low_bits, wrap, decode, encode}
 use Rattle.elem_descr.specs.EncodingLaws.{low_bits-lt, decode_encode}
-use Rattle.elem_descr.specs.WrapLaws.{integer-low_bits}
+use Rattle.elem_descr.specs.WrapLaws.{integer-low_bits, int_wrap-low_bits}
 use Rattle.elem_descr.specs.Items.{decode_item}
 use Rattle.elem_descr.specs.Blocks.{blocks, items_in}
 use Rattle.elem_descr.specs.Steps.{numbers_from}
 use Rattle.elem_descr.specs.StepLaws.{next_number, length-numbers_from}
 use Rattle.elem_descr.specs.ByteLaws.{length-bytes_of}
+use Rattle.elem_descr.specs.NumberLaws.{fits_eight_bytes}
 use Rattle.raw_block.specs.Bytes.{joined}
 use Rattle.raw_block.specs.JoinedLaws.{length-joined}
 use Rattle.machine_numbers.specs.Bits.{AreBits}
@@ -33,19 +32,15 @@ use Rattle.literal_items.proofs.Scalars.{scalar_read, value_is}
 
 -- ---- the lowest bits of the next number
 
-wrap_is : (z : ℤ) → int_wrap w64 z ≡ cast_signed w64 (low_bits 8 z)
-unfolding int_wrap
-wrap_is z = refl
-
 low_bits-add : (u v : ℤ) → low_bits 8 (u +ℤ v) ≡ (low_bits 8 u + low_bits 8 v) % 2 ^ 64
 low_bits-add u v =
     let x = low_bits 8 u in
     let y = low_bits 8 v in
     let same : cast_signed w64 (low_bits 8 (u +ℤ v)) ≡ cast_signed w64 ((x + y) % 2 ^ 64) =
-    sym (wrap_is (u +ℤ v))
+    sym (int_wrap-low_bits (u +ℤ v))
     ∙ sym (int_wrap-add_left w64 u v)
     ∙ sym (int_wrap-add_right w64 (int_wrap w64 u) v)
-    ∙ (λ i. int_wrap w64 (wrap_is u i +ℤ wrap_is v i))
+    ∙ (λ i. int_wrap w64 (int_wrap-low_bits u i +ℤ int_wrap-low_bits v i))
     ∙ sym (wrapping_add-bits w64 x y (low_bits-lt 8 u) (low_bits-lt 8 v)) in
     sym (of_z-to_z w64 (low_bits 8 (u +ℤ v)) (low_bits-lt 8 (u +ℤ v)))
     ∙ ap (cast_unsigned w64) same
@@ -58,20 +53,12 @@ next_bits start step k bits is =
 
 -- ---- the bits of a value say which it is
 
-wide : (signed : Bool) (width : Width) (z : ℤ) → FitsBytes signed (width_size width) z → FitsBytes signed 8 z
-wide false Two z fits = (fits.0, omega (arith, ints, fits.1))
-wide false Four z fits = (fits.0, omega (arith, ints, fits.1))
-wide false Eight z fits = fits
-wide true Two z fits = (omega (arith, ints, fits.0), omega (arith, ints, fits.1))
-wide true Four z fits = (omega (arith, ints, fits.0), omega (arith, ints, fits.1))
-wide true Eight z fits = fits
-
 fits_eight : (scalar : Scalar) (z : ℤ) → IsValueOf scalar z → (signed : Bool) × FitsBytes signed 8 z
 fits_eight BoolScalar z (inl none) = (false, (omega (arith, ints, none), omega (arith, ints, none)))
 fits_eight BoolScalar z (inr one) = (false, (omega (arith, ints, one), omega (arith, ints, one)))
 fits_eight (Byte false) z fits = (false, (fits.0, omega (arith, ints, fits.1)))
 fits_eight (Byte true) z fits = (true, (omega (arith, ints, fits.0), omega (arith, ints, fits.1)))
-fits_eight (IntScalar signed width order) z fits = (signed, wide signed width z fits)
+fits_eight (IntScalar signed width order) z fits = (signed, fits_eight_bytes signed width z fits)
 fits_eight (BytesScalar n) z never = absurd never
 
 no_bits : (signed : Bool) → integer signed 8 0 ≡ pos 0

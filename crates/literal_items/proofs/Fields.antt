@@ -1,7 +1,6 @@
 -- Fields and their literals, one by one.
-use Rattle.std.proofs.Common.{◌≡◌, ◌+◌, ◌-◌, ◌<◌, ◌≤◌, ℕ, zero, suc, Bool, true, false, List, [], ◌∷◌, ◌++◌, length, get_or, take, drop, map, min, replicate, refl, sym, ap, ◌∙◌, arith}
+use Rattle.std.proofs.Common.{◌≡◌, ◌+◌, ◌-◌, ◌<◌, ◌≤◌, ℕ, Bool, true, false, List, [], ◌∷◌, ◌++◌, length, get_or, take, drop, map, min, replicate, refl, sym, ap, ◌∙◌, arith}
 use Rattle.std.specs.Prelude.{◌&&◌}
-use Rattle.std.specs.Int.{bytes_low_first, bytes_high_first}
 use Rattle.std.proofs.lemmas.List.{drop_all}
 use Rattle.std.proofs.lemmas.Bool.{and_parts}
 use Rattle.elem_descr.specs.declared.leaf.Leaf.{Leaf}
@@ -29,6 +28,7 @@ use Rattle.literal_items.specs.LiteralItems.{literal_number, literal_bytes, leaf
 use Rattle.literal_items.specs.inside.FieldItems.{stands_for, can_be_field, field_value, put_leaves}
 use Rattle.literal_items.proofs.Nuls.{bytes_encoded, bytes_read_back}
 use Rattle.literal_items.proofs.Leaves.{ReadsBack, AreSound, AreSound-append, put_leaves-append, put_encoded, put_read}
+use Rattle.byteorder.specs.Numbers.{length-bytes_low_first}
 
 -- ---- a test of each field
 
@@ -104,14 +104,6 @@ stand_for-length test (field ∷ fields) (literal ∷ literals) passed =
     omega (arith, more)
 
 -- ---- the values of leaves
-
-length-bytes_low_first : (i n bits : ℕ) → length (bytes_low_first i n bits) ≡ n
-length-bytes_low_first i zero bits = refl
-length-bytes_low_first i (suc n) bits = omega (arith, length-bytes_low_first (suc i) n bits)
-
-length-bytes_high_first : (n bits : ℕ) → length (bytes_high_first n bits) ≡ n
-length-bytes_high_first zero bits = refl
-length-bytes_high_first (suc n) bits = omega (arith, length-bytes_high_first n bits)
 
 leaf_sound : (scalar : Scalar) (literal : ScalarLiteral) → ReadsBack scalar (leaf_value scalar literal)
 leaf_sound BoolScalar literal = record { whole = refl; same = decode_encode BoolScalar (literal_number literal) tt }

@@ -1,11 +1,12 @@
 -- Laws of arrays that are looked up, and of their places.
-use Rattle.std.proofs.Common.{◌≡◌, ◌+◌, ◌*◌, ◌/◌, ◌<◌, ℕ, zero, suc, List, [], ◌∷◌, length, slice_index, Option, Some, None, Bor, refl, ap, ◌∙◌, arith}
+use Rattle.std.proofs.Common.{◌≡◌, ◌+◌, ◌*◌, ◌/◌, ◌<◌, ℕ, zero, suc, List, [], ◌∷◌, length, slice_index, Option, Some, None, Bor, refl, ap, ◌∙◌, arith, map, All}
 use Rattle.std.proofs.lemmas.Nat.{div-mul-add}
 use Rattle.std.proofs.Math.Nat.{mul_comm}
 use Rattle.elem_descr.specs.declared.descr.Descr.{Descr}
 use Rattle.elem_descr.specs.Items.{item_size}
 use Rattle.shape_strides.specs.declared.layout.Layout.{Layout}
 use Rattle.shape_strides.specs.Layouts.{offsets, offsets_of}
+use Rattle.shape_strides.specs.Indexes.{rank}
 use Rattle.overlap_copy.specs.Blocks.{places_of}
 use Rattle.name_store.specs.States.{State, Array}
 use Rattle.name_store.specs.Arrays.{find_array, buffer_of, addresses, read}
@@ -38,3 +39,10 @@ pub named-items : (s : State) (name : Bor (List ℕ)) (layout : Layout) (descr :
 named-items s name layout descr n array places found offsets-are starts =
     ap (λ a. items_of s a layout) found
     ∙ ap (λ ps. read s (record array { places = ps })) (ap (places_of (item_size (buffer_of s array).descr)) offsets-are ∙ places-offsets (item_size (buffer_of s array).descr) (start_at (buffer_of s array).descr array.path) places starts)
+
+pub offsets-at : (item start : ℕ) (places shape : List ℕ) (leads : List ℕ → List ℕ) (is : List (List ℕ)) → All (λ i. rank shape (leads i) < length places) is →
+    map (λ i. slice_index (offsets_of item start places) (rank shape (leads i))) is ≡ offsets_of item start (map (λ i. slice_index places (rank shape (leads i))) is)
+offsets-at item start places shape leads [] inside = refl
+offsets-at item start places shape leads (i ∷ is) inside = λ j.
+    offset-at item start places (rank shape (leads i)) (inside zero i (omega arith)) j
+    ∷ offsets-at item start places shape leads is (λ k d below. inside (suc k) d (omega (arith, below))) j

@@ -1,5 +1,5 @@
 -- The tokens of a text that is written.
-use Rattle.std.proofs.Common.{◌≡◌, ℕ, zero, suc, ◌+◌, ◌-◌, ◌*◌, ◌^◌, ◌<◌, ◌≤◌, Bool, true, false, List, [], ◌∷◌, ◌++◌, length, get_or, take, drop, replicate, fold, refl, sym, ap, subst, ◌∙◌, arith, rules, codes, decimal, length-append}
+use Rattle.std.proofs.Common.{◌≡◌, ℕ, zero, suc, ◌+◌, ◌-◌, ◌^◌, ◌<◌, ◌≤◌, Bool, true, false, List, [], ◌∷◌, ◌++◌, length, get_or, take, drop, replicate, refl, sym, ap, subst, ◌∙◌, arith, codes, decimal, length-append}
 use Rattle.std.specs.Prelude.{nat_eq, if◌then◌else◌}
 use Rattle.std.specs.Char.{is_ascii_digit, is_ascii_alphabetic}
 use Rattle.std.specs.List.{list_all, prefix_len}
@@ -7,9 +7,9 @@ use Rattle.std.proofs.Math.Seq.{take-append_seam, drop-append_seam}
 use Rattle.std.proofs.lemmas.Bool.{ne_eqb, and_parts}
 use Rattle.std.proofs.lemmas.Bool.Decides.{nat_tests}
 use Rattle.std.proofs.lemmas.Fmt.{first_decimal, decimal_nonempty, digits_decimal, digits_value-decimal, decimal_digit}
-use Rattle.std.proofs.lemmas.Str.Parse.{IsNumeralModel, numerals_by_fold}
 use Rattle.std.proofs.Math.Nat.{min-eq_left}
 use Rattle.elem_descr.specs.TypeStrings.{value_of}
+use Rattle.elem_descr.specs.DecimalLaws.{numerals}
 use Rattle.shape_strides.specs.Limits.{max_items}
 use Rattle.npy_format.specs.Tokens.{Token, Text, Integer, Symbol, Stray, is_space, is_quote, is_plain_byte, text_token, ended_text, capped, is_integer, behind_long, integer_token, word_token, token_from, unspaced_text, first_token, tokens_in}
 
@@ -62,12 +62,6 @@ scan_quoted text rest toks plain more =
     scan_token 39 all (Text text) rest toks refl is (omega (arith, length-append text (39 ∷ rest))) more
 
 -- ---- numbers
-
-abbrev read_on : ℕ → List ℕ → ℕ
-read_on n digits = fold (λ n d. n * 10 + (d - 48)) n digits
-
-numerals : IsNumeralModel (λ digits. list_all is_ascii_digit digits ≡ true) value_of
-numerals = numerals_by_fold _ (search rules) read_on (search rules)
 
 pub are_digits : (n : ℕ) → n < 2 ^ 64 → list_all is_ascii_digit (decimal n) ≡ true
 are_digits n small = digits_decimal numerals n small

@@ -11,12 +11,12 @@ use Rattle.raw_block.specs.BytesLaws.{length-item_at, fewer}
 use Rattle.shape_strides.specs.declared.runs.Run.{Run}
 use Rattle.shape_strides.specs.Layouts.{IsNested, multiples}
 use Rattle.shape_strides.specs.Runs.{run_offsets}
-use Rattle.shape_strides.specs.WalkLaws.{length-run_offsets}
+use Rattle.shape_strides.specs.WalkLaws.{length-run_offsets, length-first}
 use Rattle.shape_strides.specs.RunPairs.{all_offsets}
 use Rattle.overlap_copy.specs.RunLaws.{run_offsets-more, place-at, assigned-append}
 use Rattle.overlap_copy.specs.Assignments.{assigned}
 use Rattle.overlap_copy.specs.inside.Packed.{row, row_offsets, joined_at}
-use Rattle.overlap_copy.specs.PackedLaws.{length-next, length-row, row-split}
+use Rattle.overlap_copy.specs.PackedLaws.{length-row, row-split}
 
 pub row-within : (len at width n : ℕ) → at + n * width ≤ len → EachWithin len at (pos width) width n
 row-within len at width n ends = record {
@@ -37,7 +37,7 @@ row-nested len at width n ends = record {
 -- the items of a run, and of those after it
 pub parts : (left left' : List Run) (run : Run) (width : ℕ) → left ≡ run ∷ left' → length (all_offsets left) * width ≡ run.count * width + length (all_offsets left') * width
 parts left left' run width walked =
-    ap (λ l. length (all_offsets l) * width) walked ∙ ap (λ n. n * width) (length-next run left') ∙ add-mul run.count (length (all_offsets left')) width
+    ap (λ l. length (all_offsets l) * width) walked ∙ ap (λ n. n * width) (length-first run left') ∙ add-mul run.count (length (all_offsets left')) width
 
 -- its items, joined by their numbers and by their offsets
 pub joined-offsets : (len width : ℕ) (run : Run) (block : List ℕ) → EachWithin len run.offset run.step width run.count
@@ -96,6 +96,6 @@ scattered-next left left' run from at width other block block' whole walked is m
     let next = row_offsets (at + run.count * width) width (length (all_offsets left')) in
     ap (assigned (all_offsets left') next width other) (moved ∙ ap (λ r. assigned (run_offsets run) (run_offsets r) width other block) is)
     ∙ sym (assigned-append (run_offsets run) (row_offsets at width run.count) (all_offsets left') next width other block (length-run_offsets run ∙ sym (length-row at width run.count)))
-    ∙ ap (λ l. assigned (all_offsets (run ∷ left')) l width other block) (sym (ap (row_offsets at width) (length-next run left') ∙ row-split at width run.count (length (all_offsets left'))))
+    ∙ ap (λ l. assigned (all_offsets (run ∷ left')) l width other block) (sym (ap (row_offsets at width) (length-first run left') ∙ row-split at width run.count (length (all_offsets left'))))
     ∙ (λ i. assigned (all_offsets (sym walked i)) (row_offsets at width (length (all_offsets (sym walked i)))) width other block)
     ∙ so_far

@@ -1,11 +1,10 @@
 -- Laws of items that lie one after another.
-use Rattle.std.proofs.Common.{◌≡◌, ◌+◌, List, ◌∷◌, length, arith, length-append, ℕ, ◌*◌, ◌≤◌, ap, ◌∙◌, add-mul, pos, ◌+ℤ◌, ◌*ℤ◌, ◌++◌, map, mul_comm}
+use Rattle.std.proofs.Common.{◌≡◌, ◌+◌, List, ◌∷◌, length, arith, ℕ, ◌*◌, ◌≤◌, ap, ◌∙◌, add-mul, pos, ◌+ℤ◌, ◌*ℤ◌, ◌++◌, map, mul_comm}
 use Rattle.std.proofs.lemmas.List.{map-append}
 use Rattle.std.specs.List.{range_with_len}
 use Rattle.std.proofs.lemmas.Simd.{map-map}
 use Rattle.shape_strides.specs.declared.runs.Run.{Run}
-use Rattle.shape_strides.specs.Runs.{run_offsets}
-use Rattle.shape_strides.specs.WalkLaws.{length-run_offsets}
+use Rattle.shape_strides.specs.WalkLaws.{length-run_offsets, length-first}
 use Rattle.shape_strides.specs.RunPairs.{all_offsets}
 use Rattle.shape_strides.specs.Addresses.{natural}
 use Rattle.shape_strides.specs.Layouts.{multiples}
@@ -13,16 +12,13 @@ use Rattle.overlap_copy.specs.inside.Packed.{row, row_offsets}
 use Rattle.elem_descr.specs.Steps.{numbers_from}
 use Rattle.elem_descr.specs.StepLaws.{numbers-split}
 
-pub length-next : (run : Run) (left : List Run) → length (all_offsets (run ∷ left)) ≡ run.count + length (all_offsets left)
-length-next run left = omega (arith, length-append (run_offsets run) (all_offsets left), length-run_offsets run)
-
 pub length-row : (at width n : ℕ) → length (row_offsets at width n) ≡ n
 length-row at width n = length-run_offsets (row at width n)
 
 -- there is room for the next run, and for those after it
 pub room-next : (left left' : List Run) (run : Run) (at width len : ℕ) → left ≡ run ∷ left' → at + length (all_offsets left) * width ≤ len → (at + run.count * width ≤ len) × (at + run.count * width + length (all_offsets left') * width ≤ len)
 room-next left left' run at width len walked room =
-    let sum : length (all_offsets left) * width ≡ run.count * width + length (all_offsets left') * width = ap (λ n. n * width) (ap (λ l. length (all_offsets l)) walked ∙ length-next run left') ∙ add-mul run.count (length (all_offsets left')) width in
+    let sum : length (all_offsets left) * width ≡ run.count * width + length (all_offsets left') * width = ap (λ n. n * width) (ap (λ l. length (all_offsets l)) walked ∙ length-first run left') ∙ add-mul run.count (length (all_offsets left')) width in
     (omega (arith, room, sum), omega (arith, room, sum))
 
 -- so many items, and so many after them

@@ -7,7 +7,7 @@ use Rattle.std.specs.List.{refill}
 use Rattle.std.specs.Simd.{first_chunks}
 use lib.IntN.{ℤ, pos}
 use Rattle.raw_block.specs.Bytes.{place, EachWithin, put, item_at, copied, filled}
-use Rattle.raw_block.specs.BytesLaws.{place_within, length-item_at, length-put}
+use Rattle.raw_block.specs.BytesLaws.{place_within, length-item_at, length-put, item_of_chunks}
 
 -- all of the items lie within
 pub run_within : (len at : ℕ) (step : ℤ) (width n : ℕ) → 0 < n → step ≡ pos width → EachWithin len at step width n → at + n * width ≤ len
@@ -64,14 +64,6 @@ eight_bytes item low high =
     front item 0 (omega arith) (front item 1 (omega arith) (front item 2 (omega arith) (front item 3 (omega arith) (front item 4 (omega arith) (front item 5 (omega arith)
     (front item 6 (omega arith) (front item 7 (omega arith) (sym (drop_all 8 item (omega arith))))))))))
 
--- the k-th of several items that lie one right after another
-item_of_chunks : (width n k : ℕ) (bytes : List ℕ) → k < n → get_or (first_chunks width n bytes) k [] ≡ item_at (width * k) width bytes
-item_of_chunks width zero k bytes lt = absurd (omega arith)
-item_of_chunks width (suc n) zero bytes lt = let none : 0 ≡ width * 0 = omega arith in ap (λ m. take width (drop m bytes)) none
-item_of_chunks width (suc n) (suc k) bytes lt =
-    let next : width + width * k ≡ width * suc k = omega (arith, mul-suc width k) in
-    item_of_chunks width n k (drop width bytes) (omega arith) ∙ ap (take width) (drop-drop (width * k) width bytes ∙ ap (λ m. drop m bytes) next)
-
 pub item_of_run : (width at n m k : ℕ) (bytes : List ℕ) (run : List (List ℕ)) → run ≡ first_chunks width m (take (at + width * n - at) (drop at bytes)) → n ≤ m → k < n → get_or run k [] ≡ item_at (at + width * k) width bytes
 item_of_run width at n m k bytes run is enough lt =
     let here = width * k in let left = width * n - here in let within : width * suc k ≤ width * n = mul-le-mul_left width lt in
@@ -80,10 +72,6 @@ item_of_run width at n m k bytes run is enough lt =
     ap (λ l. get_or l k []) is ∙ item_of_chunks width m k (take (at + width * n - at) (drop at bytes)) (omega (arith, enough, lt))
     ∙ ap (λ j. take width (drop here (take j (drop at bytes)))) all ∙ ap (take width) (drop-take here left (drop at bytes))
     ∙ take-take width left (drop here (drop at bytes)) (omega (arith, within, next)) ∙ ap (take width) (drop-drop here at bytes)
-
-pub length-chunks : (width n : ℕ) (bytes : List ℕ) → length (first_chunks width n bytes) ≡ n
-length-chunks width zero bytes = refl
-length-chunks width (suc n) bytes = ap suc (length-chunks width n (drop width bytes))
 
 -- one item over and over
 same_place : (at k : ℕ) → place at (pos 0) k ≡ at

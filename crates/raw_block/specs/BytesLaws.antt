@@ -1,11 +1,12 @@
 -- What a write into bytes changes and leaves, and where items at equal steps lie.
-use Rattle.std.proofs.Common.{◌≡◌, ℕ, suc, ◌+◌, ◌-◌, refl, sym, ap, ◌∙◌, arith, ◌<◌, ◌≤◌, List, length, get_or, ◌++◌, take, drop, append_assoc, length-append, length-take, length-drop, ◌⊎◌, inl, inr, ◌*◌}
-use Rattle.std.proofs.lemmas.List.{get_or-append_right, get_or_append_left, get_or-take, get_or-drop, ext_get_or}
+use Rattle.std.proofs.Common.{◌≡◌, ℕ, suc, ◌+◌, ◌-◌, refl, sym, ap, ◌∙◌, arith, ◌<◌, ◌≤◌, List, length, get_or, ◌++◌, take, drop, append_assoc, length-append, length-take, length-drop, ◌⊎◌, inl, inr, ◌*◌, zero, []}
+use Rattle.std.proofs.lemmas.List.{get_or-append_right, get_or_append_left, get_or-take, get_or-drop, ext_get_or, drop-drop}
 use Rattle.std.proofs.Math.Seq.{take-append_seam, drop-append_seam}
 use Rattle.std.proofs.lemmas.Int.{ints}
 use Rattle.std.specs.Prelude.{ℤ, ◌*ℤ◌}
 use Rattle.std.proofs.Math.IntN.{zero-*ℤ}
-use Rattle.std.proofs.Math.Nat.{zero-mul}
+use Rattle.std.proofs.Math.Nat.{zero-mul, add-mul, mul-suc}
+use Rattle.std.specs.Simd.{first_chunks}
 use lib.IntN.{ℤ, pos, negsuc, nat_abs}
 use lib.Signed.{◌≤ℤ◌}
 use Rattle.raw_block.specs.Bytes.{position, place, EachWithin, put, item_at}
@@ -79,3 +80,21 @@ first_position at (negsuc s) = let none : 0 * suc s ≡ 0 = zero-mul (suc s) in 
 
 pub byte_of : (at width i : ℕ) (bytes : List ℕ) → i < width → get_or (item_at at width bytes) i 0 ≡ get_or bytes (at + i) 0
 byte_of at width i bytes lt = get_or-take width (drop at bytes) i 0 lt ∙ get_or-drop at bytes i 0
+
+-- a step on from an item that is some steps on
+pub position-add : (at : ℕ) (step : ℤ) (m k : ℕ) → pos 0 ≤ℤ position at step m → position (place at step m) step k ≡ position at step (m + k)
+position-add at (pos s) m k low = let parts : (m + k) * s ≡ m * s + k * s = add-mul m k s in let same : at + m * s + k * s ≡ at + (m + k) * s = omega arith in ap pos same
+position-add at (negsuc s) m k low =
+    let parts : (m + k) * suc s ≡ m * suc s + k * suc s = add-mul m k (suc s) in let is : pos (place at (negsuc s) m) ≡ position at (negsuc s) m = not_negative (position at (negsuc s) m) low in omega (arith, ints)
+
+pub length-chunks : (width n : ℕ) (bytes : List ℕ) → length (first_chunks width n bytes) ≡ n
+length-chunks width zero bytes = refl
+length-chunks width (suc n) bytes = ap suc (length-chunks width n (drop width bytes))
+
+-- the k-th of several items that lie one right after another
+pub item_of_chunks : (width n k : ℕ) (bytes : List ℕ) → k < n → get_or (first_chunks width n bytes) k [] ≡ item_at (width * k) width bytes
+item_of_chunks width zero k bytes lt = absurd (omega arith)
+item_of_chunks width (suc n) zero bytes lt = let none : 0 ≡ width * 0 = omega arith in ap (λ m. take width (drop m bytes)) none
+item_of_chunks width (suc n) (suc k) bytes lt =
+    let next : width + width * k ≡ width * suc k = omega (arith, mul-suc width k) in
+    item_of_chunks width n k (drop width bytes) (omega arith) ∙ ap (take width) (drop-drop (width * k) width bytes ∙ ap (λ m. drop m bytes) next)

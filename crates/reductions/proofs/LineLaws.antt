@@ -4,13 +4,13 @@ use Rattle.std.specs.Prelude.{ℤ, pos, ◌+ℤ◌, ◌*ℤ◌, ◌≤ℤ◌}
 use Rattle.std.proofs.lemmas.Int.{ints}
 use Rattle.std.proofs.lemmas.List.{map-append, length-map, drop-drop, ext_get_or, get_or_append_left}
 use Rattle.std.proofs.lemmas.Bool.{cases_lt}
-use Rattle.std.proofs.Math.IntN.{zero-*ℤ, suc_ℤ-*ℤ, *ℤ_comm, +ℤ_assoc, +ℤ_idr}
+use Rattle.std.proofs.Math.IntN.{zero-*ℤ, suc_ℤ-*ℤ, *ℤ_comm, +ℤ_idr}
 use Rattle.elem_descr.specs.declared.scalar.Scalar.{Scalar}
 use Rattle.elem_descr.specs.Steps.{numbers_from}
 use Rattle.elem_descr.specs.StepLaws.{numbers-suc, numbers-split}
 use Rattle.shape_strides.specs.Addresses.{natural}
 use Rattle.raw_block.specs.Bytes.{position, place, item_at, EachWithin}
-use Rattle.raw_block.specs.BytesLaws.{not_negative, item_at-put_apart, length-item_at, byte_of}
+use Rattle.raw_block.specs.BytesLaws.{not_negative, item_at-put_apart, length-item_at, byte_of, position-add}
 use Rattle.shape_strides.specs.declared.runs.Run.{Run}
 use Rattle.shape_strides.specs.Runs.{run_offsets}
 use Rattle.shape_strides.specs.WalkLaws.{length-run_offsets}
@@ -69,15 +69,10 @@ steps-add s m (suc k) =
     let rest = steps-add s m k in
     omega (arith, ints, whole, last, rest)
 
--- where they lie
-part_position : (o : ℕ) (s : ℤ) (m k : ℕ) → pos 0 ≤ℤ position o s m → position (place o s m) s k ≡ position o s (m + k)
-part_position o s m k low =
-    ap (λ z. z +ℤ pos k *ℤ s) (not_negative (position o s m) low) ∙ +ℤ_assoc (pos o) (pos m *ℤ s) (pos k *ℤ s) ∙ ap (λ z. pos o +ℤ z) (steps-add s m k)
-
 pub part_within : (len width : ℕ) (run : Run) (m n : ℕ) → m < run.count → m + n ≤ run.count → EachWithin len run.offset run.step width run.count → EachWithin len (place run.offset run.step m) run.step width n
 part_within len width run m n low few within = record {
   each = λ k under.
-      let is = part_position run.offset run.step m k (within.each m low).0 in
+      let is = position-add run.offset run.step m k (within.each m low).0 in
       let there = within.each (m + k) (omega (arith, under, few)) in
       (subst (λ z. pos 0 ≤ℤ z) (sym is) there.0, subst (λ z. (z +ℤ pos width) ≤ℤ pos len) (sym is) there.1);
 }

@@ -25,7 +25,7 @@ use Rattle.elem_descr.specs.StepLaws.{numbers-split, numbers-suc}
 use Rattle.shape_strides.proofs.JoinedLaws.{flat_map-id, addresses}
 use Rattle.shape_strides.proofs.RunLaws.{NoneBelow, Each-front, Each-back, numbers-natural, empty, IsJoined, HasItems, IsJoined-joined, HasItems-axes, runs-some, runs-none, runs-offsets, runs-alone}
 use Rattle.shape_strides.proofs.FrontLaws.{in_bytes, lengths-low, count-whole}
-use Rattle.shape_strides.specs.WalkLaws.{length-run_offsets}
+use Rattle.shape_strides.specs.WalkLaws.{length-run_offsets, length-first}
 
 none_low : (zs : List ℤ) → Each IsInBytes zs → NoneBelow zs
 none_low [] each = tt
@@ -61,9 +61,6 @@ cut-whole n run runs low whole others =
 length-cut : (n : ℕ) (run : Run) (runs : List Run) → n ≤ run.count → IsWhole run → n + length (all_offsets (cut n run runs)) ≡ length (all_offsets (run ∷ runs))
 length-cut n run runs low whole =
     omega (arith, length-append (run_offsets (run_front n run)) (all_offsets (cut n run runs)), length-run_offsets (run_front n run), ap length (cut-offsets n run runs low whole))
-
-length-first : (run : Run) (runs : List Run) → length (all_offsets (run ∷ runs)) ≡ run.count + length (all_offsets runs)
-length-first run runs = omega (arith, length-append (run_offsets run) (all_offsets runs), length-run_offsets run)
 
 pub even_after : (most : ℕ) (x y : Run) (xs ys : List Run) → AreEven (suc most) (x ∷ xs) (y ∷ ys) → AreEven most (cut (min x.count y.count) x xs) (cut (min x.count y.count) y ys)
 even_after most x y xs ys even =

@@ -1,12 +1,13 @@
 -- For a loop over a walk.
-use Rattle.std.proofs.Common.{◌≡◌, List, [], ◌∷◌, ◌++◌, map, sym, ◌∙◌, ap, append_assoc, ℕ, ◌+◌, ◌-◌, length}
+use Rattle.std.proofs.Common.{◌≡◌, List, [], ◌∷◌, ◌++◌, map, sym, ◌∙◌, ap, append_assoc, ℕ, ◌+◌, ◌-◌, length, arith, length-append}
 use Rattle.std.proofs.lemmas.List.{length-map}
 use Rattle.std.proofs.lemmas.List.FromFn.{length-map-range_with_len}
 use Rattle.std.specs.Prelude.{pos, ◌+ℤ◌, ◌*ℤ◌}
 use Rattle.elem_descr.specs.Steps.{numbers_from}
 use Rattle.shape_strides.specs.declared.runs.Run.{Run}
 use Rattle.shape_strides.specs.Addresses.{natural}
-use Rattle.shape_strides.specs.Runs.{run_offsets}
+use Rattle.shape_strides.specs.Runs.{run_offsets, runs}
+use Rattle.shape_strides.specs.RunPairs.{all_offsets}
 
 -- One more item of a list that is mapped as it is walked: what was made of the front, with what the rest will make, is the whole.
 pub mapped_more : {X Y : Type 0} (f : X → Y) (made made' : List Y) (left left' all : List X) (x : X) → made' ≡ made ++ f x ∷ [] → left ≡ x ∷ left' → made ++ map f left ≡ map f all → made' ++ map f left' ≡ map f all
@@ -17,3 +18,6 @@ pub length-run_offsets : (run : Run) → length (run_offsets run) ≡ run.count
 length-run_offsets run =
     let number = λ (k : ℕ). pos run.offset +ℤ run.step *ℤ pos k in
     length-map (numbers_from (pos run.offset) run.step run.count) natural ∙ length-map-range_with_len number 0 run.count
+
+pub length-first : (run : Run) (runs : List Run) → length (all_offsets (run ∷ runs)) ≡ run.count + length (all_offsets runs)
+length-first run runs = omega (arith, length-append (run_offsets run) (all_offsets runs), length-run_offsets run)

@@ -7,9 +7,10 @@ use Rattle.shape_strides.specs.Indexes.{count}
 use Rattle.shape_strides.specs.Limits.{max_bytes}
 use Rattle.broadcasting.specs.Broadcasts.{stretched}
 use Rattle.elementwise.specs.Casts.{can_cast}
+use Rattle.elementwise.specs.ResultLaws.{is_scalar}
 use Rattle.bench_engine.specs.Machine.{operation_scalar, operation_on}
 use Rattle.bench_engine.proofs.Makes.{passed}
-use Rattle.bench_engine.proofs.Updates.{changed-type, changed-record, changed-kind, changed-apart, changed-worked, changed-done, changed-gives, worked-descr, worked-shape, view-can, kind-casts, scalar-descr, own_values, stands-own}
+use Rattle.bench_engine.proofs.Updates.{changed-type, changed-record, changed-kind, changed-apart, changed-worked, changed-done, changed-gives, worked-descr, worked-shape, view-can, kind-casts, own_values, stands-own}
 use Rattle.bench_engine.proofs.Views.{given-view, given-refusal}
 use Rattle.bench_engine.proofs.update.changed_by_items.Goals as goal
 
@@ -46,7 +47,7 @@ pub as_old-requires-clause-can : goal.as_old-requires-clause-can
 as_old-requires-clause-can c =
     let good = c.in_ok-new.ensures.gives (own_values c.args.old) (own_values c.args.items) (stands-own c.args.old) (stands-own c.args.items) in
     let typed = worked-descr c.args.operation (own_values c.args.old) (own_values c.args.items) c.in_ok-new.new _ c.in_ok-scalar.ensures good in
-    subst (λ (d : Descr). can_cast d c.args.old.descr.now ≡ true) (sym typed) (subst (λ (d : Descr). can_cast (ScalarDescr c.in_ok-scalar.scalar) d ≡ true) (sym (scalar-descr c.args.old.descr.now _ c.in_ok-scalar_of.ensures))
+    subst (λ (d : Descr). can_cast d c.args.old.descr.now ≡ true) (sym typed) (subst (λ (d : Descr). can_cast (ScalarDescr c.in_ok-scalar.scalar) d ≡ true) (sym (is_scalar c.args.old.descr.now _ c.in_ok-scalar_of.ensures))
     (kind-casts c.in_ok-scalar.scalar _ c.in_ok-same_kind.ensures))
 
 pub as_old-requires-clause-few : goal.as_old-requires-clause-few

@@ -9,20 +9,21 @@ use Rattle.elem_descr.specs.declared.scalar.Scalar.{Scalar}
 use Rattle.elem_descr.specs.Items.{item_size}
 use Rattle.shape_strides.specs.Indexes.{count}
 use Rattle.shape_strides.specs.Limits.{max_bytes}
+use Rattle.shape_strides.specs.Shapes.{IsShape}
 use Rattle.elementwise.specs.Casts.{can_cast}
 use Rattle.elementwise.specs.Promotion.{same_kind}
 use Rattle.elementwise.specs.Results.{scalar_of}
+use Rattle.elementwise.specs.ResultLaws.{is_scalar}
 use Rattle.bench_engine.specs.Machine.{changed_with, literal_values, operation_with}
-use Rattle.bench_engine.proofs.LegalLaws.{IsLegal}
 use Rattle.bench_engine.proofs.Makes.{passed}
-use Rattle.bench_engine.proofs.Updates.{changed-record, changed-kind, changed-done, changed-gives, kind-casts, scalar-descr, literal-parts, literal-refused, own_values, stands-own}
+use Rattle.bench_engine.proofs.Updates.{changed-record, changed-kind, changed-done, changed-gives, kind-casts, literal-parts, literal-refused, own_values, stands-own}
 use Rattle.bench_engine.proofs.update.changed_by_literal.Goals as goal
 
 pub returns-in_err-new : goal.returns-in_err-new
 returns-in_err-new c v sv =
     let p = err_from_is_err_and c.from_residual.result c.from_residual.ensures.1 in
     let lengths = c.as_slice-lengths.ensures in
-    let legal = subst IsLegal (sym sv.shape) (record { axes = lengths.rank; lengths = lengths.lengths; items = lengths.items }) in
+    let legal = subst IsShape (sym sv.shape) (record { axes = lengths.rank; lengths = lengths.lengths; items = lengths.items }) in
     rw (p.1, p.2) (passed (operation_with c.args.operation v (literal_values c.args.operation v.descr c.args.literal.now)) _ _ (literal-refused c.args.operation c.args.old.descr.now v c.args.literal.now _ legal sv.descr) (c.in_err-new.ensures.gives v sv))
 
 pub returns-in_err-scalar : goal.returns-in_err-scalar
@@ -46,7 +47,7 @@ returns-in_err-same_kind c v sv =
 
 pub as_old-requires-clause-can : goal.as_old-requires-clause-can
 as_old-requires-clause-can c =
-    subst (λ (d : Descr). can_cast d c.args.old.descr.now ≡ true) (sym (scalar-descr c.in_ok-new.new.descr _ c.in_ok-scalar.ensures)) (subst (λ (d : Descr). can_cast (ScalarDescr c.in_ok-scalar.scalar) d ≡ true) (sym (scalar-descr c.args.old.descr.now _ c.in_ok-scalar_of.ensures))
+    subst (λ (d : Descr). can_cast d c.args.old.descr.now ≡ true) (sym (is_scalar c.in_ok-new.new.descr _ c.in_ok-scalar.ensures)) (subst (λ (d : Descr). can_cast (ScalarDescr c.in_ok-scalar.scalar) d ≡ true) (sym (is_scalar c.args.old.descr.now _ c.in_ok-scalar_of.ensures))
     (kind-casts c.in_ok-scalar.scalar _ c.in_ok-same_kind.ensures))
 
 pub as_old-requires-clause-few : goal.as_old-requires-clause-few

@@ -8,9 +8,10 @@ use Rattle.machine_numbers.specs.Kinds.{little}
 use Rattle.elementwise.specs.Results.{unary_item}
 use Rattle.elementwise.specs.inside.PairLaws.{scalar_small, number_small}
 use Rattle.elementwise.proofs.MadeLaws.{made-gives, made-order, made-items, made-encoded}
-use Rattle.elementwise.proofs.PromotedLaws.{promoted_one, native-little, number-read, can-number, is_scalar, operand_refused, kind_refused, one_given}
+use Rattle.elementwise.proofs.PromotedLaws.{promoted_one, native-little, number-read, can-number, operand_refused, kind_refused, one_given}
 use Rattle.elementwise.proofs.AppliedLaws.{changed}
 use Rattle.elementwise.proofs.applied.apply1.Goals as goal
+use Rattle.elementwise.specs.ResultLaws.{is_scalar}
 
 pub returns-in_err-from-clause-gives : goal.returns-in_err-from-clause-gives
 returns-in_err-from-clause-gives c =

@@ -5,9 +5,10 @@ use Rattle.machine_numbers.specs.Kinds.{little}
 use Rattle.elementwise.specs.Results.{pairwise, binary_item, stretched_items}
 use Rattle.elementwise.specs.inside.PairLaws.{scalar_small, number_small}
 use Rattle.elementwise.proofs.MadeLaws.{made-gives, made-order, made-items, made-encoded}
-use Rattle.elementwise.proofs.PromotedLaws.{promoted, native-little, number-read, can-number, is_scalar, left_refused, right_refused, promotion_refused, shapes_refused, all_given}
+use Rattle.elementwise.proofs.PromotedLaws.{promoted, native-little, number-read, can-number, left_refused, right_refused, promotion_refused, shapes_refused, all_given}
 use Rattle.elementwise.proofs.AppliedLaws.{combined}
 use Rattle.elementwise.proofs.applied.apply2.Goals as goal
+use Rattle.elementwise.specs.ResultLaws.{is_scalar}
 
 pub returns-in_err-from-clause-gives : goal.returns-in_err-from-clause-gives
 returns-in_err-from-clause-gives c =

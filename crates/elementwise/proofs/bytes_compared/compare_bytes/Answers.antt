@@ -7,10 +7,10 @@ use Rattle.elem_descr.specs.Values.{text}
 use Rattle.elem_descr.specs.Encoding.{without_nuls}
 use Rattle.elem_descr.specs.Blocks.{item_from}
 use Rattle.elementwise.specs.Results.{compared_item}
-use Rattle.elementwise.proofs.PromotedLaws.{is_scalar}
 use Rattle.elementwise.proofs.MadeLaws.{made-gives, made-order, made-items, made-encoded}
 use Rattle.elementwise.proofs.BytesComparedLaws.{operand_refused, number_refused, one_given}
 use Rattle.elementwise.proofs.bytes_compared.compare_bytes.Goals as goal
+use Rattle.elementwise.specs.ResultLaws.{is_scalar}
 
 pub returns-in_err-from-clause-gives : goal.returns-in_err-from-clause-gives
 returns-in_err-from-clause-gives c =

@@ -1,8 +1,8 @@
 use Rattle.std.proofs.Common.{inr, Ok, ap, ◌∙◌}
 use Rattle.std.proofs.lemmas.Result.{err_from_is_err_and}
-use Rattle.elementwise.proofs.PromotedLaws.{is_scalar}
 use Rattle.elementwise.proofs.ComparedLaws.{compared_bools, left_refused, right_refused, type_refused}
 use Rattle.elementwise.proofs.compared.compare.Goals as goal
+use Rattle.elementwise.specs.ResultLaws.{is_scalar}
 
 pub returns-in_err-from-clause-gives : goal.returns-in_err-from-clause-gives
 returns-in_err-from-clause-gives c =

@@ -8,10 +8,10 @@ use Rattle.elem_descr.specs.Values.{number}
 use Rattle.elem_descr.specs.Blocks.{item_from}
 use Rattle.shape_strides.specs.Layouts.{offsets}
 use Rattle.elementwise.specs.Results.{compared_item}
-use Rattle.elementwise.proofs.PromotedLaws.{is_scalar}
 use Rattle.elementwise.proofs.MadeLaws.{made-gives, made-order, made-items, made-encoded}
 use Rattle.elementwise.proofs.IntegerLaws.{operand_refused, text_refused, one_given}
 use Rattle.elementwise.proofs.integers.compare_integer.Goals as goal
+use Rattle.elementwise.specs.ResultLaws.{is_scalar}
 
 pub returns-in_err-from-clause-gives : goal.returns-in_err-from-clause-gives
 returns-in_err-from-clause-gives c =

@@ -7,11 +7,11 @@ use Rattle.std.proofs.lemmas.Str.Parse.{IsNumeralModel, numerals_by_fold}
 use Rattle.std.proofs.lemmas.Fmt.{digits_decimal, digits_value-decimal}
 use Rattle.elem_descr.specs.TypeStrings.{value_of}
 
-abbrev read_on : ℕ → List ℕ → ℕ
+abbrev pub read_on : ℕ → List ℕ → ℕ
 read_on n digits = fold (λ n d. n * 10 + (d - 48)) n digits
 
 -- texts of digits, with their values, as std knows them
-numerals : IsNumeralModel (λ digits. list_all is_ascii_digit digits ≡ true) value_of
+pub numerals : IsNumeralModel (λ digits. list_all is_ascii_digit digits ≡ true) value_of
 numerals = numerals_by_fold _ (search rules) read_on (search rules)
 
 -- a number is written in digits

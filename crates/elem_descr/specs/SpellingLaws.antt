@@ -1,5 +1,5 @@
 -- What is written as a type string reads as the same scalar.
-use Rattle.std.proofs.Common.{◌≡◌, ◌≤◌, ◌<◌, ◌^◌, ℕ, true, false, [], ◌∷◌, Ok, refl, arith, lit<}
+use Rattle.std.proofs.Common.{◌≡◌, ◌≤◌, ℕ, true, false, [], ◌∷◌, Ok, refl, arith, lit<}
 use Rattle.std.specs.Fmt.{decimal}
 use Rattle.std.proofs.lemmas.Bool.Decides.{nat_tests}
 use Rattle.std.proofs.lemmas.Fmt.{decimal_digit}
@@ -9,27 +9,25 @@ use Rattle.elem_descr.specs.declared.scalar.Scalar.{Scalar}
 use Rattle.elem_descr.specs.declared.scalar.Scalar.TheVariants.{Bool as BoolScalar, Byte, Int, Bytes}
 use Rattle.elem_descr.specs.Encoding.{size}
 use Rattle.elem_descr.specs.TypeStrings.{typestr, spelling, of_length, byte_string}
-use Rattle.npy_format.proofs.ReadTokens.{are_digits, is_value}
+use Rattle.elem_descr.specs.DecimalLaws.{digits-decimal, value_of-decimal}
 
-one : decimal 1 ≡ 49 ∷ []
+pub one : decimal 1 ≡ 49 ∷ []
 one = decimal_digit 1 (lit< tt)
 
-two : decimal 2 ≡ 50 ∷ []
+pub two : decimal 2 ≡ 50 ∷ []
 two = decimal_digit 2 (lit< tt)
 
-four : decimal 4 ≡ 52 ∷ []
+pub four : decimal 4 ≡ 52 ∷ []
 four = decimal_digit 4 (lit< tt)
 
-eight : decimal 8 ≡ 56 ∷ []
+pub eight : decimal 8 ≡ 56 ∷ []
 eight = decimal_digit 8 (lit< tt)
 
 legal_length : (n : ℕ) → 1 ≤ n → n ≤ 65536 → of_length n ≡ Ok (Bytes n)
 legal_length n some small = grind (arith, nat_tests)
 
 reads_length : (n : ℕ) → 1 ≤ n → n ≤ 65536 → byte_string (decimal n) ≡ Ok (Bytes n)
-reads_length n some small =
-    let big : n < 2 ^ 64 = omega (arith, small) in
-    rw (are_digits n big, is_value n big) (legal_length n some small)
+reads_length n some small = rw (digits-decimal n small, value_of-decimal n small) (legal_length n some small)
 
 pub reads_spelling : (scalar : Scalar) → 1 ≤ size scalar → size scalar ≤ 65536 → typestr (spelling scalar) ≡ Ok scalar
 reads_spelling BoolScalar some small = rw one refl

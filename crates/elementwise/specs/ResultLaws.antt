@@ -1,0 +1,14 @@
+-- Laws of what operations and casts result in.
+use Rattle.std.proofs.Common.{◌≡◌, Ok, ap}
+use Rattle.std.specs.Result.{is_ok}
+use Rattle.std.proofs.lemmas.Bool.{false≢true}
+use Rattle.elem_descr.specs.declared.scalar.Scalar.{Scalar}
+use Rattle.elem_descr.specs.declared.descr.Descr.{Descr}
+use Rattle.elem_descr.specs.declared.descr.Descr.TheVariants.{Scalar as ScalarDescr, Record as RecordDescr}
+use Rattle.elem_descr.specs.RefusalLaws.{same_answer}
+use Rattle.elementwise.specs.Results.{scalar_of}
+
+-- the scalar of an operand
+pub is_scalar : (d : Descr) (s : Scalar) → scalar_of d ≡ Ok s → d ≡ ScalarDescr s
+is_scalar (ScalarDescr a) s found = ap ScalarDescr (same_answer a s found)
+is_scalar (RecordDescr r) s found = absurd (false≢true (ap is_ok found))
