@@ -1,5 +1,5 @@
 -- Shapes, index lists and operands.
-use Rattle.std.specs.Prelude.{ℕ, ℤ, Bool, List, length, codes, Option, Some, None, is_some, nat_le, not, ◌&&◌, count_by, if◌then◌else◌}
+use Rattle.std.specs.Prelude.{ℕ, ℤ, Bool, List, codes, Option, Some, None, is_some, nat_le, not, ◌&&◌, count_by, if◌then◌else◌}
 use Rattle.std.specs.Option.{option_map}
 use Rattle.shape_strides.specs.declared.index_item.IndexItem.{IndexItem}
 use Rattle.shape_strides.specs.declared.index_item.IndexItem.TheVariants.{Integer, Slice, Ellipsis, NewAxis, Array}
@@ -9,20 +9,20 @@ use Rattle.script_lang.specs.declared.command.Operand.{Operand}
 use Rattle.script_lang.specs.declared.command.Argument.{Argument}
 use Rattle.script_lang.specs.declared.command.Argument.TheVariants as argument
 use Rattle.script_lang.specs.Tokens.{◌>>=◌, ◌or_else◌, if_found, where_true, unspaced, byte_at, symbol_at, bytes_mark_at, keyword_at, name_at, length_at, integer_at, optional_integer_at}
-use Rattle.script_lang.specs.Lists.{entries_at, listed_at}
+use Rattle.script_lang.specs.Lists.{by_rule, entries, listed}
 use Rattle.script_lang.specs.Literals.{literal_at}
 
 -- S: a shape, lengths in parentheses
 unfoldable pub shape_at : List ℕ → Option (List ℕ × List ℕ)
 shape_at bytes = do
   inside ← symbol_at 40 bytes
-  entries_at length_at 41 (length inside) inside
+  by_rule (entries length_at 41) inside
 
 -- S with signs
 unfoldable pub signed_shape_at : List ℕ → Option (List ℤ × List ℕ)
 signed_shape_at bytes = do
   inside ← symbol_at 40 bytes
-  entries_at integer_at 41 (length inside) inside
+  by_rule (entries integer_at 41) inside
 
 -- behind the first colon of a slice and its stop: the step, if there is a second colon
 abbrev pub step_at : List ℕ → Option (List ℕ) → Option ℤ × List ℕ
@@ -62,7 +62,7 @@ index_item_at bytes =
 -- ix], behind `[`: the items up to the bracket, `...` at most once
 unfoldable pub index_at : List ℕ → Option (List (IndexItem (List ℕ)) × List ℕ)
 index_at bytes = do
-  items ← listed_at index_item_at 93 (length bytes) bytes
+  items ← by_rule (listed index_item_at 93) bytes
   _ ← where_true (nat_le (count_by is_ellipsis items.0) 1)
   Some items
 

@@ -1,7 +1,7 @@
 //! What a line of the script says: the grammar of the commands.
 ghost use Rattle.std.specs.Prelude.{◌≡◌, ◌≤◌, length};
 ghost use Rattle.script_lang.specs.Commands.{load_at, verb_value_at, value_at, bind_at, ask_at, verb_command_at, form_at, command_at};
-ghost use Rattle.script_lang.specs.Lines.{is_silent, line_of};
+ghost use Rattle.script_lang.specs.Lines.{is_silent, line_of, EachListAnyTurns};
 ghost use Rattle.script_lang.specs.Reading.{Scans, Reads, Says, value_room, parts_take_memory};
 
 mod classes;
@@ -142,10 +142,11 @@ fn command(alloc: Global, line: &[u8]) -> Result<Command, Refusal>
 /// neither a tab nor 32 to 126 is refused first (E02), and takes no memory; what the grammar does
 /// not spell is refused as `Syntax` (E03). Memory may run out (E40) only for a command that
 /// `needs_room` names, or on a line that the grammar does not spell.
-#[tactic(auto, unfolding(crate::specs::Lines::line_of))]
+#[tactic(auto, unfolding(crate::specs::Lines::line_of), using(crate::proofs::Turns::each_list_any_turns))]
 pub fn parse(alloc: Global, line: &[u8]) -> Result<Option<Command>, Refusal>
     requires { length line.now ≤ 65536 }
-    ensures { Says result (line_of line.now) }
+    ensures command { Says result (line_of line.now) }
+    ensures turns { EachListAnyTurns }
 {
     if is_silent(line) {
         return Ok(None);

@@ -1,7 +1,7 @@
 //! Index lists, and the operands that they stand behind.
-ghost use Rattle.std.specs.Prelude.{◌≡◌, length};
+ghost use Rattle.std.specs.Prelude.{◌≡◌};
 ghost use Rattle.script_lang.specs.Tokens.{symbol_at};
-ghost use Rattle.script_lang.specs.Lists.{listed_at};
+ghost use Rattle.script_lang.specs.Lists.{by_rule, listed};
 ghost use Rattle.script_lang.specs.Indexes.{step_at, slice_at, ellipsis_at, index_item_at, index_at, bracket_at, optional_index_at, operand_at, begins_name, argument_at};
 ghost use Rattle.script_lang.specs.Reading.{Scans, Reads, index_room, optional_index_room, operand_room, argument_room};
 
@@ -70,11 +70,11 @@ fn item(alloc: Global, bytes: &[u8]) -> Option<(IndexItem<Name>, &[u8])>
 
 /// Items that commas part, up to the bracket that ends them, and what follows it.
 fn items(alloc: Global, bytes: &[u8]) -> Result<(Index, &[u8]), Refusal>
-    ensures { Reads (λ r. (r.0, r.1.now)) (λ r. index_room r.0) result (listed_at index_item_at 93 (length bytes.now) bytes.now) }
+    ensures { Reads (λ r. (r.0, r.1.now)) (λ r. index_room r.0) result (by_rule (listed index_item_at 93) bytes.now) }
 {
     let mut index = Index::new(alloc);
     let mut rest = bytes;
-    for _turn in 0..bytes.len() {
+    loop {
         let Some((entry, after)) = item(alloc, rest) else {
             return Err(Refusal::Syntax);
         };
@@ -87,7 +87,6 @@ fn items(alloc: Global, bytes: &[u8]) -> Result<(Index, &[u8]), Refusal>
         };
         rest = next;
     }
-    Err(Refusal::Syntax)
 }
 
 /// The index list behind `[`, and what follows its bracket.
