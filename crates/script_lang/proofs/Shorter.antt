@@ -12,7 +12,7 @@ use Rattle.script_lang.specs.declared.literal.Literal.{Literal}
 use Rattle.script_lang.specs.Tokens.{◌>>=◌, ◌or_else◌, if_found, where_true, is_blank, is_digit, is_name_byte, unspaced, byte_at, symbol_at, front_at, front_of, bytes_mark_at, is_parted, word_at, keyword_at, is_name, name_at, number_at, length_at, positive, negative, signed_at, integer_at, optional, optional_integer_at}
 use Rattle.script_lang.specs.Lists.{in_turns, by_rule, closed, entry_first, comma_next, listed, entries, row}
 use Rattle.script_lang.specs.Literals.{hex_value, hex_digit_at, escape_at, is_plain, plain_byte_at, text_byte_at, byte_text_at, integer_of, boolean_at, bytes_at, scalar_at, literal_of_scalar, record_at, literal_within, max_literal_depth, literal_at}
-use Rattle.script_lang.specs.Indexes.{step_at, slice_at, ellipsis_at, integer_item, item_with_rest, array_item, index_item_at}
+use Rattle.script_lang.specs.Indexes.{step_at, slice_at, ellipsis_at, integer_item, item_with_rest, array_item, bare_item_at, index_item_at}
 use Rattle.script_lang.proofs.Rooms.{after_step, after_known}
 
 -- fewer than n bytes are left, and behind what is read
@@ -149,15 +149,18 @@ ellipsis_shorter bytes =
     let P = Few (length bytes) in
     after_known P P (byte_at 46 (unspaced bytes) >>= byte_at 46) (byte_at 46) (two_within (length bytes) 46 46 (unspaced bytes) (unspaced_length bytes)) (λ rest few. byte_within (length bytes) 46 rest (omega arith))
 
-pub index_item_shorter : Shortens index_item_at
-unfolding index_item_at
-index_item_shorter bytes =
+bare_item_shorter : Shortens bare_item_at
+bare_item_shorter bytes =
     let P = Less {A = IndexItem (List ℕ)} (length bytes) in
     either P _ _ (either P _ _ (either P _ _ (either P _ _ (slice_shorter bytes)
     (mapped P integer_item (integer_at bytes) (integer_shorter bytes)))
     (mapped P (item_with_rest Ellipsis) (ellipsis_at bytes) (ellipsis_shorter bytes)))
     (mapped P (item_with_rest NewAxis) (keyword_at (codes "None") bytes) (keyword_shorter (codes "None") bytes)))
     (mapped P array_item (name_at bytes) (name_shorter bytes))
+
+pub index_item_shorter : Shortens index_item_at
+unfolding index_item_at
+index_item_shorter bytes = within (length bytes) bare_item_at bare_item_shorter (unspaced bytes) (unspaced_length bytes)
 
 -- Lists
 
@@ -243,9 +246,12 @@ scalar_shorter : Shortens scalar_at
 unfolding scalar_at bytes_mark_at
 scalar_shorter bytes =
     let P = Less {A = ScalarLiteral} (length bytes) in
-    found (Few (length bytes)) P (bytes_mark_at (unspaced bytes)) bytes_at _ (two_within (length bytes) 98 39 (unspaced bytes) (unspaced_length bytes))
+    found (Few (length bytes)) P (bytes_mark_at bytes) bytes_at _ (two_within (length bytes) 98 39 bytes (omega arith))
     (λ inside few. within (length bytes) bytes_at bytes_shorter inside (omega arith))
     (either P _ _ (mapped P integer_of (integer_at bytes) (integer_shorter bytes)) (boolean_shorter bytes))
+
+scalar_literal_shorter : Shortens (λ bytes. option_map literal_of_scalar (scalar_at (unspaced bytes)))
+scalar_literal_shorter bytes = mapped (Less (length bytes)) literal_of_scalar (scalar_at (unspaced bytes)) (within (length bytes) scalar_at scalar_shorter (unspaced bytes) (unspaced_length bytes))
 
 record_shorter : (value_at : List ℕ → Option (Literal × List ℕ)) → Shortens value_at → Shortens (record_at value_at)
 unfolding record_at
@@ -256,11 +262,11 @@ record_shorter value_at shorter bytes =
 
 pub literal_within_shorter : (depth : ℕ) → Shortens (literal_within depth)
 unfolding literal_within
-literal_within_shorter zero bytes = mapped (Less (length bytes)) literal_of_scalar (scalar_at bytes) (scalar_shorter bytes)
+literal_within_shorter zero bytes = scalar_literal_shorter bytes
 literal_within_shorter (suc depth) bytes =
     found (Few (length bytes)) (Less (length bytes)) (symbol_at 40 bytes) (record_at (literal_within depth)) _ (symbol_shorter 40 bytes)
     (λ inside few. within (length bytes) (record_at (literal_within depth)) (record_shorter (literal_within depth) (literal_within_shorter depth)) inside (omega arith))
-    (mapped (Less (length bytes)) literal_of_scalar (scalar_at bytes) (scalar_shorter bytes))
+    (scalar_literal_shorter bytes)
 
 pub literal_shorter : Shortens literal_at
 unfolding literal_at

@@ -33,7 +33,7 @@ spelled (Some command) = asks command
 
 -- in this order: silent, a byte that is not allowed, the grammar
 unfoldable pub line_of : List ℕ → Line
-line_of line = if is_silent line then silent else if list_all is_allowed line then spelled (command_at line) else bad_byte
+line_of line = if is_silent line then silent else if list_all is_allowed line then spelled (command_at (unspaced line)) else bad_byte
 
 -- Each list of a line is what its rule reads in any number of turns above that of its bytes: lengths,
 -- integers, the items of an index, the bytes of a text, the values of a record, and the literals of a line.

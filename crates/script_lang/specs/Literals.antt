@@ -63,9 +63,9 @@ bytes_at bytes = do
   text ← byte_text_at bytes
   Some (Bytes text.0, text.1)
 
--- an integer, a boolean or bytes
+-- an integer, a boolean or bytes, at once
 unfoldable pub scalar_at : List ℕ → Option (ScalarLiteral × List ℕ)
-scalar_at bytes = if_found (bytes_mark_at (unspaced bytes)) bytes_at (option_map integer_of (integer_at bytes) or_else boolean_at bytes)
+scalar_at bytes = if_found (bytes_mark_at bytes) bytes_at (option_map integer_of (integer_at bytes) or_else boolean_at bytes)
 
 -- behind `(`: one or more values, a last comma allowed
 unfoldable pub record_at : (List ℕ → Option (Literal × List ℕ)) → List ℕ → Option (Literal × List ℕ)
@@ -79,8 +79,8 @@ literal_of_scalar found = (Scalar found.0, found.1)
 
 -- a literal of at most this depth: a scalar has depth 0, a record is one deeper than its deepest value
 unfoldable pub literal_within : ℕ → List ℕ → Option (Literal × List ℕ)
-literal_within zero bytes = option_map literal_of_scalar (scalar_at bytes)
-literal_within (suc depth) bytes = if_found (symbol_at 40 bytes) (record_at (literal_within depth)) (option_map literal_of_scalar (scalar_at bytes))
+literal_within zero bytes = option_map literal_of_scalar (scalar_at (unspaced bytes))
+literal_within (suc depth) bytes = if_found (symbol_at 40 bytes) (record_at (literal_within depth)) (option_map literal_of_scalar (scalar_at (unspaced bytes)))
 
 abbrev pub max_literal_depth : ℕ
 max_literal_depth = 4

@@ -114,12 +114,12 @@ fn boolean(bytes: &[u8]) -> Option<(ScalarLiteral, &[u8])>
     None
 }
 
-/// The literal that comes next and is no record, and what follows it.
+/// The literal that comes at once and is no record, and what follows it.
 #[tactic(auto, unfolding(crate::specs::Literals::scalar_at))]
-pub fn scalar(alloc: Global, bytes: &[u8]) -> Result<(ScalarLiteral, &[u8]), Refusal>
+fn scalar(alloc: Global, bytes: &[u8]) -> Result<(ScalarLiteral, &[u8]), Refusal>
     ensures { Reads (λ r. (r.0, r.1.now)) (λ r. scalar_room r.0) result (scalar_at bytes.now) }
 {
-    if let Some(inside) = bytes_mark(unspaced(bytes)) {
+    if let Some(inside) = bytes_mark(bytes) {
         return bytes_literal(alloc, inside);
     }
     if let Some((n, rest)) = integer(bytes) {
@@ -171,8 +171,9 @@ fn record(alloc: Global, depth: usize, bytes: &[u8]) -> Result<(Literal, &[u8]),
 fn literal_within(alloc: Global, depth: usize, bytes: &[u8]) -> Result<(Literal, &[u8]), Refusal>
     ensures { Reads (λ r. (r.0, r.1.now)) (λ r. literal_room r.0) result (literal_within depth bytes.now) }
 {
+    let bytes = unspaced(bytes);
     if depth > 0
-        && let Some(inside) = symbol(b'(', bytes)
+        && let Some(inside) = byte(b'(', bytes)
     {
         return record(alloc, depth - 1, inside);
     }
