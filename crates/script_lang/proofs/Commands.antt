@@ -14,12 +14,12 @@ use Rattle.script_lang.specs.declared.verb.MakeVerb.{MakeVerb}
 use Rattle.script_lang.specs.declared.verb.ViewVerb.{ViewVerb}
 use Rattle.script_lang.specs.declared.verb.ComputeVerb.{ComputeVerb}
 use Rattle.script_lang.specs.Verbs.{operation_of}
-use Rattle.script_lang.specs.Tokens.{symbol_at, at_end, word_at, name_at, quoted_at}
+use Rattle.script_lang.specs.Tokens.{where_true, symbol_at, at_end, word_at, names_unless_verb, name_at, quoted_at}
 use Rattle.script_lang.specs.Descriptors.{descriptor_at}
-use Rattle.script_lang.specs.Indexes.{shape_at, signed_shape_at, bracket_at, operand_at, argument_at}
+use Rattle.script_lang.specs.Indexes.{shape_at, signed_shape_at, bracket_at, optional_index_at, operand_at, argument_at}
 use Rattle.script_lang.specs.Commands.{new_items_at, make_at, viewing_of, plain_view_at, field_name_at, transposed_by, transpose_at, reshape_at, broadcast_at, viewing_at, view_at, cast_at, combine_at, transform_at, computation_at, compute_at, value_at, bind_at, set_at, update_at, form_at, command_at}
 use Rattle.script_lang.specs.Reading.{optional_index_room, index_room, operand_room, argument_room, viewing_room, computation_room, value_room, parts_take_memory}
-use Rattle.script_lang.proofs.Rooms.{after_step, after_known, or_left, or_right, HasIndexRoom, HasOperandRoom, HasArgumentRoom}
+use Rattle.script_lang.proofs.Rooms.{after_step, after_known, or_left, or_right, HasIndexRoom, HasOptionalRoom, HasOperandRoom, HasArgumentRoom}
 
 abbrev HasViewingRoom : Viewing × List ℕ → Type 0
 HasViewingRoom r = IsTrue (viewing_room r.0)
@@ -41,9 +41,9 @@ seen_room : (index : Option (List (IndexItem (List ℕ)))) → IsTrue (optional_
 seen_room None room = room
 seen_room (Some index) room = room
 
-pub plain_view_room : (bytes : List ℕ) → IfSome (operand_at bytes) (λ r. IsTrue (operand_room r.0)) → IfSome (plain_view_at bytes) (λ r. IsTrue (value_room r.0))
+pub plain_view_room : (word : List ℕ × List ℕ) → IfSome (optional_index_at word.1) (λ r. IsTrue (optional_index_room r.0)) → IfSome (plain_view_at word) (λ r. IsTrue (value_room r.0))
 unfolding plain_view_at
-plain_view_room bytes known = after_known HasOperandRoom HasValueRoom (operand_at bytes) _ known (λ source more. seen_room source.0.index more)
+plain_view_room word known = after_step HasValueRoom (where_true (names_unless_verb word.0)) _ (λ name. after_known HasOptionalRoom HasValueRoom (optional_index_at word.1) _ known (λ index more. seen_room index.0 more))
 
 pub field_room : (bytes : List ℕ) → IfSome (field_name_at bytes) (λ r. IsTrue (viewing_room r.0))
 unfolding field_name_at
@@ -89,9 +89,9 @@ pub compute_room : (computing : ComputeVerb) (bytes : List ℕ) → IfSome (comp
 unfolding compute_at
 compute_room computing bytes known = after_known HasComputationRoom HasValueRoom (computation_at computing bytes) _ known (λ computation more. more)
 
-pub bind_room : (bytes : List ℕ) (name : List ℕ × List ℕ) (rest : List ℕ) → name_at bytes ≡ Some name → symbol_at 61 name.1 ≡ Some rest → IfSome (value_at rest) (λ r. IsTrue (value_room r.0)) → IfSome (bind_at bytes) (λ r. IsTrue (parts_take_memory r.0))
+pub bind_room : (word : List ℕ × List ℕ) (rest : List ℕ) → symbol_at 61 word.1 ≡ Some rest → IfSome (value_at rest) (λ r. IsTrue (value_room r.0)) → IfSome (bind_at word) (λ r. IsTrue (parts_take_memory r.0))
 unfolding bind_at
-bind_room bytes name rest named equals known = rw (named, equals) (after_known HasValueRoom NeedsRoom (value_at rest) _ known (λ value more. more))
+bind_room word rest equals known = after_step NeedsRoom (where_true (names_unless_verb word.0)) _ (λ name. rw equals (after_known HasValueRoom NeedsRoom (value_at rest) _ known (λ value more. more)))
 
 pub set_index_room : (bytes : List ℕ) (name : List ℕ × List ℕ) → name_at bytes ≡ Some name → IfSome (bracket_at name.1) (λ r. IsTrue (index_room r.0)) → IfSome (set_at bytes) (λ r. IsTrue (parts_take_memory r.0))
 unfolding set_at

@@ -1,5 +1,7 @@
 pub mod Spelling
 pub mod Braces
+pub mod Shorter
+pub mod Turns
 pub mod Lists
 pub mod Records
 pub mod Rooms

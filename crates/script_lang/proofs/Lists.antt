@@ -1,5 +1,5 @@
 -- Lists of entries, turn by turn.
-use Rattle.std.proofs.Common.{◌≡◌, ◌<◌, ◌≤◌, ◌+◌, ◌-◌, ℕ, suc, Bool, is_some, ◌⊎◌, true, false, inl, inr, List, [], ◌∷◌, ◌++◌, length, Option, Some, None, refl, ap, sym, ◌∙◌, arith, append_assoc, nat_lt, length-append}
+use Rattle.std.proofs.Common.{◌≡◌, ◌<◌, ◌≤◌, ℕ, Bool, is_some, ◌⊎◌, true, false, inl, inr, List, [], ◌∷◌, ◌++◌, length, Option, Some, None, refl, ap, sym, ◌∙◌, arith, append_assoc, nat_lt, length-append}
 use Rattle.std.specs.Prelude.{IsTrue, IfSome}
 use Rattle.std.specs.Option.{option_map, option_and_then}
 use Rattle.std.proofs.lemmas.List.{append-nil}
@@ -8,7 +8,9 @@ use Rattle.elem_descr.specs.declared.refusal.Refusal.{Refusal}
 use Rattle.elem_descr.specs.declared.refusal.Refusal.TheVariants.{Syntax, OutOfMemory}
 use Rattle.script_lang.specs.Tokens.{symbol_at, at_end}
 use Rattle.script_lang.specs.Literals.{line_end_at}
-use Rattle.script_lang.specs.Lists.{entries_at, listed_at, row_at}
+use Rattle.script_lang.specs.Lists.{by_rule, entry_first, comma_next, listed, entries, row}
+use Rattle.script_lang.proofs.Shorter.{Shortens}
+use Rattle.script_lang.proofs.Turns.{one_turn, listed_goes_on, entries_goes_on, row_goes_on}
 
 -- what is read so far, in front of what is read of the rest
 abbrev pub in_front : {A : Type 0} → List A → Option (List A × List ℕ) → Option (List A × List ℕ)
@@ -43,106 +45,71 @@ failed_entry refusal there whole failed stops =
     elim failed [ inl misspelt ↦ inl (misspelt.0, stops misspelt.1) | inr full ↦ inr (full.0, any_list whole) ]
 
 -- a turn at entries that commas part, a last comma allowed
-module _ {A : Type 0} (entry_at : List ℕ → Option (A × List ℕ)) (closing : ℕ) (whole : Option (List A × List ℕ)) (read : List A) (len turn : ℕ) (rest : List ℕ) (is : whole ≡ in_front read (entries_at entry_at closing (len - turn) rest)) where
-  pub entries_closed : (end : List ℕ) → turn < len → symbol_at closing rest ≡ Some end → whole ≡ Some (read, end)
-  unfolding entries_at
-  entries_closed end more ends =
-      let turns : len - turn ≡ suc (len - (turn + 1)) = omega arith in
-      is ∙ rw (turns, ends) (ap (λ xs. Some (xs, end)) (append-nil read))
+module _ {A : Type 0} (entry_at : List ℕ → Option (A × List ℕ)) (shorter : Shortens entry_at) (closing : ℕ) (whole : Option (List A × List ℕ)) (read : List A) (rest : List ℕ) (is : whole ≡ in_front read (by_rule (entries entry_at closing) rest)) where
+  entries_turn : whole ≡ in_front read (entries entry_at closing (by_rule (entries entry_at closing)) rest)
+  entries_turn = is ∙ ap (in_front read) (one_turn (entries entry_at closing) (entries_goes_on entry_at shorter closing) rest)
 
-  pub entries_no_entry : turn < len → symbol_at closing rest ≡ None → entry_at rest ≡ None → whole ≡ None
-  unfolding entries_at
-  entries_no_entry more no_end none =
-      let turns : len - turn ≡ suc (len - (turn + 1)) = omega arith in
-      is ∙ rw (turns, no_end, none) refl
+  pub entries_closed : (end : List ℕ) → symbol_at closing rest ≡ Some end → whole ≡ Some (read, end)
+  unfolding entries
+  entries_closed end ends = entries_turn ∙ rw ends (ap (λ xs. Some (xs, end)) (append-nil read))
 
-  pub entries_last : (x : A) (after end : List ℕ) → turn < len → symbol_at closing rest ≡ None → entry_at rest ≡ Some (x, after) → symbol_at closing after ≡ Some end → whole ≡ Some (read ++ x ∷ [], end)
-  unfolding entries_at
-  entries_last x after end more no_end first ends =
-      let turns : len - turn ≡ suc (len - (turn + 1)) = omega arith in
-      is ∙ rw (turns, no_end, first, ends) refl
+  pub entries_no_entry : symbol_at closing rest ≡ None → entry_at rest ≡ None → whole ≡ None
+  unfolding entries listed entry_first
+  entries_no_entry no_end none = entries_turn ∙ rw (no_end, none) refl
 
-  pub entries_no_mark : (x : A) (after : List ℕ) → turn < len → symbol_at closing rest ≡ None → entry_at rest ≡ Some (x, after) → symbol_at closing after ≡ None → symbol_at 44 after ≡ None → whole ≡ None
-  unfolding entries_at
-  entries_no_mark x after more no_end first not_last no_comma =
-      let turns : len - turn ≡ suc (len - (turn + 1)) = omega arith in
-      is ∙ rw (turns, no_end, first, not_last, no_comma) refl
+  pub entries_last : (x : A) (after end : List ℕ) → symbol_at closing rest ≡ None → entry_at rest ≡ Some (x, after) → symbol_at closing after ≡ Some end → whole ≡ Some (read ++ x ∷ [], end)
+  unfolding entries listed entry_first comma_next
+  entries_last x after end no_end first ends = entries_turn ∙ rw (no_end, first, ends) refl
 
-  pub entries_next : (x : A) (after next : List ℕ) → turn < len → symbol_at closing rest ≡ None → entry_at rest ≡ Some (x, after) → symbol_at closing after ≡ None → symbol_at 44 after ≡ Some next → whole ≡ in_front (read ++ x ∷ []) (entries_at entry_at closing (len - (turn + 1)) next)
-  unfolding entries_at
-  entries_next x after next more no_end first not_last comma =
-      let turns : len - turn ≡ suc (len - (turn + 1)) = omega arith in
-      is ∙ rw (turns, no_end, first, not_last, comma) (more_in_front read x (entries_at entry_at closing (len - (turn + 1)) next))
+  pub entries_no_mark : (x : A) (after : List ℕ) → symbol_at closing rest ≡ None → entry_at rest ≡ Some (x, after) → symbol_at closing after ≡ None → symbol_at 44 after ≡ None → whole ≡ None
+  unfolding entries listed entry_first comma_next
+  entries_no_mark x after no_end first not_last no_comma = entries_turn ∙ rw (no_end, first, not_last, no_comma) refl
 
-  pub entries_no_turn : len ≤ turn → whole ≡ None
-  unfolding entries_at
-  entries_no_turn done =
-      let turns : len - turn ≡ 0 = omega arith in
-      is ∙ rw turns refl
+  pub entries_next : (x : A) (after next : List ℕ) → symbol_at closing rest ≡ None → entry_at rest ≡ Some (x, after) → symbol_at closing after ≡ None → symbol_at 44 after ≡ Some next → whole ≡ in_front (read ++ x ∷ []) (by_rule (entries entry_at closing) next)
+  unfolding entries listed entry_first comma_next
+  entries_next x after next no_end first not_last comma = entries_turn ∙ rw (no_end, first, not_last, comma) (more_in_front read x (by_rule (entries entry_at closing) next))
 
 -- a turn at items that commas part, no last comma
-module _ {A : Type 0} (item_at : List ℕ → Option (A × List ℕ)) (closing : ℕ) (whole : Option (List A × List ℕ)) (read : List A) (len turn : ℕ) (rest : List ℕ) (is : whole ≡ in_front read (listed_at item_at closing (len - turn) rest)) where
-  pub items_no_item : turn < len → item_at rest ≡ None → whole ≡ None
-  unfolding listed_at
-  items_no_item more none =
-      let turns : len - turn ≡ suc (len - (turn + 1)) = omega arith in
-      is ∙ rw (turns, none) refl
+module _ {A : Type 0} (item_at : List ℕ → Option (A × List ℕ)) (shorter : Shortens item_at) (closing : ℕ) (whole : Option (List A × List ℕ)) (read : List A) (rest : List ℕ) (is : whole ≡ in_front read (by_rule (listed item_at closing) rest)) where
+  items_turn : whole ≡ in_front read (listed item_at closing (by_rule (listed item_at closing)) rest)
+  items_turn = is ∙ ap (in_front read) (one_turn (listed item_at closing) (listed_goes_on item_at shorter closing) rest)
 
-  pub items_long : (x : A) (after : List ℕ) → turn < len → item_at rest ≡ Some (x, after) → 8 ≤ length read → Long whole
-  unfolding listed_at
-  items_long x after more first full =
-      let turns : len - turn ≡ suc (len - (turn + 1)) = omega arith in
-      rw (is, turns, first) (long_in_front read x _ full)
+  pub items_no_item : item_at rest ≡ None → whole ≡ None
+  unfolding listed entry_first
+  items_no_item none = items_turn ∙ rw none refl
 
-  pub items_last : (x : A) (after end : List ℕ) → turn < len → item_at rest ≡ Some (x, after) → symbol_at closing after ≡ Some end → whole ≡ Some (read ++ x ∷ [], end)
-  unfolding listed_at
-  items_last x after end more first ends =
-      let turns : len - turn ≡ suc (len - (turn + 1)) = omega arith in
-      is ∙ rw (turns, first, ends) refl
+  pub items_long : (x : A) (after : List ℕ) → item_at rest ≡ Some (x, after) → 8 ≤ length read → Long whole
+  unfolding listed entry_first
+  items_long x after first full = rw (items_turn, first) (long_in_front read x _ full)
 
-  pub items_no_mark : (x : A) (after : List ℕ) → turn < len → item_at rest ≡ Some (x, after) → symbol_at closing after ≡ None → symbol_at 44 after ≡ None → whole ≡ None
-  unfolding listed_at
-  items_no_mark x after more first no_end no_comma =
-      let turns : len - turn ≡ suc (len - (turn + 1)) = omega arith in
-      is ∙ rw (turns, first, no_end, no_comma) refl
+  pub items_last : (x : A) (after end : List ℕ) → item_at rest ≡ Some (x, after) → symbol_at closing after ≡ Some end → whole ≡ Some (read ++ x ∷ [], end)
+  unfolding listed entry_first comma_next
+  items_last x after end first ends = items_turn ∙ rw (first, ends) refl
 
-  pub items_next : (x : A) (after next : List ℕ) → turn < len → item_at rest ≡ Some (x, after) → symbol_at closing after ≡ None → symbol_at 44 after ≡ Some next → whole ≡ in_front (read ++ x ∷ []) (listed_at item_at closing (len - (turn + 1)) next)
-  unfolding listed_at
-  items_next x after next more first no_end comma =
-      let turns : len - turn ≡ suc (len - (turn + 1)) = omega arith in
-      is ∙ rw (turns, first, no_end, comma) (more_in_front read x (listed_at item_at closing (len - (turn + 1)) next))
+  pub items_no_mark : (x : A) (after : List ℕ) → item_at rest ≡ Some (x, after) → symbol_at closing after ≡ None → symbol_at 44 after ≡ None → whole ≡ None
+  unfolding listed entry_first comma_next
+  items_no_mark x after first no_end no_comma = items_turn ∙ rw (first, no_end, no_comma) refl
 
-  pub items_no_turn : len ≤ turn → whole ≡ None
-  unfolding listed_at
-  items_no_turn done =
-      let turns : len - turn ≡ 0 = omega arith in
-      is ∙ rw turns refl
+  pub items_next : (x : A) (after next : List ℕ) → item_at rest ≡ Some (x, after) → symbol_at closing after ≡ None → symbol_at 44 after ≡ Some next → whole ≡ in_front (read ++ x ∷ []) (by_rule (listed item_at closing) next)
+  unfolding listed entry_first comma_next
+  items_next x after next first no_end comma = items_turn ∙ rw (first, no_end, comma) (more_in_front read x (by_rule (listed item_at closing) next))
 
 -- a turn at entries one behind the other
-module _ {A : Type 0} (entry_at : List ℕ → Option (A × List ℕ)) (ending : List ℕ → Option (List ℕ)) (whole : Option (List A × List ℕ)) (read : List A) (len turn : ℕ) (rest : List ℕ) (is : whole ≡ in_front read (row_at entry_at ending (len - turn) rest)) where
-  pub row_ends : (end : List ℕ) → turn < len → ending rest ≡ Some end → whole ≡ Some (read, end)
-  unfolding row_at
-  row_ends end more ends =
-      let turns : len - turn ≡ suc (len - (turn + 1)) = omega arith in
-      is ∙ rw (turns, ends) (ap (λ xs. Some (xs, end)) (append-nil read))
+module _ {A : Type 0} (entry_at : List ℕ → Option (A × List ℕ)) (shorter : Shortens entry_at) (ending : List ℕ → Option (List ℕ)) (whole : Option (List A × List ℕ)) (read : List A) (rest : List ℕ) (is : whole ≡ in_front read (by_rule (row entry_at ending) rest)) where
+  row_turn : whole ≡ in_front read (row entry_at ending (by_rule (row entry_at ending)) rest)
+  row_turn = is ∙ ap (in_front read) (one_turn (row entry_at ending) (row_goes_on entry_at shorter ending) rest)
 
-  pub row_no_entry : turn < len → ending rest ≡ None → entry_at rest ≡ None → whole ≡ None
-  unfolding row_at
-  row_no_entry more no_end none =
-      let turns : len - turn ≡ suc (len - (turn + 1)) = omega arith in
-      is ∙ rw (turns, no_end, none) refl
+  pub row_ends : (end : List ℕ) → ending rest ≡ Some end → whole ≡ Some (read, end)
+  unfolding row
+  row_ends end ends = row_turn ∙ rw ends (ap (λ xs. Some (xs, end)) (append-nil read))
 
-  pub row_next : (x : A) (after : List ℕ) → turn < len → ending rest ≡ None → entry_at rest ≡ Some (x, after) → whole ≡ in_front (read ++ x ∷ []) (row_at entry_at ending (len - (turn + 1)) after)
-  unfolding row_at
-  row_next x after more no_end first =
-      let turns : len - turn ≡ suc (len - (turn + 1)) = omega arith in
-      is ∙ rw (turns, no_end, first) (more_in_front read x (row_at entry_at ending (len - (turn + 1)) after))
+  pub row_no_entry : ending rest ≡ None → entry_at rest ≡ None → whole ≡ None
+  unfolding row entry_first
+  row_no_entry no_end none = row_turn ∙ rw (no_end, none) refl
 
-  pub row_no_turn : len ≤ turn → whole ≡ None
-  unfolding row_at
-  row_no_turn done =
-      let turns : len - turn ≡ 0 = omega arith in
-      is ∙ rw turns refl
+  pub row_next : (x : A) (after : List ℕ) → ending rest ≡ None → entry_at rest ≡ Some (x, after) → whole ≡ in_front (read ++ x ∷ []) (by_rule (row entry_at ending) after)
+  unfolding row entry_first
+  row_next x after no_end first = row_turn ∙ rw (no_end, first) (more_in_front read x (by_rule (row entry_at ending) after))
 
 ends_if : (bytes : List ℕ) (o : Option (Unit {0})) → is_some o ≡ true → option_map (λ (x : Unit {0}). bytes) o ≡ Some bytes
 ends_if bytes None ends = cc

@@ -9,10 +9,10 @@ use Rattle.script_lang.specs.declared.literal.ScalarLiteral.{ScalarLiteral}
 use Rattle.script_lang.specs.declared.literal.Literal.{Literal}
 use Rattle.script_lang.specs.declared.command.Operand.{Operand}
 use Rattle.script_lang.specs.declared.command.Argument.{Argument}
-use Rattle.script_lang.specs.Tokens.{where_true, byte_at, name_at}
-use Rattle.script_lang.specs.Lists.{entries_at, listed_at}
+use Rattle.script_lang.specs.Tokens.{where_true, byte_at, unspaced}
+use Rattle.script_lang.specs.Lists.{by_rule, entries, listed}
 use Rattle.script_lang.specs.Literals.{byte_text_at, bytes_at, scalar_at, literal_of_scalar, record_at, literal_at}
-use Rattle.script_lang.specs.Indexes.{index_item_at, index_at, optional_index_at, operand_at, operand_of, literal_of, begins_name, argument_at}
+use Rattle.script_lang.specs.Indexes.{index_item_at, index_at, optional_index_at, operand_named, operand_of, literal_of, bare_name_at, argument_at}
 use Rattle.script_lang.specs.Reading.{scalar_room, literal_room, index_room, optional_index_room, operand_room, argument_room}
 
 -- what each step gives, once each goes on
@@ -42,7 +42,7 @@ HasLiteralRoom r = IsTrue (literal_room r.0)
 abbrev pub HasIndexRoom : List (IndexItem (List ℕ)) × List ℕ → Type 0
 HasIndexRoom r = IsTrue (index_room r.0)
 
-abbrev HasOptionalRoom : Option (List (IndexItem (List ℕ))) × List ℕ → Type 0
+abbrev pub HasOptionalRoom : Option (List (IndexItem (List ℕ))) × List ℕ → Type 0
 HasOptionalRoom r = IsTrue (optional_index_room r.0)
 
 abbrev pub HasOperandRoom : Operand × List ℕ → Type 0
@@ -58,7 +58,7 @@ bytes_room bytes = after_step HasScalarRoom (byte_text_at bytes) _ (λ text. ref
 pub record_room : (value_at : List ℕ → Option (Literal × List ℕ)) (bytes : List ℕ) → IfSome (record_at value_at bytes) (λ r. IsTrue (literal_room r.0))
 unfolding record_at
 record_room value_at bytes =
-    after_step HasLiteralRoom (entries_at value_at 41 (length bytes) bytes) _
+    after_step HasLiteralRoom (by_rule (entries value_at 41) bytes) _
     (λ values. after_step HasLiteralRoom (where_true (not (length values.0 == 0))) _ (λ some. refl))
 
 scalar_kept : (o : Option (ScalarLiteral × List ℕ)) → IfSome o (λ r. IsTrue (scalar_room r.0)) → IfSome (option_map literal_of_scalar o) (λ r. IsTrue (literal_room r.0))
@@ -68,10 +68,10 @@ scalar_kept (Some r) known = known
 pub scalar_literal_room : (bytes : List ℕ) → IfSome (scalar_at bytes) (λ r. IsTrue (scalar_room r.0)) → IfSome (option_map literal_of_scalar (scalar_at bytes)) (λ r. IsTrue (literal_room r.0))
 scalar_literal_room bytes known = scalar_kept (scalar_at bytes) known
 
-pub index_list_room : (bytes : List ℕ) → IfSome (listed_at index_item_at 93 (length bytes) bytes) (λ r. IsTrue (index_room r.0)) → IfSome (index_at bytes) (λ r. IsTrue (index_room r.0))
+pub index_list_room : (bytes : List ℕ) → IfSome (by_rule (listed index_item_at 93) bytes) (λ r. IsTrue (index_room r.0)) → IfSome (index_at bytes) (λ r. IsTrue (index_room r.0))
 unfolding index_at
 index_list_room bytes known =
-    after_known HasIndexRoom HasIndexRoom (listed_at index_item_at 93 (length bytes) bytes) _ known
+    after_known HasIndexRoom HasIndexRoom (by_rule (listed index_item_at 93) bytes) _ known
     (λ items more. after_step HasIndexRoom (where_true (nat_le (count_by is_ellipsis items.0) 1)) _ (λ once. more))
 
 index_kept : (o : Option (List (IndexItem (List ℕ)) × List ℕ)) → IfSome o (λ r. IsTrue (index_room r.0)) → IfSome (option_map (λ (index : List (IndexItem (List ℕ)) × List ℕ). (Some index.0, index.1)) o) HasOptionalRoom
@@ -82,22 +82,22 @@ pub optional_index_list_room : (bytes inside : List ℕ) → byte_at 91 bytes �
 unfolding optional_index_at
 optional_index_list_room bytes inside found known = rw found (index_kept (index_at inside) known)
 
-pub indexed_room : (bytes : List ℕ) (name : List ℕ × List ℕ) → name_at bytes ≡ Some name → IfSome (optional_index_at name.1) (λ r. IsTrue (optional_index_room r.0)) → IfSome (operand_at bytes) (λ r. IsTrue (operand_room r.0))
-unfolding operand_at
-indexed_room bytes name named known = rw named (after_known HasOptionalRoom HasOperandRoom (optional_index_at name.1) _ known (λ index more. more))
+pub indexed_room : (name : List ℕ × List ℕ) → IfSome (optional_index_at name.1) (λ r. IsTrue (optional_index_room r.0)) → IfSome (operand_named name) (λ r. IsTrue (operand_room r.0))
+unfolding operand_named
+indexed_room name known = after_known HasOptionalRoom HasOperandRoom (optional_index_at name.1) _ known (λ index more. more)
 
 operand_kept : (o : Option (Operand × List ℕ)) → IfSome o (λ r. IsTrue (operand_room r.0)) → IfSome (option_map operand_of o) HasArgumentRoom
 operand_kept None known = tt
 operand_kept (Some r) known = known
 
-pub operand_argument_room : (bytes : List ℕ) → begins_name bytes ≡ true → IfSome (operand_at bytes) (λ r. IsTrue (operand_room r.0)) → IfSome (argument_at bytes) (λ r. IsTrue (argument_room r.0))
+pub operand_argument_room : (bytes : List ℕ) (name : List ℕ × List ℕ) → bare_name_at (unspaced bytes) ≡ Some name → IfSome (operand_named name) (λ r. IsTrue (operand_room r.0)) → IfSome (argument_at bytes) (λ r. IsTrue (argument_room r.0))
 unfolding argument_at
-operand_argument_room bytes named known = rw named (operand_kept (operand_at bytes) known)
+operand_argument_room bytes name named known = rw named (operand_kept (operand_named name) known)
 
 literal_kept : (o : Option (Literal × List ℕ)) → IfSome o (λ r. IsTrue (literal_room r.0)) → IfSome (option_map literal_of o) HasArgumentRoom
 literal_kept None known = tt
 literal_kept (Some r) known = known
 
-pub literal_argument_room : (bytes : List ℕ) → begins_name bytes ≡ false → IfSome (literal_at bytes) (λ r. IsTrue (literal_room r.0)) → IfSome (argument_at bytes) (λ r. IsTrue (argument_room r.0))
+pub literal_argument_room : (bytes : List ℕ) → bare_name_at (unspaced bytes) ≡ None → IfSome (literal_at (unspaced bytes)) (λ r. IsTrue (literal_room r.0)) → IfSome (argument_at bytes) (λ r. IsTrue (argument_room r.0))
 unfolding argument_at
-literal_argument_room bytes named known = rw named (literal_kept (literal_at bytes) known)
+literal_argument_room bytes named known = rw named (literal_kept (literal_at (unspaced bytes)) known)

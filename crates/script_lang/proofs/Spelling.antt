@@ -1,13 +1,13 @@
 -- Bytes that spell numbers.
 use Rattle.std.proofs.Common.{◌≡◌, ◌≤◌, ◌<◌, ◌^◌, ◌+◌, ℕ, suc, Bool, true, false, List, [], ◌∷◌, take, Some, None, refl, arith, nat_eq, cond}
 use Rattle.std.specs.Prelude.{if◌then◌else◌, IfSome, length, drop}
-use Rattle.std.proofs.Common.{subst, sym, length-drop, Option}
-use Rattle.std.specs.Option.{option_and_then}
+use Rattle.std.proofs.Common.{subst, length-drop}
 use Rattle.script_lang.specs.Descriptors.{record_mark_at, is_mark}
 use Rattle.std.proofs.Math.Nat.{pow-le-pow_right}
 use Rattle.std.specs.List.{list_all, prefix_len}
 use Rattle.std.specs.Option.{option_map}
 use Rattle.script_lang.specs.Tokens.{byte_at, number_at, signed_at, positive, negative}
+use Rattle.script_lang.proofs.Shorter.{Few, two_within}
 
 -- fewer digits spell a smaller number
 pub below_power : (k n i : ℕ) → n < 10 ^ i → i ≤ k → n < 10 ^ k
@@ -36,29 +36,10 @@ signed_plain [] no_minus no_plus = refl
 signed_plain (b ∷ bytes) no_minus no_plus =
     neither (nat_eq b 45) (nat_eq b 43) bytes (option_map negative (number_at bytes)) (option_map positive (number_at bytes)) (option_map positive (number_at (b ∷ bytes))) no_minus no_plus
 
-byte_test : (t : Bool) (c : ℕ) (bytes : List ℕ) → IfSome (if t then Some bytes else None) (λ rest. length rest < length (c ∷ bytes))
-byte_test true c bytes = omega arith
-byte_test false c bytes = tt
-
--- what follows a byte is shorter
-byte_shorter : (b : ℕ) (bytes : List ℕ) → IfSome (byte_at b bytes) (λ rest. length rest < length bytes)
-byte_shorter b [] = tt
-byte_shorter b (c ∷ bytes) = byte_test (nat_eq c b) c bytes
-
-at_found : {A : Type 0} (P : A → Type 0) (o : Option A) (x : A) → IfSome o P → o ≡ Some x → P x
-at_found {A = A} P o x known is = let there : IfSome (Some x) P = subst (λ (v : Option A). IfSome v P) is known in there
-
--- what follows two bytes is shorter
-two_shorter : (b c : ℕ) (bytes inside : List ℕ) (first : Option (List ℕ)) → first ≡ byte_at b bytes → option_and_then (byte_at c) first ≡ Some inside → length inside ≤ length bytes
-two_shorter b c bytes inside None is found = cc
-two_shorter b c bytes inside (Some rest) is found =
-    let one : length rest < length bytes = at_found (λ (r : List ℕ). length r < length bytes) (byte_at b bytes) rest (byte_shorter b bytes) (sym is) in
-    let two : length inside < length rest = at_found (λ (r : List ℕ). length r < length rest) (byte_at c rest) inside (byte_shorter c rest) found in
-    omega arith
-
 -- what follows the marks and `T{` is shorter
 pub record_mark_shorter : (bytes inside : List ℕ) → record_mark_at bytes ≡ Some inside → length inside ≤ length bytes
 unfolding record_mark_at
 record_mark_shorter bytes inside found =
-    let shorter : length inside ≤ length (drop (prefix_len is_mark bytes) bytes) = two_shorter 84 123 (drop (prefix_len is_mark bytes) bytes) inside (byte_at 84 (drop (prefix_len is_mark bytes) bytes)) refl found in
-    omega (arith, length-drop (prefix_len is_mark bytes) bytes)
+    let two = two_within (length bytes) 84 123 (drop (prefix_len is_mark bytes) bytes) (omega (arith, length-drop (prefix_len is_mark bytes) bytes)) in
+    let less : length inside < length bytes = subst (λ o. IfSome o (Few (length bytes))) found two in
+    omega arith

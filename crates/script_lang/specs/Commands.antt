@@ -29,10 +29,10 @@ use Rattle.script_lang.specs.declared.command.Question.TheVariants.{Print, Info,
 use Rattle.script_lang.specs.declared.command.Command.{Command}
 use Rattle.script_lang.specs.declared.command.Command.TheVariants.{Bind, Set, Update, Delete, Undo, Save, Ask}
 use Rattle.script_lang.specs.Verbs.{verb_of, operation_of, order_of}
-use Rattle.script_lang.specs.Tokens.{◌>>=◌, if_found, symbol_at, at_end, word_at, name_at, integer_at, optional_integer_at, flag_at, quoted_at, file_name_at}
+use Rattle.script_lang.specs.Tokens.{◌>>=◌, if_found, where_true, symbol_at, at_end, word_at, names_unless_verb, name_at, integer_at, optional_integer_at, flag_at, quoted_at, file_name_at}
 use Rattle.script_lang.specs.Descriptors.{descriptor_at}
 use Rattle.script_lang.specs.Literals.{literal_at, literals_at}
-use Rattle.script_lang.specs.Indexes.{shape_at, signed_shape_at, bracket_at, operand_at, argument_at}
+use Rattle.script_lang.specs.Indexes.{shape_at, signed_shape_at, bracket_at, optional_index_at, operand_at, argument_at}
 
 -- New arrays
 
@@ -83,11 +83,12 @@ abbrev pub viewing_of : Option (List (IndexItem (List ℕ))) → Viewing
 viewing_of None = Whole
 viewing_of (Some index) = Indexed index
 
--- Y or Y[ix]
-unfoldable pub plain_view_at : List ℕ → Option (Value × List ℕ)
-plain_view_at bytes = do
-  source ← operand_at bytes
-  Some (View source.0.name (viewing_of source.0.index), source.1)
+-- Y or Y[ix], given the word Y, which is no verb, and the bytes behind it
+unfoldable pub plain_view_at : List ℕ × List ℕ → Option (Value × List ℕ)
+plain_view_at word = do
+  _ ← where_true (names_unless_verb word.0)
+  index ← optional_index_at word.1
+  Some (View word.0 (viewing_of index.0), index.1)
 
 -- "f", behind `field Y`
 unfoldable pub field_name_at : List ℕ → Option (Viewing × List ℕ)
@@ -197,17 +198,17 @@ verb_value_at _ bytes = None
 unfoldable pub value_at : List ℕ → Option (Value × List ℕ)
 value_at bytes = do
   word ← word_at bytes
-  if_found (verb_of word.0) (λ known. verb_value_at known word.1) (plain_view_at bytes)
+  if_found (verb_of word.0) (λ known. verb_value_at known word.1) (plain_view_at word)
 
 -- Commands
 
--- X = ..
-unfoldable pub bind_at : List ℕ → Option (Command × List ℕ)
-bind_at bytes = do
-  name ← name_at bytes
-  rest ← symbol_at 61 name.1
+-- X = .., given the word X, which is no verb, and the bytes behind it
+unfoldable pub bind_at : List ℕ × List ℕ → Option (Command × List ℕ)
+bind_at word = do
+  _ ← where_true (names_unless_verb word.0)
+  rest ← symbol_at 61 word.1
   value ← value_at rest
-  Some (Bind name.0 value.0, value.1)
+  Some (Bind word.0 value.0, value.1)
 
 -- X[ix] = Z, behind `set`
 unfoldable pub set_at : List ℕ → Option (Command × List ℕ)
@@ -280,7 +281,7 @@ verb_command_at _ bytes = None
 unfoldable pub form_at : List ℕ → Option (Command × List ℕ)
 form_at line = do
   word ← word_at line
-  if_found (verb_of word.0) (λ known. verb_command_at known word.1) (bind_at line)
+  if_found (verb_of word.0) (λ known. verb_command_at known word.1) (bind_at word)
 
 -- the command that a line spells: nothing but blanks stands behind it
 unfoldable pub command_at : List ℕ → Option Command

@@ -1,5 +1,5 @@
 -- Shapes, index lists and operands.
-use Rattle.std.specs.Prelude.{ℕ, ℤ, Bool, List, length, codes, Option, Some, None, is_some, nat_le, not, ◌&&◌, count_by, if◌then◌else◌}
+use Rattle.std.specs.Prelude.{ℕ, ℤ, Bool, List, codes, Option, Some, None, is_some, nat_le, count_by, if◌then◌else◌}
 use Rattle.std.specs.Option.{option_map}
 use Rattle.shape_strides.specs.declared.index_item.IndexItem.{IndexItem}
 use Rattle.shape_strides.specs.declared.index_item.IndexItem.TheVariants.{Integer, Slice, Ellipsis, NewAxis, Array}
@@ -9,20 +9,20 @@ use Rattle.script_lang.specs.declared.command.Operand.{Operand}
 use Rattle.script_lang.specs.declared.command.Argument.{Argument}
 use Rattle.script_lang.specs.declared.command.Argument.TheVariants as argument
 use Rattle.script_lang.specs.Tokens.{◌>>=◌, ◌or_else◌, if_found, where_true, unspaced, byte_at, symbol_at, bytes_mark_at, keyword_at, name_at, length_at, integer_at, optional_integer_at}
-use Rattle.script_lang.specs.Lists.{entries_at, listed_at}
+use Rattle.script_lang.specs.Lists.{by_rule, entries, listed}
 use Rattle.script_lang.specs.Literals.{literal_at}
 
 -- S: a shape, lengths in parentheses
 unfoldable pub shape_at : List ℕ → Option (List ℕ × List ℕ)
 shape_at bytes = do
   inside ← symbol_at 40 bytes
-  entries_at length_at 41 (length inside) inside
+  by_rule (entries length_at 41) inside
 
 -- S with signs
 unfoldable pub signed_shape_at : List ℕ → Option (List ℤ × List ℕ)
 signed_shape_at bytes = do
   inside ← symbol_at 40 bytes
-  entries_at integer_at 41 (length inside) inside
+  by_rule (entries integer_at 41) inside
 
 -- behind the first colon of a slice and its stop: the step, if there is a second colon
 abbrev pub step_at : List ℕ → Option (List ℕ) → Option ℤ × List ℕ
@@ -50,19 +50,23 @@ item_with_rest item rest = (item, rest)
 abbrev pub array_item : List ℕ × List ℕ → IndexItem (List ℕ) × List ℕ
 array_item found = (Array found.0, found.1)
 
--- one item of an index list
-unfoldable pub index_item_at : List ℕ → Option (IndexItem (List ℕ) × List ℕ)
-index_item_at bytes =
+-- one item of an index list, at once
+abbrev pub bare_item_at : List ℕ → Option (IndexItem (List ℕ) × List ℕ)
+bare_item_at bytes =
     slice_at bytes
     or_else option_map integer_item (integer_at bytes)
     or_else option_map (item_with_rest Ellipsis) (ellipsis_at bytes)
     or_else option_map (item_with_rest NewAxis) (keyword_at (codes "None") bytes)
     or_else option_map array_item (name_at bytes)
 
+-- one item of an index list
+unfoldable pub index_item_at : List ℕ → Option (IndexItem (List ℕ) × List ℕ)
+index_item_at bytes = bare_item_at (unspaced bytes)
+
 -- ix], behind `[`: the items up to the bracket, `...` at most once
 unfoldable pub index_at : List ℕ → Option (List (IndexItem (List ℕ)) × List ℕ)
 index_at bytes = do
-  items ← listed_at index_item_at 93 (length bytes) bytes
+  items ← by_rule (listed index_item_at 93) bytes
   _ ← where_true (nat_le (count_by is_ellipsis items.0) 1)
   Some items
 
@@ -77,16 +81,19 @@ some_index_at bytes = option_map (λ index. (Some index.0, index.1)) (index_at b
 unfoldable pub optional_index_at : List ℕ → Option (Option (List (IndexItem (List ℕ))) × List ℕ)
 optional_index_at bytes = if_found (byte_at 91 bytes) some_index_at (Some (None, bytes))
 
--- Y or Y[ix]
-unfoldable pub operand_at : List ℕ → Option (Operand × List ℕ)
-operand_at bytes = do
-  name ← name_at bytes
+-- Y or Y[ix], given Y and the bytes behind it
+unfoldable pub operand_named : List ℕ × List ℕ → Option (Operand × List ℕ)
+operand_named name = do
   index ← optional_index_at name.1
   Some (record { name = name.0; index = index.0 }, index.1)
 
--- whether a name comes next, and no bytes literal
-unfoldable pub begins_name : List ℕ → Bool
-begins_name bytes = is_some (name_at bytes) && not (is_some (bytes_mark_at (unspaced bytes)))
+-- Y or Y[ix]
+unfoldable pub operand_at : List ℕ → Option (Operand × List ℕ)
+operand_at bytes = name_at bytes >>= operand_named
+
+-- a name that begins no bytes literal, at once
+unfoldable pub bare_name_at : List ℕ → Option (List ℕ × List ℕ)
+bare_name_at bytes = if is_some (bytes_mark_at bytes) then None else name_at bytes
 
 abbrev pub operand_of : Operand × List ℕ → Argument × List ℕ
 operand_of found = (argument.Operand found.0, found.1)
@@ -96,4 +103,4 @@ literal_of found = (argument.Literal found.0, found.1)
 
 -- Z: an operand or a literal
 unfoldable pub argument_at : List ℕ → Option (Argument × List ℕ)
-argument_at bytes = if begins_name bytes then option_map operand_of (operand_at bytes) else option_map literal_of (literal_at bytes)
+argument_at bytes = if_found (bare_name_at (unspaced bytes)) (λ name. option_map operand_of (operand_named name)) (option_map literal_of (literal_at (unspaced bytes)))

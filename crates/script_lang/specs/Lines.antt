@@ -2,7 +2,10 @@
 use Rattle.std.specs.Prelude.{ℕ, Bool, true, List, [], ◌∷◌, Option, Some, None, nat_eq, nat_le, if◌then◌else◌, ◌||◌, ◌&&◌}
 use Rattle.std.specs.List.{list_all}
 use Rattle.script_lang.specs.declared.command.Command.{Command}
-use Rattle.script_lang.specs.Tokens.{unspaced}
+use Rattle.script_lang.specs.Tokens.{unspaced, byte_at, length_at, integer_at}
+use Rattle.script_lang.specs.Lists.{AnyTurns, listed, entries, row}
+use Rattle.script_lang.specs.Literals.{text_byte_at, literal_within, literal_at, line_end_at}
+use Rattle.script_lang.specs.Indexes.{index_item_at}
 use Rattle.script_lang.specs.Commands.{command_at}
 
 -- a tab, or 32 to 126
@@ -30,4 +33,11 @@ spelled (Some command) = asks command
 
 -- in this order: silent, a byte that is not allowed, the grammar
 unfoldable pub line_of : List ℕ → Line
-line_of line = if is_silent line then silent else if list_all is_allowed line then spelled (command_at line) else bad_byte
+line_of line = if is_silent line then silent else if list_all is_allowed line then spelled (command_at (unspaced line)) else bad_byte
+
+-- Each list of a line is what its rule reads in any number of turns above that of its bytes: lengths,
+-- integers, the items of an index, the bytes of a text, the values of a record, and the literals of a line.
+abbrev pub EachListAnyTurns : Type 0
+EachListAnyTurns =
+    AnyTurns (entries length_at 41) × AnyTurns (entries integer_at 41) × AnyTurns (listed index_item_at 93)
+    × AnyTurns (row text_byte_at (byte_at 39)) × ((depth : ℕ) → AnyTurns (entries (literal_within depth) 41)) × AnyTurns (row literal_at line_end_at)

@@ -1,32 +1,44 @@
--- Lists of entries. Each entry takes a byte at least, so there are no more turns than bytes.
-use Rattle.std.specs.Prelude.{ℕ, zero, suc, List, [], ◌∷◌, Option, Some, None}
+-- Lists of entries. A rule says what a list is where the list behind its first entry is known.
+use Rattle.std.specs.Prelude.{◌≡◌, ◌<◌, ℕ, zero, suc, List, [], ◌∷◌, length, Option, Some, None}
 use Rattle.std.specs.Option.{option_and_then}
 use Rattle.script_lang.specs.Tokens.{symbol_at, ◌>>=◌, ◌or_else◌}
+
+-- what is read by a rule that is used so many times at most
+unfoldable pub in_turns : {B : Type 0} → ((List ℕ → Option B) → List ℕ → Option B) → ℕ → List ℕ → Option B
+in_turns rule zero bytes = None
+in_turns rule (suc turns) bytes = rule (in_turns rule turns) bytes
+
+-- What is read by a rule. Each entry takes a byte at least, so it is used once more than there are bytes.
+unfoldable pub by_rule : {B : Type 0} → ((List ℕ → Option B) → List ℕ → Option B) → List ℕ → Option B
+by_rule rule bytes = in_turns rule (suc (length bytes)) bytes
+
+-- the rule reads the same, however many more times it may be used
+abbrev pub AnyTurns : {B : Type 0} → ((List ℕ → Option B) → List ℕ → Option B) → Type 0
+AnyTurns rule = (turns : ℕ) (bytes : List ℕ) → length bytes < turns → in_turns rule turns bytes ≡ by_rule rule bytes
 
 -- the end of a list
 abbrev pub closed : {A : Type 0} → Option (List ℕ) → Option (List A × List ℕ)
 closed rest = option_and_then (λ bytes. Some ([], bytes)) rest
 
--- Entries that commas part, up to the byte that closes the list: none or more, a last comma allowed.
-unfoldable pub entries_at : {A : Type 0} → (List ℕ → Option (A × List ℕ)) → ℕ → ℕ → List ℕ → Option (List A × List ℕ)
-entries_at entry_at closing zero bytes = None
-entries_at entry_at closing (suc turns) bytes = closed (symbol_at closing bytes) or_else (do
+-- an entry, and the others behind it
+unfoldable pub entry_first : {A : Type 0} → (List ℕ → Option (A × List ℕ)) → (List ℕ → Option (List A × List ℕ)) → List ℕ → Option (List A × List ℕ)
+entry_first entry_at others_at bytes = do
   first ← entry_at bytes
-  others ← closed (symbol_at closing first.1) or_else (symbol_at 44 first.1 >>= entries_at entry_at closing turns)
-  Some (first.0 ∷ others.0, others.1))
-
--- Entries that commas part, up to the byte that closes the list: one or more, no last comma.
-unfoldable pub listed_at : {A : Type 0} → (List ℕ → Option (A × List ℕ)) → ℕ → ℕ → List ℕ → Option (List A × List ℕ)
-listed_at item_at closing zero bytes = None
-listed_at item_at closing (suc turns) bytes = do
-  first ← item_at bytes
-  others ← closed (symbol_at closing first.1) or_else (symbol_at 44 first.1 >>= listed_at item_at closing turns)
+  others ← others_at first.1
   Some (first.0 ∷ others.0, others.1)
 
+-- behind an entry: the byte that closes the list, or a comma and the others
+unfoldable pub comma_next : {A : Type 0} → ℕ → (List ℕ → Option (List A × List ℕ)) → List ℕ → Option (List A × List ℕ)
+comma_next closing others_at bytes = closed (symbol_at closing bytes) or_else (symbol_at 44 bytes >>= others_at)
+
+-- Entries that commas part, up to the byte that closes the list: one or more, no last comma.
+unfoldable pub listed : {A : Type 0} → (List ℕ → Option (A × List ℕ)) → ℕ → (List ℕ → Option (List A × List ℕ)) → List ℕ → Option (List A × List ℕ)
+listed entry_at closing others_at bytes = entry_first entry_at (comma_next closing others_at) bytes
+
+-- The same: none or more, a last comma allowed.
+unfoldable pub entries : {A : Type 0} → (List ℕ → Option (A × List ℕ)) → ℕ → (List ℕ → Option (List A × List ℕ)) → List ℕ → Option (List A × List ℕ)
+entries entry_at closing others_at bytes = closed (symbol_at closing bytes) or_else listed entry_at closing others_at bytes
+
 -- Entries one behind the other, up to where the list ends: none or more.
-unfoldable pub row_at : {A : Type 0} → (List ℕ → Option (A × List ℕ)) → (List ℕ → Option (List ℕ)) → ℕ → List ℕ → Option (List A × List ℕ)
-row_at entry_at ending zero bytes = None
-row_at entry_at ending (suc turns) bytes = closed (ending bytes) or_else (do
-  first ← entry_at bytes
-  others ← row_at entry_at ending turns first.1
-  Some (first.0 ∷ others.0, others.1))
+unfoldable pub row : {A : Type 0} → (List ℕ → Option (A × List ℕ)) → (List ℕ → Option (List ℕ)) → (List ℕ → Option (List A × List ℕ)) → List ℕ → Option (List A × List ℕ)
+row entry_at ending others_at bytes = closed (ending bytes) or_else entry_first entry_at others_at bytes

@@ -7,7 +7,7 @@ use Rattle.script_lang.specs.declared.literal.ScalarLiteral.TheVariants.{Integer
 use Rattle.script_lang.specs.declared.literal.Literal.{Literal}
 use Rattle.script_lang.specs.declared.literal.Literal.TheVariants.{Scalar, Record}
 use Rattle.script_lang.specs.Tokens.{◌>>=◌, ◌or_else◌, if_found, where_true, is_digit, unspaced, byte_at, symbol_at, at_end, bytes_mark_at, word_at, integer_at}
-use Rattle.script_lang.specs.Lists.{entries_at, row_at}
+use Rattle.script_lang.specs.Lists.{by_rule, entries, row}
 use Rattle.script_lang.specs.Listed.{all_values}
 
 -- the digit that a byte is in base 16
@@ -44,7 +44,7 @@ text_byte_at bytes = if_found (byte_at 92 bytes) escape_at (plain_byte_at bytes)
 
 -- behind b': the bytes up to the apostrophe
 unfoldable pub byte_text_at : List ℕ → Option (List ℕ × List ℕ)
-byte_text_at bytes = row_at text_byte_at (byte_at 39) (length bytes) bytes
+byte_text_at bytes = by_rule (row text_byte_at (byte_at 39)) bytes
 
 abbrev pub integer_of : ℤ × List ℕ → ScalarLiteral × List ℕ
 integer_of found = (Integer found.0, found.1)
@@ -63,14 +63,14 @@ bytes_at bytes = do
   text ← byte_text_at bytes
   Some (Bytes text.0, text.1)
 
--- an integer, a boolean or bytes
+-- an integer, a boolean or bytes, at once
 unfoldable pub scalar_at : List ℕ → Option (ScalarLiteral × List ℕ)
-scalar_at bytes = if_found (bytes_mark_at (unspaced bytes)) bytes_at (option_map integer_of (integer_at bytes) or_else boolean_at bytes)
+scalar_at bytes = if_found (bytes_mark_at bytes) bytes_at (option_map integer_of (integer_at bytes) or_else boolean_at bytes)
 
 -- behind `(`: one or more values, a last comma allowed
 unfoldable pub record_at : (List ℕ → Option (Literal × List ℕ)) → List ℕ → Option (Literal × List ℕ)
 record_at value_at bytes = do
-  values ← entries_at value_at 41 (length bytes) bytes
+  values ← by_rule (entries value_at 41) bytes
   _ ← where_true (not (length values.0 == 0))
   Some (Record (all_values values.0), values.1)
 
@@ -79,8 +79,8 @@ literal_of_scalar found = (Scalar found.0, found.1)
 
 -- a literal of at most this depth: a scalar has depth 0, a record is one deeper than its deepest value
 unfoldable pub literal_within : ℕ → List ℕ → Option (Literal × List ℕ)
-literal_within zero bytes = option_map literal_of_scalar (scalar_at bytes)
-literal_within (suc depth) bytes = if_found (symbol_at 40 bytes) (record_at (literal_within depth)) (option_map literal_of_scalar (scalar_at bytes))
+literal_within zero bytes = option_map literal_of_scalar (scalar_at (unspaced bytes))
+literal_within (suc depth) bytes = if_found (symbol_at 40 bytes) (record_at (literal_within depth)) (option_map literal_of_scalar (scalar_at (unspaced bytes)))
 
 abbrev pub max_literal_depth : ℕ
 max_literal_depth = 4
@@ -95,4 +95,4 @@ line_end_at bytes = option_map (λ _. bytes) (at_end bytes)
 
 -- L..: literals up to the line's end, none or more
 unfoldable pub literals_at : List ℕ → Option (List Literal × List ℕ)
-literals_at bytes = row_at literal_at line_end_at (length bytes + 1) bytes
+literals_at bytes = by_rule (row literal_at line_end_at) bytes

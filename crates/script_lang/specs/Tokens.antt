@@ -5,7 +5,7 @@ use Rattle.std.specs.List.{prefix_len, list_all}
 use Rattle.std.specs.Option.{option_and_then, option_map}
 use Rattle.std.specs.Str.{bytes_eq}
 use Rattle.elem_descr.specs.TypeStrings.{value_of}
-use Rattle.script_lang.specs.Verbs.{is_reserved}
+use Rattle.script_lang.specs.Verbs.{verb_of, is_constant}
 
 infixl 10 ◌>>=◌
 abbrev pub ◌>>=◌ : {A B : Type 0} → Option A → (A → Option B) → Option B
@@ -97,9 +97,13 @@ abbrev pub starts_name : List ℕ → Bool
 starts_name [] = false
 starts_name (b ∷ word) = is_name_start b
 
--- a word that begins with no digit, has at most 32 bytes and is not reserved
+-- a word that names an array unless it is a verb: it begins with no digit, has at most 32 bytes and
+-- is none of literals and index lists
+abbrev pub names_unless_verb : List ℕ → Bool
+names_unless_verb word = starts_name word && nat_le (length word) 32 && not (is_constant word)
+
 abbrev pub is_name : List ℕ → Bool
-is_name word = starts_name word && nat_le (length word) 32 && not (is_reserved word)
+is_name word = names_unless_verb word && not (is_some (verb_of word))
 
 -- X, Y: a name
 unfoldable pub name_at : List ℕ → Option (List ℕ × List ℕ)

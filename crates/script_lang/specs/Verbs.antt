@@ -1,5 +1,5 @@
 -- The words that the language knows, and what each is.
-use Rattle.std.specs.Prelude.{ℕ, Bool, List, [], ◌∷◌, codes, Option, Some, None, is_some, ◌||◌, if◌then◌else◌}
+use Rattle.std.specs.Prelude.{ℕ, Bool, List, [], ◌∷◌, codes, Option, Some, None, ◌||◌, if◌then◌else◌}
 use Rattle.std.specs.Option.{option_and_then}
 use Rattle.std.specs.Str.{bytes_eq}
 use Rattle.shape_strides.specs.declared.memory_order.MemoryOrder.{MemoryOrder}
@@ -89,9 +89,9 @@ beside (row ∷ rows) word = if bytes_eq row.0 word then Some row.1 else beside 
 unfoldable pub verb_of : List ℕ → Option Verb
 verb_of word = beside verbs word
 
--- words that name no array: the verbs, and the words of literals and index lists
-unfoldable pub is_reserved : List ℕ → Bool
-is_reserved word = is_some (verb_of word) || (bytes_eq word (codes "True") || bytes_eq word (codes "False") || bytes_eq word (codes "None"))
+-- the words of literals and index lists
+unfoldable pub is_constant : List ℕ → Bool
+is_constant word = bytes_eq word (codes "True") || bytes_eq word (codes "False") || bytes_eq word (codes "None")
 
 abbrev pub as_operation : Verb → Option Operation
 as_operation (verb.Compute (compute.Combine operation)) = Some operation

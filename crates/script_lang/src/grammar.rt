@@ -1,7 +1,7 @@
 //! What a line of the script says: the grammar of the commands.
 ghost use Rattle.std.specs.Prelude.{◌≡◌, ◌≤◌, length};
 ghost use Rattle.script_lang.specs.Commands.{load_at, verb_value_at, value_at, bind_at, ask_at, verb_command_at, form_at, command_at};
-ghost use Rattle.script_lang.specs.Lines.{is_silent, line_of};
+ghost use Rattle.script_lang.specs.Lines.{is_silent_front, line_of, EachListAnyTurns};
 ghost use Rattle.script_lang.specs.Reading.{Scans, Reads, Says, value_room, parts_take_memory};
 
 mod classes;
@@ -24,7 +24,7 @@ use crate::command::{Command, Value};
 use crate::grammar::classes::{Class, are_in};
 use crate::grammar::computations::compute;
 use crate::grammar::creations::make;
-use crate::grammar::names::name;
+use crate::grammar::names::names_unless_verb;
 use crate::grammar::questions::question;
 use crate::grammar::quotes::file_name;
 use crate::grammar::statements::{delete, save, set, update};
@@ -37,11 +37,11 @@ use crate::verb::Verb;
 use elem_descr::Refusal;
 use std::alloc::Global;
 
-/// Whether the line is blank or a comment.
-fn is_silent(line: &[u8]) -> bool
-    ensures { result ≡ is_silent line.now }
+/// Whether a line is blank or a comment, given what follows its blanks.
+fn is_silent(text: &[u8]) -> bool
+    ensures { result ≡ is_silent_front text.now }
 {
-    match unspaced(line) {
+    match text {
         [first, ..] => *first == b'#',
         [] => true,
     }
@@ -78,19 +78,21 @@ fn value(alloc: Global, bytes: &[u8]) -> Result<(Value, &[u8]), Refusal>
     let (word, rest) = word(bytes).ok_or(Refusal::Syntax)?;
     match verb(word) {
         Some(verb) => verb_value(alloc, verb, rest),
-        None => plain_view(alloc, bytes),
+        None => plain_view(alloc, word, rest),
     }
 }
 
-/// `X = ..`
+/// `X = ..`, given the word `X` and what follows it.
 #[tactic(auto, unfolding(crate::specs::Commands::bind_at), using(crate::proofs::Commands::bind_room))]
-fn bind(alloc: Global, bytes: &[u8]) -> Result<(Command, &[u8]), Refusal>
-    ensures { Reads (λ r. (r.0, r.1.now)) (λ r. parts_take_memory r.0) result (bind_at bytes.now) }
+fn bind<'a>(alloc: Global, word: &[u8], bytes: &'a [u8]) -> Result<(Command, &'a [u8]), Refusal>
+    ensures { Reads (λ r. (r.0, r.1.now)) (λ r. parts_take_memory r.0) result (bind_at (word.now, bytes.now)) }
 {
-    let (name, rest) = name(bytes).ok_or(Refusal::Syntax)?;
-    let rest = symbol(b'=', rest).ok_or(Refusal::Syntax)?;
+    if !names_unless_verb(word) {
+        return Err(Refusal::Syntax);
+    }
+    let rest = symbol(b'=', bytes).ok_or(Refusal::Syntax)?;
     let (value, rest) = value(alloc, rest)?;
-    let name = Name::from_slice(alloc, name);
+    let name = Name::from_slice(alloc, word);
     Ok((Command::Bind { name, value }, rest))
 }
 
@@ -121,7 +123,7 @@ fn form(alloc: Global, line: &[u8]) -> Result<(Command, &[u8]), Refusal>
     let (word, rest) = word(line).ok_or(Refusal::Syntax)?;
     match verb(word) {
         Some(verb) => verb_command(alloc, verb, rest),
-        None => bind(alloc, line),
+        None => bind(alloc, word, rest),
     }
 }
 
@@ -142,17 +144,19 @@ fn command(alloc: Global, line: &[u8]) -> Result<Command, Refusal>
 /// neither a tab nor 32 to 126 is refused first (E02), and takes no memory; what the grammar does
 /// not spell is refused as `Syntax` (E03). Memory may run out (E40) only for a command that
 /// `needs_room` names, or on a line that the grammar does not spell.
-#[tactic(auto, unfolding(crate::specs::Lines::line_of))]
+#[tactic(auto, unfolding(crate::specs::Lines::line_of), using(crate::proofs::Turns::each_list_any_turns))]
 pub fn parse(alloc: Global, line: &[u8]) -> Result<Option<Command>, Refusal>
     requires { length line.now ≤ 65536 }
-    ensures { Says result (line_of line.now) }
+    ensures command { Says result (line_of line.now) }
+    ensures turns { EachListAnyTurns }
 {
-    if is_silent(line) {
+    let text = unspaced(line);
+    if is_silent(text) {
         return Ok(None);
     }
     if !are_in(Class::Allowed, line) {
         return Err(Refusal::ByteNotAllowed);
     }
-    let command = command(alloc, line)?;
+    let command = command(alloc, text)?;
     Ok(Some(command))
 }

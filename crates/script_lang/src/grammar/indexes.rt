@@ -1,8 +1,8 @@
 //! Index lists, and the operands that they stand behind.
-ghost use Rattle.std.specs.Prelude.{◌≡◌, length};
+ghost use Rattle.std.specs.Prelude.{◌≡◌, ◌≤◌, length, IfSome};
 ghost use Rattle.script_lang.specs.Tokens.{symbol_at};
-ghost use Rattle.script_lang.specs.Lists.{listed_at};
-ghost use Rattle.script_lang.specs.Indexes.{step_at, slice_at, ellipsis_at, index_item_at, index_at, bracket_at, optional_index_at, operand_at, begins_name, argument_at};
+ghost use Rattle.script_lang.specs.Lists.{by_rule, listed};
+ghost use Rattle.script_lang.specs.Indexes.{step_at, slice_at, ellipsis_at, index_item_at, index_at, bracket_at, optional_index_at, operand_named, operand_at, bare_name_at, argument_at};
 ghost use Rattle.script_lang.specs.Reading.{Scans, Reads, index_room, optional_index_room, operand_room, argument_room};
 
 use crate::command::{Argument, Operand};
@@ -52,6 +52,7 @@ fn ellipsis(bytes: &[u8]) -> Option<&[u8]>
 fn item(alloc: Global, bytes: &[u8]) -> Option<(IndexItem<Name>, &[u8])>
     ensures { Scans (λ r. (r.0, r.1.now)) result (index_item_at bytes.now) }
 {
+    let bytes = unspaced(bytes);
     if let Some(found) = slice(bytes) {
         return Some(found);
     }
@@ -70,11 +71,11 @@ fn item(alloc: Global, bytes: &[u8]) -> Option<(IndexItem<Name>, &[u8])>
 
 /// Items that commas part, up to the bracket that ends them, and what follows it.
 fn items(alloc: Global, bytes: &[u8]) -> Result<(Index, &[u8]), Refusal>
-    ensures { Reads (λ r. (r.0, r.1.now)) (λ r. index_room r.0) result (listed_at index_item_at 93 (length bytes.now) bytes.now) }
+    ensures { Reads (λ r. (r.0, r.1.now)) (λ r. index_room r.0) result (by_rule (listed index_item_at 93) bytes.now) }
 {
     let mut index = Index::new(alloc);
     let mut rest = bytes;
-    for _turn in 0..bytes.len() {
+    loop {
         let Some((entry, after)) = item(alloc, rest) else {
             return Err(Refusal::Syntax);
         };
@@ -87,7 +88,6 @@ fn items(alloc: Global, bytes: &[u8]) -> Result<(Index, &[u8]), Refusal>
         };
         rest = next;
     }
-    Err(Refusal::Syntax)
 }
 
 /// The index list behind `[`, and what follows its bracket.
@@ -113,7 +113,7 @@ pub fn bracket(alloc: Global, bytes: &[u8]) -> Result<(Index, &[u8]), Refusal>
 
 /// The same, or no index where no bracket comes at once.
 #[tactic(auto, unfolding(crate::specs::Indexes::optional_index_at), using(crate::proofs::Rooms::optional_index_list_room))]
-fn optional_index(alloc: Global, bytes: &[u8]) -> Result<(Option<Index>, &[u8]), Refusal>
+pub fn optional_index(alloc: Global, bytes: &[u8]) -> Result<(Option<Index>, &[u8]), Refusal>
     ensures { Reads (λ r. (r.0, r.1.now)) (λ r. optional_index_room r.0) result (optional_index_at bytes.now) }
 {
     let Some(inside) = byte(b'[', bytes) else {
@@ -123,23 +123,40 @@ fn optional_index(alloc: Global, bytes: &[u8]) -> Result<(Option<Index>, &[u8]),
     Ok((Some(index), rest))
 }
 
-/// The operand that comes next, and what follows it.
-#[tactic(auto, unfolding(crate::specs::Indexes::operand_at), using(crate::proofs::Rooms::indexed_room))]
-pub fn operand(alloc: Global, bytes: &[u8]) -> Result<(Operand, &[u8]), Refusal>
-    ensures { Reads (λ r. (r.0, r.1.now)) (λ r. operand_room r.0) result (operand_at bytes.now) }
+/// The operand of this name, given what follows the name.
+#[tactic(auto, unfolding(crate::specs::Indexes::operand_named), using(crate::proofs::Rooms::indexed_room))]
+fn operand_named<'a>(
+    alloc: Global,
+    name: &[u8],
+    bytes: &'a [u8],
+) -> Result<(Operand, &'a [u8]), Refusal>
+    requires { length name.now ≤ 32 }
+    ensures { Reads (λ r. (r.0, r.1.now)) (λ r. operand_room r.0) result (operand_named (name.now, bytes.now)) }
 {
-    let (name, rest) = name(bytes).ok_or(Refusal::Syntax)?;
-    let (index, rest) = optional_index(alloc, rest)?;
+    let (index, rest) = optional_index(alloc, bytes)?;
     let name = Name::from_slice(alloc, name);
     Ok((Operand { name, index }, rest))
 }
 
-/// Whether a name comes next, and no bytes literal.
-#[tactic(auto, unfolding(crate::specs::Indexes::begins_name))]
-fn begins_name(bytes: &[u8]) -> bool
-    ensures { result ≡ begins_name bytes.now }
+/// The operand that comes next, and what follows it.
+#[tactic(auto, unfolding(crate::specs::Indexes::operand_at))]
+pub fn operand(alloc: Global, bytes: &[u8]) -> Result<(Operand, &[u8]), Refusal>
+    ensures { Reads (λ r. (r.0, r.1.now)) (λ r. operand_room r.0) result (operand_at bytes.now) }
 {
-    name(bytes).is_some() && bytes_mark(unspaced(bytes)).is_none()
+    let (name, rest) = name(bytes).ok_or(Refusal::Syntax)?;
+    operand_named(alloc, name, rest)
+}
+
+/// The name that comes at once and begins no bytes literal, and what follows it.
+#[tactic(auto, unfolding(crate::specs::Indexes::bare_name_at))]
+fn bare_name(bytes: &[u8]) -> Option<(&[u8], &[u8])>
+    ensures found { Scans (λ w. (w.0.now, w.1.now)) result (bare_name_at bytes.now) }
+    ensures short { IfSome result (λ w. length w.0.now ≤ 32) }
+{
+    if bytes_mark(bytes).is_some() {
+        return None;
+    }
+    name(bytes)
 }
 
 /// The operand or literal that comes next, and what follows it.
@@ -147,8 +164,9 @@ fn begins_name(bytes: &[u8]) -> bool
 pub fn argument(alloc: Global, bytes: &[u8]) -> Result<(Argument, &[u8]), Refusal>
     ensures { Reads (λ r. (r.0, r.1.now)) (λ r. argument_room r.0) result (argument_at bytes.now) }
 {
-    if begins_name(bytes) {
-        let (operand, rest) = operand(alloc, bytes)?;
+    let bytes = unspaced(bytes);
+    if let Some((name, rest)) = bare_name(bytes) {
+        let (operand, rest) = operand_named(alloc, name, rest)?;
         return Ok((Argument::Operand(operand), rest));
     }
     let (literal, rest) = literal(alloc, bytes)?;

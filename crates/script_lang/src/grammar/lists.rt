@@ -1,7 +1,7 @@
 //! The lists of shapes.
-ghost use Rattle.std.specs.Prelude.{◌≡◌, length, true};
+ghost use Rattle.std.specs.Prelude.{◌≡◌, true};
 ghost use Rattle.script_lang.specs.Tokens.{length_at, integer_at};
-ghost use Rattle.script_lang.specs.Lists.{entries_at};
+ghost use Rattle.script_lang.specs.Lists.{by_rule, entries};
 ghost use Rattle.script_lang.specs.Indexes.{shape_at, signed_shape_at};
 ghost use Rattle.script_lang.specs.Reading.{Reads};
 
@@ -13,11 +13,11 @@ use std::alloc::Global;
 
 /// Lengths that commas part, up to the parenthesis that ends them, and what follows it.
 fn lengths(alloc: Global, bytes: &[u8]) -> Result<(Lengths, &[u8]), Refusal>
-    ensures { Reads (λ r. (r.0, r.1.now)) (λ _. true) result (entries_at length_at 41 (length bytes.now) bytes.now) }
+    ensures { Reads (λ r. (r.0, r.1.now)) (λ _. true) result (by_rule (entries length_at 41) bytes.now) }
 {
     let mut lengths = Lengths::new(alloc);
     let mut rest = bytes;
-    for _turn in 0..bytes.len() {
+    loop {
         if let Some(end) = symbol(b')', rest) {
             return Ok((lengths, end));
         }
@@ -33,16 +33,15 @@ fn lengths(alloc: Global, bytes: &[u8]) -> Result<(Lengths, &[u8]), Refusal>
         };
         rest = next;
     }
-    Err(Refusal::Syntax)
 }
 
 /// Integers that commas part, up to the parenthesis that ends them, and what follows it.
 fn integers(alloc: Global, bytes: &[u8]) -> Result<(Integers, &[u8]), Refusal>
-    ensures { Reads (λ r. (r.0, r.1.now)) (λ _. true) result (entries_at integer_at 41 (length bytes.now) bytes.now) }
+    ensures { Reads (λ r. (r.0, r.1.now)) (λ _. true) result (by_rule (entries integer_at 41) bytes.now) }
 {
     let mut integers = Integers::new(alloc);
     let mut rest = bytes;
-    for _turn in 0..bytes.len() {
+    loop {
         if let Some(end) = symbol(b')', rest) {
             return Ok((integers, end));
         }
@@ -58,7 +57,6 @@ fn integers(alloc: Global, bytes: &[u8]) -> Result<(Integers, &[u8]), Refusal>
         };
         rest = next;
     }
-    Err(Refusal::Syntax)
 }
 
 /// The shape that comes next, and what follows it.

@@ -1,7 +1,7 @@
 //! Literals.
-ghost use Rattle.std.specs.Prelude.{◌≡◌, ◌<◌, ◌+◌, length, true, IfSome};
+ghost use Rattle.std.specs.Prelude.{◌≡◌, ◌<◌, true, IfSome};
 ghost use Rattle.script_lang.specs.Tokens.{byte_at};
-ghost use Rattle.script_lang.specs.Lists.{entries_at, row_at};
+ghost use Rattle.script_lang.specs.Lists.{by_rule, entries, row};
 ghost use Rattle.script_lang.specs.Literals.{hex_value, hex_digit_at, escape_at, plain_byte_at, text_byte_at, byte_text_at, boolean_at, bytes_at, scalar_at, record_at, literal_within, literal_at, line_end_at};
 ghost use Rattle.script_lang.specs.Listed.{literals_of};
 ghost use Rattle.script_lang.specs.Reading.{Scans, Reads, scalar_room, literal_room};
@@ -75,11 +75,11 @@ fn text_byte(bytes: &[u8]) -> Option<(u8, &[u8])>
 
 /// The bytes up to the apostrophe, and what follows it.
 fn byte_row(alloc: Global, bytes: &[u8]) -> Result<(ByteText, &[u8]), Refusal>
-    ensures { Reads (λ r. (r.0, r.1.now)) (λ _. true) result (row_at text_byte_at (byte_at 39) (length bytes.now) bytes.now) }
+    ensures { Reads (λ r. (r.0, r.1.now)) (λ _. true) result (by_rule (row text_byte_at (byte_at 39)) bytes.now) }
 {
     let mut text = ByteText::new(alloc);
     let mut rest = bytes;
-    for _turn in 0..bytes.len() {
+    loop {
         if let Some(end) = byte(b'\'', rest) {
             return Ok((text, end));
         }
@@ -89,7 +89,6 @@ fn byte_row(alloc: Global, bytes: &[u8]) -> Result<(ByteText, &[u8]), Refusal>
         text.push(next)?;
         rest = after;
     }
-    Err(Refusal::Syntax)
 }
 
 /// The bytes literal behind `b'`, and what follows it.
@@ -115,12 +114,12 @@ fn boolean(bytes: &[u8]) -> Option<(ScalarLiteral, &[u8])>
     None
 }
 
-/// The literal that comes next and is no record, and what follows it.
+/// The literal that comes at once and is no record, and what follows it.
 #[tactic(auto, unfolding(crate::specs::Literals::scalar_at))]
-pub fn scalar(alloc: Global, bytes: &[u8]) -> Result<(ScalarLiteral, &[u8]), Refusal>
+fn scalar(alloc: Global, bytes: &[u8]) -> Result<(ScalarLiteral, &[u8]), Refusal>
     ensures { Reads (λ r. (r.0, r.1.now)) (λ r. scalar_room r.0) result (scalar_at bytes.now) }
 {
-    if let Some(inside) = bytes_mark(unspaced(bytes)) {
+    if let Some(inside) = bytes_mark(bytes) {
         return bytes_literal(alloc, inside);
     }
     if let Some((n, rest)) = integer(bytes) {
@@ -133,11 +132,11 @@ pub fn scalar(alloc: Global, bytes: &[u8]) -> Result<(ScalarLiteral, &[u8]), Ref
 /// follows it.
 #[cycle(nesting)]
 fn values(alloc: Global, depth: usize, bytes: &[u8]) -> Result<(RecordLiteral, &[u8]), Refusal>
-    ensures { Reads (λ r. (literals_of r.0, r.1.now)) (λ _. true) result (entries_at (literal_within depth) 41 (length bytes.now) bytes.now) }
+    ensures { Reads (λ r. (literals_of r.0, r.1.now)) (λ _. true) result (by_rule (entries (literal_within depth) 41) bytes.now) }
 {
     let mut values = RecordLiteral::new(alloc);
     let mut rest = bytes;
-    for _turn in 0..bytes.len() {
+    loop {
         if let Some(end) = symbol(b')', rest) {
             return Ok((values, end));
         }
@@ -151,7 +150,6 @@ fn values(alloc: Global, depth: usize, bytes: &[u8]) -> Result<(RecordLiteral, &
         };
         rest = next;
     }
-    Err(Refusal::Syntax)
 }
 
 /// The record literal behind `(` whose values have at most this depth, and what follows it.
@@ -173,8 +171,9 @@ fn record(alloc: Global, depth: usize, bytes: &[u8]) -> Result<(Literal, &[u8]),
 fn literal_within(alloc: Global, depth: usize, bytes: &[u8]) -> Result<(Literal, &[u8]), Refusal>
     ensures { Reads (λ r. (r.0, r.1.now)) (λ r. literal_room r.0) result (literal_within depth bytes.now) }
 {
+    let bytes = unspaced(bytes);
     if depth > 0
-        && let Some(inside) = symbol(b'(', bytes)
+        && let Some(inside) = byte(b'(', bytes)
     {
         return record(alloc, depth - 1, inside);
     }
@@ -192,11 +191,11 @@ pub fn literal(alloc: Global, bytes: &[u8]) -> Result<(Literal, &[u8]), Refusal>
 
 /// The literals up to the line's end, and the blanks that are left there.
 pub fn literals(alloc: Global, bytes: &[u8]) -> Result<(Literals, &[u8]), Refusal>
-    ensures { Reads (λ r. (r.0, r.1.now)) (λ _. true) result (row_at literal_at line_end_at (length bytes.now + 1) bytes.now) }
+    ensures { Reads (λ r. (r.0, r.1.now)) (λ _. true) result (by_rule (row literal_at line_end_at) bytes.now) }
 {
     let mut literals = Literals::new(alloc);
     let mut rest = bytes;
-    for _turn in 0..bytes.len() + 1 {
+    loop {
         if is_at_end(rest) {
             return Ok((literals, rest));
         }
@@ -204,5 +203,4 @@ pub fn literals(alloc: Global, bytes: &[u8]) -> Result<(Literals, &[u8]), Refusa
         literals.push(entry)?;
         rest = after;
     }
-    Err(Refusal::Syntax)
 }

@@ -1,11 +1,11 @@
 //! Names of arrays, and the words that name none.
 ghost use Rattle.std.specs.Prelude.{◌≡◌, ◌≤◌, length, IfSome};
-ghost use Rattle.script_lang.specs.Tokens.{starts_name, is_name, name_at};
+ghost use Rattle.script_lang.specs.Tokens.{starts_name, names_unless_verb, is_name, name_at};
 ghost use Rattle.script_lang.specs.Reading.{Scans};
 
 use crate::grammar::classes::is_name_start;
 use crate::grammar::tokens::word;
-use crate::grammar::verbs::is_reserved;
+use crate::grammar::verbs::{is_constant, verb};
 use crate::name::{MAX_NAME_LEN, Name};
 use std::alloc::Global;
 
@@ -18,10 +18,17 @@ fn starts_name(word: &[u8]) -> bool
     }
 }
 
+/// Whether the word names an array unless it is a verb.
+pub fn names_unless_verb(word: &[u8]) -> bool
+    ensures { result ≡ names_unless_verb word.now }
+{
+    starts_name(word) && word.len() <= MAX_NAME_LEN && !is_constant(word)
+}
+
 fn is_name(word: &[u8]) -> bool
     ensures { result ≡ is_name word.now }
 {
-    starts_name(word) && word.len() <= MAX_NAME_LEN && !is_reserved(word)
+    names_unless_verb(word) && verb(word).is_none()
 }
 
 /// The name that comes next, with any blanks before it, and what follows it.

@@ -1,6 +1,6 @@
 //! The words that the language knows.
 ghost use Rattle.std.specs.Prelude.{◌≡◌, map};
-ghost use Rattle.script_lang.specs.Verbs.{beside, verb_of, is_reserved, operation_of, order_of};
+ghost use Rattle.script_lang.specs.Verbs.{beside, verb_of, is_constant, operation_of, order_of};
 
 use crate::operation::Operation;
 use crate::verb::{ComputeVerb, VERBS, Verb};
@@ -27,14 +27,11 @@ pub fn verb(word: &[u8]) -> Option<Verb>
     lookup(&VERBS, word)
 }
 
-/// Whether the word names no array: a verb, or a word of literals and index lists.
-#[tactic(auto, unfolding(crate::specs::Verbs::is_reserved))]
-pub fn is_reserved(word: &[u8]) -> bool
-    ensures { result ≡ is_reserved word.now }
+/// Whether the word is one of literals and index lists.
+#[tactic(auto, unfolding(crate::specs::Verbs::is_constant))]
+pub fn is_constant(word: &[u8]) -> bool
+    ensures { result ≡ is_constant word.now }
 {
-    if verb(word).is_some() {
-        return true;
-    }
     word == b"True".as_slice() || word == b"False".as_slice() || word == b"None".as_slice()
 }
 

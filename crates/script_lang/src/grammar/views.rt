@@ -3,10 +3,10 @@ ghost use Rattle.std.specs.Prelude.{◌≡◌};
 ghost use Rattle.script_lang.specs.Commands.{viewing_of, plain_view_at, field_name_at, transpose_at, reshape_at, broadcast_at, viewing_at, view_at};
 ghost use Rattle.script_lang.specs.Reading.{Reads, viewing_room, value_room};
 
-use crate::command::{Operand, Value, Viewing};
-use crate::grammar::indexes::operand;
+use crate::command::{Value, Viewing};
+use crate::grammar::indexes::optional_index;
 use crate::grammar::lists::{shape, signed_shape};
-use crate::grammar::names::name;
+use crate::grammar::names::{name, names_unless_verb};
 use crate::grammar::quotes::quoted;
 use crate::grammar::tokens::is_at_end;
 use crate::index::Index;
@@ -25,14 +25,24 @@ fn viewing_of(index: Option<Index>) -> Viewing
     }
 }
 
-/// `Y` or `Y[ix]`
+/// `Y` or `Y[ix]`, given the word `Y` and what follows it.
 #[tactic(auto, unfolding(crate::specs::Commands::plain_view_at), using(crate::proofs::Commands::plain_view_room))]
-pub fn plain_view(alloc: Global, bytes: &[u8]) -> Result<(Value, &[u8]), Refusal>
-    ensures { Reads (λ r. (r.0, r.1.now)) (λ r. value_room r.0) result (plain_view_at bytes.now) }
+pub fn plain_view<'a>(
+    alloc: Global,
+    word: &[u8],
+    bytes: &'a [u8],
+) -> Result<(Value, &'a [u8]), Refusal>
+    ensures { Reads (λ r. (r.0, r.1.now)) (λ r. value_room r.0) result (plain_view_at (word.now, bytes.now)) }
 {
-    let (Operand { name, index }, rest) = operand(alloc, bytes)?;
-    let how = viewing_of(index);
-    Ok((Value::View { source: name, how }, rest))
+    if !names_unless_verb(word) {
+        return Err(Refusal::Syntax);
+    }
+    let (index, rest) = optional_index(alloc, bytes)?;
+    let view = Value::View {
+        source: Name::from_slice(alloc, word),
+        how: viewing_of(index),
+    };
+    Ok((view, rest))
 }
 
 /// `"f"`, behind `field Y`.

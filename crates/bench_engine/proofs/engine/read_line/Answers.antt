@@ -6,4 +6,4 @@ pub returns-then-bytes-gt-MAX_LINE_LEN : goal.returns-then-bytes-gt-MAX_LINE_LEN
 returns-then-bytes-gt-MAX_LINE_LEN c = rw (c.in-Held.is, meaning_of-long c.in-Held.bytes.now (omega arith)) refl
 
 pub returns : goal.returns
-returns c = rw (c.in-Held.is, meaning_of-short c.in-Held.bytes.now (omega arith)) c.parse.ensures
+returns c = rw (c.in-Held.is, meaning_of-short c.in-Held.bytes.now (omega arith)) c.parse.ensures.command

@@ -1,9 +1,12 @@
-use Rattle.std.proofs.Common.{◌≡◌, ◌-◌, length}
+use Rattle.std.proofs.Common.{◌≡◌, length}
 use Rattle.script_lang.specs.Tokens.{integer_at}
-use Rattle.script_lang.specs.Lists.{entries_at}
+use Rattle.script_lang.specs.Lists.{by_rule, entries}
 use Rattle.script_lang.proofs.Lists.{in_front}
 use Rattle.script_lang.proofs.grammar.lists.integers.Given as goal
 
 -- the integers so far, in front of those of the rest, are all
-abbrev pub invariant-loop-turn : goal.invariant-loop-turn
-invariant-loop-turn l = entries_at integer_at 41 (length l.bytes) l.bytes ≡ in_front l.integers (entries_at integer_at 41 (length l.bytes - l._turn) l.rest)
+abbrev pub invariant-loop-end : goal.invariant-loop-end
+invariant-loop-end l = by_rule (entries integer_at 41) l.bytes ≡ in_front l.integers (by_rule (entries integer_at 41) l.rest)
+
+abbrev pub decreases-loop-end : goal.decreases-loop-end
+decreases-loop-end l = length l.rest

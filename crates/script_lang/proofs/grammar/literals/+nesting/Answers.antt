@@ -1,8 +1,9 @@
--- What a turn reads is what `entries_at` reads there.
-use Rattle.std.proofs.Common.{refl, inl, sym, arith, ◌∙◌}
+-- What a turn reads is what the rule of the list reads there.
+use Rattle.std.proofs.Common.{refl, inl, sym, ◌∙◌}
 use Rattle.std.proofs.lemmas.Result.{err_from_is_err_and}
 use Rattle.script_lang.specs.Literals.{literal_within}
-use Rattle.script_lang.proofs.Lists.{failed_entry, entries_closed, entries_no_entry, entries_last, entries_no_mark, entries_next, entries_no_turn}
+use Rattle.script_lang.proofs.Shorter.{literal_within_shorter, comma_behind}
+use Rattle.script_lang.proofs.Lists.{failed_entry, entries_closed, entries_no_entry, entries_last, entries_no_mark, entries_next}
 use Rattle.script_lang.proofs.Records.{record_empty, record_read}
 use Rattle.script_lang.proofs.grammar.literals.+nesting.Goals as goal
 
@@ -15,24 +16,24 @@ record-returns t c = record_read (literal_within c.args.depth) _ _ _ c.in_ok-val
 
 pub values-returns-in-Some : goal.values-returns-in-Some
 values-returns-in-Some t c =
-    entries_closed (literal_within c.args.depth) 41 _ _ _ _ _ c.loop-turn.invariant _ (omega arith) c.in-Some.ensures
+    entries_closed (literal_within c.args.depth) (literal_within_shorter c.args.depth) 41 _ _ _ c.loop-end.invariant _ c.in-Some.ensures
 
 pub values-returns-in_err-entry : goal.values-returns-in_err-entry
 values-returns-in_err-entry t c =
     let error = err_from_is_err_and c.from_residual.result c.from_residual.ensures.1 in
-    rw (error.1, error.2) (failed_entry _ (literal_within c.args.depth c.loop-turn.rest.now) _ c.in_err-entry.ensures (entries_no_entry (literal_within c.args.depth) 41 _ _ _ _ _ c.loop-turn.invariant (omega arith) c.in_default.ensures))
+    rw (error.1, error.2) (failed_entry _ (literal_within c.args.depth c.loop-end.rest.now) _ c.in_err-entry.ensures (entries_no_entry (literal_within c.args.depth) (literal_within_shorter c.args.depth) 41 _ _ _ c.loop-end.invariant c.in_default.ensures))
 
 pub values-returns-in-Some-symbol : goal.values-returns-in-Some-symbol
 values-returns-in-Some-symbol t c =
-    rw c.in_ok-push.ensures.ok (entries_last (literal_within c.args.depth) 41 _ _ _ _ _ c.loop-turn.invariant _ _ _ (omega arith) c.in_default.ensures c.in_ok-entry.ensures c.in-Some-symbol.ensures)
+    rw c.in_ok-push.ensures.ok (entries_last (literal_within c.args.depth) (literal_within_shorter c.args.depth) 41 _ _ _ c.loop-end.invariant _ _ _ c.in_default.ensures c.in_ok-entry.ensures c.in-Some-symbol.ensures)
 
 pub values-returns-in_default-symbol-2 : goal.values-returns-in_default-symbol-2
 values-returns-in_default-symbol-2 t c =
-    inl (refl, entries_no_mark (literal_within c.args.depth) 41 _ _ _ _ _ c.loop-turn.invariant _ _ (omega arith) c.in_default.ensures c.in_ok-entry.ensures c.in_default-symbol.ensures c.in_default-symbol-2.ensures)
+    inl (refl, entries_no_mark (literal_within c.args.depth) (literal_within_shorter c.args.depth) 41 _ _ _ c.loop-end.invariant _ _ c.in_default.ensures c.in_ok-entry.ensures c.in_default-symbol.ensures c.in_default-symbol-2.ensures)
 
-pub values-loop-turn-preserved : goal.values-loop-turn-preserved
-values-loop-turn-preserved t c =
-    rw c.in_ok-push.ensures.ok (entries_next (literal_within c.args.depth) 41 _ _ _ _ _ c.loop-turn.invariant _ _ _ (omega arith) c.in_default.ensures c.in_ok-entry.ensures c.in_default-symbol.ensures c.in-Some-symbol-2.ensures)
+pub values-loop-end-preserved : goal.values-loop-end-preserved
+values-loop-end-preserved t c =
+    rw c.in_ok-push.ensures.ok (entries_next (literal_within c.args.depth) (literal_within_shorter c.args.depth) 41 _ _ _ c.loop-end.invariant _ _ _ c.in_default.ensures c.in_ok-entry.ensures c.in_default-symbol.ensures c.in-Some-symbol-2.ensures)
 
-pub values-returns : goal.values-returns
-values-returns t c = inl (refl, entries_no_turn (literal_within c.args.depth) 41 _ _ _ _ _ c.loop-turn.invariant (omega arith))
+pub values-loop-end-smaller : goal.values-loop-end-smaller
+values-loop-end-smaller t c = comma_behind (literal_within c.args.depth) (literal_within_shorter c.args.depth) _ _ _ _ c.in_ok-entry.ensures c.in-Some-symbol-2.ensures

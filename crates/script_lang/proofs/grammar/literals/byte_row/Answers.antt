@@ -1,19 +1,20 @@
--- What a turn reads is what `row_at` reads there.
-use Rattle.std.proofs.Common.{refl, inl, arith}
+-- What a turn reads is what the rule of the row reads there.
+use Rattle.std.proofs.Common.{refl, inl}
 use Rattle.script_lang.specs.Tokens.{byte_at}
 use Rattle.script_lang.specs.Literals.{text_byte_at}
-use Rattle.script_lang.proofs.Lists.{row_ends, row_no_entry, row_next, row_no_turn}
+use Rattle.script_lang.proofs.Shorter.{text_byte_shorter, entry_behind}
+use Rattle.script_lang.proofs.Lists.{row_ends, row_no_entry, row_next}
 use Rattle.script_lang.proofs.grammar.literals.byte_row.Goals as goal
 
 pub returns-in-Some : goal.returns-in-Some
-returns-in-Some c = row_ends text_byte_at (byte_at 39) _ _ _ _ _ c.loop-turn.invariant _ (omega arith) c.in-Some.ensures
+returns-in-Some c = row_ends text_byte_at text_byte_shorter (byte_at 39) _ _ _ c.loop-end.invariant _ c.in-Some.ensures
 
 pub returns-in_default-text_byte : goal.returns-in_default-text_byte
-returns-in_default-text_byte c = inl (refl, row_no_entry text_byte_at (byte_at 39) _ _ _ _ _ c.loop-turn.invariant (omega arith) c.in_default.ensures c.in_default-text_byte.ensures)
+returns-in_default-text_byte c = inl (refl, row_no_entry text_byte_at text_byte_shorter (byte_at 39) _ _ _ c.loop-end.invariant c.in_default.ensures c.in_default-text_byte.ensures)
 
-pub loop-turn-preserved : goal.loop-turn-preserved
-loop-turn-preserved c =
-    rw c.in_ok-push.ensures.ok (row_next text_byte_at (byte_at 39) _ _ _ _ _ c.loop-turn.invariant _ _ (omega arith) c.in_default.ensures c.in-Some-text_byte.ensures)
+pub loop-end-preserved : goal.loop-end-preserved
+loop-end-preserved c =
+    rw c.in_ok-push.ensures.ok (row_next text_byte_at text_byte_shorter (byte_at 39) _ _ _ c.loop-end.invariant _ _ c.in_default.ensures c.in-Some-text_byte.ensures)
 
-pub returns : goal.returns
-returns c = inl (refl, row_no_turn text_byte_at (byte_at 39) _ _ _ _ _ c.loop-turn.invariant (omega arith))
+pub loop-end-smaller : goal.loop-end-smaller
+loop-end-smaller c = entry_behind text_byte_at text_byte_shorter _ _ _ c.in-Some-text_byte.ensures

@@ -1,0 +1,283 @@
+-- What a reading leaves is shorter than what it was given.
+use Rattle.std.proofs.Common.{◌≡◌, ◌<◌, ◌≤◌, ℕ, zero, suc, Bool, true, false, List, [], ◌∷◌, length, Option, Some, None, arith, length-drop, nat_eq, codes, not, ◌==◌, subst}
+use Rattle.std.specs.Prelude.{ℤ, nat_le, IfSome, if◌then◌else◌}
+use Rattle.std.specs.List.{prefix_len}
+use Rattle.std.specs.Option.{option_map}
+use Rattle.std.specs.Str.{bytes_eq}
+use Rattle.std.proofs.Math.Dec.{eqb-suc-zero}
+use Rattle.shape_strides.specs.declared.index_item.IndexItem.{IndexItem}
+use Rattle.shape_strides.specs.declared.index_item.IndexItem.TheVariants.{Ellipsis, NewAxis}
+use Rattle.script_lang.specs.declared.literal.ScalarLiteral.{ScalarLiteral}
+use Rattle.script_lang.specs.declared.literal.Literal.{Literal}
+use Rattle.script_lang.specs.Tokens.{◌>>=◌, ◌or_else◌, if_found, where_true, is_blank, is_digit, is_name_byte, unspaced, byte_at, symbol_at, front_at, front_of, bytes_mark_at, is_parted, word_at, keyword_at, is_name, name_at, number_at, length_at, positive, negative, signed_at, integer_at, optional, optional_integer_at}
+use Rattle.script_lang.specs.Lists.{in_turns, by_rule, closed, entry_first, comma_next, listed, entries, row}
+use Rattle.script_lang.specs.Literals.{hex_value, hex_digit_at, escape_at, is_plain, plain_byte_at, text_byte_at, byte_text_at, integer_of, boolean_at, bytes_at, scalar_at, literal_of_scalar, record_at, literal_within, max_literal_depth, literal_at}
+use Rattle.script_lang.specs.Indexes.{step_at, slice_at, ellipsis_at, integer_item, item_with_rest, array_item, bare_item_at, index_item_at}
+use Rattle.script_lang.proofs.Rooms.{after_step, after_known}
+
+-- fewer than n bytes are left, and behind what is read
+abbrev pub Few : ℕ → List ℕ → Type 0
+Few n rest = length rest < n
+
+abbrev pub Less : {A : Type 0} → ℕ → A × List ℕ → Type 0
+Less n r = length r.1 < n
+
+-- what is read is a byte at least
+abbrev pub Shortens : {A : Type 0} → (List ℕ → Option (A × List ℕ)) → Type 0
+Shortens entry_at = (bytes : List ℕ) → IfSome (entry_at bytes) (Less (length bytes))
+
+pub weaker : {A : Type 0} (P Q : A → Type 0) (o : Option A) → IfSome o P → ((x : A) → P x → Q x) → IfSome o Q
+weaker P Q None known each = tt
+weaker P Q (Some x) known each = each x known
+
+either : {A : Type 0} (P : A → Type 0) (first second : Option A) → IfSome first P → IfSome second P → IfSome (first or_else second) P
+either P None second one two = two
+either P (Some x) second one two = one
+
+mapped : {A B : Type 0} (P : B → Type 0) (f : A → B) (o : Option A) → IfSome o (λ x. P (f x)) → IfSome (option_map f o) P
+mapped P f None known = tt
+mapped P f (Some x) known = known
+
+chosen : {A : Type 0} (P : A → Type 0) (t : Bool) (one other : Option A) → IfSome one P → IfSome other P → IfSome (if t then one else other) P
+chosen P true one other first second = first
+chosen P false one other first second = second
+
+found : {A B : Type 0} (Q : B → Type 0) (P : A → Type 0) (o : Option B) (next : B → Option A) (other : Option A) → IfSome o Q → ((x : B) → Q x → IfSome (next x) P) → IfSome other P → IfSome (if_found o next other) P
+found Q P None next other known each otherwise = otherwise
+found Q P (Some x) next other known each otherwise = each x known
+
+-- what is read of fewer bytes
+within : {A : Type 0} (n : ℕ) (read : List ℕ → Option (A × List ℕ)) → Shortens read → (rest : List ℕ) → length rest ≤ n → IfSome (read rest) (Less n)
+within n read shorter rest few = weaker (Less (length rest)) (Less n) (read rest) (shorter rest) (λ r less. omega arith)
+
+-- Tokens
+
+byte_within : (n b : ℕ) (bytes : List ℕ) → length bytes ≤ n → IfSome (byte_at b bytes) (Few n)
+byte_within n b [] few = tt
+byte_within n b (c ∷ bytes) few = chosen (Few n) (nat_eq c b) (Some bytes) None (omega arith) tt
+
+-- two bytes at once
+pub two_within : (n b c : ℕ) (bytes : List ℕ) → length bytes ≤ n → IfSome (byte_at b bytes >>= byte_at c) (Few n)
+two_within n b c bytes few = after_known (Few n) (Few n) (byte_at b bytes) (byte_at c) (byte_within n b bytes few) (λ rest fewer. byte_within n c rest (omega arith))
+
+unspaced_length : (bytes : List ℕ) → length (unspaced bytes) ≤ length bytes
+unspaced_length bytes = omega (arith, length-drop (prefix_len is_blank bytes) bytes)
+
+symbol_within : (n b : ℕ) (bytes : List ℕ) → length bytes ≤ n → IfSome (symbol_at b bytes) (Few n)
+symbol_within n b bytes few = byte_within n b (unspaced bytes) (omega (arith, unspaced_length bytes))
+
+pub symbol_shorter : (b : ℕ) (bytes : List ℕ) → IfSome (symbol_at b bytes) (Few (length bytes))
+symbol_shorter b bytes = symbol_within (length bytes) b bytes (omega arith)
+
+front_cons : (n b : ℕ) (bytes : List ℕ) → IfSome (front_of n (b ∷ bytes)) (Less (length (b ∷ bytes)))
+front_cons zero b bytes = tt
+front_cons (suc n) b bytes = rw (eqb-suc-zero n) (omega (arith, length-drop n bytes))
+
+front_shorter : (test : ℕ → Bool) → Shortens (front_at test)
+front_shorter test [] = tt
+front_shorter test (b ∷ bytes) = front_cons (prefix_len test (b ∷ bytes)) b bytes
+
+number_shorter : Shortens number_at
+unfolding number_at
+number_shorter bytes =
+    let P = Less {A = ℕ} (length bytes) in
+    after_known (Less (length bytes)) P (front_at is_digit bytes) _ (front_shorter is_digit bytes)
+    (λ digits less. after_step P (where_true (nat_le (length digits.0) 30)) _ (λ few. after_step P (where_true (is_parted digits.1)) _ (λ parted. less)))
+
+pub length_shorter : Shortens length_at
+unfolding length_at
+length_shorter bytes = within (length bytes) number_at number_shorter (unspaced bytes) (unspaced_length bytes)
+
+signed_shorter : Shortens signed_at
+signed_shorter [] = tt
+signed_shorter (b ∷ bytes) =
+    let P = Less {A = ℤ} (length (b ∷ bytes)) in
+    let behind = within (length (b ∷ bytes)) number_at number_shorter bytes (omega arith) in
+    chosen P (nat_eq b 45) _ _ (mapped P negative (number_at bytes) behind)
+    (chosen P (nat_eq b 43) _ _ (mapped P positive (number_at bytes) behind) (mapped P positive (number_at (b ∷ bytes)) (number_shorter (b ∷ bytes))))
+
+pub integer_shorter : Shortens integer_at
+unfolding integer_at
+integer_shorter bytes = within (length bytes) signed_at signed_shorter (unspaced bytes) (unspaced_length bytes)
+
+word_shorter : Shortens word_at
+unfolding word_at
+word_shorter bytes =
+    let P = Less {A = List ℕ} (length bytes) in
+    after_known P P (front_at is_name_byte (unspaced bytes)) _ (within (length bytes) (front_at is_name_byte) (front_shorter is_name_byte) (unspaced bytes) (unspaced_length bytes))
+    (λ word less. after_step P (where_true (is_parted word.1)) _ (λ parted. less))
+
+keyword_shorter : (keyword bytes : List ℕ) → IfSome (keyword_at keyword bytes) (Few (length bytes))
+unfolding keyword_at
+keyword_shorter keyword bytes =
+    let P = Few (length bytes) in
+    after_known (Less (length bytes)) P (word_at bytes) _ (word_shorter bytes) (λ word less. after_step P (where_true (bytes_eq word.0 keyword)) _ (λ same. less))
+
+name_shorter : Shortens name_at
+unfolding name_at
+name_shorter bytes =
+    let P = Less {A = List ℕ} (length bytes) in
+    after_known P P (word_at bytes) _ (word_shorter bytes) (λ word less. after_step P (where_true (is_name word.0)) _ (λ name. less))
+
+-- Index items
+
+-- an integer that may be there leaves no more
+optional_length : {A : Type 0} (bytes : List ℕ) (o : Option (A × List ℕ)) → IfSome o (Less (length bytes)) → length (optional bytes o).1 ≤ length bytes
+optional_length bytes None known = omega arith
+optional_length bytes (Some r) known = omega (arith, known)
+
+optional_integer_length : (bytes : List ℕ) → length (optional_integer_at bytes).1 ≤ length bytes
+unfolding optional_integer_at
+optional_integer_length bytes = optional_length bytes (integer_at bytes) (integer_shorter bytes)
+
+step_length : (bytes : List ℕ) (o : Option (List ℕ)) → IfSome o (Few (length bytes)) → length (step_at bytes o).1 ≤ length bytes
+step_length bytes None known = omega arith
+step_length bytes (Some rest) known = omega (arith, known, optional_integer_length rest)
+
+slice_shorter : Shortens slice_at
+unfolding slice_at
+slice_shorter bytes =
+    let start = (optional_integer_at bytes).1 in
+    after_known (Few (length start)) (Less (length bytes)) (symbol_at 58 start) _ (symbol_shorter 58 start)
+    (λ rest few.
+    let stop = (optional_integer_at rest).1 in
+    omega (arith, few, optional_integer_length bytes, optional_integer_length rest, step_length stop (symbol_at 58 stop) (symbol_shorter 58 stop)))
+
+ellipsis_shorter : (bytes : List ℕ) → IfSome (ellipsis_at bytes) (Few (length bytes))
+unfolding ellipsis_at
+ellipsis_shorter bytes =
+    let P = Few (length bytes) in
+    after_known P P (byte_at 46 (unspaced bytes) >>= byte_at 46) (byte_at 46) (two_within (length bytes) 46 46 (unspaced bytes) (unspaced_length bytes)) (λ rest few. byte_within (length bytes) 46 rest (omega arith))
+
+bare_item_shorter : Shortens bare_item_at
+bare_item_shorter bytes =
+    let P = Less {A = IndexItem (List ℕ)} (length bytes) in
+    either P _ _ (either P _ _ (either P _ _ (either P _ _ (slice_shorter bytes)
+    (mapped P integer_item (integer_at bytes) (integer_shorter bytes)))
+    (mapped P (item_with_rest Ellipsis) (ellipsis_at bytes) (ellipsis_shorter bytes)))
+    (mapped P (item_with_rest NewAxis) (keyword_at (codes "None") bytes) (keyword_shorter (codes "None") bytes)))
+    (mapped P array_item (name_at bytes) (name_shorter bytes))
+
+pub index_item_shorter : Shortens index_item_at
+unfolding index_item_at
+index_item_shorter bytes = within (length bytes) bare_item_at bare_item_shorter (unspaced bytes) (unspaced_length bytes)
+
+-- Lists
+
+in_turns_shorter : {A : Type 0} (rule : (List ℕ → Option (A × List ℕ)) → List ℕ → Option (A × List ℕ)) → ((others_at : List ℕ → Option (A × List ℕ)) → Shortens others_at → Shortens (rule others_at)) → (turns : ℕ) → Shortens (in_turns rule turns)
+unfolding in_turns
+in_turns_shorter rule each zero bytes = tt
+in_turns_shorter rule each (suc turns) bytes = each (in_turns rule turns) (in_turns_shorter rule each turns) bytes
+
+closed_within : (A : Type 0) (n : ℕ) (rest : Option (List ℕ)) → IfSome rest (Few n) → IfSome (closed {A = A} rest) (Less n)
+closed_within A n None known = tt
+closed_within A n (Some end) known = known
+
+module _ {A : Type 0} (entry_at : List ℕ → Option (A × List ℕ)) (shorter : Shortens entry_at) where
+  first_shorter : (others_at : List ℕ → Option (List A × List ℕ)) → Shortens others_at → Shortens (entry_first entry_at others_at)
+  unfolding entry_first
+  first_shorter others_at others bytes =
+      let P = Less {A = List A} (length bytes) in
+      after_known (Less (length bytes)) P (entry_at bytes) _ (shorter bytes)
+      (λ first less. after_known P P (others_at first.1) _ (within (length bytes) others_at others first.1 (omega arith)) (λ rest few. few))
+
+  comma_shorter : (closing : ℕ) (others_at : List ℕ → Option (List A × List ℕ)) → Shortens others_at → Shortens (comma_next closing others_at)
+  unfolding comma_next
+  comma_shorter closing others_at others bytes =
+      let P = Less {A = List A} (length bytes) in
+      either P _ _ (closed_within A (length bytes) (symbol_at closing bytes) (symbol_shorter closing bytes))
+      (after_known (Few (length bytes)) P (symbol_at 44 bytes) others_at (symbol_shorter 44 bytes) (λ next few. within (length bytes) others_at others next (omega arith)))
+
+  entries_shorter : (closing : ℕ) → Shortens (by_rule (entries entry_at closing))
+  unfolding by_rule entries listed
+  entries_shorter closing bytes =
+      in_turns_shorter (entries entry_at closing)
+      (λ others_at others rest. either (Less (length rest)) _ _ (closed_within A (length rest) (symbol_at closing rest) (symbol_shorter closing rest)) (first_shorter (comma_next closing others_at) (comma_shorter closing others_at others) rest))
+      (suc (length bytes)) bytes
+
+  row_shorter : (closing : ℕ) → Shortens (by_rule (row entry_at (byte_at closing)))
+  unfolding by_rule row
+  row_shorter closing bytes =
+      in_turns_shorter (row entry_at (byte_at closing))
+      (λ others_at others rest. either (Less (length rest)) _ _ (closed_within A (length rest) (byte_at closing rest) (byte_within (length rest) closing rest (omega arith))) (first_shorter others_at others rest))
+      (suc (length bytes)) bytes
+
+-- Literals
+
+digit_behind : (b : ℕ) (bytes : List ℕ) (o : Option ℕ) → IfSome (option_map (λ (digit : ℕ). (digit, bytes)) o) (Less (length (b ∷ bytes)))
+digit_behind b bytes None = tt
+digit_behind b bytes (Some digit) = omega arith
+
+digit_shorter : Shortens hex_digit_at
+unfolding hex_digit_at
+digit_shorter [] = tt
+digit_shorter (b ∷ bytes) = digit_behind b bytes (hex_value b)
+
+escape_shorter : Shortens escape_at
+unfolding escape_at
+escape_shorter bytes =
+    let P = Less {A = ℕ} (length bytes) in
+    after_known (Few (length bytes)) P (byte_at 120 bytes) _ (byte_within (length bytes) 120 bytes (omega arith))
+    (λ digits few. after_known P P (hex_digit_at digits) _ (within (length bytes) hex_digit_at digit_shorter digits (omega arith))
+    (λ high fewer. after_known P P (hex_digit_at high.1) _ (within (length bytes) hex_digit_at digit_shorter high.1 (omega arith)) (λ low fewest. fewest)))
+
+plain_byte_shorter : Shortens plain_byte_at
+plain_byte_shorter [] = tt
+plain_byte_shorter (b ∷ bytes) = chosen (Less (length (b ∷ bytes))) (is_plain b) (Some (b, bytes)) None (omega arith) tt
+
+pub text_byte_shorter : Shortens text_byte_at
+unfolding text_byte_at
+text_byte_shorter bytes =
+    found (Few (length bytes)) (Less (length bytes)) (byte_at 92 bytes) escape_at (plain_byte_at bytes) (byte_within (length bytes) 92 bytes (omega arith))
+    (λ rest few. within (length bytes) escape_at escape_shorter rest (omega arith)) (plain_byte_shorter bytes)
+
+bytes_shorter : Shortens bytes_at
+unfolding bytes_at byte_text_at
+bytes_shorter bytes = after_known (Less (length bytes)) (Less (length bytes)) (by_rule (row text_byte_at (byte_at 39)) bytes) _ (row_shorter text_byte_at text_byte_shorter 39 bytes) (λ text less. less)
+
+boolean_shorter : Shortens boolean_at
+unfolding boolean_at
+boolean_shorter bytes =
+    let P = Less {A = ScalarLiteral} (length bytes) in
+    after_known (Less (length bytes)) P (word_at bytes) _ (word_shorter bytes)
+    (λ word less. chosen P (bytes_eq word.0 (codes "True")) _ _ less (chosen P (bytes_eq word.0 (codes "False")) _ _ less tt))
+
+scalar_shorter : Shortens scalar_at
+unfolding scalar_at bytes_mark_at
+scalar_shorter bytes =
+    let P = Less {A = ScalarLiteral} (length bytes) in
+    found (Few (length bytes)) P (bytes_mark_at bytes) bytes_at _ (two_within (length bytes) 98 39 bytes (omega arith))
+    (λ inside few. within (length bytes) bytes_at bytes_shorter inside (omega arith))
+    (either P _ _ (mapped P integer_of (integer_at bytes) (integer_shorter bytes)) (boolean_shorter bytes))
+
+scalar_literal_shorter : Shortens (λ bytes. option_map literal_of_scalar (scalar_at (unspaced bytes)))
+scalar_literal_shorter bytes = mapped (Less (length bytes)) literal_of_scalar (scalar_at (unspaced bytes)) (within (length bytes) scalar_at scalar_shorter (unspaced bytes) (unspaced_length bytes))
+
+record_shorter : (value_at : List ℕ → Option (Literal × List ℕ)) → Shortens value_at → Shortens (record_at value_at)
+unfolding record_at
+record_shorter value_at shorter bytes =
+    let P = Less {A = Literal} (length bytes) in
+    after_known (Less (length bytes)) P (by_rule (entries value_at 41) bytes) _ (entries_shorter value_at shorter 41 bytes)
+    (λ values less. after_step P (where_true (not (length values.0 == 0))) _ (λ some. less))
+
+pub literal_within_shorter : (depth : ℕ) → Shortens (literal_within depth)
+unfolding literal_within
+literal_within_shorter zero bytes = scalar_literal_shorter bytes
+literal_within_shorter (suc depth) bytes =
+    found (Few (length bytes)) (Less (length bytes)) (symbol_at 40 bytes) (record_at (literal_within depth)) _ (symbol_shorter 40 bytes)
+    (λ inside few. within (length bytes) (record_at (literal_within depth)) (record_shorter (literal_within depth) (literal_within_shorter depth)) inside (omega arith))
+    (scalar_literal_shorter bytes)
+
+pub literal_shorter : Shortens literal_at
+unfolding literal_at
+literal_shorter bytes = literal_within_shorter max_literal_depth bytes
+
+-- what is left behind an entry, and behind its comma
+pub entry_behind : {A : Type 0} (entry_at : List ℕ → Option (A × List ℕ)) → Shortens entry_at → (rest : List ℕ) (x : A) (after : List ℕ) → entry_at rest ≡ Some (x, after) → length after < length rest
+entry_behind entry_at shorter rest x after first = subst (λ o. IfSome o (Less (length rest))) first (shorter rest)
+
+pub comma_behind : {A : Type 0} (entry_at : List ℕ → Option (A × List ℕ)) → Shortens entry_at → (rest : List ℕ) (x : A) (after next : List ℕ) → entry_at rest ≡ Some (x, after) → symbol_at 44 after ≡ Some next → length next < length rest
+comma_behind entry_at shorter rest x after next first comma =
+    let one = entry_behind entry_at shorter rest x after first in
+    let two = subst (λ o. IfSome o (Few (length after))) comma (symbol_shorter 44 after) in
+    omega arith
