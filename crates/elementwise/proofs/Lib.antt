@@ -4,6 +4,7 @@ pub mod LeafLaws
 pub mod PassLaws
 pub mod RowLaws
 pub mod CastLaws
+pub mod EncodedLaws
 pub mod AlikeLaws
 pub mod PairLaws
 pub mod AppendedLaws
