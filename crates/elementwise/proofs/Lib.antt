@@ -21,6 +21,7 @@ pub mod ComparedLaws
 pub mod IntegerLaws
 pub mod BytesComparedLaws
 pub mod TextWordLaws
+pub mod EvenTextLaws
 pub mod TrimmedLaws
 pub mod BitLaws
 pub mod WordLaws

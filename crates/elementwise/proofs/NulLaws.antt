@@ -8,7 +8,7 @@ use Rattle.std.proofs.lemmas.List.{append-nil, length-replicate, length-reverse,
 use Rattle.std.proofs.lemmas.List.Sums.{prefix_len_passes, suffix_len-le-length}
 use Rattle.elem_descr.specs.Encoding.{without_nuls, padded}
 
-abbrev nuls : List ℕ → ℕ
+abbrev pub nuls : List ℕ → ℕ
 nuls bytes = suffix_len (λ b. nat_eq b 0) bytes
 
 nul_at : (bytes : List ℕ) (k d : ℕ) → length bytes - nuls bytes ≤ k → k < length bytes → get_or bytes k d ≡ 0
@@ -31,7 +31,7 @@ back_nuls bytes =
     get_or-drop (length bytes - nuls bytes) bytes k d ∙ nul_at bytes ((length bytes - nuls bytes) + k) d (omega arith) (omega arith) ∙ sym (get_or-replicate (nuls bytes) k 0 d near))
 
 -- a byte string is what is kept of it, and NULs
-with_nuls : (bytes : List ℕ) → without_nuls bytes ++ replicate (nuls bytes) 0 ≡ bytes
+pub with_nuls : (bytes : List ℕ) → without_nuls bytes ++ replicate (nuls bytes) 0 ≡ bytes
 with_nuls bytes = ap (λ back. without_nuls bytes ++ back) (sym (back_nuls bytes)) ∙ take-append-drop (length bytes - nuls bytes) bytes
 
 prefix_of_zeros : (n : ℕ) (bytes : List ℕ) → prefix_len (λ b. nat_eq b 0) (replicate n 0 ++ bytes) ≡ n + prefix_len (λ b. nat_eq b 0) bytes
