@@ -62,7 +62,7 @@ pub said_made : (comparison : Comparison) (d : Descr) (block other os shape : Li
     IsMade (ScalarDescr BoolScalar) shape (map (λ offset. compared_item comparison (item_from d block offset) (text other ∷ [])) os) o
 said_made comparison d block other os shape o b descr same order held is many =
     let said = λ (offset : ℕ). compared comparison (value_in (item_from d block offset)) (text other) in
-    over-made BoolScalar BoolScalar shape (map (λ offset. truth_item (said offset)) os) o (map (λ offset. cond (said offset) 1 0) os) refl descr same order (held ∙ is) (bools_read said os (count shape) many) (bools_encoded said os)
+    over-made (ScalarDescr BoolScalar) (ScalarDescr BoolScalar) shape (map (λ offset. truth_item (said offset)) os) o (map (λ offset. cond (said offset) 1 0) os) refl descr same order (held ∙ is) (bools_read said os (count shape) many) (bools_encoded said os)
 
 -- byte strings alone are compared
 module _ (d : Descr) (shape : List ℕ) where

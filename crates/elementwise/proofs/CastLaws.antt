@@ -9,7 +9,7 @@ use Rattle.elem_descr.specs.declared.leaf.Leaf.{Leaf}
 use Rattle.elem_descr.specs.declared.descr.Descr.{Descr}
 use Rattle.elem_descr.specs.declared.descr.Descr.TheVariants.{Scalar as ScalarDescr, Record as RecordDescr}
 use Rattle.elem_descr.specs.Values.{LeafValue, number}
-use Rattle.elem_descr.specs.Encoding.{size, decode}
+use Rattle.elem_descr.specs.Encoding.{size, decode, encode}
 use Rattle.elem_descr.specs.Fields.{Fields, no_more, scalar_field, record_field}
 use Rattle.elem_descr.specs.Items.{item_size, leaves_of, leaves_from, leaf_at, no_leaf, LeavesInOrder}
 use Rattle.elem_descr.specs.Blocks.{item_from}
@@ -18,7 +18,7 @@ use Rattle.shape_strides.specs.Layouts.{multiples}
 use Rattle.elementwise.specs.Casts.{can_cast, can_cast_scalar, can_cast_fields, cast_value, cast_values, cast_item}
 use Rattle.elementwise.specs.inside.Passes.{put_all, leaf_from}
 use Rattle.elementwise.specs.inside.LeafCasts.{source, HasSource, IsLeafCast}
-use Rattle.elementwise.proofs.RowLaws.{row-entry, AreBeside, landed, kept, rows-in, rows-lie, rows-beside}
+use Rattle.elementwise.proofs.RowLaws.{row-entry, AreBeside, landed, kept, row-in, rows-in, rows-lie, rows-beside}
 use Rattle.elementwise.proofs.LeafLaws.{length-leaf_cast, cast_read_back}
 use Rattle.overlap_copy.specs.PackedLaws.{length-row}
 use Rattle.overlap_copy.specs.inside.Packed.{row_offsets}
@@ -94,7 +94,7 @@ cast_values-at (leaf ∷ leaves) (value ∷ values) (suc k) d d' low near = cast
 abbrev value_from : Leaf → ℕ → List ℕ → ℕ → LeafValue
 value_from leaf item bytes o = decode leaf.scalar (take (size leaf.scalar) (drop leaf.at (take item (drop o bytes))))
 
-length-cast_item : (from to : Descr) (other : List ℕ) (o : ℕ) → can_cast from to ≡ true → length (cast_item from to (item_from from other o)) ≡ length (leaves_of to)
+pub length-cast_item : (from to : Descr) (other : List ℕ) (o : ℕ) → can_cast from to ≡ true → length (cast_item from to (item_from from other o)) ≡ length (leaves_of to)
 length-cast_item (ScalarDescr from) to other o can = length-map (leaves_of to) (λ leaf. cast_value leaf.scalar (get_or (item_from (ScalarDescr from) other o) 0 (number (pos 0))))
 length-cast_item (RecordDescr from) (ScalarDescr to) other o can = absurd (cc)
 length-cast_item (RecordDescr from) (RecordDescr to) other o can =
@@ -125,6 +125,17 @@ leaf_value-at from to other offsets bytes j k low is =
     ∙ sym (get_or-map read rows j 0 [] (omega (arith, low, length-row leaf.at (item_size to) (length offsets))))
     ∙ ap (λ items. get_or items j []) is.written
     ∙ get_or-map make offsets j 0 [] low
+
+-- as its value is encoded
+pub leaf-encoded : (from to : Descr) (other offsets bytes : List ℕ) (j k : ℕ) → j < length offsets → can_cast from to ≡ true → k < length (leaves_of to) → IsLeafCast from to other offsets bytes k → (source from k).at + size (source from k).scalar ≤ item_size from →
+    item_at ((leaf_at to k).at + j * item_size to) (size (leaf_at to k).scalar) bytes ≡ encode (leaf_at to k).scalar (get_or (cast_item from to (item_from from other (get_or offsets j 0))) k (number (pos 0)))
+leaf-encoded from to other offsets bytes j k low can here cast within =
+    let o = get_or offsets j 0 in
+    let leaf = leaf_at to k in
+    let first = source from k in
+    leaf_value-at from to other offsets bytes j k low cast
+    ∙ ap (λ b. encode leaf.scalar (cast_value leaf.scalar (decode first.scalar b))) (sym (part o first.at (size first.scalar) (item_size from) other within))
+    ∙ ap (encode leaf.scalar) (sym (cast_item-at from to other o k (number (pos 0)) can here))
 
 -- one item
 one_item : (from to : Descr) (other offsets bytes : List ℕ) (j : ℕ) → can_cast from to ≡ true → j < length offsets → ((k : ℕ) → k < length (leaves_of to) → IsLeafCast from to other offsets bytes k) →
@@ -166,7 +177,7 @@ all_items from to other offsets bytes n many can cast within within' =
 -- ---- leaf after leaf
 
 -- the bytes of each are as many
-each-wide : (from to : Descr) (other offsets : List ℕ) (k : ℕ) → All (λ item. length item ≡ size (leaf_at to k).scalar) (map (leaf_from (source from k) (leaf_at to k) other) offsets)
+pub each-wide : (from to : Descr) (other offsets : List ℕ) (k : ℕ) → All (λ item. length item ≡ size (leaf_at to k).scalar) (map (leaf_from (source from k) (leaf_at to k) other) offsets)
 each-wide from to other offsets k =
     let make = leaf_from (source from k) (leaf_at to k) other in
     All-from_get_or (λ item. length item ≡ size (leaf_at to k).scalar) (map make offsets) [] (λ j inside.
@@ -184,33 +195,36 @@ leaf-done from to other offsets bytes bytes' k room fits wrote =
     let even : length rows ≡ length (map make offsets) = length-row leaf.at (item_size to) n ∙ sym (length-map offsets make) in
     record { written = ap (λ all. map (λ o. item_at o (size leaf.scalar) all) rows) wrote ∙ landed (size leaf.scalar) rows (map make offsets) bytes even (rows-in (item_size to) n (length bytes) room leaf.at (size leaf.scalar) fits) (each-wide from to other offsets k) (rows-lie (item_size to) n (length bytes) room leaf.at (size leaf.scalar) fits) }
 
--- those that were cast stay
-pub leaf-kept : (from to : Descr) (other offsets bytes bytes' : List ℕ) (i k : ℕ) → length offsets * item_size to ≤ length bytes → (leaf_at to i).at + size (leaf_at to i).scalar ≤ (leaf_at to k).at → (leaf_at to k).at + size (leaf_at to k).scalar ≤ item_size to →
+-- what lies beside it in an item stays
+pub row-kept : (to : Descr) (n at width k : ℕ) (items : List (List ℕ)) (bytes : List ℕ) → n * item_size to ≤ length bytes → at + width ≤ item_size to → (leaf_at to k).at + size (leaf_at to k).scalar ≤ item_size to →
+    AreBeside at width (leaf_at to k).at (size (leaf_at to k).scalar) → All (λ item. length item ≡ size (leaf_at to k).scalar) items → (j : ℕ) → j < n →
+    item_at (at + j * item_size to) width (put_all (row_offsets (leaf_at to k).at (item_size to) n) items bytes) ≡ item_at (at + j * item_size to) width bytes
+row-kept to n at width k items bytes room fits fits' beside wide j low =
+    let next = leaf_at to k in
+    let item = item_size to in
+    let ats = row_offsets next.at item n in
+    let apart : All (λ o. AreBeside (at + j * item) width o (size next.scalar)) ats = All-from_get_or (λ o. AreBeside (at + j * item) width o (size next.scalar)) ats 0 (λ m there.
+    subst (λ o. AreBeside (at + j * item) width o (size next.scalar)) (sym (row-entry next.at item n m (omega (arith, there, length-row next.at item n)))) (rows-beside item n (length bytes) room at width next.at (size next.scalar) fits fits' beside j m)) in
+    kept (size next.scalar) (at + j * item) width ats items bytes (row-in item n (length bytes) room at width fits j low) (rows-in item n (length bytes) room next.at (size next.scalar) fits') wide apart
+
+-- so do those that were cast
+leaf-kept : (from to : Descr) (other offsets bytes bytes' : List ℕ) (i k : ℕ) → length offsets * item_size to ≤ length bytes → (leaf_at to i).at + size (leaf_at to i).scalar ≤ (leaf_at to k).at → (leaf_at to k).at + size (leaf_at to k).scalar ≤ item_size to →
     bytes' ≡ put_all (row_offsets (leaf_at to k).at (item_size to) (length offsets)) (map (leaf_from (source from k) (leaf_at to k) other) offsets) bytes → IsLeafCast from to other offsets bytes i → IsLeafCast from to other offsets bytes' i
 leaf-kept from to other offsets bytes bytes' i k room before fits wrote is =
     let leaf = leaf_at to i in
-    let next = leaf_at to k in
-    let item = item_size to in
     let n = length offsets in
-    let rows = row_offsets leaf.at item n in
-    let ats = row_offsets next.at item n in
-    let items = map (leaf_from (source from k) next other) offsets in
-    let width = size leaf.scalar in
-    let read = λ (all : List ℕ) (o : ℕ). item_at o width all in
-    let new = put_all ats items bytes in
-    let fits' : leaf.at + width ≤ item = omega (arith, before, fits) in
-    let beside : AreBeside leaf.at width next.at (size next.scalar) = inl before in
+    let rows = row_offsets leaf.at (item_size to) n in
+    let items = map (leaf_from (source from k) (leaf_at to k) other) offsets in
+    let read = λ (all : List ℕ) (o : ℕ). item_at o (size leaf.scalar) all in
+    let new = put_all (row_offsets (leaf_at to k).at (item_size to) n) items bytes in
     let long = length-map rows (read new) in
-    let long' = length-map rows (read bytes) in
-    let same : map (read new) rows ≡ map (read bytes) rows = same_lists (map (read new) rows) (map (read bytes) rows) (long ∙ sym long') (λ j d inside.
+    let same : map (read new) rows ≡ map (read bytes) rows = same_lists (map (read new) rows) (map (read bytes) rows) (long ∙ sym (length-map rows (read bytes))) (λ j d inside.
     let low : j < length rows = omega (arith, inside, long) in
-    let near : j < n = omega (arith, low, length-row leaf.at item n) in
-    let apart : All (λ at. AreBeside (get_or rows j 0) width at (size next.scalar)) ats = All-from_get_or (λ at. AreBeside (get_or rows j 0) width at (size next.scalar)) ats 0 (λ m there.
-    let below : m < n = omega (arith, there, length-row next.at item n) in
-    subst (λ at. AreBeside (get_or rows j 0) width at (size next.scalar)) (sym (row-entry next.at item n m below)) (subst (λ at. AreBeside at width (next.at + m * item) (size next.scalar)) (sym (row-entry leaf.at item n j near)) (rows-beside item n (length bytes) room leaf.at width next.at (size next.scalar) fits' fits beside j m))) in
+    let near : j < n = omega (arith, low, length-row leaf.at (item_size to) n) in
     get_or-map (read new) rows j 0 d low
-    ∙ kept (size next.scalar) (get_or rows j 0) width ats items bytes ((rows-in item n (length bytes) room leaf.at width fits') j 0 low) (rows-in item n (length bytes) room next.at (size next.scalar) fits) (each-wide from to other offsets k) apart
-    ∙ sym (get_or-map (read bytes) rows j 0 d low)) in
+    ∙ ap (read new) (row-entry leaf.at (item_size to) n j near)
+    ∙ row-kept to n leaf.at (size leaf.scalar) k items bytes room (omega (arith, before, fits)) fits (inl before) (each-wide from to other offsets k) j near
+    ∙ sym (get_or-map (read bytes) rows j 0 d low ∙ ap (read bytes) (row-entry leaf.at (item_size to) n j near))) in
     record { written = ap (λ all. map (read all) rows) wrote ∙ same ∙ is.written }
 
 -- a turn, as the code has it

@@ -1,8 +1,7 @@
 -- Numbers that are cast to those of a scalar, by way of those without sign.
-use Rattle.std.proofs.Common.{◌≡◌, ℕ, Bool, true, false, Result, Ok, Err, List, [], ◌∷◌, map, IfOk, sym, ap, ◌∙◌}
+use Rattle.std.proofs.Common.{◌≡◌, ℕ, Bool, true, false, List, [], ◌∷◌, map, sym, ◌∙◌}
 use Rattle.std.proofs.lemmas.Bool.{false≢true}
 use Rattle.std.proofs.lemmas.Simd.{map-map}
-use Rattle.elem_descr.specs.declared.refusal.Refusal.{Refusal}
 use Rattle.elem_descr.specs.declared.descr.Descr.{Descr}
 use Rattle.elem_descr.specs.declared.descr.Descr.TheVariants.{Scalar as ScalarDescr}
 use Rattle.elem_descr.specs.declared.scalar.Order.{Order}
@@ -11,19 +10,13 @@ use Rattle.elem_descr.specs.declared.scalar.Scalar.{Scalar}
 use Rattle.elem_descr.specs.declared.scalar.Scalar.TheVariants.{Bool as BoolScalar, Byte, Int, Bytes}
 use Rattle.elem_descr.specs.Values.{LeafValue, number}
 use Rattle.elem_descr.specs.Encoding.{IsNumber, wrap, number_of}
-use Rattle.elem_descr.specs.Items.{item_size}
 use Rattle.elem_descr.specs.Blocks.{item_from}
 use Rattle.shape_strides.specs.declared.layout.Layout.{Layout}
-use Rattle.shape_strides.specs.declared.memory_order.MemoryOrder.TheVariants.{C}
-use Rattle.shape_strides.specs.Indexes.{count}
-use Rattle.shape_strides.specs.Layouts.{offsets, multiples}
-use Rattle.overlap_copy.specs.Blocks.{offsets_in}
-use Rattle.overlap_copy.specs.declared.owned.Owned.{Owned}
+use Rattle.shape_strides.specs.Layouts.{offsets}
 use Rattle.elementwise.specs.Casts.{can_cast, cast_item}
 use Rattle.machine_numbers.specs.Kinds.{is_text}
 use Rattle.elementwise.specs.Results.{pairwise, value_in, stretched_items}
 use Rattle.elementwise.specs.inside.PairPasses.{number_pair}
-use Rattle.elementwise.specs.inside.Made.{IsMade}
 use Rattle.elementwise.proofs.AppliedLaws.{pairwise-same}
 use Rattle.elementwise.proofs.LeafLaws.{cast_number, byte_alike, int_alike}
 use Rattle.broadcasting.specs.BroadcastLaws.{stretched-self}
@@ -63,21 +56,3 @@ numbers_to (Int sign w o) BoolScalar can kind = (tt, tt)
 numbers_to (Int sign w o) (Byte signed) can kind = (tt, tt)
 numbers_to (Int sign w o) (Int signed width order) can kind = (tt, tt)
 numbers_to (Int sign w o) (Bytes n) can kind = absurd (false≢true can)
-
--- what is told of a cast
-module _ (d d' : Descr) (shape : List ℕ) (values : List (List LeafValue)) (same : d' ≡ d) where
-  pub cast-descr : (result : Result Owned Refusal) → IfOk result (IsMade d shape values) → IfOk result (λ o. o.descr ≡ d')
-  cast-descr (Ok o) made = made.descr_is ∙ sym same
-  cast-descr (Err e) made = tt
-
-  pub cast-shape : (result : Result Owned Refusal) → IfOk result (IsMade d shape values) → IfOk result (λ o. o.layout.shape ≡ shape)
-  cast-shape (Ok o) made = made.shape_is
-  cast-shape (Err e) made = tt
-
-  pub cast-order : (result : Result Owned Refusal) → IfOk result (IsMade d shape values) → IfOk result (λ o. offsets o.layout ≡ offsets_in C (item_size d') shape)
-  cast-order (Ok o) made = made.order ∙ λ i. multiples (item_size (sym same i)) (count shape)
-  cast-order (Err e) made = tt
-
-  pub cast-items : (f : Descr → List (List LeafValue)) (result : Result Owned Refusal) → values ≡ f d → IfOk result (IsMade d shape values) → IfOk result (λ o. map (item_from d' o.block) (offsets o.layout) ≡ f d')
-  cast-items f (Ok o) are made = (λ i. map (item_from (same i) o.block) (offsets o.layout)) ∙ made.items ∙ are ∙ ap f (sym same)
-  cast-items f (Err e) are made = tt

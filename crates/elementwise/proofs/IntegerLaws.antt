@@ -148,7 +148,7 @@ alike_encoded holds (suc n) = λ i. bool_bytes holds i ++ alike_encoded holds n 
 pub alike_made : (holds : Bool) (shape : List ℕ) (o : Owned) (b : List ℕ) (n : ℕ) → o.descr ≡ ScalarDescr BoolScalar → o.layout.shape ≡ shape → offsets o.layout ≡ multiples 1 (count shape) → o.block ≡ b → b ≡ replicate n (cond holds 1 0) → n ≡ count shape →
     IsMade (ScalarDescr BoolScalar) shape (replicate (count shape) (truth_item holds)) o
 alike_made holds shape o b n descr same order block filled many =
-    over-made BoolScalar BoolScalar shape (replicate (count shape) (truth_item holds)) o (replicate (count shape) (cond holds 1 0)) refl descr same order (block ∙ filled ∙ λ i. replicate (many i) (cond holds 1 0)) (alike_read holds (count shape)) (alike_encoded holds (count shape))
+    over-made (ScalarDescr BoolScalar) (ScalarDescr BoolScalar) shape (replicate (count shape) (truth_item holds)) o (replicate (count shape) (cond holds 1 0)) refl descr same order (block ∙ filled ∙ λ i. replicate (many i) (cond holds 1 0)) (alike_read holds (count shape)) (alike_encoded holds (count shape))
 
 -- ---- integers that are values
 

@@ -4,6 +4,7 @@ pub mod LeafLaws
 pub mod PassLaws
 pub mod RowLaws
 pub mod CastLaws
+pub mod EncodedLaws
 pub mod AlikeLaws
 pub mod PairLaws
 pub mod AppendedLaws
@@ -20,6 +21,7 @@ pub mod ComparedLaws
 pub mod IntegerLaws
 pub mod BytesComparedLaws
 pub mod TextWordLaws
+pub mod EvenTextLaws
 pub mod TrimmedLaws
 pub mod BitLaws
 pub mod WordLaws

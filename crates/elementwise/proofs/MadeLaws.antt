@@ -22,15 +22,15 @@ use Rattle.elementwise.specs.inside.Made.{IsMade}
 use Rattle.elementwise.specs.Results.{truth_item}
 
 -- an array over a block of items
-pub over-made : (t s : Scalar) (shape : List ℕ) (values : List (List LeafValue)) (o : Owned) (block : List ℕ) → t ≡ s → o.descr ≡ ScalarDescr t → o.layout.shape ≡ shape → offsets o.layout ≡ multiples (size t) (count shape) → o.block ≡ block →
-    map (item_from (ScalarDescr s) block) (multiples (size s) (count shape)) ≡ values → block ≡ flat_map (encode_item (ScalarDescr s)) values → IsMade (ScalarDescr s) shape values o
-over-made t s shape values o block same descr shape-is order is read wrote =
-    let at : offsets o.layout ≡ multiples (size s) (count shape) = order ∙ λ i. multiples (size (same i)) (count shape) in
+pub over-made : (t d : Descr) (shape : List ℕ) (values : List (List LeafValue)) (o : Owned) (block : List ℕ) → t ≡ d → o.descr ≡ t → o.layout.shape ≡ shape → offsets o.layout ≡ multiples (item_size t) (count shape) → o.block ≡ block →
+    map (item_from d block) (multiples (item_size d) (count shape)) ≡ values → block ≡ flat_map (encode_item d) values → IsMade d shape values o
+over-made t d shape values o block same descr shape-is order is read wrote =
+    let at : offsets o.layout ≡ multiples (item_size d) (count shape) = order ∙ λ i. multiples (item_size (same i)) (count shape) in
     record {
-      descr_is = descr ∙ ap ScalarDescr same;
+      descr_is = descr ∙ same;
       shape_is = shape-is;
       order = at;
-      items = (λ i. map (item_from (ScalarDescr s) (is i)) (at i)) ∙ read;
+      items = (λ i. map (item_from d (is i)) (at i)) ∙ read;
       encoded = is ∙ wrote;
     }
 

@@ -78,7 +78,7 @@ module _ (width : ℕ) where
 -- ---- rows
 
 module _ (item n len : ℕ) (room : n * item ≤ len) where
-  row-in : (at width : ℕ) → at + width ≤ item → (k : ℕ) → k < n → at + k * item + width ≤ len
+  pub row-in : (at width : ℕ) → at + width ≤ item → (k : ℕ) → k < n → at + k * item + width ≤ len
   row-in at width fits k low = let most : suc k * item ≤ n * item = mul-le-mul_right item low in omega (arith, most, room, fits, suc-mul k item)
 
   pub rows-in : (at width : ℕ) → at + width ≤ item → All (λ o. o + width ≤ len) (row_offsets at item n)

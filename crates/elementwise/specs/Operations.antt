@@ -62,6 +62,9 @@ abbrev pub binary : BinOp → Scalar → ℤ → ℤ → ℤ
 binary op scalar a b = wrap scalar (exact op scalar a b)
 
 -- on one number of the scalar: its distance from 0 the other way, and all its bits complemented; of a bool the other bool
+abbrev pub exact_one : UnOp → Scalar → ℤ → ℤ
+exact_one Negate scalar a = pos 0 -ℤ a
+exact_one Invert scalar a = (if is_bool scalar then pos 1 else negsuc 0) -ℤ a
+
 abbrev pub unary : UnOp → Scalar → ℤ → ℤ
-unary Negate scalar a = wrap scalar (pos 0 -ℤ a)
-unary Invert scalar a = wrap scalar ((if is_bool scalar then pos 1 else negsuc 0) -ℤ a)
+unary op scalar a = wrap scalar (exact_one op scalar a)

@@ -1,15 +1,17 @@
 //! Casts: the items of an array as items of another element type.
-ghost use Rattle.std.specs.Prelude.{◌≡◌, ◌+◌, ◌*◌, ◌<◌, ◌≤◌, ℕ, true, length, map, nat_le, if◌then◌else◌, All, IfOk, IfErr};
+ghost use Rattle.std.specs.Prelude.{◌≡◌, ◌+◌, ◌*◌, ◌<◌, ◌≤◌, ℕ, true, length, map, replicate, nat_le, if◌then◌else◌, All, IfOk, IfErr};
+ghost use Rattle.std.specs.List.{flat_map};
 ghost use Rattle.elem_descr.specs.declared.refusal.Refusal.TheVariants.{OutOfMemory, TooLarge, NoSuchCast};
 ghost use Rattle.elem_descr.specs.declared.descr.Descr.TheVariants.{Scalar as ScalarDescr};
 ghost use Rattle.elem_descr.specs.Encoding.{IsNumber, size};
-ghost use Rattle.elem_descr.specs.Items.{item_size, leaves_of, leaf_at};
+ghost use Rattle.elem_descr.specs.Items.{item_size, leaves_of, leaf_at, encode_item};
 ghost use Rattle.elem_descr.specs.Blocks.{item_from};
 ghost use Rattle.shape_strides.specs.declared.memory_order.MemoryOrder.TheVariants.{C};
 ghost use Rattle.shape_strides.specs.Limits.{max_bytes};
 ghost use Rattle.shape_strides.specs.Indexes.{count};
 ghost use Rattle.shape_strides.specs.Layouts.{offsets, multiples};
 ghost use Rattle.overlap_copy.specs.Blocks.{offsets_in};
+ghost use Rattle.overlap_copy.specs.ItemLists.{owned_items};
 ghost use Rattle.elementwise.specs.Casts.{can_cast, cast_item};
 ghost use Rattle.elementwise.specs.inside.LeafCasts.{source, HasSource};
 ghost use Rattle.elementwise.specs.inside.Made.{IsMade};
@@ -50,12 +52,14 @@ fn source_of(descr: &Descr, k: usize) -> Leaf
     }
 }
 
-/// Casts items, leaf by leaf, to items that just fill the bytes.
+/// Casts items, leaf by leaf, to items that just fill the bytes, which are zeros.
 fn cast_all(bytes: &mut [u8], to: &Descr, from: Items<'_>)
     requires can { can_cast from.descr.now to.now ≡ true }
     requires room { length bytes.old ≡ count from.layout.now.shape * item_size to.now }
+    requires zeros { bytes.old ≡ replicate (length bytes.old) 0 }
     ensures items { map (item_from to.now bytes.new) (multiples (item_size to.now) (count from.entry.layout.now.shape))
         ≡ map (λ offset. cast_item from.entry.descr.now to.now (item_from from.entry.descr.now from.entry.block.now offset)) (offsets from.entry.layout.now) }
+    ensures encoded { bytes.new ≡ flat_map (encode_item to.now) (map (λ offset. cast_item from.entry.descr.now to.now (item_from from.entry.descr.now from.entry.block.now offset)) (offsets from.entry.layout.now)) }
     ensures len { length bytes.new ≡ length bytes.old }
 {
     let item = to.size();
@@ -87,6 +91,7 @@ fn cast_block(
     ensures len { IfOk result (λ cast. length cast ≡ len) }
     ensures items { IfOk result (λ cast. map (item_from to.now cast) (multiples (item_size to.now) (count from.entry.layout.now.shape))
         ≡ map (λ offset. cast_item from.entry.descr.now to.now (item_from from.entry.descr.now from.entry.block.now offset)) (offsets from.entry.layout.now)) }
+    ensures encoded { IfOk result (λ cast. cast ≡ flat_map (encode_item to.now) (map (λ offset. cast_item from.entry.descr.now to.now (item_from from.entry.descr.now from.entry.block.now offset)) (offsets from.entry.layout.now))) }
 {
     let mut cast = RawBlock::try_zeroed(alloc, len)?;
     cast_all(cast.bytes_mut(), to, from);
@@ -97,11 +102,7 @@ fn cast_block(
 fn cast_records(alloc: Global, from: Items<'_>, to: &Descr) -> Result<Owned, Refusal>
     requires can { can_cast from.descr.now to.now ≡ true }
     requires few { count from.layout.now.shape * item_size to.now ≤ max_bytes }
-    ensures descr { IfOk result (λ o. o.descr ≡ to.now) }
-    ensures shape { IfOk result (λ o. o.layout.shape ≡ from.entry.layout.now.shape) }
-    ensures order { IfOk result (λ o. offsets o.layout ≡ offsets_in C (item_size to.now) from.entry.layout.now.shape) }
-    ensures items { IfOk result (λ o. map (item_from to.now o.block) (offsets o.layout)
-        ≡ map (λ offset. cast_item from.entry.descr.now to.now (item_from from.entry.descr.now from.entry.block.now offset)) (offsets from.entry.layout.now)) }
+    ensures made { IfOk result (IsMade to.now from.entry.layout.now.shape (map (λ offset. cast_item from.entry.descr.now to.now (item_from from.entry.descr.now from.entry.block.now offset)) (offsets from.entry.layout.now))) }
     ensures refused { IfErr result (λ refusal. refusal ≡ OutOfMemory) }
 {
     let shape = &from.layout.shape;
@@ -137,11 +138,7 @@ fn cast_numbers(
 fn cast_items(alloc: Global, from: Items<'_>, to: &Descr) -> Result<Owned, Refusal>
     requires can { can_cast from.descr.now to.now ≡ true }
     requires few { count from.layout.now.shape * item_size to.now ≤ max_bytes }
-    ensures descr { IfOk result (λ o. o.descr ≡ to.now) }
-    ensures shape { IfOk result (λ o. o.layout.shape ≡ from.entry.layout.now.shape) }
-    ensures order { IfOk result (λ o. offsets o.layout ≡ offsets_in C (item_size to.now) from.entry.layout.now.shape) }
-    ensures items { IfOk result (λ o. map (item_from to.now o.block) (offsets o.layout)
-        ≡ map (λ offset. cast_item from.entry.descr.now to.now (item_from from.entry.descr.now from.entry.block.now offset)) (offsets from.entry.layout.now)) }
+    ensures made { IfOk result (IsMade to.now from.entry.layout.now.shape (map (λ offset. cast_item from.entry.descr.now to.now (item_from from.entry.descr.now from.entry.block.now offset)) (offsets from.entry.layout.now))) }
     ensures refused { IfErr result (λ refusal. refusal ≡ OutOfMemory) }
 {
     match (from.descr, to) {
@@ -163,6 +160,7 @@ pub fn cast(alloc: Global, from: Items<'_>, to: &Descr) -> Result<Owned, Refusal
     ensures order { IfOk result (λ o. offsets o.layout ≡ offsets_in C (item_size to.now) from.entry.layout.now.shape) }
     ensures items { IfOk result (λ o. map (item_from to.now o.block) (offsets o.layout)
         ≡ map (λ offset. cast_item from.entry.descr.now to.now (item_from from.entry.descr.now from.entry.block.now offset)) (offsets from.entry.layout.now)) }
+    ensures encoded { IfOk result (λ o. o.block ≡ flat_map (encode_item o.descr) (owned_items o)) }
     ensures can { IfOk result (λ _. can_cast from.entry.descr.now to.now ≡ true) }
     ensures within { IfOk result (λ _. count from.entry.layout.now.shape * item_size to.now ≤ max_bytes) }
     ensures refused { IfErr result (λ refusal. refusal ≡ (if can_cast from.entry.descr.now to.now

@@ -8,7 +8,6 @@ mod bytes_compared;
 mod castable;
 mod casting;
 mod casts;
-mod combining;
 mod compared;
 mod comparing;
 mod held;

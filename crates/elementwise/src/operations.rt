@@ -1,15 +1,23 @@
-//! Operations on machine numbers: each is done on the lowest 64 bits, of which a number keeps its own.
-ghost use Rattle.std.specs.Prelude.{pos, negsuc, ◌-ℤ◌};
+//! Operations on machine numbers: each is done on the lowest 64 bits, of which a number keeps its own. Which
+//! kernel does them stands below.
+ghost use Rattle.std.specs.Prelude.{◌≡◌, ◌+◌, ◌*◌, ◌≤◌, ◌++◌, false, pos, negsuc, ◌-ℤ◌};
 ghost use Rattle.elem_descr.specs.declared.scalar.Order.TheVariants.{Little};
-ghost use Rattle.machine_numbers.specs.declared.operators.BinOp.TheVariants.{Add, Subtract, Multiply, FloorDivide, Modulo, And, Or, Xor, ShiftLeft, ShiftRight};
 ghost use Rattle.elem_descr.specs.Encoding.{wrap};
-ghost use Rattle.elementwise.specs.Operations.{binary};
+ghost use Rattle.elem_descr.specs.Items.{item_size};
+ghost use Rattle.machine_numbers.specs.declared.operators.BinOp.TheVariants.{Add, Subtract, Multiply, FloorDivide, Modulo, And, Or, Xor, ShiftLeft, ShiftRight};
+ghost use Rattle.machine_numbers.specs.Kinds.{is_bool};
+ghost use Rattle.elementwise.specs.Promotion.{is_division};
+ghost use Rattle.elementwise.specs.Operations.{binary, unary};
+ghost use Rattle.elementwise.specs.inside.PairPasses.{number_pair};
+ghost use Rattle.elementwise.specs.inside.Operands.{pairs_of, made_of_all};
 
 use crate::bits;
-use crate::kernels::Kernel;
-use machine_numbers::Number;
+use crate::kernels::{Kernel, Numbers};
+use crate::rows::Operands;
+use machine_numbers::{BinOp, LowFirst, Number, Ordered, UnOp};
+use raw_block::BlockBuilder;
 
-pub(crate) struct Adding;
+struct Adding;
 
 impl<N: Number> Kernel<N, N, N> for Adding {
     ghost makes = { binary Add (N.scalar Little) };
@@ -20,7 +28,7 @@ impl<N: Number> Kernel<N, N, N> for Adding {
     }
 }
 
-pub(crate) struct Subtracting;
+struct Subtracting;
 
 impl<N: Number> Kernel<N, N, N> for Subtracting {
     ghost makes = { binary Subtract (N.scalar Little) };
@@ -31,7 +39,7 @@ impl<N: Number> Kernel<N, N, N> for Subtracting {
     }
 }
 
-pub(crate) struct Multiplying;
+struct Multiplying;
 
 impl<N: Number> Kernel<N, N, N> for Multiplying {
     ghost makes = { binary Multiply (N.scalar Little) };
@@ -42,7 +50,7 @@ impl<N: Number> Kernel<N, N, N> for Multiplying {
     }
 }
 
-pub(crate) struct Dividing;
+struct Dividing;
 
 impl<N: Number> Kernel<N, N, N> for Dividing {
     ghost makes = { binary FloorDivide (N.scalar Little) };
@@ -53,7 +61,7 @@ impl<N: Number> Kernel<N, N, N> for Dividing {
     }
 }
 
-pub(crate) struct LeavingRests;
+struct LeavingRests;
 
 impl<N: Number> Kernel<N, N, N> for LeavingRests {
     ghost makes = { binary Modulo (N.scalar Little) };
@@ -64,7 +72,7 @@ impl<N: Number> Kernel<N, N, N> for LeavingRests {
     }
 }
 
-pub(crate) struct KeepingBoth;
+struct KeepingBoth;
 
 impl<N: Number> Kernel<N, N, N> for KeepingBoth {
     ghost makes = { binary And (N.scalar Little) };
@@ -75,7 +83,7 @@ impl<N: Number> Kernel<N, N, N> for KeepingBoth {
     }
 }
 
-pub(crate) struct KeepingEither;
+struct KeepingEither;
 
 impl<N: Number> Kernel<N, N, N> for KeepingEither {
     ghost makes = { binary Or (N.scalar Little) };
@@ -86,7 +94,7 @@ impl<N: Number> Kernel<N, N, N> for KeepingEither {
     }
 }
 
-pub(crate) struct KeepingOne;
+struct KeepingOne;
 
 impl<N: Number> Kernel<N, N, N> for KeepingOne {
     ghost makes = { binary Xor (N.scalar Little) };
@@ -97,7 +105,7 @@ impl<N: Number> Kernel<N, N, N> for KeepingOne {
     }
 }
 
-pub(crate) struct MovingUp;
+struct MovingUp;
 
 impl<N: Number> Kernel<N, N, N> for MovingUp {
     ghost makes = { binary ShiftLeft (N.scalar Little) };
@@ -108,7 +116,7 @@ impl<N: Number> Kernel<N, N, N> for MovingUp {
     }
 }
 
-pub(crate) struct MovingDown;
+struct MovingDown;
 
 impl<N: Number> Kernel<N, N, N> for MovingDown {
     ghost makes = { binary ShiftRight (N.scalar Little) };
@@ -120,7 +128,7 @@ impl<N: Number> Kernel<N, N, N> for MovingDown {
 }
 
 /// The second number, negated.
-pub(crate) struct Negating;
+struct Negating;
 
 impl<N: Number> Kernel<N, N, N> for Negating {
     ghost makes = { λ _ b. wrap (N.scalar Little) (pos 0 -ℤ b) };
@@ -132,7 +140,7 @@ impl<N: Number> Kernel<N, N, N> for Negating {
 }
 
 /// All bits of the second number, complemented.
-pub(crate) struct Complementing;
+struct Complementing;
 
 impl<N: Number> Kernel<N, N, N> for Complementing {
     ghost makes = { λ _ b. wrap (N.scalar Little) (negsuc 0 -ℤ b) };
@@ -144,7 +152,7 @@ impl<N: Number> Kernel<N, N, N> for Complementing {
 }
 
 /// The lowest bit of the second number, complemented: the other bool.
-pub(crate) struct Flipping;
+struct Flipping;
 
 impl<N: Number> Kernel<N, N, N> for Flipping {
     ghost makes = { λ _ b. wrap (N.scalar Little) (pos 1 -ℤ b) };
@@ -152,5 +160,84 @@ impl<N: Number> Kernel<N, N, N> for Flipping {
     #[inline(always)]
     fn make(_left: N, right: N) -> N {
         N::of_bits(bits::difference(1, right.bits()))
+    }
+}
+
+/// An operation on numbers of one type, whose results are pushed with the lowest byte first.
+pub(crate) fn combine<N: Number, O: Ordered>(
+    op: BinOp,
+    block: BlockBuilder,
+    operands: Operands<'_>,
+) -> BlockBuilder
+    requires op { is_division op ≡ false }
+    requires left { item_size operands.left.descr.now ≡ N.WIDTH }
+    requires right { item_size operands.right.descr.now ≡ N.WIDTH }
+    requires room { pairs_of operands * N.WIDTH ≤ block.1 }
+    ensures bytes { result.0 ≡ block.0 ++ made_of_all (number_pair (N.scalar O.order) (N.scalar O.order) (N.scalar Little) (binary op (N.scalar Little))) operands.entry }
+    ensures left { pairs_of operands.entry * N.WIDTH + result.1 ≡ block.1 }
+{
+    match op {
+        BinOp::Add => operands.push_all(&Numbers::<Adding, N, N, N, O, LowFirst>::new(), block),
+        BinOp::Subtract => operands.push_all(
+            &Numbers::<Subtracting, N, N, N, O, LowFirst>::new(),
+            block,
+        ),
+        BinOp::Multiply => operands.push_all(
+            &Numbers::<Multiplying, N, N, N, O, LowFirst>::new(),
+            block,
+        ),
+        BinOp::FloorDivide => operands.push_all(
+            &Numbers::<Dividing, N, N, N, O, LowFirst>::new(),
+            block,
+        ),
+        BinOp::Modulo => operands.push_all(
+            &Numbers::<LeavingRests, N, N, N, O, LowFirst>::new(),
+            block,
+        ),
+        BinOp::And => operands.push_all(
+            &Numbers::<KeepingBoth, N, N, N, O, LowFirst>::new(),
+            block,
+        ),
+        BinOp::Or => operands.push_all(
+            &Numbers::<KeepingEither, N, N, N, O, LowFirst>::new(),
+            block,
+        ),
+        BinOp::Xor => operands.push_all(&Numbers::<KeepingOne, N, N, N, O, LowFirst>::new(), block),
+        BinOp::ShiftLeft => operands.push_all(
+            &Numbers::<MovingUp, N, N, N, O, LowFirst>::new(),
+            block,
+        ),
+        BinOp::ShiftRight => operands.push_all(
+            &Numbers::<MovingDown, N, N, N, O, LowFirst>::new(),
+            block,
+        ),
+        BinOp::Divide => unreachable!(),
+    }
+}
+
+/// An operation on the second of two numbers of one type, and whether these are bools.
+pub(crate) fn change<N: Number, O: Ordered>(
+    op: UnOp,
+    bools: bool,
+    block: BlockBuilder,
+    operands: Operands<'_>,
+) -> BlockBuilder
+    requires bools { bools ≡ is_bool (N.scalar Little) }
+    requires left { item_size operands.left.descr.now ≡ N.WIDTH }
+    requires right { item_size operands.right.descr.now ≡ N.WIDTH }
+    requires room { pairs_of operands * N.WIDTH ≤ block.1 }
+    ensures bytes { result.0 ≡ block.0 ++ made_of_all (number_pair (N.scalar O.order) (N.scalar O.order) (N.scalar Little) (λ _ b. unary op (N.scalar Little) b)) operands.entry }
+    ensures left { pairs_of operands.entry * N.WIDTH + result.1 ≡ block.1 }
+{
+    match op {
+        UnOp::Negate => operands.push_all(&Numbers::<Negating, N, N, N, O, LowFirst>::new(), block),
+        UnOp::Invert if bools => operands.push_all(
+            &Numbers::<Flipping, N, N, N, O, LowFirst>::new(),
+            block,
+        ),
+        UnOp::Invert => operands.push_all(
+            &Numbers::<Complementing, N, N, N, O, LowFirst>::new(),
+            block,
+        ),
     }
 }

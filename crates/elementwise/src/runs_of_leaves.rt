@@ -5,7 +5,7 @@ ghost use Rattle.elem_descr.specs.Encoding.{size};
 ghost use Rattle.raw_block.specs.Bytes.{EachWithin};
 ghost use Rattle.shape_strides.specs.Runs.{run_offsets};
 ghost use Rattle.elementwise.specs.Casts.{can_cast_scalar};
-ghost use Rattle.elementwise.specs.inside.Passes.{put_all, row_offsets, leaf_from};
+ghost use Rattle.elementwise.specs.inside.Passes.{put_all, leaf_from};
 
 use crate::leaves::cast_leaves;
 use elem_descr::Leaf;

@@ -25,3 +25,14 @@ pub(crate) fn are_compared(comparison: Comparison, left: &[u8], right: &[u8]) ->
     let order = left[shared..].cmp(&right[shared..]);
     says(comparison, order.is_lt(), order.is_gt())
 }
+
+/// What a comparison says of two items that are byte strings, whose NULs at the end do not count. Where they
+/// have one length, these decide nothing.
+pub(crate) fn are_items_compared(comparison: Comparison, left: &[u8], right: &[u8]) -> bool
+    ensures { result ≡ compared comparison (text (without_nuls left.now)) (text (without_nuls right.now)) }
+{
+    if left.len() == right.len() {
+        return are_compared(comparison, left, right);
+    }
+    are_compared(comparison, without_nuls(left), without_nuls(right))
+}

@@ -4,7 +4,7 @@ ghost use Rattle.std.proofs.Common.{arith};
 
 use crate::rows::Pass;
 use crate::sides::Pairs;
-use crate::text_comparing::{are_compared, without_nuls};
+use crate::text_comparing::are_items_compared;
 use machine_numbers::{Comparison, LowFirst, Number};
 use raw_block::BlockBuilder;
 
@@ -26,9 +26,8 @@ impl Pass for Texts {
     fn push_row(&self, block: BlockBuilder, pairs: Pairs<'_>) -> BlockBuilder {
         let mut block = block;
         for k in 0..pairs.left.run.count {
-            let left = without_nuls(pairs.left.item(k));
-            let right = without_nuls(pairs.right.item(k));
-            are_compared(self.comparison, left, right).push::<LowFirst>(&mut block);
+            let says = are_items_compared(self.comparison, pairs.left.item(k), pairs.right.item(k));
+            says.push::<LowFirst>(&mut block);
         }
         block
     }

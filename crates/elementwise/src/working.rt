@@ -8,8 +8,8 @@ ghost use Rattle.elementwise.specs.inside.Operands.{pairs_of, made_of_all};
 ghost use Rattle.elementwise.specs.inside.Works.{target, meaning, IsWork};
 
 use crate::casting::cast;
-use crate::combining::{change, combine};
 use crate::comparing::compare;
+use crate::operations::{change, combine};
 use crate::pairing::Work;
 use crate::rows::Operands;
 use machine_numbers::{Number, NumberTask, Ordered};

@@ -1,13 +1,12 @@
 -- Numbers that work gives are read back.
-use Rattle.std.proofs.Common.{◌≡◌, ◌≤◌, cond}
-use Rattle.std.specs.Prelude.{ℤ, pos, negsuc, ◌-ℤ◌}
+use Rattle.std.proofs.Common.{◌≡◌, ◌≤◌}
+use Rattle.std.specs.Prelude.{ℤ}
 use Rattle.elem_descr.specs.declared.scalar.Scalar.{Scalar}
 use Rattle.elem_descr.specs.Values.{number}
 use Rattle.elem_descr.specs.Encoding.{IsNumber, size, decode, encode}
 use Rattle.elem_descr.specs.EncodingLaws.{decode_encode}
-use Rattle.machine_numbers.specs.declared.operators.UnOp.TheVariants.{Negate, Invert}
-use Rattle.machine_numbers.specs.Kinds.{is_bool, little}
-use Rattle.elementwise.specs.Operations.{exact}
+use Rattle.machine_numbers.specs.Kinds.{little}
+use Rattle.elementwise.specs.Operations.{exact, exact_one}
 use Rattle.elementwise.specs.inside.PairLaws.{number-little, number_small, scalar_small, bool_small, compared_reads_back}
 use Rattle.elementwise.specs.inside.Works.{target, meaning, IsWork}
 use Rattle.elementwise.specs.declared.pairing.Work.{Work}
@@ -15,8 +14,7 @@ use Rattle.elementwise.specs.declared.pairing.Work.TheVariants.{Combine, Change,
 
 pub work_reads_back : (work : Work) (s : Scalar) (a b : ℤ) → IsNumber s → IsWork work → decode (target work s) (encode (target work s) (number (meaning work s a b))) ≡ number (meaning work s a b)
 work_reads_back (Combine op) s a b is can = decode_encode (little s) (exact op (little s) a b) (number-little s is)
-work_reads_back (Change Negate) s a b is can = decode_encode (little s) (pos 0 -ℤ b) (number-little s is)
-work_reads_back (Change Invert) s a b is can = decode_encode (little s) (cond (is_bool (little s)) (pos 1) (negsuc 0) -ℤ b) (number-little s is)
+work_reads_back (Change op) s a b is can = decode_encode (little s) (exact_one op (little s) b) (number-little s is)
 work_reads_back (Compare comparison) s a b is can = compared_reads_back comparison (number a) (number b)
 work_reads_back (Cast to) s a b is can = decode_encode to a can
 

@@ -1,5 +1,5 @@
 use Rattle.elementwise.specs.inside.Passes.{put_all, leaf_from}
-use Rattle.std.proofs.Common.{◌≡◌, ℕ, List, map, ◌*◌, ◌+◌, ◌<◌, ◌≤◌, All, length, sym, ap, subst, ◌∙◌, arith}
+use Rattle.std.proofs.Common.{◌≡◌, ℕ, List, map, ◌*◌, ◌+◌, ◌<◌, ◌≤◌, All, length, refl, sym, ap, subst, ◌∙◌, arith}
 use Rattle.std.specs.List.{flat_map}
 use Rattle.elem_descr.specs.Encoding.{size}
 use Rattle.raw_block.specs.Bytes.{EachWithin}
@@ -13,6 +13,7 @@ use Rattle.shape_strides.specs.Layouts.{offsets}
 use Rattle.shape_strides.specs.LayoutLaws.{length-offsets}
 use Rattle.shape_strides.specs.Runs.{run_offsets, runs}
 use Rattle.elementwise.proofs.CastLaws.{has_source, source-within, turn-wrote, turn-done, all_items}
+use Rattle.elementwise.proofs.EncodedLaws.{all-zeros, zeros-stay, all-encoded}
 use Rattle.elementwise.proofs.casts.cast_all.Goals as goal
 
 pub source_of-from_leaf-requires : goal.source_of-from_leaf-requires
@@ -32,6 +33,7 @@ loop-k-preserved c =
     record {
       len = c.cast_leaf.ensures.len ∙ c.loop-k.invariant.len;
       done = turn-done from to c.args.from.block.now os c.loop-k.bytes c.cast_leaf.new.bytes k low (omega (arith, rows, c.loop-k.invariant.len)) c.size-item.ensures.apart wrote c.loop-k.invariant.done;
+      zeros = zeros-stay from to c.args.from.block.now os c.loop-k.bytes c.cast_leaf.new.bytes k low (omega (arith, rows, c.loop-k.invariant.len)) c.size-item.ensures.apart wrote c.loop-k.invariant.zeros;
     }
 
 pub cast_leaf-requires-clause-can : goal.cast_leaf-requires-clause-can
@@ -63,4 +65,23 @@ returns-clause-items c =
     all_items from to c.args.from.block.now (offsets c.args.from.layout.now) c.loop-k.bytes (count c.args.from.layout.now.shape) (sym (length-offsets c.args.from.layout.now)) c.requires.can
     (λ k low. c.loop-k.invariant.done k (omega (arith, low, c.loop-k-test.false, c.leaf_count-k-end.ensures.value)))
     (λ k low. c.size-item.ensures.apart.within k low)
+    (λ k low. source-within from k c.size-from_item.ensures.apart (has_source from to c.requires.can k low).0)
+
+pub loop-k-init : goal.loop-k-init
+loop-k-init c =
+    let n = length (offsets c.args.from.layout.now) in
+    let rows : n * item_size c.args.to.now ≡ length c.args.bytes.now = ap (λ n. n * item_size c.args.to.now) (length-offsets c.args.from.layout.now) ∙ sym c.requires.room in
+    record {
+      len = refl;
+      done = λ k low. absurd (omega (arith, low));
+      zeros = all-zeros c.args.to.now n c.args.bytes.now (omega (arith, rows)) c.requires.zeros;
+    }
+
+pub returns-clause-encoded : goal.returns-clause-encoded
+returns-clause-encoded c =
+    let from = c.args.from.descr.now in
+    let to = c.args.to.now in
+    all-encoded from to c.args.from.block.now (offsets c.args.from.layout.now) c.loop-k.bytes (c.loop-k.invariant.len ∙ c.requires.room ∙ ap (λ n. n * item_size to) (sym (length-offsets c.args.from.layout.now))) c.requires.can
+    (λ k low. c.loop-k.invariant.done k (omega (arith, low, c.loop-k-test.false, c.leaf_count-k-end.ensures.value)))
+    c.loop-k.invariant.zeros c.size-item.ensures.apart
     (λ k low. source-within from k c.size-from_item.ensures.apart (has_source from to c.requires.can k low).0)

@@ -1,13 +1,13 @@
-use Rattle.std.proofs.Common.{◌*◌, ◌≤◌, map, sym, subst, refl, ◌∙◌}
+use Rattle.std.proofs.Common.{◌*◌, ◌≤◌, map, IfOk, sym, subst, ◌∙◌}
 use Rattle.elem_descr.specs.declared.descr.Descr.{Descr}
-use Rattle.elem_descr.specs.declared.descr.Descr.TheVariants.{Scalar as ScalarDescr}
 use Rattle.elem_descr.specs.Items.{item_size}
 use Rattle.elem_descr.specs.Blocks.{item_from}
 use Rattle.shape_strides.specs.Indexes.{count}
 use Rattle.shape_strides.specs.Limits.{max_bytes}
 use Rattle.shape_strides.specs.Layouts.{offsets}
 use Rattle.elementwise.specs.Casts.{can_cast, cast_item}
-use Rattle.elementwise.proofs.CastingLaws.{numbers_to, cast-descr, cast-shape, cast-order, cast-items}
+use Rattle.elementwise.specs.inside.Made.{IsMade}
+use Rattle.elementwise.proofs.CastingLaws.{numbers_to}
 use Rattle.elementwise.proofs.casts.cast_items.Goals as goal
 
 pub cast_numbers-requires-clause-from : goal.cast_numbers-requires-clause-from
@@ -24,16 +24,7 @@ cast_numbers-requires-clause-to c =
 pub cast_numbers-requires-clause-few : goal.cast_numbers-requires-clause-few
 cast_numbers-requires-clause-few c = subst (λ (d : Descr). count c.args.from.layout.now.shape * item_size d ≤ max_bytes) c.in-Scalar-Scalar.is-1 c.requires.few
 
-pub returns-else-is_text-clause-descr : goal.returns-else-is_text-clause-descr
-returns-else-is_text-clause-descr c = cast-descr (ScalarDescr c.in-Scalar-Scalar.target) c.args.to.now c.args.from.layout.now.shape _ c.in-Scalar-Scalar.is-1 c.cast_numbers.result c.cast_numbers.ensures.made
-
-pub returns-else-is_text-clause-shape : goal.returns-else-is_text-clause-shape
-returns-else-is_text-clause-shape c = cast-shape (ScalarDescr c.in-Scalar-Scalar.target) c.args.to.now c.args.from.layout.now.shape _ c.in-Scalar-Scalar.is-1 c.cast_numbers.result c.cast_numbers.ensures.made
-
-pub returns-else-is_text-clause-order : goal.returns-else-is_text-clause-order
-returns-else-is_text-clause-order c = cast-order (ScalarDescr c.in-Scalar-Scalar.target) c.args.to.now c.args.from.layout.now.shape _ c.in-Scalar-Scalar.is-1 c.cast_numbers.result c.cast_numbers.ensures.made
-
-pub returns-else-is_text-clause-items : goal.returns-else-is_text-clause-items
-returns-else-is_text-clause-items c =
+pub returns-else-is_text-clause-made : goal.returns-else-is_text-clause-made
+returns-else-is_text-clause-made c =
     let x = c.args.from in
-    cast-items (ScalarDescr c.in-Scalar-Scalar.target) c.args.to.now x.layout.now.shape _ c.in-Scalar-Scalar.is-1 (λ d. map (λ offset. cast_item x.descr.now d (item_from x.descr.now x.block.now offset)) (offsets x.layout.now)) c.cast_numbers.result refl c.cast_numbers.ensures.made
+    subst (λ (d : Descr). IfOk c.cast_numbers.result (IsMade d x.layout.now.shape (map (λ offset. cast_item x.descr.now d (item_from x.descr.now x.block.now offset)) (offsets x.layout.now)))) (sym c.in-Scalar-Scalar.is-1) c.cast_numbers.ensures.made

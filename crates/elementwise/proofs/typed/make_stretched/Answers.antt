@@ -1,4 +1,5 @@
 use Rattle.std.proofs.Common.{◌≡◌, ◌*◌, sym, ap, ◌∙◌, arith}
+use Rattle.elem_descr.specs.declared.descr.Descr.TheVariants.{Scalar as ScalarDescr}
 use Rattle.elem_descr.specs.Encoding.{size}
 use Rattle.shape_strides.specs.Indexes.{count}
 use Rattle.shape_strides.specs.Layouts.{offsets}
@@ -39,4 +40,4 @@ returns-clause-made g c =
     let owned = c.in_ok-owned.ensures in
     let all = all_stretched (g.P.Pairing.left_scalar p) (g.P.Pairing.right_scalar p) (g.P.Pairing.target_scalar p) (g.P.Pairing.gives p) x.descr.now y.descr.now x.block.now y.block.now (offsets c.in_ok-first.first) (offsets c.in_ok-second.second) _ _ c.finish.result (count c.args.shape.now) c.in_ok-empty.empty _ c.requires.left c.requires.right
     (length-offsets c.in_ok-first.first ∙ ap count c.in_ok-first.ensures.shape) (length-offsets c.in_ok-second.second ∙ ap count c.in_ok-second.ensures.shape) c.in_ok-first.ensures.offsets c.in_ok-second.ensures.offsets (λ u v. g.met.P.Pairing.reads_back p u v c.requires.can) c.in_ok-empty.ensures (c.finish.ensures ∙ c.push-filled.ensures.bytes) in
-    over-made c.target-scalar.result (g.P.Pairing.target_scalar p) c.args.shape.now _ c.in_ok-owned.owned c.finish.result c.target-scalar.ensures owned.descr owned.shape owned.order owned.block all.1 all.2
+    over-made (ScalarDescr c.target-scalar.result) (ScalarDescr (g.P.Pairing.target_scalar p)) c.args.shape.now _ c.in_ok-owned.owned c.finish.result (ap ScalarDescr c.target-scalar.ensures) owned.descr owned.shape owned.order owned.block all.1 all.2
