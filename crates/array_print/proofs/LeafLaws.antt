@@ -14,7 +14,7 @@ use Rattle.elem_descr.specs.declared.descr.Descr.TheVariants.{Scalar as ScalarDe
 use Rattle.elem_descr.specs.declared.descr.Field.{Field}
 use Rattle.elem_descr.specs.Fields.{Fields, Structure}
 use Rattle.elem_descr.specs.Descriptors.{before, listed}
-use Rattle.elem_descr.specs.ItemLaws.{length-leaves_from}
+use Rattle.elem_descr.specs.ItemLaws.{length-leaves_from, leaf_value}
 use Rattle.elem_descr.specs.Values.{LeafValue}
 use Rattle.elem_descr.specs.Encoding.{size, decode, number_of}
 use Rattle.elem_descr.specs.Items.{item_size, leaves_of}
@@ -32,10 +32,6 @@ bytes-at block offset at wide n fits =
     ∙ ap (take wide) (drop-take at (n - at) (drop offset block))
     ∙ take-take wide (n - at) (drop at (drop offset block)) most
     ∙ ap (take wide) (drop-drop at offset block)
-
--- the value of a leaf in the bytes of an item
-abbrev pub value_in : List ℕ → Leaf → LeafValue
-value_in bytes leaf = decode leaf.scalar (take (size leaf.scalar) (drop leaf.at bytes))
 
 -- ---- widths of leaves
 
@@ -75,14 +71,14 @@ are-widths descr (n ∷ shape) items = are-leaf-widths (leaves_of descr) (map (l
 -- ---- the texts of an item
 
 pub text-at : (leaves : List Leaf) (ws bytes : List ℕ) (k : ℕ) (scalar : Scalar) (at : ℕ) → AreWidths leaves ws → k < length leaves → IfSome (slice_get leaves k) (λ leaf. (scalar ≡ leaf.scalar) × (at ≡ leaf.at)) →
-    get_or (all_justified ws (leaf_texts leaves (map (value_in bytes) leaves))) k [] ≡ right_justified (get_or ws k 0) (leaf_text scalar (decode scalar (take (size scalar) (drop at bytes))))
+    get_or (all_justified ws (leaf_texts leaves (map (leaf_value bytes) leaves))) k [] ≡ right_justified (get_or ws k 0) (leaf_text scalar (decode scalar (take (size scalar) (drop at bytes))))
 text-at [] ws bytes k scalar at are below is = absurd (omega arith)
 text-at (leaf ∷ leaves) [] bytes k scalar at are below is = absurd are
 text-at (leaf ∷ leaves) (w ∷ ws) bytes zero scalar at are below is =
     λ i. right_justified w (leaf_text (sym is.0 i) (decode (sym is.0 i) (take (size (sym is.0 i)) (drop (sym is.1 i) bytes))))
 text-at (leaf ∷ leaves) (w ∷ ws) bytes (suc k) scalar at are below is = text-at leaves ws bytes k scalar at are.1 (omega arith) is
 
-pub length-texts : (leaves : List Leaf) (ws bytes : List ℕ) → AreWidths leaves ws → length (all_justified ws (leaf_texts leaves (map (value_in bytes) leaves))) ≡ length leaves
+pub length-texts : (leaves : List Leaf) (ws bytes : List ℕ) → AreWidths leaves ws → length (all_justified ws (leaf_texts leaves (map (leaf_value bytes) leaves))) ≡ length leaves
 length-texts [] [] bytes are = refl
 length-texts [] (w ∷ ws) bytes are = absurd are
 length-texts (leaf ∷ leaves) [] bytes are = absurd are
@@ -108,17 +104,17 @@ joined-take-more separator texts k below =
 -- ---- the texts of one leaf in all items
 
 first-texts : (leaf : Leaf) (leaves : List Leaf) (bytes : ℕ → List ℕ) (offsets : List ℕ) →
-    map first_text (map (leaf_texts (leaf ∷ leaves)) (map (λ offset. map (value_in (bytes offset)) (leaf ∷ leaves)) offsets)) ≡ map (λ offset. leaf_text leaf.scalar (value_in (bytes offset) leaf)) offsets
+    map first_text (map (leaf_texts (leaf ∷ leaves)) (map (λ offset. map (leaf_value (bytes offset)) (leaf ∷ leaves)) offsets)) ≡ map (λ offset. leaf_text leaf.scalar (leaf_value (bytes offset) leaf)) offsets
 first-texts leaf leaves bytes [] = refl
-first-texts leaf leaves bytes (offset ∷ offsets) = ap (λ later. leaf_text leaf.scalar (value_in (bytes offset) leaf) ∷ later) (first-texts leaf leaves bytes offsets)
+first-texts leaf leaves bytes (offset ∷ offsets) = ap (λ later. leaf_text leaf.scalar (leaf_value (bytes offset) leaf) ∷ later) (first-texts leaf leaves bytes offsets)
 
 rest-texts : (leaf : Leaf) (leaves : List Leaf) (bytes : ℕ → List ℕ) (offsets : List ℕ) →
-    map later_texts (map (leaf_texts (leaf ∷ leaves)) (map (λ offset. map (value_in (bytes offset)) (leaf ∷ leaves)) offsets)) ≡ map (leaf_texts leaves) (map (λ offset. map (value_in (bytes offset)) leaves) offsets)
+    map later_texts (map (leaf_texts (leaf ∷ leaves)) (map (λ offset. map (leaf_value (bytes offset)) (leaf ∷ leaves)) offsets)) ≡ map (leaf_texts leaves) (map (λ offset. map (leaf_value (bytes offset)) leaves) offsets)
 rest-texts leaf leaves bytes [] = refl
-rest-texts leaf leaves bytes (offset ∷ offsets) = ap (λ later. leaf_texts leaves (map (value_in (bytes offset)) leaves) ∷ later) (rest-texts leaf leaves bytes offsets)
+rest-texts leaf leaves bytes (offset ∷ offsets) = ap (λ later. leaf_texts leaves (map (leaf_value (bytes offset)) leaves) ∷ later) (rest-texts leaf leaves bytes offsets)
 
 pub leaf-width-at : (leaves : List Leaf) (bytes : ℕ → List ℕ) (offsets : List ℕ) (k : ℕ) (scalar : Scalar) (at : ℕ) → k < length leaves → IfSome (slice_get leaves k) (λ leaf. (scalar ≡ leaf.scalar) × (at ≡ leaf.at)) →
-    get_or (leaf_widths leaves (map (leaf_texts leaves) (map (λ offset. map (value_in (bytes offset)) leaves) offsets))) k 0 ≡ leaf_width scalar (map (λ offset. leaf_text scalar (decode scalar (take (size scalar) (drop at (bytes offset))))) offsets)
+    get_or (leaf_widths leaves (map (leaf_texts leaves) (map (λ offset. map (leaf_value (bytes offset)) leaves) offsets))) k 0 ≡ leaf_width scalar (map (λ offset. leaf_text scalar (decode scalar (take (size scalar) (drop at (bytes offset))))) offsets)
 leaf-width-at [] bytes offsets k scalar at below is = absurd (omega arith)
 leaf-width-at (leaf ∷ leaves) bytes offsets zero scalar at below is =
     ap (leaf_width leaf.scalar) (first-texts leaf leaves bytes offsets)

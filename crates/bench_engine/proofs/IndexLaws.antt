@@ -1,11 +1,12 @@
 -- Index lists whose names stand for arrays.
-use Rattle.std.proofs.Common.{◌≡◌, ◌⊎◌, ◌<◌, ◌≤◌, ◌+◌, ◌*◌, ◌&&◌, ℕ, zero, suc, Bool, true, false, nat_le, List, [], ◌∷◌, ◌++◌, length, map, take, get_or, slice_index, Some, refl, sym, ap, ◌∙◌, subst, All, Result, Ok, Err, inl, inr, arith}
+use Rattle.std.proofs.Common.{◌≡◌, ◌⊎◌, ◌<◌, ◌≤◌, ◌+◌, ◌*◌, ◌&&◌, ℕ, zero, suc, true, false, nat_le, List, [], ◌∷◌, ◌++◌, length, map, take, get_or, slice_index, Some, refl, sym, ap, ◌∙◌, subst, All, Result, Ok, Err, inl, inr, arith}
 use Rattle.std.specs.List.{Contains, list_all}
 use Rattle.std.proofs.lemmas.Bool.{le-leb, lt-leb, and_parts}
 use Rattle.std.proofs.lemmas.List.{take_more, length-map}
 use Rattle.std.proofs.lemmas.List.Elements.{All-map, All-append, Contains-get_or}
 use Rattle.std.proofs.lemmas.List.Folds.{list_all-append}
 use Rattle.std.proofs.lemmas.Simd.{map-map}
+use Rattle.std.proofs.Math.Bool.{and-false}
 use Rattle.elem_descr.specs.declared.refusal.Refusal.{Refusal}
 use Rattle.elem_descr.specs.declared.refusal.Refusal.TheVariants.{OutOfMemory, TooLarge}
 use Rattle.elem_descr.specs.Blocks.{item_from}
@@ -38,10 +39,6 @@ use Rattle.bench_engine.proofs.Views.{offsets-view}
 pub all-bound : (s : State) (item : IndexItem (List ℕ)) (index : List (IndexItem (List ℕ))) → list_all (is_bound s) (names_in_index (item ∷ index)) ≡ (list_all (is_bound s) (names_in_item item) && list_all (is_bound s) (names_in_index index))
 all-bound s item index = list_all-append (is_bound s) (names_in_item item) (names_in_index index)
 
-and-none : (b : Bool) → (b && false) ≡ false
-and-none true = refl
-and-none false = refl
-
 pub bound-more : (s : State) (index : List (IndexItem (List ℕ))) (item : IndexItem (List ℕ)) → list_all (is_bound s) (names_in_index index) ≡ true → list_all (is_bound s) (names_in_item item) ≡ true → list_all (is_bound s) (names_in_index (index ++ item ∷ [])) ≡ true
 bound-more s [] item all one = all-bound s item [] ∙ ap (λ b. b && true) one
 bound-more s (first ∷ index) item all one =
@@ -54,7 +51,7 @@ none-bound s index k item below is none = here s index k item below (ap (λ (i :
     here : (s : State) (index : List (IndexItem (List ℕ))) (k : ℕ) (d : IndexItem (List ℕ)) → k < length index → list_all (is_bound s) (names_in_item (get_or index k d)) ≡ false → list_all (is_bound s) (names_in_index index) ≡ false
     here s [] k d below none = absurd (omega arith)
     here s (item ∷ index) zero d below none = all-bound s item index ∙ ap (λ b. b && list_all (is_bound s) (names_in_index index)) none
-    here s (item ∷ index) (suc k) d below none = all-bound s item index ∙ ap (λ b. list_all (is_bound s) (names_in_item item) && b) (here s index k d (omega arith) none) ∙ and-none (list_all (is_bound s) (names_in_item item))
+    here s (item ∷ index) (suc k) d below none = all-bound s item index ∙ ap (λ b. list_all (is_bound s) (names_in_item item) && b) (here s index k d (omega arith) none) ∙ and-false (list_all (is_bound s) (names_in_item item))
 
 -- ---- arrays in the place of names
 

@@ -5,27 +5,19 @@ use Rattle.std.specs.Result.{is_ok}
 use Rattle.std.proofs.lemmas.Bool.{false≢true, le-leb}
 use Rattle.elem_descr.specs.declared.refusal.Refusal.{Refusal}
 use Rattle.elem_descr.specs.Refusals.{◌>>=◌}
-use Rattle.shape_strides.specs.Limits.{max_items}
 use Rattle.shape_strides.specs.Indexes.{count}
 use Rattle.shape_strides.specs.Shapes.{shape_of, IsShape}
-use Rattle.shape_strides.specs.ShapeLaws.{shape_of-ok}
+use Rattle.shape_strides.specs.ShapeLaws.{shape_read}
 use Rattle.broadcasting.specs.Broadcasts.{can_stretch, common_shape}
 use Rattle.bench_engine.proofs.StretchLaws.{common-lengths}
-
-all-low : (limit : ℕ) (shape : List ℕ) → All (λ n. n ≤ limit) shape → list_all (λ n. nat_le n limit) shape ≡ true
-all-low limit [] low = refl
-all-low limit (n ∷ shape) low = λ i. le-leb n limit (low zero n (omega arith)) i && all-low limit shape (λ k d below. low (suc k) d (omega (arith, below))) i
-
-pub legal-shape : (shape : List ℕ) → IsShape shape → shape_of shape ≡ Ok shape
-legal-shape shape is = shape_of-ok shape is.axes (all-low max_items shape is.lengths) is.items
 
 pub none-legal : IsShape []
 none-legal = record { axes = omega arith; lengths = λ k d below. absurd (omega (arith, below)); items = omega arith }
 
 pub no-refusal : (e : Refusal) → shape_of [] ≡ Err e → ⊥
-no-refusal e bad = false≢true (sym (ap is_ok bad) ∙ ap is_ok (legal-shape [] none-legal))
+no-refusal e bad = false≢true (sym (ap is_ok bad) ∙ ap is_ok (shape_read [] none-legal))
 
 -- a shape and one that stretches to it have the first in common
 pub legal-common : (target shape : List ℕ) → IsShape target → can_stretch shape target ≡ true → common_shape (target ∷ shape ∷ []) ≡ Ok target
 unfolding common_shape
-legal-common target shape is can = ap (λ (r : Result (List ℕ) Refusal). r >>= shape_of) (common-lengths target shape can) ∙ legal-shape target is
+legal-common target shape is can = ap (λ (r : Result (List ℕ) Refusal). r >>= shape_of) (common-lengths target shape can) ∙ shape_read target is

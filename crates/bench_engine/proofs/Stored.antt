@@ -15,7 +15,8 @@ use Rattle.shape_strides.specs.IndexLaws.{length-indexes, get_or-indexes, index_
 use Rattle.shape_strides.specs.ReverseLaws.{count-reverse, IsIndex-from_reverse}
 use Rattle.shape_strides.specs.Layouts.{multiples, f_multiples}
 use Rattle.overlap_copy.specs.Blocks.{offsets_in, places_of}
-use Rattle.bench_engine.specs.Contents.{places_in, in_order}
+use Rattle.bench_engine.specs.Contents.{places_in}
+use Rattle.npy_format.specs.WrittenFiles.{ordered}
 
 -- ---- places
 
@@ -73,7 +74,7 @@ at-index descr shape index block items is in' =
     ∙ get_or-map (item_from descr block) (map place (indexes shape)) (rank shape j) 0 [] low'
     ∙ ap (item_from descr block) (get_or-map place (indexes shape) (rank shape j) [] 0 low ∙ ap place (get_or-indexes shape j [] in-shape) ∙ ap (λ i. item_size descr * rank (reverse shape) i) (reverse-reverse index))
 
-stored-fortran : (descr : Descr) (shape block : List ℕ) (items : List (List LeafValue)) → map (item_from descr block) (f_multiples (item_size descr) shape) ≡ items → in_order Fortran shape items ≡ items_in descr (count shape) block
+stored-fortran : (descr : Descr) (shape block : List ℕ) (items : List (List LeafValue)) → map (item_from descr block) (f_multiples (item_size descr) shape) ≡ items → ordered Fortran shape items ≡ items_in descr (count shape) block
 stored-fortran descr shape block items is = same_lists left right (long ∙ sym long') each ∙ items-from descr (count shape) block
   where
     item : List ℕ → List LeafValue
@@ -101,6 +102,6 @@ stored-fortran descr shape block items is = same_lists left right (long ∙ sym 
         get_or-map item (indexes (reverse shape)) k [] d inside ∙ ap item here ∙ at-index descr shape found.0 block items is found.1 ∙ ap (λ n. item_from descr block (item_size descr * n)) found.2
         ∙ sym (get_or-map (item_from descr block) (multiples (item_size descr) (count shape)) k 0 d inside' ∙ ap (item_from descr block) (get_or-map-range_with_len (λ k. item_size descr * k) 0 (count shape) k k 0 (omega (arith, low, long)) (omega arith)))
 
-pub stored-is : (order : MemoryOrder) (descr : Descr) (shape block : List ℕ) (items : List (List LeafValue)) → map (item_from descr block) (offsets_in order (item_size descr) shape) ≡ items → in_order order shape items ≡ items_in descr (count shape) block
+pub stored-is : (order : MemoryOrder) (descr : Descr) (shape block : List ℕ) (items : List (List LeafValue)) → map (item_from descr block) (offsets_in order (item_size descr) shape) ≡ items → ordered order shape items ≡ items_in descr (count shape) block
 stored-is C descr shape block items is = sym is ∙ items-from descr (count shape) block
 stored-is Fortran descr shape block items is = stored-fortran descr shape block items is

@@ -1,5 +1,5 @@
 -- What the commands that make an array put into it.
-use Rattle.std.specs.Prelude.{ℕ, ◌*◌, ℤ, pos, true, List, [], ◌∷◌, length, get_or, map, replicate, reverse, Result, Ok, Err, nat_eq, nat_le}
+use Rattle.std.specs.Prelude.{ℕ, ◌*◌, ℤ, pos, true, List, [], ◌∷◌, length, map, replicate, reverse, Result, Ok, Err, nat_eq, nat_le}
 use Rattle.std.specs.List.{range_with_len}
 use Rattle.elem_descr.specs.declared.refusal.Refusal.{Refusal}
 use Rattle.elem_descr.specs.declared.refusal.Refusal.TheVariants.{TooLarge, NotForThisKind, NumberOfValues}
@@ -23,6 +23,7 @@ use Rattle.name_store.specs.States.{Buffer}
 use Rattle.name_store.specs.States as states
 use Rattle.literal_items.specs.LiteralItems.{item_value, item_values}
 use Rattle.literal_items.specs.RangeItems.{range_items}
+use Rattle.npy_format.specs.WrittenFiles.{ordered}
 
 -- a shape, for each of its indices in C order the place of an item, and a buffer in which the items stand
 pub record Contents : Type 0 where
@@ -35,14 +36,9 @@ abbrev pub places_in : MemoryOrder → List ℕ → List ℕ
 places_in C shape = range_with_len 0 (count shape)
 places_in Fortran shape = map (λ index. rank (reverse shape) (reverse index)) (indexes shape)
 
--- items in C order of their indices, as they are stored
-abbrev pub in_order : MemoryOrder → List ℕ → List (List LeafValue) → List (List LeafValue)
-in_order C shape items = items
-in_order Fortran shape items = map (λ index. get_or items (rank shape (reverse index)) []) (indexes (reverse shape))
-
 -- these items, one for each index of the shape in C order, stored in an order
 abbrev pub new_contents_in : MemoryOrder → Descr → List ℕ → List (List LeafValue) → Contents
-new_contents_in order descr shape items = record { shape = shape; places = places_in order shape; buffer = record { descr = descr; items = in_order order shape items } }
+new_contents_in order descr shape items = record { shape = shape; places = places_in order shape; buffer = record { descr = descr; items = ordered order shape items } }
 
 abbrev pub new_contents : Descr → List ℕ → List (List LeafValue) → Contents
 new_contents descr shape items = new_contents_in C descr shape items

@@ -1,5 +1,5 @@
 -- An item of NumPy's, decoded and encoded, and format texts, read.
-use Rattle.std.proofs.Common.{◌≡◌, ℕ, true, List, [], ◌∷◌, Ok, Err, codes, refl, lit<}
+use Rattle.std.proofs.Common.{◌≡◌, true, List, [], ◌∷◌, Ok, Err, codes, refl, lit<}
 use Rattle.std.specs.Fmt.{decimal}
 use Rattle.std.proofs.lemmas.Fmt.{decimal_digit}
 use Rattle.std.specs.Prelude.{pos, negsuc}
@@ -9,22 +9,19 @@ use Rattle.elem_descr.specs.declared.scalar.Width.TheVariants.{Two, Four}
 use Rattle.elem_descr.specs.declared.scalar.Scalar.{Scalar}
 use Rattle.elem_descr.specs.declared.scalar.Scalar.TheVariants.{Bool as BoolScalar, Byte, Int, Bytes}
 use Rattle.elem_descr.specs.declared.descr.Descr.{Descr}
-use Rattle.elem_descr.specs.declared.descr.Descr.TheVariants.{Record as RecordDescr}
 use Rattle.elem_descr.specs.Values.{LeafValue, number, text}
-use Rattle.elem_descr.specs.Fields.{Fields, no_more, scalar_field, record_field}
+use Rattle.elem_descr.specs.Fields.{no_more, scalar_field, record_field}
 use Rattle.elem_descr.specs.Items.{decode_item, encode_item}
 use Rattle.elem_descr.specs.RecordBuilding.{checked_name, added, widened, closed_record}
 use Rattle.elem_descr.specs.FormatPieces.{nothing, between_colons, letter, opening, pieces}
 use Rattle.elem_descr.specs.FormatTexts.{format}
 use Rattle.elem_descr.specs.WrittenFormats.{written_format}
 use Rattle.elem_descr.specs.SpellingLaws.{one}
-
-abbrev whole : ℕ → Fields → Descr
-whole size fields = RecordDescr (record { size = size; fields = fields })
+use Rattle.elem_descr.specs.BuildingLaws.{record_type}
 
 -- numpy.dtype({'names': ['x', 'y', 't', 'b'], 'formats': ['<i4', '>i2', 'S5', '?'], 'offsets': [0, 6, 8, 13], 'itemsize': 15})
 abbrev descr : Descr
-descr = whole 15 (scalar_field (codes "x") 0 (Int true Four Little) (scalar_field (codes "y") 6 (Int true Two Big) (scalar_field (codes "t") 8 (Bytes 5) (scalar_field (codes "b") 13 BoolScalar no_more))))
+descr = record_type 15 (scalar_field (codes "x") 0 (Int true Four Little) (scalar_field (codes "y") 6 (Int true Two Big) (scalar_field (codes "t") 8 (Bytes 5) (scalar_field (codes "b") 13 BoolScalar no_more))))
 
 -- (-2, 300, b'ab\x00c', True)
 abbrev values : List LeafValue
@@ -50,25 +47,25 @@ pub cut_text : pieces (codes "T{<5s:a:4x}") ≡ opening [] ∷ (letter [] 60 not
 cut_text = refl
 
 -- a record within is aligned as the greatest of its members
-pub aligned_within : format (codes "T{b:x:T{i:y:}:s:}") ≡ Ok (whole 8 (scalar_field (codes "x") 0 byte (record_field (codes "s") 4 4 (scalar_field (codes "y") 0 int no_more) no_more)))
+pub aligned_within : format (codes "T{b:x:T{i:y:}:s:}") ≡ Ok (record_type 8 (scalar_field (codes "x") 0 byte (record_field (codes "s") 4 4 (scalar_field (codes "y") 0 int no_more) no_more)))
 unfolding checked_name added widened closed_record
 aligned_within = refl
 
-pub written_within : written_format (whole 8 (scalar_field (codes "x") 0 byte (record_field (codes "s") 4 4 (scalar_field (codes "y") 0 int no_more) no_more))) ≡ codes "T{<b:x:3xT{<i:y:}:s:}"
+pub written_within : written_format (record_type 8 (scalar_field (codes "x") 0 byte (record_field (codes "s") 4 4 (scalar_field (codes "y") 0 int no_more) no_more))) ≡ codes "T{<b:x:3xT{<i:y:}:s:}"
 written_within = rw three refl
 
 -- not where `@` comes into force behind its `T`: 5 bytes
-pub marked_within : format (codes "T{<T{@i:y:}:s:b:x:}") ≡ Ok (whole 5 (record_field (codes "s") 0 4 (scalar_field (codes "y") 0 int no_more) (scalar_field (codes "x") 4 byte no_more)))
+pub marked_within : format (codes "T{<T{@i:y:}:s:b:x:}") ≡ Ok (record_type 5 (record_field (codes "s") 0 4 (scalar_field (codes "y") 0 int no_more) (scalar_field (codes "x") 4 byte no_more)))
 unfolding checked_name added widened closed_record
 marked_within = refl
 
 -- a record without a name of its own
-pub unnamed_within : format (codes "T{b:x:T{b:y:}}") ≡ Ok (whole 2 (scalar_field (codes "x") 0 byte (record_field (codes "f1") 1 1 (scalar_field (codes "y") 0 byte no_more) no_more)))
+pub unnamed_within : format (codes "T{b:x:T{b:y:}}") ≡ Ok (record_type 2 (scalar_field (codes "x") 0 byte (record_field (codes "f1") 1 1 (scalar_field (codes "y") 0 byte no_more) no_more)))
 unfolding checked_name added widened closed_record
 unnamed_within = rw one refl
 
 -- four levels, and a fifth
-pub four_levels : format (codes "T{T{T{T{b:x:}:t:}:s:}:r:}") ≡ Ok (whole 1 (record_field (codes "r") 0 1 (record_field (codes "s") 0 1 (record_field (codes "t") 0 1 (scalar_field (codes "x") 0 byte no_more) no_more) no_more) no_more))
+pub four_levels : format (codes "T{T{T{T{b:x:}:t:}:s:}:r:}") ≡ Ok (record_type 1 (record_field (codes "r") 0 1 (record_field (codes "s") 0 1 (record_field (codes "t") 0 1 (scalar_field (codes "x") 0 byte no_more) no_more) no_more) no_more))
 unfolding checked_name added widened closed_record
 four_levels = refl
 

@@ -9,6 +9,8 @@ use Rattle.elem_descr.specs.Encoding.{size}
 use Rattle.elem_descr.specs.RecordBuilding.{Partial, is_taken, checked_name}
 use Rattle.elem_descr.specs.declared.descr.Descr.{Descr}
 use Rattle.elem_descr.specs.Items.{item_size, leaves_of}
+use Rattle.elem_descr.specs.declared.descr.Descr.TheVariants.{Record as RecordDescr}
+use Rattle.elem_descr.specs.Fields.{Fields}
 
 -- the name of a field that follows is not taken
 abbrev pub names : List Field → List (List ℕ)
@@ -40,3 +42,6 @@ not_taken (first ∷ done) later field h = rw (apart first.name done later field
     apart : (name : List ℕ) (done later : List Field) (field : Field) → AllByRecursion (λ other. bytes_eq name other ≡ false) (names (done ++ field ∷ later)) → bytes_eq name field.name ≡ false
     apart name [] later field h = h.0
     apart name (first ∷ done) later field h = apart name done later field h.1
+
+abbrev pub record_type : ℕ → Fields → Descr
+record_type size fields = RecordDescr (record { size = size; fields = fields })

@@ -1,13 +1,14 @@
 -- Laws of the leaves of an item: they are in order, and as many as are counted.
-use Rattle.std.proofs.Common.{◌≡◌, ℕ, zero, suc, ◌+◌, ◌<◌, ◌≤◌, ◌∷◌, map, length, get_or, refl, sym, ap, arith, List, [], ◌++◌, length-append}
+use Rattle.std.proofs.Common.{◌≡◌, ℕ, zero, suc, ◌+◌, ◌<◌, ◌≤◌, ◌∷◌, map, length, get_or, refl, sym, ap, arith, List, [], ◌++◌, length-append, take, drop}
 use Rattle.std.proofs.lemmas.List.{map-append}
 use Rattle.elem_descr.specs.declared.leaf.Leaf.{Leaf}
 use Rattle.elem_descr.specs.declared.descr.Descr.{Descr}
 use Rattle.elem_descr.specs.declared.descr.Descr.TheVariants.{Scalar as ScalarDescr, Record as RecordDescr}
 use Rattle.elem_descr.specs.Items.{leaves_of, leaves_from, moved_leaf, AreInOrder}
-use Rattle.elem_descr.specs.Encoding.{size}
+use Rattle.elem_descr.specs.Encoding.{size, decode}
 use Rattle.elem_descr.specs.Fields.{Fields, no_more, scalar_field, record_field, Structure}
 use Rattle.elem_descr.specs.Descriptors.{IsLegal, InOrder, before, leaf_count}
+use Rattle.elem_descr.specs.Values.{LeafValue}
 
 -- leaves that may begin earlier
 pub AreInOrder-earlier : (from later : ℕ) (leaves : List Leaf) (bytes : ℕ) → from ≤ later → AreInOrder later leaves bytes → AreInOrder from leaves bytes
@@ -78,3 +79,7 @@ leaves_from-before start name at (ScalarDescr scalar) rest = let join : start + 
 leaves_from-before start name at (RecordDescr structure) rest =
     let join : start + at + 0 ≡ start + at = omega arith in
     ap (λ (front : List Leaf). front ++ leaves_from start rest) (rw join at (leaves_from-moved (start + at) 0 structure.fields))
+
+-- the value of a leaf in the bytes of an item
+abbrev pub leaf_value : List ℕ → Leaf → LeafValue
+leaf_value bytes leaf = decode leaf.scalar (take (size leaf.scalar) (drop leaf.at bytes))

@@ -1,5 +1,5 @@
 -- Items that are written leaf by leaf over zeros: their bytes are those that their values are encoded as.
-use Rattle.std.proofs.Common.{◌≡◌, ◌+◌, ◌-◌, ◌*◌, ◌<◌, ◌≤◌, inl, inr, ℕ, zero, suc, true, pos, List, [], ◌∷◌, ◌++◌, map, length, get_or, take, drop, replicate, refl, sym, ap, ◌∙◌, arith, append_assoc, suc-mul, mul-le-mul_right}
+use Rattle.std.proofs.Common.{◌≡◌, ◌+◌, ◌-◌, ◌*◌, ◌<◌, ◌≤◌, inl, inr, ℕ, zero, suc, true, pos, List, [], ◌∷◌, ◌++◌, map, length, get_or, take, drop, replicate, sym, ap, ◌∙◌, arith, append_assoc, suc-mul, mul-le-mul_right}
 use Rattle.std.specs.List.{flat_map}
 use Rattle.std.proofs.Math.Seq.{take-add}
 use Rattle.std.proofs.lemmas.List.{length-map, get_or-map, drop-drop, take-replicate, drop-replicate}
@@ -10,7 +10,7 @@ use Rattle.elem_descr.specs.Encoding.{size, encode}
 use Rattle.elem_descr.specs.Items.{item_size, leaves_of, leaf_at, no_leaf, LeavesInOrder, encode_from, encode_item}
 use Rattle.elem_descr.specs.Blocks.{item_from}
 use Rattle.raw_block.specs.Bytes.{item_at, joined}
-use Rattle.raw_block.specs.JoinedLaws.{all_joined, joined-add, joined-same}
+use Rattle.raw_block.specs.JoinedLaws.{all_joined, joined_list}
 use Rattle.elementwise.specs.Casts.{can_cast, cast_item}
 use Rattle.elementwise.specs.inside.Passes.{put_all, leaf_from}
 use Rattle.elementwise.specs.inside.LeafCasts.{source, IsLeafCast}
@@ -102,14 +102,6 @@ zeros-stay from to other offsets bytes bytes' k low room apart wrote have = reco
       ∙ row-kept to (length offsets) at width k _ bytes room fits (apart.within k low) (gap k low) (each-wide from to other offsets k) j inside
       ∙ have.zeros at width fits gap j inside;
 }
-
-joined_list : {X : Type 0} (f : X → List ℕ) (d : X) (xs : List X) → joined (λ k. f (get_or xs k d)) (length xs) ≡ flat_map f xs
-joined_list f d [] = refl
-joined_list f d (x ∷ xs) =
-    let item = λ (k : ℕ). f (get_or (x ∷ xs) k d) in
-    let one : suc (length xs) ≡ 1 + length xs = omega arith in
-    let rest = joined-same (λ k. item (1 + k)) (λ k. f (get_or xs k d)) (length xs) (λ k low. let next : 1 + k ≡ suc k = omega arith in ap item next) in
-    ap (joined item) one ∙ sym (joined-add item 1 (length xs)) ∙ ap (λ bytes. f x ++ bytes) (rest ∙ joined_list f d xs)
 
 pub all-encoded : (from to : Descr) (other offsets bytes : List ℕ) → length bytes ≡ length offsets * item_size to → can_cast from to ≡ true → ((k : ℕ) → k < length (leaves_of to) → IsLeafCast from to other offsets bytes k) →
     HaveZeros to (length offsets) bytes → LeavesInOrder to → ((k : ℕ) → k < length (leaves_of to) → (source from k).at + size (source from k).scalar ≤ item_size from) →

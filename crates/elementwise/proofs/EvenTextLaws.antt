@@ -1,10 +1,11 @@
 -- Byte strings of one length: the NULs at their ends decide nothing.
-use Rattle.std.proofs.Common.{◌≡◌, ◌+◌, ◌-◌, ◌<◌, ◌≤◌, ◌==◌, ◌&&◌, ◌||◌, Bool, true, false, nat_lt, ℕ, zero, suc, List, [], ◌∷◌, ◌++◌, length, get_or, replicate, reverse, refl, sym, ap, ◌∙◌, arith, length-take, length-append}
+use Rattle.std.proofs.Common.{◌≡◌, ◌+◌, ◌-◌, ◌<◌, ◌≤◌, ◌==◌, ◌&&◌, ◌||◌, true, false, nat_lt, ℕ, zero, suc, List, [], ◌∷◌, ◌++◌, length, get_or, replicate, reverse, refl, sym, ap, ◌∙◌, arith, length-take, length-append}
 use Rattle.std.specs.Prelude.{nat_eq}
 use Rattle.std.proofs.lemmas.Bool.{lt-ltb}
 use Rattle.std.proofs.lemmas.Bool.Decides.{nat_tests}
 use Rattle.std.proofs.lemmas.List.{get_or-reverse, get_or-take, length-reverse, length-replicate}
 use Rattle.std.proofs.lemmas.List.Sums.{prefix_len_stops, suffix_len-le-length}
+use Rattle.std.proofs.Math.Bool.{and-false}
 use Rattle.elem_descr.specs.Encoding.{without_nuls}
 use Rattle.elem_descr.specs.NulLaws.{without_nuls-back}
 use Rattle.elem_descr.specs.inside.Nuls.{nuls}
@@ -40,10 +41,6 @@ without-ends bytes =
     (prefix_len_stops (λ b. nat_eq b 0) (reverse bytes) 0 few))
 
 -- ---- with NULs behind them
-
-and-false : (b : Bool) → (b && false) ≡ false
-and-false true = refl
-and-false false = refl
 
 not-below-zero : (a : ℕ) → nat_lt a 0 ≡ false
 not-below-zero a = grind (arith, nat_tests)

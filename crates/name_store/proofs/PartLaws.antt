@@ -8,7 +8,7 @@ use Rattle.elem_descr.specs.Blocks.{item_from}
 use Rattle.elem_descr.specs.Encoding.{size, decode}
 use Rattle.elem_descr.specs.Items.{item_size, leaves_of, leaves_in, fields, field_at, moved_leaf, AreInOrder, decode_item}
 use Rattle.elem_descr.specs.Values.{LeafValue}
-use Rattle.elem_descr.specs.ItemLaws.{AreInOrder-within}
+use Rattle.elem_descr.specs.ItemLaws.{AreInOrder-within, leaf_value}
 use Rattle.raw_block.specs.Bytes.{put}
 use Rattle.name_store.specs.Parts.{IsPathOf, descr_at, start_at, first_at, span_at, part_at, with_part}
 use Rattle.name_store.specs.Places.{IsElementType}
@@ -74,11 +74,8 @@ put-front at len item xs fits within =
 
 -- ---- values of leaves
 
-abbrev value_in : List ℕ → Leaf → LeafValue
-value_in bytes leaf = decode leaf.scalar (take (size leaf.scalar) (drop leaf.at bytes))
-
 -- those of leaves further on
-values-moved : (start width from : ℕ) (bytes part : List ℕ) (leaves : List Leaf) → AreInOrder from leaves width → take width (drop start bytes) ≡ part → map (value_in bytes) (map (moved_leaf start) leaves) ≡ map (value_in part) leaves
+values-moved : (start width from : ℕ) (bytes part : List ℕ) (leaves : List Leaf) → AreInOrder from leaves width → take width (drop start bytes) ≡ part → map (leaf_value bytes) (map (moved_leaf start) leaves) ≡ map (leaf_value part) leaves
 values-moved start width from bytes part [] order is = refl
 values-moved start width from bytes part (leaf ∷ leaves) order is =
     λ i. decode leaf.scalar (there i) ∷ values-moved start width (leaf.at + size leaf.scalar) bytes part leaves order.2 is i
@@ -90,14 +87,14 @@ values-moved start width from bytes part (leaf ∷ leaves) order is =
         ∙ ap (λ bytes. take (size leaf.scalar) (drop leaf.at bytes)) is
 
 -- those of leaves before the bytes that are put
-same-before : (to from : ℕ) (item xs : List ℕ) (leaves : List Leaf) → AreInOrder from leaves to → to ≤ length xs → map (value_in (put to item xs)) leaves ≡ map (value_in xs) leaves
+same-before : (to from : ℕ) (item xs : List ℕ) (leaves : List Leaf) → AreInOrder from leaves to → to ≤ length xs → map (leaf_value (put to item xs)) leaves ≡ map (leaf_value xs) leaves
 same-before to from item xs [] order within = refl
 same-before to from item xs (leaf ∷ leaves) order within =
     λ i. decode leaf.scalar (taken-before leaf.at (size leaf.scalar) to item xs (AreInOrder-within (leaf.at + size leaf.scalar) leaves to order.2) within i)
     ∷ same-before to (leaf.at + size leaf.scalar) item xs leaves order.2 within i
 
 -- and of leaves behind them
-same-after : (to from bytes : ℕ) (item xs : List ℕ) (leaves : List Leaf) → AreInOrder from leaves bytes → to + length item ≤ from → to ≤ length xs → map (value_in (put to item xs)) leaves ≡ map (value_in xs) leaves
+same-after : (to from bytes : ℕ) (item xs : List ℕ) (leaves : List Leaf) → AreInOrder from leaves bytes → to + length item ≤ from → to ≤ length xs → map (leaf_value (put to item xs)) leaves ≡ map (leaf_value xs) leaves
 same-after to from bytes item xs [] order after within = refl
 same-after to from bytes item xs (leaf ∷ leaves) order after within =
     λ i. decode leaf.scalar (take (size leaf.scalar) (dropped-after leaf.at to item xs (omega (arith, after, order.0)) within i))
@@ -171,8 +168,8 @@ module _ (descr : Descr) (legal : IsElementType descr) (path : List ℕ) (there 
   -- what is read where a part begins
   pub part-read : (block : List ℕ) (at : ℕ) → part_at (span_at descr path) (item_from descr block at) ≡ item_from own block (at + start)
   part-read block at =
-      ap (λ leaves. take (length (leaves_of own)) (drop (first_at descr path) (map (value_in bytes) leaves))) split.all
-      ∙ taken-middle (value_in bytes) split.front (map (moved_leaf start) (leaves_of own)) split.back (first_at descr path) (length (leaves_of own)) split.counted (length-map (leaves_of own) (moved_leaf start))
+      ap (λ leaves. take (length (leaves_of own)) (drop (first_at descr path) (map (leaf_value bytes) leaves))) split.all
+      ∙ taken-middle (leaf_value bytes) split.front (map (moved_leaf start) (leaves_of own)) split.back (first_at descr path) (length (leaves_of own)) split.counted (length-map (leaves_of own) (moved_leaf start))
       ∙ values-moved start (item_size own) 0 bytes (take (item_size own) (drop (at + start) block)) (leaves_of own) (type-in_order own (path-legal descr path legal there)) same
     where
       bytes : List ℕ
@@ -187,8 +184,8 @@ module _ (descr : Descr) (legal : IsElementType descr) (path : List ℕ) (there 
   pub part-put : (part bytes : List ℕ) → length part ≡ item_size own → length bytes ≡ item_size descr →
       decode_item descr (put start part bytes) ≡ with_part (span_at descr path) (decode_item own part) (decode_item descr bytes)
   part-put part bytes whole long =
-      ap (map (value_in new)) split.all
-      ∙ three (value_in new) split.front middle split.back (first_at descr path) (length (leaves_of own)) split.counted (length-map (leaves_of own) (moved_leaf start))
+      ap (map (leaf_value new)) split.all
+      ∙ three (leaf_value new) split.front middle split.back (first_at descr path) (length (leaves_of own)) split.counted (length-map (leaves_of own) (moved_leaf start))
       ∙ (λ i. before i ++ (here i ++ after i))
       ∙ sym (append_assoc front (decode_item own part) back)
     where
@@ -207,18 +204,18 @@ module _ (descr : Descr) (legal : IsElementType descr) (path : List ℕ) (there 
       back : List LeafValue
       back = drop (first_at descr path + length (leaves_of own)) (decode_item descr bytes)
 
-      before : map (value_in new) split.front ≡ front
+      before : map (leaf_value new) split.front ≡ front
       before =
           same-before start 0 part bytes split.front split.before inside
-          ∙ sym (ap (λ leaves. take (first_at descr path) (map (value_in bytes) leaves)) split.all
-          ∙ taken-front (value_in bytes) split.front middle split.back (first_at descr path) (length (leaves_of own)) split.counted (length-map (leaves_of own) (moved_leaf start)))
+          ∙ sym (ap (λ leaves. take (first_at descr path) (map (leaf_value bytes) leaves)) split.all
+          ∙ taken-front (leaf_value bytes) split.front middle split.back (first_at descr path) (length (leaves_of own)) split.counted (length-map (leaves_of own) (moved_leaf start)))
 
-      here : map (value_in new) middle ≡ decode_item own part
+      here : map (leaf_value new) middle ≡ decode_item own part
       here =
           values-moved start (item_size own) 0 new part (leaves_of own) (type-in_order own (path-legal descr path legal there)) (ap (λ n. take n (drop start new)) (sym whole) ∙ taken-there start part bytes inside)
 
-      after : map (value_in new) split.back ≡ back
+      after : map (leaf_value new) split.back ≡ back
       after =
           same-after start (start + item_size own) (item_size descr) part bytes split.back split.after (omega (arith, whole)) inside
-          ∙ sym (ap (λ leaves. drop (first_at descr path + length (leaves_of own)) (map (value_in bytes) leaves)) split.all
-          ∙ dropped-back (value_in bytes) split.front middle split.back (first_at descr path) (length (leaves_of own)) split.counted (length-map (leaves_of own) (moved_leaf start)))
+          ∙ sym (ap (λ leaves. drop (first_at descr path + length (leaves_of own)) (map (leaf_value bytes) leaves)) split.all
+          ∙ dropped-back (leaf_value bytes) split.front middle split.back (first_at descr path) (length (leaves_of own)) split.counted (length-map (leaves_of own) (moved_leaf start)))

@@ -23,7 +23,7 @@ use Rattle.npy_format.proofs.GrammarLaws.{Shortens, symbol_shorter}
 use Rattle.npy_format.proofs.SkipLaws.{behind_ok}
 use Rattle.npy_format.proofs.PlaceLaws.{stand_open, stand_closed, same_read}
 use Rattle.npy_format.proofs.ValueLaws.{literals_of_listed}
-use Rattle.npy_format.proofs.StandLaws.{text_is, next_stands, is_read, no_integer, integer_stands, integer_front_is, lengths_next, lengths_end}
+use Rattle.npy_format.proofs.StandLaws.{text_is, next_stands, is_read, no_integer, integer_stands, integer_front_is, lengths_next, lengths_end, no_44}
 
 comma_shorter : (toks : List Token) → length (behind_comma toks) ≤ length toks
 comma_shorter toks = go (symbol_token_at 44 toks) refl
@@ -155,9 +155,6 @@ pub record LengthsLeft (values : List Literal) (toks : List Token) : Type 0 wher
   pub before : List ℕ
   pub same : integers_of values ≡ (integers_of left >>= λ ns. Ok (before ++ ns))
 
-no_41 : let n : ℕ = 41 in n ≢ 44
-no_41 wrong = omega (arith, wrong)
-
 module _ (values : List Literal) (toks : List Token) (h : LengthsLeft values toks) where
   pub lengths_good : (end : List Token) → Some end ≡ symbol_token_at 41 toks → (found : List ℕ) × (integers_of values ≡ Ok found)
   lengths_good end ends =
@@ -166,7 +163,7 @@ module _ (values : List Literal) (toks : List Token) (h : LengthsLeft values tok
 
   pub lengths_bad : None ≡ integer_at toks → None ≡ symbol_token_at 41 toks → integers_of values ≡ Err BadHeader
   lengths_bad none open' =
-      let next = stand_open value_in 41 toks h.left no_41 h.stand open' in
+      let next = stand_open value_in 41 toks h.left no_44 h.stand open' in
       let refused = no_integer toks next.first (record { rest = next.after; is = next.reads }) none next.others in
       h.same ∙ ap (λ (r : Result (List ℕ) Refusal). r >>= λ ns. Ok (h.before ++ ns)) (ap integers_of next.is ∙ refused)
 
@@ -174,7 +171,7 @@ module _ (values : List Literal) (toks : List Token) (h : LengthsLeft values tok
   lengths_on found is =
       let front = integer_front_is toks found is in
       let open' : None ≡ symbol_token_at 41 toks = rw front refl in
-      let next = stand_open value_in 41 toks h.left no_41 h.stand open' in
+      let next = stand_open value_in 41 toks h.left no_44 h.stand open' in
       let stands = integer_stands toks next.first (record { rest = next.after; is = next.reads }) found is in
       record {
         left = next.others;

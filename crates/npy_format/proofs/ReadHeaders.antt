@@ -1,14 +1,13 @@
 -- A header that is read of the text that is written.
-use Rattle.std.proofs.Common.{◌≡◌, ℕ, zero, suc, ◌-◌, ◌<◌, ◌≤◌, Bool, true, false, All, List, [], ◌∷◌, ◌++◌, length, replicate, codes, decimal, None, Ok, refl, sym, ap, subst, ◌∙◌, arith, append_assoc, nat_eq, nat_le}
+use Rattle.std.proofs.Common.{◌≡◌, ℕ, zero, suc, ◌-◌, ◌<◌, ◌≤◌, Bool, true, false, All, List, [], ◌∷◌, ◌++◌, length, replicate, codes, decimal, None, Ok, refl, sym, ap, subst, ◌∙◌, arith, append_assoc, nat_eq}
 use Rattle.std.specs.Char.{is_ascii_digit}
 use Rattle.std.specs.List.{list_all, flat_map}
 use Rattle.std.proofs.lemmas.List.Elements.{All-head, All-tail}
-use Rattle.std.proofs.lemmas.Bool.{le-leb}
 use Rattle.elem_descr.specs.declared.descr.Descr.{Descr}
 use Rattle.elem_descr.specs.Refusals.{◌>>=◌}
 use Rattle.shape_strides.specs.Limits.{max_items}
-use Rattle.shape_strides.specs.Shapes.{IsShape, shape_of, shape_text}
-use Rattle.shape_strides.specs.ShapeLaws.{shape_of-ok}
+use Rattle.shape_strides.specs.Shapes.{IsShape, shape_text}
+use Rattle.shape_strides.specs.ShapeLaws.{shape_read}
 use Rattle.npy_format.specs.Tokens.{Token, is_plain_byte, tokens}
 use Rattle.npy_format.specs.Tokens as token
 use Rattle.npy_format.specs.Values.{Round, Text, Integer, Truth}
@@ -141,13 +140,6 @@ shape_scans depth (n ∷ m ∷ shape) few rest toks more =
 
 lengths_read : (shape : List ℕ) → lengths_of (shape_value shape) ≡ Ok shape
 lengths_read shape = ap integers_of (literals_of_listed (integers shape)) ∙ integers_read shape
-
-shape_read : (shape : List ℕ) → IsShape shape → shape_of shape ≡ Ok shape
-shape_read shape is = shape_of-ok shape is.axes (all shape is.lengths) is.items
-  where
-    all : (lengths : List ℕ) → All (λ n. n ≤ max_items) lengths → list_all (λ n. nat_le n max_items) lengths ≡ true
-    all [] few = refl
-    all (n ∷ lengths) few = rw (le-leb n max_items (All-head (λ m. m ≤ max_items) n lengths few)) (all lengths (All-tail (λ m. m ≤ max_items) n lengths few))
 
 -- ---- the whole text
 

@@ -215,7 +215,7 @@ text_front_is (token.Nothing ∷ toks) found is = cc
 text_front_is (token.Symbol b ∷ toks) found is = cc
 text_front_is (token.Stray ∷ toks) found is = cc
 
-no_44 : let n : ℕ = 41 in n ≢ 44
+pub no_44 : let n : ℕ = 41 in n ≢ 44
 no_44 wrong = omega (arith, wrong)
 
 module _ (inside : List Token) (vs : List Literal) (s : HasValues 41 inside vs) where

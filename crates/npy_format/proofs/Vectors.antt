@@ -7,9 +7,10 @@ use Rattle.elem_descr.specs.declared.scalar.Width.TheVariants.{Two, Four}
 use Rattle.elem_descr.specs.declared.scalar.Scalar.{Scalar}
 use Rattle.elem_descr.specs.declared.scalar.Scalar.TheVariants.{Byte, Int}
 use Rattle.elem_descr.specs.declared.descr.Descr.{Descr}
-use Rattle.elem_descr.specs.declared.descr.Descr.TheVariants.{Scalar as ScalarDescr, Record as RecordDescr}
-use Rattle.elem_descr.specs.Fields.{Fields, no_more, scalar_field, record_field}
+use Rattle.elem_descr.specs.declared.descr.Descr.TheVariants.{Scalar as ScalarDescr}
+use Rattle.elem_descr.specs.Fields.{no_more, scalar_field, record_field}
 use Rattle.elem_descr.specs.RecordBuilding.{checked_name, added, widened, closed_record}
+use Rattle.elem_descr.specs.BuildingLaws.{record_type}
 use Rattle.shape_strides.specs.Shapes.{shape_of}
 use Rattle.npy_format.specs.declared.header.Header.{Header}
 use Rattle.npy_format.specs.Tokens.{tokens}
@@ -25,9 +26,6 @@ header_saying descr fortran shape = Ok (record { descr = descr; fortran = fortra
 
 abbrev integers : List ℕ → Result Header Refusal
 integers shape = header_saying (ScalarDescr int) false shape
-
-abbrev whole : ℕ → Fields → Descr
-whole size fields = RecordDescr (record { size = size; fields = fields })
 
 -- as NumPy writes it
 pub written : header (codes "{'descr': '<i4', 'fortran_order': False, 'shape': (3,), }") ≡ integers (3 ∷ [])
@@ -47,15 +45,15 @@ pub spaced : header (codes " { 'descr':'<i4' ,'shape' : ( ) , 'fortran_order':Fa
 unfolding tokens entries_in tuple_in list_in pair_in dictionary_in literal_in header_of shape_of
 spaced = refl
 
-pub of_records : header (codes "{'descr': [('x', '<i4'), ('y', '>i2')], 'fortran_order': False, 'shape': (1,), }") ≡ header_saying (whole 6 (scalar_field (codes "x") 0 int (scalar_field (codes "y") 4 (Int true Two Big) no_more))) false (1 ∷ [])
+pub of_records : header (codes "{'descr': [('x', '<i4'), ('y', '>i2')], 'fortran_order': False, 'shape': (1,), }") ≡ header_saying (record_type 6 (scalar_field (codes "x") 0 int (scalar_field (codes "y") 4 (Int true Two Big) no_more))) false (1 ∷ [])
 unfolding tokens entries_in tuple_in list_in pair_in dictionary_in literal_in field_in record_in checked_name added widened closed_record header_of shape_of
 of_records = refl
 
-pub padded : header (codes "{'descr': [('x', '|i1'), ('', '|V1')], 'fortran_order': False, 'shape': (1,), }") ≡ header_saying (whole 2 (scalar_field (codes "x") 0 (Byte true) no_more)) false (1 ∷ [])
+pub padded : header (codes "{'descr': [('x', '|i1'), ('', '|V1')], 'fortran_order': False, 'shape': (1,), }") ≡ header_saying (record_type 2 (scalar_field (codes "x") 0 (Byte true) no_more)) false (1 ∷ [])
 unfolding tokens entries_in tuple_in list_in pair_in dictionary_in literal_in field_in record_in checked_name added widened closed_record header_of shape_of
 padded = refl
 
-pub nested : header (codes "{'descr': [('x', '|i1'), ('', '|V3'), ('s', [('y', '<i4')])], 'fortran_order': False, 'shape': (1,), }") ≡ header_saying (whole 8 (scalar_field (codes "x") 0 (Byte true) (record_field (codes "s") 4 4 (scalar_field (codes "y") 0 int no_more) no_more))) false (1 ∷ [])
+pub nested : header (codes "{'descr': [('x', '|i1'), ('', '|V3'), ('s', [('y', '<i4')])], 'fortran_order': False, 'shape': (1,), }") ≡ header_saying (record_type 8 (scalar_field (codes "x") 0 (Byte true) (record_field (codes "s") 4 4 (scalar_field (codes "y") 0 int no_more) no_more))) false (1 ∷ [])
 unfolding tokens entries_in tuple_in list_in pair_in dictionary_in literal_in field_in record_in checked_name added widened closed_record header_of shape_of
 nested = refl
 

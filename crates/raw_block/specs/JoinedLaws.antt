@@ -1,8 +1,9 @@
 -- Laws of items that lie one right after another.
-use Rattle.std.proofs.Common.{◌≡◌, ℕ, zero, suc, ◌+◌, ◌*◌, ◌<◌, ◌≤◌, inl, inr, List, ◌++◌, length, take, drop, refl, sym, ap, ◌∙◌, arith, append_assoc, append-nil, length-append, length-drop}
+use Rattle.std.proofs.Common.{◌≡◌, ℕ, zero, suc, ◌+◌, ◌*◌, ◌<◌, ◌≤◌, inl, inr, List, ◌++◌, length, take, drop, refl, sym, ap, ◌∙◌, arith, append_assoc, append-nil, length-append, length-drop, ◌-◌, [], ◌∷◌, get_or}
 use Rattle.std.proofs.Math.Nat.{suc-mul, zero-mul, mul-le-mul_right}
 use Rattle.std.proofs.Math.Seq.{take-add, drop-append_seam}
 use Rattle.std.proofs.lemmas.List.{drop-append-le, take-append-le, take_all, drop-drop}
+use Rattle.std.specs.List.{flat_map}
 use lib.IntN.{ℤ, pos}
 use Rattle.raw_block.specs.Bytes.{item_at, place, joined}
 use Rattle.raw_block.specs.ExchangeLaws.{last_or_before}
@@ -56,3 +57,11 @@ pub joined_run : (at : ℕ) (step : ℤ) (width n : ℕ) (bytes : List ℕ) → 
 joined_run at step width n bytes is =
     first_joined (λ k. item_at (place at (pos width) k) width bytes) width n (drop at bytes) (λ k _. ap (take width) (drop-drop (k * width) at bytes))
     ∙ ap (λ s. joined (λ k. item_at (place at s k) width bytes) n) (sym is)
+
+pub joined_list : {X : Type 0} (f : X → List ℕ) (d : X) (xs : List X) → joined (λ k. f (get_or xs k d)) (length xs) ≡ flat_map f xs
+joined_list f d [] = refl
+joined_list f d (x ∷ xs) =
+    let item = λ (k : ℕ). f (get_or (x ∷ xs) k d) in
+    let one : suc (length xs) ≡ 1 + length xs = omega arith in
+    let rest = joined-same (λ k. item (1 + k)) (λ k. f (get_or xs k d)) (length xs) (λ k low. let next : 1 + k ≡ suc k = omega arith in ap item next) in
+    ap (joined item) one ∙ sym (joined-add item 1 (length xs)) ∙ ap (λ bytes. f x ++ bytes) (rest ∙ joined_list f d xs)

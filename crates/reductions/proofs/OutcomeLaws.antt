@@ -1,5 +1,5 @@
 -- What is refused, and what a result is.
-use Rattle.std.proofs.Common.{◌≡◌, ◌+◌, ◌-◌, ◌*◌, ◌++◌, ◌<◌, ℕ, zero, suc, ℤ, true, false, Bool, Option, Some, None, List, [], ◌∷◌, map, drop, length, get_or, Ok, Err, refl, sym, ap, ◌∙◌, arith, mul_comm, one-mul}
+use Rattle.std.proofs.Common.{◌≡◌, ◌-◌, ◌*◌, ◌<◌, ℕ, zero, suc, ℤ, true, false, Bool, Option, Some, None, List, [], ◌∷◌, map, drop, length, get_or, Ok, Err, refl, sym, ap, ◌∙◌, arith, mul_comm, one-mul}
 use Rattle.std.proofs.lemmas.Bool.{ne_eqb}
 use Rattle.std.specs.Prelude.{nat_eq, Result, ◌&&◌, not, ◌==◌, slice_set, is_ok}
 use Rattle.std.specs.List.{range_with_len, insert, remove, flat_map}
@@ -19,7 +19,7 @@ use Rattle.elem_descr.specs.Values.{number}
 use Rattle.elem_descr.specs.Blocks.{item_from}
 use Rattle.elem_descr.specs.ByteLaws.{one-encoded}
 use Rattle.raw_block.specs.Bytes.{item_at, joined}
-use Rattle.raw_block.specs.JoinedLaws.{all_joined, joined-add, joined-same}
+use Rattle.raw_block.specs.JoinedLaws.{all_joined, joined_list}
 use Rattle.shape_strides.specs.declared.layout.Layout.{Layout}
 use Rattle.shape_strides.specs.Indexes.{count, indexes, rank}
 use Rattle.shape_strides.specs.IndexLaws.{length-indexes}
@@ -161,14 +161,6 @@ items_are reduction scalar to block out ls n is many are =
     ∙ sym (get_or-map g ls k [] d (omega (arith, low, many))))
 
 -- ---- the bytes
-
-joined_list : {X : Type 0} (f : X → List ℕ) (d : X) (xs : List X) → joined (λ k. f (get_or xs k d)) (length xs) ≡ flat_map f xs
-joined_list f d [] = refl
-joined_list f d (x ∷ xs) =
-    let item = λ (k : ℕ). f (get_or (x ∷ xs) k d) in
-    let one : suc (length xs) ≡ 1 + length xs = omega arith in
-    let rest = joined-same (λ k. item (1 + k)) (λ k. f (get_or xs k d)) (length xs) (λ k low. let next : 1 + k ≡ suc k = omega arith in ap item next) in
-    ap (joined item) one ∙ sym (joined-add item 1 (length xs)) ∙ ap (λ bytes. f x ++ bytes) (rest ∙ joined_list f d xs)
 
 pub bytes_are : (reduction : Red) (scalar to : Scalar) (block out : List ℕ) (ls : List (List ℕ)) (n : ℕ) → to ≡ result_scalar reduction scalar → n ≡ length ls → length out ≡ n * size to → AreReduced reduction scalar block (size to) ls out →
     out ≡ flat_map (encode_item (ScalarDescr to)) (reduced_items reduction (ScalarDescr to) (ScalarDescr scalar) block ls)

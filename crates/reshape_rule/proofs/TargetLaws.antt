@@ -56,33 +56,30 @@ left_over-capped items product top low =
 
 -- ---- lengths that are capped
 
-abbrev pub capped : ℕ → ℕ
-capped n = min n (max_items + 1)
-
-capped-tests : (lengths : List ℕ) → list_all (λ n. nat_le n max_items) (map capped lengths) ≡ list_all (λ n. nat_le n max_items) lengths
+capped-tests : (lengths : List ℕ) → list_all (λ n. nat_le n max_items) (map (λ n. min n (max_items + 1)) lengths) ≡ list_all (λ n. nat_le n max_items) lengths
 capped-tests [] = refl
 capped-tests (n ∷ lengths) =
-    let same : nat_le (capped n) max_items ≡ nat_le n max_items = grind (arith, nat_tests) in
+    let same : nat_le (min n (max_items + 1)) max_items ≡ nat_le n max_items = grind (arith, nat_tests) in
     rw (same, capped-tests lengths) refl
 
 le_from_test : (n m : ℕ) → nat_le n m ≡ true → n ≤ m
 le_from_test n m test = grind (arith, nat_tests)
 
-capped-same : (lengths : List ℕ) → list_all (λ n. nat_le n max_items) lengths ≡ true → map capped lengths ≡ lengths
+capped-same : (lengths : List ℕ) → list_all (λ n. nat_le n max_items) lengths ≡ true → map (λ n. min n (max_items + 1)) lengths ≡ lengths
 capped-same [] low = refl
 capped-same (n ∷ lengths) low =
     let both = and_parts (nat_le n max_items) (list_all (λ m. nat_le m max_items) lengths) low in
     let first : n ≤ max_items = le_from_test n max_items both.0 in
-    ap (λ m. m ∷ map capped lengths) (min-eq_left (omega arith)) ∙ ap (λ rest. n ∷ rest) (capped-same lengths both.1)
+    ap (λ m. m ∷ map (λ n. min n (max_items + 1)) lengths) (min-eq_left (omega arith)) ∙ ap (λ rest. n ∷ rest) (capped-same lengths both.1)
 
-pub shape_of-capped : (lengths : List ℕ) → shape_of (map capped lengths) ≡ shape_of lengths
+pub shape_of-capped : (lengths : List ℕ) → shape_of (map (λ n. min n (max_items + 1)) lengths) ≡ shape_of lengths
 shape_of-capped lengths =
-    let size : length (map capped lengths) ≡ length lengths = length-map lengths capped in
+    let size : length (map (λ n. min n (max_items + 1)) lengths) ≡ length lengths = length-map lengths (λ n. min n (max_items + 1)) in
     elim (cases_lt max_axes (length lengths)) [
-      | inl many ↦ shape_of-many (map capped lengths) (omega arith) ∙ sym (shape_of-many lengths many)
+      | inl many ↦ shape_of-many (map (λ n. min n (max_items + 1)) lengths) (omega arith) ∙ sym (shape_of-many lengths many)
       | inr few ↦ elim (cases_Bool (list_all (λ n. nat_le n max_items) lengths)) [
         | inl low ↦ ap shape_of (capped-same lengths low)
-        | inr high ↦ shape_of-long (map capped lengths) (omega arith) (capped-tests lengths ∙ high) ∙ sym (shape_of-long lengths few high)
+        | inr high ↦ shape_of-long (map (λ n. min n (max_items + 1)) lengths) (omega arith) (capped-tests lengths ∙ high) ∙ sym (shape_of-long lengths few high)
       ]
     ]
 
@@ -136,4 +133,4 @@ target_of-unmade items numbers opened product made p is = passes-made items numb
 pub target_of-ok : (items : ℕ) (numbers : List ℤ) (opened product : ℕ) (made : Bool) (rest : ℕ) (lengths : List ℕ) → Passes items numbers opened product made → made ≡ true → rest ≡ items / product → lengths ≡ map (λ number. min (length_or rest number) (max_items + 1)) numbers → target_of items numbers ≡ shape_of lengths
 target_of-ok items numbers opened product made rest lengths p is rest-is are =
     let rest' : rest ≡ items / given numbers = rest-is ∙ ap (λ q. items / q) p.product_is ∙ left_over-capped items (given numbers) (max_items + 1) (omega (arith, p.low)) in
-    passes-made items numbers opened product made p ∙ ap (λ m. check m BadReshape >>= (λ _. shape_of (map (length_or (items / given numbers)) numbers))) is ∙ ap (λ r. shape_of (map (length_or r) numbers)) (sym rest') ∙ sym (shape_of-capped (map (length_or rest) numbers)) ∙ ap shape_of (map-map capped (length_or rest) numbers ∙ sym are)
+    passes-made items numbers opened product made p ∙ ap (λ m. check m BadReshape >>= (λ _. shape_of (map (length_or (items / given numbers)) numbers))) is ∙ ap (λ r. shape_of (map (length_or r) numbers)) (sym rest') ∙ sym (shape_of-capped (map (length_or rest) numbers)) ∙ ap shape_of (map-map (λ n. min n (max_items + 1)) (length_or rest) numbers ∙ sym are)
