@@ -156,6 +156,9 @@ def inside():
 
 BINDER = re.compile(r"[({]([^(){}:]+?) : ")
 VALUE = re.compile(r"\s*\(?(ℕ|ℤ|Bool|Type|List|Option|Result|Maybe)\b")
+# Two limits that are equal today are two; and do-notation asks for the name of a bind.
+LIMIT = re.compile(r"it : ℕ it = \d+")
+BIND = "◌>>=◌"
 NAMED = re.compile(r"^((?:(?:abbrev|unfoldable|opaque|pub|record|data)\s+)*)([^\s:(){}]+)(?=[ :])")
 
 
@@ -214,8 +217,9 @@ def twice():
                         proved[renamed(stated.partition(":")[2], name)].add((where, name))
                     else:
                         meaning = renamed(whole, name)
-                        defined[meaning].add((where, name))
-                        if is_public and part == "specs" and not is_law and "/inside/" not in where:
+                        if not LIMIT.fullmatch(meaning):
+                            defined[meaning].add((where, name))
+                        if is_public and name != BIND and part == "specs" and not is_law and "/inside/" not in where:
                             public[name].add((crate.name, meaning))
     count = 0
     for what, found in (("stated", proved), ("defined", defined)):
