@@ -9,6 +9,7 @@ mod name;
 mod operation;
 mod refusal_text;
 mod shape;
+mod short_list;
 mod text;
 mod verb;
 
@@ -20,4 +21,5 @@ pub use name::Name;
 pub use operation::Operation;
 pub use refusal_text::word;
 pub use shape::{Integers, Lengths};
+pub use short_list::ShortList;
 pub use text::{DescrText, FieldText, FileName};

@@ -1,27 +1,14 @@
 //! Literals.
-ghost use Rattle.std.specs.Prelude.{◌≡◌, ◌==◌, ◌<◌, ◌++◌, ◌∷◌, [], length, IsOk, OnOk, OnErr};
+ghost use Rattle.std.specs.Prelude.{◌≡◌, ◌==◌, ◌++◌, ◌∷◌, [], OnOk, OnErr};
 ghost use Rattle.script_lang.specs.RecordValues.{no_values, value_count};
 ghost use Rattle.script_lang.specs.Listed.{literals_of};
 
-use smallvec::SmallVec;
+use crate::short_list::ShortList;
 use std::alloc::{AllocError, Global};
 use std::marker::Model;
 
 /// The bytes of a bytes literal, with its escapes decoded.
-#[derive(Drop)]
-pub struct ByteText {
-    bytes: SmallVec<u8, 32>,
-}
-
-impl Model for ByteText {
-    ghost use Rattle.std.specs.Prelude.{List, ℕ, ◌≤◌};
-
-    ghost Value = { List ℕ };
-
-    ghost view = { λ t. t.bytes.items };
-
-    ghost invariant = { λ t. 32 ≤ t.bytes.capacity };
-}
+pub type ByteText = ShortList<u8, 32>;
 
 /// A literal that is no record.
 #[derive(Drop)]
@@ -82,32 +69,6 @@ impl Model for Literals {
     ghost coded = { coded_list literal.the_row.coded };
 
     ghost view = { λ l. l.literals.items };
-}
-
-impl ByteText {
-    pub fn new(alloc: Global) -> ByteText
-        ensures { result ≡ [] }
-    {
-        ByteText {
-            bytes: SmallVec::new(alloc),
-        }
-    }
-
-    /// Up to 32 bytes take no memory of their own.
-    pub fn push(&mut self, byte: u8) -> Result<(), AllocError>
-        ensures ok { OnOk result (self.new ≡ self.old ++ byte ∷ []) }
-        ensures err { OnErr result (self.new ≡ self.old) }
-        ensures succeeds { length self.old < 32 → IsOk result }
-    {
-        self.bytes.push(byte)?;
-        Ok(())
-    }
-
-    pub fn as_slice(&self) -> &[u8]
-        ensures { result.now ≡ self.now }
-    {
-        self.bytes.as_slice()
-    }
 }
 
 impl RecordLiteral {

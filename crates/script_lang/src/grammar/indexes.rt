@@ -10,7 +10,7 @@ use crate::grammar::literals::literal;
 use crate::grammar::names::name;
 use crate::grammar::numbers::{integer, optional_integer};
 use crate::grammar::tokens::{byte, bytes_mark, keyword, symbol, unspaced};
-use crate::index::Index;
+use crate::index::{Index, ellipses};
 use crate::name::Name;
 use elem_descr::Refusal;
 use shape_strides::IndexItem;
@@ -96,7 +96,7 @@ fn index(alloc: Global, bytes: &[u8]) -> Result<(Index, &[u8]), Refusal>
     ensures { Reads (λ r. (r.0, r.1.now)) (λ r. index_room r.0) result (index_at bytes.now) }
 {
     let (index, rest) = items(alloc, bytes)?;
-    if index.ellipses() > 1 {
+    if ellipses(&index) > 1 {
         return Err(Refusal::Syntax);
     }
     Ok((index, rest))

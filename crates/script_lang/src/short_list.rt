@@ -1,0 +1,51 @@
+//! Lists that hold their first items themselves.
+ghost use Rattle.std.specs.Prelude.{◌≡◌, ◌<◌, ◌++◌, ◌∷◌, [], length, IsOk, OnOk, OnErr};
+
+use smallvec::SmallVec;
+use std::alloc::{AllocError, Global};
+use std::default::MadeWith;
+use std::marker::Model;
+
+/// A list whose first `N` items take no memory of their own.
+#[derive(Drop)]
+pub struct ShortList<T, const N: usize> {
+    items: SmallVec<T, N>,
+}
+
+impl<T, const N: usize> Model for ShortList<T, N> {
+    ghost use Rattle.std.specs.Prelude.{List, ◌≤◌};
+    ghost use Rattle.std.specs.Coded.{coded_list};
+
+    ghost Value = { List T };
+
+    ghost coded = { coded_list T.code };
+
+    ghost view = { λ l. l.items.items };
+
+    ghost invariant = { λ l. N ≤ l.items.capacity };
+}
+
+impl<T: MadeWith<Global> + Drop, const N: usize> ShortList<T, N> {
+    pub fn new(alloc: Global) -> ShortList<T, N>
+        ensures { result ≡ [] }
+    {
+        ShortList {
+            items: SmallVec::new(alloc),
+        }
+    }
+
+    pub fn push(&mut self, item: T) -> Result<(), AllocError>
+        ensures ok { OnOk result (self.new ≡ self.old ++ item ∷ []) }
+        ensures err { OnErr result (self.new ≡ self.old) }
+        ensures succeeds { length self.old < N → IsOk result }
+    {
+        self.items.push(item)?;
+        Ok(())
+    }
+
+    pub fn as_slice(&self) -> &[T]
+        ensures { result.now ≡ self.now }
+    {
+        self.items.as_slice()
+    }
+}
