@@ -1,14 +1,14 @@
 -- Items that are copied to offsets at which they lie apart.
-use Rattle.std.proofs.Common.{◌≡◌, ◌+◌, ◌≤◌, ◌⊎◌, inl, inr, ℕ, suc, List, [], ◌∷◌, length, map, All, refl, sym, ap, subst, ◌∙◌, arith}
+use Rattle.std.proofs.Common.{◌≡◌, ◌+◌, ◌≤◌, ◌⊎◌, inl, inr, ℕ, List, [], ◌∷◌, length, map, All, refl, sym, ap, subst, ◌∙◌, arith}
 use Rattle.std.proofs.lemmas.Bool.{cases_lt}
-use Rattle.std.proofs.lemmas.List.Elements.{All-rest, All-head, All-from_get_or}
+use Rattle.std.proofs.lemmas.List.Elements.{All-rest, All-head}
 use Rattle.std.proofs.lemmas.Simd.{map-map}
 use Rattle.raw_block.specs.Bytes.{put, item_at}
-use Rattle.raw_block.specs.BytesLaws.{length-item_at, length-put, item_at-put_same, item_at-put_apart}
+use Rattle.raw_block.specs.BytesLaws.{length-item_at, length-put, item_at-put_apart}
 use Rattle.elem_descr.specs.declared.descr.Descr.{Descr}
 use Rattle.elem_descr.specs.Items.{item_size, decode_item}
 use Rattle.elem_descr.specs.Blocks.{item_from}
-use Rattle.shape_strides.specs.Layouts.{IsNested, distance}
+use Rattle.shape_strides.specs.Layouts.{distance}
 use Rattle.overlap_copy.specs.Assignments.{assigned}
 
 module _ (width : ℕ) (other : List ℕ) where

@@ -2,7 +2,7 @@ mod Vectors
 pub mod ApartLaws
 pub mod AssignLaws
 pub mod AxesLaws
-pub mod BandLaws
+pub mod GridLaws
 pub mod ComeLaws
 pub mod CopyLaws
 pub mod FortranLaws

@@ -39,21 +39,23 @@ pub parts : (left left' : List Run) (run : Run) (width : ℕ) → left ≡ run �
 parts left left' run width walked =
     ap (λ l. length (all_offsets l) * width) walked ∙ ap (λ n. n * width) (length-first run left') ∙ add-mul run.count (length (all_offsets left')) width
 
--- its items, joined by their numbers and by their offsets
-pub joined-offsets : (len width : ℕ) (run : Run) (block : List ℕ) → EachWithin len run.offset run.step width run.count
-    → joined (λ k. item_at (place run.offset run.step k) width block) run.count ≡ joined_at (run_offsets run) width block
-joined-offsets len width run block within = by_count run.count within
+-- what is made of its items, joined by their numbers and by their offsets
+pub joined-by : (f : ℕ → List ℕ) (len width : ℕ) (run : Run) → EachWithin len run.offset run.step width run.count → joined (λ k. f (place run.offset run.step k)) run.count ≡ flat_map f (run_offsets run)
+joined-by f len width run within = by_count run.count within
   where
-    by_count : (n : ℕ) → EachWithin len run.offset run.step width n
-        → joined (λ k. item_at (place run.offset run.step k) width block) n ≡ joined_at (run_offsets (record { offset = run.offset; count = n; step = run.step })) width block
+    by_count : (n : ℕ) → EachWithin len run.offset run.step width n → joined (λ k. f (place run.offset run.step k)) n ≡ flat_map f (run_offsets (record { offset = run.offset; count = n; step = run.step }))
     by_count zero within = refl
     by_count (suc n) within =
-        let item = λ (o : ℕ). item_at o width block in let last = place run.offset run.step n in
+        let last = place run.offset run.step n in
         let before = run_offsets (record { offset = run.offset; count = n; step = run.step }) in
-        ap (λ l. l ++ item last) (by_count n (fewer len run.offset run.step width n within))
-        ∙ ap (λ l. joined_at before width block ++ l) (sym (append-nil (item last)))
-        ∙ sym (flat_map-append item before (last ∷ []))
-        ∙ ap (flat_map item) (sym (run_offsets-more len run.offset run.step width n within))
+        ap (λ l. l ++ f last) (by_count n (fewer len run.offset run.step width n within))
+        ∙ ap (λ l. flat_map f before ++ l) (sym (append-nil (f last)))
+        ∙ sym (flat_map-append f before (last ∷ []))
+        ∙ ap (flat_map f) (sym (run_offsets-more len run.offset run.step width n within))
+
+pub joined-offsets : (len width : ℕ) (run : Run) (block : List ℕ) → EachWithin len run.offset run.step width run.count
+    → joined (λ k. item_at (place run.offset run.step k) width block) run.count ≡ joined_at (run_offsets run) width block
+joined-offsets len width run block within = joined-by (λ o. item_at o width block) len width run within
 
 -- a run is pushed
 pub joined-next : (left left' : List Run) (run : Run) (width : ℕ) (block pushed before : List ℕ) → left ≡ run ∷ left' → pushed ≡ before ++ joined_at (run_offsets run) width block

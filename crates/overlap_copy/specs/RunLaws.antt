@@ -4,6 +4,7 @@
 --     length-run_offsets           a run has as many offsets as items
 --     place-at, run-ends           where an item lies; each ends within the bytes
 --     lie-within                   a run that lies within some bytes
+--     All-front, All-back          what holds of all holds of the first, and of those after them
 --     runs-within                  runs whose offsets lie within some bytes, with the items there
 use Rattle.std.proofs.Common.{◌≡◌, ℕ, zero, suc, ◌+◌, ◌-◌, ◌<◌, ◌≤◌, List, [], ◌∷◌, ◌++◌, All, map, length, get_or, refl, sym, ap, subst, ◌∙◌, arith, length-append}
 use Rattle.std.specs.List.{flat_map, range_with_len, AllByRecursion as Each}
@@ -119,10 +120,10 @@ run-within len width run lies ends = record {
       );
 }
 
-All-front : (P : ℕ → Type 0) (xs ys : List ℕ) → All P (xs ++ ys) → All P xs
+pub All-front : {X : Type 0} (P : X → Type 0) (xs ys : List X) → All P (xs ++ ys) → All P xs
 All-front P xs ys all = λ k d below. subst P (get_or_append_left xs ys d k below) (all k d (omega (arith, length-append xs ys)))
 
-All-back : (P : ℕ → Type 0) (xs ys : List ℕ) → All P (xs ++ ys) → All P ys
+pub All-back : {X : Type 0} (P : X → Type 0) (xs ys : List X) → All P (xs ++ ys) → All P ys
 All-back P xs ys all = λ k d below.
     let after : length xs + k - length xs ≡ k = omega arith in
     subst P (get_or-append_right xs ys (length xs) (length xs + k) d refl (omega arith) ∙ ap (λ m. get_or ys m d) after) (all (length xs + k) d (omega (arith, length-append xs ys)))

@@ -1,4 +1,4 @@
-pub mod Bands
+pub mod Rows
 pub mod Marks
 pub mod Moves
 pub mod Packed

@@ -8,7 +8,7 @@ ghost use Rattle.shape_strides.specs.Runs.{run_offsets};
 ghost use Rattle.overlap_copy.specs.Assignments.{items_at, assigned};
 ghost use Rattle.overlap_copy.specs.inside.Packed.{row_offsets, joined_at};
 
-use crate::bands::{crossed, push_crossed};
+use crate::rows::push_layout;
 use crate::run_copies::copy_run;
 use raw_block::{BlockBuilder, RawBlock};
 use shape_strides::{Layout, Run, Runs};
@@ -39,20 +39,6 @@ pub(crate) fn push_runs(items: &mut BlockBuilder, runs: Runs<'_>, block: &RawBlo
 {
     for run in runs {
         items.push_strided(block, run.offset, run.step, width, run.count);
-    }
-}
-
-/// The same, of runs of a layout, in bands where its columns lie further apart than its rows.
-fn push_layout(items: &mut BlockBuilder, layout: &Layout, block: &RawBlock, width: usize)
-    requires inside { All (λ offset. offset + width ≤ length block.now) (offsets layout.now) }
-    requires room { length (offsets layout.now) * width ≤ items.old.1 }
-    ensures bytes { items.new.0 ≡ items.old.0 ++ joined_at (offsets layout.now) width block.now }
-    ensures left { length (offsets layout.now) * width + items.new.1 ≡ items.old.1 }
-{
-    let runs = Runs::new(layout);
-    match crossed(layout) {
-        Some(step) => push_crossed(items, runs, block, width, step),
-        None => push_runs(items, runs, block, width),
     }
 }
 

@@ -107,7 +107,7 @@ is_f-empty l item none =
 pub reverse-take_more : {X : Type 0} (xs : List X) (k : ℕ) (d : X) → k < length xs → reverse (take (k + 1) xs) ≡ get_or xs k d ∷ reverse (take k xs)
 reverse-take_more xs k d below = ap reverse (take_more xs k d below) ∙ reverse-append (take k xs) (get_or xs k d ∷ [])
 
-count-take-le : (shape : List ℕ) (k : ℕ) → 0 < count shape → count (take k shape) ≤ count shape
+pub count-take-le : (shape : List ℕ) (k : ℕ) → 0 < count shape → count (take k shape) ≤ count shape
 count-take-le [] zero some = omega arith
 count-take-le [] (suc k) some = omega arith
 count-take-le (n ∷ shape) zero some = omega arith
