@@ -133,7 +133,7 @@ pub(crate) fn try_change(alloc: Global, bench: &mut Bench, change: Change) -> Re
             let source = name(alloc, &[source]);
             view_item(alloc, bench, &name(alloc, &[key]), &source, k)
         }
-        Change::Gone(key) => bench.unbind(&name(alloc, &[key])),
+        Change::Gone(key) => bench.unbind(alloc, &name(alloc, &[key])),
     }
 }
 

@@ -133,7 +133,7 @@ fn perform<N: NpyStore>(
             operation,
             value,
         } => set(alloc, bench, name, index, Some(*operation), value, out),
-        Command::Delete { name } => delete(bench, name, out),
+        Command::Delete { name } => delete(alloc, bench, name, out),
         Command::Ask(question) => reply(alloc, bench, question, out),
         Command::Save { name, file } => save(alloc, bench, store, name, file, out),
         Command::Undo => undo(bench, out),

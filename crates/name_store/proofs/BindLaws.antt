@@ -1,5 +1,5 @@
 -- A name is bound, and what it was bound to is kept.
-use Rattle.std.proofs.Common.{◌≡◌, ◌+◌, ◌<◌, ◌≤◌, ℕ, Bool, true, false, List, [], ◌∷◌, ◌++◌, length, map, min, refl, sym, ap, subst, ◌∙◌, cond, Option, Some, None, is_some, IfSome, nat_eq, arith, ◌⊎◌, inl, inr}
+use Rattle.std.proofs.Common.{◌≡◌, ◌+◌, ◌≤◌, ℕ, Bool, true, false, List, [], ◌∷◌, ◌++◌, length, map, min, refl, sym, ap, subst, ◌∙◌, cond, Option, Some, None, is_some, IfSome, nat_eq, arith, inl, inr}
 use Rattle.std.specs.List.{AllByRecursion, list_any}
 use Rattle.std.specs.Map.{lookup}
 use Rattle.std.specs.Option.{option_map}
@@ -13,9 +13,9 @@ use Rattle.indexmap.specs.IndexMap.{insert_entry}
 use Rattle.shape_strides.specs.declared.layout.Layout.{Layout}
 use Rattle.shape_strides.specs.Indexes.{count}
 use Rattle.overlap_copy.specs.declared.owned.Owned.{Owned}
-use Rattle.name_store.specs.Arrays.{put_array, without, is_in_use, has_room_for, keeping}
+use Rattle.name_store.specs.Arrays.{find_array, put_array, without, is_in_use, has_room_for, keeping}
 use Rattle.name_store.specs.Calls.{Binds, IsUnused, own_array, own_buffer}
-use Rattle.name_store.specs.Invariants.{Holds, IsSound, LiesAt, LiesIn, IsUndoable, needs, is_needed}
+use Rattle.name_store.specs.Invariants.{Holds, IsSound, LiesAt, LiesIn, IsUndoable, one_at, users_of, users_at, users_in, found_at, pins, all_pins}
 use Rattle.name_store.specs.Kept.{Names, names_before, past_buffers, past_buffer, kept_states}
 use Rattle.name_store.specs.States.{Array, Buffer, State}
 use Rattle.name_store.specs.View.{array_at, named_array, buffer_in, slot_at, present, state_of}
@@ -27,50 +27,59 @@ use Rattle.name_store.specs.declared.change.Change.TheVariants.{Bind}
 use Rattle.name_store.specs.declared.entry.Entry.{Entry}
 use Rattle.name_store.specs.declared.entry.Key.{Key}
 use Rattle.name_store.specs.declared.slot.Slot.{Slot}
+use Rattle.name_store.specs.inside.Held.{stand, Adds}
 use Rattle.name_store.specs.inside.Rebinds.{Rebinds, IsOf}
 use Rattle.name_store.proofs.FreshLaws.{fresh-lies, fresh-array_at, fresh-buffer}
-use Rattle.name_store.proofs.KeepLaws.{keep-occupied, keep-sound, keep-state}
-use Rattle.name_store.proofs.NameLaws.{TestsName, find-lookup, put-insert, all-both, all-insert, all-lookup, used-put, used-back-put, kept-put, without-put, put-put, in_front, either}
-use Rattle.name_store.proofs.PastLaws.{Restored, content, needed-last, needed-others, kept-none, kept-some}
+use Rattle.name_store.proofs.HeldLaws.{one-same, one-apart}
+use Rattle.name_store.proofs.KeepLaws.{keep-sound, keep-state}
+use Rattle.name_store.proofs.NameLaws.{TestsName, find-lookup, put-insert, all-both, all-insert, all-lookup, used-back-put, without-put, put-put, either}
+use Rattle.name_store.proofs.Needs.{needs, is_needed, occupied, number_of, users-put}
+use Rattle.name_store.proofs.PastLaws.{Alike, alike-shape, past-alike, lies-shaped, Restored, same-buffers, kept-none, kept-some}
 use Rattle.name_store.proofs.SlotLaws.{itself, tests_agree, get-past, get-buffers}
-use Rattle.name_store.proofs.StateLaws.{Slots, Swept, few-bound}
+use Rattle.name_store.proofs.StateLaws.{Slots, Freed, few-bound, lies-there}
 use Rattle.name_store.proofs.UnbindLaws.{same-content, fewer-buffers}
 use Rattle.name_store.proofs.ViewLaws.{view-used, view-array, view-lies}
 
--- The slots in which an entry's array lies: those that were occupied are as they were, and no other is but the entry's own.
+-- The slots in which an entry's array lies: what stood in one stands there, and one more holds the entry's own.
 pub record Ready (slots before : Slots) (v : Entry) : Type 0 where
-  pub kept : (q : ℕ) (s : Slot) → slot_at slots q ≡ Some s → slot_at before q ≡ Some s
-  pub came : (q : ℕ) → is_some (slot_at before q) ≡ true → (q ≡ v.number) ⊎ (is_some (slot_at slots q) ≡ true)
+  pub kept : (q : ℕ) → is_some (slot_at slots q) ≡ true → Alike (slot_at before q) (slot_at slots q)
+  pub users : (q : ℕ) → users_at before q ≡ users_at slots q + one_at q v.number
   pub lies : LiesAt (slot_at before v.number) v
 
 -- a buffer is put in a slot that was free
-pub ready-fresh : (slots before : Slots) (v : Entry) (slot : Slot) → slot_at slots v.number ≡ None → ((q : ℕ) → slot_at before q ≡ cond (nat_eq q v.number) (Some slot) (slot_at slots q)) → LiesIn slot v → Ready slots before v
-ready-fresh slots before v slot free put lies = record {
+pub ready-fresh : (slots before : Slots) (v : Entry) (slot : Slot) → slot.users ≡ 1 → Adds slots slot v.number before → LiesIn slot v → Ready slots before v
+ready-fresh slots before v slot one adds lies = record {
   kept = kept;
-  came = came;
+  users = users;
   lies = subst (λ o. LiesAt o v) (sym here) lies;
 }
   where
     here : slot_at before v.number ≡ Some slot
-    here = put v.number ∙ ap (λ t. cond t (Some slot) (slot_at slots v.number)) (itself v.number)
+    here = adds.put v.number ∙ ap (λ t. cond t (Some slot) (slot_at slots v.number)) (itself v.number)
 
-    kept : (q : ℕ) (s : Slot) → slot_at slots q ≡ Some s → slot_at before q ≡ Some s
-    kept q s there =
-        elim (nat_eq q v.number) as (λ t. nat_eq q v.number ≡ t → slot_at before q ≡ cond t (Some slot) (slot_at slots q) → slot_at before q ≡ Some s) [
-          | true ↦ λ same _. let no : None ≡ Some s = sym (ap (slot_at slots) (eqb-true q v.number same) ∙ free) ∙ there in cc
-          | false ↦ λ _ there-is. there-is ∙ there
-        ] refl (put q)
+    kept : (q : ℕ) → is_some (slot_at slots q) ≡ true → Alike (slot_at before q) (slot_at slots q)
+    kept q there =
+        elim (nat_eq q v.number) as (λ t. nat_eq q v.number ≡ t → slot_at before q ≡ cond t (Some slot) (slot_at slots q) → Alike (slot_at before q) (slot_at slots q)) [
+          | true ↦ λ same _. let no : true ≡ false = sym there ∙ ap is_some (ap (slot_at slots) (eqb-true q v.number same) ∙ adds.free) in cc
+          | false ↦ λ _ there-is. ap (option_map stand) there-is
+        ] refl (adds.put q)
 
-    came : (q : ℕ) → is_some (slot_at before q) ≡ true → (q ≡ v.number) ⊎ (is_some (slot_at slots q) ≡ true)
-    came q there =
-        elim (nat_eq q v.number) as (λ t. nat_eq q v.number ≡ t → slot_at before q ≡ cond t (Some slot) (slot_at slots q) → (q ≡ v.number) ⊎ (is_some (slot_at slots q) ≡ true)) [
-          | true ↦ λ same _. inl (eqb-true q v.number same)
-          | false ↦ λ _ there-is. inr (ap is_some (sym there-is) ∙ there)
-        ] refl (put q)
+    users : (q : ℕ) → users_at before q ≡ users_at slots q + one_at q v.number
+    users q =
+        elim (nat_eq q v.number) as (λ t. nat_eq q v.number ≡ t → slot_at before q ≡ cond t (Some slot) (slot_at slots q) → users_at before q ≡ users_at slots q + one_at q v.number) [
+          | true ↦ λ same there-is.
+              let number : q ≡ v.number = eqb-true q v.number same in
+              omega (arith, ap users_of there-is ∙ one, ap users_of (ap (slot_at slots) number ∙ adds.free), one-same q v.number same)
+          | false ↦ λ other there-is. omega (arith, ap users_of there-is, one-apart q v.number other)
+        ] refl (adds.put q)
 
--- no slot changes
-pub ready-view : (slots : Slots) (v : Entry) → LiesAt (slot_at slots v.number) v → Ready slots slots v
-ready-view slots v lies = record { kept = λ q s there. there; came = λ q there. inr there; lies = lies }
+-- one more holds the buffer of a view
+pub ready-view : (slots before : Slots) (v : Entry) → ((q : ℕ) → Alike (slot_at before q) (slot_at slots q)) → ((q : ℕ) → users_at before q ≡ users_at slots q + one_at q v.number) → LiesAt (slot_at slots v.number) v → Ready slots before v
+ready-view slots before v stays users lies = record {
+  kept = λ q there. stays q;
+  users = users;
+  lies = lies-shaped (slot_at before v.number) (slot_at slots v.number) v (alike-shape (slot_at before v.number) (slot_at slots v.number) (stays v.number)) lies;
+}
 
 -- The table has the new entry.
 module _ (es es' : List (Key × Entry)) (slots now : Slots) (h : Holds es slots) (eq : Key → Key → Bool) (k : Key) (v : Entry) (replaced : Option Entry)
@@ -84,11 +93,7 @@ module _ (es es' : List (Key × Entry)) (slots now : Slots) (h : Holds es slots)
       counted (Some r) e = omega (arith, len ∙ ap (λ r. length es + cond (is_some r) 0 1) e, h.few)
 
   still : (e : Entry) → LiesAt (slot_at slots e.number) e → LiesAt (slot_at now e.number) e
-  still e there = occupied (slot_at slots e.number) refl there
-    where
-      occupied : (o : Option Slot) → slot_at slots e.number ≡ o → LiesAt o e → LiesAt (slot_at now e.number) e
-      occupied None _ nothing = absurd nothing
-      occupied (Some s) stood lies = subst (λ o. LiesAt o e) (sym (ready.kept e.number s stood)) lies
+  still e there = lies-shaped (slot_at now e.number) (slot_at slots e.number) e (alike-shape (slot_at now e.number) (slot_at slots e.number) (ready.kept e.number (lies-there (slot_at slots e.number) e there))) there
 
   earlier-lies : (r : Option Entry) → replaced ≡ r → IfSome r (λ e. LiesAt (slot_at slots e.number) e)
   earlier-lies None e = tt
@@ -110,23 +115,16 @@ module _ (es es' : List (Key × Entry)) (slots now : Slots) (h : Holds es slots)
           (all-both (λ e. LiesAt (slot_at slots e.number) e) (λ e. LiesAt (slot_at slots e.number) e) (λ e. LiesAt (slot_at now e.number) e) (λ e there _. still e there) es h.lie h.lie));
     };
     stays = ready.kept;
-    came = ready.came;
+    users = ready.users;
     is_of = of-it;
   }
 
 -- A fresh array: a buffer is put in the first slot that was free.
-module _ (es : List (Key × Entry)) (slots reserved now : Slots) (v : Entry) (slot : Slot) (o : Owned)
-    (same : reserved ≡ slots) (free : slot_at reserved v.number ≡ None) (put : (q : ℕ) → slot_at now q ≡ cond (nat_eq q v.number) (Some slot) (slot_at reserved q))
+module _ (es : List (Key × Entry)) (slots now : Slots) (v : Entry) (slot : Slot) (o : Owned) (adds : Adds slots slot v.number now) (one : slot.users ≡ 1)
     (descr-is : slot.descr ≡ o.descr) (items-are : slot.items ≡ count o.layout.shape) (block-is : slot.block ≡ o.block) (layout-is : v.layout ≡ o.layout) (item-is : v.item ≡ item_size o.descr) (path-is : v.path ≡ [])
     (writable-is : v.writable ≡ true) where
-  was_free : slot_at slots v.number ≡ None
-  was_free = ap (λ (s : Slots). slot_at s v.number) (sym same) ∙ free
-
-  put_there : (q : ℕ) → slot_at now q ≡ cond (nat_eq q v.number) (Some slot) (slot_at slots q)
-  put_there q = put q ∙ ap (λ (s : Slots). cond (nat_eq q v.number) (Some slot) (slot_at s q)) same
-
   pub fresh-ready : Ready slots now v
-  fresh-ready = ready-fresh slots now v slot was_free put_there (fresh-lies o slot v descr-is items-are block-is layout-is item-is path-is writable-is)
+  fresh-ready = ready-fresh slots now v slot one adds (fresh-lies o slot v descr-is items-are block-is layout-is item-is path-is writable-is)
 
   own-is : buffer_in slot ≡ own_buffer o
   own-is = fresh-buffer o slot v descr-is items-are block-is layout-is item-is path-is writable-is
@@ -134,7 +132,7 @@ module _ (es : List (Key × Entry)) (slots reserved now : Slots) (v : Entry) (sl
   fresh-buffers : (name : List ℕ) (names' : Names) → names' ≡ put_array (map named_array es) name (array_at v) → past_buffers [] names' now ≡ retain_keys (insert (present es slots).buffers v.number (own_buffer o)) (is_in_use names')
   fresh-buffers name names' table = same_map nat_cmp_total nat_cmp-IsAntisymmetric _ _ (λ q.
       get-past [] names' now q
-      ∙ ap (λ s. cond (is_in_use names' q) (option_map (past_buffer [] q) s) None) (put_there q)
+      ∙ ap (λ s. cond (is_in_use names' q) (option_map (past_buffer [] q) s) None) (adds.put q)
       ∙ at q
       ∙ ap (λ b. cond (is_in_use names' q) b None)
       (ap (cond (nat_eq q v.number) (Some (own_buffer o))) (sym (get-buffers es slots q))
@@ -161,28 +159,31 @@ module _ (es : List (Key × Entry)) (slots reserved now : Slots) (v : Entry) (sl
               ] in
               ap (λ t. cond (is_in_use names' q) (cond t (option_map (past_buffer [] q) (slot_at slots q)) None) None) (sym used)
 
-  pub fresh-of : (es' : List (Key × Entry)) (name : List ℕ) → map named_array es' ≡ put_array (map named_array es) name (array_at v) → ((lower : ℕ) → lower < v.number → is_some (slot_at reserved lower) ≡ true) → IsOf es slots (Fresh o) v es' now
-  fresh-of es' name table full = (
-    was_free,
-    λ lower less. ap (λ (s : Slots). is_some (slot_at s lower)) (sym same) ∙ full lower less,
+  pub fresh-of : (es' : List (Key × Entry)) (name : List ℕ) → map named_array es' ≡ put_array (map named_array es) name (array_at v) → IsOf es slots (Fresh o) v es' now
+  fresh-of es' name table = (
+    adds.free,
+    adds.least,
     fresh-array_at o slot v descr-is items-are block-is layout-is item-is path-is writable-is,
     fresh-buffers name (map named_array es') table,
   )
 
--- A view: no slot changes.
+-- A view: one more holds its buffer.
 module _ (es : List (Key × Entry)) (slots : Slots) (number : ℕ) (path : List ℕ) (layout : Layout) (writable : Bool) (array : Array) (view : IsViewIn (present es slots) number path layout writable array)
     (v : Entry) (s : Slot) (there : slot_at slots number ≡ Some s) (v-number : v.number ≡ number) (layout-is : v.layout ≡ layout) (item-is : v.item ≡ item_size s.descr) (writable-is : v.writable ≡ writable) (path-is : v.path ≡ path) where
-  pub view-ready : Ready slots slots v
-  view-ready = ready-view slots v (subst (λ o. LiesAt o v) (sym (ap (slot_at slots) v-number ∙ there)) (view-lies es slots number path layout writable array view v s there v-number layout-is item-is writable-is path-is))
+  module _ (now : Slots) (stays : (q : ℕ) → Alike (slot_at now q) (slot_at slots q)) (users : (q : ℕ) → users_at now q ≡ users_at slots q + one_at q v.number) where
+    pub view-ready : Ready slots now v
+    view-ready = ready-view slots now v stays users
+        (subst (λ o. LiesAt o v) (sym (ap (slot_at slots) v-number ∙ there)) (view-lies es slots number path layout writable array view v s there v-number layout-is item-is writable-is path-is))
 
-  pub view-of : (es' : List (Key × Entry)) (name : List ℕ) → map named_array es' ≡ put_array (map named_array es) name (array_at v) → IsOf es slots (View number path layout writable) v es' slots
-  view-of es' name table = (
-    λ other its. view-array es slots number path layout writable other its v s there v-number layout-is item-is writable-is path-is,
-    fewer-buffers es slots (map named_array es') (λ q used. elim (used-back-put (map named_array es) name (array_at v) q (ap (λ (ns : Names). is_in_use ns q) (sym table) ∙ used)) [
-      | inl before ↦ before
-      | inr its ↦ ap (is_in_use (map named_array es)) (sym (eqb-true v.number q its) ∙ v-number) ∙ view-used es slots number path layout writable array view
-    ]),
-  )
+    pub view-of : (es' : List (Key × Entry)) (name : List ℕ) → map named_array es' ≡ put_array (map named_array es) name (array_at v) → IsOf es slots (View number path layout writable) v es' now
+    view-of es' name table = (
+      λ other its. view-array es slots number path layout writable other its v s there v-number layout-is item-is writable-is path-is,
+      same-buffers [] [] (map named_array es') now slots (λ q _. past-alike [] q (slot_at now q) (slot_at slots q) (stays q))
+          ∙ fewer-buffers es slots (map named_array es') (λ q used. elim (used-back-put (map named_array es) name (array_at v) q (ap (λ (ns : Names). is_in_use ns q) (sym table) ∙ used)) [
+            | inl before ↦ before
+            | inr its ↦ ap (is_in_use (map named_array es)) (sym (eqb-true v.number q its) ∙ v-number) ∙ view-used es slots number path layout writable array view
+          ]),
+    )
 
 -- What is asked of a state as it is, or with what is kept.
 
@@ -218,57 +219,36 @@ module _ (es : List (Key × Entry)) (slots : Slots) (ring : Ring Change) (spare 
           ∙ (λ i. put_array (r.table i) (key-is i) (array_at x))
           ∙ put-put names name (array_at r.entry) (array_at x) (sym r.was ∙ ap (option_map array_at) e)
 
-  stays : (q : ℕ) → is_some (slot_at slots q) ≡ true → slot_at now q ≡ slot_at slots q
-  stays q there = by (slot_at slots q) refl there
-    where
-      by : (o : Option Slot) → slot_at slots q ≡ o → is_some o ≡ true → slot_at now q ≡ slot_at slots q
-      by None e h = let no : ⊥ = cc in absurd no
-      by (Some s) e h = r.stays q s e ∙ sym e
-
   restored : (q : ℕ) → is_needed names ring.items q ≡ true → Restored c q (slot_at now q) (slot_at slots q)
-  restored q needed = same-content c q (slot_at now q) (λ bytes. refl) ∙ ap (option_map content) (stays q (sound.occupied q ∙ needed))
+  restored q needed = same-content c q (slot_at now q) (λ bytes. refl) ∙ r.stays q (occupied es slots ring spare sound q ∙ needed)
 
   own : IsUndoable c names' now
   own = by earlier r.earlier_lies
     where
-      still : (e : Entry) (o : Option Slot) → slot_at slots e.number ≡ o → LiesAt o e → LiesAt (slot_at now e.number) e
-      still e None _ nothing = absurd nothing
-      still e (Some s) stood lies = subst (λ o. LiesAt o e) (sym (r.stays e.number s stood)) lies
-
       by : (o : Option Entry) → IfSome o (λ e. LiesAt (slot_at slots e.number) e) → IsUndoable (Bind key o) names' now
       by None lies = tt
-      by (Some e) lies = still e (slot_at slots e.number) refl lies
+      by (Some e) lies = lies-shaped (slot_at now e.number) (slot_at slots e.number) e (alike-shape (slot_at now e.number) (slot_at slots e.number) (r.stays e.number (lies-there (slot_at slots e.number) e lies))) lies
 
-  came : (q : ℕ) → is_some (slot_at now q) ≡ true → is_needed names' (ring.items ++ c ∷ []) q ≡ true
-  came q there =
-      elim (r.came q there) [
-        | inl its ↦ in_front (is_in_use names' q) (list_any (needs q) (ring.items ++ c ∷ []))
-            (ap (is_in_use names') its ∙ ap (λ (ns : Names). is_in_use ns r.entry.number) r.table ∙ used-put names name (array_at r.entry))
-        | inr stood ↦ elim (either (is_in_use names q) (list_any (needs q) ring.items) (sym (sound.occupied q) ∙ stood)) [
-          | inl used ↦ elim (kept-put names name (array_at r.entry) q used) [
-            | inl later ↦ in_front (is_in_use names' q) (list_any (needs q) (ring.items ++ c ∷ [])) (ap (λ (ns : Names). is_in_use ns q) r.table ∙ later)
-            | inr other ↦ needed-last names' ring.items c q (old-needs earlier other.0 (r.was ∙ other.1) other.2)
-          ]
-          | inr others ↦ needed-others names' ring.items c q others
-        ]
-      ]
+  was-numbers : (q : ℕ) → found_at q (number_of (find_array names name)) ≡ pins q c
+  was-numbers q = ap (λ o. found_at q (number_of o)) (sym r.was) ∙ by earlier
     where
-      old-needs : (o : Option Entry) (a : Array) → option_map array_at o ≡ Some a → a.buffer ≡ q → needs q (Bind key o) ≡ true
-      old-needs None a none at = let no : ⊥ = cc in absurd no
-      old-needs (Some e) a some at = let alike : array_at e ≡ a = cc in ap (λ n. nat_eq n q) (ap (λ (x : Array). x.buffer) alike ∙ at) ∙ itself q
+      by : (o : Option Entry) → found_at q (number_of (option_map array_at o)) ≡ pins q (Bind key o)
+      by None = refl
+      by (Some e) = refl
 
-  pub bind-occupied : (q : ℕ) → is_some (slot_at now q) ≡ is_needed names' (ring.items ++ c ∷ []) q
-  bind-occupied = keep-occupied es slots ring spare sound es' now c before-is r.holds restored own came
+  -- one more holds the buffer of the new array, and the change that of the old one
+  pub bind-made : (q : ℕ) → users_at now q + users_in q names ≡ users_at slots q + users_in q names' + pins q c
+  bind-made q = omega (arith, r.users q, users-put q names name (array_at r.entry), was-numbers q, ap (users_in q) r.table)
 
-  module _ (ring' : Ring Change) (after : Slots) (spare' : ℕ) (ring-is : ring' ≡ buffer (keep_last ring.capacity (ring.items ++ c ∷ [])) ring.capacity) (swept : Swept (is_needed names' ring'.items) now after) (room : min ring.capacity (length ring.items + 1) ≤ spare') where
+  module _ (ring' : Ring Change) (after : Slots) (spare' : ℕ) (ring-is : ring' ≡ buffer (keep_last ring.capacity (ring.items ++ c ∷ [])) ring.capacity) (freed : Freed now after) (counted : (q : ℕ) → users_at after q ≡ users_in q names' + all_pins q ring'.items) (room : min ring.capacity (length ring.items + 1) ≤ spare') where
     pub bind-sound : IsSound es' after ring' spare'
-    bind-sound = keep-sound es slots ring spare sound es' now c before-is r.holds restored own came ring' after spare' ring-is swept room
+    bind-sound = keep-sound es slots ring spare sound es' now c before-is r.holds restored own ring' after spare' ring-is freed counted room
 
     abbrev old : State
     old = state_of es slots ring
 
     kept-so : state_of es' after ring' ≡ record (keeping 0 old) { names = names'; buffers = past_buffers [] names' now }
-    kept-so = keep-state es slots ring spare sound es' now c before-is r.holds restored own came ring' after spare' ring-is swept room
+    kept-so = keep-state es slots ring spare sound es' now c before-is r.holds restored own ring' after spare' ring-is freed counted room
 
     pub bind-binds : Binds old name bound (state_of es' after ring')
     bind-binds = by bound r.is_of
@@ -282,7 +262,7 @@ module _ (es : List (Key × Entry)) (slots : Slots) (ring : Ring Change) (spare 
             at : (o : Option Slot) → slot_at slots m ≡ o → is_some o ≡ true → ⊥
             at None e h = let no : ⊥ = cc in no
             at (Some s) e h =
-                elim (either (is_in_use names m) (list_any (needs m) ring.items) (sym (sound.occupied m) ∙ there)) [
+                elim (either (is_in_use names m) (list_any (needs m) ring.items) (sym (occupied es slots ring spare sound m) ∙ there)) [
                   | inl used ↦ some-none (buffer_in s) (sym (get-buffers es slots m ∙ λ i. cond (used i) (option_map buffer_in (e i)) None) ∙ free.unused)
                   | inr others ↦ kept-some ring.items names slots m s e sound.undoable others (recursion_from_All (λ state. get state.1 m ≡ None) (kept_states ring.items names slots) free.unkept)
                 ]

@@ -7,6 +7,8 @@ pub mod OnceLaws
 pub mod LaidLaws
 pub mod RunWrites
 pub mod SlotLaws
+pub mod HeldLaws
+pub mod Needs
 pub mod PastLaws
 pub mod RestoreLaws
 pub mod StateLaws
@@ -24,7 +26,6 @@ pub mod ShareLaws
 pub mod WriteKept
 pub mod ExchangeLaws
 pub mod UndoLaws
-pub mod FreedLaws
 pub mod UndoFirst
 pub mod UndoRebinding
 pub mod UndoUnbinding

@@ -1,12 +1,11 @@
 -- Names in a table: looked up, put and removed.
-use Rattle.std.proofs.Common.{◌≡◌, ◌≤◌, ◌+◌, ℕ, suc, Bool, true, false, List, [], ◌∷◌, length, take, drop, insert, map, refl, sym, ap, subst, ◌∙◌, cond, ◌||◌, not, Some, None, nat_eq, arith, ◌⊎◌, inl, inr}
+use Rattle.std.proofs.Common.{◌≡◌, ◌+◌, ℕ, suc, Bool, true, false, List, [], ◌∷◌, take, drop, insert, map, refl, sym, ap, subst, ◌∙◌, cond, ◌||◌, not, Some, None, nat_eq, arith, ◌⊎◌, inl, inr}
 use Rattle.std.specs.List.{AllByRecursion, list_any, position_or_len}
 use Rattle.std.proofs.lemmas.List.{take-append-drop}
 use Rattle.std.proofs.lemmas.List.Folds.{list_any-append}
 use Rattle.std.specs.Option.{option_map}
 use Rattle.std.specs.Str.{bytes_eq}
 use Rattle.std.specs.Cmp.{nat_eq_equiv}
-use Rattle.std.proofs.lemmas.Bool.{eqb-true}
 use Rattle.std.proofs.lemmas.Slice.Eq.{bytes_eq-Decides}
 use Rattle.indexmap.specs.IndexMap.{insert_entry, shift_remove_entry}
 use Rattle.std.specs.Map.{lookup, keys_of}
@@ -127,50 +126,6 @@ used-put (e ∷ names) name array =
       | false ↦ in_tail (nat_eq e.1.buffer array.buffer) (is_in_use (put_array names name array) array.buffer) (used-put names name array)
     ]
 
--- a buffer that was in use is so still, or it was that of the array that went
-pub kept-put : (names : List (List ℕ × Array)) (name : List ℕ) (array : Array) (q : ℕ) → is_in_use names q ≡ true →
-    (is_in_use (put_array names name array) q ≡ true) ⊎ ((old : Array) × (find_array names name ≡ Some old) × (old.buffer ≡ q))
-kept-put [] name array q used = let no : ⊥ = cc in absurd no
-kept-put (e ∷ names) name array q used =
-    elim (bytes_eq e.0 name) as (λ t. (is_in_use (cond t ((name, array) ∷ names) (e ∷ put_array names name array)) q ≡ true) ⊎ ((old : Array) × (cond t (Some e.1) (find_array names name) ≡ Some old) × (old.buffer ≡ q))) [
-      | true ↦ elim (nat_eq e.1.buffer q) as (λ u. nat_eq e.1.buffer q ≡ u → (u || is_in_use names q) ≡ true → (is_in_use ((name, array) ∷ names) q ≡ true) ⊎ ((old : Array) × (Some e.1 ≡ Some old) × (old.buffer ≡ q))) [
-        | true ↦ λ is _. inr (e.1, refl, eqb-true e.1.buffer q is)
-        | false ↦ λ _ later. inl (in_tail (nat_eq array.buffer q) (is_in_use names q) later)
-      ] refl used
-      | false ↦ elim (nat_eq e.1.buffer q) as (λ u. nat_eq e.1.buffer q ≡ u → (u || is_in_use names q) ≡ true → (is_in_use (e ∷ put_array names name array) q ≡ true) ⊎ ((old : Array) × (find_array names name ≡ Some old) × (old.buffer ≡ q))) [
-        | true ↦ λ is _. inl (ap (λ u. u || is_in_use (put_array names name array) q) is)
-        | false ↦ λ _ later. further (kept-put names name array q later)
-      ] refl used
-    ]
-  where
-    further : (is_in_use (put_array names name array) q ≡ true) ⊎ ((old : Array) × (find_array names name ≡ Some old) × (old.buffer ≡ q)) → (is_in_use (e ∷ put_array names name array) q ≡ true) ⊎ ((old : Array) × (find_array names name ≡ Some old) × (old.buffer ≡ q))
-    further (inl h) = inl (in_tail (nat_eq e.1.buffer q) (is_in_use (put_array names name array) q) h)
-    further (inr h) = inr h
-
-pub kept-without : (names : List (List ℕ × Array)) (name : List ℕ) (q : ℕ) → is_in_use names q ≡ true →
-    (is_in_use (without names name) q ≡ true) ⊎ ((old : Array) × (find_array names name ≡ Some old) × (old.buffer ≡ q))
-kept-without [] name q used = let no : ⊥ = cc in absurd no
-kept-without (e ∷ names) name q used =
-    elim (bytes_eq e.0 name) as (λ t. (is_in_use (cond t names (e ∷ without names name)) q ≡ true) ⊎ ((old : Array) × (cond t (Some e.1) (find_array names name) ≡ Some old) × (old.buffer ≡ q))) [
-      | true ↦ elim (nat_eq e.1.buffer q) as (λ u. nat_eq e.1.buffer q ≡ u → (u || is_in_use names q) ≡ true → (is_in_use names q ≡ true) ⊎ ((old : Array) × (Some e.1 ≡ Some old) × (old.buffer ≡ q))) [
-        | true ↦ λ is _. inr (e.1, refl, eqb-true e.1.buffer q is)
-        | false ↦ λ _ later. inl later
-      ] refl used
-      | false ↦ elim (nat_eq e.1.buffer q) as (λ u. nat_eq e.1.buffer q ≡ u → (u || is_in_use names q) ≡ true → (is_in_use (e ∷ without names name) q ≡ true) ⊎ ((old : Array) × (find_array names name ≡ Some old) × (old.buffer ≡ q))) [
-        | true ↦ λ is _. inl (ap (λ u. u || is_in_use (without names name) q) is)
-        | false ↦ λ _ later. further (kept-without names name q later)
-      ] refl used
-    ]
-  where
-    further : (is_in_use (without names name) q ≡ true) ⊎ ((old : Array) × (find_array names name ≡ Some old) × (old.buffer ≡ q)) → (is_in_use (e ∷ without names name) q ≡ true) ⊎ ((old : Array) × (find_array names name ≡ Some old) × (old.buffer ≡ q))
-    further (inl h) = inl (in_tail (nat_eq e.1.buffer q) (is_in_use (without names name) q) h)
-    further (inr h) = inr h
-
-pub length-remove : (test : Key → Bool) (es : List (Key × Entry)) → length (shift_remove_entry test es) ≤ length es
-length-remove test [] = omega arith
-length-remove test (e ∷ es) =
-    elim (test e.0) as (λ t. length (cond t es (e ∷ shift_remove_entry test es)) ≤ length (e ∷ es)) [ true ↦ omega arith | false ↦ omega (arith, length-remove test es) ]
-
 -- the names are the texts of the keys
 pub texts-names : (es : List (Key × Entry)) → map key_bytes (keys_of es) ≡ map (λ entry. entry.0) (map named_array es)
 texts-names [] = refl
@@ -231,14 +186,6 @@ module _ (names : List (List ℕ × Array)) (place : ℕ) (x : List ℕ × Array
           | inl own ↦ inr own
           | inr later ↦ inl (split-is ∙ in_tail (list_any lies_in (take place names)) (list_any lies_in (drop place names)) later)
         ]
-      ]
-
-  pub kept-insert : is_in_use names q ≡ true → is_in_use (insert names place x) q ≡ true
-  kept-insert used =
-      inserted-is
-      ∙ elim (either (list_any lies_in (take place names)) (list_any lies_in (drop place names)) (sym split-is ∙ used)) [
-        | inl front ↦ in_front (list_any lies_in (take place names)) (nat_eq x.1.buffer q || list_any lies_in (drop place names)) front
-        | inr back ↦ in_tail (list_any lies_in (take place names)) (nat_eq x.1.buffer q || list_any lies_in (drop place names)) (in_tail (nat_eq x.1.buffer q) (list_any lies_in (drop place names)) back)
       ]
 
   pub used-insert : nat_eq x.1.buffer q ≡ true → is_in_use (insert names place x) q ≡ true

@@ -5,13 +5,12 @@ use Rattle.std.specs.Option.{option_map}
 use Rattle.std.specs.Cmp.{nat_cmp_total, nat_eq_equiv}
 use Rattle.std.specs.FinMap.{get, same_map, nat_cmp-IsAntisymmetric}
 use Rattle.std.proofs.lemmas.Bool.{eqb-true}
-use Rattle.std.proofs.lemmas.List.Folds.{list_any-append}
 use Rattle.elem_descr.specs.declared.descr.Descr.{Descr}
 use Rattle.elem_descr.specs.Blocks.{items_in}
 use Rattle.elem_descr.specs.Items.{item_size}
 use Rattle.name_store.specs.States.{Buffer}
 use Rattle.name_store.specs.Arrays.{put_array, is_in_use}
-use Rattle.name_store.specs.Invariants.{LiesAt, GoBackAt, IsUndoable, AreUndoable, needs, is_needed}
+use Rattle.name_store.specs.Invariants.{LiesAt, GoBackAt, IsUndoable, AreUndoable}
 use Rattle.name_store.specs.Kept.{Names, names_before, bytes_before, past_names, past_bytes, past_buffer, past_buffers, kept_states}
 use Rattle.name_store.specs.Targets.{target_offsets}
 use Rattle.name_store.specs.View.{array_at, slot_at}
@@ -21,8 +20,10 @@ use Rattle.name_store.specs.declared.entry.Entry.{Entry}
 use Rattle.name_store.specs.declared.old_items.OldItems.{OldItems}
 use Rattle.name_store.specs.declared.slot.Slot.{Slot}
 use Rattle.name_store.specs.declared.target.Target.{Target}
+use Rattle.name_store.specs.inside.Held.{stand}
 use Rattle.name_store.proofs.LaidLaws.{laid-same}
-use Rattle.name_store.proofs.NameLaws.{in_front, in_tail, either, or_none, used-back-put, used-back-without, used-back-insert, used-put, used-insert}
+use Rattle.name_store.proofs.NameLaws.{in_front, in_tail, either, used-back-put, used-back-without, used-back-insert, used-put, used-insert}
+use Rattle.name_store.proofs.Needs.{needs, is_needed}
 use Rattle.name_store.proofs.SlotLaws.{get-past}
 
 abbrev pub Slots : Type 0
@@ -47,50 +48,12 @@ needed-more names c cs q h =
 pub needed-first : (names : Names) (c : Change) (cs : List Change) (q : ℕ) → needs q c ≡ true → is_needed names (c ∷ cs) q ≡ true
 needed-first names c cs q h = in_tail (is_in_use names q) (needs q c || list_any (needs q) cs) (in_front (needs q c) (list_any (needs q) cs) h)
 
-pub needed-drop : (n : ℕ) (names : Names) (cs : List Change) (q : ℕ) → is_needed names (drop n cs) q ≡ true → is_needed names cs q ≡ true
-needed-drop zero names cs q h = h
-needed-drop (suc n) names [] q h = h
-needed-drop (suc n) names (c ∷ cs) q h = needed-more names c cs q (needed-drop n names cs q h)
-
 pub needed-past : (cs : List Change) (names : Names) (q : ℕ) → is_in_use (past_names cs names) q ≡ true → is_needed names cs q ≡ true
 needed-past [] names q used = in_front (is_in_use names q) false used
 needed-past (c ∷ cs) names q used =
     elim (used-before c (past_names cs names) q used) [
       | inl later ↦ needed-more names c cs q (needed-past cs names q later)
       | inr own ↦ needed-first names c cs q own
-    ]
-
-pub any-push : (q : ℕ) (cs : List Change) (c : Change) → list_any (needs q) (cs ++ c ∷ []) ≡ (list_any (needs q) cs || (needs q c || false))
-any-push q cs c = list_any-append (needs q) cs (c ∷ [])
-
-pub needed-last : (names : Names) (cs : List Change) (c : Change) (q : ℕ) → needs q c ≡ true → is_needed names (cs ++ c ∷ []) q ≡ true
-needed-last names cs c q own =
-    in_tail (is_in_use names q) (list_any (needs q) (cs ++ c ∷ [])) (any-push q cs c ∙ in_tail (list_any (needs q) cs) (needs q c || false) (in_front (needs q c) false own))
-
-pub needed-others : (names : Names) (cs : List Change) (c : Change) (q : ℕ) → list_any (needs q) cs ≡ true → is_needed names (cs ++ c ∷ []) q ≡ true
-needed-others names cs c q others =
-    in_tail (is_in_use names q) (list_any (needs q) (cs ++ c ∷ [])) (any-push q cs c ∙ in_front (list_any (needs q) cs) (needs q c || false) others)
-
--- the three cases of what is needed then
-pub needed-parts : (names : Names) (cs : List Change) (c : Change) (q : ℕ) → is_needed names (cs ++ c ∷ []) q ≡ true → (is_in_use names q ≡ true) ⊎ ((list_any (needs q) cs ≡ true) ⊎ (needs q c ≡ true))
-needed-parts names cs c q h =
-    elim (either (is_in_use names q) (list_any (needs q) (cs ++ c ∷ [])) h) [
-      | inl used ↦ inl used
-      | inr needed ↦ inr (elim (either (list_any (needs q) cs) (needs q c || false) (sym (any-push q cs c) ∙ needed)) [
-        | inl others ↦ inl others
-        | inr own ↦ inr (or_none (needs q c) own)
-      ])
-    ]
-
--- what is needed before a change is needed after it
-pub needed-before : (c : Change) (names : Names) (cs : List Change) (q : ℕ) → is_needed (names_before c names) cs q ≡ true → is_needed names (cs ++ c ∷ []) q ≡ true
-needed-before c names cs q h =
-    elim (either (is_in_use (names_before c names) q) (list_any (needs q) cs) h) [
-      | inl used ↦ elim (used-before c names q used) [
-        | inl later ↦ in_front (is_in_use names q) (list_any (needs q) (cs ++ c ∷ [])) later
-        | inr own ↦ needed-last names cs c q own
-      ]
-      | inr others ↦ needed-others names cs c q others
     ]
 
 -- Going back
@@ -103,33 +66,40 @@ pub past_bytes-push : (cs : List Change) (c : Change) (q : ℕ) (bytes : List �
 past_bytes-push [] c q bytes = refl
 past_bytes-push (d ∷ cs) c q bytes = ap (bytes_before d q) (past_bytes-push cs c q bytes)
 
--- what stands in a slot
-abbrev pub Content : Type 0
-Content = Descr × ℕ × List ℕ
-
-abbrev pub content_before : Change → ℕ → Slot → Content
+abbrev pub content_before : Change → ℕ → Slot → Descr × ℕ × List ℕ
 content_before c q s = (s.descr, s.items, bytes_before c q s.block)
 
-abbrev pub content : Slot → Content
-content s = (s.descr, s.items, s.block)
+-- the same stands in both
+abbrev pub Alike : Option Slot → Option Slot → Type 0
+Alike now before = option_map stand now ≡ option_map stand before
 
 -- a slot that stands as before, once a change is undone
 abbrev pub Restored : Change → ℕ → Option Slot → Option Slot → Type 0
-Restored c q now before = option_map (content_before c q) now ≡ option_map content before
+Restored c q now before = option_map (content_before c q) now ≡ option_map stand before
 
 restored-past : (cs : List Change) (c : Change) (q : ℕ) (now before : Option Slot) → Restored c q now before → option_map (past_buffer (cs ++ c ∷ []) q) now ≡ option_map (past_buffer cs q) before
 restored-past cs c q now before restored = one now ∙ ap (option_map past) restored ∙ other before
   where
-    past : Content → Buffer
+    past : Descr × ℕ × List ℕ → Buffer
     past t = record { descr = t.0; items = items_in t.0 t.1 (past_bytes cs q t.2) }
 
     one : (o : Option Slot) → option_map (past_buffer (cs ++ c ∷ []) q) o ≡ option_map past (option_map (content_before c q) o)
     one None = refl
     one (Some s) = ap (λ bytes. Some (record { descr = s.descr; items = items_in s.descr s.items bytes })) (past_bytes-push cs c q s.block)
 
-    other : (o : Option Slot) → option_map past (option_map content o) ≡ option_map (past_buffer cs q) o
+    other : (o : Option Slot) → option_map past (option_map stand o) ≡ option_map (past_buffer cs q) o
     other None = refl
     other (Some s) = refl
+
+pub past-alike : (cs : List Change) (q : ℕ) (now before : Option Slot) → Alike now before → option_map (past_buffer cs q) now ≡ option_map (past_buffer cs q) before
+past-alike cs q now before alike = one now ∙ ap (option_map past) alike ∙ sym (one before)
+  where
+    past : Descr × ℕ × List ℕ → Buffer
+    past t = record { descr = t.0; items = items_in t.0 t.1 (past_bytes cs q t.2) }
+
+    one : (o : Option Slot) → option_map (past_buffer cs q) o ≡ option_map past (option_map stand o)
+    one None = refl
+    one (Some s) = refl
 
 -- the buffers that some names use depend on what stands in the slots of these
 pub same-buffers : (cs cs' : List Change) (names : Names) (slots slots' : Slots) → ((q : ℕ) → is_in_use names q ≡ true → option_map (past_buffer cs q) (slot_at slots q) ≡ option_map (past_buffer cs' q) (slot_at slots' q)) →
@@ -158,11 +128,11 @@ kept-push (d ∷ cs) c names slots before restored =
     ∷ kept-push cs c names slots before (λ q needed. restored q (needed-more now d cs q needed)) i
 
 -- They are the same while what is needed stands where it stood.
-pub kept-free : (cs : List Change) (names : Names) (slots before : Slots) → ((q : ℕ) → is_needed names cs q ≡ true → slot_at slots q ≡ slot_at before q) → kept_states cs names slots ≡ kept_states cs names before
+pub kept-free : (cs : List Change) (names : Names) (slots before : Slots) → ((q : ℕ) → is_needed names cs q ≡ true → Alike (slot_at slots q) (slot_at before q)) → kept_states cs names slots ≡ kept_states cs names before
 kept-free [] names slots before same = refl
 kept-free (c ∷ cs) names slots before same =
     let past : Names = past_names (c ∷ cs) names in
-    λ i. (past, same-buffers (c ∷ cs) (c ∷ cs) past slots before (λ q used. ap (option_map (past_buffer (c ∷ cs) q)) (same q (needed-past (c ∷ cs) names q used))) i)
+    λ i. (past, same-buffers (c ∷ cs) (c ∷ cs) past slots before (λ q used. past-alike (c ∷ cs) q (slot_at slots q) (slot_at before q) (same q (needed-past (c ∷ cs) names q used))) i)
     ∷ kept-free cs names slots before (λ q needed. same q (needed-more names c cs q needed)) i
 
 pub kept-drop : (n : ℕ) (cs : List Change) (names : Names) (slots : Slots) → kept_states (drop n cs) names slots ≡ drop n (kept_states cs names slots)
@@ -185,16 +155,26 @@ SameShape now before = option_map shape now ≡ option_map shape before
 pub restored-shape : (c : Change) (q : ℕ) (now before : Option Slot) → Restored c q now before → SameShape now before
 restored-shape c q now before restored = one now ∙ ap (option_map first) restored ∙ other before
   where
-    first : Content → Descr × ℕ
+    first : Descr × ℕ × List ℕ → Descr × ℕ
     first t = (t.0, t.1)
 
     one : (o : Option Slot) → option_map shape o ≡ option_map first (option_map (content_before c q) o)
     one None = refl
     one (Some s) = refl
 
-    other : (o : Option Slot) → option_map first (option_map content o) ≡ option_map shape o
+    other : (o : Option Slot) → option_map first (option_map stand o) ≡ option_map shape o
     other None = refl
     other (Some s) = refl
+
+pub alike-shape : (now before : Option Slot) → Alike now before → SameShape now before
+alike-shape now before alike = one now ∙ ap (option_map first) alike ∙ sym (one before)
+  where
+    first : Descr × ℕ × List ℕ → Descr × ℕ
+    first t = (t.0, t.1)
+
+    one : (o : Option Slot) → option_map shape o ≡ option_map first (option_map stand o)
+    one None = refl
+    one (Some s) = refl
 
 pair-is : (s s' : Slot) → Some (shape s') ≡ Some (shape s) → shape s' ≡ shape s
 pair-is s s' h = cc
@@ -222,16 +202,20 @@ goes-shaped target items (Some s') (Some s) same goes =
 itself : (n : ℕ) → nat_eq n n ≡ true
 itself n = (nat_eq_equiv).refl n
 
-still-one : (c : Change) (names : Names) (slots before : Slots) → ((q : ℕ) → needs q c ≡ true → SameShape (slot_at slots q) (slot_at before q)) → IsUndoable c names before → IsUndoable c names slots
-still-one (Bind key None) names slots before same can = tt
-still-one (Bind key (Some e)) names slots before same can = lies-shaped (slot_at slots e.number) (slot_at before e.number) e (same e.number (itself e.number)) can
-still-one (Unbind place key e) names slots before same can = (lies-shaped (slot_at slots e.number) (slot_at before e.number) e (same e.number (itself e.number)) can.0, can.1, can.2)
-still-one (Write number target items) names slots before same can = (can.0, goes-shaped target items (slot_at slots number) (slot_at before number) (same number (itself number)) can.1)
+still-one : (c : Change) (names : Names) (slots before : Slots) → ((q : ℕ) → needs q c ≡ true → SameShape (slot_at slots q) (slot_at before q)) → ((q : ℕ) → is_in_use names q ≡ true → SameShape (slot_at slots q) (slot_at before q)) →
+    IsUndoable c names before → IsUndoable c names slots
+still-one (Bind key None) names slots before same used can = tt
+still-one (Bind key (Some e)) names slots before same used can = lies-shaped (slot_at slots e.number) (slot_at before e.number) e (same e.number (itself e.number)) can
+still-one (Unbind place key e) names slots before same used can = (lies-shaped (slot_at slots e.number) (slot_at before e.number) e (same e.number (itself e.number)) can.0, can.1, can.2)
+still-one (Write number target items) names slots before same used can = (can.0, goes-shaped target items (slot_at slots number) (slot_at before number) (used number can.0) can.1)
 
 pub undoable-still : (cs : List Change) (names : Names) (slots before : Slots) → ((q : ℕ) → is_needed names cs q ≡ true → SameShape (slot_at slots q) (slot_at before q)) → AreUndoable cs names before → AreUndoable cs names slots
 undoable-still [] names slots before same can = tt
-undoable-still (c ∷ cs) names slots before same can =
-    (can.0, still-one c (past_names cs names) slots before (λ q own. same q (needed-first names c cs q own)) can.1, undoable-still cs names slots before (λ q needed. same q (needed-more names c cs q needed)) can.2)
+undoable-still (c ∷ cs) names slots before same can = (
+  can.0,
+  still-one c (past_names cs names) slots before (λ q own. same q (needed-first names c cs q own)) (λ q used. same q (needed-more names c cs q (needed-past cs names q used))) can.1,
+  undoable-still cs names slots before (λ q needed. same q (needed-more names c cs q needed)) can.2,
+)
 
 pub undoable-push : (cs : List Change) (c : Change) (names : Names) (slots : Slots) → AreUndoable cs (names_before c names) slots → length (names_before c names) ≤ 1024 → IsUndoable c names slots → AreUndoable (cs ++ c ∷ []) names slots
 undoable-push [] c names slots can few own = (few, own, tt)
@@ -273,7 +257,7 @@ pub needs-used : (c : Change) (names : Names) (slots : Slots) (q : ℕ) → IsUn
 needs-used (Bind key None) names slots q can own = let no : ⊥ = cc in absurd no
 needs-used (Bind key (Some e)) names slots q can own = ap (is_in_use (put_array names key.bytes.items (array_at e))) (sym (eqb-true e.number q own)) ∙ used-put names key.bytes.items (array_at e)
 needs-used (Unbind place key e) names slots q can own = used-insert names place (key.bytes.items, array_at e) q own
-needs-used (Write number target items) names slots q can own = ap (is_in_use names) (sym (eqb-true number q own)) ∙ can.0
+needs-used (Write number target items) names slots q can own = let no : ⊥ = cc in absurd no
 
 -- and that of one that a change needs is in one
 pub kept-some : (cs : List Change) (names : Names) (slots : Slots) (q : ℕ) (s : Slot) → slot_at slots q ≡ Some s → AreUndoable cs names slots → list_any (needs q) cs ≡ true → AllByRecursion (λ state. get state.1 q ≡ None) (kept_states cs names slots) → ⊥

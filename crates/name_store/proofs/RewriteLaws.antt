@@ -6,6 +6,7 @@ use Rattle.std.proofs.lemmas.Bool.{eqb-true, ne_eqb}
 use Rattle.shape_strides.specs.Layouts.{offsets, Fits}
 use Rattle.shape_strides.specs.LayoutLaws.{offsets_within}
 use Rattle.overlap_copy.specs.declared.owned.Owned.{Owned}
+use Rattle.name_store.specs.Invariants.{users_of, users_at}
 use Rattle.name_store.specs.Targets.{target_offsets}
 use Rattle.name_store.specs.View.{slot_at}
 use Rattle.name_store.specs.declared.home.Home.{Home}
@@ -14,7 +15,8 @@ use Rattle.name_store.specs.declared.items.Items.TheVariants.{One, Block, Buffer
 use Rattle.name_store.specs.declared.slot.Slot.{Slot}
 use Rattle.name_store.specs.declared.target.Target.{Target}
 use Rattle.name_store.specs.inside.Homes.{HasNew}
-use Rattle.name_store.specs.inside.OldItems.{AreSame, stand}
+use Rattle.name_store.specs.inside.Held.{stand}
+use Rattle.name_store.specs.inside.OldItems.{AreSame}
 use Rattle.name_store.specs.inside.Puts.{AreItems, CanPut, MayPut, block_in, parts_of}
 use Rattle.name_store.proofs.LaidLaws.{offsets-within}
 use Rattle.name_store.proofs.SlotLaws.{slot_at-set, slot_at-within}
@@ -23,12 +25,12 @@ use Rattle.name_store.proofs.SourceLaws.{all-replicated, items-whole}
 pub some-same : {A : Type 0} (x y : A) → Some x ≡ Some y → x ≡ y
 some-same x y h = cc
 
-pub lent-new : (slots : List (Option Slot)) (number : ℕ) (was now old : Slot) (bytes : Slot → List ℕ) → number < length slots → slot_at slots number ≡ Some was → now.descr ≡ was.descr → now.items ≡ was.items → now.block ≡ bytes was → slot_at slots number ≡ Some old →
+pub lent-new : (slots : List (Option Slot)) (number : ℕ) (was now old : Slot) (bytes : Slot → List ℕ) → number < length slots → slot_at slots number ≡ Some was → now.descr ≡ was.descr → now.items ≡ was.items → now.users ≡ was.users → now.block ≡ bytes was → slot_at slots number ≡ Some old →
     HasNew slots number old (bytes old) (slice_set slots number (Some now))
-lent-new slots number was now old bytes inside there descr items block is =
+lent-new slots number was now old bytes inside there descr items users block is =
     let same : was ≡ old = some-same was old (sym there ∙ is) in record {
       new = now;
-      rewritten = record { descr = descr ∙ ap (λ (s : Slot). s.descr) same; items = items ∙ ap (λ (s : Slot). s.items) same; block = block ∙ ap bytes same };
+      rewritten = record { descr = descr ∙ ap (λ (s : Slot). s.descr) same; items = items ∙ ap (λ (s : Slot). s.items) same; block = block ∙ ap bytes same; users = users ∙ ap (λ (s : Slot). s.users) same };
       set = λ other. slot_at-set slots number (Some now) other inside;
     }
 
@@ -42,16 +44,26 @@ set-twice (slot ∷ slots) (suc number) first last = ap (λ rest. slot ∷ rest)
 pub set-other : (slots : List (Option Slot)) (number : ℕ) (put : Option Slot) (other : ℕ) → number < length slots → other ≢ number → slot_at (slice_set slots number put) other ≡ slot_at slots other
 set-other slots number put other inside apart = slot_at-set slots number put other inside ∙ ap (λ t. cond t put (slot_at slots other)) (ne_eqb other number apart)
 
+-- as many hold each buffer
+pub new-users : (slots : List (Option Slot)) (number : ℕ) (s : Slot) (bytes : List ℕ) (after : List (Option Slot)) → slot_at slots number ≡ Some s → HasNew slots number s bytes after → (q : ℕ) → users_at after q ≡ users_at slots q
+new-users slots number s bytes after there new q =
+    elim (nat_eq q number) as (λ t. nat_eq q number ≡ t → slot_at after q ≡ cond t (Some new.new) (slot_at slots q) → users_at after q ≡ users_at slots q) [
+      | true ↦ λ is there-is. ap users_of there-is ∙ new.rewritten.users ∙ ap users_of (sym (ap (slot_at slots) (eqb-true q number is) ∙ there))
+      | false ↦ λ _ there-is. ap users_of there-is
+    ] refl (new.set q)
+
 -- with the same bytes, the same stands in each slot
 pub kept-same : (slots : List (Option Slot)) (number : ℕ) (s : Slot) (after : List (Option Slot)) → slot_at slots number ≡ Some s → HasNew slots number s s.block after → AreSame slots after
-kept-same slots number s after there new q =
-    elim (nat_eq q number) as (λ t. nat_eq q number ≡ t → slot_at after q ≡ cond t (Some new.new) (slot_at slots q) → option_map stand (slot_at after q) ≡ option_map stand (slot_at slots q)) [
-      | true ↦ λ is there-is.
-          ap (option_map stand) there-is
-          ∙ (λ i. Some (new.rewritten.descr i, new.rewritten.items i, new.rewritten.block i))
-          ∙ ap (option_map stand) (sym (ap (slot_at slots) (eqb-true q number is) ∙ there))
-      | false ↦ λ _ there-is. ap (option_map stand) there-is
-    ] refl (new.set q)
+kept-same slots number s after there new q = (
+  elim (nat_eq q number) as (λ t. nat_eq q number ≡ t → slot_at after q ≡ cond t (Some new.new) (slot_at slots q) → option_map stand (slot_at after q) ≡ option_map stand (slot_at slots q)) [
+    | true ↦ λ is there-is.
+        ap (option_map stand) there-is
+        ∙ (λ i. Some (new.rewritten.descr i, new.rewritten.items i, new.rewritten.block i))
+        ∙ ap (option_map stand) (sym (ap (slot_at slots) (eqb-true q number is) ∙ there))
+    | false ↦ λ _ there-is. ap (option_map stand) there-is
+  ] refl (new.set q),
+  new-users slots number s s.block after there new q,
+)
 
 pub ok-so : {A E P Q : Type 0} (r : Result A E) → (P → Q) → IfOk r (λ _. P) → IfOk r (λ _. Q)
 ok-so (Ok a) f h = f h

@@ -1,29 +1,30 @@
 -- A name is unbound, and what it was bound to is kept.
-use Rattle.std.proofs.Common.{◌≡◌, ◌+◌, ◌<◌, ◌≤◌, ℕ, zero, suc, Bool, true, false, List, [], ◌∷◌, ◌++◌, length, map, min, position, insert, refl, sym, ap, subst, ◌∙◌, cond, Option, Some, None, is_some, nat_eq, nat_lt, arith, inl, inr}
-use Rattle.std.specs.List.{AllByRecursion, list_any, position_or_len}
+use Rattle.std.proofs.Common.{◌≡◌, ◌+◌, ◌<◌, ◌≤◌, ℕ, zero, suc, Bool, true, false, List, [], ◌∷◌, ◌++◌, length, map, min, position, insert, refl, sym, ap, subst, ◌∙◌, cond, Option, Some, None, is_some, nat_lt, arith}
+use Rattle.std.specs.List.{AllByRecursion, position_or_len}
 use Rattle.std.specs.Map.{lookup, keys_of}
 use Rattle.std.specs.Option.{option_map}
 use Rattle.std.proofs.lemmas.Bool.{ltb-true}
 use Rattle.std.proofs.lemmas.List.{length-map}
 use Rattle.circular_buffer.specs.Buffer.{Buffer as Ring, buffer, keep_last}
 use Rattle.indexmap.specs.IndexMap.{shift_remove_entry}
-use Rattle.name_store.specs.Arrays.{find_array, is_in_use, without, unbound, is_bound}
-use Rattle.name_store.specs.Invariants.{Holds, IsSound, LiesAt, IsUndoable, needs, is_needed}
+use Rattle.name_store.specs.Arrays.{find_array, is_in_use, without, unbound}
+use Rattle.name_store.specs.Invariants.{Holds, IsSound, LiesAt, IsUndoable, users_at, users_in, found_at, pins, all_pins}
 use Rattle.name_store.specs.Kept.{Names, names_before, past_buffers, past_buffer, bytes_before}
-use Rattle.name_store.specs.States.{Array}
 use Rattle.name_store.specs.View.{array_at, named_array, slot_at, state_of, present}
 use Rattle.name_store.specs.declared.change.Change.{Change}
 use Rattle.name_store.specs.declared.change.Change.TheVariants.{Unbind}
 use Rattle.name_store.specs.declared.entry.Entry.{Entry}
 use Rattle.name_store.specs.declared.entry.Key.{Key}
 use Rattle.name_store.specs.declared.slot.Slot.{Slot}
+use Rattle.name_store.specs.inside.Held.{stand}
 use Rattle.std.specs.Cmp.{nat_cmp_total}
 use Rattle.std.specs.FinMap.{retain_keys, get-retain_keys, same_map, nat_cmp-IsAntisymmetric}
-use Rattle.name_store.proofs.NameLaws.{TestsName, find-lookup, without-remove, all-lookup, all-remove, insert-removed, kept-without, used-back-without, in_front, either}
-use Rattle.name_store.proofs.PastLaws.{Restored, content_before, content, needed-last, needed-others}
-use Rattle.name_store.proofs.SlotLaws.{itself, get-past, get-buffers}
-use Rattle.name_store.proofs.StateLaws.{Slots, Swept}
-use Rattle.name_store.proofs.KeepLaws.{keep-occupied, keep-sound, keep-state}
+use Rattle.name_store.proofs.NameLaws.{TestsName, find-lookup, without-remove, all-lookup, all-remove, insert-removed, used-back-without}
+use Rattle.name_store.proofs.Needs.{is_needed, number_of, users-without}
+use Rattle.name_store.proofs.PastLaws.{Restored, content_before}
+use Rattle.name_store.proofs.SlotLaws.{get-past, get-buffers}
+use Rattle.name_store.proofs.StateLaws.{Slots, Freed}
+use Rattle.name_store.proofs.KeepLaws.{keep-sound, keep-state}
 
 some-cond : (t : Bool) (n m : ℕ) → Some n ≡ cond t (Some m) None → (t ≡ true) × (n ≡ m)
 some-cond true n m h = (refl, cc)
@@ -38,7 +39,7 @@ keys-length : (es : List (Key × Entry)) → length (keys_of es) ≡ length es
 keys-length [] = refl
 keys-length (e ∷ es) = ap suc (keys-length es)
 
-pub same-content : (c : Change) (q : ℕ) (o : Option Slot) → ((bytes : List ℕ) → bytes_before c q bytes ≡ bytes) → option_map (content_before c q) o ≡ option_map content o
+pub same-content : (c : Change) (q : ℕ) (o : Option Slot) → ((bytes : List ℕ) → bytes_before c q bytes ≡ bytes) → option_map (content_before c q) o ≡ option_map stand o
 same-content c q None same = refl
 same-content c q (Some s) same = ap (λ bytes. Some (s.descr, s.items, bytes)) (same s.block)
 
@@ -90,34 +91,25 @@ module _ (es : List (Key × Entry)) (slots : Slots) (ring : Ring Change) (spare 
     find-lookup test key.bytes.items is es' ∙ ap (option_map array_at) gone,
   )
 
-  came : (q : ℕ) → is_some (slot_at slots q) ≡ true → is_needed names' (ring.items ++ c ∷ []) q ≡ true
-  came q there =
-      elim (either (is_in_use (map named_array es) q) (list_any (needs q) ring.items) (sym (sound.occupied q) ∙ there)) [
-        | inl used ↦ elim (kept-without (map named_array es) key.bytes.items q used) [
-          | inl still ↦ in_front (is_in_use names' q) (list_any (needs q) (ring.items ++ c ∷ [])) (ap (λ (ns : Names). is_in_use ns q) names-are ∙ still)
-          | inr other ↦ needed-last names' ring.items c q (ap (λ n. nat_eq n q) (number other.0 other.1 ∙ other.2) ∙ itself q)
-        ]
-        | inr others ↦ needed-others names' ring.items c q others
-      ]
-    where
-      number : (a : Array) → find_array (map named_array es) key.bytes.items ≡ Some a → e.number ≡ a.buffer
-      number a found = let same : Some (array_at e) ≡ Some a = sym (find-lookup test key.bytes.items is es ∙ ap (option_map array_at) was) ∙ found in let alike : array_at e ≡ a = cc in ap (λ (o : Array). o.buffer) alike
+  found-is : find_array (map named_array es) key.bytes.items ≡ Some (array_at e)
+  found-is = find-lookup test key.bytes.items is es ∙ ap (option_map array_at) was
 
-  pub unbind-occupied : (q : ℕ) → is_some (slot_at slots q) ≡ is_needed names' (ring.items ++ c ∷ []) q
-  unbind-occupied = keep-occupied es slots ring spare sound es' slots c before-is holds restored own came
+  -- the change holds the buffer that the name held
+  pub unbind-made : (q : ℕ) → users_at slots q + users_in q (map named_array es) ≡ users_at slots q + users_in q names' + pins q c
+  unbind-made q = omega (arith, users-without q (map named_array es) key.bytes.items, ap (λ o. found_at q (number_of o)) found-is, ap (users_in q) names-are)
 
-  module _ (ring' : Ring Change) (after : Slots) (spare' : ℕ) (ring-is : ring' ≡ buffer (keep_last ring.capacity (ring.items ++ c ∷ [])) ring.capacity) (swept : Swept (is_needed names' ring'.items) slots after) (room : min ring.capacity (length ring.items + 1) ≤ spare') where
+  module _ (ring' : Ring Change) (after : Slots) (spare' : ℕ) (ring-is : ring' ≡ buffer (keep_last ring.capacity (ring.items ++ c ∷ [])) ring.capacity) (freed : Freed slots after) (counted : (q : ℕ) → users_at after q ≡ users_in q names' + all_pins q ring'.items) (room : min ring.capacity (length ring.items + 1) ≤ spare') where
     pub unbind-sound : IsSound es' after ring' spare'
-    unbind-sound = keep-sound es slots ring spare sound es' slots c before-is holds restored own came ring' after spare' ring-is swept room
+    unbind-sound = keep-sound es slots ring spare sound es' slots c before-is holds restored own ring' after spare' ring-is freed counted room
 
     pub unbind-state : state_of es' after ring' ≡ unbound (state_of es slots ring) key.bytes.items
     unbind-state =
-        keep-state es slots ring spare sound es' slots c before-is holds restored own came ring' after spare' ring-is swept room
+        keep-state es slots ring spare sound es' slots c before-is holds restored own ring' after spare' ring-is freed counted room
         ∙ λ i. record (unbound (state_of es slots ring) key.bytes.items) { names = names-are i; buffers = (fewer-buffers es slots names' (λ q used. used-back-without (map named_array es) key.bytes.items q (ap (λ (ns : Names). is_in_use ns q) (sym names-are) ∙ used)) ∙ ap (λ (ns : Names). retain_keys (present es slots).buffers (is_in_use ns)) names-are) i }
 
 -- a table that is the same but for its room
 pub same-sound : (es es' : List (Key × Entry)) (slots : Slots) (ring : Ring Change) (spare spare' : ℕ) → es' ≡ es → spare ≤ spare' → IsSound es slots ring spare → IsSound es' slots ring spare'
-same-sound es es' slots ring spare spare' same more sound = subst (λ (ns : List (Key × Entry)). IsSound ns slots ring spare') (sym same) (record { holds = sound.holds; occupied = sound.occupied; undoable = sound.undoable; short = sound.short; room = omega (arith, sound.room, more) })
+same-sound es es' slots ring spare spare' same more sound = subst (λ (ns : List (Key × Entry)). IsSound ns slots ring spare') (sym same) (record { holds = sound.holds; counted = sound.counted; undoable = sound.undoable; short = sound.short; room = omega (arith, sound.room, more) })
 
 -- whether a name is bound is whether it has an entry
 pub bound-has : (test : Key → Bool) (name : List ℕ) → TestsName test name → (es : List (Key × Entry)) → is_some (find_array (map named_array es) name) ≡ is_some (lookup test es)

@@ -9,17 +9,18 @@ use Rattle.std.specs.FinMap.{FinMap}
 use Rattle.std.specs.Ordering.{nat_cmp}
 use Rattle.name_store.specs.States.{Buffer}
 use Rattle.name_store.specs.Arrays.{is_in_use, has_kept, undone}
-use Rattle.name_store.specs.Invariants.{IsSound, LiesAt, IsUndoable, AreUndoable, needs, is_needed}
+use Rattle.name_store.specs.Invariants.{IsSound, LiesAt, IsUndoable, AreUndoable, users_at, users_in, pins, all_pins}
 use Rattle.name_store.specs.Kept.{Names, names_before, past_buffers, kept_states, patch_size}
 use Rattle.name_store.specs.View.{named_array, slot_at, state_of}
 use Rattle.name_store.specs.declared.change.Change.{Change}
 use Rattle.name_store.specs.declared.entry.Entry.{Entry}
 use Rattle.name_store.specs.declared.entry.Key.{Key}
+use Rattle.name_store.specs.inside.Held.{stand}
 use Rattle.name_store.specs.inside.Undoes.{Undoes}
-use Rattle.name_store.proofs.KeepLaws.{shape-some}
 use Rattle.name_store.proofs.NameLaws.{all-both, all-in_use, in_front}
-use Rattle.name_store.proofs.PastLaws.{Restored, restored-shape, shape, needed-before, same-buffers, kept-push, kept-free, undoable-pop, undoable-still}
-use Rattle.name_store.proofs.StateLaws.{Slots, Swept}
+use Rattle.name_store.proofs.Needs.{needs, is_needed, pins-push}
+use Rattle.name_store.proofs.PastLaws.{Alike, alike-shape, past-alike, lies-shaped, Restored, restored-shape, same-buffers, kept-push, kept-free, undoable-pop, undoable-still}
+use Rattle.name_store.proofs.StateLaws.{Slots, Freed, freed-swept}
 
 -- the last is the last
 pub last-push : {X : Type 0} (xs : List X) (x : X) → last_item (xs ++ x ∷ []) ≡ Some x
@@ -58,46 +59,37 @@ module _ (es : List (Key × Entry)) (slots : Slots) (ring : Ring Change) (c : Ch
 
   -- names and slots are as they were before the change, and then what is not needed is freed
   module _ (es' : List (Key × Entry)) (now after : Slots) (spare' : ℕ) (names-are : map named_array es' ≡ past) (lie : AllByRecursion (λ entry. LiesAt (slot_at now entry.1.number) entry.1) es')
-      (restored : (q : ℕ) → is_needed past ring.items q ≡ true → Restored c q (slot_at slots q) (slot_at now q)) (freed : Swept (is_needed (map named_array es') ring.items) now after) (room : spare ≤ spare' + 1) where
+      (restored : (q : ℕ) → is_needed past ring.items q ≡ true → Restored c q (slot_at slots q) (slot_at now q)) (freed : Freed now after)
+      (made : (q : ℕ) → users_at after q + users_in q (map named_array es) + pins q c ≡ users_at slots q + users_in q (map named_array es')) (room : spare ≤ spare' + 1) where
     abbrev names' : Names
     names' = map named_array es'
 
-    swept : Swept (is_needed past ring.items) now after
-    swept = subst (λ (ns : Names). Swept (is_needed ns ring.items) now after) names-are freed
+    counted : (q : ℕ) → users_at after q ≡ users_in q names' + all_pins q ring.items
+    counted q = omega (arith, made q, sound.counted q, pins-push q ring.items c)
 
-    there : (q : ℕ) → is_needed past ring.items q ≡ true → is_some (slot_at now q) ≡ true
-    there q needed =
-        sym (shape-some (slot_at slots q) (slot_at now q) (restored-shape c q (slot_at slots q) (slot_at now q) (restored q needed)))
-        ∙ sound.occupied q ∙ needed-before c names ring.items q needed
-
-    stays : (q : ℕ) → is_needed past ring.items q ≡ true → slot_at after q ≡ slot_at now q
-    stays q needed = swept q ∙ ap (λ t. cond t (slot_at now q) None) needed
+    stays : (q : ℕ) → is_needed past ring.items q ≡ true → Alike (slot_at after q) (slot_at now q)
+    stays q needed =
+        freed-swept names' ring.items now after counted freed q
+        ∙ ap (λ t. cond t (option_map stand (slot_at now q)) None) (ap (λ (ns : Names). is_needed ns ring.items q) names-are ∙ needed)
 
     undo-sound : IsSound es' after ring spare'
     undo-sound = record {
       holds = record {
         few = omega (arith, popped.1, ap length names-are, length-map es' named_array);
         lie = all-both (λ e. LiesAt (slot_at now e.number) e) (λ e. is_in_use names' e.number ≡ true) (λ e. LiesAt (slot_at after e.number) e)
-            (λ e here used. subst (λ o. LiesAt o e) (sym (stays e.number (in_front (is_in_use past e.number) (list_any (needs e.number) ring.items) (ap (λ (ns : Names). is_in_use ns e.number) (sym names-are) ∙ used)))) here) es' lie (all-in_use es');
+            (λ e here used. lies-shaped (slot_at after e.number) (slot_at now e.number) e (alike-shape (slot_at after e.number) (slot_at now e.number) (stays e.number (in_front (is_in_use past e.number) (list_any (needs e.number) ring.items) (ap (λ (ns : Names). is_in_use ns e.number) (sym names-are) ∙ used)))) here) es' lie (all-in_use es');
       };
-      occupied = λ q. at q ∙ ap (λ (ns : Names). is_needed ns ring.items q) (sym names-are);
+      counted = counted;
       undoable = subst (λ (ns : Names). AreUndoable ring.items ns after) (sym names-are)
-          (undoable-still ring.items past after slots (λ q needed. ap (option_map shape) (stays q needed) ∙ sym (restored-shape c q (slot_at slots q) (slot_at now q) (restored q needed))) popped.0);
+          (undoable-still ring.items past after slots (λ q needed. alike-shape (slot_at after q) (slot_at now q) (stays q needed) ∙ sym (restored-shape c q (slot_at slots q) (slot_at now q) (restored q needed))) popped.0);
       short = omega (arith, sound.short, length-append ring.items (c ∷ []));
       room = omega (arith, sound.room, length-append ring.items (c ∷ []), room);
     }
-      where
-        at : (q : ℕ) → is_some (slot_at after q) ≡ is_needed past ring.items q
-        at q =
-            elim (is_needed past ring.items q) as (λ t. is_needed past ring.items q ≡ t → slot_at after q ≡ cond t (slot_at now q) None → is_some (slot_at after q) ≡ t) [
-              | true ↦ λ needed is. ap is_some is ∙ there q needed
-              | false ↦ λ _ is. ap is_some is
-            ] refl (swept q)
 
     undo-kept : kept_states (ring.items ++ c ∷ []) names slots ≡ kept_states ring.items names' after ++ (names', past_buffers [] names' after) ∷ []
     undo-kept =
         kept-push ring.items c names slots now restored
-        ∙ (λ i. sym (kept-free ring.items past after now stays) i ++ (past, sym (same-buffers [] [] past after now (λ q used. ap (option_map _) (stays q (in_front (is_in_use past q) (list_any (needs q) ring.items) used)))) i) ∷ [])
+        ∙ (λ i. sym (kept-free ring.items past after now stays) i ++ (past, sym (same-buffers [] [] past after now (λ q used. past-alike [] q (slot_at after q) (slot_at now q) (stays q (in_front (is_in_use past q) (list_any (needs q) ring.items) used)))) i) ∷ [])
         ∙ λ i. kept_states ring.items (sym names-are i) after ++ (sym names-are i, past_buffers [] (sym names-are i) after) ∷ []
 
     pub undoes : Undoes es slots c es' after ring spare'

@@ -1,14 +1,13 @@
 -- An unbinding is undone.
-use Rattle.std.proofs.Common.{◌≡◌, ◌+◌, ◌≤◌, ℕ, zero, suc, Bool, true, false, List, [], ◌∷◌, ◌++◌, length, map, insert, refl, sym, ap, subst, ◌∙◌, cond, not, Option, Some, None, is_some, arith, inl, inr}
-use Rattle.std.specs.List.{AllByRecursion, list_any, position_or_len}
+use Rattle.std.proofs.Common.{◌≡◌, ◌+◌, ◌≤◌, ℕ, zero, suc, Bool, true, false, List, [], ◌∷◌, ◌++◌, length, map, insert, refl, sym, ap, subst, ◌∙◌, cond, not, Option, Some, None, arith}
+use Rattle.std.specs.List.{AllByRecursion, position_or_len}
 use Rattle.std.specs.Map.{lookup, keys_of}
 use Rattle.std.specs.Option.{option_map}
 use Rattle.std.proofs.lemmas.List.{length-map}
 use Rattle.circular_buffer.specs.Buffer.{Buffer as Ring, buffer}
 use Rattle.indexmap.specs.IndexMap.{insert_entry, move_index}
 use Rattle.indexmap.proofs.MoveLemmas.{push_moved}
-use Rattle.name_store.specs.Arrays.{is_in_use}
-use Rattle.name_store.specs.Invariants.{IsSound, LiesAt, needs, is_needed}
+use Rattle.name_store.specs.Invariants.{IsSound, LiesAt, users_in}
 use Rattle.name_store.specs.Kept.{Names}
 use Rattle.name_store.specs.View.{array_at, named_array, slot_at}
 use Rattle.name_store.specs.declared.change.Change.{Change}
@@ -16,9 +15,9 @@ use Rattle.name_store.specs.declared.change.Change.TheVariants.{Unbind}
 use Rattle.name_store.specs.declared.entry.Entry.{Entry}
 use Rattle.name_store.specs.declared.entry.Key.{Key}
 use Rattle.name_store.specs.inside.Undoes.{Undoes}
-use Rattle.name_store.proofs.NameLaws.{TestsName, find-lookup, kept-insert, used-insert, in_front, in_tail}
-use Rattle.name_store.proofs.PastLaws.{needed-parts}
-use Rattle.name_store.proofs.StateLaws.{Slots, swept-all}
+use Rattle.name_store.proofs.NameLaws.{TestsName, find-lookup}
+use Rattle.name_store.proofs.Needs.{users-insert}
+use Rattle.name_store.proofs.StateLaws.{Slots, freed-none}
 use Rattle.name_store.proofs.UnbindLaws.{same-content}
 use Rattle.name_store.proofs.UndoLaws.{undoes, popped}
 
@@ -77,19 +76,7 @@ module _ (es : List (Key × Entry)) (slots : Slots) (ring : Ring Change) (spare 
     lie = subst (λ (ns : List (Key × Entry)). AllByRecursion (λ x. LiesAt (slot_at slots x.1.number) x.1) ns) (sym inserted)
         (all-between (λ x. LiesAt (slot_at slots x.number) x) es place (key, entry) (popped es slots ring unbind spare sound).2.0 sound.holds.lie)
 
-    in-use : (q : ℕ) → is_in_use (insert names place (key.bytes.items, array_at entry)) q ≡ true → is_needed names' ring.items q ≡ true
-    in-use q used = in_front (is_in_use names' q) (list_any (needs q) ring.items) (ap (λ (ns : Names). is_in_use ns q) table ∙ used)
-
-    needed : (q : ℕ) → is_some (slot_at slots q) ≡ true → is_needed names' ring.items q ≡ true
-    needed q there =
-        elim (needed-parts names ring.items unbind q (sym (sound.occupied q) ∙ there)) [
-          | inl used ↦ in-use q (kept-insert names place (key.bytes.items, array_at entry) q used)
-          | inr later ↦ elim later [
-            | inl others ↦ in_tail (is_in_use names' q) (list_any (needs q) ring.items) others
-            | inr own ↦ in-use q (used-insert names place (key.bytes.items, array_at entry) q own)
-          ]
-        ]
-
     pub undo-unbinding : Undoes es slots unbind es' slots ring spare'
     undo-unbinding =
-        undoes es slots ring unbind spare sound es' slots slots spare' table lie (λ q _. same-content unbind q (slot_at slots q) (λ bytes. refl)) (swept-all (is_needed names' ring.items) slots needed) room
+        undoes es slots ring unbind spare sound es' slots slots spare' table lie (λ q _. same-content unbind q (slot_at slots q) (λ bytes. refl)) (freed-none slots)
+        (λ q. omega (arith, users-insert q names place (key.bytes.items, array_at entry), ap (users_in q) table)) room

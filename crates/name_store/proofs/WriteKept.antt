@@ -1,6 +1,6 @@
 -- Items are written, and the old ones are kept.
-use Rattle.std.proofs.Common.{◌≡◌, ◌+◌, ◌*◌, ◌≤◌, ℕ, true, false, List, [], ◌∷◌, ◌++◌, length, map, min, refl, sym, ap, subst, ◌∙◌, cond, Option, Some, None, Ok, is_some, nat_eq, All, arith, ◌⊎◌, inl, inr}
-use Rattle.std.specs.List.{AllByRecursion, list_any}
+use Rattle.std.proofs.Common.{◌≡◌, ◌+◌, ◌*◌, ◌≤◌, ℕ, true, false, List, [], ◌∷◌, ◌++◌, length, map, min, refl, sym, ap, subst, ◌∙◌, cond, Option, Some, None, Ok, nat_eq, All, arith, ◌⊎◌, inl, inr}
+use Rattle.std.specs.List.{AllByRecursion}
 use Rattle.std.specs.Option.{option_map}
 use Rattle.std.proofs.lemmas.Bool.{eqb-true}
 use Rattle.std.proofs.lemmas.List.{length-map}
@@ -8,15 +8,14 @@ use Rattle.std.proofs.lemmas.List.Elements.{All-from_recursion, recursion_from_A
 use Rattle.std.proofs.Math.ListN.{drop_of_length-le}
 use Rattle.circular_buffer.specs.Buffer.{Buffer as Ring, buffer, keep_last}
 use Rattle.elem_descr.specs.declared.descr.Descr.{Descr}
-use Rattle.elem_descr.specs.Blocks.{items_in}
 use Rattle.elem_descr.specs.Items.{item_size}
 use Rattle.shape_strides.specs.declared.layout.Layout.{Layout}
 use Rattle.overlap_copy.specs.Assignments.{items_at, with_items}
-use Rattle.name_store.specs.States.{State, Array, Buffer}
+use Rattle.name_store.specs.States.{State, Array}
 use Rattle.name_store.specs.Arrays.{is_in_use, keeping, written, find_array, descr_of}
 use Rattle.name_store.specs.Calls.{AnswersWrite}
-use Rattle.name_store.specs.Invariants.{Holds, IsSound, LiesAt, GoBackAt, GoBack, IsUndoable, needs, is_needed}
-use Rattle.name_store.specs.Kept.{with_old, Names, past_names, past_buffers, past_buffer, past_bytes, kept_states, patch_size}
+use Rattle.name_store.specs.Invariants.{Holds, IsSound, LiesAt, GoBackAt, GoBack, IsUndoable, users_at, users_in, pins, all_pins}
+use Rattle.name_store.specs.Kept.{with_old, Names, past_names, past_buffers, kept_states, patch_size}
 use Rattle.name_store.specs.Memory.{MoveInPlace, NeedsNoMemory}
 use Rattle.name_store.specs.Targets.{target_offsets, source_items, items_of, LeadsTo, MayWrite, IsFor, IsAim}
 use Rattle.name_store.specs.View.{array_at, named_array, slot_at, present, state_of}
@@ -34,15 +33,17 @@ use Rattle.name_store.specs.inside.Homes.{IsHome, HasNew}
 use Rattle.name_store.specs.inside.Puts.{CanPut, NeedsNone, Puts, Resolves, parts_of}
 use Rattle.name_store.specs.declared.items.Items.{Items}
 use Rattle.name_store.specs.declared.items.Items.TheVariants as items
+use Rattle.name_store.specs.inside.Held.{stand}
 use Rattle.name_store.specs.inside.OldItems.{AreOld, AreOldAt, AreSame}
 use Rattle.name_store.proofs.AimLaws.{can-put, put-answers, whole-parts}
-use Rattle.name_store.proofs.KeepLaws.{keep-occupied, keep-sound, keep-state, shape-some}
-use Rattle.name_store.proofs.NameLaws.{all-both, found-used, in_front, either}
-use Rattle.name_store.proofs.PastLaws.{Restored, content, content_before, shape, SameShape, lies-shaped, needed-others, same-buffers, undoable-still}
+use Rattle.name_store.proofs.KeepLaws.{keep-sound, keep-state}
+use Rattle.name_store.proofs.NameLaws.{all-both, found-used}
+use Rattle.name_store.proofs.Needs.{is_needed}
+use Rattle.name_store.proofs.PastLaws.{Restored, alike-shape, past-alike, content_before, shape, SameShape, lies-shaped, same-buffers, undoable-still}
 use Rattle.name_store.proofs.RestoreLaws.{restores}
-use Rattle.name_store.proofs.RewriteLaws.{can-inside}
+use Rattle.name_store.proofs.RewriteLaws.{can-inside, new-users}
 use Rattle.name_store.proofs.SlotLaws.{itself}
-use Rattle.name_store.proofs.StateLaws.{Slots, Swept}
+use Rattle.name_store.proofs.StateLaws.{Slots, Freed}
 use Rattle.name_store.proofs.WriteLaws.{size-is, written-holds}
 
 -- What is asked of a state as it is, or with what is kept.
@@ -95,14 +96,7 @@ module _ (es : List (Key × Entry)) (slots : Slots) (ring : Ring Change) where
 
 -- no state that is kept is another where the same stands in each slot
 same-past : (cs : List Change) (names : Names) (slots after : Slots) → AreSame slots after → past_buffers cs names after ≡ past_buffers cs names slots
-same-past cs names slots after same = same-buffers cs cs names after slots (λ q used. one q (slot_at after q) ∙ ap (option_map (past q)) (same q) ∙ sym (one q (slot_at slots q)))
-  where
-    past : ℕ → Descr × ℕ × List ℕ → Buffer
-    past q t = record { descr = t.0; items = items_in t.0 t.1 (past_bytes cs q t.2) }
-
-    one : (q : ℕ) (o : Option Slot) → option_map (past_buffer cs q) o ≡ option_map (past q) (option_map content o)
-    one q None = refl
-    one q (Some s) = refl
+same-past cs names slots after same = same-buffers cs cs names after slots (λ q used. past-alike cs q (slot_at after q) (slot_at slots q) (same q).0)
 
 same-kept : (cs : List Change) (names : Names) (slots after : Slots) → AreSame slots after → kept_states cs names after ≡ kept_states cs names slots
 same-kept [] names slots after same = refl
@@ -117,23 +111,16 @@ same-still es slots after ring spare same sound = record {
   holds = record {
     few = sound.holds.few;
     lie = all-both (λ e. LiesAt (slot_at slots e.number) e) (λ e. LiesAt (slot_at slots e.number) e) (λ e. LiesAt (slot_at after e.number) e)
-        (λ e there _. lies-shaped (slot_at after e.number) (slot_at slots e.number) e (alike e.number) there) es sound.holds.lie sound.holds.lie;
+        (λ e there _. lies-shaped (slot_at after e.number) (slot_at slots e.number) e (shaped e.number) there) es sound.holds.lie sound.holds.lie;
   };
-  occupied = λ q. shape-some (slot_at after q) (slot_at slots q) (alike q) ∙ sound.occupied q;
-  undoable = undoable-still ring.items (map named_array es) after slots (λ q _. alike q) sound.undoable;
+  counted = λ q. (same q).1 ∙ sound.counted q;
+  undoable = undoable-still ring.items (map named_array es) after slots (λ q _. shaped q) sound.undoable;
   short = sound.short;
   room = sound.room;
 }
   where
-    front : Descr × ℕ × List ℕ → Descr × ℕ
-    front t = (t.0, t.1)
-
-    one : (o : Option Slot) → option_map shape o ≡ option_map front (option_map content o)
-    one None = refl
-    one (Some s) = refl
-
-    alike : (q : ℕ) → SameShape (slot_at after q) (slot_at slots q)
-    alike q = one (slot_at after q) ∙ ap (option_map front) (same q) ∙ sym (one (slot_at slots q))
+    shaped : (q : ℕ) → SameShape (slot_at after q) (slot_at slots q)
+    shaped q = alike-shape (slot_at after q) (slot_at slots q) (same q).0
 
 -- Items of a source were put at a target of a name's array.
 module _ (es : List (Key × Entry)) (slots : Slots) (ring : Ring Change) (spare : ℕ) (sound : IsSound es slots ring spare) (name : List ℕ) (number width : ℕ) (home : IsHome es slots name number width) (target : Target) (source : Source) (own : Items)
@@ -201,10 +188,13 @@ module _ (es : List (Key × Entry)) (slots : Slots) (ring : Ring Change) (spare 
           | inr other ↦ ap (option_map shape) other.1
         ]
 
+    wrote-users : (q : ℕ) → users_at after q ≡ users_at slots q
+    wrote-users = new-users slots number s (with_items (target_offsets target) parts s.block) after home.there new
+
     pub wrote-sound : IsSound es after ring spare
     wrote-sound = record {
       holds = holds;
-      occupied = λ q. shape-some (slot_at after q) (slot_at slots q) (wrote-shape q) ∙ sound.occupied q;
+      counted = λ q. wrote-users q ∙ sound.counted q;
       undoable = undoable-still ring.items names after slots (λ q _. wrote-shape q) sound.undoable;
       short = sound.short;
       room = sound.room;
@@ -261,11 +251,11 @@ module _ (es : List (Key × Entry)) (slots : Slots) (ring : Ring Change) (spare 
             | inl here ↦
                 ap (option_map (content_before c q)) here.1
                 ∙ (λ i. Some (new.rewritten.descr i, new.rewritten.items i, (ap (λ t. cond t (with_old os items s'.block) s'.block) (ap (λ n. nat_eq n number) here.0 ∙ itself number) ∙ bytes-back) i))
-                ∙ ap (option_map content) (sym here.2)
+                ∙ ap (option_map stand) (sym here.2)
             | inr other ↦ ap (option_map (content_before c q)) other.1 ∙ elsewhere (slot_at slots q) other.0
           ]
         where
-          elsewhere : (o : Option Slot) → nat_eq q number ≡ false → option_map (content_before c q) o ≡ option_map content o
+          elsewhere : (o : Option Slot) → nat_eq q number ≡ false → option_map (content_before c q) o ≡ option_map stand o
           elsewhere None e = refl
           elsewhere (Some x) e = ap (λ t. Some (x.descr, x.items, cond t (with_old os items x.block) x.block)) e
 
@@ -282,19 +272,13 @@ module _ (es : List (Key × Entry)) (slots : Slots) (ring : Ring Change) (spare 
         subst (GoBackAt target items) (sym (new.set number ∙ ap (λ t. cond t (Some s') (slot_at slots number)) (itself number))) goes,
       )
 
-      came : (q : ℕ) → is_some (slot_at after q) ≡ true → is_needed names (ring.items ++ c ∷ []) q ≡ true
-      came q there =
-          elim (either (is_in_use names q) (list_any (needs q) ring.items) (sym (shape-some (slot_at after q) (slot_at slots q) (wrote-shape q) ∙ sound.occupied q) ∙ there)) [
-            | inl used ↦ in_front (is_in_use names q) (list_any (needs q) (ring.items ++ c ∷ [])) used
-            | inr others ↦ needed-others names ring.items c q others
-          ]
+      -- what was written is held by a name
+      pub write-made : (q : ℕ) → users_at after q + users_in q names ≡ users_at slots q + users_in q names + pins q c
+      write-made q = omega (arith, wrote-users q)
 
-      pub write-occupied : (q : ℕ) → is_some (slot_at after q) ≡ is_needed names (ring.items ++ c ∷ []) q
-      write-occupied = keep-occupied es slots ring spare sound es after c refl holds restored own' came
-
-      module _ (ring' : Ring Change) (last : Slots) (spare' : ℕ) (ring-is : ring' ≡ buffer (keep_last ring.capacity (ring.items ++ c ∷ [])) ring.capacity) (swept : Swept (is_needed names ring'.items) after last) (room : min ring.capacity (length ring.items + 1) ≤ spare') where
+      module _ (ring' : Ring Change) (last : Slots) (spare' : ℕ) (ring-is : ring' ≡ buffer (keep_last ring.capacity (ring.items ++ c ∷ [])) ring.capacity) (freed : Freed after last) (counted : (q : ℕ) → users_at last q ≡ users_in q names + all_pins q ring'.items) (room : min ring.capacity (length ring.items + 1) ≤ spare') where
         pub write-sound : IsSound es last ring' spare'
-        write-sound = keep-sound es slots ring spare sound es after c refl holds restored own' came ring' last spare' ring-is swept room
+        write-sound = keep-sound es slots ring spare sound es after c refl holds restored own' ring' last spare' ring-is freed counted room
 
         pub write-answers : AnswersWrite (state_of es slots ring) name target source (Ok n) (state_of es last ring')
         write-answers = (
@@ -305,7 +289,7 @@ module _ (es : List (Key × Entry)) (slots : Slots) (ring : Ring Change) (spare 
               let size : length items.block ≡ length places * item_size descr =
               old.whole
               ∙ (λ i. (ap length leads.offsets_are ∙ length-map places _) i * (old.size ∙ sym (size-is es slots name number width home array leads.found)) i) in
-              keep-state es slots ring spare sound es after c refl holds restored own' came ring' last spare' ring-is swept room
+              keep-state es slots ring spare sound es after c refl holds restored own' ring' last spare' ring-is freed counted room
               ∙ λ i. record (keeping (size i) (state_of es slots ring)) {
                 buffers = (ap (λ (x : State). x.buffers) is ∙ ap (λ items. (written (present es slots) array places items).buffers) (sym (source-now es slots ring descr n source))) i;
               },

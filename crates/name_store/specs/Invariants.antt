@@ -1,6 +1,6 @@
 -- What always holds of the fields of a bench.
-use Rattle.std.specs.Prelude.{◌≡◌, ◌≤◌, ◌+◌, ◌*◌, ◌||◌, ℕ, Bool, true, false, List, [], ◌∷◌, length, map, Option, Some, None, is_some, nat_eq, All}
-use Rattle.std.specs.List.{AllByRecursion, list_any}
+use Rattle.std.specs.Prelude.{◌≡◌, ◌≤◌, ◌+◌, ◌*◌, ℕ, true, List, [], ◌∷◌, length, map, Option, Some, None, nat_eq, if◌then◌else◌, All}
+use Rattle.std.specs.List.{AllByRecursion}
 use Rattle.circular_buffer.specs.Buffer.{Buffer as Ring}
 use Rattle.elem_descr.specs.Items.{item_size}
 use Rattle.name_store.specs.Arrays.{find_array, is_in_use}
@@ -31,16 +31,40 @@ pub record Holds (names : List (Key × Entry)) (slots : List (Option Slot)) : Ty
   pub few : length names ≤ 1024
   pub lie : AllByRecursion (λ entry. LiesAt (slot_at slots entry.1.number) entry.1) names
 
--- whether it takes the buffer with a number to undo a change
-abbrev pub needs : ℕ → Change → Bool
-needs number (Bind key None) = false
-needs number (Bind key (Some entry)) = nat_eq entry.number number
-needs number (Unbind place key entry) = nat_eq entry.number number
-needs number (Write written target items) = nat_eq written number
+-- 1 where both numbers are one
+abbrev pub one_at : ℕ → ℕ → ℕ
+one_at q number = if nat_eq number q then 1 else 0
 
--- whether a name or a change needs it
-abbrev pub is_needed : Names → List Change → ℕ → Bool
-is_needed names changes number = is_in_use names number || list_any (needs number) changes
+-- how many names' arrays lie in the buffer with a number
+abbrev pub users_in : ℕ → Names → ℕ
+users_in q [] = 0
+users_in q (entry ∷ names) = one_at q entry.1.buffer + users_in q names
+
+-- the buffer that a change holds, to be undone
+abbrev pub held_number : Change → Option ℕ
+held_number (Bind key None) = None
+held_number (Bind key (Some entry)) = Some entry.number
+held_number (Unbind place key entry) = Some entry.number
+held_number (Write written target items) = None
+
+abbrev pub found_at : ℕ → Option ℕ → ℕ
+found_at q None = 0
+found_at q (Some number) = one_at q number
+
+abbrev pub pins : ℕ → Change → ℕ
+pins q change = found_at q (held_number change)
+
+abbrev pub all_pins : ℕ → List Change → ℕ
+all_pins q [] = 0
+all_pins q (change ∷ changes) = pins q change + all_pins q changes
+
+abbrev pub users_of : Option Slot → ℕ
+users_of None = 0
+users_of (Some slot) = slot.users
+
+-- how many hold the buffer with a number
+abbrev pub users_at : List (Option Slot) → ℕ → ℕ
+users_at slots q = users_of (slot_at slots q)
 
 -- old items that go back, one after another, to a target in the slot
 pub record GoBack (target : Target) (items : OldItems) (slot : Slot) : Type 0 where
@@ -66,10 +90,10 @@ AreUndoable (change ∷ changes) names slots =
     let after = past_names changes names in
     (length (names_before change after) ≤ 1024) × IsUndoable change after slots × AreUndoable changes names slots
 
--- Just those slots are occupied that a name or a change needs. There is room in the table to undo each change.
+-- Each buffer is held by just the names and changes whose arrays lie in it. There is room in the table to undo each change.
 pub record IsSound (names : List (Key × Entry)) (slots : List (Option Slot)) (ring : Ring Change) (spare : ℕ) : Type 0 where
   pub holds : Holds names slots
-  pub occupied : (number : ℕ) → is_some (slot_at slots number) ≡ is_needed (map named_array names) ring.items number
+  pub counted : (q : ℕ) → users_at slots q ≡ users_in q (map named_array names) + all_pins q ring.items
   pub undoable : AreUndoable ring.items (map named_array names) slots
   pub short : length ring.items ≤ ring.capacity
   pub room : length ring.items ≤ spare

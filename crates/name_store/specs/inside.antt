@@ -1,5 +1,6 @@
 pub mod KeptPaths
 pub mod Props
+pub mod Held
 pub mod Codes
 pub mod Lends
 pub mod Homes

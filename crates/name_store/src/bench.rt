@@ -5,17 +5,16 @@ ghost use Rattle.std.specs.Option.{option_map};
 use crate::array_ref::ArrayRef;
 use crate::bind::{bind_in, has_room};
 use crate::bound::Bound;
-use crate::change::Change;
 use crate::entry::{Entry, Key};
+use crate::history::History;
 use crate::look::look_in;
 use crate::names::Names;
 use crate::shares::shares_in;
-use crate::slot::Slot;
+use crate::slots::Slots;
 use crate::target::{Source, Target};
 use crate::unbind::unbind_in;
 use crate::undo::undo_in;
 use crate::write_kept::write_in;
-use circular_buffer::HeapCircularBuffer;
 use elem_descr::Refusal;
 use indexmap::IndexMap;
 use script_lang::Name;
@@ -28,8 +27,8 @@ use std::marker::Model;
 pub struct Bench {
     alloc: Global,
     names: IndexMap<Key, Entry>,
-    slots: Vec<Option<Slot>>,
-    changes: HeapCircularBuffer<Change>,
+    slots: Slots,
+    history: History,
 }
 
 impl Model for Bench {
@@ -44,9 +43,9 @@ impl Model for Bench {
     ghost use Rattle.name_store.specs.Invariants.{IsSound};
     ghost use Rattle.indexmap.specs.IndexMap.{spare};
 
-    ghost view = { λ f. state_of f.names.entries f.slots.items f.changes };
+    ghost view = { λ f. state_of f.names.entries f.slots.cells.items f.history };
 
-    ghost invariant = { λ f. IsSound f.names.entries f.slots.items f.changes (spare f.names) };
+    ghost invariant = { λ f. IsSound f.names.entries f.slots.cells.items f.history (spare f.names) };
 }
 
 impl Bench {
@@ -58,16 +57,18 @@ impl Bench {
     ghost use Rattle.name_store.specs.Targets.{IsAim};
     ghost use Rattle.name_store.specs.Views.{MayBind};
 
-    /// A bench on which no name is bound, and that keeps so many earlier states.
+    /// A bench on which no name is bound, and that keeps so many earlier states. One that keeps none takes
+    /// no memory.
     pub fn try_new(alloc: Global, depth: usize) -> Result<Bench, AllocError>
         requires { depth ≤ 64 }
-        ensures { IfOk result (λ bench. bench ≡ start depth) }
+        ensures empty { IfOk result (λ bench. bench ≡ start depth) }
+        ensures no_memory { depth ≡ 0 → IsOk result }
     {
         Ok(Bench {
             alloc,
             names: IndexMap::new(alloc),
-            slots: Vec::new(alloc),
-            changes: HeapCircularBuffer::with_capacity(alloc, depth)?,
+            slots: Slots::new(alloc),
+            history: History::try_new(alloc, depth)?,
         })
     }
 
@@ -77,7 +78,7 @@ impl Bench {
     {
         look_in(
             &self.names,
-            self.slots.as_slice(),
+            self.slots.cells.as_slice(),
             &Key::of(self.alloc, name),
         )
     }
@@ -88,7 +89,7 @@ impl Bench {
     {
         has_room(
             &self.names,
-            self.slots.as_slice(),
+            self.slots.cells.as_slice(),
             &Key::of(self.alloc, name),
         )
     }
@@ -103,7 +104,7 @@ impl Bench {
             alloc,
             &mut self.names,
             &mut self.slots,
-            &mut self.changes,
+            &mut self.history,
             name,
             bound,
         )
@@ -126,22 +127,22 @@ impl Bench {
             alloc,
             &mut self.names,
             &mut self.slots,
-            &mut self.changes,
+            &mut self.history,
             &key,
             target,
             source,
         )
     }
 
-    /// Unbinds a name. The names after it close up.
-    pub fn unbind(&mut self, name: &Name) -> Result<(), Refusal>
+    /// Unbinds a name. The names after it close up. Only to keep the state before does it take memory.
+    pub fn unbind(&mut self, alloc: Global, name: &Name) -> Result<(), Refusal>
         ensures { AnswersUnbind self.old name.now result self.new }
     {
         unbind_in(
             &mut self.names,
             &mut self.slots,
-            &mut self.changes,
-            Key::of(self.alloc, name),
+            &mut self.history,
+            Key::of(alloc, name),
         )
     }
 
@@ -149,7 +150,7 @@ impl Bench {
     pub fn undo(&mut self) -> Result<(), Refusal>
         ensures { AnswersUndo self.old result self.new }
     {
-        undo_in(&mut self.names, &mut self.slots, &mut self.changes)
+        undo_in(&mut self.names, &mut self.slots, &mut self.history)
     }
 
     /// The bytes of old items that are held to go back to the k-th of the states that are kept, counted
@@ -157,7 +158,7 @@ impl Bench {
     pub fn patch_bytes(&self, k: usize) -> Option<usize>
         ensures { result ≡ slice_get self.now.patches k }
     {
-        Some(self.changes.get(k)?.patch_size())
+        Some(self.history.get(k)?.patch_size())
     }
 
     /// Whether the arrays of two names share cells. A name that is not bound is refused before any
@@ -169,7 +170,7 @@ impl Bench {
         shares_in(
             alloc,
             &self.names,
-            self.slots.as_slice(),
+            self.slots.cells.as_slice(),
             &Key::of(alloc, left),
             &Key::of(alloc, right),
         )

@@ -1,10 +1,9 @@
 //! A name is bound.
-ghost use Rattle.std.specs.Prelude.{◌≡◌, ◌≤◌, ◌+◌, true, IfOk, OnErr, IfErr};
+ghost use Rattle.std.specs.Prelude.{◌≡◌, ◌≤◌, ◌<◌, ◌+◌, ℕ, true, IfOk, OnErr};
 ghost use Rattle.indexmap.specs.IndexMap.{spare};
-ghost use Rattle.elem_descr.specs.declared.refusal.Refusal.TheVariants.{OutOfMemory};
 ghost use Rattle.name_store.specs.Arrays.{has_room_for};
 ghost use Rattle.name_store.specs.Calls.{AnswersBind};
-ghost use Rattle.name_store.specs.Invariants.{Holds, IsSound};
+ghost use Rattle.name_store.specs.Invariants.{Holds, IsSound, users_at};
 ghost use Rattle.name_store.specs.View.{present, state_of};
 ghost use Rattle.name_store.specs.declared.bound.Bound.TheVariants.{Fresh, View};
 ghost use Rattle.name_store.specs.inside.Rebinds.{Rebinds};
@@ -14,17 +13,17 @@ ghost use Rattle.name_store.specs.Views.{IsViewIn, MayBind};
 use crate::bound::Bound;
 use crate::change::Change;
 use crate::entry::{Entry, Key};
+use crate::history::History;
 use crate::keep::{keep, make_room};
 use crate::path::Path;
 use crate::slot::Slot;
-use crate::slots::{free_number, put_slot, slot_of};
-use circular_buffer::HeapCircularBuffer;
+use crate::slots::{Slots, slot_of};
 use elem_descr::Refusal;
 use indexmap::IndexMap;
 use overlap_copy::Owned;
 use script_lang::Name;
 use shape_strides::Layout;
-use std::alloc::Global;
+use std::alloc::{AllocError, Global};
 
 /// The most names that are bound at one time.
 const MAX_NAMES: usize = 1024;
@@ -36,81 +35,84 @@ pub(crate) fn has_room(names: &IndexMap<Key, Entry>, slots: &[Option<Slot>], key
     names.contains_key(key) || names.len() < MAX_NAMES
 }
 
-/// Binds a name to an array with a block of its own, and answers what it was bound to. All that takes
-/// memory is done before the first change.
+/// Binds a name to an array with a block of its own, and answers what it was bound to. Only its slot takes
+/// memory, and before the first change.
 fn bind_fresh(
     names: &mut IndexMap<Key, Entry>,
-    slots: &mut Vec<Option<Slot>>,
+    slots: &mut Slots,
     key: Key,
     owned: Owned,
-) -> Result<Option<Entry>, Refusal>
-    requires holds { Holds names.old.entries slots.old.items }
-    requires room { has_room_for (present names.old.entries slots.old.items) key.bytes.items ≡ true }
-    ensures done { IfOk result (λ earlier. Rebinds names.old.entries slots.old.items key.bytes.items (Fresh owned) earlier names.new.entries slots.new.items) }
-    ensures refused { IfErr result (λ refusal. (refusal ≡ OutOfMemory) × (names.new.entries ≡ names.old.entries) × (slots.new.items ≡ slots.old.items)) }
+) -> Result<Option<Entry>, AllocError>
+    requires holds { Holds names.old.entries slots.old.cells.items }
+    requires room { has_room_for (present names.old.entries slots.old.cells.items) key.bytes.items ≡ true }
+    requires spare { 0 < spare names.old }
+    ensures done { IfOk result (λ earlier. Rebinds names.old.entries slots.old.cells.items key.bytes.items (Fresh owned) earlier names.new.entries slots.new.cells.items) }
+    ensures kept { OnErr result ((names.new.entries ≡ names.old.entries) × (slots.new.cells.items ≡ slots.old.cells.items)) }
     ensures spare { spare names.old ≤ spare names.new + 1 }
 {
-    slots.reserve(1)?;
-    let number = free_number(slots.as_slice());
     let Owned {
         block,
         descr,
         layout,
     } = owned;
+    let item = descr.size();
     let items = layout.shape.items();
+    let number = slots.add(Slot::new(descr, items, block))?;
     let entry = Entry {
         number,
         path: Path::whole(),
         layout,
-        item: descr.size(),
+        item,
         writable: true,
     };
-    let earlier = names.insert(key, entry)?;
-    put_slot(slots, number, Slot::new(descr, items, block));
-    Ok(earlier)
+    Ok(names.insert(key, entry).unwrap())
 }
 
-/// Binds a name to a view, and answers what it was bound to. Only the table of names takes memory, and
-/// before the first change.
+/// Binds a name to a view, and answers what it was bound to.
 fn bind_view(
     names: &mut IndexMap<Key, Entry>,
-    slots: &[Option<Slot>],
+    slots: &mut Slots,
     key: Key,
     number: u64,
     path: Path,
     layout: Layout,
     writable: bool,
-) -> Result<Option<Entry>, Refusal>
-    requires holds { Holds names.old.entries slots.now }
-    requires room { has_room_for (present names.old.entries slots.now) key.bytes.items ≡ true }
-    requires view { (array : Array) × IsViewIn (present names.old.entries slots.now) number path layout writable array }
-    ensures done { IfOk result (λ earlier. Rebinds names.old.entries slots.now key.bytes.items (View number path layout writable) earlier names.new.entries slots.now) }
-    ensures refused { IfErr result (λ refusal. (refusal ≡ OutOfMemory) × (names.new.entries ≡ names.old.entries)) }
+) -> Option<Entry>
+    requires holds { Holds names.old.entries slots.old.cells.items }
+    requires room { has_room_for (present names.old.entries slots.old.cells.items) key.bytes.items ≡ true }
+    requires spare { 0 < spare names.old }
+    requires view { (array : Array) × IsViewIn (present names.old.entries slots.old.cells.items) number path layout writable array }
+    requires few { users_at slots.old.cells.items number < usize.MAX }
+    ensures done { Rebinds names.old.entries slots.old.cells.items key.bytes.items (View number path layout writable) result names.new.entries slots.new.cells.items }
     ensures spare { spare names.old ≤ spare names.new + 1 }
 {
     let number = number as usize;
+    let item = slot_of(slots.cells.as_slice(), number).descr.size();
+    slots.share(number);
     let view = Entry {
         number,
         path,
         layout,
-        item: slot_of(slots, number).descr.size(),
+        item,
         writable,
     };
-    Ok(names.insert(key, view)?)
+    names.insert(key, view).unwrap()
 }
 
 /// Binds a name, and answers what it was bound to.
 fn bind_array(
     names: &mut IndexMap<Key, Entry>,
-    slots: &mut Vec<Option<Slot>>,
+    slots: &mut Slots,
     key: Key,
     bound: Bound,
-) -> Result<Option<Entry>, Refusal>
-    requires holds { Holds names.old.entries slots.old.items }
-    requires room { has_room_for (present names.old.entries slots.old.items) key.bytes.items ≡ true }
-    requires may { MayBind (present names.old.entries slots.old.items) bound }
-    ensures done { IfOk result (λ earlier. Rebinds names.old.entries slots.old.items key.bytes.items bound earlier names.new.entries slots.new.items) }
-    ensures refused { IfErr result (λ refusal. (refusal ≡ OutOfMemory) × (names.new.entries ≡ names.old.entries) × (slots.new.items ≡ slots.old.items)) }
+) -> Result<Option<Entry>, AllocError>
+    requires holds { Holds names.old.entries slots.old.cells.items }
+    requires room { has_room_for (present names.old.entries slots.old.cells.items) key.bytes.items ≡ true }
+    requires spare { 0 < spare names.old }
+    requires may { MayBind (present names.old.entries slots.old.cells.items) bound }
+    requires few { (q : ℕ) → users_at slots.old.cells.items q < usize.MAX }
+    ensures done { IfOk result (λ earlier. Rebinds names.old.entries slots.old.cells.items key.bytes.items bound earlier names.new.entries slots.new.cells.items) }
+    ensures kept { OnErr result ((names.new.entries ≡ names.old.entries) × (slots.new.cells.items ≡ slots.old.cells.items)) }
     ensures spare { spare names.old ≤ spare names.new + 1 }
 {
     match bound {
@@ -120,7 +122,7 @@ fn bind_array(
             path,
             layout,
             writable,
-        } => bind_view(names, slots.as_slice(), key, number, path, layout, writable),
+        } => Ok(bind_view(names, slots, key, number, path, layout, writable)),
     }
 }
 
@@ -128,23 +130,23 @@ fn bind_array(
 pub(crate) fn bind_in(
     alloc: Global,
     names: &mut IndexMap<Key, Entry>,
-    slots: &mut Vec<Option<Slot>>,
-    ring: &mut HeapCircularBuffer<Change>,
+    slots: &mut Slots,
+    history: &mut History,
     name: &Name,
     bound: Bound,
 ) -> Result<(), Refusal>
-    requires sound { IsSound names.old.entries slots.old.items ring.old (spare names.old) }
-    requires may { MayBind (state_of names.old.entries slots.old.items ring.old) bound }
-    ensures sound { IsSound names.new.entries slots.new.items ring.new (spare names.new) }
-    ensures answers { AnswersBind (state_of names.old.entries slots.old.items ring.old) name.now bound result
-        (state_of names.new.entries slots.new.items ring.new) }
+    requires sound { IsSound names.old.entries slots.old.cells.items history.old (spare names.old) }
+    requires may { MayBind (state_of names.old.entries slots.old.cells.items history.old) bound }
+    ensures sound { IsSound names.new.entries slots.new.cells.items history.new (spare names.new) }
+    ensures answers { AnswersBind (state_of names.old.entries slots.old.cells.items history.old) name.now bound result
+        (state_of names.new.entries slots.new.cells.items history.new) }
 {
     let key = Key::of(alloc, name);
-    if !has_room(names, slots.as_slice(), &key) {
+    if !has_room(names, slots.cells.as_slice(), &key) {
         return Err(Refusal::TooManyNames);
     }
-    make_room(names, ring, 1)?;
+    make_room(names, history, 1)?;
     let earlier = bind_array(names, slots, Key::of(alloc, name), bound)?;
-    keep(names, slots, ring, Change::Bind { key, earlier });
+    keep(slots, history, Change::Bind { key, earlier });
     Ok(())
 }

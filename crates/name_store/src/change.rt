@@ -1,12 +1,13 @@
 //! What undoes a change of the bench.
 ghost use Rattle.std.specs.Prelude.{◌≡◌};
+ghost use Rattle.name_store.specs.Invariants.{held_number};
 ghost use Rattle.name_store.specs.Kept.{patch_size};
 
 use crate::entry::{Entry, Key};
 use crate::old_items::OldItems;
 use crate::target::Target;
 
-/// A change of the bench, by what is needed to undo it.
+/// A change of the bench, by what is needed to undo it. An array that it has holds its buffer.
 #[derive(Drop)]
 pub enum Change {
     /// A name was bound: what it was bound to before, if it was.
@@ -45,6 +46,32 @@ impl Change {
                 target: _,
                 items,
             } => items.block.len(),
+        }
+    }
+
+    /// The number of the buffer that it holds, to be undone.
+    pub(crate) fn number(&self) -> Option<usize>
+        ensures { result ≡ held_number self.now }
+    {
+        match self {
+            Change::Bind {
+                key: _,
+                earlier: None,
+            } => None,
+            Change::Bind {
+                key: _,
+                earlier: Some(entry),
+            } => Some(entry.number),
+            Change::Unbind {
+                place: _,
+                key: _,
+                entry,
+            } => Some(entry.number),
+            Change::Write {
+                number: _,
+                target: _,
+                items: _,
+            } => None,
         }
     }
 }

@@ -9,6 +9,7 @@ mod bound;
 mod change;
 mod entry;
 mod exchange;
+mod history;
 mod home;
 mod items;
 mod keep;
@@ -40,4 +41,8 @@ pub use change::Change;
 #[doc(hidden)]
 pub use entry::{Entry, Key};
 #[doc(hidden)]
+pub use history::History;
+#[doc(hidden)]
 pub use slot::Slot;
+#[doc(hidden)]
+pub use slots::Slots;

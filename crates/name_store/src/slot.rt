@@ -8,13 +8,16 @@ ghost use Rattle.name_store.specs.inside.Props.{IsWhole-prop};
 use elem_descr::Descr;
 use raw_block::RawBlock;
 
-/// A buffer: so many items of one element type, one after another in a block.
+/// A buffer: so many items of one element type, one after another in a block, and how many names and
+/// changes hold it.
 #[derive(Drop)]
 pub struct Slot {
     pub descr: Descr,
     pub items: usize,
     pub block: RawBlock,
+    pub users: usize,
     ghost is_whole: { HasJustItems descr items block } by { IsWhole-prop descr items block },
+    ghost is_used: { 1 ≤ users },
 }
 
 /// The bytes of an item, with what is known of the fields.
@@ -29,13 +32,14 @@ fn legal_size(descr: &Descr) -> usize
 }
 
 impl Slot {
-    /// A buffer of so many items, which just fill the block.
+    /// A buffer of so many items, which just fill the block. One holds it.
     pub fn new(descr: Descr, items: usize, block: RawBlock) -> Slot
         requires whole { length block ≡ items * item_size descr }
         requires small { length block ≤ max_bytes }
         ensures descr { result.descr ≡ descr }
         ensures items { result.items ≡ items }
         ensures block { result.block ≡ block }
+        ensures users { result.users ≡ 1 }
     {
         // What is known of the sizes and offsets of the fields comes with this call.
         let _size = legal_size(&descr);
@@ -43,6 +47,7 @@ impl Slot {
             descr,
             items,
             block,
+            users: 1,
         }
     }
 }

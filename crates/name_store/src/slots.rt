@@ -1,71 +1,131 @@
 //! The slots, in which buffers stand by their numbers.
-ghost use Rattle.std.specs.Prelude.{◌≡◌, ◌≤◌, ◌<◌, ℕ, nat_eq, true, is_some, length, map, position, Some, None, if◌then◌else◌, vec_len, vec_capacity};
-ghost use Rattle.std.specs.Option.{is_none, option_copied_mut};
-ghost use Rattle.name_store.specs.Arrays.{is_in_use};
-ghost use Rattle.name_store.specs.View.{named_array, slot_at};
-ghost use Rattle.name_store.specs.declared.entry.Entry.{Entry};
-ghost use Rattle.name_store.specs.inside.Lends.{LendsSlot};
+ghost use Rattle.std.specs.Prelude.{◌≡◌, ◌≤◌, ◌<◌, ℕ, nat_eq, true, is_some, length, Some, None, if◌then◌else◌, vec_len, vec_capacity};
+ghost use Rattle.std.specs.Option.{option_copied_mut};
 ghost use Rattle.std.specs.Borrow.{sem};
+ghost use Rattle.name_store.specs.View.{slot_at};
+ghost use Rattle.name_store.specs.inside.Held.{IsLowest, IsLowest-prop};
+ghost use Rattle.name_store.specs.inside.Lends.{LendsSlot};
 
-use crate::entry::{Entry, Key};
 use crate::slot::Slot;
-use indexmap::IndexMap;
+use std::alloc::{AllocError, Global};
 
-fn first_free(slots: &[Option<Slot>]) -> Option<usize>
-    ensures { result ≡ position is_none slots.now }
-{
-    slots.iter().position(|slot| slot.is_none())
+/// The buffers by their numbers. No number below the lowest is free.
+#[derive(Drop)]
+pub struct Slots {
+    pub cells: Vec<Option<Slot>>,
+    pub lowest: usize,
+    ghost taken: { IsLowest cells.items lowest } by { IsLowest-prop cells.items lowest },
 }
 
-/// The least number that no buffer has.
-pub(crate) fn free_number(slots: &[Option<Slot>]) -> usize
-    ensures free { slot_at slots.now result ≡ None }
-    ensures within { result ≤ length slots.now }
-    ensures least { (lower : ℕ) → lower < result → is_some (slot_at slots.now lower) ≡ true }
+/// The first slot that is free, from one of them on, or the next one.
+fn first_free(cells: &[Option<Slot>], from: usize) -> usize
+    requires { from ≤ length cells.now }
+    ensures free { slot_at cells.now result ≡ None }
+    ensures within { result ≤ length cells.now }
+    ensures taken { (number : ℕ) → from ≤ number → number < result → is_some (slot_at cells.now number) ≡ true }
 {
-    first_free(slots).unwrap_or(slots.len())
+    for number in from..cells.len() {
+        if cells[number].is_none() {
+            return number;
+        }
+    }
+    cells.len()
 }
 
 /// The buffer with this number.
-pub(crate) fn slot_of(slots: &[Option<Slot>], number: usize) -> &Slot
-    requires within { number < length slots.now }
-    requires occupied { is_some (slot_at slots.now number) ≡ true }
-    ensures { slot_at slots.now number ≡ Some result.now }
+pub(crate) fn slot_of(cells: &[Option<Slot>], number: usize) -> &Slot
+    requires within { number < length cells.now }
+    requires occupied { is_some (slot_at cells.now number) ≡ true }
+    ensures { slot_at cells.now number ≡ Some result.now }
 {
-    slots[number].as_ref().unwrap()
+    cells[number].as_ref().unwrap()
 }
 
 /// The buffer with this number, if there is one, to write to.
-pub(crate) fn slot_mut(slots: &mut Vec<Option<Slot>>, number: usize) -> Option<&mut Slot>
-    requires { number < vec_len slots.old }
-    ensures* writes_back { sem 𝓛 (LendsSlot slots.entry number result) }
-    ensures value { option_copied_mut result ≡ slot_at slots.old.items number }
+pub(crate) fn slot_mut(cells: &mut Vec<Option<Slot>>, number: usize) -> Option<&mut Slot>
+    requires { number < vec_len cells.old }
+    ensures* writes_back { sem 𝓛 (LendsSlot cells.entry number result) }
+    ensures value { option_copied_mut result ≡ slot_at cells.old.items number }
 {
-    slots[number].as_mut()
+    cells[number].as_mut()
 }
 
 /// Puts a buffer in the slot with this number, which is one of those that are there or the next one.
-pub(crate) fn put_slot(slots: &mut Vec<Option<Slot>>, number: usize, slot: Slot)
-    requires number { number ≤ vec_len slots.old }
-    requires room { vec_len slots.old < vec_capacity slots.old }
-    ensures { (other : ℕ) → slot_at slots.new.items other
-        ≡ (if nat_eq other number then Some slot else slot_at slots.old.items other) }
+fn put_slot(cells: &mut Vec<Option<Slot>>, number: usize, slot: Slot)
+    requires number { number ≤ vec_len cells.old }
+    requires room { vec_len cells.old < vec_capacity cells.old }
+    ensures { (other : ℕ) → slot_at cells.new.items other
+        ≡ (if nat_eq other number then Some slot else slot_at cells.old.items other) }
 {
-    if number == slots.len() {
-        slots.push(Some(slot)).unwrap();
+    if number == cells.len() {
+        cells.push(Some(slot)).unwrap();
     } else {
-        slots[number] = Some(slot);
+        cells[number] = Some(slot);
     }
 }
 
-/// Whether some name's array lies in the buffer.
-pub(crate) fn is_in_use(names: &IndexMap<Key, Entry>, number: usize) -> bool
-    ensures { result ≡ is_in_use (map named_array names.now.entries) number }
-{
-    for entry in names.values() {
-        if entry.number == number {
-            return true;
+impl Slots {
+    ghost use Rattle.std.specs.Prelude.{◌≡◌, ◌≤◌, ◌<◌, ◌+◌, ℕ, [], IfOk, OnErr, None, nat_eq, nat_lt, if◌then◌else◌, vec_len};
+    ghost use Rattle.std.specs.Option.{option_map};
+    ghost use Rattle.name_store.specs.View.{slot_at};
+    ghost use Rattle.name_store.specs.Invariants.{one_at, users_at};
+    ghost use Rattle.name_store.specs.inside.Held.{Adds, stand};
+
+    /// No buffer.
+    pub(crate) fn new(alloc: Global) -> Slots
+        ensures { result.cells.items ≡ [] }
+    {
+        Slots {
+            cells: Vec::new(alloc),
+            lowest: 0,
         }
     }
-    false
+
+    /// Puts a buffer in the first slot that is free, and answers its number.
+    pub(crate) fn add(&mut self, slot: Slot) -> Result<usize, AllocError>
+        ensures adds { IfOk result (λ number. Adds self.old.cells.items slot number self.new.cells.items) }
+        ensures kept { OnErr result (self.new.cells.items ≡ self.old.cells.items) }
+    {
+        self.cells.reserve(1)?;
+        let number = first_free(self.cells.as_slice(), self.lowest);
+        put_slot(&mut self.cells, number, slot);
+        self.lowest = number + 1;
+        Ok(number)
+    }
+
+    /// One more holds the buffer with this number.
+    pub(crate) fn share(&mut self, number: usize)
+        requires there { 1 ≤ users_at self.old.cells.items number }
+        requires few { users_at self.old.cells.items number < usize.MAX }
+        ensures users { (other : ℕ) → users_at self.new.cells.items other ≡ users_at self.old.cells.items other + one_at other number }
+        ensures stays { (other : ℕ) → option_map stand (slot_at self.new.cells.items other) ≡ option_map stand (slot_at self.old.cells.items other) }
+    {
+        if let Some(slot) = slot_mut(&mut self.cells, number) {
+            slot.users += 1;
+        }
+    }
+
+    /// Empties the slot with this number.
+    fn empty(&mut self, number: usize)
+        requires { number < vec_len self.old.cells }
+        ensures { (other : ℕ) → slot_at self.new.cells.items other
+            ≡ (if nat_eq other number then None else slot_at self.old.cells.items other) }
+    {
+        self.cells[number] = None;
+        self.lowest = self.lowest.min(number);
+    }
+
+    /// One fewer holds the buffer with this number. One that nothing holds any more is freed.
+    pub(crate) fn release(&mut self, number: usize)
+        requires { 1 ≤ users_at self.old.cells.items number }
+        ensures users { (other : ℕ) → users_at self.new.cells.items other + one_at other number ≡ users_at self.old.cells.items other }
+        ensures swept { (other : ℕ) → option_map stand (slot_at self.new.cells.items other)
+            ≡ (if nat_lt 0 (users_at self.new.cells.items other) then option_map stand (slot_at self.old.cells.items other) else None) }
+    {
+        if slot_of(self.cells.as_slice(), number).users == 1 {
+            self.empty(number);
+        } else if let Some(slot) = slot_mut(&mut self.cells, number) {
+            slot.users -= 1;
+        }
+    }
 }

@@ -9,14 +9,14 @@ ghost use Rattle.name_store.specs.View.{state_of};
 
 use crate::change::Change;
 use crate::entry::{Entry, Key};
+use crate::history::History;
 use crate::home::home_of;
 use crate::items::items_of;
 use crate::keep::{keep, make_room};
-use crate::slot::Slot;
+use crate::slots::Slots;
 use crate::target::{Source, Target};
 use crate::write::write_items;
 use crate::write_over::write_over;
-use circular_buffer::HeapCircularBuffer;
 use elem_descr::Refusal;
 use indexmap::IndexMap;
 use std::alloc::Global;
@@ -26,33 +26,33 @@ use std::alloc::Global;
 pub(crate) fn write_in(
     alloc: Global,
     names: &mut IndexMap<Key, Entry>,
-    slots: &mut Vec<Option<Slot>>,
-    ring: &mut HeapCircularBuffer<Change>,
+    slots: &mut Slots,
+    history: &mut History,
     key: &Key,
     target: Target,
     source: Source<'_>,
 ) -> Result<usize, Refusal>
-    requires sound { IsSound names.old.entries slots.old.items ring.old (spare names.old) }
-    requires aim { IsAim (state_of names.old.entries slots.old.items ring.old) key.now.bytes.items target source }
-    ensures sound { IsSound names.new.entries slots.new.items ring.new (spare names.new) }
-    ensures answers { AnswersWrite (state_of names.old.entries slots.old.items ring.old) key.now.bytes.items target source.entry result
-        (state_of names.new.entries slots.new.items ring.new) }
-    ensures no_memory { NeedsNoMemory (state_of names.old.entries slots.old.items ring.old) key.now.bytes.items target source.entry → IsOk result }
+    requires sound { IsSound names.old.entries slots.old.cells.items history.old (spare names.old) }
+    requires aim { IsAim (state_of names.old.entries slots.old.cells.items history.old) key.now.bytes.items target source }
+    ensures sound { IsSound names.new.entries slots.new.cells.items history.new (spare names.new) }
+    ensures answers { AnswersWrite (state_of names.old.entries slots.old.cells.items history.old) key.now.bytes.items target source.entry result
+        (state_of names.new.entries slots.new.cells.items history.new) }
+    ensures no_memory { NeedsNoMemory (state_of names.old.entries slots.old.cells.items history.old) key.now.bytes.items target source.entry → IsOk result }
 {
-    let home = home_of(names, slots.as_slice(), key);
-    let items = items_of(alloc, names, slots.as_slice(), source);
+    let home = home_of(names, slots.cells.as_slice(), key);
+    let items = items_of(alloc, names, slots.cells.as_slice(), source);
     let count = target.count();
-    if ring.capacity() == 0 {
-        write_items(alloc, slots, home, &target, items)?;
+    if history.capacity() == 0 {
+        write_items(alloc, &mut slots.cells, home, &target, items)?;
         return Ok(count);
     }
-    make_room(names, ring, 0)?;
-    let items = write_over(alloc, slots, home, &target, items)?;
+    make_room(names, history, 0)?;
+    let items = write_over(alloc, &mut slots.cells, home, &target, items)?;
     let change = Change::Write {
         number: home.number,
         target,
         items,
     };
-    keep(names, slots, ring, change);
+    keep(slots, history, change);
     Ok(count)
 }

@@ -24,6 +24,7 @@ pub record IsRewritten (old : Slot) (bytes : List ℕ) (new : Slot) : Type 0 whe
   pub descr : new.descr ≡ old.descr
   pub items : new.items ≡ old.items
   pub block : new.block ≡ bytes
+  pub users : new.users ≡ old.users
 
 -- the slot with a number is so, and all others are as they were
 pub record HasNew (before : List (Option Slot)) (number : ℕ) (old : Slot) (bytes : List ℕ) (after : List (Option Slot)) : Type 0 where

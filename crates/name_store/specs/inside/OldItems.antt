@@ -1,15 +1,16 @@
 -- Old items, one after another.
 use Rattle.std.specs.Prelude.{◌≡◌, ◌*◌, ℕ, List, length, Option, Some}
 use Rattle.std.specs.Option.{option_map}
-use Rattle.elem_descr.specs.declared.descr.Descr.{Descr}
 use Rattle.shape_strides.specs.Layouts.{multiples}
 use Rattle.overlap_copy.specs.Assignments.{items_at}
+use Rattle.name_store.specs.Invariants.{users_at}
 use Rattle.name_store.specs.Targets.{target_offsets}
 use Rattle.name_store.specs.View.{slot_at}
 use Rattle.name_store.specs.declared.home.Home.{Home}
 use Rattle.name_store.specs.declared.old_items.OldItems.{OldItems}
 use Rattle.name_store.specs.declared.slot.Slot.{Slot}
 use Rattle.name_store.specs.declared.target.Target.{Target}
+use Rattle.name_store.specs.inside.Held.{stand}
 
 -- the items of so many bytes that a block has at the offsets, one after another
 pub record AreOld (width : ℕ) (block os : List ℕ) (o : OldItems) : Type 0 where
@@ -21,9 +22,6 @@ pub record AreOld (width : ℕ) (block os : List ℕ) (o : OldItems) : Type 0 wh
 abbrev pub AreOldAt : List (Option Slot) → Home → Target → OldItems → Type 0
 AreOldAt slots home target o = (s : Slot) → slot_at slots home.number ≡ Some s → AreOld home.width s.block (target_offsets target) o
 
-abbrev pub stand : Slot → Descr × ℕ × List ℕ
-stand s = (s.descr, s.items, s.block)
-
--- the same stands in each slot
+-- the same stands in each slot, and as many hold it
 abbrev pub AreSame : List (Option Slot) → List (Option Slot) → Type 0
-AreSame before after = (q : ℕ) → option_map stand (slot_at after q) ≡ option_map stand (slot_at before q)
+AreSame before after = (q : ℕ) → (option_map stand (slot_at after q) ≡ option_map stand (slot_at before q)) × (users_at after q ≡ users_at before q)

@@ -1,10 +1,10 @@
 -- What binding a name does to names and slots.
-use Rattle.std.specs.Prelude.{◌≡◌, ◌<◌, ◌⊎◌, ℕ, true, List, [], map, Option, Some, None, is_some, IfSome}
+use Rattle.std.specs.Prelude.{◌≡◌, ◌<◌, ◌+◌, ℕ, true, List, [], map, Option, None, is_some, IfSome}
 use Rattle.std.specs.FinMap.{insert, retain_keys}
 use Rattle.std.specs.Option.{option_map}
 use Rattle.name_store.specs.Arrays.{find_array, put_array, is_in_use}
 use Rattle.name_store.specs.Calls.{own_array, own_buffer}
-use Rattle.name_store.specs.Invariants.{Holds, LiesAt}
+use Rattle.name_store.specs.Invariants.{Holds, LiesAt, one_at, users_at}
 use Rattle.name_store.specs.Kept.{past_buffers}
 use Rattle.name_store.specs.States.{Array}
 use Rattle.name_store.specs.View.{array_at, named_array, slot_at, present}
@@ -14,6 +14,7 @@ use Rattle.name_store.specs.declared.bound.Bound.TheVariants.{Fresh, View}
 use Rattle.name_store.specs.declared.entry.Entry.{Entry}
 use Rattle.name_store.specs.declared.entry.Key.{Key}
 use Rattle.name_store.specs.declared.slot.Slot.{Slot}
+use Rattle.name_store.specs.inside.Held.{stand}
 
 -- the array of the entry that came is what was asked for
 abbrev pub IsOf : List (Key × Entry) → List (Option Slot) → Bound → Entry → List (Key × Entry) → List (Option Slot) → Type 0
@@ -24,13 +25,13 @@ IsOf names slots (View number path layout writable) v names' slots' =
     ((array : Array) → IsViewIn (present names slots) number path layout writable array → array_at v ≡ array)
     × (past_buffers [] (map named_array names') slots' ≡ retain_keys (present names slots).buffers (is_in_use (map named_array names')))
 
--- The name is bound to an entry. What it was bound to before still has its slot.
+-- The name is bound to an entry, and one more holds its buffer. What it was bound to before still has its slot.
 pub record Rebinds (names : List (Key × Entry)) (slots : List (Option Slot)) (name : List ℕ) (bound : Bound) (earlier : Option Entry) (names' : List (Key × Entry)) (slots' : List (Option Slot)) : Type 0 where
   pub entry : Entry
   pub table : map named_array names' ≡ put_array (map named_array names) name (array_at entry)
   pub was : option_map array_at earlier ≡ find_array (map named_array names) name
   pub earlier_lies : IfSome earlier (λ e. LiesAt (slot_at slots e.number) e)
   pub holds : Holds names' slots'
-  pub stays : (q : ℕ) (s : Slot) → slot_at slots q ≡ Some s → slot_at slots' q ≡ Some s
-  pub came : (q : ℕ) → is_some (slot_at slots' q) ≡ true → (q ≡ entry.number) ⊎ (is_some (slot_at slots q) ≡ true)
+  pub stays : (q : ℕ) → is_some (slot_at slots q) ≡ true → option_map stand (slot_at slots' q) ≡ option_map stand (slot_at slots q)
+  pub users : (q : ℕ) → users_at slots' q ≡ users_at slots q + one_at q entry.number
   pub is_of : IsOf names slots bound entry names' slots'

@@ -1,4 +1,4 @@
-use Rattle.std.proofs.Common.{◌≡◌, refl, sym, ap, subst, ◌∙◌, length, List, Option, arith}
+use Rattle.std.proofs.Common.{refl, sym, ap, subst, ◌∙◌, length, List, Option, arith}
 use Rattle.std.specs.Option.{option_copied_mut}
 use Rattle.overlap_copy.specs.Assignments.{with_items}
 use Rattle.name_store.specs.Targets.{target_offsets}
@@ -23,7 +23,7 @@ returns-clause-written c s is =
     elim c.match-slot_mut.branch [
       | in-Some w ↦
           let was = sym c.slot_mut.ensures.value ∙ ap option_copied_mut w.in-Some.is in
-          rw w.slots-is (lent-new slots home.number w.in-Some.slot.now _ s (λ (x : Slot). with_items os (parts_of slots home.width (length os) c.args.items) x.block) (can-within slots home c.args.target.now c.args.items c.requires.can) was refl refl
+          rw w.slots-is (lent-new slots home.number w.in-Some.slot.now _ s (λ (x : Slot). with_items os (parts_of slots home.width (length os) c.args.items) x.block) (can-within slots home c.args.target.now c.args.items c.requires.can) was refl refl refl
           (w.swap.ensures.x_after ∙ replaced slots home c.args.target.now c.args.items c.requires.can w.in-Some.slot.now was (c.requires.all w.in-Some.slot.now was) c.in_ok-block.block packed) is)
       | in_default w ↦
           let was = sym c.slot_mut.ensures.value ∙ ap option_copied_mut w.in_default.is in

@@ -13,9 +13,9 @@ where_none f same (Some r) slot e = same r slot None
 
 pub returns : goal.returns
 returns c = (
-  where_none (λ r slot. read_of (ghost_name_of r) (λ (w : Slot). with_item c.args.slots.now c.args.number (Some w)) (with_item c.args.slots.now c.args.number slot)) (λ _ _ _. refl) c.as_mut.result _ c.as_mut.ensures.value,
+  where_none (λ r slot. read_of (ghost_name_of r) (λ (w : Slot). with_item c.args.cells.now c.args.number (Some w)) (with_item c.args.cells.now c.args.number slot)) (λ _ _ _. refl) c.as_mut.result _ c.as_mut.ensures.value,
   record {
     writes_back = tt;
-    value = c.as_mut.ensures.value ∙ c.index_mut.ensures.value ∙ slot_at-get_or c.args.slots.now.items c.args.number _ (omega (arith, c.args.slots.now.ok.0, c.requires));
+    value = c.as_mut.ensures.value ∙ c.index_mut.ensures.value ∙ slot_at-get_or c.args.cells.now.items c.args.number _ (omega (arith, c.args.cells.now.ok.0, c.requires));
   },
 )

@@ -44,7 +44,7 @@ returns-in-Some c s is =
     let there = sym (set-other c.args.slots.now.items c.args.home.number _ c.args.number (can-within c.args.slots.now.items c.args.home c.args.target.now (Buffer c.args.number c.args.from.now) c.requires.can) c.requires.apart) ∙ ap (λ slots. slot_at slots c.args.number) (sym c.as_slice.ensures.value) ∙ c.slot_of-other.ensures in
     subst (HasNew c.args.slots.now.items c.args.home.number s (with_items os parts s.block)) (sym (set-twice c.args.slots.now.items c.args.home.number _ _))
     (lent-new c.args.slots.now.items c.args.home.number c.in-Some.slot _ s (λ (x : Slot). with_items os parts x.block) (can-within c.args.slots.now.items c.args.home c.args.target.now (Buffer c.args.number c.args.from.now) c.requires.can) was
-    refl refl (c.copy_to.ensures.bytes ∙ ap (λ o. with_items os (items_at (offsets c.args.from.now) c.args.home.width (block_in o)) c.in-Some.slot.block) (sym there)) is)
+    refl refl refl (c.copy_to.ensures.bytes ∙ ap (λ o. with_items os (items_at (offsets c.args.from.now) c.args.home.width (block_in o)) c.in-Some.slot.block) (sym there)) is)
 
 pub index_mut-requires-in-Some : goal.index_mut-requires-in-Some
 index_mut-requires-in-Some c = omega (arith, c.args.slots.now.ok.0, (can-within c.args.slots.now.items c.args.home c.args.target.now (Buffer c.args.number c.args.from.now) c.requires.can))

@@ -17,4 +17,4 @@ copy_to-requires-clause-from c = owned-within c.args.owned.now c.args.home.width
 pub returns-in-Some : goal.returns-in-Some
 returns-in-Some c s =
     lent-new c.args.slots.now.items c.args.home.number c.in-Some.slot.now _ s (λ (x : Slot). assigned (target_offsets c.args.target.now) (offsets c.args.owned.now.layout) c.args.home.width c.args.owned.now.block x.block) (can-within c.args.slots.now.items c.args.home c.args.target.now (Block c.args.owned.now) c.requires)
-    (sym c.slot_mut.ensures.value ∙ ap option_copied_mut c.in-Some.is) refl refl c.copy_to.ensures.bytes
+    (sym c.slot_mut.ensures.value ∙ ap option_copied_mut c.in-Some.is) refl refl refl c.copy_to.ensures.bytes

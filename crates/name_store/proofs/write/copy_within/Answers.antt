@@ -28,11 +28,11 @@ returns-in-Some-clause-written c =
     let was = sym c.slot_mut.ensures.value ∙ ap option_copied_mut c.in-Some.is in
     ok-so c.move_to.result (λ (bytes : c.move_to.new.block ≡ with_items os (items_at (offsets c.args.from.now) c.args.home.width c.in-Some.slot.now.block) c.in-Some.slot.now.block) s.
     lent-new c.args.slots.now.items c.args.home.number c.in-Some.slot.now _ s (λ (x : Slot). with_items os parts x.block) (can-within c.args.slots.now.items c.args.home c.args.target.now (Buffer c.args.home.number c.args.from.now) c.requires) was
-    refl refl (bytes ∙ ap (λ o. with_items os (items_at (offsets c.args.from.now) c.args.home.width (block_in o)) c.in-Some.slot.now.block) (sym was))) c.move_to.ensures.bytes
+    refl refl refl (bytes ∙ ap (λ o. with_items os (items_at (offsets c.args.from.now) c.args.home.width (block_in o)) c.in-Some.slot.now.block) (sym was))) c.move_to.ensures.bytes
 
 pub returns-in-Some-clause-kept : goal.returns-in-Some-clause-kept
 returns-in-Some-clause-kept c =
     let was = sym c.slot_mut.ensures.value ∙ ap option_copied_mut c.in-Some.is in
     err-so c.move_to.result (λ (bytes : c.move_to.new.block ≡ c.in-Some.slot.now.block).
     kept-same c.args.slots.now.items c.args.home.number c.in-Some.slot.now _ was
-    (lent-new c.args.slots.now.items c.args.home.number c.in-Some.slot.now _ c.in-Some.slot.now (λ (x : Slot). x.block) (can-within c.args.slots.now.items c.args.home c.args.target.now (Buffer c.args.home.number c.args.from.now) c.requires) was refl refl bytes was)) c.move_to.ensures.kept
+    (lent-new c.args.slots.now.items c.args.home.number c.in-Some.slot.now _ c.in-Some.slot.now (λ (x : Slot). x.block) (can-within c.args.slots.now.items c.args.home c.args.target.now (Buffer c.args.home.number c.args.from.now) c.requires) was refl refl refl bytes was)) c.move_to.ensures.kept

@@ -15,4 +15,4 @@ pub returns-in-Some : goal.returns-in-Some
 returns-in-Some c s =
     let os = target_offsets c.args.target.now in
     lent-new c.args.slots.now.items c.args.home.number c.in-Some.slot.now _ s (λ (x : Slot). with_items os (replicate (length os) c.args.item.now) x.block) (can-within c.args.slots.now.items c.args.home c.args.target.now (One c.args.item) c.requires)
-    (sym c.slot_mut.ensures.value ∙ ap option_copied_mut c.in-Some.is) refl refl (c.fill.ensures.bytes ∙ put_each-items os c.args.item.now c.in-Some.slot.now.block)
+    (sym c.slot_mut.ensures.value ∙ ap option_copied_mut c.in-Some.is) refl refl refl (c.fill.ensures.bytes ∙ put_each-items os c.args.item.now c.in-Some.slot.now.block)

@@ -11,7 +11,7 @@ use Rattle.name_store.proofs.bench.Bench.try_new.Goals as goal
 nothing : past_buffers [] [] [] ≡ empty
 nothing = same_map nat_cmp_total nat_cmp-IsAntisymmetric _ _ (λ q. get-past [] [] [] q ∙ sym (get-empty nat_cmp q))
 
-pub returns : goal.returns
-returns c =
-    (λ i. state_of (c.new.ensures.empty i) (c.new-2.ensures.items i) (c.in_ok-with_capacity.ensures i))
+pub returns-clause-empty : goal.returns-clause-empty
+returns-clause-empty c =
+    (λ i. state_of (c.new.ensures.empty i) (c.new-2.ensures i) (c.in_ok-try_new.ensures.empty i))
     ∙ λ i. record (start c.args.depth) { buffers = nothing i }

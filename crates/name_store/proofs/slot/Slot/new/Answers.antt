@@ -1,3 +1,4 @@
+use Rattle.std.proofs.Common.{arith}
 use Rattle.name_store.proofs.slot.Slot.new.Goals as goal
 
 pub invariant_of-result : goal.invariant_of-result
@@ -7,4 +8,5 @@ invariant_of-result c = record {
     whole = c.requires.whole;
     small = c.requires.small;
   };
+  is_used = omega arith;
 }

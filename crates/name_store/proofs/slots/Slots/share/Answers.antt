@@ -1,0 +1,18 @@
+use Rattle.std.proofs.Common.{◌∙◌, sym, ap, refl, arith}
+use Rattle.std.specs.Option.{option_copied_mut}
+use Rattle.name_store.proofs.HeldLaws.{used-within, lent-more, lent-stays, lowest-lent}
+use Rattle.name_store.proofs.slots.Slots.share.Goals as goal
+
+pub slot_mut-requires : goal.slot_mut-requires
+slot_mut-requires c = omega (arith, c.args.self.now.cells.ok.0, used-within c.args.self.now.cells.items c.args.number c.requires.there)
+
+pub invariant_of-self : goal.invariant_of-self
+invariant_of-self c = record { taken = lowest-lent c.args.self.now.cells.items c.args.self.now.lowest c.args.number _ (used-within c.args.self.now.cells.items c.args.number c.requires.there) c.args.self.now.taken }
+
+pub returns-in-Some-clause-users : goal.returns-in-Some-clause-users
+returns-in-Some-clause-users c =
+    lent-more c.args.self.now.cells.items c.args.number c.in-Some.slot.now _ (used-within c.args.self.now.cells.items c.args.number c.requires.there) (sym c.slot_mut.ensures.value ∙ ap option_copied_mut c.in-Some.is) refl
+
+pub returns-in-Some-clause-stays : goal.returns-in-Some-clause-stays
+returns-in-Some-clause-stays c =
+    lent-stays c.args.self.now.cells.items c.args.number c.in-Some.slot.now _ (used-within c.args.self.now.cells.items c.args.number c.requires.there) (sym c.slot_mut.ensures.value ∙ ap option_copied_mut c.in-Some.is) refl

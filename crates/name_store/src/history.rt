@@ -1,0 +1,93 @@
+//! The changes that can be undone.
+ghost use Rattle.std.specs.Prelude.{◌≡◌, ◌-◌, ◌<◌, ◌≤◌, ◌^◌, ◌++◌, ◌∷◌, [], length, take, slice_get, option_copied, nat_lt, None, IfOk, IsOk, if◌then◌else◌};
+ghost use Rattle.circular_buffer.specs.Buffer.{buffer, keep_last, last_item};
+
+use crate::change::Change;
+use circular_buffer::HeapCircularBuffer;
+use std::alloc::{AllocError, Global};
+use std::marker::Model;
+
+/// The changes that can be undone, the oldest first, and at most so many. Where that is none, there is
+/// no block for them.
+#[derive(Drop)]
+pub struct History {
+    ring: Option<HeapCircularBuffer<Change>>,
+}
+
+impl Model for History {
+    ghost use Rattle.std.specs.Prelude.{unwrap_or, []};
+    ghost use Rattle.circular_buffer.specs.Buffer.{Buffer as Ring, buffer};
+    ghost use Rattle.name_store.specs.declared.change.Change.{Change};
+
+    ghost Value = { Ring Change };
+
+    ghost view = { λ h. unwrap_or h.ring (buffer [] 0) };
+}
+
+impl History {
+    /// None yet, and at most so many.
+    pub(crate) fn try_new(alloc: Global, depth: usize) -> Result<History, AllocError>
+        ensures empty { IfOk result (λ history. history ≡ buffer [] depth) }
+        ensures no_memory { depth ≡ 0 → IsOk result }
+    {
+        if depth == 0 {
+            return Ok(History { ring: None });
+        }
+        let ring = HeapCircularBuffer::with_capacity(alloc, depth)?;
+        Ok(History { ring: Some(ring) })
+    }
+
+    /// How many are kept at most.
+    pub(crate) fn capacity(&self) -> usize
+        ensures capacity { result ≡ self.now.capacity }
+        ensures within { (length self.now.items ≤ result) × (result < 2 ^ 63) }
+    {
+        match &self.ring {
+            None => 0,
+            Some(ring) => ring.capacity(),
+        }
+    }
+
+    /// How many are kept.
+    pub(crate) fn len(&self) -> usize
+        ensures len { result ≡ length self.now.items }
+        ensures within { (result ≤ self.now.capacity) × (self.now.capacity < 2 ^ 63) }
+    {
+        match &self.ring {
+            None => 0,
+            Some(ring) => ring.len(),
+        }
+    }
+
+    /// The k-th, counted from 0, the oldest first.
+    pub(crate) fn get(&self, k: usize) -> Option<&Change>
+        ensures { option_copied result ≡ slice_get self.now.items k }
+    {
+        match &self.ring {
+            None => None,
+            Some(ring) => ring.get(k),
+        }
+    }
+
+    /// Keeps one more. Where as many are kept as can be, the oldest is handed out.
+    pub(crate) fn push(&mut self, change: Change) -> Option<Change>
+        ensures items { self.new ≡ buffer (keep_last self.old.capacity (self.old.items ++ change ∷ [])) self.old.capacity }
+        ensures value { result ≡ (if nat_lt (length self.old.items) self.old.capacity then None else slice_get (self.old.items ++ change ∷ []) 0) }
+    {
+        match &mut self.ring {
+            None => Some(change),
+            Some(ring) => ring.push_back(change),
+        }
+    }
+
+    /// Hands out the last.
+    pub(crate) fn pop(&mut self) -> Option<Change>
+        ensures value { result ≡ last_item self.old.items }
+        ensures items { self.new ≡ buffer (take (length self.old.items - 1) self.old.items) self.old.capacity }
+    {
+        match &mut self.ring {
+            None => None,
+            Some(ring) => ring.pop_back(),
+        }
+    }
+}
