@@ -22,6 +22,7 @@ pub mod IntegerLaws
 pub mod BytesComparedLaws
 pub mod TextWordLaws
 pub mod EvenTextLaws
+pub mod WordOrderLaws
 pub mod TrimmedLaws
 pub mod BitLaws
 pub mod WordLaws

@@ -54,10 +54,10 @@ next-word left right at width first second eight within within' low low' is is' 
 
 -- ---- what they share decides nothing
 
-lt-self : (a : ℕ) → nat_lt a a ≡ false
+pub lt-self : (a : ℕ) → nat_lt a a ≡ false
 lt-self a = grind (arith, nat_tests)
 
-eq-self : (a : ℕ) → (a == a) ≡ true
+pub eq-self : (a : ℕ) → (a == a) ≡ true
 eq-self a = grind (arith, nat_tests)
 
 below-shared : (front xs ys : List ℕ) → text_below (front ++ xs) (front ++ ys) ≡ text_below xs ys

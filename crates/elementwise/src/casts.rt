@@ -18,7 +18,7 @@ ghost use Rattle.elementwise.specs.inside.Made.{IsMade};
 
 use crate::castable::can_cast;
 use crate::pairing::{Alike, Work};
-use crate::runs_of_leaves::cast_leaf;
+use crate::runs_of_leaves::{LeafCast, cast_leaf};
 use crate::typed::make_stretched;
 use elem_descr::{Descr, Leaf, Refusal, Scalar};
 use machine_numbers::is_text;
@@ -68,14 +68,11 @@ fn cast_all(bytes: &mut [u8], to: &Descr, from: Items<'_>)
     for k in 0..to.leaf_count() {
         let leaf = leaf_of(to, k);
         let from_leaf = source_of(from.descr, k);
-        cast_leaf(
-            &from_leaf,
-            &leaf,
-            bytes,
-            item,
-            other,
-            Runs::new(from.layout),
-        );
+        let leaves = LeafCast {
+            from: from_leaf,
+            to: leaf,
+        };
+        cast_leaf(&leaves, bytes, item, other, Runs::new(from.layout));
     }
 }
 

@@ -11,63 +11,75 @@ use crate::leaves::cast_leaves;
 use elem_descr::Leaf;
 use shape_strides::{Run, Runs};
 
+/// A leaf, and the one that it is cast to.
+#[derive(Drop)]
+pub(crate) struct LeafCast {
+    pub(crate) from: Leaf,
+    pub(crate) to: Leaf,
+}
+
 /// Casts a leaf of the items of a run of `other` to a leaf of items of `item` bytes, one after
 /// another from `at` on.
 fn cast_run_of_leaf(
-    from_leaf: &Leaf,
-    leaf: &Leaf,
+    leaves: &LeafCast,
     bytes: &mut [u8],
     at: usize,
     item: usize,
     other: &[u8],
     run: Run,
 )
-    requires can { can_cast_scalar from_leaf.now.scalar leaf.now.scalar ≡ true }
+    requires can { can_cast_scalar leaves.now.from.scalar leaves.now.to.scalar ≡ true }
     requires some { 1 ≤ run.count }
     requires item_some { 1 ≤ item }
-    requires from { EachWithin (length other.now) run.offset run.step (from_leaf.now.at + size from_leaf.now.scalar) run.count }
-    requires leaf { leaf.now.at + size leaf.now.scalar ≤ item }
+    requires from { EachWithin (length other.now) run.offset run.step (leaves.now.from.at + size leaves.now.from.scalar) run.count }
+    requires leaf { leaves.now.to.at + size leaves.now.to.scalar ≤ item }
     requires room { at + run.count * item ≤ length bytes.old }
-    ensures written { bytes.new ≡ put_all (row_offsets (at + leaf.now.at) item run.count) (map (leaf_from from_leaf.now leaf.now other.now) (run_offsets run)) bytes.old }
+    ensures written { bytes.new ≡ put_all (row_offsets (at + leaves.now.to.at) item run.count) (map (leaf_from leaves.now.from leaves.now.to other.now) (run_offsets run)) bytes.old }
     ensures len { length bytes.new ≡ length bytes.old }
 {
     let _len = bytes.len();
     let to = Run {
-        offset: at + leaf.at,
+        offset: at + leaves.to.at,
         count: run.count,
         step: item as isize,
     };
     let from = Run {
-        offset: run.offset + from_leaf.at,
+        offset: run.offset + leaves.from.at,
         count: run.count,
         step: run.step,
     };
-    cast_leaves(&from_leaf.scalar, &leaf.scalar, bytes, to, other, from);
+    cast_leaves(
+        &leaves.from.scalar,
+        &leaves.to.scalar,
+        bytes,
+        to,
+        other,
+        from,
+    );
 }
 
 /// Casts a leaf of the items of runs of `other` to a leaf of items of `item` bytes, one after
 /// another.
 pub(crate) fn cast_leaf(
-    from_leaf: &Leaf,
-    leaf: &Leaf,
+    leaves: &LeafCast,
     bytes: &mut [u8],
     item: usize,
     other: &[u8],
     runs: Runs<'_>,
 )
-    requires can { can_cast_scalar from_leaf.now.scalar leaf.now.scalar ≡ true }
+    requires can { can_cast_scalar leaves.now.from.scalar leaves.now.to.scalar ≡ true }
     requires item_some { 1 ≤ item }
     requires some { All (λ run. 1 ≤ run.count) runs }
-    requires from { All (λ run. EachWithin (length other.now) run.offset run.step (from_leaf.now.at + size from_leaf.now.scalar) run.count) runs }
-    requires leaf { leaf.now.at + size leaf.now.scalar ≤ item }
+    requires from { All (λ run. EachWithin (length other.now) run.offset run.step (leaves.now.from.at + size leaves.now.from.scalar) run.count) runs }
+    requires leaf { leaves.now.to.at + size leaves.now.to.scalar ≤ item }
     requires room { length (flat_map run_offsets runs) * item ≤ length bytes.old }
-    ensures written { bytes.new ≡ put_all (row_offsets leaf.now.at item (length (flat_map run_offsets runs.entry))) (map (leaf_from from_leaf.now leaf.now other.now) (flat_map run_offsets runs.entry)) bytes.old }
+    ensures written { bytes.new ≡ put_all (row_offsets leaves.now.to.at item (length (flat_map run_offsets runs.entry))) (map (leaf_from leaves.now.from leaves.now.to other.now) (flat_map run_offsets runs.entry)) bytes.old }
     ensures len { length bytes.new ≡ length bytes.old }
 {
     let _len = bytes.len();
     let mut at = 0;
     for run in runs {
-        cast_run_of_leaf(from_leaf, leaf, bytes, at, item, other, run);
+        cast_run_of_leaf(leaves, bytes, at, item, other, run);
         at += run.count * item;
     }
 }

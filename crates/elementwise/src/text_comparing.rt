@@ -5,7 +5,7 @@ ghost use Rattle.elem_descr.specs.Values.{text};
 ghost use Rattle.elementwise.specs.Comparisons.{compared};
 
 use crate::comparing::says;
-use crate::words::{shared_words, without_nul_words};
+use crate::words::{next_word, shared_words, without_nul_words};
 use machine_numbers::Comparison;
 
 /// A byte string without the NULs at its end.
@@ -22,6 +22,9 @@ pub(crate) fn are_compared(comparison: Comparison, left: &[u8], right: &[u8]) ->
     ensures { result ≡ compared comparison (text left.now) (text right.now) }
 {
     let shared = shared_words(left, right);
+    if let Some(below) = next_word(&left[shared..], &right[shared..]) {
+        return says(comparison, below, !below);
+    }
     let order = left[shared..].cmp(&right[shared..]);
     says(comparison, order.is_lt(), order.is_gt())
 }

@@ -1,8 +1,9 @@
 //! Byte strings eight bytes at a time.
-ghost use Rattle.std.specs.Prelude.{◌≡◌, ◌≤◌, length, take};
+ghost use Rattle.std.specs.Prelude.{◌≡◌, ◌≤◌, length, take, not, IfSome};
 ghost use Rattle.elem_descr.specs.Encoding.{without_nuls};
+ghost use Rattle.elementwise.specs.Comparisons.{text_below};
 
-use machine_numbers::{LowFirst, Ordered};
+use machine_numbers::{HighFirst, LowFirst, Ordered};
 
 /// How many bytes two byte strings have in common at the front, as far as whole words go.
 pub(crate) fn shared_words(left: &[u8], right: &[u8]) -> usize
@@ -20,6 +21,21 @@ pub(crate) fn shared_words(left: &[u8], right: &[u8]) -> usize
         }
     }
     8 * words
+}
+
+/// Whether the first of two byte strings is below the other, where a word at the front of both tells.
+pub(crate) fn next_word(left: &[u8], right: &[u8]) -> Option<bool>
+    ensures { IfSome result (λ is_below. (text_below left.now right.now ≡ is_below) × (text_below right.now left.now ≡ not is_below)) }
+{
+    if left.len() < 8 || right.len() < 8 {
+        return None;
+    }
+    let first = HighFirst::read_eight(&left[..8]);
+    let second = HighFirst::read_eight(&right[..8]);
+    if first == second {
+        return None;
+    }
+    Some(first < second)
 }
 
 /// How many bytes of a byte string there are before the words of NULs at its end.

@@ -30,8 +30,8 @@ use Rattle.name_store.proofs.BlockLaws.{item-inside}
 use Rattle.name_store.proofs.PartLaws.{part-within}
 use Rattle.name_store.proofs.RewriteLaws.{parts-whole, some-same}
 use Rattle.name_store.proofs.SourceLaws.{map-replicated, alike-items}
-use Rattle.name_store.proofs.StateLaws.{Slots}
 use Rattle.name_store.proofs.WriteLaws.{home-some, size-is, home-fits, home-reads, within, spread, written-state}
+use Rattle.name_store.proofs.PastLaws.{Slots}
 
 -- parts of items among n of them end within the bytes of all
 parts-within : (item start width n : ℕ) (places : List ℕ) → start + width ≤ item → AllByRecursion (λ place. place < n) places → AllByRecursion (λ offset. offset + width ≤ n * item) (offsets_of item start places)

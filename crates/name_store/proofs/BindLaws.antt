@@ -32,11 +32,11 @@ use Rattle.name_store.specs.inside.Rebinds.{Rebinds, IsOf}
 use Rattle.name_store.proofs.FreshLaws.{fresh-lies, fresh-array_at, fresh-buffer}
 use Rattle.name_store.proofs.HeldLaws.{one-same, one-apart}
 use Rattle.name_store.proofs.KeepLaws.{keep-sound, keep-state}
-use Rattle.name_store.proofs.NameLaws.{TestsName, find-lookup, put-insert, all-both, all-insert, all-lookup, used-back-put, without-put, put-put, either}
+use Rattle.name_store.proofs.NameLaws.{TestsName, find-lookup, put-insert, all-both, all-insert, all-lookup, used-back-put, without-put, put-put, either, nat_itself}
 use Rattle.name_store.proofs.Needs.{needs, is_needed, occupied, number_of, users-put}
-use Rattle.name_store.proofs.PastLaws.{Alike, alike-shape, past-alike, lies-shaped, Restored, same-buffers, kept-none, kept-some}
-use Rattle.name_store.proofs.SlotLaws.{itself, tests_agree, get-past, get-buffers}
-use Rattle.name_store.proofs.StateLaws.{Slots, Freed, few-bound, lies-there}
+use Rattle.name_store.proofs.PastLaws.{Alike, alike-shape, past-alike, lies-shaped, Restored, same-buffers, kept-none, kept-some, Slots}
+use Rattle.name_store.proofs.SlotLaws.{tests_agree, get-past, get-buffers}
+use Rattle.name_store.proofs.StateLaws.{Freed, few-bound, lies-there}
 use Rattle.name_store.proofs.UnbindLaws.{same-content, fewer-buffers}
 use Rattle.name_store.proofs.ViewLaws.{view-used, view-array, view-lies}
 
@@ -55,7 +55,7 @@ ready-fresh slots before v slot one adds lies = record {
 }
   where
     here : slot_at before v.number ≡ Some slot
-    here = adds.put v.number ∙ ap (λ t. cond t (Some slot) (slot_at slots v.number)) (itself v.number)
+    here = adds.put v.number ∙ ap (λ t. cond t (Some slot) (slot_at slots v.number)) (nat_itself v.number)
 
     kept : (q : ℕ) → is_some (slot_at slots q) ≡ true → Alike (slot_at before q) (slot_at slots q)
     kept q there =
@@ -155,7 +155,7 @@ module _ (es : List (Key × Entry)) (slots now : Slots) (v : Entry) (slot : Slot
           elsewhere true e other =
               let used : is_in_use (map named_array es) q ≡ true = elim (used-back-put (map named_array es) name (array_at v) q (ap (λ (ns : Names). is_in_use ns q) (sym table) ∙ e)) [
                 | inl before ↦ before
-                | inr its ↦ let no : true ≡ false = sym (ap (λ n. nat_eq n v.number) (sym (eqb-true v.number q its)) ∙ itself v.number) ∙ other in cc
+                | inr its ↦ let no : true ≡ false = sym (ap (λ n. nat_eq n v.number) (sym (eqb-true v.number q its)) ∙ nat_itself v.number) ∙ other in cc
               ] in
               ap (λ t. cond (is_in_use names' q) (cond t (option_map (past_buffer [] q) (slot_at slots q)) None) None) (sym used)
 

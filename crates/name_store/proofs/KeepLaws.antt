@@ -15,9 +15,9 @@ use Rattle.name_store.specs.declared.entry.Key.{Key}
 use Rattle.name_store.specs.inside.Held.{stand}
 use Rattle.name_store.proofs.NameLaws.{all-both, all-in_use, in_front}
 use Rattle.name_store.proofs.Needs.{needs, is_needed}
-use Rattle.name_store.proofs.PastLaws.{Alike, alike-shape, past-alike, lies-shaped, Restored, restored-shape, same-buffers, kept-push, kept-free, kept-drop, kept-length, undoable-push, undoable-drop, undoable-still}
+use Rattle.name_store.proofs.PastLaws.{Alike, alike-shape, past-alike, lies-shaped, Restored, restored-shape, same-buffers, kept-push, kept-free, kept-drop, kept-length, undoable-push, undoable-drop, undoable-still, Slots}
 use Rattle.name_store.proofs.HeldLaws.{one-itself}
-use Rattle.name_store.proofs.StateLaws.{Slots, Freed, freed-swept}
+use Rattle.name_store.proofs.StateLaws.{Freed, freed-swept}
 
 -- What goes when a change is kept is the first, or nothing goes.
 

@@ -32,7 +32,7 @@ bytes_eq-sym xs ys =
     other true is differs = let wrong : true ≡ false = sym (itself xs ys (sym (same ys xs is))) ∙ differs in cc
     other false is differs = sym is
 
-nat_itself : (n : ℕ) → nat_eq n n ≡ true
+pub nat_itself : (n : ℕ) → nat_eq n n ≡ true
 nat_itself n = (nat_eq_equiv).refl n
 
 pub in_front : (a b : Bool) → a ≡ true → (a || b) ≡ true

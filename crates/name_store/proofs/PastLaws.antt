@@ -1,8 +1,8 @@
 -- The states that are kept, once a change is kept, undone or forgotten.
-use Rattle.std.proofs.Common.{◌≡◌, ◌+◌, ◌*◌, ◌≤◌, ℕ, zero, suc, Bool, true, false, List, [], ◌∷◌, ◌++◌, length, drop, refl, sym, ap, subst, ◌∙◌, cond, ◌||◌, Option, Some, None, nat_eq, All, ◌⊎◌, inl, inr}
+use Rattle.std.proofs.Common.{◌≡◌, ◌+◌, ◌*◌, ◌≤◌, ℕ, zero, suc, Bool, true, false, List, [], ◌∷◌, ◌++◌, length, drop, refl, sym, ap, subst, ◌∙◌, cond, ◌||◌, Option, Some, None, All, ◌⊎◌, inl, inr}
 use Rattle.std.specs.List.{AllByRecursion, list_any}
 use Rattle.std.specs.Option.{option_map}
-use Rattle.std.specs.Cmp.{nat_cmp_total, nat_eq_equiv}
+use Rattle.std.specs.Cmp.{nat_cmp_total}
 use Rattle.std.specs.FinMap.{get, same_map, nat_cmp-IsAntisymmetric}
 use Rattle.std.proofs.lemmas.Bool.{eqb-true}
 use Rattle.elem_descr.specs.declared.descr.Descr.{Descr}
@@ -22,7 +22,7 @@ use Rattle.name_store.specs.declared.slot.Slot.{Slot}
 use Rattle.name_store.specs.declared.target.Target.{Target}
 use Rattle.name_store.specs.inside.Held.{stand}
 use Rattle.name_store.proofs.LaidLaws.{laid-same}
-use Rattle.name_store.proofs.NameLaws.{in_front, in_tail, either, used-back-put, used-back-without, used-back-insert, used-put, used-insert}
+use Rattle.name_store.proofs.NameLaws.{in_front, in_tail, either, used-back-put, used-back-without, used-back-insert, used-put, used-insert, nat_itself}
 use Rattle.name_store.proofs.Needs.{needs, is_needed}
 use Rattle.name_store.proofs.SlotLaws.{get-past}
 
@@ -199,14 +199,11 @@ goes-shaped target items (Some s') (Some s) same goes =
       whole = goes.whole;
     }
 
-itself : (n : ℕ) → nat_eq n n ≡ true
-itself n = (nat_eq_equiv).refl n
-
 still-one : (c : Change) (names : Names) (slots before : Slots) → ((q : ℕ) → needs q c ≡ true → SameShape (slot_at slots q) (slot_at before q)) → ((q : ℕ) → is_in_use names q ≡ true → SameShape (slot_at slots q) (slot_at before q)) →
     IsUndoable c names before → IsUndoable c names slots
 still-one (Bind key None) names slots before same used can = tt
-still-one (Bind key (Some e)) names slots before same used can = lies-shaped (slot_at slots e.number) (slot_at before e.number) e (same e.number (itself e.number)) can
-still-one (Unbind place key e) names slots before same used can = (lies-shaped (slot_at slots e.number) (slot_at before e.number) e (same e.number (itself e.number)) can.0, can.1, can.2)
+still-one (Bind key (Some e)) names slots before same used can = lies-shaped (slot_at slots e.number) (slot_at before e.number) e (same e.number (nat_itself e.number)) can
+still-one (Unbind place key e) names slots before same used can = (lies-shaped (slot_at slots e.number) (slot_at before e.number) e (same e.number (nat_itself e.number)) can.0, can.1, can.2)
 still-one (Write number target items) names slots before same used can = (can.0, goes-shaped target items (slot_at slots number) (slot_at before number) (used number can.0) can.1)
 
 pub undoable-still : (cs : List Change) (names : Names) (slots before : Slots) → ((q : ℕ) → is_needed names cs q ≡ true → SameShape (slot_at slots q) (slot_at before q)) → AreUndoable cs names before → AreUndoable cs names slots

@@ -24,11 +24,11 @@ use Rattle.name_store.specs.declared.entry.Entry.{Entry}
 use Rattle.name_store.specs.declared.entry.Key.{Key}
 use Rattle.name_store.specs.declared.slot.Slot.{Slot}
 use Rattle.name_store.proofs.FieldSplits.{field-legal, field-before, field_leaves-before}
-use Rattle.name_store.proofs.NameLaws.{TestsName, lookup-used}
+use Rattle.name_store.proofs.NameLaws.{TestsName, lookup-used, nat_itself}
 use Rattle.name_store.proofs.PartLaws.{part-leaves, part-some, part-within, span-within}
 use Rattle.name_store.proofs.ShowLaws.{buffer-found}
-use Rattle.name_store.proofs.SlotLaws.{itself}
-use Rattle.name_store.proofs.StateLaws.{Slots, found-lies}
+use Rattle.name_store.proofs.StateLaws.{found-lies}
+use Rattle.name_store.proofs.PastLaws.{Slots}
 
 lt-same : (a b c d : ℕ) → (a < b → c < d) → (c < d → a < b) → nat_lt a b ≡ nat_lt c d
 lt-same a b c d there back =
@@ -260,7 +260,7 @@ module _ (es : List (Key × Entry)) (slots : Slots) (h : Holds es slots) (test :
       ∙ beside meet (places_of e.item (offsets e.layout)) (places_of e'.item (offsets e'.layout))
       ∙ ap (λ (b : Buffer). share_leaves b.descr e.path e'.path && have_common (places_of e.item (offsets e.layout)) (places_of e'.item (offsets e'.layout))) (sym (buffer-found es slots e slot (lookup-used test es e was) there))
       ∙ sym (ap (λ t. t && share_leaves (buffer_of (present es slots) (array_at e)).descr e.path e'.path && have_common (places_of e.item (offsets e.layout)) (places_of e'.item (offsets e'.layout)))
-      (ap (nat_eq e.number) (sym same) ∙ itself e.number))
+      (ap (nat_eq e.number) (sym same) ∙ nat_itself e.number))
     where
       there' : slot_at slots e'.number ≡ Some slot
       there' = ap (slot_at slots) (sym same) ∙ there

@@ -29,7 +29,7 @@ use Rattle.name_store.proofs.FieldSplits.{type-some}
 use Rattle.name_store.proofs.PartLaws.{part-deeper, part-some, part-within}
 use Rattle.name_store.proofs.PutLaws.{items-read}
 use Rattle.name_store.proofs.SlotLaws.{get-used}
-use Rattle.name_store.proofs.StateLaws.{Slots}
+use Rattle.name_store.proofs.PastLaws.{Slots}
 
 pub buffer-found : (es : List (Key × Entry)) (slots : Slots) (e : Entry) (s : Slot) → is_in_use (map named_array es) e.number ≡ true → slot_at slots e.number ≡ Some s → buffer_of (present es slots) (array_at e) ≡ buffer_in s
 buffer-found es slots e s used there = ap (λ o. unwrap_or o no_buffer) (get-used es slots e.number used ∙ ap (option_map buffer_in) there)

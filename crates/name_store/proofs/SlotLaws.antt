@@ -3,7 +3,7 @@ use Rattle.std.proofs.Common.{◌≡◌, ◌≢◌, ◌+◌, ◌<◌, ◌≤◌,
 use Rattle.std.specs.List.{position_or_len}
 use Rattle.std.specs.Option.{option_map, is_none}
 use Rattle.std.specs.Ordering.{nat_cmp, eq_by_cmp, is_eq}
-use Rattle.std.specs.Cmp.{nat_cmp_total, eq_by_cmp_equiv, nat_eq_equiv}
+use Rattle.std.specs.Cmp.{nat_cmp_total, eq_by_cmp_equiv}
 use Rattle.std.specs.declared.cmp.Ordering.TheVariants.{Less, Equal, Greater}
 use Rattle.std.specs.FinMap.{get, find, from_entries, get-from_entries, get-retain_keys, nat_cmp-IsAntisymmetric}
 use Rattle.std.proofs.lemmas.Bool.{eqb-true, eqb-false, ne_eqb, ltb-false}
@@ -14,13 +14,11 @@ use Rattle.name_store.specs.declared.change.Change.{Change}
 use Rattle.name_store.specs.declared.entry.Entry.{Entry}
 use Rattle.name_store.specs.declared.entry.Key.{Key}
 use Rattle.name_store.specs.declared.slot.Slot.{Slot}
-
-pub itself : (n : ℕ) → nat_eq n n ≡ true
-itself n = (nat_eq_equiv).refl n
+use Rattle.name_store.proofs.NameLaws.{nat_itself}
 
 eq-suc : (q n : ℕ) → nat_eq q n ≡ nat_eq (suc q) (suc n)
 eq-suc q n = elim (nat_eq q n) as (λ t. nat_eq q n ≡ t → t ≡ nat_eq (suc q) (suc n)) [
-  | true ↦ λ e. sym (ap (λ k. nat_eq (suc q) (suc k)) (sym (eqb-true q n e)) ∙ itself (suc q))
+  | true ↦ λ e. sym (ap (λ k. nat_eq (suc q) (suc k)) (sym (eqb-true q n e)) ∙ nat_itself (suc q))
   | false ↦ λ e. sym (ne_eqb (suc q) (suc n) (λ s. let same : q ≡ n = omega arith in eqb-false q n e same))
 ] refl
 
@@ -119,7 +117,7 @@ find-numbered cs n (None ∷ slots) zero k is = find-below cs (suc n) slots k (o
 find-numbered cs n (None ∷ slots) (suc q) k is = find-numbered cs (suc n) slots q k (omega (arith, is))
 find-numbered cs n (Some s ∷ slots) zero k is =
     let here : k ≡ n = omega (arith, is) in
-    rw (tests_agree k n, ap (λ m. nat_eq m n) here ∙ itself n) (ap (λ m. Some (past_buffer cs m s)) (sym here))
+    rw (tests_agree k n, ap (λ m. nat_eq m n) here ∙ nat_itself n) (ap (λ m. Some (past_buffer cs m s)) (sym here))
 find-numbered cs n (Some s ∷ slots) (suc q) k is =
     rw (apart k n (λ e. let no : ⊥ = omega (arith, is, e) in no)) (find-numbered cs (suc n) slots q k (omega (arith, is)))
 

@@ -16,9 +16,7 @@ use Rattle.name_store.specs.inside.Held.{stand}
 use Rattle.name_store.proofs.NameLaws.{TestsName, find-lookup, all-lookup}
 use Rattle.name_store.proofs.Needs.{is_needed, needed-count, there-used}
 use Rattle.name_store.proofs.SlotLaws.{slot_at-within}
-
-abbrev pub Slots : Type 0
-Slots = List (Option Slot)
+use Rattle.name_store.proofs.PastLaws.{Slots}
 
 -- what stood in the slots that are needed still stands there, and the others are free
 abbrev pub Swept : (ℕ → Bool) → Slots → Slots → Type 0

@@ -21,9 +21,9 @@ use Rattle.std.specs.Cmp.{nat_cmp_total}
 use Rattle.std.specs.FinMap.{retain_keys, get-retain_keys, same_map, nat_cmp-IsAntisymmetric}
 use Rattle.name_store.proofs.NameLaws.{TestsName, find-lookup, without-remove, all-lookup, all-remove, insert-removed, used-back-without}
 use Rattle.name_store.proofs.Needs.{is_needed, number_of, users-without}
-use Rattle.name_store.proofs.PastLaws.{Restored, content_before}
+use Rattle.name_store.proofs.PastLaws.{Restored, content_before, Slots}
 use Rattle.name_store.proofs.SlotLaws.{get-past, get-buffers}
-use Rattle.name_store.proofs.StateLaws.{Slots, Freed}
+use Rattle.name_store.proofs.StateLaws.{Freed}
 use Rattle.name_store.proofs.KeepLaws.{keep-sound, keep-state}
 
 some-cond : (t : Bool) (n m : ℕ) → Some n ≡ cond t (Some m) None → (t ≡ true) × (n ≡ m)

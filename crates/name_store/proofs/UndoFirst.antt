@@ -16,9 +16,10 @@ use Rattle.name_store.specs.declared.entry.Key.{Key}
 use Rattle.name_store.specs.inside.Undoes.{Undoes}
 use Rattle.name_store.proofs.NameLaws.{TestsName, find-lookup, without-remove, all-remove}
 use Rattle.name_store.proofs.Needs.{number_of, users-without}
-use Rattle.name_store.proofs.StateLaws.{Slots, Freed, freed-none}
+use Rattle.name_store.proofs.StateLaws.{Freed, freed-none}
 use Rattle.name_store.proofs.UnbindLaws.{same-content}
 use Rattle.name_store.proofs.UndoLaws.{undoes}
+use Rattle.name_store.proofs.PastLaws.{Slots}
 
 -- A name goes that was bound first.
 module _ (es : List (Key × Entry)) (slots : Slots) (ring : Ring Change) (spare : ℕ) (key : Key) (sound : IsSound es slots (buffer (ring.items ++ Bind key None ∷ []) ring.capacity) spare)

@@ -19,8 +19,8 @@ use Rattle.name_store.specs.inside.Held.{stand}
 use Rattle.name_store.specs.inside.Undoes.{Undoes}
 use Rattle.name_store.proofs.NameLaws.{all-both, all-in_use, in_front}
 use Rattle.name_store.proofs.Needs.{needs, is_needed, pins-push}
-use Rattle.name_store.proofs.PastLaws.{Alike, alike-shape, past-alike, lies-shaped, Restored, restored-shape, same-buffers, kept-push, kept-free, undoable-pop, undoable-still}
-use Rattle.name_store.proofs.StateLaws.{Slots, Freed, freed-swept}
+use Rattle.name_store.proofs.PastLaws.{Alike, alike-shape, past-alike, lies-shaped, Restored, restored-shape, same-buffers, kept-push, kept-free, undoable-pop, undoable-still, Slots}
+use Rattle.name_store.proofs.StateLaws.{Freed, freed-swept}
 
 -- the last is the last
 pub last-push : {X : Type 0} (xs : List X) (x : X) → last_item (xs ++ x ∷ []) ≡ Some x

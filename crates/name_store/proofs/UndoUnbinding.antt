@@ -17,9 +17,10 @@ use Rattle.name_store.specs.declared.entry.Key.{Key}
 use Rattle.name_store.specs.inside.Undoes.{Undoes}
 use Rattle.name_store.proofs.NameLaws.{TestsName, find-lookup}
 use Rattle.name_store.proofs.Needs.{users-insert}
-use Rattle.name_store.proofs.StateLaws.{Slots, freed-none}
+use Rattle.name_store.proofs.StateLaws.{freed-none}
 use Rattle.name_store.proofs.UnbindLaws.{same-content}
 use Rattle.name_store.proofs.UndoLaws.{undoes, popped}
+use Rattle.name_store.proofs.PastLaws.{Slots}
 
 -- An entry that comes in between.
 

@@ -19,9 +19,9 @@ use Rattle.name_store.specs.inside.Held.{stand}
 use Rattle.name_store.specs.inside.Homes.{HasNew}
 use Rattle.name_store.specs.inside.Undoes.{Undoes}
 use Rattle.name_store.proofs.NameLaws.{all-both}
-use Rattle.name_store.proofs.PastLaws.{Restored, content_before, restored-shape, lies-shaped}
+use Rattle.name_store.proofs.PastLaws.{Restored, content_before, restored-shape, lies-shaped, Slots}
 use Rattle.name_store.proofs.RewriteLaws.{new-users}
-use Rattle.name_store.proofs.StateLaws.{Slots, freed-none, occupied-within}
+use Rattle.name_store.proofs.StateLaws.{freed-none, occupied-within}
 use Rattle.name_store.proofs.UndoLaws.{undoes, popped}
 
 goes-there : (target : Target) (items : OldItems) (o : Option Slot) → GoBackAt target items o → is_some o ≡ true

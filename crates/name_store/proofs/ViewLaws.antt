@@ -19,7 +19,7 @@ use Rattle.name_store.specs.ArrayLaws.{places-offsets}
 use Rattle.name_store.proofs.LaidLaws.{laid-same}
 use Rattle.name_store.proofs.PartLaws.{part-some, part-within}
 use Rattle.name_store.proofs.SlotLaws.{get-buffers, get-used, slot_at-within}
-use Rattle.name_store.proofs.StateLaws.{Slots}
+use Rattle.name_store.proofs.PastLaws.{Slots}
 
 module _ (es : List (Key × Entry)) (slots : Slots) (number : ℕ) (path : List ℕ) (layout : Layout) (writable : Bool) (array : Array) (view : IsViewIn (present es slots) number path layout writable array) where
   in-use : (is_in_use (map named_array es) number ≡ true) × (is_some (slot_at slots number) ≡ true)

@@ -37,13 +37,12 @@ use Rattle.name_store.specs.inside.Held.{stand}
 use Rattle.name_store.specs.inside.OldItems.{AreOld, AreOldAt, AreSame}
 use Rattle.name_store.proofs.AimLaws.{can-put, put-answers, whole-parts}
 use Rattle.name_store.proofs.KeepLaws.{keep-sound, keep-state}
-use Rattle.name_store.proofs.NameLaws.{all-both, found-used}
+use Rattle.name_store.proofs.NameLaws.{all-both, found-used, nat_itself}
 use Rattle.name_store.proofs.Needs.{is_needed}
-use Rattle.name_store.proofs.PastLaws.{Restored, alike-shape, past-alike, content_before, shape, SameShape, lies-shaped, same-buffers, undoable-still}
+use Rattle.name_store.proofs.PastLaws.{Restored, alike-shape, past-alike, content_before, shape, SameShape, lies-shaped, same-buffers, undoable-still, Slots}
 use Rattle.name_store.proofs.RestoreLaws.{restores}
 use Rattle.name_store.proofs.RewriteLaws.{can-inside, new-users}
-use Rattle.name_store.proofs.SlotLaws.{itself}
-use Rattle.name_store.proofs.StateLaws.{Slots, Freed}
+use Rattle.name_store.proofs.StateLaws.{Freed}
 use Rattle.name_store.proofs.WriteLaws.{size-is, written-holds}
 
 -- What is asked of a state as it is, or with what is kept.
@@ -250,7 +249,7 @@ module _ (es : List (Key × Entry)) (slots : Slots) (ring : Ring Change) (spare 
           elim (at q) [
             | inl here ↦
                 ap (option_map (content_before c q)) here.1
-                ∙ (λ i. Some (new.rewritten.descr i, new.rewritten.items i, (ap (λ t. cond t (with_old os items s'.block) s'.block) (ap (λ n. nat_eq n number) here.0 ∙ itself number) ∙ bytes-back) i))
+                ∙ (λ i. Some (new.rewritten.descr i, new.rewritten.items i, (ap (λ t. cond t (with_old os items s'.block) s'.block) (ap (λ n. nat_eq n number) here.0 ∙ nat_itself number) ∙ bytes-back) i))
                 ∙ ap (option_map stand) (sym here.2)
             | inr other ↦ ap (option_map (content_before c q)) other.1 ∙ elsewhere (slot_at slots q) other.0
           ]
@@ -269,7 +268,7 @@ module _ (es : List (Key × Entry)) (slots : Slots) (ring : Ring Change) (spare 
       own' : IsUndoable c names after
       own' = (
         ap (is_in_use names) home.number_is ∙ found-used names name (array_at home.entry) home.found,
-        subst (GoBackAt target items) (sym (new.set number ∙ ap (λ t. cond t (Some s') (slot_at slots number)) (itself number))) goes,
+        subst (GoBackAt target items) (sym (new.set number ∙ ap (λ t. cond t (Some s') (slot_at slots number)) (nat_itself number))) goes,
       )
 
       -- what was written is held by a name

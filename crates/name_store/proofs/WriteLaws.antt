@@ -32,8 +32,9 @@ use Rattle.name_store.proofs.PutLaws.{items-read, with_items-items}
 pub use Rattle.name_store.proofs.RewriteLaws.{some-same}
 use Rattle.name_store.proofs.NameLaws.{TestsName, all-both, found-used}
 use Rattle.name_store.proofs.SlotLaws.{get-buffers, tests_agree}
-use Rattle.name_store.proofs.StateLaws.{Slots, none-found}
+use Rattle.name_store.proofs.StateLaws.{none-found}
 use Rattle.name_store.proofs.ShowLaws.{buffer-found}
+use Rattle.name_store.proofs.PastLaws.{Slots}
 
 -- what holds of all elements holds of some of them
 all-among : (P : ℕ → Type 0) (xs ys : List ℕ) → AllByRecursion P xs → All (Contains xs) ys → AllByRecursion P ys

@@ -1,5 +1,5 @@
 -- Laws of rows that are the rows of grids.
-use Rattle.std.proofs.Common.{◌≡◌, ℕ, suc, ◌+◌, ◌*◌, ◌<◌, ◌≤◌, List, [], ◌∷◌, ◌++◌, map, length, All, refl, sym, ap, subst, ◌∙◌, arith, zero-mul, mul_assoc, add-mul, suc-mul, append_assoc, length-append}
+use Rattle.std.proofs.Common.{◌≡◌, ℕ, ◌+◌, ◌*◌, ◌<◌, ◌≤◌, List, [], ◌∷◌, ◌++◌, map, length, All, refl, sym, ap, subst, ◌∙◌, arith, zero-mul, mul_assoc, add-mul, suc-mul, append_assoc, length-append}
 use Rattle.std.specs.List.{flat_map}
 use Rattle.std.proofs.lemmas.Grind.{flat_map-append}
 use Rattle.std.proofs.lemmas.Int.{ints}
@@ -7,7 +7,7 @@ use Rattle.std.proofs.lemmas.List.{length-map, get_or-map, map-append}
 use lib.IntN.{ℤ, pos, negsuc, nat_abs, ◌+ℤ◌, ◌*ℤ◌}
 use lib.Signed.{◌≤ℤ◌}
 use Rattle.raw_block.specs.Bytes.{position, place, item_at, joined, grid_item, grid_items, EachWithin, GridWithin}
-use Rattle.raw_block.specs.BytesLaws.{not_negative}
+use Rattle.raw_block.specs.BytesLaws.{not_negative, first_position}
 use Rattle.raw_block.specs.JoinedLaws.{joined-same}
 use Rattle.shape_strides.specs.declared.joined.StridedAxis.{StridedAxis}
 use Rattle.shape_strides.specs.declared.runs.Run.{Run}
@@ -17,11 +17,6 @@ use Rattle.overlap_copy.specs.RunLaws.{All-front, All-back, length-run_offsets, 
 use Rattle.overlap_copy.specs.inside.Packed.{joined_at}
 use Rattle.overlap_copy.specs.inside.Rows.{rows_of, grid_of}
 use Rattle.overlap_copy.proofs.PackedLaws.{all_of, length-next, joined-by, joined-offsets}
-
--- the first of items at equal steps
-first-position : (at : ℕ) (step : ℤ) → position at step 0 ≡ pos at
-first-position at (pos s) = let none : 0 * s ≡ 0 = zero-mul s in omega (arith, ints)
-first-position at (negsuc s) = let none : 0 * suc s ≡ 0 = zero-mul (suc s) in omega (arith, ints)
 
 -- the rows from some offsets on
 abbrev rows_from : StridedAxis → List ℕ → List Run
@@ -44,7 +39,7 @@ module _ (len width : ℕ) (along : StridedAxis) (starts : Run) (lies : EachWith
   -- the items of the first row
   first-row : (j : ℕ) → 0 < starts.count → j < along.len → (pos 0 ≤ℤ position starts.offset along.stride j) × ((position starts.offset along.stride j +ℤ pos width) ≤ℤ pos len)
   first-row j some lt =
-      subst (λ o. (pos 0 ≤ℤ position o along.stride j) × ((position o along.stride j +ℤ pos width) ≤ℤ pos len)) (ap nat_abs (first-position starts.offset starts.step)) ((row-within 0 some).each j lt)
+      subst (λ o. (pos 0 ≤ℤ position o along.stride j) × ((position o along.stride j +ℤ pos width) ≤ℤ pos len)) (ap nat_abs (first_position starts.offset starts.step)) ((row-within 0 some).each j lt)
 
   -- an item by its row and by its column
   same-place : (i j : ℕ) → i < starts.count → j < along.len → position (place starts.offset along.stride j) starts.step i ≡ position (start i) along.stride j

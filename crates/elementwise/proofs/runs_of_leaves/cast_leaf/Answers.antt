@@ -17,11 +17,11 @@ loop-run-preserved c =
     let inv = c.loop-run.invariant in
     let steps = c.in-Some.ensures.steps in
     record {
-      rest = written-next (leaf_from c.args.from_leaf.now c.args.leaf.now c.args.other.now) _ _ c.in-Some.run' c.loop-run.at c.args.leaf.now.at c.args.item c.loop-run.bytes _ _ steps c.cast_run_of_leaf.ensures.written inv.rest;
+      rest = written-next (leaf_from c.args.leaves.now.from c.args.leaves.now.to c.args.other.now) _ _ c.in-Some.run' c.loop-run.at c.args.leaves.now.to.at c.args.item c.loop-run.bytes _ _ steps c.cast_run_of_leaf.ensures.written inv.rest;
       len = c.cast_run_of_leaf.ensures.len ∙ inv.len;
       room = (room-next _ _ c.in-Some.run' c.loop-run.at c.args.item _ steps inv.room).1;
       some = All-rest (λ run. 1 ≤ run.count) _ _ _ steps inv.some;
-      from = All-rest (λ run. EachWithin (length c.args.other.now) run.offset run.step (c.args.from_leaf.now.at + size c.args.from_leaf.now.scalar) run.count) _ _ _ steps inv.from;
+      from = All-rest (λ run. EachWithin (length c.args.other.now) run.offset run.step (c.args.leaves.now.from.at + size c.args.leaves.now.from.scalar) run.count) _ _ _ steps inv.from;
     }
 
 pub overflow_mul-at : goal.overflow_mul-at

@@ -14,11 +14,11 @@ use Rattle.name_store.specs.inside.OldItems.{AreSame}
 use Rattle.name_store.specs.inside.Puts.{CanPut, Puts, Resolves}
 use Rattle.name_store.proofs.HeldLaws.{lowest-same}
 use Rattle.name_store.proofs.RewriteLaws.{new-users}
-use Rattle.name_store.proofs.StateLaws.{Slots}
 use Rattle.name_store.proofs.Needs.{made-held, kept-counted}
 use Rattle.name_store.proofs.UnbindLaws.{same-sound}
 use Rattle.name_store.proofs.WriteKept.{same-still, same-state, put-can, none-can, none-answers, wrote-sound, write-made, write-sound, write-answers}
 use Rattle.name_store.proofs.write_kept.write_in.Goals as goal
+use Rattle.name_store.proofs.PastLaws.{Slots}
 
 -- as many hold each buffer, whether items were put or not
 users-kept : {A E : Type 0} (r : Result A E) (slots after : Slots) (home : Home) (target : Target) (own : Items) → CanPut slots home target own → IfOk r (λ _. Puts slots home target own after) → IfErr r (λ _. AreSame slots after) → (q : ℕ) → users_at after q ≡ users_at slots q

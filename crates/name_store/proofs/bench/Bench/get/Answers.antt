@@ -4,8 +4,8 @@ use Rattle.name_store.specs.Arrays.{find_array}
 use Rattle.name_store.specs.Shown.{Finds}
 use Rattle.name_store.specs.View.{present}
 use Rattle.name_store.proofs.ShowLaws.{finds-whole}
-use Rattle.name_store.proofs.StateLaws.{Slots}
 use Rattle.name_store.proofs.bench.Bench.get.Goals as goal
+use Rattle.name_store.proofs.PastLaws.{Slots}
 
 pub returns : goal.returns
 returns c =
