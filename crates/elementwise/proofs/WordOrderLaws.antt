@@ -6,8 +6,8 @@ use Rattle.std.proofs.lemmas.List.{take-append-drop}
 use Rattle.byteorder.specs.Endian.{big_from, big_number}
 use Rattle.byteorder.specs.Numbers.{big_from-cons, big_from-lt}
 use Rattle.elementwise.specs.Comparisons.{text_below}
-use Rattle.elementwise.proofs.AlikeLaws.{AreBytes, bytes-take}
 use Rattle.elementwise.proofs.TextWordLaws.{lt-self, eq-self}
+use Rattle.elem_descr.specs.ByteLaws.{AreBytes, bytes-take}
 
 -- a first byte that is the same, and one that is less
 same-first : (a b : ℕ) (xs ys : List ℕ) → a ≡ b → text_below (a ∷ xs) (b ∷ ys) ≡ text_below xs ys

@@ -13,10 +13,12 @@ use Rattle.shape_strides.specs.declared.joined.StridedAxis.{StridedAxis}
 use Rattle.shape_strides.specs.declared.runs.Run.{Run}
 use Rattle.shape_strides.specs.Limits.{max_bytes}
 use Rattle.shape_strides.specs.Runs.{run_along, run_offsets}
-use Rattle.overlap_copy.specs.RunLaws.{All-front, All-back, length-run_offsets, place-at}
+use Rattle.shape_strides.specs.WalkLaws.{length-run_offsets, length-first}
+use Rattle.shape_strides.specs.RunPairs.{all_offsets}
+use Rattle.overlap_copy.specs.RunLaws.{All-front, All-back, place-at}
 use Rattle.overlap_copy.specs.inside.Packed.{joined_at}
 use Rattle.overlap_copy.specs.inside.Rows.{rows_of, grid_of}
-use Rattle.overlap_copy.proofs.PackedLaws.{all_of, length-next, joined-by, joined-offsets}
+use Rattle.overlap_copy.proofs.PackedLaws.{joined-by, joined-offsets}
 
 -- the rows from some offsets on
 abbrev rows_from : StridedAxis → List ℕ → List Run
@@ -59,7 +61,7 @@ module _ (len width : ℕ) (along : StridedAxis) (starts : Run) (lies : EachWith
     };
   }
 
-  pub grid-bytes : (block : List ℕ) → grid_items (grid_of along starts) width block ≡ joined_at (all_of (rows_from along (run_offsets starts))) width block
+  pub grid-bytes : (block : List ℕ) → grid_items (grid_of along starts) width block ≡ joined_at (all_offsets (rows_from along (run_offsets starts))) width block
   grid-bytes block =
       let g = grid_of along starts in
       let bytes = λ (o : ℕ). joined_at (run_offsets (run_along along o)) width block in
@@ -69,19 +71,19 @@ module _ (len width : ℕ) (along : StridedAxis) (starts : Run) (lies : EachWith
       ∙ joined-by bytes max_bytes 1 starts lies
       ∙ sym (by_rows (run_offsets starts))
     where
-      by_rows : (os : List ℕ) → joined_at (all_of (rows_from along os)) width block ≡ flat_map (λ o. joined_at (run_offsets (run_along along o)) width block) os
+      by_rows : (os : List ℕ) → joined_at (all_offsets (rows_from along os)) width block ≡ flat_map (λ o. joined_at (run_offsets (run_along along o)) width block) os
       by_rows [] = refl
       by_rows (o ∷ os) =
-          flat_map-append (λ p. item_at p width block) (run_offsets (run_along along o)) (all_of (rows_from along os)) ∙ ap (λ l. joined_at (run_offsets (run_along along o)) width block ++ l) (by_rows os)
+          flat_map-append (λ p. item_at p width block) (run_offsets (run_along along o)) (all_offsets (rows_from along os)) ∙ ap (λ l. joined_at (run_offsets (run_along along o)) width block ++ l) (by_rows os)
 
 -- ---- the rows that begin at one run of offsets, and those after them
 
 rows-next : (along : StridedAxis) (starts : Run) (left : List Run) → rows_of along (starts ∷ left) ≡ rows_from along (run_offsets starts) ++ rows_of along left
 rows-next along starts left = map-append (run_along along) (run_offsets starts) (flat_map run_offsets left)
 
-rows-length : (along : StridedAxis) (os : List ℕ) → length (all_of (rows_from along os)) ≡ length os * along.len
+rows-length : (along : StridedAxis) (os : List ℕ) → length (all_offsets (rows_from along os)) ≡ length os * along.len
 rows-length along [] = sym (zero-mul along.len)
-rows-length along (o ∷ os) = length-next (run_along along o) (rows_from along os) ∙ omega (arith, rows-length along os, suc-mul (length os) along.len)
+rows-length along (o ∷ os) = length-first (run_along along o) (rows_from along os) ∙ omega (arith, rows-length along os, suc-mul (length os) along.len)
 
 module _ (along : StridedAxis) (starts : Run) (left left' : List Run) (walked : left ≡ starts ∷ left') where
   all-next : rows_of along left ≡ rows_from along (run_offsets starts) ++ rows_of along left'
@@ -93,19 +95,19 @@ module _ (along : StridedAxis) (starts : Run) (left left' : List Run) (walked : 
   pub rows-rest : (P : Run → Type 0) → All P (rows_of along left) → All P (rows_of along left')
   rows-rest P all = All-back P (rows_from along (run_offsets starts)) (rows_of along left') (subst (All P) all-next all)
 
-  pub rows-count : (width : ℕ) → length (all_of (rows_of along left)) * width ≡ starts.count * (along.len * width) + length (all_of (rows_of along left')) * width
+  pub rows-count : (width : ℕ) → length (all_offsets (rows_of along left)) * width ≡ starts.count * (along.len * width) + length (all_offsets (rows_of along left')) * width
   rows-count width =
       let here = rows_from along (run_offsets starts) in let rest = rows_of along left' in
-      let many : length (all_of here) ≡ starts.count * along.len = rows-length along (run_offsets starts) ∙ ap (λ n. n * along.len) (length-run_offsets starts) in
-      let parts : length (all_of here ++ all_of rest) ≡ starts.count * along.len + length (all_of rest) = length-append (all_of here) (all_of rest) ∙ ap (λ n. n + length (all_of rest)) many in
-      ap (λ rs. length (all_of rs) * width) all-next ∙ ap (λ os. length os * width) (flat_map-append run_offsets here rest) ∙ ap (λ n. n * width) parts
-      ∙ add-mul (starts.count * along.len) (length (all_of rest)) width ∙ ap (λ n. n + length (all_of rest) * width) (mul_assoc starts.count along.len width)
+      let many : length (all_offsets here) ≡ starts.count * along.len = rows-length along (run_offsets starts) ∙ ap (λ n. n * along.len) (length-run_offsets starts) in
+      let parts : length (all_offsets here ++ all_offsets rest) ≡ starts.count * along.len + length (all_offsets rest) = length-append (all_offsets here) (all_offsets rest) ∙ ap (λ n. n + length (all_offsets rest)) many in
+      ap (λ rs. length (all_offsets rs) * width) all-next ∙ ap (λ os. length os * width) (flat_map-append run_offsets here rest) ∙ ap (λ n. n * width) parts
+      ∙ add-mul (starts.count * along.len) (length (all_offsets rest)) width ∙ ap (λ n. n + length (all_offsets rest) * width) (mul_assoc starts.count along.len width)
 
-  pub rows-pushed : (width : ℕ) (block pushed before : List ℕ) → pushed ≡ before ++ joined_at (all_of (rows_from along (run_offsets starts))) width block
-      → pushed ++ joined_at (all_of (rows_of along left')) width block ≡ before ++ joined_at (all_of (rows_of along left)) width block
+  pub rows-pushed : (width : ℕ) (block pushed before : List ℕ) → pushed ≡ before ++ joined_at (all_offsets (rows_from along (run_offsets starts))) width block
+      → pushed ++ joined_at (all_offsets (rows_of along left')) width block ≡ before ++ joined_at (all_offsets (rows_of along left)) width block
   rows-pushed width block pushed before is =
       let item = λ (o : ℕ). item_at o width block in
       let here = rows_from along (run_offsets starts) in let rest = rows_of along left' in
-      ap (λ l. l ++ joined_at (all_of rest) width block) is ∙ append_assoc before (joined_at (all_of here) width block) (joined_at (all_of rest) width block)
-      ∙ ap (λ l. before ++ l) (sym (flat_map-append item (all_of here) (all_of rest)) ∙ ap (flat_map item) (sym (flat_map-append run_offsets here rest)))
-      ∙ ap (λ rs. before ++ joined_at (all_of rs) width block) (sym all-next)
+      ap (λ l. l ++ joined_at (all_offsets rest) width block) is ∙ append_assoc before (joined_at (all_offsets here) width block) (joined_at (all_offsets rest) width block)
+      ∙ ap (λ l. before ++ l) (sym (flat_map-append item (all_offsets here) (all_offsets rest)) ∙ ap (flat_map item) (sym (flat_map-append run_offsets here rest)))
+      ∙ ap (λ rs. before ++ joined_at (all_offsets rs) width block) (sym all-next)

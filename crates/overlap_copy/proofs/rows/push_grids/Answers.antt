@@ -7,11 +7,11 @@ use Rattle.shape_strides.specs.Addresses.{LieWithin}
 use Rattle.shape_strides.specs.Layouts.{offsets}
 use Rattle.shape_strides.specs.Limits.{max_bytes}
 use Rattle.shape_strides.specs.Runs.{run_along, run_offsets}
+use Rattle.shape_strides.specs.RunPairs.{all_offsets}
 use Rattle.overlap_copy.specs.RunLaws.{lie-within, runs-within}
 use Rattle.overlap_copy.specs.inside.Packed.{joined_at}
 use Rattle.overlap_copy.specs.inside.Rows.{rows_of}
 use Rattle.overlap_copy.proofs.GridLaws.{grid-within, grid-bytes, rows-first, rows-rest, rows-count, rows-pushed}
-use Rattle.overlap_copy.proofs.PackedLaws.{all_of}
 use Rattle.overlap_copy.proofs.rows.push_grids.Goals as goal
 use Rattle.overlap_copy.proofs.rows.push_grids.Goals.{After-grid_of}
 
@@ -20,7 +20,7 @@ loop-run-init g c =
     let N = g.row.N in let block = c.args.block.now in let along = c.rows-starts.result.along in
     let rows = c.rows-starts.ensures in
     let same : c.into_iter-run-iterator.result ≡ c.rows-starts.result.starts = c.into_iter-run-iterator.ensures.into_iter_gives in
-    let all : all_of (rows_of along c.into_iter-run-iterator.result) ≡ offsets c.args.layout.now = ap (λ rs. all_of (rows_of along rs)) same ∙ rows.offsets in
+    let all : all_offsets (rows_of along c.into_iter-run-iterator.result) ≡ offsets c.args.layout.now = ap (λ rs. all_offsets (rows_of along rs)) same ∙ rows.offsets in
     let lies = λ (run : Run). LieWithin (run.count ∷ []) (run.step ∷ []) run.offset max_bytes 1 in
     record {
       bytes = ap (λ os. c.args.items.now.0 ++ joined_at os N block) all;
@@ -58,7 +58,7 @@ loop-run-preserved g c =
     let N = g.row.N in let block = c.args.block.now in let along = c.rows-starts.result.along in let run = c.in-Some.run' in
     let inv = c.loop-run.invariant in let steps = c.in-Some.ensures.steps in let now = (goal.at.loop-run-preserved g c).After-grid_of in
     let before = c.loop-run.items.0 in
-    let pushed : c.push_grid.new.self.0 ≡ before ++ joined_at (all_of (map (run_along along) (run_offsets run))) N block =
+    let pushed : c.push_grid.new.self.0 ≡ before ++ joined_at (all_offsets (map (run_along along) (run_offsets run))) N block =
     c.push_grid.ensures.bytes ∙ ap (λ (grid : Grid). before ++ grid_items grid N block) c.grid_of.ensures ∙ ap (λ l. before ++ l) (grid-bytes (length block) N along run (starts-within g now) (rows-within g now) block) in
     let some = rows-count along run _ _ steps N in
     let size : c.grid_of.result.rows * (c.grid_of.result.columns * N) ≡ run.count * (along.len * N) = ap (λ (grid : Grid). grid.rows * (grid.columns * N)) c.grid_of.ensures in
@@ -73,9 +73,9 @@ loop-run-preserved g c =
 pub returns-clause-bytes : goal.returns-clause-bytes
 returns-clause-bytes g c =
     let items = c.loop-run.items.0 in
-    sym (append-nil items) ∙ ap (λ rs. items ++ joined_at (all_of (rows_of c.rows-starts.result.along rs)) g.row.N c.args.block.now) (sym c.in-None.ensures.steps.0) ∙ c.loop-run.invariant.bytes
+    sym (append-nil items) ∙ ap (λ rs. items ++ joined_at (all_offsets (rows_of c.rows-starts.result.along rs)) g.row.N c.args.block.now) (sym c.in-None.ensures.steps.0) ∙ c.loop-run.invariant.bytes
 
 pub returns-clause-left : goal.returns-clause-left
 returns-clause-left g c =
-    let none = ap (λ rs. length (all_of (rows_of c.rows-starts.result.along rs)) * g.row.N) c.in-None.ensures.steps.0 in
+    let none = ap (λ rs. length (all_offsets (rows_of c.rows-starts.result.along rs)) * g.row.N) c.in-None.ensures.steps.0 in
     omega (arith, none, c.loop-run.invariant.left)

@@ -9,7 +9,7 @@ use Rattle.shape_strides.specs.Layouts.{offsets}
 use Rattle.shape_strides.specs.Limits.{max_bytes, max_items}
 use Rattle.shape_strides.specs.Runs.{run_along, run_offsets, runs}
 use Rattle.shape_strides.specs.Walks.{AreAxes}
-use Rattle.shape_strides.proofs.AddressOrderLaws.{layout_of, layout-offsets}
+use Rattle.shape_strides.proofs.AddressOrderLaws.{layout-offsets}
 use Rattle.shape_strides.proofs.FortranLaws.{count-take-le}
 use Rattle.shape_strides.proofs.LastRunLaws.{runs-last_of, outside-axes, starts-count}
 use Rattle.shape_strides.proofs.PairLaws.{runs-some_each}
@@ -17,6 +17,7 @@ use Rattle.shape_strides.proofs.RunBounds.{runs-lie}
 use Rattle.shape_strides.proofs.RunLaws.{runs-none, runs-offsets}
 use Rattle.shape_strides.proofs.layout.Layout.rows.Goals as goal
 use Rattle.shape_strides.proofs.layout.Layout.rows.Goals.{After-over, After-last_run-last, After-over-starts}
+use Rattle.shape_strides.proofs.AdvanceLaws.{layout_of}
 
 -- what holds of the runs of a layout
 lie : (l : Layout) (rs : List Run) → rs ≡ runs l → All (λ run. LieWithin (run.count ∷ []) (run.step ∷ []) run.offset max_bytes 1) rs
