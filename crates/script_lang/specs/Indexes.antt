@@ -1,5 +1,5 @@
 -- Shapes, index lists and operands.
-use Rattle.std.specs.Prelude.{ℕ, ℤ, Bool, List, codes, Option, Some, None, is_some, nat_le, count_by, if◌then◌else◌}
+use Rattle.std.specs.Prelude.{ℕ, ℤ, List, codes, Option, Some, None, is_some, nat_le, count_by, if◌then◌else◌}
 use Rattle.std.specs.Option.{option_map}
 use Rattle.shape_strides.specs.declared.index_item.IndexItem.{IndexItem}
 use Rattle.shape_strides.specs.declared.index_item.IndexItem.TheVariants.{Integer, Slice, Ellipsis, NewAxis, Array}
