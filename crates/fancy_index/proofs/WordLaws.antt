@@ -1,25 +1,31 @@
--- Integers that lie one right after another.
-use Rattle.std.proofs.Common.{◌≡◌, ℕ, zero, suc, ◌+◌, ◌-◌, ◌*◌, ◌/◌, ◌<◌, ◌≤◌, true, List, [], ◌∷◌, map, length, get_or, take, drop, All, refl, sym, ap, ◌∙◌, arith, length-take, length-drop}
-use Rattle.std.proofs.Math.Nat.{mul-suc, mul-div_cancel_left, mul-le-mul_left}
+-- Integers at equal steps.
+use Rattle.std.proofs.Common.{◌≡◌, ℕ, zero, suc, ◌+◌, ◌-◌, ◌*◌, ◌<◌, ◌≤◌, ◌≢◌, ◌≤ℤ◌, Bool, true, false, ◌&&◌, List, [], ◌∷◌, map, length, get_or, set, drop, refl, sym, ap, ◌∙◌, arith, below_more, get_or-set_other, get_or-set_same}
 use Rattle.std.specs.List.{list_all, range_with_len}
-use Rattle.std.specs.Simd.{first_chunks}
-use Rattle.std.proofs.lemmas.List.{take-take, drop-take, drop-drop, same_lists, get_or-map, length-map}
-use Rattle.std.proofs.lemmas.List.FromFn.{get_or-map-range_with_len}
+use Rattle.std.proofs.lemmas.Int.{ints}
+use Rattle.std.proofs.lemmas.List.{same_lists, get_or-map, length-map, drop_more, drop_all, get_or_default}
+use Rattle.std.proofs.lemmas.List.FromFn.{length-map-range_with_len, get_or-map-range_with_len}
 use Rattle.std.proofs.lemmas.Bool.{and_parts}
-use Rattle.std.proofs.lemmas.List.Elements.{All-cons, All-nil}
 use Rattle.std.proofs.lemmas.Simd.{map-map}
-use lib.IntN.{pos, ◌+ℤ◌, ◌*ℤ◌}
+use Rattle.std.proofs.Math.ListN.{length-set}
+use Rattle.std.proofs.Math.Nat.{mul-suc}
+use lib.IntN.{ℤ, pos, ◌+ℤ◌, ◌*ℤ◌, *ℤ-zero}
 use Rattle.elem_descr.specs.declared.descr.Descr.{Descr}
+use Rattle.elem_descr.specs.Steps.{numbers_from}
+use Rattle.elem_descr.specs.Encoding.{integer, number_in}
 use Rattle.raw_block.specs.Bytes.{item_at}
-use Rattle.raw_block.specs.BytesLaws.{length-chunks, item_of_chunks}
+use Rattle.raw_block.specs.NumberRuns.{number}
+use Rattle.shape_strides.specs.declared.runs.Run.{Run}
 use Rattle.shape_strides.specs.Addresses.{natural}
+use Rattle.shape_strides.specs.Limits.{max_bytes}
+use Rattle.shape_strides.specs.Runs.{run_offsets}
+use Rattle.overlap_copy.specs.RunLaws.{length-run_offsets}
 use Rattle.view_ops.specs.Slices.{is_place}
 use Rattle.fancy_index.specs.Sources.{number_from}
 use Rattle.fancy_index.specs.declared.words.Reading.{Reading}
-use Rattle.fancy_index.specs.inside.Words.{word, AreWords}
+use Rattle.fancy_index.specs.declared.words.Spread.{Spread}
+use Rattle.fancy_index.specs.inside.Words.{word, spread_numbers, AreWords, IsSpread, IsNative, ArePlacesTo}
 use Rattle.fancy_index.specs.inside.Packed.{packed}
 use Rattle.fancy_index.specs.inside.PointLists.{place_of}
-use Rattle.fancy_index.proofs.RunLaws.{length-packed}
 
 packed-is : (at width n : ℕ) → packed at width n ≡ map (λ k. at + width * k) (range_with_len 0 n)
 packed-is at width n =
@@ -31,57 +37,115 @@ packed-is at width n =
 pub packed-entry : (at width n k d : ℕ) → k < n → get_or (packed at width n) k d ≡ at + width * k
 packed-entry at width n k d low = ap (λ l. get_or l k d) (packed-is at width n) ∙ get_or-map-range_with_len (λ k. at + width * k) 0 n k k d (omega arith) (omega arith)
 
--- n items, the last of which ends within so many bytes
-pub packed-end : (at width n len : ℕ) (offsets : List ℕ) → 1 ≤ n → offsets ≡ packed at width n → All (λ offset. offset + width ≤ len) offsets → at + width * n ≤ len
-packed-end at width n len offsets some is within =
-    let last : n ≡ suc (n - 1) = omega (arith, some) in
-    let end : width * n ≡ width * (n - 1) + width = ap (λ m. width * m) last ∙ mul-suc width (n - 1) ∙ omega arith in
-    omega (arith, end, within (n - 1) 0 (omega (arith, some, ap length is, length-packed at width n)), ap (λ l. get_or l (n - 1) 0) is, packed-entry at width n (n - 1) 0 (omega (arith, some)))
+pub length-packed : (at width n : ℕ) → length (packed at width n) ≡ n
+length-packed at width n = ap length (packed-is at width n) ∙ length-map-range_with_len (λ k. at + width * k) 0 n
 
-chunk_at : (width at n k : ℕ) (bytes : List ℕ) → k < n → get_or (first_chunks width n (take (at + width * n - at) (drop at bytes))) k [] ≡ item_at (at + width * k) width bytes
-chunk_at width at n k bytes low =
-    let here = width * k in let left = width * n - here in let within : width * suc k ≤ width * n = mul-le-mul_left width low in
-    let next : width * suc k ≡ here + width = omega (arith, mul-suc width k) in
-    let all : at + width * n - at ≡ here + left = omega (arith, within, next) in
-    item_of_chunks width n k (take (at + width * n - at) (drop at bytes)) low
-    ∙ ap (λ j. take width (drop here (take j (drop at bytes)))) all ∙ ap (take width) (drop-take here left (drop at bytes))
-    ∙ take-take width left (drop here (drop at bytes)) (omega (arith, within, next)) ∙ ap (take width) (drop-drop here at bytes)
+-- ---- items at equal steps
 
--- an entry that is there needs no other
-get_or_within : {X : Type 0} (xs : List (List X)) (k : ℕ) (d : List X) → k < length xs → get_or xs k d ≡ get_or xs k []
-get_or_within [] k d low = absurd (omega arith)
-get_or_within (x ∷ xs) zero d low = refl
-get_or_within (x ∷ xs) (suc k) d low = get_or_within xs k d (omega arith)
+nth-offset : (run : Run) (k : ℕ) → k < run.count → get_or (run_offsets run) k 0 ≡ natural (pos run.offset +ℤ run.step *ℤ pos k)
+nth-offset run k low =
+    let at = λ (j : ℕ). pos run.offset +ℤ run.step *ℤ pos j in
+    let inside : k < length (numbers_from (pos run.offset) run.step run.count) = omega (arith, length-map-range_with_len at 0 run.count) in
+    get_or-map natural (numbers_from (pos run.offset) run.step run.count) k (pos 0) 0 inside
+    ∙ ap natural (get_or-map-range_with_len at 0 run.count k k (pos 0) low (omega arith))
 
--- the items of a stretch, one by one
-pub run-items : (width at n : ℕ) (bytes : List ℕ) → 0 < width → at + width * n ≤ length bytes → let run = take (at + width * n - at) (drop at bytes) in
-    first_chunks width (length run / width) run ≡ map (λ k. item_at k width bytes) (packed at width n)
-run-items width at n bytes some room =
-    let run = take (at + width * n - at) (drop at bytes) in
-    let item = λ (k : ℕ). item_at k width bytes in
-    let long : length run ≡ width * n = omega (arith, length-take (at + width * n - at) (drop at bytes), length-drop at bytes, room) in
-    let many : length run / width ≡ n = ap (λ m. m / width) long ∙ mul-div_cancel_left n some in
-    let count : length (map item (packed at width n)) ≡ n = length-map (packed at width n) item ∙ length-packed at width n in
-    ap (λ m. first_chunks width m run) many
-    ∙ same_lists (first_chunks width n run) (map item (packed at width n)) (length-chunks width n run ∙ sym count) (λ k d below.
-    let low : k < n = omega (arith, below, length-chunks width n run) in
-    get_or_within (first_chunks width n run) k d below
-    ∙ chunk_at width at n k bytes low
-    ∙ ap item (sym (packed-entry at width n k 0 low))
-    ∙ sym (get_or-map item (packed at width n) k 0 d (omega (arith, low, length-packed at width n))))
+module _ (width : ℕ) (items : Spread) (is : IsSpread width items) (k : ℕ) (low : k < items.run.count) where
+  pub steps-low : pos 0 ≤ℤ (pos items.run.offset +ℤ items.run.step *ℤ pos k)
+  steps-low = omega (arith, ints, is.limit.from_zero (k ∷ []) (low, tt))
 
-pub words-are : (reading : Reading) (width : ℕ) (descr : Descr) (block offsets : List ℕ) → AreWords reading width descr →
-    map (word reading width) (map (λ offset. item_at offset width block) offsets) ≡ map (number_from descr block) offsets
-words-are reading width descr block offsets are =
-    map-map (word reading width) (λ offset. item_at offset width block) offsets ∙ (λ i. map (λ offset. sym (are.read block offset) i) offsets)
+  pub steps-high : (pos items.run.offset +ℤ items.run.step *ℤ pos k) ≤ℤ pos max_bytes
+  steps-high = omega (arith, ints, is.limit.within (k ∷ []) (low, tt))
 
--- ---- each item and its number
+  pub first-low : items.run.offset ≤ max_bytes
+  first-low = omega (arith, ints, is.limit.within (0 ∷ []) (omega (arith, low), tt), *ℤ-zero items.run.step)
 
-pub each_is_place : (n width : ℕ) (reading : Reading) (items : List (List ℕ)) → list_all (is_place n) (map (word reading width) items) ≡ true → All (λ item. is_place n (word reading width item) ≡ true) items
-each_is_place n width reading [] all = All-nil (λ item. is_place n (word reading width item) ≡ true)
-each_is_place n width reading (item ∷ items) all =
-    let both = and_parts (is_place n (word reading width item)) (list_all (is_place n) (map (word reading width) items)) all in
-    All-cons (λ item. is_place n (word reading width item) ≡ true) item items both.0 (each_is_place n width reading items both.1)
+  pub lies-there : (offset : ℕ) → pos offset ≡ pos items.run.offset +ℤ items.run.step *ℤ pos k → offset ≡ get_or (run_offsets items.run) k 0
+  lies-there offset there = ap natural there ∙ sym (nth-offset items.run k low)
 
-pub places-of_each : (n width : ℕ) (reading : Reading) (items : List (List ℕ)) → map (λ item. place_of n (word reading width item)) items ≡ map (place_of n) (map (word reading width) items)
-places-of_each n width reading items = sym (map-map (place_of n) (word reading width) items)
+  pub ends-there : get_or (run_offsets items.run) k 0 + width ≤ length items.block.now
+  ends-there = is.ends k 0 (omega (arith, low, length-run_offsets items.run))
+
+  -- its number
+  pub number-there : (reading : Reading) → get_or (spread_numbers reading width items) k (pos 0) ≡ word reading width (item_at (get_or (run_offsets items.run) k 0) width items.block.now)
+  number-there reading = get_or-map (λ offset. word reading width (item_at offset width items.block.now)) (run_offsets items.run) k 0 (pos 0) (omega (arith, low, length-run_offsets items.run))
+
+pub length-numbers : (reading : Reading) (width : ℕ) (items : Spread) → length (spread_numbers reading width items) ≡ items.run.count
+length-numbers reading width items = length-map (run_offsets items.run) (λ offset. word reading width (item_at offset width items.block.now)) ∙ length-run_offsets items.run
+
+-- ---- integers of the machine
+
+along : (at width k : ℕ) → natural (pos at +ℤ pos width *ℤ pos k) ≡ at + width * k
+along at width k = omega arith
+
+nth-native : (width : ℕ) (run : Run) (k : ℕ) → run.step ≡ pos width → k < run.count → get_or (run_offsets run) k 0 ≡ run.offset + width * k
+nth-native width run k step low = nth-offset run k low ∙ (λ i. natural (pos run.offset +ℤ step i *ℤ pos k)) ∙ along run.offset width k
+
+-- the last of them ends in the block
+pub native-end : (width : ℕ) (items : Spread) → IsSpread width items → 1 ≤ items.run.count → items.run.step ≡ pos width → items.run.offset + width * items.run.count ≤ length items.block.now
+native-end width items is some step =
+    let last = items.run.count - 1 in
+    let low : last < items.run.count = omega (arith, some) in
+    let next : items.run.count ≡ suc last = omega (arith, some) in
+    let end : width * items.run.count ≡ width * last + width = ap (λ n. width * n) next ∙ mul-suc width last ∙ omega arith in
+    omega (arith, end, ends-there width items is last low, nth-native width items.run last step low)
+
+pub native-numbers : (reading : Reading) (width : ℕ) (items : Spread) (run : List ℤ) → IsSpread width items → IsNative reading width items.run → length run ≡ items.run.count
+    → ((k : ℕ) → k < items.run.count → get_or run k (pos 0) ≡ number width (item_at (items.run.offset + width * k) width items.block.now)) → run ≡ spread_numbers reading width items
+native-numbers reading width items run is native many each =
+    same_lists run (spread_numbers reading width items) (many ∙ sym (length-numbers reading width items)) (λ k d below.
+    let low : k < items.run.count = omega (arith, below, many) in
+    let inside : k < length (spread_numbers reading width items) = omega (arith, low, length-numbers reading width items) in
+    sym (get_or_default run k (pos 0) d below)
+    ∙ each k low
+    ∙ (λ i. integer (sym native.signed i) width (number_in (sym native.order i) width (item_at (sym (nth-native width items.run k native.step low) i) width items.block.now)))
+    ∙ sym (number-there width items is k low reading)
+    ∙ get_or_default (spread_numbers reading width items) k (pos 0) d inside)
+
+-- the numbers of an array whose items are read so
+pub words-are : (reading : Reading) (width : ℕ) (descr : Descr) (items : Spread) (block offsets : List ℕ) → AreWords reading width descr → items.block.now ≡ block → run_offsets items.run ≡ offsets
+    → spread_numbers reading width items ≡ map (number_from descr block) offsets
+words-are reading width descr items block offsets are here there =
+    (λ i. map (λ offset. word reading width (item_at offset width (here i))) (there i)) ∙ (λ i. map (λ offset. sym (are.read block offset) i) offsets)
+
+-- ---- loops over the numbers
+
+and_assoc : (a b c : Bool) → ((a && b) && c) ≡ (a && (b && c))
+and_assoc true b c = refl
+and_assoc false b c = refl
+
+and-true : (a : Bool) → (a && true) ≡ a
+and-true true = refl
+and-true false = refl
+
+pub all_next : (n k : ℕ) (numbers : List ℤ) (are here : Bool) → k < length numbers → here ≡ is_place n (get_or numbers k (pos 0)) →
+    (are && list_all (is_place n) (drop k numbers)) ≡ list_all (is_place n) numbers → ((are && here) && list_all (is_place n) (drop (k + 1) numbers)) ≡ list_all (is_place n) numbers
+all_next n k numbers are here low is so_far =
+    and_assoc are here (list_all (is_place n) (drop (k + 1) numbers))
+    ∙ ap (λ b. are && (b && list_all (is_place n) (drop (k + 1) numbers))) is
+    ∙ ap (λ l. are && list_all (is_place n) l) (sym (drop_more numbers k (pos 0) low))
+    ∙ so_far
+
+pub all_done : (n k : ℕ) (numbers : List ℤ) (are : Bool) → length numbers ≤ k → (are && list_all (is_place n) (drop k numbers)) ≡ list_all (is_place n) numbers → are ≡ list_all (is_place n) numbers
+all_done n k numbers are past so_far = sym (and-true are) ∙ ap (λ l. are && list_all (is_place n) l) (sym (drop_all k numbers past)) ∙ so_far
+
+pub place_true : (n k : ℕ) (numbers : List ℤ) → list_all (is_place n) numbers ≡ true → k < length numbers → is_place n (get_or numbers k (pos 0)) ≡ true
+place_true n k [] all low = absurd (omega (arith, low))
+place_true n zero (x ∷ xs) all low = (and_parts (is_place n x) (list_all (is_place n) xs) all).0
+place_true n (suc k) (x ∷ xs) all low = place_true n k xs ((and_parts (is_place n x) (list_all (is_place n) xs) all).1) (omega (arith, low))
+
+pub no_places : (n : ℕ) (numbers : List ℤ) (places : List ℕ) → length places ≡ length numbers → ArePlacesTo n 0 numbers places
+no_places n numbers places many = record { many = many; done = λ j low. absurd (omega (arith, low)) }
+
+pub one_more_place : (n k : ℕ) (numbers : List ℤ) (places : List ℕ) (at : ℕ) → k < length numbers → at ≡ place_of n (get_or numbers k (pos 0)) → ArePlacesTo n k numbers places → ArePlacesTo n (k + 1) numbers (set places k at)
+one_more_place n k numbers places at low is so_far = record {
+  many = length-set places k at ∙ so_far.many;
+  done = below_more (λ j. get_or (set places k at) j 0 ≡ place_of n (get_or numbers j (pos 0))) k
+      (λ j below. let ne : j ≢ k = omega (arith, below) in rw get_or-set_other (so_far.done j below))
+      (let lt : k < length places = omega (arith, low, so_far.many) in rw get_or-set_same is);
+}
+
+pub all_places : (n k : ℕ) (numbers : List ℤ) (places : List ℕ) → length numbers ≤ k → ArePlacesTo n k numbers places → places ≡ map (place_of n) numbers
+all_places n k numbers places past done =
+    same_lists places (map (place_of n) numbers) (done.many ∙ sym (length-map numbers (place_of n))) (λ j d below.
+    let low : j < length numbers = omega (arith, below, done.many) in
+    sym (get_or_default places j 0 d below) ∙ done.done j (omega (arith, low, past)) ∙ sym (get_or-map (place_of n) numbers j (pos 0) d low))

@@ -12,7 +12,7 @@ use raw_block::RawBlock;
 
 /// The `N` bytes from `at` on, loaded at once.
 #[inline(always)]
-fn array_at<const N: usize>(bytes: &[u8], at: usize) -> [u8; N]
+pub(crate) fn array_at<const N: usize>(bytes: &[u8], at: usize) -> [u8; N]
     requires { at + N ≤ length bytes.now }
     ensures { result ≡ item_at at N bytes.now }
 {

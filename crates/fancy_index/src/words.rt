@@ -1,19 +1,22 @@
-//! Integers that lie one right after another, read where they stand.
-ghost use Rattle.std.specs.Prelude.{◌≡◌, ◌≤◌, ◌<◌, ◌+◌, ◌*◌, ◌^◌, true, pos, map, length, All, IfOk, IfSome};
+//! Integers at equal steps, read where they stand.
+ghost use Rattle.std.specs.Prelude.{◌≡◌, ◌≤◌, ◌<◌, ◌+◌, ◌*◌, ◌^◌, true, pos, map, length, slice_index, All, IfOk, IfSome, IsTrue};
 ghost use Rattle.std.specs.List.{list_all};
 ghost use Rattle.elem_descr.specs.Items.{item_size};
 ghost use Rattle.raw_block.specs.Bytes.{item_at};
+ghost use Rattle.shape_strides.specs.Runs.{run_offsets};
 ghost use Rattle.shape_strides.specs.Layouts.{offsets};
 ghost use Rattle.shape_strides.specs.Limits.{max_items};
 ghost use Rattle.view_ops.specs.Slices.{is_place};
 ghost use Rattle.fancy_index.specs.Sources.{index_array_of, LiesInBlock};
-ghost use Rattle.fancy_index.specs.inside.Packed.{packed};
-ghost use Rattle.fancy_index.specs.inside.Words.{word, numbers, AreWords};
+ghost use Rattle.fancy_index.specs.inside.Words.{word, spread_numbers, numbers, AreWords, IsNative, IsSpread, AreSpread};
 ghost use Rattle.fancy_index.specs.inside.PointLists.{place_of};
 
+use crate::singles::array_at;
 use crate::source::Indices;
 use byteorder::{BigEndian, ByteOrder, LittleEndian};
 use elem_descr::{Descr, Order, Scalar};
+use raw_block::{RawBlock, RunI32, RunI64};
+use shape_strides::Run;
 use std::alloc::{AllocError, Global};
 
 /// How the bytes of an integer are read.
@@ -23,13 +26,23 @@ pub(crate) struct Reading {
     pub order: Order,
 }
 
-/// The bytes of integers of one type, item by item.
+/// Items at equal steps in a block.
 #[derive(Clone, Copy)]
+pub(crate) struct Spread<'a> {
+    pub block: &'a RawBlock,
+    pub run: Run,
+}
+
+/// The integers of one type, at equal steps: as runs of a block where they are native, and lie one right
+/// after another.
+#[derive(Drop)]
 pub(crate) enum Words<'a> {
-    One(Reading, &'a [[u8; 1]]),
-    Two(Reading, &'a [[u8; 2]]),
-    Four(Reading, &'a [[u8; 4]]),
-    Eight(Reading, &'a [[u8; 8]]),
+    I32(RunI32<'a>),
+    I64(RunI64<'a>),
+    One(Reading, Spread<'a>),
+    Two(Reading, Spread<'a>),
+    Four(Reading, Spread<'a>),
+    Eight(Reading, Spread<'a>),
 }
 
 /// How the integers of this type are read, and how many bytes each takes.
@@ -61,43 +74,89 @@ fn reading_of(descr: &Descr) -> Option<(Reading, usize)>
     }
 }
 
-/// The `n` items of `N` bytes that lie one right after another from `at` on.
-fn run_at<const N: usize>(bytes: &[u8], at: usize, n: usize) -> &[[u8; N]]
-    requires some { 0 < N }
-    requires within { at + N * n ≤ length bytes.now }
-    ensures { result.now ≡ map (λ k. item_at k N bytes.now) (packed at N n) }
+/// Whether integers that are read so lie one right after another, as the machine's own.
+fn is_native(reading: Reading, width: usize, run: Run) -> bool
+    requires { width ≤ 8 }
+    ensures { IsTrue result → IsNative reading width run }
 {
-    bytes[at..at + N * n].as_chunks::<N>().0
+    match (reading.order, reading.signed) {
+        (Order::Little, true) => run.step == width as isize,
+        _ => false,
+    }
 }
 
-/// The items of an array, of `N` bytes, if they lie one right after another.
-fn items_of<'a, const N: usize>(array: Indices<'a>) -> Option<&'a [[u8; N]]>
-    requires some { 0 < N }
-    requires few { N ≤ 8 }
-    requires size { item_size array.descr.now ≡ N }
-    requires lies { LiesInBlock array }
-    ensures { IfSome result (λ items. items.now ≡ map (λ offset. item_at offset N array.entry.block.now) (offsets array.entry.layout.now)) }
+/// The integers, where they are the machine's own of four or eight bytes.
+fn native_words<'a>(items: Spread<'a>, reading: Reading, width: usize) -> Option<Words<'a>>
+    requires few { width ≤ 8 }
+    requires some { 1 ≤ items.run.count }
+    requires spread { IsSpread width items }
+    ensures numbers { IfSome result (λ words. numbers words ≡ spread_numbers reading width items.entry) }
+    ensures spread { IfSome result AreSpread }
 {
-    let run = array.layout.as_run()?;
-    if run.step != N as isize {
+    let run = items.run;
+    if !is_native(reading, width, run) {
         return None;
     }
-    Some(run_at::<N>(array.block.bytes(), run.offset, run.count))
-}
-
-/// The bytes of the integers of an array, if they lie one right after another.
-pub(crate) fn words_of<'a>(array: Indices<'a>) -> Option<Words<'a>>
-    requires { LiesInBlock array }
-    ensures { IfSome result (λ words. numbers words ≡ (index_array_of array.entry).numbers) }
-{
-    let (reading, width) = reading_of(array.descr)?;
     match width {
-        1 => Some(Words::One(reading, items_of::<1>(array)?)),
-        2 => Some(Words::Two(reading, items_of::<2>(array)?)),
-        4 => Some(Words::Four(reading, items_of::<4>(array)?)),
-        8 => Some(Words::Eight(reading, items_of::<8>(array)?)),
+        4 => Some(Words::I32(items.block.run_i32(run.offset, run.count))),
+        8 => Some(Words::I64(items.block.run_i64(run.offset, run.count))),
         _ => None,
     }
+}
+
+/// The integers of so many bytes, whatever their order and step.
+fn spread_words<'a>(items: Spread<'a>, reading: Reading, width: usize) -> Option<Words<'a>>
+    requires { IsSpread width items }
+    ensures numbers { IfSome result (λ words. numbers words ≡ spread_numbers reading width items.entry) }
+    ensures spread { IfSome result AreSpread }
+{
+    match width {
+        1 => Some(Words::One(reading, items)),
+        2 => Some(Words::Two(reading, items)),
+        4 => Some(Words::Four(reading, items)),
+        8 => Some(Words::Eight(reading, items)),
+        _ => None,
+    }
+}
+
+/// The items of an array, if they lie at equal steps.
+fn spread_of<'a>(array: Indices<'a>) -> Option<Spread<'a>>
+    requires { LiesInBlock array }
+    ensures block { IfSome result (λ items. items.block.now ≡ array.entry.block.now) }
+    ensures offsets { IfSome result (λ items. run_offsets items.run ≡ offsets array.entry.layout.now) }
+    ensures some { IfSome result (λ items. 1 ≤ items.run.count) }
+    ensures spread { IfSome result (IsSpread (item_size array.entry.descr.now)) }
+{
+    let run = array.layout.as_run()?;
+    Some(Spread {
+        block: array.block,
+        run,
+    })
+}
+
+/// The integers of an array, if they lie at equal steps.
+pub(crate) fn words_of<'a>(array: Indices<'a>) -> Option<Words<'a>>
+    requires { LiesInBlock array }
+    ensures numbers { IfSome result (λ words. numbers words ≡ (index_array_of array.entry).numbers) }
+    ensures spread { IfSome result AreSpread }
+{
+    let (reading, width) = reading_of(array.descr)?;
+    let items = spread_of(array)?;
+    if let Some(words) = native_words(items, reading, width) {
+        return Some(words);
+    }
+    spread_words(items, reading, width)
+}
+
+/// The item that lies so many steps after the first, loaded at once.
+#[inline(always)]
+fn item_after<const N: usize>(items: Spread<'_>, steps: usize) -> [u8; N]
+    requires few { N ≤ 8 }
+    requires spread { IsSpread N items }
+    requires steps { steps < items.run.count }
+    ensures { result ≡ item_at (slice_index (run_offsets items.entry.run) steps) N items.entry.block.now }
+{
+    array_at::<N>(items.block.bytes(), items.run.offset_after(steps))
 }
 
 /// Whether a number of 64 bits is one of `n` places.
@@ -170,17 +229,42 @@ fn word_place<const N: usize>(reading: Reading, item: &[u8; N], n: usize) -> u32
     }
 }
 
-/// Whether each integer is one of `n` places. All of them are looked at, which takes less time than to
-/// stop at the first that is not.
-fn are_places_in<const N: usize>(reading: Reading, items: &[[u8; N]], n: usize) -> bool
+/// Whether each of the integers is one of `n` places. All of them are looked at, which takes less time
+/// than to stop at the first that is not.
+fn are_places_in<const N: usize>(reading: Reading, items: Spread<'_>, n: usize) -> bool
     requires some { 1 ≤ N }
     requires few { N ≤ 8 }
     requires small { n ≤ max_items }
-    ensures { result ≡ list_all (is_place n) (map (word reading N) items.now) }
+    requires spread { IsSpread N items }
+    ensures { result ≡ list_all (is_place n) (spread_numbers reading N items.entry) }
 {
     let mut are = true;
-    for item in items {
-        are = are & is_word_place::<N>(reading, item, n);
+    for k in 0..items.run.count {
+        are = are & is_word_place::<N>(reading, &item_after::<N>(items, k), n);
+    }
+    are
+}
+
+/// The same of numbers of four bytes.
+fn are_i32_places(run: RunI32<'_>, n: usize) -> bool
+    requires { n ≤ max_items }
+    ensures { result ≡ list_all (is_place n) run.entry }
+{
+    let mut are = true;
+    for k in 0..run.len() {
+        are = are & is_long_place(n, run.get(k) as i64);
+    }
+    are
+}
+
+/// The same of eight.
+fn are_i64_places(run: RunI64<'_>, n: usize) -> bool
+    requires { n ≤ max_items }
+    ensures { result ≡ list_all (is_place n) run.entry }
+{
+    let mut are = true;
+    for k in 0..run.len() {
+        are = are & is_long_place(n, run.get(k));
     }
     are
 }
@@ -189,35 +273,58 @@ fn are_places_in<const N: usize>(reading: Reading, items: &[[u8; N]], n: usize) 
 fn places_in<const N: usize>(
     alloc: Global,
     reading: Reading,
-    items: &[[u8; N]],
+    items: Spread<'_>,
     n: usize,
 ) -> Result<Vec<u32>, AllocError>
     requires some { 1 ≤ N }
     requires few { N ≤ 8 }
     requires small { n ≤ max_items }
-    requires places { All (λ item. is_place n (word reading N item) ≡ true) items.now }
-    ensures { IfOk result (λ v. v.items ≡ map (λ item. place_of n (word reading N item)) items.now) }
+    requires spread { IsSpread N items }
+    requires places { list_all (is_place n) (spread_numbers reading N items) ≡ true }
+    ensures { IfOk result (λ v. v.items ≡ map (place_of n) (spread_numbers reading N items.entry)) }
 {
-    items
-        .iter()
-        .map(
-            |item| -> u32
-                requires some { 1 ≤ N }
-                requires few { N ≤ 8 }
-                requires small { n ≤ max_items }
-                requires place { is_place n (word reading N item.now) ≡ true }
-                ensures { result ≡ place_of n (word reading N item.now) }
-            { word_place::<N>(reading, item, n) },
-        )
-        .collect(alloc)
+    let mut places = vec![in alloc; 0u32; items.run.count]?;
+    for k in 0..items.run.count {
+        places[k] = word_place::<N>(reading, &item_after::<N>(items, k), n);
+    }
+    Ok(places)
+}
+
+/// The same of numbers of four bytes.
+fn i32_places(alloc: Global, run: RunI32<'_>, n: usize) -> Result<Vec<u32>, AllocError>
+    requires small { n ≤ max_items }
+    requires places { list_all (is_place n) run ≡ true }
+    ensures { IfOk result (λ v. v.items ≡ map (place_of n) run.entry) }
+{
+    let mut places = vec![in alloc; 0u32; run.len()]?;
+    for k in 0..run.len() {
+        places[k] = long_place(n, run.get(k) as i64);
+    }
+    Ok(places)
+}
+
+/// The same of eight.
+fn i64_places(alloc: Global, run: RunI64<'_>, n: usize) -> Result<Vec<u32>, AllocError>
+    requires small { n ≤ max_items }
+    requires places { list_all (is_place n) run ≡ true }
+    ensures { IfOk result (λ v. v.items ≡ map (place_of n) run.entry) }
+{
+    let mut places = vec![in alloc; 0u32; run.len()]?;
+    for k in 0..run.len() {
+        places[k] = long_place(n, run.get(k));
+    }
+    Ok(places)
 }
 
 /// Whether each number is one of `n` places.
 pub(crate) fn are_word_places(words: Words<'_>, n: usize) -> bool
-    requires { n ≤ max_items }
+    requires small { n ≤ max_items }
+    requires spread { AreSpread words }
     ensures { result ≡ list_all (is_place n) (numbers words.entry) }
 {
     match words {
+        Words::I32(run) => are_i32_places(run, n),
+        Words::I64(run) => are_i64_places(run, n),
         Words::One(reading, items) => are_places_in::<1>(reading, items, n),
         Words::Two(reading, items) => are_places_in::<2>(reading, items, n),
         Words::Four(reading, items) => are_places_in::<4>(reading, items, n),
@@ -228,10 +335,13 @@ pub(crate) fn are_word_places(words: Words<'_>, n: usize) -> bool
 /// The places of `n` that the numbers name.
 pub(crate) fn word_places(alloc: Global, words: Words<'_>, n: usize) -> Result<Vec<u32>, AllocError>
     requires small { n ≤ max_items }
+    requires spread { AreSpread words }
     requires places { list_all (is_place n) (numbers words) ≡ true }
     ensures { IfOk result (λ v. v.items ≡ map (place_of n) (numbers words.entry)) }
 {
     match words {
+        Words::I32(run) => i32_places(alloc, run, n),
+        Words::I64(run) => i64_places(alloc, run, n),
         Words::One(reading, items) => places_in::<1>(alloc, reading, items, n),
         Words::Two(reading, items) => places_in::<2>(alloc, reading, items, n),
         Words::Four(reading, items) => places_in::<4>(alloc, reading, items, n),

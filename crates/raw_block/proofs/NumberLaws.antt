@@ -1,7 +1,7 @@
 -- Numbers in two's complement.
 use Rattle.std.proofs.Common.{◌≡◌, ℕ, suc, ◌-◌, ◌<◌, ◌^◌, cond, ltb, Bool, true, false, refl, arith, w32, w64}
 use Rattle.std.proofs.lemmas.Int.{ints}
-use lib.IntN.{ℤ, pos, negsuc, ◌-ℤ◌}
+use lib.IntN.{pos, negsuc, ◌-ℤ◌}
 use mir.Val.{to_z}
 use Rattle.byteorder.specs.Endian.{twos_complement}
 

@@ -1,13 +1,12 @@
 -- Items that lie one right after the other: their bytes are written as one.
 use Rattle.std.proofs.Common.{◌≡◌, ℕ, zero, suc, ◌+◌, ◌-◌, ◌*◌, ◌<◌, ◌≤◌, List, [], ◌∷◌, ◌++◌, length, take, drop, get_or, refl, sym, ap, ◌∙◌, subst, arith, append_assoc, length-append, length-take, drop-cons}
-use Rattle.std.proofs.Math.Nat.{suc-mul, mul-suc, mul-zero, mul_comm, mul-le-mul_left}
+use Rattle.std.proofs.Math.Nat.{suc-mul, mul-suc, mul-zero, mul-le-mul_left}
 use Rattle.std.proofs.Math.Seq.{take-add, drop-append-add}
 use Rattle.std.proofs.lemmas.List.{take-append-drop, take_at, drop-drop, drop-take, take-take, drop_all}
-use Rattle.std.specs.List.{refill}
 use Rattle.std.specs.Simd.{first_chunks}
 use lib.IntN.{ℤ, pos}
 use Rattle.raw_block.specs.Bytes.{place, EachWithin, put, item_at, copied, filled}
-use Rattle.raw_block.specs.BytesLaws.{place_within, length-item_at, length-put, item_of_chunks}
+use Rattle.raw_block.specs.BytesLaws.{place_within, length-item_at, item_of_chunks}
 
 -- all of the items lie within
 pub run_within : (len at : ℕ) (step : ℤ) (width n : ℕ) → 0 < n → step ≡ pos width → EachWithin len at step width n → at + n * width ≤ len

@@ -1,4 +1,4 @@
-use Rattle.std.proofs.Common.{◌≡◌, ◌+◌, ◌-◌, ◌*◌, ◌/◌, ◌≤◌, ℕ, length, take, drop, ap, ◌∙◌, arith, length-take, length-drop}
+use Rattle.std.proofs.Common.{◌≡◌, ◌+◌, ◌-◌, ◌*◌, ◌/◌, ℕ, length, take, drop, ap, ◌∙◌, arith, length-take, length-drop}
 use Rattle.std.proofs.Math.Nat.{mul-div_cancel_left}
 use Rattle.raw_block.proofs.Runs.{item_of_run}
 use Rattle.raw_block.proofs.number_runs.items_at.Goals as goal

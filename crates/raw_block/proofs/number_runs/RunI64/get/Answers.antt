@@ -1,4 +1,4 @@
-use Rattle.std.proofs.Common.{◌≡◌, pos, ap, sym, ◌∙◌, rules, [], length, map, slice_index_or, arith, w64}
+use Rattle.std.proofs.Common.{◌≡◌, pos, ap, sym, ◌∙◌, rules, [], length, slice_index_or, arith, w64}
 use Rattle.std.proofs.lemmas.Int.{to_z-of_z}
 use Rattle.std.proofs.lemmas.List.{get_or-map, length-map}
 use mir.Val.{SFits}
