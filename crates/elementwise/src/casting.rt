@@ -6,7 +6,7 @@ ghost use Rattle.elem_descr.specs.Items.{item_size};
 ghost use Rattle.elementwise.specs.inside.PairPasses.{number_pair};
 ghost use Rattle.elementwise.specs.inside.Operands.{pairs_of, made_of_all};
 
-use crate::kernels::{Kernel, Numbers};
+use crate::kernels::{Kernel, push_made};
 use crate::rows::Operands;
 use elem_descr::{Order, Scalar, Width};
 use machine_numbers::{HighFirst, LowFirst, Number, Ordered};
@@ -38,38 +38,26 @@ pub(crate) fn cast<S: Number, P: Ordered>(
     ensures left { pairs_of operands.entry * size scalar.now + result.1 ≡ block.1 }
 {
     match scalar {
-        Scalar::Bool => operands.push_all(
-            &Numbers::<Casting, S, S, bool, P, LowFirst>::new(),
-            block,
-        ),
-        Scalar::Byte { .. } => operands.push_all(
-            &Numbers::<Casting, S, S, u8, P, LowFirst>::new(),
-            block,
-        ),
+        Scalar::Bool => push_made::<Casting, S, S, bool, P, LowFirst>(block, operands),
+        Scalar::Byte { .. } => push_made::<Casting, S, S, u8, P, LowFirst>(block, operands),
         Scalar::Int { width, order, .. } => match (width, order) {
-            (Width::Two, Order::Little) => operands.push_all(
-                &Numbers::<Casting, S, S, u16, P, LowFirst>::new(),
-                block,
+            (Width::Two, Order::Little) => push_made::<Casting, S, S, u16, P, LowFirst>(
+                block, operands,
             ),
-            (Width::Two, Order::Big) => operands.push_all(
-                &Numbers::<Casting, S, S, u16, P, HighFirst>::new(),
-                block,
+            (Width::Two, Order::Big) => push_made::<Casting, S, S, u16, P, HighFirst>(
+                block, operands,
             ),
-            (Width::Four, Order::Little) => operands.push_all(
-                &Numbers::<Casting, S, S, u32, P, LowFirst>::new(),
-                block,
+            (Width::Four, Order::Little) => push_made::<Casting, S, S, u32, P, LowFirst>(
+                block, operands,
             ),
-            (Width::Four, Order::Big) => operands.push_all(
-                &Numbers::<Casting, S, S, u32, P, HighFirst>::new(),
-                block,
+            (Width::Four, Order::Big) => push_made::<Casting, S, S, u32, P, HighFirst>(
+                block, operands,
             ),
-            (Width::Eight, Order::Little) => operands.push_all(
-                &Numbers::<Casting, S, S, u64, P, LowFirst>::new(),
-                block,
+            (Width::Eight, Order::Little) => push_made::<Casting, S, S, u64, P, LowFirst>(
+                block, operands,
             ),
-            (Width::Eight, Order::Big) => operands.push_all(
-                &Numbers::<Casting, S, S, u64, P, HighFirst>::new(),
-                block,
+            (Width::Eight, Order::Big) => push_made::<Casting, S, S, u64, P, HighFirst>(
+                block, operands,
             ),
         },
         Scalar::Bytes(_) => unreachable!(),

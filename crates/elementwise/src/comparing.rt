@@ -9,7 +9,7 @@ ghost use Rattle.elementwise.specs.inside.PairPasses.{number_pair, says_number};
 ghost use Rattle.elementwise.specs.inside.Operands.{pairs_of, made_of_all};
 
 use crate::bits;
-use crate::kernels::{Kernel, Numbers};
+use crate::kernels::{Kernel, push_made};
 use crate::rows::Operands;
 use machine_numbers::{Comparison, LowFirst, Number, Ordered};
 use raw_block::BlockBuilder;
@@ -133,29 +133,19 @@ pub(crate) fn compare<A: Number, B: Number, O: Ordered>(
     ensures left { pairs_of operands.entry + result.1 ≡ block.1 }
 {
     match comparison {
-        Comparison::Equal => operands.push_all(
-            &Numbers::<Said<IsEqual>, A, B, bool, O, LowFirst>::new(),
-            block,
+        Comparison::Equal => push_made::<Said<IsEqual>, A, B, bool, O, LowFirst>(block, operands),
+        Comparison::NotEqual => push_made::<Said<IsDifferent>, A, B, bool, O, LowFirst>(
+            block, operands,
         ),
-        Comparison::NotEqual => operands.push_all(
-            &Numbers::<Said<IsDifferent>, A, B, bool, O, LowFirst>::new(),
-            block,
+        Comparison::Less => push_made::<Said<IsLess>, A, B, bool, O, LowFirst>(block, operands),
+        Comparison::LessOrEqual => push_made::<Said<IsAtMost>, A, B, bool, O, LowFirst>(
+            block, operands,
         ),
-        Comparison::Less => operands.push_all(
-            &Numbers::<Said<IsLess>, A, B, bool, O, LowFirst>::new(),
-            block,
+        Comparison::Greater => push_made::<Said<IsGreater>, A, B, bool, O, LowFirst>(
+            block, operands,
         ),
-        Comparison::LessOrEqual => operands.push_all(
-            &Numbers::<Said<IsAtMost>, A, B, bool, O, LowFirst>::new(),
-            block,
-        ),
-        Comparison::Greater => operands.push_all(
-            &Numbers::<Said<IsGreater>, A, B, bool, O, LowFirst>::new(),
-            block,
-        ),
-        Comparison::GreaterOrEqual => operands.push_all(
-            &Numbers::<Said<IsAtLeast>, A, B, bool, O, LowFirst>::new(),
-            block,
+        Comparison::GreaterOrEqual => push_made::<Said<IsAtLeast>, A, B, bool, O, LowFirst>(
+            block, operands,
         ),
     }
 }

@@ -1,10 +1,12 @@
 //! Passes over pairs of numbers: what a kernel makes of them is pushed.
 ghost use Rattle.std.specs.Prelude.{◌≡◌, ◌+◌, ◌*◌, ◌≤◌, ◌++◌, ℤ};
+ghost use Rattle.elem_descr.specs.Items.{item_size};
 ghost use Rattle.raw_block.specs.Bytes.{joined};
 ghost use Rattle.elementwise.specs.inside.PairPasses.{number_pair};
+ghost use Rattle.elementwise.specs.inside.Operands.{pairs_of, made_of_all};
 ghost use Rattle.elementwise.specs.inside.Sides.{pair_count, made_of};
 
-use crate::rows::Pass;
+use crate::rows::{Operands, Pass};
 use crate::sides::Pairs;
 use machine_numbers::{Number, Ordered};
 use raw_block::BlockBuilder;
@@ -42,20 +44,7 @@ fn push_each<K: Kernel<A, B, T>, A: Number, B: Number, T: Number, O: Ordered, Q:
 
 /// A kernel over numbers that are read in a byte order, and pushed in one.
 #[derive_where(Clone, Copy)]
-pub(crate) struct Numbers<K, A, B, T, O, Q>(PhantomData<(K, A, B, T, O, Q)>);
-
-impl<K: Kernel<A, B, T>, A: Number, B: Number, T: Number, O: Ordered, Q: Ordered> Numbers<
-    K,
-    A,
-    B,
-    T,
-    O,
-    Q,
-> {
-    pub(crate) fn new() -> Self {
-        Numbers(PhantomData)
-    }
-}
+struct Numbers<K, A, B, T, O, Q>(PhantomData<(K, A, B, T, O, Q)>);
 
 impl<K: Kernel<A, B, T>, A: Number, B: Number, T: Number, O: Ordered, Q: Ordered> Pass
     for Numbers<K, A, B, T, O, Q> {
@@ -88,4 +77,22 @@ impl<K: Kernel<A, B, T>, A: Number, B: Number, T: Number, O: Ordered, Q: Ordered
             _ => push_each::<K, A, B, T, O, Q>(block, pairs),
         }
     }
+}
+
+/// Pushes what a kernel makes of each pair of items of operands.
+pub(crate) fn push_made<
+    K: Kernel<A, B, T>,
+    A: Number,
+    B: Number,
+    T: Number,
+    O: Ordered,
+    Q: Ordered,
+>(block: BlockBuilder, operands: Operands<'_>) -> BlockBuilder
+    requires left { item_size operands.left.descr.now ≡ A.WIDTH }
+    requires right { item_size operands.right.descr.now ≡ B.WIDTH }
+    requires room { pairs_of operands * T.WIDTH ≤ block.1 }
+    ensures bytes { result.0 ≡ block.0 ++ made_of_all (number_pair (A.scalar O.order) (B.scalar O.order) (T.scalar Q.order) K.makes) operands.entry }
+    ensures left { pairs_of operands.entry * T.WIDTH + result.1 ≡ block.1 }
+{
+    operands.push_all(&Numbers::<K, A, B, T, O, Q>(PhantomData), block)
 }

@@ -12,7 +12,7 @@ ghost use Rattle.elementwise.specs.inside.PairPasses.{number_pair};
 ghost use Rattle.elementwise.specs.inside.Operands.{pairs_of, made_of_all};
 
 use crate::bits;
-use crate::kernels::{Kernel, Numbers};
+use crate::kernels::{Kernel, push_made};
 use crate::rows::Operands;
 use machine_numbers::{BinOp, LowFirst, Number, Ordered, UnOp};
 use raw_block::BlockBuilder;
@@ -177,40 +177,16 @@ pub(crate) fn combine<N: Number, O: Ordered>(
     ensures left { pairs_of operands.entry * N.WIDTH + result.1 ≡ block.1 }
 {
     match op {
-        BinOp::Add => operands.push_all(&Numbers::<Adding, N, N, N, O, LowFirst>::new(), block),
-        BinOp::Subtract => operands.push_all(
-            &Numbers::<Subtracting, N, N, N, O, LowFirst>::new(),
-            block,
-        ),
-        BinOp::Multiply => operands.push_all(
-            &Numbers::<Multiplying, N, N, N, O, LowFirst>::new(),
-            block,
-        ),
-        BinOp::FloorDivide => operands.push_all(
-            &Numbers::<Dividing, N, N, N, O, LowFirst>::new(),
-            block,
-        ),
-        BinOp::Modulo => operands.push_all(
-            &Numbers::<LeavingRests, N, N, N, O, LowFirst>::new(),
-            block,
-        ),
-        BinOp::And => operands.push_all(
-            &Numbers::<KeepingBoth, N, N, N, O, LowFirst>::new(),
-            block,
-        ),
-        BinOp::Or => operands.push_all(
-            &Numbers::<KeepingEither, N, N, N, O, LowFirst>::new(),
-            block,
-        ),
-        BinOp::Xor => operands.push_all(&Numbers::<KeepingOne, N, N, N, O, LowFirst>::new(), block),
-        BinOp::ShiftLeft => operands.push_all(
-            &Numbers::<MovingUp, N, N, N, O, LowFirst>::new(),
-            block,
-        ),
-        BinOp::ShiftRight => operands.push_all(
-            &Numbers::<MovingDown, N, N, N, O, LowFirst>::new(),
-            block,
-        ),
+        BinOp::Add => push_made::<Adding, N, N, N, O, LowFirst>(block, operands),
+        BinOp::Subtract => push_made::<Subtracting, N, N, N, O, LowFirst>(block, operands),
+        BinOp::Multiply => push_made::<Multiplying, N, N, N, O, LowFirst>(block, operands),
+        BinOp::FloorDivide => push_made::<Dividing, N, N, N, O, LowFirst>(block, operands),
+        BinOp::Modulo => push_made::<LeavingRests, N, N, N, O, LowFirst>(block, operands),
+        BinOp::And => push_made::<KeepingBoth, N, N, N, O, LowFirst>(block, operands),
+        BinOp::Or => push_made::<KeepingEither, N, N, N, O, LowFirst>(block, operands),
+        BinOp::Xor => push_made::<KeepingOne, N, N, N, O, LowFirst>(block, operands),
+        BinOp::ShiftLeft => push_made::<MovingUp, N, N, N, O, LowFirst>(block, operands),
+        BinOp::ShiftRight => push_made::<MovingDown, N, N, N, O, LowFirst>(block, operands),
         BinOp::Divide => unreachable!(),
     }
 }
@@ -230,14 +206,8 @@ pub(crate) fn change<N: Number, O: Ordered>(
     ensures left { pairs_of operands.entry * N.WIDTH + result.1 ≡ block.1 }
 {
     match op {
-        UnOp::Negate => operands.push_all(&Numbers::<Negating, N, N, N, O, LowFirst>::new(), block),
-        UnOp::Invert if bools => operands.push_all(
-            &Numbers::<Flipping, N, N, N, O, LowFirst>::new(),
-            block,
-        ),
-        UnOp::Invert => operands.push_all(
-            &Numbers::<Complementing, N, N, N, O, LowFirst>::new(),
-            block,
-        ),
+        UnOp::Negate => push_made::<Negating, N, N, N, O, LowFirst>(block, operands),
+        UnOp::Invert if bools => push_made::<Flipping, N, N, N, O, LowFirst>(block, operands),
+        UnOp::Invert => push_made::<Complementing, N, N, N, O, LowFirst>(block, operands),
     }
 }
