@@ -1,5 +1,3 @@
-pub mod Decimals
-pub mod Spellings
 pub mod DefaultNames
 pub mod FieldLaws
 pub mod FieldLists

@@ -1,11 +1,10 @@
 -- What is written as a format text reads as the same descriptor.
-use Rattle.std.proofs.Common.{◌≡◌, ◌≤◌, ◌<◌, ◌+◌, ◌-◌, ℕ, zero, suc, true, false, List, [], ◌∷◌, ◌++◌, length, map, None, Result, Ok, refl, ap, subst, sym, ◌∙◌, arith, append_assoc, length-append, add-zero}
+use Rattle.std.proofs.Common.{◌≡◌, ◌≤◌, ◌<◌, ◌+◌, ◌-◌, ℕ, zero, suc, true, false, List, [], ◌∷◌, ◌++◌, length, None, Result, Ok, refl, ap, subst, sym, ◌∙◌, arith, append_assoc, length-append, add-zero}
 use Rattle.std.specs.Char.{is_ascii_digit}
 use Rattle.std.specs.Fmt.{decimal}
-use Rattle.std.specs.Int.{next_multiple_of}
-use Rattle.std.specs.List.{IsDistinct, list_all, AllByRecursion}
+use Rattle.std.specs.List.{IsDistinct, list_all}
 use Rattle.std.specs.Str.{bytes_eq}
-use Rattle.std.proofs.lemmas.Bool.{le-leb, lt-ltb}
+use Rattle.std.proofs.lemmas.Bool.{le-leb}
 use Rattle.std.proofs.lemmas.Bool.Decides.{nat_tests}
 use Rattle.std.proofs.lemmas.Fmt.{decimal_nonempty}
 use Rattle.std.proofs.lemmas.List.{append-nil}
@@ -27,23 +26,17 @@ use Rattle.elem_descr.specs.Names.{is_legal_name}
 use Rattle.elem_descr.specs.Descriptors.{IsLegal, AreNamedWithin, InOrder, fields_of, listed, names_of, depth, leaf_count}
 use Rattle.elem_descr.specs.Items.{item_size, leaves_of, leaves_from}
 use Rattle.elem_descr.specs.FormatLetters.{is_aligning, own_alignment, aligned_to}
-use Rattle.elem_descr.specs.RecordBuilding.{Partial, is_taken, checked_name, added, widened, closed_size, closed_record}
+use Rattle.elem_descr.specs.RecordBuilding.{Partial, is_taken, widened, closed_size, closed_record}
 use Rattle.elem_descr.specs.FormatTexts.{format}
 use Rattle.elem_descr.specs.inside.Turns.{format_in_turns, member_at, Reader, is_named, marked, closing, scalar_in, pad_in, body_in, next_field, turn, members, record_within, nothing_follows, scalar_alone, record_alone, alone}
 use Rattle.elem_descr.specs.WrittenFormats.{written_mark, written_count, written_letter, written_scalar, written_pad, written_name, braced, written_fields, written_format}
 use Rattle.elem_descr.proofs.Binds.{after_ok}
-use Rattle.elem_descr.proofs.Decimals.{digits-decimal}
-use Rattle.elem_descr.specs.DescriptorLaws.{listed-fields_of, InOrder-within}
+use Rattle.elem_descr.specs.DigitLaws.{digits-decimal}
+use Rattle.elem_descr.specs.BuildingLaws.{packed, multiple_of_one, field_of, grown, name_ok, added_ok, names, not_taken}
+use Rattle.elem_descr.specs.DescriptorLaws.{listed-fields_of, InOrder-within, some_depth}
 use Rattle.elem_descr.specs.ItemLaws.{length-leaves_from}
 use Rattle.elem_descr.proofs.SameFormat.{same_format}
 use Rattle.elem_descr.proofs.WrittenMembers.{both, mark_of, marked_digits, after_letter, reads_scalar, reads_pad, reads_name}
-
--- a record as far as it is read, where nothing aligns
-abbrev packed : ℕ → ℕ → ℕ → List Field → Partial
-packed levels leaves bytes done = record { size = bytes; alignment = 1; leaves = leaves; levels = levels; fields = done }
-
-multiple_of_one : (n : ℕ) → next_multiple_of n 1 ≡ n
-multiple_of_one n = omega arith
 
 unaligned : (scalar : Scalar) → aligned_to (mark_of scalar) (own_alignment scalar) ≡ 1
 unfolding mark_of
@@ -58,22 +51,6 @@ packed_body Aligned = refl
 packed_body Native = refl
 packed_body LittleMark = refl
 packed_body BigMark = refl
-
-abbrev field_of : List ℕ → ℕ → Descr → Field
-field_of name at descr = record { name = name; at = at; descr = descr }
-
--- the record with a field after the bytes so far
-abbrev grown : ℕ → ℕ → ℕ → List Field → List ℕ → Descr → Partial
-grown levels leaves from done name descr = packed levels (leaves + length (leaves_of descr)) (from + item_size descr) (done ++ field_of name from descr ∷ [])
-
-name_ok : (p : Partial) (name : List ℕ) → is_taken p.fields name ≡ false → length p.fields < 64 → checked_name p name ≡ Ok tt
-unfolding checked_name
-name_ok p name new few = rw (new, lt-ltb (length p.fields) 64 few) refl
-
-added_ok : (levels leaves from : ℕ) (done : List Field) (name : List ℕ) (alignment : ℕ) (descr : Descr) → alignment ≡ 1 → leaves + length (leaves_of descr) ≤ 2048 → from + item_size descr ≤ 65536 → added (packed levels leaves from done) name alignment descr ≡ Ok (grown levels leaves from done name descr)
-unfolding added
-added_ok levels leaves from done name alignment descr one few small =
-    rw (one, le-leb (leaves + length (leaves_of descr)) 2048 few, multiple_of_one from, le-leb (from + item_size descr) 65536 small) refl
 
 -- what may follow the fields so far
 record MayGrow (leaves from : ℕ) (done : List Field) (name : List ℕ) (descr : Descr) : Type 0 where
@@ -152,7 +129,7 @@ no_brace_scalar (Int true Eight order) rest some small = refl
 no_brace_scalar (Int false Two order) rest some small = refl
 no_brace_scalar (Int false Four order) rest some small = refl
 no_brace_scalar (Int false Eight order) rest some small = refl
-no_brace_scalar (Bytes n) rest some small = no_brace_digits (decimal n) (115 ∷ rest) (digits-decimal n small) (decimal_nonempty n (omega arith))
+no_brace_scalar (Bytes n) rest some small = no_brace_digits (decimal n) (115 ∷ rest) (digits-decimal n (omega arith)) (decimal_nonempty n (omega arith))
 
 -- padding, where there is some
 reads_padding : (within : Reader) (gap levels leaves from : ℕ) (mark : Mark) (done : List Field) (rest : List ℕ) (r : Body × List ℕ) → from + gap ≤ 65536 → is_named rest ≡ false → Reads within mark (packed levels leaves (from + gap) done) rest r → Reads within mark (packed levels leaves from done) (written_pad gap ++ rest) r
@@ -191,19 +168,6 @@ reads_within within mark later levels leaves from done name structure text rest 
   where
     longer : (text name rest : List ℕ) → length rest < length (84 ∷ (123 ∷ (text ++ 125 ∷ (58 ∷ (name ++ 58 ∷ rest)))))
     longer text name rest = simp length-append (omega arith)
-
--- the name of a field that follows is not taken
-abbrev names : List Field → List (List ℕ)
-names fields = map (λ field. field.name) fields
-
-not_taken : (done later : List Field) (field : Field) → IsDistinct bytes_eq (names (done ++ field ∷ later)) → is_taken done field.name ≡ false
-unfolding IsDistinct
-not_taken [] later field h = refl
-not_taken (first ∷ done) later field h = rw (apart first.name done later field h.0) (not_taken done later field h.1)
-  where
-    apart : (name : List ℕ) (done later : List Field) (field : Field) → AllByRecursion (λ other. bytes_eq name other ≡ false) (names (done ++ field ∷ later)) → bytes_eq name field.name ≡ false
-    apart name [] later field h = h.0
-    apart name (first ∷ done) later field h = apart name done later field h.1
 
 unnamed_scalar : (scalar : Scalar) (rest : List ℕ) → is_named (written_scalar scalar ++ rest) ≡ false
 unnamed_scalar BoolScalar rest = refl
@@ -287,11 +251,6 @@ inside_record levels leaves from bytes at done name size inner rest may =
       shallow = omega (arith, may.shallow);
       counted = omega (arith, may.counted);
     }
-
-some_depth : (fields : Fields) → 1 ≤ depth fields
-some_depth no_more = omega arith
-some_depth (scalar_field name at scalar rest) = some_depth rest
-some_depth (record_field name at size inner rest) = omega (arith, some_depth rest)
 
 -- a record that is read from its first member on
 reads_inner : (levels : ℕ) (mark later : Mark) (leaves : ℕ) (text rest : List ℕ) (structure : Structure) → Reads (record_within levels) mark (packed levels leaves 0 []) text (record { whole = structure; alignment = 1; mark = later }, rest) → record_within (suc levels) mark leaves text ≡ Ok (record { whole = structure; alignment = 1; mark = later }, rest)

@@ -4,17 +4,15 @@ ghost use Rattle.std.specs.List.{list_all};
 ghost use Rattle.std.specs.Int.{w128};
 ghost use Rattle.elem_descr.specs.declared.descr.Descr.TheVariants.{Scalar as ScalarDescr};
 ghost use Rattle.elem_descr.specs.declared.scalar.Scalar.TheVariants.{Int as IntScalar};
-ghost use Rattle.elem_descr.specs.Encoding.{IsNumber, size, width_size};
+ghost use Rattle.elem_descr.specs.Encoding.{IsNumber, is_value, size, width_size};
 ghost use Rattle.elem_descr.specs.Items.{decode_item};
 ghost use Rattle.elem_descr.specs.Blocks.{blocks};
 ghost use Rattle.elem_descr.specs.Steps.{is_before, numbers_from, IsGap};
 ghost use Rattle.elem_descr.specs.Values.{number};
 ghost use Rattle.shape_strides.specs.Limits.{max_items};
-ghost use Rattle.literal_items.specs.Numbers.{is_value};
 ghost use Rattle.literal_items.specs.RangeItems.{range_numbers, range_count, range_length, range_items};
 
-use crate::number::is_value;
-use elem_descr::{Order, Refusal, Scalar, Width, num_write};
+use elem_descr::{Order, Refusal, Scalar, Width, is_value, num_write};
 
 /// The most numbers that a range may have.
 const MAX_NUMBERS: u128 = 1 << 24;
@@ -71,7 +69,7 @@ fn are_values(scalar: &Scalar, start: &i128, step: &i128, count: usize) -> bool
     if count == 0 {
         return true;
     }
-    is_value(scalar, start) && is_value(scalar, &number_at(start, step, count - 1))
+    is_value(scalar, *start) && is_value(scalar, number_at(start, step, count - 1))
 }
 
 /// Writes the first `count` of the numbers start, start + step, .. as items one after another. Where it

@@ -18,7 +18,6 @@ pub mod WriterLaws
 pub mod SaverLaws
 pub mod ReadTokens
 pub mod ReadValues
-pub mod Spellings
 pub mod ReadRecords
 pub mod ReadHeaders
 pub mod LoadLaws

@@ -1,10 +1,8 @@
 -- A record that is read of the entries that are written of it.
 use Rattle.std.proofs.Common.{◌≡◌, ℕ, zero, suc, ◌+◌, ◌-◌, ◌^◌, ◌<◌, ◌≤◌, true, false, List, [], ◌∷◌, ◌++◌, map, length, codes, decimal, Some, Result, Ok, refl, sym, ap, subst, ◌∙◌, arith, append_assoc, length-append, add-zero, nat_eq}
-use Rattle.std.specs.Int.{next_multiple_of}
-use Rattle.std.specs.List.{IsDistinct, list_all, AllByRecursion}
+use Rattle.std.specs.List.{IsDistinct, list_all}
 use Rattle.std.specs.Str.{bytes_eq}
-use Rattle.std.proofs.Math.Nat.{min-eq_left}
-use Rattle.std.proofs.lemmas.Bool.{le-leb, lt-ltb, ne_eqb, true≢false}
+use Rattle.std.proofs.lemmas.Bool.{le-leb, ne_eqb, true≢false}
 use Rattle.std.proofs.lemmas.Fmt.{decimal_nonempty}
 use Rattle.std.proofs.lemmas.List.{append-nil}
 use Rattle.elem_descr.specs.declared.refusal.Refusal.{Refusal}
@@ -20,43 +18,22 @@ use Rattle.elem_descr.specs.Descriptors.{AreNamedWithin, InOrder, fields_of, nam
 use Rattle.elem_descr.specs.DescriptorLaws.{listed-fields_of, InOrder-within, some_depth}
 use Rattle.elem_descr.specs.Items.{item_size, leaves_of}
 use Rattle.elem_descr.specs.ItemLaws.{length-leaves_from}
-use Rattle.elem_descr.specs.TypeStrings.{value_of, spelling}
-use Rattle.elem_descr.specs.RecordBuilding.{Partial, is_taken, checked_name, added, widened, closed_record}
+use Rattle.elem_descr.specs.TypeStrings.{spelling}
+use Rattle.elem_descr.specs.RecordBuilding.{Partial, is_taken, widened, closed_record}
+use Rattle.elem_descr.specs.BuildingLaws.{packed, field_of, grown, name_ok, added_ok, names, not_taken}
+use Rattle.elem_descr.specs.DigitLaws.{digits-decimal, count_of-decimal}
+use Rattle.elem_descr.specs.SpellingLaws.{reads_spelling}
 use Rattle.npy_format.specs.Values.{Square, Text}
 use Rattle.npy_format.specs.Listed.{Literal, Plain, Row, all_listed_values}
-use Rattle.npy_format.specs.Tokens.{capped}
 use Rattle.npy_format.specs.RecordLists.{pad_kind, type_in, field_in, entry_in, fields_in, record_in, descr_in, Reader}
 use Rattle.npy_format.specs.inside.Sound.{IsSound}
-use Rattle.npy_format.proofs.ReadTokens.{both, are_digits, is_value}
+use Rattle.npy_format.proofs.ReadTokens.{both}
 use Rattle.npy_format.proofs.ReadValues.{IsValue, entry_literal, gap_values, entry_values, quoted_value, list_value, entries_are, plain_spelling}
 use Rattle.npy_format.proofs.ValueLaws.{literals_of_listed}
-use Rattle.npy_format.proofs.Spellings.{reads_spelling}
 use Rattle.npy_format.specs.WrittenHeaders.{written_descr, entries}
 
 after_ok : {X Y : Type 0} (r : Result X Refusal) (x : X) (f : X → Result Y Refusal) → r ≡ Ok x → (r >>= f) ≡ f x
 after_ok r x f is = ap (λ q. q >>= f) is
-
--- a record as far as it is read
-abbrev packed : ℕ → ℕ → ℕ → List Field → Partial
-packed levels leaves bytes done = record { size = bytes; alignment = 1; leaves = leaves; levels = levels; fields = done }
-
-multiple_of_one : (n : ℕ) → next_multiple_of n 1 ≡ n
-multiple_of_one n = omega arith
-
-abbrev field_with : List ℕ → ℕ → Descr → Field
-field_with name at descr = record { name = name; at = at; descr = descr }
-
-abbrev grown : ℕ → ℕ → ℕ → List Field → List ℕ → Descr → Partial
-grown levels leaves from done name descr = packed levels (leaves + length (leaves_of descr)) (from + item_size descr) (done ++ field_with name from descr ∷ [])
-
-name_ok : (p : Partial) (name : List ℕ) → is_taken p.fields name ≡ false → length p.fields < 64 → checked_name p name ≡ Ok tt
-unfolding checked_name
-name_ok p name new few = rw (new, lt-ltb (length p.fields) 64 few) refl
-
-added_ok : (levels leaves from : ℕ) (done : List Field) (name : List ℕ) (descr : Descr) → leaves + length (leaves_of descr) ≤ 2048 → from + item_size descr ≤ 65536 → added (packed levels leaves from done) name 1 descr ≡ Ok (grown levels leaves from done name descr)
-unfolding added
-added_ok levels leaves from done name descr few small =
-    rw (le-leb (leaves + length (leaves_of descr)) 2048 few, multiple_of_one from, le-leb (from + item_size descr) 65536 small) refl
 
 -- what may follow the fields so far
 record MayGrow (leaves from : ℕ) (done : List Field) (name : List ℕ) (descr : Descr) : Type 0 where
@@ -76,15 +53,14 @@ unfolding field_in
 reads_entry within levels leaves from done name type descr may reads =
     let p = packed levels leaves from done in
     rw (literals_of_listed (Plain (Text name) ∷ (type ∷ [])), legal_some name may.legal, may.legal)
-    (after_ok _ _ _ reads ∙ after_ok _ _ _ (name_ok p name may.new may.few) ∙ added_ok levels leaves from done name descr may.counted may.small)
+    (after_ok _ _ _ reads ∙ after_ok _ _ _ (name_ok p name may.new may.few) ∙ added_ok levels leaves from done name 1 descr refl may.counted may.small)
 
 -- or a gap
 pad_text : (n : ℕ) → 1 ≤ n → n ≤ 65536 → pad_kind (86 ∷ decimal n) ≡ Ok (Some n)
 pad_text n some small =
     let big : n < 2 ^ 64 = omega (arith, small) in
     let long : nat_eq (length (decimal n)) 0 ≡ false = ne_eqb (length (decimal n)) 0 (λ same. omega (arith, same, decimal_nonempty n big)) in
-    let value : capped (value_of (decimal n)) ≡ n = ap capped (is_value n big) ∙ min-eq_left (omega (arith, small)) in
-    rw (long, are_digits n big, value, le-leb n 65536 small) refl
+    rw (long, digits-decimal n big, count_of-decimal n small) refl
 
 reads_gap : (within : Reader) (levels leaves from n : ℕ) (done : List Field) → 1 ≤ n → from + n ≤ 65536 → entry_in within (packed levels leaves from done) (entry_literal [] (Plain (Text (codes "|V" ++ decimal n)))) ≡ Ok (packed levels leaves (from + n) done)
 unfolding widened
@@ -108,25 +84,12 @@ record MayRead (levels leaves from bytes : ℕ) (done : List Field) (fields : Fi
   shallow : depth fields ≤ levels + 1
   counted : leaves + leaf_count fields ≤ 2048
 
-abbrev names : List Field → List (List ℕ)
-names fields = map (λ field. field.name) fields
-
--- the name of a field that follows is not taken
-not_taken : (done later : List Field) (field : Field) → IsDistinct bytes_eq (names (done ++ field ∷ later)) → is_taken done field.name ≡ false
-unfolding IsDistinct
-not_taken [] later field h = refl
-not_taken (first ∷ done) later field h = rw (apart first.name done later field h.0) (not_taken done later field h.1)
-  where
-    apart : (name : List ℕ) (done later : List Field) (field : Field) → AllByRecursion (λ other. bytes_eq name other ≡ false) (names (done ++ field ∷ later)) → bytes_eq name field.name ≡ false
-    apart name [] later field h = h.0
-    apart name (first ∷ done) later field h = apart name done later field h.1
-
 -- the fields after the first of them
 behind_first : (levels leaves at bytes : ℕ) (done : List Field) (name : List ℕ) (descr : Descr) (rest : Fields) → InOrder (at + item_size descr) rest bytes → bytes ≤ 65536 → length done + (1 + length (fields_of rest)) ≤ 64 → list_all is_legal_name (names_of rest) ≡ true
-    → IsDistinct bytes_eq (names (done ++ field_with name at descr ∷ fields_of rest)) → AreNamedWithin rest → depth rest ≤ levels + 1 → leaves + (length (leaves_of descr) + leaf_count rest) ≤ 2048
-    → MayRead levels (leaves + length (leaves_of descr)) (at + item_size descr) bytes (done ++ field_with name at descr ∷ []) rest
+    → IsDistinct bytes_eq (names (done ++ field_of name at descr ∷ fields_of rest)) → AreNamedWithin rest → depth rest ≤ levels + 1 → leaves + (length (leaves_of descr) + leaf_count rest) ≤ 2048
+    → MayRead levels (leaves + length (leaves_of descr)) (at + item_size descr) bytes (done ++ field_of name at descr ∷ []) rest
 behind_first levels leaves at bytes done name descr rest order small few legal distinct within shallow counted =
-    let field = field_with name at descr in
+    let field = field_of name at descr in
     record {
       order = order;
       small = small;
@@ -140,11 +103,11 @@ behind_first levels leaves at bytes done name descr rest order small few legal d
 
 -- one field and those after it
 field_and_more : (levels leaves from at bytes : ℕ) (done : List Field) (name : List ℕ) (type : Literal) (descr : Descr) (rest : Fields) → from ≤ at → at + item_size descr ≤ 65536 → is_legal_name name ≡ true → length done + (1 + length (fields_of rest)) ≤ 64
-    → IsDistinct bytes_eq (names (done ++ field_with name at descr ∷ fields_of rest)) → leaves + (length (leaves_of descr) + leaf_count rest) ≤ 2048 → type_in (record_in levels leaves) type ≡ Ok descr
-    → fields_in (record_in levels) (packed levels (leaves + length (leaves_of descr)) (at + item_size descr) (done ++ field_with name at descr ∷ [])) (entry_values (at + item_size descr) rest bytes) ≡ Ok (packed levels (leaves + length (leaves_of descr) + leaf_count rest) bytes ((done ++ field_with name at descr ∷ []) ++ fields_of rest))
-    → fields_in (record_in levels) (packed levels leaves from done) (gap_values (at - from) ++ (entry_literal name type ∷ entry_values (at + item_size descr) rest bytes)) ≡ Ok (packed levels (leaves + (length (leaves_of descr) + leaf_count rest)) bytes (done ++ field_with name at descr ∷ fields_of rest))
+    → IsDistinct bytes_eq (names (done ++ field_of name at descr ∷ fields_of rest)) → leaves + (length (leaves_of descr) + leaf_count rest) ≤ 2048 → type_in (record_in levels leaves) type ≡ Ok descr
+    → fields_in (record_in levels) (packed levels (leaves + length (leaves_of descr)) (at + item_size descr) (done ++ field_of name at descr ∷ [])) (entry_values (at + item_size descr) rest bytes) ≡ Ok (packed levels (leaves + length (leaves_of descr) + leaf_count rest) bytes ((done ++ field_of name at descr ∷ []) ++ fields_of rest))
+    → fields_in (record_in levels) (packed levels leaves from done) (gap_values (at - from) ++ (entry_literal name type ∷ entry_values (at + item_size descr) rest bytes)) ≡ Ok (packed levels (leaves + (length (leaves_of descr) + leaf_count rest)) bytes (done ++ field_of name at descr ∷ fields_of rest))
 field_and_more levels leaves from at bytes done name type descr rest low small legal few distinct counted reads more =
-    let field = field_with name at descr in
+    let field = field_of name at descr in
     let gap : from + (at - from) ≡ at = omega (arith, low) in
     let may : MayGrow leaves at done name descr = record { small = small; legal = legal; new = not_taken done (fields_of rest) field distinct; few = omega (arith, few); counted = omega (arith, counted) } in
     let sum : leaves + length (leaves_of descr) + leaf_count rest ≡ leaves + (length (leaves_of descr) + leaf_count rest) = omega arith in
@@ -180,7 +143,7 @@ fields_read (scalar_field name at scalar rest) levels leaves from bytes done may
     let later = behind_first levels leaves at bytes done name descr rest may.order.2 may.small (omega (arith, may.few)) legal.1 may.distinct may.within (omega (arith, may.shallow)) (omega (arith, may.counted)) in
     field_and_more levels leaves from at bytes done name (Plain (Text (spelling scalar))) descr rest may.order.0 (omega (arith, ends, may.small)) legal.0 (omega (arith, may.few)) may.distinct (omega (arith, may.counted))
     (scalar_read scalar (record_in levels leaves) may.order.1 (omega (arith, ends, may.small)))
-    (fields_read rest levels (leaves + 1) (at + size scalar) bytes (done ++ field_with name at descr ∷ []) later)
+    (fields_read rest levels (leaves + 1) (at + size scalar) bytes (done ++ field_of name at descr ∷ []) later)
 fields_read (record_field name at width inner rest) zero leaves from bytes done may = absurd (omega (arith, may.shallow, some_depth inner))
 fields_read (record_field name at width inner rest) (suc levels) leaves from bytes done may =
     let structure : Structure = record { size = width; fields = inner } in
@@ -195,8 +158,8 @@ fields_read (record_field name at width inner rest) (suc levels) leaves from byt
     let body = record_read levels leaves width inner (omega (arith, ends, may.small)) may.within.0.some members in
     field_and_more (suc levels) leaves from at bytes done name (Row Square (all_listed_values (entry_values 0 inner width))) descr rest may.order.0 (omega (arith, ends, may.small)) legal.0 (omega (arith, may.few)) may.distinct (omega (arith, may.counted, many))
     (type_read levels leaves width inner body)
-    (fields_read rest (suc levels) (leaves + length (leaves_of descr)) (at + width) bytes (done ++ field_with name at descr ∷ []) later)
-    ∙ (λ i. Ok (packed (suc levels) (leaves + (many i + leaf_count rest)) bytes (done ++ field_with name at descr ∷ fields_of rest)))
+    (fields_read rest (suc levels) (leaves + length (leaves_of descr)) (at + width) bytes (done ++ field_of name at descr ∷ []) later)
+    ∙ (λ i. Ok (packed (suc levels) (leaves + (many i + leaf_count rest)) bytes (done ++ field_of name at descr ∷ fields_of rest)))
 
 -- ---- element types
 

@@ -1,15 +1,15 @@
 -- The tokens of a text that is written.
-use Rattle.std.proofs.Common.{◌≡◌, ℕ, zero, suc, ◌+◌, ◌-◌, ◌*◌, ◌^◌, ◌<◌, ◌≤◌, Bool, true, false, ◌&&◌, List, [], ◌∷◌, ◌++◌, length, get_or, take, drop, replicate, fold, refl, sym, ap, subst, ◌∙◌, arith, rules, codes, decimal, length-append}
+use Rattle.std.proofs.Common.{◌≡◌, ℕ, zero, suc, ◌+◌, ◌^◌, ◌<◌, ◌≤◌, Bool, true, false, ◌&&◌, List, [], ◌∷◌, ◌++◌, length, get_or, take, drop, replicate, refl, sym, ap, subst, ◌∙◌, arith, codes, decimal, length-append}
 use Rattle.std.specs.Prelude.{nat_eq, if◌then◌else◌}
 use Rattle.std.specs.Char.{is_ascii_digit, is_ascii_alphabetic}
 use Rattle.std.specs.List.{list_all, prefix_len}
 use Rattle.std.proofs.Math.Seq.{take-append_seam, drop-append_seam}
 use Rattle.std.proofs.lemmas.Bool.{true≢false, ne_eqb}
 use Rattle.std.proofs.lemmas.Bool.Decides.{nat_tests}
-use Rattle.std.proofs.lemmas.Fmt.{first_decimal, decimal_nonempty, digits_decimal, digits_value-decimal, decimal_digit}
-use Rattle.std.proofs.lemmas.Str.Parse.{IsNumeralModel, numerals_by_fold}
+use Rattle.std.proofs.lemmas.Fmt.{first_decimal, decimal_nonempty, decimal_digit}
 use Rattle.std.proofs.Math.Nat.{min-eq_left}
 use Rattle.elem_descr.specs.TypeStrings.{value_of}
+use Rattle.elem_descr.specs.DigitLaws.{digits-decimal, value_of-decimal}
 use Rattle.shape_strides.specs.Limits.{max_items}
 use Rattle.npy_format.specs.Tokens.{Token, Text, Integer, Symbol, Stray, is_space, is_quote, is_plain_byte, text_token, ended_text, capped, is_integer, behind_long, integer_token, word_token, token_from, unspaced_text, first_token, tokens_in}
 
@@ -67,18 +67,6 @@ scan_quoted text rest toks plain more =
 
 -- ---- numbers
 
-abbrev read_on : ℕ → List ℕ → ℕ
-read_on n digits = fold (λ n d. n * 10 + (d - 48)) n digits
-
-numerals : IsNumeralModel (λ digits. list_all is_ascii_digit digits ≡ true) value_of
-numerals = numerals_by_fold _ (search rules) read_on (search rules)
-
-pub are_digits : (n : ℕ) → n < 2 ^ 64 → list_all is_ascii_digit (decimal n) ≡ true
-are_digits n small = digits_decimal numerals n small
-
-pub is_value : (n : ℕ) → n < 2 ^ 64 → value_of (decimal n) ≡ n
-is_value n small = digits_value-decimal numerals n small
-
 -- the first digit of a number
 pub record Digits (n : ℕ) : Type 0 where
   pub first : ℕ
@@ -93,7 +81,7 @@ digits_of n small = of (decimal n) refl
     of : (digits : List ℕ) → decimal n ≡ digits → Digits n
     of [] is = absurd (omega (arith, decimal_nonempty n small, ap length is))
     of (d ∷ digits) is =
-        let all = subst (λ l. list_all is_ascii_digit l ≡ true) is (are_digits n small) in
+        let all = subst (λ l. list_all is_ascii_digit l ≡ true) is (digits-decimal n small) in
         record { first = d; others = digits; is = is; digit = (both (is_ascii_digit d) (list_all is_ascii_digit digits) all).0; whole = whole n small d digits is }
       where
         whole : (n : ℕ) → n < 2 ^ 64 → (d : ℕ) (digits : List ℕ) → decimal n ≡ d ∷ digits → is_integer (decimal n) ≡ true
@@ -129,9 +117,9 @@ scan_number n b rest toks few stops short more =
     number : integer_token (decimal n ++ (b ∷ rest)) ≡ (Integer n, b ∷ rest)
     number =
         let small : n < 2 ^ 64 = omega (arith, few) in
-        let k = prefix_all is_ascii_digit (decimal n) b rest (are_digits n small) stops in
+        let k = prefix_all is_ascii_digit (decimal n) b rest (digits-decimal n small) stops in
         let text = decimal n ++ (b ∷ rest) in
-        let value : capped (value_of (decimal n)) ≡ n = ap capped (is_value n small) ∙ min-eq_left (omega (arith, few)) in
+        let value : capped (value_of (decimal n)) ≡ n = ap capped (value_of-decimal n small) ∙ min-eq_left (omega (arith, few)) in
         let whole = (digits_of n small).whole in
         ap (λ (m : ℕ). (if is_integer (take m text) then Integer (capped (value_of (take m text))) else Stray, behind_long (drop m text))) k
         ∙ (λ i. (if is_integer (take-append_seam (decimal n) (b ∷ rest) i) then Integer (capped (value_of (take-append_seam (decimal n) (b ∷ rest) i))) else Stray, behind_long (drop-append_seam (decimal n) (b ∷ rest) i)))

@@ -19,7 +19,8 @@ use Rattle.npy_format.specs.Values.{Round, Square, Text}
 use Rattle.npy_format.specs.Listed.{Literal, Plain, Row, all_listed_values}
 use Rattle.npy_format.specs.Literals.{symbol_token_at, entries_in, tuple_in, list_in, literal_in}
 use Rattle.npy_format.specs.WrittenHeaders.{quoted, entry, gap, separated, in_brackets, entries}
-use Rattle.npy_format.proofs.ReadTokens.{Scans, both, are_digits, scan_token, scan_space, scan_quoted}
+use Rattle.elem_descr.specs.DigitLaws.{digits-decimal}
+use Rattle.npy_format.proofs.ReadTokens.{Scans, both, scan_token, scan_space, scan_quoted}
 
 -- tokens that are read as a value, with those behind it
 pub record IsRead (depth : ℕ) (text : List ℕ) (value : Literal) (toks : List Token) : Type 0 where
@@ -200,7 +201,7 @@ plain_name_byte : (b : ℕ) → is_field_name_byte b ≡ true → is_plain_byte 
 plain_name_byte b is = grind (arith, nat_tests)
 
 plain_decimal : (n : ℕ) → n < 2 ^ 64 → list_all (is_plain_byte 39) (decimal n) ≡ true
-plain_decimal n small = all-weaker is_ascii_digit (is_plain_byte 39) plain_digit (decimal n) (are_digits n small)
+plain_decimal n small = all-weaker is_ascii_digit (is_plain_byte 39) plain_digit (decimal n) (digits-decimal n small)
 
 plain_name : (name : List ℕ) → is_legal_name name ≡ true → list_all (is_plain_byte 39) name ≡ true
 plain_name name legal =

@@ -1,13 +1,12 @@
 -- The bytes of a scalar, read and written again.
-use Rattle.std.proofs.Common.{◌≡◌, inl, inr, ℕ, zero, suc, ◌+◌, ◌-◌, ◌*◌, ◌/◌, ◌^◌, ◌<◌, ◌≤◌, true, false, cond, List, [], ◌∷◌, ◌++◌, length, get_or, take, drop, replicate, reverse, refl, sym, ap, subst, ◌∙◌, arith, length-take, length-drop}
+use Rattle.std.proofs.Common.{◌≡◌, inl, inr, ℕ, zero, suc, ◌+◌, ◌-◌, ◌*◌, ◌/◌, ◌^◌, ◌<◌, true, false, cond, List, [], ◌∷◌, ◌++◌, length, get_or, take, drop, replicate, refl, sym, ap, subst, ◌∙◌, arith, length-take}
 use Rattle.std.specs.Prelude.{nat_eq}
 use Rattle.std.specs.Int.{byte_at, bytes_low_first, bytes_high_first}
-use Rattle.std.specs.List.{suffix_len}
 use Rattle.std.proofs.Math.Nat.{mod-lt}
-use Rattle.std.proofs.lemmas.Bool.{true≢false, eqb-true, cases_lt}
+use Rattle.std.proofs.lemmas.Bool.{true≢false, cases_lt}
 use Rattle.std.proofs.lemmas.Nat.{div-mul-add}
-use Rattle.std.proofs.lemmas.List.{append-nil, take_all, take-append-drop, get_or-drop, get_or-reverse, get_or-take, get_or_past, get_or-replicate, length-replicate, same_lists}
-use Rattle.std.proofs.lemmas.List.Sums.{prefix_len_passes, suffix_len-le-length}
+use Rattle.std.proofs.lemmas.List.{append-nil, take_all, get_or-drop, get_or-take, get_or_past}
+use Rattle.std.proofs.lemmas.List.Sums.{suffix_len-le-length}
 use Rattle.byteorder.specs.Endian.{little_from, big_from, little_number, big_number, little_bytes, big_bytes}
 use Rattle.byteorder.specs.Numbers.{little_from-cons, big_from-cons, little_from-lt, big_from-lt, length-bytes_low_first, length-bytes_high_first, little_number-reads_back, big_number-reads_back}
 use Rattle.byteorder.proofs.Bytes.{pow256}
@@ -17,6 +16,8 @@ use Rattle.elem_descr.specs.declared.scalar.Scalar.{Scalar}
 use Rattle.elem_descr.specs.declared.scalar.Scalar.TheVariants.{Bool as BoolScalar, Byte, Int, Bytes}
 use Rattle.elem_descr.specs.Encoding.{size, decode, encode, number_in, bytes_of, truth, width_size, without_nuls, padded}
 use Rattle.elem_descr.specs.EncodingLaws.{low_bits-integer}
+use Rattle.elem_descr.specs.NulLaws.{without_nuls-back}
+use Rattle.elem_descr.specs.inside.Nuls.{nuls}
 use Rattle.npy_format.specs.inside.WrittenItems.{is_bool}
 
 abbrev pub AreBytes : List ℕ → Type 0
@@ -81,27 +82,6 @@ number-lt Big n bytes are = subst (λ m. number_in Big n bytes < m) (pow256 n) (
 
 -- ---- byte strings
 
-abbrev nuls : List ℕ → ℕ
-nuls bytes = suffix_len (λ b. nat_eq b 0) bytes
-
-nul_at : (bytes : List ℕ) (k d : ℕ) → length bytes - nuls bytes ≤ k → k < length bytes → get_or bytes k d ≡ 0
-nul_at bytes k d late within =
-    let j = length bytes - 1 - k in
-    let few = suffix_len-le-length (λ b. nat_eq b 0) bytes in
-    let near : j < nuls bytes = omega arith in
-    let test = prefix_len_passes (λ b. nat_eq b 0) (reverse bytes) j d near in
-    let same : length bytes - 1 - j ≡ k = omega arith in
-    ap (λ i. get_or bytes i d) (sym same) ∙ sym (get_or-reverse bytes j d (omega arith)) ∙ eqb-true (get_or (reverse bytes) j d) 0 test
-
-back_nuls : (bytes : List ℕ) → drop (length bytes - nuls bytes) bytes ≡ replicate (nuls bytes) 0
-back_nuls bytes =
-    let few = suffix_len-le-length (λ b. nat_eq b 0) bytes in
-    let long : length (drop (length bytes - nuls bytes) bytes) ≡ nuls bytes = length-drop (length bytes - nuls bytes) bytes ∙ omega arith in
-    same_lists (drop (length bytes - nuls bytes) bytes) (replicate (nuls bytes) 0) (long ∙ sym (length-replicate (nuls bytes) 0))
-    (λ k d low.
-    let near : k < nuls bytes = omega arith in
-    get_or-drop (length bytes - nuls bytes) bytes k d ∙ nul_at bytes ((length bytes - nuls bytes) + k) d (omega arith) (omega arith) ∙ sym (get_or-replicate (nuls bytes) k 0 d near))
-
 -- a byte string without its NULs, filled up with as many
 text_again : (n : ℕ) (bytes : List ℕ) → length bytes ≡ n → padded n (without_nuls bytes) ≡ bytes
 text_again n bytes long =
@@ -109,8 +89,7 @@ text_again n bytes long =
     let kept : length (without_nuls bytes) ≡ length bytes - nuls bytes = omega (arith, few, length-take (length bytes - nuls bytes) bytes) in
     let left : n - length (without_nuls bytes) ≡ nuls bytes = omega (arith, few, kept, long) in
     (λ i. take_all n (without_nuls bytes) (omega (arith, kept, long)) i ++ replicate (left i) 0)
-    ∙ ap (λ back. without_nuls bytes ++ back) (sym (back_nuls bytes))
-    ∙ take-append-drop (length bytes - nuls bytes) bytes
+    ∙ without_nuls-back bytes
 
 -- ---- scalars
 

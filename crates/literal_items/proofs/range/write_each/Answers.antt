@@ -5,10 +5,9 @@ use Rattle.std.proofs.Math.Nat.{mul-le-mul_right}
 use Rattle.std.proofs.lemmas.List.{take_all}
 use Rattle.elem_descr.specs.declared.descr.Descr.TheVariants.{Scalar as ScalarDescr}
 use Rattle.elem_descr.specs.Values.{number}
-use Rattle.elem_descr.specs.Encoding.{size}
+use Rattle.elem_descr.specs.Encoding.{is_value, size}
 use Rattle.elem_descr.specs.Items.{decode_item}
 use Rattle.elem_descr.specs.Blocks.{blocks}
-use Rattle.literal_items.specs.Numbers.{is_value}
 use Rattle.elem_descr.specs.Steps.{numbers_from}
 use Rattle.literal_items.proofs.Lists.{all_at, map_more}
 use Rattle.literal_items.proofs.Blocked.{map-blocks-put}

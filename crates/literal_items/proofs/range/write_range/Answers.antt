@@ -2,10 +2,9 @@ use Rattle.std.proofs.Common.{sym, ap, ◌∙◌, map, [], ◌∷◌}
 use Rattle.std.proofs.lemmas.Result.{err_from_is_err_and}
 use Rattle.elem_descr.specs.declared.descr.Descr.TheVariants.{Scalar as ScalarDescr}
 use Rattle.elem_descr.specs.Values.{number}
-use Rattle.elem_descr.specs.Encoding.{size}
+use Rattle.elem_descr.specs.Encoding.{is_value, size}
 use Rattle.elem_descr.specs.Items.{decode_item}
 use Rattle.elem_descr.specs.Blocks.{blocks}
-use Rattle.literal_items.specs.Numbers.{is_value}
 use Rattle.literal_items.proofs.Stepping.{range_items-refused, range_items-beyond, range_items-ok}
 use Rattle.std.specs.List.{list_all}
 use Rattle.literal_items.proofs.range.write_range.Goals as goal
