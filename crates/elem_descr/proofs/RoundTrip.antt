@@ -4,7 +4,7 @@ use Rattle.std.specs.Char.{is_ascii_digit}
 use Rattle.std.specs.Fmt.{decimal}
 use Rattle.std.specs.List.{IsDistinct, list_all}
 use Rattle.std.specs.Str.{bytes_eq}
-use Rattle.std.proofs.lemmas.Bool.{le-leb, and_parts}
+use Rattle.std.proofs.lemmas.Bool.{le-leb}
 use Rattle.std.proofs.lemmas.Bool.Decides.{nat_tests}
 use Rattle.std.proofs.lemmas.Fmt.{decimal_nonempty}
 use Rattle.std.proofs.lemmas.List.{append-nil}
@@ -26,17 +26,17 @@ use Rattle.elem_descr.specs.Names.{is_legal_name}
 use Rattle.elem_descr.specs.Descriptors.{IsLegal, AreNamedWithin, InOrder, fields_of, listed, names_of, depth, leaf_count}
 use Rattle.elem_descr.specs.Items.{item_size, leaves_of, leaves_from}
 use Rattle.elem_descr.specs.FormatLetters.{is_aligning, own_alignment, aligned_to}
-use Rattle.elem_descr.specs.RecordBuilding.{Partial, is_taken, added, widened, closed_size, closed_record}
+use Rattle.elem_descr.specs.RecordBuilding.{Partial, is_taken, widened, closed_size, closed_record}
 use Rattle.elem_descr.specs.FormatTexts.{format}
 use Rattle.elem_descr.specs.inside.Turns.{format_in_turns, member_at, Reader, is_named, marked, closing, scalar_in, pad_in, body_in, next_field, turn, members, record_within, nothing_follows, scalar_alone, record_alone, alone}
 use Rattle.elem_descr.specs.WrittenFormats.{written_mark, written_count, written_letter, written_scalar, written_pad, written_name, braced, written_fields, written_format}
 use Rattle.elem_descr.proofs.Binds.{after_ok}
-use Rattle.elem_descr.specs.DecimalLaws.{digits-decimal}
+use Rattle.elem_descr.specs.DigitLaws.{digits-decimal}
+use Rattle.elem_descr.specs.BuildingLaws.{packed, multiple_of_one, field_of, grown, name_ok, added_ok, names, not_taken}
 use Rattle.elem_descr.specs.DescriptorLaws.{listed-fields_of, InOrder-within, some_depth}
 use Rattle.elem_descr.specs.ItemLaws.{length-leaves_from}
 use Rattle.elem_descr.proofs.SameFormat.{same_format}
-use Rattle.elem_descr.proofs.WrittenMembers.{mark_of, marked_digits, after_letter, reads_scalar, reads_pad, reads_name}
-use Rattle.elem_descr.specs.BuildingLaws.{names, packed, field_of, grown, multiple_of_one, name_ok, not_taken}
+use Rattle.elem_descr.proofs.WrittenMembers.{both, mark_of, marked_digits, after_letter, reads_scalar, reads_pad, reads_name}
 
 unaligned : (scalar : Scalar) → aligned_to (mark_of scalar) (own_alignment scalar) ≡ 1
 unfolding mark_of
@@ -51,11 +51,6 @@ packed_body Aligned = refl
 packed_body Native = refl
 packed_body LittleMark = refl
 packed_body BigMark = refl
-
-added_ok : (levels leaves from : ℕ) (done : List Field) (name : List ℕ) (alignment : ℕ) (descr : Descr) → alignment ≡ 1 → leaves + length (leaves_of descr) ≤ 2048 → from + item_size descr ≤ 65536 → added (packed levels leaves from done) name alignment descr ≡ Ok (grown levels leaves from done name descr)
-unfolding added
-added_ok levels leaves from done name alignment descr one few small =
-    rw (one, le-leb (leaves + length (leaves_of descr)) 2048 few, multiple_of_one from, le-leb (from + item_size descr) 65536 small) refl
 
 -- what may follow the fields so far
 record MayGrow (leaves from : ℕ) (done : List Field) (name : List ℕ) (descr : Descr) : Type 0 where
@@ -119,7 +114,7 @@ reads_end within mark levels leaves bytes done rest some small (suc turns) l =
 
 no_brace_digits : (digits rest : List ℕ) → list_all is_ascii_digit digits ≡ true → 0 < length digits → closing (digits ++ rest) ≡ None
 no_brace_digits [] rest all some = absurd (omega arith)
-no_brace_digits (d ∷ digits) rest all some = no_brace_digit d (digits ++ rest) (and_parts (is_ascii_digit d) (list_all is_ascii_digit digits) all).0
+no_brace_digits (d ∷ digits) rest all some = no_brace_digit d (digits ++ rest) (both (is_ascii_digit d) (list_all is_ascii_digit digits) all).0
   where
     no_brace_digit : (d : ℕ) (rest : List ℕ) → is_ascii_digit d ≡ true → closing (d ∷ rest) ≡ None
     no_brace_digit d rest e = grind (arith, nat_tests)
@@ -134,7 +129,7 @@ no_brace_scalar (Int true Eight order) rest some small = refl
 no_brace_scalar (Int false Two order) rest some small = refl
 no_brace_scalar (Int false Four order) rest some small = refl
 no_brace_scalar (Int false Eight order) rest some small = refl
-no_brace_scalar (Bytes n) rest some small = no_brace_digits (decimal n) (115 ∷ rest) (digits-decimal n small) (decimal_nonempty n (omega arith))
+no_brace_scalar (Bytes n) rest some small = no_brace_digits (decimal n) (115 ∷ rest) (digits-decimal n (omega arith)) (decimal_nonempty n (omega arith))
 
 -- padding, where there is some
 reads_padding : (within : Reader) (gap levels leaves from : ℕ) (mark : Mark) (done : List Field) (rest : List ℕ) (r : Body × List ℕ) → from + gap ≤ 65536 → is_named rest ≡ false → Reads within mark (packed levels leaves (from + gap) done) rest r → Reads within mark (packed levels leaves from done) (written_pad gap ++ rest) r
@@ -217,7 +212,7 @@ behind_scalar levels leaves from bytes at done name scalar rest may =
       small = may.small;
       some = omega (arith, many);
       few = omega (arith, many, may.few);
-      legal = (and_parts (is_legal_name name) (list_all is_legal_name (names_of rest)) may.legal).1;
+      legal = (both (is_legal_name name) (list_all is_legal_name (names_of rest)) may.legal).1;
       distinct = rw join may.distinct;
       within = may.within;
       shallow = may.shallow;
@@ -234,7 +229,7 @@ behind_record levels leaves from bytes at done name size inner rest may =
       small = may.small;
       some = omega (arith, many);
       few = omega (arith, many, may.few);
-      legal = (and_parts (is_legal_name name) (list_all is_legal_name (names_of rest)) may.legal).1;
+      legal = (both (is_legal_name name) (list_all is_legal_name (names_of rest)) may.legal).1;
       distinct = rw join may.distinct;
       within = may.within.2;
       shallow = omega (arith, may.shallow);
@@ -276,7 +271,7 @@ reads_fields (scalar_field name at scalar more) levels mark leaves from bytes do
     let descr = ScalarDescr scalar in
     let ends = InOrder-within (at + size scalar) more bytes may.order.2 in
     let gap : from + (at - from) ≡ at = omega (arith, may.order.0) in
-    let legal = and_parts (is_legal_name name) (list_all is_legal_name (names_of more)) may.legal in
+    let legal = both (is_legal_name name) (list_all is_legal_name (names_of more)) may.legal in
     let grows = next_grows levels leaves from bytes at done name descr (fields_of more) may.order.1 (omega (arith, may.small)) legal.0 (omega (arith, may.few)) may.distinct (omega (arith, may.counted)) in
     let tail = written_fields (at + size scalar) more bytes ++ 125 ∷ rest in
     let result : Body × List ℕ = (body_of bytes (done ++ field_of name at descr ∷ fields_of more) (mark_behind (mark_of scalar) more), rest) in
@@ -292,7 +287,7 @@ reads_fields (record_field name at size inner more) (suc levels) mark leaves fro
     let descr = RecordDescr structure in
     let ends = InOrder-within (at + size) more bytes may.order.3 in
     let gap : from + (at - from) ≡ at = omega (arith, may.order.0) in
-    let legal = and_parts (is_legal_name name) (list_all is_legal_name (names_of more)) may.legal in
+    let legal = both (is_legal_name name) (list_all is_legal_name (names_of more)) may.legal in
     let grows = next_grows (suc levels) leaves from bytes at done name descr (fields_of more) may.order.1 (omega (arith, may.small)) legal.0 (omega (arith, may.few)) may.distinct (omega (arith, may.counted, length-leaves_from 0 inner)) in
     let tail = written_fields (at + size) more bytes ++ 125 ∷ rest in
     let behind = mark_behind mark inner in

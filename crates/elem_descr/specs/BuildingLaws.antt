@@ -1,24 +1,21 @@
--- Records that are built field by field, as their bytes lie.
-use Rattle.std.proofs.Common.{ℕ, List, map, ◌+◌, [], ◌∷◌, ◌++◌, length, ◌≡◌, arith, ◌<◌, ◌-◌, false, Ok, refl}
+-- Records built of fields that nothing aligns.
+use Rattle.std.proofs.Common.{◌≡◌, ◌≤◌, ◌<◌, ◌+◌, ℕ, false, List, [], ◌∷◌, ◌++◌, length, map, Ok, refl, arith}
 use Rattle.std.specs.Int.{next_multiple_of}
-use Rattle.std.proofs.lemmas.Bool.{lt-ltb}
 use Rattle.std.specs.List.{IsDistinct, AllByRecursion}
 use Rattle.std.specs.Str.{bytes_eq}
+use Rattle.std.proofs.lemmas.Bool.{le-leb, lt-ltb}
 use Rattle.elem_descr.specs.declared.descr.Field.{Field}
-use Rattle.elem_descr.specs.Encoding.{size}
-use Rattle.elem_descr.specs.RecordBuilding.{Partial, is_taken, checked_name}
 use Rattle.elem_descr.specs.declared.descr.Descr.{Descr}
-use Rattle.elem_descr.specs.Items.{item_size, leaves_of}
 use Rattle.elem_descr.specs.declared.descr.Descr.TheVariants.{Record as RecordDescr}
 use Rattle.elem_descr.specs.Fields.{Fields}
+use Rattle.elem_descr.specs.Items.{item_size, leaves_of}
+use Rattle.elem_descr.specs.RecordBuilding.{Partial, is_taken, checked_name, added}
 
--- the name of a field that follows is not taken
-abbrev pub names : List Field → List (List ℕ)
-names fields = map (λ field. field.name) fields
-
--- a record as far as it is read, where nothing aligns
 abbrev pub packed : ℕ → ℕ → ℕ → List Field → Partial
 packed levels leaves bytes done = record { size = bytes; alignment = 1; leaves = leaves; levels = levels; fields = done }
+
+pub multiple_of_one : (n : ℕ) → next_multiple_of n 1 ≡ n
+multiple_of_one n = omega arith
 
 abbrev pub field_of : List ℕ → ℕ → Descr → Field
 field_of name at descr = record { name = name; at = at; descr = descr }
@@ -27,13 +24,19 @@ field_of name at descr = record { name = name; at = at; descr = descr }
 abbrev pub grown : ℕ → ℕ → ℕ → List Field → List ℕ → Descr → Partial
 grown levels leaves from done name descr = packed levels (leaves + length (leaves_of descr)) (from + item_size descr) (done ++ field_of name from descr ∷ [])
 
-pub multiple_of_one : (n : ℕ) → next_multiple_of n 1 ≡ n
-multiple_of_one n = omega arith
-
 pub name_ok : (p : Partial) (name : List ℕ) → is_taken p.fields name ≡ false → length p.fields < 64 → checked_name p name ≡ Ok tt
 unfolding checked_name
 name_ok p name new few = rw (new, lt-ltb (length p.fields) 64 few) refl
 
+pub added_ok : (levels leaves from : ℕ) (done : List Field) (name : List ℕ) (alignment : ℕ) (descr : Descr) → alignment ≡ 1 → leaves + length (leaves_of descr) ≤ 2048 → from + item_size descr ≤ 65536 → added (packed levels leaves from done) name alignment descr ≡ Ok (grown levels leaves from done name descr)
+unfolding added
+added_ok levels leaves from done name alignment descr one few small =
+    rw (one, le-leb (leaves + length (leaves_of descr)) 2048 few, multiple_of_one from, le-leb (from + item_size descr) 65536 small) refl
+
+abbrev pub names : List Field → List (List ℕ)
+names fields = map (λ field. field.name) fields
+
+-- the name of a field that follows is not taken
 pub not_taken : (done later : List Field) (field : Field) → IsDistinct bytes_eq (names (done ++ field ∷ later)) → is_taken done field.name ≡ false
 unfolding IsDistinct
 not_taken [] later field h = refl
@@ -43,5 +46,6 @@ not_taken (first ∷ done) later field h = rw (apart first.name done later field
     apart name [] later field h = h.0
     apart name (first ∷ done) later field h = apart name done later field h.1
 
+-- the record with these fields, so many bytes long
 abbrev pub record_type : ℕ → Fields → Descr
 record_type size fields = RecordDescr (record { size = size; fields = fields })

@@ -1,6 +1,7 @@
 -- The values of a scalar as bytes.
 use Rattle.std.specs.Prelude.{◌≡◌, ◌⊎◌, ◌↔◌, ℕ, ℤ, pos, neg_ℤ, ◌-◌, ◌*◌, ◌^◌, ◌+ℤ◌, ◌≤ℤ◌, ◌<ℤ◌, Bool, true, false, List, [], ◌∷◌, ◌++◌, length, take, replicate, nat_eq, if◌then◌else◌, unsigned_abs}
 use Rattle.std.specs.Int.{int_rem_euclid}
+use Rattle.std.specs.Ordering.{int_eq}
 use Rattle.std.specs.List.{suffix_len}
 use Rattle.byteorder.specs.Endian.{little_number, big_number, little_bytes, big_bytes, twos_complement}
 use Rattle.elem_descr.specs.declared.scalar.Order.{Order}
@@ -72,6 +73,10 @@ IsValueOf BoolScalar value = (value ≡ pos 0) ⊎ (value ≡ pos 1)
 IsValueOf (Byte signed) value = FitsBytes signed 1 value
 IsValueOf (Int signed width order) value = FitsBytes signed (width_size width) value
 IsValueOf (Bytes n) value = ⊥
+
+-- whether a number is a value of this scalar: wrapping leaves it as it is
+abbrev pub is_value : Scalar → ℤ → Bool
+is_value scalar value = int_eq (wrap scalar value) value
 
 -- two numbers that differ by a multiple of d
 abbrev pub DifferByMultiple : ℕ → ℤ → ℤ → Type 0

@@ -18,6 +18,9 @@ pub mod WrittenFormats
 pub mod DescrTexts
 pub mod ItemLaws
 pub mod DescriptorLaws
+pub mod BuildingLaws
+pub mod DigitLaws
+pub mod SpellingLaws
 pub mod StepLaws
 pub mod EncodingLaws
 pub mod RefusalLaws
@@ -26,6 +29,3 @@ pub mod NumberLaws
 pub mod NulLaws
 pub mod ListLaws
 pub mod ByteLaws
-pub mod BuildingLaws
-pub mod DecimalLaws
-pub mod SpellingLaws

@@ -1,7 +1,7 @@
 -- What is written as a type string reads as the same scalar.
 use Rattle.std.proofs.Common.{◌≡◌, ◌≤◌, ℕ, true, false, [], ◌∷◌, Ok, refl, arith, lit<}
 use Rattle.std.specs.Fmt.{decimal}
-use Rattle.std.proofs.lemmas.Bool.Decides.{nat_tests}
+use Rattle.std.proofs.lemmas.Bool.{le-leb, ne_eqb}
 use Rattle.std.proofs.lemmas.Fmt.{decimal_digit}
 use Rattle.elem_descr.specs.declared.scalar.Order.TheVariants.{Little, Big}
 use Rattle.elem_descr.specs.declared.scalar.Width.TheVariants.{Two, Four, Eight}
@@ -9,7 +9,7 @@ use Rattle.elem_descr.specs.declared.scalar.Scalar.{Scalar}
 use Rattle.elem_descr.specs.declared.scalar.Scalar.TheVariants.{Bool as BoolScalar, Byte, Int, Bytes}
 use Rattle.elem_descr.specs.Encoding.{size}
 use Rattle.elem_descr.specs.TypeStrings.{typestr, spelling, of_length, byte_string}
-use Rattle.elem_descr.specs.DecimalLaws.{digits-decimal, value_of-decimal}
+use Rattle.elem_descr.specs.DigitLaws.{digits-decimal, value_of-decimal}
 
 pub one : decimal 1 ≡ 49 ∷ []
 one = decimal_digit 1 (lit< tt)
@@ -24,10 +24,10 @@ pub eight : decimal 8 ≡ 56 ∷ []
 eight = decimal_digit 8 (lit< tt)
 
 legal_length : (n : ℕ) → 1 ≤ n → n ≤ 65536 → of_length n ≡ Ok (Bytes n)
-legal_length n some small = grind (arith, nat_tests)
+legal_length n some small = rw (ne_eqb n 0 (λ none. omega (arith, none)), le-leb n 65536 small) refl
 
 reads_length : (n : ℕ) → 1 ≤ n → n ≤ 65536 → byte_string (decimal n) ≡ Ok (Bytes n)
-reads_length n some small = rw (digits-decimal n small, value_of-decimal n small) (legal_length n some small)
+reads_length n some small = rw (digits-decimal n (omega arith), value_of-decimal n (omega arith)) (legal_length n some small)
 
 pub reads_spelling : (scalar : Scalar) → 1 ≤ size scalar → size scalar ≤ 65536 → typestr (spelling scalar) ≡ Ok scalar
 reads_spelling BoolScalar some small = rw one refl

@@ -1,10 +1,19 @@
 //! Decimal digits.
-ghost use Rattle.std.specs.Prelude.{◌≡◌, min, IsTrue};
+ghost use Rattle.std.specs.Prelude.{◌≡◌, ◌≤◌, ◌+◌, ◌^◌, length, min, IfSome};
 ghost use Rattle.std.specs.Char.{is_ascii_digit};
-ghost use Rattle.std.specs.List.{list_all};
+ghost use Rattle.std.specs.List.{list_all, prefix_len};
 ghost use Rattle.elem_descr.specs.TypeStrings.{value_of};
+ghost use Rattle.elem_descr.specs.FormatLetters.{count_of};
 
 use crate::scalar::MAX_ITEM_SIZE;
+
+/// How many digits stand at the front.
+pub fn digits_len(text: &[u8]) -> usize
+    ensures value { result ≡ prefix_len is_ascii_digit text.now }
+    ensures within { result ≤ length text.now }
+{
+    text.iter().take_while(|b| b.is_ascii_digit()).count()
+}
 
 pub fn are_digits(text: &[u8]) -> bool
     ensures { result ≡ list_all is_ascii_digit text.now }
@@ -12,15 +21,29 @@ pub fn are_digits(text: &[u8]) -> bool
     text.iter().all(|b| b.is_ascii_digit())
 }
 
-/// The number that digits spell, or one past the most bytes of an item where it is larger: the
-/// digits may be thousands.
-pub fn capped_value(digits: &[u8]) -> usize
-    requires { IsTrue (list_all is_ascii_digit digits.now) }
-    ensures { result ≡ min (value_of digits.now) 65537 }
+/// The number that digits spell, or one past `most` where it is larger: the digits may be thousands.
+pub fn capped_value(digits: &[u8], most: usize) -> usize
+    requires { most ≤ 2 ^ 32 }
+    ensures { result ≡ min (value_of digits.now) (most + 1) }
 {
     let mut value = 0usize;
     for digit in digits {
-        value = (value * 10 + usize::from(*digit - b'0')).min(MAX_ITEM_SIZE + 1);
+        value = (value * 10 + usize::from(digit.saturating_sub(b'0'))).min(most + 1);
     }
     value
+}
+
+/// The count that digits spell: 1 where there are none, `None` where no item has as many bytes.
+pub fn count(digits: &[u8]) -> Option<usize>
+    ensures value { result ≡ count_of digits.now }
+    ensures within { IfSome result (λ n. n ≤ 65536) }
+{
+    if digits.is_empty() {
+        return Some(1);
+    }
+    let value = capped_value(digits, MAX_ITEM_SIZE);
+    if value > MAX_ITEM_SIZE {
+        return None;
+    }
+    Some(value)
 }

@@ -3,7 +3,7 @@
 
 pub mod descr;
 pub mod descr_text;
-mod digits;
+pub mod digits;
 mod format_text;
 pub mod leaf;
 pub mod name;
@@ -19,7 +19,7 @@ pub use format_text::read::format_read;
 pub use format_text::write::format_write;
 pub use leaf::Leaf;
 pub use name::FieldName;
-pub use number::{num_read, num_write};
+pub use number::{is_value, num_read, num_write};
 pub use record_builder::RecordBuilder;
 pub use refusal::Refusal;
 pub use scalar::{BytesLen, Order, Scalar, Width};

@@ -1,7 +1,7 @@
 //! Numbers as bytes, in either byte order.
 ghost use Rattle.std.specs.Prelude.{◌≡◌, ◌≤◌, length};
 ghost use Rattle.elem_descr.specs.Values.{number};
-ghost use Rattle.elem_descr.specs.Encoding.{IsNumber, size, decode, encode, wrap, integer, number_in, bytes_of, low_bits, IsValueOf, WrapsTo};
+ghost use Rattle.elem_descr.specs.Encoding.{IsNumber, size, decode, encode, wrap, integer, number_in, bytes_of, low_bits, IsValueOf, is_value, WrapsTo};
 
 use crate::scalar::{Order, Scalar};
 use byteorder::{BigEndian, ByteOrder, LittleEndian};
@@ -78,4 +78,16 @@ pub fn num_write(scalar: Scalar, value: i128, bytes: &mut [u8])
     ensures in_range_stays { IsValueOf scalar value → wrap scalar value ≡ value }
 {
     wrapped_write(scalar, value, bytes);
+}
+
+/// Whether a number is a value of the scalar: it is the same when it is written and read again.
+#[tactic(auto, using(crate::specs::NumberLaws::number_size))]
+pub fn is_value(scalar: &Scalar, value: i128) -> bool
+    requires { IsNumber scalar.now }
+    ensures { result ≡ is_value scalar.now value }
+{
+    let mut room = [0; 8];
+    let bytes = &mut room[..scalar.size()];
+    num_write(*scalar, value, bytes);
+    num_read(*scalar, bytes) == value
 }

@@ -4,12 +4,12 @@ ghost use Rattle.elem_descr.specs.TypeStrings.{marked, number_spelled, byte_stri
 
 use crate::digits::{are_digits, capped_value};
 use crate::refusal::Refusal;
-use crate::scalar::{BytesLen, Order, Scalar, Width};
+use crate::scalar::{BytesLen, MAX_ITEM_SIZE, Order, Scalar, Width};
 use itoa::Buffer;
 use std::alloc::{AllocError, Global};
 
 /// The byte order that a mark at the front means, and what follows the mark.
-pub(crate) fn marked(text: &[u8]) -> (Order, &[u8])
+pub fn marked(text: &[u8]) -> (Order, &[u8])
     ensures { (result.0, result.1.now) ≡ marked text.now }
 {
     match text {
@@ -67,7 +67,7 @@ fn byte_string(digits: &[u8]) -> Result<Scalar, Refusal>
     if !are_digits(digits) {
         return Err(Refusal::BadDescriptor);
     }
-    let value = capped_value(digits);
+    let value = capped_value(digits, MAX_ITEM_SIZE);
     if value == 0 {
         return Err(Refusal::DescriptorLeftOut);
     }

@@ -18,7 +18,7 @@ use Rattle.shape_strides.specs.declared.runs.Run.{Run}
 use Rattle.shape_strides.specs.Addresses.{natural}
 use Rattle.shape_strides.specs.Limits.{max_bytes}
 use Rattle.shape_strides.specs.Runs.{run_offsets}
-use Rattle.overlap_copy.specs.RunLaws.{length-run_offsets}
+use Rattle.shape_strides.specs.WalkLaws.{length-run_offsets}
 use Rattle.view_ops.specs.Slices.{is_place}
 use Rattle.fancy_index.specs.Sources.{number_from}
 use Rattle.fancy_index.specs.declared.words.Reading.{Reading}

@@ -12,7 +12,7 @@ use Rattle.elem_descr.specs.declared.scalar.Scalar.{Scalar}
 use Rattle.elem_descr.specs.declared.scalar.Scalar.TheVariants.{Bool as BoolScalar, Byte, Int as IntScalar, Bytes as BytesScalar}
 use Rattle.elem_descr.specs.declared.descr.Descr.TheVariants.{Scalar as ScalarDescr}
 use Rattle.elem_descr.specs.Values.{LeafValue, number}
-use Rattle.elem_descr.specs.Encoding.{IsNumber, IsValueOf, FitsBytes, size, width_size, integer, low_bits, wrap, decode, encode}
+use Rattle.elem_descr.specs.Encoding.{IsNumber, IsValueOf, FitsBytes, is_value, size, width_size, integer, low_bits, wrap, decode, encode}
 use Rattle.elem_descr.specs.EncodingLaws.{low_bits-lt, decode_encode}
 use Rattle.elem_descr.specs.WrapLaws.{integer-low_bits, int_wrap-low_bits}
 use Rattle.elem_descr.specs.Items.{decode_item}
@@ -20,14 +20,12 @@ use Rattle.elem_descr.specs.Blocks.{blocks, items_in}
 use Rattle.elem_descr.specs.Steps.{numbers_from}
 use Rattle.elem_descr.specs.StepLaws.{next_number, length-numbers_from}
 use Rattle.elem_descr.specs.ByteLaws.{length-bytes_of}
-use Rattle.elem_descr.specs.NumberLaws.{fits_eight_bytes}
+use Rattle.elem_descr.specs.NumberLaws.{fits_eight_bytes, value_decides}
 use Rattle.raw_block.specs.Bytes.{joined}
 use Rattle.raw_block.specs.JoinedLaws.{length-joined}
 use Rattle.machine_numbers.specs.Bits.{AreBits}
-use Rattle.literal_items.specs.Numbers.{is_value}
 use Rattle.literal_items.specs.inside.Numbered.{numbered}
 use Rattle.literal_items.proofs.Blocked.{map-blocks-put}
-use Rattle.literal_items.proofs.Ends.{is_in}
 use Rattle.literal_items.proofs.Scalars.{scalar_read, value_is}
 
 -- ---- the lowest bits of the next number
@@ -67,7 +65,7 @@ no_bits true = refl
 
 pub bits_of_value : (scalar : Scalar) (z : ℤ) (bits : ℕ) → IsNumber scalar → is_value scalar z ≡ true → bits ≡ low_bits 8 z → AreBits bits z
 bits_of_value scalar z bits kind held is =
-    let fits = fits_eight scalar z (is_in scalar z kind held) in
+    let fits = fits_eight scalar z ((value_decides scalar z kind).0 held) in
     record {
       low = sym is;
       zero = λ none. sym (integer-low_bits fits.0 8 z (omega arith) fits.1) ∙ ap (integer fits.0 8) (sym is ∙ none) ∙ no_bits fits.0;

@@ -3,26 +3,19 @@ use Rattle.std.proofs.Common.{◌≡◌, ◌-◌, suc, Bool, get_or, ℕ, ◌*�
 use Rattle.std.proofs.Math.IntN.{*ℤ-zero}
 use Rattle.std.proofs.Math.Nat.{mul-le-mul_left}
 use Rattle.std.proofs.lemmas.Bool.{cases_lt, cases_Bool}
-use Rattle.std.proofs.lemmas.Bool.Decides.{Decides-int_eq}
 use Rattle.std.proofs.lemmas.Int.{ints}
 use Rattle.std.proofs.lemmas.List.FromFn.{get_or-map-range_with_len}
 use Rattle.std.proofs.lemmas.List.Sums.{list_all-from_AllPass}
 use Rattle.std.specs.List.{list_all}
+use Rattle.std.specs.Prelude.{FitsSigned}
+use Rattle.std.specs.Int.{w128}
 use Rattle.elem_descr.specs.declared.scalar.Scalar.{Scalar}
 use Rattle.elem_descr.specs.declared.scalar.Scalar.TheVariants.{Bool as BoolScalar, Byte, Int as IntScalar, Bytes as BytesScalar}
-use Rattle.elem_descr.specs.Encoding.{IsNumber, IsValueOf, FitsBytes, width_size, wrap}
+use Rattle.elem_descr.specs.Encoding.{IsNumber, IsValueOf, FitsBytes, is_value, width_size}
 use Rattle.elem_descr.specs.Steps.{numbers_from}
-use Rattle.elem_descr.specs.NumberLaws.{wrap_fits, wrap_stays}
+use Rattle.elem_descr.specs.NumberLaws.{value_decides}
 use Rattle.elem_descr.specs.StepLaws.{length-numbers_from, number_at}
-use Rattle.literal_items.specs.Numbers.{is_value}
 use Rattle.literal_items.proofs.Lists.{all_fails}
-
--- a value of a scalar
-pub is_in : (scalar : Scalar) (z : ℤ) → IsNumber scalar → is_value scalar z ≡ true → IsValueOf scalar z
-is_in scalar z kind held = let same = (Decides-int_eq (wrap scalar z) z).0 held in subst (IsValueOf scalar) same (wrap_fits scalar z kind)
-
-in_is : (scalar : Scalar) (z : ℤ) → IsValueOf scalar z → is_value scalar z ≡ true
-in_is scalar z value = (Decides-int_eq (wrap scalar z) z).1 (wrap_stays scalar z value)
 
 bytes_between : (signed : Bool) (n : ℕ) (a z b : ℤ) → a ≤ℤ z → z ≤ℤ b → FitsBytes signed n a → FitsBytes signed n b → FitsBytes signed n z
 bytes_between false n a z b low high there here = (omega (arith, ints, there.0), omega (arith, ints, here.1))
@@ -49,8 +42,8 @@ ends_are_values scalar start step count kind some first last =
     list_all-from_AllPass (is_value scalar) (numbers_from start step count) (λ k d low.
     let z = start +ℤ step *ℤ pos k in let near : k < count = omega (arith, low, length-numbers_from start step count) in
     let is : get_or (numbers_from start step count) k d ≡ z = get_or-map-range_with_len (λ j. start +ℤ step *ℤ pos j) 0 count k k d near (omega arith) in
-    let one = is_in scalar start kind first in let other = is_in scalar (start +ℤ step *ℤ pos (count - 1)) kind last in
-    ap (is_value scalar) is ∙ in_is scalar z (elim (between_ends start step k (count - 1) (omega arith)) [
+    let one = (value_decides scalar start kind).0 first in let other = (value_decides scalar (start +ℤ step *ℤ pos (count - 1)) kind).0 last in
+    ap (is_value scalar) is ∙ (value_decides scalar z kind).1 (elim (between_ends start step k (count - 1) (omega arith)) [
       | inl up ↦ value_between scalar start z (start +ℤ step *ℤ pos (count - 1)) up.0 up.1 one other
       | inr down ↦ value_between scalar (start +ℤ step *ℤ pos (count - 1)) z start down.0 down.1 other one
     ]))
@@ -68,3 +61,10 @@ pub first_fails : (scalar : Scalar) (start step : ℤ) (count : ℕ) → 0 < cou
 first_fails scalar start step count some fails =
     let long = length-numbers_from start step count in let none : step *ℤ pos 0 ≡ pos 0 = *ℤ-zero step in
     all_fails (is_value scalar) (numbers_from start step count) 0 start (omega arith) (number_at start step start count 0 some (omega (arith, ints, none))) fails
+
+-- the first is the start
+pub first_fits : (start step : ℤ) → FitsSigned w128 (start +ℤ step *ℤ pos 0) → FitsSigned w128 start
+first_fits start step fits =
+    let none : step *ℤ pos 0 ≡ pos 0 = *ℤ-zero step in
+    let same : start +ℤ step *ℤ pos 0 ≡ start = omega (arith, ints, none) in
+    subst (FitsSigned w128) same fits

@@ -1,15 +1,12 @@
 -- Items of one scalar.
-use Rattle.std.proofs.Common.{◌≡◌, ◌≤◌, ℕ, true, List, [], ◌∷◌, length, ℤ, ap, ◌∙◌, arith}
+use Rattle.std.proofs.Common.{◌≡◌, ℕ, true, List, [], ◌∷◌, length, ℤ, ap, ◌∙◌, arith}
 use Rattle.std.proofs.lemmas.List.{take_all}
 use Rattle.std.proofs.lemmas.Bool.Decides.{Decides-int_eq}
 use Rattle.elem_descr.specs.declared.scalar.Scalar.{Scalar}
-use Rattle.elem_descr.specs.declared.scalar.Scalar.TheVariants.{Bool as BoolScalar, Byte, Int, Bytes as BytesScalar}
-use Rattle.elem_descr.specs.declared.scalar.Width.TheVariants.{Two, Four, Eight}
 use Rattle.elem_descr.specs.declared.descr.Descr.TheVariants.{Scalar as ScalarDescr}
 use Rattle.elem_descr.specs.Values.{LeafValue, number}
-use Rattle.elem_descr.specs.Encoding.{IsNumber, size, wrap, decode}
+use Rattle.elem_descr.specs.Encoding.{is_value, size, wrap, decode}
 use Rattle.elem_descr.specs.Items.{decode_item}
-use Rattle.literal_items.specs.Numbers.{is_value}
 
 pub scalar_read : (scalar : Scalar) (item : List ℕ) (value : LeafValue) → length item ≡ size scalar → decode scalar item ≡ value → decode_item (ScalarDescr scalar) item ≡ value ∷ []
 scalar_read scalar item value whole is = ap (λ bytes. decode scalar bytes ∷ []) (take_all (size scalar) item (omega arith)) ∙ ap (λ v. v ∷ []) is
@@ -19,12 +16,3 @@ wrap_is scalar z held = (Decides-int_eq (wrap scalar z) z).0 held
 
 pub value_is : (scalar : Scalar) (z : ℤ) → is_value scalar z ≡ true → number (wrap scalar z) ≡ number z
 value_is scalar z held = ap number (wrap_is scalar z held)
-
--- a number has 8 bytes at most
-pub number_size : (scalar : Scalar) → IsNumber scalar → size scalar ≤ 8
-number_size BoolScalar is = omega arith
-number_size (Byte signed) is = omega arith
-number_size (Int signed Two order) is = omega arith
-number_size (Int signed Four order) is = omega arith
-number_size (Int signed Eight order) is = omega arith
-number_size (BytesScalar n) is = absurd is

@@ -12,13 +12,13 @@ use Rattle.elem_descr.specs.Steps.{is_before, numbers_from, IsGap}
 use Rattle.elem_descr.specs.Values.{LeafValue, number}
 use Rattle.elem_descr.specs.inside.Counts.{Counts}
 use Rattle.elem_descr.specs.StepLaws.{steps_end_below, abs_pos, next_number, between_back, between_forth, near_before, far_after, counted_within, stepped_first, length-numbers_from}
+use Rattle.elem_descr.specs.Encoding.{is_value}
 use Rattle.shape_strides.specs.Limits.{max_items}
 use Rattle.std.specs.Ordering.{int_eq}
 use Rattle.std.proofs.Math.IntN.{*ℤ_comm}
 use Rattle.std.proofs.Math.Nat.{mod-lt}
 use Rattle.std.proofs.lemmas.Int.{ints, clamps, by_lt_z, to_z-of_z, wrapping_add_onto, wrapping_mul_onto, int_wrap-add_left, int_wrap_fits}
 use Rattle.std.specs.Int.{w128, int_wrap, div_ceil, cast_signed, cast_unsigned}
-use Rattle.literal_items.specs.Numbers.{is_value}
 use Rattle.literal_items.proofs.Decided.{decided_first, decided_second, decided_ok}
 use Rattle.literal_items.specs.RangeItems.{range_count, range_numbers, range_length, range_items}
 

@@ -4,7 +4,6 @@ use Rattle.std.specs.Int.{int_max}
 use Rattle.std.specs.List.{list_all}
 use Rattle.std.proofs.lemmas.Int.{ints}
 use Rattle.elem_descr.specs.Steps.{stepped, IsGap}
-use Rattle.literal_items.specs.Numbers.{is_value}
 use Rattle.literal_items.proofs.Stepping.{numbers-divided, count-divided, range_length-large, range_length-ok, range_items-refused, range_items-ok}
 use Rattle.elem_descr.specs.declared.refusal.Refusal.TheVariants.{LiteralOutOfRange, NoSuchCast, TooLarge, ZeroStep}
 use Rattle.elem_descr.specs.declared.scalar.Order.TheVariants.{Little, Big}
@@ -15,6 +14,7 @@ use Rattle.elem_descr.specs.declared.descr.Descr.TheVariants.{Scalar as ScalarDe
 use Rattle.elem_descr.specs.Fields.{no_more, scalar_field, record_field}
 use Rattle.elem_descr.specs.Items.{encode_item}
 use Rattle.elem_descr.specs.Values.{number, text}
+use Rattle.elem_descr.specs.Encoding.{is_value}
 use Rattle.script_lang.specs.declared.literal.ScalarLiteral.TheVariants.{Integer, Boolean, Bytes}
 use Rattle.script_lang.specs.declared.literal.Literal.TheVariants.{Scalar as ScalarOf, Record as RecordOf}
 use Rattle.script_lang.specs.RecordValues.{no_values, scalar_value, record_value}

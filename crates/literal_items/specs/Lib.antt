@@ -1,4 +1,3 @@
-pub mod Numbers
 pub mod LiteralItems
 pub mod RangeItems
 pub mod inside

@@ -9,7 +9,7 @@ use Rattle.elem_descr.specs.declared.descr.Descr.{Descr}
 use Rattle.elem_descr.specs.declared.descr.Descr.TheVariants.{Scalar as ScalarDescr, Record as RecordDescr}
 use Rattle.elem_descr.specs.Refusals.{◌>>=◌, check}
 use Rattle.elem_descr.specs.Values.{LeafValue, number, text}
-use Rattle.elem_descr.specs.Encoding.{wrap, without_nuls}
+use Rattle.elem_descr.specs.Encoding.{is_value, wrap, without_nuls}
 use Rattle.elem_descr.specs.Fields.{Fields, no_more, scalar_field, record_field}
 use Rattle.elem_descr.specs.Items.{leaves_of}
 use Rattle.script_lang.specs.declared.literal.ScalarLiteral.{ScalarLiteral}
@@ -17,7 +17,6 @@ use Rattle.script_lang.specs.declared.literal.ScalarLiteral.TheVariants.{Integer
 use Rattle.script_lang.specs.declared.literal.Literal.{Literal}
 use Rattle.script_lang.specs.declared.literal.Literal.TheVariants.{Scalar as ScalarOf, Record as RecordOf}
 use Rattle.script_lang.specs.RecordValues.{Values, no_values, scalar_value, record_value}
-use Rattle.literal_items.specs.Numbers.{is_value}
 
 -- One value
 

@@ -8,8 +8,8 @@ use Rattle.elem_descr.specs.declared.scalar.Scalar.{Scalar}
 use Rattle.elem_descr.specs.Refusals.{◌>>=◌, check}
 use Rattle.elem_descr.specs.Steps.{stepped}
 use Rattle.elem_descr.specs.Values.{LeafValue, number}
+use Rattle.elem_descr.specs.Encoding.{is_value}
 use Rattle.shape_strides.specs.Limits.{max_items}
-use Rattle.literal_items.specs.Numbers.{is_value}
 
 -- the numbers: between the start and the stop there is room for no more than they are apart
 abbrev pub range_numbers : ℤ → ℤ → ℤ → List ℤ

@@ -3,8 +3,7 @@ ghost use Rattle.std.specs.Prelude.{◌≡◌, true, length, take};
 ghost use Rattle.elem_descr.specs.Encoding.{IsNumber, size, decode, encode, padded, without_nuls};
 ghost use Rattle.literal_items.specs.LiteralItems.{takes_number, is_castable, is_in_range, leaf_value};
 
-use crate::number::is_value;
-use elem_descr::{Scalar, num_write};
+use elem_descr::{Scalar, is_value, num_write};
 use script_lang::ScalarLiteral;
 
 /// Whether the literal can be a value of the scalar.
@@ -35,7 +34,7 @@ fn takes_number(scalar: &Scalar, value: &i128) -> bool
 {
     match scalar {
         Scalar::Bool => true,
-        _ => is_value(scalar, value),
+        _ => is_value(scalar, *value),
     }
 }
 

@@ -3,7 +3,6 @@
 
 pub mod item;
 mod leaf;
-mod number;
 pub mod range;
 
 pub use item::{can_be_item, write_item, write_items};

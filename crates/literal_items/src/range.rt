@@ -4,17 +4,15 @@ ghost use Rattle.std.specs.List.{list_all};
 ghost use Rattle.std.specs.Int.{w128};
 ghost use Rattle.elem_descr.specs.declared.descr.Descr.TheVariants.{Scalar as ScalarDescr};
 ghost use Rattle.elem_descr.specs.Refusals.{Gives};
-ghost use Rattle.elem_descr.specs.Encoding.{IsNumber, low_bits, size};
+ghost use Rattle.elem_descr.specs.Encoding.{IsNumber, is_value, low_bits, size};
 ghost use Rattle.elem_descr.specs.Blocks.{items_in};
 ghost use Rattle.elem_descr.specs.Steps.{is_before, numbers_from, IsGap};
 ghost use Rattle.raw_block.specs.Bytes.{joined};
 ghost use Rattle.shape_strides.specs.Limits.{max_items};
-ghost use Rattle.literal_items.specs.Numbers.{is_value};
 ghost use Rattle.literal_items.specs.RangeItems.{range_numbers, range_count, range_length, range_items};
 ghost use Rattle.literal_items.specs.inside.Numbered.{numbered};
 
-use crate::number::is_value;
-use elem_descr::{Refusal, Scalar};
+use elem_descr::{Refusal, Scalar, is_value};
 use machine_numbers::{Number, NumberTask, Ordered, on_number};
 use raw_block::{BlockBuilder, RawBlock};
 use std::alloc::Global;
@@ -74,7 +72,7 @@ fn are_values(scalar: &Scalar, start: &i128, step: &i128, count: usize) -> bool
     if count == 0 {
         return true;
     }
-    is_value(scalar, start) && is_value(scalar, &number_at(start, step, count - 1))
+    is_value(scalar, *start) && is_value(scalar, number_at(start, step, count - 1))
 }
 
 /// The lowest 64 bits of a number.

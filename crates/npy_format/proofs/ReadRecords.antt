@@ -2,8 +2,7 @@
 use Rattle.std.proofs.Common.{◌≡◌, ℕ, zero, suc, ◌+◌, ◌-◌, ◌^◌, ◌<◌, ◌≤◌, true, false, List, [], ◌∷◌, ◌++◌, map, length, codes, decimal, Some, Result, Ok, refl, sym, ap, subst, ◌∙◌, arith, append_assoc, length-append, add-zero, nat_eq}
 use Rattle.std.specs.List.{IsDistinct, list_all}
 use Rattle.std.specs.Str.{bytes_eq}
-use Rattle.std.proofs.Math.Nat.{min-eq_left}
-use Rattle.std.proofs.lemmas.Bool.{le-leb, ne_eqb, true≢false, and_parts}
+use Rattle.std.proofs.lemmas.Bool.{le-leb, ne_eqb, true≢false}
 use Rattle.std.proofs.lemmas.Fmt.{decimal_nonempty}
 use Rattle.std.proofs.lemmas.List.{append-nil}
 use Rattle.elem_descr.specs.declared.refusal.Refusal.{Refusal}
@@ -19,27 +18,22 @@ use Rattle.elem_descr.specs.Descriptors.{AreNamedWithin, InOrder, fields_of, nam
 use Rattle.elem_descr.specs.DescriptorLaws.{listed-fields_of, InOrder-within, some_depth}
 use Rattle.elem_descr.specs.Items.{item_size, leaves_of}
 use Rattle.elem_descr.specs.ItemLaws.{length-leaves_from}
-use Rattle.elem_descr.specs.TypeStrings.{value_of, spelling}
-use Rattle.elem_descr.specs.RecordBuilding.{Partial, is_taken, added, widened, closed_record}
-use Rattle.elem_descr.specs.BuildingLaws.{names, packed, field_of, grown, multiple_of_one, name_ok, not_taken}
+use Rattle.elem_descr.specs.TypeStrings.{spelling}
+use Rattle.elem_descr.specs.RecordBuilding.{Partial, is_taken, widened, closed_record}
+use Rattle.elem_descr.specs.BuildingLaws.{packed, field_of, grown, name_ok, added_ok, names, not_taken}
+use Rattle.elem_descr.specs.DigitLaws.{digits-decimal, count_of-decimal}
 use Rattle.elem_descr.specs.SpellingLaws.{reads_spelling}
 use Rattle.npy_format.specs.Values.{Square, Text}
 use Rattle.npy_format.specs.Listed.{Literal, Plain, Row, all_listed_values}
-use Rattle.npy_format.specs.Tokens.{capped}
 use Rattle.npy_format.specs.RecordLists.{pad_kind, type_in, field_in, entry_in, fields_in, record_in, descr_in, Reader}
 use Rattle.npy_format.specs.inside.Sound.{IsSound}
-use Rattle.npy_format.proofs.ReadTokens.{are_digits, is_value}
+use Rattle.npy_format.proofs.ReadTokens.{both}
 use Rattle.npy_format.proofs.ReadValues.{IsValue, entry_literal, gap_values, entry_values, quoted_value, list_value, entries_are, plain_spelling}
 use Rattle.npy_format.proofs.ValueLaws.{literals_of_listed}
 use Rattle.npy_format.specs.WrittenHeaders.{written_descr, entries}
 
 after_ok : {X Y : Type 0} (r : Result X Refusal) (x : X) (f : X → Result Y Refusal) → r ≡ Ok x → (r >>= f) ≡ f x
 after_ok r x f is = ap (λ q. q >>= f) is
-
-added_ok : (levels leaves from : ℕ) (done : List Field) (name : List ℕ) (descr : Descr) → leaves + length (leaves_of descr) ≤ 2048 → from + item_size descr ≤ 65536 → added (packed levels leaves from done) name 1 descr ≡ Ok (grown levels leaves from done name descr)
-unfolding added
-added_ok levels leaves from done name descr few small =
-    rw (le-leb (leaves + length (leaves_of descr)) 2048 few, multiple_of_one from, le-leb (from + item_size descr) 65536 small) refl
 
 -- what may follow the fields so far
 record MayGrow (leaves from : ℕ) (done : List Field) (name : List ℕ) (descr : Descr) : Type 0 where
@@ -59,15 +53,14 @@ unfolding field_in
 reads_entry within levels leaves from done name type descr may reads =
     let p = packed levels leaves from done in
     rw (literals_of_listed (Plain (Text name) ∷ (type ∷ [])), legal_some name may.legal, may.legal)
-    (after_ok _ _ _ reads ∙ after_ok _ _ _ (name_ok p name may.new may.few) ∙ added_ok levels leaves from done name descr may.counted may.small)
+    (after_ok _ _ _ reads ∙ after_ok _ _ _ (name_ok p name may.new may.few) ∙ added_ok levels leaves from done name 1 descr refl may.counted may.small)
 
 -- or a gap
 pad_text : (n : ℕ) → 1 ≤ n → n ≤ 65536 → pad_kind (86 ∷ decimal n) ≡ Ok (Some n)
 pad_text n some small =
     let big : n < 2 ^ 64 = omega (arith, small) in
     let long : nat_eq (length (decimal n)) 0 ≡ false = ne_eqb (length (decimal n)) 0 (λ same. omega (arith, same, decimal_nonempty n big)) in
-    let value : capped (value_of (decimal n)) ≡ n = ap capped (is_value n big) ∙ min-eq_left (omega (arith, small)) in
-    rw (long, are_digits n big, value, le-leb n 65536 small) refl
+    rw (long, digits-decimal n big, count_of-decimal n small) refl
 
 reads_gap : (within : Reader) (levels leaves from n : ℕ) (done : List Field) → 1 ≤ n → from + n ≤ 65536 → entry_in within (packed levels leaves from done) (entry_literal [] (Plain (Text (codes "|V" ++ decimal n)))) ≡ Ok (packed levels leaves (from + n) done)
 unfolding widened
@@ -146,7 +139,7 @@ fields_read no_more levels leaves from bytes done may =
 fields_read (scalar_field name at scalar rest) levels leaves from bytes done may =
     let descr = ScalarDescr scalar in
     let ends = InOrder-within (at + size scalar) rest bytes may.order.2 in
-    let legal = and_parts (is_legal_name name) (list_all is_legal_name (names_of rest)) may.legal in
+    let legal = both (is_legal_name name) (list_all is_legal_name (names_of rest)) may.legal in
     let later = behind_first levels leaves at bytes done name descr rest may.order.2 may.small (omega (arith, may.few)) legal.1 may.distinct may.within (omega (arith, may.shallow)) (omega (arith, may.counted)) in
     field_and_more levels leaves from at bytes done name (Plain (Text (spelling scalar))) descr rest may.order.0 (omega (arith, ends, may.small)) legal.0 (omega (arith, may.few)) may.distinct (omega (arith, may.counted))
     (scalar_read scalar (record_in levels leaves) may.order.1 (omega (arith, ends, may.small)))
@@ -157,7 +150,7 @@ fields_read (record_field name at width inner rest) (suc levels) leaves from byt
     let descr = RecordDescr structure in
     let many = length-leaves_from 0 inner in
     let ends = InOrder-within (at + width) rest bytes may.order.3 in
-    let legal = and_parts (is_legal_name name) (list_all is_legal_name (names_of rest)) may.legal in
+    let legal = both (is_legal_name name) (list_all is_legal_name (names_of rest)) may.legal in
     let later = behind_first (suc levels) leaves at bytes done name descr rest may.order.3 may.small (omega (arith, may.few)) legal.1 may.distinct may.within.2 (omega (arith, may.shallow)) (omega (arith, may.counted, many)) in
     let inside : MayRead levels leaves 0 width [] inner =
     record { order = may.order.2; small = omega (arith, ends, may.small); few = omega (arith, may.within.0.few); legal = may.within.0.named; distinct = may.within.0.distinct; within = may.within.1; shallow = omega (arith, may.shallow); counted = omega (arith, may.counted) } in

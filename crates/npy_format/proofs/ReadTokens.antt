@@ -1,21 +1,25 @@
 -- The tokens of a text that is written.
-use Rattle.std.proofs.Common.{◌≡◌, ℕ, zero, suc, ◌+◌, ◌-◌, ◌^◌, ◌<◌, ◌≤◌, Bool, true, false, List, [], ◌∷◌, ◌++◌, length, get_or, take, drop, replicate, refl, sym, ap, subst, ◌∙◌, arith, codes, decimal, length-append}
+use Rattle.std.proofs.Common.{◌≡◌, ℕ, zero, suc, ◌+◌, ◌^◌, ◌<◌, ◌≤◌, Bool, true, false, ◌&&◌, List, [], ◌∷◌, ◌++◌, length, get_or, take, drop, replicate, refl, sym, ap, subst, ◌∙◌, arith, codes, decimal, length-append}
 use Rattle.std.specs.Prelude.{nat_eq, if◌then◌else◌}
 use Rattle.std.specs.Char.{is_ascii_digit, is_ascii_alphabetic}
 use Rattle.std.specs.List.{list_all, prefix_len}
 use Rattle.std.proofs.Math.Seq.{take-append_seam, drop-append_seam}
-use Rattle.std.proofs.lemmas.Bool.{ne_eqb, and_parts}
+use Rattle.std.proofs.lemmas.Bool.{true≢false, ne_eqb}
 use Rattle.std.proofs.lemmas.Bool.Decides.{nat_tests}
-use Rattle.std.proofs.lemmas.Fmt.{first_decimal, decimal_nonempty, digits_decimal, digits_value-decimal, decimal_digit}
+use Rattle.std.proofs.lemmas.Fmt.{first_decimal, decimal_nonempty, decimal_digit}
 use Rattle.std.proofs.Math.Nat.{min-eq_left}
 use Rattle.elem_descr.specs.TypeStrings.{value_of}
-use Rattle.elem_descr.specs.DecimalLaws.{numerals}
+use Rattle.elem_descr.specs.DigitLaws.{digits-decimal, value_of-decimal}
 use Rattle.shape_strides.specs.Limits.{max_items}
 use Rattle.npy_format.specs.Tokens.{Token, Text, Integer, Symbol, Stray, is_space, is_quote, is_plain_byte, text_token, ended_text, capped, is_integer, behind_long, integer_token, word_token, token_from, unspaced_text, first_token, tokens_in}
 
 -- the tokens of a text, in turns enough for its bytes
 abbrev pub Scans : List ℕ → List Token → Type 0
 Scans text toks = (turns : ℕ) → length text ≤ turns → tokens_in turns text ≡ toks
+
+pub both : (a b : Bool) → (a && b) ≡ true → (a ≡ true) × (b ≡ true)
+both true b is = (refl, is)
+both false b is = absurd (true≢false (sym is))
 
 -- nothing but the end of the line
 pub scan_end : Scans (codes "\n") []
@@ -49,7 +53,7 @@ scan_token b rest token behind toks begins is shorter more (suc turns) few =
 prefix_all : (p : ℕ → Bool) (xs : List ℕ) (b : ℕ) (rest : List ℕ) → list_all p xs ≡ true → p b ≡ false → prefix_len p (xs ++ (b ∷ rest)) ≡ length xs
 prefix_all p [] b rest all stops = rw stops refl
 prefix_all p (x ∷ xs) b rest all stops =
-    let parts = and_parts (p x) (list_all p xs) all in
+    let parts = both (p x) (list_all p xs) all in
     rw parts.0 (omega (arith, prefix_all p xs b rest parts.1 stops))
 
 -- a string between apostrophes
@@ -62,12 +66,6 @@ scan_quoted text rest toks plain more =
     scan_token 39 all (Text text) rest toks refl is (omega (arith, length-append text (39 ∷ rest))) more
 
 -- ---- numbers
-
-pub are_digits : (n : ℕ) → n < 2 ^ 64 → list_all is_ascii_digit (decimal n) ≡ true
-are_digits n small = digits_decimal numerals n small
-
-pub is_value : (n : ℕ) → n < 2 ^ 64 → value_of (decimal n) ≡ n
-is_value n small = digits_value-decimal numerals n small
 
 -- the first digit of a number
 pub record Digits (n : ℕ) : Type 0 where
@@ -83,8 +81,8 @@ digits_of n small = of (decimal n) refl
     of : (digits : List ℕ) → decimal n ≡ digits → Digits n
     of [] is = absurd (omega (arith, decimal_nonempty n small, ap length is))
     of (d ∷ digits) is =
-        let all = subst (λ l. list_all is_ascii_digit l ≡ true) is (are_digits n small) in
-        record { first = d; others = digits; is = is; digit = (and_parts (is_ascii_digit d) (list_all is_ascii_digit digits) all).0; whole = whole n small d digits is }
+        let all = subst (λ l. list_all is_ascii_digit l ≡ true) is (digits-decimal n small) in
+        record { first = d; others = digits; is = is; digit = (both (is_ascii_digit d) (list_all is_ascii_digit digits) all).0; whole = whole n small d digits is }
       where
         whole : (n : ℕ) → n < 2 ^ 64 → (d : ℕ) (digits : List ℕ) → decimal n ≡ d ∷ digits → is_integer (decimal n) ≡ true
         whole zero small d digits is = ap is_integer (decimal_digit 0 (omega arith))
@@ -119,9 +117,9 @@ scan_number n b rest toks few stops short more =
     number : integer_token (decimal n ++ (b ∷ rest)) ≡ (Integer n, b ∷ rest)
     number =
         let small : n < 2 ^ 64 = omega (arith, few) in
-        let k = prefix_all is_ascii_digit (decimal n) b rest (are_digits n small) stops in
+        let k = prefix_all is_ascii_digit (decimal n) b rest (digits-decimal n small) stops in
         let text = decimal n ++ (b ∷ rest) in
-        let value : capped (value_of (decimal n)) ≡ n = ap capped (is_value n small) ∙ min-eq_left (omega (arith, few)) in
+        let value : capped (value_of (decimal n)) ≡ n = ap capped (value_of-decimal n small) ∙ min-eq_left (omega (arith, few)) in
         let whole = (digits_of n small).whole in
         ap (λ (m : ℕ). (if is_integer (take m text) then Integer (capped (value_of (take m text))) else Stray, behind_long (drop m text))) k
         ∙ (λ i. (if is_integer (take-append_seam (decimal n) (b ∷ rest) i) then Integer (capped (value_of (take-append_seam (decimal n) (b ∷ rest) i))) else Stray, behind_long (drop-append_seam (decimal n) (b ∷ rest) i)))

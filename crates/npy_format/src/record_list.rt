@@ -1,56 +1,27 @@
 //! Element types in a header.
 ghost use Rattle.std.specs.Prelude.{◌≡◌, ◌≤◌, ℕ, List, IfOk, MatchOption, Some, None};
-ghost use Rattle.std.specs.Char.{is_ascii_digit};
-ghost use Rattle.std.specs.List.{list_all};
 ghost use Rattle.elem_descr.specs.Refusals.{Answers, Gives};
-ghost use Rattle.elem_descr.specs.TypeStrings.{marked};
 ghost use Rattle.elem_descr.specs.RecordBuilding.{max_depth, max_leaves, IsShallow};
-ghost use Rattle.npy_format.specs.RecordLists.{pad_count, pad_kind, scalar_in, type_in, field_in, entry_in, record_in, descr_in};
+ghost use Rattle.npy_format.specs.RecordLists.{pad_kind, scalar_in, type_in, field_in, entry_in, record_in, descr_in};
 ghost use Rattle.npy_format.specs.Listed.{Literal};
 ghost use Rattle.npy_format.specs.Tokens.{tokens};
 ghost use Rattle.npy_format.specs.inside.Scanned.{string_at, pad_at};
 ghost use Rattle.npy_format.specs.inside.Places.{Stands, HasValues, entry_parts};
 
 use crate::grammar::{behind_value, string, symbol};
-use crate::token::capped_value;
+use elem_descr::digits::{are_digits, count};
 use elem_descr::name::is_legal_name;
-use elem_descr::scalar::MAX_ITEM_SIZE;
+use elem_descr::typestr::marked;
 use elem_descr::{Descr, FieldName, MAX_DEPTH, Record, RecordBuilder, Refusal, typestr_read};
 use std::alloc::Global;
 
-/// What follows the mark of a type string, if it has one.
-fn unmarked(text: &[u8]) -> &[u8]
-    ensures { result.now ≡ (marked text.now).1 }
-{
-    match text {
-        [b'<' | b'>' | b'|' | b'=', rest @ ..] => rest,
-        _ => text,
-    }
-}
-
-fn are_digits(text: &[u8]) -> bool
-    ensures { result ≡ list_all is_ascii_digit text.now }
-{
-    text.iter().all(|byte| byte.is_ascii_digit())
-}
-
-/// The bytes of padding that digits count, or `None` where no item has as many.
-fn pad_count(digits: &[u8]) -> Option<usize>
-    ensures { result ≡ pad_count digits.now }
-{
-    let count = capped_value(digits);
-    if count > MAX_ITEM_SIZE {
-        return None;
-    }
-    Some(count)
-}
-
-/// The same of a type string without its mark: `V` and digits.
+/// The bytes of padding that a type string without its mark counts, `V` and digits, or `None` where no item
+/// has as many.
 fn pad_kind(kind: &[u8]) -> Result<Option<usize>, Refusal>
     ensures { result ≡ pad_kind kind.now }
 {
     match kind {
-        [b'V', digits @ ..] if !digits.is_empty() && are_digits(digits) => Ok(pad_count(digits)),
+        [b'V', digits @ ..] if !digits.is_empty() && are_digits(digits) => Ok(count(digits)),
         _ => Err(Refusal::DescriptorLeftOut),
     }
 }
@@ -63,7 +34,7 @@ fn add_pad(builder: &mut RecordBuilder, kind: &[u8]) -> Result<(), Refusal>
     let Some((kind, _)) = string(kind) else {
         return Err(Refusal::DescriptorLeftOut);
     };
-    let count = pad_kind(unmarked(kind))?;
+    let count = pad_kind(marked(kind).1)?;
     builder.pad(count)
 }
 

@@ -1,12 +1,11 @@
 //! The tokens of a header.
 ghost use Rattle.std.specs.Prelude.{◌≡◌, ◌≤◌, ◌∷◌, [], length, MatchOption};
-ghost use Rattle.std.specs.Char.{is_ascii_digit, is_ascii_alphabetic};
+ghost use Rattle.std.specs.Char.{is_ascii_alphabetic};
 ghost use Rattle.std.specs.List.{prefix_len};
-ghost use Rattle.elem_descr.specs.TypeStrings.{value_of};
-ghost use Rattle.shape_strides.specs.Limits.{max_items};
-ghost use Rattle.npy_format.specs.Tokens.{is_space, unspaced_text, is_quote, is_plain_byte, text_token, capped, is_integer, behind_long, integer_token, word, word_token, token_from, tokens};
+ghost use Rattle.npy_format.specs.Tokens.{is_space, unspaced_text, is_quote, is_plain_byte, text_token, is_integer, behind_long, integer_token, word, word_token, token_from, tokens};
 ghost use Rattle.npy_format.specs.inside.Scanned.{token_of};
 
+use elem_descr::digits::{capped_value, digits_len};
 use shape_strides::MAX_ITEMS;
 
 /// A token of Python.
@@ -49,16 +48,6 @@ fn plain_len(quote: u8, bytes: &[u8]) -> usize
     bytes
         .iter()
         .take_while(|byte| is_plain(quote, **byte))
-        .count()
-}
-
-fn digits_len(bytes: &[u8]) -> usize
-    ensures value { result ≡ prefix_len is_ascii_digit bytes.now }
-    ensures within { result ≤ length bytes.now }
-{
-    bytes
-        .iter()
-        .take_while(|byte| byte.is_ascii_digit())
         .count()
 }
 
@@ -137,17 +126,6 @@ fn word_token(bytes: &[u8]) -> (Token<'_>, &[u8])
     (word(letters), rest)
 }
 
-/// The number that digits spell, capped.
-pub fn capped_value(digits: &[u8]) -> usize
-    ensures { result ≡ capped (value_of digits.now) }
-{
-    let mut value = 0usize;
-    for digit in digits {
-        value = (value * 10 + usize::from(digit.saturating_sub(b'0'))).min(MAX_ITEMS + 1);
-    }
-    value
-}
-
 /// The integer at the front, and what follows it.
 fn integer_token(bytes: &[u8]) -> (Token<'_>, &[u8])
     ensures { (token_of result.0, result.1.now) ≡ integer_token bytes.now }
@@ -156,7 +134,10 @@ fn integer_token(bytes: &[u8]) -> (Token<'_>, &[u8])
     if !is_integer(digits) {
         return (Token::Stray, behind_long(rest));
     }
-    (Token::Integer(capped_value(digits)), behind_long(rest))
+    (
+        Token::Integer(capped_value(digits, MAX_ITEMS)),
+        behind_long(rest),
+    )
 }
 
 /// The token that a text begins with, whose first byte is no space, and what follows the token.

@@ -1,18 +1,17 @@
 //! The members of a format text, and their names.
-ghost use Rattle.std.specs.Prelude.{◌≡◌, ◌≤◌, not, length, take, drop, IsTrue, IfSome, IfOk, if◌then◌else◌};
-ghost use Rattle.std.specs.Char.{is_ascii_digit};
-ghost use Rattle.std.specs.List.{list_all, prefix_len};
+ghost use Rattle.std.specs.Prelude.{◌≡◌, ◌≤◌, not, length, IsTrue, IfOk, if◌then◌else◌};
+ghost use Rattle.std.specs.List.{prefix_len};
 ghost use Rattle.elem_descr.specs.Refusals.{Answers};
 ghost use Rattle.elem_descr.specs.Names.{is_legal_name};
 ghost use Rattle.elem_descr.specs.FormatLetters.{is_empty, count_of, is_left_out, text_member, lettered};
 ghost use Rattle.elem_descr.specs.FormatPieces.{is_colon};
 ghost use Rattle.elem_descr.specs.inside.Turns.{is_named, is_opened, lettered_before, member_at, name_at};
 
-use crate::digits::capped_value;
+use crate::digits::{count, digits_len};
 use crate::format_text::mark::Mark;
 use crate::name::is_legal_name;
 use crate::refusal::Refusal;
-use crate::scalar::{BytesLen, MAX_ITEM_SIZE, Scalar};
+use crate::scalar::{BytesLen, Scalar};
 
 /// A member of a format text, without its name.
 #[derive(Clone, Copy, Debug, PartialEq, Eq)]
@@ -23,13 +22,6 @@ pub enum Member {
     Pad(Option<usize>),
     /// The begin of a record, before its brace.
     Opened,
-}
-
-fn digits_len(text: &[u8]) -> usize
-    ensures value { result ≡ prefix_len is_ascii_digit text.now }
-    ensures within { result ≤ length text.now }
-{
-    text.iter().take_while(|b| b.is_ascii_digit()).count()
 }
 
 fn is_colon(byte: u8) -> bool
@@ -70,34 +62,7 @@ fn is_left_out(letter: u8) -> bool
     b"cnNPpefdgOZuwt&X(".contains(&letter)
 }
 
-/// The digits at the front, and what follows them.
-#[tactic(auto, using(crate::proofs::Fronts::front_passes))]
-fn split_digits(text: &[u8]) -> (&[u8], &[u8])
-    ensures digits { result.0.now ≡ take (prefix_len is_ascii_digit text.now) text.now }
-    ensures rest { result.1.now ≡ drop (prefix_len is_ascii_digit text.now) text.now }
-    ensures all_digits { IsTrue (list_all is_ascii_digit result.0.now) }
-{
-    text.split_at(digits_len(text))
-}
-
-/// The count that digits spell: 1 where there are none, `None` where no item has as many bytes.
-fn count(digits: &[u8]) -> Option<usize>
-    requires { IsTrue (list_all is_ascii_digit digits.now) }
-    ensures value { result ≡ count_of digits.now }
-    ensures within { IfSome result (λ n. n ≤ 65536) }
-{
-    if digits.is_empty() {
-        return Some(1);
-    }
-    let value = capped_value(digits);
-    if value > MAX_ITEM_SIZE {
-        return None;
-    }
-    Some(value)
-}
-
 fn text_member(digits: &[u8]) -> Result<Member, Refusal>
-    requires { IsTrue (list_all is_ascii_digit digits.now) }
     ensures { result ≡ text_member (count_of digits.now) }
 {
     let Some(count) = count(digits) else {
@@ -123,7 +88,6 @@ fn opened(digits: &[u8]) -> Result<Member, Refusal>
 }
 
 fn lettered(mark: Mark, digits: &[u8], letter: u8) -> Result<Member, Refusal>
-    requires { IsTrue (list_all is_ascii_digit digits.now) }
     ensures { result ≡ lettered mark digits.now letter }
 {
     if let Some(scalar) = mark.number(letter) {
@@ -141,7 +105,6 @@ fn lettered(mark: Mark, digits: &[u8], letter: u8) -> Result<Member, Refusal>
 }
 
 fn lettered_before(mark: Mark, digits: &[u8], letter: u8, rest: &[u8]) -> Result<Member, Refusal>
-    requires { IsTrue (list_all is_ascii_digit digits.now) }
     ensures { result ≡ lettered_before mark digits.now letter rest.now }
 {
     if letter == b'T' && is_opened(rest) {
@@ -155,7 +118,7 @@ pub fn member_at(mark: Mark, text: &[u8]) -> Result<(Member, &[u8]), Refusal>
     ensures answers { Answers (λ m. (m.0, m.1.now)) result (member_at mark text.now) }
     ensures brace { IfOk result (λ m. m.0 ≡ Member.Opened → 1 ≤ length m.1.now) }
 {
-    let (digits, rest) = split_digits(text);
+    let (digits, rest) = text.split_at(digits_len(text));
     let [letter, rest @ ..] = rest else {
         return Err(Refusal::BadDescriptor);
     };

@@ -8,9 +8,9 @@ use Rattle.shape_strides.specs.Layouts.{address}
 use Rattle.shape_strides.specs.Limits.{max_items}
 use Rattle.fancy_index.specs.inside.PartLists.{first_at}
 use Rattle.fancy_index.specs.inside.Lone.{GoByRank}
-use Rattle.fancy_index.proofs.CutLaws.{slice-rest}
 use Rattle.fancy_index.proofs.LoneLaws.{index-made, base-in, axes-within, all-reached, shifts-are}
 use Rattle.fancy_index.proofs.lone.run_along.Goals as goal
+use Rattle.elem_descr.specs.ListLaws.{slice-rest}
 
 pub strides_from-requires : goal.strides_from-requires
 strides_from-requires c =

@@ -3,11 +3,10 @@ use Rattle.std.specs.List.{list_all}
 use Rattle.std.proofs.lemmas.Result.{err_from_is_err_and}
 use Rattle.elem_descr.specs.declared.descr.Descr.TheVariants.{Scalar as ScalarDescr}
 use Rattle.elem_descr.specs.Values.{number}
-use Rattle.elem_descr.specs.Encoding.{size}
+use Rattle.elem_descr.specs.Encoding.{is_value, size}
 use Rattle.elem_descr.specs.Blocks.{items_in}
 use Rattle.elem_descr.specs.Steps.{numbers_from}
 use Rattle.raw_block.specs.Bytes.{joined}
-use Rattle.literal_items.specs.Numbers.{is_value}
 use Rattle.literal_items.specs.RangeItems.{range_numbers, range_count}
 use Rattle.literal_items.specs.inside.Numbered.{numbered}
 use Rattle.literal_items.proofs.Counted.{numbers_read, length-numbered}
