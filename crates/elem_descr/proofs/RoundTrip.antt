@@ -4,7 +4,7 @@ use Rattle.std.specs.Char.{is_ascii_digit}
 use Rattle.std.specs.Fmt.{decimal}
 use Rattle.std.specs.List.{IsDistinct, list_all}
 use Rattle.std.specs.Str.{bytes_eq}
-use Rattle.std.proofs.lemmas.Bool.{le-leb}
+use Rattle.std.proofs.lemmas.Bool.{le-leb, and_parts}
 use Rattle.std.proofs.lemmas.Bool.Decides.{nat_tests}
 use Rattle.std.proofs.lemmas.Fmt.{decimal_nonempty}
 use Rattle.std.proofs.lemmas.List.{append-nil}
@@ -36,7 +36,7 @@ use Rattle.elem_descr.specs.BuildingLaws.{packed, multiple_of_one, field_of, gro
 use Rattle.elem_descr.specs.DescriptorLaws.{listed-fields_of, InOrder-within, some_depth}
 use Rattle.elem_descr.specs.ItemLaws.{length-leaves_from}
 use Rattle.elem_descr.proofs.SameFormat.{same_format}
-use Rattle.elem_descr.proofs.WrittenMembers.{both, mark_of, marked_digits, after_letter, reads_scalar, reads_pad, reads_name}
+use Rattle.elem_descr.proofs.WrittenMembers.{mark_of, marked_digits, after_letter, reads_scalar, reads_pad, reads_name}
 
 unaligned : (scalar : Scalar) → aligned_to (mark_of scalar) (own_alignment scalar) ≡ 1
 unfolding mark_of
@@ -114,7 +114,7 @@ reads_end within mark levels leaves bytes done rest some small (suc turns) l =
 
 no_brace_digits : (digits rest : List ℕ) → list_all is_ascii_digit digits ≡ true → 0 < length digits → closing (digits ++ rest) ≡ None
 no_brace_digits [] rest all some = absurd (omega arith)
-no_brace_digits (d ∷ digits) rest all some = no_brace_digit d (digits ++ rest) (both (is_ascii_digit d) (list_all is_ascii_digit digits) all).0
+no_brace_digits (d ∷ digits) rest all some = no_brace_digit d (digits ++ rest) (and_parts (is_ascii_digit d) (list_all is_ascii_digit digits) all).0
   where
     no_brace_digit : (d : ℕ) (rest : List ℕ) → is_ascii_digit d ≡ true → closing (d ∷ rest) ≡ None
     no_brace_digit d rest e = grind (arith, nat_tests)
@@ -212,7 +212,7 @@ behind_scalar levels leaves from bytes at done name scalar rest may =
       small = may.small;
       some = omega (arith, many);
       few = omega (arith, many, may.few);
-      legal = (both (is_legal_name name) (list_all is_legal_name (names_of rest)) may.legal).1;
+      legal = (and_parts (is_legal_name name) (list_all is_legal_name (names_of rest)) may.legal).1;
       distinct = rw join may.distinct;
       within = may.within;
       shallow = may.shallow;
@@ -229,7 +229,7 @@ behind_record levels leaves from bytes at done name size inner rest may =
       small = may.small;
       some = omega (arith, many);
       few = omega (arith, many, may.few);
-      legal = (both (is_legal_name name) (list_all is_legal_name (names_of rest)) may.legal).1;
+      legal = (and_parts (is_legal_name name) (list_all is_legal_name (names_of rest)) may.legal).1;
       distinct = rw join may.distinct;
       within = may.within.2;
       shallow = omega (arith, may.shallow);
@@ -271,7 +271,7 @@ reads_fields (scalar_field name at scalar more) levels mark leaves from bytes do
     let descr = ScalarDescr scalar in
     let ends = InOrder-within (at + size scalar) more bytes may.order.2 in
     let gap : from + (at - from) ≡ at = omega (arith, may.order.0) in
-    let legal = both (is_legal_name name) (list_all is_legal_name (names_of more)) may.legal in
+    let legal = and_parts (is_legal_name name) (list_all is_legal_name (names_of more)) may.legal in
     let grows = next_grows levels leaves from bytes at done name descr (fields_of more) may.order.1 (omega (arith, may.small)) legal.0 (omega (arith, may.few)) may.distinct (omega (arith, may.counted)) in
     let tail = written_fields (at + size scalar) more bytes ++ 125 ∷ rest in
     let result : Body × List ℕ = (body_of bytes (done ++ field_of name at descr ∷ fields_of more) (mark_behind (mark_of scalar) more), rest) in
@@ -287,7 +287,7 @@ reads_fields (record_field name at size inner more) (suc levels) mark leaves fro
     let descr = RecordDescr structure in
     let ends = InOrder-within (at + size) more bytes may.order.3 in
     let gap : from + (at - from) ≡ at = omega (arith, may.order.0) in
-    let legal = both (is_legal_name name) (list_all is_legal_name (names_of more)) may.legal in
+    let legal = and_parts (is_legal_name name) (list_all is_legal_name (names_of more)) may.legal in
     let grows = next_grows (suc levels) leaves from bytes at done name descr (fields_of more) may.order.1 (omega (arith, may.small)) legal.0 (omega (arith, may.few)) may.distinct (omega (arith, may.counted, length-leaves_from 0 inner)) in
     let tail = written_fields (at + size) more bytes ++ 125 ∷ rest in
     let behind = mark_behind mark inner in

@@ -6,6 +6,7 @@ use Rattle.std.specs.List.{list_all, prefix_len}
 use Rattle.std.proofs.lemmas.Bool.Decides.{nat_tests}
 use Rattle.std.proofs.lemmas.Fmt.{decimal_nonempty}
 use Rattle.std.proofs.Math.Seq.{take-append_seam, drop-append_seam}
+use Rattle.std.proofs.lemmas.Bool.{and_parts}
 use Rattle.elem_descr.specs.declared.scalar.Order.TheVariants.{Little, Big}
 use Rattle.elem_descr.specs.declared.scalar.Width.TheVariants.{Two, Four, Eight}
 use Rattle.elem_descr.specs.declared.scalar.Scalar.{Scalar}
@@ -15,21 +16,18 @@ use Rattle.elem_descr.specs.declared.format_text.mark.Mark.TheVariants.{Little a
 use Rattle.elem_descr.specs.declared.format_text.member.Member.TheVariants.{Value, Pad}
 use Rattle.elem_descr.specs.Encoding.{size}
 use Rattle.elem_descr.specs.Names.{is_legal_name, is_field_name_byte}
-use Rattle.elem_descr.specs.FormatLetters.{is_empty, text_member}
+use Rattle.elem_descr.specs.FormatLetters.{text_member}
 use Rattle.elem_descr.specs.FormatPieces.{is_colon}
 use Rattle.elem_descr.specs.inside.Turns.{after, marked, after_count, member_at, name_at, named}
 use Rattle.elem_descr.specs.WrittenFormats.{written_mark, written_count, written_letter}
 use Rattle.elem_descr.specs.DigitLaws.{digits-decimal, count_of-decimal}
-
-pub both : (a b : Bool) → (a && b) ≡ true → (a ≡ true) × (b ≡ true)
-both true b e = (refl, e)
-both false b e = let never : ⊥ = cc in absurd never
+use Rattle.elem_descr.proofs.Fronts.{some_left}
 
 -- the front of a list that passes a test, before one that does not
 prefix_len-passing : (p : ℕ → Bool) (xs : List ℕ) (y : ℕ) (ys : List ℕ) → list_all p xs ≡ true → p y ≡ false → prefix_len p (xs ++ y ∷ ys) ≡ length xs
 prefix_len-passing p [] y ys all fails = rw fails refl
 prefix_len-passing p (x ∷ xs) y ys all fails =
-    let b = both (p x) (list_all p xs) all in
+    let b = and_parts (p x) (list_all p xs) all in
     rw b.0 (omega (arith, prefix_len-passing p xs y ys b.1 fails))
 
 -- a digit is no mark and no blank
@@ -40,7 +38,7 @@ after_digit mark d e = grind (arith, nat_tests)
 pub marked_digits : (mark : Mark) (digits rest : List ℕ) → list_all is_ascii_digit digits ≡ true → 0 < length digits → marked mark (digits ++ rest) ≡ (mark, digits ++ rest)
 marked_digits mark [] rest all some = absurd (omega arith)
 marked_digits mark (d ∷ digits) rest all some =
-    rw (after_digit mark d (both (is_ascii_digit d) (list_all is_ascii_digit digits) all).0) refl
+    rw (after_digit mark d (and_parts (is_ascii_digit d) (list_all is_ascii_digit digits) all).0) refl
 
 -- the mark that is written
 unfoldable pub mark_of : Scalar → Mark
@@ -107,15 +105,12 @@ colonless b e = grind (arith, nat_tests)
 colonless_name : (name : List ℕ) → list_all is_field_name_byte name ≡ true → list_all (λ b. not (is_colon b)) name ≡ true
 colonless_name [] all = refl
 colonless_name (b ∷ name) all =
-    let h = both (is_field_name_byte b) (list_all is_field_name_byte name) all in
+    let h = and_parts (is_field_name_byte b) (list_all is_field_name_byte name) all in
     rw (colonless b h.0) (colonless_name name h.1)
-
-some_left : (b : ℕ) (rest : List ℕ) → is_empty (b ∷ rest) ≡ false
-some_left b rest = grind (arith, nat_tests)
 
 reads_name_at : (name rest : List ℕ) → is_legal_name name ≡ true → name_at (name ++ 58 ∷ rest) ≡ Ok (name, rest)
 reads_name_at name rest legal =
-    let bytes = (both (nat_le 1 (length name) && nat_le (length name) 64) (list_all is_field_name_byte name) legal).1 in
+    let bytes = (and_parts (nat_le 1 (length name) && nat_le (length name) 64) (list_all is_field_name_byte name) legal).1 in
     let front = prefix_len-passing (λ b. not (is_colon b)) name 58 rest (colonless_name name bytes) refl in
     rw (front, take-append_seam name (58 ∷ rest), drop-append_seam name (58 ∷ rest), some_left 58 rest, legal) refl
 

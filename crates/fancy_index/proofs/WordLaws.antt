@@ -37,9 +37,6 @@ packed-is at width n =
 pub packed-entry : (at width n k d : ℕ) → k < n → get_or (packed at width n) k d ≡ at + width * k
 packed-entry at width n k d low = ap (λ l. get_or l k d) (packed-is at width n) ∙ get_or-map-range_with_len (λ k. at + width * k) 0 n k k d (omega arith) (omega arith)
 
-pub length-packed : (at width n : ℕ) → length (packed at width n) ≡ n
-length-packed at width n = ap length (packed-is at width n) ∙ length-map-range_with_len (λ k. at + width * k) 0 n
-
 -- ---- items at equal steps
 
 nth-offset : (run : Run) (k : ℕ) → k < run.count → get_or (run_offsets run) k 0 ≡ natural (pos run.offset +ℤ run.step *ℤ pos k)

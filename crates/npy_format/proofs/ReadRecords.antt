@@ -2,7 +2,7 @@
 use Rattle.std.proofs.Common.{◌≡◌, ℕ, zero, suc, ◌+◌, ◌-◌, ◌^◌, ◌<◌, ◌≤◌, true, false, List, [], ◌∷◌, ◌++◌, map, length, codes, decimal, Some, Result, Ok, refl, sym, ap, subst, ◌∙◌, arith, append_assoc, length-append, add-zero, nat_eq}
 use Rattle.std.specs.List.{IsDistinct, list_all}
 use Rattle.std.specs.Str.{bytes_eq}
-use Rattle.std.proofs.lemmas.Bool.{le-leb, ne_eqb, true≢false}
+use Rattle.std.proofs.lemmas.Bool.{le-leb, ne_eqb, true≢false, and_parts}
 use Rattle.std.proofs.lemmas.Fmt.{decimal_nonempty}
 use Rattle.std.proofs.lemmas.List.{append-nil}
 use Rattle.elem_descr.specs.declared.refusal.Refusal.{Refusal}
@@ -27,7 +27,6 @@ use Rattle.npy_format.specs.Values.{Square, Text}
 use Rattle.npy_format.specs.Listed.{Literal, Plain, Row, all_listed_values}
 use Rattle.npy_format.specs.RecordLists.{pad_kind, type_in, field_in, entry_in, fields_in, record_in, descr_in, Reader}
 use Rattle.npy_format.specs.inside.Sound.{IsSound}
-use Rattle.npy_format.proofs.ReadTokens.{both}
 use Rattle.npy_format.proofs.ReadValues.{IsValue, entry_literal, gap_values, entry_values, quoted_value, list_value, entries_are, plain_spelling}
 use Rattle.npy_format.proofs.ValueLaws.{literals_of_listed}
 use Rattle.npy_format.specs.WrittenHeaders.{written_descr, entries}
@@ -139,7 +138,7 @@ fields_read no_more levels leaves from bytes done may =
 fields_read (scalar_field name at scalar rest) levels leaves from bytes done may =
     let descr = ScalarDescr scalar in
     let ends = InOrder-within (at + size scalar) rest bytes may.order.2 in
-    let legal = both (is_legal_name name) (list_all is_legal_name (names_of rest)) may.legal in
+    let legal = and_parts (is_legal_name name) (list_all is_legal_name (names_of rest)) may.legal in
     let later = behind_first levels leaves at bytes done name descr rest may.order.2 may.small (omega (arith, may.few)) legal.1 may.distinct may.within (omega (arith, may.shallow)) (omega (arith, may.counted)) in
     field_and_more levels leaves from at bytes done name (Plain (Text (spelling scalar))) descr rest may.order.0 (omega (arith, ends, may.small)) legal.0 (omega (arith, may.few)) may.distinct (omega (arith, may.counted))
     (scalar_read scalar (record_in levels leaves) may.order.1 (omega (arith, ends, may.small)))
@@ -150,7 +149,7 @@ fields_read (record_field name at width inner rest) (suc levels) leaves from byt
     let descr = RecordDescr structure in
     let many = length-leaves_from 0 inner in
     let ends = InOrder-within (at + width) rest bytes may.order.3 in
-    let legal = both (is_legal_name name) (list_all is_legal_name (names_of rest)) may.legal in
+    let legal = and_parts (is_legal_name name) (list_all is_legal_name (names_of rest)) may.legal in
     let later = behind_first (suc levels) leaves at bytes done name descr rest may.order.3 may.small (omega (arith, may.few)) legal.1 may.distinct may.within.2 (omega (arith, may.shallow)) (omega (arith, may.counted, many)) in
     let inside : MayRead levels leaves 0 width [] inner =
     record { order = may.order.2; small = omega (arith, ends, may.small); few = omega (arith, may.within.0.few); legal = may.within.0.named; distinct = may.within.0.distinct; within = may.within.1; shallow = omega (arith, may.shallow); counted = omega (arith, may.counted) } in

@@ -1,10 +1,10 @@
 -- The tokens of a text that is written.
-use Rattle.std.proofs.Common.{◌≡◌, ℕ, zero, suc, ◌+◌, ◌^◌, ◌<◌, ◌≤◌, Bool, true, false, ◌&&◌, List, [], ◌∷◌, ◌++◌, length, get_or, take, drop, replicate, refl, sym, ap, subst, ◌∙◌, arith, codes, decimal, length-append}
+use Rattle.std.proofs.Common.{◌≡◌, ℕ, zero, suc, ◌+◌, ◌^◌, ◌<◌, ◌≤◌, Bool, true, false, List, [], ◌∷◌, ◌++◌, length, get_or, take, drop, replicate, refl, sym, ap, subst, ◌∙◌, arith, codes, decimal, length-append}
 use Rattle.std.specs.Prelude.{nat_eq, if◌then◌else◌}
 use Rattle.std.specs.Char.{is_ascii_digit, is_ascii_alphabetic}
 use Rattle.std.specs.List.{list_all, prefix_len}
 use Rattle.std.proofs.Math.Seq.{take-append_seam, drop-append_seam}
-use Rattle.std.proofs.lemmas.Bool.{true≢false, ne_eqb}
+use Rattle.std.proofs.lemmas.Bool.{ne_eqb, and_parts}
 use Rattle.std.proofs.lemmas.Bool.Decides.{nat_tests}
 use Rattle.std.proofs.lemmas.Fmt.{first_decimal, decimal_nonempty, decimal_digit}
 use Rattle.std.proofs.Math.Nat.{min-eq_left}
@@ -16,10 +16,6 @@ use Rattle.npy_format.specs.Tokens.{Token, Text, Integer, Symbol, Stray, is_spac
 -- the tokens of a text, in turns enough for its bytes
 abbrev pub Scans : List ℕ → List Token → Type 0
 Scans text toks = (turns : ℕ) → length text ≤ turns → tokens_in turns text ≡ toks
-
-pub both : (a b : Bool) → (a && b) ≡ true → (a ≡ true) × (b ≡ true)
-both true b is = (refl, is)
-both false b is = absurd (true≢false (sym is))
 
 -- nothing but the end of the line
 pub scan_end : Scans (codes "\n") []
@@ -53,7 +49,7 @@ scan_token b rest token behind toks begins is shorter more (suc turns) few =
 prefix_all : (p : ℕ → Bool) (xs : List ℕ) (b : ℕ) (rest : List ℕ) → list_all p xs ≡ true → p b ≡ false → prefix_len p (xs ++ (b ∷ rest)) ≡ length xs
 prefix_all p [] b rest all stops = rw stops refl
 prefix_all p (x ∷ xs) b rest all stops =
-    let parts = both (p x) (list_all p xs) all in
+    let parts = and_parts (p x) (list_all p xs) all in
     rw parts.0 (omega (arith, prefix_all p xs b rest parts.1 stops))
 
 -- a string between apostrophes
@@ -82,7 +78,7 @@ digits_of n small = of (decimal n) refl
     of [] is = absurd (omega (arith, decimal_nonempty n small, ap length is))
     of (d ∷ digits) is =
         let all = subst (λ l. list_all is_ascii_digit l ≡ true) is (digits-decimal n small) in
-        record { first = d; others = digits; is = is; digit = (both (is_ascii_digit d) (list_all is_ascii_digit digits) all).0; whole = whole n small d digits is }
+        record { first = d; others = digits; is = is; digit = (and_parts (is_ascii_digit d) (list_all is_ascii_digit digits) all).0; whole = whole n small d digits is }
       where
         whole : (n : ℕ) → n < 2 ^ 64 → (d : ℕ) (digits : List ℕ) → decimal n ≡ d ∷ digits → is_integer (decimal n) ≡ true
         whole zero small d digits is = ap is_integer (decimal_digit 0 (omega arith))

@@ -3,6 +3,7 @@ use Rattle.std.proofs.Common.{◌≡◌, ℕ, zero, suc, ◌+◌, ◌-◌, ◌*�
 use Rattle.std.specs.List.{list_all}
 use Rattle.std.specs.Char.{is_ascii_digit}
 use Rattle.std.proofs.lemmas.Bool.Decides.{nat_tests}
+use Rattle.std.proofs.lemmas.Bool.{and_parts}
 use Rattle.elem_descr.specs.declared.scalar.Order.TheVariants.{Little, Big}
 use Rattle.elem_descr.specs.declared.scalar.Scalar.{Scalar}
 use Rattle.elem_descr.specs.declared.scalar.Scalar.TheVariants.{Bool as BoolScalar, Byte, Int, Bytes}
@@ -20,7 +21,7 @@ use Rattle.npy_format.specs.Listed.{Literal, Plain, Row, all_listed_values}
 use Rattle.npy_format.specs.Literals.{symbol_token_at, entries_in, tuple_in, list_in, literal_in}
 use Rattle.npy_format.specs.WrittenHeaders.{quoted, entry, gap, separated, in_brackets, entries}
 use Rattle.elem_descr.specs.DigitLaws.{digits-decimal}
-use Rattle.npy_format.proofs.ReadTokens.{Scans, both, scan_token, scan_space, scan_quoted}
+use Rattle.npy_format.proofs.ReadTokens.{Scans, scan_token, scan_space, scan_quoted}
 
 -- tokens that are read as a value, with those behind it
 pub record IsRead (depth : ℕ) (text : List ℕ) (value : Literal) (toks : List Token) : Type 0 where
@@ -191,7 +192,7 @@ AreValues-append depth (text ∷ texts) texts' (value ∷ values) values' are ar
 all-weaker : (p q : ℕ → Bool) → ((b : ℕ) → p b ≡ true → q b ≡ true) → (xs : List ℕ) → list_all p xs ≡ true → list_all q xs ≡ true
 all-weaker p q weaker [] all = refl
 all-weaker p q weaker (x ∷ xs) all =
-    let parts = both (p x) (list_all p xs) all in
+    let parts = and_parts (p x) (list_all p xs) all in
     rw (weaker x parts.0) (all-weaker p q weaker xs parts.1)
 
 plain_digit : (b : ℕ) → is_ascii_digit b ≡ true → is_plain_byte 39 b ≡ true
@@ -205,7 +206,7 @@ plain_decimal n small = all-weaker is_ascii_digit (is_plain_byte 39) plain_digit
 
 plain_name : (name : List ℕ) → is_legal_name name ≡ true → list_all (is_plain_byte 39) name ≡ true
 plain_name name legal =
-    let parts = both (nat_le 1 (length name) && nat_le (length name) 64) (list_all is_field_name_byte name) legal in
+    let parts = and_parts (nat_le 1 (length name) && nat_le (length name) 64) (list_all is_field_name_byte name) legal in
     all-weaker is_field_name_byte (is_plain_byte 39) plain_name_byte name parts.1
 
 pub plain_spelling : (scalar : Scalar) → size scalar < 2 ^ 64 → list_all (is_plain_byte 39) (spelling scalar) ≡ true
@@ -227,7 +228,7 @@ entries_are fields from bytes zero order small deep names within = absurd (omega
 entries_are no_more from bytes (suc levels) order small deep names within = gaps_are levels (bytes - from) (omega (arith, small))
 entries_are (scalar_field name at scalar rest) from bytes (suc levels) order small deep names within =
     let ends = InOrder-within (at + size scalar) rest bytes order.2 in
-    let legal = both (is_legal_name name) (list_all is_legal_name (names_of rest)) names in
+    let legal = and_parts (is_legal_name name) (list_all is_legal_name (names_of rest)) names in
     AreValues-append (suc levels) (gap (at - from)) _ (gap_values (at - from)) _ (gaps_are levels (at - from) (omega (arith, small, ends))) (
       entry_value levels name (quoted (spelling scalar)) (Plain (Text (spelling scalar))) (plain_name name legal.0) (quoted_value levels (spelling scalar) (plain_spelling scalar (omega (arith, small, ends)))),
       entries_are rest (at + size scalar) bytes (suc levels) order.2 small deep legal.1 within,
@@ -235,7 +236,7 @@ entries_are (scalar_field name at scalar rest) from bytes (suc levels) order sma
 entries_are (record_field name at width inner rest) from bytes (suc zero) order small deep names within = absurd (omega (arith, deep, some_depth inner))
 entries_are (record_field name at width inner rest) from bytes (suc (suc levels)) order small deep names within =
     let ends = InOrder-within (at + width) rest bytes order.3 in
-    let legal = both (is_legal_name name) (list_all is_legal_name (names_of rest)) names in
+    let legal = and_parts (is_legal_name name) (list_all is_legal_name (names_of rest)) names in
     AreValues-append (suc (suc levels)) (gap (at - from)) _ (gap_values (at - from)) _ (gaps_are (suc levels) (at - from) (omega (arith, small, ends))) (
       entry_value (suc levels) name (in_brackets (entries 0 inner width)) (Row Square (all_listed_values (entry_values 0 inner width))) (plain_name name legal.0)
           (list_value levels (entries 0 inner width) (entry_values 0 inner width) (entries_are inner 0 width levels order.2 (omega (arith, small, ends)) (omega (arith, deep)) within.0.named within.1)),

@@ -1,15 +1,14 @@
 -- The bytes of a scalar, read and written again.
-use Rattle.std.proofs.Common.{◌≡◌, inl, inr, ℕ, zero, suc, ◌+◌, ◌-◌, ◌*◌, ◌/◌, ◌^◌, ◌<◌, true, false, cond, List, [], ◌∷◌, ◌++◌, length, get_or, take, drop, replicate, refl, sym, ap, subst, ◌∙◌, arith, length-take}
+use Rattle.std.proofs.Common.{◌≡◌, ℕ, zero, suc, ◌+◌, ◌-◌, ◌*◌, ◌/◌, ◌^◌, ◌<◌, true, false, List, [], ◌∷◌, ◌++◌, length, replicate, refl, sym, ap, ◌∙◌, arith, length-take}
 use Rattle.std.specs.Prelude.{nat_eq}
 use Rattle.std.specs.Int.{byte_at, bytes_low_first, bytes_high_first}
 use Rattle.std.proofs.Math.Nat.{mod-lt}
-use Rattle.std.proofs.lemmas.Bool.{true≢false, cases_lt}
+use Rattle.std.proofs.lemmas.Bool.{true≢false}
 use Rattle.std.proofs.lemmas.Nat.{div-mul-add}
-use Rattle.std.proofs.lemmas.List.{append-nil, take_all, get_or-drop, get_or-take, get_or_past}
+use Rattle.std.proofs.lemmas.List.{append-nil, take_all}
 use Rattle.std.proofs.lemmas.List.Sums.{suffix_len-le-length}
 use Rattle.byteorder.specs.Endian.{little_from, big_from, little_number, big_number, little_bytes, big_bytes}
 use Rattle.byteorder.specs.Numbers.{little_from-cons, big_from-cons, little_from-lt, big_from-lt, length-bytes_low_first, length-bytes_high_first, little_number-reads_back, big_number-reads_back}
-use Rattle.byteorder.proofs.Bytes.{pow256}
 use Rattle.elem_descr.specs.declared.scalar.Order.{Order}
 use Rattle.elem_descr.specs.declared.scalar.Order.TheVariants.{Little, Big}
 use Rattle.elem_descr.specs.declared.scalar.Scalar.{Scalar}
@@ -18,10 +17,8 @@ use Rattle.elem_descr.specs.Encoding.{size, decode, encode, number_in, bytes_of,
 use Rattle.elem_descr.specs.EncodingLaws.{low_bits-integer}
 use Rattle.elem_descr.specs.NulLaws.{without_nuls-back}
 use Rattle.elem_descr.specs.inside.Nuls.{nuls}
+use Rattle.elem_descr.specs.ByteLaws.{AreBytes, number-lt, truth-twice}
 use Rattle.npy_format.specs.inside.WrittenItems.{is_bool}
-
-abbrev pub AreBytes : List ℕ → Type 0
-AreBytes bytes = (i : ℕ) → get_or bytes i 0 < 256
 
 -- ---- numbers
 
@@ -76,10 +73,6 @@ again Big n bytes long are =
     same_high n (big_bytes n x) bytes (length-bytes_high_first n x) long (high_are n x) are
     (ap (big_number n) (sym (append-nil (big_bytes n x))) ∙ big_number-reads_back n x [] (big_from-lt 0 n bytes are))
 
-number-lt : (order : Order) (n : ℕ) (bytes : List ℕ) → AreBytes bytes → number_in order n bytes < 2 ^ (8 * n)
-number-lt Little n bytes are = subst (λ m. number_in Little n bytes < m) (pow256 n) (little_from-lt 0 n bytes are)
-number-lt Big n bytes are = subst (λ m. number_in Big n bytes < m) (pow256 n) (big_from-lt 0 n bytes are)
-
 -- ---- byte strings
 
 -- a byte string without its NULs, filled up with as many
@@ -101,9 +94,6 @@ scalar_again (Int signed width order) bytes other long are =
     ap (bytes_of order n) (low_bits-integer signed n (number_in order n bytes) (number-lt order n bytes are)) ∙ again order n bytes long are
 scalar_again (Bytes n) bytes other long are = text_again n bytes long
 
-pub truth-twice : (n : ℕ) → truth (truth n) ≡ truth n
-truth-twice n = elim (nat_eq n 0) as (λ t. truth (cond t 0 1) ≡ cond t 0 1) [ true ↦ refl | false ↦ refl ]
-
 -- the byte of a bool
 pub bool_again : (b : ℕ) → encode BoolScalar (decode BoolScalar (b ∷ [])) ≡ truth b ∷ []
 bool_again b = let same : b + 256 * 0 ≡ b = omega arith in ap (λ n. truth (truth n) ∷ []) same ∙ ap (λ n. n ∷ []) (truth-twice b)
@@ -113,12 +103,3 @@ is_bool-true BoolScalar is = refl
 is_bool-true (Byte signed) is = absurd (true≢false (sym is))
 is_bool-true (Int signed width order) is = absurd (true≢false (sym is))
 is_bool-true (Bytes n) is = absurd (true≢false (sym is))
-
-pub bytes-drop : (n : ℕ) (bytes : List ℕ) → AreBytes bytes → AreBytes (drop n bytes)
-bytes-drop n bytes are i = subst (λ b. b < 256) (sym (get_or-drop n bytes i 0)) (are (n + i))
-
-pub bytes-take : (n : ℕ) (bytes : List ℕ) → AreBytes bytes → AreBytes (take n bytes)
-bytes-take n bytes are i = elim (cases_lt i n) [
-  | inl low ↦ subst (λ b. b < 256) (sym (get_or-take n bytes i 0 low)) (are i)
-  | inr high ↦ subst (λ b. b < 256) (sym (get_or_past (take n bytes) i 0 (omega (arith, high, length-take n bytes)))) (omega arith)
-]
