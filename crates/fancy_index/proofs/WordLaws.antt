@@ -3,17 +3,16 @@ use Rattle.std.proofs.Common.{◌≡◌, ℕ, zero, suc, ◌+◌, ◌-◌, ◌*�
 use Rattle.std.specs.List.{list_all, range_with_len}
 use Rattle.std.proofs.lemmas.Int.{ints}
 use Rattle.std.proofs.lemmas.List.{same_lists, get_or-map, length-map, drop_more, drop_all, get_or_default}
-use Rattle.std.proofs.lemmas.List.FromFn.{length-map-range_with_len, get_or-map-range_with_len}
+use Rattle.std.proofs.lemmas.List.FromFn.{get_or-map-range_with_len}
 use Rattle.std.proofs.lemmas.Bool.{and_parts}
 use Rattle.std.proofs.lemmas.Simd.{map-map}
 use Rattle.std.proofs.Math.ListN.{length-set}
 use Rattle.std.proofs.Math.Nat.{mul-suc}
 use lib.IntN.{ℤ, pos, ◌+ℤ◌, ◌*ℤ◌, *ℤ-zero}
 use Rattle.elem_descr.specs.declared.descr.Descr.{Descr}
-use Rattle.elem_descr.specs.Steps.{numbers_from}
 use Rattle.elem_descr.specs.Encoding.{integer, number_in}
 use Rattle.raw_block.specs.Bytes.{item_at}
-use Rattle.raw_block.specs.NumberRuns.{number}
+use Rattle.raw_block.specs.NumberRuns.{signed_number}
 use Rattle.shape_strides.specs.declared.runs.Run.{Run}
 use Rattle.shape_strides.specs.Addresses.{natural}
 use Rattle.shape_strides.specs.Limits.{max_bytes}
@@ -26,6 +25,7 @@ use Rattle.fancy_index.specs.declared.words.Spread.{Spread}
 use Rattle.fancy_index.specs.inside.Words.{word, spread_numbers, AreWords, IsSpread, IsNative, ArePlacesTo}
 use Rattle.fancy_index.specs.inside.Packed.{packed}
 use Rattle.fancy_index.specs.inside.PointLists.{place_of}
+use Rattle.overlap_copy.specs.RunLaws.{nth-offset}
 
 packed-is : (at width n : ℕ) → packed at width n ≡ map (λ k. at + width * k) (range_with_len 0 n)
 packed-is at width n =
@@ -38,13 +38,6 @@ pub packed-entry : (at width n k d : ℕ) → k < n → get_or (packed at width 
 packed-entry at width n k d low = ap (λ l. get_or l k d) (packed-is at width n) ∙ get_or-map-range_with_len (λ k. at + width * k) 0 n k k d (omega arith) (omega arith)
 
 -- ---- items at equal steps
-
-nth-offset : (run : Run) (k : ℕ) → k < run.count → get_or (run_offsets run) k 0 ≡ natural (pos run.offset +ℤ run.step *ℤ pos k)
-nth-offset run k low =
-    let at = λ (j : ℕ). pos run.offset +ℤ run.step *ℤ pos j in
-    let inside : k < length (numbers_from (pos run.offset) run.step run.count) = omega (arith, length-map-range_with_len at 0 run.count) in
-    get_or-map natural (numbers_from (pos run.offset) run.step run.count) k (pos 0) 0 inside
-    ∙ ap natural (get_or-map-range_with_len at 0 run.count k k (pos 0) low (omega arith))
 
 module _ (width : ℕ) (items : Spread) (is : IsSpread width items) (k : ℕ) (low : k < items.run.count) where
   pub steps-low : pos 0 ≤ℤ (pos items.run.offset +ℤ items.run.step *ℤ pos k)
@@ -62,7 +55,7 @@ module _ (width : ℕ) (items : Spread) (is : IsSpread width items) (k : ℕ) (l
   pub ends-there : get_or (run_offsets items.run) k 0 + width ≤ length items.block.now
   ends-there = is.ends k 0 (omega (arith, low, length-run_offsets items.run))
 
-  -- its number
+  -- its signed_number
   pub number-there : (reading : Reading) → get_or (spread_numbers reading width items) k (pos 0) ≡ word reading width (item_at (get_or (run_offsets items.run) k 0) width items.block.now)
   number-there reading = get_or-map (λ offset. word reading width (item_at offset width items.block.now)) (run_offsets items.run) k 0 (pos 0) (omega (arith, low, length-run_offsets items.run))
 
@@ -87,7 +80,7 @@ native-end width items is some step =
     omega (arith, end, ends-there width items is last low, nth-native width items.run last step low)
 
 pub native-numbers : (reading : Reading) (width : ℕ) (items : Spread) (run : List ℤ) → IsSpread width items → IsNative reading width items.run → length run ≡ items.run.count
-    → ((k : ℕ) → k < items.run.count → get_or run k (pos 0) ≡ number width (item_at (items.run.offset + width * k) width items.block.now)) → run ≡ spread_numbers reading width items
+    → ((k : ℕ) → k < items.run.count → get_or run k (pos 0) ≡ signed_number width (item_at (items.run.offset + width * k) width items.block.now)) → run ≡ spread_numbers reading width items
 native-numbers reading width items run is native many each =
     same_lists run (spread_numbers reading width items) (many ∙ sym (length-numbers reading width items)) (λ k d below.
     let low : k < items.run.count = omega (arith, below, many) in

@@ -74,7 +74,7 @@ run_offsets-more len at step width n within =
 -- ---- runs within some bytes
 
 -- the item after k others
-nth-offset : (run : Run) (k : ℕ) → k < run.count → get_or (run_offsets run) k 0 ≡ natural (pos run.offset +ℤ run.step *ℤ pos k)
+pub nth-offset : (run : Run) (k : ℕ) → k < run.count → get_or (run_offsets run) k 0 ≡ natural (pos run.offset +ℤ run.step *ℤ pos k)
 nth-offset run k low =
     let number = λ (j : ℕ). pos run.offset +ℤ run.step *ℤ pos j in
     let inside : k < length (numbers_from (pos run.offset) run.step run.count) = omega (arith, length-map-range_with_len number 0 run.count) in

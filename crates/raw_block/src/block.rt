@@ -3,7 +3,7 @@ ghost use Rattle.std.specs.Prelude.{◌≡◌, ℕ, pos, ◌+◌, ◌*◌, ◌/�
 ghost use Rattle.std.specs.Borrow.{sem};
 ghost use Rattle.std.specs.List.{refill};
 ghost use Rattle.raw_block.specs.Bytes.{item_at, put, little_number, little_bytes, EachWithin, copied, copied_within, filled, swapped};
-ghost use Rattle.raw_block.specs.NumberRuns.{number};
+ghost use Rattle.raw_block.specs.NumberRuns.{signed_number};
 ghost use Rattle.raw_block.specs.inside.Sizes.{IsSizeFor};
 
 mod builder;
@@ -123,7 +123,7 @@ impl RawBlock {
     pub fn run_i32(&self, at: usize, n: usize) -> RunI32<'_>
         requires { at + 4 * n ≤ length self.now }
         ensures len { length result ≡ n }
-        ensures numbers { (k : ℕ) → k < n → slice_index_or result k (pos 0) ≡ number 4 (item_at (at + 4 * k) 4 self.now) }
+        ensures numbers { (k : ℕ) → k < n → slice_index_or result k (pos 0) ≡ signed_number 4 (item_at (at + 4 * k) 4 self.now) }
     {
         RunI32::over(items_at::<4>(self.bytes(), at, n))
     }
@@ -132,7 +132,7 @@ impl RawBlock {
     pub fn run_i64(&self, at: usize, n: usize) -> RunI64<'_>
         requires { at + 8 * n ≤ length self.now }
         ensures len { length result ≡ n }
-        ensures numbers { (k : ℕ) → k < n → slice_index_or result k (pos 0) ≡ number 8 (item_at (at + 8 * k) 8 self.now) }
+        ensures numbers { (k : ℕ) → k < n → slice_index_or result k (pos 0) ≡ signed_number 8 (item_at (at + 8 * k) 8 self.now) }
     {
         RunI64::over(items_at::<8>(self.bytes(), at, n))
     }

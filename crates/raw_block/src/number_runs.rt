@@ -2,7 +2,7 @@
 //! lowest byte first.
 ghost use Rattle.std.specs.Prelude.{◌≡◌, ℕ, pos, ◌+◌, ◌*◌, ◌<◌, ◌≤◌, [], length, slice_index_or};
 ghost use Rattle.raw_block.specs.Bytes.{item_at};
-ghost use Rattle.raw_block.specs.NumberRuns.{numbers};
+ghost use Rattle.raw_block.specs.NumberRuns.{signed_numbers};
 
 use byteorder::{ByteOrder, LittleEndian};
 use std::marker::Model;
@@ -25,17 +25,17 @@ pub struct RunI32<'a> {
 
 impl<'a> Model for RunI32<'a> {
     ghost use Rattle.std.specs.Prelude.{ℤ, List};
-    ghost use Rattle.raw_block.specs.NumberRuns.{numbers};
+    ghost use Rattle.raw_block.specs.NumberRuns.{signed_numbers};
 
     ghost Value = { List ℤ };
 
-    ghost view = { λ r. numbers 4 r.items.now };
+    ghost view = { λ r. signed_numbers 4 r.items.now };
 }
 
 impl<'a> RunI32<'a> {
     /// The numbers in these bytes.
     pub(crate) fn over(items: &'a [[u8; 4]]) -> RunI32<'a>
-        ensures { result ≡ numbers 4 items.now }
+        ensures { result ≡ signed_numbers 4 items.now }
     {
         RunI32 { items }
     }
@@ -67,17 +67,17 @@ pub struct RunI64<'a> {
 
 impl<'a> Model for RunI64<'a> {
     ghost use Rattle.std.specs.Prelude.{ℤ, List};
-    ghost use Rattle.raw_block.specs.NumberRuns.{numbers};
+    ghost use Rattle.raw_block.specs.NumberRuns.{signed_numbers};
 
     ghost Value = { List ℤ };
 
-    ghost view = { λ r. numbers 8 r.items.now };
+    ghost view = { λ r. signed_numbers 8 r.items.now };
 }
 
 impl<'a> RunI64<'a> {
     /// The numbers in these bytes.
     pub(crate) fn over(items: &'a [[u8; 8]]) -> RunI64<'a>
-        ensures { result ≡ numbers 8 items.now }
+        ensures { result ≡ signed_numbers 8 items.now }
     {
         RunI64 { items }
     }

@@ -1,4 +1,4 @@
--- Lists of entries, turn by turn.
+-- Lists of none_or_more, turn by turn.
 use Rattle.std.proofs.Common.{◌≡◌, ◌<◌, ◌≤◌, ℕ, Bool, is_some, ◌⊎◌, true, false, inl, inr, List, [], ◌∷◌, ◌++◌, length, Option, Some, None, refl, ap, sym, ◌∙◌, arith, append_assoc, nat_lt, length-append}
 use Rattle.std.specs.Prelude.{IsTrue, IfSome}
 use Rattle.std.specs.Option.{option_map, option_and_then}
@@ -8,7 +8,7 @@ use Rattle.elem_descr.specs.declared.refusal.Refusal.{Refusal}
 use Rattle.elem_descr.specs.declared.refusal.Refusal.TheVariants.{Syntax, OutOfMemory}
 use Rattle.script_lang.specs.Tokens.{symbol_at, at_end}
 use Rattle.script_lang.specs.Literals.{line_end_at}
-use Rattle.script_lang.specs.Lists.{by_rule, entry_first, comma_next, listed, entries, row}
+use Rattle.script_lang.specs.Lists.{by_rule, entry_first, comma_next, one_or_more, none_or_more, row}
 use Rattle.script_lang.proofs.Shorter.{Shortens}
 use Rattle.script_lang.proofs.Turns.{one_turn, listed_goes_on, entries_goes_on, row_goes_on}
 
@@ -21,7 +21,7 @@ more_in_front : {A : Type 0} (read : List A) (x : A) (rest : Option (List A × L
 more_in_front read x None = refl
 more_in_front read x (Some r) = ap (λ xs. Some (xs, r.1)) (sym (append_assoc read (x ∷ []) r.0))
 
--- more than 8 entries, where 8 are read and one more comes
+-- more than 8 none_or_more, where 8 are read and one more comes
 abbrev pub Long : {A : Type 0} → Option (List A × List ℕ) → Type 0
 Long list = IfSome list (λ r. IsTrue (nat_lt 8 (length r.0)))
 
@@ -29,7 +29,7 @@ long_in_front : {A : Type 0} (read : List A) (x : A) (rest : Option (List A × L
 long_in_front read x None full = tt
 long_in_front read x (Some r) full = lt-ltb 8 (length (read ++ x ∷ r.0)) (omega (arith, length-append read (x ∷ r.0)))
 
--- 8 entries are held where one more takes memory that there is not
+-- 8 none_or_more are held where one more takes memory that there is not
 pub full_from_failed : {A : Type 0} (read : List A) → (length read < 8 → false ≡ true) → 8 ≤ length read
 full_from_failed read room =
     elim (cases_lt (length read) 8) [ inl few ↦ absurd (false≢true (room few)) | inr many ↦ many ]
@@ -44,57 +44,57 @@ pub failed_entry : {A B P : Type 0} (refusal : Refusal) (there : Option B) (whol
 failed_entry refusal there whole failed stops =
     elim failed [ inl misspelt ↦ inl (misspelt.0, stops misspelt.1) | inr full ↦ inr (full.0, any_list whole) ]
 
--- a turn at entries that commas part, a last comma allowed
-module _ {A : Type 0} (entry_at : List ℕ → Option (A × List ℕ)) (shorter : Shortens entry_at) (closing : ℕ) (whole : Option (List A × List ℕ)) (read : List A) (rest : List ℕ) (is : whole ≡ in_front read (by_rule (entries entry_at closing) rest)) where
-  entries_turn : whole ≡ in_front read (entries entry_at closing (by_rule (entries entry_at closing)) rest)
-  entries_turn = is ∙ ap (in_front read) (one_turn (entries entry_at closing) (entries_goes_on entry_at shorter closing) rest)
+-- a turn at none_or_more that commas part, a last comma allowed
+module _ {A : Type 0} (entry_at : List ℕ → Option (A × List ℕ)) (shorter : Shortens entry_at) (closing : ℕ) (whole : Option (List A × List ℕ)) (read : List A) (rest : List ℕ) (is : whole ≡ in_front read (by_rule (none_or_more entry_at closing) rest)) where
+  entries_turn : whole ≡ in_front read (none_or_more entry_at closing (by_rule (none_or_more entry_at closing)) rest)
+  entries_turn = is ∙ ap (in_front read) (one_turn (none_or_more entry_at closing) (entries_goes_on entry_at shorter closing) rest)
 
   pub entries_closed : (end : List ℕ) → symbol_at closing rest ≡ Some end → whole ≡ Some (read, end)
-  unfolding entries
+  unfolding none_or_more
   entries_closed end ends = entries_turn ∙ rw ends (ap (λ xs. Some (xs, end)) (append-nil read))
 
   pub entries_no_entry : symbol_at closing rest ≡ None → entry_at rest ≡ None → whole ≡ None
-  unfolding entries listed entry_first
+  unfolding none_or_more one_or_more entry_first
   entries_no_entry no_end none = entries_turn ∙ rw (no_end, none) refl
 
   pub entries_last : (x : A) (after end : List ℕ) → symbol_at closing rest ≡ None → entry_at rest ≡ Some (x, after) → symbol_at closing after ≡ Some end → whole ≡ Some (read ++ x ∷ [], end)
-  unfolding entries listed entry_first comma_next
+  unfolding none_or_more one_or_more entry_first comma_next
   entries_last x after end no_end first ends = entries_turn ∙ rw (no_end, first, ends) refl
 
   pub entries_no_mark : (x : A) (after : List ℕ) → symbol_at closing rest ≡ None → entry_at rest ≡ Some (x, after) → symbol_at closing after ≡ None → symbol_at 44 after ≡ None → whole ≡ None
-  unfolding entries listed entry_first comma_next
+  unfolding none_or_more one_or_more entry_first comma_next
   entries_no_mark x after no_end first not_last no_comma = entries_turn ∙ rw (no_end, first, not_last, no_comma) refl
 
-  pub entries_next : (x : A) (after next : List ℕ) → symbol_at closing rest ≡ None → entry_at rest ≡ Some (x, after) → symbol_at closing after ≡ None → symbol_at 44 after ≡ Some next → whole ≡ in_front (read ++ x ∷ []) (by_rule (entries entry_at closing) next)
-  unfolding entries listed entry_first comma_next
-  entries_next x after next no_end first not_last comma = entries_turn ∙ rw (no_end, first, not_last, comma) (more_in_front read x (by_rule (entries entry_at closing) next))
+  pub entries_next : (x : A) (after next : List ℕ) → symbol_at closing rest ≡ None → entry_at rest ≡ Some (x, after) → symbol_at closing after ≡ None → symbol_at 44 after ≡ Some next → whole ≡ in_front (read ++ x ∷ []) (by_rule (none_or_more entry_at closing) next)
+  unfolding none_or_more one_or_more entry_first comma_next
+  entries_next x after next no_end first not_last comma = entries_turn ∙ rw (no_end, first, not_last, comma) (more_in_front read x (by_rule (none_or_more entry_at closing) next))
 
 -- a turn at items that commas part, no last comma
-module _ {A : Type 0} (item_at : List ℕ → Option (A × List ℕ)) (shorter : Shortens item_at) (closing : ℕ) (whole : Option (List A × List ℕ)) (read : List A) (rest : List ℕ) (is : whole ≡ in_front read (by_rule (listed item_at closing) rest)) where
-  items_turn : whole ≡ in_front read (listed item_at closing (by_rule (listed item_at closing)) rest)
-  items_turn = is ∙ ap (in_front read) (one_turn (listed item_at closing) (listed_goes_on item_at shorter closing) rest)
+module _ {A : Type 0} (item_at : List ℕ → Option (A × List ℕ)) (shorter : Shortens item_at) (closing : ℕ) (whole : Option (List A × List ℕ)) (read : List A) (rest : List ℕ) (is : whole ≡ in_front read (by_rule (one_or_more item_at closing) rest)) where
+  items_turn : whole ≡ in_front read (one_or_more item_at closing (by_rule (one_or_more item_at closing)) rest)
+  items_turn = is ∙ ap (in_front read) (one_turn (one_or_more item_at closing) (listed_goes_on item_at shorter closing) rest)
 
   pub items_no_item : item_at rest ≡ None → whole ≡ None
-  unfolding listed entry_first
+  unfolding one_or_more entry_first
   items_no_item none = items_turn ∙ rw none refl
 
   pub items_long : (x : A) (after : List ℕ) → item_at rest ≡ Some (x, after) → 8 ≤ length read → Long whole
-  unfolding listed entry_first
+  unfolding one_or_more entry_first
   items_long x after first full = rw (items_turn, first) (long_in_front read x _ full)
 
   pub items_last : (x : A) (after end : List ℕ) → item_at rest ≡ Some (x, after) → symbol_at closing after ≡ Some end → whole ≡ Some (read ++ x ∷ [], end)
-  unfolding listed entry_first comma_next
+  unfolding one_or_more entry_first comma_next
   items_last x after end first ends = items_turn ∙ rw (first, ends) refl
 
   pub items_no_mark : (x : A) (after : List ℕ) → item_at rest ≡ Some (x, after) → symbol_at closing after ≡ None → symbol_at 44 after ≡ None → whole ≡ None
-  unfolding listed entry_first comma_next
+  unfolding one_or_more entry_first comma_next
   items_no_mark x after first no_end no_comma = items_turn ∙ rw (first, no_end, no_comma) refl
 
-  pub items_next : (x : A) (after next : List ℕ) → item_at rest ≡ Some (x, after) → symbol_at closing after ≡ None → symbol_at 44 after ≡ Some next → whole ≡ in_front (read ++ x ∷ []) (by_rule (listed item_at closing) next)
-  unfolding listed entry_first comma_next
-  items_next x after next first no_end comma = items_turn ∙ rw (first, no_end, comma) (more_in_front read x (by_rule (listed item_at closing) next))
+  pub items_next : (x : A) (after next : List ℕ) → item_at rest ≡ Some (x, after) → symbol_at closing after ≡ None → symbol_at 44 after ≡ Some next → whole ≡ in_front (read ++ x ∷ []) (by_rule (one_or_more item_at closing) next)
+  unfolding one_or_more entry_first comma_next
+  items_next x after next first no_end comma = items_turn ∙ rw (first, no_end, comma) (more_in_front read x (by_rule (one_or_more item_at closing) next))
 
--- a turn at entries one behind the other
+-- a turn at none_or_more one behind the other
 module _ {A : Type 0} (entry_at : List ℕ → Option (A × List ℕ)) (shorter : Shortens entry_at) (ending : List ℕ → Option (List ℕ)) (whole : Option (List A × List ℕ)) (read : List A) (rest : List ℕ) (is : whole ≡ in_front read (by_rule (row entry_at ending) rest)) where
   row_turn : whole ≡ in_front read (row entry_at ending (by_rule (row entry_at ending)) rest)
   row_turn = is ∙ ap (in_front read) (one_turn (row entry_at ending) (row_goes_on entry_at shorter ending) rest)

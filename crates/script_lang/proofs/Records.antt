@@ -5,10 +5,10 @@ use Rattle.script_lang.specs.declared.literal.Literal.TheVariants.{Record}
 use Rattle.script_lang.specs.RecordValues.{Values, value_count}
 use Rattle.script_lang.specs.Listed.{literals_of}
 use Rattle.script_lang.specs.RecordLaws.{listed_literals_of, length_literals_of}
-use Rattle.script_lang.specs.Lists.{by_rule, entries}
+use Rattle.script_lang.specs.Lists.{by_rule, none_or_more}
 use Rattle.script_lang.specs.Literals.{record_at}
 
-module _ (value_at : List ℕ → Option (Literal × List ℕ)) (bytes rest : List ℕ) (values : Values) (read : by_rule (entries value_at 41) bytes ≡ Some (literals_of values, rest)) where
+module _ (value_at : List ℕ → Option (Literal × List ℕ)) (bytes rest : List ℕ) (values : Values) (read : by_rule (none_or_more value_at 41) bytes ≡ Some (literals_of values, rest)) where
   pub record_empty : (value_count values == 0) ≡ true → record_at value_at bytes ≡ None
   unfolding record_at
   record_empty none = rw (read, length_literals_of values, none) refl

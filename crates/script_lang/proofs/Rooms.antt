@@ -10,7 +10,7 @@ use Rattle.script_lang.specs.declared.literal.Literal.{Literal}
 use Rattle.script_lang.specs.declared.command.Operand.{Operand}
 use Rattle.script_lang.specs.declared.command.Argument.{Argument}
 use Rattle.script_lang.specs.Tokens.{where_true, byte_at, unspaced}
-use Rattle.script_lang.specs.Lists.{by_rule, entries, listed}
+use Rattle.script_lang.specs.Lists.{by_rule, none_or_more, one_or_more}
 use Rattle.script_lang.specs.Literals.{byte_text_at, bytes_at, scalar_at, literal_of_scalar, record_at, literal_at}
 use Rattle.script_lang.specs.Indexes.{index_item_at, index_at, optional_index_at, operand_named, operand_of, literal_of, bare_name_at, argument_at}
 use Rattle.script_lang.specs.Reading.{scalar_room, literal_room, index_room, optional_index_room, operand_room, argument_room}
@@ -58,7 +58,7 @@ bytes_room bytes = after_step HasScalarRoom (byte_text_at bytes) _ (λ text. ref
 pub record_room : (value_at : List ℕ → Option (Literal × List ℕ)) (bytes : List ℕ) → IfSome (record_at value_at bytes) (λ r. IsTrue (literal_room r.0))
 unfolding record_at
 record_room value_at bytes =
-    after_step HasLiteralRoom (by_rule (entries value_at 41) bytes) _
+    after_step HasLiteralRoom (by_rule (none_or_more value_at 41) bytes) _
     (λ values. after_step HasLiteralRoom (where_true (not (length values.0 == 0))) _ (λ some. refl))
 
 scalar_kept : (o : Option (ScalarLiteral × List ℕ)) → IfSome o (λ r. IsTrue (scalar_room r.0)) → IfSome (option_map literal_of_scalar o) (λ r. IsTrue (literal_room r.0))
@@ -68,10 +68,10 @@ scalar_kept (Some r) known = known
 pub scalar_literal_room : (bytes : List ℕ) → IfSome (scalar_at bytes) (λ r. IsTrue (scalar_room r.0)) → IfSome (option_map literal_of_scalar (scalar_at bytes)) (λ r. IsTrue (literal_room r.0))
 scalar_literal_room bytes known = scalar_kept (scalar_at bytes) known
 
-pub index_list_room : (bytes : List ℕ) → IfSome (by_rule (listed index_item_at 93) bytes) (λ r. IsTrue (index_room r.0)) → IfSome (index_at bytes) (λ r. IsTrue (index_room r.0))
+pub index_list_room : (bytes : List ℕ) → IfSome (by_rule (one_or_more index_item_at 93) bytes) (λ r. IsTrue (index_room r.0)) → IfSome (index_at bytes) (λ r. IsTrue (index_room r.0))
 unfolding index_at
 index_list_room bytes known =
-    after_known HasIndexRoom HasIndexRoom (by_rule (listed index_item_at 93) bytes) _ known
+    after_known HasIndexRoom HasIndexRoom (by_rule (one_or_more index_item_at 93) bytes) _ known
     (λ items more. after_step HasIndexRoom (where_true (nat_le (count_by is_ellipsis items.0) 1)) _ (λ once. more))
 
 index_kept : (o : Option (List (IndexItem (List ℕ)) × List ℕ)) → IfSome o (λ r. IsTrue (index_room r.0)) → IfSome (option_map (λ (index : List (IndexItem (List ℕ)) × List ℕ). (Some index.0, index.1)) o) HasOptionalRoom

@@ -10,7 +10,7 @@ use Rattle.shape_strides.specs.declared.index_item.IndexItem.TheVariants.{Ellips
 use Rattle.script_lang.specs.declared.literal.ScalarLiteral.{ScalarLiteral}
 use Rattle.script_lang.specs.declared.literal.Literal.{Literal}
 use Rattle.script_lang.specs.Tokens.{◌>>=◌, ◌or_else◌, if_found, where_true, is_blank, is_digit, is_name_byte, unspaced, byte_at, symbol_at, front_at, front_of, bytes_mark_at, is_parted, word_at, keyword_at, is_name, name_at, number_at, length_at, positive, negative, signed_at, integer_at, optional, optional_integer_at}
-use Rattle.script_lang.specs.Lists.{in_turns, by_rule, closed, entry_first, comma_next, listed, entries, row}
+use Rattle.script_lang.specs.Lists.{in_turns, by_rule, closed, entry_first, comma_next, one_or_more, none_or_more, row}
 use Rattle.script_lang.specs.Literals.{hex_value, hex_digit_at, escape_at, is_plain, plain_byte_at, text_byte_at, byte_text_at, integer_of, boolean_at, bytes_at, scalar_at, literal_of_scalar, record_at, literal_within, max_literal_depth, literal_at}
 use Rattle.script_lang.specs.Indexes.{step_at, slice_at, ellipsis_at, integer_item, item_with_rest, array_item, bare_item_at, index_item_at}
 use Rattle.script_lang.proofs.Rooms.{after_step, after_known}
@@ -188,10 +188,10 @@ module _ {A : Type 0} (entry_at : List ℕ → Option (A × List ℕ)) (shorter 
       either P _ _ (closed_within A (length bytes) (symbol_at closing bytes) (symbol_shorter closing bytes))
       (after_known (Few (length bytes)) P (symbol_at 44 bytes) others_at (symbol_shorter 44 bytes) (λ next few. within (length bytes) others_at others next (omega arith)))
 
-  entries_shorter : (closing : ℕ) → Shortens (by_rule (entries entry_at closing))
-  unfolding by_rule entries listed
+  entries_shorter : (closing : ℕ) → Shortens (by_rule (none_or_more entry_at closing))
+  unfolding by_rule none_or_more one_or_more
   entries_shorter closing bytes =
-      in_turns_shorter (entries entry_at closing)
+      in_turns_shorter (none_or_more entry_at closing)
       (λ others_at others rest. either (Less (length rest)) _ _ (closed_within A (length rest) (symbol_at closing rest) (symbol_shorter closing rest)) (first_shorter (comma_next closing others_at) (comma_shorter closing others_at others) rest))
       (suc (length bytes)) bytes
 
@@ -257,7 +257,7 @@ record_shorter : (value_at : List ℕ → Option (Literal × List ℕ)) → Shor
 unfolding record_at
 record_shorter value_at shorter bytes =
     let P = Less {A = Literal} (length bytes) in
-    after_known (Less (length bytes)) P (by_rule (entries value_at 41) bytes) _ (entries_shorter value_at shorter 41 bytes)
+    after_known (Less (length bytes)) P (by_rule (none_or_more value_at 41) bytes) _ (entries_shorter value_at shorter 41 bytes)
     (λ values less. after_step P (where_true (not (length values.0 == 0))) _ (λ some. less))
 
 pub literal_within_shorter : (depth : ℕ) → Shortens (literal_within depth)

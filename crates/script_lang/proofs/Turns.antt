@@ -3,7 +3,7 @@ use Rattle.std.proofs.Common.{◌≡◌, ◌<◌, ℕ, zero, suc, List, ◌∷�
 use Rattle.std.specs.Prelude.{IfSome}
 use Rattle.std.specs.Option.{option_and_then}
 use Rattle.script_lang.specs.Tokens.{◌or_else◌, byte_at, symbol_at, length_at, integer_at}
-use Rattle.script_lang.specs.Lists.{in_turns, by_rule, AnyTurns, closed, entry_first, comma_next, listed, entries, row}
+use Rattle.script_lang.specs.Lists.{in_turns, by_rule, AnyTurns, closed, entry_first, comma_next, one_or_more, none_or_more, row}
 use Rattle.script_lang.specs.Literals.{text_byte_at, literal_within, literal_at, line_end_at}
 use Rattle.script_lang.specs.Indexes.{index_item_at}
 use Rattle.script_lang.specs.Lines.{EachListAnyTurns}
@@ -49,12 +49,12 @@ module _ {A : Type 0} (entry_at : List ℕ → Option (A × List ℕ)) (shorter 
   comma_same closing f g bytes same =
       ap (λ o. closed (symbol_at closing bytes) or_else o) (next_same (symbol_at 44 bytes) f g (weaker (Few (length bytes)) (λ (rest : List ℕ). f rest ≡ g rest) (symbol_at 44 bytes) (symbol_shorter 44 bytes) same))
 
-  pub listed_goes_on : (closing : ℕ) → GoesOn (listed entry_at closing)
-  unfolding listed
+  pub listed_goes_on : (closing : ℕ) → GoesOn (one_or_more entry_at closing)
+  unfolding one_or_more
   listed_goes_on closing f g bytes same = first_same (comma_next closing f) (comma_next closing g) bytes (λ rest less. comma_same closing f g rest (λ next few. same next (omega arith)))
 
-  pub entries_goes_on : (closing : ℕ) → GoesOn (entries entry_at closing)
-  unfolding entries
+  pub entries_goes_on : (closing : ℕ) → GoesOn (none_or_more entry_at closing)
+  unfolding none_or_more
   entries_goes_on closing f g bytes same = ap (λ o. closed (symbol_at closing bytes) or_else o) (listed_goes_on closing f g bytes same)
 
   pub row_goes_on : (ending : List ℕ → Option (List ℕ)) → GoesOn (row entry_at ending)
@@ -63,10 +63,10 @@ module _ {A : Type 0} (entry_at : List ℕ → Option (A × List ℕ)) (shorter 
 
 pub each_list_any_turns : EachListAnyTurns
 each_list_any_turns = (
-  any_turns (entries length_at 41) (entries_goes_on length_at length_shorter 41),
-  any_turns (entries integer_at 41) (entries_goes_on integer_at integer_shorter 41),
-  any_turns (listed index_item_at 93) (listed_goes_on index_item_at index_item_shorter 93),
+  any_turns (none_or_more length_at 41) (entries_goes_on length_at length_shorter 41),
+  any_turns (none_or_more integer_at 41) (entries_goes_on integer_at integer_shorter 41),
+  any_turns (one_or_more index_item_at 93) (listed_goes_on index_item_at index_item_shorter 93),
   any_turns (row text_byte_at (byte_at 39)) (row_goes_on text_byte_at text_byte_shorter (byte_at 39)),
-  (λ depth. any_turns (entries (literal_within depth) 41) (entries_goes_on (literal_within depth) (literal_within_shorter depth) 41)),
+  (λ depth. any_turns (none_or_more (literal_within depth) 41) (entries_goes_on (literal_within depth) (literal_within_shorter depth) 41)),
   any_turns (row literal_at line_end_at) (row_goes_on literal_at literal_shorter line_end_at),
 )

@@ -9,20 +9,20 @@ use Rattle.script_lang.specs.declared.command.Operand.{Operand}
 use Rattle.script_lang.specs.declared.command.Argument.{Argument}
 use Rattle.script_lang.specs.declared.command.Argument.TheVariants as argument
 use Rattle.script_lang.specs.Tokens.{◌>>=◌, ◌or_else◌, if_found, where_true, unspaced, byte_at, symbol_at, bytes_mark_at, keyword_at, name_at, length_at, integer_at, optional_integer_at}
-use Rattle.script_lang.specs.Lists.{by_rule, entries, listed}
+use Rattle.script_lang.specs.Lists.{by_rule, none_or_more, one_or_more}
 use Rattle.script_lang.specs.Literals.{literal_at}
 
 -- S: a shape, lengths in parentheses
 unfoldable pub shape_at : List ℕ → Option (List ℕ × List ℕ)
 shape_at bytes = do
   inside ← symbol_at 40 bytes
-  by_rule (entries length_at 41) inside
+  by_rule (none_or_more length_at 41) inside
 
 -- S with signs
 unfoldable pub signed_shape_at : List ℕ → Option (List ℤ × List ℕ)
 signed_shape_at bytes = do
   inside ← symbol_at 40 bytes
-  by_rule (entries integer_at 41) inside
+  by_rule (none_or_more integer_at 41) inside
 
 -- behind the first colon of a slice and its stop: the step, if there is a second colon
 abbrev pub step_at : List ℕ → Option (List ℕ) → Option ℤ × List ℕ
@@ -66,7 +66,7 @@ index_item_at bytes = bare_item_at (unspaced bytes)
 -- ix], behind `[`: the items up to the bracket, `...` at most once
 unfoldable pub index_at : List ℕ → Option (List (IndexItem (List ℕ)) × List ℕ)
 index_at bytes = do
-  items ← by_rule (listed index_item_at 93) bytes
+  items ← by_rule (one_or_more index_item_at 93) bytes
   _ ← where_true (nat_le (count_by is_ellipsis items.0) 1)
   Some items
 

@@ -3,7 +3,7 @@ use Rattle.std.specs.Prelude.{ℕ, Bool, true, List, [], ◌∷◌, Option, Some
 use Rattle.std.specs.List.{list_all}
 use Rattle.script_lang.specs.declared.command.Command.{Command}
 use Rattle.script_lang.specs.Tokens.{unspaced, byte_at, length_at, integer_at}
-use Rattle.script_lang.specs.Lists.{AnyTurns, listed, entries, row}
+use Rattle.script_lang.specs.Lists.{AnyTurns, one_or_more, none_or_more, row}
 use Rattle.script_lang.specs.Literals.{text_byte_at, literal_within, literal_at, line_end_at}
 use Rattle.script_lang.specs.Indexes.{index_item_at}
 use Rattle.script_lang.specs.Commands.{command_at}
@@ -39,5 +39,5 @@ line_of line = if is_silent line then silent else if list_all is_allowed line th
 -- integers, the items of an index, the bytes of a text, the values of a record, and the literals of a line.
 abbrev pub EachListAnyTurns : Type 0
 EachListAnyTurns =
-    AnyTurns (entries length_at 41) × AnyTurns (entries integer_at 41) × AnyTurns (listed index_item_at 93)
-    × AnyTurns (row text_byte_at (byte_at 39)) × ((depth : ℕ) → AnyTurns (entries (literal_within depth) 41)) × AnyTurns (row literal_at line_end_at)
+    AnyTurns (none_or_more length_at 41) × AnyTurns (none_or_more integer_at 41) × AnyTurns (one_or_more index_item_at 93)
+    × AnyTurns (row text_byte_at (byte_at 39)) × ((depth : ℕ) → AnyTurns (none_or_more (literal_within depth) 41)) × AnyTurns (row literal_at line_end_at)

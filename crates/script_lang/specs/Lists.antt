@@ -1,4 +1,4 @@
--- Lists of entries. A rule says what a list is where the list behind its first entry is known.
+-- Lists of none_or_more. A rule says what a list is where the list behind its first entry is known.
 use Rattle.std.specs.Prelude.{◌≡◌, ◌<◌, ℕ, zero, suc, List, [], ◌∷◌, length, Option, Some, None}
 use Rattle.std.specs.Option.{option_and_then}
 use Rattle.script_lang.specs.Tokens.{symbol_at, ◌>>=◌, ◌or_else◌}
@@ -32,12 +32,12 @@ unfoldable pub comma_next : {A : Type 0} → ℕ → (List ℕ → Option (List 
 comma_next closing others_at bytes = closed (symbol_at closing bytes) or_else (symbol_at 44 bytes >>= others_at)
 
 -- Entries that commas part, up to the byte that closes the list: one or more, no last comma.
-unfoldable pub listed : {A : Type 0} → (List ℕ → Option (A × List ℕ)) → ℕ → (List ℕ → Option (List A × List ℕ)) → List ℕ → Option (List A × List ℕ)
-listed entry_at closing others_at bytes = entry_first entry_at (comma_next closing others_at) bytes
+unfoldable pub one_or_more : {A : Type 0} → (List ℕ → Option (A × List ℕ)) → ℕ → (List ℕ → Option (List A × List ℕ)) → List ℕ → Option (List A × List ℕ)
+one_or_more entry_at closing others_at bytes = entry_first entry_at (comma_next closing others_at) bytes
 
 -- The same: none or more, a last comma allowed.
-unfoldable pub entries : {A : Type 0} → (List ℕ → Option (A × List ℕ)) → ℕ → (List ℕ → Option (List A × List ℕ)) → List ℕ → Option (List A × List ℕ)
-entries entry_at closing others_at bytes = closed (symbol_at closing bytes) or_else listed entry_at closing others_at bytes
+unfoldable pub none_or_more : {A : Type 0} → (List ℕ → Option (A × List ℕ)) → ℕ → (List ℕ → Option (List A × List ℕ)) → List ℕ → Option (List A × List ℕ)
+none_or_more entry_at closing others_at bytes = closed (symbol_at closing bytes) or_else one_or_more entry_at closing others_at bytes
 
 -- Entries one behind the other, up to where the list ends: none or more.
 unfoldable pub row : {A : Type 0} → (List ℕ → Option (A × List ℕ)) → (List ℕ → Option (List ℕ)) → (List ℕ → Option (List A × List ℕ)) → List ℕ → Option (List A × List ℕ)

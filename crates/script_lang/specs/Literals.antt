@@ -7,7 +7,7 @@ use Rattle.script_lang.specs.declared.literal.ScalarLiteral.TheVariants.{Integer
 use Rattle.script_lang.specs.declared.literal.Literal.{Literal}
 use Rattle.script_lang.specs.declared.literal.Literal.TheVariants.{Scalar, Record}
 use Rattle.script_lang.specs.Tokens.{◌>>=◌, ◌or_else◌, if_found, where_true, is_digit, unspaced, byte_at, symbol_at, at_end, bytes_mark_at, word_at, integer_at}
-use Rattle.script_lang.specs.Lists.{by_rule, entries, row}
+use Rattle.script_lang.specs.Lists.{by_rule, none_or_more, row}
 use Rattle.script_lang.specs.Listed.{all_values}
 
 -- the digit that a byte is in base 16
@@ -70,7 +70,7 @@ scalar_at bytes = if_found (bytes_mark_at bytes) bytes_at (option_map integer_of
 -- behind `(`: one or more values, a last comma allowed
 unfoldable pub record_at : (List ℕ → Option (Literal × List ℕ)) → List ℕ → Option (Literal × List ℕ)
 record_at value_at bytes = do
-  values ← by_rule (entries value_at 41) bytes
+  values ← by_rule (none_or_more value_at 41) bytes
   _ ← where_true (not (length values.0 == 0))
   Some (Record (all_values values.0), values.1)
 

@@ -7,6 +7,7 @@ use Rattle.elem_descr.specs.declared.scalar.Scalar.{Scalar}
 use Rattle.elem_descr.specs.declared.scalar.Scalar.TheVariants.{Bool as BoolScalar, Byte, Int, Bytes}
 use Rattle.elem_descr.specs.Values.{LeafValue, number}
 use Rattle.elem_descr.specs.Encoding.{IsNumber, size, width_size, number_of, decode, encode}
+use Rattle.elem_descr.specs.NumberLaws.{number_size}
 use Rattle.machine_numbers.specs.declared.operators.Comparison.{Comparison}
 use Rattle.elementwise.specs.Comparisons.{says, compared}
 use Rattle.machine_numbers.specs.Kinds.{little}
@@ -29,14 +30,8 @@ small_width Two = omega arith
 small_width Four = omega arith
 small_width Eight = omega arith
 
-pub scalar_small : (scalar : Scalar) → IsNumber scalar → size scalar ≤ 8
-scalar_small BoolScalar is = omega arith
-scalar_small (Byte signed) is = omega arith
-scalar_small (Int signed width order) is = small_width width
-scalar_small (Bytes n) never = absurd never
-
 pub number_small : (scalar : Scalar) → IsNumber scalar → size (little scalar) ≤ 8
-number_small scalar is = scalar_small (little scalar) (number-little scalar is)
+number_small scalar is = number_size (little scalar) (number-little scalar is)
 
 pub bool_small : size BoolScalar ≤ 8
 bool_small = omega arith

@@ -5,9 +5,10 @@ use Rattle.elem_descr.specs.declared.scalar.Scalar.{Scalar}
 use Rattle.elem_descr.specs.Values.{number}
 use Rattle.elem_descr.specs.Encoding.{IsNumber, size, decode, encode}
 use Rattle.elem_descr.specs.EncodingLaws.{decode_encode}
+use Rattle.elem_descr.specs.NumberLaws.{number_size}
 use Rattle.machine_numbers.specs.Kinds.{little}
 use Rattle.elementwise.specs.Operations.{exact, exact_one}
-use Rattle.elementwise.specs.inside.PairLaws.{number-little, number_small, scalar_small, bool_small, compared_reads_back}
+use Rattle.elementwise.specs.inside.PairLaws.{number-little, number_small, bool_small, compared_reads_back}
 use Rattle.elementwise.specs.inside.Works.{target, meaning, IsWork}
 use Rattle.elementwise.specs.declared.pairing.Work.{Work}
 use Rattle.elementwise.specs.declared.pairing.Work.TheVariants.{Combine, Change, Compare, Cast}
@@ -22,4 +23,4 @@ pub work_small : (work : Work) (s : Scalar) → IsNumber s → IsWork work → s
 work_small (Combine op) s is can = number_small s is
 work_small (Change op) s is can = number_small s is
 work_small (Compare comparison) s is can = bool_small
-work_small (Cast to) s is can = scalar_small to can
+work_small (Cast to) s is can = number_size to can

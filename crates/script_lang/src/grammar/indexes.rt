@@ -1,7 +1,7 @@
 //! Index lists, and the operands that they stand behind.
 ghost use Rattle.std.specs.Prelude.{◌≡◌, ◌≤◌, length, IfSome};
 ghost use Rattle.script_lang.specs.Tokens.{symbol_at};
-ghost use Rattle.script_lang.specs.Lists.{by_rule, listed};
+ghost use Rattle.script_lang.specs.Lists.{by_rule, one_or_more};
 ghost use Rattle.script_lang.specs.Indexes.{step_at, slice_at, ellipsis_at, index_item_at, index_at, bracket_at, optional_index_at, operand_named, operand_at, bare_name_at, argument_at};
 ghost use Rattle.script_lang.specs.Reading.{Scans, Reads, index_room, optional_index_room, operand_room, argument_room};
 
@@ -71,7 +71,7 @@ fn item(alloc: Global, bytes: &[u8]) -> Option<(IndexItem<Name>, &[u8])>
 
 /// Items that commas part, up to the bracket that ends them, and what follows it.
 fn items(alloc: Global, bytes: &[u8]) -> Result<(Index, &[u8]), Refusal>
-    ensures { Reads (λ r. (r.0, r.1.now)) (λ r. index_room r.0) result (by_rule (listed index_item_at 93) bytes.now) }
+    ensures { Reads (λ r. (r.0, r.1.now)) (λ r. index_room r.0) result (by_rule (one_or_more index_item_at 93) bytes.now) }
 {
     let mut index = Index::new(alloc);
     let mut rest = bytes;

@@ -1,7 +1,7 @@
 //! The lists of shapes.
 ghost use Rattle.std.specs.Prelude.{◌≡◌, true};
 ghost use Rattle.script_lang.specs.Tokens.{length_at, integer_at};
-ghost use Rattle.script_lang.specs.Lists.{by_rule, entries};
+ghost use Rattle.script_lang.specs.Lists.{by_rule, none_or_more};
 ghost use Rattle.script_lang.specs.Indexes.{shape_at, signed_shape_at};
 ghost use Rattle.script_lang.specs.Reading.{Reads};
 
@@ -13,7 +13,7 @@ use std::alloc::Global;
 
 /// Lengths that commas part, up to the parenthesis that ends them, and what follows it.
 fn lengths(alloc: Global, bytes: &[u8]) -> Result<(Lengths, &[u8]), Refusal>
-    ensures { Reads (λ r. (r.0, r.1.now)) (λ _. true) result (by_rule (entries length_at 41) bytes.now) }
+    ensures { Reads (λ r. (r.0, r.1.now)) (λ _. true) result (by_rule (none_or_more length_at 41) bytes.now) }
 {
     let mut lengths = Lengths::new(alloc);
     let mut rest = bytes;
@@ -37,7 +37,7 @@ fn lengths(alloc: Global, bytes: &[u8]) -> Result<(Lengths, &[u8]), Refusal>
 
 /// Integers that commas part, up to the parenthesis that ends them, and what follows it.
 fn integers(alloc: Global, bytes: &[u8]) -> Result<(Integers, &[u8]), Refusal>
-    ensures { Reads (λ r. (r.0, r.1.now)) (λ _. true) result (by_rule (entries integer_at 41) bytes.now) }
+    ensures { Reads (λ r. (r.0, r.1.now)) (λ _. true) result (by_rule (none_or_more integer_at 41) bytes.now) }
 {
     let mut integers = Integers::new(alloc);
     let mut rest = bytes;

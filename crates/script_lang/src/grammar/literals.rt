@@ -1,7 +1,7 @@
 //! Literals.
 ghost use Rattle.std.specs.Prelude.{◌≡◌, ◌<◌, true, IfSome};
 ghost use Rattle.script_lang.specs.Tokens.{byte_at};
-ghost use Rattle.script_lang.specs.Lists.{by_rule, entries, row};
+ghost use Rattle.script_lang.specs.Lists.{by_rule, none_or_more, row};
 ghost use Rattle.script_lang.specs.Literals.{hex_value, hex_digit_at, escape_at, plain_byte_at, text_byte_at, byte_text_at, boolean_at, bytes_at, scalar_at, record_at, literal_within, literal_at, line_end_at};
 ghost use Rattle.script_lang.specs.Listed.{literals_of};
 ghost use Rattle.script_lang.specs.Reading.{Scans, Reads, scalar_room, literal_room};
@@ -132,7 +132,7 @@ fn scalar(alloc: Global, bytes: &[u8]) -> Result<(ScalarLiteral, &[u8]), Refusal
 /// follows it.
 #[cycle(nesting)]
 fn values(alloc: Global, depth: usize, bytes: &[u8]) -> Result<(RecordLiteral, &[u8]), Refusal>
-    ensures { Reads (λ r. (literals_of r.0, r.1.now)) (λ _. true) result (by_rule (entries (literal_within depth) 41) bytes.now) }
+    ensures { Reads (λ r. (literals_of r.0, r.1.now)) (λ _. true) result (by_rule (none_or_more (literal_within depth) 41) bytes.now) }
 {
     let mut values = RecordLiteral::new(alloc);
     let mut rest = bytes;

@@ -2,11 +2,12 @@ use Rattle.std.proofs.Common.{inr, Ok, map, sym, ◌∙◌}
 use Rattle.std.proofs.lemmas.Result.{err_from_is_err_and}
 use Rattle.elem_descr.specs.declared.descr.Descr.TheVariants.{Scalar as ScalarDescr}
 use Rattle.elem_descr.specs.Blocks.{item_from}
+use Rattle.elem_descr.specs.NumberLaws.{number_size}
 use Rattle.shape_strides.specs.Layouts.{offsets}
 use Rattle.broadcasting.specs.BroadcastLaws.{can-itself}
 use Rattle.machine_numbers.specs.Kinds.{little}
 use Rattle.elementwise.specs.Results.{unary_item}
-use Rattle.elementwise.specs.inside.PairLaws.{scalar_small, number_small}
+use Rattle.elementwise.specs.inside.PairLaws.{number_small}
 use Rattle.elementwise.proofs.MadeLaws.{made-gives, made-order, made-items, made-encoded}
 use Rattle.elementwise.proofs.PromotedLaws.{promoted_one, native-little, number-read, can-number, operand_refused, kind_refused, one_given}
 use Rattle.elementwise.proofs.AppliedLaws.{changed}
@@ -32,7 +33,7 @@ make_cast-requires-clause-can c = (number-read c.read_as-read.result c.in_ok-sca
 pub make_cast-requires-clause-small : goal.make_cast-requires-clause-small
 make_cast-requires-clause-small c =
     let number = number-read c.read_as-read.result c.in_ok-scalar.scalar c.read_as-read.ensures (promoted_one c.args.op c.in_ok-from.from c.in_ok-scalar.scalar c.in_ok-scalar.ensures).0 in
-    (scalar_small c.read_as-read.result number, scalar_small c.read_as-read.result number, number_small c.read_as-read.result number)
+    (number_size c.read_as-read.result number, number_size c.read_as-read.result number, number_small c.read_as-read.result number)
 
 pub make_cast-requires-clause-left : goal.make_cast-requires-clause-left
 make_cast-requires-clause-left c =

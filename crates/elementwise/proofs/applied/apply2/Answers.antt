@@ -1,9 +1,10 @@
 use Rattle.std.proofs.Common.{inl, inr, Ok, sym, ◌∙◌}
 use Rattle.std.proofs.lemmas.Result.{err_from_is_err_and}
 use Rattle.elem_descr.specs.declared.descr.Descr.TheVariants.{Scalar as ScalarDescr}
+use Rattle.elem_descr.specs.NumberLaws.{number_size}
 use Rattle.machine_numbers.specs.Kinds.{little}
 use Rattle.elementwise.specs.Results.{pairwise, binary_item, stretched_items}
-use Rattle.elementwise.specs.inside.PairLaws.{scalar_small, number_small}
+use Rattle.elementwise.specs.inside.PairLaws.{number_small}
 use Rattle.elementwise.proofs.MadeLaws.{made-gives, made-order, made-items, made-encoded}
 use Rattle.elementwise.proofs.PromotedLaws.{promoted, native-little, number-read, can-number, left_refused, right_refused, promotion_refused, shapes_refused, all_given}
 use Rattle.elementwise.proofs.AppliedLaws.{combined}
@@ -45,7 +46,7 @@ pub make_cast-requires-clause-small : goal.make_cast-requires-clause-small
 make_cast-requires-clause-small c =
     let is = promoted c.args.op c.in_ok-from.from c.in_ok-other.other c.in_ok-scalar.scalar c.in_ok-scalar.ensures in
     let number = number-read c.read_as-read.result c.in_ok-scalar.scalar c.read_as-read.ensures is.native in
-    (scalar_small c.read_as-read.result number, scalar_small c.read_as-read.result number, number_small c.read_as-read.result number)
+    (number_size c.read_as-read.result number, number_size c.read_as-read.result number, number_small c.read_as-read.result number)
 
 pub make_cast-requires-clause-left : goal.make_cast-requires-clause-left
 make_cast-requires-clause-left c =

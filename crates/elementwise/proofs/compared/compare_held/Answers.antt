@@ -1,6 +1,7 @@
-use Rattle.elementwise.specs.inside.PairLaws.{scalar_small, bool_small}
+use Rattle.elementwise.specs.inside.PairLaws.{bool_small}
 use Rattle.elem_descr.specs.declared.descr.Descr.TheVariants.{Scalar as ScalarDescr}
 use Rattle.elem_descr.specs.declared.scalar.Scalar.TheVariants.{Bool as BoolScalar}
+use Rattle.elem_descr.specs.NumberLaws.{number_size}
 use Rattle.elementwise.proofs.PromotedLaws.{can-number}
 use Rattle.elementwise.proofs.HeldLaws.{number-no_text, compared_all}
 use Rattle.elementwise.proofs.MadeLaws.{made-as}
@@ -10,7 +11,7 @@ pub make_cast-requires-clause-can : goal.make_cast-requires-clause-can
 make_cast-requires-clause-can c = (c.requires.number, tt)
 
 pub make_cast-requires-clause-small : goal.make_cast-requires-clause-small
-make_cast-requires-clause-small c = (scalar_small c.args.scalar.now c.requires.number, scalar_small c.args.scalar.now c.requires.number, bool_small)
+make_cast-requires-clause-small c = (number_size c.args.scalar.now c.requires.number, number_size c.args.scalar.now c.requires.number, bool_small)
 
 pub make_cast-requires-clause-left : goal.make_cast-requires-clause-left
 make_cast-requires-clause-left c = let held = c.requires.left in can-number c.args.left.descr.now held.0 c.args.scalar.now held.1 (number-no_text held.0 held.2) c.requires.number

@@ -3,15 +3,15 @@ use Rattle.std.proofs.lemmas.Int.{to_z-of_z}
 use Rattle.std.proofs.lemmas.List.{get_or-map, length-map}
 use mir.Val.{SFits}
 use Rattle.byteorder.specs.Endian.{twos_complement}
-use Rattle.raw_block.specs.NumberRuns.{number, numbers}
+use Rattle.raw_block.specs.NumberRuns.{signed_number, signed_numbers}
 use Rattle.raw_block.proofs.NumberLaws.{signed_8}
 use Rattle.raw_block.proofs.number_runs.RunI64.get.Goals as goal
 
 pub returns : goal.returns
 returns c =
     let items = c.self.inside.items.now in let place = c.args.place in
-    let view : numbers 8 items ≡ c.args.self.now = c.self.view_is in
+    let view : signed_numbers 8 items ≡ c.args.self.now = c.self.view_is in
     let fits : SFits w64 c.cast_signed.result = search rules in
     to_z-of_z w64 c.cast_signed.result fits ∙ c.cast_signed.ensures ∙ signed_8 c.read_u64.result (omega arith) ∙ ap (twos_complement 8) c.read_u64.ensures
-    ∙ sym (get_or-map (number 8) items place [] (pos 0) (omega (arith, c.requires, ap length view, length-map items (number 8))))
+    ∙ sym (get_or-map (signed_number 8) items place [] (pos 0) (omega (arith, c.requires, ap length view, length-map items (signed_number 8))))
     ∙ ap (λ l. slice_index_or l place (pos 0)) view

@@ -1,5 +1,5 @@
 use Rattle.std.proofs.Common.{◌≡◌, ◌+◌, ◌*◌, length}
-use Rattle.script_lang.specs.Lists.{by_rule, entries}
+use Rattle.script_lang.specs.Lists.{by_rule, none_or_more}
 use Rattle.script_lang.specs.Literals.{literal_within}
 use Rattle.script_lang.specs.Listed.{literals_of}
 use Rattle.script_lang.proofs.Lists.{in_front}
@@ -17,7 +17,7 @@ decreases-values l = 3 * l.depth + 1
 
 -- the values so far, in front of those of the rest, are all
 abbrev pub invariant-values-loop-end : goal.invariant-values-loop-end
-invariant-values-loop-end l = by_rule (entries (literal_within l.depth) 41) l.bytes ≡ in_front (literals_of l.values) (by_rule (entries (literal_within l.depth) 41) l.rest)
+invariant-values-loop-end l = by_rule (none_or_more (literal_within l.depth) 41) l.bytes ≡ in_front (literals_of l.values) (by_rule (none_or_more (literal_within l.depth) 41) l.rest)
 
 abbrev pub decreases-values-loop-end : goal.decreases-values-loop-end
 decreases-values-loop-end l = length l.rest
