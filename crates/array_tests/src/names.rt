@@ -69,7 +69,9 @@ fn at_most_1024_names(rt: HostRuntime) {
 fn unbind(rt: &impl Abort, alloc: Global, bench: &mut Bench, text: &[u8])
     requires { length text.now ≤ 32 }
 {
-    bench.unbind(alloc, &name(alloc, text)).expect(rt, "not bound");
+    bench
+        .unbind(alloc, &name(alloc, text))
+        .expect(rt, "not bound");
 }
 
 /// Binds a name, and answers whether what was refused changed nothing.

@@ -167,11 +167,7 @@ fn arange(
 }
 
 /// What a command that makes an array puts into it.
-pub fn contents_of(
-    alloc: Global,
-    descr: &DescrText,
-    items: &NewItems,
-) -> Result<Owned, Refusal>
+pub fn contents_of(alloc: Global, descr: &DescrText, items: &NewItems) -> Result<Owned, Refusal>
     ensures { Gives held result (contents_of descr.now items.now) }
 {
     match items {

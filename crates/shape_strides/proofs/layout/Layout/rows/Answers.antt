@@ -103,7 +103,7 @@ rows c =
     let many : count lengths ≡ c.items-items.result = ap count c.as_slice-lengths.ensures.value ∙ sym c.items-items.ensures.value in
     ap (map (run_along last.along)) (ap (flat_map run_offsets) (starts c) ∙ runs-offsets (outside c) ∙ layout-offsets (take last.outside lengths) (take last.outside strides) offset (outside-axes-of c))
     ∙ runs-last_of c.args.self.now lengths strides offset last.outside last.along (sym c.as_slice-lengths.ensures.value) (sym c.as_slice-strides.ensures) refl
-      (omega (arith, many, c.if-items-eq0.false)) c.last_run-last.ensures
+    (omega (arith, many, c.if-items-eq0.false)) c.last_run-last.ensures
 
 pub returns-clause-offsets : goal.returns-clause-offsets
 returns-clause-offsets c = ap (flat_map run_offsets) (rows (goal.at.returns-clause-offsets c).After-over-starts) ∙ runs-offsets c.args.self.now
