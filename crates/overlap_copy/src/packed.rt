@@ -91,7 +91,7 @@ fn gather_whole(
     RawBlock::try_copied(alloc, whole)
 }
 
-/// The same run by run.
+/// The same run by run, or by columns.
 fn gather_each(
     alloc: Global,
     block: &RawBlock,

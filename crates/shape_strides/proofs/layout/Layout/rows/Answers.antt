@@ -56,13 +56,10 @@ axes-of l lengths strides k is is' small some few =
     let all : AreAxes l.shape l.strides l.offset = record { one_stride_an_axis = l.one_stride_an_axis; small = small; within_limit = l.within_limit; zero_if_empty = l.zero_if_empty } in
     subst (λ ns. AreAxes (take k ns) (take k strides) l.offset) (sym is) (subst (λ zs. AreAxes (take k l.shape) (take k zs) l.offset) (sym is') (outside-axes l.shape l.strides l.offset k some few all))
 
-axes : (c : After-last_run-last) → AreAxes (take c.last_run-last.result.outside c.as_slice-lengths.result.now) (take c.last_run-last.result.outside c.as_slice-strides.result.now) c.args.self.now.offset
-axes c =
+pub over-starts-requires-clause-axes : goal.over-starts-requires-clause-axes
+over-starts-requires-clause-axes c =
     axes-of c.args.self.now c.as_slice-lengths.result.now c.as_slice-strides.result.now c.last_run-last.result.outside c.as_slice-lengths.ensures.value c.as_slice-strides.ensures c.as_slice-lengths.ensures.lengths
     (omega (arith, c.items-items.ensures.value, c.if-items-eq0.false)) c.as_slice-lengths.ensures.items
-
-pub over-starts-requires-clause-axes : goal.over-starts-requires-clause-axes
-over-starts-requires-clause-axes c = axes (goal.at.over-starts-requires-clause-axes c).After-last_run-last
 
 counted : (c : After-last_run-last) → (0 < c.last_run-last.result.along.len) × (c.items-items.result / c.last_run-last.result.along.len ≡ count (take c.last_run-last.result.outside c.as_slice-lengths.result.now))
 counted c =
@@ -76,13 +73,13 @@ nonzero_div-items c = (counted (goal.at.nonzero_div-items c).After-last_run-last
 pub over-starts-requires-clause-items : goal.over-starts-requires-clause-items
 over-starts-requires-clause-items c = (counted (goal.at.over-starts-requires-clause-items c).After-last_run-last).1
 
-outside-axes-of : (c : After-over-starts) → AreAxes (take c.last_run-last.result.outside c.as_slice-lengths.result.now) (take c.last_run-last.result.outside c.as_slice-strides.result.now) c.args.self.now.offset
-outside-axes-of c =
+outside-axes_are : (c : After-over-starts) → AreAxes (take c.last_run-last.result.outside c.as_slice-lengths.result.now) (take c.last_run-last.result.outside c.as_slice-strides.result.now) c.args.self.now.offset
+outside-axes_are c =
     axes-of c.args.self.now c.as_slice-lengths.result.now c.as_slice-strides.result.now c.last_run-last.result.outside c.as_slice-lengths.ensures.value c.as_slice-strides.ensures c.as_slice-lengths.ensures.lengths
     (omega (arith, c.items-items.ensures.value, c.if-items-eq0.false)) c.as_slice-lengths.ensures.items
 
 outside : (c : After-over-starts) → Layout
-outside c = layout_of (take c.last_run-last.result.outside c.as_slice-lengths.result.now) (take c.last_run-last.result.outside c.as_slice-strides.result.now) c.args.self.now.offset (outside-axes-of c)
+outside c = layout_of (take c.last_run-last.result.outside c.as_slice-lengths.result.now) (take c.last_run-last.result.outside c.as_slice-strides.result.now) c.args.self.now.offset (outside-axes_are c)
 
 starts : (c : After-over-starts) → c.over-starts.result ≡ runs (outside c)
 unfolding outside
@@ -101,7 +98,7 @@ rows c =
     let last = c.last_run-last.result in
     let lengths = c.as_slice-lengths.result.now in let strides = c.as_slice-strides.result.now in let offset = c.args.self.now.offset in
     let many : count lengths ≡ c.items-items.result = ap count c.as_slice-lengths.ensures.value ∙ sym c.items-items.ensures.value in
-    ap (map (run_along last.along)) (ap (flat_map run_offsets) (starts c) ∙ runs-offsets (outside c) ∙ layout-offsets (take last.outside lengths) (take last.outside strides) offset (outside-axes-of c))
+    ap (map (run_along last.along)) (ap (flat_map run_offsets) (starts c) ∙ runs-offsets (outside c) ∙ layout-offsets (take last.outside lengths) (take last.outside strides) offset (outside-axes_are c))
     ∙ runs-last_of c.args.self.now lengths strides offset last.outside last.along (sym c.as_slice-lengths.ensures.value) (sym c.as_slice-strides.ensures) refl
     (omega (arith, many, c.if-items-eq0.false)) c.last_run-last.ensures
 
