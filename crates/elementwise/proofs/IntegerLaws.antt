@@ -26,7 +26,6 @@ use Rattle.overlap_copy.specs.declared.owned.Owned.{Owned}
 use Rattle.machine_numbers.specs.declared.operators.Comparison.{Comparison}
 use Rattle.elem_descr.specs.declared.scalar.Scalar.{Scalar}
 use Rattle.elem_descr.specs.declared.scalar.Scalar.TheVariants.{Bool as BoolScalar, Byte, Int, Bytes}
-use Rattle.elem_descr.specs.declared.scalar.Width.TheVariants.{Two, Four, Eight}
 use Rattle.elem_descr.specs.Encoding.{IsNumber, IsValueOf, FitsBytes, size, width_size, wrap, number_of, decode}
 use Rattle.elem_descr.specs.NumberLaws.{wrap_stays}
 use Rattle.machine_numbers.specs.Kinds.{is_text, little}
@@ -39,15 +38,6 @@ use Rattle.elementwise.proofs.PairLaws.{pairwise-map}
 use Rattle.elementwise.proofs.AppliedLaws.{pairwise-same}
 use Rattle.elementwise.proofs.StretchedLaws.{stretched-self}
 use Rattle.elementwise.proofs.HeldLaws.{value-of, is-number}
-
--- a number has 8 bytes at most
-pub number_size : (scalar : Scalar) → IsNumber scalar → size scalar ≤ 8
-number_size BoolScalar is = omega arith
-number_size (Byte signed) is = omega arith
-number_size (Int signed Two order) is = omega arith
-number_size (Int signed Four order) is = omega arith
-number_size (Int signed Eight order) is = omega arith
-number_size (Bytes n) is = absurd is
 
 pub number-little : (s : Scalar) → IsNumber s → IsNumber (little s)
 number-little BoolScalar is = tt
