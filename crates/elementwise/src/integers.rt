@@ -1,7 +1,6 @@
 //! Comparisons of all items of arrays of numbers with one integer.
 ghost use Rattle.std.specs.Prelude.{◌≡◌, ◌≢◌, [], ◌∷◌, length, map, replicate, if◌then◌else◌, IfOk, IfErr};
 ghost use Rattle.std.specs.List.{flat_map};
-ghost use Rattle.std.specs.Ordering.{int_eq};
 ghost use Rattle.elem_descr.specs.declared.refusal.Refusal.TheVariants.{OutOfMemory};
 ghost use Rattle.elem_descr.specs.declared.descr.Descr.TheVariants.{Scalar as ScalarDescr};
 ghost use Rattle.elem_descr.specs.declared.scalar.Scalar.TheVariants.{Bool as BoolScalar};
@@ -23,24 +22,12 @@ use crate::compared::{compare_held, note_bytes};
 use crate::comparing::says;
 use crate::operands::Scalars;
 use crate::promotion::scalar_of;
-use elem_descr::{Descr, Refusal, Scalar, num_read, num_write};
+use elem_descr::{Descr, Refusal, Scalar, is_value, num_write};
 use machine_numbers::{Comparison, is_text, little};
 use overlap_copy::{Items, Owned};
 use raw_block::RawBlock;
 use shape_strides::{MemoryOrder, Shape};
 use std::alloc::{AllocError, Global};
-
-/// Whether an integer is a value of a scalar: it is the same when it is written and read again.
-#[tactic(auto, using(crate::proofs::IntegerLaws::number_size))]
-fn is_value(scalar: &Scalar, integer: i128) -> bool
-    requires { IsNumber scalar.now }
-    ensures { result ≡ int_eq (wrap scalar.now integer) integer }
-{
-    let mut room = [0; 8];
-    let bytes = &mut room[..scalar.size()];
-    num_write(*scalar, integer, bytes);
-    num_read(*scalar, bytes) == integer
-}
 
 /// A number as a block.
 fn number_block(alloc: Global, scalar: &Scalar, integer: i128) -> Result<RawBlock, AllocError>
