@@ -5,7 +5,6 @@ use Rattle.shape_strides.specs.declared.joined.StridedAxis.{StridedAxis}
 use Rattle.shape_strides.specs.declared.runs.Run.{Run}
 use Rattle.shape_strides.specs.Addresses.{LieWithin}
 use Rattle.shape_strides.specs.Indexes.{count}
-use Rattle.shape_strides.specs.Layouts.{offsets}
 use Rattle.shape_strides.specs.Limits.{max_bytes, max_items}
 use Rattle.shape_strides.specs.Runs.{run_along, run_offsets, runs}
 use Rattle.shape_strides.specs.Walks.{AreAxes}
