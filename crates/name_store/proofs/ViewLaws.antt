@@ -33,7 +33,7 @@ module _ (es : List (Key × Entry)) (slots : Slots) (number : ℕ) (path : List 
   pub view-used : is_in_use (map named_array es) number ≡ true
   view-used = in-use.0
 
-  view-slot : (s : Slot) × (slot_at slots number ≡ Some s)
+  pub view-slot : (s : Slot) × (slot_at slots number ≡ Some s)
   view-slot = occupied (slot_at slots number) refl in-use.1
     where
       occupied : (o : Option Slot) → slot_at slots number ≡ o → is_some o ≡ true → (s : Slot) × (slot_at slots number ≡ Some s)

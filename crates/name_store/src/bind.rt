@@ -1,11 +1,13 @@
 //! A name is bound.
-ghost use Rattle.std.specs.Prelude.{◌≡◌, ◌≤◌, ◌<◌, ◌+◌, ℕ, true, IfOk, OnErr};
+ghost use Rattle.std.specs.Prelude.{◌≡◌, ◌≤◌, ◌<◌, ◌+◌, ℕ, true, IfOk, OnErr, Some};
+ghost use Rattle.elem_descr.specs.Items.{item_size};
 ghost use Rattle.indexmap.specs.IndexMap.{spare};
 ghost use Rattle.name_store.specs.Arrays.{has_room_for};
 ghost use Rattle.name_store.specs.Calls.{AnswersBind};
 ghost use Rattle.name_store.specs.Invariants.{Holds, IsSound, users_at};
-ghost use Rattle.name_store.specs.View.{present, state_of};
+ghost use Rattle.name_store.specs.View.{present, slot_at, state_of};
 ghost use Rattle.name_store.specs.declared.bound.Bound.TheVariants.{Fresh, View};
+ghost use Rattle.name_store.specs.declared.slot.Slot.{Slot};
 ghost use Rattle.name_store.specs.inside.Rebinds.{Rebinds};
 ghost use Rattle.name_store.specs.States.{Array};
 ghost use Rattle.name_store.specs.Views.{IsViewIn, MayBind};
@@ -22,7 +24,6 @@ use elem_descr::Refusal;
 use indexmap::IndexMap;
 use overlap_copy::Owned;
 use script_lang::Name;
-use shape_strides::Layout;
 use std::alloc::{AllocError, Global};
 
 /// The most names that are bound at one time.
@@ -73,29 +74,18 @@ fn bind_view(
     names: &mut IndexMap<Key, Entry>,
     slots: &mut Slots,
     key: Key,
-    number: u64,
-    path: Path,
-    layout: Layout,
-    writable: bool,
+    view: Entry,
 ) -> Option<Entry>
     requires holds { Holds names.old.entries slots.old.cells.items }
     requires room { has_room_for (present names.old.entries slots.old.cells.items) key.bytes.items ≡ true }
     requires spare { 0 < spare names.old }
-    requires view { (array : Array) × IsViewIn (present names.old.entries slots.old.cells.items) number path layout writable array }
-    requires few { users_at slots.old.cells.items number < usize.MAX }
-    ensures done { Rebinds names.old.entries slots.old.cells.items key.bytes.items (View number path layout writable) result names.new.entries slots.new.cells.items }
+    requires view { (array : Array) × IsViewIn (present names.old.entries slots.old.cells.items) view.number view.path view.layout view.writable array }
+    requires item { (s : Slot) → slot_at slots.old.cells.items view.number ≡ Some s → view.item ≡ item_size s.descr }
+    requires few { users_at slots.old.cells.items view.number < usize.MAX }
+    ensures done { Rebinds names.old.entries slots.old.cells.items key.bytes.items (View view.number view.path view.layout view.writable) result names.new.entries slots.new.cells.items }
     ensures spare { spare names.old ≤ spare names.new + 1 }
 {
-    let number = number as usize;
-    let item = slot_of(slots.cells.as_slice(), number).descr.size();
-    slots.share(number);
-    let view = Entry {
-        number,
-        path,
-        layout,
-        item,
-        writable,
-    };
+    slots.share(view.number);
     names.insert(key, view).unwrap()
 }
 
@@ -122,7 +112,18 @@ fn bind_array(
             path,
             layout,
             writable,
-        } => Ok(bind_view(names, slots, key, number, path, layout, writable)),
+        } => {
+            let number = number as usize;
+            let item = slot_of(slots.cells.as_slice(), number).descr.size();
+            let view = Entry {
+                number,
+                path,
+                layout,
+                item,
+                writable,
+            };
+            Ok(bind_view(names, slots, key, view))
+        }
     }
 }
 
