@@ -11,7 +11,7 @@ use crate::replies::{Origin, push_bound_text};
 use elem_descr::Refusal;
 use name_store::{Bench, Bound};
 use overlap_copy::Owned;
-use script_lang::{DescrText, Lengths, Literal, Literals, Name, NewItems};
+use script_lang::{Lengths, Literal, Literals, Name, NewItems, Text};
 use std::alloc::Global;
 
 /// Binds a name, for which there is room, to a new array. The reply is appended before the change,
@@ -38,7 +38,7 @@ fn zeros(
     alloc: Global,
     bench: &mut Bench,
     name: &Name,
-    descr: &DescrText,
+    descr: &Text,
     shape: &Lengths,
     out: &mut Vec<u8>,
 ) -> Result<(), Refusal>
@@ -58,7 +58,7 @@ fn full(
     alloc: Global,
     bench: &mut Bench,
     name: &Name,
-    descr: &DescrText,
+    descr: &Text,
     shape: &Lengths,
     value: &Literal,
     out: &mut Vec<u8>,
@@ -79,7 +79,7 @@ fn arange(
     alloc: Global,
     bench: &mut Bench,
     name: &Name,
-    descr: &DescrText,
+    descr: &Text,
     start: &i128,
     stop: &i128,
     step: &i128,
@@ -101,7 +101,7 @@ fn array(
     alloc: Global,
     bench: &mut Bench,
     name: &Name,
-    descr: &DescrText,
+    descr: &Text,
     shape: &Lengths,
     values: &Literals,
     out: &mut Vec<u8>,
@@ -122,7 +122,7 @@ pub fn make(
     alloc: Global,
     bench: &mut Bench,
     name: &Name,
-    descr: &DescrText,
+    descr: &Text,
     items: &NewItems,
     out: &mut Vec<u8>,
 ) -> Result<(), Refusal>

@@ -20,4 +20,4 @@ pub use name::Name;
 pub use operation::Operation;
 pub use refusal_text::word;
 pub use shape::{Integers, Lengths};
-pub use text::{DescrText, FieldText, FileName};
+pub use text::{FileName, Text};
