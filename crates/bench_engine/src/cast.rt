@@ -11,11 +11,11 @@ use elem_descr::{Refusal, descr_read};
 use elementwise::Items;
 use name_store::{ArrayRef, Bench};
 use overlap_copy::Owned;
-use script_lang::{DescrText, Name};
+use script_lang::{Name, Text};
 use std::alloc::Global;
 
 /// The items of an array as items of an element type, in a block of their own.
-fn converted(alloc: Global, array: &ArrayRef<'_>, descr: &DescrText) -> Result<Owned, Refusal>
+fn converted(alloc: Global, array: &ArrayRef<'_>, descr: &Text) -> Result<Owned, Refusal>
     requires { IsShown array.now }
     ensures { Casts descr.now array.now result }
 {
@@ -34,7 +34,7 @@ pub fn cast(
     bench: &mut Bench,
     name: &Name,
     source: &Name,
-    descr: &DescrText,
+    descr: &Text,
     out: &mut Vec<u8>,
 ) -> Result<(), Refusal>
     ensures room { vec_capacity out.old ≤ vec_capacity out.new }

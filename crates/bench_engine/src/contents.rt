@@ -18,7 +18,7 @@ use elem_descr::{Descr, Refusal, Scalar, descr_read};
 use literal_items::{range_block, range_len, write_items};
 use overlap_copy::Owned;
 use raw_block::{BlockBuilder, RawBlock};
-use script_lang::{DescrText, Lengths, Literal, Literals, NewItems};
+use script_lang::{Lengths, Literal, Literals, NewItems, Text};
 use shape_strides::{MAX_BYTES, MemoryOrder, Shape};
 use smallvec::SmallVec;
 use std::alloc::{AllocError, Global};
@@ -43,11 +43,7 @@ pub fn shape_of(alloc: Global, lengths: &Lengths) -> Result<Shape, Refusal>
 }
 
 /// The element type and the shape of a new array.
-fn array_type(
-    alloc: Global,
-    descr: &DescrText,
-    lengths: &Lengths,
-) -> Result<(Descr, Shape), Refusal>
+fn array_type(alloc: Global, descr: &Text, lengths: &Lengths) -> Result<(Descr, Shape), Refusal>
     ensures value { Gives (λ t. (t.0, t.1)) result (array_type descr.now lengths.now) }
     ensures bytes { IfOk result (λ t. count t.1 * item_size t.0 ≤ max_bytes) }
 {
@@ -60,7 +56,7 @@ fn array_type(
 }
 
 /// `zeros D S`
-fn zeros(alloc: Global, descr: &DescrText, lengths: &Lengths) -> Result<Owned, Refusal>
+fn zeros(alloc: Global, descr: &Text, lengths: &Lengths) -> Result<Owned, Refusal>
     ensures { Gives held result (zeros_contents descr.now lengths.now) }
 {
     let (descr, shape) = array_type(alloc, descr, lengths)?;
@@ -79,12 +75,7 @@ pub fn filled(alloc: Global, item: &[u8], items: usize) -> Result<RawBlock, Allo
 }
 
 /// `full D S L`
-fn full(
-    alloc: Global,
-    descr: &DescrText,
-    lengths: &Lengths,
-    literal: &Literal,
-) -> Result<Owned, Refusal>
+fn full(alloc: Global, descr: &Text, lengths: &Lengths, literal: &Literal) -> Result<Owned, Refusal>
     ensures { Gives held result (full_contents descr.now lengths.now literal.now) }
 {
     let (descr, shape) = array_type(alloc, descr, lengths)?;
@@ -109,7 +100,7 @@ fn listed(alloc: Global, descr: &Descr, literals: &[Literal]) -> Result<RawBlock
 /// `array D S L..`
 fn array(
     alloc: Global,
-    descr: &DescrText,
+    descr: &Text,
     lengths: &Lengths,
     literals: &Literals,
 ) -> Result<Owned, Refusal>
@@ -140,7 +131,7 @@ fn integer_scalar(descr: &Descr) -> Result<Scalar, Refusal>
 }
 
 /// The scalar of a descriptor whose values are integers.
-fn integer_type(alloc: Global, descr: &DescrText) -> Result<Scalar, Refusal>
+fn integer_type(alloc: Global, descr: &Text) -> Result<Scalar, Refusal>
     ensures value { Gives (λ scalar. scalar) result (range_scalar descr.now) }
     ensures number { IfOk result IsNumber }
 {
@@ -151,7 +142,7 @@ fn integer_type(alloc: Global, descr: &DescrText) -> Result<Scalar, Refusal>
 /// `arange D a b s`
 fn arange(
     alloc: Global,
-    descr: &DescrText,
+    descr: &Text,
     start: &i128,
     stop: &i128,
     step: &i128,
@@ -167,7 +158,7 @@ fn arange(
 }
 
 /// What a command that makes an array puts into it.
-pub fn contents_of(alloc: Global, descr: &DescrText, items: &NewItems) -> Result<Owned, Refusal>
+pub fn contents_of(alloc: Global, descr: &Text, items: &NewItems) -> Result<Owned, Refusal>
     ensures { Gives held result (contents_of descr.now items.now) }
 {
     match items {

@@ -11,7 +11,7 @@ use crate::replies::{Origin, push_bound_text};
 use elem_descr::Refusal;
 use name_store::{Bench, Bound};
 use overlap_copy::Owned;
-use script_lang::{DescrText, Name, NewItems};
+use script_lang::{Name, NewItems, Text};
 use std::alloc::Global;
 
 /// Binds a name, for which there is room, to a new array. The reply is appended before the change,
@@ -38,7 +38,7 @@ pub fn make(
     alloc: Global,
     bench: &mut Bench,
     name: &Name,
-    descr: &DescrText,
+    descr: &Text,
     items: &NewItems,
     out: &mut Vec<u8>,
 ) -> Result<(), Refusal>

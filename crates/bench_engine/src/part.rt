@@ -18,7 +18,7 @@ use crate::taken::{Taken, take};
 use elem_descr::{Descr, Refusal};
 use name_store::{ArrayRef, Bench, Path};
 use overlap_copy::Owned;
-use script_lang::{FieldText, Index, Lengths, Viewing};
+use script_lang::{Index, Lengths, Text, Viewing};
 use shape_strides::{Layout, MemoryOrder, Shape};
 use std::alloc::Global;
 
@@ -92,11 +92,7 @@ fn transposed<'a>(
 }
 
 /// `field Y "f"`
-fn field<'a>(
-    alloc: Global,
-    array: &ArrayRef<'a>,
-    field: &FieldText,
-) -> Result<PartOrCopy<'a>, Refusal>
+fn field<'a>(alloc: Global, array: &ArrayRef<'a>, field: &Text) -> Result<PartOrCopy<'a>, Refusal>
     requires { IsShown array.now }
     ensures { Sees (Field field.now) array.now result }
 {

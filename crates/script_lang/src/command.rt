@@ -5,7 +5,7 @@ use crate::literal::{Literal, Literals};
 use crate::name::Name;
 use crate::operation::Operation;
 use crate::shape::{Integers, Lengths};
-use crate::text::{DescrText, FieldText, FileName};
+use crate::text::{FileName, Text};
 use machine_numbers::{Red, UnOp};
 use shape_strides::MemoryOrder;
 
@@ -44,7 +44,7 @@ pub enum Viewing {
     /// `Y[ix]`
     Indexed(Index),
     /// `field Y "f"`
-    Field(FieldText),
+    Field(Text),
     /// `transpose Y [(axes)]`
     Transposed(Option<Integers>),
     /// `reshape Y S`
@@ -64,7 +64,7 @@ pub enum Computation {
     /// `cast Y D`
     Cast {
         source: Name,
-        descr: DescrText,
+        descr: Text,
     },
     /// `OP operand Z`
     Combine {
@@ -90,7 +90,7 @@ pub enum Computation {
 #[derive(Drop)]
 pub enum Value {
     /// a new array
-    Make { descr: DescrText, items: NewItems },
+    Make { descr: Text, items: NewItems },
     /// the items of another array
     View { source: Name, how: Viewing },
     Compute(Computation),

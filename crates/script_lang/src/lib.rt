@@ -22,4 +22,4 @@ pub use operation::Operation;
 pub use refusal_text::word;
 pub use shape::{Integers, Lengths};
 pub use short_list::ShortList;
-pub use text::{DescrText, FieldText, FileName};
+pub use text::{FileName, Text};

@@ -8,32 +8,18 @@ use std::marker::Model;
 /// The most bytes of a file's name.
 pub const MAX_FILE_NAME_LEN: usize = 64;
 
-/// The text of a descriptor, as it stands in the script.
+/// A text as it stands in the script: of a descriptor, or between the quotation marks of `field`.
 #[derive(Drop)]
-pub struct DescrText {
+pub struct Text {
     bytes: SmallVec<u8, 32>,
 }
 
-impl Model for DescrText {
+impl Model for Text {
     ghost use Rattle.std.specs.Prelude.{List, ℕ};
 
     ghost Value = { List ℕ };
 
-    ghost view = { λ d. d.bytes.items };
-}
-
-/// What stands between the quotation marks of `field`: any bytes.
-#[derive(Drop)]
-pub struct FieldText {
-    bytes: SmallVec<u8, 32>,
-}
-
-impl Model for FieldText {
-    ghost use Rattle.std.specs.Prelude.{List, ℕ};
-
-    ghost Value = { List ℕ };
-
-    ghost view = { λ f. f.bytes.items };
+    ghost view = { λ t. t.bytes.items };
 }
 
 /// The name of a file: at most 64 bytes, which take no memory of their own.
@@ -52,31 +38,14 @@ impl Model for FileName {
     ghost invariant = { λ f. length f.bytes.items ≤ 64 };
 }
 
-impl DescrText {
+impl Text {
     /// A copy of the bytes; up to 32 take no memory of their own.
-    pub fn from_slice(alloc: Global, bytes: &[u8]) -> Result<DescrText, AllocError>
-        ensures value { IfOk result (λ d. d ≡ bytes.now) }
+    pub fn from_slice(alloc: Global, bytes: &[u8]) -> Result<Text, AllocError>
+        ensures value { IfOk result (λ t. t ≡ bytes.now) }
         ensures succeeds { length bytes.now ≤ 32 → IsOk result }
     {
         let bytes = SmallVec::from_slice(alloc, bytes)?;
-        Ok(DescrText { bytes })
-    }
-
-    pub fn as_slice(&self) -> &[u8]
-        ensures { result.now ≡ self.now }
-    {
-        self.bytes.as_slice()
-    }
-}
-
-impl FieldText {
-    /// A copy of the bytes; up to 32 take no memory of their own.
-    pub fn from_slice(alloc: Global, bytes: &[u8]) -> Result<FieldText, AllocError>
-        ensures value { IfOk result (λ f. f ≡ bytes.now) }
-        ensures succeeds { length bytes.now ≤ 32 → IsOk result }
-    {
-        let bytes = SmallVec::from_slice(alloc, bytes)?;
-        Ok(FieldText { bytes })
+        Ok(Text { bytes })
     }
 
     pub fn as_slice(&self) -> &[u8]

@@ -12,7 +12,7 @@ use crate::grammar::tokens::{flag, word};
 use crate::grammar::verbs::order;
 use crate::name::Name;
 use crate::operation::Operation;
-use crate::text::DescrText;
+use crate::text::Text;
 use crate::verb::ComputeVerb;
 use elem_descr::Refusal;
 use machine_numbers::{Red, UnOp};
@@ -37,7 +37,7 @@ fn cast(alloc: Global, bytes: &[u8]) -> Result<(Computation, &[u8]), Refusal>
 {
     let (source, rest) = name(bytes).ok_or(Refusal::Syntax)?;
     let (descr, rest) = descr(rest).ok_or(Refusal::Syntax)?;
-    let descr = DescrText::from_slice(alloc, descr)?;
+    let descr = Text::from_slice(alloc, descr)?;
     let source = Name::from_slice(alloc, source);
     Ok((Computation::Cast { source, descr }, rest))
 }

@@ -8,7 +8,7 @@ use crate::grammar::descriptors::descr;
 use crate::grammar::lists::shape;
 use crate::grammar::literals::{literal, literals};
 use crate::grammar::numbers::integer;
-use crate::text::DescrText;
+use crate::text::Text;
 use crate::verb::MakeVerb;
 use elem_descr::Refusal;
 use std::alloc::Global;
@@ -71,7 +71,7 @@ pub fn make(alloc: Global, verb: MakeVerb, bytes: &[u8]) -> Result<(Value, &[u8]
     ensures { Reads (λ r. (r.0, r.1.now)) (λ r. value_room r.0) result (make_at verb bytes.now) }
 {
     let (descr, rest) = descr(bytes).ok_or(Refusal::Syntax)?;
-    let descr = DescrText::from_slice(alloc, descr)?;
+    let descr = Text::from_slice(alloc, descr)?;
     let (items, rest) = new_items(alloc, verb, rest)?;
     Ok((Value::Make { descr, items }, rest))
 }

@@ -11,7 +11,7 @@ use crate::grammar::quotes::quoted;
 use crate::grammar::tokens::is_at_end;
 use crate::index::Index;
 use crate::name::Name;
-use crate::text::FieldText;
+use crate::text::Text;
 use crate::verb::ViewVerb;
 use elem_descr::Refusal;
 use std::alloc::Global;
@@ -51,7 +51,7 @@ fn field(alloc: Global, bytes: &[u8]) -> Result<(Viewing, &[u8]), Refusal>
     ensures { Reads (λ r. (r.0, r.1.now)) (λ r. viewing_room r.0) result (field_name_at bytes.now) }
 {
     let (field, rest) = quoted(bytes).ok_or(Refusal::Syntax)?;
-    let field = FieldText::from_slice(alloc, field)?;
+    let field = Text::from_slice(alloc, field)?;
     Ok((Viewing::Field(field), rest))
 }
 

@@ -1,8 +1,8 @@
 //! What was read, as text for the tables.
 use elem_descr::Refusal;
 use script_lang::{
-    Argument, Command, Computation, DescrText, Index, Integers, Lengths, Literal, Name, NewItems,
-    Operand, Question, ScalarLiteral, Value, Viewing,
+    Argument, Command, Computation, Index, Integers, Lengths, Literal, Name, NewItems, Operand,
+    Question, ScalarLiteral, Text, Value, Viewing,
 };
 use shape_strides::{IndexItem, MemoryOrder};
 use std::alloc::{AllocError, Global};
@@ -142,7 +142,7 @@ fn put_made(
     out: &mut Vec<u8>,
     verb: &[u8],
     name: &Name,
-    descr: &DescrText,
+    descr: &Text,
     shape: &Lengths,
 ) -> Written {
     put_head(out, verb, name)?;
@@ -154,7 +154,7 @@ fn put_new_array(
     alloc: Global,
     out: &mut Vec<u8>,
     name: &Name,
-    descr: &DescrText,
+    descr: &Text,
     items: &NewItems,
 ) -> Written {
     match items {
