@@ -1,4 +1,4 @@
-use Rattle.std.proofs.Common.{◌≡◌, ap, sym, subst, ◌∙◌}
+use Rattle.std.proofs.Common.{ap, sym, subst, ◌∙◌}
 use Rattle.elem_descr.specs.Items.{item_size}
 use Rattle.name_store.specs.Views.{MayBind}
 use Rattle.name_store.specs.declared.bound.Bound.{Bound}

@@ -1,4 +1,4 @@
-use Rattle.std.proofs.Common.{refl, true}
+use Rattle.std.proofs.Common.{refl}
 use Rattle.std.proofs.lemmas.Result.{IfOk-at_ok}
 use Rattle.name_store.specs.declared.bound.Bound.TheVariants.{View}
 use Rattle.name_store.proofs.BindLaws.{view-ready, view-of, rebinds, table}
