@@ -4,3 +4,4 @@ pub mod Indexed
 pub mod Sources
 pub mod Plans
 pub mod inside
+pub mod PlanLaws

@@ -5,8 +5,8 @@ use lib.IntN.{ℤ}
 use Rattle.raw_block.specs.Bytes.{filled, EachWithin}
 use Rattle.shape_strides.specs.declared.runs.Run.{Run}
 use Rattle.shape_strides.specs.Runs.{run_offsets}
-use Rattle.overlap_copy.specs.RunLaws.{put_each-append, filled-run}
 use Rattle.fancy_index.specs.Plans.{put_each}
+use Rattle.fancy_index.specs.PlanLaws.{put_each-append, filled-run}
 
 -- the next run is filled
 pub filled-next : (len : ℕ) (left left' : List Run) (run : Run) (item block block' whole : List ℕ) → left ≡ run ∷ left' → EachWithin len run.offset run.step (length item) run.count →

@@ -15,8 +15,8 @@ use Rattle.std.proofs.lemmas.List.Elements.{All-head, All-tail, All-from_get_or,
 use Rattle.std.proofs.lemmas.List.FromFn.{length-map-range_with_len, get_or-map-range_with_len}
 use lib.IntN.{ℤ, pos, negsuc, nat_abs, ◌+ℤ◌, ◌*ℤ◌}
 use lib.Signed.{◌≤ℤ◌}
-use Rattle.raw_block.specs.Bytes.{position, place, EachWithin, put, item_at, filled}
-use Rattle.raw_block.specs.BytesLaws.{place_within, fewer}
+use Rattle.raw_block.specs.Bytes.{position, place, EachWithin, put, item_at}
+use Rattle.raw_block.specs.BytesLaws.{place_within}
 use Rattle.elem_descr.specs.Steps.{numbers_from}
 use Rattle.shape_strides.specs.declared.runs.Run.{Run}
 use Rattle.shape_strides.specs.Addresses.{natural, LieWithin}
@@ -25,7 +25,6 @@ use Rattle.shape_strides.specs.Runs.{run_offsets}
 use Rattle.shape_strides.specs.WalkLaws.{length-run_offsets}
 use Rattle.shape_strides.specs.declared.run_pairs.RunPair.{RunPair}
 use Rattle.overlap_copy.specs.Assignments.{assigned}
-use Rattle.fancy_index.specs.Plans.{put_each}
 
 -- ---- where an item lies
 
@@ -161,16 +160,3 @@ assigned-append [] (offset ∷ from) to' from' width other block even = absurd (
 assigned-append (at ∷ to) [] to' from' width other block even = absurd (omega (arith, even))
 assigned-append (at ∷ to) (offset ∷ from) to' from' width other block even =
     assigned-append to from to' from' width other (put at (item_at offset width other) block) (omega (arith, even))
-
-pub put_each-append : (to to' item block : List ℕ) → put_each (to ++ to') item block ≡ put_each to' item (put_each to item block)
-put_each-append [] to' item block = refl
-put_each-append (at ∷ to) to' item block = put_each-append to to' item (put at item block)
-
-pub filled-run : (len at : ℕ) (step : ℤ) (item : List ℕ) (n : ℕ) (block : List ℕ) → EachWithin len at step (length item) n →
-    filled at step item n block ≡ put_each (run_offsets (record { offset = at; count = n; step = step })) item block
-filled-run len at step item zero block to = refl
-filled-run len at step item (suc n) block to =
-    let here : Run = record { offset = at; count = n; step = step } in
-    ap (put (place at step n) item) (filled-run len at step item n block (fewer len at step (length item) n to))
-    ∙ sym (put_each-append (run_offsets here) (place at step n ∷ []) item block)
-    ∙ λ i. put_each (sym (run_offsets-more len at step (length item) n to) i) item block

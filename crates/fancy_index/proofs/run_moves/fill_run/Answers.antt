@@ -3,7 +3,7 @@ use Rattle.std.proofs.lemmas.Int.{to_z-of_z}
 use mir.Val.{SFits}
 use Rattle.raw_block.specs.Bytes.{filled}
 use Rattle.fancy_index.proofs.run_moves.fill_run.Goals as goal
-use Rattle.overlap_copy.specs.RunLaws.{filled-run}
+use Rattle.fancy_index.specs.PlanLaws.{filled-run}
 
 pub returns-clause-written : goal.returns-clause-written
 returns-clause-written c =
