@@ -19,7 +19,7 @@ use Rattle.elem_descr.specs.Items.{decode_item}
 use Rattle.elem_descr.specs.Blocks.{blocks, items_in}
 use Rattle.elem_descr.specs.Steps.{numbers_from}
 use Rattle.elem_descr.specs.StepLaws.{next_number, length-numbers_from}
-use Rattle.elem_descr.specs.ByteLaws.{length-bytes_of}
+use Rattle.elem_descr.specs.ByteLaws.{length-encode}
 use Rattle.elem_descr.specs.NumberLaws.{fits_eight_bytes, value_decides}
 use Rattle.raw_block.specs.Bytes.{joined}
 use Rattle.raw_block.specs.JoinedLaws.{length-joined}
@@ -73,16 +73,10 @@ bits_of_value scalar z bits kind held is =
 
 -- ---- read again
 
-length-encode : (scalar : Scalar) (z : ℤ) → IsNumber scalar → length (encode scalar (number z)) ≡ size scalar
-length-encode BoolScalar z kind = refl
-length-encode (Byte signed) z kind = refl
-length-encode (IntScalar signed width order) z kind = length-bytes_of order (width_size width) (low_bits (width_size width) z)
-length-encode (BytesScalar n) z never = absurd never
-
 value_read : (scalar : Scalar) (z : ℤ) → IsNumber scalar → is_value scalar z ≡ true → decode_item (ScalarDescr scalar) (encode scalar (number z)) ≡ number z ∷ []
 value_read scalar z kind held =
     let same = value_is scalar z held in
-    scalar_read scalar (encode scalar (number z)) (number z) (length-encode scalar z kind)
+    scalar_read scalar (encode scalar (number z)) (number z) (length-encode scalar (number z))
     (ap (λ value. decode scalar (encode scalar value)) (sym same) ∙ decode_encode scalar z kind ∙ same)
 
 -- items that are joined, read one by one
@@ -109,9 +103,9 @@ value_at scalar start step count k held low =
 pub numbers_read : (scalar : Scalar) (start step : ℤ) (count : ℕ) → IsNumber scalar → list_all (is_value scalar) (numbers_from start step count) ≡ true → items_in (ScalarDescr scalar) count (joined (numbered scalar start step) count) ≡ map (λ value. number value ∷ []) (numbers_from start step count)
 numbers_read scalar start step count kind held =
     read_joined (decode_item (ScalarDescr scalar)) (λ k. number (start +ℤ step *ℤ pos k) ∷ []) (numbered scalar start step) (size scalar) count
-    (λ k low. length-encode scalar (start +ℤ step *ℤ pos k) kind)
+    (λ k low. length-encode scalar (number (start +ℤ step *ℤ pos k)))
     (λ k low. value_read scalar (start +ℤ step *ℤ pos k) kind (value_at scalar start step count k held low))
     ∙ sym (map-map (λ value. number value ∷ []) (λ k. start +ℤ step *ℤ pos k) (range_with_len 0 count))
 
 pub length-numbered : (scalar : Scalar) (start step : ℤ) (count : ℕ) → IsNumber scalar → length (joined (numbered scalar start step) count) ≡ count * size scalar
-length-numbered scalar start step count kind = length-joined (numbered scalar start step) (size scalar) count (λ k low. length-encode scalar (start +ℤ step *ℤ pos k) kind)
+length-numbered scalar start step count kind = length-joined (numbered scalar start step) (size scalar) count (λ k low. length-encode scalar (number (start +ℤ step *ℤ pos k)))

@@ -17,6 +17,7 @@ use Rattle.elem_descr.specs.Items.{item_size, moved_leaf, leaves_of, leaves_from
 use Rattle.elem_descr.specs.EncodingLaws.{decode_encode}
 use Rattle.elem_descr.specs.DescriptorLaws.{rest_at, field_within, seen_fields}
 use Rattle.elem_descr.specs.ItemLaws.{leaves_from-before, leaves_from-moved}
+use Rattle.elem_descr.specs.declared.scalar.Order.TheVariants.{Little}
 use Rattle.elem_descr.specs.ByteLaws.{length-bytes_of, length-padded}
 use Rattle.script_lang.specs.declared.literal.ScalarLiteral.{ScalarLiteral}
 use Rattle.script_lang.specs.declared.literal.Literal.{Literal}
@@ -28,7 +29,6 @@ use Rattle.literal_items.specs.LiteralItems.{literal_number, literal_bytes, leaf
 use Rattle.literal_items.specs.inside.FieldItems.{stands_for, can_be_field, field_value, put_leaves}
 use Rattle.literal_items.proofs.Nuls.{bytes_encoded, bytes_read_back}
 use Rattle.literal_items.proofs.Leaves.{ReadsBack, AreSound, AreSound-append, put_leaves-append, put_encoded, put_read}
-use Rattle.byteorder.specs.Numbers.{length-bytes_low_first}
 
 -- ---- a test of each field
 
@@ -107,7 +107,7 @@ stand_for-length test (field ∷ fields) (literal ∷ literals) passed =
 
 leaf_sound : (scalar : Scalar) (literal : ScalarLiteral) → ReadsBack scalar (leaf_value scalar literal)
 leaf_sound BoolScalar literal = record { whole = refl; same = decode_encode BoolScalar (literal_number literal) tt }
-leaf_sound (Byte signed) literal = record { whole = length-bytes_low_first 0 1 (low_bits 1 (wrap (Byte signed) (literal_number literal))); same = decode_encode (Byte signed) (literal_number literal) tt }
+leaf_sound (Byte signed) literal = record { whole = length-bytes_of Little 1 (low_bits 1 (wrap (Byte signed) (literal_number literal))); same = decode_encode (Byte signed) (literal_number literal) tt }
 leaf_sound (Int signed width order) literal = record { whole = length-bytes_of order (width_size width) (low_bits (width_size width) (wrap (Int signed width order) (literal_number literal))); same = decode_encode (Int signed width order) (literal_number literal) tt }
 leaf_sound (BytesScalar n) literal =
     let bytes = literal_bytes literal in
