@@ -22,13 +22,10 @@ use Rattle.overlap_copy.specs.inside.Shifts.{source, sources, source_run, MayCom
 use Rattle.overlap_copy.proofs.MoveLaws.{reordered, retold}
 use Rattle.overlap_copy.proofs.MovingLaws.{nested-front, nested-back, IsMoving, moving_on}
 use Rattle.overlap_copy.proofs.RunCopyLaws.{whole_moved}
-use Rattle.overlap_copy.proofs.TurnLaws.{turned_place, turned_within}
+use Rattle.overlap_copy.proofs.TurnLaws.{turned_place, turned_within, add-nothing}
 use Rattle.overlap_copy.proofs.LineLaws.{first_place}
 
 -- ---- a run, from its first item to its last and back
-
-pub add-nothing : (at z y : ℤ) → z ≡ y → at +ℤ (z +ℤ pos 0) ≡ at +ℤ y
-add-nothing at z y same = omega (arith, ints, same)
 
 pub lies-from : (len item : ℕ) (run : Run) → EachWithin len run.offset run.step item run.count → LieWithin (run.count ∷ []) (run.step ∷ []) run.offset len item
 lies-from len item run within = record {

@@ -13,9 +13,11 @@ use Rattle.shape_strides.specs.Indexes.{IsIndex}
 use Rattle.shape_strides.specs.Layouts.{distance}
 use Rattle.overlap_copy.specs.inside.Moves.{IsAssigned, IsLine, AreSpaced, IsTurned, place_in}
 use Rattle.overlap_copy.proofs.MoveLaws.{reordered, passed}
-use Rattle.overlap_copy.proofs.ShiftLaws.{add-nothing}
 
 -- ---- where the items of a run lie
+
+pub add-nothing : (at z y : ℤ) → z ≡ y → at +ℤ (z +ℤ pos 0) ≡ at +ℤ y
+add-nothing at z y same = omega (arith, ints, same)
 
 pub line_within : (len item : ℕ) (run : Run) → IsLine len item run → EachWithin len run.offset run.step item run.count
 line_within len item run line = record {
