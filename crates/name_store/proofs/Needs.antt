@@ -64,10 +64,6 @@ pub there-used : (o : Option Slot) → is_some o ≡ true → 1 ≤ users_of o
 there-used None none = let no : ⊥ = cc in absurd no
 there-used (Some s) some = s.is_used
 
-pub used-there : (o : Option Slot) → 1 ≤ users_of o → is_some o ≡ true
-used-there None none = absurd (omega arith)
-used-there (Some s) some = refl
-
 pub needed-there : (names : Names) (cs : List Change) (slots : List (Option Slot)) → ((q : ℕ) → users_at slots q ≡ users_in q names + all_pins q cs) → (q : ℕ) → is_some (slot_at slots q) ≡ is_needed names cs q
 needed-there names cs slots counted q = there-count (slot_at slots q) ∙ ap (nat_lt 0) (counted q) ∙ needed-count names cs q
 

@@ -1,12 +1,11 @@
 -- Slots by their numbers, and the buffers in them.
-use Rattle.std.proofs.Common.{◌≡◌, ◌≢◌, ◌+◌, ◌<◌, ◌≤◌, ℕ, zero, suc, Bool, true, false, List, [], ◌∷◌, ◌++◌, length, map, refl, sym, ap, ◌∙◌, cond, Option, Some, None, is_some, nat_eq, slice_set, get_or, arith, unwrap_or, position, nat_lt}
-use Rattle.std.specs.List.{position_or_len}
-use Rattle.std.specs.Option.{option_map, is_none}
+use Rattle.std.proofs.Common.{◌≡◌, ◌≢◌, ◌+◌, ◌<◌, ◌≤◌, ℕ, zero, suc, Bool, true, false, List, [], ◌∷◌, ◌++◌, length, map, refl, sym, ap, ◌∙◌, cond, Option, Some, None, nat_eq, slice_set, get_or, arith}
+use Rattle.std.specs.Option.{option_map}
 use Rattle.std.specs.Ordering.{nat_cmp, eq_by_cmp, is_eq}
 use Rattle.std.specs.Cmp.{nat_cmp_total, eq_by_cmp_equiv}
 use Rattle.std.specs.declared.cmp.Ordering.TheVariants.{Less, Equal, Greater}
 use Rattle.std.specs.FinMap.{get, find, from_entries, get-from_entries, get-retain_keys, nat_cmp-IsAntisymmetric}
-use Rattle.std.proofs.lemmas.Bool.{eqb-true, eqb-false, ne_eqb, ltb-false}
+use Rattle.std.proofs.lemmas.Bool.{eqb-true, eqb-false, ne_eqb}
 use Rattle.name_store.specs.Arrays.{is_in_use}
 use Rattle.name_store.specs.Kept.{Names, numbered, past_buffer, past_buffers}
 use Rattle.name_store.specs.View.{named_array, slot_at, buffer_in, present}
@@ -42,40 +41,10 @@ slot_at-push [] s (suc q) = ap (λ t. cond t s None) (past-zero q)
 slot_at-push (x ∷ slots) s zero = ap (λ t. cond t s x) (before-suc (length slots))
 slot_at-push (x ∷ slots) s (suc q) = slot_at-push slots s q ∙ ap (λ t. cond t s (slot_at slots q)) (eq-suc q (length slots))
 
--- the first slot that is free is free, and so is the one behind the last
-pub slot_at-free : (slots : List (Option Slot)) → slot_at slots (position_or_len is_none slots) ≡ None
-slot_at-free [] = refl
-slot_at-free (None ∷ slots) = refl
-slot_at-free (Some s ∷ slots) = next (position_or_len is_none slots) ∙ slot_at-free slots
-  where
-    next : (q : ℕ) → slot_at (Some s ∷ slots) (1 + q) ≡ slot_at slots q
-    next q = let more : 1 + q ≡ suc q = omega arith in ap (slot_at (Some s ∷ slots)) more
-
 pub slot_at-past : (slots : List (Option Slot)) (q : ℕ) → length slots ≤ q → slot_at slots q ≡ None
 slot_at-past [] q h = refl
 slot_at-past (x ∷ slots) zero h = absurd (omega arith)
 slot_at-past (x ∷ slots) (suc q) h = slot_at-past slots q (omega arith)
-
-pub slot_at-first : (slots : List (Option Slot)) → slot_at slots (unwrap_or (position is_none slots) (length slots)) ≡ None
-slot_at-first slots =
-    elim (nat_lt (position_or_len is_none slots) (length slots)) as (λ t. slot_at slots (unwrap_or (cond t (Some (position_or_len is_none slots)) None) (length slots)) ≡ None) [
-      | true ↦ slot_at-free slots
-      | false ↦ slot_at-past slots (length slots) (omega arith)
-    ]
-
--- each slot before the first that is free is occupied
-before-first : (slots : List (Option Slot)) (q : ℕ) → q < position_or_len is_none slots → is_some (slot_at slots q) ≡ true
-before-first [] q h = absurd (omega arith)
-before-first (None ∷ slots) q h = absurd (omega arith)
-before-first (Some s ∷ slots) zero h = refl
-before-first (Some s ∷ slots) (suc q) h = before-first slots q (omega arith)
-
-pub slot_at-before : (slots : List (Option Slot)) (q : ℕ) → q < unwrap_or (position is_none slots) (length slots) → is_some (slot_at slots q) ≡ true
-slot_at-before slots q h =
-    elim (nat_lt (position_or_len is_none slots) (length slots)) as (λ t. nat_lt (position_or_len is_none slots) (length slots) ≡ t → q < unwrap_or (cond t (Some (position_or_len is_none slots)) None) (length slots) → is_some (slot_at slots q) ≡ true) [
-      | true ↦ λ _ less. before-first slots q less
-      | false ↦ λ past less. before-first slots q (omega (arith, ltb-false (position_or_len is_none slots) (length slots) past, less))
-    ] refl h
 
 pub slot_at-within : (slots : List (Option Slot)) (q : ℕ) (s : Slot) → slot_at slots q ≡ Some s → q < length slots
 slot_at-within [] q s h = let no : ⊥ = cc in absurd no
