@@ -181,7 +181,7 @@ module _ (s : State) (operand : Operand) (descr : Descr) (shape : List ℕ) (b :
         ∙ get_or-map (λ place. part_at (span_of s b) (placed_item (buffer_of s b).items place)) (viewed b view).places k 0 [] (omega (arith, below, counted))
       where
         counted : length (offsets o.layout) ≡ length (viewed b view).places
-        counted = sym (length-map (offsets o.layout) (item_from o.descr o.block)) ∙ ap length holds.items ∙ length-map (viewed b view) (λ place. part_at (span_of s b) (placed_item (buffer_of s b).items place)).places
+        counted = sym (length-map (offsets o.layout) (item_from o.descr o.block)) ∙ ap length holds.items ∙ length-map (viewed b view).places (λ place. part_at (span_of s b) (placed_item (buffer_of s b).items place))
 
     copy-wide : (wide : Layout) (seen : View) → IsViewOf o.layout wide seen → map (item_from o.descr o.block) (offsets wide) ≡ read s (viewed (viewed b view) seen)
     copy-wide wide seen is =
