@@ -390,7 +390,8 @@ class Script:
         text = source if taken is None else f"{source}[{list_text(taken)}]"
 
         def reply():
-            self.world.array(target), self.world.array(source)
+            for known in [target, source, *(item for item in taken or [] if isinstance(item, str))]:
+                self.world.array(known)
             aim = self.world.part(target, items)
             self.check_writable(aim)
             given = self.world.array(source) if taken is None else self.world.part(source, taken).read()

@@ -25,7 +25,8 @@ pub struct HostDisk<'a, R: Files<File = File>> {
     failures: u64,
 }
 
-/// The path of a name in a folder. A name that leads out of it is none.
+/// The path of a name in a folder. A name that leads out of it is none. Its memory is asked for at once, so
+/// that where a file was made, what that path took serves the one by which it is renamed or removed.
 fn path_in(alloc: Global, dir: &str, name: &[u8]) -> Result<Option<PathBuf>, AllocError> {
     let Ok(name) = str::from_utf8(name) else {
         return Ok(None);
@@ -33,7 +34,10 @@ fn path_in(alloc: Global, dir: &str, name: &[u8]) -> Result<Option<PathBuf>, All
     if name.is_empty() || name == "." || name == ".." || name.contains('/') {
         return Ok(None);
     }
-    Ok(Some(Path::new(dir).join(alloc, name)?))
+    let mut path = PathBuf::with_capacity(alloc, dir.len() + name.len() + 1)?;
+    path.push(dir)?;
+    path.push(name)?;
+    Ok(Some(path))
 }
 
 impl<'a, R: Files<File = File>> HostDisk<'a, R> {
