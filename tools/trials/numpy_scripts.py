@@ -105,6 +105,11 @@ def filled(value, dtype):
     return value if dtype.names is None else tuple(filled(value, inner) for _, inner, _ in fields(dtype))
 
 
+def names_in(name, items):
+    """The names of a part of an array: its own and those of the arrays in its index list."""
+    return [name, *(item for item in items if isinstance(item, str))]
+
+
 class Script:
     """A random script, with the replies that NumPy gives. In a roomy one, arrays seldom become small."""
 
@@ -390,7 +395,7 @@ class Script:
         text = source if taken is None else f"{source}[{list_text(taken)}]"
 
         def reply():
-            for known in [target, source, *(item for item in taken or [] if isinstance(item, str))]:
+            for known in [target, *names_in(source, taken or [])]:
                 self.world.array(known)
             aim = self.world.part(target, items)
             self.check_writable(aim)
@@ -418,7 +423,7 @@ class Script:
         if self.rng.random() < 0.5:
             return source, [source], lambda: self.world.array(source)
         items = self.items(self.shape_of(source))
-        return f"{source}[{list_text(items)}]", [source], lambda: self.world.part(source, items).read()
+        return f"{source}[{list_text(items)}]", names_in(source, items), lambda: self.world.part(source, items).read()
 
     def argument(self):
         if self.rng.random() < 0.65:
