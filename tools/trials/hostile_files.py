@@ -16,7 +16,8 @@ TURNED = b"""{"shape": (3L,), "fortran_order": False, "descr": "<i4"}\n"""
 SHORT = MAGIC + b"\x01\0\x39\0" + TURNED + DATA + b"\xff"
 SECOND = MAGIC + b"\x02\0\x39\0\0\0" + TURNED + DATA + b"\xff"
 ALTERED, BATCH = 20_000, 250
-SPARE, SLACK = 4 * 2**20, 2**17
+# What may be reserved beside file and array: two steps of 132 KB by which the heap grows.
+SPARE, SLACK = 4 * 2**20, 2 * 132 * 2**10
 TYPES = ["'<i4'", "'>i2'", "'|b1'", "'|S5'", "'<u8'", "'|i1'", "[('x', '<i4'), ('y', '>i2')]", "[('x', '|i1'), ('', '|V3'), ('s', [('y', '<i4')])]"]
 ODD_TYPES = [
     "'<f8'", "'<i3'", "'|S0'", "'|S'", "'|S65536'", "'|S65537'", "'|O'", "''", "3", "[]", "None", "('x', '<i4')", "[('', '|V3')]", "[('x', '<i4', (2,))]",
