@@ -139,7 +139,7 @@ impl RawBlock {
 
     /// The number in the `width` bytes from `at` on, the lowest byte first.
     pub fn load(&self, at: usize, width: usize) -> u64
-        requires width { (1 ≤ width) × (width ≤ 8) }
+        requires width { width ≤ 8 }
         requires bounds { at + width ≤ length self.now }
         ensures value { result ≡ little_number width (item_at at width self.now) }
         ensures small { result < 256 ^ width }
@@ -149,7 +149,7 @@ impl RawBlock {
 
     /// Writes the lowest `width` bytes of `bits` to those from `at` on, the lowest byte first.
     pub fn store(&mut self, at: usize, width: usize, bits: u64)
-        requires width { (1 ≤ width) × (width ≤ 8) }
+        requires width { width ≤ 8 }
         requires bounds { at + width ≤ length self.old }
         ensures stored { self.new ≡ put at (little_bytes width bits) self.old }
         ensures len { length self.new ≡ length self.old }
