@@ -19,7 +19,7 @@ use crate::scatter::scatter;
 use elem_descr::{Descr, Refusal};
 use overlap_copy::Owned;
 use raw_block::RawBlock;
-use shape_strides::{FixedWalk, Layout, MAX_BYTES, MemoryOrder, Shape};
+use shape_strides::{Layout, MAX_BYTES, MemoryOrder, Shape, Walk};
 use std::alloc::{AllocError, Global};
 use std::marker::Model;
 
@@ -256,7 +256,7 @@ impl Plan {
         }
         let _items = self.len();
         let mut rank = 0;
-        for source in FixedWalk::new(from) {
+        for source in Walk::new(from) {
             block.copy_from(self.offset(rank), other, source, width);
             rank += 1;
         }
