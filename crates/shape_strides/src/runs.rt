@@ -1,5 +1,5 @@
 //! The items of a layout, run by run.
-ghost use Rattle.std.specs.Prelude.{◌≡◌, [], ◌∷◌, ◌+◌, ◌<◌, ◌≤◌, ℕ, ℤ, length, All};
+ghost use Rattle.std.specs.Prelude.{◌≡◌, ◌↔◌, [], ◌∷◌, ◌+◌, ◌<◌, ◌≤◌, ℕ, ℤ, length, All, IsTrue};
 ghost use Rattle.std.specs.List.{flat_map};
 ghost use Rattle.shape_strides.specs.Indexes.{count};
 ghost use Rattle.shape_strides.specs.Addresses.{LieWithin};
@@ -36,6 +36,13 @@ impl Run {
         ensures { pos result ≡ pos self.offset +ℤ self.step *ℤ pos steps }
     {
         (self.offset as isize + self.step * steps as isize) as usize
+    }
+
+    /// Whether items of `width` bytes lie one right after another.
+    pub fn is_packed(self, width: usize) -> bool
+        ensures { IsTrue result ↔ self.step ≡ pos width }
+    {
+        self.step as i128 == width as i128
     }
 }
 
