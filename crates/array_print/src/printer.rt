@@ -12,7 +12,7 @@ use crate::padding::{push_comma, push_lead, push_record_end};
 use crate::values::push_value;
 use crate::widths::widths_of;
 use elem_descr::{Descr, Field};
-use shape_strides::{FixedWalk, Layout};
+use shape_strides::{Layout, Walk};
 use std::alloc::{AllocError, Global};
 
 /// Items of one descriptor in a block of bytes, and the widths to which the texts of their values
@@ -122,7 +122,7 @@ fn push_item(out: &mut Vec<u8>, items: &Items<'_>, offset: usize) -> Result<(), 
 /// Appends the text of the next item of a walk.
 fn push_next(
     out: &mut Vec<u8>,
-    walk: &mut FixedWalk<'_>,
+    walk: &mut Walk<'_>,
     items: &Items<'_>,
 ) -> Result<(), AllocError>
     requires widths { AreWidths (leaves_of items.now.descr.now) items.now.widths.now }
@@ -144,7 +144,7 @@ fn push_next(
 /// brackets are open before its own as there are axes before them.
 fn push_block(
     out: &mut Vec<u8>,
-    walk: &mut FixedWalk<'_>,
+    walk: &mut Walk<'_>,
     items: &Items<'_>,
     axes: &[usize],
     axis: usize,
@@ -195,7 +195,7 @@ fn push_array(
         block,
         widths: widths.as_slice(),
     };
-    let mut walk = FixedWalk::new(layout);
+    let mut walk = Walk::new(layout);
     push_block(out, &mut walk, &items, layout.shape.as_slice(), 0)
 }
 

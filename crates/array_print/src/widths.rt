@@ -8,7 +8,7 @@ ghost use Rattle.array_print.specs.inside.Shown.{integer_at, widths_at};
 
 use elem_descr::{Descr, Scalar, num_read};
 use itoa::Buffer;
-use shape_strides::{FixedWalk, Layout};
+use shape_strides::{Layout, Walk};
 use smallvec::SmallVec;
 use std::alloc::{AllocError, Global};
 
@@ -91,7 +91,7 @@ pub fn widths_of(
         return SmallVec::from_elem(alloc, 0, descr.leaf_count());
     }
     let mut widths = least_widths(alloc, descr)?;
-    for offset in FixedWalk::new(layout) {
+    for offset in Walk::new(layout) {
         widen(widths.as_mut_slice(), descr, block, offset);
     }
     Ok(widths)

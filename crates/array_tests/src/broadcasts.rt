@@ -97,8 +97,8 @@ fn stretched(
 }
 
 /// These are the offsets of the items in C order.
-fn has_offsets(rt: &impl Abort, alloc: Global, layout: &Layout, offsets: &[usize]) {
-    let mut walk = Walk::new(alloc, layout).expect(rt, "no memory");
+fn has_offsets(rt: &impl Abort, layout: &Layout, offsets: &[usize]) {
+    let mut walk = Walk::new(layout);
     for offset in offsets {
         check(rt, walk.next() == Some(*offset), "an offset");
     }
@@ -150,7 +150,7 @@ fn stretches(rt: HostRuntime) {
     for (numbers, target, strides, offsets) in STRETCHES {
         let layout = stretched(&rt, rt.alloc(), *numbers, *target).expect(&rt, "refused");
         has(&rt, &layout, *target, *strides, numbers.2);
-        has_offsets(&rt, rt.alloc(), &layout, *offsets);
+        has_offsets(&rt, &layout, *offsets);
     }
 }
 

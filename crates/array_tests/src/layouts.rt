@@ -83,8 +83,7 @@ fn f_orders(rt: HostRuntime) {
         let layout = f_order(&rt, rt.alloc(), *lengths, *item);
         has(&rt, &layout, *lengths, *strides, 0);
         check(&rt, layout.is_f(*item), "Fortran order");
-        let walk = Walk::new(rt.alloc(), &layout).expect(&rt, "no memory");
-        begins_with(&rt, walk, *first);
+        begins_with(&rt, Walk::new(&layout), *first);
     }
 }
 

@@ -76,11 +76,11 @@ pub(crate) fn view_all(
 }
 
 /// The offset of the k-th item in C order.
-fn offset_of(alloc: Global, layout: &Layout, k: usize) -> Result<usize, Refusal>
+fn offset_of(layout: &Layout, k: usize) -> Result<usize, Refusal>
     ensures entry { IfOk result (λ offset. slice_get (offsets layout.now) k ≡ Some offset) }
     ensures limit { IfOk result (λ offset. offset < max_bytes) }
 {
-    Walk::new(alloc, layout)?.nth(k).ok_or(Refusal::OutOfMemory)
+    Walk::new(layout).nth(k).ok_or(Refusal::OutOfMemory)
 }
 
 /// Binds a name to the k-th item of another name's array.
@@ -95,7 +95,7 @@ pub(crate) fn view_item(
         return Err(Refusal::UnknownName);
     };
     let (number, path, writable) = (array.number, *array.path, array.writable);
-    let offset = offset_of(alloc, array.layout, k)?;
+    let offset = offset_of(array.layout, k)?;
     let layout = Layout {
         shape: Shape::try_new(alloc, &[])?,
         strides: Strides::new(alloc),

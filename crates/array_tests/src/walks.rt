@@ -19,7 +19,7 @@ fn gather(alloc: Global, bytes: &[u8], layout: &Layout) -> Result<Vec<u8>, Alloc
     ensures { IfOk result (λ v. v.items ≡ map (λ o. slice_index bytes.now o) (offsets layout.now)) }
 {
     let mut gathered = Vec::new(alloc);
-    for offset in Walk::new(alloc, layout)? {
+    for offset in Walk::new(layout) {
         gathered.push(bytes[offset])?;
     }
     Ok(gathered)

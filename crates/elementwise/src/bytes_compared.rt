@@ -27,7 +27,7 @@ use elem_descr::{Descr, Refusal, Scalar};
 use machine_numbers::{Comparison, is_text};
 use overlap_copy::{Items, Owned};
 use raw_block::{BlockBuilder, RawBlock};
-use shape_strides::{FixedWalk, MemoryOrder};
+use shape_strides::{MemoryOrder, Walk};
 use std::alloc::{AllocError, Global};
 
 /// What a comparison says of an item and of a byte string, as a byte.
@@ -54,7 +54,7 @@ fn block_of_all(
 {
     let layout = operand.items.layout;
     let mut block = BlockBuilder::try_new(alloc, layout.shape.items())?;
-    for offset in FixedWalk::new(layout) {
+    for offset in Walk::new(layout) {
         block.push_array::<1>([byte_at(comparison, operand, other, offset)]);
     }
     Ok(block.finish())

@@ -12,7 +12,7 @@ use crate::text_comparing::without_nuls;
 use broadcasting::repeats;
 use elem_descr::{BytesLen, Refusal};
 use overlap_copy::Items;
-use shape_strides::{FixedWalk, Layout, Shape};
+use shape_strides::{Layout, Shape, Walk};
 use std::alloc::Global;
 
 /// The length of the longest byte string, the NULs at its end not counted, and at least 1.
@@ -24,7 +24,7 @@ fn longest(block: &[u8], layout: &Layout, width: usize) -> usize
     ensures least { All (λ offset. length (without_nuls (item_at offset width block.now)) ≤ result) (offsets layout.now) }
 {
     let mut most = 1;
-    for offset in FixedWalk::new(layout) {
+    for offset in Walk::new(layout) {
         most = without_nuls(&block[offset..offset + width]).len().max(most);
     }
     most

@@ -1,5 +1,4 @@
 mod Vectors
-pub mod RankLaws
 pub mod PlanLaws
 pub mod RunLaws
 pub mod Passes

@@ -14,7 +14,7 @@ use crate::kind::Kind;
 use crate::source::{Indices, kind, number_at, resolved};
 use crate::words::{are_word_places, words_of};
 use elem_descr::Refusal;
-use shape_strides::{FixedWalk, IndexItem};
+use shape_strides::{IndexItem, Walk};
 use view_ops::{have_steps, is_place};
 
 fn is_index(item: IndexItem<Indices<'_>>) -> bool
@@ -149,7 +149,7 @@ fn are_places_each(array: Indices<'_>, n: usize) -> bool
     requires lies { LiesInBlock array }
     ensures { result ≡ list_all (is_place n) (index_array_of array.entry).numbers }
 {
-    for offset in FixedWalk::new(array.layout) {
+    for offset in Walk::new(array.layout) {
         if !is_place(n, number_at(array, offset)) {
             return false;
         }

@@ -9,7 +9,7 @@ use crate::plans::moved;
 use crate::run_moves::{fill_run, moved_run};
 use crate::singles::fill_singles;
 use raw_block::RawBlock;
-use shape_strides::{FixedWalk, Layout, Runs};
+use shape_strides::{Layout, Runs, Walk};
 
 /// Writes the item to those of a layout, where what began at its offset begins at `start`.
 fn fill_from(block: &mut RawBlock, inner: &Layout, start: usize, item: &[u8])
@@ -68,7 +68,7 @@ pub(crate) fn fill(
     ensures written { block.new ≡ put_each (moved_all inner.now.offset (offsets outer.now) shifts.now (offsets inner.now)) item.now block.old }
     ensures len { length block.new ≡ length block.old }
 {
-    for place in FixedWalk::new(outer) {
+    for place in Walk::new(outer) {
         fill_shifts(block, shifts, inner, place, item);
     }
 }

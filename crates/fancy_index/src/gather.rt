@@ -12,7 +12,7 @@ use crate::run_moves::moved_run;
 use crate::singles::gather_singles;
 use overlap_copy::{copy_run, packed_run};
 use raw_block::RawBlock;
-use shape_strides::{FixedWalk, Layout, Runs};
+use shape_strides::{Layout, Runs, Walk};
 
 /// Copies the items of `width` bytes of a layout, where what began at its offset begins at `start`, to
 /// those that lie one after another from `at` on. The result is where these end.
@@ -116,7 +116,7 @@ pub(crate) fn gather(
     ensures len { length items.new ≡ length items.old }
 {
     let mut at = 0;
-    for place in FixedWalk::new(outer) {
+    for place in Walk::new(outer) {
         at = gather_shifts(items, at, block, shifts, inner, place, width);
     }
 }

@@ -14,12 +14,11 @@ ghost use Rattle.fancy_index.specs.inside.Kept.{IsMoved, AreStarts, offsets_from
 
 use crate::fill::fill;
 use crate::gather::gather;
-use crate::rank::offset_at;
 use crate::scatter::scatter;
 use elem_descr::{Descr, Refusal};
 use overlap_copy::Owned;
 use raw_block::RawBlock;
-use shape_strides::{FixedWalk, Layout, MAX_BYTES, MemoryOrder, Shape};
+use shape_strides::{Layout, MAX_BYTES, MemoryOrder, Shape, Walk};
 use std::alloc::{AllocError, Global};
 use std::marker::Model;
 
@@ -99,9 +98,9 @@ fn offset_in(outer: &Layout, shifts: &[u32], inner: &Layout, rank: usize) -> usi
     ensures { result ≡ slice_index (moved_all inner.now.offset (offsets outer.now) shifts.now (offsets inner.now)) rank }
 {
     let at = spot_at(rank, shifts.len(), inner.shape.items());
-    let place = offset_at(outer, at.place);
+    let place = outer.at_rank(at.place);
     let start = moved(inner.offset, place, shifts[at.shift] as usize);
-    moved(inner.offset, start, offset_at(inner, at.item))
+    moved(inner.offset, start, inner.at_rank(at.item))
 }
 
 fn is_step(step: isize, width: usize) -> bool
@@ -256,7 +255,7 @@ impl Plan {
         }
         let _items = self.len();
         let mut rank = 0;
-        for source in FixedWalk::new(from) {
+        for source in Walk::new(from) {
             block.copy_from(self.offset(rank), other, source, width);
             rank += 1;
         }

@@ -14,7 +14,7 @@ use crate::bools::{bools_of, true_bytes};
 use crate::kind::Kind;
 use crate::source::{Indices, kind, number_at};
 use crate::words::{word_places, words_of};
-use shape_strides::FixedWalk;
+use shape_strides::Walk;
 use smallvec::SmallVec;
 use std::alloc::{AllocError, Global};
 use view_ops::from_front;
@@ -45,7 +45,7 @@ fn places_each(alloc: Global, array: Indices<'_>, n: usize) -> Result<Vec<u32>, 
     ensures { IfOk result (λ v. v.items ≡ map (place_of n) (index_array_of array.entry).numbers) }
 {
     let mut places = Vec::new(alloc);
-    for offset in FixedWalk::new(array.layout) {
+    for offset in Walk::new(array.layout) {
         places.push(place_of(n, number_at(array, offset)))?;
     }
     Ok(places)
@@ -81,7 +81,7 @@ fn true_ranks_each(alloc: Global, array: Indices<'_>) -> Result<Vec<u32>, AllocE
     let _items = array.layout.shape.items();
     let mut ranks = Vec::new(alloc);
     let mut rank: usize = 0;
-    for offset in FixedWalk::new(array.layout) {
+    for offset in Walk::new(array.layout) {
         if !is_zero(number_at(array, offset)) {
             ranks.push(rank as u32)?;
         }

@@ -1,30 +1,12 @@
--- Passes of an assignment, item by item.
-use Rattle.std.proofs.Common.{◌≡◌, ◌+◌, ◌<◌, ◌≤◌, inl, inr, false, ℕ, List, [], ◌∷◌, get_or, Contains, refl, sym, ap, ◌∙◌, arith}
+-- Items that lie apart.
+use Rattle.std.proofs.Common.{◌≡◌, ◌+◌, ◌<◌, ◌≤◌, inl, inr, false, ℕ, List, get_or, Contains, arith}
 use Rattle.std.proofs.lemmas.Bool.{both_ways, cases_lt}
 use Rattle.std.proofs.lemmas.List.{get_or_default}
 use Rattle.std.proofs.lemmas.List.Elements.{recursion_from_All}
-use Rattle.raw_block.specs.Bytes.{put, item_at}
 use Rattle.shape_strides.specs.Layouts.{distance}
-use Rattle.overlap_copy.specs.Assignments.{assigned}
 use Rattle.overlap_copy.specs.Overlaps.{have_common_byte}
 use Rattle.overlap_copy.specs.inside.Moves.{LiesApart, LieApart}
 use Rattle.overlap_copy.proofs.OverlapLaws.{test_from_common}
-
--- without an offset on either side nothing is assigned
-pub none-from : (to : List ℕ) (width : ℕ) (other block : List ℕ) → assigned to [] width other block ≡ block
-none-from [] width other block = refl
-none-from (at ∷ to) width other block = refl
-
-pub none-to : (to from to' from' : List ℕ) (width : ℕ) (other block whole : List ℕ) → to ≡ [] → to' ≡ [] → assigned to from width other block ≡ whole → assigned to' from' width other block ≡ whole
-none-to to from to' from' width other block whole none none' so_far =
-    ap (λ l. assigned l from' width other block) none' ∙ ap (λ l. assigned l from width other block) (sym none) ∙ so_far
-
--- the next item is assigned
-pub assigned-next : (to from to' from' : List ℕ) (at offset width : ℕ) (other block block' whole : List ℕ) → to ≡ at ∷ to' → from ≡ offset ∷ from' → block' ≡ put at (item_at offset width other) block → assigned to from width other block ≡ whole → assigned to' from' width other block' ≡ whole
-assigned-next to from to' from' at offset width other block block' whole first second is so_far =
-    ap (assigned to' from' width other) is ∙ (λ i. assigned (sym first i) (sym second i) width other block) ∙ so_far
-
--- ---- items that lie apart
 
 -- items that have no byte in common
 pub lie_apart : (width : ℕ) (to from : List ℕ) → have_common_byte to width from width ≡ false → LieApart width to from

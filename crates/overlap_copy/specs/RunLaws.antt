@@ -5,7 +5,7 @@
 --     place-at, run-ends           where an item lies; each ends within the bytes
 --     lie-within                   a run that lies within some bytes
 --     All-front, All-back          what holds of all holds of the first, and of those after them
---     runs-within                  runs whose offsets lie within some bytes, with the items there
+--     runs-within, walked-within   runs whose offsets lie within some bytes, with the items there
 use Rattle.std.proofs.Common.{◌≡◌, ℕ, zero, suc, ◌+◌, ◌-◌, ◌<◌, ◌≤◌, List, [], ◌∷◌, ◌++◌, All, map, length, get_or, refl, sym, ap, subst, ◌∙◌, arith, length-append}
 use Rattle.std.specs.List.{flat_map, range_with_len, AllByRecursion as Each}
 use Rattle.std.proofs.Math.IntN.{*ℤ_comm, +ℤ_idr}
@@ -147,6 +147,12 @@ runs-within {X} len width run_of xs begin ends = All-from_recursion (λ x. EachW
           run-within len width (run_of x) (All-head begins x xs begin) (All-front ends-in (run_offsets (run_of x)) rest ends),
           each xs (All-tail begins x xs begin) (All-back ends-in (run_offsets (run_of x)) rest ends),
         )
+
+-- the same of what is walked over
+pub walked-within : {X : Type 0} (len width : ℕ) (run_of : X → Run) (walked xs : List X) (offsets : List ℕ) → walked ≡ xs → BeginWithin run_of xs →
+    flat_map (λ x. run_offsets (run_of x)) xs ≡ offsets → All (λ offset. offset + width ≤ len) offsets → AreWithin len width run_of walked
+walked-within {X} len width run_of walked xs offsets are begin is ends =
+    subst (AreWithin len width run_of) (sym are) (runs-within len width run_of xs begin (subst (All (λ offset. offset + width ≤ len)) (sym is) ends))
 
 -- what holds of all that is left holds of the next_pair pair
 pub next_pair : (P : RunPair → Type 0) (left left' : List RunPair) (pair : RunPair) → left ≡ pair ∷ left' → All P left → P pair

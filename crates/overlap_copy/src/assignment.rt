@@ -12,36 +12,18 @@ use crate::packed::{gather, scatter};
 use crate::run_copies::{copy_pairs, move_pairs};
 use crate::run_moves::{is_same_line, move_run, turn_run, turned};
 use raw_block::RawBlock;
-use shape_strides::{FixedWalk, Layout, RunPairs};
+use shape_strides::{Layout, RunPairs};
 use std::alloc::{AllocError, Global};
 
-/// Copies the items item by item.
-fn copy_items(block: &mut RawBlock, dst: &Layout, other: &RawBlock, src: &Layout, width: usize)
-    requires dst { All (λ offset. offset + width ≤ length block.old) (offsets dst.now) }
-    requires src { All (λ offset. offset + width ≤ length other.now) (offsets src.now) }
-    ensures written { block.new ≡ assigned (offsets dst.now) (offsets src.now) width other.now block.old }
-    ensures len { length block.new ≡ length block.old }
-{
-    let mut to = FixedWalk::new(dst);
-    for offset in FixedWalk::new(src) {
-        if let Some(at) = to.next() {
-            block.copy_from(at, other, offset, width);
-        }
-    }
-}
-
 /// Copies the items of `width` bytes of the layout `src` in `other` to those of the layout `dst`,
-/// each in C order, as far as both have items. Takes no memory.
+/// as many, each in C order. Takes no memory.
 pub fn assign_from(block: &mut RawBlock, dst: &Layout, other: &RawBlock, src: &Layout, width: usize)
     requires dst { All (λ offset. offset + width ≤ length block.old) (offsets dst.now) }
     requires src { All (λ offset. offset + width ≤ length other.now) (offsets src.now) }
+    requires count { count dst.now.shape ≡ count src.now.shape }
     ensures written { block.new ≡ assigned (offsets dst.now) (offsets src.now) width other.now block.old }
     ensures len { length block.new ≡ length block.old }
 {
-    if dst.shape.items() != src.shape.items() {
-        copy_items(block, dst, other, src, width);
-        return;
-    }
     copy_pairs(block, RunPairs::new(dst, src), other, width);
 }
 

@@ -7,7 +7,6 @@ ghost use Rattle.shape_strides.specs.Runs.{run_offsets};
 ghost use Rattle.overlap_copy.specs.Assignments.{assigned};
 ghost use Rattle.overlap_copy.specs.inside.Moves.{LieApart};
 
-use crate::run_moves::is_packed;
 use raw_block::RawBlock;
 use shape_strides::{Run, RunPairs};
 
@@ -56,7 +55,7 @@ fn move_apart(block: &mut RawBlock, to: Run, from: Run, width: usize)
     ensures written { block.new ≡ assigned (run_offsets to) (run_offsets from) width block.old block.old }
     ensures len { length block.new ≡ length block.old }
 {
-    if to.count > 0 && is_packed(to, width) && is_packed(from, width) {
+    if to.count > 0 && to.is_packed(width) && from.is_packed(width) {
         let _len = block.len();
         block.move_within(to.offset, from.offset, to.count * width);
         return;

@@ -6,13 +6,6 @@ ghost use Rattle.overlap_copy.specs.inside.Moves.{IsAssigned, IsLine, IsTurned, 
 use raw_block::RawBlock;
 use shape_strides::Run;
 
-/// Whether the items of a run, of `width` bytes, lie one right after another.
-pub(crate) fn is_packed(run: Run, width: usize) -> bool
-    ensures { IsTrue result → run.step ≡ pos width }
-{
-    run.step >= 0 && run.step.unsigned_abs() == width
-}
-
 /// A step back in place of a step on.
 fn opposite(step: isize) -> isize
     requires { pos 0 ≤ℤ (step +ℤ pos max_bytes) }
@@ -64,7 +57,7 @@ pub(crate) fn move_run(block: &mut RawBlock, to: Run, from: Run, width: usize)
     ensures moved { IsAssigned to.count (place_in to) (place_in from) width block.old block.old block.new }
     ensures len { length block.new ≡ length block.old }
 {
-    if is_packed(to, width) {
+    if to.is_packed(width) {
         let _len = block.len();
         block.move_within(to.offset, from.offset, to.count * width);
         return;

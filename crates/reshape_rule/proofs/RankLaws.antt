@@ -1,26 +1,14 @@
--- Laws of the index that has a rank, and of the strides that are read off at unit indexes.
-use Rattle.std.proofs.Common.{◌≡◌, ℕ, ◌+◌, ◌*◌, ◌/◌, ◌%◌, ◌<◌, ◌≤◌, nat_le, true, pos, ◌-ℤ◌, List, [], ◌∷◌, ◌++◌, length, get_or, drop, sym, ◌∙◌, ap, arith, mod-lt, div-add-mod', mul_comm, mul-div_cancel, mul-le-mul_right}
+-- Laws of the strides that are read off at unit indexes.
+use Rattle.std.proofs.Common.{◌≡◌, ℕ, ◌+◌, ◌*◌, ◌/◌, ◌<◌, ◌≤◌, nat_le, true, pos, ◌-ℤ◌, List, [], ◌∷◌, ◌++◌, length, get_or, drop, sym, ◌∙◌, ap, arith, mul_comm, mul-div_cancel, mul-le-mul_right}
 use Rattle.std.proofs.lemmas.Bool.{cond-true}
 use Rattle.std.proofs.lemmas.Bool.Decides.{nat_tests}
 use Rattle.std.proofs.lemmas.List.{drop_more, append_assoc}
-use Rattle.std.proofs.lemmas.Nat.{div_below}
 use Rattle.shape_strides.specs.declared.layout.Layout.{Layout}
 use Rattle.shape_strides.specs.Limits.{max_bytes}
-use Rattle.shape_strides.specs.Indexes.{count, rank, IsIndex}
+use Rattle.shape_strides.specs.Indexes.{count}
 use Rattle.shape_strides.specs.Contiguity.{printed_stride, printed_strides}
-use Rattle.shape_strides.specs.CountLaws.{pos_of_factor, count-drop, factors_pos}
+use Rattle.shape_strides.specs.CountLaws.{count-drop, factors_pos}
 use Rattle.shape_strides.specs.LayoutLaws.{length-offsets, offsets_within, entry-first}
-use Rattle.reshape_rule.specs.inside.Ranks.{unranked}
-
--- ---- the index that has a rank
-
-pub unranked-is : (shape : List ℕ) (k : ℕ) → k < count shape → IsIndex shape (unranked shape k) × (rank shape (unranked shape k) ≡ k)
-unranked-is [] k below = (tt, omega arith)
-unranked-is (n ∷ shape) k below =
-    let c = count shape in
-    let some : 0 < c = pos_of_factor n c k below in
-    let rest = unranked-is shape (k % c) (mod-lt k some) in
-    ((div_below k c n some below, rest.0), ap (λ r. k / c * c + r) rest.1 ∙ div-add-mod' k c)
 
 -- the items of the axes after one
 pub record Later (lengths : List ℕ) (k items : ℕ) : Type 0 where
@@ -38,15 +26,8 @@ later lengths k items below some is =
     let step : items / n ≡ c = ap (λ x. x / n) (whole ∙ mul_comm n c) ∙ mul-div_cancel c both.0 in
     record { len = both.0; some = omega (arith, both.1); is = step; whole = whole }
 
--- one more number of the index
-pub unranked-more : (lengths : List ℕ) (k items left : ℕ) → k < length lengths → Later lengths k items → unranked (drop k lengths) left ≡ left / (items / get_or lengths k 0) ∷ unranked (drop (k + 1) lengths) (left % (items / get_or lengths k 0))
-unranked-more lengths k items left below l =
-    ap (λ s. unranked s left) (drop_more lengths k 0 below) ∙ ap (λ c. left / c ∷ unranked (drop (k + 1) lengths) (left % c)) (sym l.is)
-
 pub pushed_onto : {A : Type 0} (made new rest all : List A) (x : A) (left : List A) → new ≡ made ++ x ∷ [] → left ≡ x ∷ rest → made ++ left ≡ all → new ++ rest ≡ all
 pushed_onto made new rest all x left is next so_far = ap (λ m. m ++ rest) is ∙ append_assoc made (x ∷ []) rest ∙ ap (λ l. made ++ l) (sym next) ∙ so_far
-
--- ---- strides
 
 -- one more stride
 pub printed-more : (lengths list : List ℕ) (k items : ℕ) → k < length lengths → Later lengths k items → printed_strides (drop k lengths) list ≡ printed_stride (get_or lengths k 0) (items / get_or lengths k 0) list ∷ printed_strides (drop (k + 1) lengths) list

@@ -5,13 +5,13 @@ use Rattle.std.proofs.lemmas.List.{length-map, drop_more, drop_all}
 use lib.IntN.{+ℤ_idr}
 use Rattle.shape_strides.specs.declared.layout.Layout.{Layout}
 use Rattle.shape_strides.specs.Indexes.{count, indexes, rank, IsIndex}
-use Rattle.shape_strides.specs.Limits.{max_bytes}
+use Rattle.shape_strides.specs.Limits.{max_bytes, max_items}
 use Rattle.shape_strides.specs.Addresses.{dot, natural, address_at}
 use Rattle.shape_strides.specs.Layouts.{address, offsets}
 use Rattle.shape_strides.specs.Walks.{AreAxes, IsOnWalk, offsets_at}
 use Rattle.shape_strides.specs.AxisLaws.{IsIndex-first, dot-zeros, rank-zeros, *ℤ-more}
 use Rattle.shape_strides.specs.LayoutLaws.{length-offsets, pos-offset}
-use Rattle.shape_strides.specs.IndexLaws.{length-index, length-indexes}
+use Rattle.shape_strides.specs.IndexLaws.{length-index, length-indexes, number-lt}
 use Rattle.shape_strides.specs.inside.AxisIndexes.{padded}
 use Rattle.shape_strides.proofs.StepLaws.{length-padded, dot-padded, dot-push, dot-take_more, IsIndex-padded_push, rank-stepped, part_low, part_high, sum_start, sum_bounds, IsIndex-zeros, last-more}
 
@@ -63,15 +63,15 @@ pub record StandsAt (shape : List ℕ) (strides : List ℤ) (start : ℕ) (old i
   pub offset_is : pos offset ≡ pos start +ℤ dot strides (take a old)
   pub last : rank (drop a shape) (drop a old) + 1 ≡ count (drop a shape)
 
-pub starts_at : (l : Layout) (index : List ℕ) (a offset : ℕ) → a ≡ length l.shape → IsIndex l.shape index → pos offset ≡ address l index → StandsAt l.shape l.strides l.offset index index a offset
-starts_at l index a offset whole in' is =
-    let size = length-index l.shape index in' in
-    let all : take a index ≡ index = take_all a index (omega arith) in
-    let none : drop a index ≡ [] = drop_all a index (omega arith) in
-    let none' : drop a l.shape ≡ [] = drop_all a l.shape (omega arith) in
+pub starts_at : {shape : List ℕ} {strides : List ℤ} {start : ℕ} {index : List ℕ} {offset : ℕ} → IsIndex shape index → pos offset ≡ address_at strides start index → StandsAt shape strides start index index (length shape) offset
+starts_at {shape} {strides} {start} {index} {offset} in' is =
+    let size = length-index shape index in' in
+    let all : take (length shape) index ≡ index = take_all (length shape) index (omega arith) in
+    let none : drop (length shape) index ≡ [] = drop_all (length shape) index (omega arith) in
+    let none' : drop (length shape) shape ≡ [] = drop_all (length shape) shape (omega arith) in
     record {
       within = omega arith;
-      index_is = rw all (sym (padded-all l.shape index in'));
+      index_is = rw all (sym (padded-all shape index in'));
       offset_is = rw all is;
       last = rw (none, none') refl;
     }
@@ -80,25 +80,30 @@ starts_at l index a offset whole in' is =
 pub record Turns (l : Layout) (old index : List ℕ) (j offset : ℕ) : Type 0 where
   pub in_shape : IsIndex l.shape old
   pub below : j < length l.shape
+  pub few : get_or l.shape j 0 ≤ max_items
   pub index_is : index ≡ padded l.shape (take (suc j) old)
   pub offset_is : pos offset ≡ pos l.offset +ℤ dot l.strides (take (suc j) old)
   pub last : rank (drop (suc j) l.shape) (drop (suc j) old) + 1 ≡ count (drop (suc j) l.shape)
 
-pub turns_at : (l : Layout) (old index : List ℕ) (a offset : ℕ) → IsIndex l.shape old → 0 < a → StandsAt l.shape l.strides l.offset old index a offset → Turns l old index (a - 1) offset
-turns_at l old index zero offset in' some at = absurd (omega arith)
-turns_at l old index (suc j) offset in' some at =
-    let before : suc j - 1 ≡ j = omega arith in
-    rw before (record { in_shape = in'; below = omega (arith, at.within); index_is = at.index_is; offset_is = at.offset_is; last = at.last })
+pub turns_at : {shape : List ℕ} {strides : List ℤ} {start : ℕ} {old index : List ℕ} {a offset : ℕ} (axes : AreAxes shape strides start) → IsIndex shape old → 0 < a → StandsAt shape strides start old index a offset → Turns (layout_of shape strides start axes) old index (a - 1) offset
+turns_at {shape} {strides} {start} {old} {index} {a} {offset} axes in' some at =
+    let next : a ≡ suc (a - 1) = omega (arith, some) in
+    let here = subst (λ k. StandsAt shape strides start old index k offset) next at in
+    let below : a - 1 < length shape = omega (arith, some, at.within) in
+    record { in_shape = in'; below = below; few = axes.small (a - 1) 0 below; index_is = here.index_is; offset_is = here.offset_is; last = here.last }
 
 -- what holds at axis j in any case
-pub number_is : (l : Layout) (old index : List ℕ) (j offset : ℕ) → Turns l old index j offset → get_or index j 0 ≡ get_or old j 0
-number_is l old index j offset t = ap (λ i. get_or i j 0) t.index_is ∙ get_or-padded_take l.shape old j t.in_shape t.below
+pub number_is : {l : Layout} {old index : List ℕ} {j offset : ℕ} → Turns l old index j offset → get_or index j 0 ≡ get_or old j 0
+number_is {l} {old} {index} {j} {offset} t = ap (λ i. get_or i j 0) t.index_is ∙ get_or-padded_take l.shape old j t.in_shape t.below
 
-pub length_is : (l : Layout) (old index : List ℕ) (j offset : ℕ) → Turns l old index j offset → length index ≡ length l.shape
-length_is l old index j offset t = ap length t.index_is ∙ length-padded l.shape (take (suc j) old)
+pub number_low : {l : Layout} {old index : List ℕ} {j offset : ℕ} → Turns l old index j offset → get_or index j 0 < max_items
+number_low {l} {old} {index} {j} {offset} t = omega (arith, number_is t, number-lt l.shape old j t.in_shape t.below, t.few)
 
-pub offset-lt : (l : Layout) (old index : List ℕ) (j offset : ℕ) → Turns l old index j offset → offset < max_bytes
-offset-lt l old index j offset t =
+pub length_is : {l : Layout} {old index : List ℕ} {j offset : ℕ} → Turns l old index j offset → length index ≡ length l.shape
+length_is {l} {old} {index} {j} {offset} t = ap length t.index_is ∙ length-padded l.shape (take (suc j) old)
+
+pub offset-lt : {l : Layout} {old index : List ℕ} {j offset : ℕ} → Turns l old index j offset → offset < max_bytes
+offset-lt {l} {old} {index} {j} {offset} t =
     sum_start offset max_bytes (pos l.offset +ℤ dot l.strides (take (suc j) old)) t.offset_is (part_high l old (suc j) t.in_shape)
 
 -- ---- one step on at axis j
@@ -110,8 +115,8 @@ stepped l old j = padded l.shape (take j old ++ (get_or old j 0 + 1) ∷ [])
 step_on : (off d d' d'' at s p q : ℤ) → at ≡ off +ℤ d' → d' ≡ d +ℤ p → d'' ≡ d +ℤ q → q ≡ p +ℤ s → at +ℤ s ≡ off +ℤ d''
 step_on off d d' d'' at s p q is one two more = omega (arith, ints)
 
-pub step-address : (l : Layout) (old index : List ℕ) (j offset : ℕ) → Turns l old index j offset → pos offset +ℤ get_or l.strides j (pos 0) *ℤ pos 1 ≡ address l (stepped l old j)
-step-address l old index j offset t =
+pub step-address : {l : Layout} {old index : List ℕ} {j offset : ℕ} → Turns l old index j offset → pos offset +ℤ get_or l.strides j (pos 0) *ℤ pos 1 ≡ address l (stepped l old j)
+step-address {l} {old} {index} {j} {offset} t =
     let k = get_or old j 0 in
     let s = get_or l.strides j (pos 0) in
     let size = length-index l.shape old t.in_shape in
@@ -122,62 +127,63 @@ step-address l old index j offset t =
     let new = dot-padded l.strides l.shape (take j old ++ (k + 1) ∷ []) short ∙ dot-push l.strides (take j old) (k + 1) j front axis in
     step_on (pos l.offset) (dot l.strides (take j old)) (dot l.strides (take (suc j) old)) (dot l.strides (padded l.shape (take j old ++ (k + 1) ∷ []))) (pos offset) (s *ℤ pos 1) (s *ℤ pos k) (s *ℤ pos (k + 1)) t.offset_is (dot-take_more l.strides old j inside axis) new (*ℤ-more s k)
 
-pub IsIndex-stepped : (l : Layout) (old index : List ℕ) (j offset : ℕ) → Turns l old index j offset → get_or old j 0 + 1 < get_or l.shape j 0 → IsIndex l.shape (stepped l old j)
-IsIndex-stepped l old index j offset t below = IsIndex-padded_push l.shape old j (get_or old j 0 + 1) t.in_shape t.below below
+pub IsIndex-stepped : {l : Layout} {old index : List ℕ} {j offset : ℕ} → Turns l old index j offset → get_or index j 0 + 1 < get_or l.shape j 0 → IsIndex l.shape (stepped l old j)
+IsIndex-stepped {l} {old} {index} {j} {offset} t below = IsIndex-padded_push l.shape old j (get_or old j 0 + 1) t.in_shape t.below (omega (arith, number_is t, below))
 
-pub set-stepped : (l : Layout) (old index : List ℕ) (j offset : ℕ) → Turns l old index j offset → set index j (get_or old j 0 + 1) ≡ stepped l old j
-set-stepped l old index j offset t = ap (λ i. set i j (get_or old j 0 + 1)) t.index_is ∙ set-padded_take l.shape old j (get_or old j 0 + 1) t.in_shape t.below
+pub set-stepped : {l : Layout} {old index : List ℕ} {j offset : ℕ} → Turns l old index j offset → set index j (get_or old j 0 + 1) ≡ stepped l old j
+set-stepped {l} {old} {index} {j} {offset} t = ap (λ i. set i j (get_or old j 0 + 1)) t.index_is ∙ set-padded_take l.shape old j (get_or old j 0 + 1) t.in_shape t.below
 
-pub rank-next : (l : Layout) (old index : List ℕ) (j offset : ℕ) → Turns l old index j offset → rank l.shape (stepped l old j) ≡ rank l.shape old + 1
-rank-next l old index j offset t = rank-stepped l.shape old j t.in_shape t.below t.last
+pub rank-next : {l : Layout} {old index : List ℕ} {j offset : ℕ} → Turns l old index j offset → rank l.shape (stepped l old j) ≡ rank l.shape old + 1
+rank-next {l} {old} {index} {j} {offset} t = rank-stepped l.shape old j t.in_shape t.below t.last
 
 -- ---- back to 0 at axis j
 
 back_by : (off d d' at p : ℤ) → at ≡ off +ℤ d' → d' ≡ d +ℤ p → at -ℤ p ≡ off +ℤ d
 back_by off d d' at p is one = omega (arith, ints)
 
-pub back-address : (l : Layout) (old index : List ℕ) (j offset : ℕ) → Turns l old index j offset → pos offset -ℤ get_or l.strides j (pos 0) *ℤ pos (get_or old j 0) ≡ pos l.offset +ℤ dot l.strides (take j old)
-back-address l old index j offset t =
+pub back-address : {l : Layout} {old index : List ℕ} {j offset : ℕ} → Turns l old index j offset → pos offset -ℤ get_or l.strides j (pos 0) *ℤ pos (get_or old j 0) ≡ pos l.offset +ℤ dot l.strides (take j old)
+back-address {l} {old} {index} {j} {offset} t =
     let size = length-index l.shape old t.in_shape in
     let inside : j < length old = omega (arith, t.below) in
     let axis : j < length l.strides = omega (arith, t.below, l.one_stride_an_axis) in
     back_by (pos l.offset) (dot l.strides (take j old)) (dot l.strides (take (suc j) old)) (pos offset) (get_or l.strides j (pos 0) *ℤ pos (get_or old j 0)) t.offset_is (dot-take_more l.strides old j inside axis)
 
-pub step-bounds : (l : Layout) (old index : List ℕ) (j offset : ℕ) → Turns l old index j offset → get_or old j 0 + 1 < get_or l.shape j 0 → (pos 0 ≤ℤ (pos offset +ℤ get_or l.strides j (pos 0) *ℤ pos 1)) × ((pos offset +ℤ get_or l.strides j (pos 0) *ℤ pos 1) ≤ℤ pos max_bytes)
-step-bounds l old index j offset t below =
-    let in' = IsIndex-stepped l old index j offset t below in
-    sum_bounds (address l (stepped l old j)) (pos offset +ℤ get_or l.strides j (pos 0) *ℤ pos 1) max_bytes (step-address l old index j offset t) (l.within_limit.from_zero (stepped l old j) in') (l.within_limit.within (stepped l old j) in')
+pub step-bounds : {l : Layout} {old index : List ℕ} {j offset : ℕ} → Turns l old index j offset → get_or index j 0 + 1 < get_or l.shape j 0 → (pos 0 ≤ℤ (pos offset +ℤ get_or l.strides j (pos 0) *ℤ pos 1)) × ((pos offset +ℤ get_or l.strides j (pos 0) *ℤ pos 1) ≤ℤ pos max_bytes)
+step-bounds {l} {old} {index} {j} {offset} t below =
+    let in' = IsIndex-stepped t below in
+    sum_bounds (address l (stepped l old j)) (pos offset +ℤ get_or l.strides j (pos 0) *ℤ pos 1) max_bytes (step-address t) (l.within_limit.from_zero (stepped l old j) in') (l.within_limit.within (stepped l old j) in')
 
-pub back-bounds : (l : Layout) (old index : List ℕ) (j offset : ℕ) → Turns l old index j offset → (pos 0 ≤ℤ (pos offset -ℤ get_or l.strides j (pos 0) *ℤ pos (get_or old j 0))) × ((pos offset -ℤ get_or l.strides j (pos 0) *ℤ pos (get_or old j 0)) ≤ℤ pos max_bytes)
-back-bounds l old index j offset t =
-    sum_bounds (pos l.offset +ℤ dot l.strides (take j old)) (pos offset -ℤ get_or l.strides j (pos 0) *ℤ pos (get_or old j 0)) max_bytes (back-address l old index j offset t) (part_low l old j t.in_shape) (part_high l old j t.in_shape)
+pub back-bounds : {l : Layout} {old index : List ℕ} {j offset : ℕ} → Turns l old index j offset → (pos 0 ≤ℤ (pos offset -ℤ get_or l.strides j (pos 0) *ℤ pos (get_or old j 0))) × ((pos offset -ℤ get_or l.strides j (pos 0) *ℤ pos (get_or old j 0)) ≤ℤ pos max_bytes)
+back-bounds {l} {old} {index} {j} {offset} t =
+    sum_bounds (pos l.offset +ℤ dot l.strides (take j old)) (pos offset -ℤ get_or l.strides j (pos 0) *ℤ pos (get_or old j 0)) max_bytes (back-address t) (part_low l old j t.in_shape) (part_high l old j t.in_shape)
 
-pub set-back : (l : Layout) (old index : List ℕ) (j offset : ℕ) → Turns l old index j offset → set index j 0 ≡ padded l.shape (take j old)
-set-back l old index j offset t = ap (λ i. set i j 0) t.index_is ∙ set-padded_zero l.shape old j t.in_shape t.below
+pub set-back : {l : Layout} {old index : List ℕ} {j offset : ℕ} → Turns l old index j offset → set index j 0 ≡ padded l.shape (take j old)
+set-back {l} {old} {index} {j} {offset} t = ap (λ i. set i j 0) t.index_is ∙ set-padded_zero l.shape old j t.in_shape t.below
 
 -- the axis before is at its last number too
-pub stands_before : (l : Layout) (old index : List ℕ) (j offset back : ℕ) → Turns l old index j offset → get_or l.shape j 0 ≤ get_or index j 0 + 1 → pos back ≡ pos offset -ℤ get_or l.strides j (pos 0) *ℤ pos (get_or index j 0) → StandsAt l.shape l.strides l.offset old (set index j 0) j back
-stands_before l old index j offset back t top is =
-    let number = number_is l old index j offset t in
+pub stands_before : {l : Layout} {old index : List ℕ} {j offset back : ℕ} → Turns l old index j offset → get_or l.shape j 0 ≤ get_or index j 0 + 1 → pos back ≡ pos offset -ℤ get_or l.strides j (pos 0) *ℤ pos (get_or index j 0) → StandsAt l.shape l.strides l.offset old (set index j 0) j back
+stands_before {l} {old} {index} {j} {offset} {back} t top is =
+    let number = number_is t in
     record {
       within = omega (arith, t.below);
-      index_is = set-back l old index j offset t;
-      offset_is = is ∙ ap (λ k. pos offset -ℤ get_or l.strides j (pos 0) *ℤ pos k) number ∙ back-address l old index j offset t;
+      index_is = set-back t;
+      offset_is = is ∙ ap (λ k. pos offset -ℤ get_or l.strides j (pos 0) *ℤ pos k) number ∙ back-address t;
       last = last-more l.shape old j t.in_shape t.below (omega arith) t.last;
     }
 
-pub back-range : (l : Layout) (old index : List ℕ) (j offset : ℕ) → Turns l old index j offset → (pos 0 ≤ℤ (pos offset -ℤ get_or l.strides j (pos 0) *ℤ pos (get_or index j 0))) × ((pos offset -ℤ get_or l.strides j (pos 0) *ℤ pos (get_or index j 0)) ≤ℤ pos max_bytes)
-back-range l old index j offset t = rw (number_is l old index j offset t) (back-bounds l old index j offset t)
+pub back-range : {l : Layout} {old index : List ℕ} {j offset : ℕ} → Turns l old index j offset → (pos 0 ≤ℤ (pos offset -ℤ get_or l.strides j (pos 0) *ℤ pos (get_or index j 0))) × ((pos offset -ℤ get_or l.strides j (pos 0) *ℤ pos (get_or index j 0)) ≤ℤ pos max_bytes)
+back-range {l} {old} {index} {j} {offset} t = rw (number_is t) (back-bounds t)
 
 -- the index that is written is the next one
-pub set-next : (l : Layout) (old index : List ℕ) (j offset : ℕ) → Turns l old index j offset → set index j (get_or index j 0 + 1) ≡ stepped l old j
-set-next l old index j offset t = ap (λ k. set index j (k + 1)) (number_is l old index j offset t) ∙ set-stepped l old index j offset t
+pub set-next : {l : Layout} {old index : List ℕ} {j offset : ℕ} → Turns l old index j offset → set index j (get_or index j 0 + 1) ≡ stepped l old j
+set-next {l} {old} {index} {j} {offset} t = ap (λ k. set index j (k + 1)) (number_is t) ∙ set-stepped t
 
 -- no axis is left: the index is the first one again
-pub over : (l : Layout) (old index : List ℕ) (a offset : ℕ) → a ≤ 0 → IsIndex l.shape old → StandsAt l.shape l.strides l.offset old index a offset → IsIndex l.shape index × (rank l.shape old + 1 ≡ count l.shape) × (pos l.offset ≡ address l index)
-over l old index zero offset none in' at =
-    (rw at.index_is (IsIndex-zeros l.shape old in'), at.last, sym (ap (λ z. pos l.offset +ℤ z) (ap (dot l.strides) at.index_is ∙ dot-zeros l.strides l.shape) ∙ +ℤ_idr (pos l.offset)))
-over l old index (suc a) offset none in' at = absurd (omega arith)
+pub over : {shape : List ℕ} {strides : List ℤ} {start : ℕ} {old index : List ℕ} {a offset : ℕ} → a ≤ 0 → IsIndex shape old → StandsAt shape strides start old index a offset → IsIndex shape index × (rank shape old + 1 ≡ count shape) × (pos start ≡ address_at strides start index)
+over {shape} {strides} {start} {old} {index} {a} {offset} none in' at =
+    let first : a ≡ 0 = omega (arith, none) in
+    let here = subst (λ k. StandsAt shape strides start old index k offset) first at in
+    (rw here.index_is (IsIndex-zeros shape old in'), here.last, sym (ap (λ z. pos start +ℤ z) (ap (dot strides) here.index_is ∙ dot-zeros strides shape) ∙ +ℤ_idr (pos start)))
 
 -- ---- where the walk is over, or has not begun
 

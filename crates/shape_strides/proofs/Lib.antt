@@ -14,6 +14,7 @@ pub mod OrderLaws
 pub mod AddressOrderLaws
 pub mod JoinedLaws
 pub mod UniqueLaws
+pub mod RankLaws
 pub mod RunLaws
 pub mod StartLaws
 pub mod FrontLaws

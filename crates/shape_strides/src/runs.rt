@@ -1,5 +1,5 @@
 //! The items of a layout, run by run.
-ghost use Rattle.std.specs.Prelude.{◌≡◌, [], ◌∷◌, ◌+◌, ◌<◌, ◌≤◌, ℕ, ℤ, length, map, All};
+ghost use Rattle.std.specs.Prelude.{◌≡◌, ◌↔◌, [], ◌∷◌, ◌+◌, ◌<◌, ◌≤◌, ℕ, ℤ, length, All, IsTrue};
 ghost use Rattle.std.specs.List.{flat_map};
 ghost use Rattle.shape_strides.specs.Indexes.{count};
 ghost use Rattle.shape_strides.specs.Addresses.{LieWithin};
@@ -8,7 +8,7 @@ ghost use Rattle.shape_strides.specs.Layouts.{offsets, Fits};
 use crate::joined::StridedAxis;
 use crate::layout::Layout;
 use crate::single_run::last_run;
-use crate::walk::advance;
+use crate::walk::Walk;
 use std::marker::Model;
 
 /// Items in C order, each of them one step after the one before it.
@@ -37,6 +37,13 @@ impl Run {
     {
         (self.offset as isize + self.step * steps as isize) as usize
     }
+
+    /// Whether items of `width` bytes lie one right after another.
+    pub fn is_packed(self, width: usize) -> bool
+        ensures { IsTrue result ↔ self.step ≡ pos width }
+    {
+        self.step as i128 == width as i128
+    }
 }
 
 /// The items of a layout in C order, seen as the list of the runs that are left. Each run covers
@@ -44,36 +51,26 @@ impl Run {
 /// of axes.
 #[derive(Drop)]
 pub struct Runs<'a> {
-    lengths: &'a [usize],
-    strides: &'a [isize],
-    start: usize,
-    index: [usize; 64],
-    offset: usize,
-    left: usize,
+    starts: Walk<'a>,
     along: StridedAxis,
 }
 
 impl<'a> Model for Runs<'a> {
-    ghost use Rattle.std.specs.Prelude.{List, map, ◌-◌, drop, take, length};
+    ghost use Rattle.std.specs.Prelude.{List, map};
     ghost use Rattle.shape_strides.specs.declared.runs.Run.{Run};
 
     ghost Value = { List Run };
 
-    ghost use Rattle.shape_strides.specs.Indexes.{count};
     ghost use Rattle.shape_strides.specs.Runs.{run_along};
-    ghost use Rattle.shape_strides.specs.Walks.{AreAxes, IsOnWalk, offsets_at};
 
-    ghost view = { λ r. map (run_along r.along) (drop (count r.lengths.now - r.left) (offsets_at r.lengths.now r.strides.now r.start)) };
-
-    ghost invariant = { λ r. AreAxes r.lengths.now r.strides.now r.start
-        × IsOnWalk r.lengths.now r.strides.now r.start (take (length r.lengths.now) r.index) r.offset r.left };
+    ghost view = { λ r. map (run_along r.along) r.starts };
 }
 
 impl<'a> Runs<'a> {
     ghost use Rattle.shape_strides.specs.declared.layout.Layout.{Layout};
     ghost use Rattle.shape_strides.specs.Limits.{max_axes, max_items};
-    ghost use Rattle.shape_strides.specs.Runs.{run_along, run_offsets, runs, GoesBy};
-    ghost use Rattle.shape_strides.specs.Walks.{AreAxes, offsets_at};
+    ghost use Rattle.shape_strides.specs.Runs.{run_offsets, runs, GoesBy};
+    ghost use Rattle.shape_strides.specs.Walks.{AreAxes};
 
     /// The runs of a layout.
     pub fn new(layout: &'a Layout) -> Runs<'a>
@@ -92,30 +89,6 @@ impl<'a> Runs<'a> {
         )
     }
 
-    /// A run along an axis from each offset that the axes lead to.
-    fn along(
-        lengths: &'a [usize],
-        strides: &'a [isize],
-        offset: usize,
-        items: usize,
-        along: StridedAxis,
-    ) -> Runs<'a>
-        requires axes { AreAxes lengths.now strides.now offset }
-        requires few { length lengths.now ≤ max_axes }
-        requires items { items ≡ count lengths.now }
-        ensures { result ≡ map (run_along along) (offsets_at lengths.now strides.now offset) }
-    {
-        Runs {
-            lengths,
-            strides,
-            start: offset,
-            index: [0; 64],
-            offset,
-            left: items,
-            along,
-        }
-    }
-
     /// The runs of the layout with these axes.
     pub(crate) fn over(
         lengths: &'a [usize],
@@ -130,17 +103,22 @@ impl<'a> Runs<'a> {
         ensures { (l : Layout) → l.shape ≡ lengths.now → l.strides ≡ strides.now → l.offset ≡ offset → result ≡ runs l }
     {
         if items == 0 {
-            let none = StridedAxis { len: 0, stride: 0 };
-            return Runs::along(lengths, strides, offset, 0, none);
+            return Runs {
+                starts: Walk::over(lengths, strides, offset, 0),
+                along: StridedAxis { len: 0, stride: 0 },
+            };
         }
         let last = last_run(lengths, strides);
-        Runs::along(
+        let starts = Walk::over(
             &lengths[..last.outside],
             &strides[..last.outside],
             offset,
             items / last.along.len,
-            last.along,
-        )
+        );
+        Runs {
+            starts,
+            along: last.along,
+        }
     }
 }
 
@@ -154,19 +132,7 @@ impl<'a> Iterator for Runs<'a> {
     ghost remaining = { item_count (λ left. left) };
 
     fn next(&mut self) -> Option<Run> {
-        if self.left == 0 {
-            return None;
-        }
-        let axes = self.lengths.len();
-        let offset = self.offset;
-        self.left -= 1;
-        self.offset = advance(
-            self.lengths,
-            self.strides,
-            self.start,
-            &mut self.index[..axes],
-            offset,
-        );
+        let offset = self.starts.next()?;
         Some(Run {
             offset,
             count: self.along.len,

@@ -1,61 +1,83 @@
 //! The offsets of a layout's items, one after the other in C order.
-ghost use Rattle.std.specs.Prelude.{◌≡◌, ℕ, ◌+◌, ◌<◌, ◌≤◌, pos, length, All, IfOk};
+ghost use Rattle.std.specs.Prelude.{◌≡◌, ℕ, ◌+◌, ◌<◌, ◌≤◌, pos, length, All};
+ghost use Rattle.shape_strides.specs.Limits.{max_axes};
 ghost use Rattle.shape_strides.specs.Indexes.{count, rank, IsIndex};
 ghost use Rattle.shape_strides.specs.Addresses.{address_at};
-ghost use Rattle.shape_strides.specs.Walks.{AreAxes};
+ghost use Rattle.shape_strides.specs.Walks.{AreAxes, offsets_at};
 
 use crate::layout::Layout;
 use crate::steps::{back, forward};
-use smallvec::SmallVec;
-use std::alloc::{AllocError, Global};
 use std::marker::Model;
 
-/// The offsets of a layout's items in C order, seen as the list of those that are left. A step
-/// takes no memory.
+/// The offsets of a layout's items in C order, seen as the list of those that are left. It takes no
+/// memory, whatever the number of axes.
 #[derive(Drop)]
 pub struct Walk<'a> {
-    layout: &'a Layout,
-    index: SmallVec<usize, 8>,
+    lengths: &'a [usize],
+    strides: &'a [isize],
+    start: usize,
+    index: [usize; 64],
     offset: usize,
     left: usize,
 }
 
 impl<'a> Model for Walk<'a> {
-    ghost use Rattle.std.specs.Prelude.{List, ℕ, ◌-◌, drop};
+    ghost use Rattle.std.specs.Prelude.{List, ℕ, ◌-◌, drop, take, length};
 
     ghost Value = { List ℕ };
 
     ghost use Rattle.shape_strides.specs.Indexes.{count};
-    ghost use Rattle.shape_strides.specs.Layouts.{offsets};
-    ghost use Rattle.shape_strides.specs.Walks.{IsOnWalk};
+    ghost use Rattle.shape_strides.specs.Walks.{AreAxes, IsOnWalk, offsets_at};
 
-    ghost view = { λ w. drop (count w.layout.now.shape - w.left) (offsets w.layout.now) };
+    ghost view = { λ w. drop (count w.lengths.now - w.left) (offsets_at w.lengths.now w.strides.now w.start) };
 
-    ghost invariant = { λ w. IsOnWalk w.layout.now.shape w.layout.now.strides w.layout.now.offset w.index.items w.offset w.left };
+    ghost invariant = { λ w. AreAxes w.lengths.now w.strides.now w.start
+        × IsOnWalk w.lengths.now w.strides.now w.start (take (length w.lengths.now) w.index) w.offset w.left };
 }
 
 impl<'a> Walk<'a> {
     ghost use Rattle.shape_strides.specs.Layouts.{offsets, Fits};
 
     /// A walk over all items of a layout.
-    pub fn new(alloc: Global, layout: &'a Layout) -> Result<Walk<'a>, AllocError>
-        ensures items { IfOk result (λ w. w ≡ offsets layout.now) }
+    pub fn new(layout: &'a Layout) -> Walk<'a>
+        ensures items { result ≡ offsets layout.now }
         ensures count { length (offsets layout.now) ≡ count layout.now.shape }
         ensures within { (len item : ℕ) → Fits layout.now len item → All (λ offset. offset + item ≤ len) (offsets layout.now) }
     {
-        let index = SmallVec::from_elem(alloc, 0, layout.shape.rank())?;
-        Ok(Walk {
-            layout,
-            index,
-            offset: layout.offset,
-            left: layout.shape.items(),
-        })
+        Walk::over(
+            layout.shape.as_slice(),
+            layout.strides.as_slice(),
+            layout.offset,
+            layout.shape.items(),
+        )
+    }
+
+    /// The offsets that axes lead to.
+    pub(crate) fn over(
+        lengths: &'a [usize],
+        strides: &'a [isize],
+        start: usize,
+        items: usize,
+    ) -> Walk<'a>
+        requires axes { AreAxes lengths.now strides.now start }
+        requires few { length lengths.now ≤ max_axes }
+        requires items { items ≡ count lengths.now }
+        ensures { result ≡ offsets_at lengths.now strides.now start }
+    {
+        Walk {
+            lengths,
+            strides,
+            start,
+            index: [0; 64],
+            offset: start,
+            left: items,
+        }
     }
 }
 
 /// Goes on to the next index in C order, and from the last one back to the first. The result is the
 /// offset there.
-pub(crate) fn advance(
+fn advance(
     lengths: &[usize],
     strides: &[isize],
     start: usize,
@@ -97,13 +119,14 @@ impl<'a> Iterator for Walk<'a> {
         if self.left == 0 {
             return None;
         }
+        let axes = self.lengths.len();
         let offset = self.offset;
         self.left -= 1;
         self.offset = advance(
-            self.layout.shape.as_slice(),
-            self.layout.strides.as_slice(),
-            self.layout.offset,
-            self.index.as_mut_slice(),
+            self.lengths,
+            self.strides,
+            self.start,
+            &mut self.index[..axes],
             offset,
         );
         Some(offset)

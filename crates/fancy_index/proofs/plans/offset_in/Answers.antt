@@ -29,8 +29,8 @@ place-in c =
     let at = c.spot_at-at.result in
     place_low c.args.inner.now.offset (offsets c.args.outer.now) c.args.shifts.now (offsets c.args.inner.now) c.args.rank at.place at.shift at.item c.requires.rank (spread c)
 
-pub offset_at-place-requires : goal.offset_at-place-requires
-offset_at-place-requires c = omega (arith, place-in c, length-offsets c.args.outer.now)
+pub at_rank-place-requires : goal.at_rank-place-requires
+at_rank-place-requires c = omega (arith, place-in c, length-offsets c.args.outer.now)
 
 pub moved-start-requires-clause-moved : goal.moved-start-requires-clause-moved
 moved-start-requires-clause-moved c =
@@ -38,7 +38,7 @@ moved-start-requires-clause-moved c =
     let at = c.spot_at-at.result in
     let base = c.args.inner.now.offset in
     let start = start_at base (offsets c.args.outer.now) c.args.shifts.now (offsets c.args.inner.now) at.place at.shift (place-in first) c.spot_at-at.ensures.shift c.requires.starts in
-    subst (λ p. IsMoved base p (get_or c.args.shifts.now at.shift 0)) (sym c.offset_at-place.ensures.entry) start.start
+    subst (λ p. IsMoved base p (get_or c.args.shifts.now at.shift 0)) (sym c.at_rank-place.ensures.entry) start.start
 
 pub moved-requires-clause-moved : goal.moved-requires-clause-moved
 moved-requires-clause-moved c =
@@ -46,14 +46,14 @@ moved-requires-clause-moved c =
     let at = c.spot_at-at.result in
     let base = c.args.inner.now.offset in
     let item = item_at base (offsets c.args.outer.now) c.args.shifts.now (offsets c.args.inner.now) at.place at.shift at.item (place-in first) c.spot_at-at.ensures.shift (omega (arith, c.spot_at-at.ensures.item, many first)) c.requires.starts in
-    let start = c.moved-start.ensures.value ∙ ap (λ p. moved_offset base p (get_or c.args.shifts.now at.shift 0)) c.offset_at-place.ensures.entry in
-    subst (λ s. IsMoved base s c.offset_at.result) (sym start) (subst (IsMoved base (moved_offset base (get_or (offsets c.args.outer.now) at.place 0) (get_or c.args.shifts.now at.shift 0))) (sym c.offset_at.ensures.entry) item)
+    let start = c.moved-start.ensures.value ∙ ap (λ p. moved_offset base p (get_or c.args.shifts.now at.shift 0)) c.at_rank-place.ensures.entry in
+    subst (λ s. IsMoved base s c.at_rank.result) (sym start) (subst (IsMoved base (moved_offset base (get_or (offsets c.args.outer.now) at.place 0) (get_or c.args.shifts.now at.shift 0))) (sym c.at_rank.ensures.entry) item)
 
 pub returns : goal.returns
 returns c =
     let first = (goal.at.returns c).After-spot_at-at in
     let at = c.spot_at-at.result in
     let base = c.args.inner.now.offset in
-    let start = c.moved-start.ensures.value ∙ ap (λ p. moved_offset base p (get_or c.args.shifts.now at.shift 0)) c.offset_at-place.ensures.entry in
-    c.moved.ensures.value ∙ (λ i. moved_offset base (start i) (c.offset_at.ensures.entry i))
+    let start = c.moved-start.ensures.value ∙ ap (λ p. moved_offset base p (get_or c.args.shifts.now at.shift 0)) c.at_rank-place.ensures.entry in
+    c.moved.ensures.value ∙ (λ i. moved_offset base (start i) (c.at_rank.ensures.entry i))
     ∙ sym (get_or-moved_all base (offsets c.args.outer.now) c.args.shifts.now (offsets c.args.inner.now) c.args.rank at.place at.shift at.item (place-in first) c.spot_at-at.ensures.shift (omega (arith, c.spot_at-at.ensures.item, many first)) (spread first))

@@ -1,10 +1,8 @@
-use Rattle.std.proofs.Common.{[], ◌∷◌, length, All, sym, ap, subst, ◌∙◌}
-use Rattle.std.proofs.lemmas.List.Elements.{All-weaker}
-use Rattle.raw_block.specs.Bytes.{EachWithin}
-use Rattle.shape_strides.specs.Addresses.{LieWithin}
+use Rattle.std.proofs.Common.{length, sym, ap, subst, ◌∙◌}
+use Rattle.shape_strides.specs.Limits.{max_bytes}
 use Rattle.shape_strides.specs.Layouts.{offsets}
-use Rattle.shape_strides.specs.RunPairs.{run_pairs}
-use Rattle.overlap_copy.specs.RunLaws.{lie-within}
+use Rattle.shape_strides.specs.LayoutLaws.{offsets_within}
+use Rattle.overlap_copy.specs.RunLaws.{walked-within}
 use Rattle.overlap_copy.specs.inside.Moves.{LieApart}
 use Rattle.overlap_copy.proofs.AssignLaws.{lie_apart}
 use Rattle.overlap_copy.proofs.RunCopies.{firsts, seconds}
@@ -12,19 +10,13 @@ use Rattle.overlap_copy.proofs.assignment.assign_apart.Goals as goal
 
 pub move_pairs-requires-clause-to : goal.move_pairs-requires-clause-to
 move_pairs-requires-clause-to c =
-    let width = c.args.width in
     let len = length c.args.block.now in
-    let pairs = run_pairs c.args.dst.now c.args.src.now in
-    subst (All (λ pair. EachWithin len pair.first.offset pair.first.step width pair.first.count)) (sym c.new.ensures.pairs)
-    (All-weaker (λ pair. LieWithin (pair.first.count ∷ []) (pair.first.step ∷ []) pair.first.offset len width) _ (λ pair. lie-within len width pair.first) pairs (c.new.ensures.first_lie len width c.requires.dst))
+    walked-within len c.args.width (λ pair. pair.first) _ _ _ c.new.ensures.pairs (c.new.ensures.first_lie max_bytes 1 c.args.dst.now.within_limit) c.new.ensures.first (offsets_within c.args.dst.now len c.args.width c.requires.dst)
 
 pub move_pairs-requires-clause-from : goal.move_pairs-requires-clause-from
 move_pairs-requires-clause-from c =
-    let width = c.args.width in
     let len = length c.args.block.now in
-    let pairs = run_pairs c.args.dst.now c.args.src.now in
-    subst (All (λ pair. EachWithin len pair.second.offset pair.second.step width pair.second.count)) (sym c.new.ensures.pairs)
-    (All-weaker (λ pair. LieWithin (pair.second.count ∷ []) (pair.second.step ∷ []) pair.second.offset len width) _ (λ pair. lie-within len width pair.second) pairs (c.new.ensures.second_lie len width c.requires.src))
+    walked-within len c.args.width (λ pair. pair.second) _ _ _ c.new.ensures.pairs (c.new.ensures.second_lie max_bytes 1 c.args.src.now.within_limit) c.new.ensures.second (offsets_within c.args.src.now len c.args.width c.requires.src)
 
 pub move_pairs-requires-clause-apart : goal.move_pairs-requires-clause-apart
 move_pairs-requires-clause-apart c =

@@ -1,22 +1,17 @@
-use Rattle.std.proofs.Common.{◌≡◌, ◌+◌, ◌≤◌, length, All, sym, subst, ap, ◌∙◌}
+use Rattle.std.proofs.Common.{◌≡◌, length, ap, ◌∙◌}
 use Rattle.std.specs.List.{flat_map}
+use Rattle.shape_strides.specs.Limits.{max_bytes}
 use Rattle.shape_strides.specs.Layouts.{offsets}
+use Rattle.shape_strides.specs.Runs.{run_offsets}
 use Rattle.overlap_copy.specs.Assignments.{assigned}
 use Rattle.overlap_copy.specs.inside.Packed.{row_offsets}
-use Rattle.raw_block.specs.Bytes.{EachWithin}
-use Rattle.shape_strides.specs.Limits.{max_bytes}
-use Rattle.shape_strides.specs.Runs.{run_offsets, runs}
-use Rattle.overlap_copy.specs.RunLaws.{runs-within}
-use Rattle.overlap_copy.proofs.packed.scatter.Goals as goal
 use Rattle.overlap_copy.specs.PackedLaws.{row-multiples}
+use Rattle.overlap_copy.specs.RunLaws.{walked-within}
+use Rattle.overlap_copy.proofs.packed.scatter.Goals as goal
 
 pub scatter_runs-requires-clause-to : goal.scatter_runs-requires-clause-to
 scatter_runs-requires-clause-to c =
-    let l = c.args.layout.now in
-    let len = length c.args.block.now in
-    let width = c.args.width in
-    let ends = subst (All (λ offset. offset + width ≤ len)) (sym c.new.ensures.offsets) c.requires.inside in
-    subst (All (λ run. EachWithin len run.offset run.step width run.count)) (sym c.new.ensures.runs) (runs-within len width (λ run. run) (runs l) (c.new.ensures.lie max_bytes 1 l.within_limit) ends)
+    walked-within (length c.args.block.now) c.args.width (λ run. run) _ _ _ c.new.ensures.runs (c.new.ensures.lie max_bytes 1 c.args.layout.now.within_limit) c.new.ensures.offsets c.requires.inside
 
 pub returns-clause-written : goal.returns-clause-written
 returns-clause-written c =

@@ -10,13 +10,13 @@ use Rattle.overlap_copy.proofs.run_copies.move_apart.Goals as goal
 pub move_within-requires-clause-dst : goal.move_within-requires-clause-dst
 move_within-requires-clause-dst c =
     let to = c.args.to in
-    whole_within (length c.args.block.now) to.offset c.args.width to.count to.step (omega arith) (c.is_packed.ensures c.if-is_packed.true) c.requires.to
+    whole_within (length c.args.block.now) to.offset c.args.width to.count to.step (omega arith) (c.is_packed.ensures.0 c.if-is_packed.true) c.requires.to
 
 pub move_within-requires-clause-src : goal.move_within-requires-clause-src
 move_within-requires-clause-src c =
     let from = c.args.from in
     let len = length c.args.block.now in
-    whole_within len from.offset c.args.width c.args.to.count from.step (omega arith) (c.is_packed-then-is_packed.ensures c.if-is_packed-2.true) (subst (EachWithin len from.offset from.step c.args.width) (sym c.requires.count) c.requires.from)
+    whole_within len from.offset c.args.width c.args.to.count from.step (omega arith) (c.is_packed-then-is_packed.ensures.0 c.if-is_packed-2.true) (subst (EachWithin len from.offset from.step c.args.width) (sym c.requires.count) c.requires.from)
 
 pub returns-then-is_packed-2-clause-written : goal.returns-then-is_packed-2-clause-written
 returns-then-is_packed-2-clause-written c =
@@ -24,8 +24,8 @@ returns-then-is_packed-2-clause-written c =
     let from = c.args.from in
     let old = c.args.block.now in
     let len = length old in
-    let is = c.is_packed.ensures c.if-is_packed.true in
-    let is' = c.is_packed-then-is_packed.ensures c.if-is_packed-2.true in
+    let is = c.is_packed.ensures.0 c.if-is_packed.true in
+    let is' = c.is_packed-then-is_packed.ensures.0 c.if-is_packed-2.true in
     let from_in = subst (EachWithin len from.offset from.step c.args.width) (sym c.requires.count) c.requires.from in
     assigned_from_moves to from c.args.width old c.move_within.new.self c.requires.count c.requires.to c.requires.from c.requires.nested
     (packed_moved to from c.args.width old c.move_within.new.self is (is' ∙ sym is)

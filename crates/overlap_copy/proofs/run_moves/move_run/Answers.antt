@@ -65,7 +65,7 @@ pub move_within-requires-clause-dst : goal.move_within-requires-clause-dst
 move_within-requires-clause-dst c =
     let to = c.args.to in
     let len = length c.args.block.now in
-    whole_within len to.offset c.args.width to.count to.step (omega (arith, c.requires.to.two)) (c.is_packed.ensures c.if-is_packed.true) (line_within len c.args.width to c.requires.to)
+    whole_within len to.offset c.args.width to.count to.step (omega (arith, c.requires.to.two)) (c.is_packed.ensures.0 c.if-is_packed.true) (line_within len c.args.width to c.requires.to)
 
 pub move_within-requires-clause-src : goal.move_within-requires-clause-src
 move_within-requires-clause-src c =
@@ -73,14 +73,14 @@ move_within-requires-clause-src c =
     let from = c.args.from in
     let len = length c.args.block.now in
     let within = subst (λ n. EachWithin len from.offset from.step c.args.width n) c.requires.count (line_within len c.args.width from c.requires.from) in
-    whole_within len from.offset c.args.width to.count from.step (omega (arith, c.requires.to.two)) (c.requires.step ∙ c.is_packed.ensures c.if-is_packed.true) within
+    whole_within len from.offset c.args.width to.count from.step (omega (arith, c.requires.to.two)) (c.requires.step ∙ c.is_packed.ensures.0 c.if-is_packed.true) within
 
 pub returns-then-is_packed-clause-moved : goal.returns-then-is_packed-clause-moved
 returns-then-is_packed-clause-moved c =
     let to = c.args.to in
     let from = c.args.from in
     let len = length c.args.block.now in
-    let is = c.is_packed.ensures c.if-is_packed.true in
+    let is = c.is_packed.ensures.0 c.if-is_packed.true in
     let within = subst (λ n. EachWithin len from.offset from.step c.args.width n) c.requires.count (line_within len c.args.width from c.requires.from) in
     packed_moved to from c.args.width c.args.block.now c.move_within.new.self is c.requires.step
     (whole_within len to.offset c.args.width to.count to.step (omega (arith, c.requires.to.two)) is (line_within len c.args.width to c.requires.to))
@@ -91,5 +91,5 @@ pub overflow_mul-to : goal.overflow_mul-to
 overflow_mul-to c =
     let to = c.args.to in
     let len = length c.args.block.now in
-    let all = whole_within len to.offset c.args.width to.count to.step (omega (arith, c.requires.to.two)) (c.is_packed.ensures c.if-is_packed.true) (line_within len c.args.width to c.requires.to) in
+    let all = whole_within len to.offset c.args.width to.count to.step (omega (arith, c.requires.to.two)) (c.is_packed.ensures.0 c.if-is_packed.true) (line_within len c.args.width to c.requires.to) in
     record { fits = omega (arith, all, c.len-len.ensures.len, c.len-len.ensures.small) }

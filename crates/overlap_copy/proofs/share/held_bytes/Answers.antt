@@ -18,6 +18,6 @@ returns-clause-value c = λ i inside.
     ap (λ l. get_or l i false) wide-is
     ∙ held-marks (offsets c.args.layout.now) c.args.width c.args.start c.args.len clear first wide c.requires.low
     (λ k. none-clear c.args.len k clear zeros)
-    (λ k below. c.mark_each.ensures.value k (omega (arith, below, all)) ∙ ap (λ os. get_or clear k false || list_any (nat_eq (c.args.start + k)) os) c.in_ok-offsets.ensures.items)
+    (λ k below. c.mark_each.ensures.value k (omega (arith, below, all)) ∙ ap (λ os. get_or clear k false || list_any (nat_eq (c.args.start + k)) os) c.new.ensures.items)
     (λ k below. rw now-is at c.widen.ensures.value k (omega (arith, below, all, ap length now-is, c.mark_each.ensures.len)))
     i inside

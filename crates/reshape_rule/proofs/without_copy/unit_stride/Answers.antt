@@ -13,10 +13,10 @@ overflow_cast-result-2 c =
 pub overflow_sub-result : goal.overflow_sub-result
 overflow_sub-result c =
     let low = first_low c.args.layout.now c.requires.some in
-    search (rules, arith, ints, low, c.in_ok-at.ensures.bound)
+    search (rules, arith, ints, low, c.at_rank.ensures.bound)
 
 pub returns : goal.returns
 returns c =
     let low = first_low c.args.layout.now c.requires.some in
-    let is : to_z w64 (of_z w64 (to_z w64 c.in_ok-at.at -ℤ to_z w64 c.args.layout.now.offset)) ≡ pos c.in_ok-at.at -ℤ pos c.args.layout.now.offset = omega (arith, ints, c.in_ok-at.ensures.bound) in
-    is ∙ stride-long c.args.len c.args.rank c.args.layout.now.offset c.in_ok-at.at (offsets c.args.layout.now) (omega arith) (entry-first c.args.layout.now c.requires.some) c.in_ok-at.ensures.entry
+    let is : to_z w64 (of_z w64 (to_z w64 c.at_rank.result -ℤ to_z w64 c.args.layout.now.offset)) ≡ pos c.at_rank.result -ℤ pos c.args.layout.now.offset = omega (arith, ints, c.at_rank.ensures.bound) in
+    is ∙ stride-long c.args.len c.args.rank c.args.layout.now.offset c.at_rank.result (offsets c.args.layout.now) (omega arith) (entry-first c.args.layout.now c.requires.some) c.at_rank.ensures.entry

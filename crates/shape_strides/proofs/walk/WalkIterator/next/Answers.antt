@@ -1,25 +1,22 @@
-use Rattle.std.proofs.Common.{◌≡◌, ◌-◌, [], length, drop, sym, ap, ◌∙◌, arith}
-use Rattle.std.proofs.lemmas.List.{drop_all}
-use Rattle.shape_strides.specs.Indexes.{count}
-use Rattle.shape_strides.specs.Layouts.{offsets}
-use Rattle.shape_strides.specs.LayoutLaws.{length-offsets}
-use Rattle.shape_strides.proofs.AdvanceLaws.{walk_step}
+use Rattle.std.proofs.Common.{length, take, sym, ap, ◌∙◌, arith}
+use Rattle.shape_strides.proofs.AdvanceLaws.{walk_step_at, walk_over_at}
 use Rattle.shape_strides.proofs.walk.WalkIterator.next.Goals as goal
 
 pub returns-then-self-eq0-clause-steps : goal.returns-then-self-eq0-clause-steps
 returns-then-self-eq0-clause-steps c =
-    let l = c.self.inside.layout.now in
-    let none : drop (count l.shape - c.self.inside.left) (offsets l) ≡ [] = drop_all (count l.shape - c.self.inside.left) (offsets l) (omega (arith, length-offsets l)) in
-    let over = sym c.self.view_is ∙ none in
+    let w = c.self.inside in
+    let over = sym c.self.view_is ∙ walk_over_at w.lengths.now w.strides.now w.start w.left (omega arith) in
     (over, over)
 
 pub returns-clause-steps : goal.returns-clause-steps
 returns-clause-steps c =
-    sym c.self.view_is ∙ walk_step c.self.inside.layout.now c.self.inside.index.items c.self.inside.offset c.self.inside.left c.self.invariant (omega arith)
+    let w = c.self.inside in
+    sym c.self.view_is ∙ walk_step_at w.lengths.now w.strides.now w.start (take (length w.lengths.now) w.index) w.offset w.left c.self.invariant.0 c.self.invariant.1 (omega arith)
 
 pub returns-clause-goes : goal.returns-clause-goes
 returns-clause-goes c =
-    let step = sym c.self.view_is ∙ walk_step c.self.inside.layout.now c.self.inside.index.items c.self.inside.offset c.self.inside.left c.self.invariant (omega arith) in
+    let w = c.self.inside in
+    let step = sym c.self.view_is ∙ walk_step_at w.lengths.now w.strides.now w.start (take (length w.lengths.now) w.index) w.offset w.left c.self.invariant.0 c.self.invariant.1 (omega arith) in
     record {
       on = λ _. (tt, tt, omega (arith, ap length step));
       keeps = tt;

@@ -1,5 +1,5 @@
-use Rattle.fancy_index.proofs.RankLaws.{IsFound}
-use Rattle.fancy_index.proofs.rank.index_at.Given as goal
+use Rattle.shape_strides.proofs.RankLaws.{IsFound}
+use Rattle.shape_strides.proofs.rank.index_at.Given as goal
 
 abbrev pub invariant-loop-axis : goal.invariant-loop-axis
 invariant-loop-axis l = IsFound l.lengths l.index l.at l.left l.axis

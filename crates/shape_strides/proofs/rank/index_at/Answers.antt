@@ -1,6 +1,6 @@
 use Rattle.std.proofs.Common.{◌≡◌, ◌+◌, ◌-◌, subst, arith}
-use Rattle.fancy_index.proofs.RankLaws.{IsFound, found_none, long_axis, found_more, found_all}
-use Rattle.fancy_index.proofs.rank.index_at.Goals as goal
+use Rattle.shape_strides.proofs.RankLaws.{IsFound, found_none, long_axis, found_more, found_all}
+use Rattle.shape_strides.proofs.rank.index_at.Goals as goal
 
 pub loop-axis-init : goal.loop-axis-init
 loop-axis-init c = found_none c.args.lengths.now c.args.index.now c.args.at c.requires.axes c.requires.rank
