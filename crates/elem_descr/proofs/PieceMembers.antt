@@ -1,6 +1,7 @@
 -- The member at the front of a text, by its pieces and by its bytes.
-use Rattle.std.proofs.Common.{◌≡◌, ◌≤◌, ◌+◌, inl, inr, ℕ, zero, suc, Bool, true, false, ◌&&◌, List, [], ◌∷◌, ◌++◌, take, drop, codes, Option, Some, None, Result, Ok, Err, cond, is_some, if◌then◌else◌, refl, sym, ap, subst, ◌∙◌, arith}
+use Rattle.std.proofs.Common.{◌≡◌, ◌≤◌, ◌+◌, inl, inr, ℕ, zero, suc, Bool, true, false, ◌&&◌, List, [], ◌∷◌, ◌++◌, take, drop, codes, Option, Some, None, Result, Ok, Err, cond, if◌then◌else◌, refl, sym, ap, subst, ◌∙◌, arith}
 use Rattle.std.specs.Prelude.{unwrap_or}
+use Rattle.std.specs.Option.{option_map}
 use Rattle.std.specs.Char.{is_ascii_digit}
 use Rattle.std.specs.List.{list_all, prefix_len}
 use Rattle.std.proofs.lemmas.Bool.{cases_eq, cases_Bool, and_parts}
@@ -12,11 +13,9 @@ use Rattle.elem_descr.specs.declared.scalar.Scalar.{Scalar}
 use Rattle.elem_descr.specs.declared.descr.Descr.{Descr}
 use Rattle.elem_descr.specs.declared.format_text.mark.Mark.{Mark}
 use Rattle.elem_descr.specs.declared.format_text.mark.Mark.TheVariants.{Aligned, Native, Little as LittleMark, Big as BigMark}
-use Rattle.elem_descr.specs.declared.format_text.member.Member.{Member}
-use Rattle.elem_descr.specs.declared.format_text.member.Member.TheVariants.{Value, Pad, Opened}
 use Rattle.elem_descr.specs.Refusals.{◌>>=◌}
 use Rattle.elem_descr.specs.TypeStrings.{is_one_of}
-use Rattle.elem_descr.specs.FormatLetters.{is_empty, mark_meant, number_letter, count_of, text_member, is_left_out, lettered}
+use Rattle.elem_descr.specs.FormatLetters.{Member, Value, Pad, Opened, is_empty, mark_meant, number_letter, number_member, count_of, text_member, is_left_out, other_member, lettered}
 use Rattle.elem_descr.specs.FormatPieces.{Behind, nothing, between_colons, lone_colon, Piece, letter, opening, is_colon, pieces}
 use Rattle.elem_descr.specs.FormatTexts.{PieceKind, member, part_of}
 use Rattle.elem_descr.specs.DescrTexts.{begins_with_digit}
@@ -105,8 +104,8 @@ front mark later (piece ∷ more) = part_of mark piece >>= λ part. later part m
 
 -- the same of a member that is read from a text
 abbrev pub met : Then → Member → List ℕ → Result Descr Refusal
-met later (Value value) rest = later (member (Value value) (behind rest).0) (pieces (behind rest).1)
-met later (Pad count) rest = later (member (Pad count) (behind rest).0) (pieces (behind rest).1)
+met later (Value scalar) rest = later (member (Value scalar) (behind rest).0) (pieces (behind rest).1)
+met later (Pad n) rest = later (member (Pad n) (behind rest).0) (pieces (behind rest).1)
 met later Opened rest = later (member Opened nothing) (pieces (drop 1 rest))
 
 abbrev pub meant : Then → Member × List ℕ → Result Descr Refusal
@@ -114,19 +113,33 @@ meant later m = met later m.0 m.1
 
 -- a letter is never the begin of a record
 lettered_met : (mark : Mark) (later : Then) (digits : List ℕ) (b : ℕ) (rest : List ℕ) → ((lettered mark digits b >>= λ it. Ok (member it (behind rest).0)) >>= λ part. later part (pieces (behind rest).1)) ≡ ((lettered mark digits b >>= λ it. Ok (it, rest)) >>= meant later)
-lettered_met mark later digits b rest = by_tests (is_some (number_letter mark b)) (is_empty digits) (is_one_of (codes "s") b) (is_one_of (codes "x") b) (is_left_out b) (number_letter mark b) (count_of digits)
+lettered_met mark later digits b rest = by_number (number_letter mark b)
   where
-    by_tests : (number single text pad out : Bool) (value : Option Scalar) (count : Option ℕ) →
-        (((if number then (if single then Ok (Value value) else Err DescriptorLeftOut) else if text then text_member count else if pad then Ok (Pad count) else if out then Err DescriptorLeftOut else Err BadDescriptor) >>= λ it. Ok (member it (behind rest).0)) >>= λ part. later part (pieces (behind rest).1))
-        ≡ (((if number then (if single then Ok (Value value) else Err DescriptorLeftOut) else if text then text_member count else if pad then Ok (Pad count) else if out then Err DescriptorLeftOut else Err BadDescriptor) >>= λ it. Ok (it, rest)) >>= meant later)
-    by_tests true true text pad out value count = refl
-    by_tests true false text pad out value count = refl
-    by_tests false single true pad out value None = refl
-    by_tests false single true pad out value (Some zero) = refl
-    by_tests false single true pad out value (Some (suc n)) = refl
-    by_tests false single false true out value count = refl
-    by_tests false single false false true value count = refl
-    by_tests false single false false false value count = refl
+    after_pieces : Result Member Refusal → Result Descr Refusal
+    after_pieces read = (read >>= λ it. Ok (member it (behind rest).0)) >>= λ part. later part (pieces (behind rest).1)
+
+    after_turns : Result Member Refusal → Result Descr Refusal
+    after_turns read = (read >>= λ it. Ok (it, rest)) >>= meant later
+
+    by_empty : (t : Bool) (scalar : Scalar) → after_pieces (if t then Ok (Value scalar) else Err DescriptorLeftOut) ≡ after_turns (if t then Ok (Value scalar) else Err DescriptorLeftOut)
+    by_empty true scalar = refl
+    by_empty false scalar = refl
+
+    by_count : (n : ℕ) → after_pieces (text_member n) ≡ after_turns (text_member n)
+    by_count zero = refl
+    by_count (suc n) = refl
+
+    by_tests : (text pad out : Bool) (n : ℕ) →
+        after_pieces (if text then text_member n else if pad then Ok (Pad n) else if out then Err DescriptorLeftOut else Err BadDescriptor)
+        ≡ after_turns (if text then text_member n else if pad then Ok (Pad n) else if out then Err DescriptorLeftOut else Err BadDescriptor)
+    by_tests true pad out n = by_count n
+    by_tests false true out n = refl
+    by_tests false false true n = refl
+    by_tests false false false n = refl
+
+    by_number : (number : Option Scalar) → after_pieces (unwrap_or (option_map (number_member digits) number) (other_member digits b)) ≡ after_turns (unwrap_or (option_map (number_member digits) number) (other_member digits b))
+    by_number (Some scalar) = by_empty (is_empty digits) scalar
+    by_number None = by_tests (is_one_of (codes "s") b) (is_one_of (codes "x") b) (is_left_out b) (count_of digits)
 
 -- ---- a member at the front
 

@@ -28,7 +28,7 @@ use Rattle.elem_descr.specs.Items.{item_size, leaves_of, leaves_from}
 use Rattle.elem_descr.specs.FormatLetters.{is_aligning, own_alignment, aligned_to}
 use Rattle.elem_descr.specs.RecordBuilding.{Partial, is_taken, widened, closed_size, closed_record}
 use Rattle.elem_descr.specs.FormatTexts.{format}
-use Rattle.elem_descr.specs.inside.Turns.{format_in_turns, member_at, Reader, is_named, marked, closing, scalar_in, pad_in, body_in, next_field, turn, members, record_within, nothing_follows, scalar_alone, record_alone, alone}
+use Rattle.elem_descr.specs.inside.Turns.{format_in_turns, member_at, held_at, Reader, is_named, marked, closing, scalar_in, pad_in, body_in, next_field, turn, members, record_within, nothing_follows, scalar_alone, record_alone, alone}
 use Rattle.elem_descr.specs.WrittenFormats.{written_mark, written_count, written_letter, written_scalar, written_pad, written_name, braced, written_fields, written_format}
 use Rattle.elem_descr.proofs.Binds.{after_ok}
 use Rattle.elem_descr.specs.DigitLaws.{digits-decimal}
@@ -325,7 +325,7 @@ reads_record s h =
 
 -- the descriptor after its marks
 abbrev unmarked_format : Mark × List ℕ → Result Descr Refusal
-unmarked_format m = member_at m.0 m.1 >>= λ member. alone m.0 member.0 member.1
+unmarked_format m = held_at (member_at m.0 m.1) >>= λ member. alone m.0 member.0 member.1
 
 reads_scalar_alone : (scalar : Scalar) → 1 ≤ size scalar → size scalar ≤ 65536 → format_in_turns (written_format (ScalarDescr scalar)) ≡ Ok (ScalarDescr scalar)
 unfolding scalar_alone nothing_follows

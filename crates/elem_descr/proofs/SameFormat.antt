@@ -1,5 +1,5 @@
 -- A text means the same by its pieces as it does where its members are read in turns.
-use Rattle.std.proofs.Common.{◌≡◌, ℕ, Bool, true, false, not, ◌&&◌, List, [], ◌∷◌, length, take, drop, codes, inl, inr, Option, Some, None, Result, Ok, Err, cond, is_some, if◌then◌else◌, refl, sym, ap, subst, ◌∙◌, arith}
+use Rattle.std.proofs.Common.{◌≡◌, ℕ, Bool, true, false, not, ◌&&◌, List, [], ◌∷◌, length, take, drop, inl, inr, Option, Some, None, Result, Ok, Err, cond, is_some, unwrap_or, nat_le, if◌then◌else◌, refl, sym, ap, subst, ◌∙◌, arith}
 use Rattle.std.specs.Prelude.{find}
 use Rattle.std.specs.Char.{is_ascii_digit}
 use Rattle.std.specs.List.{list_all, prefix_len}
@@ -13,15 +13,14 @@ use Rattle.elem_descr.specs.declared.descr.Descr.TheVariants.{Scalar as ScalarDe
 use Rattle.elem_descr.specs.declared.format_text.body.Body.{Body}
 use Rattle.elem_descr.specs.declared.format_text.mark.Mark.{Mark}
 use Rattle.elem_descr.specs.declared.format_text.mark.Mark.TheVariants.{Aligned}
-use Rattle.elem_descr.specs.declared.format_text.member.Member.{Member}
-use Rattle.elem_descr.specs.declared.format_text.member.Member.TheVariants.{Value, Pad, Opened}
 use Rattle.elem_descr.specs.Refusals.{◌>>=◌, check}
 use Rattle.elem_descr.specs.TypeStrings.{is_one_of}
-use Rattle.elem_descr.specs.FormatLetters.{is_empty, mark_meant, letters, number_letter, count_of, text_member, is_left_out, lettered}
+use Rattle.elem_descr.specs.Encoding.{size}
+use Rattle.elem_descr.specs.FormatLetters.{Member, Value, Pad, Opened, is_empty, mark_meant, letters, number_letter, number_member, other_member, lettered}
 use Rattle.elem_descr.specs.RecordBuilding.{empty}
 use Rattle.elem_descr.specs.FormatPieces.{Behind, nothing, between_colons, lone_colon, Piece, letter, is_colon, pieces}
 use Rattle.elem_descr.specs.FormatTexts.{part_of, unnamed, Reading, begun, complete, beyond, at_begin, closed_in, behind_member, step, read_on, format}
-use Rattle.elem_descr.specs.inside.Turns.{after, marked, is_named, is_opened, lettered_before, after_count, member_at, record_within, nothing_follows, scalar_alone, record_alone, alone, format_in_turns}
+use Rattle.elem_descr.specs.inside.Turns.{after, marked, is_named, is_opened, lettered_before, after_count, member_at, fitting, as_held, held_at, record_within, nothing_follows, scalar_alone, record_alone, alone, format_in_turns}
 use Rattle.elem_descr.proofs.Pieces.{name_end, behind_colon, behind, behind-colon, pieces-letter, some_piece}
 use Rattle.elem_descr.proofs.PieceMembers.{bind_bind, one_of_one, sign_cases, Then, front, met, meant, member_met}
 use Rattle.elem_descr.proofs.SameMembers.{marked_none, Unmarked, unmarked, sign_letter, marks_begun, marks_beyond, marks_read, behind_bare, unnamed_same, members_same}
@@ -56,16 +55,17 @@ abbrev left_out : {X : Type 0} → X → Result Descr Refusal
 left_out x = Err DescriptorLeftOut
 
 fault_same : (mark other : Mark) (digits : List ℕ) (b : ℕ) → (lettered mark digits b >>= left_out) ≡ (lettered other digits b >>= left_out)
-fault_same mark other digits b = by_tests (is_some (number_letter mark b)) (is_some (number_letter other b)) (numbers_same mark other b) (is_empty digits) (number_letter mark b) (number_letter other b)
+fault_same mark other digits b = by_numbers (number_letter mark b) (number_letter other b) (numbers_same mark other b)
   where
-    by_tests : (t u : Bool) → t ≡ u → (single : Bool) (value next : Option Scalar) →
-        ((if t then (if single then Ok (Value value) else Err DescriptorLeftOut) else if is_one_of (codes "s") b then text_member (count_of digits) else if is_one_of (codes "x") b then Ok (Pad (count_of digits)) else if is_left_out b then Err DescriptorLeftOut else Err BadDescriptor) >>= left_out)
-        ≡ ((if u then (if single then Ok (Value next) else Err DescriptorLeftOut) else if is_one_of (codes "s") b then text_member (count_of digits) else if is_one_of (codes "x") b then Ok (Pad (count_of digits)) else if is_left_out b then Err DescriptorLeftOut else Err BadDescriptor) >>= left_out)
-    by_tests true true e true value next = refl
-    by_tests true true e false value next = refl
-    by_tests true false e single value next = let never : ⊥ = cc in absurd never
-    by_tests false true e single value next = let never : ⊥ = cc in absurd never
-    by_tests false false e single value next = refl
+    by_empty : (t : Bool) (scalar next : Scalar) → ((if t then Ok (Value scalar) else Err DescriptorLeftOut) >>= left_out) ≡ ((if t then Ok (Value next) else Err DescriptorLeftOut) >>= left_out)
+    by_empty true scalar next = refl
+    by_empty false scalar next = refl
+
+    by_numbers : (x y : Option Scalar) → is_some x ≡ is_some y → (unwrap_or (option_map (number_member digits) x) (other_member digits b) >>= left_out) ≡ (unwrap_or (option_map (number_member digits) y) (other_member digits b) >>= left_out)
+    by_numbers (Some scalar) (Some next) e = by_empty (is_empty digits) scalar next
+    by_numbers (Some scalar) None e = let never : ⊥ = cc in absurd never
+    by_numbers None (Some next) e = let never : ⊥ = cc in absurd never
+    by_numbers None None e = refl
 
 count_same : (mark other : Mark) (digits tail : List ℕ) → (after_count mark digits tail >>= left_out) ≡ (after_count other digits tail >>= left_out)
 count_same mark other digits [] = refl
@@ -80,8 +80,8 @@ abbrev then_after : Reading → Then
 then_after now part more = behind_member now part >>= λ next. read_on next more
 
 left_met : (now : Reading) (it : Member) (rest : List ℕ) → met (then_after now) it rest ≡ Err DescriptorLeftOut
-left_met now (Value value) rest = refl
-left_met now (Pad count) rest = refl
+left_met now (Value scalar) rest = refl
+left_met now (Pad n) rest = refl
 left_met now Opened rest = refl
 
 -- a text that begins with no mark
@@ -144,11 +144,11 @@ ended_other b rest descr colon other = by_tests (is_one_of (32 ∷ []) b) (is_co
     none_of : {X : Type 0} → X → Result (Unit {0}) Refusal
     none_of x = Err DescriptorLeftOut
 
-    by_member : (r : Result (Member × List ℕ) Refusal) → ((r >>= λ x. none_of x) >>= only descr) ≡ (r >>= left_out)
+    by_member : (r : Result (Member × List ℕ) Refusal) → ((held_at r >>= λ x. none_of x) >>= only descr) ≡ (r >>= left_out)
     by_member (Ok m) = refl
     by_member (Err e) = refl
 
-    by_tests : (t u : Bool) → t ≡ false → u ≡ false → (all : Bool) (r : Result (Member × List ℕ) Refusal) → ((if t && all then Ok tt else (check (not u) DescriptorLeftOut >>= λ _. r >>= λ x. none_of x)) >>= only descr) ≡ (r >>= left_out)
+    by_tests : (t u : Bool) → t ≡ false → u ≡ false → (all : Bool) (r : Result (Member × List ℕ) Refusal) → ((if t && all then Ok tt else (check (not u) DescriptorLeftOut >>= λ _. held_at r >>= λ x. none_of x)) >>= only descr) ≡ (r >>= left_out)
     by_tests true u e f all r = let never : ⊥ = cc in absurd never
     by_tests false true e f all r = let never : ⊥ = cc in absurd never
     by_tests false false e f all r = by_member r
@@ -226,37 +226,41 @@ record_ends body rest =
     by_name true e = ap (λ t. check (not t) DescriptorLeftOut >>= λ _. read_on (complete (RecordDescr body.whole)) (pieces rest)) e ∙ ap (λ r. r >>= only (RecordDescr body.whole)) (sym (ended_named rest e))
     by_name false e = ap (λ t. check (not t) DescriptorLeftOut >>= λ _. read_on (complete (RecordDescr body.whole)) (pieces rest)) e ∙ ended_same (RecordDescr body.whole) rest e
 
-scalar_ends : (mark : Mark) (value : Option Scalar) (rest : List ℕ) → met (then_begin mark) (Value value) rest ≡ scalar_alone value rest
+scalar_ends : (mark : Mark) (scalar : Scalar) (rest : List ℕ) → met (then_begin mark) (Value scalar) rest ≡ scalar_alone (fitting scalar) rest
 unfolding scalar_alone
-scalar_ends mark value rest =
-    bind_bind (unnamed (behind rest).0) (λ _. ok_or value TooLarge >>= λ scalar. Ok (complete (ScalarDescr scalar))) (λ next. read_on next (pieces (behind rest).1))
-    ∙ sym (unnamed_same rest (λ r. (ok_or value TooLarge >>= λ scalar. Ok (complete (ScalarDescr scalar))) >>= λ next. read_on next (pieces r)))
-    ∙ by_name value (is_named rest) refl
+scalar_ends mark scalar rest =
+    bind_bind (unnamed (behind rest).0) (λ _. whole (nat_le (size scalar) 65536)) (λ next. read_on next (pieces (behind rest).1))
+    ∙ sym (unnamed_same rest (λ r. whole (nat_le (size scalar) 65536) >>= λ next. read_on next (pieces r)))
+    ∙ by_name (nat_le (size scalar) 65536) (is_named rest) refl
   where
-    by_name : (value : Option Scalar) (t : Bool) → is_named rest ≡ t → (check (not (is_named rest)) DescriptorLeftOut >>= λ _. (ok_or value TooLarge >>= λ scalar. Ok (complete (ScalarDescr scalar))) >>= λ next. read_on next (pieces rest)) ≡ (check (not (is_named rest)) DescriptorLeftOut >>= λ _. ok_or value TooLarge >>= λ scalar. nothing_follows rest >>= only (ScalarDescr scalar))
-    by_name None t e = refl
-    by_name (Some scalar) true e =
+    whole : Bool → Result Reading Refusal
+    whole small = check small TooLarge >>= λ _. Ok (complete (ScalarDescr scalar))
+
+    by_name : (small t : Bool) → is_named rest ≡ t → (check (not (is_named rest)) DescriptorLeftOut >>= λ _. whole small >>= λ next. read_on next (pieces rest)) ≡ (check (not (is_named rest)) DescriptorLeftOut >>= λ _. ok_or (if small then Some scalar else None) TooLarge >>= λ scalar. nothing_follows rest >>= only (ScalarDescr scalar))
+    by_name false t e = refl
+    by_name true true e =
         ap (λ t. check (not t) DescriptorLeftOut >>= λ _. read_on (complete (ScalarDescr scalar)) (pieces rest)) e
         ∙ sym (ap (λ t. check (not t) DescriptorLeftOut >>= λ _. nothing_follows rest >>= only (ScalarDescr scalar)) e)
-    by_name (Some scalar) false e = ap (λ r. check (not (is_named rest)) DescriptorLeftOut >>= λ _. r) (ended_same (ScalarDescr scalar) rest e)
+    by_name true false e = ap (λ r. check (not (is_named rest)) DescriptorLeftOut >>= λ _. r) (ended_same (ScalarDescr scalar) rest e)
 
-alone_same : (mark : Mark) (it : Member) (rest : List ℕ) → met (then_begin mark) it rest ≡ alone mark it rest
+alone_same : (mark : Mark) (it : Member) (rest : List ℕ) → met (then_begin mark) it rest ≡ alone mark (as_held it) rest
 unfolding record_alone record_within
-alone_same mark (Value value) rest = scalar_ends mark value rest
-alone_same mark (Pad count) rest = refl
+alone_same mark (Value scalar) rest = scalar_ends mark scalar rest
+alone_same mark (Pad n) rest = refl
 alone_same mark Opened rest =
     let inner = drop 1 rest in
     members_same (length inner) 3 (length inner) mark (empty 3 0) [] inner (λ body. nothing_follows body.1 >>= only (RecordDescr body.0.whole)) (omega arith) (omega arith) refl (λ body later l. record_ends body later)
 
-text_same : (mark : Mark) (text : List ℕ) → Unmarked mark text → read_on (begun mark) (pieces text) ≡ (member_at mark text >>= λ m. alone mark m.0 m.1)
+text_same : (mark : Mark) (text : List ℕ) → Unmarked mark text → read_on (begun mark) (pieces text) ≡ (held_at (member_at mark text) >>= λ m. alone mark m.0 m.1)
 text_same mark [] plain = refl
 text_same mark (b ∷ rest) plain =
     elim (cases_Bool (is_one_of (125 ∷ []) b)) [
-      | inl brac ↦ subst (λ c. read_on (begun mark) (pieces (c ∷ rest)) ≡ (member_at mark (c ∷ rest) >>= λ m. alone mark m.0 m.1)) (sym (one_of_one 125 b brac)) (ap (read_on (begun mark)) (pieces-letter 125 rest refl refl refl refl))
+      | inl brac ↦ subst (λ c. read_on (begun mark) (pieces (c ∷ rest)) ≡ (held_at (member_at mark (c ∷ rest)) >>= λ m. alone mark m.0 m.1)) (sym (one_of_one 125 b brac)) (ap (read_on (begun mark)) (pieces-letter 125 rest refl refl refl refl))
       | inr other ↦
           read_begun mark (pieces (b ∷ rest))
           ∙ member_met mark (then_begin mark) (b ∷ rest) (plain, other)
-          ∙ bind_same (member_at mark (b ∷ rest)) (meant (then_begin mark)) (λ m. alone mark m.0 m.1) (λ m is. alone_same mark m.0 m.1)
+          ∙ bind_same (member_at mark (b ∷ rest)) (meant (then_begin mark)) (λ m. alone mark (as_held m.0) m.1) (λ m is. alone_same mark m.0 m.1)
+          ∙ sym (bind_bind (member_at mark (b ∷ rest)) (λ m. Ok (as_held m.0, m.1)) (λ m. alone mark m.0 m.1))
     ]
 
 pub same_format : (text : List ℕ) → format text ≡ format_in_turns text

@@ -3,8 +3,9 @@ use Rattle.std.proofs.Common.{◌≡◌, ◌≤◌, ◌<◌, ◌+◌, ℕ, zero,
 use Rattle.std.specs.Prelude.{nat_le, decimal}
 use Rattle.std.specs.Char.{is_ascii_digit}
 use Rattle.std.specs.List.{prefix_len}
-use Rattle.std.specs.Option.{option_map, ok_or}
-use Rattle.std.proofs.lemmas.Bool.{cases_Bool}
+use Rattle.std.specs.Int.{next_multiple_of}
+use Rattle.std.specs.Option.{option_map}
+use Rattle.std.proofs.lemmas.Bool.{cases_Bool, leb-false, lt-leb}
 use Rattle.elem_descr.specs.declared.refusal.Refusal.{Refusal}
 use Rattle.elem_descr.specs.declared.refusal.Refusal.TheVariants.{BadDescriptor, DescriptorLeftOut, TooLarge}
 use Rattle.elem_descr.specs.declared.scalar.Scalar.{Scalar}
@@ -12,19 +13,19 @@ use Rattle.elem_descr.specs.declared.descr.Descr.{Descr}
 use Rattle.elem_descr.specs.declared.descr.Descr.TheVariants.{Scalar as ScalarDescr, Record as RecordDescr}
 use Rattle.elem_descr.specs.declared.format_text.body.Body.{Body}
 use Rattle.elem_descr.specs.declared.format_text.mark.Mark.{Mark}
-use Rattle.elem_descr.specs.declared.format_text.member.Member.{Member}
-use Rattle.elem_descr.specs.declared.format_text.member.Member.TheVariants.{Value, Pad, Opened}
 use Rattle.elem_descr.specs.Refusals.{◌>>=◌, check}
 use Rattle.elem_descr.specs.Items.{leaves_of}
 use Rattle.elem_descr.specs.Names.{is_legal_name}
 use Rattle.elem_descr.specs.TypeStrings.{is_one_of}
-use Rattle.elem_descr.specs.FormatLetters.{own_alignment, aligned_to}
+use Rattle.elem_descr.specs.Encoding.{size}
+use Rattle.elem_descr.specs.FormatLetters.{Member, Value, Pad, Opened, own_alignment, aligned_to}
 use Rattle.elem_descr.specs.RecordBuilding.{Partial, empty, if_small, with_field, checked_name, added, widened}
 use Rattle.elem_descr.specs.FormatPieces.{Behind, nothing, between_colons, lone_colon, Piece, letter, stray, is_colon, pieces}
 use Rattle.elem_descr.specs.FormatTexts.{closed_body, part_of, called, next_name, with_scalar, with_pad, with_record, opened, unnamed, Reading, begun, within, beyond, closed_in, in_record, step, read_on}
-use Rattle.elem_descr.specs.inside.Turns.{name_at, after, marked, is_named, is_opened, lettered_before, after_count, member_at, named, Later, scalar_in, pad_in, body_in, taken_in, next_field, closing, turn, members, record_within}
+use Rattle.elem_descr.specs.inside.Turns.{name_at, after, marked, is_named, is_opened, lettered_before, after_count, member_at, fitting, capped, as_held, named, Later, scalar_in, pad_in, body_in, taken_in, next_field, closing, turn, members, record_within}
 use Rattle.elem_descr.proofs.Pieces.{name_end, behind_colon, behind, name_at-ended, ended_name, pieces-colon, behind-colon, behind-other, pieces-letter}
 use Rattle.elem_descr.proofs.PieceMembers.{bind_bind, one_of_one, sign_cases, Then, front, met, meant, member_met}
+use Rattle.elem_descr.specs.BuildingLaws.{widened-capped}
 use Rattle.elem_descr.specs.RefusalLaws.{bind_same}
 
 bind_three : {X Y Z W : Type 0} (r : Result X Refusal) (f : X → Result Y Refusal) (g : Y → Result Z Refusal) (h : Z → Result W Refusal) → (r >>= λ x. (f x >>= g) >>= h) ≡ (((r >>= f) >>= g) >>= h)
@@ -221,16 +222,35 @@ with_name (Ok bytes) good made mark rest = by_good (good bytes)
     by_good (Err e) = refl
     by_good (Ok u) = refl
 
-scalar_same : (mark : Mark) (p : Partial) (value : Option Scalar) (rest : List ℕ) → scalar_in mark p value rest ≡ (with_scalar mark p value (behind rest).0 >>= further mark (behind rest).1)
+-- a scalar that is larger than any item makes a record too large
+added_large : (p : Partial) (bytes : List ℕ) (alignment : ℕ) (scalar : Scalar) → nat_le (size scalar) 65536 ≡ false → added p bytes alignment (ScalarDescr scalar) ≡ Err TooLarge
+unfolding added
+added_large p bytes alignment scalar large = by_leaves (nat_le (p.leaves + 1) 2048)
+  where
+    by_leaves : (t : Bool) → (check t TooLarge >>= λ _. if_small (with_field p bytes alignment (ScalarDescr scalar))) ≡ Err TooLarge
+    by_leaves false = refl
+    by_leaves true =
+        let over : nat_le (next_multiple_of p.size alignment + size scalar) 65536 ≡ false = lt-leb _ _ (omega (arith, leb-false (size scalar) 65536 large)) in
+        rw over refl
+
+scalar_same : (mark : Mark) (p : Partial) (scalar : Scalar) (rest : List ℕ) → scalar_in mark p (fitting scalar) rest ≡ (with_scalar mark p scalar (behind rest).0 >>= further mark (behind rest).1)
 unfolding scalar_in
-scalar_same mark p None rest =
-    let made : List ℕ → Result Partial Refusal = λ bytes. Err TooLarge in
-    ap (λ (r : Result (List ℕ × List ℕ) Refusal). r >>= λ n. checked_name p n.0 >>= λ _. made n.0 >>= further mark n.1) (named_called (length p.fields) rest)
-    ∙ with_name (called (length p.fields) (behind rest).0) (checked_name p) made mark (behind rest).1
-scalar_same mark p (Some scalar) rest =
-    let made : List ℕ → Result Partial Refusal = λ bytes. added p bytes (aligned_to mark (own_alignment scalar)) (ScalarDescr scalar) in
-    ap (λ (r : Result (List ℕ × List ℕ) Refusal). r >>= λ n. checked_name p n.0 >>= λ _. made n.0 >>= further mark n.1) (named_called (length p.fields) rest)
-    ∙ with_name (called (length p.fields) (behind rest).0) (checked_name p) made mark (behind rest).1
+scalar_same mark p scalar rest =
+    elim (cases_Bool (nat_le (size scalar) 65536)) [
+      | inl small ↦ let fits : fitting scalar ≡ Some scalar = rw small refl in ap (λ value. scalar_in mark p value rest) fits ∙ named_first field
+      | inr large ↦
+          let none : fitting scalar ≡ None = rw large refl in
+          let refused : (λ bytes. Err TooLarge) ≡ field = λ i bytes. sym (added_large p bytes (aligned_to mark (own_alignment scalar)) scalar large) i in
+          ap (λ value. scalar_in mark p value rest) none ∙ named_first (λ bytes. Err TooLarge) ∙ ap (λ made. (next_name p (behind rest).0 >>= made) >>= further mark (behind rest).1) refused
+    ]
+  where
+    field : List ℕ → Result Partial Refusal
+    field bytes = added p bytes (aligned_to mark (own_alignment scalar)) (ScalarDescr scalar)
+
+    named_first : (made : List ℕ → Result Partial Refusal) → (named (length p.fields) rest >>= λ n. checked_name p n.0 >>= λ _. made n.0 >>= further mark n.1) ≡ ((next_name p (behind rest).0 >>= made) >>= further mark (behind rest).1)
+    named_first made =
+        ap (λ (r : Result (List ℕ × List ℕ) Refusal). r >>= λ n. checked_name p n.0 >>= λ _. made n.0 >>= further mark n.1) (named_called (length p.fields) rest)
+        ∙ with_name (called (length p.fields) (behind rest).0) (checked_name p) made mark (behind rest).1
 
 body_same : (mark : Mark) (p : Partial) (body : Body) (rest : List ℕ) → body_in mark p body rest ≡ (with_record mark p body (behind rest).0 >>= further body.mark (behind rest).1)
 unfolding body_in
@@ -239,9 +259,9 @@ body_same mark p body rest =
     ap (λ (r : Result (List ℕ × List ℕ) Refusal). r >>= λ n. checked_name p n.0 >>= λ _. made n.0 >>= further body.mark n.1) (named_called (length p.fields) rest)
     ∙ with_name (called (length p.fields) (behind rest).0) (checked_name p) made body.mark (behind rest).1
 
-pad_same : (mark : Mark) (p : Partial) (count : Option ℕ) (rest : List ℕ) → pad_in mark p count rest ≡ (with_pad p count (behind rest).0 >>= further mark (behind rest).1)
+pad_same : (mark : Mark) (p : Partial) (n : ℕ) (rest : List ℕ) → pad_in mark p (capped n) rest ≡ (with_pad p n (behind rest).0 >>= further mark (behind rest).1)
 unfolding pad_in
-pad_same mark p count rest = by_wider (widened p count)
+pad_same mark p n rest = rw (widened-capped p n) (by_wider (widened p n))
   where
     by_name : (q : Partial) (behind : Behind) (rest : List ℕ) → (unnamed behind >>= λ _. further mark rest q) ≡ ((unnamed behind >>= λ _. Ok q) >>= further mark rest)
     by_name q behind rest = sym (bind_bind (unnamed behind) (λ _. Ok q) (further mark rest))
@@ -277,16 +297,15 @@ keeps_added : (p : Partial) (bytes : List ℕ) (alignment : ℕ) (descr : Descr)
 unfolding added
 keeps_added p bytes alignment descr = keeps_bind p (check (nat_le (p.leaves + length (leaves_of descr)) 2048) TooLarge) (λ _. if_small (with_field p bytes alignment descr)) (λ _. keeps_small p (with_field p bytes alignment descr) (nat_le (with_field p bytes alignment descr).size 65536) refl)
 
-keeps_scalar : (mark : Mark) (p : Partial) (value : Option Scalar) (behind : Behind) → Keeps p (with_scalar mark p value behind)
-keeps_scalar mark p value behind = keeps_bind p (next_name p behind) _ (λ bytes. keeps_bind p (ok_or value TooLarge) _ (λ scalar. keeps_added p bytes (aligned_to mark (own_alignment scalar)) (ScalarDescr scalar)))
+keeps_scalar : (mark : Mark) (p : Partial) (scalar : Scalar) (behind : Behind) → Keeps p (with_scalar mark p scalar behind)
+keeps_scalar mark p scalar behind = keeps_bind p (next_name p behind) _ (λ bytes. keeps_added p bytes (aligned_to mark (own_alignment scalar)) (ScalarDescr scalar))
 
 keeps_record : (mark : Mark) (p : Partial) (body : Body) (behind : Behind) → Keeps p (with_record mark p body behind)
 keeps_record mark p body behind = keeps_bind p (next_name p behind) _ (λ bytes. keeps_added p bytes (aligned_to mark body.alignment) (RecordDescr body.whole))
 
-keeps_pad : (p : Partial) (count : Option ℕ) (behind : Behind) → Keeps p (with_pad p count behind)
+keeps_pad : (p : Partial) (n : ℕ) (behind : Behind) → Keeps p (with_pad p n behind)
 unfolding widened
-keeps_pad p count behind =
-    by_wider (widened p count) (keeps_bind p (ok_or count TooLarge) (λ n. if_small (record p { size = p.size + n })) (λ n. keeps_small p (record p { size = p.size + n }) (nat_le (p.size + n) 65536) refl))
+keeps_pad p n behind = by_wider (widened p n) (keeps_small p (record p { size = p.size + n }) (nat_le (p.size + n) 65536) refl)
   where
     by_wider : (r : Result Partial Refusal) → Keeps p r → Keeps p (r >>= λ q. unnamed behind >>= λ _. Ok q)
     by_wider (Err e) keeps = keeps_err p e
@@ -331,10 +350,10 @@ opened_same n same (suc levels) turns around text ends few enough goes mark p in
     ∙ ap (λ r. (r >>= others (suc levels) turns) >>= ends) (sym (body_same mark p body rest)))
     ∙ bind_three read_members body_then (others (suc levels) turns) ends
 
-taken_same : (n : ℕ) → Same n → (levels turns : ℕ) (around : List (Mark × Partial)) (text : List ℕ) (ends : Ends) → length text ≤ suc n → length text ≤ suc turns → Goes around text ends → (mark : Mark) (p : Partial) (it : Member) (rest : List ℕ) → p.levels ≡ levels → length rest < length text → met (then_in mark p around) it rest ≡ ((taken_in (record_within levels) mark p it rest >>= others levels turns) >>= ends)
-taken_same n same levels turns around text ends few enough goes mark p (Value value) rest level less =
-    others_same n same levels turns around text ends few enough goes mark p rest level less (with_scalar mark p value (behind rest).0) (keeps_scalar mark p value (behind rest).0)
-    ∙ ap (λ r. (r >>= others levels turns) >>= ends) (sym (scalar_same mark p value rest))
+taken_same : (n : ℕ) → Same n → (levels turns : ℕ) (around : List (Mark × Partial)) (text : List ℕ) (ends : Ends) → length text ≤ suc n → length text ≤ suc turns → Goes around text ends → (mark : Mark) (p : Partial) (it : Member) (rest : List ℕ) → p.levels ≡ levels → length rest < length text → met (then_in mark p around) it rest ≡ ((taken_in (record_within levels) mark p (as_held it) rest >>= others levels turns) >>= ends)
+taken_same n same levels turns around text ends few enough goes mark p (Value scalar) rest level less =
+    others_same n same levels turns around text ends few enough goes mark p rest level less (with_scalar mark p scalar (behind rest).0) (keeps_scalar mark p scalar (behind rest).0)
+    ∙ ap (λ r. (r >>= others levels turns) >>= ends) (sym (scalar_same mark p scalar rest))
 taken_same n same levels turns around text ends few enough goes mark p (Pad count) rest level less =
     others_same n same levels turns around text ends few enough goes mark p rest level less (with_pad p count (behind rest).0) (keeps_pad p count (behind rest).0)
     ∙ ap (λ r. (r >>= others levels turns) >>= ends) (sym (pad_same mark p count rest))
@@ -377,10 +396,11 @@ turn_same n same levels turns around text ends few enough goes mark p (b ∷ res
           let open_yet : closing (b ∷ rest) ≡ None = rw other refl in
           read_front mark p around (pieces (b ∷ rest))
           ∙ member_met mark (then_in mark p around) (b ∷ rest) (plain, other)
-          ∙ bind_same (member_at mark (b ∷ rest)) (meant (then_in mark p around)) (λ m. (taken_in (record_within levels) mark p m.0 m.1 >>= others levels turns) >>= ends) (λ m is.
+          ∙ bind_same (member_at mark (b ∷ rest)) (meant (then_in mark p around)) (λ m. (taken_in (record_within levels) mark p (as_held m.0) m.1 >>= others levels turns) >>= ends) (λ m is.
           let shorter = member_shorter mark (b ∷ rest) m is in
           taken_same n same levels turns around text ends few enough goes mark p m.0 m.1 level (omega arith))
-          ∙ bind_three (member_at mark (b ∷ rest)) (λ m. taken_in (record_within levels) mark p m.0 m.1) (others levels turns) ends
+          ∙ bind_three (member_at mark (b ∷ rest)) (λ m. taken_in (record_within levels) mark p (as_held m.0) m.1) (others levels turns) ends
+          ∙ ap (λ r. (r >>= others levels turns) >>= ends) (sym (bind_bind (member_at mark (b ∷ rest)) (λ m. Ok (as_held m.0, m.1)) (λ m. taken_in (record_within levels) mark p m.0 m.1)))
           ∙ ap (λ found. turn (record_within levels) mark p found (b ∷ rest) (others levels turns) >>= ends) (sym open_yet)
     ]
   where

@@ -1,11 +1,17 @@
 -- The members of a record, one turn after the other.
-use Rattle.std.proofs.Common.{◌≡◌, ◌<◌, ◌+◌, ◌-◌, ℕ, suc, List, length, Option, Some, None, Ok, Err, refl, sym, ap, ◌∙◌, arith}
+use Rattle.std.proofs.Common.{◌≡◌, ◌≤◌, ◌<◌, ◌+◌, ◌-◌, ℕ, suc, List, [], ◌∷◌, length, get_or, take, drop, Option, Some, None, Result, Ok, Err, refl, sym, ap, ◌∙◌, arith}
+use Rattle.std.proofs.lemmas.List.{take_all}
+use Rattle.std.specs.Char.{is_ascii_digit}
+use Rattle.std.specs.List.{prefix_len}
+use Rattle.elem_descr.specs.declared.refusal.Refusal.{Refusal}
+use Rattle.elem_descr.specs.declared.format_text.member.Member.{Member as Held}
 use Rattle.elem_descr.specs.declared.format_text.mark.Mark.{Mark}
 use Rattle.elem_descr.specs.declared.refusal.Refusal.TheVariants.{DescriptorLeftOut}
 use Rattle.elem_descr.specs.Refusals.{◌>>=◌}
 use Rattle.elem_descr.specs.RecordBuilding.{Partial, empty}
+use Rattle.elem_descr.specs.FormatLetters.{Member}
 use Rattle.elem_descr.specs.FormatTexts.{closed_body}
-use Rattle.elem_descr.specs.inside.Turns.{Reader, marked, closing, next_field, turn, members, record_within}
+use Rattle.elem_descr.specs.inside.Turns.{lettered_before, after_count, member_at, held_member, held_at, Reader, marked, closing, next_field, turn, members, record_within}
 
 -- no record may lie here
 pub no_levels : (levels : ℕ) (mark : Mark) (leaves : ℕ) (text : List ℕ) → levels ≡ 0 → record_within levels mark leaves text ≡ Err DescriptorLeftOut
@@ -37,3 +43,22 @@ members_field levels n i mark later p text unread same l e no_brace =
     members_turn (record_within levels) n i mark later p text unread l e
     ∙ ap (λ (found : Option (List ℕ)). turn (record_within levels) later p found unread (λ next. members (record_within levels) (n - (i + 1)) next.1 next.0 next.2)) (sym no_brace)
     ∙ ap (λ (k : ℕ). next_field (record_within k) later p unread >>= λ next. members (record_within levels) (n - (i + 1)) next.1 next.0 next.2) (sym same)
+
+-- a member as it is held, from what is read of its count and its letter
+pub member_held : (mark : Mark) (text digits tail : List ℕ) (n d : ℕ) (read : Result Held Refusal) → n ≡ prefix_len is_ascii_digit text → digits ≡ take n text → tail ≡ drop n text → 1 ≤ length tail → read ≡ held_member (lettered_before mark digits (get_or tail 0 d) (take (length tail - 1) (drop 1 tail))) → held_at (member_at mark text) ≡ (read >>= λ member. Ok (member, take (length tail - 1) (drop 1 tail)))
+member_held mark text digits tail n d read count front back some is =
+    ap (λ (k : ℕ). held_at (after_count mark (take k text) (drop k text))) (sym count)
+    ∙ ap (λ (ds : List ℕ). held_at (after_count mark ds (drop n text))) (sym front)
+    ∙ ap (λ (l : List ℕ). held_at (after_count mark digits l)) (sym back)
+    ∙ by_letter tail some is
+  where
+    by_member : (found : Result Member Refusal) (rest : List ℕ) → held_at (found >>= λ member. Ok (member, rest)) ≡ (held_member found >>= λ member. Ok (member, rest))
+    by_member (Ok member) rest = refl
+    by_member (Err refusal) rest = refl
+
+    by_letter : (l : List ℕ) → 1 ≤ length l → read ≡ held_member (lettered_before mark digits (get_or l 0 d) (take (length l - 1) (drop 1 l))) → held_at (after_count mark digits l) ≡ (read >>= λ member. Ok (member, take (length l - 1) (drop 1 l)))
+    by_letter [] e is = absurd (omega (arith, e))
+    by_letter (b ∷ l) e is =
+        ap (λ (rest : List ℕ). held_at (lettered_before mark digits b rest >>= λ member. Ok (member, rest))) (sym (take_all (length (b ∷ l) - 1) l (omega arith)))
+        ∙ by_member (lettered_before mark digits b (take (length (b ∷ l) - 1) l)) (take (length (b ∷ l) - 1) l)
+        ∙ ap (λ (r : Result Held Refusal). r >>= λ member. Ok (member, take (length (b ∷ l) - 1) l)) (sym is)

@@ -1,26 +1,28 @@
 -- What is written of a member reads as the same member.
-use Rattle.std.proofs.Common.{◌≡◌, ◌≤◌, ◌<◌, ℕ, zero, suc, Bool, true, false, List, [], ◌∷◌, ◌++◌, length, Some, None, Ok, refl, ◌∙◌, not, arith, nat_le, ◌&&◌}
+use Rattle.std.proofs.Common.{◌≡◌, ◌≤◌, ◌<◌, ℕ, zero, suc, min, Bool, true, false, List, [], ◌∷◌, ◌++◌, length, Some, None, Ok, refl, ap, ◌∙◌, not, arith, nat_le, ◌&&◌}
 use Rattle.std.specs.Char.{is_ascii_digit}
 use Rattle.std.specs.Fmt.{decimal}
 use Rattle.std.specs.List.{list_all, prefix_len}
 use Rattle.std.proofs.lemmas.Bool.Decides.{nat_tests}
 use Rattle.std.proofs.lemmas.Fmt.{decimal_nonempty}
 use Rattle.std.proofs.Math.Seq.{take-append_seam, drop-append_seam}
-use Rattle.std.proofs.lemmas.Bool.{and_parts}
+use Rattle.std.proofs.lemmas.Bool.{le-leb, and_parts}
+use Rattle.std.proofs.Math.Nat.{min-eq_left}
 use Rattle.elem_descr.specs.declared.scalar.Order.TheVariants.{Little, Big}
 use Rattle.elem_descr.specs.declared.scalar.Width.TheVariants.{Two, Four, Eight}
 use Rattle.elem_descr.specs.declared.scalar.Scalar.{Scalar}
 use Rattle.elem_descr.specs.declared.scalar.Scalar.TheVariants.{Bool as BoolScalar, Byte, Int, Bytes}
 use Rattle.elem_descr.specs.declared.format_text.mark.Mark.{Mark}
 use Rattle.elem_descr.specs.declared.format_text.mark.Mark.TheVariants.{Little as LittleMark, Big as BigMark}
-use Rattle.elem_descr.specs.declared.format_text.member.Member.TheVariants.{Value, Pad}
+use Rattle.elem_descr.specs.declared.format_text.member.Member.TheVariants as held
 use Rattle.elem_descr.specs.Encoding.{size}
+use Rattle.elem_descr.specs.TypeStrings.{value_of}
 use Rattle.elem_descr.specs.Names.{is_legal_name, is_field_name_byte}
-use Rattle.elem_descr.specs.FormatLetters.{text_member}
+use Rattle.elem_descr.specs.FormatLetters.{Value, count_of, text_member}
 use Rattle.elem_descr.specs.FormatPieces.{is_colon}
-use Rattle.elem_descr.specs.inside.Turns.{after, marked, after_count, member_at, name_at, named}
+use Rattle.elem_descr.specs.inside.Turns.{after, marked, after_count, member_at, held_at, name_at, named}
 use Rattle.elem_descr.specs.WrittenFormats.{written_mark, written_count, written_letter}
-use Rattle.elem_descr.specs.DigitLaws.{digits-decimal, count_of-decimal}
+use Rattle.elem_descr.specs.DigitLaws.{digits-decimal, value_of-decimal}
 use Rattle.elem_descr.proofs.Fronts.{some_left}
 
 -- the front of a list that passes a test, before one that does not
@@ -65,17 +67,25 @@ after_letter mark (Int false Eight Big) rest some small = refl
 after_letter mark (Bytes n) rest some small =
     marked_digits LittleMark (decimal n) (115 ∷ rest) (digits-decimal n (omega arith)) (decimal_nonempty n (omega arith))
 
+-- digits count what they spell
+count_of-digits : (digits : List ℕ) → 1 ≤ length digits → count_of digits ≡ value_of digits
+count_of-digits [] some = absurd (omega arith)
+count_of-digits (d ∷ digits) some = refl
+
+count_of-decimal : (n : ℕ) → n ≤ 65536 → count_of (decimal n) ≡ n
+count_of-decimal n small = count_of-digits (decimal n) (decimal_nonempty n (omega arith)) ∙ value_of-decimal n (omega arith)
+
 -- a count and its letter
 count_and_letter : (mark : Mark) (n letter : ℕ) (rest : List ℕ) → n ≤ 65536 → is_ascii_digit letter ≡ false → member_at mark (decimal n ++ letter ∷ rest) ≡ after_count mark (decimal n) (letter ∷ rest)
 count_and_letter mark n letter rest small other =
     rw (prefix_len-passing is_ascii_digit (decimal n) letter rest (digits-decimal n (omega arith)) other, take-append_seam (decimal n) (letter ∷ rest), drop-append_seam (decimal n) (letter ∷ rest)) refl
 
-text_member-some : (n : ℕ) → 1 ≤ n → text_member (Some n) ≡ Ok (Value (Some (Bytes n)))
+text_member-some : (n : ℕ) → 1 ≤ n → text_member n ≡ Ok (Value (Bytes n))
 text_member-some zero some = absurd (omega arith)
 text_member-some (suc n) some = refl
 
 -- a member without its name
-pub reads_scalar : (scalar : Scalar) (rest : List ℕ) → 1 ≤ size scalar → size scalar ≤ 65536 → member_at (mark_of scalar) (written_count scalar ++ (written_letter scalar ++ rest)) ≡ Ok (Value (Some scalar), rest)
+pub reads_scalar : (scalar : Scalar) (rest : List ℕ) → 1 ≤ size scalar → size scalar ≤ 65536 → held_at (member_at (mark_of scalar) (written_count scalar ++ (written_letter scalar ++ rest))) ≡ Ok (held.Value (Some scalar), rest)
 unfolding mark_of
 reads_scalar BoolScalar rest some small = refl
 reads_scalar (Byte true) rest some small = refl
@@ -93,10 +103,12 @@ reads_scalar (Int false Four Big) rest some small = refl
 reads_scalar (Int false Eight Little) rest some small = refl
 reads_scalar (Int false Eight Big) rest some small = refl
 reads_scalar (Bytes n) rest some small =
-    count_and_letter LittleMark n 115 rest small refl ∙ rw (count_of-decimal n small, text_member-some n some) refl
+    ap held_at (count_and_letter LittleMark n 115 rest small refl) ∙ rw (count_of-decimal n small, text_member-some n some, le-leb n 65536 small) refl
 
-pub reads_pad : (mark : Mark) (n : ℕ) (rest : List ℕ) → n ≤ 65536 → member_at mark (decimal n ++ 120 ∷ rest) ≡ Ok (Pad (Some n), rest)
-reads_pad mark n rest small = count_and_letter mark n 120 rest small refl ∙ rw (count_of-decimal n small) refl
+pub reads_pad : (mark : Mark) (n : ℕ) (rest : List ℕ) → n ≤ 65536 → held_at (member_at mark (decimal n ++ 120 ∷ rest)) ≡ Ok (held.Pad n, rest)
+reads_pad mark n rest small =
+    let fits : min n 65537 ≡ n = min-eq_left (omega (arith, small)) in
+    ap held_at (count_and_letter mark n 120 rest small refl) ∙ rw (count_of-decimal n small, fits) refl
 
 -- a byte of a name is no colon
 colonless : (b : ℕ) → is_field_name_byte b ≡ true → not (is_colon b) ≡ true

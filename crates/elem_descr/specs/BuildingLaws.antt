@@ -1,15 +1,16 @@
 -- Records built of fields that nothing aligns.
-use Rattle.std.proofs.Common.{◌≡◌, ◌≤◌, ◌<◌, ◌+◌, ℕ, false, List, [], ◌∷◌, ◌++◌, length, map, Ok, refl, arith}
+use Rattle.std.proofs.Common.{◌≡◌, ◌≤◌, ◌<◌, ◌+◌, ℕ, min, false, List, [], ◌∷◌, ◌++◌, length, map, Ok, inl, inr, refl, ap, arith}
 use Rattle.std.specs.Int.{next_multiple_of}
 use Rattle.std.specs.List.{IsDistinct, AllByRecursion}
 use Rattle.std.specs.Str.{bytes_eq}
-use Rattle.std.proofs.lemmas.Bool.{le-leb, lt-ltb}
+use Rattle.std.proofs.lemmas.Bool.{cases_lt, le-leb, lt-leb, lt-ltb}
+use Rattle.std.proofs.Math.Nat.{min-eq_left, min-eq_right}
 use Rattle.elem_descr.specs.declared.descr.Field.{Field}
 use Rattle.elem_descr.specs.declared.descr.Descr.{Descr}
 use Rattle.elem_descr.specs.declared.descr.Descr.TheVariants.{Record as RecordDescr}
 use Rattle.elem_descr.specs.Fields.{Fields}
 use Rattle.elem_descr.specs.Items.{item_size, leaves_of}
-use Rattle.elem_descr.specs.RecordBuilding.{Partial, is_taken, checked_name, added}
+use Rattle.elem_descr.specs.RecordBuilding.{max_size, Partial, is_taken, checked_name, added, widened}
 
 abbrev pub packed : ℕ → ℕ → ℕ → List Field → Partial
 packed levels leaves bytes done = record { size = bytes; alignment = 1; leaves = leaves; levels = levels; fields = done }
@@ -49,3 +50,12 @@ not_taken (first ∷ done) later field h = rw (apart first.name done later field
 -- the record with these fields, so many bytes long
 abbrev pub record_type : ℕ → Fields → Descr
 record_type size fields = RecordDescr (record { size = size; fields = fields })
+
+-- a count of bytes that is capped is as much too large
+pub widened-capped : (p : Partial) (n : ℕ) → widened p (min n (max_size + 1)) ≡ widened p n
+unfolding widened
+widened-capped p n =
+    elim (cases_lt max_size n) [
+      | inl large ↦ let capped : min n (max_size + 1) ≡ max_size + 1 = min-eq_right (omega (arith, large)) in rw (capped, lt-leb (p.size + (max_size + 1)) max_size (omega arith), lt-leb (p.size + n) max_size (omega (arith, large))) refl
+      | inr small ↦ ap (widened p) (min-eq_left (omega (arith, small)))
+    ]

@@ -1,14 +1,12 @@
 -- The decimal digits of a number spell it.
-use Rattle.std.proofs.Common.{◌≡◌, ◌≤◌, ◌<◌, ◌-◌, ◌+◌, ◌*◌, ◌^◌, ◌&&◌, ℕ, List, [], ◌∷◌, length, Some, true, fold, refl, sym, ap, ◌∙◌, arith}
+use Rattle.std.proofs.Common.{◌≡◌, ◌<◌, ◌-◌, ◌+◌, ◌*◌, ◌^◌, ◌&&◌, ℕ, List, [], ◌∷◌, true, fold, refl, sym, ap, ◌∙◌}
 use Rattle.std.specs.Char.{is_ascii_digit}
 use Rattle.std.specs.Fmt.{decimal}
 use Rattle.std.specs.List.{list_all}
 use Rattle.std.specs.Str.{all_ascii_digits}
-use Rattle.std.proofs.lemmas.Bool.{le-leb}
-use Rattle.std.proofs.lemmas.Fmt.{decimal_nonempty, digits_decimal, digits_value-decimal}
+use Rattle.std.proofs.lemmas.Fmt.{digits_decimal, digits_value-decimal}
 use Rattle.std.proofs.lemmas.Str.Parse.{IsNumeralModel, numerals_by_fold, tells_all_ascii_digits}
 use Rattle.elem_descr.specs.TypeStrings.{value_of}
-use Rattle.elem_descr.specs.FormatLetters.{count_of}
 
 -- texts of digits, with their values, as std knows them
 abbrev read_on : ℕ → List ℕ → ℕ
@@ -28,11 +26,3 @@ digits-decimal n small = sym (all_digits (decimal n)) ∙ digits_decimal numeral
 -- the digits of a number spell it
 pub value_of-decimal : (n : ℕ) → n < 2 ^ 64 → value_of (decimal n) ≡ n
 value_of-decimal n small = digits_value-decimal numerals n small
-
-counted : (digits : List ℕ) (n : ℕ) → 1 ≤ length digits → value_of digits ≡ n → n ≤ 65536 → count_of digits ≡ Some n
-counted [] n some is small = absurd (omega arith)
-counted (d ∷ digits) n some is small = rw (is, le-leb n 65536 small) refl
-
--- and count as many bytes
-pub count_of-decimal : (n : ℕ) → n ≤ 65536 → count_of (decimal n) ≡ Some n
-count_of-decimal n small = counted (decimal n) n (decimal_nonempty n (omega arith)) (value_of-decimal n (omega arith)) small

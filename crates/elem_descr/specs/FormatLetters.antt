@@ -1,5 +1,5 @@
 -- Format texts of PEP 3118: the marks, the letters, and the members that they mean.
-use Rattle.std.specs.Prelude.{ℕ, zero, suc, Bool, true, false, List, [], ◌∷◌, length, codes, find, nat_eq, nat_le, if◌then◌else◌, Option, Some, None, is_some, Result, Ok, Err}
+use Rattle.std.specs.Prelude.{ℕ, zero, suc, Bool, true, false, List, [], ◌∷◌, length, codes, find, nat_eq, if◌then◌else◌, Option, unwrap_or, Result, Ok, Err}
 use Rattle.std.specs.Option.{option_map}
 use Rattle.elem_descr.specs.declared.refusal.Refusal.{Refusal}
 use Rattle.elem_descr.specs.declared.refusal.Refusal.TheVariants.{BadDescriptor, DescriptorLeftOut}
@@ -11,10 +11,7 @@ use Rattle.elem_descr.specs.declared.scalar.Scalar.{Scalar}
 use Rattle.elem_descr.specs.declared.scalar.Scalar.TheVariants.{Bool as BoolScalar, Byte, Int, Bytes}
 use Rattle.elem_descr.specs.declared.format_text.mark.Mark.{Mark}
 use Rattle.elem_descr.specs.declared.format_text.mark.Mark.TheVariants.{Aligned, Native, Little as LittleMark, Big as BigMark}
-use Rattle.elem_descr.specs.declared.format_text.member.Member.{Member}
-use Rattle.elem_descr.specs.declared.format_text.member.Member.TheVariants.{Value, Pad}
 use Rattle.elem_descr.specs.Encoding.{size}
-use Rattle.elem_descr.specs.RecordBuilding.{max_size}
 use Rattle.elem_descr.specs.TypeStrings.{is_one_of, value_of}
 
 -- nothing is left
@@ -72,26 +69,38 @@ own_alignment scalar = size scalar
 abbrev pub aligned_to : Mark → ℕ → ℕ
 aligned_to mark own = if is_aligning mark then own else 1
 
--- the count that digits spell: 1 where there are none, and none where no item has as many bytes
-abbrev pub count_of : List ℕ → Option ℕ
-count_of [] = Some 1
-count_of (d ∷ digits) = if nat_le (value_of (d ∷ digits)) max_size then Some (value_of (d ∷ digits)) else None
+-- a member without its name: a value, so many bytes of padding, or the begin of a record
+pub data Member : Type 0 where
+  Value : Scalar → Member
+  Pad : ℕ → Member
+  Opened : Member
+
+-- the count that digits spell: 1 where there are none
+abbrev pub count_of : List ℕ → ℕ
+count_of [] = 1
+count_of (d ∷ digits) = value_of (d ∷ digits)
+
+-- a number has no count
+abbrev pub number_member : List ℕ → Scalar → Result Member Refusal
+number_member digits scalar = if is_empty digits then Ok (Value scalar) else Err DescriptorLeftOut
 
 -- a byte string of so many bytes
-abbrev pub text_member : Option ℕ → Result Member Refusal
-text_member None = Ok (Value None)
-text_member (Some zero) = Err DescriptorLeftOut
-text_member (Some (suc n)) = Ok (Value (Some (Bytes (suc n))))
+abbrev pub text_member : ℕ → Result Member Refusal
+text_member zero = Err DescriptorLeftOut
+text_member (suc n) = Ok (Value (Bytes (suc n)))
 
 -- the letters that are left out
 abbrev pub is_left_out : ℕ → Bool
 is_left_out letter = is_one_of (codes "cnNPpefdgOZuwt&X(") letter
 
--- a member by its count and its letter
-abbrev pub lettered : Mark → List ℕ → ℕ → Result Member Refusal
-lettered mark digits b =
-    if is_some (number_letter mark b) then (if is_empty digits then Ok (Value (number_letter mark b)) else Err DescriptorLeftOut)
-    else if is_one_of (codes "s") b then text_member (count_of digits)
+-- a member that is no number
+abbrev pub other_member : List ℕ → ℕ → Result Member Refusal
+other_member digits b =
+    if is_one_of (codes "s") b then text_member (count_of digits)
     else if is_one_of (codes "x") b then Ok (Pad (count_of digits))
     else if is_left_out b then Err DescriptorLeftOut
     else Err BadDescriptor
+
+-- a member by its count and its letter
+abbrev pub lettered : Mark → List ℕ → ℕ → Result Member Refusal
+lettered mark digits b = unwrap_or (option_map (number_member digits) (number_letter mark b)) (other_member digits b)

@@ -1,6 +1,6 @@
 -- Format texts of PEP 3118: what a text means, or the first fault from the left.
-use Rattle.std.specs.Prelude.{ℕ, zero, suc, ◌&&◌, List, [], ◌∷◌, ◌++◌, length, codes, decimal, if◌then◌else◌, Option, Some, None, unwrap_or, Result, Ok, Err}
-use Rattle.std.specs.Option.{option_map, ok_or}
+use Rattle.std.specs.Prelude.{ℕ, zero, suc, ◌&&◌, List, [], ◌∷◌, ◌++◌, length, codes, decimal, nat_le, if◌then◌else◌, Option, Some, None, unwrap_or, Result, Ok, Err}
+use Rattle.std.specs.Option.{option_map}
 use Rattle.elem_descr.specs.declared.refusal.Refusal.{Refusal}
 use Rattle.elem_descr.specs.declared.refusal.Refusal.TheVariants.{BadDescriptor, DescriptorLeftOut, TooLarge}
 use Rattle.elem_descr.specs.declared.scalar.Scalar.{Scalar}
@@ -9,13 +9,12 @@ use Rattle.elem_descr.specs.declared.descr.Descr.TheVariants.{Scalar as ScalarDe
 use Rattle.elem_descr.specs.declared.format_text.body.Body.{Body}
 use Rattle.elem_descr.specs.declared.format_text.mark.Mark.{Mark}
 use Rattle.elem_descr.specs.declared.format_text.mark.Mark.TheVariants.{Aligned}
-use Rattle.elem_descr.specs.declared.format_text.member.Member.{Member}
-use Rattle.elem_descr.specs.declared.format_text.member.Member.TheVariants.{Value, Pad, Opened}
-use Rattle.elem_descr.specs.Refusals.{◌>>=◌}
+use Rattle.elem_descr.specs.Refusals.{◌>>=◌, check}
+use Rattle.elem_descr.specs.Encoding.{size}
 use Rattle.elem_descr.specs.Names.{is_legal_name}
 use Rattle.elem_descr.specs.TypeStrings.{is_one_of}
-use Rattle.elem_descr.specs.FormatLetters.{is_empty, mark_meant, is_aligning, own_alignment, aligned_to, lettered}
-use Rattle.elem_descr.specs.RecordBuilding.{max_depth, Partial, empty, checked_name, added, widened, closed_record}
+use Rattle.elem_descr.specs.FormatLetters.{Member, Value, Pad, Opened, is_empty, mark_meant, is_aligning, own_alignment, aligned_to, lettered}
+use Rattle.elem_descr.specs.RecordBuilding.{max_size, max_depth, Partial, empty, checked_name, added, widened, closed_record}
 use Rattle.elem_descr.specs.FormatPieces.{Behind, nothing, between_colons, lone_colon, Piece, letter, opening, brace, stray, pieces}
 
 -- what a piece is under the mark in force: a blank, a mark, a member, or the closing brace of a record
@@ -57,15 +56,14 @@ next_name p behind = do
   Ok bytes
 
 -- a record with a scalar, with padding, and with a record more
-abbrev pub with_scalar : Mark → Partial → Option Scalar → Behind → Result Partial Refusal
-with_scalar mark p value behind = do
+abbrev pub with_scalar : Mark → Partial → Scalar → Behind → Result Partial Refusal
+with_scalar mark p scalar behind = do
   bytes ← next_name p behind
-  scalar ← ok_or value TooLarge
   added p bytes (aligned_to mark (own_alignment scalar)) (ScalarDescr scalar)
 
-abbrev pub with_pad : Partial → Option ℕ → Behind → Result Partial Refusal
-with_pad p count behind = do
-  wider ← widened p count
+abbrev pub with_pad : Partial → ℕ → Behind → Result Partial Refusal
+with_pad p n behind = do
+  wider ← widened p n
   _ ← unnamed behind
   Ok wider
 
@@ -95,11 +93,11 @@ pub data Reading : Type 0 where
 abbrev pub at_begin : Mark → PieceKind → Result Reading Refusal
 at_begin mark blank = Ok (begun mark)
 at_begin mark (marking next) = Ok (begun next)
-at_begin mark (member (Value value) behind) = do
+at_begin mark (member (Value scalar) behind) = do
   _ ← unnamed behind
-  scalar ← ok_or value TooLarge
+  _ ← check (nat_le (size scalar) max_size) TooLarge
   Ok (complete (ScalarDescr scalar))
-at_begin mark (member (Pad count) behind) = Err DescriptorLeftOut
+at_begin mark (member (Pad n) behind) = Err DescriptorLeftOut
 at_begin mark (member Opened behind) = opened max_depth 0 >>= λ p. Ok (within mark p [])
 at_begin mark (closing_brace behind) = Err BadDescriptor
 
@@ -112,8 +110,8 @@ closed_in (outer ∷ around) body behind = with_record outer.0 outer.1 body behi
 abbrev pub in_record : Mark → Partial → List (Mark × Partial) → PieceKind → Result Reading Refusal
 in_record mark p around blank = Ok (within mark p around)
 in_record mark p around (marking next) = Ok (within next p around)
-in_record mark p around (member (Value value) behind) = with_scalar mark p value behind >>= λ next. Ok (within mark next around)
-in_record mark p around (member (Pad count) behind) = with_pad p count behind >>= λ next. Ok (within mark next around)
+in_record mark p around (member (Value scalar) behind) = with_scalar mark p scalar behind >>= λ next. Ok (within mark next around)
+in_record mark p around (member (Pad n) behind) = with_pad p n behind >>= λ next. Ok (within mark next around)
 in_record mark p around (member Opened behind) = opened p.levels p.leaves >>= λ inner. Ok (within mark inner ((mark, p) ∷ around))
 in_record mark p around (closing_brace behind) = closed_body mark p >>= λ body. closed_in around body behind
 

@@ -1,5 +1,5 @@
 -- Laws of lists and truth values, whatever these are of.
-use Rattle.std.proofs.Common.{◌≡◌, ℕ, ◌-◌, List, length, take, drop, arith, ◌+◌, [], ◌∷◌, ◌++◌, refl, ◌∙◌, ap, map, sym, Bool, true, false, ℤ, pos, get_or}
+use Rattle.std.proofs.Common.{◌≡◌, ℕ, ◌-◌, List, length, take, drop, arith, [], ◌∷◌, ◌++◌, refl, ◌∙◌, ap, map, sym, Bool, true, false, ℤ, pos, get_or}
 use Rattle.std.proofs.lemmas.List.{length-drop, take_all, map-append}
 use Rattle.std.specs.List.{flat_map}
 use Rattle.std.proofs.lemmas.Grind.{flat_map-append}

@@ -1,8 +1,7 @@
 -- A record as far as it is built, field by field.
-use Rattle.std.specs.Prelude.{ℕ, ◌+◌, ◌≤◌, max, Bool, not, List, [], ◌∷◌, ◌++◌, length, nat_lt, nat_le, if◌then◌else◌, Option, Result, Ok, Err}
+use Rattle.std.specs.Prelude.{ℕ, ◌+◌, ◌≤◌, max, Bool, not, List, [], ◌∷◌, ◌++◌, length, nat_lt, nat_le, if◌then◌else◌, Result, Ok, Err}
 use Rattle.std.specs.Int.{next_multiple_of}
 use Rattle.std.specs.List.{list_any}
-use Rattle.std.specs.Option.{ok_or}
 use Rattle.std.specs.Str.{bytes_eq}
 use Rattle.elem_descr.specs.declared.refusal.Refusal.{Refusal}
 use Rattle.elem_descr.specs.declared.refusal.Refusal.TheVariants.{BadDescriptor, DescriptorLeftOut, TooLarge}
@@ -73,10 +72,8 @@ added p name alignment descr = do
   if_small (with_field p name alignment descr)
 
 -- so many bytes of padding are added
-unfoldable pub widened : Partial → Option ℕ → Result Partial Refusal
-widened p count = do
-  n ← ok_or count TooLarge
-  if_small (record p { size = p.size + n })
+unfoldable pub widened : Partial → ℕ → Result Partial Refusal
+widened p n = if_small (record p { size = p.size + n })
 
 -- a field that may lie in a record in which so many levels of records may
 abbrev pub IsShallow : ℕ → Descr → Type 0

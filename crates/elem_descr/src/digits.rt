@@ -1,9 +1,10 @@
 //! Decimal digits.
-ghost use Rattle.std.specs.Prelude.{◌≡◌, ◌≤◌, ◌+◌, ◌^◌, length, min, IfSome};
+ghost use Rattle.std.specs.Prelude.{◌≡◌, ◌≤◌, ◌+◌, ◌^◌, length, min};
 ghost use Rattle.std.specs.Char.{is_ascii_digit};
 ghost use Rattle.std.specs.List.{list_all, prefix_len};
 ghost use Rattle.elem_descr.specs.TypeStrings.{value_of};
 ghost use Rattle.elem_descr.specs.FormatLetters.{count_of};
+ghost use Rattle.elem_descr.specs.RecordBuilding.{max_size};
 
 use crate::scalar::MAX_ITEM_SIZE;
 
@@ -33,17 +34,13 @@ pub fn capped_value(digits: &[u8], most: usize) -> usize
     value
 }
 
-/// The count that digits spell: 1 where there are none, `None` where no item has as many bytes.
-pub fn count(digits: &[u8]) -> Option<usize>
-    ensures value { result ≡ count_of digits.now }
-    ensures within { IfSome result (λ n. n ≤ 65536) }
+/// The count of bytes that digits spell: 1 where there are none, and one past the greatest that an item
+/// may have where it is larger.
+pub fn count(digits: &[u8]) -> usize
+    ensures { result ≡ min (count_of digits.now) (max_size + 1) }
 {
     if digits.is_empty() {
-        return Some(1);
+        return 1;
     }
-    let value = capped_value(digits, MAX_ITEM_SIZE);
-    if value > MAX_ITEM_SIZE {
-        return None;
-    }
-    Some(value)
+    capped_value(digits, MAX_ITEM_SIZE)
 }

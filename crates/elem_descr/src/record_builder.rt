@@ -132,13 +132,10 @@ impl RecordBuilder {
 
     /// Adds padding. An item of more than 65,536 bytes is `TooLarge`.
     #[tactic(auto, unfolding(crate::specs::RecordBuilding::widened))]
-    pub fn pad(&mut self, count: Option<usize>) -> Result<(), Refusal>
+    pub fn pad(&mut self, count: usize) -> Result<(), Refusal>
         ensures answers { Answers (λ _. self.new) result (widened self.old count) }
         ensures levels { self.new.levels ≡ self.old.levels }
     {
-        let Some(count) = count else {
-            return Err(Refusal::TooLarge);
-        };
         if count > MAX_ITEM_SIZE - self.size {
             return Err(Refusal::TooLarge);
         }

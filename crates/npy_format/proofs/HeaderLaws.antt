@@ -1,15 +1,16 @@
 -- What the pairs of a header say, pair by pair.
-use Rattle.std.proofs.Common.{◌≡◌, ◌≢◌, ◌≤◌, ◌<◌, ◌+◌, ℕ, Bool, true, false, List, [], ◌∷◌, ◌++◌, length, Option, Some, None, Result, Ok, Err, refl, ap, sym, subst, ◌∙◌, arith, codes, append_assoc, length-append}
+use Rattle.std.proofs.Common.{◌≡◌, ◌≢◌, ◌≤◌, ◌<◌, ◌+◌, ℕ, Bool, true, false, List, [], ◌∷◌, ◌++◌, length, Option, Some, None, Result, Ok, Err, refl, ap, sym, subst, ◌∙◌, arith, codes, map, min, append_assoc, length-append}
 use Rattle.std.specs.Prelude.{MatchOption, MatchResult, if◌then◌else◌}
 use Rattle.std.specs.Option.{ok_or, is_some}
-use Rattle.std.proofs.lemmas.List.{append-nil}
-use Rattle.std.proofs.lemmas.Bool.{lt-leb}
+use Rattle.std.proofs.lemmas.List.{append-nil, length-map, map-append}
 use Rattle.elem_descr.specs.declared.refusal.Refusal.{Refusal}
 use Rattle.elem_descr.specs.declared.refusal.Refusal.TheVariants.{BadHeader, TooManyAxes}
 use Rattle.elem_descr.specs.declared.descr.Descr.{Descr}
 use Rattle.elem_descr.specs.Refusals.{◌>>=◌, Answers}
 use Rattle.elem_descr.specs.RefusalLaws.{bind_ok}
+use Rattle.shape_strides.specs.Limits.{max_items}
 use Rattle.shape_strides.specs.Shapes.{shape_of}
+use Rattle.shape_strides.specs.ShapeLaws.{shape_of-many, shape_of-capped}
 use Rattle.npy_format.specs.Tokens.{Token}
 use Rattle.npy_format.specs.Listed.{Literal, Pair, Row, all_listed_values}
 use Rattle.npy_format.specs.Values.{Round}
@@ -191,27 +192,37 @@ lengths_inside v values is = ap lengths_of is ∙ ap integers_of (literals_of_li
 
 -- ---- the shape
 
+-- the lengths so far, as they are held, before those of the rest
 pub record ShapeLeft (whole axes : List ℕ) (toks : List Token) : Type 0 where
   pub left : List ℕ
   pub stand : HasLengths toks left
-  pub same : whole ≡ axes ++ left
+  pub before : List ℕ
+  pub held : axes ≡ map (λ n. min n (max_items + 1)) before
+  pub same : whole ≡ before ++ left
 
 module _ (whole axes : List ℕ) (toks : List Token) (h : ShapeLeft whole axes toks) where
-  pub shape_ends : None ≡ integer_at toks → whole ≡ axes
-  shape_ends none = h.same ∙ ap (λ (l : List ℕ). axes ++ l) (lengths_end toks h.left h.stand none) ∙ append-nil axes
+  pub shape_ends : None ≡ integer_at toks → shape_of whole ≡ shape_of axes
+  shape_ends none =
+      let all : whole ≡ h.before = h.same ∙ ap (λ (l : List ℕ). h.before ++ l) (lengths_end toks h.left h.stand none) ∙ append-nil h.before in
+      ap shape_of all ∙ sym (ap shape_of h.held ∙ shape_of-capped (max_items + 1) h.before (omega arith))
 
   module _ (found : ℕ × List Token) (is : Some found ≡ integer_at toks) where
-    pub shape_next : ShapeLeft whole (axes ++ found.0 ∷ []) (behind_comma found.1)
+    pub shape_next : ShapeLeft whole (axes ++ min found.0 (max_items + 1) ∷ []) (behind_comma found.1)
     shape_next =
         let later = lengths_next toks h.left h.stand found is in
-        record { left = later.0; stand = later.2; same = h.same ∙ ap (λ (l : List ℕ). axes ++ l) later.1 ∙ sym (append_assoc axes (found.0 ∷ []) later.0) }
+        record {
+          left = later.0;
+          stand = later.2;
+          before = h.before ++ found.0 ∷ [];
+          held = ap (λ (l : List ℕ). l ++ min found.0 (max_items + 1) ∷ []) h.held ∙ sym (map-append (λ n. min n (max_items + 1)) h.before (found.0 ∷ []));
+          same = h.same ∙ ap (λ (l : List ℕ). h.before ++ l) later.1 ∙ sym (append_assoc h.before (found.0 ∷ []) later.0);
+        }
 
     pub shape_long : length axes ≡ 64 → shape_of whole ≡ Err TooManyAxes
-    unfolding shape_of
     shape_long many =
         let later = lengths_next toks h.left h.stand found is in
-        let long : 64 < length whole = omega (arith, many, ap (λ (l : List ℕ). length l) h.same, length-append axes h.left, ap (λ (l : List ℕ). length l) later.1) in
-        rw (lt-leb (length whole) 64 long) refl
+        let held : length h.before ≡ 64 = sym (length-map h.before (λ n. min n (max_items + 1))) ∙ ap (λ (l : List ℕ). length l) (sym h.held) ∙ many in
+        shape_of-many whole (omega (arith, held, ap (λ (l : List ℕ). length l) h.same, length-append h.before h.left, ap (λ (l : List ℕ). length l) later.1))
 
 -- ---- what a header says
 

@@ -1,5 +1,5 @@
 -- A record that is read of the entries that are written of it.
-use Rattle.std.proofs.Common.{◌≡◌, ℕ, zero, suc, ◌+◌, ◌-◌, ◌^◌, ◌<◌, ◌≤◌, true, false, List, [], ◌∷◌, ◌++◌, map, length, codes, decimal, Some, Result, Ok, refl, sym, ap, subst, ◌∙◌, arith, append_assoc, length-append, add-zero, nat_eq}
+use Rattle.std.proofs.Common.{◌≡◌, ℕ, zero, suc, ◌+◌, ◌-◌, ◌^◌, ◌<◌, ◌≤◌, true, false, List, [], ◌∷◌, ◌++◌, map, length, codes, decimal, Result, Ok, refl, sym, ap, subst, ◌∙◌, arith, append_assoc, length-append, add-zero, nat_eq}
 use Rattle.std.specs.List.{IsDistinct, list_all}
 use Rattle.std.specs.Str.{bytes_eq}
 use Rattle.std.proofs.lemmas.Bool.{le-leb, ne_eqb, true≢false, and_parts}
@@ -21,7 +21,7 @@ use Rattle.elem_descr.specs.ItemLaws.{length-leaves_from}
 use Rattle.elem_descr.specs.TypeStrings.{spelling}
 use Rattle.elem_descr.specs.RecordBuilding.{Partial, is_taken, widened, closed_record}
 use Rattle.elem_descr.specs.BuildingLaws.{packed, field_of, grown, name_ok, added_ok, names, not_taken}
-use Rattle.elem_descr.specs.DigitLaws.{digits-decimal, count_of-decimal}
+use Rattle.elem_descr.specs.DigitLaws.{digits-decimal, value_of-decimal}
 use Rattle.elem_descr.specs.SpellingLaws.{reads_spelling}
 use Rattle.npy_format.specs.Values.{Square, Text}
 use Rattle.npy_format.specs.Listed.{Literal, Plain, Row, all_listed_values}
@@ -55,11 +55,11 @@ reads_entry within levels leaves from done name type descr may reads =
     (after_ok _ _ _ reads ∙ after_ok _ _ _ (name_ok p name may.new may.few) ∙ added_ok levels leaves from done name 1 descr refl may.counted may.small)
 
 -- or a gap
-pad_text : (n : ℕ) → 1 ≤ n → n ≤ 65536 → pad_kind (86 ∷ decimal n) ≡ Ok (Some n)
+pad_text : (n : ℕ) → 1 ≤ n → n ≤ 65536 → pad_kind (86 ∷ decimal n) ≡ Ok n
 pad_text n some small =
     let big : n < 2 ^ 64 = omega (arith, small) in
     let long : nat_eq (length (decimal n)) 0 ≡ false = ne_eqb (length (decimal n)) 0 (λ same. omega (arith, same, decimal_nonempty n big)) in
-    rw (long, digits-decimal n big, count_of-decimal n small) refl
+    rw (long, digits-decimal n big, value_of-decimal n big) refl
 
 reads_gap : (within : Reader) (levels leaves from n : ℕ) (done : List Field) → 1 ≤ n → from + n ≤ 65536 → entry_in within (packed levels leaves from done) (entry_literal [] (Plain (Text (codes "|V" ++ decimal n)))) ≡ Ok (packed levels leaves (from + n) done)
 unfolding widened

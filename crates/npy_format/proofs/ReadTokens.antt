@@ -7,11 +7,10 @@ use Rattle.std.proofs.Math.Seq.{take-append_seam, drop-append_seam}
 use Rattle.std.proofs.lemmas.Bool.{ne_eqb, and_parts}
 use Rattle.std.proofs.lemmas.Bool.Decides.{nat_tests}
 use Rattle.std.proofs.lemmas.Fmt.{first_decimal, decimal_nonempty, decimal_digit}
-use Rattle.std.proofs.Math.Nat.{min-eq_left}
 use Rattle.elem_descr.specs.TypeStrings.{value_of}
 use Rattle.elem_descr.specs.DigitLaws.{digits-decimal, value_of-decimal}
 use Rattle.shape_strides.specs.Limits.{max_items}
-use Rattle.npy_format.specs.Tokens.{Token, Text, Integer, Symbol, Stray, is_space, is_quote, is_plain_byte, text_token, ended_text, capped, is_integer, behind_long, integer_token, word_token, token_from, unspaced_text, first_token, tokens_in}
+use Rattle.npy_format.specs.Tokens.{Token, Text, Integer, Symbol, Stray, is_space, is_quote, is_plain_byte, text_token, ended_text, is_integer, behind_long, integer_token, word_token, token_from, unspaced_text, first_token, tokens_in}
 
 -- the tokens of a text, in turns enough for its bytes
 abbrev pub Scans : List ℕ → List Token → Type 0
@@ -115,8 +114,8 @@ scan_number n b rest toks few stops short more =
         let small : n < 2 ^ 64 = omega (arith, few) in
         let k = prefix_all is_ascii_digit (decimal n) b rest (digits-decimal n small) stops in
         let text = decimal n ++ (b ∷ rest) in
-        let value : capped (value_of (decimal n)) ≡ n = ap capped (value_of-decimal n small) ∙ min-eq_left (omega (arith, few)) in
+        let value = value_of-decimal n small in
         let whole = (digits_of n small).whole in
-        ap (λ (m : ℕ). (if is_integer (take m text) then Integer (capped (value_of (take m text))) else Stray, behind_long (drop m text))) k
-        ∙ (λ i. (if is_integer (take-append_seam (decimal n) (b ∷ rest) i) then Integer (capped (value_of (take-append_seam (decimal n) (b ∷ rest) i))) else Stray, behind_long (drop-append_seam (decimal n) (b ∷ rest) i)))
+        ap (λ (m : ℕ). (if is_integer (take m text) then Integer (value_of (take m text)) else Stray, behind_long (drop m text))) k
+        ∙ (λ i. (if is_integer (take-append_seam (decimal n) (b ∷ rest) i) then Integer (value_of (take-append_seam (decimal n) (b ∷ rest) i)) else Stray, behind_long (drop-append_seam (decimal n) (b ∷ rest) i)))
         ∙ rw (whole, value, short) refl

@@ -1,5 +1,5 @@
 -- Element types in a header: a type string, or a list of the fields of a record.
-use Rattle.std.specs.Prelude.{ℕ, zero, suc, false, ◌&&◌, not, List, [], ◌∷◌, nat_eq, if◌then◌else◌, Option, Result, Ok, Err}
+use Rattle.std.specs.Prelude.{ℕ, zero, suc, false, ◌&&◌, not, List, [], ◌∷◌, nat_eq, if◌then◌else◌, Result, Ok, Err}
 use Rattle.std.specs.Char.{is_ascii_digit}
 use Rattle.std.specs.List.{list_all}
 use Rattle.elem_descr.specs.declared.refusal.Refusal.{Refusal}
@@ -9,17 +9,17 @@ use Rattle.elem_descr.specs.declared.descr.Descr.TheVariants.{Scalar as ScalarDe
 use Rattle.elem_descr.specs.Refusals.{◌>>=◌, check}
 use Rattle.elem_descr.specs.Fields.{Structure}
 use Rattle.elem_descr.specs.Names.{is_legal_name}
-use Rattle.elem_descr.specs.TypeStrings.{marked, typestr}
-use Rattle.elem_descr.specs.FormatLetters.{is_empty, count_of}
+use Rattle.elem_descr.specs.TypeStrings.{marked, value_of, typestr}
+use Rattle.elem_descr.specs.FormatLetters.{is_empty}
 use Rattle.elem_descr.specs.RecordBuilding.{Partial, max_depth, empty, checked_name, added, widened, closed_record}
 use Rattle.npy_format.specs.Values.{Round, Square, Text}
 use Rattle.npy_format.specs.Listed.{Literal, Plain, Row, value_literals}
 
--- the bytes of padding, unless no item has as many: V and digits
-abbrev pub pad_kind : List ℕ → Result (Option ℕ) Refusal
+-- the bytes of padding: V and digits
+abbrev pub pad_kind : List ℕ → Result ℕ Refusal
 pad_kind [] = Err DescriptorLeftOut
 pad_kind (b ∷ digits) =
-    if nat_eq b 86 && not (is_empty digits) && list_all is_ascii_digit digits then Ok (count_of digits)
+    if nat_eq b 86 && not (is_empty digits) && list_all is_ascii_digit digits then Ok (value_of digits)
     else Err DescriptorLeftOut
 
 -- under the name '': a mark or none, V and digits are so many bytes of padding

@@ -1,12 +1,11 @@
 -- The tokens of a header: those of Python, as far as its literals need them.
-use Rattle.std.specs.Prelude.{ℕ, zero, suc, ◌+◌, min, Bool, true, false, not, ◌&&◌, ◌||◌, List, [], ◌∷◌, length, take, drop, codes, nat_eq, nat_le, if◌then◌else◌}
+use Rattle.std.specs.Prelude.{ℕ, zero, suc, Bool, true, false, not, ◌&&◌, ◌||◌, List, [], ◌∷◌, length, take, drop, codes, nat_eq, nat_le, if◌then◌else◌}
 use Rattle.std.specs.Char.{is_ascii_digit, is_ascii_alphabetic}
 use Rattle.std.specs.List.{prefix_len}
 use Rattle.std.specs.Str.{bytes_eq}
 use Rattle.elem_descr.specs.TypeStrings.{value_of}
-use Rattle.shape_strides.specs.Limits.{max_items}
 
--- a token: the bytes of a string; an integer without sign, where those above the limit of an axis are all one more than that; a word; any byte that begins no other token; and what stands in no literal
+-- a token: the bytes of a string; an integer without sign; a word; any byte that begins no other token; and what stands in no literal
 pub data Token : Type 0 where
   Text : List ℕ → Token
   Integer : ℕ → Token
@@ -36,10 +35,6 @@ ended_text plain quote (b ∷ rest) = if nat_eq b quote then (Text plain, rest) 
 abbrev pub text_token : ℕ → List ℕ → Token × List ℕ
 text_token quote bytes = let n = prefix_len (is_plain_byte quote) bytes in ended_text (take n bytes) quote (drop n bytes)
 
--- the length of an axis; all above the greatest that there may be count as one above it
-abbrev pub capped : ℕ → ℕ
-capped n = min n (max_items + 1)
-
 -- 0, or digits that begin with no 0
 abbrev pub is_integer : List ℕ → Bool
 is_integer [] = false
@@ -54,7 +49,7 @@ behind_long (b ∷ rest) = if nat_eq b 76 then rest else b ∷ rest
 abbrev pub integer_token : List ℕ → Token × List ℕ
 integer_token bytes =
     let n = prefix_len is_ascii_digit bytes in
-    (if is_integer (take n bytes) then Integer (capped (value_of (take n bytes))) else Stray, behind_long (drop n bytes))
+    (if is_integer (take n bytes) then Integer (value_of (take n bytes)) else Stray, behind_long (drop n bytes))
 
 -- the words that are values
 abbrev pub word : List ℕ → Token

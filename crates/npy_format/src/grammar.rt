@@ -2,6 +2,7 @@
 ghost use Rattle.std.specs.Prelude.{◌≡◌, length, option_copied};
 ghost use Rattle.std.specs.Option.{option_map};
 ghost use Rattle.elem_descr.specs.Refusals.{Answers};
+ghost use Rattle.elem_descr.specs.TypeStrings.{value_of};
 ghost use Rattle.npy_format.specs.Tokens.{tokens};
 ghost use Rattle.npy_format.specs.Literals.{symbol_token_at, tuple_in, pair_in, bracketed, literal_in};
 ghost use Rattle.npy_format.specs.inside.Entries.{behind, behind_entries, behind_key, behind_comma, behind_entry};
@@ -36,13 +37,13 @@ pub fn string(text: &[u8]) -> Option<(&[u8], &[u8])>
     }
 }
 
-/// The integer that comes next, and what follows it.
-pub fn integer(text: &[u8]) -> Option<(usize, &[u8])>
-    ensures { option_map (λ found. (found.0, tokens found.1.now)) result ≡ integer_at (tokens text.now) }
+/// The digits of the integer that comes next, and what follows it.
+pub fn integer(text: &[u8]) -> Option<(&[u8], &[u8])>
+    ensures { option_map (λ found. (value_of found.0.now, tokens found.1.now)) result ≡ integer_at (tokens text.now) }
 {
     let (first, rest) = next_token(text)?;
     match first {
-        Token::Integer(number) => Some((number, rest)),
+        Token::Integer(digits) => Some((digits, rest)),
         _ => None,
     }
 }

@@ -11,8 +11,9 @@ ghost use Rattle.npy_format.specs.inside.Places.{Stands, HasPairs, HasLengths};
 use crate::grammar::{behind_key, behind_pair, behind_pairs, integer, skip_comma, string, symbol};
 use crate::record_list::descr;
 use crate::token::{Token, next_token};
+use elem_descr::digits::capped_value;
 use elem_descr::{Descr, Refusal};
-use shape_strides::{MAX_AXES, Shape};
+use shape_strides::{MAX_AXES, MAX_ITEMS, Shape};
 use std::alloc::Global;
 
 /// What a header says of the array in a file.
@@ -110,17 +111,18 @@ fn lengths(text: &[u8]) -> Result<&[u8], Refusal>
     Ok(inside)
 }
 
-/// The shape with these lengths. No more of them are held than a shape may have.
+/// The shape with these lengths. No more of them are held than a shape may have, and one past the limit where
+/// they are longer.
 fn shape(alloc: Global, lengths: &[u8]) -> Result<Shape, Refusal>
     ensures { (found : List ℕ) → HasLengths (tokens lengths.now) found → Gives (λ shape. shape) result (shape_of found) }
 {
     let mut axes = Vec::new(alloc);
     let mut rest = lengths;
-    while let Some((length, after)) = integer(rest) {
+    while let Some((digits, after)) = integer(rest) {
         if axes.len() == MAX_AXES {
             return Err(Refusal::TooManyAxes);
         }
-        axes.push(length)?;
+        axes.push(capped_value(digits, MAX_ITEMS))?;
         rest = skip_comma(after);
     }
     Shape::try_new(alloc, axes.as_slice())

@@ -1,6 +1,7 @@
 //! Element types in a header.
 ghost use Rattle.std.specs.Prelude.{◌≡◌, ◌≤◌, ℕ, List, IfOk, MatchOption, Some, None};
 ghost use Rattle.elem_descr.specs.Refusals.{Answers, Gives};
+ghost use Rattle.elem_descr.specs.TypeStrings.{value_of};
 ghost use Rattle.elem_descr.specs.RecordBuilding.{max_depth, max_leaves, IsShallow};
 ghost use Rattle.npy_format.specs.RecordLists.{pad_kind, scalar_in, type_in, field_in, entry_in, record_in, descr_in};
 ghost use Rattle.npy_format.specs.Listed.{Literal};
@@ -9,19 +10,19 @@ ghost use Rattle.npy_format.specs.inside.Scanned.{string_at, pad_at};
 ghost use Rattle.npy_format.specs.inside.Places.{Stands, HasValues, entry_parts};
 
 use crate::grammar::{behind_value, string, symbol};
-use elem_descr::digits::{are_digits, count};
+use elem_descr::digits::{are_digits, capped_value};
 use elem_descr::name::is_legal_name;
+use elem_descr::scalar::MAX_ITEM_SIZE;
 use elem_descr::typestr::marked;
 use elem_descr::{Descr, FieldName, MAX_DEPTH, Record, RecordBuilder, Refusal, typestr_read};
 use std::alloc::Global;
 
-/// The bytes of padding that a type string without its mark counts, `V` and digits, or `None` where no item
-/// has as many.
-fn pad_kind(kind: &[u8]) -> Result<Option<usize>, Refusal>
-    ensures { result ≡ pad_kind kind.now }
+/// The digits of the bytes of padding that a type string without its mark counts: `V` and digits.
+fn pad_digits(kind: &[u8]) -> Result<&[u8], Refusal>
+    ensures { Answers (λ digits. value_of digits.now) result (pad_kind kind.now) }
 {
     match kind {
-        [b'V', digits @ ..] if !digits.is_empty() && are_digits(digits) => Ok(count(digits)),
+        [b'V', digits @ ..] if !digits.is_empty() && are_digits(digits) => Ok(digits),
         _ => Err(Refusal::DescriptorLeftOut),
     }
 }
@@ -34,8 +35,8 @@ fn add_pad(builder: &mut RecordBuilder, kind: &[u8]) -> Result<(), Refusal>
     let Some((kind, _)) = string(kind) else {
         return Err(Refusal::DescriptorLeftOut);
     };
-    let count = pad_kind(marked(kind).1)?;
-    builder.pad(count)
+    let digits = pad_digits(marked(kind).1)?;
+    builder.pad(capped_value(digits, MAX_ITEM_SIZE))
 }
 
 /// The scalar that a type string means.

@@ -5,16 +5,15 @@ ghost use Rattle.std.specs.List.{prefix_len};
 ghost use Rattle.npy_format.specs.Tokens.{is_space, unspaced_text, is_quote, is_plain_byte, text_token, is_integer, behind_long, integer_token, word, word_token, token_from, tokens};
 ghost use Rattle.npy_format.specs.inside.Scanned.{token_of};
 
-use elem_descr::digits::{capped_value, digits_len};
-use shape_strides::MAX_ITEMS;
+use elem_descr::digits::digits_len;
 
 /// A token of Python.
 #[derive(Clone, Copy)]
 pub enum Token<'a> {
     /// The bytes of a string.
     Text(&'a [u8]),
-    /// An integer without sign; those above `MAX_ITEMS` are all one more than that.
-    Integer(usize),
+    /// The digits of an integer without sign.
+    Integer(&'a [u8]),
     Truth(bool),
     Nothing,
     /// Any byte that begins no other token.
@@ -134,10 +133,7 @@ fn integer_token(bytes: &[u8]) -> (Token<'_>, &[u8])
     if !is_integer(digits) {
         return (Token::Stray, behind_long(rest));
     }
-    (
-        Token::Integer(capped_value(digits, MAX_ITEMS)),
-        behind_long(rest),
-    )
+    (Token::Integer(digits), behind_long(rest))
 }
 
 /// The token that a text begins with, whose first byte is no space, and what follows the token.

@@ -1,7 +1,9 @@
 -- Which lengths are a shape, and which refusal is answered where they are none.
-use Rattle.std.proofs.Common.{◌≡◌, ℕ, ◌<◌, ◌≤◌, nat_le, true, false, List, length, Ok, Err, refl, All, [], ◌∷◌}
+use Rattle.std.proofs.Common.{◌≡◌, ℕ, ◌<◌, ◌≤◌, min, map, nat_le, true, false, List, length, Ok, Err, inl, inr, refl, ap, sym, ◌∙◌, arith, ◌-◌, All, [], ◌∷◌}
 use Rattle.std.specs.List.{list_all}
-use Rattle.std.proofs.lemmas.Bool.{lt-leb, le-leb}
+use Rattle.std.proofs.lemmas.Bool.{cases_lt, cases_Bool, lt-leb, le-leb, leb-true, leb-false, and_parts}
+use Rattle.std.proofs.lemmas.List.{length-map}
+use Rattle.std.proofs.Math.Nat.{min-eq_left}
 use Rattle.std.proofs.lemmas.List.Elements.{All-head, All-tail}
 use Rattle.elem_descr.specs.declared.refusal.Refusal.TheVariants.{TooManyAxes, TooLarge}
 use Rattle.elem_descr.specs.RefusalLaws.{same_answer, check_passed}
@@ -37,3 +39,33 @@ shape_read shape is = shape_of-ok shape is.axes (all shape is.lengths) is.items
     all : (lengths : List ℕ) → All (λ n. n ≤ max_items) lengths → list_all (λ n. nat_le n max_items) lengths ≡ true
     all [] few = refl
     all (n ∷ lengths) few = rw (le-leb n max_items (All-head (λ m. m ≤ max_items) n lengths few)) (all lengths (All-tail (λ m. m ≤ max_items) n lengths few))
+
+-- a length that is capped is as much too large
+fits-capped : (top n : ℕ) → max_items < top → nat_le (min n top) max_items ≡ nat_le n max_items
+fits-capped top n above = elim (cases_Bool (nat_le n max_items)) [
+  | inl low ↦ le-leb _ _ (omega (arith, above, leb-true n max_items low)) ∙ sym low
+  | inr high ↦ lt-leb _ _ (omega (arith, above, leb-false n max_items high)) ∙ sym high
+]
+
+all_fit-capped : (top : ℕ) (lengths : List ℕ) → max_items < top → list_all (λ n. nat_le n max_items) (map (λ n. min n top) lengths) ≡ list_all (λ n. nat_le n max_items) lengths
+all_fit-capped top [] above = refl
+all_fit-capped top (n ∷ lengths) above = rw (fits-capped top n above, all_fit-capped top lengths above) refl
+
+short-capped : (top : ℕ) (lengths : List ℕ) → max_items < top → list_all (λ n. nat_le n max_items) lengths ≡ true → map (λ n. min n top) lengths ≡ lengths
+short-capped top [] above low = refl
+short-capped top (n ∷ lengths) above low =
+    let both = and_parts (nat_le n max_items) (list_all (λ m. nat_le m max_items) lengths) low in
+    let first = leb-true n max_items both.0 in
+    ap (λ m. m ∷ map (λ n. min n top) lengths) (min-eq_left (omega (arith, above, first))) ∙ ap (λ rest. n ∷ rest) (short-capped top lengths above both.1)
+
+-- lengths mean the same shape, or are refused in the same way, where those above a number that none may be are that number
+pub shape_of-capped : (top : ℕ) (lengths : List ℕ) → max_items < top → shape_of (map (λ n. min n top) lengths) ≡ shape_of lengths
+shape_of-capped top lengths above =
+    let size : length (map (λ n. min n top) lengths) ≡ length lengths = length-map lengths (λ n. min n top) in
+    elim (cases_lt max_axes (length lengths)) [
+      | inl many ↦ shape_of-many (map (λ n. min n top) lengths) (omega (arith, size, many)) ∙ sym (shape_of-many lengths many)
+      | inr few ↦ elim (cases_Bool (list_all (λ n. nat_le n max_items) lengths)) [
+        | inl low ↦ ap shape_of (short-capped top lengths above low)
+        | inr high ↦ shape_of-long (map (λ n. min n top) lengths) (omega (arith, size, few)) (all_fit-capped top lengths above ∙ high) ∙ sym (shape_of-long lengths few high)
+      ]
+    ]

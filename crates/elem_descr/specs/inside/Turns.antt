@@ -1,5 +1,5 @@
 -- Format texts as they are read: one member after the other, each from the text that is left.
-use Rattle.std.specs.Prelude.{ℕ, zero, suc, Bool, false, ◌&&◌, not, List, [], ◌∷◌, ◌++◌, length, take, drop, codes, decimal, if◌then◌else◌, Option, Some, None, unwrap_or, Result, Ok, Err}
+use Rattle.std.specs.Prelude.{ℕ, zero, suc, ◌+◌, min, Bool, false, ◌&&◌, not, List, [], ◌∷◌, ◌++◌, length, take, drop, codes, decimal, nat_le, if◌then◌else◌, Option, Some, None, unwrap_or, Result, Ok, Err}
 use Rattle.std.specs.Char.{is_ascii_digit}
 use Rattle.std.specs.List.{list_all, prefix_len}
 use Rattle.std.specs.Option.{option_map, ok_or}
@@ -11,13 +11,14 @@ use Rattle.elem_descr.specs.declared.descr.Descr.TheVariants.{Scalar as ScalarDe
 use Rattle.elem_descr.specs.declared.format_text.body.Body.{Body}
 use Rattle.elem_descr.specs.declared.format_text.mark.Mark.{Mark}
 use Rattle.elem_descr.specs.declared.format_text.mark.Mark.TheVariants.{Aligned}
-use Rattle.elem_descr.specs.declared.format_text.member.Member.{Member}
-use Rattle.elem_descr.specs.declared.format_text.member.Member.TheVariants.{Value, Pad, Opened}
+use Rattle.elem_descr.specs.declared.format_text.member.Member.{Member as Held}
+use Rattle.elem_descr.specs.declared.format_text.member.Member.TheVariants as held
 use Rattle.elem_descr.specs.Refusals.{◌>>=◌, check}
+use Rattle.elem_descr.specs.Encoding.{size}
 use Rattle.elem_descr.specs.Names.{is_legal_name}
 use Rattle.elem_descr.specs.TypeStrings.{is_one_of}
-use Rattle.elem_descr.specs.FormatLetters.{is_empty, mark_meant, own_alignment, aligned_to, lettered}
-use Rattle.elem_descr.specs.RecordBuilding.{max_depth, Partial, empty, checked_name, added, widened}
+use Rattle.elem_descr.specs.FormatLetters.{Member, Value, Pad, Opened, is_empty, mark_meant, own_alignment, aligned_to, lettered}
+use Rattle.elem_descr.specs.RecordBuilding.{max_size, max_depth, Partial, empty, checked_name, added, widened}
 use Rattle.elem_descr.specs.FormatPieces.{is_colon}
 use Rattle.elem_descr.specs.FormatTexts.{closed_body}
 
@@ -55,6 +56,26 @@ after_count mark digits (letter ∷ rest) = do
 abbrev pub member_at : Mark → List ℕ → Result (Member × List ℕ) Refusal
 member_at mark text = let n = prefix_len is_ascii_digit text in after_count mark (take n text) (drop n text)
 
+-- a scalar that is no larger than items may be
+abbrev pub fitting : Scalar → Option Scalar
+fitting scalar = if nat_le (size scalar) max_size then Some scalar else None
+
+-- a count of bytes, where all above the greatest that an item may have are one more than that
+abbrev pub capped : ℕ → ℕ
+capped n = min n (max_size + 1)
+
+-- a member as it is held
+abbrev pub as_held : Member → Held
+as_held (Value scalar) = held.Value (fitting scalar)
+as_held (Pad n) = held.Pad (capped n)
+as_held Opened = held.Opened
+
+abbrev pub held_member : Result Member Refusal → Result Held Refusal
+held_member read = read >>= λ member. Ok (as_held member)
+
+abbrev pub held_at : Result (Member × List ℕ) Refusal → Result (Held × List ℕ) Refusal
+held_at read = read >>= λ member. Ok (as_held member.0, member.1)
+
 -- a name up to its colon, and what follows that
 abbrev pub name_at : List ℕ → Result (List ℕ × List ℕ) Refusal
 name_at text =
@@ -85,7 +106,7 @@ scalar_in mark p value rest = do
   more ← added p name.0 (aligned_to mark (own_alignment scalar)) (ScalarDescr scalar)
   Ok (more, mark, name.1)
 
-unfoldable pub pad_in : Mark → Partial → Option ℕ → List ℕ → Result Later Refusal
+unfoldable pub pad_in : Mark → Partial → ℕ → List ℕ → Result Later Refusal
 pad_in mark p count rest = do
   more ← widened p count
   _ ← check (not (is_named rest)) DescriptorLeftOut
@@ -98,15 +119,15 @@ body_in mark p body rest = do
   more ← added p name.0 (aligned_to mark body.alignment) (RecordDescr body.whole)
   Ok (more, body.mark, name.1)
 
-abbrev pub taken_in : Reader → Mark → Partial → Member → List ℕ → Result Later Refusal
-taken_in within mark p (Value value) rest = scalar_in mark p value rest
-taken_in within mark p (Pad count) rest = pad_in mark p count rest
-taken_in within mark p Opened rest = within mark p.leaves (drop 1 rest) >>= λ body. body_in mark p body.0 body.1
+abbrev pub taken_in : Reader → Mark → Partial → Held → List ℕ → Result Later Refusal
+taken_in within mark p (held.Value value) rest = scalar_in mark p value rest
+taken_in within mark p (held.Pad count) rest = pad_in mark p count rest
+taken_in within mark p held.Opened rest = within mark p.leaves (drop 1 rest) >>= λ body. body_in mark p body.0 body.1
 
 -- the next member of a record
 unfoldable pub next_field : Reader → Mark → Partial → List ℕ → Result Later Refusal
 next_field within mark p text = do
-  member ← member_at mark text
+  member ← held_at (member_at mark text)
   taken_in within mark p member.0 member.1
 
 -- what follows a closing brace
@@ -135,7 +156,7 @@ record_within (suc levels) mark leaves text =
 unfoldable pub nothing_follows : List ℕ → Result (Unit {0}) Refusal
 nothing_follows text = if list_all (is_one_of (codes " ")) text then Ok tt else do
   _ ← check (not (is_named text)) DescriptorLeftOut
-  _ ← (let m = marked Aligned text in member_at m.0 m.1)
+  _ ← (let m = marked Aligned text in held_at (member_at m.0 m.1))
   Err DescriptorLeftOut
 
 -- a member alone is a scalar or a record
@@ -152,13 +173,13 @@ record_alone mark text = do
   _ ← nothing_follows body.1
   Ok (RecordDescr body.0.whole)
 
-abbrev pub alone : Mark → Member → List ℕ → Result Descr Refusal
-alone mark (Value value) rest = scalar_alone value rest
-alone mark (Pad count) rest = Err DescriptorLeftOut
-alone mark Opened rest = record_alone mark (drop 1 rest)
+abbrev pub alone : Mark → Held → List ℕ → Result Descr Refusal
+alone mark (held.Value value) rest = scalar_alone value rest
+alone mark (held.Pad count) rest = Err DescriptorLeftOut
+alone mark held.Opened rest = record_alone mark (drop 1 rest)
 
 -- the descriptor that a format text means, or the fault in it
 abbrev pub format_in_turns : List ℕ → Result Descr Refusal
 format_in_turns text =
     let m = marked Aligned text in
-    member_at m.0 m.1 >>= λ member. alone m.0 member.0 member.1
+    held_at (member_at m.0 m.1) >>= λ member. alone m.0 member.0 member.1

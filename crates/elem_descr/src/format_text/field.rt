@@ -59,7 +59,7 @@ pub fn add_scalar<'a>(
 pub fn add_pad<'a>(
     mark: Mark,
     builder: &mut RecordBuilder,
-    count: Option<usize>,
+    count: usize,
     rest: &'a [u8],
 ) -> Result<(Mark, &'a [u8]), Refusal>
     ensures gives { Answers (λ m. (builder.new, m.0, m.1.now)) result (pad_in mark builder.old count rest.now) }

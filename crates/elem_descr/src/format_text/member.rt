@@ -3,9 +3,9 @@ ghost use Rattle.std.specs.Prelude.{◌≡◌, ◌≤◌, not, length, IsTrue, I
 ghost use Rattle.std.specs.List.{prefix_len};
 ghost use Rattle.elem_descr.specs.Refusals.{Answers};
 ghost use Rattle.elem_descr.specs.Names.{is_legal_name};
-ghost use Rattle.elem_descr.specs.FormatLetters.{is_empty, count_of, is_left_out, text_member, lettered};
+ghost use Rattle.elem_descr.specs.FormatLetters.{is_empty, count_of, is_left_out, number_member, text_member, other_member, lettered};
 ghost use Rattle.elem_descr.specs.FormatPieces.{is_colon};
-ghost use Rattle.elem_descr.specs.inside.Turns.{is_named, is_opened, lettered_before, member_at, name_at};
+ghost use Rattle.elem_descr.specs.inside.Turns.{is_named, is_opened, lettered_before, member_at, held_member, held_at, name_at};
 
 use crate::digits::{count, digits_len};
 use crate::format_text::mark::Mark;
@@ -18,8 +18,8 @@ use crate::scalar::{BytesLen, Scalar};
 pub enum Member {
     /// A value of this scalar. It is `None` for a byte string that is larger than any item.
     Value(Option<Scalar>),
-    /// So many bytes of padding, `None` where they are more than any item has.
-    Pad(Option<usize>),
+    /// So many bytes of padding; all above 65,536 count as one more than that.
+    Pad(usize),
     /// The begin of a record, before its brace.
     Opened,
 }
@@ -63,17 +63,15 @@ fn is_left_out(letter: u8) -> bool
 }
 
 fn text_member(digits: &[u8]) -> Result<Member, Refusal>
-    ensures { result ≡ text_member (count_of digits.now) }
+    ensures { result ≡ held_member (text_member (count_of digits.now)) }
 {
-    let Some(count) = count(digits) else {
-        return Ok(Member::Value(None));
-    };
+    let count = count(digits);
     if count == 0 {
         return Err(Refusal::DescriptorLeftOut);
     }
     match BytesLen::try_new(count) {
         Some(len) => Ok(Member::Value(Some(Scalar::Bytes(len)))),
-        None => unreachable!(),
+        None => Ok(Member::Value(None)),
     }
 }
 
@@ -87,15 +85,20 @@ fn opened(digits: &[u8]) -> Result<Member, Refusal>
     Err(Refusal::DescriptorLeftOut)
 }
 
-fn lettered(mark: Mark, digits: &[u8], letter: u8) -> Result<Member, Refusal>
-    ensures { result ≡ lettered mark digits.now letter }
+/// A number has no count.
+fn number_member(scalar: Scalar, digits: &[u8]) -> Result<Member, Refusal>
+    ensures { result ≡ held_member (number_member digits.now scalar) }
 {
-    if let Some(scalar) = mark.number(letter) {
-        if !digits.is_empty() {
-            return Err(Refusal::DescriptorLeftOut);
-        }
+    let _size = scalar.size();
+    if digits.is_empty() {
         return Ok(Member::Value(Some(scalar)));
     }
+    Err(Refusal::DescriptorLeftOut)
+}
+
+fn other_member(digits: &[u8], letter: u8) -> Result<Member, Refusal>
+    ensures { result ≡ held_member (other_member digits.now letter) }
+{
     match letter {
         b's' => text_member(digits),
         b'x' => Ok(Member::Pad(count(digits))),
@@ -104,8 +107,17 @@ fn lettered(mark: Mark, digits: &[u8], letter: u8) -> Result<Member, Refusal>
     }
 }
 
+fn lettered(mark: Mark, digits: &[u8], letter: u8) -> Result<Member, Refusal>
+    ensures { result ≡ held_member (lettered mark digits.now letter) }
+{
+    match mark.number(letter) {
+        Some(scalar) => number_member(scalar, digits),
+        None => other_member(digits, letter),
+    }
+}
+
 fn lettered_before(mark: Mark, digits: &[u8], letter: u8, rest: &[u8]) -> Result<Member, Refusal>
-    ensures { result ≡ lettered_before mark digits.now letter rest.now }
+    ensures { result ≡ held_member (lettered_before mark digits.now letter rest.now) }
 {
     if letter == b'T' && is_opened(rest) {
         return opened(digits);
@@ -115,7 +127,7 @@ fn lettered_before(mark: Mark, digits: &[u8], letter: u8, rest: &[u8]) -> Result
 
 /// The member at the front, and what follows it.
 pub fn member_at(mark: Mark, text: &[u8]) -> Result<(Member, &[u8]), Refusal>
-    ensures answers { Answers (λ m. (m.0, m.1.now)) result (member_at mark text.now) }
+    ensures answers { Answers (λ m. (m.0, m.1.now)) result (held_at (member_at mark text.now)) }
     ensures brace { IfOk result (λ m. m.0 ≡ Member.Opened → 1 ≤ length m.1.now) }
 {
     let (digits, rest) = text.split_at(digits_len(text));

@@ -4,7 +4,7 @@ use Rattle.std.specs.Str.{bytes_eq}
 use Rattle.elem_descr.specs.declared.refusal.Refusal.{Refusal}
 use Rattle.elem_descr.specs.declared.refusal.Refusal.TheVariants.{BadHeader, DescriptorLeftOut}
 use Rattle.elem_descr.specs.Refusals.{◌>>=◌}
-use Rattle.elem_descr.specs.TypeStrings.{marked}
+use Rattle.elem_descr.specs.TypeStrings.{marked, value_of}
 use Rattle.elem_descr.specs.RecordBuilding.{Partial, widened}
 use Rattle.npy_format.specs.RecordLists.{pad_kind}
 use Rattle.npy_format.specs.declared.token.Token.{Token as Scanned}
@@ -13,7 +13,7 @@ use Rattle.npy_format.specs.Tokens.{Token, Text, Integer, Truth, Nothing, Symbol
 
 abbrev pub token_of : Scanned → Token
 token_of (scanned.Text bytes) = Text bytes.now
-token_of (scanned.Integer n) = Integer n
+token_of (scanned.Integer digits) = Integer (value_of digits.now)
 token_of (scanned.Truth is) = Truth is
 token_of scanned.Nothing = Nothing
 token_of (scanned.Symbol b) = Symbol b

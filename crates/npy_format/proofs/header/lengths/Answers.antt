@@ -1,4 +1,5 @@
 use Rattle.std.proofs.Common.{◌∙◌}
+use Rattle.elem_descr.specs.TypeStrings.{value_of}
 use Rattle.npy_format.specs.Tokens.{tokens}
 use Rattle.npy_format.specs.Literals.{symbol_token_at}
 use Rattle.npy_format.proofs.StandLaws.{no_tuple, tuple_stands, symbol_open, symbol_closed}
@@ -9,7 +10,7 @@ pub returns-in_default : goal.returns-in_default
 returns-in_default c = λ v s. (no_tuple (tokens c.args.text.now) v s c.in_default.ensures).1
 
 pub loop-after-preserved : goal.loop-after-preserved
-loop-after-preserved c = λ values s. rw c.skip_comma-rest.ensures (lengths_on values (tokens c.loop-after.rest.now) (c.loop-after.invariant values s) (c.in-Some-integer.field-0-0, tokens c.in-Some-integer.after.now) c.in-Some-integer.ensures)
+loop-after-preserved c = λ values s. rw c.skip_comma-rest.ensures (lengths_on values (tokens c.loop-after.rest.now) (c.loop-after.invariant values s) (value_of c.in-Some-integer.field-0-0.now, tokens c.in-Some-integer.after.now) c.in-Some-integer.ensures)
 
 pub returns-then-is_none : goal.returns-then-is_none
 returns-then-is_none c = λ v s.

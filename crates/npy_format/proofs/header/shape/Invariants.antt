@@ -5,8 +5,8 @@ use Rattle.npy_format.proofs.HeaderLaws.{ShapeLeft}
 use Rattle.npy_format.proofs.header.shape.Given as goal
 
 -- the lengths so far, before those of the rest, are all
-abbrev pub invariant-loop-length : goal.invariant-loop-length
-invariant-loop-length l = (found : List ℕ) → HasLengths (tokens l.lengths) found → ShapeLeft found l.axes.items (tokens l.rest)
+abbrev pub invariant-loop-digits : goal.invariant-loop-digits
+invariant-loop-digits l = (found : List ℕ) → HasLengths (tokens l.lengths) found → ShapeLeft found l.axes.items (tokens l.rest)
 
-abbrev pub decreases-loop-length : goal.decreases-loop-length
-decreases-loop-length l = length (tokens l.rest)
+abbrev pub decreases-loop-digits : goal.decreases-loop-digits
+decreases-loop-digits l = length (tokens l.rest)

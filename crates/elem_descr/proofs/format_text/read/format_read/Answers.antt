@@ -3,7 +3,7 @@ use Rattle.std.proofs.lemmas.List.{take_rest}
 use Rattle.elem_descr.specs.declared.format_text.mark.Mark.{Mark}
 use Rattle.elem_descr.specs.declared.format_text.member.Member.{Member}
 use Rattle.elem_descr.specs.Refusals.{◌>>=◌}
-use Rattle.elem_descr.specs.inside.Turns.{member_at, alone, record_alone, format_in_turns}
+use Rattle.elem_descr.specs.inside.Turns.{member_at, held_at, alone, record_alone, format_in_turns}
 use Rattle.elem_descr.proofs.Binds.{after_ok}
 use Rattle.elem_descr.proofs.SameFormat.{same_format}
 use Rattle.elem_descr.proofs.format_text.read.format_read.Goals as goal
@@ -16,7 +16,7 @@ returns-in-Ok-Pad-default c = rw (same_format c.args.text.now) (search rules)
 
 pub returns-in-Ok-Opened-default : goal.returns-in-Ok-Opened-default
 returns-in-Ok-Opened-default c =
-    let marks = ap (λ (m : Mark × List ℕ). member_at m.0 m.1 >>= λ it. alone m.0 it.0 it.1) (sym c.marked-mark.ensures) in
+    let marks = ap (λ (m : Mark × List ℕ). held_at (member_at m.0 m.1) >>= λ it. alone m.0 it.0 it.1) (sym c.marked-mark.ensures) in
     let is : format_in_turns c.args.text.now ≡ record_alone c.marked-mark.result.0 (drop 1 c.in-Ok-Opened-default.rest.now) = marks ∙ after_ok _ _ _ c.in-Ok-Opened-default.ensures.answers ∙ ap (λ (it : Member). alone c.marked-mark.result.0 it c.in-Ok-Opened-default.rest.now) c.in-Ok-Opened-default.field-0-0-is in
     let whole = take_rest c.in-Ok-Opened-default.rest.now 1 in
     rw (same_format c.args.text.now, is) (rw whole at c.record_alone.ensures)

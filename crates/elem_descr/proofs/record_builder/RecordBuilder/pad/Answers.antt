@@ -7,4 +7,4 @@ pub invariant_of-self : goal.invariant_of-self
 invariant_of-self c =
     let d = c.self.inside in
     let p : Partial = record { size = d.size; alignment = d.alignment; leaves = d.leaves; levels = d.levels; fields = d.fields.items } in
-    widened_partial p c.in-Some.count c.self.invariant (omega (arith, c.self.invariant.small, c.if-count-self.false))
+    widened_partial p c.args.count c.self.invariant (omega (arith, c.self.invariant.small, c.if-count-self.false))
