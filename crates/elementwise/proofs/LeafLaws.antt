@@ -1,5 +1,5 @@
 -- Values of leaves that are cast, and their bytes.
-use Rattle.std.proofs.Common.{◌≡◌, ◌-◌, ℕ, Bool, false, List, length, take, refl, sym, ap, ◌∙◌, arith, length-take}
+use Rattle.std.proofs.Common.{◌≡◌, ℕ, Bool, false, List, length, take, refl, sym, ap, ◌∙◌, arith, length-take}
 use Rattle.std.specs.Prelude.{ℤ}
 use Rattle.elem_descr.specs.declared.scalar.Order.{Order}
 use Rattle.elem_descr.specs.declared.scalar.Order.TheVariants.{Little}

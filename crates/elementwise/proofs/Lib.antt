@@ -11,6 +11,7 @@ pub mod AppendedLaws
 pub mod MadeLaws
 pub mod CastingLaws
 pub mod PairedLaws
+pub mod TurnedLaws
 pub mod StretchedLaws
 pub mod TypedLaws
 pub mod ShrunkLaws

@@ -1,13 +1,11 @@
 -- Arrays that are made, as the results of calls tell them.
-use Rattle.std.proofs.Common.{inl, ◌≡◌, ◌-◌, ℕ, Result, Ok, Err, List, map, IfOk, IfErr, sym, ap, subst, ◌∙◌, Bool, true, false, cond, [], ◌∷◌, refl}
+use Rattle.std.proofs.Common.{inl, ◌≡◌, ℕ, Result, Ok, Err, List, map, IfOk, IfErr, sym, ap, subst, ◌∙◌, Bool, true, false, cond, [], ◌∷◌, refl}
 use Rattle.std.specs.List.{flat_map}
 use Rattle.elem_descr.specs.declared.refusal.Refusal.{Refusal}
 use Rattle.elem_descr.specs.declared.refusal.Refusal.TheVariants.{OutOfMemory}
-use Rattle.elem_descr.specs.declared.scalar.Scalar.{Scalar}
 use Rattle.elem_descr.specs.declared.descr.Descr.{Descr}
 use Rattle.elem_descr.specs.declared.descr.Descr.TheVariants.{Scalar as ScalarDescr}
 use Rattle.elem_descr.specs.Values.{LeafValue}
-use Rattle.elem_descr.specs.Encoding.{size}
 use Rattle.elem_descr.specs.Items.{item_size, encode_item}
 use Rattle.elem_descr.specs.Blocks.{item_from}
 use Rattle.elem_descr.specs.Refusals.{Gives}

@@ -1,5 +1,5 @@
 -- Pairs of items of two lists, and what is made of them one after another.
-use Rattle.std.proofs.Common.{◌≡◌, ℕ, zero, suc, ℤ, List, [], ◌∷◌, ◌++◌, map, length, refl, sym, ap, ◌∙◌, arith, append_assoc}
+use Rattle.std.proofs.Common.{◌≡◌, ◌<◌, ℕ, zero, suc, ℤ, List, [], ◌∷◌, ◌++◌, map, length, get_or, refl, sym, ap, ◌∙◌, arith, append_assoc}
 use Rattle.std.specs.List.{concat, flat_map}
 use Rattle.std.proofs.lemmas.List.{append-nil}
 use Rattle.raw_block.specs.Bytes.{place, joined, EachWithin}
@@ -33,6 +33,12 @@ pub pairwise-map : {A B C : Type 0} (f : B → B → C) (g h : A → B) (xs ys :
 pairwise-map f g h [] ys = refl
 pairwise-map f g h (x ∷ xs) [] = refl
 pairwise-map f g h (x ∷ xs) (y ∷ ys) = ap (λ rest. f (g x) (h y) ∷ rest) (pairwise-map f g h xs ys)
+
+pub get_or-pairwise : {A B : Type 0} (f : A → A → B) (xs ys : List A) (k : ℕ) (d : A) (e : B) → k < length xs → length xs ≡ length ys → get_or (pairwise f xs ys) k e ≡ f (get_or xs k d) (get_or ys k d)
+get_or-pairwise f [] ys k d e below even = absurd (omega arith)
+get_or-pairwise f (x ∷ xs) [] k d e below even = absurd (omega (arith, even))
+get_or-pairwise f (x ∷ xs) (y ∷ ys) zero d e below even = refl
+get_or-pairwise f (x ∷ xs) (y ∷ ys) (suc k) d e below even = get_or-pairwise f xs ys k d e (omega arith) (omega (arith, even))
 
 -- ---- items that are joined by their index
 

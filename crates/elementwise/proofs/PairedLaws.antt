@@ -1,5 +1,5 @@
 -- What is made of the items of two layouts, item by item.
-use Rattle.std.proofs.Common.{◌≡◌, ◌+◌, ◌*◌, ◌≤◌, ℕ, List, [], ◌∷◌, ◌++◌, map, length, drop, replicate, refl, sym, ap, ◌∙◌, arith}
+use Rattle.std.proofs.Common.{◌≡◌, ◌*◌, ◌≤◌, ℕ, List, [], ◌∷◌, ◌++◌, map, length, drop, replicate, refl, sym, ap, ◌∙◌, arith}
 use Rattle.std.specs.List.{concat, flat_map, AllByRecursion as Each}
 use Rattle.std.proofs.lemmas.List.{length-replicate, take-take}
 use Rattle.std.proofs.lemmas.Simd.{map-map}
@@ -27,10 +27,10 @@ use Rattle.overlap_copy.specs.inside.Packed.{row_offsets}
 scalar-item : (scalar : Scalar) (bytes : List ℕ) (o : ℕ) → item_from (ScalarDescr scalar) bytes o ≡ decode scalar (item_at o (size scalar) bytes) ∷ []
 scalar-item scalar bytes o = ap (λ b. decode scalar b ∷ []) (take-take (size scalar) (size scalar) (drop o bytes) (omega arith))
 
-each-wide : (left right to : Scalar) (gives : LeafValue → LeafValue → LeafValue) (a b xs ys : List ℕ) → Each (λ item. length item ≡ size to) (pairwise (pair_from (value_pair left right to gives) (size left) (size right) a b) xs ys)
-each-wide left right to gives a b [] ys = tt
-each-wide left right to gives a b (x ∷ xs) [] = tt
-each-wide left right to gives a b (x ∷ xs) (y ∷ ys) = (length-encode to (gives (decode left (item_at x (size left) a)) (decode right (item_at y (size right) b))), each-wide left right to gives a b xs ys)
+pub each-wide : (left right to : Scalar) (gives : LeafValue → LeafValue → LeafValue) (w w' : ℕ) (a b xs ys : List ℕ) → Each (λ item. length item ≡ size to) (pairwise (pair_from (value_pair left right to gives) w w' a b) xs ys)
+each-wide left right to gives w w' a b [] ys = tt
+each-wide left right to gives w w' a b (x ∷ xs) [] = tt
+each-wide left right to gives w w' a b (x ∷ xs) (y ∷ ys) = (length-encode to (gives (decode left (item_at x w a)) (decode right (item_at y w' b))), each-wide left right to gives w w' a b xs ys)
 
 all_made : (left right to : Scalar) (gives : LeafValue → LeafValue → LeafValue) (a b xs ys bytes bytes' : List ℕ) (n m : ℕ) → length xs ≡ n → length ys ≡ n → m ≡ n → n * size to ≤ length bytes →
     ((x y : LeafValue) → decode to (encode to (gives x y)) ≡ gives x y) →
@@ -46,7 +46,7 @@ all_made left right to gives a b xs ys bytes bytes' n m many many' counted room 
     let written : bytes' ≡ put_all rows (pairwise make xs ys) bytes = wrote ∙ ap (λ k. put_all (row_offsets 0 wide k) (pairwise make xs ys) bytes) counted in
     let there : map read rows ≡ pairwise make xs ys =
     ap (λ all. map (λ o. item_at o wide all) rows) written
-    ∙ landed wide rows (pairwise make xs ys) bytes even (rows-in wide n (length bytes) room 0 wide (omega arith)) (All-from_recursion (λ item. length item ≡ wide) (pairwise make xs ys) (each-wide left right to gives a b xs ys)) (rows-lie wide n (length bytes) room 0 wide (omega arith)) in
+    ∙ landed wide rows (pairwise make xs ys) bytes even (rows-in wide n (length bytes) room 0 wide (omega arith)) (All-from_recursion (λ item. length item ≡ wide) (pairwise make xs ys) (each-wide left right to gives (size left) (size right) a b xs ys)) (rows-lie wide n (length bytes) room 0 wide (omega arith)) in
     ap (map (item_from (ScalarDescr to) bytes')) (sym (row-multiples wide n))
     ∙ (λ i. map (λ o. scalar-item to bytes' o i) rows)
     ∙ sym (map-map value read rows)
@@ -79,7 +79,7 @@ all_appended left right to gives a b xs ys bytes n many many' back wrote =
     let items = pairwise (pair_from (value_pair left right to gives) (size left) (size right) a b) xs ys in
     let zeros = replicate (n * wide) 0 in
     let room : length zeros ≡ n * wide = length-replicate (n * wide) 0 in
-    let each = each-wide left right to gives a b xs ys in
+    let each = each-wide left right to gives (size left) (size right) a b xs ys in
     let over : put_all (row_offsets 0 wide n) items zeros ≡ concat items = put-rows wide items n [] zeros (length-pairwise (pair_from (value_pair left right to gives) (size left) (size right) a b) xs ys (many ∙ sym many') ∙ many) each room in (
       ap length (wrote ∙ sym over) ∙ length-put_all wide (row_offsets 0 wide n) items zeros (rows-in wide n (length zeros) (omega (arith, room)) 0 wide (omega arith)) (All-from_recursion (λ item. length item ≡ wide) items each) ∙ room,
       all_made left right to gives a b xs ys zeros bytes n n many many' refl (omega (arith, room)) back (wrote ∙ sym over),
@@ -91,11 +91,11 @@ module _ (left right to : Scalar) (gives : LeafValue → LeafValue → LeafValue
   abbrev all-given : List (List LeafValue)
   all-given = pairwise (λ x y. gives (value_in x) (value_in y) ∷ []) (map (item_from d a) xs') (map (item_from d' b) ys')
 
-  pub all_stretched : (bytes : List ℕ) (n : ℕ) (empty : List ℕ × ℕ) (len : ℕ) → d ≡ ScalarDescr left → d' ≡ ScalarDescr right → length xs ≡ n → length ys ≡ n → xs ≡ xs' → ys ≡ ys' →
-      ((x y : LeafValue) → decode to (encode to (gives x y)) ≡ gives x y) → empty ≡ ([], len) → bytes ≡ empty.0 ++ concat (pairwise (pair_from (value_pair left right to gives) (item_size d) (item_size d') a b) xs ys) →
+  pub all_stretched : (bytes : List ℕ) (n : ℕ) → d ≡ ScalarDescr left → d' ≡ ScalarDescr right → length xs ≡ n → length ys ≡ n → xs ≡ xs' → ys ≡ ys' →
+      ((x y : LeafValue) → decode to (encode to (gives x y)) ≡ gives x y) → bytes ≡ concat (pairwise (pair_from (value_pair left right to gives) (item_size d) (item_size d') a b) xs ys) →
       (length bytes ≡ n * size to) × (map (item_from (ScalarDescr to) bytes) (multiples (size to) n) ≡ all-given) × (bytes ≡ flat_map (encode_item (ScalarDescr to)) all-given)
-  all_stretched bytes n empty len one two many many' at at' back none wrote =
-      let all = all_appended left right to gives a b xs ys bytes n many many' back (wrote ∙ λ i. (none i).0 ++ concat (pairwise (pair_from (value_pair left right to gives) (item_size (one i)) (item_size (two i)) a b) xs ys)) in
+  all_stretched bytes n one two many many' at at' back wrote =
+      let all = all_appended left right to gives a b xs ys bytes n many many' back (wrote ∙ λ i. concat (pairwise (pair_from (value_pair left right to gives) (item_size (one i)) (item_size (two i)) a b) xs ys)) in
       let shown : pairwise (λ x y. gives (value_in x) (value_in y) ∷ []) (map (item_from (ScalarDescr left) a) xs) (map (item_from (ScalarDescr right) b) ys) ≡ all-given =
       λ i. pairwise (λ x y. gives (value_in x) (value_in y) ∷ []) (map (item_from (sym one i) a) (at i)) (map (item_from (sym two i) b) (at' i)) in
       (all.0, all.1 ∙ shown, all.2 ∙ ap (flat_map (encode_item (ScalarDescr to))) shown)

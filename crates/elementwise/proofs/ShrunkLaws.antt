@@ -1,5 +1,5 @@
 -- What is made of arrays whose items repeat: the result of the items that differ, stretched.
-use Rattle.std.proofs.Common.{◌≡◌, ◌+◌, ◌<◌, ◌≤◌, ℕ, zero, suc, pos, true, List, [], ◌∷◌, map, take, drop, length, get_or, All, refl, sym, ap, subst, ◌∙◌, arith}
+use Rattle.std.proofs.Common.{◌≡◌, ◌+◌, ◌<◌, ◌≤◌, ℕ, pos, true, List, [], ◌∷◌, map, take, drop, length, get_or, All, sym, ap, subst, ◌∙◌, arith}
 use Rattle.std.proofs.lemmas.List.{length-map, get_or-map}
 use Rattle.std.proofs.lemmas.List.Elements.{All-map}
 use Rattle.std.proofs.lemmas.Simd.{map-map}
@@ -24,15 +24,9 @@ use Rattle.overlap_copy.specs.declared.owned.Owned.{Owned}
 use Rattle.elementwise.specs.Results.{stretched_items, pairwise, value_in}
 use Rattle.elementwise.specs.inside.Shrunk.{IsShrunk}
 use Rattle.elementwise.specs.inside.Made.{IsMade}
-use Rattle.elementwise.proofs.PairLaws.{pairwise-map}
+use Rattle.elementwise.proofs.PairLaws.{pairwise-map, get_or-pairwise}
 use Rattle.elementwise.proofs.StretchedLaws.{inside}
 use Rattle.elementwise.proofs.AppliedLaws.{pairwise-same}
-
-get_or-pairwise : {A B : Type 0} (f : A → A → B) (xs ys : List A) (k : ℕ) (d : A) (e : B) → k < length xs → length xs ≡ length ys → get_or (pairwise f xs ys) k e ≡ f (get_or xs k d) (get_or ys k d)
-get_or-pairwise f [] ys k d e below even = absurd (omega arith)
-get_or-pairwise f (x ∷ xs) [] k d e below even = absurd (omega (arith, even))
-get_or-pairwise f (x ∷ xs) (y ∷ ys) zero d e below even = refl
-get_or-pairwise f (x ∷ xs) (y ∷ ys) (suc k) d e below even = get_or-pairwise f xs ys k d e (omega arith) (omega (arith, even))
 
 -- ---- items of one shape as another one shows them
 

@@ -14,6 +14,7 @@ mod held;
 mod integers;
 mod kernels;
 mod leaves;
+mod made;
 mod operands;
 mod operations;
 mod pairing;

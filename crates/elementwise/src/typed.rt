@@ -14,12 +14,12 @@ ghost use Rattle.elementwise.specs.inside.Held.{stretched};
 ghost use Rattle.elementwise.specs.inside.Made.{IsMade};
 
 use crate::held::Held;
+use crate::made::made_of_pairs;
 use crate::pairing::Pairing;
 use crate::rows::Operands;
 use broadcasting::stretch;
 use elem_descr::{Descr, Refusal};
 use overlap_copy::{Items, Owned};
-use raw_block::BlockBuilder;
 use shape_strides::{Layout, MemoryOrder, Shape};
 use std::alloc::Global;
 
@@ -66,10 +66,9 @@ pub(crate) fn make_stretched<'a, P: Pairing>(
         },
     };
     let scalar = pairing.target();
-    let empty = BlockBuilder::try_new(alloc, shape.items() * scalar.size())?;
-    let filled = pairing.push(empty, operands);
+    let block = made_of_pairs(alloc, pairing, operands)?;
     let descr = Descr::Scalar(scalar);
-    let owned = Owned::over(alloc, descr, shape, MemoryOrder::C, filled.finish())?;
+    let owned = Owned::over(alloc, descr, shape, MemoryOrder::C, block)?;
     Ok(owned)
 }
 

@@ -5,7 +5,6 @@ pub mod AxesLaws
 pub mod GridLaws
 pub mod ComeLaws
 pub mod CopyLaws
-pub mod FortranLaws
 pub mod LineLaws
 pub mod MarkLaws
 pub mod MoveLaws

@@ -6,3 +6,4 @@ pub mod Assignments
 pub mod Apart
 pub mod inside
 pub mod PackedLaws
+pub mod FortranLaws

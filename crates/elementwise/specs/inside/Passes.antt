@@ -1,10 +1,9 @@
 -- Passes over items that lie at equal steps.
-use Rattle.std.specs.Prelude.{ℕ, zero, suc, ◌+◌, pos, List, ◌∷◌}
+use Rattle.std.specs.Prelude.{ℕ, zero, suc, ◌+◌, List, ◌∷◌}
 use Rattle.elem_descr.specs.declared.scalar.Scalar.{Scalar}
 use Rattle.elem_descr.specs.Encoding.{size, decode, encode}
 use Rattle.raw_block.specs.Bytes.{place, put, item_at}
 use Rattle.shape_strides.specs.declared.runs.Run.{Run}
-use Rattle.shape_strides.specs.Runs.{run_offsets}
 use Rattle.elem_descr.specs.declared.leaf.Leaf.{Leaf}
 use Rattle.elementwise.specs.Casts.{cast_value}
 

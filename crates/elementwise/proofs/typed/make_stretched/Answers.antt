@@ -8,19 +8,19 @@ use Rattle.elementwise.proofs.MadeLaws.{over-made}
 use Rattle.elementwise.proofs.PairedLaws.{all_stretched}
 use Rattle.elementwise.proofs.typed.make_stretched.Goals as goal
 
-pub push-filled-requires-clause-room : goal.push-filled-requires-clause-room
-push-filled-requires-clause-room g c =
+pub made_of_pairs-requires-clause-few : goal.made_of_pairs-requires-clause-few
+made_of_pairs-requires-clause-few g c =
     let to = size (g.P.Pairing.target_scalar c.args.pairing.now) in
-    let room : count c.in_ok-first.first.shape * to ≡ c.items.result * c.size.result = λ i. (ap count c.in_ok-first.ensures.shape ∙ sym c.items.ensures.value) i * (ap size (sym c.target-scalar.ensures) ∙ sym c.size.ensures.value) i in
-    omega (arith, room, ap (λ e. e.1) c.in_ok-empty.ensures)
+    let same : count c.in_ok-first.first.shape * to ≡ count c.args.shape.now * to = ap (λ s. count s * to) c.in_ok-first.ensures.shape in
+    omega (arith, same, c.requires.few)
 
 pub over-requires-clause-whole : goal.over-requires-clause-whole
 over-requires-clause-whole g c =
     let p = c.args.pairing.now in
     let x = c.args.left in
     let y = c.args.right in
-    let all = all_stretched (g.P.Pairing.left_scalar p) (g.P.Pairing.right_scalar p) (g.P.Pairing.target_scalar p) (g.P.Pairing.gives p) x.descr.now y.descr.now x.block.now y.block.now (offsets c.in_ok-first.first) (offsets c.in_ok-second.second) _ _ c.finish.result (count c.args.shape.now) c.in_ok-empty.empty _ c.requires.left c.requires.right
-    (length-offsets c.in_ok-first.first ∙ ap count c.in_ok-first.ensures.shape) (length-offsets c.in_ok-second.second ∙ ap count c.in_ok-second.ensures.shape) c.in_ok-first.ensures.offsets c.in_ok-second.ensures.offsets (λ u v. g.met.P.Pairing.reads_back p u v c.requires.can) c.in_ok-empty.ensures (c.finish.ensures ∙ c.push-filled.ensures.bytes) in
+    let all = all_stretched (g.P.Pairing.left_scalar p) (g.P.Pairing.right_scalar p) (g.P.Pairing.target_scalar p) (g.P.Pairing.gives p) x.descr.now y.descr.now x.block.now y.block.now (offsets c.in_ok-first.first) (offsets c.in_ok-second.second) _ _ c.in_ok-block.block (count c.args.shape.now) c.requires.left c.requires.right
+    (length-offsets c.in_ok-first.first ∙ ap count c.in_ok-first.ensures.shape) (length-offsets c.in_ok-second.second ∙ ap count c.in_ok-second.ensures.shape) c.in_ok-first.ensures.offsets c.in_ok-second.ensures.offsets (λ u v. g.met.P.Pairing.reads_back p u v c.requires.can) c.in_ok-block.ensures in
     all.0 ∙ λ i. count c.args.shape.now * size (sym c.target-scalar.ensures i)
 
 pub over-requires-clause-small : goal.over-requires-clause-small
@@ -28,8 +28,8 @@ over-requires-clause-small g c =
     let p = c.args.pairing.now in
     let x = c.args.left in
     let y = c.args.right in
-    let all = all_stretched (g.P.Pairing.left_scalar p) (g.P.Pairing.right_scalar p) (g.P.Pairing.target_scalar p) (g.P.Pairing.gives p) x.descr.now y.descr.now x.block.now y.block.now (offsets c.in_ok-first.first) (offsets c.in_ok-second.second) _ _ c.finish.result (count c.args.shape.now) c.in_ok-empty.empty _ c.requires.left c.requires.right
-    (length-offsets c.in_ok-first.first ∙ ap count c.in_ok-first.ensures.shape) (length-offsets c.in_ok-second.second ∙ ap count c.in_ok-second.ensures.shape) c.in_ok-first.ensures.offsets c.in_ok-second.ensures.offsets (λ u v. g.met.P.Pairing.reads_back p u v c.requires.can) c.in_ok-empty.ensures (c.finish.ensures ∙ c.push-filled.ensures.bytes) in
+    let all = all_stretched (g.P.Pairing.left_scalar p) (g.P.Pairing.right_scalar p) (g.P.Pairing.target_scalar p) (g.P.Pairing.gives p) x.descr.now y.descr.now x.block.now y.block.now (offsets c.in_ok-first.first) (offsets c.in_ok-second.second) _ _ c.in_ok-block.block (count c.args.shape.now) c.requires.left c.requires.right
+    (length-offsets c.in_ok-first.first ∙ ap count c.in_ok-first.ensures.shape) (length-offsets c.in_ok-second.second ∙ ap count c.in_ok-second.ensures.shape) c.in_ok-first.ensures.offsets c.in_ok-second.ensures.offsets (λ u v. g.met.P.Pairing.reads_back p u v c.requires.can) c.in_ok-block.ensures in
     omega (arith, all.0, c.requires.few)
 
 pub returns-clause-made : goal.returns-clause-made
@@ -38,6 +38,6 @@ returns-clause-made g c =
     let x = c.args.left in
     let y = c.args.right in
     let owned = c.in_ok-owned.ensures in
-    let all = all_stretched (g.P.Pairing.left_scalar p) (g.P.Pairing.right_scalar p) (g.P.Pairing.target_scalar p) (g.P.Pairing.gives p) x.descr.now y.descr.now x.block.now y.block.now (offsets c.in_ok-first.first) (offsets c.in_ok-second.second) _ _ c.finish.result (count c.args.shape.now) c.in_ok-empty.empty _ c.requires.left c.requires.right
-    (length-offsets c.in_ok-first.first ∙ ap count c.in_ok-first.ensures.shape) (length-offsets c.in_ok-second.second ∙ ap count c.in_ok-second.ensures.shape) c.in_ok-first.ensures.offsets c.in_ok-second.ensures.offsets (λ u v. g.met.P.Pairing.reads_back p u v c.requires.can) c.in_ok-empty.ensures (c.finish.ensures ∙ c.push-filled.ensures.bytes) in
-    over-made (ScalarDescr c.target-scalar.result) (ScalarDescr (g.P.Pairing.target_scalar p)) c.args.shape.now _ c.in_ok-owned.owned c.finish.result (ap ScalarDescr c.target-scalar.ensures) owned.descr owned.shape owned.order owned.block all.1 all.2
+    let all = all_stretched (g.P.Pairing.left_scalar p) (g.P.Pairing.right_scalar p) (g.P.Pairing.target_scalar p) (g.P.Pairing.gives p) x.descr.now y.descr.now x.block.now y.block.now (offsets c.in_ok-first.first) (offsets c.in_ok-second.second) _ _ c.in_ok-block.block (count c.args.shape.now) c.requires.left c.requires.right
+    (length-offsets c.in_ok-first.first ∙ ap count c.in_ok-first.ensures.shape) (length-offsets c.in_ok-second.second ∙ ap count c.in_ok-second.ensures.shape) c.in_ok-first.ensures.offsets c.in_ok-second.ensures.offsets (λ u v. g.met.P.Pairing.reads_back p u v c.requires.can) c.in_ok-block.ensures in
+    over-made (ScalarDescr c.target-scalar.result) (ScalarDescr (g.P.Pairing.target_scalar p)) c.args.shape.now _ c.in_ok-owned.owned c.in_ok-block.block (ap ScalarDescr c.target-scalar.ensures) owned.descr owned.shape owned.order owned.block all.1 all.2

@@ -6,7 +6,7 @@ use Rattle.shape_strides.specs.LayoutLaws.{length-offsets}
 use Rattle.shape_strides.specs.ReverseLaws.{count-reverse}
 use Rattle.overlap_copy.specs.Assignments.{items_at}
 use Rattle.overlap_copy.specs.Blocks.{offsets_in}
-use Rattle.overlap_copy.proofs.FortranLaws.{fortran-all, items-in_fortran}
+use Rattle.overlap_copy.specs.FortranLaws.{fortran-all, items-in_fortran}
 use Rattle.overlap_copy.proofs.copies.gather_in.Goals as goal
 use Rattle.overlap_copy.proofs.copies.gather_in.Goals.{After-reversed-in-Fortran}
 

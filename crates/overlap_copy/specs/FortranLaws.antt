@@ -25,7 +25,7 @@ fortran-all P shape offsets long all = λ k d below.
     subst P (sym here) (all (rank shape (reverse found.0)) 0 (omega (arith, long, rank-lt shape (reverse found.0) (IsIndex-from_reverse shape found.0 found.1))))
 
 -- an entry in Fortran order stands where its index in reverse has its rank
-fortran-at : (shape index offsets : List ℕ) → IsIndex shape index → get_or (fortran_order shape offsets) (rank (reverse shape) (reverse index)) 0 ≡ get_or offsets (rank shape index) 0
+pub fortran-at : (shape index offsets : List ℕ) → IsIndex shape index → get_or (fortran_order shape offsets) (rank (reverse shape) (reverse index)) 0 ≡ get_or offsets (rank shape index) 0
 fortran-at shape index offsets in' =
     at-index (reverse shape) (reverse index) (λ i. get_or offsets (rank shape (reverse i)) 0) 0 (IsIndex-reverse shape index in')
     ∙ ap (λ i. get_or offsets (rank shape i) 0) (reverse-reverse index)

@@ -1,0 +1,101 @@
+-- What is made of pairs column by column, and read in C order.
+use Rattle.std.proofs.Common.{◌≡◌, ◌+◌, ◌*◌, ◌<◌, ℕ, zero, suc, List, [], ◌∷◌, ◌++◌, Result, Ok, Err, IfOk, length, reverse, get_or, take, drop, sym, ap, ◌∙◌, arith, zero-mul, suc-mul, mul_comm, length-append}
+use Rattle.std.specs.List.{concat, AllByRecursion as Each}
+use Rattle.std.proofs.Math.Seq.{take-append_seam, drop-append-add}
+use Rattle.std.proofs.lemmas.List.{length-map, get_or-map}
+use Rattle.std.proofs.lemmas.List.FromFn.{length-map-range_with_len, get_or-map-range_with_len}
+use Rattle.raw_block.specs.Bytes.{item_at}
+use Rattle.raw_block.specs.JoinedLaws.{all_joined}
+use Rattle.shape_strides.specs.Contiguity.{fortran_order}
+use Rattle.shape_strides.specs.Indexes.{count, indexes, rank}
+use Rattle.shape_strides.specs.IndexLaws.{length-indexes, rank-lt, index_at}
+use Rattle.shape_strides.specs.Layouts.{multiples}
+use Rattle.shape_strides.specs.ReverseLaws.{count-reverse, IsIndex-reverse}
+use Rattle.overlap_copy.specs.Assignments.{items_at}
+use Rattle.overlap_copy.specs.FortranLaws.{fortran-at}
+use Rattle.elementwise.specs.Results.{pairwise}
+use Rattle.elementwise.proofs.PairLaws.{length-pairwise, get_or-pairwise}
+
+-- what holds of a result by two clauses of its call
+pub both-ok : {A E : Type 0} (P Q R : A → Type 0) (result : Result A E) → ((a : A) → P a → Q a → R a) → IfOk result P → IfOk result Q → IfOk result R
+both-ok P Q R (Ok a) so p q = so a p q
+both-ok P Q R (Err e) so p q = tt
+
+-- ---- items of one width, joined
+
+module _ (width : ℕ) where
+  abbrev pub AreWide : List (List ℕ) → Type 0
+  AreWide items = Each (λ item. length item ≡ width) items
+
+  pub length-concat : (items : List (List ℕ)) → AreWide items → length (concat items) ≡ length items * width
+  length-concat [] wide = sym (zero-mul width)
+  length-concat (item ∷ items) wide = omega (arith, length-append item (concat items), wide.0, length-concat items wide.1, suc-mul (length items) width)
+
+  item-concat : (items : List (List ℕ)) (k : ℕ) → AreWide items → k < length items → item_at (k * width) width (concat items) ≡ get_or items k []
+  item-concat [] k wide below = absurd (omega (arith, below))
+  item-concat (item ∷ items) zero wide below =
+      let none : 0 * width ≡ 0 = zero-mul width in
+      (λ i. take width (drop (none i) (item ++ concat items)))
+      ∙ ap (λ n. take n (item ++ concat items)) (sym wide.0)
+      ∙ take-append_seam item (concat items)
+  item-concat (item ∷ items) (suc k) wide below =
+      let next : suc k * width ≡ length item + k * width = omega (arith, suc-mul k width, wide.0) in
+      (λ i. take width (drop (next i) (item ++ concat items)))
+      ∙ ap (take width) (drop-append-add item (concat items) (k * width))
+      ∙ item-concat items k wide.1 (omega (arith, below))
+
+  -- bytes with the same items are the same
+  pub same-concat : (items : List (List ℕ)) (bytes : List ℕ) → AreWide items → length bytes ≡ length items * width → ((k : ℕ) → k < length items → item_at (k * width) width bytes ≡ get_or items k []) → bytes ≡ concat items
+  same-concat items bytes wide long each =
+      all_joined (λ k. get_or items k []) width (length items) bytes long each
+      ∙ sym (all_joined (λ k. get_or items k []) width (length items) (concat items) (length-concat items wide) (λ k below. item-concat items k wide below))
+
+-- ---- pairs in Fortran order
+
+pub length-fortran : (shape offsets : List ℕ) → length (fortran_order shape offsets) ≡ count shape
+length-fortran shape offsets = length-map (indexes (reverse shape)) _ ∙ length-indexes (reverse shape) ∙ count-reverse shape
+
+module _ (make : ℕ → ℕ → List ℕ) (width : ℕ) (shape xs ys : List ℕ) (many : length xs ≡ count shape) (many' : length ys ≡ count shape) where
+  abbrev made : List (List ℕ)
+  made = pairwise make xs ys
+
+  abbrev turned : List (List ℕ)
+  turned = pairwise make (fortran_order shape xs) (fortran_order shape ys)
+
+  even : length xs ≡ length ys
+  even = many ∙ sym many'
+
+  turned-even : length (fortran_order shape xs) ≡ length (fortran_order shape ys)
+  turned-even = length-fortran shape xs ∙ sym (length-fortran shape ys)
+
+  pub turned-back : (columns block bytes : List ℕ) → AreWide width made → AreWide width turned → length columns ≡ count shape → fortran_order shape columns ≡ multiples width (count shape) → block ≡ concat turned → length bytes ≡ length columns * width
+      → items_at (multiples width (length columns)) width bytes ≡ items_at columns width block → bytes ≡ concat made
+  turned-back columns block bytes wide wide' counted order is long same =
+      let all : length made ≡ count shape = length-pairwise make xs ys even ∙ many in
+      let long' : length bytes ≡ length made * width = long ∙ ap (λ n. n * width) (counted ∙ sym all) in
+      same-concat width made bytes wide long' (λ k below.
+      let low : k < count shape = omega (arith, below, all) in
+      let here : k < length columns = omega (arith, low, counted) in
+      let found = index_at shape k low in
+      let r = rank (reverse shape) (reverse found.0) in
+      let r_low : r < count shape = omega (arith, rank-lt (reverse shape) (reverse found.0) (IsIndex-reverse shape found.0 found.1), count-reverse shape) in
+      let r_here : r < length turned = omega (arith, r_low, length-pairwise make (fortran_order shape xs) (fortran_order shape ys) turned-even, length-fortran shape xs) in
+      let at = λ (offsets : List ℕ). fortran-at shape found.0 offsets found.1 ∙ ap (λ j. get_or offsets j 0) found.2 in
+      let place : get_or columns k 0 ≡ r * width = sym (at columns) ∙ ap (λ os. get_or os r 0) order ∙ get_or-map-range_with_len (λ j. width * j) 0 (count shape) r r 0 r_low (omega arith) ∙ mul_comm width r in
+      let read = λ (b : List ℕ) (o : ℕ). item_at o width b in
+      let mine : get_or (multiples width (length columns)) k 0 ≡ k * width = get_or-map-range_with_len (λ j. width * j) 0 (length columns) k k 0 here (omega arith) ∙ mul_comm width k in
+      ap (read bytes) (sym mine)
+      ∙ sym (get_or-map (read bytes) (multiples width (length columns)) k 0 [] (omega (arith, here, length-map-range_with_len (λ j. width * j) 0 (length columns))))
+      ∙ ap (λ items. get_or items k []) same
+      ∙ get_or-map (read block) columns k 0 [] here
+      ∙ (λ i. item_at (place i) width (is i))
+      ∙ item-concat width turned r wide' r_here
+      ∙ get_or-pairwise make (fortran_order shape xs) (fortran_order shape ys) r 0 [] (omega (arith, r_low, length-fortran shape xs)) turned-even
+      ∙ (λ i. make (at xs i) (at ys i))
+      ∙ sym (get_or-pairwise make xs ys k 0 [] (omega (arith, low, many)) even))
+
+  pub turned-long : (block : List ℕ) → AreWide width turned → block ≡ concat turned → length block ≡ count shape * width
+  turned-long block wide is =
+      ap length is
+      ∙ length-concat width turned wide
+      ∙ ap (λ n. n * width) (length-pairwise make (fortran_order shape xs) (fortran_order shape ys) turned-even ∙ length-fortran shape xs)
