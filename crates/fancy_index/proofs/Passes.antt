@@ -12,8 +12,8 @@ use Rattle.shape_strides.specs.WalkLaws.{length-run_offsets}
 use Rattle.overlap_copy.specs.Assignments.{assigned}
 use Rattle.overlap_copy.specs.RunLaws.{All-back, All-front, assigned-append}
 use lib.IntN.{pos}
-use Rattle.fancy_index.specs.Plans.{moved_offset, shifted_all, moved_all, put_each}
-use Rattle.fancy_index.specs.inside.Kept.{IsMoved}
+use Rattle.fancy_index.specs.Plans.{put_each}
+use Rattle.fancy_index.specs.inside.Kept.{moved_offset, shifted_all, moved_all, IsMoved}
 use Rattle.fancy_index.specs.inside.Packed.{packed}
 use Rattle.fancy_index.proofs.RunLaws.{length-packed, packed-append}
 use Rattle.fancy_index.specs.PlanLaws.{put_each-append}

@@ -9,8 +9,8 @@ ghost use Rattle.shape_strides.specs.Indexes.{count};
 ghost use Rattle.shape_strides.specs.Layouts.{offsets, multiples};
 ghost use Rattle.overlap_copy.specs.Assignments.{items_at, assigned};
 ghost use Rattle.overlap_copy.specs.Blocks.{offsets_in};
-ghost use Rattle.fancy_index.specs.Plans.{moved_offset, moved_all, put_each};
-ghost use Rattle.fancy_index.specs.inside.Kept.{IsMoved, AreStarts, offsets_from};
+ghost use Rattle.fancy_index.specs.Plans.{put_each};
+ghost use Rattle.fancy_index.specs.inside.Kept.{moved_offset, moved_all, IsMoved, AreStarts, offsets_from};
 
 use crate::fill::fill;
 use crate::gather::gather;

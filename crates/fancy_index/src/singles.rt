@@ -3,8 +3,8 @@ ghost use Rattle.std.specs.Prelude.{◌≡◌, ◌+◌, ◌*◌, ◌≤◌, leng
 ghost use Rattle.raw_block.specs.Bytes.{item_at, put};
 ghost use Rattle.shape_strides.specs.Limits.{max_bytes};
 ghost use Rattle.overlap_copy.specs.Assignments.{assigned};
-ghost use Rattle.fancy_index.specs.Plans.{moved_offset, put_each};
-ghost use Rattle.fancy_index.specs.inside.Kept.{IsMoved};
+ghost use Rattle.fancy_index.specs.Plans.{put_each};
+ghost use Rattle.fancy_index.specs.inside.Kept.{moved_offset, IsMoved};
 ghost use Rattle.fancy_index.specs.inside.Packed.{packed};
 
 use crate::plans::moved;

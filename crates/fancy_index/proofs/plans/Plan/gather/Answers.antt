@@ -2,7 +2,8 @@ use Rattle.std.proofs.Common.{◌≡◌, ℕ, ◌*◌, List, length, ap, sym, �
 use Rattle.std.proofs.lemmas.List.{length-replicate}
 use Rattle.shape_strides.specs.Layouts.{offsets}
 use Rattle.overlap_copy.specs.Assignments.{assigned}
-use Rattle.fancy_index.specs.Plans.{Planned, moved_all}
+use Rattle.fancy_index.specs.Plans.{Planned}
+use Rattle.fancy_index.specs.inside.Kept.{moved_all}
 use Rattle.fancy_index.specs.inside.Packed.{packed}
 use Rattle.fancy_index.proofs.GatherLaws.{gathered}
 use Rattle.fancy_index.proofs.plans.Plan.gather.Goals as goal
