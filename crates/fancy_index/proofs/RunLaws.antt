@@ -13,7 +13,7 @@ use Rattle.shape_strides.specs.Addresses.{natural, LieWithin}
 use Rattle.shape_strides.specs.Limits.{max_bytes}
 use Rattle.shape_strides.specs.Runs.{run_offsets}
 use Rattle.shape_strides.specs.WalkLaws.{length-run_offsets}
-use Rattle.overlap_copy.specs.RunLaws.{place-at, lie-within}
+use Rattle.overlap_copy.specs.RunLaws.{nth-offset, place-at, lie-within}
 use Rattle.fancy_index.specs.inside.Kept.{moved_offset, IsMoved}
 use Rattle.fancy_index.specs.inside.Packed.{packed}
 
@@ -80,6 +80,12 @@ module _ (run : Run) (base start : ℕ) (lies : LieWithin (run.count ∷ []) (ru
 pub length-packed : (at width n : ℕ) → length (packed at width n) ≡ n
 length-packed at width n = length-run_offsets (record { offset = at; count = n; step = pos width })
 
+pub packed-entry : (at width n k : ℕ) → k < n → get_or (packed at width n) k 0 ≡ at + width * k
+packed-entry at width n k low = nth-offset (record { offset = at; count = n; step = pos width }) k low ∙ there
+  where
+    there : natural (pos at +ℤ pos width *ℤ pos k) ≡ at + width * k
+    there = omega arith
+
 -- so many items, and so many after them
 pub packed-append : (at width n m : ℕ) → packed at width (n + m) ≡ packed at width n ++ packed (at + n * width) width m
 packed-append at width n m =
@@ -87,5 +93,3 @@ packed-append at width n m =
     ap (map natural) (numbers-split (pos at) (pos width) n m)
     ∙ map-append natural (numbers_from (pos at) (pos width) n) (numbers_from (pos at +ℤ pos width *ℤ pos n) (pos width) m)
     ∙ ap (λ z. packed at width n ++ map natural (numbers_from z (pos width) m)) next
-
--- ---- runs that are filled
