@@ -4,7 +4,7 @@ use Rattle.std.specs.List.{flat_map}
 use Rattle.std.proofs.lemmas.Grind.{flat_map-append}
 use Rattle.std.proofs.lemmas.Int.{ints}
 use Rattle.std.proofs.lemmas.List.{length-map, get_or-map, map-append}
-use lib.IntN.{ℤ, pos, negsuc, nat_abs, ◌+ℤ◌, ◌*ℤ◌}
+use lib.IntN.{pos, nat_abs, ◌+ℤ◌, ◌*ℤ◌}
 use lib.Signed.{◌≤ℤ◌}
 use Rattle.raw_block.specs.Bytes.{position, place, item_at, joined, grid_item, grid_items, EachWithin, GridWithin}
 use Rattle.raw_block.specs.BytesLaws.{not_negative, first_position}
@@ -16,9 +16,9 @@ use Rattle.shape_strides.specs.Runs.{run_along, run_offsets}
 use Rattle.shape_strides.specs.WalkLaws.{length-run_offsets, length-first}
 use Rattle.shape_strides.specs.RunPairs.{all_offsets}
 use Rattle.overlap_copy.specs.RunLaws.{All-front, All-back, place-at}
-use Rattle.overlap_copy.specs.inside.Packed.{joined_at}
+use Rattle.overlap_copy.specs.Joined.{joined_at}
 use Rattle.overlap_copy.specs.inside.Rows.{rows_of, grid_of}
-use Rattle.overlap_copy.proofs.PackedLaws.{joined-by, joined-offsets}
+use Rattle.overlap_copy.specs.JoinedLaws.{joined-by, joined-offsets}
 
 -- the rows from some offsets on
 abbrev rows_from : StridedAxis → List ℕ → List Run

@@ -5,4 +5,6 @@ pub mod RunLaws
 pub mod Assignments
 pub mod Apart
 pub mod inside
+pub mod Joined
+pub mod JoinedLaws
 pub mod PackedLaws
