@@ -10,7 +10,8 @@ use Rattle.elem_descr.specs.declared.scalar.Scalar.TheVariants.{Bool as BoolScal
 use Rattle.fancy_index.specs.Sources.{number_from}
 use Rattle.fancy_index.specs.inside.Bools.{bool_number}
 use Rattle.fancy_index.specs.inside.Packed.{packed}
-use Rattle.fancy_index.proofs.RunLaws.{length-packed, packed-entry}
+use Rattle.overlap_copy.specs.PackedLaws.{length-row as length-packed}
+use Rattle.fancy_index.proofs.RunLaws.{packed-entry}
 
 pub bools-end : (at n len : ℕ) (offsets : List ℕ) → 1 ≤ n → offsets ≡ packed at 1 n → All (λ offset. offset + 1 ≤ len) offsets → at + n ≤ len
 bools-end at n len offsets some is within =

@@ -7,7 +7,7 @@ use Rattle.std.proofs.lemmas.Bool.{and_parts}
 use Rattle.std.proofs.lemmas.List.{length-map, drop_more}
 use Rattle.std.proofs.lemmas.List.Elements.{All-cons}
 use Rattle.std.proofs.lemmas.Slice.Eq.{bytes_eq-Decides}
-use lib.IntN.{ℤ, pos, negsuc}
+use lib.IntN.{ℤ, pos}
 use Rattle.shape_strides.specs.Indexes.{count, indexes, rank}
 use Rattle.shape_strides.specs.IndexLaws.{get_or-indexes, length-indexes}
 use Rattle.shape_strides.specs.AxisLaws.{axis_below}

@@ -119,5 +119,5 @@ pub all_places : (n k : ℕ) (numbers : List ℤ) (places : List ℕ) → length
 all_places n k numbers places past done =
     all_named n numbers places (sym done.left ∙ ap (list_all (is_place n)) (drop_all k numbers past))
     (same_lists places (map (place_of n) numbers) (done.many ∙ sym (length-map numbers (place_of n))) (λ j d below.
-      let low : j < length numbers = omega (arith, below, done.many) in
-      sym (get_or_default places j 0 d below) ∙ done.done j (omega (arith, low, past)) ∙ sym (get_or-map (place_of n) numbers j (pos 0) d low)))
+    let low : j < length numbers = omega (arith, below, done.many) in
+    sym (get_or_default places j 0 d below) ∙ done.done j (omega (arith, low, past)) ∙ sym (get_or-map (place_of n) numbers j (pos 0) d low)))

@@ -5,7 +5,6 @@ use Rattle.elem_descr.specs.declared.descr.Descr.{Descr}
 use Rattle.elem_descr.specs.Encoding.{integer, number_in}
 use Rattle.elem_descr.specs.Items.{item_size}
 use Rattle.raw_block.specs.Bytes.{item_at}
-use Rattle.shape_strides.specs.declared.runs.Run.{Run}
 use Rattle.shape_strides.specs.Addresses.{LieWithin}
 use Rattle.shape_strides.specs.Limits.{max_items, max_bytes}
 use Rattle.shape_strides.specs.Runs.{run_offsets}

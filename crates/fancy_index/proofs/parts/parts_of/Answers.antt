@@ -1,7 +1,6 @@
-use Rattle.std.proofs.Common.{◌≡◌, Bool, false, true, map, slice_range, sym, ap, subst, ◌∙◌}
+use Rattle.std.proofs.Common.{◌≡◌, false, map, slice_range, sym, ap, subst, ◌∙◌}
 use Rattle.std.proofs.lemmas.Result.{err_from_is_err_and}
 use Rattle.elem_descr.specs.declared.refusal.Refusal.TheVariants.{IndexOutOfRange}
-use Rattle.elem_descr.specs.Refusals.{check}
 use Rattle.fancy_index.specs.IndexArrays.{with_array, is_within, are_within}
 use Rattle.fancy_index.specs.Sources.{index_array_of, index_item_of, index_items}
 use Rattle.fancy_index.specs.Parts.{parts_of}
