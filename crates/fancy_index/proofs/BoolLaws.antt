@@ -10,12 +10,12 @@ use Rattle.elem_descr.specs.declared.scalar.Scalar.TheVariants.{Bool as BoolScal
 use Rattle.fancy_index.specs.Sources.{number_from}
 use Rattle.fancy_index.specs.inside.Bools.{bool_number}
 use Rattle.fancy_index.specs.inside.Packed.{packed}
-use Rattle.fancy_index.proofs.WordLaws.{packed-entry}
-use Rattle.fancy_index.proofs.RunLaws.{length-packed}
+use Rattle.overlap_copy.specs.PackedLaws.{length-row as length-packed}
+use Rattle.fancy_index.proofs.RunLaws.{packed-entry}
 
 pub bools-end : (at n len : ℕ) (offsets : List ℕ) → 1 ≤ n → offsets ≡ packed at 1 n → All (λ offset. offset + 1 ≤ len) offsets → at + n ≤ len
 bools-end at n len offsets some is within =
-    omega (arith, within (n - 1) 0 (omega (arith, ap length is, length-packed at 1 n)), ap (λ l. get_or l (n - 1) 0) is, packed-entry at 1 n (n - 1) 0 (omega arith))
+    omega (arith, within (n - 1) 0 (omega (arith, ap length is, length-packed at 1 n)), ap (λ l. get_or l (n - 1) 0) is, packed-entry at 1 n (n - 1) (omega arith))
 
 first-byte : (xs : List ℕ) → get_or (take 1 xs) 0 0 ≡ get_or xs 0 0
 first-byte [] = refl
@@ -40,7 +40,7 @@ bools-are descr block at n offsets bytes is lie room cut =
     get_or-map bool_number bytes k 0 d (omega (arith, low, many))
     ∙ ap bool_number (ap (λ l. get_or l k 0) cut ∙ taken n (drop at block) k low ∙ get_or-drop at block k 0 ∙ ap (λ j. get_or block j 0) place)
     ∙ sym (get_or-map (number_from descr block) offsets k 0 d inside
-    ∙ ap (number_from descr block) (ap (λ l. get_or l k 0) lie ∙ packed-entry at 1 n k 0 low)
+    ∙ ap (number_from descr block) (ap (λ l. get_or l k 0) lie ∙ packed-entry at 1 n k low)
     ∙ number-bool descr block (at + 1 * k) is))
   where
     many : length bytes ≡ n

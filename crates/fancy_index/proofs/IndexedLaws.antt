@@ -1,8 +1,10 @@
 -- Which answer each check of an index list gives.
-use Rattle.std.proofs.Common.{◌≡◌, Err, ℕ, ◌≤◌, nat_le, true, false, ◌&&◌, List, [], ◌∷◌, map, length, refl, arith}
+use Rattle.std.proofs.Common.{◌≡◌, ◌⊎◌, inl, inr, Err, ℕ, ◌≤◌, nat_le, true, false, ◌&&◌, List, [], ◌∷◌, map, length, refl, ap, ◌∙◌, arith}
 use Rattle.std.specs.List.{list_all}
 use Rattle.std.proofs.lemmas.Bool.Decides.{nat_tests}
-use Rattle.elem_descr.specs.declared.refusal.Refusal.TheVariants.{NotAnIndexType, TooManyIndices, MaskLengths, ZeroStep, IndexOutOfRange}
+use Rattle.elem_descr.specs.declared.refusal.Refusal.{Refusal}
+use Rattle.elem_descr.specs.declared.refusal.Refusal.TheVariants.{OutOfMemory, NotAnIndexType, TooManyIndices, MaskLengths, ZeroStep, IndexOutOfRange}
+use Rattle.elem_descr.specs.Refusals.{◌>>=◌, check}
 use Rattle.shape_strides.specs.declared.index_item.IndexItem.{IndexItem}
 use Rattle.shape_strides.specs.declared.index_item.IndexItem.TheVariants.{Integer, Slice, Ellipsis, NewAxis, Array}
 use Rattle.view_ops.specs.Basics.{has_step}
@@ -27,16 +29,18 @@ pub refused-step : (shape : List ℕ) (items : List (IndexItem IndexArray)) → 
 unfolding indexed
 refused-step shape items index enough covers none = rw (index, enough, covers, none)
 
-pub refused-range : (shape : List ℕ) (items : List (IndexItem IndexArray)) → list_all is_index items ≡ true → nat_le (array_axes_taken items) (length shape) ≡ true → cover shape items ≡ true → list_all has_step items ≡ true → are_within shape items ≡ false → indexed shape items ≡ Err IndexOutOfRange
-unfolding indexed
-refused-range shape items index enough covers steps out = rw (index, enough, covers, steps, out)
-
-pub indexed-parts : (shape : List ℕ) (items : List (IndexItem IndexArray)) → IsChecked shape items → indexed shape items ≡ parts_view (parts shape items)
+-- where nothing is refused before its numbers
+pub indexed-parts : (shape : List ℕ) (items : List (IndexItem IndexArray)) → IsChecked shape items → indexed shape items ≡ (check (are_within shape items) IndexOutOfRange >>= λ _. parts_view (parts shape items))
 unfolding indexed
 indexed-parts shape items c =
     let few : array_axes_taken items ≤ length shape = c.enough in
     let test : nat_le (array_axes_taken items) (length shape) ≡ true = grind (arith, nat_tests) in
-    rw (c.index, test, c.covers, c.steps, c.within)
+    rw (c.index, test, c.covers, c.steps)
+
+-- where a number is refused
+pub refused-range : (shape : List ℕ) (items : List (IndexItem IndexArray)) (e : Refusal) → IsChecked shape items → (e ≡ OutOfMemory) ⊎ (check (are_within shape items) IndexOutOfRange ≡ Err e) → (e ≡ OutOfMemory) ⊎ (indexed shape items ≡ Err e)
+refused-range shape items e c (inl none) = inl none
+refused-range shape items e c (inr out) = inr (indexed-parts shape items c ∙ ap (λ r. r >>= λ _. parts_view (parts shape items)) out)
 
 -- an array takes no step
 same_step : (arrays : List IndexArray) (item : IndexItem ℕ) → has_step (with_array arrays item) ≡ has_step item

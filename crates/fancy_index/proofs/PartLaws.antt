@@ -1,15 +1,19 @@
 -- The parts that items come to, item by item.
-use Rattle.std.proofs.Common.{◌≡◌, ℕ, ℤ, ◌+◌, ◌-◌, ◌<◌, ◌≤◌, Bool, true, false, pos, List, [], ◌∷◌, ◌++◌, map, length, get_or, take, drop, slice_range, refl, sym, ap, subst, ◌∙◌, arith, length-drop, length-take-le, append_assoc, append-nil}
+use Rattle.std.proofs.Common.{◌≡◌, ◌⊎◌, inl, inr, Ok, Err, is_ok, ℕ, ℤ, ◌+◌, ◌-◌, ◌<◌, ◌≤◌, Bool, true, false, ◌&&◌, pos, List, [], ◌∷◌, ◌++◌, map, length, get_or, take, drop, slice_range, refl, sym, ap, subst, ◌∙◌, arith, length-drop, length-take-le, append_assoc, append-nil}
 use Rattle.std.specs.List.{list_all, flat_map}
 use Rattle.std.proofs.lemmas.Bool.{and_parts, false≢true}
 use Rattle.std.proofs.lemmas.List.{drop-drop, drop_more, drop_all, map-append}
 use Rattle.std.proofs.lemmas.List.Folds.{drop_split}
+use Rattle.elem_descr.specs.declared.refusal.Refusal.{Refusal}
+use Rattle.elem_descr.specs.declared.refusal.Refusal.TheVariants.{OutOfMemory}
+use Rattle.elem_descr.specs.Refusals.{check}
 use Rattle.shape_strides.specs.declared.index_item.IndexItem.{IndexItem}
 use Rattle.shape_strides.specs.declared.index_item.IndexItem.TheVariants.{Integer, Slice, Ellipsis, NewAxis as NewItem, Array}
 use Rattle.shape_strides.specs.IndexItems.{is_ellipsis}
 use Rattle.view_ops.specs.declared.pick.AxisPick.{AxisPick}
 use Rattle.view_ops.specs.declared.pick.AxisPick.TheVariants.{At as AtAxis, Along as AlongAxis, New as NewAxis}
-use Rattle.view_ops.specs.Basics.{whole, has_step, is_on_axis}
+use Rattle.view_ops.specs.Slices.{is_place}
+use Rattle.view_ops.specs.Basics.{whole, has_step}
 use Rattle.view_ops.specs.Picks.{pick_shown, ArePicks}
 use Rattle.fancy_index.specs.declared.points.PointList.{PointList}
 use Rattle.fancy_index.specs.declared.parts.IndexPart.{IndexPart}
@@ -127,6 +131,7 @@ module _ (f : IndexItem ℕ → IndexItem IndexArray) (shape : List ℕ) (items 
   pub record HaveParts (done : List IndexPart) (k axis : ℕ) : Type 0 where
     pub within : axis ≤ length shape
     pub checked : IsChecked (drop axis shape) (left k)
+    pub in_range : are_within (drop axis shape) (left k) ≡ are_within shape (map f items)
     pub are : (more : List IndexPart) → AreParts (drop axis shape) more → AreParts shape (done ++ more)
     pub show : map shown_part done ++ parts (drop axis shape) (left k) ≡ parts shape (map f items)
 
@@ -136,7 +141,6 @@ module _ (f : IndexItem ℕ → IndexItem IndexArray) (shape : List ℕ) (items 
     pub axes : is_ellipsis (item k) ≡ false → length (slice_range shape axis end) ≡ item_axes (item k)
     pub covers : covers (slice_range shape axis end) (item k) ≡ true
     pub step : has_step (item k) ≡ true
-    pub within : is_within (slice_range shape axis end) (item k) ≡ true
 
   -- what holds of all that is left holds of the next, and of all after it
   parted : (p : IndexItem IndexArray → Bool) (k : ℕ) → k < length items → list_all p (left k) ≡ true → (p (item k) ≡ true) × (list_all p (left (k + 1)) ≡ true)
@@ -146,9 +150,12 @@ module _ (f : IndexItem ℕ → IndexItem IndexArray) (shape : List ℕ) (items 
   covered k axis end ends all =
       and_parts (covers (slice_range shape axis end) (item k)) (cover (drop end shape) (left (k + 1))) (sym (ap (list_all (λ p. covers p.axes p.item)) (placed_more k axis end ends)) ∙ all)
 
-  in_range : (k axis end : ℕ) → EndsAt k axis end → are_within (drop axis shape) (left k) ≡ true → (is_within (slice_range shape axis end) (item k) ≡ true) × (are_within (drop end shape) (left (k + 1)) ≡ true)
-  in_range k axis end ends all =
-      and_parts (is_within (slice_range shape axis end) (item k)) (are_within (drop end shape) (left (k + 1))) (sym (ap (list_all (λ p. is_within p.axes p.item)) (placed_more k axis end ends)) ∙ all)
+  within_more : (k axis end : ℕ) → EndsAt k axis end → are_within (drop axis shape) (left k) ≡ (is_within (slice_range shape axis end) (item k) && are_within (drop end shape) (left (k + 1)))
+  within_more k axis end ends = ap (list_all (λ p. is_within p.axes p.item)) (placed_more k axis end ends)
+
+  -- a number of an item is refused
+  pub part_refused : (done : List IndexPart) (k axis end : ℕ) → EndsAt k axis end → HaveParts done k axis → is_within (slice_range shape axis end) (item k) ≡ false → are_within shape (map f items) ≡ false
+  part_refused done k axis end ends have out = sym have.in_range ∙ within_more k axis end ends ∙ ap (λ b. b && are_within (drop end shape) (left (k + 1))) out
 
   pub can_part : (done : List IndexPart) (k axis end : ℕ) → EndsAt k axis end → HaveParts done k axis → CanPart k axis end
   can_part done k axis end ends have = record {
@@ -156,7 +163,6 @@ module _ (f : IndexItem ℕ → IndexItem IndexArray) (shape : List ℕ) (items 
     axes = λ basic. sized (length shape - axis) (item k) (left (k + 1)) basic (omega (arith, ends.is, length-take-le (end - axis) (drop axis shape) (omega (arith, length-drop axis shape, ends.within))));
     covers = (covered k axis end ends have.checked.covers).0;
     step = (parted has_step k ends.low have.checked.steps).0;
-    within = (in_range k axis end ends have.checked.within).0;
   }
     where
       sized : (n : ℕ) (x : IndexItem IndexArray) (later : List (IndexItem IndexArray)) → is_ellipsis x ≡ false → length (slice_range shape axis end) ≡ array_axes_width n x later → length (slice_range shape axis end) ≡ item_axes x
@@ -166,8 +172,8 @@ module _ (f : IndexItem ℕ → IndexItem IndexArray) (shape : List ℕ) (items 
       sized n NewItem later basic is = is
       sized n (Array array) later basic is = is
 
-  pub parts_on : (done new : List IndexPart) (k axis end : ℕ) → EndsAt k axis end → HaveParts done k axis → AddsParts done new (slice_range shape axis end) (parts_of (slice_range shape axis end) (item k)) → HaveParts new (k + 1) end
-  parts_on done new k axis end ends have adds =
+  pub parts_on : (done new : List IndexPart) (k axis end : ℕ) → EndsAt k axis end → HaveParts done k axis → is_within (slice_range shape axis end) (item k) ≡ true → AddsParts done new (slice_range shape axis end) (parts_of (slice_range shape axis end) (item k)) → HaveParts new (k + 1) end
+  parts_on done new k axis end ends have here adds =
       let axes = slice_range shape axis end in
       let later = parts (drop end shape) (left (k + 1)) in
       record {
@@ -177,8 +183,8 @@ module _ (f : IndexItem ℕ → IndexItem IndexArray) (shape : List ℕ) (items 
           enough = omega (arith, ends.enough, length-drop end shape);
           covers = (covered k axis end ends have.checked.covers).1;
           steps = (parted has_step k ends.low have.checked.steps).1;
-          within = (in_range k axis end ends have.checked.within).1;
         };
+        in_range = sym (within_more k axis end ends ∙ ap (λ b. b && are_within (drop end shape) (left (k + 1))) here) ∙ have.in_range;
         are = λ more are-more.
             let these : AreParts (drop axis shape) (adds.added ++ more) = rw (drop_split shape axis end ends.from) (AreParts-append axes (drop end shape) adds.added more adds.are are-more) in
             rw (adds.after, append_assoc done adds.added more) (have.are (adds.added ++ more) these);
@@ -193,20 +199,33 @@ module _ (f : IndexItem ℕ → IndexItem IndexArray) (shape : List ℕ) (items 
 
   -- before the first item
   pub parts_begin : IsChecked shape (map f items) → HaveParts [] 0 0
-  parts_begin checked = record { within = omega arith; checked = checked; are = λ more are. are; show = refl }
+  parts_begin checked = record { within = omega arith; checked = checked; in_range = refl; are = λ more are. are; show = refl }
 
   -- after the last item
-  pub parts_all : (done new : List IndexPart) (k axis : ℕ) → length items ≤ k → HaveParts done k axis → AddsParts done new (drop axis shape) (wholes (drop axis shape)) → AreParts shape new × (map shown_part new ≡ parts shape (map f items))
+  pub parts_all : (done new : List IndexPart) (k axis : ℕ) → length items ≤ k → HaveParts done k axis → AddsParts done new (drop axis shape) (wholes (drop axis shape)) → (are_within shape (map f items) ≡ true) × AreParts shape new × (map shown_part new ≡ parts shape (map f items))
   parts_all done new k axis over have adds = (
+    sym have.in_range ∙ ap (are_within (drop axis shape)) (ap (map f) (drop_all k items over)),
     subst (AreParts shape) (sym adds.after) (have.are adds.added adds.are),
     ap (map shown_part) adds.after ∙ map-append shown_part done adds.added ∙ ap (λ l. map shown_part done ++ l) (adds.show ∙ sym (ap (λ l. parts (drop axis shape) (map f l)) (drop_all k items over))) ∙ have.show,
   )
 
+-- ---- what a test says
+
+pub passed : (test : Bool) (refusal : Refusal) → check test refusal ≡ Ok tt → test ≡ true
+passed true refusal is = refl
+passed false refusal is = absurd (false≢true (ap is_ok is))
+
+-- a refusal of one test is that of another
+pub refused_as : (test test' : Bool) (refusal e : Refusal) → (test ≡ false → test' ≡ false) → (e ≡ OutOfMemory) ⊎ (check test refusal ≡ Err e) → (e ≡ OutOfMemory) ⊎ (check test' refusal ≡ Err e)
+refused_as test test' refusal e then (inl none) = inl none
+refused_as true test' refusal e then (inr is) = absurd (false≢true (sym (ap is_ok is)))
+refused_as false test' refusal e then (inr is) = inr (ap (λ t. check t refusal) (then refl) ∙ is)
+
 -- ---- one item
 
-pub adds_integer : (old new : List IndexPart) (axes : List ℕ) (at : ℤ) (p : PointList) (n : ℕ) → length axes ≡ 1 → n ≡ get_or axes 0 0 → is_on_axis {A = IndexArray} axes (Integer at) ≡ true → p.lengths.items ≡ [] → p.axes.items ≡ n ∷ [] → p.ranks.items ≡ place_of n at ∷ [] → new ≡ old ++ PointsPart p ∷ [] →
+pub adds_integer : (old new : List IndexPart) (axes : List ℕ) (at : ℤ) (p : PointList) (n : ℕ) → length axes ≡ 1 → n ≡ get_or axes 0 0 → is_place n at ≡ true → p.lengths.items ≡ [] → p.axes.items ≡ n ∷ [] → p.ranks.items ≡ place_of n at ∷ [] → new ≡ old ++ PointsPart p ∷ [] →
     AddsParts old new axes (parts_of axes (Integer at))
 adds_integer old new [] at p n one first place lengths axes_are ranks after = absurd (omega arith)
 adds_integer old new (m ∷ m' ∷ axes) at p n one first place lengths axes_are ranks after = absurd (omega arith)
 adds_integer old new (m ∷ []) at p n one first place lengths axes_are ranks after =
-    adds_points old new (m ∷ []) p (parts_of (m ∷ []) (Integer at)) (rw (← first) (integer-part n at p (rw first place) lengths axes_are ranks)) after
+    adds_points old new (m ∷ []) p (parts_of (m ∷ []) (Integer at)) (rw (← first) (integer-part n at p place lengths axes_are ranks)) after

@@ -1,7 +1,8 @@
 -- Passes over the offsets of a plan: what is left to be done leads to what all of it does.
-use Rattle.std.proofs.Common.{◌≡◌, ℕ, ◌+◌, ◌-◌, ◌*◌, ◌<◌, ◌≤◌, List, [], ◌∷◌, ◌++◌, map, length, get_or, drop, All, refl, sym, ap, subst, ◌∙◌, arith, add-mul, length-append}
+use Rattle.std.proofs.Common.{◌≡◌, ℕ, ◌+◌, ◌*◌, ◌<◌, ◌≤◌, List, [], ◌∷◌, ◌++◌, map, length, get_or, drop, All, refl, sym, ap, subst, ◌∙◌, arith, add-mul, zero-mul, length-append, append_assoc, append-nil}
 use Rattle.std.specs.List.{flat_map}
 use Rattle.std.proofs.lemmas.List.{get_or-map, length-map, map-append, drop_more}
+use Rattle.std.proofs.lemmas.Grind.{flat_map-append}
 use Rattle.std.proofs.lemmas.List.Elements.{All-head, All-tail}
 use Rattle.raw_block.specs.Bytes.{put, item_at}
 use Rattle.shape_strides.specs.declared.runs.Run.{Run}
@@ -10,12 +11,13 @@ use Rattle.shape_strides.specs.Limits.{max_bytes}
 use Rattle.shape_strides.specs.Runs.{run_offsets}
 use Rattle.shape_strides.specs.WalkLaws.{length-run_offsets}
 use Rattle.overlap_copy.specs.Assignments.{assigned}
+use Rattle.overlap_copy.specs.Joined.{joined_at}
 use Rattle.overlap_copy.specs.RunLaws.{All-back, All-front, assigned-append}
 use lib.IntN.{pos}
-use Rattle.fancy_index.specs.Plans.{moved_offset, shifted_all, moved_all, put_each}
-use Rattle.fancy_index.specs.inside.Kept.{IsMoved}
+use Rattle.fancy_index.specs.Plans.{put_each}
+use Rattle.fancy_index.specs.inside.Kept.{moved_offset, shifted_all, moved_all, IsMoved}
 use Rattle.fancy_index.specs.inside.Packed.{packed}
-use Rattle.fancy_index.proofs.RunLaws.{length-packed, packed-append}
+use Rattle.overlap_copy.specs.PackedLaws.{length-row as length-packed, row-split as packed-append}
 use Rattle.fancy_index.specs.PlanLaws.{put_each-append}
 
 pub All-unmap : (P : ℕ → Type 0) (f : ℕ → ℕ) (xs : List ℕ) → All P (map f xs) → All (λ x. P (f x)) xs
@@ -96,38 +98,49 @@ scattered_next xs ys at at' width end items block block' whole written same next
   room = have.room;
 }
 
--- ---- items that are gathered
+-- ---- items that are pushed
 
-pub record Gathering (left : List ℕ) (at width end : ℕ) (block items whole : List ℕ) : Type 0 where
-  pub rest : assigned (packed at width (length left)) left width block items ≡ whole
+-- those at the first offsets are pushed, and those at the others are left
+pub record Pushing (all left : List ℕ) (width : ℕ) (block : List ℕ) (old now : List ℕ × ℕ) : Type 0 where
+  pub rest : now.0 ++ joined_at left width block ≡ old.0 ++ joined_at all width block
   pub inside : All (λ offset. offset + width ≤ length block) left
-  pub ends : at + length left * width ≡ end
-  pub room : end ≤ length items
+  pub ends : length all * width + now.1 ≡ old.1 + length left * width
+  pub fits : length all * width ≤ old.1
 
-pub gathering : (left : List ℕ) (at width : ℕ) (block items : List ℕ) → All (λ offset. offset + width ≤ length block) left → at + length left * width ≤ length items →
-    Gathering left at width (at + length left * width) block items (assigned (packed at width (length left)) left width block items)
-gathering left at width block items inside room = record { rest = refl; inside = inside; ends = refl; room = room }
+-- the next ones may be pushed
+pub record CanPush (xs : List ℕ) (width : ℕ) (block : List ℕ) (now : List ℕ × ℕ) : Type 0 where
+  pub inside : All (λ offset. offset + width ≤ length block) xs
+  pub room : length xs * width ≤ now.1
 
-gather_next : (xs ys : List ℕ) (at width end : ℕ) (block items whole : List ℕ) → Gathering (xs ++ ys) at width end block items whole → CanScatter xs at width items block
-gather_next xs ys at width end block items whole have = record {
-  inside = All-front (λ offset. offset + width ≤ length block) xs ys have.inside;
-  room = omega (arith, have.ends, have.room, longer xs ys at width);
+both : (xs ys : List ℕ) (width : ℕ) → length (xs ++ ys) * width ≡ length xs * width + length ys * width
+both xs ys width = ap (λ n. n * width) (length-append xs ys) ∙ add-mul (length xs) (length ys) width
+
+pub push_front : (all left xs ys : List ℕ) (width : ℕ) (block : List ℕ) (old now : List ℕ × ℕ) → left ≡ xs ++ ys → Pushing all left width block old now → CanPush xs width block now
+push_front all left xs ys width block old now split have = record {
+  inside = All-front (λ offset. offset + width ≤ length block) xs ys (subst (All (λ offset. offset + width ≤ length block)) split have.inside);
+  room = omega (arith, have.ends, have.fits, ap (λ l. length l * width) split, both xs ys width);
 }
 
-gathered_next : (xs ys : List ℕ) (at at' width end : ℕ) (block items items' whole : List ℕ) → items' ≡ assigned (packed at width (length xs)) xs width block items → length items' ≡ length items → at' ≡ at + length xs * width →
-    Gathering (xs ++ ys) at width end block items whole → Gathering ys at' width end block items' whole
-gathered_next xs ys at at' width end block items items' whole written same next have = record {
+pub pushed_front : (all left xs ys : List ℕ) (width : ℕ) (block : List ℕ) (old now new : List ℕ × ℕ) → left ≡ xs ++ ys → new.0 ≡ now.0 ++ joined_at xs width block → length xs * width + new.1 ≡ now.1 →
+    Pushing all left width block old now → Pushing all ys width block old new
+pushed_front all left xs ys width block old now new split pushed room have = record {
   rest =
-      ap (λ a. assigned (packed a width (length ys)) ys width block items') next
-      ∙ ap (assigned (packed (at + length xs * width) width (length ys)) ys width block) written
-      ∙ sym (assigned-append (packed at width (length xs)) xs (packed (at + length xs * width) width (length ys)) ys width block items (length-packed at width (length xs)))
-      ∙ ap (λ to. assigned to (xs ++ ys) width block items) (sym (packed-append at width (length xs) (length ys)))
-      ∙ ap (λ n. assigned (packed at width n) (xs ++ ys) width block items) (sym (length-append xs ys))
+      ap (λ l. l ++ joined_at ys width block) pushed
+      ∙ append_assoc now.0 (joined_at xs width block) (joined_at ys width block)
+      ∙ ap (λ l. now.0 ++ l) (sym (flat_map-append (λ offset. item_at offset width block) xs ys))
+      ∙ ap (λ l. now.0 ++ joined_at l width block) (sym split)
       ∙ have.rest;
-  inside = All-back (λ offset. offset + width ≤ length block) xs ys have.inside;
-  ends = omega (arith, have.ends, longer xs ys at width, next);
-  room = omega (arith, have.room, same);
+  inside = All-back (λ offset. offset + width ≤ length block) xs ys (subst (All (λ offset. offset + width ≤ length block)) split have.inside);
+  ends = omega (arith, have.ends, room, ap (λ l. length l * width) split, both xs ys width);
+  fits = have.fits;
 }
+
+-- none is left
+pub pushed_all : (all left : List ℕ) (width : ℕ) (block : List ℕ) (old now : List ℕ × ℕ) → left ≡ [] → Pushing all left width block old now → (now.0 ≡ old.0 ++ joined_at all width block) × (length all * width + now.1 ≡ old.1)
+pushed_all all left width block old now none have = (
+  sym (append-nil now.0) ∙ ap (λ l. now.0 ++ joined_at l width block) (sym none) ∙ have.rest,
+  omega (arith, have.ends, ap (λ l. length l * width) none, zero-mul width),
+)
 
 -- ---- items that are filled
 
@@ -151,15 +164,6 @@ pub scattered_front : (left xs ys : List ℕ) (at at' width end : ℕ) (items bl
     Scattering left at width end items block whole → Scattering ys at' width end items block' whole
 scattered_front left xs ys at at' width end items block block' whole split written same next have =
     scattered_next xs ys at at' width end items block block' whole written same next (subst (λ l. Scattering l at width end items block whole) split have)
-
-pub gather_front : (left xs ys : List ℕ) (at width end : ℕ) (block items whole : List ℕ) → left ≡ xs ++ ys → Gathering left at width end block items whole → CanScatter xs at width items block
-gather_front left xs ys at width end block items whole split have =
-    gather_next xs ys at width end block items whole (subst (λ l. Gathering l at width end block items whole) split have)
-
-pub gathered_front : (left xs ys : List ℕ) (at at' width end : ℕ) (block items items' whole : List ℕ) → left ≡ xs ++ ys → items' ≡ assigned (packed at width (length xs)) xs width block items → length items' ≡ length items → at' ≡ at + length xs * width →
-    Gathering left at width end block items whole → Gathering ys at' width end block items' whole
-gathered_front left xs ys at at' width end block items items' whole split written same next have =
-    gathered_next xs ys at at' width end block items items' whole written same next (subst (λ l. Gathering l at width end block items whole) split have)
 
 pub fill_front : (left xs ys item block whole : List ℕ) → left ≡ xs ++ ys → Filling left item block whole → All (λ offset. offset + length item ≤ length block) xs
 fill_front left xs ys item block whole split have =
@@ -203,21 +207,23 @@ scattered_run base start at width end run to from left left' items block block' 
     (ap (λ n. at + n * width) (sym (long-run base start run)))
     (subst (λ l. Scattering l at width end items block whole) (split-runs base start run left left' walked) have)
 
-pub gather_run : (base start at width end : ℕ) (run : Run) (left left' : List Run) (block items whole : List ℕ) → left ≡ run ∷ left' → Gathering (moved_runs base start left) at width end block items whole → CanScatterRun base start at width run items block
-gather_run base start at width end run left left' block items whole walked have =
-    can_run base start at width run items block (gather_next (map (moved_offset base start) (run_offsets run)) (moved_runs base start left') at width end block items whole
-    (subst (λ l. Gathering l at width end block items whole) (split-runs base start run left left' walked) have))
+pub record CanPushRun (base start width : ℕ) (run : Run) (block : List ℕ) (now : List ℕ × ℕ) : Type 0 where
+  pub inside : All (λ offset. moved_offset base start offset + width ≤ length block) (run_offsets run)
+  pub room : run.count * width ≤ now.1
 
-pub gathered_run : (base start at width end : ℕ) (run to from : Run) (left left' : List Run) (block items items' whole : List ℕ) → left ≡ run ∷ left' →
-    run_offsets from ≡ map (moved_offset base start) (run_offsets run) → to ≡ record { offset = at; count = run.count; step = pos width } →
-    items' ≡ assigned (run_offsets to) (run_offsets from) width block items → length items' ≡ length items →
-    Gathering (moved_runs base start left) at width end block items whole → Gathering (moved_runs base start left') (at + run.count * width) width end block items' whole
-gathered_run base start at width end run to from left left' block items items' whole walked from_is to_is written same have =
-    gathered_next (map (moved_offset base start) (run_offsets run)) (moved_runs base start left') at (at + run.count * width) width end block items items' whole
-    (written ∙ (λ i. assigned (run_offsets (to_is i)) (from_is i) width block items) ∙ ap (λ n. assigned (packed at width n) (map (moved_offset base start) (run_offsets run)) width block items) (sym (long-run base start run)))
-    same
-    (ap (λ n. at + n * width) (sym (long-run base start run)))
-    (subst (λ l. Gathering l at width end block items whole) (split-runs base start run left left' walked) have)
+pub push_run : (all : List ℕ) (base start width : ℕ) (run : Run) (left left' : List Run) (block : List ℕ) (old now : List ℕ × ℕ) → left ≡ run ∷ left' → Pushing all (moved_runs base start left) width block old now → CanPushRun base start width run block now
+push_run all base start width run left left' block old now walked have =
+    let can = push_front all (moved_runs base start left) (map (moved_offset base start) (run_offsets run)) (moved_runs base start left') width block old now (split-runs base start run left left' walked) have in
+    record {
+      inside = All-unmap (λ offset. offset + width ≤ length block) (moved_offset base start) (run_offsets run) can.inside;
+      room = subst (λ n. n * width ≤ now.1) (long-run base start run) can.room;
+    }
+
+pub pushed_run : (all : List ℕ) (base start width : ℕ) (run : Run) (left left' : List Run) (block : List ℕ) (old now new : List ℕ × ℕ) → left ≡ run ∷ left' → new.0 ≡ now.0 ++ joined_at (map (moved_offset base start) (run_offsets run)) width block → run.count * width + new.1 ≡ now.1 →
+    Pushing all (moved_runs base start left) width block old now → Pushing all (moved_runs base start left') width block old new
+pushed_run all base start width run left left' block old now new walked pushed room have =
+    pushed_front all (moved_runs base start left) (map (moved_offset base start) (run_offsets run)) (moved_runs base start left') width block old now new (split-runs base start run left left' walked) pushed
+    (ap (λ n. n * width + new.1) (long-run base start run) ∙ room) have
 
 pub fill_run : (base start : ℕ) (run : Run) (left left' : List Run) (item block whole : List ℕ) → left ≡ run ∷ left' → Filling (moved_runs base start left) item block whole → All (λ offset. moved_offset base start offset + length item ≤ length block) (run_offsets run)
 fill_run base start run left left' item block whole walked have =

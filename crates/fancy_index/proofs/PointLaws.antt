@@ -7,7 +7,7 @@ use Rattle.std.proofs.lemmas.Bool.{and_parts}
 use Rattle.std.proofs.lemmas.List.{length-map, drop_more}
 use Rattle.std.proofs.lemmas.List.Elements.{All-cons}
 use Rattle.std.proofs.lemmas.Slice.Eq.{bytes_eq-Decides}
-use lib.IntN.{ℤ, pos, negsuc}
+use lib.IntN.{ℤ, pos}
 use Rattle.shape_strides.specs.Indexes.{count, indexes, rank}
 use Rattle.shape_strides.specs.IndexLaws.{get_or-indexes, length-indexes}
 use Rattle.shape_strides.specs.AxisLaws.{axis_below}
@@ -146,8 +146,9 @@ one_axis NoIndex axes shape index mask one = absurd (index refl)
 one_axis Mask axes shape index mask one = absurd (mask refl)
 one_axis Integers axes shape index mask one = omega arith
 
-pub all_places : (k : Kind) (axes shape : List ℕ) (numbers : List ℤ) (n : ℕ) → (k ≡ NoIndex → ⊥) → (k ≡ Mask → ⊥) → length axes ≡ axes_of_kind k shape → are_places k axes numbers ≡ true → n ≡ get_or axes 0 0 → list_all (is_place n) numbers ≡ true
-all_places NoIndex axes shape numbers n index mask one within first = absurd (index refl)
-all_places Mask axes shape numbers n index mask one within first = absurd (mask refl)
-all_places Integers [] shape numbers n index mask one within first = absurd (omega arith)
-all_places Integers (m ∷ axes) shape numbers n index mask one within first = ap (λ n. list_all (is_place n) numbers) first ∙ within
+-- its numbers are tested against that axis
+pub places_tested : (k : Kind) (axes shape : List ℕ) (numbers : List ℤ) (n : ℕ) → (k ≡ NoIndex → ⊥) → (k ≡ Mask → ⊥) → length axes ≡ axes_of_kind k shape → n ≡ get_or axes 0 0 → are_places k axes numbers ≡ list_all (is_place n) numbers
+places_tested NoIndex axes shape numbers n index mask one first = absurd (index refl)
+places_tested Mask axes shape numbers n index mask one first = absurd (mask refl)
+places_tested Integers [] shape numbers n index mask one first = absurd (omega arith)
+places_tested Integers (m ∷ axes) shape numbers n index mask one first = ap (λ n. list_all (is_place n) numbers) (sym first)

@@ -1,11 +1,9 @@
 -- Runs that are moved, and runs of items that are copied and filled.
-use Rattle.std.proofs.Common.{◌≡◌, ℕ, ◌+◌, ◌-◌, ◌*◌, ◌<◌, ◌≤◌, List, [], ◌∷◌, ◌++◌, map, length, get_or, All, sym, ap, subst, ◌∙◌, arith, mul_comm}
+use Rattle.std.proofs.Common.{◌≡◌, ℕ, ◌+◌, ◌-◌, ◌*◌, ◌<◌, ◌≤◌, List, [], ◌∷◌, map, length, get_or, All, sym, ap, subst, ◌∙◌, arith}
 use Rattle.std.proofs.lemmas.Int.{ints}
-use Rattle.std.proofs.lemmas.List.{length-map, get_or-map, get_or_default, map-append, same_lists}
+use Rattle.std.proofs.lemmas.List.{length-map, get_or-map, get_or_default, same_lists}
 use Rattle.std.proofs.lemmas.List.Elements.{All-get_or}
 use lib.IntN.{ℤ, pos, nat_abs, ◌+ℤ◌, ◌*ℤ◌, zero-*ℤ, +ℤ_idr}
-use Rattle.elem_descr.specs.Steps.{numbers_from}
-use Rattle.elem_descr.specs.StepLaws.{numbers-split}
 use Rattle.raw_block.specs.Bytes.{position, place, EachWithin}
 use Rattle.raw_block.specs.BytesLaws.{not_negative}
 use Rattle.shape_strides.specs.declared.runs.Run.{Run}
@@ -13,9 +11,8 @@ use Rattle.shape_strides.specs.Addresses.{natural, LieWithin}
 use Rattle.shape_strides.specs.Limits.{max_bytes}
 use Rattle.shape_strides.specs.Runs.{run_offsets}
 use Rattle.shape_strides.specs.WalkLaws.{length-run_offsets}
-use Rattle.overlap_copy.specs.RunLaws.{place-at, lie-within}
-use Rattle.fancy_index.specs.Plans.{moved_offset}
-use Rattle.fancy_index.specs.inside.Kept.{IsMoved}
+use Rattle.overlap_copy.specs.RunLaws.{nth-offset, place-at, lie-within}
+use Rattle.fancy_index.specs.inside.Kept.{moved_offset, IsMoved}
 use Rattle.fancy_index.specs.inside.Packed.{packed}
 
 -- ---- a run that is moved
@@ -78,15 +75,8 @@ module _ (run : Run) (base start : ℕ) (lies : LieWithin (run.count ∷ []) (ru
 
 -- ---- items one after another
 
-pub length-packed : (at width n : ℕ) → length (packed at width n) ≡ n
-length-packed at width n = length-run_offsets (record { offset = at; count = n; step = pos width })
-
--- so many items, and so many after them
-pub packed-append : (at width n m : ℕ) → packed at width (n + m) ≡ packed at width n ++ packed (at + n * width) width m
-packed-append at width n m =
-    let next : pos at +ℤ pos width *ℤ pos n ≡ pos (at + n * width) = ap (λ k. pos (at + k)) (mul_comm width n) in
-    ap (map natural) (numbers-split (pos at) (pos width) n m)
-    ∙ map-append natural (numbers_from (pos at) (pos width) n) (numbers_from (pos at +ℤ pos width *ℤ pos n) (pos width) m)
-    ∙ ap (λ z. packed at width n ++ map natural (numbers_from z (pos width) m)) next
-
--- ---- runs that are filled
+pub packed-entry : (at width n k : ℕ) → k < n → get_or (packed at width n) k 0 ≡ at + width * k
+packed-entry at width n k low = nth-offset (record { offset = at; count = n; step = pos width }) k low ∙ there
+  where
+    there : natural (pos at +ℤ pos width *ℤ pos k) ≡ at + width * k
+    there = omega arith

@@ -1,5 +1,5 @@
 -- Single items that are gathered, scattered and filled.
-use Rattle.std.proofs.Common.{◌≡◌, ℕ, ◌+◌, ◌-◌, ◌<◌, ◌≤◌, List, [], ◌∷◌, ◌++◌, map, length, get_or, drop, All, refl, sym, ap, ◌∙◌, arith}
+use Rattle.std.proofs.Common.{◌≡◌, ℕ, ◌+◌, ◌-◌, ◌<◌, ◌≤◌, List, [], ◌∷◌, ◌++◌, map, length, get_or, drop, All, refl, sym, ap, ◌∙◌, arith, append-nil}
 use Rattle.std.proofs.lemmas.List.{drop_more, length-map}
 use Rattle.raw_block.specs.Bytes.{put, item_at}
 use Rattle.shape_strides.specs.declared.layout.Layout.{Layout}
@@ -7,11 +7,10 @@ use Rattle.shape_strides.specs.Indexes.{count}
 use Rattle.shape_strides.specs.Layouts.{offsets}
 use Rattle.shape_strides.specs.LayoutLaws.{length-offsets, entry-first}
 use Rattle.overlap_copy.specs.Assignments.{assigned}
-use Rattle.fancy_index.specs.Plans.{moved_offset, shifted_all}
-use Rattle.fancy_index.specs.inside.Kept.{IsMoved, IsStart}
+use Rattle.fancy_index.specs.inside.Kept.{moved_offset, shifted_all, IsMoved, IsStart}
 use Rattle.fancy_index.specs.inside.Packed.{packed}
 use Rattle.fancy_index.proofs.GatherLaws.{packed-suc}
-use Rattle.fancy_index.proofs.Passes.{CanScatter, Scattering, Gathering, Filling, scatter_front, scattered_front, gather_front, gathered_front, fill_front, filled_front}
+use Rattle.fancy_index.proofs.Passes.{CanScatter, Scattering, Pushing, Filling, scatter_front, scattered_front, push_front, pushed_front, fill_front, filled_front}
 
 -- ---- layouts of one item
 
@@ -69,14 +68,14 @@ module _ (base place : ℕ) (shifts : List ℕ) (k start : ℕ) (low : k < lengt
   split : now ≡ (start ∷ []) ++ later
   split = split-single base place shifts k start low is
 
-  pub gather_one : (at width end : ℕ) (block items whole : List ℕ) → Gathering now at width end block items whole → CanCopy start at width items block
-  gather_one at width end block items whole have = can_copy start at width items block (gather_front now (start ∷ []) later at width end block items whole split have)
+  pub push_one : (all : List ℕ) (width : ℕ) (block : List ℕ) (old builder : List ℕ × ℕ) → Pushing all now width block old builder → (start + width ≤ length block) × (width ≤ builder.1)
+  push_one all width block old builder have =
+      let can = push_front all now (start ∷ []) later width block old builder split have in
+      (can.inside 0 0 (omega arith), omega (arith, can.room))
 
-  pub gathered_one : (at width end : ℕ) (block items items' whole : List ℕ) → items' ≡ put at (item_at start width block) items → length items' ≡ length items →
-      Gathering now at width end block items whole → Gathering later (at + width) width end block items' whole
-  gathered_one at width end block items items' whole written same have =
-      gathered_front now (start ∷ []) later at (at + width) width end block items items' whole split
-      (written ∙ ap (λ to. assigned to (start ∷ []) width block items) (sym (packed-one at width))) same (omega arith) have
+  pub pushed_one : (all : List ℕ) (width : ℕ) (block : List ℕ) (old builder new : List ℕ × ℕ) → new.0 ≡ builder.0 ++ item_at start width block → width + new.1 ≡ builder.1 → Pushing all now width block old builder → Pushing all later width block old new
+  pushed_one all width block old builder new pushed room have =
+      pushed_front all now (start ∷ []) later width block old builder new split (pushed ∙ ap (λ l. builder.0 ++ l) (sym (append-nil (item_at start width block)))) (omega (arith, room)) have
 
   pub scatter_one : (at width end : ℕ) (items block whole : List ℕ) → Scattering now at width end items block whole → CanCopy start at width items block
   scatter_one at width end items block whole have = can_copy start at width items block (scatter_front now (start ∷ []) later at width end items block whole split have)

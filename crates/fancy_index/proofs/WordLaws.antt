@@ -1,19 +1,16 @@
 -- Integers at equal steps.
-use Rattle.std.proofs.Common.{◌≡◌, ℕ, zero, suc, ◌+◌, ◌-◌, ◌*◌, ◌<◌, ◌≤◌, ◌≢◌, ◌≤ℤ◌, Bool, true, false, ◌&&◌, List, [], ◌∷◌, map, length, get_or, set, drop, refl, sym, ap, ◌∙◌, arith, below_more, get_or-set_other, get_or-set_same}
-use Rattle.std.specs.List.{list_all, range_with_len}
+use Rattle.std.proofs.Common.{◌≡◌, ◌⊎◌, ℕ, ◌+◌, ◌<◌, ◌≤◌, ◌≢◌, ◌≤ℤ◌, Bool, true, false, cond, ◌&&◌, Some, None, unwrap_or, is_some, Ok, Err, is_ok, IfOk, IfErr, inl, inr, List, [], ◌∷◌, map, length, get_or, set, drop, refl, sym, ap, subst, ◌∙◌, arith, below_more, get_or-set_other, get_or-set_same}
+use Rattle.std.specs.List.{list_all}
+use Rattle.std.proofs.lemmas.Bool.{false≢true}
 use Rattle.std.proofs.lemmas.Int.{ints}
 use Rattle.std.proofs.lemmas.List.{same_lists, get_or-map, length-map, drop_more, drop_all, get_or_default}
-use Rattle.std.proofs.lemmas.List.FromFn.{get_or-map-range_with_len}
-use Rattle.std.proofs.lemmas.Bool.{and_parts}
-use Rattle.std.proofs.lemmas.Simd.{map-map}
 use Rattle.std.proofs.Math.ListN.{length-set}
-use Rattle.std.proofs.Math.Nat.{mul-suc}
 use lib.IntN.{ℤ, pos, ◌+ℤ◌, ◌*ℤ◌, *ℤ-zero}
 use Rattle.elem_descr.specs.declared.descr.Descr.{Descr}
-use Rattle.elem_descr.specs.Encoding.{integer, number_in}
+use Rattle.elem_descr.specs.declared.refusal.Refusal.{Refusal}
+use Rattle.elem_descr.specs.declared.refusal.Refusal.TheVariants.{OutOfMemory, IndexOutOfRange}
+use Rattle.elem_descr.specs.Refusals.{check}
 use Rattle.raw_block.specs.Bytes.{item_at}
-use Rattle.raw_block.specs.NumberRuns.{signed_number}
-use Rattle.shape_strides.specs.declared.runs.Run.{Run}
 use Rattle.shape_strides.specs.Addresses.{natural}
 use Rattle.shape_strides.specs.Limits.{max_bytes}
 use Rattle.shape_strides.specs.Runs.{run_offsets}
@@ -22,20 +19,9 @@ use Rattle.view_ops.specs.Slices.{is_place}
 use Rattle.fancy_index.specs.Sources.{number_from}
 use Rattle.fancy_index.specs.declared.words.Reading.{Reading}
 use Rattle.fancy_index.specs.declared.words.Spread.{Spread}
-use Rattle.fancy_index.specs.inside.Words.{word, spread_numbers, AreWords, IsSpread, IsNative, ArePlacesTo}
-use Rattle.fancy_index.specs.inside.Packed.{packed}
-use Rattle.fancy_index.specs.inside.PointLists.{place_of}
+use Rattle.fancy_index.specs.inside.Words.{word, spread_numbers, AreWords, IsSpread, ArePlacesTo}
+use Rattle.fancy_index.specs.inside.PointLists.{place_of, named_place, named_places}
 use Rattle.overlap_copy.specs.RunLaws.{nth-offset}
-
-packed-is : (at width n : ℕ) → packed at width n ≡ map (λ k. at + width * k) (range_with_len 0 n)
-packed-is at width n =
-    map-map natural (λ k. pos at +ℤ pos width *ℤ pos k) (range_with_len 0 n) ∙ (λ i. map (λ k. same k i) (range_with_len 0 n))
-  where
-    same : (k : ℕ) → natural (pos at +ℤ pos width *ℤ pos k) ≡ at + width * k
-    same k = omega arith
-
-pub packed-entry : (at width n k d : ℕ) → k < n → get_or (packed at width n) k d ≡ at + width * k
-packed-entry at width n k d low = ap (λ l. get_or l k d) (packed-is at width n) ∙ get_or-map-range_with_len (λ k. at + width * k) 0 n k k d (omega arith) (omega arith)
 
 -- ---- items at equal steps
 
@@ -62,80 +48,76 @@ module _ (width : ℕ) (items : Spread) (is : IsSpread width items) (k : ℕ) (l
 pub length-numbers : (reading : Reading) (width : ℕ) (items : Spread) → length (spread_numbers reading width items) ≡ items.run.count
 length-numbers reading width items = length-map (run_offsets items.run) (λ offset. word reading width (item_at offset width items.block.now)) ∙ length-run_offsets items.run
 
--- ---- integers of the machine
-
-along : (at width k : ℕ) → natural (pos at +ℤ pos width *ℤ pos k) ≡ at + width * k
-along at width k = omega arith
-
-nth-native : (width : ℕ) (run : Run) (k : ℕ) → run.step ≡ pos width → k < run.count → get_or (run_offsets run) k 0 ≡ run.offset + width * k
-nth-native width run k step low = nth-offset run k low ∙ (λ i. natural (pos run.offset +ℤ step i *ℤ pos k)) ∙ along run.offset width k
-
--- the last of them ends in the block
-pub native-end : (width : ℕ) (items : Spread) → IsSpread width items → 1 ≤ items.run.count → items.run.step ≡ pos width → items.run.offset + width * items.run.count ≤ length items.block.now
-native-end width items is some step =
-    let last = items.run.count - 1 in
-    let low : last < items.run.count = omega (arith, some) in
-    let next : items.run.count ≡ suc last = omega (arith, some) in
-    let end : width * items.run.count ≡ width * last + width = ap (λ n. width * n) next ∙ mul-suc width last ∙ omega arith in
-    omega (arith, end, ends-there width items is last low, nth-native width items.run last step low)
-
-pub native-numbers : (reading : Reading) (width : ℕ) (items : Spread) (run : List ℤ) → IsSpread width items → IsNative reading width items.run → length run ≡ items.run.count
-    → ((k : ℕ) → k < items.run.count → get_or run k (pos 0) ≡ signed_number width (item_at (items.run.offset + width * k) width items.block.now)) → run ≡ spread_numbers reading width items
-native-numbers reading width items run is native many each =
-    same_lists run (spread_numbers reading width items) (many ∙ sym (length-numbers reading width items)) (λ k d below.
-    let low : k < items.run.count = omega (arith, below, many) in
-    let inside : k < length (spread_numbers reading width items) = omega (arith, low, length-numbers reading width items) in
-    sym (get_or_default run k (pos 0) d below)
-    ∙ each k low
-    ∙ (λ i. integer (sym native.signed i) width (number_in (sym native.order i) width (item_at (sym (nth-native width items.run k native.step low) i) width items.block.now)))
-    ∙ sym (number-there width items is k low reading)
-    ∙ get_or_default (spread_numbers reading width items) k (pos 0) d inside)
-
 -- the numbers of an array whose items are read so
 pub words-are : (reading : Reading) (width : ℕ) (descr : Descr) (items : Spread) (block offsets : List ℕ) → AreWords reading width descr → items.block.now ≡ block → run_offsets items.run ≡ offsets
     → spread_numbers reading width items ≡ map (number_from descr block) offsets
 words-are reading width descr items block offsets are here there =
     (λ i. map (λ offset. word reading width (item_at offset width (here i))) (there i)) ∙ (λ i. map (λ offset. sym (are.read block offset) i) offsets)
 
--- ---- loops over the numbers
+-- ---- the places that numbers name
 
-and_assoc : (a b c : Bool) → ((a && b) && c) ≡ (a && (b && c))
-and_assoc true b c = refl
-and_assoc false b c = refl
+by_test : (test : Bool) (place at : ℕ) → cond test (Some place) None ≡ Some at → (test ≡ true) × (at ≡ place)
+by_test true place at is = (refl, sym (ap (λ o. unwrap_or o 0) is))
+by_test false place at is = absurd (false≢true (ap is_some is))
 
-and-true : (a : Bool) → (a && true) ≡ a
-and-true true = refl
-and-true false = refl
+no_test : (test : Bool) (place : ℕ) → cond test (Some place) None ≡ None → test ≡ false
+no_test true place is = absurd (false≢true (ap is_some (sym is)))
+no_test false place is = refl
 
-pub all_next : (n k : ℕ) (numbers : List ℤ) (are here : Bool) → k < length numbers → here ≡ is_place n (get_or numbers k (pos 0)) →
-    (are && list_all (is_place n) (drop k numbers)) ≡ list_all (is_place n) numbers → ((are && here) && list_all (is_place n) (drop (k + 1) numbers)) ≡ list_all (is_place n) numbers
-all_next n k numbers are here low is so_far =
-    and_assoc are here (list_all (is_place n) (drop (k + 1) numbers))
-    ∙ ap (λ b. are && (b && list_all (is_place n) (drop (k + 1) numbers))) is
-    ∙ ap (λ l. are && list_all (is_place n) l) (sym (drop_more numbers k (pos 0) low))
-    ∙ so_far
+pub is_named : (n : ℕ) (number : ℤ) (at : ℕ) → named_place n number ≡ Some at → (is_place n number ≡ true) × (at ≡ place_of n number)
+is_named n number at is = by_test (is_place n number) (place_of n number) at is
 
-pub all_done : (n k : ℕ) (numbers : List ℤ) (are : Bool) → length numbers ≤ k → (are && list_all (is_place n) (drop k numbers)) ≡ list_all (is_place n) numbers → are ≡ list_all (is_place n) numbers
-all_done n k numbers are past so_far = sym (and-true are) ∙ ap (λ l. are && list_all (is_place n) l) (sym (drop_all k numbers past)) ∙ so_far
+pub names_none : (n : ℕ) (number : ℤ) → named_place n number ≡ None → is_place n number ≡ false
+names_none n number is = no_test (is_place n number) (place_of n number) is
 
-pub place_true : (n k : ℕ) (numbers : List ℤ) → list_all (is_place n) numbers ≡ true → k < length numbers → is_place n (get_or numbers k (pos 0)) ≡ true
-place_true n k [] all low = absurd (omega (arith, low))
-place_true n zero (x ∷ xs) all low = (and_parts (is_place n x) (list_all (is_place n) xs) all).0
-place_true n (suc k) (x ∷ xs) all low = place_true n k xs ((and_parts (is_place n x) (list_all (is_place n) xs) all).1) (omega (arith, low))
+-- of all numbers
+pub all_named : (n : ℕ) (numbers : List ℤ) (places : List ℕ) → list_all (is_place n) numbers ≡ true → places ≡ map (place_of n) numbers → named_places n numbers ≡ Ok places
+all_named n numbers places all are = rw all (ap Ok (sym are))
+
+pub one_names_none : (n : ℕ) (numbers : List ℤ) → list_all (is_place n) numbers ≡ false → named_places n numbers ≡ Err IndexOutOfRange
+one_names_none n numbers out = rw out refl
+
+by_all : (test : Bool) (all places : List ℕ) → cond test (Ok all) (Err IndexOutOfRange) ≡ Ok places → (test ≡ true) × (places ≡ all)
+by_all true all places is = (refl, subst (λ r. IfOk r (λ p. p ≡ all)) is refl)
+by_all false all places is = absurd (false≢true (ap is_ok is))
+
+pub are_named : (n : ℕ) (numbers : List ℤ) (places : List ℕ) → named_places n numbers ≡ Ok places → (list_all (is_place n) numbers ≡ true) × (places ≡ map (place_of n) numbers)
+are_named n numbers places is = by_all (list_all (is_place n) numbers) (map (place_of n) numbers) places is
+
+by_none : (test : Bool) (all : List ℕ) (e : Refusal) → cond test (Ok all) (Err IndexOutOfRange) ≡ Err e → check test IndexOutOfRange ≡ Err e
+by_none true all e is = absurd (false≢true (sym (ap is_ok is)))
+by_none false all e is = ap Err (subst (λ r. IfErr r (λ refusal. IndexOutOfRange ≡ refusal)) is refl)
+
+pub names_refused : (n : ℕ) (numbers : List ℤ) (test : Bool) (e : Refusal) → test ≡ list_all (is_place n) numbers → (e ≡ OutOfMemory) ⊎ (named_places n numbers ≡ Err e) → (e ≡ OutOfMemory) ⊎ (check test IndexOutOfRange ≡ Err e)
+names_refused n numbers test e is (inl none) = inl none
+names_refused n numbers test e is (inr out) = inr (ap (λ t. check t IndexOutOfRange) is ∙ by_none (list_all (is_place n) numbers) (map (place_of n) numbers) e out)
+
+-- ---- a loop over the numbers
 
 pub no_places : (n : ℕ) (numbers : List ℤ) (places : List ℕ) → length places ≡ length numbers → ArePlacesTo n 0 numbers places
-no_places n numbers places many = record { many = many; done = λ j low. absurd (omega (arith, low)) }
+no_places n numbers places many = record { many = many; done = λ j low. absurd (omega (arith, low)); left = refl }
 
-pub one_more_place : (n k : ℕ) (numbers : List ℤ) (places : List ℕ) (at : ℕ) → k < length numbers → at ≡ place_of n (get_or numbers k (pos 0)) → ArePlacesTo n k numbers places → ArePlacesTo n (k + 1) numbers (set places k at)
-one_more_place n k numbers places at low is so_far = record {
-  many = length-set places k at ∙ so_far.many;
-  done = below_more (λ j. get_or (set places k at) j 0 ≡ place_of n (get_or numbers j (pos 0))) k
-      (λ j below. let ne : j ≢ k = omega (arith, below) in rw get_or-set_other (so_far.done j below))
-      (let lt : k < length places = omega (arith, low, so_far.many) in rw get_or-set_same is);
-}
+left_more : (n k : ℕ) (numbers : List ℤ) → k < length numbers → list_all (is_place n) (drop k numbers) ≡ (is_place n (get_or numbers k (pos 0)) && list_all (is_place n) (drop (k + 1) numbers))
+left_more n k numbers low = ap (list_all (is_place n)) (drop_more numbers k (pos 0) low)
 
-pub all_places : (n k : ℕ) (numbers : List ℤ) (places : List ℕ) → length numbers ≤ k → ArePlacesTo n k numbers places → places ≡ map (place_of n) numbers
+pub one_more_place : (n k : ℕ) (numbers : List ℤ) (places : List ℕ) (at : ℕ) → k < length numbers → named_place n (get_or numbers k (pos 0)) ≡ Some at → ArePlacesTo n k numbers places → ArePlacesTo n (k + 1) numbers (set places k at)
+one_more_place n k numbers places at low named so_far =
+    let is = is_named n (get_or numbers k (pos 0)) at named in
+    record {
+      many = length-set places k at ∙ so_far.many;
+      done = below_more (λ j. get_or (set places k at) j 0 ≡ place_of n (get_or numbers j (pos 0))) k
+          (λ j below. let ne : j ≢ k = omega (arith, below) in rw get_or-set_other (so_far.done j below))
+          (let lt : k < length places = omega (arith, low, so_far.many) in rw get_or-set_same is.1);
+      left = sym (left_more n k numbers low ∙ ap (λ b. b && list_all (is_place n) (drop (k + 1) numbers)) is.0) ∙ so_far.left;
+    }
+
+pub place_refused : (n k : ℕ) (numbers : List ℤ) (places : List ℕ) → k < length numbers → named_place n (get_or numbers k (pos 0)) ≡ None → ArePlacesTo n k numbers places → named_places n numbers ≡ Err IndexOutOfRange
+place_refused n k numbers places low none so_far =
+    one_names_none n numbers (sym so_far.left ∙ left_more n k numbers low ∙ ap (λ b. b && list_all (is_place n) (drop (k + 1) numbers)) (names_none n (get_or numbers k (pos 0)) none))
+
+pub all_places : (n k : ℕ) (numbers : List ℤ) (places : List ℕ) → length numbers ≤ k → ArePlacesTo n k numbers places → named_places n numbers ≡ Ok places
 all_places n k numbers places past done =
-    same_lists places (map (place_of n) numbers) (done.many ∙ sym (length-map numbers (place_of n))) (λ j d below.
+    all_named n numbers places (sym done.left ∙ ap (list_all (is_place n)) (drop_all k numbers past))
+    (same_lists places (map (place_of n) numbers) (done.many ∙ sym (length-map numbers (place_of n))) (λ j d below.
     let low : j < length numbers = omega (arith, below, done.many) in
-    sym (get_or_default places j 0 d below) ∙ done.done j (omega (arith, low, past)) ∙ sym (get_or-map (place_of n) numbers j (pos 0) d low))
+    sym (get_or_default places j 0 d below) ∙ done.done j (omega (arith, low, past)) ∙ sym (get_or-map (place_of n) numbers j (pos 0) d low)))

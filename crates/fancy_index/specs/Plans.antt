@@ -1,6 +1,5 @@
 -- Plans: the items of a buffer to which an index list with arrays leads.
-use Rattle.std.specs.Prelude.{◌≡◌, ◌⊎◌, ℕ, ◌+◌, ◌-◌, List, [], ◌∷◌, map, Result, Ok, Err}
-use Rattle.std.specs.List.{flat_map}
+use Rattle.std.specs.Prelude.{◌≡◌, ◌⊎◌, ℕ, List, [], ◌∷◌, Result, Ok, Err}
 use Rattle.raw_block.specs.Bytes.{put}
 use Rattle.elem_descr.specs.declared.refusal.Refusal.{Refusal}
 use Rattle.elem_descr.specs.declared.refusal.Refusal.TheVariants.{OutOfMemory}
@@ -13,21 +12,6 @@ use Rattle.view_ops.specs.Views.{View, view_through}
 pub record Planned : Type 0 where
   pub shape : List ℕ
   pub offsets : List ℕ
-
--- an offset, where what began at `base` begins at `start`
-abbrev pub moved_offset : ℕ → ℕ → ℕ → ℕ
-moved_offset base start offset = start + offset - base
-
--- where the items of the inner axes lie from a place on that is shifted, by one shift and by each
-abbrev pub shifted : ℕ → List ℕ → ℕ → ℕ → List ℕ
-shifted base inner place shift = map (moved_offset base (moved_offset base place shift)) inner
-
-abbrev pub shifted_all : ℕ → List ℕ → List ℕ → ℕ → List ℕ
-shifted_all base shifts inner place = flat_map (shifted base inner place) shifts
-
--- and from each place of the outer axes on
-abbrev pub moved_all : ℕ → List ℕ → List ℕ → List ℕ → List ℕ
-moved_all base outer shifts inner = flat_map (shifted_all base shifts inner) outer
 
 -- bytes, with the item put at each of the offsets, one after the other
 abbrev pub put_each : List ℕ → List ℕ → List ℕ → List ℕ

@@ -3,11 +3,11 @@ ghost use Rattle.std.specs.Prelude.{◌≡◌, ◌+◌, ◌≤◌, length, map, 
 ghost use Rattle.elem_descr.specs.declared.descr.Descr.TheVariants.{Scalar as ScalarDescr};
 ghost use Rattle.elem_descr.specs.declared.scalar.Scalar.TheVariants.{Bool as BoolScalar};
 ghost use Rattle.shape_strides.specs.Limits.{max_items};
-ghost use Rattle.raw_block.specs.Bytes.{item_at};
 ghost use Rattle.fancy_index.specs.Sources.{index_array_of, LiesInBlock};
 ghost use Rattle.fancy_index.specs.inside.Bools.{bool_number};
 ghost use Rattle.fancy_index.specs.inside.PointLists.{true_ranks};
 
+use crate::singles::bytes_at;
 use crate::source::Indices;
 use elem_descr::{Descr, Scalar};
 use std::alloc::{AllocError, Global};
@@ -17,14 +17,6 @@ fn are_bools(descr: &Descr) -> bool
     ensures { IsTrue result → descr.now ≡ ScalarDescr BoolScalar }
 {
     matches!(descr, Descr::Scalar(Scalar::Bool))
-}
-
-/// The `n` bytes from `at` on.
-fn bytes_at(bytes: &[u8], at: usize, n: usize) -> &[u8]
-    requires { at + n ≤ length bytes.now }
-    ensures { result.now ≡ item_at at n bytes.now }
-{
-    &bytes[at..at + n]
 }
 
 /// The bytes of the bools of an array that lie so.

@@ -1,21 +1,18 @@
 //! What is refused of an index list with arrays, each over the whole list.
-ghost use Rattle.std.specs.Prelude.{◌≡◌, ◌≢◌, ◌+◌, ◌-◌, ◌<◌, ◌≤◌, length, drop, nat_le, map, pos, slice_index_or, true, All, IfOk, IfErr, Err};
+ghost use Rattle.std.specs.Prelude.{◌≡◌, ◌+◌, ◌-◌, ◌<◌, ◌≤◌, length, drop, nat_le, map, pos, slice_index_or, All, IfOk, IfErr, Err};
 ghost use Rattle.std.specs.List.{list_all};
 ghost use Rattle.shape_strides.specs.declared.index_item.IndexItem.TheVariants.{Integer};
-ghost use Rattle.shape_strides.specs.Limits.{max_axes, max_items};
-ghost use Rattle.fancy_index.specs.declared.kind.Kind.TheVariants.{NoIndex};
-ghost use Rattle.view_ops.specs.Slices.{is_place};
-ghost use Rattle.fancy_index.specs.IndexArrays.{kind, with_array, is_index, item_axes, array_axes_taken, array_axes_width, covers, cover, is_within, are_within};
+ghost use Rattle.shape_strides.specs.Limits.{max_axes};
+ghost use Rattle.fancy_index.specs.IndexArrays.{kind, with_array, is_index, item_axes, array_axes_taken, array_axes_width, covers, cover};
 ghost use Rattle.fancy_index.specs.Indexed.{indexed};
 ghost use Rattle.fancy_index.specs.inside.PartLists.{IsChecked};
-ghost use Rattle.fancy_index.specs.Sources.{index_array_of, LiesInBlock, index_item_of, ItemsLieInBlock, IsNamed, index_items};
+ghost use Rattle.fancy_index.specs.Sources.{index_array_of, LiesInBlock, index_item_of, IsNamed, index_items};
 
 use crate::kind::Kind;
-use crate::source::{Indices, kind, number_at, resolved};
-use crate::words::{are_word_places, words_of};
+use crate::source::{Indices, kind, resolved};
 use elem_descr::Refusal;
-use shape_strides::{IndexItem, Walk};
-use view_ops::{have_steps, is_place};
+use shape_strides::IndexItem;
+use view_ops::have_steps;
 
 fn is_index(item: IndexItem<Indices<'_>>) -> bool
     ensures { result ≡ is_index (index_item_of item.entry) }
@@ -143,70 +140,7 @@ fn cover(lengths: &[usize], items: &[IndexItem<usize>], arrays: &[Indices<'_>]) 
     true
 }
 
-/// Whether each number of an array is one of `n` places.
-fn are_places_each(array: Indices<'_>, n: usize) -> bool
-    requires kind { kind (index_array_of array) ≢ NoIndex }
-    requires lies { LiesInBlock array }
-    ensures { result ≡ list_all (is_place n) (index_array_of array.entry).numbers }
-{
-    for offset in Walk::new(array.layout) {
-        if !is_place(n, number_at(array, offset)) {
-            return false;
-        }
-    }
-    true
-}
-
-/// Whether each number of an array is one of `n` places, whatever the array broadcasts to. Those that
-/// lie one right after another need no walk.
-fn are_places(array: Indices<'_>, n: usize) -> bool
-    requires small { n ≤ max_items }
-    requires kind { kind (index_array_of array) ≢ NoIndex }
-    requires lies { LiesInBlock array }
-    ensures { result ≡ list_all (is_place n) (index_array_of array.entry).numbers }
-{
-    if let Some(words) = words_of(array) {
-        return are_word_places(words, n);
-    }
-    are_places_each(array, n)
-}
-
-fn is_within(axes: &[usize], item: IndexItem<Indices<'_>>) -> bool
-    requires small { All (λ n. n ≤ max_items) axes.now }
-    requires lies { ItemsLieInBlock item }
-    ensures { result ≡ is_within axes.now (index_item_of item.entry) }
-{
-    match (item, axes) {
-        (IndexItem::Integer(at), [n, ..]) => is_place(*n, at),
-        (IndexItem::Array(array), [n, ..]) => match kind(array) {
-            Kind::Integers => are_places(array, *n),
-            _ => true,
-        },
-        _ => true,
-    }
-}
-
-/// Whether each integer, and each number of each array, is within its axis.
-fn are_within(lengths: &[usize], items: &[IndexItem<usize>], arrays: &[Indices<'_>]) -> bool
-    requires named { All (IsNamed (length arrays.now)) items.now }
-    requires lie { All LiesInBlock arrays.now }
-    requires rank { length lengths.now ≤ max_axes }
-    requires small { All (λ n. n ≤ max_items) lengths.now }
-    requires enough { array_axes_taken (index_items arrays.now items.now) ≤ length lengths.now }
-    ensures { result ≡ are_within lengths.now (index_items arrays.now items.now) }
-{
-    let mut axis = 0;
-    for k in 0..items.len() {
-        let end = axes_end(lengths.len(), axis, items, arrays, k);
-        if !is_within(&lengths[axis..end], resolved(&items[k], arrays)) {
-            return false;
-        }
-        axis = end;
-    }
-    true
-}
-
-/// The first refusal of an index list, before its shapes.
+/// The first refusal of an index list, before its numbers and its shapes.
 pub(crate) fn check(
     lengths: &[usize],
     items: &[IndexItem<usize>],
@@ -215,7 +149,6 @@ pub(crate) fn check(
     requires named { All (IsNamed (length arrays.now)) items.now }
     requires lie { All LiesInBlock arrays.now }
     requires rank { length lengths.now ≤ max_axes }
-    requires small { All (λ n. n ≤ max_items) lengths.now }
     ensures ok { IfOk result (λ _. IsChecked lengths.now (index_items arrays.now items.now)) }
     ensures err { IfErr result (λ refusal. indexed lengths.now (index_items arrays.now items.now) ≡ Err refusal) }
 {
@@ -230,9 +163,6 @@ pub(crate) fn check(
     }
     if !have_steps(items) {
         return Err(Refusal::ZeroStep);
-    }
-    if !are_within(lengths, items, arrays) {
-        return Err(Refusal::IndexOutOfRange);
     }
     Ok(())
 }

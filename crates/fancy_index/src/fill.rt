@@ -2,8 +2,8 @@
 ghost use Rattle.std.specs.Prelude.{◌≡◌, ◌+◌, ◌≤◌, length, map, All};
 ghost use Rattle.shape_strides.specs.Limits.{max_bytes};
 ghost use Rattle.shape_strides.specs.Layouts.{offsets};
-ghost use Rattle.fancy_index.specs.Plans.{moved_offset, shifted_all, moved_all, put_each};
-ghost use Rattle.fancy_index.specs.inside.Kept.{IsMoved, AreStarts};
+ghost use Rattle.fancy_index.specs.Plans.{put_each};
+ghost use Rattle.fancy_index.specs.inside.Kept.{moved_offset, shifted_all, moved_all, IsMoved, AreStarts};
 
 use crate::plans::moved;
 use crate::run_moves::{fill_run, moved_run};

@@ -1,122 +1,100 @@
-//! The items to which a plan leads, copied to a block where they lie one after another.
-ghost use Rattle.std.specs.Prelude.{◌≡◌, ◌+◌, ◌*◌, ◌≤◌, length, map, All};
+//! The items to which a plan leads, pushed to a block where they lie one after another.
+ghost use Rattle.std.specs.Prelude.{◌≡◌, ◌+◌, ◌*◌, ◌≤◌, ◌++◌, length, map, All};
 ghost use Rattle.shape_strides.specs.Limits.{max_bytes};
 ghost use Rattle.shape_strides.specs.Layouts.{offsets};
-ghost use Rattle.overlap_copy.specs.Assignments.{assigned};
-ghost use Rattle.fancy_index.specs.Plans.{moved_offset, shifted_all, moved_all};
-ghost use Rattle.fancy_index.specs.inside.Kept.{IsMoved, AreStarts};
-ghost use Rattle.fancy_index.specs.inside.Packed.{packed};
+ghost use Rattle.overlap_copy.specs.Joined.{joined_at};
+ghost use Rattle.fancy_index.specs.inside.Kept.{moved_offset, moved_all, IsMoved, AreStarts};
+ghost use Rattle.fancy_index.specs.inside.Shifts.{shifted_offsets, CanShift};
 
-use crate::plans::moved;
+use crate::plans::{Shifted, moved};
 use crate::run_moves::moved_run;
-use crate::singles::gather_singles;
-use overlap_copy::{copy_run, packed_run};
-use raw_block::RawBlock;
+use crate::singles::push_singles;
+use raw_block::{BlockBuilder, RawBlock};
 use shape_strides::{Layout, Runs, Walk};
 
-/// Copies the items of `width` bytes of a layout, where what began at its offset begins at `start`, to
-/// those that lie one after another from `at` on. The result is where these end.
-fn gather_from(
-    items: &mut RawBlock,
-    at: usize,
+/// Pushes the items of `width` bytes of a layout, where what began at its offset begins at `start`.
+fn push_from(
+    items: BlockBuilder,
     block: &RawBlock,
     inner: &Layout,
     start: usize,
     width: usize,
-) -> usize
+) -> BlockBuilder
     requires base { inner.now.offset ≤ max_bytes }
     requires moved { All (IsMoved inner.now.offset start) (offsets inner.now) }
     requires inside { All (λ offset. offset + width ≤ length block.now) (map (moved_offset inner.now.offset start) (offsets inner.now)) }
-    requires room { at + length (map (moved_offset inner.now.offset start) (offsets inner.now)) * width ≤ length items.old }
-    ensures written { let from = map (moved_offset inner.now.offset start) (offsets inner.now) in items.new ≡ assigned (packed at width (length from)) from width block.now items.old }
-    ensures len { length items.new ≡ length items.old }
-    ensures end { result ≡ at + length (map (moved_offset inner.now.offset start) (offsets inner.now)) * width }
+    requires room { length (map (moved_offset inner.now.offset start) (offsets inner.now)) * width ≤ items.1 }
+    ensures bytes { result.0 ≡ items.0 ++ joined_at (map (moved_offset inner.now.offset start) (offsets inner.now)) width block.now }
+    ensures left { length (map (moved_offset inner.now.offset start) (offsets inner.now)) * width + result.1 ≡ items.1 }
 {
-    let len = items.len();
-    let mut at = at;
+    let mut items = items;
     for run in Runs::new(inner) {
         let from = moved_run(run, inner.offset, start);
-        copy_run(
-            items,
-            packed_run(at, width, run.count, len),
-            block,
-            from,
-            width,
-        );
-        at += run.count * width;
+        items.push_strided(block, from.offset, from.step, width, from.count);
     }
-    at
+    items
 }
 
-/// The same from a place that is shifted by each shift.
-fn gather_runs(
-    items: &mut RawBlock,
-    at: usize,
-    block: &RawBlock,
-    shifts: &[u32],
-    inner: &Layout,
-    place: usize,
-    width: usize,
-) -> usize
-    requires base { inner.now.offset ≤ max_bytes }
-    requires starts { AreStarts inner.now.offset (offsets inner.now) shifts.now place }
-    requires inside { All (λ offset. offset + width ≤ length block.now) (shifted_all inner.now.offset shifts.now (offsets inner.now) place) }
-    requires room { at + length (shifted_all inner.now.offset shifts.now (offsets inner.now) place) * width ≤ length items.old }
-    ensures written { let from = shifted_all inner.now.offset shifts.now (offsets inner.now) place in items.new ≡ assigned (packed at width (length from)) from width block.now items.old }
-    ensures len { length items.new ≡ length items.old }
-    ensures end { result ≡ at + length (shifted_all inner.now.offset shifts.now (offsets inner.now) place) * width }
+/// The same once for each shift.
+fn push_runs(items: BlockBuilder, block: &RawBlock, rows: Shifted<'_>, width: usize) -> BlockBuilder
+    requires can { CanShift rows }
+    requires inside { All (λ offset. offset + width ≤ length block.now) (shifted_offsets rows) }
+    requires room { length (shifted_offsets rows) * width ≤ items.1 }
+    ensures bytes { result.0 ≡ items.0 ++ joined_at (shifted_offsets rows.entry) width block.now }
+    ensures left { length (shifted_offsets rows.entry) * width + result.1 ≡ items.1 }
 {
-    let mut at = at;
-    for shift in shifts {
-        let start = moved(inner.offset, place, *shift as usize);
-        at = gather_from(items, at, block, inner, start, width);
+    let inner = rows.inner;
+    let mut items = items;
+    for shift in rows.shifts {
+        let start = moved(inner.offset, rows.place, *shift as usize);
+        items = push_from(items, block, inner, start, width);
     }
-    at
+    items
 }
 
 /// The same, where a layout of one item needs no walk.
-fn gather_shifts(
-    items: &mut RawBlock,
-    at: usize,
+fn push_shifted(
+    items: BlockBuilder,
     block: &RawBlock,
-    shifts: &[u32],
-    inner: &Layout,
-    place: usize,
+    rows: Shifted<'_>,
     width: usize,
-) -> usize
-    requires base { inner.now.offset ≤ max_bytes }
-    requires starts { AreStarts inner.now.offset (offsets inner.now) shifts.now place }
-    requires inside { All (λ offset. offset + width ≤ length block.now) (shifted_all inner.now.offset shifts.now (offsets inner.now) place) }
-    requires room { at + length (shifted_all inner.now.offset shifts.now (offsets inner.now) place) * width ≤ length items.old }
-    ensures written { let from = shifted_all inner.now.offset shifts.now (offsets inner.now) place in items.new ≡ assigned (packed at width (length from)) from width block.now items.old }
-    ensures len { length items.new ≡ length items.old }
-    ensures end { result ≡ at + length (shifted_all inner.now.offset shifts.now (offsets inner.now) place) * width }
+) -> BlockBuilder
+    requires can { CanShift rows }
+    requires inside { All (λ offset. offset + width ≤ length block.now) (shifted_offsets rows) }
+    requires room { length (shifted_offsets rows) * width ≤ items.1 }
+    ensures bytes { result.0 ≡ items.0 ++ joined_at (shifted_offsets rows.entry) width block.now }
+    ensures left { length (shifted_offsets rows.entry) * width + result.1 ≡ items.1 }
 {
-    if inner.shape.items() == 1 {
-        let base = inner.offset;
-        return gather_singles(items, at, block, shifts, base, place, width);
+    if rows.inner.shape.items() == 1 {
+        return push_singles(items, block, rows, width);
     }
-    gather_runs(items, at, block, shifts, inner, place, width)
+    push_runs(items, block, rows, width)
 }
 
-/// The same from each place of the outer axes, from the items' start on.
-pub(crate) fn gather(
-    items: &mut RawBlock,
+/// The same from each place of the outer axes.
+pub(crate) fn push_all(
+    items: BlockBuilder,
     block: &RawBlock,
     outer: &Layout,
     shifts: &[u32],
     inner: &Layout,
     width: usize,
-)
+) -> BlockBuilder
     requires base { inner.now.offset ≤ max_bytes }
     requires starts { All (AreStarts inner.now.offset (offsets inner.now) shifts.now) (offsets outer.now) }
     requires inside { All (λ offset. offset + width ≤ length block.now) (moved_all inner.now.offset (offsets outer.now) shifts.now (offsets inner.now)) }
-    requires room { length (moved_all inner.now.offset (offsets outer.now) shifts.now (offsets inner.now)) * width ≤ length items.old }
-    ensures written { let from = moved_all inner.now.offset (offsets outer.now) shifts.now (offsets inner.now) in items.new ≡ assigned (packed 0 width (length from)) from width block.now items.old }
-    ensures len { length items.new ≡ length items.old }
+    requires room { length (moved_all inner.now.offset (offsets outer.now) shifts.now (offsets inner.now)) * width ≤ items.1 }
+    ensures bytes { result.0 ≡ items.0 ++ joined_at (moved_all inner.now.offset (offsets outer.now) shifts.now (offsets inner.now)) width block.now }
+    ensures left { length (moved_all inner.now.offset (offsets outer.now) shifts.now (offsets inner.now)) * width + result.1 ≡ items.1 }
 {
-    let mut at = 0;
+    let mut items = items;
     for place in Walk::new(outer) {
-        at = gather_shifts(items, at, block, shifts, inner, place, width);
+        let rows = Shifted {
+            shifts,
+            inner,
+            place,
+        };
+        items = push_shifted(items, block, rows, width);
     }
+    items
 }

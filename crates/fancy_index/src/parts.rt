@@ -1,10 +1,11 @@
 //! The parts that the items of an index list come to.
-ghost use Rattle.std.specs.Prelude.{◌≡◌, ◌≤◌, ◌∷◌, length, map, true, false, All, IfOk, IfErr, OnOk};
-ghost use Rattle.elem_descr.specs.declared.refusal.Refusal.TheVariants.{OutOfMemory};
+ghost use Rattle.std.specs.Prelude.{◌≡◌, ◌≤◌, ◌∷◌, length, map, true, false, All, IfOk, OnOk};
+ghost use Rattle.elem_descr.specs.declared.refusal.Refusal.TheVariants.{IndexOutOfRange};
+ghost use Rattle.elem_descr.specs.Refusals.{Gives, check};
 ghost use Rattle.shape_strides.specs.Limits.{max_axes, max_items};
 ghost use Rattle.shape_strides.specs.IndexItems.{is_ellipsis};
 ghost use Rattle.view_ops.specs.Basics.{has_step};
-ghost use Rattle.fancy_index.specs.IndexArrays.{is_index, item_axes, covers, is_within};
+ghost use Rattle.fancy_index.specs.IndexArrays.{is_index, item_axes, covers, is_within, are_within};
 ghost use Rattle.fancy_index.specs.Parts.{Between, wholes, parts_of, parts};
 ghost use Rattle.fancy_index.specs.Sources.{LiesInBlock, index_item_of, ItemsLieInBlock, IsNamed, index_items};
 ghost use Rattle.fancy_index.specs.inside.PartLists.{IsChecked, shown_part, AreParts, AddsParts};
@@ -42,7 +43,7 @@ fn push_between(parts: &mut Vec<IndexPart>, axes: &[usize]) -> Result<(), AllocE
     push_wholes(parts, axes)
 }
 
-/// Adds what an item comes to on the axes that it takes.
+/// Adds what an item comes to on the axes that it takes, or refuses a number of it.
 fn push_parts(
     alloc: Global,
     parts: &mut Vec<IndexPart>,
@@ -55,9 +56,8 @@ fn push_parts(
     requires axes { is_ellipsis (index_item_of item) ≡ false → length axes.now ≡ item_axes (index_item_of item) }
     requires covers { covers axes.now (index_item_of item) ≡ true }
     requires step { has_step (index_item_of item) ≡ true }
-    requires within { is_within axes.now (index_item_of item) ≡ true }
-    ensures ok { OnOk result (AddsParts parts.old.items parts.new.items axes.now (parts_of axes.now (index_item_of item.entry))) }
-    ensures err { IfErr result (λ refusal. refusal ≡ OutOfMemory) }
+    ensures within { Gives (λ _. tt) result (check (is_within axes.now (index_item_of item.entry)) IndexOutOfRange) }
+    ensures added { OnOk result (AddsParts parts.old.items parts.new.items axes.now (parts_of axes.now (index_item_of item.entry))) }
 {
     match item {
         IndexItem::Integer(at) => {
@@ -77,7 +77,7 @@ fn push_parts(
     }
 }
 
-/// The parts that the items come to over the axes of a shape.
+/// The parts that the items come to over the axes of a shape, or the refusal of a number.
 pub(crate) fn parts_of(
     alloc: Global,
     lengths: &[usize],
@@ -89,9 +89,9 @@ pub(crate) fn parts_of(
     requires rank { length lengths.now ≤ max_axes }
     requires small { All (λ n. n ≤ max_items) lengths.now }
     requires checked { IsChecked lengths.now (index_items arrays.now items.now) }
+    ensures within { Gives (λ _. tt) result (check (are_within lengths.now (index_items arrays.now items.now)) IndexOutOfRange) }
     ensures are { IfOk result (λ v. AreParts lengths.now v.items) }
     ensures shown { IfOk result (λ v. map shown_part v.items ≡ parts lengths.now (index_items arrays.now items.now)) }
-    ensures err { IfErr result (λ refusal. refusal ≡ OutOfMemory) }
 {
     let mut parts = Vec::new(alloc);
     let mut axis = 0;

@@ -9,15 +9,15 @@ ghost use Rattle.shape_strides.specs.Indexes.{count};
 ghost use Rattle.shape_strides.specs.Layouts.{offsets, multiples};
 ghost use Rattle.overlap_copy.specs.Assignments.{items_at, assigned};
 ghost use Rattle.overlap_copy.specs.Blocks.{offsets_in};
-ghost use Rattle.fancy_index.specs.Plans.{moved_offset, moved_all, put_each};
-ghost use Rattle.fancy_index.specs.inside.Kept.{IsMoved, AreStarts, offsets_from};
+ghost use Rattle.fancy_index.specs.Plans.{put_each};
+ghost use Rattle.fancy_index.specs.inside.Kept.{moved_offset, moved_all, IsMoved, AreStarts, offsets_from};
 
 use crate::fill::fill;
-use crate::gather::gather;
+use crate::gather::push_all;
 use crate::scatter::scatter;
 use elem_descr::{Descr, Refusal};
 use overlap_copy::Owned;
-use raw_block::RawBlock;
+use raw_block::{BlockBuilder, RawBlock};
 use shape_strides::{Layout, MAX_BYTES, MemoryOrder, Shape, Walk};
 use std::alloc::{AllocError, Global};
 use std::marker::Model;
@@ -31,6 +31,14 @@ pub struct PlanAxes {
     shifts: Vec<u32>,
     /// The axes after those of the arrays.
     inner: Layout,
+}
+
+/// The items of the inner axes from a place of the outer ones on, once for each shift.
+#[derive(Clone, Copy)]
+pub(crate) struct Shifted<'a> {
+    pub shifts: &'a [u32],
+    pub inner: &'a Layout,
+    pub place: usize,
 }
 
 /// Where in a buffer the items are that an index list with arrays takes, seen as a shape with the
@@ -193,12 +201,12 @@ impl Plan {
     {
         // More bytes than there can be are refused as any others.
         let bytes = self.shape.items().saturating_mul(width);
-        let mut items = RawBlock::try_zeroed(alloc, bytes)?;
-        let _len = items.len();
+        let items = BlockBuilder::try_new(alloc, bytes)?;
+        let _filled = items.filled();
         let axes = self.axes();
         let shifts = axes.shifts.as_slice();
-        gather(&mut items, block, &axes.outer, shifts, &axes.inner, width);
-        Ok(items)
+        let items = push_all(items, block, &axes.outer, shifts, &axes.inner, width);
+        Ok(items.finish())
     }
 
     /// The items at the offsets in a block of their own, in C order, which they just fill. More than

@@ -1,23 +1,24 @@
 //! Points on some axes: those of an integer, of an array of integers and of a mask.
 ghost use Rattle.std.specs.Prelude.{◌≡◌, ◌≢◌, ◌≤◌, [], ◌∷◌, length, map, pos, true, All, IfOk};
 ghost use Rattle.std.specs.Ordering.{int_eq};
-ghost use Rattle.std.specs.List.{list_all};
+ghost use Rattle.elem_descr.specs.declared.refusal.Refusal.TheVariants.{IndexOutOfRange};
+ghost use Rattle.elem_descr.specs.Refusals.{Gives, check};
 ghost use Rattle.shape_strides.specs.Limits.{max_items};
 ghost use Rattle.view_ops.specs.Slices.{is_place};
 ghost use Rattle.fancy_index.specs.declared.kind.Kind.TheVariants.{NoIndex};
 ghost use Rattle.fancy_index.specs.IndexArrays.{kind, axes_of_kind, covers_kind, are_places};
 ghost use Rattle.fancy_index.specs.Parts.{points_of};
 ghost use Rattle.fancy_index.specs.Sources.{index_array_of, LiesInBlock};
-ghost use Rattle.fancy_index.specs.inside.PointLists.{place_of, true_ranks, IsPart};
+ghost use Rattle.fancy_index.specs.inside.PointLists.{place_of, named_places, true_ranks, IsPart};
 
 use crate::bools::{bools_of, true_bytes};
 use crate::kind::Kind;
 use crate::source::{Indices, kind, number_at};
-use crate::words::{word_places, words_of};
+use crate::words::{named_place, places};
+use elem_descr::Refusal;
 use shape_strides::Walk;
 use smallvec::SmallVec;
 use std::alloc::{AllocError, Global};
-use view_ops::from_front;
 
 /// Points in a shape of their own, each on the same axes: its rank along these.
 #[derive(Drop)]
@@ -25,45 +26,6 @@ pub(crate) struct PointList {
     pub lengths: SmallVec<usize, 8>,
     pub axes: SmallVec<usize, 8>,
     pub ranks: Vec<u32>,
-}
-
-/// The place of `n` that a number names.
-pub(crate) fn place_of(n: usize, at: i128) -> u32
-    requires small { n ≤ max_items }
-    requires place { is_place n at ≡ true }
-    ensures { result ≡ place_of n at }
-{
-    from_front(n, at) as u32
-}
-
-/// The places of `n` that the numbers of an array name.
-fn places_each(alloc: Global, array: Indices<'_>, n: usize) -> Result<Vec<u32>, AllocError>
-    requires small { n ≤ max_items }
-    requires kind { kind (index_array_of array) ≢ NoIndex }
-    requires lies { LiesInBlock array }
-    requires within { list_all (is_place n) (index_array_of array).numbers ≡ true }
-    ensures { IfOk result (λ v. v.items ≡ map (place_of n) (index_array_of array.entry).numbers) }
-{
-    let mut places = Vec::new(alloc);
-    for offset in Walk::new(array.layout) {
-        places.push(place_of(n, number_at(array, offset)))?;
-    }
-    Ok(places)
-}
-
-/// The places of `n` that the numbers of an array name. Those that lie one right after another need no
-/// walk.
-fn places(alloc: Global, array: Indices<'_>, n: usize) -> Result<Vec<u32>, AllocError>
-    requires small { n ≤ max_items }
-    requires kind { kind (index_array_of array) ≢ NoIndex }
-    requires lies { LiesInBlock array }
-    requires within { list_all (is_place n) (index_array_of array).numbers ≡ true }
-    ensures { IfOk result (λ v. v.items ≡ map (place_of n) (index_array_of array.entry).numbers) }
-{
-    if let Some(words) = words_of(array) {
-        return word_places(alloc, words, n);
-    }
-    places_each(alloc, array, n)
 }
 
 fn is_zero(number: i128) -> bool
@@ -102,17 +64,20 @@ fn true_ranks(alloc: Global, array: Indices<'_>) -> Result<Vec<u32>, AllocError>
     true_ranks_each(alloc, array)
 }
 
-/// The one point of an integer.
-pub(crate) fn integer_point(alloc: Global, n: usize, at: i128) -> Result<PointList, AllocError>
-    requires small { n ≤ max_items }
-    requires place { is_place n at ≡ true }
+/// The one point of an integer, or its refusal.
+pub(crate) fn integer_point(alloc: Global, n: usize, at: i128) -> Result<PointList, Refusal>
+    requires { n ≤ max_items }
+    ensures within { Gives (λ _. tt) result (check (is_place n at) IndexOutOfRange) }
     ensures lengths { IfOk result (λ p. p.lengths.items ≡ []) }
     ensures axes { IfOk result (λ p. p.axes.items ≡ n ∷ []) }
     ensures ranks { IfOk result (λ p. p.ranks.items ≡ place_of n at ∷ []) }
 {
+    let Some(place) = named_place(n, at) else {
+        return Err(Refusal::IndexOutOfRange);
+    };
     let axes = SmallVec::from_slice(alloc, &[n])?;
     let mut ranks = Vec::new(alloc);
-    ranks.push(place_of(n, at))?;
+    ranks.push(place)?;
     Ok(PointList {
         lengths: SmallVec::new(alloc),
         axes,
@@ -120,15 +85,14 @@ pub(crate) fn integer_point(alloc: Global, n: usize, at: i128) -> Result<PointLi
     })
 }
 
-/// The points of an array of integers along an axis of `n`.
-fn integer_points(alloc: Global, n: usize, array: Indices<'_>) -> Result<PointList, AllocError>
+/// The points of an array of integers along an axis of `n`, or the refusal of a number.
+fn integer_points(alloc: Global, n: usize, array: Indices<'_>) -> Result<PointList, Refusal>
     requires small { n ≤ max_items }
     requires kind { kind (index_array_of array) ≢ NoIndex }
     requires lies { LiesInBlock array }
-    requires within { list_all (is_place n) (index_array_of array).numbers ≡ true }
     ensures lengths { IfOk result (λ p. p.lengths.items ≡ (index_array_of array.entry).shape) }
     ensures axes { IfOk result (λ p. p.axes.items ≡ n ∷ []) }
-    ensures ranks { IfOk result (λ p. p.ranks.items ≡ map (place_of n) (index_array_of array.entry).numbers) }
+    ensures ranks { Gives (λ p. p.ranks.items) result (named_places n (index_array_of array.entry).numbers) }
 {
     let lengths = SmallVec::from_slice(alloc, array.layout.shape.as_slice())?;
     let axes = SmallVec::from_slice(alloc, &[n])?;
@@ -158,19 +122,19 @@ fn mask_points(alloc: Global, array: Indices<'_>) -> Result<PointList, AllocErro
     })
 }
 
-/// The points of an array on the axes that it takes.
+/// The points of an array on the axes that it takes, or the refusal of a number.
 pub(crate) fn array_points(
     alloc: Global,
     axes: &[usize],
     array: Indices<'_>,
-) -> Result<PointList, AllocError>
+) -> Result<PointList, Refusal>
     requires small { All (λ n. n ≤ max_items) axes.now }
     requires kind { kind (index_array_of array) ≢ NoIndex }
     requires lies { LiesInBlock array }
     requires axes { length axes.now ≡ axes_of_kind (kind (index_array_of array)) (index_array_of array).shape }
     requires covers { covers_kind (kind (index_array_of array)) (index_array_of array).shape axes.now ≡ true }
-    requires within { are_places (kind (index_array_of array)) axes.now (index_array_of array).numbers ≡ true }
-    ensures { IfOk result (λ p. IsPart axes.now p (points_of (kind (index_array_of array.entry)) axes.now (index_array_of array.entry).shape (index_array_of array.entry).numbers)) }
+    ensures within { Gives (λ _. tt) result (check (are_places (kind (index_array_of array.entry)) axes.now (index_array_of array.entry).numbers) IndexOutOfRange) }
+    ensures part { IfOk result (λ p. IsPart axes.now p (points_of (kind (index_array_of array.entry)) axes.now (index_array_of array.entry).shape (index_array_of array.entry).numbers)) }
 {
     match kind(array) {
         Kind::Mask => Ok(mask_points(alloc, array)?),

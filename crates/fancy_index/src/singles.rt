@@ -1,14 +1,16 @@
 //! Single items, each at a place that is shifted: read, written and filled, one after the other.
-ghost use Rattle.std.specs.Prelude.{◌≡◌, ◌+◌, ◌*◌, ◌≤◌, length, map, All};
+ghost use Rattle.std.specs.Prelude.{◌≡◌, ◌+◌, ◌*◌, ◌≤◌, ◌++◌, length, map, All};
 ghost use Rattle.raw_block.specs.Bytes.{item_at, put};
 ghost use Rattle.shape_strides.specs.Limits.{max_bytes};
 ghost use Rattle.overlap_copy.specs.Assignments.{assigned};
-ghost use Rattle.fancy_index.specs.Plans.{moved_offset, put_each};
-ghost use Rattle.fancy_index.specs.inside.Kept.{IsMoved};
+ghost use Rattle.overlap_copy.specs.Joined.{joined_at};
+ghost use Rattle.fancy_index.specs.Plans.{put_each};
+ghost use Rattle.fancy_index.specs.inside.Kept.{moved_offset, IsMoved};
 ghost use Rattle.fancy_index.specs.inside.Packed.{packed};
+ghost use Rattle.fancy_index.specs.inside.Shifts.{first_offsets, CanShift};
 
-use crate::plans::moved;
-use raw_block::RawBlock;
+use crate::plans::{Shifted, moved};
+use raw_block::{BlockBuilder, RawBlock};
 
 /// The `N` bytes from `at` on, loaded at once.
 #[inline(always)]
@@ -20,6 +22,14 @@ pub(crate) fn array_at<const N: usize>(bytes: &[u8], at: usize) -> [u8; N]
         Some(item) => *item,
         None => [0; N],
     }
+}
+
+/// The `n` bytes from `at` on.
+pub(crate) fn bytes_at(bytes: &[u8], at: usize, n: usize) -> &[u8]
+    requires { at + n ≤ length bytes.now }
+    ensures { result.now ≡ item_at at n bytes.now }
+{
+    &bytes[at..at + n]
 }
 
 /// Copies `N` bytes of another block, which are loaded and stored at once.
@@ -52,61 +62,67 @@ fn copy_item(block: &mut RawBlock, to: usize, other: &RawBlock, from: usize, wid
     }
 }
 
-/// Copies the item of `width` bytes at a place that is shifted by each shift to those that lie one
-/// after another from `at` on. The result is where these end. Where it is called with a width that is
-/// known, each is loaded and stored at once.
-#[inline(always)]
-fn gather_each(
-    items: &mut RawBlock,
-    at: usize,
+/// Pushes the `N` bytes at a place that is shifted by each shift, each item loaded and stored at once.
+fn push_each<const N: usize>(
+    items: BlockBuilder,
     block: &RawBlock,
-    shifts: &[u32],
-    base: usize,
-    place: usize,
-    width: usize,
-) -> usize
-    requires base { base ≤ max_bytes }
-    requires moved { All (IsMoved base place) shifts.now }
-    requires inside { All (λ offset. offset + width ≤ length block.now) (map (moved_offset base place) shifts.now) }
-    requires room { at + length shifts.now * width ≤ length items.old }
-    ensures written { items.new ≡ assigned (packed at width (length shifts.now)) (map (moved_offset base place) shifts.now) width block.now items.old }
-    ensures len { length items.new ≡ length items.old }
-    ensures end { result ≡ at + length shifts.now * width }
+    rows: Shifted<'_>,
+) -> BlockBuilder
+    requires few { N ≤ 16 }
+    requires can { CanShift rows }
+    requires inside { All (λ offset. offset + N ≤ length block.now) (first_offsets rows) }
+    requires room { length (first_offsets rows) * N ≤ items.1 }
+    ensures bytes { result.0 ≡ items.0 ++ joined_at (first_offsets rows.entry) N block.now }
+    ensures left { length (first_offsets rows.entry) * N + result.1 ≡ items.1 }
 {
-    let _len = items.len();
-    let mut at = at;
-    for shift in shifts {
-        let from = moved(base, place, *shift as usize);
-        copy_item(items, at, block, from, width);
-        at += width;
+    let base = rows.inner.offset;
+    let bytes = block.bytes();
+    let mut items = items;
+    for shift in rows.shifts {
+        let from = moved(base, rows.place, *shift as usize);
+        items.push_array::<N>(array_at::<N>(bytes, from));
     }
-    at
+    items
+}
+
+/// The same of `width` bytes.
+fn push_any(items: BlockBuilder, block: &RawBlock, rows: Shifted<'_>, width: usize) -> BlockBuilder
+    requires can { CanShift rows }
+    requires inside { All (λ offset. offset + width ≤ length block.now) (first_offsets rows) }
+    requires room { length (first_offsets rows) * width ≤ items.1 }
+    ensures bytes { result.0 ≡ items.0 ++ joined_at (first_offsets rows.entry) width block.now }
+    ensures left { length (first_offsets rows.entry) * width + result.1 ≡ items.1 }
+{
+    let base = rows.inner.offset;
+    let bytes = block.bytes();
+    let mut items = items;
+    for shift in rows.shifts {
+        let from = moved(base, rows.place, *shift as usize);
+        items.push_bytes(bytes_at(bytes, from, width));
+    }
+    items
 }
 
 /// The same, with a loop of its own for each usual width.
-pub(crate) fn gather_singles(
-    items: &mut RawBlock,
-    at: usize,
+pub(crate) fn push_singles(
+    items: BlockBuilder,
     block: &RawBlock,
-    shifts: &[u32],
-    base: usize,
-    place: usize,
+    rows: Shifted<'_>,
     width: usize,
-) -> usize
-    requires base { base ≤ max_bytes }
-    requires moved { All (IsMoved base place) shifts.now }
-    requires inside { All (λ offset. offset + width ≤ length block.now) (map (moved_offset base place) shifts.now) }
-    requires room { at + length shifts.now * width ≤ length items.old }
-    ensures written { items.new ≡ assigned (packed at width (length shifts.now)) (map (moved_offset base place) shifts.now) width block.now items.old }
-    ensures len { length items.new ≡ length items.old }
-    ensures end { result ≡ at + length shifts.now * width }
+) -> BlockBuilder
+    requires can { CanShift rows }
+    requires inside { All (λ offset. offset + width ≤ length block.now) (first_offsets rows) }
+    requires room { length (first_offsets rows) * width ≤ items.1 }
+    ensures bytes { result.0 ≡ items.0 ++ joined_at (first_offsets rows.entry) width block.now }
+    ensures left { length (first_offsets rows.entry) * width + result.1 ≡ items.1 }
 {
     match width {
-        1 => gather_each(items, at, block, shifts, base, place, 1),
-        2 => gather_each(items, at, block, shifts, base, place, 2),
-        4 => gather_each(items, at, block, shifts, base, place, 4),
-        8 => gather_each(items, at, block, shifts, base, place, 8),
-        _ => gather_each(items, at, block, shifts, base, place, width),
+        1 => push_each::<1>(items, block, rows),
+        2 => push_each::<2>(items, block, rows),
+        4 => push_each::<4>(items, block, rows),
+        8 => push_each::<8>(items, block, rows),
+        16 => push_each::<16>(items, block, rows),
+        _ => push_any(items, block, rows, width),
     }
 }
 

@@ -16,9 +16,9 @@ use Rattle.shape_strides.specs.Runs.{run_along, run_offsets}
 use Rattle.shape_strides.specs.WalkLaws.{length-run_offsets, length-first}
 use Rattle.shape_strides.specs.RunPairs.{all_offsets}
 use Rattle.overlap_copy.specs.RunLaws.{All-front, All-back, place-at}
-use Rattle.overlap_copy.specs.inside.Packed.{joined_at}
+use Rattle.overlap_copy.specs.Joined.{joined_at}
 use Rattle.overlap_copy.specs.inside.Rows.{rows_of, grid_of}
-use Rattle.overlap_copy.proofs.PackedLaws.{joined-by, joined-offsets}
+use Rattle.overlap_copy.specs.JoinedLaws.{joined-by, joined-offsets}
 
 -- the rows from some offsets on
 abbrev rows_from : StridedAxis → List ℕ → List Run

@@ -5,5 +5,7 @@ pub mod RunLaws
 pub mod Assignments
 pub mod Apart
 pub mod inside
+pub mod Joined
+pub mod JoinedLaws
 pub mod PackedLaws
 pub mod FortranLaws

@@ -1,7 +1,7 @@
 //! Short rows of items, and those that lie nearer to one another than columns do, gathered by columns.
 ghost use Rattle.std.specs.Prelude.{◌≡◌, ◌+◌, ◌*◌, ◌≤◌, ◌++◌, length, All};
 ghost use Rattle.shape_strides.specs.Layouts.{offsets};
-ghost use Rattle.overlap_copy.specs.inside.Packed.{joined_at};
+ghost use Rattle.overlap_copy.specs.Joined.{joined_at};
 ghost use Rattle.overlap_copy.specs.inside.Rows.{grid_of};
 
 use crate::packed::push_runs;

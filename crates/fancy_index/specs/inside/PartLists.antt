@@ -17,17 +17,16 @@ use Rattle.broadcasting.specs.Broadcasts.{can_stretch, broadcast_index}
 use Rattle.fancy_index.specs.declared.points.PointList.{PointList}
 use Rattle.fancy_index.specs.declared.parts.IndexPart.{IndexPart}
 use Rattle.fancy_index.specs.declared.parts.IndexPart.TheVariants.{Axis as AxisPart, Points as PointsPart, Between as BetweenPart}
-use Rattle.fancy_index.specs.IndexArrays.{IndexArray, is_index, array_axes_taken, cover, are_within}
+use Rattle.fancy_index.specs.IndexArrays.{IndexArray, is_index, array_axes_taken, cover}
 use Rattle.fancy_index.specs.Parts.{Part, Axis, Between, other_axes}
 use Rattle.fancy_index.specs.inside.PointLists.{tuple, shown_points, IsPointList}
 
--- an index list of which nothing is refused
+-- an index list of which nothing is refused before its numbers
 pub record IsChecked (shape : List ℕ) (items : List (IndexItem IndexArray)) : Type 0 where
   pub index : list_all is_index items ≡ true
   pub enough : array_axes_taken items ≤ length shape
   pub covers : cover shape items ≡ true
   pub steps : list_all has_step items ≡ true
-  pub within : are_within shape items ≡ true
 
 abbrev pub shown_part : IndexPart → Part
 shown_part (AxisPart pick) = Axis (pick_shown pick)

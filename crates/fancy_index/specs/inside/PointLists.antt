@@ -1,15 +1,26 @@
 -- Points on axes as the code holds them: by their ranks along these.
-use Rattle.std.specs.Prelude.{◌≡◌, ◌<◌, ℕ, ◌+◌, if◌then◌else◌, ℤ, pos, List, [], ◌∷◌, map, length, get_or, All}
+use Rattle.std.specs.Prelude.{◌≡◌, ◌<◌, ℕ, ◌+◌, if◌then◌else◌, ℤ, pos, Option, Some, None, List, [], ◌∷◌, map, length, get_or, All, Result, Ok, Err}
+use Rattle.std.specs.List.{list_all}
 use Rattle.std.specs.Ordering.{int_eq}
+use Rattle.elem_descr.specs.declared.refusal.Refusal.{Refusal}
+use Rattle.elem_descr.specs.declared.refusal.Refusal.TheVariants.{IndexOutOfRange}
 use Rattle.shape_strides.specs.Indexes.{count, indexes}
 use Rattle.shape_strides.specs.Addresses.{natural}
-use Rattle.view_ops.specs.Slices.{from_front}
+use Rattle.view_ops.specs.Slices.{from_front, is_place}
 use Rattle.fancy_index.specs.declared.points.PointList.{PointList}
 use Rattle.fancy_index.specs.Parts.{Part, Points}
 
 -- the place of n that a number names
 abbrev pub place_of : ℕ → ℤ → ℕ
 place_of n at = natural (from_front n at)
+
+-- the same, where it names one
+abbrev pub named_place : ℕ → ℤ → Option ℕ
+named_place n at = if is_place n at then Some (place_of n at) else None
+
+-- the places of n that numbers name, unless one of them names none
+abbrev pub named_places : ℕ → List ℤ → Result (List ℕ) Refusal
+named_places n numbers = if list_all (is_place n) numbers then Ok (map (place_of n) numbers) else Err IndexOutOfRange
 
 -- the ranks of the numbers that are not 0, the first of which has this one
 abbrev pub true_ranks : ℕ → List ℤ → List ℕ

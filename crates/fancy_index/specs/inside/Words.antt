@@ -1,19 +1,17 @@
 -- Integers by the bytes that they stand in.
-use Rattle.std.specs.Prelude.{◌≡◌, ℕ, ◌+◌, ◌<◌, ◌≤◌, ℤ, pos, true, List, [], ◌∷◌, map, length, get_or, All}
+use Rattle.std.specs.Prelude.{◌≡◌, ℕ, ◌+◌, ◌<◌, ◌≤◌, ℤ, pos, List, [], ◌∷◌, map, length, get_or, drop, All}
+use Rattle.std.specs.List.{list_all}
 use Rattle.elem_descr.specs.declared.descr.Descr.{Descr}
-use Rattle.elem_descr.specs.declared.scalar.Order.TheVariants.{Little}
 use Rattle.elem_descr.specs.Encoding.{integer, number_in}
 use Rattle.elem_descr.specs.Items.{item_size}
 use Rattle.raw_block.specs.Bytes.{item_at}
-use Rattle.shape_strides.specs.declared.runs.Run.{Run}
 use Rattle.shape_strides.specs.Addresses.{LieWithin}
 use Rattle.shape_strides.specs.Limits.{max_items, max_bytes}
 use Rattle.shape_strides.specs.Runs.{run_offsets}
+use Rattle.view_ops.specs.Slices.{is_place}
 use Rattle.fancy_index.specs.Sources.{number_from}
 use Rattle.fancy_index.specs.declared.words.Reading.{Reading}
 use Rattle.fancy_index.specs.declared.words.Spread.{Spread}
-use Rattle.fancy_index.specs.declared.words.Words.{Words}
-use Rattle.fancy_index.specs.declared.words.Words.TheVariants.{I32, I64, One, Two, Four, Eight}
 use Rattle.fancy_index.specs.inside.PointLists.{place_of}
 
 -- the integer in so many bytes
@@ -24,25 +22,11 @@ word reading width item = integer reading.signed width (number_in reading.order 
 abbrev pub spread_numbers : Reading → ℕ → Spread → List ℤ
 spread_numbers reading width items = map (λ offset. word reading width (item_at offset width items.block.now)) (run_offsets items.run)
 
-abbrev pub numbers : Words → List ℤ
-numbers (I32 run) = run
-numbers (I64 run) = run
-numbers (One reading items) = spread_numbers reading 1 items
-numbers (Two reading items) = spread_numbers reading 2 items
-numbers (Four reading items) = spread_numbers reading 4 items
-numbers (Eight reading items) = spread_numbers reading 8 items
-
 -- the items of this type are integers of so many bytes, which are read so
 pub record AreWords (reading : Reading) (width : ℕ) (descr : Descr) : Type 0 where
   pub size : item_size descr ≡ width
   pub few : width ≤ 8
   pub read : (block : List ℕ) (offset : ℕ) → number_from descr block offset ≡ word reading width (item_at offset width block)
-
--- little-endian integers with a sign, one right after another
-pub record IsNative (reading : Reading) (width : ℕ) (run : Run) : Type 0 where
-  pub signed : reading.signed ≡ true
-  pub order : reading.order ≡ Little
-  pub step : run.step ≡ pos width
 
 -- items of so many bytes that lie in their block
 pub record IsSpread (width : ℕ) (items : Spread) : Type 0 where
@@ -50,14 +34,8 @@ pub record IsSpread (width : ℕ) (items : Spread) : Type 0 where
   pub limit : LieWithin (items.run.count ∷ []) (items.run.step ∷ []) items.run.offset max_bytes 1
   pub ends : All (λ offset. offset + width ≤ length items.block.now) (run_offsets items.run)
 
-abbrev pub AreSpread : Words → Type 0
-AreSpread (One reading items) = IsSpread 1 items
-AreSpread (Two reading items) = IsSpread 2 items
-AreSpread (Four reading items) = IsSpread 4 items
-AreSpread (Eight reading items) = IsSpread 8 items
-AreSpread _ = Unit {0}
-
--- the places of n that the first k numbers name stand in a list as long as they are
+-- the first k numbers name places of n, which stand in a list as long as they are
 pub record ArePlacesTo (n k : ℕ) (numbers : List ℤ) (places : List ℕ) : Type 0 where
   pub many : length places ≡ length numbers
   pub done : (j : ℕ) → j < k → get_or places j 0 ≡ place_of n (get_or numbers j (pos 0))
+  pub left : list_all (is_place n) (drop k numbers) ≡ list_all (is_place n) numbers

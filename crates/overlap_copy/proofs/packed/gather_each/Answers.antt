@@ -2,8 +2,8 @@ use Rattle.std.proofs.Common.{◌≡◌, ◌*◌, ◌++◌, length, sym, ap, ◌
 use Rattle.shape_strides.specs.Layouts.{offsets, multiples}
 use Rattle.shape_strides.specs.LayoutLaws.{length-offsets}
 use Rattle.overlap_copy.specs.Assignments.{items_at}
-use Rattle.overlap_copy.specs.inside.Packed.{joined_at}
-use Rattle.overlap_copy.proofs.PackedLaws.{length-joined_at, joined-items}
+use Rattle.overlap_copy.specs.Joined.{joined_at}
+use Rattle.overlap_copy.specs.JoinedLaws.{length-joined_at, joined-items}
 use Rattle.overlap_copy.proofs.packed.gather_each.Goals as goal
 use Rattle.overlap_copy.proofs.packed.gather_each.Goals.{After-filled-filled, After-finish}
 

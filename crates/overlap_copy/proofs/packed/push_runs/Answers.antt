@@ -6,8 +6,9 @@ use Rattle.raw_block.specs.Bytes.{place, item_at, joined, EachWithin}
 use Rattle.shape_strides.specs.declared.runs.Run.{Run}
 use Rattle.shape_strides.specs.Runs.{run_offsets}
 use Rattle.shape_strides.specs.RunPairs.{all_offsets}
-use Rattle.overlap_copy.specs.inside.Packed.{joined_at}
-use Rattle.overlap_copy.proofs.PackedLaws.{parts, joined-offsets, joined-next}
+use Rattle.overlap_copy.specs.Joined.{joined_at}
+use Rattle.overlap_copy.proofs.PackedLaws.{parts, joined-next}
+use Rattle.overlap_copy.specs.JoinedLaws.{joined-offsets}
 use Rattle.overlap_copy.proofs.packed.push_runs.Goals as goal
 
 pub push_strided-requires-clause-room : goal.push_strided-requires-clause-room

@@ -1,6 +1,6 @@
 use Rattle.std.proofs.Common.{◌≡◌, ◌+◌, ◌*◌, ◌++◌, length, All}
 use Rattle.raw_block.specs.Bytes.{EachWithin}
-use Rattle.overlap_copy.specs.inside.Packed.{joined_at}
+use Rattle.overlap_copy.specs.Joined.{joined_at}
 use Rattle.overlap_copy.proofs.packed.push_runs.Given as goal
 use Rattle.shape_strides.specs.RunPairs.{all_offsets}
 

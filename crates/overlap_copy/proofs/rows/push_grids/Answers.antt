@@ -9,7 +9,7 @@ use Rattle.shape_strides.specs.Limits.{max_bytes}
 use Rattle.shape_strides.specs.Runs.{run_along, run_offsets}
 use Rattle.shape_strides.specs.RunPairs.{all_offsets}
 use Rattle.overlap_copy.specs.RunLaws.{lie-within, runs-within}
-use Rattle.overlap_copy.specs.inside.Packed.{joined_at}
+use Rattle.overlap_copy.specs.Joined.{joined_at}
 use Rattle.overlap_copy.specs.inside.Rows.{rows_of}
 use Rattle.overlap_copy.proofs.GridLaws.{grid-within, grid-bytes, rows-first, rows-rest, rows-count, rows-pushed}
 use Rattle.overlap_copy.proofs.rows.push_grids.Goals as goal

@@ -4,7 +4,7 @@ use Rattle.shape_strides.specs.Addresses.{LieWithin}
 use Rattle.shape_strides.specs.Layouts.{offsets}
 use Rattle.shape_strides.specs.Limits.{max_bytes}
 use Rattle.shape_strides.specs.RunPairs.{all_offsets}
-use Rattle.overlap_copy.specs.inside.Packed.{joined_at}
+use Rattle.overlap_copy.specs.Joined.{joined_at}
 use Rattle.overlap_copy.specs.inside.Rows.{rows_of}
 use Rattle.overlap_copy.proofs.rows.push_grids.Given as goal
 

@@ -1,5 +1,0 @@
-use Rattle.fancy_index.specs.inside.Words.{ArePlacesTo}
-use Rattle.fancy_index.proofs.words.i64_places.Given as goal
-
-abbrev pub invariant-loop-k : goal.invariant-loop-k
-invariant-loop-k l = ArePlacesTo l.n l.k l.run l.places.items
