@@ -77,8 +77,7 @@ fn assign_runs(block: &mut RawBlock, dst: &Layout, src: &Layout, width: usize) -
 /// C order, whatever bytes of the block the two have in common. Where they are apart, or are runs
 /// of the same step, or one is a run and the other the same from its last item to its first, it
 /// takes no memory; else that for the items of `src`, and an `Err` says that there was none.
-/// The block is within the limit of buffers: items of a layout begin within it, but in a longer block
-/// they could end beyond, and the ranges of bytes that are compared are those within.
+/// Both fit in 2^28 bytes, however long the block is, since `may_overlap` compares ranges of bytes within.
 pub fn assign(
     alloc: Global,
     block: &mut RawBlock,
@@ -86,9 +85,10 @@ pub fn assign(
     src: &Layout,
     width: usize,
 ) -> Result<(), AllocError>
-    requires small { length block.old ≤ max_bytes }
     requires dst { Fits dst.now (length block.old) width }
     requires src { Fits src.now (length block.old) width }
+    requires dst_small { Fits dst.now max_bytes width }
+    requires src_small { Fits src.now max_bytes width }
     requires nested { IsNested (offsets dst.now) width }
     requires count { count dst.now.shape ≡ count src.now.shape }
     ensures written { IfOk result (λ _. block.new ≡ assigned (offsets dst.now) (offsets src.now) width block.old block.old) }
