@@ -148,7 +148,7 @@ runs-within {X} len width run_of xs begin ends = All-from_recursion (λ x. EachW
           each xs (All-tail begins x xs begin) (All-back ends-in (run_offsets (run_of x)) rest ends),
         )
 
--- what holds of all that is left holds of the next_pair pair
+-- what holds of all that is left holds of the next pair
 pub next_pair : (P : RunPair → Type 0) (left left' : List RunPair) (pair : RunPair) → left ≡ pair ∷ left' → All P left → P pair
 next_pair P left left' pair walked all = All-head P pair left' (subst (All P) walked all)
 
