@@ -154,7 +154,7 @@ pub walked-within : {X : Type 0} (len width : ℕ) (run_of : X → Run) (walked 
 walked-within {X} len width run_of walked xs offsets are begin is ends =
     subst (AreWithin len width run_of) (sym are) (runs-within len width run_of xs begin (subst (All (λ offset. offset + width ≤ len)) (sym is) ends))
 
--- what holds of all that is left holds of the next_pair pair
+-- what holds of all that is left holds of the next pair
 pub next_pair : (P : RunPair → Type 0) (left left' : List RunPair) (pair : RunPair) → left ≡ pair ∷ left' → All P left → P pair
 next_pair P left left' pair walked all = All-head P pair left' (subst (All P) walked all)
 

@@ -1,4 +1,4 @@
--- Lists of none_or_more, turn by turn.
+-- Lists of entries, turn by turn.
 use Rattle.std.proofs.Common.{◌≡◌, ◌<◌, ◌≤◌, ℕ, Bool, is_some, ◌⊎◌, true, false, inl, inr, List, [], ◌∷◌, ◌++◌, length, Option, Some, None, refl, ap, sym, ◌∙◌, arith, append_assoc, nat_lt, length-append}
 use Rattle.std.specs.Prelude.{IsTrue, IfSome}
 use Rattle.std.specs.Option.{option_map, option_and_then}
@@ -21,7 +21,7 @@ more_in_front : {A : Type 0} (read : List A) (x : A) (rest : Option (List A × L
 more_in_front read x None = refl
 more_in_front read x (Some r) = ap (λ xs. Some (xs, r.1)) (sym (append_assoc read (x ∷ []) r.0))
 
--- more than 8 none_or_more, where 8 are read and one more comes
+-- more than 8 entries, where 8 are read and one more comes
 abbrev pub Long : {A : Type 0} → Option (List A × List ℕ) → Type 0
 Long list = IfSome list (λ r. IsTrue (nat_lt 8 (length r.0)))
 
@@ -29,7 +29,7 @@ long_in_front : {A : Type 0} (read : List A) (x : A) (rest : Option (List A × L
 long_in_front read x None full = tt
 long_in_front read x (Some r) full = lt-ltb 8 (length (read ++ x ∷ r.0)) (omega (arith, length-append read (x ∷ r.0)))
 
--- 8 none_or_more are held where one more takes memory that there is not
+-- 8 entries are held where one more takes memory that there is not
 pub full_from_failed : {A : Type 0} (read : List A) → (length read < 8 → false ≡ true) → 8 ≤ length read
 full_from_failed read room =
     elim (cases_lt (length read) 8) [ inl few ↦ absurd (false≢true (room few)) | inr many ↦ many ]
@@ -44,7 +44,7 @@ pub failed_entry : {A B P : Type 0} (refusal : Refusal) (there : Option B) (whol
 failed_entry refusal there whole failed stops =
     elim failed [ inl misspelt ↦ inl (misspelt.0, stops misspelt.1) | inr full ↦ inr (full.0, any_list whole) ]
 
--- a turn at none_or_more that commas part, a last comma allowed
+-- a turn at entries that commas part, a last comma allowed
 module _ {A : Type 0} (entry_at : List ℕ → Option (A × List ℕ)) (shorter : Shortens entry_at) (closing : ℕ) (whole : Option (List A × List ℕ)) (read : List A) (rest : List ℕ) (is : whole ≡ in_front read (by_rule (none_or_more entry_at closing) rest)) where
   entries_turn : whole ≡ in_front read (none_or_more entry_at closing (by_rule (none_or_more entry_at closing)) rest)
   entries_turn = is ∙ ap (in_front read) (one_turn (none_or_more entry_at closing) (entries_goes_on entry_at shorter closing) rest)
@@ -94,7 +94,7 @@ module _ {A : Type 0} (item_at : List ℕ → Option (A × List ℕ)) (shorter :
   unfolding one_or_more entry_first comma_next
   items_next x after next first no_end comma = items_turn ∙ rw (first, no_end, comma) (more_in_front read x (by_rule (one_or_more item_at closing) next))
 
--- a turn at none_or_more one behind the other
+-- a turn at entries one behind the other
 module _ {A : Type 0} (entry_at : List ℕ → Option (A × List ℕ)) (shorter : Shortens entry_at) (ending : List ℕ → Option (List ℕ)) (whole : Option (List A × List ℕ)) (read : List A) (rest : List ℕ) (is : whole ≡ in_front read (by_rule (row entry_at ending) rest)) where
   row_turn : whole ≡ in_front read (row entry_at ending (by_rule (row entry_at ending)) rest)
   row_turn = is ∙ ap (in_front read) (one_turn (row entry_at ending) (row_goes_on entry_at shorter ending) rest)

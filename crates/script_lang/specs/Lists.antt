@@ -1,4 +1,4 @@
--- Lists of none_or_more. A rule says what a list is where the list behind its first entry is known.
+-- Lists of entries. A rule says what a list is where the list behind its first entry is known.
 use Rattle.std.specs.Prelude.{◌≡◌, ◌<◌, ℕ, zero, suc, List, [], ◌∷◌, length, Option, Some, None}
 use Rattle.std.specs.Option.{option_and_then}
 use Rattle.script_lang.specs.Tokens.{symbol_at, ◌>>=◌, ◌or_else◌}
