@@ -2,17 +2,17 @@
 use Rattle.std.proofs.Common.{◌≡◌, ◌+◌, ◌*◌, ◌<◌, ℕ, zero, suc, List, [], ◌∷◌, ◌++◌, Result, Ok, Err, IfOk, length, reverse, get_or, take, drop, sym, ap, ◌∙◌, arith, zero-mul, suc-mul, mul_comm, length-append}
 use Rattle.std.specs.List.{concat, AllByRecursion as Each}
 use Rattle.std.proofs.Math.Seq.{take-append_seam, drop-append-add}
-use Rattle.std.proofs.lemmas.List.{length-map, get_or-map}
+use Rattle.std.proofs.lemmas.List.{get_or-map}
 use Rattle.std.proofs.lemmas.List.FromFn.{length-map-range_with_len, get_or-map-range_with_len}
 use Rattle.raw_block.specs.Bytes.{item_at}
 use Rattle.raw_block.specs.JoinedLaws.{all_joined}
 use Rattle.shape_strides.specs.Contiguity.{fortran_order}
-use Rattle.shape_strides.specs.Indexes.{count, indexes, rank}
-use Rattle.shape_strides.specs.IndexLaws.{length-indexes, rank-lt, index_at}
+use Rattle.shape_strides.specs.Indexes.{count, rank}
+use Rattle.shape_strides.specs.IndexLaws.{rank-lt, index_at}
 use Rattle.shape_strides.specs.Layouts.{multiples}
 use Rattle.shape_strides.specs.ReverseLaws.{count-reverse, IsIndex-reverse}
 use Rattle.overlap_copy.specs.Assignments.{items_at}
-use Rattle.overlap_copy.specs.FortranLaws.{fortran-at}
+use Rattle.overlap_copy.specs.FortranLaws.{length-fortran, fortran-at}
 use Rattle.elementwise.specs.Results.{pairwise}
 use Rattle.elementwise.proofs.PairLaws.{length-pairwise, get_or-pairwise}
 
@@ -51,9 +51,6 @@ module _ (width : ℕ) where
       ∙ sym (all_joined (λ k. get_or items k []) width (length items) (concat items) (length-concat items wide) (λ k below. item-concat items k wide below))
 
 -- ---- pairs in Fortran order
-
-pub length-fortran : (shape offsets : List ℕ) → length (fortran_order shape offsets) ≡ count shape
-length-fortran shape offsets = length-map (indexes (reverse shape)) _ ∙ length-indexes (reverse shape) ∙ count-reverse shape
 
 module _ (make : ℕ → ℕ → List ℕ) (width : ℕ) (shape xs ys : List ℕ) (many : length xs ≡ count shape) (many' : length ys ≡ count shape) where
   abbrev made : List (List ℕ)

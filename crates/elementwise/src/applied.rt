@@ -11,7 +11,7 @@ ghost use Rattle.overlap_copy.specs.ItemLists.{owned_items};
 ghost use Rattle.elementwise.specs.Results.{binary_result, unary_result, binary_item, unary_item, stretched_items, pairwise};
 
 use crate::operands::read_as;
-use crate::pairing::{Alike, Work};
+use crate::pairing::{Pairing, Work};
 use crate::promotion::{promote, promote_one, scalar_of};
 use crate::typed::make_cast;
 use broadcasting::common;
@@ -36,11 +36,11 @@ pub fn apply2(alloc: Global, op: BinOp, left: Items<'_>, right: Items<'_>) -> Re
     let scalar = promote(op, from, other)?;
     let shape = common(alloc, &[&left.layout.shape, &right.layout.shape])?;
     let read = read_as(&scalar, left, right);
-    let pairing = Alike {
+    let pairing = Pairing::Alike {
         work: Work::Combine(op),
         scalar: read,
     };
-    make_cast::<Alike>(alloc, &pairing, left, right, &shape)
+    make_cast(alloc, &pairing, left, right, &shape)
 }
 
 /// What an operation gives on the items of an array, in a block of their own in C order. Refused as
@@ -55,9 +55,9 @@ pub fn apply1(alloc: Global, op: UnOp, operand: Items<'_>) -> Result<Owned, Refu
     let from = scalar_of(operand.descr)?;
     let scalar = promote_one(op, from)?;
     let read = read_as(&scalar, operand, operand);
-    let pairing = Alike {
+    let pairing = Pairing::Alike {
         work: Work::Change(op),
         scalar: read,
     };
-    make_cast::<Alike>(alloc, &pairing, operand, operand, &operand.layout.shape)
+    make_cast(alloc, &pairing, operand, operand, &operand.layout.shape)
 }

@@ -17,7 +17,7 @@ ghost use Rattle.elementwise.specs.inside.LeafCasts.{source, HasSource};
 ghost use Rattle.elementwise.specs.inside.Made.{IsMade};
 
 use crate::castable::can_cast;
-use crate::pairing::{Alike, Work};
+use crate::pairing::{Pairing, Work};
 use crate::runs_of_leaves::{LeafCast, cast_leaf};
 use crate::typed::make_stretched;
 use elem_descr::{Descr, Leaf, Refusal, Scalar};
@@ -124,11 +124,11 @@ fn cast_numbers(
     ensures made { IfOk result (IsMade (ScalarDescr to.now) from.entry.layout.now.shape (map (λ offset. cast_item from.entry.descr.now (ScalarDescr to.now) (item_from from.entry.descr.now from.entry.block.now offset)) (offsets from.entry.layout.now))) }
     ensures refused { IfErr result (λ refusal. refusal ≡ OutOfMemory) }
 {
-    let pairing = Alike {
+    let pairing = Pairing::Alike {
         work: Work::Cast(*to),
         scalar: *scalar,
     };
-    make_stretched::<Alike>(alloc, &pairing, from, from, &from.layout.shape)
+    make_stretched(alloc, &pairing, from, from, &from.layout.shape)
 }
 
 /// Items as items to which they can be cast.

@@ -22,7 +22,7 @@ ghost use Rattle.elementwise.specs.inside.Held.{stretched};
 ghost use Rattle.elementwise.specs.inside.Made.{IsMade};
 
 use crate::operands::{Scalars, read_as};
-use crate::pairing::{Alike, ComparingSigns, ComparingTexts, Work};
+use crate::pairing::{ComparingTexts, Pairing, Work};
 use crate::promotion::{compared_type, eight_bytes, scalar_of};
 use crate::shrunk::{spread, without_repeats};
 use crate::trimmed::trimmed_in;
@@ -63,11 +63,11 @@ pub(crate) fn compare_held(
 {
     note_bytes(left.block);
     note_bytes(right.block);
-    let pairing = Alike {
+    let pairing = Pairing::Alike {
         work: Work::Compare(comparison),
         scalar: *scalar,
     };
-    make_cast::<Alike>(alloc, &pairing, left, right, shape)
+    make_cast(alloc, &pairing, left, right, shape)
 }
 
 /// The same by way of integers of eight bytes, the first of which have a sign where the second have none.
@@ -88,11 +88,11 @@ fn compare_signs(
 {
     note_bytes(left.block);
     note_bytes(right.block);
-    let pairing = ComparingSigns {
+    let pairing = Pairing::Signs {
         comparison,
         left_signed,
     };
-    make_cast::<ComparingSigns>(alloc, &pairing, left, right, shape)
+    make_cast(alloc, &pairing, left, right, shape)
 }
 
 /// A comparison of two arrays of numbers that are stretched to a shape, by value: by way of their common
@@ -145,11 +145,11 @@ fn compare_texts(
     let _items = shape.items();
     let width = trimmed_in(alloc, left, pairing.width, shape)?;
     let other_width = trimmed_in(alloc, right, pairing.other_width, shape)?;
-    let cut = ComparingTexts {
+    let cut = Pairing::Texts(ComparingTexts {
         comparison: pairing.comparison,
         width,
         other_width,
-    };
+    });
     let descr = Descr::Scalar(Scalar::Bytes(width));
     let other = Descr::Scalar(Scalar::Bytes(other_width));
     let first = Items {
@@ -162,7 +162,7 @@ fn compare_texts(
         layout: right.layout,
         descr: &other,
     };
-    make_stretched::<ComparingTexts>(alloc, &cut, first, second, shape)
+    make_stretched(alloc, &cut, first, second, shape)
 }
 
 /// A comparison of two arrays of numbers or of byte strings that are stretched to a shape.

@@ -3,8 +3,8 @@ ghost use Rattle.std.specs.Prelude.{◌≡◌, ◌*◌, ◌≤◌, IfOk};
 ghost use Rattle.elem_descr.specs.Encoding.{size};
 ghost use Rattle.elem_descr.specs.Items.{item_size};
 ghost use Rattle.shape_strides.specs.Limits.{max_bytes};
-ghost use Rattle.elementwise.specs.inside.PairPasses.{value_pair};
 ghost use Rattle.elementwise.specs.inside.Operands.{pairs_of, made_of_all};
+ghost use Rattle.elementwise.specs.inside.Works.{left_of, right_of, target_of, pair_made, CanPair};
 
 use crate::pairing::Pairing;
 use crate::rows::Operands;
@@ -28,16 +28,16 @@ fn both_steps(operands: Operands<'_>) -> usize {
 }
 
 /// What is made of all pairs, one row after another.
-fn made_by_rows<P: Pairing>(
+fn made_by_rows(
     alloc: Global,
-    pairing: &P,
+    pairing: &Pairing,
     operands: Operands<'_>,
 ) -> Result<RawBlock, AllocError>
-    requires can { P.Can pairing.now }
-    requires left { item_size operands.left.descr.now ≡ size (P.left_scalar pairing.now) }
-    requires right { item_size operands.right.descr.now ≡ size (P.right_scalar pairing.now) }
-    requires few { pairs_of operands * size (P.target_scalar pairing.now) ≤ max_bytes }
-    ensures { IfOk result (λ b. b ≡ made_of_all (value_pair (P.left_scalar pairing.now) (P.right_scalar pairing.now) (P.target_scalar pairing.now) (P.gives pairing.now)) operands.entry) }
+    requires can { CanPair pairing.now }
+    requires left { item_size operands.left.descr.now ≡ size (left_of pairing.now) }
+    requires right { item_size operands.right.descr.now ≡ size (right_of pairing.now) }
+    requires few { pairs_of operands * size (target_of pairing.now) ≤ max_bytes }
+    ensures { IfOk result (λ b. b ≡ made_of_all (pair_made pairing.now) operands.entry) }
 {
     let pairs = operands.left.layout.shape.items();
     let block = BlockBuilder::try_new(alloc, pairs * pairing.target().size())?;
@@ -46,16 +46,16 @@ fn made_by_rows<P: Pairing>(
 
 /// The same, and where the items of columns lie nearer to one another, one column after another and then
 /// in C order.
-pub(crate) fn made_of_pairs<P: Pairing>(
+pub(crate) fn made_of_pairs(
     alloc: Global,
-    pairing: &P,
+    pairing: &Pairing,
     operands: Operands<'_>,
 ) -> Result<RawBlock, AllocError>
-    requires can { P.Can pairing.now }
-    requires left { item_size operands.left.descr.now ≡ size (P.left_scalar pairing.now) }
-    requires right { item_size operands.right.descr.now ≡ size (P.right_scalar pairing.now) }
-    requires few { pairs_of operands * size (P.target_scalar pairing.now) ≤ max_bytes }
-    ensures { IfOk result (λ b. b ≡ made_of_all (value_pair (P.left_scalar pairing.now) (P.right_scalar pairing.now) (P.target_scalar pairing.now) (P.gives pairing.now)) operands.entry) }
+    requires can { CanPair pairing.now }
+    requires left { item_size operands.left.descr.now ≡ size (left_of pairing.now) }
+    requires right { item_size operands.right.descr.now ≡ size (right_of pairing.now) }
+    requires few { pairs_of operands * size (target_of pairing.now) ≤ max_bytes }
+    ensures { IfOk result (λ b. b ≡ made_of_all (pair_made pairing.now) operands.entry) }
 {
     let shape = &operands.left.layout.shape;
     if shape.items() < FEW {

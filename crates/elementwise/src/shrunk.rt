@@ -8,7 +8,7 @@ ghost use Rattle.elementwise.specs.Results.{stretched_items};
 ghost use Rattle.elementwise.specs.inside.Shrunk.{IsShrunk};
 ghost use Rattle.elementwise.specs.inside.Made.{IsMade};
 
-use crate::pairing::{Alike, Work};
+use crate::pairing::{Pairing, Work};
 use crate::typed::{make_stretched, stretched_to};
 use broadcasting::{shrink, shrunk_shape};
 use elem_descr::{Refusal, Scalar};
@@ -58,9 +58,9 @@ pub(crate) fn spread(alloc: Global, made: &Owned, shape: &Shape) -> Result<Owned
     ensures refused { IfErr result (λ refusal. refusal ≡ OutOfMemory) }
 {
     let _items = shape.items();
-    let pairing = Alike {
+    let pairing = Pairing::Alike {
         work: Work::Cast(Scalar::Bool),
         scalar: Scalar::Bool,
     };
-    make_stretched::<Alike>(alloc, &pairing, made.items(), made.items(), shape)
+    make_stretched(alloc, &pairing, made.items(), made.items(), shape)
 }

@@ -2,19 +2,14 @@
 ghost use Rattle.elementwise.specs.inside.PairPasses.{text_pair};
 ghost use Rattle.std.proofs.Common.{arith};
 
+use crate::pairing::ComparingTexts;
 use crate::rows::Pass;
 use crate::sides::Pairs;
 use crate::text_comparing::are_items_compared;
-use machine_numbers::{Comparison, LowFirst, Number};
+use machine_numbers::{LowFirst, Number};
 use raw_block::BlockBuilder;
 
-/// A comparison of byte strings, whose NULs at the end do not count.
-#[derive(Clone, Copy)]
-pub(crate) struct Texts {
-    pub(crate) comparison: Comparison,
-}
-
-impl Pass for Texts {
+impl Pass for ComparingTexts {
     ghost makes = { λ t. text_pair t.comparison };
 
     ghost Reads = { λ _ _ _. Unit {0} };

@@ -12,6 +12,7 @@ ghost use Rattle.elementwise.specs.Casts.{can_cast, cast_item};
 ghost use Rattle.elementwise.specs.Results.{pairwise, value_in};
 ghost use Rattle.elementwise.specs.inside.Held.{stretched};
 ghost use Rattle.elementwise.specs.inside.Made.{IsMade};
+ghost use Rattle.elementwise.specs.inside.Works.{left_of, right_of, target_of, gives, CanPair};
 
 use crate::held::Held;
 use crate::made::made_of_pairs;
@@ -35,20 +36,20 @@ pub(crate) fn stretched_to(alloc: Global, layout: &Layout, shape: &Shape) -> Res
 }
 
 /// What is made of the items of two arrays that are stretched to a shape.
-pub(crate) fn make_stretched<'a, P: Pairing>(
+pub(crate) fn make_stretched<'a>(
     alloc: Global,
-    pairing: &P,
+    pairing: &Pairing,
     left: Items<'a>,
     right: Items<'a>,
     shape: &Shape,
 ) -> Result<Owned, Refusal>
-    requires can { P.Can pairing.now }
-    requires left { left.descr.now ≡ ScalarDescr (P.left_scalar pairing.now) }
-    requires right { right.descr.now ≡ ScalarDescr (P.right_scalar pairing.now) }
-    requires few { count shape.now * size (P.target_scalar pairing.now) ≤ max_bytes }
+    requires can { CanPair pairing.now }
+    requires left { left.descr.now ≡ ScalarDescr (left_of pairing.now) }
+    requires right { right.descr.now ≡ ScalarDescr (right_of pairing.now) }
+    requires few { count shape.now * size (target_of pairing.now) ≤ max_bytes }
     requires stretches { IsTrue (can_stretch left.layout.now.shape shape.now) }
     requires also { IsTrue (can_stretch right.layout.now.shape shape.now) }
-    ensures made { IfOk result (IsMade (ScalarDescr (P.target_scalar pairing.now)) shape.now (pairwise (λ x y. P.gives pairing.now (value_in x) (value_in y) ∷ []) (stretched left.entry shape.now) (stretched right.entry shape.now))) }
+    ensures made { IfOk result (IsMade (ScalarDescr (target_of pairing.now)) shape.now (pairwise (λ x y. gives pairing.now (value_in x) (value_in y) ∷ []) (stretched left.entry shape.now) (stretched right.entry shape.now))) }
     ensures refused { IfErr result (λ refusal. refusal ≡ OutOfMemory) }
 {
     let first = stretched_to(alloc, left.layout, shape)?;
@@ -73,20 +74,20 @@ pub(crate) fn make_stretched<'a, P: Pairing>(
 }
 
 /// What is made of the items of two arrays that are cast, and then stretched to a shape.
-pub(crate) fn make_cast<P: Pairing>(
+pub(crate) fn make_cast(
     alloc: Global,
-    pairing: &P,
+    pairing: &Pairing,
     left: Items<'_>,
     right: Items<'_>,
     shape: &Shape,
 ) -> Result<Owned, Refusal>
-    requires can { P.Can pairing.now }
-    requires small { (size (P.left_scalar pairing.now) ≤ 8) × (size (P.right_scalar pairing.now) ≤ 8) × (size (P.target_scalar pairing.now) ≤ 8) }
-    requires left { can_cast left.descr.now (ScalarDescr (P.left_scalar pairing.now)) ≡ true }
-    requires right { can_cast right.descr.now (ScalarDescr (P.right_scalar pairing.now)) ≡ true }
+    requires can { CanPair pairing.now }
+    requires small { (size (left_of pairing.now) ≤ 8) × (size (right_of pairing.now) ≤ 8) × (size (target_of pairing.now) ≤ 8) }
+    requires left { can_cast left.descr.now (ScalarDescr (left_of pairing.now)) ≡ true }
+    requires right { can_cast right.descr.now (ScalarDescr (right_of pairing.now)) ≡ true }
     requires stretches { IsTrue (can_stretch left.layout.now.shape shape.now) }
     requires also { IsTrue (can_stretch right.layout.now.shape shape.now) }
-    ensures made { IfOk result (IsMade (ScalarDescr (P.target_scalar pairing.now)) shape.now (pairwise (λ x y. P.gives pairing.now (value_in (cast_item left.entry.descr.now (ScalarDescr (P.left_scalar pairing.now)) x)) (value_in (cast_item right.entry.descr.now (ScalarDescr (P.right_scalar pairing.now)) y)) ∷ []) (stretched left.entry shape.now) (stretched right.entry shape.now))) }
+    ensures made { IfOk result (IsMade (ScalarDescr (target_of pairing.now)) shape.now (pairwise (λ x y. gives pairing.now (value_in (cast_item left.entry.descr.now (ScalarDescr (left_of pairing.now)) x)) (value_in (cast_item right.entry.descr.now (ScalarDescr (right_of pairing.now)) y)) ∷ []) (stretched left.entry shape.now) (stretched right.entry shape.now))) }
     ensures refused { IfErr result (λ refusal. refusal ≡ OutOfMemory) }
 {
     let _items = shape.items();
@@ -94,5 +95,5 @@ pub(crate) fn make_cast<P: Pairing>(
     let right_to = Descr::Scalar(pairing.right());
     let left_held = Held::of(alloc, left, &left_to)?;
     let right_held = Held::of(alloc, right, &right_to)?;
-    make_stretched::<P>(alloc, pairing, left_held.items(), right_held.items(), shape)
+    make_stretched(alloc, pairing, left_held.items(), right_held.items(), shape)
 }

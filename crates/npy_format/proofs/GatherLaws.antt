@@ -24,6 +24,7 @@ use Rattle.shape_strides.specs.Runs.{run_offsets, runs}
 use Rattle.shape_strides.specs.ContiguityLaws.{first_address-entry}
 use Rattle.shape_strides.specs.WalkLaws.{length-run_offsets}
 use Rattle.overlap_copy.specs.RunLaws.{run_offsets-more, place-at, run-ends}
+use Rattle.overlap_copy.specs.FortranLaws.{length-fortran}
 use Rattle.npy_format.specs.inside.WrittenItems.{addresses_in_file}
 use Rattle.elem_descr.specs.NulLaws.{reverse-replicate}
 
@@ -146,9 +147,6 @@ fortran-entry shape offsets k d low long =
       get_or-map f all k [] d (omega (arith, low, sized)) ∙ ap f here,
       here,
     )
-
-pub length-fortran : (shape offsets : List ℕ) → length (fortran_order shape offsets) ≡ count shape
-length-fortran shape offsets = length-map (indexes (reverse shape)) (λ index. get_or offsets (rank shape (reverse index)) 0) ∙ length-indexes (reverse shape) ∙ count-reverse shape
 
 pub fortran-within : (shape offsets : List ℕ) (len width : ℕ) → length offsets ≡ count shape → All (λ offset. offset + width ≤ len) offsets → All (λ offset. offset + width ≤ len) (fortran_order shape offsets)
 fortran-within shape offsets len width long inside = λ k d low.

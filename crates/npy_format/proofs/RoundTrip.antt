@@ -17,7 +17,8 @@ use Rattle.elem_descr.specs.declared.refusal.Refusal.{Refusal}
 use Rattle.elem_descr.specs.Refusals.{◌>>=◌}
 use Rattle.shape_strides.specs.Contiguity.{fortran_order}
 use Rattle.npy_format.specs.declared.header.Header.{Header}
-use Rattle.npy_format.proofs.GatherLaws.{length-fortran, fortran-within}
+use Rattle.overlap_copy.specs.FortranLaws.{length-fortran}
+use Rattle.npy_format.proofs.GatherLaws.{fortran-within}
 use Rattle.npy_format.proofs.WriterLaws.{ordered-items}
 use Rattle.elem_descr.specs.Values.{LeafValue, number}
 use Rattle.elem_descr.specs.Encoding.{size, decode, encode, truth}

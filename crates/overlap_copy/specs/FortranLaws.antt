@@ -16,6 +16,9 @@ at-index shape index f d in' =
     let inside : rank shape index < length (indexes shape) = omega (arith, length-indexes shape, rank-lt shape index in') in
     get_or-map f (indexes shape) (rank shape index) [] d inside ∙ ap f (get_or-indexes shape index [] in')
 
+pub length-fortran : (shape offsets : List ℕ) → length (fortran_order shape offsets) ≡ count shape
+length-fortran shape offsets = length-map (indexes (reverse shape)) _ ∙ length-indexes (reverse shape) ∙ count-reverse shape
+
 -- what holds of all offsets holds of them in Fortran order
 pub fortran-all : (P : ℕ → Type 0) (shape offsets : List ℕ) → length offsets ≡ count shape → All P offsets → All P (fortran_order shape offsets)
 fortran-all P shape offsets long all = λ k d below.
@@ -37,7 +40,7 @@ items-in_fortran width shape offsets items block long same =
     let f = λ (index : List ℕ). width * rank (reverse shape) (reverse index) in
     let many = length-map (indexes shape) f ∙ length-indexes shape in
     let turned = fortran_order shape offsets in
-    let long' : length turned ≡ count shape = length-map (indexes (reverse shape)) _ ∙ length-indexes (reverse shape) ∙ count-reverse shape in
+    let long' = length-fortran shape offsets in
     let even = length-map-range_with_len (λ k. width * k) 0 (count shape) in
     same_lists (items_at (f_multiples width shape) width items) (items_at offsets width block)
     (length-map (f_multiples width shape) _ ∙ many ∙ sym long ∙ sym (length-map offsets _)) (λ k d below.

@@ -1,14 +1,21 @@
--- What is made of the values of two items of one scalar of numbers.
-use Rattle.std.specs.Prelude.{◌≡◌, ℤ, false}
+-- What is made of the values of two items.
+use Rattle.std.specs.Prelude.{◌≡◌, ℕ, ℤ, List, not, false}
+use Rattle.elem_descr.specs.declared.scalar.Order.TheVariants.{Little}
+use Rattle.elem_descr.specs.declared.scalar.Width.TheVariants.{Eight}
 use Rattle.elem_descr.specs.declared.scalar.Scalar.{Scalar}
-use Rattle.elem_descr.specs.declared.scalar.Scalar.TheVariants.{Bool as BoolScalar}
-use Rattle.elem_descr.specs.Encoding.{IsNumber, wrap}
+use Rattle.elem_descr.specs.declared.scalar.Scalar.TheVariants.{Bool as BoolScalar, Int, Bytes}
+use Rattle.elem_descr.specs.Values.{LeafValue, number}
+use Rattle.elem_descr.specs.Encoding.{IsNumber, number_of, wrap}
 use Rattle.machine_numbers.specs.Kinds.{little}
 use Rattle.elementwise.specs.Promotion.{is_division}
 use Rattle.elementwise.specs.Operations.{binary, unary}
-use Rattle.elementwise.specs.inside.PairPasses.{says_number}
+use Rattle.elementwise.specs.inside.PairPasses.{says_number, compared_value, truth_value, value_pair}
 use Rattle.elementwise.specs.declared.pairing.Work.{Work}
+use Rattle.elementwise.specs.declared.pairing.Pairing.{Pairing}
+use Rattle.elementwise.specs.declared.pairing.Pairing.TheVariants.{Alike, Signs, Texts}
 use Rattle.elementwise.specs.declared.pairing.Work.TheVariants.{Combine, Change, Compare, Cast}
+
+-- ---- of numbers of one scalar
 
 -- the scalar of the results
 abbrev pub target : Work → Scalar → Scalar
@@ -30,3 +37,38 @@ IsWork (Combine op) = is_division op ≡ false
 IsWork (Change op) = Unit {0}
 IsWork (Compare comparison) = Unit {0}
 IsWork (Cast to) = IsNumber to
+
+-- ---- of values of two scalars
+
+-- the scalars of the first items and of the second ones
+abbrev pub left_of : Pairing → Scalar
+left_of (Alike work scalar) = scalar
+left_of (Signs comparison left_signed) = Int left_signed Eight Little
+left_of (Texts texts) = Bytes texts.width
+
+abbrev pub right_of : Pairing → Scalar
+right_of (Alike work scalar) = scalar
+right_of (Signs comparison left_signed) = Int (not left_signed) Eight Little
+right_of (Texts texts) = Bytes texts.other_width
+
+-- and of what is made
+abbrev pub target_of : Pairing → Scalar
+target_of (Alike work scalar) = target work scalar
+target_of (Signs comparison left_signed) = BoolScalar
+target_of (Texts texts) = BoolScalar
+
+-- what is made of two values
+abbrev pub gives : Pairing → LeafValue → LeafValue → LeafValue
+gives (Alike work scalar) x y = number (meaning work scalar (number_of x) (number_of y))
+gives (Signs comparison left_signed) x y = compared_value comparison x y
+gives (Texts texts) x y = truth_value texts.comparison x y
+
+-- its bytes, of those of two items
+abbrev pub pair_made : Pairing → List ℕ → List ℕ → List ℕ
+pair_made p = value_pair (left_of p) (right_of p) (target_of p) (gives p)
+
+-- there are such results
+abbrev pub CanPair : Pairing → Type 0
+CanPair (Alike work scalar) = IsNumber scalar × IsWork work
+CanPair (Signs comparison left_signed) = Unit {0}
+CanPair (Texts texts) = Unit {0}

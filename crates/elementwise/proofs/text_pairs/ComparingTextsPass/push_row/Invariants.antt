@@ -2,7 +2,7 @@ use Rattle.std.proofs.Common.{◌≡◌, ◌+◌, ◌++◌}
 use Rattle.raw_block.specs.Bytes.{joined}
 use Rattle.elementwise.specs.inside.PairPasses.{text_pair}
 use Rattle.elementwise.specs.inside.Sides.{made_of}
-use Rattle.elementwise.proofs.text_pairs.TextsPass.push_row.Given as goal
+use Rattle.elementwise.proofs.text_pairs.ComparingTextsPass.push_row.Given as goal
 
 abbrev pub invariant-loop-k : goal.invariant-loop-k
 invariant-loop-k l = record {
