@@ -120,11 +120,7 @@ fn push_item(out: &mut Vec<u8>, items: &Items<'_>, offset: usize) -> Result<(), 
 }
 
 /// Appends the text of the next item of a walk.
-fn push_next(
-    out: &mut Vec<u8>,
-    walk: &mut Walk<'_>,
-    items: &Items<'_>,
-) -> Result<(), AllocError>
+fn push_next(out: &mut Vec<u8>, walk: &mut Walk<'_>, items: &Items<'_>) -> Result<(), AllocError>
     requires widths { AreWidths (leaves_of items.now.descr.now) items.now.widths.now }
     requires some { 1 ≤ length walk.old }
     requires inside { All (λ offset. offset + item_size items.now.descr.now ≤ length items.now.block.now) walk.old }

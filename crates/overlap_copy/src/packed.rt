@@ -86,6 +86,7 @@ fn gather_whole(
     ensures len { IfOk result (λ items. length items ≡ length (offsets layout.now) * width) }
     ensures items { IfOk result (λ items. items_at (multiples width (length (offsets layout.now))) width items ≡ items_at (offsets layout.now) width block.now) }
 {
+    // For the prover alone: the block is within its limit.
     let _len = block.len();
     let len = layout.shape.items().saturating_mul(width);
     let whole = stretch(block.bytes(), layout.first_address(), len);
@@ -106,6 +107,7 @@ fn gather_each(
     // More bytes than there can be are refused as any others.
     let bytes = layout.shape.items().saturating_mul(width);
     let mut items = BlockBuilder::try_new(alloc, bytes)?;
+    // For the prover alone: the bytes that are asked for are within the limit of a block.
     let _filled = items.filled();
     push_layout(&mut items, layout, block, width);
     Ok(items.finish())

@@ -56,6 +56,7 @@ fn move_apart(block: &mut RawBlock, to: Run, from: Run, width: usize)
     ensures len { length block.new ≡ length block.old }
 {
     if to.count > 0 && to.is_packed(width) && from.is_packed(width) {
+        // For the prover alone: the block is within its limit.
         let _len = block.len();
         block.move_within(to.offset, from.offset, to.count * width);
         return;

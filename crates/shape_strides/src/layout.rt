@@ -115,6 +115,7 @@ impl Layout {
         ensures among { rank self.now.shape index.now < length (offsets self.now) }
         ensures bound { result < max_bytes }
     {
+        // For the prover alone: each length is within its limit.
         let _lengths = self.shape.as_slice();
         let strides = self.strides.as_slice();
         let mut at = self.offset;

@@ -92,6 +92,7 @@ impl<'a> RunPairs<'a> {
         ensures counts { All (λ pair. pair.first.count ≡ pair.second.count) (run_pairs first.now second.now) }
         ensures alone { (step other : ℤ) → 0 < count first.now.shape → GoesBy step (offsets first.now) → GoesBy other (offsets second.now) → length (run_pairs first.now second.now) ≡ 1 }
     {
+        // For the prover alone: there are no more items than the limit.
         let _lengths = first.shape.as_slice();
         let mut first = Runs::new(first);
         let mut second = Runs::new(second);
