@@ -58,6 +58,12 @@ fewer-buffers es slots names fewer = same_map nat_cmp_total nat_cmp-IsAntisymmet
           | false ↦ λ _. refl
         ] refl
 
+pub removed-holds : (test : Key → Bool) (es : List (Key × Entry)) (slots : Slots) (es' : List (Key × Entry)) → Holds es slots → es' ≡ shift_remove_entry test es → length es' ≤ length es → Holds es' slots
+removed-holds test es slots es' h removed len = record {
+  few = omega (arith, len, h.few);
+  lie = subst (λ (ns : List (Key × Entry)). AllByRecursion (λ entry. LiesAt (slot_at slots entry.1.number) entry.1) ns) (sym removed) (all-remove (λ x. LiesAt (slot_at slots x.number) x) test es h.lie);
+}
+
 module _ (es : List (Key × Entry)) (slots : Slots) (ring : Ring Change) (spare : ℕ) (sound : IsSound es slots ring spare) (test : Key → Bool) (key : Key) (is : TestsName test key.bytes.items)
     (e : Entry) (place : ℕ) (was : lookup test es ≡ Some e) (at : Some place ≡ position test (keys_of es)) (es' : List (Key × Entry)) (removed : es' ≡ shift_remove_entry test es) (gone : lookup test es' ≡ None) (len : length es' + 1 ≡ length es) where
   abbrev c : Change
@@ -76,10 +82,7 @@ module _ (es : List (Key × Entry)) (slots : Slots) (ring : Ring Change) (spare 
   names-are = ap (map named_array) removed ∙ without-remove test key.bytes.items is es
 
   holds : Holds es' slots
-  holds = record {
-    few = omega (arith, len, sound.holds.few);
-    lie = subst (λ (ns : List (Key × Entry)). AllByRecursion (λ entry. LiesAt (slot_at slots entry.1.number) entry.1) ns) (sym removed) (all-remove (λ x. LiesAt (slot_at slots x.number) x) test es sound.holds.lie);
-  }
+  holds = removed-holds test es slots es' sound.holds removed (omega (arith, len))
 
   restored : (q : ℕ) → is_needed (map named_array es) ring.items q ≡ true → Restored c q (slot_at slots q) (slot_at slots q)
   restored q needed = same-content c q (slot_at slots q) (λ bytes. refl)

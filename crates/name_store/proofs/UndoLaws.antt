@@ -1,5 +1,5 @@
 -- A change is undone.
-use Rattle.std.proofs.Common.{◌≡◌, ◌+◌, ◌-◌, ◌≤◌, ℕ, suc, true, false, List, [], ◌∷◌, ◌++◌, length, take, map, slice_get, refl, sym, ap, subst, ◌∙◌, cond, Some, None, is_some, arith, length-append}
+use Rattle.std.proofs.Common.{◌≡◌, ◌+◌, ◌-◌, ◌≤◌, ℕ, suc, true, false, List, [], ◌∷◌, ◌++◌, length, take, map, slice_get, refl, sym, ap, subst, ◌∙◌, cond, Some, None, is_some, Result, Ok, Err, IsOk, OnOk, arith, length-append}
 use Rattle.std.specs.List.{AllByRecursion, list_any}
 use Rattle.std.specs.Option.{option_map, option_map_or}
 use Rattle.std.proofs.lemmas.List.{length-map, map-append}
@@ -139,3 +139,12 @@ with-last old new c last is =
 
 pub none-kept : (es : List (Key × Entry)) (slots : Slots) (ring : Ring Change) → None ≡ last_item ring.items → has_kept (state_of es slots ring) ≡ false
 none-kept es slots ring none = ap (λ (cs : List Change). is_some (last_item (kept_states cs (map named_array es) slots))) (none-last ring.items none)
+
+-- a call that succeeds does what it does when it succeeds
+pub at-ok : {A E P : Type 0} (r : Result A E) → IsOk r → OnOk r P → P
+at-ok (Ok a) _ done = done
+at-ok (Err e) bad _ = let wrong : ⊥ = cc in absurd wrong
+
+-- there is room for a name that comes back
+pub undo-room : (es : List (Key × Entry)) (slots : Slots) (ring : Ring Change) (c : Change) (spare : ℕ) → IsSound es slots (buffer (ring.items ++ c ∷ []) ring.capacity) spare → 1 ≤ spare
+undo-room es slots ring c spare sound = omega (arith, sound.room, length-append ring.items (c ∷ []))

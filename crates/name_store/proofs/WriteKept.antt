@@ -1,5 +1,5 @@
 -- Items are written, and the old ones are kept.
-use Rattle.std.proofs.Common.{◌≡◌, ◌+◌, ◌*◌, ◌≤◌, ℕ, true, false, List, [], ◌∷◌, ◌++◌, length, map, min, refl, sym, ap, subst, ◌∙◌, cond, Option, Some, None, Ok, nat_eq, All, arith, ◌⊎◌, inl, inr}
+use Rattle.std.proofs.Common.{◌≡◌, ◌+◌, ◌*◌, ◌≤◌, ℕ, true, false, List, [], ◌∷◌, ◌++◌, length, map, min, refl, sym, ap, subst, ◌∙◌, cond, Option, Some, None, Result, Ok, Err, IfOk, IfErr, nat_eq, All, arith, ◌⊎◌, inl, inr}
 use Rattle.std.specs.List.{AllByRecursion}
 use Rattle.std.specs.Option.{option_map}
 use Rattle.std.proofs.lemmas.Bool.{eqb-true}
@@ -33,9 +33,10 @@ use Rattle.name_store.specs.inside.Homes.{IsHome, HasNew}
 use Rattle.name_store.specs.inside.Puts.{CanPut, NeedsNone, Puts, Resolves, parts_of}
 use Rattle.name_store.specs.declared.items.Items.{Items}
 use Rattle.name_store.specs.declared.items.Items.TheVariants as items
-use Rattle.name_store.specs.inside.Held.{stand}
+use Rattle.name_store.specs.inside.Held.{IsLowest, stand}
 use Rattle.name_store.specs.inside.OldItems.{AreOld, AreOldAt, AreSame}
 use Rattle.name_store.proofs.AimLaws.{can-put, put-answers, whole-parts}
+use Rattle.name_store.proofs.HeldLaws.{lowest-same}
 use Rattle.name_store.proofs.KeepLaws.{keep-sound, keep-state, patches-push}
 use Rattle.name_store.proofs.NameLaws.{all-both, found-used, nat_itself}
 use Rattle.name_store.proofs.Needs.{is_needed}
@@ -298,3 +299,13 @@ module _ (es : List (Key × Entry)) (slots : Slots) (ring : Ring Change) (spare 
         write-counts = λ array found.
             patches-push ring ring' c ring-is
             ∙ ap (λ bytes. keep_last ring.capacity (map patch_size ring.items ++ bytes ∷ [])) (old.whole ∙ ap (λ size. n * size) (old.size ∙ sym (size-is es slots name number width home array found)))
+
+-- Whether items were put or not, names' arrays lie in their slots, and as many hold each.
+module _ (es : List (Key × Entry)) (slots : Slots) (ring : Ring Change) (spare : ℕ) (sound : IsSound es slots ring spare) (name : List ℕ) (number width : ℕ) (home : IsHome es slots name number width) (target : Target) (source : Source) (own : Items)
+    (resolved : Resolves es slots source own) (aim : IsAim (state_of es slots ring) name target source) (after : Slots) where
+  pub tried-sound : {A E : Type 0} (r : Result A E) → IfOk r (λ _. Puts slots (record { number = number; width = width }) target own after) → IfErr r (λ _. AreSame slots after) → IsSound es after ring spare
+  tried-sound (Ok a) puts _ = wrote-sound es slots ring spare sound name number width home target source own resolved aim after puts
+  tried-sound (Err e) _ same = same-still es slots after ring spare same sound
+
+  pub tried-lowest : {A E : Type 0} (r : Result A E) → IfOk r (λ _. Puts slots (record { number = number; width = width }) target own after) → IfErr r (λ _. AreSame slots after) → (low : ℕ) → IsLowest slots low → IsLowest after low
+  tried-lowest r puts same low = lowest-same slots after low (λ q. (tried-sound r puts same).counted q ∙ sym (sound.counted q))

@@ -3,20 +3,18 @@ ghost use Rattle.std.specs.Prelude.{◌≡◌, ◌≤◌, ◌<◌, length, map, 
 ghost use Rattle.std.specs.Option.{option_map};
 
 use crate::array_ref::ArrayRef;
-use crate::bind::{bind_in, has_room};
 use crate::bound::Bound;
-use crate::entry::{Entry, Key};
+use crate::change::Change;
+use crate::entry::Key;
 use crate::history::History;
-use crate::look::look_in;
+use crate::items::items_of;
+use crate::keep::{keep, make_room};
 use crate::names::Names;
-use crate::shares::shares_in;
-use crate::slots::Slots;
+use crate::table::Table;
 use crate::target::{Source, Target};
-use crate::unbind::unbind_in;
-use crate::undo::undo_in;
-use crate::write_kept::write_in;
+use crate::write::write_items;
+use crate::write_over::write_over;
 use elem_descr::Refusal;
-use indexmap::IndexMap;
 use script_lang::Name;
 use std::alloc::{AllocError, Global};
 use std::marker::Model;
@@ -27,8 +25,7 @@ use std::marker::Model;
 #[derive(Drop)]
 pub struct Bench {
     alloc: Global,
-    names: IndexMap<Key, Entry>,
-    slots: Slots,
+    table: Table,
     history: History,
 }
 
@@ -44,9 +41,9 @@ impl Model for Bench {
     ghost use Rattle.name_store.specs.Invariants.{IsSound};
     ghost use Rattle.indexmap.specs.IndexMap.{spare};
 
-    ghost view = { λ f. value_of f.names.entries f.slots.cells.items f.history };
+    ghost view = { λ f. value_of f.table.names.entries f.table.slots.cells.items f.history };
 
-    ghost invariant = { λ f. IsSound f.names.entries f.slots.cells.items f.history (spare f.names) };
+    ghost invariant = { λ f. IsSound f.table.names.entries f.table.slots.cells.items f.history (spare f.table.names) };
 }
 
 impl Bench {
@@ -68,8 +65,7 @@ impl Bench {
     {
         Ok(Bench {
             alloc,
-            names: IndexMap::new(alloc),
-            slots: Slots::new(alloc),
+            table: Table::new(alloc),
             history: History::try_new(alloc, depth)?,
         })
     }
@@ -78,22 +74,14 @@ impl Bench {
     pub fn get(&self, name: &Name) -> Option<ArrayRef<'_>>
         ensures { Finds self.now.state (find_array self.now.state.names name.now) result }
     {
-        look_in(
-            &self.names,
-            self.slots.cells.as_slice(),
-            &Key::of(self.alloc, name),
-        )
+        self.table.get(&Key::of(self.alloc, name))
     }
 
     /// Whether a name may be bound: it is, or fewer than 1,024 are.
     pub fn has_room_for(&self, name: &Name) -> bool
         ensures { result ≡ has_room_for self.now.state name.now }
     {
-        has_room(
-            &self.names,
-            self.slots.cells.as_slice(),
-            &Key::of(self.alloc, name),
-        )
+        self.table.has_room_for(&Key::of(self.alloc, name))
     }
 
     /// Binds a name. One that is bound keeps its place among the names. A view may be one of the
@@ -103,17 +91,22 @@ impl Bench {
         ensures answers { AnswersBind self.old.state name.now bound result self.new.state }
         ensures patches { Counts 0 self.old result self.new }
     {
-        bind_in(
-            alloc,
-            &mut self.names,
-            &mut self.slots,
+        let key = Key::of(alloc, name);
+        if !self.table.has_room_for(&key) {
+            return Err(Refusal::TooManyNames);
+        }
+        make_room(&mut self.table.names, &self.history, 1)?;
+        let earlier = self.table.bind(Key::of(alloc, name), bound)?;
+        keep(
+            &mut self.table.slots,
             &mut self.history,
-            name,
-            bound,
-        )
+            Change::Bind { key, earlier },
+        );
+        Ok(())
     }
 
-    /// Writes items to places of a name's array, and answers how many.
+    /// Writes items to places of a name's array, and answers how many. All memory is asked for before the
+    /// first change.
     pub fn write_items(
         &mut self,
         alloc: Global,
@@ -126,16 +119,22 @@ impl Bench {
         ensures patches { CountsWrite self.old name.now target result self.new }
         ensures no_memory { NeedsNoMemory self.old.state name.now target source.entry → IsOk result }
     {
-        let key = Key::of(alloc, name);
-        write_in(
-            alloc,
-            &mut self.names,
-            &mut self.slots,
-            &mut self.history,
-            &key,
+        let home = self.table.home(&Key::of(alloc, name));
+        let items = items_of(alloc, &self.table, source);
+        let count = target.count();
+        if self.history.capacity() == 0 {
+            write_items(alloc, &mut self.table.slots.cells, home, &target, items)?;
+            return Ok(count);
+        }
+        make_room(&mut self.table.names, &self.history, 0)?;
+        let items = write_over(alloc, &mut self.table.slots.cells, home, &target, items)?;
+        let change = Change::Write {
+            number: home.number,
             target,
-            source,
-        )
+            items,
+        };
+        keep(&mut self.table.slots, &mut self.history, change);
+        Ok(count)
     }
 
     /// Unbinds a name. The names after it close up. Only to keep the state before does it take memory.
@@ -143,12 +142,18 @@ impl Bench {
         ensures answers { AnswersUnbind self.old.state name.now result self.new.state }
         ensures patches { Counts 0 self.old result self.new }
     {
-        unbind_in(
-            &mut self.names,
-            &mut self.slots,
+        let key = Key::of(alloc, name);
+        if !self.table.names.contains_key(&key) {
+            return Err(Refusal::UnknownName);
+        }
+        make_room(&mut self.table.names, &self.history, 0)?;
+        let (place, _key, entry) = self.table.names.shift_remove_full(&key).unwrap();
+        keep(
+            &mut self.table.slots,
             &mut self.history,
-            Key::of(alloc, name),
-        )
+            Change::Unbind { place, key, entry },
+        );
+        Ok(())
     }
 
     /// Goes back to the state that was kept last. It takes no memory.
@@ -156,7 +161,13 @@ impl Bench {
         ensures answers { AnswersUndo self.old.state result self.new.state }
         ensures patches { CountsUndo self.old result self.new }
     {
-        undo_in(&mut self.names, &mut self.slots, &mut self.history)
+        match self.history.pop() {
+            None => Err(Refusal::NothingToUndo),
+            Some(change) => {
+                self.table.undo(change);
+                Ok(())
+            }
+        }
     }
 
     /// The bytes of old items that are held to go back to the k-th of the states that are kept, counted
@@ -173,13 +184,8 @@ impl Bench {
         ensures answers { AnswersShares self.now.state left.now right.now result }
         ensures no_memory { LieInTwo self.now.state left.now right.now → IsOk result }
     {
-        shares_in(
-            alloc,
-            &self.names,
-            self.slots.cells.as_slice(),
-            &Key::of(alloc, left),
-            &Key::of(alloc, right),
-        )
+        self.table
+            .shares(alloc, &Key::of(alloc, left), &Key::of(alloc, right))
     }
 
     /// How many names are bound.
@@ -187,7 +193,7 @@ impl Bench {
         ensures len { result ≡ length self.now.state.names }
         ensures few { result ≤ 1024 }
     {
-        self.names.len()
+        self.table.names.len()
     }
 
     /// The names, in the order in which they were first bound. No memory is taken.
@@ -195,7 +201,7 @@ impl Bench {
         ensures { result ≡ map (λ entry. entry.0) self.now.state.names }
     {
         Names {
-            keys: self.names.keys(),
+            keys: self.table.names.keys(),
         }
     }
 
@@ -204,6 +210,6 @@ impl Bench {
         requires { k < length self.now.state.names }
         ensures { option_map (λ entry. entry.0) (slice_get self.now.state.names k) ≡ Some result.now }
     {
-        self.names.get_index(k).unwrap().0.bytes.as_slice()
+        self.table.names.get_index(k).unwrap().0.bytes.as_slice()
     }
 }

@@ -15,7 +15,7 @@ nothing = same_map nat_cmp_total nat_cmp-IsAntisymmetric _ _ (λ q. get-past [] 
 
 pub returns-clause-empty : goal.returns-clause-empty
 returns-clause-empty c =
-    (λ i. state_of (c.new.ensures.empty i) (c.new-2.ensures i) (c.in_ok-try_new.ensures.empty i))
+    (λ i. state_of (c.new.ensures.names i) (c.new.ensures.slots i) (c.in_ok-try_new.ensures.empty i))
     ∙ λ i. record (start c.args.depth) { buffers = nothing i }
 
 pub returns-clause-patches : goal.returns-clause-patches
