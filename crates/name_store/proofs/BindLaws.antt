@@ -15,7 +15,7 @@ use Rattle.shape_strides.specs.Indexes.{count}
 use Rattle.overlap_copy.specs.declared.owned.Owned.{Owned}
 use Rattle.name_store.specs.Arrays.{find_array, put_array, without, is_in_use, has_room_for, keeping}
 use Rattle.name_store.specs.Calls.{Binds, IsUnused, own_array, own_buffer}
-use Rattle.name_store.specs.Invariants.{Holds, IsSound, LiesAt, LiesIn, IsUndoable, one_at, users_of, users_at, users_in, found_at, pins, all_pins}
+use Rattle.name_store.specs.Invariants.{Holds, IsSound, LiesAt, IsUndoable, one_at, users_of, users_at, users_in, found_at, pins, all_pins}
 use Rattle.name_store.specs.Kept.{Names, names_before, past_buffers, past_buffer, kept_states}
 use Rattle.name_store.specs.States.{Array, Buffer, State}
 use Rattle.name_store.specs.View.{array_at, named_array, buffer_in, slot_at, present, state_of}

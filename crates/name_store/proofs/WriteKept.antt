@@ -3,7 +3,6 @@ use Rattle.std.proofs.Common.{◌≡◌, ◌+◌, ◌*◌, ◌≤◌, ℕ, true,
 use Rattle.std.specs.List.{AllByRecursion}
 use Rattle.std.specs.Option.{option_map}
 use Rattle.std.proofs.lemmas.Bool.{eqb-true}
-use Rattle.std.proofs.lemmas.List.{length-map}
 use Rattle.std.proofs.lemmas.List.Elements.{All-from_recursion, recursion_from_All}
 use Rattle.std.proofs.Math.ListN.{drop_of_length-le}
 use Rattle.circular_buffer.specs.Buffer.{Buffer as Ring, buffer, keep_last}
@@ -11,7 +10,7 @@ use Rattle.elem_descr.specs.declared.descr.Descr.{Descr}
 use Rattle.elem_descr.specs.Items.{item_size}
 use Rattle.shape_strides.specs.declared.layout.Layout.{Layout}
 use Rattle.overlap_copy.specs.Assignments.{items_at, with_items}
-use Rattle.name_store.specs.States.{BenchValue, State, Array}
+use Rattle.name_store.specs.States.{State, Array}
 use Rattle.name_store.specs.Arrays.{is_in_use, keeping, written, find_array, descr_of}
 use Rattle.name_store.specs.Calls.{AnswersWrite, CountsWrite}
 use Rattle.name_store.specs.Invariants.{Holds, IsSound, LiesAt, GoBackAt, GoBack, IsUndoable, users_at, users_in, pins, all_pins}
