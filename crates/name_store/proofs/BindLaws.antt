@@ -33,7 +33,7 @@ use Rattle.name_store.proofs.FreshLaws.{fresh-lies, fresh-array_at, fresh-buffer
 use Rattle.name_store.proofs.HeldLaws.{one-same, one-apart}
 use Rattle.name_store.proofs.KeepLaws.{keep-sound, keep-state}
 use Rattle.name_store.proofs.NameLaws.{TestsName, find-lookup, put-insert, all-both, all-insert, all-lookup, used-back-put, without-put, put-put, either, nat_itself}
-use Rattle.name_store.proofs.Needs.{needs, is_needed, occupied, number_of, users-put}
+use Rattle.name_store.proofs.Needs.{needs, is_needed, occupied, number_of, users-put, made-held, kept-counted}
 use Rattle.name_store.proofs.PastLaws.{Alike, alike-shape, past-alike, lies-shaped, Restored, same-buffers, kept-none, kept-some, Slots}
 use Rattle.name_store.proofs.SlotLaws.{tests_agree, get-past, get-buffers}
 use Rattle.name_store.proofs.StateLaws.{Freed, few-bound, lies-there}
@@ -230,12 +230,16 @@ module _ (es : List (Key × Entry)) (slots : Slots) (ring : Ring Change) (spare 
       by (Some e) = refl
 
   -- one more holds the buffer of the new array, and the change that of the old one
-  pub bind-made : (q : ℕ) → users_at now q + users_in q names ≡ users_at slots q + users_in q names' + pins q c
-  bind-made q = omega (arith, r.lodges.users q, users-put q names name (array_at r.entry), was-numbers q, ap (users_in q) r.table)
+  made : (q : ℕ) → users_at now q + users_in q names ≡ users_at slots q + users_in q names' + pins q c
+  made q = omega (arith, r.lodges.users q, users-put q names name (array_at r.entry), was-numbers q, ap (users_in q) r.table)
 
-  module _ (ring' : Ring Change) (after : Slots) (spare' : ℕ) (ring-is : ring' ≡ buffer (keep_last ring.capacity (ring.items ++ c ∷ [])) ring.capacity) (freed : Freed now after) (counted : (q : ℕ) → users_at after q ≡ users_in q names' + all_pins q ring'.items) (room : min ring.capacity (length ring.items + 1) ≤ spare') where
-    pub bind-sound : IsSound es' after ring' spare'
-    bind-sound = keep-sound es slots ring spare sound es' now c before-is holds restored own ring' after spare' ring-is freed counted room
+  pub bind-held : (q : ℕ) → all_pins q (ring.items ++ c ∷ []) ≤ users_at now q
+  bind-held = made-held names names' ring.items c slots now sound.counted made
+
+  module _ (ring' : Ring Change) (after : Slots) (spare' : ℕ) (ring-is : ring' ≡ buffer (keep_last ring.capacity (ring.items ++ c ∷ [])) ring.capacity) (freed : Freed now after)
+      (kept : (q : ℕ) → users_at after q + all_pins q (ring.items ++ c ∷ []) ≡ users_at now q + all_pins q ring'.items) (room : min ring.capacity (length ring.items + 1) ≤ spare') where
+    counted : (q : ℕ) → users_at after q ≡ users_in q names' + all_pins q ring'.items
+    counted = kept-counted names names' ring.items c slots now sound.counted made ring'.items after kept
 
     abbrev old : State
     old = state_of es slots ring
@@ -243,8 +247,8 @@ module _ (es : List (Key × Entry)) (slots : Slots) (ring : Ring Change) (spare 
     kept-so : state_of es' after ring' ≡ record (keeping old) { names = names'; buffers = past_buffers [] names' now }
     kept-so = keep-state es slots ring spare sound es' now c before-is holds restored own ring' after spare' ring-is freed counted room
 
-    pub bind-binds : Binds old name bound (state_of es' after ring')
-    bind-binds = by bound r.lodges.is_of
+    binds : Binds old name bound (state_of es' after ring')
+    binds = by bound r.lodges.is_of
       where
         some-none : (b : Buffer) → Some b ≡ None → ⊥
         some-none b h = cc
@@ -284,3 +288,6 @@ module _ (es : List (Key × Entry)) (slots : Slots) (ring : Ring Change) (spare 
             let array-is : array_at r.entry ≡ array = of-it.0 array (view-present es slots ring number path layout writable array view) in
             let names-are : names' ≡ put_array names name array = r.table ∙ ap (put_array names name) array-is in
             kept-so ∙ λ i. record (keeping old) { names = names-are i; buffers = (ap (λ (ns : Names). past_buffers [] ns now) r.table ∙ of-it.1 name ∙ ap (λ (ns : Names). retain_keys old.buffers (is_in_use ns)) (sym r.table ∙ names-are)) i }
+
+    pub bind-kept : IsSound es' after ring' spare' × Binds old name bound (state_of es' after ring')
+    bind-kept = (keep-sound es slots ring spare sound es' now c before-is holds restored own ring' after spare' ring-is freed counted room, binds)

@@ -38,7 +38,7 @@ use Rattle.name_store.proofs.AimLaws.{can-put, put-answers, whole-parts}
 use Rattle.name_store.proofs.HeldLaws.{lowest-same}
 use Rattle.name_store.proofs.KeepLaws.{keep-sound, keep-state, patches-push}
 use Rattle.name_store.proofs.NameLaws.{all-both, found-used, nat_itself}
-use Rattle.name_store.proofs.Needs.{is_needed}
+use Rattle.name_store.proofs.Needs.{is_needed, made-held, kept-counted}
 use Rattle.name_store.proofs.PastLaws.{Restored, alike-shape, past-alike, content_before, shape, SameShape, lies-shaped, same-buffers, undoable-still, Slots}
 use Rattle.name_store.proofs.RestoreLaws.{restores}
 use Rattle.name_store.proofs.RewriteLaws.{can-inside, new-users}
@@ -275,10 +275,17 @@ module _ (es : List (Key × Entry)) (slots : Slots) (ring : Ring Change) (spare 
       )
 
       -- what was written is held by a name
-      pub write-made : (q : ℕ) → users_at after q + users_in q names ≡ users_at slots q + users_in q names + pins q c
-      write-made q = omega (arith, wrote-users q)
+      made : (q : ℕ) → users_at after q + users_in q names ≡ users_at slots q + users_in q names + pins q c
+      made q = omega (arith, wrote-users q)
 
-      module _ (ring' : Ring Change) (last : Slots) (spare' : ℕ) (ring-is : ring' ≡ buffer (keep_last ring.capacity (ring.items ++ c ∷ [])) ring.capacity) (freed : Freed after last) (counted : (q : ℕ) → users_at last q ≡ users_in q names + all_pins q ring'.items) (room : min ring.capacity (length ring.items + 1) ≤ spare') where
+      pub write-held : (q : ℕ) → all_pins q (ring.items ++ c ∷ []) ≤ users_at after q
+      write-held = made-held names names ring.items c slots after sound.counted made
+
+      module _ (ring' : Ring Change) (last : Slots) (spare' : ℕ) (ring-is : ring' ≡ buffer (keep_last ring.capacity (ring.items ++ c ∷ [])) ring.capacity) (freed : Freed after last)
+          (kept : (q : ℕ) → users_at last q + all_pins q (ring.items ++ c ∷ []) ≡ users_at after q + all_pins q ring'.items) (room : min ring.capacity (length ring.items + 1) ≤ spare') where
+        counted : (q : ℕ) → users_at last q ≡ users_in q names + all_pins q ring'.items
+        counted = kept-counted names names ring.items c slots after sound.counted made ring'.items last kept
+
         pub write-sound : IsSound es last ring' spare'
         write-sound = keep-sound es slots ring spare sound es after c refl holds restored own' ring' last spare' ring-is freed counted room
 

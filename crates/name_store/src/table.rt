@@ -181,8 +181,8 @@ impl Table {
     /// Undoes a change. A buffer that nothing holds any more is freed. No memory is asked for: the room for a
     /// name that comes back was taken before the change.
     pub(crate) fn undo(&mut self, change: Change)
-        requires can { CanUndo self.old.names.entries self.old.slots.cells.items change (spare self.old.names) }
-        ensures { IsUndone self.old.names.entries self.old.slots.cells.items change (spare self.old.names) self.new.names.entries self.new.slots.cells.items (spare self.new.names) }
+        requires can { CanUndo self.old change }
+        ensures { IsUndone self.old change self.new }
     {
         match change {
             Change::Bind { key, earlier } => match earlier {
@@ -200,8 +200,8 @@ impl Table {
 
     /// Unbinds a name that was not bound before.
     fn undo_first(&mut self, key: Key)
-        requires can { CanUndo self.old.names.entries self.old.slots.cells.items (Bind key None) (spare self.old.names) }
-        ensures { IsUndone self.old.names.entries self.old.slots.cells.items (Bind key None) (spare self.old.names) self.new.names.entries self.new.slots.cells.items (spare self.new.names) }
+        requires can { CanUndo self.old (Bind key None) }
+        ensures { IsUndone self.old (Bind key None) self.new }
     {
         if let Some(entry) = self.names.shift_remove(&key) {
             self.slots.release(entry.number);
@@ -210,8 +210,8 @@ impl Table {
 
     /// Binds a name to the array that it was bound to before.
     fn undo_rebinding(&mut self, key: Key, earlier: Entry)
-        requires can { CanUndo self.old.names.entries self.old.slots.cells.items (Bind key (Some earlier)) (spare self.old.names) }
-        ensures { IsUndone self.old.names.entries self.old.slots.cells.items (Bind key (Some earlier)) (spare self.old.names) self.new.names.entries self.new.slots.cells.items (spare self.new.names) }
+        requires can { CanUndo self.old (Bind key (Some earlier)) }
+        ensures { IsUndone self.old (Bind key (Some earlier)) self.new }
     {
         if let Some(entry) = self.names.insert(key, earlier).unwrap() {
             self.slots.release(entry.number);
@@ -220,16 +220,16 @@ impl Table {
 
     /// Binds a name again, in its place among the names.
     fn undo_unbinding(&mut self, place: usize, key: Key, entry: Entry)
-        requires can { CanUndo self.old.names.entries self.old.slots.cells.items (Unbind place key entry) (spare self.old.names) }
-        ensures { IsUndone self.old.names.entries self.old.slots.cells.items (Unbind place key entry) (spare self.old.names) self.new.names.entries self.new.slots.cells.items (spare self.new.names) }
+        requires can { CanUndo self.old (Unbind place key entry) }
+        ensures { IsUndone self.old (Unbind place key entry) self.new }
     {
         self.names.shift_insert(place, key, entry).unwrap();
     }
 
     /// Writes the old items back.
     fn undo_write(&mut self, number: usize, target: &Target, items: &OldItems)
-        requires can { CanUndo self.old.names.entries self.old.slots.cells.items (Write number target.now items.now) (spare self.old.names) }
-        ensures { IsUndone self.old.names.entries self.old.slots.cells.items (Write number target.now items.now) (spare self.old.names) self.new.names.entries self.new.slots.cells.items (spare self.new.names) }
+        requires can { CanUndo self.old (Write number target.now items.now) }
+        ensures { IsUndone self.old (Write number target.now items.now) self.new }
     {
         if let Some(slot) = slot_mut(&mut self.slots.cells, number) {
             put_back(&mut slot.block, target, items);
