@@ -1,5 +1,5 @@
 -- A name is bound, and what it was bound to is kept.
-use Rattle.std.proofs.Common.{◌≡◌, ◌+◌, ◌≤◌, ℕ, Bool, true, false, List, [], ◌∷◌, ◌++◌, length, map, min, refl, sym, ap, subst, ◌∙◌, cond, Option, Some, None, is_some, IfSome, nat_eq, arith, inl, inr}
+use Rattle.std.proofs.Common.{◌≡◌, ◌+◌, ◌≤◌, ℕ, Bool, true, false, List, [], ◌∷◌, ◌++◌, length, map, min, refl, sym, ap, subst, ◌∙◌, cond, Option, Some, None, is_some, IfSome, Result, Ok, Err, IsOk, IfOk, OnOk, OnErr, nat_eq, arith, inl, inr}
 use Rattle.std.specs.List.{AllByRecursion, list_any}
 use Rattle.std.specs.Map.{lookup}
 use Rattle.std.specs.Option.{option_map}
@@ -15,7 +15,7 @@ use Rattle.shape_strides.specs.Indexes.{count}
 use Rattle.overlap_copy.specs.declared.owned.Owned.{Owned}
 use Rattle.name_store.specs.Arrays.{find_array, put_array, without, is_in_use, has_room_for, keeping}
 use Rattle.name_store.specs.Calls.{Binds, IsUnused, own_array, own_buffer}
-use Rattle.name_store.specs.Invariants.{Holds, IsSound, LiesAt, LiesIn, IsUndoable, one_at, users_of, users_at, users_in, found_at, pins, all_pins}
+use Rattle.name_store.specs.Invariants.{Holds, IsSound, LiesAt, IsUndoable, one_at, users_of, users_at, users_in, found_at, pins, all_pins}
 use Rattle.name_store.specs.Kept.{Names, names_before, past_buffers, past_buffer, kept_states}
 use Rattle.name_store.specs.States.{Array, Buffer, State}
 use Rattle.name_store.specs.View.{array_at, named_array, buffer_in, slot_at, present, state_of}
@@ -28,63 +28,42 @@ use Rattle.name_store.specs.declared.entry.Entry.{Entry}
 use Rattle.name_store.specs.declared.entry.Key.{Key}
 use Rattle.name_store.specs.declared.slot.Slot.{Slot}
 use Rattle.name_store.specs.inside.Held.{stand, Adds}
-use Rattle.name_store.specs.inside.Rebinds.{Rebinds, IsOf}
+use Rattle.name_store.specs.inside.Rebinds.{IsOf, Lodges, Rebinds}
 use Rattle.name_store.proofs.FreshLaws.{fresh-lies, fresh-array_at, fresh-buffer}
 use Rattle.name_store.proofs.HeldLaws.{one-same, one-apart}
 use Rattle.name_store.proofs.KeepLaws.{keep-sound, keep-state}
 use Rattle.name_store.proofs.NameLaws.{TestsName, find-lookup, put-insert, all-both, all-insert, all-lookup, used-back-put, without-put, put-put, either, nat_itself}
-use Rattle.name_store.proofs.Needs.{needs, is_needed, occupied, number_of, users-put}
+use Rattle.name_store.proofs.Needs.{needs, is_needed, occupied, number_of, users-put, made-held, kept-counted}
 use Rattle.name_store.proofs.PastLaws.{Alike, alike-shape, past-alike, lies-shaped, Restored, same-buffers, kept-none, kept-some, Slots}
 use Rattle.name_store.proofs.SlotLaws.{tests_agree, get-past, get-buffers}
 use Rattle.name_store.proofs.StateLaws.{Freed, few-bound, lies-there}
 use Rattle.name_store.proofs.UnbindLaws.{same-content, fewer-buffers}
 use Rattle.name_store.proofs.ViewLaws.{view-used, view-array, view-lies}
 
--- The slots in which an entry's array lies: what stood in one stands there, and one more holds the entry's own.
-pub record Ready (slots before : Slots) (v : Entry) : Type 0 where
-  pub kept : (q : ℕ) → is_some (slot_at slots q) ≡ true → Alike (slot_at before q) (slot_at slots q)
-  pub users : (q : ℕ) → users_at before q ≡ users_at slots q + one_at q v.number
-  pub lies : LiesAt (slot_at before v.number) v
+-- A buffer is put in a slot that was free: what stood in a slot stands there.
+added-kept : (slots before : Slots) (slot : Slot) (number : ℕ) → Adds slots slot number before → (q : ℕ) → is_some (slot_at slots q) ≡ true → Alike (slot_at before q) (slot_at slots q)
+added-kept slots before slot number adds q there =
+    elim (nat_eq q number) as (λ t. nat_eq q number ≡ t → slot_at before q ≡ cond t (Some slot) (slot_at slots q) → Alike (slot_at before q) (slot_at slots q)) [
+      | true ↦ λ same _. let no : true ≡ false = sym there ∙ ap is_some (ap (slot_at slots) (eqb-true q number same) ∙ adds.free) in cc
+      | false ↦ λ _ there-is. ap (option_map stand) there-is
+    ] refl (adds.put q)
 
--- a buffer is put in a slot that was free
-pub ready-fresh : (slots before : Slots) (v : Entry) (slot : Slot) → slot.users ≡ 1 → Adds slots slot v.number before → LiesIn slot v → Ready slots before v
-ready-fresh slots before v slot one adds lies = record {
-  kept = kept;
-  users = users;
-  lies = subst (λ o. LiesAt o v) (sym here) lies;
-}
-  where
-    here : slot_at before v.number ≡ Some slot
-    here = adds.put v.number ∙ ap (λ t. cond t (Some slot) (slot_at slots v.number)) (nat_itself v.number)
+pub tried-kept : {E : Type 0} (r : Result ℕ E) (slots before : Slots) (slot : Slot) → IfOk r (λ number. Adds slots slot number before) → OnErr r (before ≡ slots) → (q : ℕ) → is_some (slot_at slots q) ≡ true → Alike (slot_at before q) (slot_at slots q)
+tried-kept (Ok number) slots before slot adds _ = added-kept slots before slot number adds
+tried-kept (Err e) slots before slot _ same = λ q _. ap (λ (ss : Slots). option_map stand (slot_at ss q)) same
 
-    kept : (q : ℕ) → is_some (slot_at slots q) ≡ true → Alike (slot_at before q) (slot_at slots q)
-    kept q there =
-        elim (nat_eq q v.number) as (λ t. nat_eq q v.number ≡ t → slot_at before q ≡ cond t (Some slot) (slot_at slots q) → Alike (slot_at before q) (slot_at slots q)) [
-          | true ↦ λ same _. let no : true ≡ false = sym there ∙ ap is_some (ap (slot_at slots) (eqb-true q v.number same) ∙ adds.free) in cc
-          | false ↦ λ _ there-is. ap (option_map stand) there-is
-        ] refl (adds.put q)
-
-    users : (q : ℕ) → users_at before q ≡ users_at slots q + one_at q v.number
-    users q =
-        elim (nat_eq q v.number) as (λ t. nat_eq q v.number ≡ t → slot_at before q ≡ cond t (Some slot) (slot_at slots q) → users_at before q ≡ users_at slots q + one_at q v.number) [
-          | true ↦ λ same there-is.
-              let number : q ≡ v.number = eqb-true q v.number same in
-              omega (arith, ap users_of there-is ∙ one, ap users_of (ap (slot_at slots) number ∙ adds.free), one-same q v.number same)
-          | false ↦ λ other there-is. omega (arith, ap users_of there-is, one-apart q v.number other)
-        ] refl (adds.put q)
-
--- one more holds the buffer of a view
-pub ready-view : (slots before : Slots) (v : Entry) → ((q : ℕ) → Alike (slot_at before q) (slot_at slots q)) → ((q : ℕ) → users_at before q ≡ users_at slots q + one_at q v.number) → LiesAt (slot_at slots v.number) v → Ready slots before v
-ready-view slots before v stays users lies = record {
-  kept = λ q there. stays q;
-  users = users;
-  lies = lies-shaped (slot_at before v.number) (slot_at slots v.number) v (alike-shape (slot_at before v.number) (slot_at slots v.number) (stays v.number)) lies;
+-- names' arrays lie where they lay
+pub holds-kept : (es : List (Key × Entry)) (slots now : Slots) → Holds es slots → ((q : ℕ) → is_some (slot_at slots q) ≡ true → Alike (slot_at now q) (slot_at slots q)) → Holds es now
+holds-kept es slots now h kept = record {
+  few = h.few;
+  lie = all-both (λ e. LiesAt (slot_at slots e.number) e) (λ e. LiesAt (slot_at slots e.number) e) (λ e. LiesAt (slot_at now e.number) e)
+      (λ e there _. lies-shaped (slot_at now e.number) (slot_at slots e.number) e (alike-shape (slot_at now e.number) (slot_at slots e.number) (kept e.number (lies-there (slot_at slots e.number) e there))) there) es h.lie h.lie;
 }
 
 -- The table has the new entry.
-module _ (es es' : List (Key × Entry)) (slots now : Slots) (h : Holds es slots) (eq : Key → Key → Bool) (k : Key) (v : Entry) (replaced : Option Entry)
+module _ (es es' : List (Key × Entry)) (slots now : Slots) (before : Holds es slots) (h : Holds es now) (eq : Key → Key → Bool) (k : Key) (v : Entry) (replaced : Option Entry)
     (inserted : es' ≡ insert_entry eq es k v) (is : TestsName (eq k) k.bytes.items) (was : replaced ≡ lookup (eq k) es) (len : length es' ≡ length es + cond (is_some replaced) 0 1)
-    (room : has_room_for (present es slots) k.bytes.items ≡ true) (ready : Ready slots now v) where
+    (room : has_room_for (present es slots) k.bytes.items ≡ true) (bound : Bound) (lodges : Lodges es slots bound v now) where
   few : length es' ≤ 1024
   few = counted replaced refl
     where
@@ -92,40 +71,36 @@ module _ (es es' : List (Key × Entry)) (slots now : Slots) (h : Holds es slots)
       counted None e = omega (arith, len ∙ ap (λ r. length es + cond (is_some r) 0 1) e, few-bound es slots (eq k) k.bytes.items is room (sym was ∙ e))
       counted (Some r) e = omega (arith, len ∙ ap (λ r. length es + cond (is_some r) 0 1) e, h.few)
 
-  still : (e : Entry) → LiesAt (slot_at slots e.number) e → LiesAt (slot_at now e.number) e
-  still e there = lies-shaped (slot_at now e.number) (slot_at slots e.number) e (alike-shape (slot_at now e.number) (slot_at slots e.number) (ready.kept e.number (lies-there (slot_at slots e.number) e there))) there
-
   earlier-lies : (r : Option Entry) → replaced ≡ r → IfSome r (λ e. LiesAt (slot_at slots e.number) e)
   earlier-lies None e = tt
-  earlier-lies (Some old) e = all-lookup (λ x. LiesAt (slot_at slots x.number) x) (eq k) es old h.lie (sym was ∙ e)
+  earlier-lies (Some old) e = all-lookup (λ x. LiesAt (slot_at slots x.number) x) (eq k) es old before.lie (sym was ∙ e)
 
-  pub table : map named_array es' ≡ put_array (map named_array es) k.bytes.items (array_at v)
-  table = ap (map named_array) inserted ∙ put-insert eq k v is es
-
-  pub rebinds : (bound : Bound) → IsOf es slots bound v es' now → Rebinds es slots k.bytes.items bound replaced es' now
-  rebinds bound of-it = record {
+  pub rebinds : Rebinds es slots k.bytes.items bound replaced es' now
+  rebinds = record {
     entry = v;
-    table = table;
+    lodges = lodges;
+    table = ap (map named_array) inserted ∙ put-insert eq k v is es;
     was = ap (option_map array_at) was ∙ sym (find-lookup (eq k) k.bytes.items is es);
     earlier_lies = earlier-lies replaced refl;
-    holds = record {
-      few = few;
-      lie = subst (λ (ns : List (Key × Entry)). AllByRecursion (λ entry. LiesAt (slot_at now entry.1.number) entry.1) ns) (sym inserted)
-          (all-insert (λ e. LiesAt (slot_at now e.number) e) eq k v es ready.lies
-          (all-both (λ e. LiesAt (slot_at slots e.number) e) (λ e. LiesAt (slot_at slots e.number) e) (λ e. LiesAt (slot_at now e.number) e) (λ e there _. still e there) es h.lie h.lie));
-    };
-    stays = ready.kept;
-    users = ready.users;
-    is_of = of-it;
   }
+
+  pub rebound-holds : Holds es' now
+  rebound-holds = record {
+    few = few;
+    lie = subst (λ (ns : List (Key × Entry)). AllByRecursion (λ entry. LiesAt (slot_at now entry.1.number) entry.1) ns) (sym inserted)
+        (all-insert (λ e. LiesAt (slot_at now e.number) e) eq k v es lodges.lies h.lie);
+  }
+
+-- so it is where the table has room
+pub inserted-holds : {E : Type 0} (r : Result (Option Entry) E) (es es' : List (Key × Entry)) (slots now : Slots) → Holds es slots → Holds es now → (eq : Key → Key → Bool) (k : Key) (v : Entry) → IsOk r → OnOk r (es' ≡ insert_entry eq es k v) → TestsName (eq k) k.bytes.items → IfOk r (λ replaced. replaced ≡ lookup (eq k) es) →
+    IfOk r (λ replaced. length es' ≡ length es + cond (is_some replaced) 0 1) → has_room_for (present es slots) k.bytes.items ≡ true → (bound : Bound) → Lodges es slots bound v now → Holds es' now
+inserted-holds (Ok replaced) es es' slots now before h eq k v _ inserted is was len room bound lodges = rebound-holds es es' slots now before h eq k v replaced inserted is was len room bound lodges
+inserted-holds (Err e) es es' slots now before h eq k v bad inserted is was len room bound lodges = let wrong : ⊥ = cc in absurd wrong
 
 -- A fresh array: a buffer is put in the first slot that was free.
 module _ (es : List (Key × Entry)) (slots now : Slots) (v : Entry) (slot : Slot) (o : Owned) (adds : Adds slots slot v.number now) (one : slot.users ≡ 1)
     (descr-is : slot.descr ≡ o.descr) (items-are : slot.items ≡ count o.layout.shape) (block-is : slot.block ≡ o.block) (layout-is : v.layout ≡ o.layout) (item-is : v.item ≡ item_size o.descr) (path-is : v.path ≡ [])
     (writable-is : v.writable ≡ true) where
-  pub fresh-ready : Ready slots now v
-  fresh-ready = ready-fresh slots now v slot one adds (fresh-lies o slot v descr-is items-are block-is layout-is item-is path-is writable-is)
-
   own-is : buffer_in slot ≡ own_buffer o
   own-is = fresh-buffer o slot v descr-is items-are block-is layout-is item-is path-is writable-is
 
@@ -159,31 +134,49 @@ module _ (es : List (Key × Entry)) (slots now : Slots) (v : Entry) (slot : Slot
               ] in
               ap (λ t. cond (is_in_use names' q) (cond t (option_map (past_buffer [] q) (slot_at slots q)) None) None) (sym used)
 
-  pub fresh-of : (es' : List (Key × Entry)) (name : List ℕ) → map named_array es' ≡ put_array (map named_array es) name (array_at v) → IsOf es slots (Fresh o) v es' now
-  fresh-of es' name table = (
-    adds.free,
-    adds.least,
-    fresh-array_at o slot v descr-is items-are block-is layout-is item-is path-is writable-is,
-    fresh-buffers name (map named_array es') table,
-  )
+  users : (q : ℕ) → users_at now q ≡ users_at slots q + one_at q v.number
+  users q =
+      elim (nat_eq q v.number) as (λ t. nat_eq q v.number ≡ t → slot_at now q ≡ cond t (Some slot) (slot_at slots q) → users_at now q ≡ users_at slots q + one_at q v.number) [
+        | true ↦ λ same there-is.
+            let number : q ≡ v.number = eqb-true q v.number same in
+            omega (arith, ap users_of there-is ∙ one, ap users_of (ap (slot_at slots) number ∙ adds.free), one-same q v.number same)
+        | false ↦ λ other there-is. omega (arith, ap users_of there-is, one-apart q v.number other)
+      ] refl (adds.put q)
+
+  pub fresh-lodges : Lodges es slots (Fresh o) v now
+  fresh-lodges = record {
+    kept = added-kept slots now slot v.number adds;
+    users = users;
+    lies = subst (λ there. LiesAt there v) (sym (adds.put v.number ∙ ap (λ t. cond t (Some slot) (slot_at slots v.number)) (nat_itself v.number))) (fresh-lies o slot v descr-is items-are block-is layout-is item-is path-is writable-is);
+    is_of = (
+      adds.free,
+      adds.least,
+      fresh-array_at o slot v descr-is items-are block-is layout-is item-is path-is writable-is,
+      (λ name. fresh-buffers name (put_array (map named_array es) name (array_at v)) refl),
+    );
+  }
 
 -- A view: one more holds its buffer.
 module _ (es : List (Key × Entry)) (slots : Slots) (number : ℕ) (path : List ℕ) (layout : Layout) (writable : Bool) (array : Array) (view : IsViewIn (present es slots) number path layout writable array)
     (v : Entry) (s : Slot) (there : slot_at slots number ≡ Some s) (v-number : v.number ≡ number) (layout-is : v.layout ≡ layout) (item-is : v.item ≡ item_size s.descr) (writable-is : v.writable ≡ writable) (path-is : v.path ≡ path) where
   module _ (now : Slots) (stays : (q : ℕ) → Alike (slot_at now q) (slot_at slots q)) (users : (q : ℕ) → users_at now q ≡ users_at slots q + one_at q v.number) where
-    pub view-ready : Ready slots now v
-    view-ready = ready-view slots now v stays users
-        (subst (λ o. LiesAt o v) (sym (ap (slot_at slots) v-number ∙ there)) (view-lies es slots number path layout writable array view v s there v-number layout-is item-is writable-is path-is))
-
-    pub view-of : (es' : List (Key × Entry)) (name : List ℕ) → map named_array es' ≡ put_array (map named_array es) name (array_at v) → IsOf es slots (View number path layout writable) v es' now
-    view-of es' name table = (
-      λ other its. view-array es slots number path layout writable other its v s there v-number layout-is item-is writable-is path-is,
-      same-buffers [] [] (map named_array es') now slots (λ q _. past-alike [] q (slot_at now q) (slot_at slots q) (stays q))
-          ∙ fewer-buffers es slots (map named_array es') (λ q used. elim (used-back-put (map named_array es) name (array_at v) q (ap (λ (ns : Names). is_in_use ns q) (sym table) ∙ used)) [
-            | inl before ↦ before
-            | inr its ↦ ap (is_in_use (map named_array es)) (sym (eqb-true v.number q its) ∙ v-number) ∙ view-used es slots number path layout writable array view
-          ]),
-    )
+    pub view-lodges : Lodges es slots (View number path layout writable) v now
+    view-lodges = record {
+      kept = λ q there. stays q;
+      users = users;
+      lies = lies-shaped (slot_at now v.number) (slot_at slots v.number) v (alike-shape (slot_at now v.number) (slot_at slots v.number) (stays v.number))
+          (subst (λ o. LiesAt o v) (sym (ap (slot_at slots) v-number ∙ there)) (view-lies es slots number path layout writable array view v s there v-number layout-is item-is writable-is path-is));
+      is_of = (λ other its. view-array es slots number path layout writable other its v s there v-number layout-is item-is writable-is path-is, buffers);
+    }
+      where
+        buffers : (name : List ℕ) → past_buffers [] (put_array (map named_array es) name (array_at v)) now ≡ retain_keys (present es slots).buffers (is_in_use (put_array (map named_array es) name (array_at v)))
+        buffers name =
+            let bound = put_array (map named_array es) name (array_at v) in
+            same-buffers [] [] bound now slots (λ q _. past-alike [] q (slot_at now q) (slot_at slots q) (stays q))
+            ∙ fewer-buffers es slots bound (λ q used. elim (used-back-put (map named_array es) name (array_at v) q used) [
+              | inl before ↦ before
+              | inr its ↦ ap (is_in_use (map named_array es)) (sym (eqb-true v.number q its) ∙ v-number) ∙ view-used es slots number path layout writable array view
+            ])
 
 -- What is asked of a state as it is, or with what is kept.
 
@@ -196,7 +189,7 @@ may-present es slots ring (View number path layout writable) may = (may.0, view-
 
 -- The change is kept.
 module _ (es : List (Key × Entry)) (slots : Slots) (ring : Ring Change) (spare : ℕ) (sound : IsSound es slots ring spare) (name : List ℕ) (bound : Bound) (earlier : Option Entry) (es' : List (Key × Entry)) (now : Slots)
-    (r : Rebinds es slots name bound earlier es' now) (key : Key) (key-is : key.bytes.items ≡ name) where
+    (r : Rebinds es slots name bound earlier es' now) (holds : Holds es' now) (key : Key) (key-is : key.bytes.items ≡ name) where
   abbrev names : Names
   names = map named_array es
 
@@ -220,14 +213,14 @@ module _ (es : List (Key × Entry)) (slots : Slots) (ring : Ring Change) (spare 
           ∙ put-put names name (array_at r.entry) (array_at x) (sym r.was ∙ ap (option_map array_at) e)
 
   restored : (q : ℕ) → is_needed names ring.items q ≡ true → Restored c q (slot_at now q) (slot_at slots q)
-  restored q needed = same-content c q (slot_at now q) (λ bytes. refl) ∙ r.stays q (occupied es slots ring spare sound q ∙ needed)
+  restored q needed = same-content c q (slot_at now q) (λ bytes. refl) ∙ r.lodges.kept q (occupied es slots ring spare sound q ∙ needed)
 
   own : IsUndoable c names' now
   own = by earlier r.earlier_lies
     where
       by : (o : Option Entry) → IfSome o (λ e. LiesAt (slot_at slots e.number) e) → IsUndoable (Bind key o) names' now
       by None lies = tt
-      by (Some e) lies = lies-shaped (slot_at now e.number) (slot_at slots e.number) e (alike-shape (slot_at now e.number) (slot_at slots e.number) (r.stays e.number (lies-there (slot_at slots e.number) e lies))) lies
+      by (Some e) lies = lies-shaped (slot_at now e.number) (slot_at slots e.number) e (alike-shape (slot_at now e.number) (slot_at slots e.number) (r.lodges.kept e.number (lies-there (slot_at slots e.number) e lies))) lies
 
   was-numbers : (q : ℕ) → found_at q (number_of (find_array names name)) ≡ pins q c
   was-numbers q = ap (λ o. found_at q (number_of o)) (sym r.was) ∙ by earlier
@@ -237,21 +230,25 @@ module _ (es : List (Key × Entry)) (slots : Slots) (ring : Ring Change) (spare 
       by (Some e) = refl
 
   -- one more holds the buffer of the new array, and the change that of the old one
-  pub bind-made : (q : ℕ) → users_at now q + users_in q names ≡ users_at slots q + users_in q names' + pins q c
-  bind-made q = omega (arith, r.users q, users-put q names name (array_at r.entry), was-numbers q, ap (users_in q) r.table)
+  made : (q : ℕ) → users_at now q + users_in q names ≡ users_at slots q + users_in q names' + pins q c
+  made q = omega (arith, r.lodges.users q, users-put q names name (array_at r.entry), was-numbers q, ap (users_in q) r.table)
 
-  module _ (ring' : Ring Change) (after : Slots) (spare' : ℕ) (ring-is : ring' ≡ buffer (keep_last ring.capacity (ring.items ++ c ∷ [])) ring.capacity) (freed : Freed now after) (counted : (q : ℕ) → users_at after q ≡ users_in q names' + all_pins q ring'.items) (room : min ring.capacity (length ring.items + 1) ≤ spare') where
-    pub bind-sound : IsSound es' after ring' spare'
-    bind-sound = keep-sound es slots ring spare sound es' now c before-is r.holds restored own ring' after spare' ring-is freed counted room
+  pub bind-held : (q : ℕ) → all_pins q (ring.items ++ c ∷ []) ≤ users_at now q
+  bind-held = made-held names names' ring.items c slots now sound.counted made
+
+  module _ (ring' : Ring Change) (after : Slots) (spare' : ℕ) (ring-is : ring' ≡ buffer (keep_last ring.capacity (ring.items ++ c ∷ [])) ring.capacity) (freed : Freed now after)
+      (kept : (q : ℕ) → users_at after q + all_pins q (ring.items ++ c ∷ []) ≡ users_at now q + all_pins q ring'.items) (room : min ring.capacity (length ring.items + 1) ≤ spare') where
+    counted : (q : ℕ) → users_at after q ≡ users_in q names' + all_pins q ring'.items
+    counted = kept-counted names names' ring.items c slots now sound.counted made ring'.items after kept
 
     abbrev old : State
     old = state_of es slots ring
 
-    kept-so : state_of es' after ring' ≡ record (keeping 0 old) { names = names'; buffers = past_buffers [] names' now }
-    kept-so = keep-state es slots ring spare sound es' now c before-is r.holds restored own ring' after spare' ring-is freed counted room
+    kept-so : state_of es' after ring' ≡ record (keeping old) { names = names'; buffers = past_buffers [] names' now }
+    kept-so = keep-state es slots ring spare sound es' now c before-is holds restored own ring' after spare' ring-is freed counted room
 
-    pub bind-binds : Binds old name bound (state_of es' after ring')
-    bind-binds = by bound r.is_of
+    binds : Binds old name bound (state_of es' after ring')
+    binds = by bound r.lodges.is_of
       where
         some-none : (b : Buffer) → Some b ≡ None → ⊥
         some-none b h = cc
@@ -271,7 +268,7 @@ module _ (es : List (Key × Entry)) (slots : Slots) (ring : Ring Change) (spare 
         none-either true = refl
         none-either false = refl
 
-        by : (b : Bound) → IsOf es slots b r.entry es' now → Binds old name b (state_of es' after ring')
+        by : (b : Bound) → IsOf es slots b r.entry now → Binds old name b (state_of es' after ring')
         by (Fresh o) of-it =
             let names-are : names' ≡ put_array names name (own_array r.entry.number o) = r.table ∙ ap (put_array names name) of-it.2 in (
               r.entry.number,
@@ -282,12 +279,15 @@ module _ (es : List (Key × Entry)) (slots : Slots) (ring : Ring Change) (spare 
                 };
                 least = λ m less free. least m (of-it.1 m less) free;
               },
-              kept-so ∙ λ i. record (keeping 0 old) {
+              kept-so ∙ λ i. record (keeping old) {
                 names = names-are i;
-                buffers = (of-it.3 ∙ ap (λ (ns : Names). retain_keys (insert old.buffers r.entry.number (own_buffer o)) (is_in_use ns)) names-are) i;
+                buffers = (ap (λ (ns : Names). past_buffers [] ns now) r.table ∙ of-it.3 name ∙ ap (λ (ns : Names). retain_keys (insert old.buffers r.entry.number (own_buffer o)) (is_in_use ns)) (sym r.table ∙ names-are)) i;
               },
             )
         by (View number path layout writable) of-it = λ array view.
             let array-is : array_at r.entry ≡ array = of-it.0 array (view-present es slots ring number path layout writable array view) in
             let names-are : names' ≡ put_array names name array = r.table ∙ ap (put_array names name) array-is in
-            kept-so ∙ λ i. record (keeping 0 old) { names = names-are i; buffers = (of-it.1 ∙ ap (λ (ns : Names). retain_keys old.buffers (is_in_use ns)) names-are) i }
+            kept-so ∙ λ i. record (keeping old) { names = names-are i; buffers = (ap (λ (ns : Names). past_buffers [] ns now) r.table ∙ of-it.1 name ∙ ap (λ (ns : Names). retain_keys old.buffers (is_in_use ns)) (sym r.table ∙ names-are)) i }
+
+    pub bind-kept : IsSound es' after ring' spare' × Binds old name bound (state_of es' after ring')
+    bind-kept = (keep-sound es slots ring spare sound es' now c before-is holds restored own ring' after spare' ring-is freed counted room, binds)

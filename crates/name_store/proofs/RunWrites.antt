@@ -1,7 +1,6 @@
 -- An item that is written at the offsets of runs.
 use Rattle.std.proofs.Common.{◌≡◌, ℕ, List, ◌∷◌, length, sym, ap, ◌∙◌}
 use Rattle.std.specs.List.{flat_map}
-use lib.IntN.{ℤ}
 use Rattle.raw_block.specs.Bytes.{filled, EachWithin}
 use Rattle.shape_strides.specs.declared.runs.Run.{Run}
 use Rattle.shape_strides.specs.Runs.{run_offsets}

@@ -20,7 +20,7 @@ use Rattle.name_store.specs.inside.Held.{stand}
 use Rattle.std.specs.Cmp.{nat_cmp_total}
 use Rattle.std.specs.FinMap.{retain_keys, get-retain_keys, same_map, nat_cmp-IsAntisymmetric}
 use Rattle.name_store.proofs.NameLaws.{TestsName, find-lookup, without-remove, all-lookup, all-remove, insert-removed, used-back-without}
-use Rattle.name_store.proofs.Needs.{is_needed, number_of, users-without}
+use Rattle.name_store.proofs.Needs.{is_needed, made-held, kept-counted, number_of, users-without}
 use Rattle.name_store.proofs.PastLaws.{Restored, content_before, Slots}
 use Rattle.name_store.proofs.SlotLaws.{get-past, get-buffers}
 use Rattle.name_store.proofs.StateLaws.{Freed}
@@ -58,6 +58,12 @@ fewer-buffers es slots names fewer = same_map nat_cmp_total nat_cmp-IsAntisymmet
           | false ↦ λ _. refl
         ] refl
 
+pub removed-holds : (test : Key → Bool) (es : List (Key × Entry)) (slots : Slots) (es' : List (Key × Entry)) → Holds es slots → es' ≡ shift_remove_entry test es → length es' ≤ length es → Holds es' slots
+removed-holds test es slots es' h removed len = record {
+  few = omega (arith, len, h.few);
+  lie = subst (λ (ns : List (Key × Entry)). AllByRecursion (λ entry. LiesAt (slot_at slots entry.1.number) entry.1) ns) (sym removed) (all-remove (λ x. LiesAt (slot_at slots x.number) x) test es h.lie);
+}
+
 module _ (es : List (Key × Entry)) (slots : Slots) (ring : Ring Change) (spare : ℕ) (sound : IsSound es slots ring spare) (test : Key → Bool) (key : Key) (is : TestsName test key.bytes.items)
     (e : Entry) (place : ℕ) (was : lookup test es ≡ Some e) (at : Some place ≡ position test (keys_of es)) (es' : List (Key × Entry)) (removed : es' ≡ shift_remove_entry test es) (gone : lookup test es' ≡ None) (len : length es' + 1 ≡ length es) where
   abbrev c : Change
@@ -76,10 +82,7 @@ module _ (es : List (Key × Entry)) (slots : Slots) (ring : Ring Change) (spare 
   names-are = ap (map named_array) removed ∙ without-remove test key.bytes.items is es
 
   holds : Holds es' slots
-  holds = record {
-    few = omega (arith, len, sound.holds.few);
-    lie = subst (λ (ns : List (Key × Entry)). AllByRecursion (λ entry. LiesAt (slot_at slots entry.1.number) entry.1) ns) (sym removed) (all-remove (λ x. LiesAt (slot_at slots x.number) x) test es sound.holds.lie);
-  }
+  holds = removed-holds test es slots es' sound.holds removed (omega (arith, len))
 
   restored : (q : ℕ) → is_needed (map named_array es) ring.items q ≡ true → Restored c q (slot_at slots q) (slot_at slots q)
   restored q needed = same-content c q (slot_at slots q) (λ bytes. refl)
@@ -95,17 +98,24 @@ module _ (es : List (Key × Entry)) (slots : Slots) (ring : Ring Change) (spare 
   found-is = find-lookup test key.bytes.items is es ∙ ap (option_map array_at) was
 
   -- the change holds the buffer that the name held
-  pub unbind-made : (q : ℕ) → users_at slots q + users_in q (map named_array es) ≡ users_at slots q + users_in q names' + pins q c
-  unbind-made q = omega (arith, users-without q (map named_array es) key.bytes.items, ap (λ o. found_at q (number_of o)) found-is, ap (users_in q) names-are)
+  made : (q : ℕ) → users_at slots q + users_in q (map named_array es) ≡ users_at slots q + users_in q names' + pins q c
+  made q = omega (arith, users-without q (map named_array es) key.bytes.items, ap (λ o. found_at q (number_of o)) found-is, ap (users_in q) names-are)
 
-  module _ (ring' : Ring Change) (after : Slots) (spare' : ℕ) (ring-is : ring' ≡ buffer (keep_last ring.capacity (ring.items ++ c ∷ [])) ring.capacity) (freed : Freed slots after) (counted : (q : ℕ) → users_at after q ≡ users_in q names' + all_pins q ring'.items) (room : min ring.capacity (length ring.items + 1) ≤ spare') where
-    pub unbind-sound : IsSound es' after ring' spare'
-    unbind-sound = keep-sound es slots ring spare sound es' slots c before-is holds restored own ring' after spare' ring-is freed counted room
+  pub unbind-held : (q : ℕ) → all_pins q (ring.items ++ c ∷ []) ≤ users_at slots q
+  unbind-held = made-held (map named_array es) names' ring.items c slots slots sound.counted made
 
-    pub unbind-state : state_of es' after ring' ≡ unbound (state_of es slots ring) key.bytes.items
-    unbind-state =
+  module _ (ring' : Ring Change) (after : Slots) (spare' : ℕ) (ring-is : ring' ≡ buffer (keep_last ring.capacity (ring.items ++ c ∷ [])) ring.capacity) (freed : Freed slots after)
+      (kept : (q : ℕ) → users_at after q + all_pins q (ring.items ++ c ∷ []) ≡ users_at slots q + all_pins q ring'.items) (room : min ring.capacity (length ring.items + 1) ≤ spare') where
+    counted : (q : ℕ) → users_at after q ≡ users_in q names' + all_pins q ring'.items
+    counted = kept-counted (map named_array es) names' ring.items c slots slots sound.counted made ring'.items after kept
+
+    state : state_of es' after ring' ≡ unbound (state_of es slots ring) key.bytes.items
+    state =
         keep-state es slots ring spare sound es' slots c before-is holds restored own ring' after spare' ring-is freed counted room
         ∙ λ i. record (unbound (state_of es slots ring) key.bytes.items) { names = names-are i; buffers = (fewer-buffers es slots names' (λ q used. used-back-without (map named_array es) key.bytes.items q (ap (λ (ns : Names). is_in_use ns q) (sym names-are) ∙ used)) ∙ ap (λ (ns : Names). retain_keys (present es slots).buffers (is_in_use ns)) names-are) i }
+
+    pub unbind-kept : IsSound es' after ring' spare' × (state_of es' after ring' ≡ unbound (state_of es slots ring) key.bytes.items)
+    unbind-kept = (keep-sound es slots ring spare sound es' slots c before-is holds restored own ring' after spare' ring-is freed counted room, state)
 
 -- a table that is the same but for its room
 pub same-sound : (es es' : List (Key × Entry)) (slots : Slots) (ring : Ring Change) (spare spare' : ℕ) → es' ≡ es → spare ≤ spare' → IsSound es slots ring spare → IsSound es' slots ring spare'

@@ -1,5 +1,5 @@
 -- A change is undone.
-use Rattle.std.proofs.Common.{◌≡◌, ◌+◌, ◌-◌, ◌≤◌, ℕ, suc, true, false, List, [], ◌∷◌, ◌++◌, length, take, map, slice_get, refl, sym, ap, subst, ◌∙◌, cond, Some, None, is_some, arith, length-append}
+use Rattle.std.proofs.Common.{◌≡◌, ◌+◌, ◌-◌, ◌≤◌, ℕ, suc, true, false, List, [], ◌∷◌, ◌++◌, length, take, map, slice_get, refl, sym, ap, subst, ◌∙◌, cond, Some, None, is_some, Result, Ok, Err, IsOk, OnOk, arith, length-append}
 use Rattle.std.specs.List.{AllByRecursion, list_any}
 use Rattle.std.specs.Option.{option_map, option_map_or}
 use Rattle.std.proofs.lemmas.List.{length-map, map-append}
@@ -103,16 +103,19 @@ undone-state es es' slots slots' old ring c spare items-are deep done =
     let kept = kept_states ring.items names' slots' in
     let last : Names × FinMap nat_cmp Buffer = (names', past_buffers [] names' slots') in
     let all : kept_states old.items (map named_array es) slots ≡ kept ++ last ∷ [] = ap (λ cs. kept_states cs (map named_array es) slots) items-are ∙ done.kept in
-    let found : last_item (kept_states old.items (map named_array es) slots) ≡ Some last = ap last_item all ∙ last-push kept last in
-    let patches : map patch_size old.items ≡ map patch_size ring.items ++ patch_size c ∷ [] = ap (map patch_size) items-are ∙ map-append patch_size ring.items (c ∷ []) in (
+    let found : last_item (kept_states old.items (map named_array es) slots) ≡ Some last = ap last_item all ∙ last-push kept last in (
       ap is_some found,
       (λ i. record (state_of es' slots' ring) {
         depth = deep i;
         kept = (sym (front-push kept last) ∙ ap (λ ks. take (length ks - 1) ks) (sym all)) i;
-        patches = (sym (front-push (map patch_size ring.items) (patch_size c)) ∙ ap (λ ps. take (length ps - 1) ps) (sym patches)) i;
       })
-          ∙ ap (λ o. option_map_or (λ before. record (state_of es slots old) { names = before.0; buffers = before.1; kept = take (length (state_of es slots old).kept - 1) (state_of es slots old).kept; patches = take (length (state_of es slots old).patches - 1) (state_of es slots old).patches }) o (state_of es slots old)) (sym found),
+          ∙ ap (λ o. option_map_or (λ before. record (state_of es slots old) { names = before.0; buffers = before.1; kept = take (length (state_of es slots old).kept - 1) (state_of es slots old).kept }) o (state_of es slots old)) (sym found),
     )
+
+-- the bytes that it took to undo the last change are counted no more
+pub patches-pop : (old ring : Ring Change) (c : Change) → old.items ≡ ring.items ++ c ∷ [] → map patch_size ring.items ≡ take (length (map patch_size old.items) - 1) (map patch_size old.items)
+patches-pop old ring c items-are =
+    sym (front-push (map patch_size ring.items) (patch_size c)) ∙ ap (λ ps. take (length ps - 1) ps) (sym (ap (map patch_size) items-are ∙ map-append patch_size ring.items (c ∷ [])))
 
 -- The change that is undone is the last.
 
@@ -136,3 +139,12 @@ with-last old new c last is =
 
 pub none-kept : (es : List (Key × Entry)) (slots : Slots) (ring : Ring Change) → None ≡ last_item ring.items → has_kept (state_of es slots ring) ≡ false
 none-kept es slots ring none = ap (λ (cs : List Change). is_some (last_item (kept_states cs (map named_array es) slots))) (none-last ring.items none)
+
+-- a call that succeeds does what it does when it succeeds
+pub at-ok : {A E P : Type 0} (r : Result A E) → IsOk r → OnOk r P → P
+at-ok (Ok a) _ done = done
+at-ok (Err e) bad _ = let wrong : ⊥ = cc in absurd wrong
+
+-- there is room for a name that comes back
+pub undo-room : (es : List (Key × Entry)) (slots : Slots) (ring : Ring Change) (c : Change) (spare : ℕ) → IsSound es slots (buffer (ring.items ++ c ∷ []) ring.capacity) spare → 1 ≤ spare
+undo-room es slots ring c spare sound = omega (arith, sound.room, length-append ring.items (c ∷ []))

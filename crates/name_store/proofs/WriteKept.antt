@@ -1,9 +1,8 @@
 -- Items are written, and the old ones are kept.
-use Rattle.std.proofs.Common.{◌≡◌, ◌+◌, ◌*◌, ◌≤◌, ℕ, true, false, List, [], ◌∷◌, ◌++◌, length, map, min, refl, sym, ap, subst, ◌∙◌, cond, Option, Some, None, Ok, nat_eq, All, arith, ◌⊎◌, inl, inr}
+use Rattle.std.proofs.Common.{◌≡◌, ◌+◌, ◌*◌, ◌≤◌, ℕ, true, false, List, [], ◌∷◌, ◌++◌, length, map, min, refl, sym, ap, subst, ◌∙◌, cond, Option, Some, None, Result, Ok, Err, IfOk, IfErr, nat_eq, All, arith, ◌⊎◌, inl, inr}
 use Rattle.std.specs.List.{AllByRecursion}
 use Rattle.std.specs.Option.{option_map}
 use Rattle.std.proofs.lemmas.Bool.{eqb-true}
-use Rattle.std.proofs.lemmas.List.{length-map}
 use Rattle.std.proofs.lemmas.List.Elements.{All-from_recursion, recursion_from_All}
 use Rattle.std.proofs.Math.ListN.{drop_of_length-le}
 use Rattle.circular_buffer.specs.Buffer.{Buffer as Ring, buffer, keep_last}
@@ -13,12 +12,12 @@ use Rattle.shape_strides.specs.declared.layout.Layout.{Layout}
 use Rattle.overlap_copy.specs.Assignments.{items_at, with_items}
 use Rattle.name_store.specs.States.{State, Array}
 use Rattle.name_store.specs.Arrays.{is_in_use, keeping, written, find_array, descr_of}
-use Rattle.name_store.specs.Calls.{AnswersWrite}
+use Rattle.name_store.specs.Calls.{AnswersWrite, CountsWrite}
 use Rattle.name_store.specs.Invariants.{Holds, IsSound, LiesAt, GoBackAt, GoBack, IsUndoable, users_at, users_in, pins, all_pins}
 use Rattle.name_store.specs.Kept.{with_old, Names, past_names, past_buffers, kept_states, patch_size}
 use Rattle.name_store.specs.Memory.{MoveInPlace, NeedsNoMemory}
 use Rattle.name_store.specs.Targets.{target_offsets, source_items, items_of, LeadsTo, MayWrite, IsFor, IsAim}
-use Rattle.name_store.specs.View.{array_at, named_array, slot_at, present, state_of}
+use Rattle.name_store.specs.View.{array_at, named_array, slot_at, present, state_of, value_of}
 use Rattle.name_store.specs.declared.change.Change.{Change}
 use Rattle.name_store.specs.declared.change.Change.TheVariants.{Write}
 use Rattle.name_store.specs.declared.entry.Entry.{Entry}
@@ -33,12 +32,13 @@ use Rattle.name_store.specs.inside.Homes.{IsHome, HasNew}
 use Rattle.name_store.specs.inside.Puts.{CanPut, NeedsNone, Puts, Resolves, parts_of}
 use Rattle.name_store.specs.declared.items.Items.{Items}
 use Rattle.name_store.specs.declared.items.Items.TheVariants as items
-use Rattle.name_store.specs.inside.Held.{stand}
+use Rattle.name_store.specs.inside.Held.{IsLowest, stand}
 use Rattle.name_store.specs.inside.OldItems.{AreOld, AreOldAt, AreSame}
 use Rattle.name_store.proofs.AimLaws.{can-put, put-answers, whole-parts}
-use Rattle.name_store.proofs.KeepLaws.{keep-sound, keep-state}
+use Rattle.name_store.proofs.HeldLaws.{lowest-same}
+use Rattle.name_store.proofs.KeepLaws.{keep-sound, keep-state, patches-push}
 use Rattle.name_store.proofs.NameLaws.{all-both, found-used, nat_itself}
-use Rattle.name_store.proofs.Needs.{is_needed}
+use Rattle.name_store.proofs.Needs.{is_needed, made-held, kept-counted}
 use Rattle.name_store.proofs.PastLaws.{Restored, alike-shape, past-alike, content_before, shape, SameShape, lies-shaped, same-buffers, undoable-still, Slots}
 use Rattle.name_store.proofs.RestoreLaws.{restores}
 use Rattle.name_store.proofs.RewriteLaws.{can-inside, new-users}
@@ -103,6 +103,17 @@ same-kept (c ∷ cs) names slots after same = λ i. (past_names (c ∷ cs) names
 
 pub same-state : (es : List (Key × Entry)) (slots after : Slots) (ring : Ring Change) → AreSame slots after → state_of es after ring ≡ state_of es slots ring
 same-state es slots after ring same = λ i. record (state_of es slots ring) { buffers = same-past [] (map named_array es) slots after same i; kept = same-kept ring.items (map named_array es) slots after same i }
+
+pub same-value : (es : List (Key × Entry)) (slots after : Slots) (ring : Ring Change) → AreSame slots after → value_of es after ring ≡ value_of es slots ring
+same-value es slots after ring same = λ i. record { state = same-state es slots after ring same i; patches = map patch_size ring.items }
+
+-- where none is kept
+none-items : (cap : ℕ) (cs : List Change) → length cs ≤ cap → cap ≡ 0 → cs ≡ []
+none-items cap [] short shallow = refl
+none-items cap (c ∷ cs) short shallow = absurd (omega (arith, short, shallow))
+
+none-last : {X : Type 0} (cap : ℕ) (xs : List X) → cap ≡ 0 → keep_last cap xs ≡ []
+none-last cap xs shallow = drop_of_length-le xs (omega (arith, shallow))
 
 -- Where a call changed nothing that stands in a slot, all is sound as it was.
 pub same-still : (es : List (Key × Entry)) (slots after : Slots) (ring : Ring Change) (spare : ℕ) → AreSame slots after → IsSound es slots ring spare → IsSound es after ring spare
@@ -206,23 +217,15 @@ module _ (es : List (Key × Entry)) (slots : Slots) (ring : Ring Change) (spare 
       λ array places leads.
           let is = present-answers.1 array places (leads-now es slots ring name target array places leads) in
           let descr : Descr = descr_of (present es slots) array in
-          let bytes : ℕ = length places * item_size descr in
-          λ i. record (keeping bytes (state_of es slots ring)) {
+          λ i. record (keeping (state_of es slots ring)) {
             buffers = (ap (λ (x : State). x.buffers) is ∙ ap (λ items. (written (present es slots) array places items).buffers) (sym (source-now es slots ring descr n source))) i;
-            kept = (ap (λ cs. kept_states cs names after) nothing ∙ sym (last-none (kept_states ring.items names slots ++ (names, past_buffers [] names slots) ∷ []))) i;
-            patches = (ap (map patch_size) nothing ∙ sym (last-none (map patch_size ring.items ++ bytes ∷ []))) i;
+            kept = (ap (λ cs. kept_states cs names after) (none-items ring.capacity ring.items sound.short shallow) ∙ sym (none-last ring.capacity (kept_states ring.items names slots ++ (names, past_buffers [] names slots) ∷ []) shallow)) i;
           },
     )
-      where
-        empty : (cs : List Change) → length cs ≤ ring.capacity → cs ≡ []
-        empty [] short = refl
-        empty (c ∷ cs) short = absurd (omega (arith, short, shallow))
 
-        nothing : ring.items ≡ []
-        nothing = empty ring.items sound.short
-
-        last-none : {X : Type 0} (xs : List X) → keep_last ring.capacity xs ≡ []
-        last-none xs = drop_of_length-le xs (omega (arith, shallow))
+    pub none-counts : ring.capacity ≡ 0 → CountsWrite (value_of es slots ring) name target (Ok n) (value_of es after ring)
+    none-counts shallow = λ array found.
+        ap (map patch_size) (none-items ring.capacity ring.items sound.short shallow) ∙ sym (none-last ring.capacity (map patch_size ring.items ++ n * item_size (descr_of (present es slots) array) ∷ []) shallow)
 
     -- the old items are kept
     module _ (items : OldItems) (olds : AreOldAt slots (record { number = number; width = width }) target items) where
@@ -272,10 +275,17 @@ module _ (es : List (Key × Entry)) (slots : Slots) (ring : Ring Change) (spare 
       )
 
       -- what was written is held by a name
-      pub write-made : (q : ℕ) → users_at after q + users_in q names ≡ users_at slots q + users_in q names + pins q c
-      write-made q = omega (arith, wrote-users q)
+      made : (q : ℕ) → users_at after q + users_in q names ≡ users_at slots q + users_in q names + pins q c
+      made q = omega (arith, wrote-users q)
 
-      module _ (ring' : Ring Change) (last : Slots) (spare' : ℕ) (ring-is : ring' ≡ buffer (keep_last ring.capacity (ring.items ++ c ∷ [])) ring.capacity) (freed : Freed after last) (counted : (q : ℕ) → users_at last q ≡ users_in q names + all_pins q ring'.items) (room : min ring.capacity (length ring.items + 1) ≤ spare') where
+      pub write-held : (q : ℕ) → all_pins q (ring.items ++ c ∷ []) ≤ users_at after q
+      write-held = made-held names names ring.items c slots after sound.counted made
+
+      module _ (ring' : Ring Change) (last : Slots) (spare' : ℕ) (ring-is : ring' ≡ buffer (keep_last ring.capacity (ring.items ++ c ∷ [])) ring.capacity) (freed : Freed after last)
+          (kept : (q : ℕ) → users_at last q + all_pins q (ring.items ++ c ∷ []) ≡ users_at after q + all_pins q ring'.items) (room : min ring.capacity (length ring.items + 1) ≤ spare') where
+        counted : (q : ℕ) → users_at last q ≡ users_in q names + all_pins q ring'.items
+        counted = kept-counted names names ring.items c slots after sound.counted made ring'.items last kept
+
         pub write-sound : IsSound es last ring' spare'
         write-sound = keep-sound es slots ring spare sound es after c refl holds restored own' ring' last spare' ring-is freed counted room
 
@@ -285,11 +295,23 @@ module _ (es : List (Key × Entry)) (slots : Slots) (ring : Ring Change) (spare 
           λ array places leads.
               let is = present-answers.1 array places (leads-now es slots ring name target array places leads) in
               let descr : Descr = descr_of (present es slots) array in
-              let size : length items.block ≡ length places * item_size descr =
-              old.whole
-              ∙ (λ i. (ap length leads.offsets_are ∙ length-map places _) i * (old.size ∙ sym (size-is es slots name number width home array leads.found)) i) in
               keep-state es slots ring spare sound es after c refl holds restored own' ring' last spare' ring-is freed counted room
-              ∙ λ i. record (keeping (size i) (state_of es slots ring)) {
+              ∙ λ i. record (keeping (state_of es slots ring)) {
                 buffers = (ap (λ (x : State). x.buffers) is ∙ ap (λ items. (written (present es slots) array places items).buffers) (sym (source-now es slots ring descr n source))) i;
               },
         )
+
+        pub write-counts : CountsWrite (value_of es slots ring) name target (Ok n) (value_of es last ring')
+        write-counts = λ array found.
+            patches-push ring ring' c ring-is
+            ∙ ap (λ bytes. keep_last ring.capacity (map patch_size ring.items ++ bytes ∷ [])) (old.whole ∙ ap (λ size. n * size) (old.size ∙ sym (size-is es slots name number width home array found)))
+
+-- Whether items were put or not, names' arrays lie in their slots, and as many hold each.
+module _ (es : List (Key × Entry)) (slots : Slots) (ring : Ring Change) (spare : ℕ) (sound : IsSound es slots ring spare) (name : List ℕ) (number width : ℕ) (home : IsHome es slots name number width) (target : Target) (source : Source) (own : Items)
+    (resolved : Resolves es slots source own) (aim : IsAim (state_of es slots ring) name target source) (after : Slots) where
+  pub tried-sound : {A E : Type 0} (r : Result A E) → IfOk r (λ _. Puts slots (record { number = number; width = width }) target own after) → IfErr r (λ _. AreSame slots after) → IsSound es after ring spare
+  tried-sound (Ok a) puts _ = wrote-sound es slots ring spare sound name number width home target source own resolved aim after puts
+  tried-sound (Err e) _ same = same-still es slots after ring spare same sound
+
+  pub tried-lowest : {A E : Type 0} (r : Result A E) → IfOk r (λ _. Puts slots (record { number = number; width = width }) target own after) → IfErr r (λ _. AreSame slots after) → (low : ℕ) → IsLowest slots low → IsLowest after low
+  tried-lowest r puts same low = lowest-same slots after low (λ q. (tried-sound r puts same).counted q ∙ sym (sound.counted q))

@@ -9,6 +9,7 @@ pub mod Parts
 pub mod Places
 pub mod Shown
 pub mod States
+pub mod Tables
 pub mod Targets
 pub mod Memory
 pub mod View

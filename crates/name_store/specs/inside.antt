@@ -1,6 +1,7 @@
 pub mod KeptPaths
 pub mod Props
 pub mod Held
+pub mod HeldOnce
 pub mod Codes
 pub mod Lends
 pub mod Homes

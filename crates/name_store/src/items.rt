@@ -1,12 +1,9 @@
 //! Items that are written, by the numbers of buffers.
-ghost use Rattle.name_store.specs.Invariants.{Holds};
 ghost use Rattle.name_store.specs.inside.Puts.{MayResolve, Resolves};
 
-use crate::entry::{Entry, Key};
-use crate::home::home_of;
-use crate::slot::Slot;
+use crate::entry::Key;
+use crate::table::Table;
 use crate::target::Source;
-use indexmap::IndexMap;
 use overlap_copy::Owned;
 use shape_strides::Layout;
 use std::alloc::Global;
@@ -23,21 +20,15 @@ pub enum Items<'a> {
 }
 
 /// The items of a source.
-pub(crate) fn items_of<'a>(
-    alloc: Global,
-    names: &IndexMap<Key, Entry>,
-    slots: &[Option<Slot>],
-    source: Source<'a>,
-) -> Items<'a>
-    requires holds { Holds names.now.entries slots.now }
-    requires may { MayResolve names.now.entries slots.now source }
-    ensures { Resolves names.now.entries slots.now source.entry result }
+pub(crate) fn items_of<'a>(alloc: Global, table: &Table, source: Source<'a>) -> Items<'a>
+    requires { MayResolve table.now.names.entries table.now.slots.cells.items source }
+    ensures { Resolves table.now.names.entries table.now.slots.cells.items source.entry result }
 {
     match source {
         Source::One(item) => Items::One(item),
         Source::Block(owned) => Items::Block(owned),
         Source::Name(name, layout) => {
-            let home = home_of(names, slots, &Key::of(alloc, name));
+            let home = table.home(&Key::of(alloc, name));
             Items::Buffer(home.number, layout)
         }
     }

@@ -4,7 +4,6 @@
 
 mod array_ref;
 mod bench;
-mod bind;
 mod bound;
 mod change;
 mod entry;
@@ -13,19 +12,15 @@ mod history;
 mod home;
 mod items;
 mod keep;
-mod look;
 mod names;
 mod old_items;
 mod path;
 mod rewrite;
-mod shares;
 mod slot;
 mod slots;
+mod table;
 mod target;
-mod unbind;
-mod undo;
 mod write;
-mod write_kept;
 mod write_over;
 
 pub use array_ref::ArrayRef;
@@ -46,3 +41,5 @@ pub use history::History;
 pub use slot::Slot;
 #[doc(hidden)]
 pub use slots::Slots;
+#[doc(hidden)]
+pub use table::Table;

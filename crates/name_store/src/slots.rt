@@ -65,7 +65,7 @@ fn put_slot(cells: &mut Vec<Option<Slot>>, number: usize, slot: Slot)
 }
 
 impl Slots {
-    ghost use Rattle.std.specs.Prelude.{◌≡◌, ◌≤◌, ◌<◌, ◌+◌, ℕ, [], IfOk, OnErr, None, nat_eq, nat_lt, if◌then◌else◌, vec_len};
+    ghost use Rattle.std.specs.Prelude.{◌≡◌, ◌≤◌, ◌<◌, ◌+◌, ℕ, [], true, IfOk, OnErr, Some, None, is_some, nat_eq, nat_lt, if◌then◌else◌, vec_len};
     ghost use Rattle.std.specs.Option.{option_map};
     ghost use Rattle.name_store.specs.View.{slot_at};
     ghost use Rattle.name_store.specs.Invariants.{one_at, users_at};
@@ -91,6 +91,14 @@ impl Slots {
         put_slot(&mut self.cells, number, slot);
         self.lowest = number + 1;
         Ok(number)
+    }
+
+    /// The buffer with this number.
+    pub(crate) fn slot(&self, number: usize) -> &Slot
+        requires { is_some (slot_at self.now.cells.items number) ≡ true }
+        ensures { slot_at self.now.cells.items number ≡ Some result.now }
+    {
+        slot_of(self.cells.as_slice(), number)
     }
 
     /// One more holds the buffer with this number.

@@ -4,7 +4,7 @@ use Rattle.std.specs.FinMap.{insert, retain_keys}
 use Rattle.std.specs.Option.{option_map}
 use Rattle.name_store.specs.Arrays.{find_array, put_array, is_in_use}
 use Rattle.name_store.specs.Calls.{own_array, own_buffer}
-use Rattle.name_store.specs.Invariants.{Holds, LiesAt, one_at, users_at}
+use Rattle.name_store.specs.Invariants.{LiesAt, one_at, users_at}
 use Rattle.name_store.specs.Kept.{past_buffers}
 use Rattle.name_store.specs.States.{Array}
 use Rattle.name_store.specs.View.{array_at, named_array, slot_at, present}
@@ -16,22 +16,26 @@ use Rattle.name_store.specs.declared.entry.Key.{Key}
 use Rattle.name_store.specs.declared.slot.Slot.{Slot}
 use Rattle.name_store.specs.inside.Held.{stand}
 
--- the array of the entry that came is what was asked for
-abbrev pub IsOf : List (Key × Entry) → List (Option Slot) → Bound → Entry → List (Key × Entry) → List (Option Slot) → Type 0
-IsOf names slots (Fresh o) v names' slots' =
+-- the array of the entry is what was asked for, and so are the buffers once a name is bound to it
+abbrev pub IsOf : List (Key × Entry) → List (Option Slot) → Bound → Entry → List (Option Slot) → Type 0
+IsOf names slots (Fresh o) v slots' =
     (slot_at slots v.number ≡ None) × ((lower : ℕ) → lower < v.number → is_some (slot_at slots lower) ≡ true) × (array_at v ≡ own_array v.number o)
-    × (past_buffers [] (map named_array names') slots' ≡ retain_keys (insert (present names slots).buffers v.number (own_buffer o)) (is_in_use (map named_array names')))
-IsOf names slots (View number path layout writable) v names' slots' =
+    × ((name : List ℕ) → let bound = put_array (map named_array names) name (array_at v) in past_buffers [] bound slots' ≡ retain_keys (insert (present names slots).buffers v.number (own_buffer o)) (is_in_use bound))
+IsOf names slots (View number path layout writable) v slots' =
     ((array : Array) → IsViewIn (present names slots) number path layout writable array → array_at v ≡ array)
-    × (past_buffers [] (map named_array names') slots' ≡ retain_keys (present names slots).buffers (is_in_use (map named_array names')))
+    × ((name : List ℕ) → let bound = put_array (map named_array names) name (array_at v) in past_buffers [] bound slots' ≡ retain_keys (present names slots).buffers (is_in_use bound))
 
--- The name is bound to an entry, and one more holds its buffer. What it was bound to before still has its slot.
+-- The array of an entry lies in a slot, which one more holds. What stood in a slot stands there.
+pub record Lodges (names : List (Key × Entry)) (slots : List (Option Slot)) (bound : Bound) (entry : Entry) (slots' : List (Option Slot)) : Type 0 where
+  pub kept : (q : ℕ) → is_some (slot_at slots q) ≡ true → option_map stand (slot_at slots' q) ≡ option_map stand (slot_at slots q)
+  pub users : (q : ℕ) → users_at slots' q ≡ users_at slots q + one_at q entry.number
+  pub lies : LiesAt (slot_at slots' entry.number) entry
+  pub is_of : IsOf names slots bound entry slots'
+
+-- The name is bound to an entry that lies there. What it was bound to before still has its slot.
 pub record Rebinds (names : List (Key × Entry)) (slots : List (Option Slot)) (name : List ℕ) (bound : Bound) (earlier : Option Entry) (names' : List (Key × Entry)) (slots' : List (Option Slot)) : Type 0 where
   pub entry : Entry
+  pub lodges : Lodges names slots bound entry slots'
   pub table : map named_array names' ≡ put_array (map named_array names) name (array_at entry)
   pub was : option_map array_at earlier ≡ find_array (map named_array names) name
   pub earlier_lies : IfSome earlier (λ e. LiesAt (slot_at slots e.number) e)
-  pub holds : Holds names' slots'
-  pub stays : (q : ℕ) → is_some (slot_at slots q) ≡ true → option_map stand (slot_at slots' q) ≡ option_map stand (slot_at slots q)
-  pub users : (q : ℕ) → users_at slots' q ≡ users_at slots q + one_at q entry.number
-  pub is_of : IsOf names slots bound entry names' slots'

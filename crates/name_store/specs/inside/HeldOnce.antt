@@ -1,0 +1,32 @@
+-- What holds of a table holds in one way.
+use Rattle.std.specs.Prelude.{ℕ, Bool, List, [], ◌∷◌, Option, Some, None}
+use Rattle.std.specs.Coded.{Unit-prop, le_prop}
+use Rattle.std.specs.List.{AllByRecursion-prop}
+use Rattle.std.proofs.Props.{props}
+use Rattle.elem_descr.specs.declared.descr.Descr.{Descr}
+use Rattle.elem_descr.specs.Items.{field_at}
+use Rattle.shape_strides.specs.declared.layout.Layout.{Layout}
+use Rattle.name_store.specs.Invariants.{Holds, LiesAt}
+use Rattle.name_store.specs.Parts.{IsPathOf}
+use Rattle.name_store.specs.States.{Array}
+use Rattle.name_store.specs.View.{array_at, slot_at}
+use Rattle.name_store.specs.Views.{IsLaidOut}
+use Rattle.name_store.specs.declared.entry.Entry.{Entry}
+use Rattle.name_store.specs.declared.entry.Key.{Key}
+use Rattle.name_store.specs.declared.slot.Slot.{Slot}
+
+IsPathOf-prop : (descr : Descr) (path : List ℕ) → IsProp (IsPathOf descr path)
+IsPathOf-prop descr [] = Unit-prop
+IsPathOf-prop descr (k ∷ path) = let rest = IsPathOf-prop (field_at descr k).descr path in hlevel (rest, le_prop)
+
+IsLaidOut-prop : (descr : Descr) (n : ℕ) (array : Array) (layout : Layout) (writable : Bool) → IsProp (IsLaidOut descr n array layout writable)
+IsLaidOut-prop descr n array layout writable = let part = IsPathOf-prop descr array.path in hlevel (part, props)
+
+LiesAt-prop : (there : Option Slot) (e : Entry) → IsProp (LiesAt there e)
+LiesAt-prop None e = hlevel props
+LiesAt-prop (Some slot) e = let laid = IsLaidOut-prop slot.descr slot.items (array_at e) e.layout e.writable in hlevel (laid, props)
+
+pub Holds-prop : (names : List (Key × Entry)) (slots : List (Option Slot)) → IsProp (Holds names slots)
+Holds-prop names slots =
+    let lie = AllByRecursion-prop (λ (entry : Key × Entry). LiesAt (slot_at slots entry.1.number) entry.1) (λ entry. LiesAt-prop (slot_at slots entry.1.number) entry.1) names in
+    hlevel (lie, props)

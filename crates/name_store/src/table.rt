@@ -1,0 +1,238 @@
+//! Names and the slots that their arrays lie in.
+ghost use Rattle.name_store.specs.Invariants.{Holds};
+ghost use Rattle.name_store.specs.inside.HeldOnce.{Holds-prop};
+
+use crate::array_ref::ArrayRef;
+use crate::bound::Bound;
+use crate::change::Change;
+use crate::entry::{Entry, Key};
+use crate::home::Home;
+use crate::old_items::{OldItems, put_back};
+use crate::path::Path;
+use crate::slot::Slot;
+use crate::slots::{Slots, slot_mut};
+use crate::target::Target;
+use elem_descr::Refusal;
+use indexmap::IndexMap;
+use overlap_copy::{Owned, share_cell};
+use std::alloc::{AllocError, Global};
+
+/// The most names that are bound at one time.
+const MAX_NAMES: usize = 1024;
+
+/// Names and their arrays, in the order in which the names were first bound, and the buffers that the
+/// arrays lie in, by their numbers.
+#[derive(Drop)]
+pub struct Table {
+    pub names: IndexMap<Key, Entry>,
+    pub slots: Slots,
+    ghost holds: { Holds names.entries slots.cells.items } by { Holds-prop names.entries slots.cells.items },
+}
+
+impl Table {
+    ghost use Rattle.std.specs.Prelude.{◌≡◌, ◌≤◌, ◌<◌, ◌+◌, ℕ, [], true, IfOk, OnErr, IsOk, Some, None};
+    ghost use Rattle.indexmap.specs.IndexMap.{spare};
+    ghost use Rattle.name_store.specs.Arrays.{find_array, has_room_for, is_bound};
+    ghost use Rattle.name_store.specs.Calls.{AnswersShares};
+    ghost use Rattle.name_store.specs.Invariants.{users_at};
+    ghost use Rattle.name_store.specs.Memory.{LieInTwo};
+    ghost use Rattle.name_store.specs.Shown.{Finds};
+    ghost use Rattle.name_store.specs.Tables.{seen};
+    ghost use Rattle.name_store.specs.Views.{MayBind};
+    ghost use Rattle.name_store.specs.declared.change.Change.TheVariants.{Bind, Unbind, Write};
+    ghost use Rattle.name_store.specs.inside.Homes.{IsHome};
+    ghost use Rattle.name_store.specs.inside.Rebinds.{Lodges, Rebinds};
+    ghost use Rattle.name_store.specs.inside.Undoes.{CanUndo, IsUndone};
+
+    /// No name and no buffer.
+    pub(crate) fn new(alloc: Global) -> Table
+        ensures names { result.names.entries ≡ [] }
+        ensures slots { result.slots.cells.items ≡ [] }
+    {
+        Table {
+            names: IndexMap::new(alloc),
+            slots: Slots::new(alloc),
+        }
+    }
+
+    /// Whether a name may be bound.
+    pub(crate) fn has_room_for(&self, key: &Key) -> bool
+        ensures { result ≡ has_room_for (seen self.now) key.now.bytes.items }
+    {
+        self.names.contains_key(key) || self.names.len() < MAX_NAMES
+    }
+
+    /// The array of a name, if it is bound.
+    pub(crate) fn get(&self, key: &Key) -> Option<ArrayRef<'_>>
+        ensures { Finds (seen self.now) (find_array (seen self.now).names key.now.bytes.items) result }
+    {
+        let entry = self.names.get(key)?;
+        let slot = self.slots.slot(entry.number);
+        Some(ArrayRef {
+            block: &slot.block,
+            descr: entry.path.descr_in(&slot.descr),
+            layout: &entry.layout,
+            path: &entry.path,
+            number: entry.number as u64,
+            writable: entry.writable,
+        })
+    }
+
+    /// Where the array of a name lies that is bound.
+    pub(crate) fn home(&self, key: &Key) -> Home
+        requires { is_bound (seen self.now) key.now.bytes.items ≡ true }
+        ensures { IsHome self.now.names.entries self.now.slots.cells.items key.now.bytes.items result.number result.width }
+    {
+        let entry = self.names.get(key).unwrap();
+        let slot = self.slots.slot(entry.number);
+        Home {
+            number: entry.number,
+            width: entry.path.descr_in(&slot.descr).size(),
+        }
+    }
+
+    /// Whether the arrays of two names share cells. Arrays in two buffers share none, and only for those
+    /// in one is memory asked for.
+    pub(crate) fn shares(&self, alloc: Global, left: &Key, right: &Key) -> Result<bool, Refusal>
+        ensures answers { AnswersShares (seen self.now) left.now.bytes.items right.now.bytes.items result }
+        ensures no_memory { LieInTwo (seen self.now) left.now.bytes.items right.now.bytes.items → IsOk result }
+    {
+        let Some(first) = self.names.get(left) else {
+            return Err(Refusal::UnknownName);
+        };
+        let Some(second) = self.names.get(right) else {
+            return Err(Refusal::UnknownName);
+        };
+        if first.number != second.number {
+            return Ok(false);
+        }
+        let whole = &self.slots.slot(first.number).descr;
+        let has_common = share_cell(
+            alloc,
+            &first.layout,
+            first.path.descr_in(whole).size(),
+            &second.layout,
+            second.path.descr_in(whole).size(),
+        )?;
+        Ok(has_common)
+    }
+
+    /// An entry for what a name is to be bound to, whose buffer one more holds. Only the slot of a block of its own
+    /// takes memory, and before the first change.
+    fn lodge(&mut self, bound: Bound) -> Result<Entry, AllocError>
+        requires may { MayBind (seen self.old) bound }
+        requires few { (q : ℕ) → users_at self.old.slots.cells.items q < usize.MAX }
+        ensures lodges { IfOk result (λ entry. Lodges self.old.names.entries self.old.slots.cells.items bound entry self.new.slots.cells.items) }
+        ensures names { self.new.names ≡ self.old.names }
+        ensures kept { OnErr result (self.new.slots.cells.items ≡ self.old.slots.cells.items) }
+    {
+        match bound {
+            Bound::Fresh(owned) => {
+                let Owned {
+                    block,
+                    descr,
+                    layout,
+                } = owned;
+                let item = descr.size();
+                let items = layout.shape.items();
+                let number = self.slots.add(Slot::new(descr, items, block))?;
+                Ok(Entry {
+                    number,
+                    path: Path::whole(),
+                    layout,
+                    item,
+                    writable: true,
+                })
+            }
+            Bound::View {
+                number,
+                path,
+                layout,
+                writable,
+            } => {
+                let number = number as usize;
+                let item = self.slots.slot(number).descr.size();
+                self.slots.share(number);
+                Ok(Entry {
+                    number,
+                    path,
+                    layout,
+                    item,
+                    writable,
+                })
+            }
+        }
+    }
+
+    /// Binds a name, and answers what it was bound to.
+    pub(crate) fn bind(&mut self, key: Key, bound: Bound) -> Result<Option<Entry>, AllocError>
+        requires room { has_room_for (seen self.old) key.bytes.items ≡ true }
+        requires spare { 0 < spare self.old.names }
+        requires may { MayBind (seen self.old) bound }
+        requires few { (q : ℕ) → users_at self.old.slots.cells.items q < usize.MAX }
+        ensures done { IfOk result (λ earlier. Rebinds self.old.names.entries self.old.slots.cells.items key.bytes.items bound earlier self.new.names.entries self.new.slots.cells.items) }
+        ensures kept { OnErr result ((self.new.names.entries ≡ self.old.names.entries) × (self.new.slots.cells.items ≡ self.old.slots.cells.items)) }
+        ensures spare { spare self.old.names ≤ spare self.new.names + 1 }
+    {
+        let entry = self.lodge(bound)?;
+        Ok(self.names.insert(key, entry).unwrap())
+    }
+
+    /// Undoes a change. A buffer that nothing holds any more is freed. No memory is asked for: the room for a
+    /// name that comes back was taken before the change.
+    pub(crate) fn undo(&mut self, change: Change)
+        requires can { CanUndo self.old change }
+        ensures { IsUndone self.old change self.new }
+    {
+        match change {
+            Change::Bind { key, earlier } => match earlier {
+                None => self.undo_first(key),
+                Some(entry) => self.undo_rebinding(key, entry),
+            },
+            Change::Unbind { place, key, entry } => self.undo_unbinding(place, key, entry),
+            Change::Write {
+                number,
+                target,
+                items,
+            } => self.undo_write(number, &target, &items),
+        }
+    }
+
+    /// Unbinds a name that was not bound before.
+    fn undo_first(&mut self, key: Key)
+        requires can { CanUndo self.old (Bind key None) }
+        ensures { IsUndone self.old (Bind key None) self.new }
+    {
+        if let Some(entry) = self.names.shift_remove(&key) {
+            self.slots.release(entry.number);
+        }
+    }
+
+    /// Binds a name to the array that it was bound to before.
+    fn undo_rebinding(&mut self, key: Key, earlier: Entry)
+        requires can { CanUndo self.old (Bind key (Some earlier)) }
+        ensures { IsUndone self.old (Bind key (Some earlier)) self.new }
+    {
+        if let Some(entry) = self.names.insert(key, earlier).unwrap() {
+            self.slots.release(entry.number);
+        }
+    }
+
+    /// Binds a name again, in its place among the names.
+    fn undo_unbinding(&mut self, place: usize, key: Key, entry: Entry)
+        requires can { CanUndo self.old (Unbind place key entry) }
+        ensures { IsUndone self.old (Unbind place key entry) self.new }
+    {
+        self.names.shift_insert(place, key, entry).unwrap();
+    }
+
+    /// Writes the old items back.
+    fn undo_write(&mut self, number: usize, target: &Target, items: &OldItems)
+        requires can { CanUndo self.old (Write number target.now items.now) }
+        ensures { IsUndone self.old (Write number target.now items.now) self.new }
+    {
+        if let Some(slot) = slot_mut(&mut self.slots.cells, number) {
+            put_back(&mut slot.block, target, items);
+        }
+    }
+}
