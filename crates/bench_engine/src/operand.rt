@@ -65,7 +65,7 @@ pub fn operand_items(
 }
 
 /// The items that a layout shows of the buffer of an array.
-fn items_of_view<'a>(array: &'a ArrayRef<'_>, view: &'a Layout) -> Items<'a>
+pub fn items_of_view<'a>(array: &'a ArrayRef<'_>, view: &'a Layout) -> Items<'a>
     requires inside { All (λ offset. offset + item_size array.now.descr.now ≤ length array.now.block.now) (offsets view.now) }
     ensures block { result.block.now ≡ array.now.block.now }
     ensures layout { result.layout.now ≡ view.now }

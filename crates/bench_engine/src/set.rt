@@ -11,14 +11,14 @@ ghost use Rattle.bench_engine.specs.Machine.{new_items, write_outcome, write_rep
 ghost use Rattle.bench_engine.specs.inside.Assigns.{IsTarget, GivesItems};
 ghost use Rattle.bench_engine.specs.inside.Contract.{CarriesOut};
 
-use crate::assign::{assign, target_of};
-use crate::given::{Given, give};
+use crate::assign::target_of;
+use crate::given::give;
 use crate::index::are_bound;
 use crate::operand::has_bound;
 use crate::update::updated;
 use elem_descr::Refusal;
 use itoa::Buffer;
-use name_store::{ArrayRef, Bench, Target};
+use name_store::{ArrayRef, Bench, Source, Target};
 use script_lang::{Argument, Index, Name, Operation};
 use std::alloc::Global;
 
@@ -40,14 +40,14 @@ fn push_count(out: &mut Vec<u8>, operation: Option<Operation>, count: usize)
 }
 
 /// The new items of a target in an array: those of the argument, or what an operation gives with it.
-fn new_items<'a>(
+fn new_items(
     alloc: Global,
     bench: &Bench,
     array: &ArrayRef<'_>,
     target: &Target,
     operation: Option<Operation>,
-    value: &'a Argument,
-) -> Result<Given<'a>, Refusal>
+    value: &Argument,
+) -> Result<Source, Refusal>
     requires bound { list_all (is_bound bench.now) (names_in_argument value.now) ≡ true }
     requires target { (name : List ℕ) × (a : Array) × (part : Array) × Shows bench.now a array.now × IsTarget bench.now name a part target.now }
     ensures { (name : List ℕ) (a part : Array) → Shows bench.now a array.now → IsTarget bench.now name a part target.now
@@ -57,7 +57,7 @@ fn new_items<'a>(
         None => give(alloc, bench, value, target.shape(), array.descr),
         Some(operation) => {
             let owned = updated(alloc, bench, array, target, operation, value)?;
-            Ok(Given::Own(owned))
+            Ok(Source::Block(owned))
         }
     }
 }
@@ -91,7 +91,7 @@ pub fn set(
     let items = new_items(alloc, bench, &array, &target, operation, value)?;
     // What is known of the number of items of a shape comes with this call.
     let _count = target.shape().items();
-    let count = assign(alloc, bench, name, target, items)?;
+    let count = bench.write_items(alloc, name, target, items)?;
     push_count(out, operation, count);
     Ok(())
 }

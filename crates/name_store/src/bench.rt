@@ -116,7 +116,7 @@ impl Bench {
         alloc: Global,
         name: &Name,
         target: Target,
-        source: Source<'_>,
+        source: Source,
     ) -> Result<usize, Refusal>
         requires aim { IsAim self.old name.now target source }
         ensures answers { AnswersWrite self.old name.now target source.entry result self.new }

@@ -11,7 +11,6 @@ mod entry;
 mod exchange;
 mod history;
 mod home;
-mod items;
 mod keep;
 mod look;
 mod names;

@@ -11,7 +11,6 @@ use crate::change::Change;
 use crate::entry::{Entry, Key};
 use crate::history::History;
 use crate::home::home_of;
-use crate::items::items_of;
 use crate::keep::{keep, make_room};
 use crate::slots::Slots;
 use crate::target::{Source, Target};
@@ -30,7 +29,7 @@ pub(crate) fn write_in(
     history: &mut History,
     key: &Key,
     target: Target,
-    source: Source<'_>,
+    source: Source,
 ) -> Result<usize, Refusal>
     requires sound { IsSound names.old.entries slots.old.cells.items history.old (spare names.old) }
     requires aim { IsAim (state_of names.old.entries slots.old.cells.items history.old) key.now.bytes.items target source }
@@ -40,14 +39,13 @@ pub(crate) fn write_in(
     ensures no_memory { NeedsNoMemory (state_of names.old.entries slots.old.cells.items history.old) key.now.bytes.items target source.entry → IsOk result }
 {
     let home = home_of(names, slots.cells.as_slice(), key);
-    let items = items_of(alloc, names, slots.cells.as_slice(), source);
     let count = target.count();
     if history.capacity() == 0 {
-        write_items(alloc, &mut slots.cells, home, &target, items)?;
+        write_items(alloc, &mut slots.cells, home, &target, source)?;
         return Ok(count);
     }
     make_room(names, history, 0)?;
-    let items = write_over(alloc, &mut slots.cells, home, &target, items)?;
+    let items = write_over(alloc, &mut slots.cells, home, &target, source)?;
     let change = Change::Write {
         number: home.number,
         target,
