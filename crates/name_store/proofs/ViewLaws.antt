@@ -6,7 +6,7 @@ use Rattle.elem_descr.specs.Blocks.{item_from}
 use Rattle.elem_descr.specs.Items.{item_size}
 use Rattle.shape_strides.specs.declared.layout.Layout.{Layout}
 use Rattle.shape_strides.specs.Layouts.{offsets, Fits, offsets_of}
-use Rattle.name_store.specs.States.{State, Array, Buffer}
+use Rattle.name_store.specs.States.{Array, Buffer}
 use Rattle.name_store.specs.Arrays.{buffer_of, descr_of, is_in_use, no_buffer, placed_item, read}
 use Rattle.name_store.specs.Invariants.{LiesIn}
 use Rattle.name_store.specs.Parts.{descr_at, start_at, span_at, part_at, IsPathOf}
@@ -54,28 +54,25 @@ module _ (es : List (Key × Entry)) (slots : Slots) (number : ℕ) (path : List 
 
   -- what the layout shows in the slot
   module _ (s : Slot) (there : slot_at slots number ≡ Some s) where
-    abbrev state : State
-    state = present es slots
+    slot-descr : (buffer_of (present es slots) array).descr ≡ s.descr
+    slot-descr = ap (λ (b : Buffer). b.descr) (slot-buffer s there)
 
-    typed : (buffer_of state array).descr ≡ s.descr
-    typed = ap (λ (b : Buffer). b.descr) (slot-buffer s there)
+    slot-count : length (buffer_of (present es slots) array).items ≡ s.items
+    slot-count = ap (λ (b : Buffer). length b.items) (slot-buffer s there) ∙ length-items_in s.descr s.items s.block
 
-    counted : length (buffer_of state array).items ≡ s.items
-    counted = ap (λ (b : Buffer). length b.items) (slot-buffer s there) ∙ length-items_in s.descr s.items s.block
+    slot-laid : IsLaidOut s.descr s.items array layout writable
+    slot-laid = laid-same (buffer_of (present es slots) array).descr s.descr (length (buffer_of (present es slots) array).items) s.items array array layout layout writable writable slot-descr slot-count refl refl refl view.laid
 
-    laid : IsLaidOut s.descr s.items array layout writable
-    laid = laid-same (buffer_of state array).descr s.descr (length (buffer_of state array).items) s.items array array layout layout writable writable typed counted refl refl refl view.laid
-
-    pub view-fits : Fits layout (length s.block) (item_size (descr_of state array))
+    pub view-fits : Fits layout (length s.block) (item_size (descr_of (present es slots) array))
     view-fits =
-        subst (λ n. Fits layout n (item_size (descr_of state array))) (sym s.is_whole.whole) (subst (λ (d : Descr). Fits layout (s.items * item_size s.descr) (item_size (descr_at d array.path))) (sym typed) laid.fits)
+        subst (λ n. Fits layout n (item_size (descr_of (present es slots) array))) (sym s.is_whole.whole) (subst (λ (d : Descr). Fits layout (s.items * item_size s.descr) (item_size (descr_at d array.path))) (sym slot-descr) slot-laid.fits)
 
-    pub view-reads : read state array ≡ map (item_from (descr_of state array) s.block) (offsets layout)
+    pub view-reads : read (present es slots) array ≡ map (item_from (descr_of (present es slots) array) s.block) (offsets layout)
     view-reads =
         ap (λ (b : Buffer). map (λ place. part_at (span_at b.descr array.path) (placed_item b.items place)) array.places) (slot-buffer s there)
-        ∙ items-read s.descr s.is_whole.legal array.path laid.part s.items s.block array.places
-        (places-within s.descr s.items array layout writable laid (part-some s.descr s.is_whole.legal array.path laid.part))
-        ∙ λ i. map (item_from (descr_at (sym typed i) array.path) s.block) (sym laid.places i)
+        ∙ items-read s.descr s.is_whole.legal array.path slot-laid.part s.items s.block array.places
+        (places-within s.descr s.items array layout writable slot-laid (part-some s.descr s.is_whole.legal array.path slot-laid.part))
+        ∙ λ i. map (item_from (descr_at (sym slot-descr i) array.path) s.block) (sym slot-laid.places i)
 
   module _ (v : Entry) (s : Slot) (there : slot_at slots number ≡ Some s) (v-number : v.number ≡ number) (layout-is : v.layout ≡ layout) (item-is : v.item ≡ item_size s.descr) (writable-is : v.writable ≡ writable) (path-is : v.path ≡ path) where
     buffer : buffer_of (present es slots) array ≡ buffer_in s

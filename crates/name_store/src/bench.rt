@@ -119,8 +119,8 @@ impl Bench {
         source: Source,
     ) -> Result<usize, Refusal>
         requires aim { IsAim self.old name.now target source }
-        ensures answers { AnswersWrite self.old name.now target source.entry result self.new }
-        ensures no_memory { NeedsNoMemory self.old name.now target source.entry → IsOk result }
+        ensures answers { AnswersWrite self.old name.now target source result self.new }
+        ensures no_memory { NeedsNoMemory self.old name.now target source → IsOk result }
     {
         let key = Key::of(alloc, name);
         write_in(

@@ -80,8 +80,8 @@ fn packed(
     count: usize,
 ) -> Result<RawBlock, AllocError>
     requires { AreItems slots.now width count source }
-    ensures packed { IfOk result (IsPacked count width (parts_of slots.now width count source.entry)) }
-    ensures no_memory { IsTrue (are_packed width source.entry) → IsOk result }
+    ensures packed { IfOk result (IsPacked count width (parts_of slots.now width count source)) }
+    ensures no_memory { IsTrue (are_packed width source) → IsOk result }
 {
     match source {
         Source::One(item) => repeated(alloc, item.as_slice(), count),
@@ -103,10 +103,10 @@ pub(crate) fn replace(
 ) -> Result<OldItems, AllocError>
     requires can { CanPut slots.old.items home target.now source }
     requires all { (s : Slot) → slot_at slots.old.items home.number ≡ Some s → AreAll home.width s.block (target_offsets target.now) }
-    ensures written { IfOk result (λ _. Puts slots.old.items home target.now source.entry slots.new.items) }
+    ensures written { IfOk result (λ _. Puts slots.old.items home target.now source slots.new.items) }
     ensures old { IfOk result (λ old. AreOldAt slots.old.items home target.now old) }
     ensures kept { IfErr result (λ _. slots.new.items ≡ slots.old.items) }
-    ensures no_memory { IsTrue (are_packed home.width source.entry) → IsOk result }
+    ensures no_memory { IsTrue (are_packed home.width source) → IsOk result }
 {
     let mut block = packed(alloc, slots.as_slice(), source, home.width, target.count())?;
     if let Some(slot) = slot_mut(slots, home.number) {

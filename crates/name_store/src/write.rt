@@ -116,9 +116,9 @@ pub(crate) fn write_items(
     source: Source,
 ) -> Result<(), AllocError>
     requires { CanPut slots.old.items home target.now source }
-    ensures written { IfOk result (λ _. Puts slots.old.items home target.now source.entry slots.new.items) }
+    ensures written { IfOk result (λ _. Puts slots.old.items home target.now source slots.new.items) }
     ensures kept { IfErr result (λ _. AreSame slots.old.items slots.new.items) }
-    ensures no_memory { NeedsNone home target.now source.entry → IsOk result }
+    ensures no_memory { NeedsNone home target.now source → IsOk result }
 {
     let block = &slot_of(slots.as_slice(), home.number).block;
     if are_packed(&source, home.width) && is_all(block, target, home.width) {

@@ -34,9 +34,9 @@ pub(crate) fn write_in(
     requires sound { IsSound names.old.entries slots.old.cells.items history.old (spare names.old) }
     requires aim { IsAim (state_of names.old.entries slots.old.cells.items history.old) key.now.bytes.items target source }
     ensures sound { IsSound names.new.entries slots.new.cells.items history.new (spare names.new) }
-    ensures answers { AnswersWrite (state_of names.old.entries slots.old.cells.items history.old) key.now.bytes.items target source.entry result
+    ensures answers { AnswersWrite (state_of names.old.entries slots.old.cells.items history.old) key.now.bytes.items target source result
         (state_of names.new.entries slots.new.cells.items history.new) }
-    ensures no_memory { NeedsNoMemory (state_of names.old.entries slots.old.cells.items history.old) key.now.bytes.items target source.entry → IsOk result }
+    ensures no_memory { NeedsNoMemory (state_of names.old.entries slots.old.cells.items history.old) key.now.bytes.items target source → IsOk result }
 {
     let home = home_of(names, slots.cells.as_slice(), key);
     let count = target.count();

@@ -22,7 +22,7 @@ pub(crate) fn write_over(
     source: Source,
 ) -> Result<OldItems, AllocError>
     requires { CanPut slots.old.items home target.now source }
-    ensures written { IfOk result (λ _. Puts slots.old.items home target.now source.entry slots.new.items) }
+    ensures written { IfOk result (λ _. Puts slots.old.items home target.now source slots.new.items) }
     ensures old { IfOk result (λ old. AreOldAt slots.old.items home target.now old) }
     ensures kept { IfErr result (λ _. AreSame slots.old.items slots.new.items) }
 {
