@@ -247,7 +247,7 @@ module _ (es : List (Key × Entry)) (slots : Slots) (ring : Ring Change) (spare 
     abbrev old : State
     old = state_of es slots ring
 
-    kept-so : state_of es' after ring' ≡ record (keeping 0 old) { names = names'; buffers = past_buffers [] names' now }
+    kept-so : state_of es' after ring' ≡ record (keeping old) { names = names'; buffers = past_buffers [] names' now }
     kept-so = keep-state es slots ring spare sound es' now c before-is r.holds restored own ring' after spare' ring-is freed counted room
 
     pub bind-binds : Binds old name bound (state_of es' after ring')
@@ -282,7 +282,7 @@ module _ (es : List (Key × Entry)) (slots : Slots) (ring : Ring Change) (spare 
                 };
                 least = λ m less free. least m (of-it.1 m less) free;
               },
-              kept-so ∙ λ i. record (keeping 0 old) {
+              kept-so ∙ λ i. record (keeping old) {
                 names = names-are i;
                 buffers = (of-it.3 ∙ ap (λ (ns : Names). retain_keys (insert old.buffers r.entry.number (own_buffer o)) (is_in_use ns)) names-are) i;
               },
@@ -290,4 +290,4 @@ module _ (es : List (Key × Entry)) (slots : Slots) (ring : Ring Change) (spare 
         by (View number path layout writable) of-it = λ array view.
             let array-is : array_at r.entry ≡ array = of-it.0 array (view-present es slots ring number path layout writable array view) in
             let names-are : names' ≡ put_array names name array = r.table ∙ ap (put_array names name) array-is in
-            kept-so ∙ λ i. record (keeping 0 old) { names = names-are i; buffers = (of-it.1 ∙ ap (λ (ns : Names). retain_keys old.buffers (is_in_use ns)) names-are) i }
+            kept-so ∙ λ i. record (keeping old) { names = names-are i; buffers = (of-it.1 ∙ ap (λ (ns : Names). retain_keys old.buffers (is_in_use ns)) names-are) i }

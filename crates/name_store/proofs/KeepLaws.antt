@@ -64,6 +64,15 @@ pub none-gone : (ring ring' : Ring Change) (c : Change) → None ≡ cond (nat_l
     (slots : Slots) (q : ℕ) → users_at slots q + all_pins q (ring.items ++ c ∷ []) ≡ users_at slots q + all_pins q ring'.items
 none-gone ring ring' c is ring-is slots q = ap (λ cs. users_at slots q + all_pins q cs) (sym (ap (λ (r : Ring Change). r.items) ring-is ∙ gone-none ring.capacity ring.items c is))
 
+-- the bytes that it takes to undo each change that is kept
+pub patches-push : (ring ring' : Ring Change) (c : Change) → ring' ≡ buffer (keep_last ring.capacity (ring.items ++ c ∷ [])) ring.capacity → map patch_size ring'.items ≡ keep_last ring.capacity (map patch_size ring.items ++ patch_size c ∷ [])
+patches-push ring ring' c ring-is =
+    let all = ring.items ++ c ∷ [] in
+    ap (λ (r : Ring Change). map patch_size r.items) ring-is
+    ∙ sym (drop-map patch_size (length all - ring.capacity) all)
+    ∙ ap (λ k. drop (k - ring.capacity) (map patch_size all)) (sym (length-map all patch_size))
+    ∙ ap (keep_last ring.capacity) (map-append patch_size ring.items (c ∷ []))
+
 -- A change was made to names and slots.
 module _ (es : List (Key × Entry)) (slots : Slots) (ring : Ring Change) (spare : ℕ) (sound : IsSound es slots ring spare) (es' : List (Key × Entry)) (now : Slots) (c : Change)
     (before-is : names_before c (map named_array es') ≡ map named_array es) (holds : Holds es' now) (restored : (q : ℕ) → is_needed (map named_array es) ring.items q ≡ true → Restored c q (slot_at now q) (slot_at slots q))
@@ -125,16 +134,9 @@ module _ (es : List (Key × Entry)) (slots : Slots) (ring : Ring Change) (spare 
         ∙ ap (λ k. drop (k - ring.capacity) (kept_states all names' now)) (sym (kept-length all names' now))
         ∙ ap (keep_last ring.capacity) kept-now
 
-    patches-are : map patch_size ring'.items ≡ keep_last ring.capacity (map patch_size ring.items ++ patch_size c ∷ [])
-    patches-are =
-        ap (map patch_size) items-are
-        ∙ sym (drop-map patch_size n all)
-        ∙ ap (λ k. drop (k - ring.capacity) (map patch_size all)) (sym (length-map all patch_size))
-        ∙ ap (keep_last ring.capacity) (map-append patch_size ring.items (c ∷ []))
-
     buffers-are : past_buffers [] names' after ≡ past_buffers [] names' now
     buffers-are = same-buffers [] [] names' after now (λ q used. past-alike [] q (slot_at after q) (slot_at now q) (stays q (in_front (is_in_use names' q) (list_any (needs q) ring'.items) used)))
 
     -- what was is kept, and the rest is what is now
-    pub keep-state : state_of es' after ring' ≡ record (keeping (patch_size c) (state_of es slots ring)) { names = names'; buffers = past_buffers [] names' now }
-    keep-state = λ i. record { names = names'; buffers = buffers-are i; depth = capacity-is i; kept = kept-is i; patches = patches-are i }
+    pub keep-state : state_of es' after ring' ≡ record (keeping (state_of es slots ring)) { names = names'; buffers = past_buffers [] names' now }
+    keep-state = λ i. record { names = names'; buffers = buffers-are i; depth = capacity-is i; kept = kept-is i }

@@ -103,16 +103,19 @@ undone-state es es' slots slots' old ring c spare items-are deep done =
     let kept = kept_states ring.items names' slots' in
     let last : Names × FinMap nat_cmp Buffer = (names', past_buffers [] names' slots') in
     let all : kept_states old.items (map named_array es) slots ≡ kept ++ last ∷ [] = ap (λ cs. kept_states cs (map named_array es) slots) items-are ∙ done.kept in
-    let found : last_item (kept_states old.items (map named_array es) slots) ≡ Some last = ap last_item all ∙ last-push kept last in
-    let patches : map patch_size old.items ≡ map patch_size ring.items ++ patch_size c ∷ [] = ap (map patch_size) items-are ∙ map-append patch_size ring.items (c ∷ []) in (
+    let found : last_item (kept_states old.items (map named_array es) slots) ≡ Some last = ap last_item all ∙ last-push kept last in (
       ap is_some found,
       (λ i. record (state_of es' slots' ring) {
         depth = deep i;
         kept = (sym (front-push kept last) ∙ ap (λ ks. take (length ks - 1) ks) (sym all)) i;
-        patches = (sym (front-push (map patch_size ring.items) (patch_size c)) ∙ ap (λ ps. take (length ps - 1) ps) (sym patches)) i;
       })
-          ∙ ap (λ o. option_map_or (λ before. record (state_of es slots old) { names = before.0; buffers = before.1; kept = take (length (state_of es slots old).kept - 1) (state_of es slots old).kept; patches = take (length (state_of es slots old).patches - 1) (state_of es slots old).patches }) o (state_of es slots old)) (sym found),
+          ∙ ap (λ o. option_map_or (λ before. record (state_of es slots old) { names = before.0; buffers = before.1; kept = take (length (state_of es slots old).kept - 1) (state_of es slots old).kept }) o (state_of es slots old)) (sym found),
     )
+
+-- the bytes that it took to undo the last change are counted no more
+pub patches-pop : (old ring : Ring Change) (c : Change) → old.items ≡ ring.items ++ c ∷ [] → map patch_size ring.items ≡ take (length (map patch_size old.items) - 1) (map patch_size old.items)
+patches-pop old ring c items-are =
+    sym (front-push (map patch_size ring.items) (patch_size c)) ∙ ap (λ ps. take (length ps - 1) ps) (sym (ap (map patch_size) items-are ∙ map-append patch_size ring.items (c ∷ [])))
 
 -- The change that is undone is the last.
 

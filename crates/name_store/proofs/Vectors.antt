@@ -1,5 +1,5 @@
 -- The definitions at arrays of which NumPy's `shares_memory` and rebinding in Python tell.
-use Rattle.std.proofs.Common.{◌≡◌, ℕ, pos, true, false, List, [], ◌∷◌, refl}
+use Rattle.std.proofs.Common.{◌≡◌, ℕ, pos, true, false, List, [], ◌∷◌, Ok, refl}
 use Rattle.std.specs.FinMap.{from_entries}
 use Rattle.elem_descr.specs.declared.descr.Descr.{Descr}
 use Rattle.elem_descr.specs.declared.descr.Descr.TheVariants.{Scalar as ScalarDescr, Record as RecordDescr}
@@ -9,7 +9,8 @@ use Rattle.elem_descr.specs.declared.scalar.Order.TheVariants.{Little, Big}
 use Rattle.elem_descr.specs.Fields.{no_more, scalar_field, record_field}
 use Rattle.elem_descr.specs.Values.{number}
 use Rattle.name_store.specs.States.{Array, State, start}
-use Rattle.name_store.specs.Arrays.{no_buffer, is_in_use, share_cells, bound_view, unbound, written, keeping, has_kept, undone, write}
+use Rattle.name_store.specs.Arrays.{no_buffer, is_in_use, share_cells, bound_view, unbound, written, has_kept, undone, write}
+use Rattle.name_store.specs.Calls.{Counts, CountsUndo}
 use Rattle.name_store.specs.Parts.{descr_at, start_at, span_at, part_at, with_part, have_common, share_leaves}
 use Rattle.shape_strides.specs.Layouts.{offsets_of}
 
@@ -37,7 +38,6 @@ before = record {
   buffers = from_entries ((0, no_buffer) ∷ (1, no_buffer) ∷ []);
   depth = 1;
   kept = [];
-  patches = [];
 }
 
 after : State
@@ -66,10 +66,6 @@ one_kept : after.kept ≡ (before.names, before.buffers) ∷ []
 unfolding before after
 one_kept = refl
 
-no_bytes : after.patches ≡ 0 ∷ []
-unfolding before after
-no_bytes = refl
-
 bound_back : undone after ≡ before
 unfolding before after
 bound_back = refl
@@ -82,10 +78,13 @@ written_back : undone (written before (at_places 1 [] (0 ∷ 1 ∷ [])) (0 ∷ 1
 unfolding before
 written_back = refl
 
--- with the old bytes of two items of 4 bytes
-eight_bytes : (keeping 8 before).patches ≡ 8 ∷ []
+-- 8 bytes of old items are kept for it, and the oldest 4 are not
+eight_bytes : Counts {A = ℕ} 8 (record { state = before; patches = 4 ∷ [] }) (Ok 2) (record { state = before; patches = 8 ∷ [] })
 unfolding before
 eight_bytes = refl
+
+none_counted : CountsUndo (record { state = before; patches = 8 ∷ [] }) (Ok tt) (record { state = before; patches = [] })
+none_counted = refl
 
 -- the oldest goes, and nothing is left behind the last
 newest_kept : (unbound after (98 ∷ [])).kept ≡ (after.names, after.buffers) ∷ []

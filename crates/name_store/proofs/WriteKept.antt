@@ -12,14 +12,14 @@ use Rattle.elem_descr.specs.Items.{item_size}
 use Rattle.elem_descr.specs.Values.{LeafValue}
 use Rattle.shape_strides.specs.declared.layout.Layout.{Layout}
 use Rattle.overlap_copy.specs.Assignments.{items_at, with_items}
-use Rattle.name_store.specs.States.{State, Array}
-use Rattle.name_store.specs.Arrays.{is_in_use, keeping, written, descr_of}
-use Rattle.name_store.specs.Calls.{AnswersWrite}
+use Rattle.name_store.specs.States.{BenchValue, State, Array}
+use Rattle.name_store.specs.Arrays.{is_in_use, keeping, find_array, descr_of}
+use Rattle.name_store.specs.Calls.{AnswersWrite, CountsWrite}
 use Rattle.name_store.specs.Invariants.{Holds, IsSound, LiesAt, GoBackAt, GoBack, IsUndoable, users_at, users_in, pins, all_pins}
 use Rattle.name_store.specs.Kept.{with_old, Names, past_names, past_buffers, kept_states, patch_size}
 use Rattle.name_store.specs.Memory.{MoveInPlace, NeedsNoMemory}
 use Rattle.name_store.specs.Targets.{target_offsets, LeadsTo, MayWrite, Supplies, IsAim}
-use Rattle.name_store.specs.View.{array_at, named_array, slot_at, present, state_of}
+use Rattle.name_store.specs.View.{array_at, named_array, slot_at, present, state_of, value_of}
 use Rattle.name_store.specs.declared.change.Change.{Change}
 use Rattle.name_store.specs.declared.change.Change.TheVariants.{Write}
 use Rattle.name_store.specs.declared.entry.Entry.{Entry}
@@ -36,7 +36,7 @@ use Rattle.name_store.specs.inside.Held.{stand}
 use Rattle.name_store.specs.inside.OldItems.{AreOld, AreOldAt, AreSame}
 use Rattle.name_store.proofs.BindLaws.{view-present}
 use Rattle.name_store.proofs.AimLaws.{can-put, put-answers, whole-parts}
-use Rattle.name_store.proofs.KeepLaws.{keep-sound, keep-state}
+use Rattle.name_store.proofs.KeepLaws.{keep-sound, keep-state, patches-push}
 use Rattle.name_store.proofs.NameLaws.{all-both, found-used, nat_itself}
 use Rattle.name_store.proofs.Needs.{is_needed}
 use Rattle.name_store.proofs.PastLaws.{Restored, alike-shape, past-alike, content_before, shape, SameShape, lies-shaped, same-buffers, undoable-still, Slots}
@@ -96,6 +96,17 @@ same-kept (c ∷ cs) names slots after same = λ i. (past_names (c ∷ cs) names
 
 pub same-state : (es : List (Key × Entry)) (slots after : Slots) (ring : Ring Change) → AreSame slots after → state_of es after ring ≡ state_of es slots ring
 same-state es slots after ring same = λ i. record (state_of es slots ring) { buffers = same-past [] (map named_array es) slots after same i; kept = same-kept ring.items (map named_array es) slots after same i }
+
+pub same-value : (es : List (Key × Entry)) (slots after : Slots) (ring : Ring Change) → AreSame slots after → value_of es after ring ≡ value_of es slots ring
+same-value es slots after ring same = λ i. record { state = same-state es slots after ring same i; patches = map patch_size ring.items }
+
+-- where none is kept
+none-items : (cap : ℕ) (cs : List Change) → length cs ≤ cap → cap ≡ 0 → cs ≡ []
+none-items cap [] short shallow = refl
+none-items cap (c ∷ cs) short shallow = absurd (omega (arith, short, shallow))
+
+none-last : {X : Type 0} (cap : ℕ) (xs : List X) → cap ≡ 0 → keep_last cap xs ≡ []
+none-last cap xs shallow = drop_of_length-le xs (omega (arith, shallow))
 
 -- Where a call changed nothing that stands in a slot, all is sound as it was.
 pub same-still : (es : List (Key × Entry)) (slots after : Slots) (ring : Ring Change) (spare : ℕ) → AreSame slots after → IsSound es slots ring spare → IsSound es after ring spare
@@ -194,23 +205,15 @@ module _ (es : List (Key × Entry)) (slots : Slots) (ring : Ring Change) (spare 
       λ array places values leads has.
           let descr : Descr = descr_of (present es slots) array in
           let is = present-answers.1 array places values (leads-now es slots ring name target array places leads) (supplies-now es slots ring descr n source values has) in
-          let bytes : ℕ = length places * item_size descr in
-          λ i. record (keeping bytes (state_of es slots ring)) {
+          λ i. record (keeping (state_of es slots ring)) {
             buffers = (ap (λ (x : State). x.buffers) is) i;
-            kept = (ap (λ cs. kept_states cs names after) nothing ∙ sym (last-none (kept_states ring.items names slots ++ (names, past_buffers [] names slots) ∷ []))) i;
-            patches = (ap (map patch_size) nothing ∙ sym (last-none (map patch_size ring.items ++ bytes ∷ []))) i;
+            kept = (ap (λ cs. kept_states cs names after) (none-items ring.capacity ring.items sound.short shallow) ∙ sym (none-last ring.capacity (kept_states ring.items names slots ++ (names, past_buffers [] names slots) ∷ []) shallow)) i;
           },
     )
-      where
-        empty : (cs : List Change) → length cs ≤ ring.capacity → cs ≡ []
-        empty [] short = refl
-        empty (c ∷ cs) short = absurd (omega (arith, short, shallow))
 
-        nothing : ring.items ≡ []
-        nothing = empty ring.items sound.short
-
-        last-none : {X : Type 0} (xs : List X) → keep_last ring.capacity xs ≡ []
-        last-none xs = drop_of_length-le xs (omega (arith, shallow))
+    pub none-counts : ring.capacity ≡ 0 → CountsWrite (value_of es slots ring) name target (Ok n) (value_of es after ring)
+    none-counts shallow = λ array found.
+        ap (map patch_size) (none-items ring.capacity ring.items sound.short shallow) ∙ sym (none-last ring.capacity (map patch_size ring.items ++ n * item_size (descr_of (present es slots) array) ∷ []) shallow)
 
     -- the old items are kept
     module _ (items : OldItems) (olds : AreOldAt slots (record { number = number; width = width }) target items) where
@@ -273,11 +276,13 @@ module _ (es : List (Key × Entry)) (slots : Slots) (ring : Ring Change) (spare 
           λ array places values leads has.
               let descr : Descr = descr_of (present es slots) array in
               let is = present-answers.1 array places values (leads-now es slots ring name target array places leads) (supplies-now es slots ring descr n source values has) in
-              let size : length items.block ≡ length places * item_size descr =
-              old.whole
-              ∙ (λ i. (ap length leads.offsets_are ∙ length-map places _) i * (old.size ∙ sym (size-is es slots name number width home array leads.found)) i) in
               keep-state es slots ring spare sound es after c refl holds restored own' ring' last spare' ring-is freed counted room
-              ∙ λ i. record (keeping (size i) (state_of es slots ring)) {
+              ∙ λ i. record (keeping (state_of es slots ring)) {
                 buffers = (ap (λ (x : State). x.buffers) is) i;
               },
         )
+
+        pub write-counts : CountsWrite (value_of es slots ring) name target (Ok n) (value_of es last ring')
+        write-counts = λ array found.
+            patches-push ring ring' c ring-is
+            ∙ ap (λ bytes. keep_last ring.capacity (map patch_size ring.items ++ bytes ∷ [])) (old.whole ∙ ap (λ size. n * size) (old.size ∙ sym (size-is es slots name number width home array found)))

@@ -153,7 +153,7 @@ module _ (es : List (Key × Entry)) (slots : Slots) (name : List ℕ) (number wi
       number-is = home.number_is ∙ ap (λ (a : Array). a.buffer) (sym (same array leads.found))
 
       pub written-state : present es after ≡ written state array places (map (decode_item (descr_of state array)) parts)
-      written-state = λ i. record { names = map named_array es; buffers = buffers i; depth = 0; kept = []; patches = [] }
+      written-state = λ i. record { names = map named_array es; buffers = buffers i; depth = 0; kept = [] }
         where
           with_one : (t : Bool) (o : Option Slot) → option_map buffer_in (cond t (Some s') o) ≡ cond t (Some (buffer_in s')) (option_map buffer_in o)
           with_one true o = refl

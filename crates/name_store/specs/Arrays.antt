@@ -1,5 +1,5 @@
 -- Names, arrays and buffers of a state: looked up, bound, removed, read and written.
-use Rattle.std.specs.Prelude.{ℕ, ◌-◌, ◌*◌, Bool, true, List, [], ◌∷◌, ◌++◌, length, take, map, Option, Some, None, slice_get, slice_set, is_some, nat_eq, nat_lt, if◌then◌else◌, unwrap_or, ◌||◌, ◌&&◌}
+use Rattle.std.specs.Prelude.{ℕ, ◌-◌, Bool, true, List, [], ◌∷◌, ◌++◌, length, take, map, Option, Some, None, slice_get, slice_set, is_some, nat_eq, nat_lt, if◌then◌else◌, unwrap_or, ◌||◌, ◌&&◌}
 use Rattle.std.specs.List.{list_any}
 use Rattle.std.specs.Option.{option_map_or}
 use Rattle.std.specs.Str.{bytes_eq}
@@ -18,11 +18,9 @@ use Rattle.shape_strides.specs.Layouts.{offsets_of}
 
 -- States that are kept
 
--- The state is kept before it changes: the oldest beyond the depth is forgotten. Of the items that the change
--- writes so many bytes are old.
-abbrev pub keeping : ℕ → State → State
-keeping bytes s =
-    record s { kept = keep_last s.depth (s.kept ++ (s.names, s.buffers) ∷ []); patches = keep_last s.depth (s.patches ++ bytes ∷ []) }
+-- The state is kept before it changes: the oldest beyond the depth is forgotten.
+abbrev pub keeping : State → State
+keeping s = record s { kept = keep_last s.depth (s.kept ++ (s.names, s.buffers) ∷ []) }
 
 -- whether there is a state to go back to
 abbrev pub has_kept : State → Bool
@@ -30,8 +28,7 @@ has_kept s = is_some (last_item s.kept)
 
 -- The state that was kept last is back, whole, and is kept no more.
 abbrev pub undone : State → State
-undone s =
-    option_map_or (λ before. record s { names = before.0; buffers = before.1; kept = take (length s.kept - 1) s.kept; patches = take (length s.patches - 1) s.patches }) (last_item s.kept) s
+undone s = option_map_or (λ before. record s { names = before.0; buffers = before.1; kept = take (length s.kept - 1) s.kept }) (last_item s.kept) s
 
 -- Names
 
@@ -64,19 +61,19 @@ is_in_use names buffer = list_any (λ entry. nat_eq entry.1.buffer buffer) names
 abbrev pub bound_to : State → List ℕ → Array → Buffer → State
 bound_to s name array buffer =
     let names = put_array s.names name array in
-    record (keeping 0 s) { names = names; buffers = retain_keys (insert s.buffers array.buffer buffer) (is_in_use names) }
+    record (keeping s) { names = names; buffers = retain_keys (insert s.buffers array.buffer buffer) (is_in_use names) }
 
 -- A name is bound to an array that lies in a buffer that is there. A buffer that no name uses any more is gone.
 abbrev pub bound_view : State → List ℕ → Array → State
 bound_view s name array =
     let names = put_array s.names name array in
-    record (keeping 0 s) { names = names; buffers = retain_keys s.buffers (is_in_use names) }
+    record (keeping s) { names = names; buffers = retain_keys s.buffers (is_in_use names) }
 
 -- A name is bound no longer. A buffer that no name uses any more is gone.
 abbrev pub unbound : State → List ℕ → State
 unbound s name =
     let names = without s.names name in
-    record (keeping 0 s) { names = names; buffers = retain_keys s.buffers (is_in_use names) }
+    record (keeping s) { names = names; buffers = retain_keys s.buffers (is_in_use names) }
 
 -- Arrays
 
@@ -114,8 +111,7 @@ write span places new items = items
 -- the state in which an array's items at some of its places are new
 abbrev pub written : State → Array → List ℕ → List (List LeafValue) → State
 written s array places new =
-    let bytes = length places * item_size (descr_of s array) in
-    record (keeping bytes s) { buffers = insert s.buffers array.buffer (record (buffer_of s array) { items = write (span_of s array) places new (buffer_of s array).items }) }
+    record (keeping s) { buffers = insert s.buffers array.buffer (record (buffer_of s array) { items = write (span_of s array) places new (buffer_of s array).items }) }
 
 -- Shared cells
 

@@ -1,6 +1,7 @@
 -- What a call that changes a bench answers.
-use Rattle.std.specs.Prelude.{◌≡◌, ◌<◌, ◌≤◌, ◌⊎◌, ◌&&◌, ℕ, Bool, true, false, List, [], length, Result, Ok, Err, Some, None, All}
+use Rattle.std.specs.Prelude.{◌≡◌, ◌<◌, ◌≤◌, ◌⊎◌, ◌&&◌, ◌-◌, ◌*◌, ℕ, Bool, true, false, List, [], ◌∷◌, ◌++◌, length, take, Result, Ok, Err, Some, None, All}
 use Rattle.std.specs.FinMap.{get}
+use Rattle.circular_buffer.specs.Buffer.{keep_last}
 use Rattle.elem_descr.specs.declared.refusal.Refusal.{Refusal}
 use Rattle.elem_descr.specs.declared.refusal.Refusal.TheVariants.{OutOfMemory, TooManyNames, UnknownName, NothingToUndo}
 use Rattle.overlap_copy.specs.declared.owned.Owned.{Owned}
@@ -9,7 +10,7 @@ use Rattle.elem_descr.specs.Values.{LeafValue}
 use Rattle.shape_strides.specs.Indexes.{count}
 use Rattle.shape_strides.specs.Layouts.{offsets}
 use Rattle.overlap_copy.specs.Blocks.{places_of}
-use Rattle.name_store.specs.States.{State, Array, Buffer}
+use Rattle.name_store.specs.States.{State, Array, BenchValue, Buffer}
 use Rattle.name_store.specs.Arrays.{has_kept, undone, is_bound, has_room_for, bound_to, bound_view, unbound, descr_of, written, find_array, share_cells}
 use Rattle.elem_descr.specs.Blocks.{items_in}
 use Rattle.name_store.specs.Targets.{target_offsets, LeadsTo, Supplies}
@@ -70,6 +71,22 @@ AnswersWrite old name target source (Ok n) new =
     × ((array : Array) (places : List ℕ) (items : List (List LeafValue)) → LeadsTo old name target array places → Supplies old (descr_of old array) n source items
     → new ≡ written old array places items)
 AnswersWrite old name target source (Err refusal) new = (new ≡ old) × (refusal ≡ OutOfMemory)
+
+-- A change that is made is counted by the bytes of old items that it takes to undo it, and the oldest beyond the depth
+-- is forgotten. Where it is refused, nothing has changed.
+abbrev pub Counts : {A : Type 0} → ℕ → BenchValue → Result A Refusal → BenchValue → Type 0
+Counts bytes old (Ok _) new = new.patches ≡ keep_last old.state.depth (old.patches ++ bytes ∷ [])
+Counts bytes old (Err _) new = new ≡ old
+
+-- those of the items of a target in a name's array
+abbrev pub CountsWrite : BenchValue → List ℕ → Target → Result ℕ Refusal → BenchValue → Type 0
+CountsWrite old name target result new =
+    (array : Array) → find_array old.state.names name ≡ Some array → Counts (length (target_offsets target) * item_size (descr_of old.state array)) old result new
+
+-- The change that is undone is counted no more. Where there is none, nothing has changed.
+abbrev pub CountsUndo : BenchValue → Result (Unit {0}) Refusal → BenchValue → Type 0
+CountsUndo old (Ok _) new = new.patches ≡ take (length old.patches - 1) old.patches
+CountsUndo old (Err _) new = new ≡ old
 
 -- Whether the arrays of two names share cells. It is refused only where a name is not bound, and as out of memory.
 abbrev pub AnswersShares : State → List ℕ → List ℕ → Result Bool Refusal → Type 0

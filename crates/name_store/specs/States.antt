@@ -20,14 +20,18 @@ pub record Array : Type 0 where
   pub writable : Bool
 
 -- Names in the order in which they were first bound, and the buffers that they use by their numbers. So many
--- earlier states as the depth says are kept for undo, the oldest first, and for each of them the bytes of old
--- items that it takes to go back to it from the next.
+-- earlier states as the depth says are kept for undo, the oldest first.
 pub record State : Type 0 where
   pub names : List (List ℕ × Array)
   pub buffers : FinMap nat_cmp Buffer
   pub depth : ℕ
   pub kept : List (List (List ℕ × Array) × FinMap nat_cmp Buffer)
+
+-- What a bench is seen as: its state, and for each state that is kept the bytes of old items that it takes to go
+-- back to it from the next.
+pub record BenchValue : Type 0 where
+  pub state : State
   pub patches : List ℕ
 
 abbrev pub start : ℕ → State
-start depth = record { names = []; buffers = empty; depth = depth; kept = []; patches = [] }
+start depth = record { names = []; buffers = empty; depth = depth; kept = [] }

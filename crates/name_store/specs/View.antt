@@ -3,7 +3,7 @@ pub use Rattle.name_store.specs.Entries.{array_at, key_bytes, named_array, slot_
 use Rattle.std.specs.Prelude.{List, [], map, Option}
 use Rattle.circular_buffer.specs.Buffer.{Buffer as Ring}
 use Rattle.elem_descr.specs.Blocks.{items_in}
-use Rattle.name_store.specs.States.{Buffer, State}
+use Rattle.name_store.specs.States.{BenchValue, Buffer, State}
 use Rattle.name_store.specs.Kept.{past_buffers, kept_states, patch_size}
 use Rattle.name_store.specs.declared.change.Change.{Change}
 use Rattle.name_store.specs.declared.entry.Entry.{Entry}
@@ -15,8 +15,10 @@ buffer_in s = record { descr = s.descr; items = items_in s.descr s.items s.block
 
 -- the names and buffers alone, with no state kept
 abbrev pub present : List (Key × Entry) → List (Option Slot) → State
-present names slots = record { names = map named_array names; buffers = past_buffers [] (map named_array names) slots; depth = 0; kept = []; patches = [] }
+present names slots = record { names = map named_array names; buffers = past_buffers [] (map named_array names) slots; depth = 0; kept = [] }
 
 abbrev pub state_of : List (Key × Entry) → List (Option Slot) → Ring Change → State
-state_of names slots ring =
-    record (present names slots) { depth = ring.capacity; kept = kept_states ring.items (map named_array names) slots; patches = map patch_size ring.items }
+state_of names slots ring = record (present names slots) { depth = ring.capacity; kept = kept_states ring.items (map named_array names) slots }
+
+abbrev pub value_of : List (Key × Entry) → List (Option Slot) → Ring Change → BenchValue
+value_of names slots ring = record { state = state_of names slots ring; patches = map patch_size ring.items }

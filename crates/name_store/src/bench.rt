@@ -1,5 +1,5 @@
 //! The bench.
-ghost use Rattle.std.specs.Prelude.{◌≡◌, ◌≤◌, ◌<◌, length, map, Some, slice_get, IfOk, IsOk};
+ghost use Rattle.std.specs.Prelude.{◌≡◌, ◌≤◌, ◌<◌, length, map, [], Some, slice_get, IfOk, IsOk};
 ghost use Rattle.std.specs.Option.{option_map};
 
 use crate::array_ref::ArrayRef;
@@ -22,7 +22,8 @@ use std::alloc::{AllocError, Global};
 use std::marker::Model;
 
 /// Named arrays and their buffers, seen as a state: the names in the order in which they were
-/// first bound, the buffers by their numbers, and the states that are kept.
+/// first bound, the buffers by their numbers, and the states that are kept, each with the bytes of old
+/// items that are held for it.
 #[derive(Drop)]
 pub struct Bench {
     alloc: Global,
@@ -32,18 +33,18 @@ pub struct Bench {
 }
 
 impl Model for Bench {
-    ghost use Rattle.name_store.specs.States.{State};
-    ghost use Rattle.name_store.specs.inside.Codes.{state_code};
+    ghost use Rattle.name_store.specs.States.{BenchValue};
+    ghost use Rattle.name_store.specs.inside.Codes.{value_code};
 
-    ghost Value = { State };
+    ghost Value = { BenchValue };
 
-    ghost coded = { state_code };
+    ghost coded = { value_code };
 
-    ghost use Rattle.name_store.specs.View.{state_of};
+    ghost use Rattle.name_store.specs.View.{value_of};
     ghost use Rattle.name_store.specs.Invariants.{IsSound};
     ghost use Rattle.indexmap.specs.IndexMap.{spare};
 
-    ghost view = { λ f. state_of f.names.entries f.slots.cells.items f.history };
+    ghost view = { λ f. value_of f.names.entries f.slots.cells.items f.history };
 
     ghost invariant = { λ f. IsSound f.names.entries f.slots.cells.items f.history (spare f.names) };
 }
@@ -51,7 +52,7 @@ impl Model for Bench {
 impl Bench {
     ghost use Rattle.name_store.specs.States.{start};
     ghost use Rattle.name_store.specs.Arrays.{find_array, has_room_for};
-    ghost use Rattle.name_store.specs.Calls.{AnswersBind, AnswersUnbind, AnswersUndo, AnswersWrite, AnswersShares};
+    ghost use Rattle.name_store.specs.Calls.{AnswersBind, AnswersUnbind, AnswersUndo, AnswersWrite, AnswersShares, Counts, CountsUndo, CountsWrite};
     ghost use Rattle.name_store.specs.Memory.{NeedsNoMemory, LieInTwo};
     ghost use Rattle.name_store.specs.Shown.{Finds};
     ghost use Rattle.name_store.specs.Targets.{IsAim};
@@ -61,7 +62,8 @@ impl Bench {
     /// no memory.
     pub fn try_new(alloc: Global, depth: usize) -> Result<Bench, AllocError>
         requires { depth ≤ 64 }
-        ensures empty { IfOk result (λ bench. bench ≡ start depth) }
+        ensures empty { IfOk result (λ bench. bench.state ≡ start depth) }
+        ensures patches { IfOk result (λ bench. bench.patches ≡ []) }
         ensures no_memory { depth ≡ 0 → IsOk result }
     {
         Ok(Bench {
@@ -74,7 +76,7 @@ impl Bench {
 
     /// The array of a name, if it is bound.
     pub fn get(&self, name: &Name) -> Option<ArrayRef<'_>>
-        ensures { Finds self.now (find_array self.now.names name.now) result }
+        ensures { Finds self.now.state (find_array self.now.state.names name.now) result }
     {
         look_in(
             &self.names,
@@ -85,7 +87,7 @@ impl Bench {
 
     /// Whether a name may be bound: it is, or fewer than 1,024 are.
     pub fn has_room_for(&self, name: &Name) -> bool
-        ensures { result ≡ has_room_for self.now name.now }
+        ensures { result ≡ has_room_for self.now.state name.now }
     {
         has_room(
             &self.names,
@@ -97,8 +99,9 @@ impl Bench {
     /// Binds a name. One that is bound keeps its place among the names. A view may be one of the
     /// array that the name itself was bound to.
     pub fn bind(&mut self, alloc: Global, name: &Name, bound: Bound) -> Result<(), Refusal>
-        requires { MayBind self.old bound }
-        ensures { AnswersBind self.old name.now bound result self.new }
+        requires { MayBind self.old.state bound }
+        ensures answers { AnswersBind self.old.state name.now bound result self.new.state }
+        ensures patches { Counts 0 self.old result self.new }
     {
         bind_in(
             alloc,
@@ -118,9 +121,10 @@ impl Bench {
         target: Target,
         source: Source,
     ) -> Result<usize, Refusal>
-        requires aim { IsAim self.old name.now target source }
-        ensures answers { AnswersWrite self.old name.now target source result self.new }
-        ensures no_memory { NeedsNoMemory self.old name.now target source → IsOk result }
+        requires aim { IsAim self.old.state name.now target source }
+        ensures answers { AnswersWrite self.old.state name.now target source result self.new.state }
+        ensures patches { CountsWrite self.old name.now target result self.new }
+        ensures no_memory { NeedsNoMemory self.old.state name.now target source → IsOk result }
     {
         let key = Key::of(alloc, name);
         write_in(
@@ -136,7 +140,8 @@ impl Bench {
 
     /// Unbinds a name. The names after it close up. Only to keep the state before does it take memory.
     pub fn unbind(&mut self, alloc: Global, name: &Name) -> Result<(), Refusal>
-        ensures { AnswersUnbind self.old name.now result self.new }
+        ensures answers { AnswersUnbind self.old.state name.now result self.new.state }
+        ensures patches { Counts 0 self.old result self.new }
     {
         unbind_in(
             &mut self.names,
@@ -148,7 +153,8 @@ impl Bench {
 
     /// Goes back to the state that was kept last. It takes no memory.
     pub fn undo(&mut self) -> Result<(), Refusal>
-        ensures { AnswersUndo self.old result self.new }
+        ensures answers { AnswersUndo self.old.state result self.new.state }
+        ensures patches { CountsUndo self.old result self.new }
     {
         undo_in(&mut self.names, &mut self.slots, &mut self.history)
     }
@@ -164,8 +170,8 @@ impl Bench {
     /// Whether the arrays of two names share cells. A name that is not bound is refused before any
     /// memory is asked for.
     pub fn shares(&self, alloc: Global, left: &Name, right: &Name) -> Result<bool, Refusal>
-        ensures answers { AnswersShares self.now left.now right.now result }
-        ensures no_memory { LieInTwo self.now left.now right.now → IsOk result }
+        ensures answers { AnswersShares self.now.state left.now right.now result }
+        ensures no_memory { LieInTwo self.now.state left.now right.now → IsOk result }
     {
         shares_in(
             alloc,
@@ -178,7 +184,7 @@ impl Bench {
 
     /// How many names are bound.
     pub fn len(&self) -> usize
-        ensures len { result ≡ length self.now.names }
+        ensures len { result ≡ length self.now.state.names }
         ensures few { result ≤ 1024 }
     {
         self.names.len()
@@ -186,7 +192,7 @@ impl Bench {
 
     /// The names, in the order in which they were first bound. No memory is taken.
     pub fn names(&self) -> Names<'_>
-        ensures { result ≡ map (λ entry. entry.0) self.now.names }
+        ensures { result ≡ map (λ entry. entry.0) self.now.state.names }
     {
         Names {
             keys: self.names.keys(),
@@ -195,8 +201,8 @@ impl Bench {
 
     /// The name that was bound as the k-th, counted from 0.
     pub fn name_at(&self, k: usize) -> &[u8]
-        requires { k < length self.now.names }
-        ensures { option_map (λ entry. entry.0) (slice_get self.now.names k) ≡ Some result.now }
+        requires { k < length self.now.state.names }
+        ensures { option_map (λ entry. entry.0) (slice_get self.now.state.names k) ≡ Some result.now }
     {
         self.names.get_index(k).unwrap().0.bytes.as_slice()
     }

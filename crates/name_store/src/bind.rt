@@ -3,9 +3,9 @@ ghost use Rattle.std.specs.Prelude.{◌≡◌, ◌≤◌, ◌<◌, ◌+◌, ℕ,
 ghost use Rattle.elem_descr.specs.Items.{item_size};
 ghost use Rattle.indexmap.specs.IndexMap.{spare};
 ghost use Rattle.name_store.specs.Arrays.{has_room_for};
-ghost use Rattle.name_store.specs.Calls.{AnswersBind};
+ghost use Rattle.name_store.specs.Calls.{AnswersBind, Counts};
 ghost use Rattle.name_store.specs.Invariants.{Holds, IsSound, users_at};
-ghost use Rattle.name_store.specs.View.{present, slot_at, state_of};
+ghost use Rattle.name_store.specs.View.{present, slot_at, state_of, value_of};
 ghost use Rattle.name_store.specs.declared.bound.Bound.TheVariants.{Fresh, View};
 ghost use Rattle.name_store.specs.declared.slot.Slot.{Slot};
 ghost use Rattle.name_store.specs.inside.Rebinds.{Rebinds};
@@ -141,6 +141,8 @@ pub(crate) fn bind_in(
     ensures sound { IsSound names.new.entries slots.new.cells.items history.new (spare names.new) }
     ensures answers { AnswersBind (state_of names.old.entries slots.old.cells.items history.old) name.now bound result
         (state_of names.new.entries slots.new.cells.items history.new) }
+    ensures patches { Counts 0 (value_of names.old.entries slots.old.cells.items history.old) result
+        (value_of names.new.entries slots.new.cells.items history.new) }
 {
     let key = Key::of(alloc, name);
     if !has_room(names, slots.cells.as_slice(), &key) {

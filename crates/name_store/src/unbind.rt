@@ -1,9 +1,9 @@
 //! A name is bound no longer.
 ghost use Rattle.std.specs.Prelude.{◌≡◌};
 ghost use Rattle.indexmap.specs.IndexMap.{spare};
-ghost use Rattle.name_store.specs.Calls.{AnswersUnbind};
+ghost use Rattle.name_store.specs.Calls.{AnswersUnbind, Counts};
 ghost use Rattle.name_store.specs.Invariants.{IsSound};
-ghost use Rattle.name_store.specs.View.{state_of};
+ghost use Rattle.name_store.specs.View.{state_of, value_of};
 
 use crate::change::Change;
 use crate::entry::{Entry, Key};
@@ -24,6 +24,8 @@ pub(crate) fn unbind_in(
     ensures sound { IsSound names.new.entries slots.new.cells.items history.new (spare names.new) }
     ensures answers { AnswersUnbind (state_of names.old.entries slots.old.cells.items history.old) key.bytes.items result
         (state_of names.new.entries slots.new.cells.items history.new) }
+    ensures patches { Counts 0 (value_of names.old.entries slots.old.cells.items history.old) result
+        (value_of names.new.entries slots.new.cells.items history.new) }
 {
     if !names.contains_key(&key) {
         return Err(Refusal::UnknownName);

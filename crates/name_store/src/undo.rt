@@ -2,9 +2,9 @@
 //! was taken before the change.
 ghost use Rattle.std.specs.Prelude.{◌≡◌, Some, None};
 ghost use Rattle.indexmap.specs.IndexMap.{spare};
-ghost use Rattle.name_store.specs.Calls.{AnswersUndo};
+ghost use Rattle.name_store.specs.Calls.{AnswersUndo, CountsUndo};
 ghost use Rattle.name_store.specs.Invariants.{IsSound};
-ghost use Rattle.name_store.specs.View.{state_of};
+ghost use Rattle.name_store.specs.View.{state_of, value_of};
 ghost use Rattle.name_store.specs.declared.change.Change.TheVariants.{Bind, Unbind, Write};
 ghost use Rattle.name_store.specs.inside.Undoes.{CanUndo, IsUndone};
 
@@ -96,6 +96,8 @@ pub(crate) fn undo_in(
     ensures sound { IsSound names.new.entries slots.new.cells.items history.new (spare names.new) }
     ensures answers { AnswersUndo (state_of names.old.entries slots.old.cells.items history.old) result
         (state_of names.new.entries slots.new.cells.items history.new) }
+    ensures patches { CountsUndo (value_of names.old.entries slots.old.cells.items history.old) result
+        (value_of names.new.entries slots.new.cells.items history.new) }
 {
     match history.pop() {
         None => Err(Refusal::NothingToUndo),

@@ -1,11 +1,11 @@
 //! Items of a name's array are written, and the old ones are kept.
 ghost use Rattle.std.specs.Prelude.{◌≡◌, IsOk};
 ghost use Rattle.indexmap.specs.IndexMap.{spare};
-ghost use Rattle.name_store.specs.Calls.{AnswersWrite};
+ghost use Rattle.name_store.specs.Calls.{AnswersWrite, CountsWrite};
 ghost use Rattle.name_store.specs.Invariants.{IsSound};
 ghost use Rattle.name_store.specs.Memory.{NeedsNoMemory};
 ghost use Rattle.name_store.specs.Targets.{IsAim};
-ghost use Rattle.name_store.specs.View.{state_of};
+ghost use Rattle.name_store.specs.View.{state_of, value_of};
 
 use crate::change::Change;
 use crate::entry::{Entry, Key};
@@ -36,6 +36,8 @@ pub(crate) fn write_in(
     ensures sound { IsSound names.new.entries slots.new.cells.items history.new (spare names.new) }
     ensures answers { AnswersWrite (state_of names.old.entries slots.old.cells.items history.old) key.now.bytes.items target source result
         (state_of names.new.entries slots.new.cells.items history.new) }
+    ensures patches { CountsWrite (value_of names.old.entries slots.old.cells.items history.old) key.now.bytes.items target result
+        (value_of names.new.entries slots.new.cells.items history.new) }
     ensures no_memory { NeedsNoMemory (state_of names.old.entries slots.old.cells.items history.old) key.now.bytes.items target source → IsOk result }
 {
     let home = home_of(names, slots.cells.as_slice(), key);

@@ -6,7 +6,7 @@ use Rattle.std.specs.FinMap.{FinMap, code}
 use Rattle.elem_descr.specs.declared.descr.Descr.{Descr}
 use Rattle.elem_descr.specs.contracts.descr.Descr as descr
 use Rattle.elem_descr.specs.Values.{LeafValue, leaf_code}
-use Rattle.name_store.specs.States.{Array, Buffer, State}
+use Rattle.name_store.specs.States.{Array, BenchValue, Buffer, State}
 
 abbrev pub buffer_code : Coded Buffer
 buffer_code =
@@ -27,7 +27,9 @@ buffers_code = code coded_ℕ buffer_code
 
 abbrev pub state_code : Coded State
 state_code =
-    code_by (List (List ℕ × Array) × (FinMap nat_cmp Buffer × (ℕ × (List (List (List ℕ × Array) × FinMap nat_cmp Buffer) × List ℕ))))
-    (coded× names_code (coded× buffers_code (coded× coded_ℕ (coded× (coded_list (coded× names_code buffers_code)) (coded_list coded_ℕ)))))
-    (λ s. (s.names, (s.buffers, (s.depth, (s.kept, s.patches)))))
-    (λ p. record { names = p.0; buffers = p.1.0; depth = p.1.1.0; kept = p.1.1.1.0; patches = p.1.1.1.1 }) (λ _. refl)
+    code_by (List (List ℕ × Array) × (FinMap nat_cmp Buffer × (ℕ × List (List (List ℕ × Array) × FinMap nat_cmp Buffer))))
+    (coded× names_code (coded× buffers_code (coded× coded_ℕ (coded_list (coded× names_code buffers_code)))))
+    (λ s. (s.names, (s.buffers, (s.depth, s.kept)))) (λ p. record { names = p.0; buffers = p.1.0; depth = p.1.1.0; kept = p.1.1.1 }) (λ _. refl)
+
+abbrev pub value_code : Coded BenchValue
+value_code = code_by (State × List ℕ) (coded× state_code (coded_list coded_ℕ)) (λ v. (v.state, v.patches)) (λ p. record { state = p.0; patches = p.1 }) (λ _. refl)

@@ -6,6 +6,7 @@ use Rattle.name_store.specs.View.{present, state_of}
 use Rattle.name_store.specs.declared.entry.Entry.{Entry}
 use Rattle.name_store.specs.declared.entry.Key.{Key}
 use Rattle.name_store.proofs.BindLaws.{bind-made, bind-sound, bind-binds}
+use Rattle.name_store.proofs.KeepLaws.{patches-push}
 use Rattle.name_store.proofs.Needs.{made-held, kept-counted, users-small}
 use Rattle.name_store.proofs.UnbindLaws.{same-sound}
 use Rattle.name_store.proofs.bind.bind_in.Goals as goal
@@ -45,3 +46,6 @@ returns-clause-answers c =
       subst (λ (ns : List (Key × Entry)). Binds (state_of ns c.args.slots.now.cells.items c.args.history.now) c.args.name.now c.args.bound (state_of c.bind_array.new.names.entries c.keep.new.slots.cells.items c.keep.new.history)) c.in_ok-make_room.ensures.entries
           (subst (λ (n : List ℕ). Binds (state_of c.make_room.new.names.entries c.args.slots.now.cells.items c.args.history.now) n c.args.bound (state_of c.bind_array.new.names.entries c.keep.new.slots.cells.items c.keep.new.history)) c.of.ensures binds),
     )
+
+pub returns-clause-patches : goal.returns-clause-patches
+returns-clause-patches c = patches-push c.args.history.now c.keep.new.history _ c.keep.ensures.history

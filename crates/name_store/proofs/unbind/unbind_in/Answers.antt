@@ -4,9 +4,10 @@ use Rattle.std.proofs.lemmas.Bool.{false≢true}
 use Rattle.std.proofs.lemmas.Result.{err_from_is_err_and}
 use Rattle.indexmap.specs.IndexMap.{spare}
 use Rattle.name_store.specs.Arrays.{unbound}
-use Rattle.name_store.specs.View.{state_of}
+use Rattle.name_store.specs.View.{state_of, value_of}
 use Rattle.name_store.specs.declared.entry.Entry.{Entry}
 use Rattle.name_store.specs.declared.entry.Key.{Key}
+use Rattle.name_store.proofs.KeepLaws.{patches-push}
 use Rattle.name_store.proofs.Needs.{made-held, kept-counted}
 use Rattle.name_store.proofs.UnbindLaws.{same-sound, unbind-made, unbind-sound, unbind-state, bound-has, deep, removed-one}
 use Rattle.name_store.proofs.unbind.unbind_in.Goals as goal
@@ -64,3 +65,11 @@ returns-clause-answers c =
           c.keep.new.history c.keep.new.slots.cells.items (spare c.shift_remove_full.new.self) c.keep.ensures.history c.keep.ensures.freed (kept-counted _ _ c.args.history.now.items _ c.args.slots.now.cells.items _ sound.counted made _ _ c.keep.ensures.users) (omega (arith, c.in_ok-make_room.ensures.room, c.shift_remove_full.ensures.room.0))
           ∙ ap (λ (ns : List (Key × Entry)). unbound (state_of ns c.args.slots.now.cells.items c.args.history.now) c.args.key.bytes.items) c.in_ok-make_room.ensures.entries,
     )
+
+pub returns-in_err-make_room-clause-patches : goal.returns-in_err-make_room-clause-patches
+returns-in_err-make_room-clause-patches c =
+    let p = err_from_is_err_and c.from_residual.result c.from_residual.ensures.1 in
+    rw p.1 (ap (λ (ns : List (Key × Entry)). value_of ns c.args.slots.now.cells.items c.args.history.now) c.in_err-make_room.ensures.entries)
+
+pub returns-clause-patches : goal.returns-clause-patches
+returns-clause-patches c = patches-push c.args.history.now c.keep.new.history _ c.keep.ensures.history

@@ -3,7 +3,7 @@ use Rattle.std.proofs.lemmas.Bool.{false≢true}
 use Rattle.std.proofs.lemmas.Result.{err_from_is_err_and}
 use Rattle.indexmap.specs.IndexMap.{spare}
 use Rattle.name_store.specs.Invariants.{users_at}
-use Rattle.name_store.specs.View.{state_of}
+use Rattle.name_store.specs.View.{state_of, value_of}
 use Rattle.name_store.specs.declared.entry.Entry.{Entry}
 use Rattle.name_store.specs.declared.entry.Key.{Key}
 use Rattle.name_store.specs.declared.home.Home.{Home}
@@ -16,7 +16,7 @@ use Rattle.name_store.proofs.HeldLaws.{lowest-same}
 use Rattle.name_store.proofs.RewriteLaws.{new-users}
 use Rattle.name_store.proofs.Needs.{made-held, kept-counted}
 use Rattle.name_store.proofs.UnbindLaws.{same-sound}
-use Rattle.name_store.proofs.WriteKept.{same-still, same-state, put-can, none-can, none-answers, wrote-sound, write-made, write-sound, write-answers}
+use Rattle.name_store.proofs.WriteKept.{same-still, same-state, same-value, put-can, none-can, none-answers, none-counts, wrote-sound, write-made, write-sound, write-answers, write-counts}
 use Rattle.name_store.proofs.write_kept.write_in.Goals as goal
 use Rattle.name_store.proofs.PastLaws.{Slots}
 
@@ -103,3 +103,26 @@ invariant_of-slots-2 c =
     let home = subst (λ (slots : Slots). IsHome c.args.names.now.entries slots c.args.key.now.bytes.items c.home_of-home.result.number c.home_of-home.result.width) c.as_slice.ensures.value c.home_of-home.ensures in
     let can = put-can c.args.names.now.entries c.args.slots.now.cells.items c.args.history.now _ c.requires.sound c.args.key.now.bytes.items c.home_of-home.result.number c.home_of-home.result.width home c.args.target c.args.source c.requires.aim in
     record { taken = lowest-same c.args.slots.now.cells.items _ c.args.slots.now.lowest (users-kept c.write_over.result c.args.slots.now.cells.items _ c.home_of-home.result c.args.target c.args.source can c.write_over.ensures.written c.write_over.ensures.kept) c.args.slots.now.taken }
+
+pub returns-in_err-write_items-clause-patches : goal.returns-in_err-write_items-clause-patches
+returns-in_err-write_items-clause-patches c = λ array found.
+    let p = err_from_is_err_and c.from_residual.result c.from_residual.ensures.1 in
+    rw p.1 (same-value c.args.names.now.entries c.args.slots.now.cells.items c.write_items.new.slots.items c.args.history.now c.in_err-write_items.ensures.kept)
+
+pub returns-then-capacity-eq0-clause-patches : goal.returns-then-capacity-eq0-clause-patches
+returns-then-capacity-eq0-clause-patches c =
+    let home = subst (λ (slots : Slots). IsHome c.args.names.now.entries slots c.args.key.now.bytes.items c.home_of-home.result.number c.home_of-home.result.width) c.as_slice.ensures.value c.home_of-home.ensures in
+    none-counts c.args.names.now.entries c.args.slots.now.cells.items c.args.history.now _ c.requires.sound c.args.key.now.bytes.items c.home_of-home.result.number c.home_of-home.result.width home c.args.target c.args.source c.requires.aim c.write_items.new.slots.items c.in_ok-write_items.ensures.written (omega (arith, c.capacity.ensures.capacity, c.if-capacity-eq0.true))
+
+pub returns-in_err-items-clause-patches : goal.returns-in_err-items-clause-patches
+returns-in_err-items-clause-patches c = λ array found.
+    let p = err_from_is_err_and c.from_residual-in_err-items.result c.from_residual-in_err-items.ensures.1 in
+    rw p.1 (ap (λ (ns : List (Key × Entry)). value_of ns c.write_over.new.slots.items c.args.history.now) c.in_ok-make_room.ensures.entries
+    ∙ same-value c.args.names.now.entries c.args.slots.now.cells.items c.write_over.new.slots.items c.args.history.now c.in_err-items.ensures.kept)
+
+pub returns-clause-patches : goal.returns-clause-patches
+returns-clause-patches c =
+    let home = subst (λ (slots : Slots). IsHome c.args.names.now.entries slots c.args.key.now.bytes.items c.home_of-home.result.number c.home_of-home.result.width) c.as_slice.ensures.value c.home_of-home.ensures in
+    let counted = kept-counted _ _ c.args.history.now.items _ c.args.slots.now.cells.items _ c.requires.sound.counted (write-made c.args.names.now.entries c.args.slots.now.cells.items c.args.history.now _ c.requires.sound c.args.key.now.bytes.items c.home_of-home.result.number c.home_of-home.result.width home c.args.target c.args.source c.requires.aim c.write_over.new.slots.items c.in_ok-items.ensures.written c.in_ok-items.items c.in_ok-items.ensures.old) _ _ c.keep.ensures.users in
+    write-counts c.args.names.now.entries c.args.slots.now.cells.items c.args.history.now _ c.requires.sound c.args.key.now.bytes.items c.home_of-home.result.number c.home_of-home.result.width home c.args.target c.args.source c.requires.aim c.write_over.new.slots.items c.in_ok-items.ensures.written c.in_ok-items.items c.in_ok-items.ensures.old
+    c.keep.new.history c.keep.new.slots.cells.items (spare c.make_room.new.names) c.keep.ensures.history c.keep.ensures.freed counted (omega (arith, c.in_ok-make_room.ensures.room))
