@@ -18,7 +18,7 @@ use Rattle.name_store.specs.States.{State, Array, Buffer}
 use Rattle.name_store.specs.Arrays.{find_array, buffer_of, descr_of, span_of, addresses, read, placed_item, write, written, is_in_use, is_bound}
 use Rattle.name_store.specs.Invariants.{Holds, LiesAt, LiesIn}
 use Rattle.name_store.specs.Parts.{descr_at, start_at, span_at, part_at}
-use Rattle.name_store.specs.Targets.{target_offsets, items_of, FitsBuffer, LeadsTo}
+use Rattle.name_store.specs.Targets.{target_offsets, FitsBuffer, LeadsTo}
 use Rattle.name_store.specs.inside.Homes.{IsHome, HasNew}
 use Rattle.name_store.specs.View.{array_at, named_array, buffer_in, slot_at, present}
 use Rattle.name_store.specs.declared.entry.Entry.{Entry}
