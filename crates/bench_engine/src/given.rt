@@ -63,9 +63,9 @@ fn given_operand(
     shape: &Shape,
     descr: &Descr,
 ) -> Result<Source, Refusal>
-    requires bound { list_all (is_bound bench.now) (names_in_argument (argument.Operand operand.now)) ≡ true }
+    requires bound { list_all (is_bound bench.now.state) (names_in_argument (argument.Operand operand.now)) ≡ true }
     requires few { count shape.now * item_size descr.now ≤ max_bytes }
-    ensures { GivesItems bench.now descr.now (count shape.now) result (argument_items bench.now (argument.Operand operand.now) descr.now shape.now) }
+    ensures { GivesItems bench.now.state descr.now (count shape.now) result (argument_items bench.now.state (argument.Operand operand.now) descr.now shape.now) }
 {
     let array = bench.get(&operand.name).unwrap();
     match operand_items(alloc, bench, &array, &operand.index)? {
@@ -86,9 +86,9 @@ pub fn give(
     shape: &Shape,
     descr: &Descr,
 ) -> Result<Source, Refusal>
-    requires bound { list_all (is_bound bench.now) (names_in_argument value.now) ≡ true }
+    requires bound { list_all (is_bound bench.now.state) (names_in_argument value.now) ≡ true }
     requires few { count shape.now * item_size descr.now ≤ max_bytes }
-    ensures { GivesItems bench.now descr.now (count shape.now) result (argument_items bench.now value.now descr.now shape.now) }
+    ensures { GivesItems bench.now.state descr.now (count shape.now) result (argument_items bench.now.state value.now descr.now shape.now) }
 {
     match value {
         Argument::Literal(literal) => Ok(Source::One(item_of(alloc, descr, literal)?)),

@@ -25,7 +25,7 @@ use std::alloc::Global;
 
 /// Whether the names in an operand are bound.
 pub fn is_bound(bench: &Bench, operand: &Operand) -> bool
-    ensures { result ≡ list_all (is_bound bench.now) (names_in_operand operand.now) }
+    ensures { result ≡ list_all (is_bound bench.now.state) (names_in_operand operand.now) }
 {
     if bench.get(&operand.name).is_none() {
         return false;
@@ -38,7 +38,7 @@ pub fn is_bound(bench: &Bench, operand: &Operand) -> bool
 
 /// Whether the names in an argument are bound.
 pub fn has_bound(bench: &Bench, value: &Argument) -> bool
-    ensures { result ≡ list_all (is_bound bench.now) (names_in_argument value.now) }
+    ensures { result ≡ list_all (is_bound bench.now.state) (names_in_argument value.now) }
 {
     match value {
         Argument::Operand(operand) => is_bound(bench, operand),
@@ -53,10 +53,10 @@ pub fn operand_items(
     array: &ArrayRef<'_>,
     index: &Option<Index>,
 ) -> Result<Taken, Refusal>
-    requires bound { list_all (is_bound bench.now) (names_in_index (unwrap_or index.now [])) ≡ true }
-    requires shown { (a : Array) × Shows bench.now a array.now }
-    ensures { (a : Array) → Shows bench.now a array.now
-        → GivesTaken bench.now a array.now (list_all is_basic (unwrap_or index.now (Ellipsis ∷ []))) result (taken bench.now a (unwrap_or index.now (Ellipsis ∷ []))) }
+    requires bound { list_all (is_bound bench.now.state) (names_in_index (unwrap_or index.now [])) ≡ true }
+    requires shown { (a : Array) × Shows bench.now.state a array.now }
+    ensures { (a : Array) → Shows bench.now.state a array.now
+        → GivesTaken bench.now.state a array.now (list_all is_basic (unwrap_or index.now (Ellipsis ∷ []))) result (taken bench.now.state a (unwrap_or index.now (Ellipsis ∷ []))) }
 {
     match index {
         Some(index) => take(alloc, bench, array, index.as_slice()),

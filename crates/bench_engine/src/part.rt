@@ -69,9 +69,9 @@ fn indexed<'a>(
     array: &ArrayRef<'a>,
     index: &Index,
 ) -> Result<PartOrCopy<'a>, Refusal>
-    requires bound { list_all (is_bound bench.now) (names_in_index index.now) ≡ true }
-    requires shown { (a : Array) × Shows bench.now a array.now }
-    ensures { SeesIn bench.now (Indexed index.now) array.now result }
+    requires bound { list_all (is_bound bench.now.state) (names_in_index index.now) ≡ true }
+    requires shown { (a : Array) × Shows bench.now.state a array.now }
+    ensures { SeesIn bench.now.state (Indexed index.now) array.now result }
 {
     match take(alloc, bench, array, index.as_slice())? {
         Taken::View(layout) => Ok(PartOrCopy::Part(items(array, layout, array.writable))),
@@ -160,7 +160,7 @@ fn reshaped<'a>(
 
 /// Whether the names in a way of seeing an array are bound.
 pub fn has_bound(bench: &Bench, how: &Viewing) -> bool
-    ensures { result ≡ list_all (is_bound bench.now) (names_in_viewing how.now) }
+    ensures { result ≡ list_all (is_bound bench.now.state) (names_in_viewing how.now) }
 {
     match how {
         Viewing::Indexed(index) => are_bound(bench, index.as_slice()),
@@ -175,9 +175,9 @@ pub fn seen<'a>(
     array: &ArrayRef<'a>,
     how: &Viewing,
 ) -> Result<PartOrCopy<'a>, Refusal>
-    requires shown { (a : Array) × Shows bench.now a array.now }
-    requires bound { list_all (is_bound bench.now) (names_in_viewing how.now) ≡ true }
-    ensures { SeesIn bench.now how.now array.now result }
+    requires shown { (a : Array) × Shows bench.now.state a array.now }
+    requires bound { list_all (is_bound bench.now.state) (names_in_viewing how.now) ≡ true }
+    ensures { SeesIn bench.now.state how.now array.now result }
 {
     match how {
         Viewing::Whole => whole(alloc, array),

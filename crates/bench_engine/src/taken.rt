@@ -54,10 +54,10 @@ pub fn take(
     array: &ArrayRef<'_>,
     index: &[IndexItem<Name>],
 ) -> Result<Taken, Refusal>
-    requires bound { list_all (is_bound bench.now) (names_in_index index.now) ≡ true }
-    requires shown { (a : Array) × Shows bench.now a array.now }
-    ensures { (a : Array) → Shows bench.now a array.now
-        → GivesTaken bench.now a array.now (list_all is_basic index.now) result (taken bench.now a index.now) }
+    requires bound { list_all (is_bound bench.now.state) (names_in_index index.now) ≡ true }
+    requires shown { (a : Array) × Shows bench.now.state a array.now }
+    ensures { (a : Array) → Shows bench.now.state a array.now
+        → GivesTaken bench.now.state a array.now (list_all is_basic index.now) result (taken bench.now.state a index.now) }
 {
     if are_plain(index) {
         return Ok(Taken::View(named_items(alloc, array.layout, index)?));

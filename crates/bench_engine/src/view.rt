@@ -82,8 +82,8 @@ pub fn view(
     out: &mut Vec<u8>,
 ) -> Result<(), Refusal>
     ensures room { vec_capacity out.old ≤ vec_capacity out.new }
-    ensures answers { CarriesOut (list_all (is_bound bench.old) (source.now ∷ names_in_viewing how.now)) (λ choice. view_outcome choice bench.old name.now source.now how.now)
-        bench.old bench.new out.old.items out.new.items result }
+    ensures answers { CarriesOut (list_all (is_bound bench.old.state) (source.now ∷ names_in_viewing how.now)) (λ choice. view_outcome choice bench.old.state name.now source.now how.now)
+        bench.old.state bench.new.state out.old.items out.new.items result }
 {
     let Some(array) = bench.get(source) else {
         return Err(Refusal::UnknownName);

@@ -11,13 +11,13 @@ use Rattle.bench_engine.proofs.given.given_operand.Goals as goal
 
 pub returns-in_err-operand_items : goal.returns-in_err-operand_items
 returns-in_err-operand_items c =
-    let it = found-array c.args.bench.now _ c.unwrap-array.result (rw c.unwrap-array.ensures at c.get.ensures) in
+    let it = found-array c.args.bench.now.state _ c.unwrap-array.result (rw c.unwrap-array.ensures at c.get.ensures) in
     let p = err_from_is_err_and c.from_residual.result c.from_residual.ensures.1 in
-    rw (p.1, p.2) (none-taken c.args.bench.now c.args.operand.now c.args.descr.now c.args.shape.now it.0 it.1 c.unwrap-array.result (list_all is_basic (unwrap_or c.args.operand.now.index (Ellipsis ∷ []))) _ (c.in_err-operand_items.ensures it.0 it.2))
+    rw (p.1, p.2) (none-taken c.args.bench.now.state c.args.operand.now c.args.descr.now c.args.shape.now it.0 it.1 c.unwrap-array.result (list_all is_basic (unwrap_or c.args.operand.now.index (Ellipsis ∷ []))) _ (c.in_err-operand_items.ensures it.0 it.2))
 
 pub items_of_view-requires : goal.items_of_view-requires
 items_of_view-requires c =
-    let s = c.args.bench.now in
+    let s = c.args.bench.now.state in
     let it = found-array s _ c.unwrap-array.result (rw c.unwrap-array.ensures at c.get.ensures) in
     let index = unwrap_or c.args.operand.now.index (Ellipsis ∷ []) in
     let is = taken-view s it.0 c.unwrap-array.result (list_all is_basic index) _ c.in-View.view (taken s it.0 index) c.in-View.is (c.in_ok-operand_items.ensures it.0 it.2) in
@@ -25,7 +25,7 @@ items_of_view-requires c =
 
 pub returns-in-View : goal.returns-in-View
 returns-in-View c =
-    let s = c.args.bench.now in
+    let s = c.args.bench.now.state in
     let it = found-array s _ c.unwrap-array.result (rw c.unwrap-array.ensures at c.get.ensures) in
     let index = unwrap_or c.args.operand.now.index (Ellipsis ∷ []) in
     let is = taken-view s it.0 c.unwrap-array.result (list_all is_basic index) _ c.in-View.view (taken s it.0 index) c.in-View.is (c.in_ok-operand_items.ensures it.0 it.2) in
@@ -34,7 +34,7 @@ returns-in-View c =
 
 pub returns-in-Copy : goal.returns-in-Copy
 returns-in-Copy c =
-    let s = c.args.bench.now in
+    let s = c.args.bench.now.state in
     let it = found-array s _ c.unwrap-array.result (rw c.unwrap-array.ensures at c.get.ensures) in
     let index = unwrap_or c.args.operand.now.index (Ellipsis ∷ []) in
     let is = taken-copy s it.0 c.unwrap-array.result (list_all is_basic index) _ c.in-Copy.copy (taken s it.0 index) c.in-Copy.is (c.in_ok-operand_items.ensures it.0 it.2) in

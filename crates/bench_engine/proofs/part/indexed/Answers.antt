@@ -10,7 +10,7 @@ use Rattle.bench_engine.proofs.part.indexed.Goals as goal
 
 pub returns-in-View : goal.returns-in-View
 returns-in-View c a shows =
-    let s = c.args.bench.now in
+    let s = c.args.bench.now.state in
     let r = c.args.array.now in
     let gives = subst (λ (index : List (IndexItem (List ℕ))). GivesTaken s a r (list_all is_basic index) (Ok c.in_ok-layout.field-0) (taken s a index)) c.as_slice.ensures (c.in_ok-layout.ensures a shows) in
     let took = subst (λ (t : Taken). GivesTaken s a r (list_all is_basic c.args.index.now) (Ok t) (taken s a c.args.index.now)) c.in-View.is gives in
@@ -18,7 +18,7 @@ returns-in-View c a shows =
 
 pub returns-in-Copy : goal.returns-in-Copy
 returns-in-Copy c a shows =
-    let s = c.args.bench.now in
+    let s = c.args.bench.now.state in
     let r = c.args.array.now in
     let gives = subst (λ (index : List (IndexItem (List ℕ))). GivesTaken s a r (list_all is_basic index) (Ok c.in_ok-layout.field-0) (taken s a index)) c.as_slice.ensures (c.in_ok-layout.ensures a shows) in
     let took = subst (λ (t : Taken). GivesTaken s a r (list_all is_basic c.args.index.now) (Ok t) (taken s a c.args.index.now)) c.in-Copy.is gives in
