@@ -17,10 +17,9 @@ ghost use Rattle.bench_engine.specs.inside.Assigns.{GivesTaken, GivesItems, Fitt
 
 use crate::item::item_of;
 use crate::operand::{items_of_view, operand_items};
-use crate::taken::Taken;
 use elem_descr::{Descr, Refusal};
 use elementwise::Items;
-use name_store::{Bench, Source};
+use name_store::{Bench, Bound, Source};
 use script_lang::{Argument, Operand};
 use shape_strides::Shape;
 use std::alloc::Global;
@@ -69,11 +68,11 @@ fn given_operand(
 {
     let array = bench.get(&operand.name).unwrap();
     match operand_items(alloc, bench, &array, &operand.index)? {
-        Taken::View(view) => {
-            let items = items_of_view(&array, &view);
-            fitted(alloc, items, Some(array.number), shape, descr)
+        Bound::View { number, layout, .. } => {
+            let items = items_of_view(&array, &layout);
+            fitted(alloc, items, Some(number), shape, descr)
         }
-        Taken::Copy(copy) => fitted(alloc, copy.items(), None, shape, descr),
+        Bound::Fresh(copy) => fitted(alloc, copy.items(), None, shape, descr),
     }
 }
 

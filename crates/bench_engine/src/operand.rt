@@ -15,10 +15,10 @@ ghost use Rattle.bench_engine.specs.inside.Assigns.{IsTaken, GivesTaken};
 ghost use Rattle.bench_engine.specs.inside.Operands.{StandsFor};
 
 use crate::index::are_bound;
-use crate::taken::{Taken, take};
+use crate::taken::take;
 use elem_descr::Refusal;
 use elementwise::Items;
-use name_store::{ArrayRef, Bench};
+use name_store::{ArrayRef, Bench, Bound};
 use script_lang::{Argument, Index, Operand};
 use shape_strides::{IndexItem, Layout};
 use std::alloc::Global;
@@ -52,7 +52,7 @@ pub fn operand_items(
     bench: &Bench,
     array: &ArrayRef<'_>,
     index: &Option<Index>,
-) -> Result<Taken, Refusal>
+) -> Result<Bound, Refusal>
     requires bound { list_all (is_bound bench.now.state) (names_in_index (unwrap_or index.now [])) ≡ true }
     requires shown { (a : Array) × Shows bench.now.state a array.now }
     ensures { (a : Array) → Shows bench.now.state a array.now
@@ -79,13 +79,13 @@ pub fn items_of_view<'a>(array: &'a ArrayRef<'_>, view: &'a Layout) -> Items<'a>
 }
 
 /// The items that are taken of an array.
-pub fn items_taken<'a>(array: &'a ArrayRef<'_>, taken: &'a Taken) -> Items<'a>
+pub fn items_taken<'a>(array: &'a ArrayRef<'_>, taken: &'a Bound) -> Items<'a>
     requires { (s : State) × (a : Array) × (plain : Bool) × (view : View) × Shows s a array.now × IsTaken s a array.now plain taken.now view }
     ensures { (s : State) (a : Array) (plain : Bool) (view : View) → Shows s a array.now → IsTaken s a array.now plain taken.now view
         → StandsFor s (viewed a view) result }
 {
     match taken {
-        Taken::View(view) => items_of_view(array, view),
-        Taken::Copy(copy) => copy.items(),
+        Bound::View { layout, .. } => items_of_view(array, layout),
+        Bound::Fresh(copy) => copy.items(),
     }
 }
