@@ -30,12 +30,12 @@ use Rattle.name_store.specs.Arrays.{find_array, addresses, buffer_of, descr_of, 
 use Rattle.name_store.specs.Parts.{part_at}
 use Rattle.name_store.specs.Shown.{Shows}
 use Rattle.name_store.specs.declared.array_ref.ArrayRef.{ArrayRef}
+use Rattle.name_store.specs.declared.bound.Bound.{Bound}
+use Rattle.name_store.specs.declared.bound.Bound.TheVariants as bound
 use Rattle.name_store.specs.declared.target.Source.{Source}
 use Rattle.name_store.specs.declared.target.Source.TheVariants as source
 use Rattle.bench_engine.specs.IndexLists.{taken}
 use Rattle.bench_engine.specs.Machine.{viewed, source_part, argument_items, cast_items}
-use Rattle.bench_engine.specs.declared.taken.Taken.{Taken}
-use Rattle.bench_engine.specs.declared.taken.Taken.TheVariants as took
 use Rattle.bench_engine.specs.inside.Assigns.{Holds, IsTaken, GivesTaken, Stretches, Fitted, cast_from, GivesItems}
 use Rattle.bench_engine.specs.inside.Operands.{StandsFor}
 use Rattle.bench_engine.proofs.Assigns.{all-viewed, lies-whole, lies-viewed, stretched-shape}
@@ -213,15 +213,16 @@ module _ (s : State) (operand : Operand) (descr : Descr) (shape : List ℕ) (b :
 
 -- ---- of whatever is taken
 
-pub given-taken : (s : State) (b : Array) (r : ArrayRef) (plain : Bool) (t : Taken) (there : Result View Refusal) → GivesTaken s b r plain (Ok t) there → (view : View) × (there ≡ Ok view) × IsTaken s b r plain t view
+pub given-taken : (s : State) (b : Array) (r : ArrayRef) (plain : Bool) (t : Bound) (there : Result View Refusal) → GivesTaken s b r plain (Ok t) there → (view : View) × (there ≡ Ok view) × IsTaken s b r plain t view
 given-taken s b r plain t (Ok view) is = (view, refl, is)
 given-taken s b r plain t (Err e) is = absurd is
 
 -- where it is a view, or a copy
-pub taken-view : (s : State) (b : Array) (r : ArrayRef) (plain : Bool) (t : Taken) (layout : Layout) (there : Result View Refusal) → t ≡ took.View layout → GivesTaken s b r plain (Ok t) there →
-    (view : View) × (there ≡ Ok view) × IsTaken s b r plain (took.View layout) view
-taken-view s b r plain t layout there same is = given-taken s b r plain (took.View layout) there (subst (λ (x : Taken). GivesTaken s b r plain (Ok x) there) same is)
+pub taken-view : (s : State) (b : Array) (r : ArrayRef) (plain : Bool) (what : Bound) (number : ℕ) (path : List ℕ) (layout : Layout) (writable : Bool) (there : Result View Refusal) → what ≡ bound.View number path layout writable → GivesTaken s b r plain (Ok what) there →
+    (view : View) × (there ≡ Ok view) × IsTaken s b r plain (bound.View number path layout writable) view
+taken-view s b r plain what number path layout writable there same is =
+    given-taken s b r plain (bound.View number path layout writable) there (subst (λ (x : Bound). GivesTaken s b r plain (Ok x) there) same is)
 
-pub taken-copy : (s : State) (b : Array) (r : ArrayRef) (plain : Bool) (t : Taken) (o : Owned) (there : Result View Refusal) → t ≡ took.Copy o → GivesTaken s b r plain (Ok t) there →
-    (view : View) × (there ≡ Ok view) × IsTaken s b r plain (took.Copy o) view
-taken-copy s b r plain t o there same is = given-taken s b r plain (took.Copy o) there (subst (λ (x : Taken). GivesTaken s b r plain (Ok x) there) same is)
+pub taken-copy : (s : State) (b : Array) (r : ArrayRef) (plain : Bool) (what : Bound) (o : Owned) (there : Result View Refusal) → what ≡ bound.Fresh o → GivesTaken s b r plain (Ok what) there →
+    (view : View) × (there ≡ Ok view) × IsTaken s b r plain (bound.Fresh o) view
+taken-copy s b r plain what o there same is = given-taken s b r plain (bound.Fresh o) there (subst (λ (x : Bound). GivesTaken s b r plain (Ok x) there) same is)

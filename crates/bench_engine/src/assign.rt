@@ -22,8 +22,8 @@ fn named_target(
     array: &ArrayRef<'_>,
     index: &[IndexItem<Name>],
 ) -> Result<Target, Refusal>
-    requires bound { list_all (is_bound bench.now) (names_in_index index.now) ≡ true }
-    ensures { (a : Array) → Shows bench.now a array.now → GivesAim bench.now a array.now result (taken bench.now a index.now) }
+    requires bound { list_all (is_bound bench.now.state) (names_in_index index.now) ≡ true }
+    ensures { (a : Array) → Shows bench.now.state a array.now → GivesAim bench.now.state a array.now result (taken bench.now.state a index.now) }
 {
     if are_plain(index) {
         return Ok(Target::View(named_items(alloc, array.layout, index)?));
@@ -38,9 +38,9 @@ pub fn target_of(
     array: &ArrayRef<'_>,
     index: &[IndexItem<Name>],
 ) -> Result<Target, Refusal>
-    requires bound { list_all (is_bound bench.now) (names_in_index index.now) ≡ true }
-    ensures { (name : List ℕ) (a : Array) → find_array bench.now.names name ≡ Some a → Shows bench.now a array.now
-        → GivesTarget bench.now name a result (target_part bench.now a index.now) }
+    requires bound { list_all (is_bound bench.now.state) (names_in_index index.now) ≡ true }
+    ensures { (name : List ℕ) (a : Array) → find_array bench.now.state.names name ≡ Some a → Shows bench.now.state a array.now
+        → GivesTarget bench.now.state name a result (target_part bench.now.state a index.now) }
 {
     let target = named_target(alloc, bench, array, index)?;
     if !array.writable {

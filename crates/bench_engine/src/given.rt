@@ -17,10 +17,9 @@ ghost use Rattle.bench_engine.specs.inside.Assigns.{GivesTaken, GivesItems, Fitt
 
 use crate::item::item_of;
 use crate::operand::{items_of_view, operand_items};
-use crate::taken::Taken;
 use elem_descr::{Descr, Refusal};
 use elementwise::Items;
-use name_store::{Bench, Source};
+use name_store::{Bench, Bound, Source};
 use script_lang::{Argument, Operand};
 use shape_strides::Shape;
 use std::alloc::Global;
@@ -63,17 +62,17 @@ fn given_operand(
     shape: &Shape,
     descr: &Descr,
 ) -> Result<Source, Refusal>
-    requires bound { list_all (is_bound bench.now) (names_in_argument (argument.Operand operand.now)) ≡ true }
+    requires bound { list_all (is_bound bench.now.state) (names_in_argument (argument.Operand operand.now)) ≡ true }
     requires few { count shape.now * item_size descr.now ≤ max_bytes }
-    ensures { GivesItems bench.now descr.now (count shape.now) result (argument_items bench.now (argument.Operand operand.now) descr.now shape.now) }
+    ensures { GivesItems bench.now.state descr.now (count shape.now) result (argument_items bench.now.state (argument.Operand operand.now) descr.now shape.now) }
 {
     let array = bench.get(&operand.name).unwrap();
     match operand_items(alloc, bench, &array, &operand.index)? {
-        Taken::View(view) => {
-            let items = items_of_view(&array, &view);
-            fitted(alloc, items, Some(array.number), shape, descr)
+        Bound::View { number, layout, .. } => {
+            let items = items_of_view(&array, &layout);
+            fitted(alloc, items, Some(number), shape, descr)
         }
-        Taken::Copy(copy) => fitted(alloc, copy.items(), None, shape, descr),
+        Bound::Fresh(copy) => fitted(alloc, copy.items(), None, shape, descr),
     }
 }
 
@@ -86,9 +85,9 @@ pub fn give(
     shape: &Shape,
     descr: &Descr,
 ) -> Result<Source, Refusal>
-    requires bound { list_all (is_bound bench.now) (names_in_argument value.now) ≡ true }
+    requires bound { list_all (is_bound bench.now.state) (names_in_argument value.now) ≡ true }
     requires few { count shape.now * item_size descr.now ≤ max_bytes }
-    ensures { GivesItems bench.now descr.now (count shape.now) result (argument_items bench.now value.now descr.now shape.now) }
+    ensures { GivesItems bench.now.state descr.now (count shape.now) result (argument_items bench.now.state value.now descr.now shape.now) }
 {
     match value {
         Argument::Literal(literal) => Ok(Source::One(item_of(alloc, descr, literal)?)),

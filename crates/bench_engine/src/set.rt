@@ -48,10 +48,10 @@ fn new_items(
     operation: Option<Operation>,
     value: &Argument,
 ) -> Result<Source, Refusal>
-    requires bound { list_all (is_bound bench.now) (names_in_argument value.now) ≡ true }
-    requires target { (name : List ℕ) × (a : Array) × (part : Array) × Shows bench.now a array.now × IsTarget bench.now name a part target.now }
-    ensures { (name : List ℕ) (a part : Array) → Shows bench.now a array.now → IsTarget bench.now name a part target.now
-        → GivesItems bench.now array.now.descr.now (count part.shape) result (new_items bench.now array.now.descr.now part operation value.now) }
+    requires bound { list_all (is_bound bench.now.state) (names_in_argument value.now) ≡ true }
+    requires target { (name : List ℕ) × (a : Array) × (part : Array) × Shows bench.now.state a array.now × IsTarget bench.now.state name a part target.now }
+    ensures { (name : List ℕ) (a part : Array) → Shows bench.now.state a array.now → IsTarget bench.now.state name a part target.now
+        → GivesItems bench.now.state array.now.descr.now (count part.shape) result (new_items bench.now.state array.now.descr.now part operation value.now) }
 {
     match operation {
         None => give(alloc, bench, value, target.shape(), array.descr),
@@ -75,8 +75,8 @@ pub fn set(
 ) -> Result<(), Refusal>
     requires room { vec_len out.old + 64 ≤ vec_capacity out.old }
     ensures room { vec_capacity out.old ≤ vec_capacity out.new }
-    ensures answers { CarriesOut (list_all (is_bound bench.old) (name.now ∷ names_in_index index.now ++ names_in_argument value.now))
-        (λ choice. write_outcome bench.old name.now index.now operation value.now) bench.old bench.new out.old.items out.new.items result }
+    ensures answers { CarriesOut (list_all (is_bound bench.old.state) (name.now ∷ names_in_index index.now ++ names_in_argument value.now))
+        (λ choice. write_outcome bench.old.state name.now index.now operation value.now) bench.old.state bench.new.state out.old.items out.new.items result }
 {
     let Some(array) = bench.get(name) else {
         return Err(Refusal::UnknownName);

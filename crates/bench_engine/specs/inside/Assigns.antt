@@ -20,14 +20,14 @@ use Rattle.name_store.specs.States.{State, Array}
 use Rattle.name_store.specs.Arrays.{addresses, descr_of, read}
 use Rattle.name_store.specs.Targets.{FitsBuffer, Supplies, LeadsTo, MayWrite, target_offsets, target_shape}
 use Rattle.name_store.specs.declared.array_ref.ArrayRef.{ArrayRef}
+use Rattle.name_store.specs.declared.bound.Bound.{Bound}
+use Rattle.name_store.specs.declared.bound.Bound.TheVariants as bound
 use Rattle.name_store.specs.declared.target.Source.{Source}
 use Rattle.name_store.specs.declared.target.Source.TheVariants as source
 use Rattle.name_store.specs.declared.target.Target.{Target}
 use Rattle.name_store.specs.declared.target.Target.TheVariants as target
 use Rattle.bench_engine.specs.Machine.{viewed}
 use Rattle.bench_engine.specs.inside.OwnContents.{IsInCOrder}
-use Rattle.bench_engine.specs.declared.taken.Taken.{Taken}
-use Rattle.bench_engine.specs.declared.taken.Taken.TheVariants as taken
 
 -- ---- what an index list takes
 
@@ -38,13 +38,14 @@ pub record Holds (s : State) (part : Array) (o : Owned) : Type 0 where
   pub order : IsInCOrder o
   pub items : map (item_from o.descr o.block) (offsets o.layout) ≡ read s part
 
--- a view of the array's layout, or a copy
-abbrev pub IsTaken : State → Array → ArrayRef → Bool → Taken → View → Type 0
-IsTaken s array r plain (taken.View layout) view = (plain ≡ true) × IsViewOf r.layout.now layout view × KeepsNested r.layout.now layout
-IsTaken s array r plain (taken.Copy o) view = (plain ≡ false) × Holds s (viewed array view) o
+-- a view of the array's layout in its buffer, or a copy
+abbrev pub IsTaken : State → Array → ArrayRef → Bool → Bound → View → Type 0
+IsTaken s array r plain (bound.View number path layout writable) view =
+    (plain ≡ true) × (number ≡ r.number) × (path ≡ r.path.now) × (writable ≡ r.writable) × IsViewOf r.layout.now layout view × KeepsNested r.layout.now layout
+IsTaken s array r plain (bound.Fresh o) view = (plain ≡ false) × Holds s (viewed array view) o
 
 -- what is taken is the view that is there; a refusal is the one that is there, unless memory ran out
-abbrev pub GivesTaken : State → Array → ArrayRef → Bool → Result Taken Refusal → Result View Refusal → Type 0
+abbrev pub GivesTaken : State → Array → ArrayRef → Bool → Result Bound Refusal → Result View Refusal → Type 0
 GivesTaken s array r plain (Ok taken) (Ok view) = IsTaken s array r plain taken view
 GivesTaken s array r plain (Ok taken) (Err refusal) = ⊥
 GivesTaken s array r plain (Err refusal) there = (refusal ≡ OutOfMemory) ⊎ (there ≡ Err refusal)

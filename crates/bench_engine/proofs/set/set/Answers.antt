@@ -19,19 +19,19 @@ returns-in_default-clause-answers c = (refl, unchanged _, inr (λ choice. set-un
 
 pub returns-then-not-are_bound-clause-answers : goal.returns-then-not-are_bound-clause-answers
 returns-then-not-are_bound-clause-answers c =
-    let it = found c.args.bench.now _ c.in-Some.array c.in-Some.ensures in
+    let it = found c.args.bench.now.state _ c.in-Some.array c.in-Some.ensures in
     let left = rw c.as_slice.ensures at (sym c.if-not-are_bound.ensures) in
-    (refl, unchanged _, inr (λ choice. set-unbound _ _ _ _ _ it.0 it.1 (both-bound c.args.bench.now c.args.name.now c.args.index.now c.args.operation c.args.value.now _ _ left refl)))
+    (refl, unchanged _, inr (λ choice. set-unbound _ _ _ _ _ it.0 it.1 (both-bound c.args.bench.now.state c.args.name.now c.args.index.now c.args.operation c.args.value.now _ _ left refl)))
 
 pub returns-then-not-has_bound-clause-answers : goal.returns-then-not-has_bound-clause-answers
 returns-then-not-has_bound-clause-answers c =
-    let it = found c.args.bench.now _ c.in-Some.array c.in-Some.ensures in
+    let it = found c.args.bench.now.state _ c.in-Some.array c.in-Some.ensures in
     let left = rw c.as_slice.ensures at (sym c.if-not-are_bound.ensures) in
-    (refl, unchanged _, inr (λ choice. set-unbound _ _ _ _ _ it.0 it.1 (both-bound c.args.bench.now c.args.name.now c.args.index.now c.args.operation c.args.value.now _ _ left (sym c.if-not-has_bound.ensures))))
+    (refl, unchanged _, inr (λ choice. set-unbound _ _ _ _ _ it.0 it.1 (both-bound c.args.bench.now.state c.args.name.now c.args.index.now c.args.operation c.args.value.now _ _ left (sym c.if-not-has_bound.ensures))))
 
 pub returns-in_err-target-clause-answers : goal.returns-in_err-target-clause-answers
 returns-in_err-target-clause-answers c =
-    let s = c.args.bench.now in
+    let s = c.args.bench.now.state in
     let p = err_from_is_err_and c.from_residual.result c.from_residual.ensures.1 in
     let it = found s _ c.in-Some.array c.in-Some.ensures in
     let left = rw c.as_slice.ensures at (sym c.if-not-are_bound.ensures) in
@@ -47,14 +47,14 @@ returns-in_err-target-clause-answers c =
 
 pub new_items-requires : goal.new_items-requires
 new_items-requires c =
-    let s = c.args.bench.now in
+    let s = c.args.bench.now.state in
     let it = found s _ c.in-Some.array c.in-Some.ensures in
     let part = given-target s c.args.name.now it.0 c.in_ok-target.target (target_part s it.0 c.as_slice-2.result.now) (c.in_ok-target.ensures c.args.name.now it.0 it.1 it.2) in
     record { bound = sym c.if-not-has_bound.ensures; target = (c.args.name.now, it.0, part.0, it.2, part.2) }
 
 pub returns-in_err-items-clause-answers : goal.returns-in_err-items-clause-answers
 returns-in_err-items-clause-answers c =
-    let s = c.args.bench.now in
+    let s = c.args.bench.now.state in
     let p = err_from_is_err_and c.from_residual-in_err-items.result c.from_residual-in_err-items.ensures.1 in
     let it = found s _ c.in-Some.array c.in-Some.ensures in
     let left = rw c.as_slice.ensures at (sym c.if-not-are_bound.ensures) in
@@ -71,7 +71,7 @@ returns-in_err-items-clause-answers c =
 
 pub write_items-requires : goal.write_items-requires
 write_items-requires c =
-    let s = c.args.bench.now in
+    let s = c.args.bench.now.state in
     let it = found s _ c.in-Some.array c.in-Some.ensures in
     let part = given-target s c.args.name.now it.0 c.in_ok-target.target (target_part s it.0 c.as_slice-2.result.now) (c.in_ok-target.ensures c.args.name.now it.0 it.1 it.2) in
     let given = given-given s c.in-Some.array.descr.now (count part.0.shape) c.in_ok-items.items (new_items s c.in-Some.array.descr.now part.0 c.args.operation c.args.value.now) (c.in_ok-items.ensures c.args.name.now it.0 part.0 it.2 part.2) in
@@ -88,7 +88,7 @@ write_items-requires c =
 
 pub returns-in_err-count-clause-answers : goal.returns-in_err-count-clause-answers
 returns-in_err-count-clause-answers c =
-    let s = c.args.bench.now in
+    let s = c.args.bench.now.state in
     let p = err_from_is_err_and c.from_residual-in_err-count.result c.from_residual-in_err-count.ensures.1 in
     let it = found s _ c.in-Some.array c.in-Some.ensures in
     let left = rw c.as_slice.ensures at (sym c.if-not-are_bound.ensures) in
@@ -97,14 +97,14 @@ returns-in_err-count-clause-answers c =
 
 pub push_count-requires-clause-count : goal.push_count-requires-clause-count
 push_count-requires-clause-count c =
-    let s = c.args.bench.now in
+    let s = c.args.bench.now.state in
     let it = found s _ c.in-Some.array c.in-Some.ensures in
     let part = given-target s c.args.name.now it.0 c.in_ok-target.target (target_part s it.0 c.as_slice-2.result.now) (c.in_ok-target.ensures c.args.name.now it.0 it.1 it.2) in
     omega (arith, c.in_ok-count.ensures.answers.0, part.2.counted, ap count c.shape.ensures, c.items-count.ensures.value, c.items-count.ensures.limit)
 
 pub returns-clause-answers : goal.returns-clause-answers
 returns-clause-answers c =
-    let s = c.args.bench.now in
+    let s = c.args.bench.now.state in
     let it = found s _ c.in-Some.array c.in-Some.ensures in
     let left = rw c.as_slice.ensures at (sym c.if-not-are_bound.ensures) in
     let right = sym c.if-not-has_bound.ensures in
@@ -113,7 +113,7 @@ returns-clause-answers c =
     let given = given-given s c.in-Some.array.descr.now (count part.0.shape) c.in_ok-items.items (new_items s c.in-Some.array.descr.now part.0 c.args.operation c.args.value.now) (c.in_ok-items.ensures c.args.name.now it.0 part.0 it.2 part.2) in
     let n = c.in_ok-count.ensures.answers.0 ∙ part.2.counted ∙ ap count (ap (λ a. a.shape) (sym part.2.part_is)) in
     let has = subst (λ (k : ℕ). Supplies s (descr_of s it.0) k c.in_ok-items.items given.0) (sym c.in_ok-count.ensures.answers.0) (supplied s it.0 part.0 c.in-Some.array c.in_ok-target.target c.in_ok-items.items given.0 it.2 part.2 given.2) in
-    let done : c.write_items.new.bench ≡ written s it.0 part.0.places given.0 =
+    let done : c.write_items.new.self.state ≡ written s it.0 part.0.places given.0 =
     c.in_ok-count.ensures.answers.1 it.0 part.2.places given.0 part.2.leads has ∙ (λ i. written s it.0 (sym part.2.part_is i).places given.0) in
     let any = spare s in (
       any.0,
