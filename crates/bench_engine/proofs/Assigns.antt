@@ -60,6 +60,12 @@ lies-viewed s a part old new view lies is = record {
         let here : rank old.shape (view.leads index) < length (offsets old) = is.inside k d below in
         subst (λ (n : ℕ). rank lies.shape (view.leads index) < n) counted (subst (λ (l : List ℕ). rank l (view.leads index) < length (offsets old)) lies.shape_is here)
 
+-- what holds of all offsets of a layout holds of those of a view of it
+pub all-viewed : (P : ℕ → Type 0) (old new : Layout) (view : View) → IsViewOf old new view → All P (offsets old) → All P (offsets new)
+all-viewed P old new view is all = subst (All P) (sym is.places)
+    (All-map P (λ index. slice_index (offsets old) (rank old.shape (view.leads index))) (indexes view.shape)
+    (λ k d below. all (rank old.shape (view.leads (get_or (indexes view.shape) k d))) 0 (is.inside k d below)))
+
 -- ---- the shape of what is stretched
 
 shape-then : (can : Bool) (e : Refusal) (there : Result View Refusal) (f : View → View) (target : List ℕ) → ((view : View) → (f view).shape ≡ target) → IfOk (check can e >>= (λ _. there >>= (λ view. Ok (f view)))) (λ view. view.shape ≡ target)

@@ -27,11 +27,11 @@ held-some (b ∷ bytes) false piece some holds = omega (arith, ap length holds)
 
 -- a reply that stands in out, and a part of it that has gone out
 pub told-in-part : (shelf shelf' : StoreState) (old new : Session) (answered : Option Bool) (written written' : Option (List ℕ)) → true ≡ is_some answered → AnswersHeld shelf shelf' old new answered →
-    ((gone missing : List ℕ) × (new.out.items ++ 10 ∷ [] ≡ gone ++ missing) × (0 < length missing) × Appends written written' gone) → ToldInPart AnswersLine (world old.bench shelf) (world new.bench shelf') written written' old
+    ((gone missing : List ℕ) × (new.out.items ++ 10 ∷ [] ≡ gone ++ missing) × (0 < length missing) × Appends written written' gone) → ToldInPart AnswersLine (world old.bench.state shelf) (world new.bench.state shelf') written written' old
 told-in-part shelf shelf' old new None written written' some held part = cc
 told-in-part shelf shelf' old new (Some accepted) written written' some held part = record {
   reply = held.tells.0;
-  answers = λ piece holds. subst (λ (replies : List Reply). AnswersLine (world old.bench shelf) (trimmed piece) (world new.bench shelf') replies) held.tells.1 (held.answers piece holds);
+  answers = λ piece holds. subst (λ (replies : List Reply). AnswersLine (world old.bench.state shelf) (trimmed piece) (world new.bench.state shelf') replies) held.tells.1 (held.answers piece holds);
   gone = part.0;
   missing = part.1;
   broken = ap (λ text. text ++ 10 ∷ []) (sym held.tells.3) ∙ part.2;

@@ -1,6 +1,7 @@
 -- Items that are to be written: stretched into a shape, and cast.
-use Rattle.std.proofs.Common.{◌≡◌, ◌<◌, ◌≤◌, ◌+◌, ◌*◌, ℕ, zero, suc, Bool, true, false, nat_le, if◌then◌else◌, List, [], ◌∷◌, length, map, get_or, slice_index, unwrap_or, Some, refl, sym, ap, ◌∙◌, subst, All, Bor, Result, Ok, Err, inl, inr, arith}
-use Rattle.std.proofs.lemmas.Bool.{le-leb}
+use Rattle.std.proofs.Common.{◌≡◌, ◌<◌, ◌≤◌, ◌+◌, ◌*◌, ℕ, zero, suc, Bool, true, false, nat_le, if◌then◌else◌, List, [], ◌∷◌, length, map, get_or, slice_index, unwrap_or, Option, Some, None, is_some, refl, sym, ap, ◌∙◌, subst, All, Result, Ok, Err, inl, inr, arith}
+use Rattle.std.specs.FinMap.{get}
+use Rattle.std.proofs.lemmas.Bool.{false≢true, le-leb}
 use Rattle.std.proofs.lemmas.List.{get_or-map, length-map}
 use Rattle.std.proofs.lemmas.List.Elements.{All-map}
 use Rattle.std.proofs.lemmas.Simd.{map-map}
@@ -20,32 +21,26 @@ use Rattle.shape_strides.specs.Layouts.{offsets}
 use Rattle.shape_strides.specs.Limits.{max_bytes}
 use Rattle.view_ops.specs.Views.{View, IsViewOf, GivesView}
 use Rattle.broadcasting.specs.Broadcasts.{stretched_into}
+use Rattle.overlap_copy.specs.declared.items.Items.{Items}
 use Rattle.overlap_copy.specs.declared.owned.Owned.{Owned}
-use Rattle.overlap_copy.specs.Blocks.{places_of}
 use Rattle.script_lang.specs.declared.command.Operand.{Operand}
 use Rattle.script_lang.specs.declared.command.Argument.TheVariants as argument
 use Rattle.name_store.specs.States.{State, Array}
-use Rattle.name_store.specs.Arrays.{find_array, buffer_of, descr_of, read, span_of, placed_item}
-use Rattle.name_store.specs.ArrayLaws.{places-offsets}
-use Rattle.name_store.specs.Parts.{start_at, part_at}
+use Rattle.name_store.specs.Arrays.{find_array, addresses, buffer_of, descr_of, read, span_of, placed_item}
+use Rattle.name_store.specs.Parts.{part_at}
 use Rattle.name_store.specs.Shown.{Shows}
-use Rattle.name_store.specs.Targets.{items_of}
 use Rattle.name_store.specs.declared.array_ref.ArrayRef.{ArrayRef}
+use Rattle.name_store.specs.declared.bound.Bound.{Bound}
+use Rattle.name_store.specs.declared.bound.Bound.TheVariants as bound
+use Rattle.name_store.specs.declared.target.Source.{Source}
+use Rattle.name_store.specs.declared.target.Source.TheVariants as source
 use Rattle.bench_engine.specs.IndexLists.{taken}
 use Rattle.bench_engine.specs.Machine.{viewed, source_part, argument_items, cast_items}
-use Rattle.bench_engine.specs.declared.given.Given.{Given}
-use Rattle.bench_engine.specs.declared.given.Given.TheVariants as given
-use Rattle.bench_engine.specs.declared.taken.Taken.{Taken}
-use Rattle.bench_engine.specs.inside.Assigns.{Holds, IsTaken, GivesTaken, LiesIn, Stretches, Fitted, cast_from, GivesItems}
-use Rattle.bench_engine.proofs.Assigns.{lies-whole, lies-viewed, stretched-shape}
-use Rattle.bench_engine.proofs.Sets.{read-part}
+use Rattle.bench_engine.specs.inside.Assigns.{Holds, IsTaken, GivesTaken, Stretches, Fitted, cast_from, GivesItems}
+use Rattle.bench_engine.specs.inside.Operands.{StandsFor}
+use Rattle.bench_engine.proofs.Assigns.{all-viewed, lies-whole, lies-viewed, stretched-shape}
+use Rattle.bench_engine.proofs.OperandLaws.{copy-stands, view-stands}
 use Rattle.bench_engine.proofs.Views.{given-view}
-
--- what holds of all offsets of a layout holds of those of a view of it
-pub all-viewed : (P : ℕ → Type 0) (old new : Layout) (view : View) → IsViewOf old new view → All P (offsets old) → All P (offsets new)
-all-viewed P old new view is all = subst (All P) (sym is.places)
-    (All-map P (λ index. slice_index (offsets old) (rank old.shape (view.leads index))) (indexes view.shape)
-    (λ k d below. all (rank old.shape (view.leads (get_or (indexes view.shape) k d))) 0 (is.inside k d below)))
 
 pub stretches : (view wide : Layout) (shape : List ℕ) → GivesView view (Ok wide) (stretched_into view.shape shape) → Stretches view shape wide
 stretches view wide shape gives =
@@ -66,6 +61,38 @@ pub cast-lacks : (can : Bool) (shape wide : List ℕ) (item : ℕ) (e : Refusal)
 cast-lacks can shape wide item e is shaped few refused =
     let small : count wide * item ≤ max_bytes = subst (λ (l : List ℕ). count l * item ≤ max_bytes) (sym shaped) few in
     refused ∙ (λ i. if is i then (if le-leb (count wide * item) max_bytes small i then OutOfMemory else TooLarge) else NoSuchCast)
+
+-- ---- items of a part of an array, as those of a view of them
+
+pub stands-wide : (s : State) (part : Array) (x : Items) → StandsFor s part x → (wide : Layout) (seen : View) → IsViewOf x.layout.now wide seen → map (item_from x.descr.now x.block.now) (offsets wide) ≡ read s (viewed part seen)
+stands-wide s part x stands wide seen is =
+    ap (map item) is.places
+    ∙ map-map item (λ index. slice_index (offsets x.layout.now) (rank x.layout.now.shape (seen.leads index))) (indexes seen.shape)
+    ∙ through (indexes seen.shape) is.inside
+    ∙ sym (map-map placed (λ index. slice_index part.places (rank part.shape (seen.leads index))) (indexes seen.shape))
+  where
+    item : ℕ → List LeafValue
+    item offset = item_from x.descr.now x.block.now offset
+
+    placed : ℕ → List LeafValue
+    placed place = part_at (span_of s part) (placed_item (buffer_of s part).items place)
+
+    each : (k : ℕ) → k < length (offsets x.layout.now) → item (slice_index (offsets x.layout.now) k) ≡ placed (slice_index part.places k)
+    each k below =
+        sym (get_or-map item (offsets x.layout.now) k 0 [] below)
+        ∙ ap (λ (items : List (List LeafValue)). get_or items k []) (sym stands.items)
+        ∙ get_or-map placed part.places k 0 [] (omega (arith, below, counted))
+      where
+        counted : length (offsets x.layout.now) ≡ length part.places
+        counted = sym (length-map (offsets x.layout.now) item) ∙ ap length (sym stands.items) ∙ length-map part.places placed
+
+    through : (list : List (List ℕ)) → All (λ index. rank x.layout.now.shape (seen.leads index) < length (offsets x.layout.now)) list →
+        map (λ index. item (slice_index (offsets x.layout.now) (rank x.layout.now.shape (seen.leads index)))) list ≡ map (λ index. placed (slice_index part.places (rank part.shape (seen.leads index)))) list
+    through [] inside = refl
+    through (index ∷ list) inside = λ i.
+        (each (rank x.layout.now.shape (seen.leads index)) (inside zero index (omega arith))
+        ∙ ap (λ (l : List ℕ). placed (slice_index part.places (rank l (seen.leads index)))) (sym stands.shape)) i
+        ∷ through list (λ k d below. inside (suc k) d (omega (arith, below))) i
 
 -- ---- what an operand comes to
 
@@ -110,106 +137,92 @@ module _ (s : State) (operand : Operand) (descr : Descr) (shape : List ℕ) (b :
   none-taken r plain e (inl lacks) = inl lacks
   none-taken r plain e (inr bad) = inr (items-bad e bad)
 
-  -- the items of a view in a block, of an element type, which the array has there
-  module _ (view : View) (good : taken s b index ≡ Ok view) (block : List ℕ) (from : Descr) (layout : Layout) (typed : from ≡ descr_of s b) (shaped : layout.shape ≡ view.shape)
-      (reads : (wide : Layout) (seen : View) → IsViewOf layout wide seen → map (item_from from block) (offsets wide) ≡ read s (viewed (viewed b view) seen)) where
-    fits : (wide : Layout) (is : Stretches layout shape wide) → stretched_into view.shape shape ≡ Ok is.seen
-    fits wide is = ap (λ (l : List ℕ). stretched_into l shape) (sym shaped) ∙ is.there
+  -- the items of what is taken, which stand in a block
+  module _ (view : View) (good : taken s b index ≡ Ok view) (x : Items) (stands : StandsFor s (viewed b view) x) where
+    part : Array
+    part = viewed b view
 
-    cast-read : (wide : Layout) (is : Stretches layout shape wide) → cast_from block from wide descr ≡ map (cast_item (descr_of s b) descr) (read s (viewed (viewed b view) is.seen))
+    fits : (wide : Layout) (is : Stretches x.layout.now shape wide) → stretched_into view.shape shape ≡ Ok is.seen
+    fits wide is = ap (λ (l : List ℕ). stretched_into l shape) stands.shape ∙ is.there
+
+    done : (wide : Layout) (is : Stretches x.layout.now shape wide) → can_cast x.descr.now descr ≡ true →
+        argument_items s (argument.Operand operand) descr shape ≡ Ok (map (cast_item (descr_of s b) descr) (read s (viewed (viewed b view) is.seen)))
+    done wide is can = items-done view is.seen good (fits wide is) (ap (λ d. can_cast d descr) stands.descr ∙ can)
+
+    cast-read : (wide : Layout) (is : Stretches x.layout.now shape wide) → cast_from x.block.now x.descr.now wide descr ≡ map (cast_item (descr_of s b) descr) (read s (viewed (viewed b view) is.seen))
     cast-read wide is =
-        sym (map-map (cast_item from descr) (item_from from block) (offsets wide))
-        ∙ (λ i. map (cast_item (typed i) descr) (reads wide is.seen is.is i))
+        sym (map-map (cast_item x.descr.now descr) (item_from x.descr.now x.block.now) (offsets wide))
+        ∙ (λ i. map (cast_item (sym stands.descr i) descr) (stands-wide s (viewed b view) x stands wide is.seen is.is i))
 
-    pub own-given : (o : Owned) (name : List ℕ) → Fitted block from layout shape descr name (Ok (given.Own o)) → GivesItems s descr (count shape) (Ok (given.Own o)) (argument_items s (argument.Operand operand) descr shape)
-    own-given o name (wide, is, can, type-is, shape-is, items) =
-        subst (GivesItems s descr (count shape) (Ok (given.Own o))) (sym (items-done view is.seen good (fits wide is) (ap (λ d. can_cast d descr) (sym typed) ∙ can)))
+    block-given : (number : Option ℕ) (o : Owned) → Fitted x number shape descr (Ok (source.Block o)) → GivesItems s descr (count shape) (Ok (source.Block o)) (argument_items s (argument.Operand operand) descr shape)
+    block-given number o (wide, is, can, type-is, shape-is, items) =
+        subst (GivesItems s descr (count shape) (Ok (source.Block o))) (sym (done wide is can))
         (record { alike = record { leaves = ap leaves_of type-is; size = ap item_size type-is }; count = length-offsets o.layout ∙ ap count shape-is }, items ∙ cast-read wide is)
 
-    pub none-given : (e : Refusal) (name : List ℕ) → Fitted block from layout shape descr name (Err e) → GivesItems s descr (count shape) (Err e) (argument_items s (argument.Operand operand) descr shape)
-    none-given e name (inl lacks) = inl lacks
-    none-given e name (inr (inl narrow)) = inr (items-narrow view e good (ap (λ (l : List ℕ). stretched_into l shape) (sym shaped) ∙ narrow))
-    none-given e name (inr (inr (none, wide, is, cannot))) = inr (items-uncast view is.seen good (fits wide is) (ap (λ d. can_cast d descr) (sym typed) ∙ cannot) ∙ ap Err (sym none))
+    none-given : (number : Option ℕ) (e : Refusal) → Fitted x number shape descr (Err e) → GivesItems s descr (count shape) (Err e) (argument_items s (argument.Operand operand) descr shape)
+    none-given number e (inl lacks) = inl lacks
+    none-given number e (inr (inl narrow)) = inr (items-narrow view e good (ap (λ (l : List ℕ). stretched_into l shape) stands.shape ∙ narrow))
+    none-given number e (inr (inr (none, wide, is, cannot))) = inr (items-uncast view is.seen good (fits wide is) (ap (λ d. can_cast d descr) stands.descr ∙ cannot) ∙ ap Err (sym none))
 
-  -- ---- of a view of the array
+  -- a view of the array
+  module _ (r : ArrayRef) (shows : Shows s b r) (layout : Layout) (view : View) (good : taken s b index ≡ Ok view) (is-view : IsViewOf r.layout.now layout view)
+      (x : Items) (block : x.block.now ≡ r.block.now) (laid : x.layout.now ≡ layout) (typed : x.descr.now ≡ r.descr.now) where
+    stands : StandsFor s (viewed b view) x
+    stands = view-stands s b r layout view x shows is-view block laid typed
 
-  module _ (r : ArrayRef) (shows : Shows s b r) (layout : Layout) (view : View) (good : taken s b index ≡ Ok view) (is-view : IsViewOf r.layout.now layout view) where
-    lies : LiesIn s b (viewed b view) layout
-    lies = lies-viewed s b b r.layout.now layout view (lies-whole s b r shows) is-view
-
-    lies-wide : (wide : Layout) (seen : View) → IsViewOf layout wide seen → LiesIn s b (viewed (viewed b view) seen) wide
-    lies-wide wide seen is = lies-viewed s b (viewed b view) layout wide seen lies is
-
-    reads-wide : (wide : Layout) (seen : View) → IsViewOf layout wide seen → map (item_from r.descr.now r.block.now) (offsets wide) ≡ read s (viewed (viewed b view) seen)
-    reads-wide wide seen is = sym (read-part s b (viewed (viewed b view) seen) r wide shows (lies-wide wide seen is))
-
-    named-given : (name : Bor (List ℕ)) (wide : Layout) → Fitted r.block.now r.descr.now layout shape descr operand.name (Ok (given.Named name wide)) → GivesItems s descr (count shape) (Ok (given.Named name wide)) (argument_items s (argument.Operand operand) descr shape)
-    named-given name wide (named, is, can, alike, items) =
-        let part = lies-wide wide is.seen is.is in
-        let there : find_array s.names name.now ≡ Some b = ap (find_array s.names) named ∙ found in
-        let few : length (offsets wide) ≡ count shape = length-offsets wide ∙ ap count (stretched-shape layout (Ok wide) shape (subst (GivesView layout (Ok wide)) (sym is.there) is.is)) in
-        subst (GivesItems s descr (count shape) (Ok (given.Named name wide))) (sym (items-done view is.seen good (fits view good r.block.now r.descr.now layout (sym shows.descr) is-view.shape reads-wide wide is) (ap (λ d. can_cast d descr) shows.descr ∙ can))) (
+    buffer-given : (number : ℕ) (wide : Layout) → Fitted x (Some r.number) shape descr (Ok (source.Buffer number wide)) → GivesItems s descr (count shape) (Ok (source.Buffer number wide)) (argument_items s (argument.Operand operand) descr shape)
+    buffer-given number wide (same, is, can, alike, items) =
+        let same-number : r.number ≡ number = cc in
+        let in-view : IsViewOf layout wide is.seen = subst (λ (l : Layout). IsViewOf l wide is.seen) laid is.is in
+        let lies = lies-viewed s b (viewed b view) layout wide is.seen (lies-viewed s b b r.layout.now layout view (lies-whole s b r shows) is-view) in-view in
+        subst (GivesItems s descr (count shape) (Ok (source.Buffer number wide))) (sym (done view good x stands wide is can)) (
+          record (viewed (viewed b view) is.seen) { writable = false },
           record {
-            array = b;
-            places = part.places;
-            found = there;
-            alike = subst (λ (d : Descr). AreAlike d descr) (sym shows.descr) alike;
-            offsets_are = part.offsets_are;
-            among = part.among;
-            fits = part.fits;
-            count = few;
+            view = record {
+              number_is = sym same-number ∙ shows.view.number_is;
+              path_is = refl;
+              there = subst (λ n. is_some (get s.buffers n) ≡ true) same-number shows.view.there;
+              laid = record {
+                part = shows.view.laid.part;
+                shape = in-view.shape;
+                places = lies.offsets_are ∙ ap (λ (a : Array). addresses s (record b { places = a.places })) (sym lies.part_is);
+                writable_is = refl;
+                fits = lies.fits;
+                nested = λ no. absurd (false≢true no);
+              };
+            };
+            alike = subst (λ (d : Descr). AreAlike d descr) (sym stands.descr) alike;
+            count = length-offsets wide ∙ ap count (stretched-shape x.layout.now (Ok wide) shape (subst (GivesView x.layout.now (Ok wide)) (sym is.there) is.is));
           },
-          ap (λ a. items_of s a wide) there
-              ∙ ap (λ ps. read s (record b { places = ps })) (ap (places_of (item_size (buffer_of s b).descr)) part.offsets_are ∙ places-offsets (item_size (buffer_of s b).descr) (start_at (buffer_of s b).descr b.path) part.places shows.starts)
-              ∙ ap (read s) (sym part.part_is) ∙ sym (reads-wide wide is.seen is.is) ∙ items
-              ∙ cast-read view good r.block.now r.descr.now layout (sym shows.descr) is-view.shape reads-wide wide is,
+          sym (stands-wide s (viewed b view) x stands wide is.seen is.is) ∙ items ∙ cast-read view good x stands wide is,
         )
 
-    pub view-given : (result : Result Given Refusal) → Fitted r.block.now r.descr.now layout shape descr operand.name result → GivesItems s descr (count shape) result (argument_items s (argument.Operand operand) descr shape)
-    view-given (Ok (given.One item)) is = absurd is
-    view-given (Ok (given.Named name wide)) is = named-given name wide is
-    view-given (Ok (given.Own o)) is = own-given view good r.block.now r.descr.now layout (sym shows.descr) is-view.shape reads-wide o operand.name is
-    view-given (Err e) is = none-given view good r.block.now r.descr.now layout (sym shows.descr) is-view.shape reads-wide e operand.name is
+    pub view-given : (result : Result Source Refusal) → Fitted x (Some r.number) shape descr result → GivesItems s descr (count shape) result (argument_items s (argument.Operand operand) descr shape)
+    view-given (Ok (source.One bytes)) is = absurd is
+    view-given (Ok (source.Buffer number wide)) is = buffer-given number wide is
+    view-given (Ok (source.Block o)) is = block-given view good x stands (Some r.number) o is
+    view-given (Err e) is = none-given view good x stands (Some r.number) e is
 
-  -- ---- of a copy
-
-  module _ (view : View) (good : taken s b index ≡ Ok view) (o : Owned) (holds : Holds s (viewed b view) o) where
-    each : (k : ℕ) → k < length (offsets o.layout) → item_from o.descr o.block (slice_index (offsets o.layout) k) ≡ part_at (span_of s b) (placed_item (buffer_of s b).items (slice_index (viewed b view).places k))
-    each k below =
-        sym (get_or-map (item_from o.descr o.block) (offsets o.layout) k 0 [] below)
-        ∙ ap (λ (items : List (List LeafValue)). get_or items k []) holds.items
-        ∙ get_or-map (λ place. part_at (span_of s b) (placed_item (buffer_of s b).items place)) (viewed b view).places k 0 [] (omega (arith, below, counted))
-      where
-        counted : length (offsets o.layout) ≡ length (viewed b view).places
-        counted = sym (length-map (offsets o.layout) (item_from o.descr o.block)) ∙ ap length holds.items ∙ length-map (viewed b view).places (λ place. part_at (span_of s b) (placed_item (buffer_of s b).items place))
-
-    copy-wide : (wide : Layout) (seen : View) → IsViewOf o.layout wide seen → map (item_from o.descr o.block) (offsets wide) ≡ read s (viewed (viewed b view) seen)
-    copy-wide wide seen is =
-        ap (map (item_from o.descr o.block)) is.places
-        ∙ map-map (item_from o.descr o.block) (λ index. slice_index (offsets o.layout) (rank o.layout.shape (seen.leads index))) (indexes seen.shape)
-        ∙ through (indexes seen.shape) is.inside
-        ∙ sym (map-map (λ place. part_at (span_of s b) (placed_item (buffer_of s b).items place)) (λ index. slice_index (viewed b view).places (rank view.shape (seen.leads index))) (indexes seen.shape))
-      where
-        through : (list : List (List ℕ)) → All (λ index. rank o.layout.shape (seen.leads index) < length (offsets o.layout)) list →
-            map (λ index. item_from o.descr o.block (slice_index (offsets o.layout) (rank o.layout.shape (seen.leads index)))) list
-            ≡ map (λ index. part_at (span_of s b) (placed_item (buffer_of s b).items (slice_index (viewed b view).places (rank view.shape (seen.leads index))))) list
-        through [] inside = refl
-        through (index ∷ list) inside = λ i.
-            (each (rank o.layout.shape (seen.leads index)) (inside zero index (omega arith))
-            ∙ ap (λ (l : List ℕ). part_at (span_of s b) (placed_item (buffer_of s b).items (slice_index (viewed b view).places (rank l (seen.leads index))))) holds.shape) i
-            ∷ through list (λ k d below. inside (suc k) d (omega (arith, below))) i
-
-    pub copy-given : (result : Result Given Refusal) → ((name : List ℕ) → Fitted o.block o.descr o.layout shape descr name result) → GivesItems s descr (count shape) result (argument_items s (argument.Operand operand) descr shape)
-    copy-given (Ok (given.One item)) is = absurd (is [])
-    copy-given (Ok (given.Named name wide)) is = absurd (no-name name.now (λ n. (is n).0))
-      where
-        no-name : (name : List ℕ) → ((n : List ℕ) → name ≡ n) → ⊥
-        no-name name all = let none : List ℕ = [] in let bad : none ≡ 0 ∷ none = sym (all none) ∙ all (0 ∷ none) in absurd cc
-    copy-given (Ok (given.Own o')) is = own-given view good o.block o.descr o.layout holds.descr holds.shape copy-wide o' [] (is [])
-    copy-given (Err e) is = none-given view good o.block o.descr o.layout holds.descr holds.shape copy-wide e [] (is [])
+  -- a copy
+  pub copy-given : (view : View) → taken s b index ≡ Ok view → (o : Owned) → Holds s (viewed b view) o → (x : Items) → x.block.now ≡ o.block → x.layout.now ≡ o.layout → x.descr.now ≡ o.descr →
+      (result : Result Source Refusal) → Fitted x None shape descr result → GivesItems s descr (count shape) result (argument_items s (argument.Operand operand) descr shape)
+  copy-given view good o holds x block laid typed (Ok (source.One bytes)) is = absurd is
+  copy-given view good o holds x block laid typed (Ok (source.Buffer number wide)) (same, rest) = let no : ⊥ = cc in absurd no
+  copy-given view good o holds x block laid typed (Ok (source.Block o')) is = block-given view good x (copy-stands s (viewed b view) o x holds block laid typed) None o' is
+  copy-given view good o holds x block laid typed (Err e) is = none-given view good x (copy-stands s (viewed b view) o x holds block laid typed) None e is
 
 -- ---- of whatever is taken
 
-pub given-taken : (s : State) (b : Array) (r : ArrayRef) (plain : Bool) (t : Taken) (there : Result View Refusal) → GivesTaken s b r plain (Ok t) there → (view : View) × (there ≡ Ok view) × IsTaken s b r plain t view
+pub given-taken : (s : State) (b : Array) (r : ArrayRef) (plain : Bool) (t : Bound) (there : Result View Refusal) → GivesTaken s b r plain (Ok t) there → (view : View) × (there ≡ Ok view) × IsTaken s b r plain t view
 given-taken s b r plain t (Ok view) is = (view, refl, is)
 given-taken s b r plain t (Err e) is = absurd is
+
+-- where it is a view, or a copy
+pub taken-view : (s : State) (b : Array) (r : ArrayRef) (plain : Bool) (what : Bound) (number : ℕ) (path : List ℕ) (layout : Layout) (writable : Bool) (there : Result View Refusal) → what ≡ bound.View number path layout writable → GivesTaken s b r plain (Ok what) there →
+    (view : View) × (there ≡ Ok view) × IsTaken s b r plain (bound.View number path layout writable) view
+taken-view s b r plain what number path layout writable there same is =
+    given-taken s b r plain (bound.View number path layout writable) there (subst (λ (x : Bound). GivesTaken s b r plain (Ok x) there) same is)
+
+pub taken-copy : (s : State) (b : Array) (r : ArrayRef) (plain : Bool) (what : Bound) (o : Owned) (there : Result View Refusal) → what ≡ bound.Fresh o → GivesTaken s b r plain (Ok what) there →
+    (view : View) × (there ≡ Ok view) × IsTaken s b r plain (bound.Fresh o) view
+taken-copy s b r plain what o there same is = given-taken s b r plain (bound.Fresh o) there (subst (λ (x : Bound). GivesTaken s b r plain (Ok x) there) same is)

@@ -21,8 +21,7 @@ use Rattle.name_store.specs.declared.array_ref.ArrayRef.{ArrayRef}
 use Rattle.bench_engine.specs.Machine.{OperandValues, operand_values, one_item, viewed}
 use Rattle.bench_engine.specs.inside.Assigns.{Holds}
 use Rattle.bench_engine.specs.inside.Operands.{StandsFor, Stands, OwnStands}
-use Rattle.bench_engine.proofs.Assigns.{lies-whole, lies-viewed}
-use Rattle.bench_engine.proofs.GivenLaws.{all-viewed}
+use Rattle.bench_engine.proofs.Assigns.{all-viewed, lies-whole, lies-viewed}
 use Rattle.bench_engine.proofs.Sets.{read-part}
 use Rattle.bench_engine.proofs.StretchLaws.{stretched-same, one-stretched, map-replicate}
 

@@ -1,5 +1,5 @@
 -- What an index list shows of an array.
-use Rattle.std.proofs.Common.{◌≡◌, ◌⊎◌, true, false, ℕ, List, refl, sym, ap, ◌∙◌, subst, Ok, Err, inl, inr}
+use Rattle.std.proofs.Common.{◌≡◌, ◌⊎◌, true, false, ℕ, List, refl, sym, ap, ◌∙◌, subst, Bor, Ok, Err, inl, inr}
 use Rattle.std.specs.List.{list_all}
 use Rattle.elem_descr.specs.declared.refusal.Refusal.{Refusal}
 use Rattle.elem_descr.specs.declared.refusal.Refusal.TheVariants.{OutOfMemory}
@@ -8,6 +8,7 @@ use Rattle.shape_strides.specs.declared.layout.Layout.{Layout}
 use Rattle.shape_strides.specs.declared.memory_order.MemoryOrder.TheVariants.{C}
 use Rattle.shape_strides.specs.IndexItems.{is_basic}
 use Rattle.view_ops.specs.Views.{View}
+use Rattle.elem_descr.specs.declared.descr.Descr.{Descr}
 use Rattle.elem_descr.specs.Items.{item_size}
 use Rattle.overlap_copy.specs.declared.owned.Owned.{Owned}
 use Rattle.overlap_copy.specs.Blocks.{offsets_in}
@@ -18,12 +19,12 @@ use Rattle.name_store.specs.declared.array_ref.ArrayRef.{ArrayRef}
 use Rattle.bench_engine.specs.Contents.{new_contents}
 use Rattle.bench_engine.specs.IndexLists.{taken}
 use Rattle.bench_engine.specs.Machine.{a_view, a_copy, viewed, part_seen}
-use Rattle.bench_engine.specs.declared.part.Part.{Part}
-use Rattle.bench_engine.specs.declared.part.PartOrCopy.TheVariants as shown
-use Rattle.bench_engine.specs.declared.taken.Taken.TheVariants as took
-use Rattle.bench_engine.specs.inside.Assigns.{Holds, GivesTaken}
+use Rattle.name_store.specs.declared.bound.Bound.{Bound}
+use Rattle.name_store.specs.declared.bound.Bound.TheVariants as bound
+use Rattle.bench_engine.specs.declared.part.Viewed.{Viewed}
+use Rattle.bench_engine.specs.inside.Assigns.{Holds, IsTaken, GivesTaken}
 use Rattle.bench_engine.specs.inside.OwnContents.{held}
-use Rattle.bench_engine.specs.inside.Parts.{GivesSeen}
+use Rattle.bench_engine.specs.inside.Parts.{IsOf, GivesSeen}
 use Rattle.bench_engine.proofs.Copies.{made-held}
 use Rattle.bench_engine.proofs.GivenLaws.{given-taken}
 use Rattle.bench_engine.proofs.Views.{viewed-part}
@@ -45,19 +46,22 @@ module _ (s : State) (a : Array) (r : ArrayRef) (index : List (IndexItem (List �
         | inr bad ↦ inr (part-bad e bad)
       ]
 
-  pub indexed-part : (l : Layout) (part : Part) → Shows s a r → GivesTaken s a r (list_all is_basic index) (Ok (took.View l)) (taken s a index) → part.path ≡ r.path.now → part.descr ≡ r.descr → part.layout ≡ l → part.writable ≡ r.writable →
-      GivesSeen s r.number (Ok (shown.Part part)) (part_seen s a index)
-  indexed-part l part shows gives path descr layout writable =
-      let is = given-taken s a r (list_all is_basic index) (took.View l) (taken s a index) gives in
-      subst (GivesSeen s r.number (Ok (shown.Part part))) (sym (part-viewed is.0 is.1 is.2.0))
-      (viewed-part s a r a.writable (Ok is.0) part shows path descr (writable ∙ shows.view.laid.writable_is) (rw layout is.2.1) (λ free. (free, rw layout is.2.2)))
-
-  pub indexed-copy : (o : Owned) → Shows s a r → GivesTaken s a r (list_all is_basic index) (Ok (took.Copy o)) (taken s a index) → GivesSeen s r.number (Ok (shown.Copy o)) (part_seen s a index)
-  indexed-copy o shows gives =
-      let is = given-taken s a r (list_all is_basic index) (took.Copy o) (taken s a index) gives in
-      subst (GivesSeen s r.number (Ok (shown.Copy o))) (sym (part-copied is.0 is.1 is.2.0)) (held-is is.0 is.2.1)
+  pub indexed-seen : (x : Viewed) → Shows s a r → GivesTaken s a r (list_all is_basic index) (Ok x.bound) (taken s a index) → x.descr ≡ r.descr → GivesSeen s (Ok x) (part_seen s a index)
+  indexed-seen x shows gives descr =
+      let is = given-taken s a r (list_all is_basic index) x.bound (taken s a index) gives in
+      by x.bound refl is.0 is.1 is.2
     where
-      held-is : (view : View) (holds : Holds s (viewed a view) o) → new_contents (descr_of s a) view.shape (read s (viewed a view)) ≡ held o
-      held-is view holds =
-          sym (ap (λ d. new_contents d view.shape (read s (viewed a view))) holds.descr)
-          ∙ made-held C o.descr view.shape (read s (viewed a view)) o refl holds.shape (holds.order ∙ ap (offsets_in C (item_size o.descr)) holds.shape) holds.items
+      by : (b : Bound) → x.bound ≡ b → (view : View) → taken s a index ≡ Ok view → IsTaken s a r (list_all is_basic index) b view → GivesSeen s (Ok x) (part_seen s a index)
+      by (bound.View number path layout writable) same view good is =
+          subst (GivesSeen s (Ok x)) (sym (part-viewed view good is.0))
+          (viewed-part s a r a.writable (Ok view) x layout shows (same ∙ λ i. bound.View (is.1 i) (is.2 i) layout ((is.3 ∙ shows.view.laid.writable_is) i)) descr is.4 (λ free. (free, is.5)))
+      by (bound.Fresh o) same view good is =
+          subst (GivesSeen s (Ok x)) (sym (part-copied view good is.0)) (
+            subst (λ (b : Bound). IsOf s b (a_copy (new_contents (descr_of s a) view.shape (read s (viewed a view))))) (sym same) (held-is o view is.1),
+            shows.descr ∙ ap (λ (d : Bor Descr). d.now) (sym descr),
+          )
+        where
+          held-is : (o : Owned) (view : View) (holds : Holds s (viewed a view) o) → new_contents (descr_of s a) view.shape (read s (viewed a view)) ≡ held o
+          held-is o view holds =
+              sym (ap (λ d. new_contents d view.shape (read s (viewed a view))) holds.descr)
+              ∙ made-held C o.descr view.shape (read s (viewed a view)) o refl holds.shape (holds.order ∙ ap (offsets_in C (item_size o.descr)) holds.shape) holds.items

@@ -32,7 +32,7 @@ use Rattle.name_store.specs.declared.target.Target.{Target}
 use Rattle.name_store.specs.declared.target.Target.TheVariants as target
 use Rattle.bench_engine.specs.IndexLists.{taken, gathered}
 use Rattle.bench_engine.specs.Machine.{viewed, target_part}
-use Rattle.bench_engine.specs.declared.taken.Taken.TheVariants as took
+use Rattle.name_store.specs.declared.bound.Bound.TheVariants as bound
 use Rattle.bench_engine.specs.inside.Assigns.{GivesTaken, LiesIn, IsAimed, GivesAim, GivesTarget}
 use Rattle.bench_engine.specs.inside.OwnContents.{IsInCOrder}
 use Rattle.bench_engine.proofs.Assigns.{lies-whole, lies-viewed}
@@ -89,10 +89,10 @@ module _ (s : State) (a : Array) (r : ArrayRef) (shows : Shows s a r) (index : L
 
   -- ---- read
 
-  pub takes-view : (l : Layout) → list_all is_basic index ≡ true → GivesView r.layout.now (Ok l) (basic r.layout.now.shape index) → KeepsNested r.layout.now l → GivesTaken s a r (list_all is_basic index) (Ok (took.View l)) (taken s a index)
+  pub takes-view : (l : Layout) → list_all is_basic index ≡ true → GivesView r.layout.now (Ok l) (basic r.layout.now.shape index) → KeepsNested r.layout.now l → GivesTaken s a r (list_all is_basic index) (Ok (bound.View r.number r.path.now l r.writable)) (taken s a index)
   takes-view l plain gives kept =
       let view = plain-view l plain gives in
-      subst (GivesTaken s a r (list_all is_basic index) (Ok (took.View l))) (sym view.1) (plain, view.2, kept)
+      subst (GivesTaken s a r (list_all is_basic index) (Ok (bound.View r.number r.path.now l r.writable))) (sym view.1) (plain, refl, refl, refl, view.2, kept)
 
   pub plan-read : (plan : Planned) (view : View) → IsPlanOf r.layout.now plan view → map (item_from r.descr.now r.block.now) plan.offsets ≡ read s (viewed a view)
   plan-read plan view is =
@@ -100,10 +100,10 @@ module _ (s : State) (a : Array) (r : ArrayRef) (shows : Shows s a r) (index : L
       ∙ sym (items-at s a r (viewed a view).places shows (plan-among s a r shows plan view is))
 
   pub takes-copy : (plan : Planned) (o : Owned) → list_all is_basic index ≡ false → GivesPlan r.layout.now (Ok plan) (gathered s a index) → o.descr ≡ r.descr.now → o.layout.shape ≡ plan.shape → IsInCOrder o →
-      map (item_from o.descr o.block) (offsets o.layout) ≡ map (item_from r.descr.now r.block.now) plan.offsets → GivesTaken s a r (list_all is_basic index) (Ok (took.Copy o)) (taken s a index)
+      map (item_from o.descr o.block) (offsets o.layout) ≡ map (item_from r.descr.now r.block.now) plan.offsets → GivesTaken s a r (list_all is_basic index) (Ok (bound.Fresh o)) (taken s a index)
   takes-copy plan o arrays gives typed shaped order items =
       let view = plan-view plan arrays gives in
-      subst (GivesTaken s a r (list_all is_basic index) (Ok (took.Copy o))) (sym view.1) (
+      subst (GivesTaken s a r (list_all is_basic index) (Ok (bound.Fresh o))) (sym view.1) (
         arrays,
         record {
           descr = typed ∙ sym shows.descr;

@@ -24,10 +24,8 @@ use Rattle.name_store.specs.declared.bound.Bound.TheVariants as bound
 use Rattle.name_store.specs.declared.target.Target.TheVariants as target
 use Rattle.name_store.specs.declared.array_ref.ArrayRef.{ArrayRef}
 use Rattle.name_store.specs.ArrayLaws.{offsets-at}
-use Rattle.bench_engine.specs.declared.part.Part.{Part}
-use Rattle.bench_engine.specs.declared.part.PartOrCopy.{PartOrCopy}
-use Rattle.bench_engine.specs.declared.part.PartOrCopy.TheVariants as given
-use Rattle.bench_engine.specs.inside.Parts.{GivesSeen, bound_of, seen_text}
+use Rattle.bench_engine.specs.declared.part.Viewed.{Viewed}
+use Rattle.bench_engine.specs.inside.Parts.{IsOf, GivesSeen, descr_seen, shape_of_bound, origin_of_bound}
 use Rattle.bench_engine.specs.Contents.{array_over}
 use Rattle.bench_engine.specs.inside.Contract.{CarriesOut, IsRefused}
 use Rattle.bench_engine.specs.declared.replies.Origin.TheVariants as origin
@@ -82,13 +80,11 @@ seen s base r view new writable shows is free = record {
 }
 
 -- so do its items that are a view of it
-pub viewed-part : (s : State) (base : Array) (r : ArrayRef) (writable : Bool) (there : Result View Refusal) (part : Part) → Shows s base r → part.path ≡ r.path.now → part.descr ≡ r.descr → part.writable ≡ writable → GivesView r.layout.now (Ok part.layout) there →
-    (IsTrue writable → IsTrue base.writable × KeepsNested r.layout.now part.layout) → GivesSeen s r.number (Ok (given.Part part)) (there >>= (λ view. Ok (a_view (record (viewed base view) { writable = writable }))))
-viewed-part s base r writable (Err e) part shows path descr same is free = absurd is
-viewed-part s base r writable (Ok view) part shows path descr same is free = record {
-  view = rw (path, same) (seen s base r view part.layout writable shows is free);
-  descr = shows.descr ∙ ap (λ (d : Bor Descr). d.now) (sym descr);
-}
+pub viewed-part : (s : State) (base : Array) (r : ArrayRef) (writable : Bool) (there : Result View Refusal) (x : Viewed) (layout : Layout) → Shows s base r → x.bound ≡ bound.View r.number r.path.now layout writable → x.descr ≡ r.descr →
+    GivesView r.layout.now (Ok layout) there → (IsTrue writable → IsTrue base.writable × KeepsNested r.layout.now layout) → GivesSeen s (Ok x) (there >>= (λ view. Ok (a_view (record (viewed base view) { writable = writable }))))
+viewed-part s base r writable (Err e) x layout shows is descr given free = absurd given
+viewed-part s base r writable (Ok view) x layout shows is descr given free =
+    (subst (λ (b : Bound). IsOf s b (a_view (record (viewed base view) { writable = writable }))) (sym is) (seen s base r view layout writable shows given free), shows.descr ∙ ap (λ (d : Bor Descr). d.now) (sym descr))
 
 -- items of an array, to be written
 pub leads : (s : State) (name : List ℕ) (base : Array) (r : ArrayRef) (view : View) (new : Layout) → find_array s.names name ≡ Some base → Shows s base r → r.writable ≡ true → IsViewOf r.layout.now new view →
@@ -104,10 +100,7 @@ leads s name base r view new found shows free is = record {
 pub may-write : (s : State) (base : Array) (r : ArrayRef) (view : View) (new : Layout) → Shows s base r → r.writable ≡ true → IsViewOf r.layout.now new view → KeepsNested r.layout.now new → MayWrite s base (target.View new)
 may-write s base r view new shows free is kept = (is.fits _ _ shows.view.laid.fits, kept _ (shows.view.laid.nested free))
 
--- what is bound is a view
-pub may-bind : (s : State) (what : Bound) (number : ℕ) (path : List ℕ) (layout : Layout) (writable : Bool) (array : Array) → what ≡ bound.View number path layout writable → IsViewIn s number path layout writable array → MayBind s what
-may-bind s what number path layout writable array is in' = subst (MayBind s) (sym is) (array, in')
-
+-- the name is bound to the view, or refused as out of memory
 bound-answers : (s new : State) (name : List ℕ) (may : Bool) (outcome : Choice → Outcome) (number : ℕ) (path : List ℕ) (layout : Layout) (writable : Bool) (array : Array) (result : Result (Unit {0}) Refusal) (text before after : List ℕ) → may ≡ true →
     has_room_for s name ≡ true → ((choice : Choice) → outcome choice ≡ accepted_with (bound_view s name array) text) → after ≡ before ++ text → IsViewIn s number path layout writable array →
     AnswersBind s name (bound.View number path layout writable) result new → CarriesOut may outcome s new before after result
@@ -119,35 +112,29 @@ bound-answers s new name may outcome number path layout writable array (Err e) t
 bound-answers s new name may outcome number path layout writable array (Err e) text before after can room is told in' (kept, inr lacks) =
     (kept, starts before text after told, inl (lacks.1, can))
 
--- the name is bound to the view, or refused as out of memory
-pub view-answers : (s new : State) (name : List ℕ) (may : Bool) (outcome : Choice → Outcome) (what : Bound) (number : ℕ) (path : List ℕ) (layout : Layout) (writable : Bool) (array : Array) (result : Result (Unit {0}) Refusal) (text before after : List ℕ) →
-    may ≡ true → has_room_for s name ≡ true → ((choice : Choice) → outcome choice ≡ accepted_with (bound_view s name array) text) → after ≡ before ++ text → what ≡ bound.View number path layout writable → IsViewIn s number path layout writable array →
-    AnswersBind s name what result new → CarriesOut may outcome s new before after result
-view-answers s new name may outcome what number path layout writable array result text before after can room is told view in' binds =
-    bound-answers s new name may outcome number path layout writable array result text before after can room is told in' (subst (λ (b : Bound). AnswersBind s name b result new) view binds)
-
 -- what is seen may be bound
-pub may-bind-seen : (s : State) (what : Bound) (number : ℕ) (found : PartOrCopy) (there : Result ViewOrCopy Refusal) → what ≡ bound_of number found → GivesSeen s number (Ok found) there → MayBind s what
-may-bind-seen s what number (given.Part part) (Ok (a_view array)) is in' = may-bind s what number part.path part.layout part.writable array is in'.view
-may-bind-seen s what number (given.Part part) (Ok (a_copy contents)) is in' = absurd in'
-may-bind-seen s what number (given.Part part) (Err e) is in' = absurd in'
-may-bind-seen s what number (given.Copy o) there is in' = subst (MayBind s) (sym is) tt
+pub may-bind-seen : (s : State) (what : Bound) (there : ViewOrCopy) → IsOf s what there → MayBind s what
+may-bind-seen s (bound.View number path layout writable) (a_view array) is = (array, is)
+may-bind-seen s (bound.View number path layout writable) (a_copy contents) is = absurd is
+may-bind-seen s (bound.Fresh o) there is = tt
 
 -- the name is bound to what is seen, or refused as out of memory
-pub seen-answers : (s new : State) (name : List ℕ) (may : Bool) (outcome : Choice → Outcome) (what : Bound) (number : ℕ) (found : PartOrCopy) (there : Result ViewOrCopy Refusal) (result : Result (Unit {0}) Refusal) (before after : List ℕ) → may ≡ true → has_room_for s name ≡ true →
-    ((x : ViewOrCopy) → there ≡ Ok x → (choice : Choice) → outcome choice ≡ bound_seen choice s name x) → after ≡ before ++ seen_text name found → what ≡ bound_of number found → GivesSeen s number (Ok found) there →
+pub seen-answers : (s new : State) (name : List ℕ) (may : Bool) (outcome : Choice → Outcome) (what : Bound) (descr : Descr) (there : ViewOrCopy) (result : Result (Unit {0}) Refusal) (before after : List ℕ) → may ≡ true → has_room_for s name ≡ true →
+    ((choice : Choice) → outcome choice ≡ bound_seen choice s name there) → after ≡ before ++ bound_text name descr (shape_of_bound what) (origin_of_bound what) → IsOf s what there → descr_seen s there ≡ descr →
     AnswersBind s name what result new → CarriesOut may outcome s new before after result
-seen-answers s new name may outcome what number (given.Part part) (Ok (a_view array)) result before after can room is told view in' binds =
-    view-answers s new name may outcome what number part.path part.layout part.writable array result (bound_text name part.descr.now part.layout.shape origin.View) before after can room
-    (λ choice. is (a_view array) refl choice ∙ λ i. accepted_with (bound_view s name array) (bound_text name (in'.descr i) (sym in'.view.laid.shape i) origin.View)) told view in'.view binds
-seen-answers s new name may outcome what number (given.Part part) (Ok (a_copy contents)) result before after can room is told view in' binds = absurd in'
-seen-answers s new name may outcome what number (given.Part part) (Err e) result before after can room is told view in' binds = absurd in'
-seen-answers s new name may outcome what number (given.Copy o) (Ok (a_view array)) result before after can room is told view in' binds = absurd in'
-seen-answers s new name may outcome what number (given.Copy o) (Err e) result before after can room is told view in' binds = absurd in'
-seen-answers s new name may outcome what number (given.Copy o) (Ok (a_copy contents)) result before after can room is told view in' binds =
-    fresh-answers s new name may outcome o contents result (bound_text name o.descr o.layout.shape origin.Copy) before after can room in'
-    (λ choice. is (a_copy contents) refl choice ∙ λ i. accepted_with (bound_to s name (array_over choice.fresh contents) contents.buffer) (bound_text name (in' i).buffer.descr (in' i).shape origin.Copy))
-    told (subst (λ (b : Bound). AnswersBind s name b result new) view binds)
+seen-answers s new name may outcome (bound.View number path layout writable) descr (a_view array) result before after can room is told view typed binds =
+    bound-answers s new name may outcome number path layout writable array result (bound_text name descr layout.shape origin.View) before after can room
+    (λ choice. is choice ∙ λ i. accepted_with (bound_view s name array) (bound_text name (typed i) (sym view.laid.shape i) origin.View)) told view binds
+seen-answers s new name may outcome (bound.View number path layout writable) descr (a_copy contents) result before after can room is told view typed binds = absurd view
+seen-answers s new name may outcome (bound.Fresh o) descr (a_view array) result before after can room is told holds typed binds = absurd holds
+seen-answers s new name may outcome (bound.Fresh o) descr (a_copy contents) result before after can room is told holds typed binds =
+    fresh-answers s new name may outcome o contents result (bound_text name descr o.layout.shape origin.Copy) before after can room holds
+    (λ choice. is choice ∙ λ i. accepted_with (bound_to s name (array_over choice.fresh contents) contents.buffer) (bound_text name (typed i) (holds i).shape origin.Copy)) told binds
+
+-- what was seen is there
+pub given-seen : (s : State) (x : Viewed) (there : Result ViewOrCopy Refusal) → GivesSeen s (Ok x) there → (it : ViewOrCopy) × (there ≡ Ok it) × IsOf s x.bound it × (descr_seen s it ≡ x.descr.now)
+given-seen s x (Ok it) is = (it, refl, is.0, is.1)
+given-seen s x (Err e) is = absurd is
 
 -- what a call that gives a view answers
 pub given-view : (old new : Layout) (there : Result View Refusal) → GivesView old (Ok new) there → (view : View) × (there ≡ Ok view) × IsViewOf old new view

@@ -23,9 +23,8 @@ use Rattle.name_store.specs.Parts.{start_at}
 use Rattle.name_store.specs.Shown.{Shows}
 use Rattle.name_store.specs.declared.array_ref.ArrayRef.{ArrayRef}
 use Rattle.name_store.specs.declared.target.Target.TheVariants as target
-use Rattle.bench_engine.specs.declared.given.Given.TheVariants as given
-use Rattle.bench_engine.specs.inside.Assigns.{LiesIn, IsTarget, GivesItems}
-use Rattle.bench_engine.specs.inside.Operands.{StandsFor, GivesChanged}
+use Rattle.bench_engine.specs.inside.Assigns.{LiesIn, IsTarget}
+use Rattle.bench_engine.specs.inside.Operands.{StandsFor}
 use Rattle.bench_engine.proofs.Sets.{items-at, read-part, part-inside}
 
 -- what holds of all addresses holds of some of them
@@ -90,9 +89,3 @@ module _ (s : State) (name : List ℕ) (a part : Array) (r : ArrayRef) (shows : 
         ∙ λ i. map (item_from (sym (typed ∙ typed-o) i) (sym block i)) (offsets (sym laid i));
     inside = inside;
   }
-
--- ---- the new items
-
-pub own-items : (s : State) (d : Descr) (n : ℕ) (o : Owned) (there : Result (List (List LeafValue)) Refusal) → GivesChanged d n (Ok o) there → GivesItems s d n (Ok (given.Own o)) there
-own-items s d n o (Ok items) is = is
-own-items s d n o (Err e) is = absurd is

@@ -33,7 +33,7 @@ pub record AnswersScript (depth : ℕ) (before after : Outside) (summary : Summa
   pub read : Consumes before.unread after.unread script
   pub ended : IsAtEnd after.unread
   pub known : IfSome before.unread (λ bytes. script ≡ bytes)
-  pub run : Run AnswersLine (first_world depth before) (lines script) replies (world summary.bench after.store)
+  pub run : Run AnswersLine (first_world depth before) (lines script) replies (world summary.bench.state after.store)
   pub sent : Appends before.written after.written (output replies)
   pub accepted : summary.accepted ≡ accepted_count replies
   pub refused : summary.refused ≡ refused_count replies

@@ -38,8 +38,8 @@ pub fn cast(
     out: &mut Vec<u8>,
 ) -> Result<(), Refusal>
     ensures room { vec_capacity out.old ≤ vec_capacity out.new }
-    ensures answers { CarriesOut (is_bound bench.old source.now) (λ choice. cast_outcome choice bench.old name.now source.now descr.now)
-        bench.old bench.new out.old.items out.new.items result }
+    ensures answers { CarriesOut (is_bound bench.old.state source.now) (λ choice. cast_outcome choice bench.old.state name.now source.now descr.now)
+        bench.old.state bench.new.state out.old.items out.new.items result }
 {
     let Some(array) = bench.get(source) else {
         return Err(Refusal::UnknownName);

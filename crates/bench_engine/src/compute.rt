@@ -27,9 +27,9 @@ pub fn combine(
     out: &mut Vec<u8>,
 ) -> Result<(), Refusal>
     ensures room { vec_capacity out.old ≤ vec_capacity out.new }
-    ensures answers { CarriesOut (list_all (is_bound bench.old) (names_in_operand left.now ++ names_in_argument right.now))
-        (λ choice. computed_outcome choice bench.old name.now (names_in_operand left.now ++ names_in_argument right.now) (operation_contents bench.old operation left.now right.now))
-        bench.old bench.new out.old.items out.new.items result }
+    ensures answers { CarriesOut (list_all (is_bound bench.old.state) (names_in_operand left.now ++ names_in_argument right.now))
+        (λ choice. computed_outcome choice bench.old.state name.now (names_in_operand left.now ++ names_in_argument right.now) (operation_contents bench.old.state operation left.now right.now))
+        bench.old.state bench.new.state out.old.items out.new.items result }
 {
     if !is_bound(bench, left) {
         return Err(Refusal::UnknownName);
@@ -54,9 +54,9 @@ pub fn transform(
     out: &mut Vec<u8>,
 ) -> Result<(), Refusal>
     ensures room { vec_capacity out.old ≤ vec_capacity out.new }
-    ensures answers { CarriesOut (list_all (is_bound bench.old) (names_in_operand operand.now))
-        (λ choice. computed_outcome choice bench.old name.now (names_in_operand operand.now) (transformed bench.old operation operand.now))
-        bench.old bench.new out.old.items out.new.items result }
+    ensures answers { CarriesOut (list_all (is_bound bench.old.state) (names_in_operand operand.now))
+        (λ choice. computed_outcome choice bench.old.state name.now (names_in_operand operand.now) (transformed bench.old.state operation operand.now))
+        bench.old.state bench.new.state out.old.items out.new.items result }
 {
     if !is_bound(bench, operand) {
         return Err(Refusal::UnknownName);
@@ -80,9 +80,9 @@ pub fn reduce(
     out: &mut Vec<u8>,
 ) -> Result<(), Refusal>
     ensures room { vec_capacity out.old ≤ vec_capacity out.new }
-    ensures answers { CarriesOut (list_all (is_bound bench.old) (source.now ∷ []))
-        (λ choice. computed_outcome choice bench.old name.now (source.now ∷ []) (reduced_contents bench.old reduction source.now axis keep))
-        bench.old bench.new out.old.items out.new.items result }
+    ensures answers { CarriesOut (list_all (is_bound bench.old.state) (source.now ∷ []))
+        (λ choice. computed_outcome choice bench.old.state name.now (source.now ∷ []) (reduced_contents bench.old.state reduction source.now axis keep))
+        bench.old.state bench.new.state out.old.items out.new.items result }
 {
     let Some(array) = bench.get(source) else {
         return Err(Refusal::UnknownName);

@@ -27,9 +27,9 @@ pub fn combined(
     left: &Operand,
     right: &Argument,
 ) -> Result<Owned, Refusal>
-    requires left { list_all (is_bound bench.now) (names_in_operand left.now) ≡ true }
-    requires right { list_all (is_bound bench.now) (names_in_argument right.now) ≡ true }
-    ensures { Gives held result (operation_contents bench.now operation left.now right.now) }
+    requires left { list_all (is_bound bench.now.state) (names_in_operand left.now) ≡ true }
+    requires right { list_all (is_bound bench.now.state) (names_in_argument right.now) ≡ true }
+    ensures { Gives held result (operation_contents bench.now.state operation left.now right.now) }
 {
     let array = bench.get(&left.name).unwrap();
     let taken = operand_items(alloc, bench, &array, &left.index)?;
@@ -44,8 +44,8 @@ pub fn transformed(
     operation: UnOp,
     operand: &Operand,
 ) -> Result<Owned, Refusal>
-    requires bound { list_all (is_bound bench.now) (names_in_operand operand.now) ≡ true }
-    ensures { Gives held result (transformed bench.now operation operand.now) }
+    requires bound { list_all (is_bound bench.now.state) (names_in_operand operand.now) ≡ true }
+    ensures { Gives held result (transformed bench.now.state operation operand.now) }
 {
     let array = bench.get(&operand.name).unwrap();
     let taken = operand_items(alloc, bench, &array, &operand.index)?;

@@ -24,10 +24,10 @@ pub fn bind_new(
     origin: Origin,
     out: &mut Vec<u8>,
 ) -> Result<(), Refusal>
-    requires room { has_room_for bench.old name.now ≡ true }
+    requires room { has_room_for bench.old.state name.now ≡ true }
     ensures room { vec_capacity out.old ≤ vec_capacity out.new }
-    ensures answers { CarriesOut true (λ choice. bound_new choice bench.old name.now origin (held owned))
-        bench.old bench.new out.old.items out.new.items result }
+    ensures answers { CarriesOut true (λ choice. bound_new choice bench.old.state name.now origin (held owned))
+        bench.old.state bench.new.state out.old.items out.new.items result }
 {
     push_bound_text(alloc, out, name, &owned.descr, &owned.layout.shape, origin)?;
     bench.bind(alloc, name, Bound::Fresh(owned))
@@ -43,8 +43,8 @@ pub fn make(
     out: &mut Vec<u8>,
 ) -> Result<(), Refusal>
     ensures room { vec_capacity out.old ≤ vec_capacity out.new }
-    ensures answers { CarriesOut true (λ choice. creation_outcome choice bench.old name.now (contents_of descr.now items.now))
-        bench.old bench.new out.old.items out.new.items result }
+    ensures answers { CarriesOut true (λ choice. creation_outcome choice bench.old.state name.now (contents_of descr.now items.now))
+        bench.old.state bench.new.state out.old.items out.new.items result }
 {
     if !bench.has_room_for(name) {
         return Err(Refusal::TooManyNames);

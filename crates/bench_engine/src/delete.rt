@@ -18,8 +18,8 @@ pub fn delete(
 ) -> Result<(), Refusal>
     requires room { vec_len out.old + 64 ≤ vec_capacity out.old }
     ensures room { vec_capacity out.old ≤ vec_capacity out.new }
-    ensures answers { CarriesOut (nat_lt 0 bench.old.depth && is_bound bench.old name.now) (λ choice. delete_outcome bench.old name.now)
-        bench.old bench.new out.old.items out.new.items result }
+    ensures answers { CarriesOut (nat_lt 0 bench.old.state.depth && is_bound bench.old.state name.now) (λ choice. delete_outcome bench.old.state name.now)
+        bench.old.state bench.new.state out.old.items out.new.items result }
 {
     bench.unbind(alloc, name)?;
     out.extend_from_slice(b"ok del ").unwrap();

@@ -44,8 +44,8 @@ fn compute(
     computation: &Computation,
     out: &mut Vec<u8>,
 ) -> Result<(), Refusal>
-    ensures answers { CarriesOut (may_lack_memory bench.old (Bind name.now (Compute computation.now)))
-        (λ choice. bind_outcome choice bench.old name.now (Compute computation.now)) bench.old bench.new out.old.items out.new.items result }
+    ensures answers { CarriesOut (may_lack_memory bench.old.state (Bind name.now (Compute computation.now)))
+        (λ choice. bind_outcome choice bench.old.state name.now (Compute computation.now)) bench.old.state bench.new.state out.old.items out.new.items result }
     ensures room { vec_capacity out.old ≤ vec_capacity out.new }
 {
     match computation {
@@ -77,7 +77,7 @@ fn bind<N: NpyStore>(
     value: &Value,
     out: &mut Vec<u8>,
 ) -> Result<(), Refusal>
-    ensures answers { Carried (MayAnswerBind (world bench.old (N.shelf store.old)) name.now value.now (world bench.new (N.shelf store.new)))
+    ensures answers { Carried (MayAnswerBind (world bench.old.state (N.shelf store.old)) name.now value.now (world bench.new.state (N.shelf store.new)))
         out.old.items out.new.items result }
     ensures room { vec_capacity out.old ≤ vec_capacity out.new }
 {
@@ -97,8 +97,8 @@ fn reply(
     out: &mut Vec<u8>,
 ) -> Result<(), Refusal>
     requires room { vec_len out.old + 64 ≤ vec_capacity out.old }
-    ensures answers { CarriesOut (list_all (is_bound bench.now) (bound_in_question question.now))
-        (λ choice. question_outcome bench.now question.now) bench.now bench.now out.old.items out.new.items result }
+    ensures answers { CarriesOut (list_all (is_bound bench.now.state) (bound_in_question question.now))
+        (λ choice. question_outcome bench.now.state question.now) bench.now.state bench.now.state out.old.items out.new.items result }
     ensures room { vec_capacity out.old ≤ vec_capacity out.new }
 {
     match question {
@@ -120,7 +120,7 @@ fn perform<N: NpyStore>(
     out: &mut Vec<u8>,
 ) -> Result<(), Refusal>
     requires room { vec_len out.old + 64 ≤ vec_capacity out.old }
-    ensures answers { Carried (MayAnswer (world bench.old (N.shelf store.old)) command.now (world bench.new (N.shelf store.new)))
+    ensures answers { Carried (MayAnswer (world bench.old.state (N.shelf store.old)) command.now (world bench.new.state (N.shelf store.new)))
         out.old.items out.new.items result }
     ensures room { vec_capacity out.old ≤ vec_capacity out.new }
 {
@@ -153,7 +153,7 @@ pub fn execute<N: NpyStore>(
     requires room { vec_len out.old + 64 ≤ vec_capacity out.old }
     ensures case { (reply : Reply) × (out.new.items ≡ out.old.items ++ reply.text)
         × (reply.accepted ≡ result)
-        × MayAnswer (world bench.old (N.shelf store.old)) command.now (world bench.new (N.shelf store.new)) reply }
+        × MayAnswer (world bench.old.state (N.shelf store.old)) command.now (world bench.new.state (N.shelf store.new)) reply }
     ensures room { vec_capacity out.old ≤ vec_capacity out.new }
 {
     let before = out.len();
@@ -191,7 +191,7 @@ pub fn answer<N: NpyStore>(
     requires empty { out.old.items ≡ [] }
     requires room { 64 ≤ vec_capacity out.old }
     ensures answered { (replies : List Reply) × Tells replies result out.new.items
-        × Answered (world bench.old (N.shelf store.old)) (meaning_of_read line.entry) (world bench.new (N.shelf store.new)) replies }
+        × Answered (world bench.old.state (N.shelf store.old)) (meaning_of_read line.entry) (world bench.new.state (N.shelf store.new)) replies }
     ensures room { vec_capacity out.old ≤ vec_capacity out.new }
 {
     match read_line(alloc, line) {

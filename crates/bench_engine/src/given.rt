@@ -16,113 +16,81 @@ ghost use Rattle.bench_engine.specs.Machine.{argument_items, names_in_argument};
 ghost use Rattle.bench_engine.specs.inside.Assigns.{GivesTaken, GivesItems, Fitted};
 
 use crate::item::item_of;
-use crate::operand::operand_items;
-use crate::taken::Taken;
+use crate::operand::{items_of_view, operand_items};
 use elem_descr::{Descr, Refusal};
 use elementwise::Items;
-use name_store::{ArrayRef, Bench};
-use overlap_copy::Owned;
-use script_lang::{Argument, Name, Operand};
-use shape_strides::{Layout, Shape};
+use name_store::{Bench, Bound, Source};
+use script_lang::{Argument, Operand};
+use shape_strides::Shape;
 use std::alloc::Global;
 
-/// Items that are to be written, of the target's element type.
-#[derive(Drop)]
-pub enum Given<'a> {
-    /// The bytes of one item, for every place.
-    One(Vec<u8>),
-    /// Items of a name's array as they stand: those of a layout in its buffer.
-    Named(&'a Name, Layout),
-    /// The items of a block of their own.
-    Own(Owned),
-}
-
-/// The items of a view of a name's array, stretched into a shape and cast to an element type.
-fn given_view<'a>(
+/// Items, stretched into a shape and cast to an element type. Those of the buffer that has a number stay
+/// there where the cast leaves them as they are.
+fn fitted(
     alloc: Global,
-    array: &ArrayRef<'_>,
-    name: &'a Name,
-    view: &Layout,
+    items: Items<'_>,
+    number: Option<u64>,
     shape: &Shape,
     descr: &Descr,
-) -> Result<Given<'a>, Refusal>
-    requires inside { All (λ offset. offset + item_size array.now.descr.now ≤ length array.now.block.now) (offsets view.now) }
+) -> Result<Source, Refusal>
     requires few { count shape.now * item_size descr.now ≤ max_bytes }
-    ensures { Fitted array.now.block.now array.now.descr.now view.now shape.now descr.now name.now result }
+    ensures { Fitted items.entry number shape.now descr.now result }
 {
-    let wide = broadcasting::stretch_into(alloc, view, shape)?;
-    if !elementwise::can_cast(array.descr, descr) {
+    let wide = broadcasting::stretch_into(alloc, items.layout, shape)?;
+    if !elementwise::can_cast(items.descr, descr) {
         return Err(Refusal::NoSuchCast);
     }
-    if elementwise::keeps_items(array.block, array.descr, descr) {
-        return Ok(Given::Named(name, wide));
+    if let Some(number) = number {
+        if elementwise::keeps_items(items.block, items.descr, descr) {
+            return Ok(Source::Buffer(number, wide));
+        }
     }
-    let items = Items {
-        block: array.block,
+    let stretched = Items {
+        block: items.block,
         layout: &wide,
-        descr: array.descr,
+        descr: items.descr,
     };
-    let owned = elementwise::cast(alloc, items, descr)?;
-    Ok(Given::Own(owned))
-}
-
-/// The items of a copy, stretched into a shape and cast to an element type.
-fn given_copy<'a>(
-    alloc: Global,
-    copy: &Owned,
-    shape: &Shape,
-    descr: &Descr,
-) -> Result<Given<'a>, Refusal>
-    requires few { count shape.now * item_size descr.now ≤ max_bytes }
-    ensures { (name : List ℕ) → Fitted copy.now.block copy.now.descr copy.now.layout shape.now descr.now name result }
-{
-    let wide = broadcasting::stretch_into(alloc, &copy.layout, shape)?;
-    if !elementwise::can_cast(&copy.descr, descr) {
-        return Err(Refusal::NoSuchCast);
-    }
-    let items = Items {
-        block: &copy.block,
-        layout: &wide,
-        descr: &copy.descr,
-    };
-    let owned = elementwise::cast(alloc, items, descr)?;
-    Ok(Given::Own(owned))
+    let owned = elementwise::cast(alloc, stretched, descr)?;
+    Ok(Source::Block(owned))
 }
 
 /// The items of an operand, stretched into a shape and cast to an element type.
-fn given_operand<'a>(
+fn given_operand(
     alloc: Global,
     bench: &Bench,
-    operand: &'a Operand,
+    operand: &Operand,
     shape: &Shape,
     descr: &Descr,
-) -> Result<Given<'a>, Refusal>
-    requires bound { list_all (is_bound bench.now) (names_in_argument (argument.Operand operand.now)) ≡ true }
+) -> Result<Source, Refusal>
+    requires bound { list_all (is_bound bench.now.state) (names_in_argument (argument.Operand operand.now)) ≡ true }
     requires few { count shape.now * item_size descr.now ≤ max_bytes }
-    ensures { GivesItems bench.now descr.now (count shape.now) result (argument_items bench.now (argument.Operand operand.now) descr.now shape.now) }
+    ensures { GivesItems bench.now.state descr.now (count shape.now) result (argument_items bench.now.state (argument.Operand operand.now) descr.now shape.now) }
 {
     let array = bench.get(&operand.name).unwrap();
     match operand_items(alloc, bench, &array, &operand.index)? {
-        Taken::View(view) => given_view(alloc, &array, &operand.name, &view, shape, descr),
-        Taken::Copy(copy) => given_copy(alloc, &copy, shape, descr),
+        Bound::View { number, layout, .. } => {
+            let items = items_of_view(&array, &layout);
+            fitted(alloc, items, Some(number), shape, descr)
+        }
+        Bound::Fresh(copy) => fitted(alloc, copy.items(), None, shape, descr),
     }
 }
 
 /// The items of an argument, one for each index of a shape: those of an operand, stretched into the
 /// shape and cast to an element type, or one that a literal is of that type.
-pub fn give<'a>(
+pub fn give(
     alloc: Global,
     bench: &Bench,
-    value: &'a Argument,
+    value: &Argument,
     shape: &Shape,
     descr: &Descr,
-) -> Result<Given<'a>, Refusal>
-    requires bound { list_all (is_bound bench.now) (names_in_argument value.now) ≡ true }
+) -> Result<Source, Refusal>
+    requires bound { list_all (is_bound bench.now.state) (names_in_argument value.now) ≡ true }
     requires few { count shape.now * item_size descr.now ≤ max_bytes }
-    ensures { GivesItems bench.now descr.now (count shape.now) result (argument_items bench.now value.now descr.now shape.now) }
+    ensures { GivesItems bench.now.state descr.now (count shape.now) result (argument_items bench.now.state value.now descr.now shape.now) }
 {
     match value {
-        Argument::Literal(literal) => Ok(Given::One(item_of(alloc, descr, literal)?)),
+        Argument::Literal(literal) => Ok(Source::One(item_of(alloc, descr, literal)?)),
         Argument::Operand(operand) => given_operand(alloc, bench, operand, shape, descr),
     }
 }

@@ -31,7 +31,7 @@ pub fn are_plain(index: &[IndexItem<Name>]) -> bool
 
 /// Whether the name in an item is bound.
 fn is_bound(bench: &Bench, item: &IndexItem<Name>) -> bool
-    ensures { result ≡ list_all (is_bound bench.now) (names_in_item item.now) }
+    ensures { result ≡ list_all (is_bound bench.now.state) (names_in_item item.now) }
 {
     match item {
         IndexItem::Array(name) => bench.get(name).is_some(),
@@ -41,7 +41,7 @@ fn is_bound(bench: &Bench, item: &IndexItem<Name>) -> bool
 
 /// Whether each name in an index list is bound.
 pub fn are_bound(bench: &Bench, index: &[IndexItem<Name>]) -> bool
-    ensures { result ≡ list_all (is_bound bench.now) (names_in_index index.now) }
+    ensures { result ≡ list_all (is_bound bench.now.state) (names_in_index index.now) }
 {
     for item in index {
         if !is_bound(bench, item) {
@@ -71,9 +71,9 @@ fn numbered<'a>(
     item: &IndexItem<Name>,
     arrays: &mut Vec<Indices<'a>>,
 ) -> Result<IndexItem<usize>, AllocError>
-    requires bound { list_all (is_bound bench.now) (names_in_item item.now) ≡ true }
+    requires bound { list_all (is_bound bench.now.state) (names_in_item item.now) ≡ true }
     requires lie { All LiesInBlock arrays.old.items }
-    ensures item { IfOk result (λ k. with_array (map index_array_of arrays.new.items) k ≡ array_by_items bench.now item.now) }
+    ensures item { IfOk result (λ k. with_array (map index_array_of arrays.new.items) k ≡ array_by_items bench.now.state item.now) }
     ensures named { IfOk result (IsNamed (length arrays.new.items)) }
     ensures kept { Extends arrays.old.items arrays.new.items }
     ensures lie { All LiesInBlock arrays.new.items }
@@ -113,8 +113,8 @@ fn with_numbers<'a>(
     bench: &'a Bench,
     index: &[IndexItem<Name>],
 ) -> Result<NumberedList<'a>, AllocError>
-    requires bound { list_all (is_bound bench.now) (names_in_index index.now) ≡ true }
-    ensures items { IfOk result (λ list. with_arrays (map index_array_of list.arrays.items) list.items.items ≡ map (array_by_items bench.now) index.now) }
+    requires bound { list_all (is_bound bench.now.state) (names_in_index index.now) ≡ true }
+    ensures items { IfOk result (λ list. with_arrays (map index_array_of list.arrays.items) list.items.items ≡ map (array_by_items bench.now.state) index.now) }
     ensures named { IfOk result (λ list. All (IsNamed (length list.arrays.items)) list.items.items) }
     ensures lie { IfOk result (λ list. All LiesInBlock list.arrays.items) }
 {
@@ -134,8 +134,8 @@ pub fn planned(
     array: &ArrayRef<'_>,
     index: &[IndexItem<Name>],
 ) -> Result<Plan, Refusal>
-    requires bound { list_all (is_bound bench.now) (names_in_index index.now) ≡ true }
-    ensures plan { (a : Array) → Shows bench.now a array.now → GivesPlan array.now.layout.now result (gathered bench.now a index.now) }
+    requires bound { list_all (is_bound bench.now.state) (names_in_index index.now) ≡ true }
+    ensures plan { (a : Array) → Shows bench.now.state a array.now → GivesPlan array.now.layout.now result (gathered bench.now.state a index.now) }
     ensures few { IfOk result (λ plan. length plan.offsets * item_size array.now.descr.now ≤ max_bytes) }
 {
     let list = with_numbers(alloc, bench, index)?;

@@ -108,8 +108,8 @@ fn push_info_text(
 /// Tells where the items of a name's array lie in its buffer, in bytes.
 pub fn info(alloc: Global, bench: &Bench, name: &Name, out: &mut Vec<u8>) -> Result<(), Refusal>
     ensures room { vec_capacity out.old ≤ vec_capacity out.new }
-    ensures answers { CarriesOut (is_bound bench.now name.now) (λ choice. info_outcome bench.now name.now)
-        bench.now bench.now out.old.items out.new.items result }
+    ensures answers { CarriesOut (is_bound bench.now.state name.now) (λ choice. info_outcome bench.now.state name.now)
+        bench.now.state bench.now.state out.old.items out.new.items result }
 {
     let Some(array) = bench.get(name) else {
         return Err(Refusal::UnknownName);

@@ -82,10 +82,10 @@ fn bind_loaded(
     rest: usize,
     out: &mut Vec<u8>,
 ) -> Result<(), Refusal>
-    requires room { has_room_for bench.old name.now ≡ true }
+    requires room { has_room_for bench.old.state name.now ≡ true }
     ensures room { vec_capacity out.old ≤ vec_capacity out.new }
-    ensures answers { CarriesOut true (λ choice. bound_loaded choice bench.old name.now rest (held owned))
-        bench.old bench.new out.old.items out.new.items result }
+    ensures answers { CarriesOut true (λ choice. bound_loaded choice bench.old.state name.now rest (held owned))
+        bench.old.state bench.new.state out.old.items out.new.items result }
 {
     push_loaded_text(alloc, out, name, &owned, rest)?;
     bench.bind(alloc, name, Bound::Fresh(owned))
@@ -101,7 +101,7 @@ pub fn load<N: NpyStore>(
     out: &mut Vec<u8>,
 ) -> Result<(), Refusal>
     ensures room { vec_capacity out.old ≤ vec_capacity out.new }
-    ensures answers { Carried (MayAnswerLoad (world bench.old (N.shelf store.old)) name.now file.now (world bench.new (N.shelf store.new)))
+    ensures answers { Carried (MayAnswerLoad (world bench.old.state (N.shelf store.old)) name.now file.now (world bench.new.state (N.shelf store.new)))
         out.old.items out.new.items result }
 {
     if !bench.has_room_for(name) {

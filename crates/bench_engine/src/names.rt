@@ -21,7 +21,7 @@ fn push_name(out: &mut Vec<u8>, name: &[u8]) -> Result<(), AllocError>
 
 /// Appends `names` and each name. Where memory runs out, some of it may stand past the old end.
 fn push_names(bench: &Bench, out: &mut Vec<u8>) -> Result<(), AllocError>
-    ensures ok { OnOk result (out.new.items ≡ out.old.items ++ names_text bench.now) }
+    ensures ok { OnOk result (out.new.items ≡ out.old.items ++ names_text bench.now.state) }
     ensures kept { StartsWith out.new.items out.old.items }
     ensures room { vec_capacity out.old ≤ vec_capacity out.new }
 {
@@ -35,8 +35,8 @@ fn push_names(bench: &Bench, out: &mut Vec<u8>) -> Result<(), AllocError>
 /// Tells the names in the order in which they were first bound.
 pub fn names(bench: &Bench, out: &mut Vec<u8>) -> Result<(), Refusal>
     ensures room { vec_capacity out.old ≤ vec_capacity out.new }
-    ensures answers { CarriesOut true (λ choice. accepted_with bench.now (names_text bench.now))
-        bench.now bench.now out.old.items out.new.items result }
+    ensures answers { CarriesOut true (λ choice. accepted_with bench.now.state (names_text bench.now.state))
+        bench.now.state bench.now.state out.old.items out.new.items result }
 {
     push_names(bench, out)?;
     Ok(())

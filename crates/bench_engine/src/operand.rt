@@ -15,17 +15,17 @@ ghost use Rattle.bench_engine.specs.inside.Assigns.{IsTaken, GivesTaken};
 ghost use Rattle.bench_engine.specs.inside.Operands.{StandsFor};
 
 use crate::index::are_bound;
-use crate::taken::{Taken, take};
+use crate::taken::take;
 use elem_descr::Refusal;
 use elementwise::Items;
-use name_store::{ArrayRef, Bench};
+use name_store::{ArrayRef, Bench, Bound};
 use script_lang::{Argument, Index, Operand};
 use shape_strides::{IndexItem, Layout};
 use std::alloc::Global;
 
 /// Whether the names in an operand are bound.
 pub fn is_bound(bench: &Bench, operand: &Operand) -> bool
-    ensures { result ≡ list_all (is_bound bench.now) (names_in_operand operand.now) }
+    ensures { result ≡ list_all (is_bound bench.now.state) (names_in_operand operand.now) }
 {
     if bench.get(&operand.name).is_none() {
         return false;
@@ -38,7 +38,7 @@ pub fn is_bound(bench: &Bench, operand: &Operand) -> bool
 
 /// Whether the names in an argument are bound.
 pub fn has_bound(bench: &Bench, value: &Argument) -> bool
-    ensures { result ≡ list_all (is_bound bench.now) (names_in_argument value.now) }
+    ensures { result ≡ list_all (is_bound bench.now.state) (names_in_argument value.now) }
 {
     match value {
         Argument::Operand(operand) => is_bound(bench, operand),
@@ -52,11 +52,11 @@ pub fn operand_items(
     bench: &Bench,
     array: &ArrayRef<'_>,
     index: &Option<Index>,
-) -> Result<Taken, Refusal>
-    requires bound { list_all (is_bound bench.now) (names_in_index (unwrap_or index.now [])) ≡ true }
-    requires shown { (a : Array) × Shows bench.now a array.now }
-    ensures { (a : Array) → Shows bench.now a array.now
-        → GivesTaken bench.now a array.now (list_all is_basic (unwrap_or index.now (Ellipsis ∷ []))) result (taken bench.now a (unwrap_or index.now (Ellipsis ∷ []))) }
+) -> Result<Bound, Refusal>
+    requires bound { list_all (is_bound bench.now.state) (names_in_index (unwrap_or index.now [])) ≡ true }
+    requires shown { (a : Array) × Shows bench.now.state a array.now }
+    ensures { (a : Array) → Shows bench.now.state a array.now
+        → GivesTaken bench.now.state a array.now (list_all is_basic (unwrap_or index.now (Ellipsis ∷ []))) result (taken bench.now.state a (unwrap_or index.now (Ellipsis ∷ []))) }
 {
     match index {
         Some(index) => take(alloc, bench, array, index.as_slice()),
@@ -65,7 +65,7 @@ pub fn operand_items(
 }
 
 /// The items that a layout shows of the buffer of an array.
-fn items_of_view<'a>(array: &'a ArrayRef<'_>, view: &'a Layout) -> Items<'a>
+pub fn items_of_view<'a>(array: &'a ArrayRef<'_>, view: &'a Layout) -> Items<'a>
     requires inside { All (λ offset. offset + item_size array.now.descr.now ≤ length array.now.block.now) (offsets view.now) }
     ensures block { result.block.now ≡ array.now.block.now }
     ensures layout { result.layout.now ≡ view.now }
@@ -79,13 +79,13 @@ fn items_of_view<'a>(array: &'a ArrayRef<'_>, view: &'a Layout) -> Items<'a>
 }
 
 /// The items that are taken of an array.
-pub fn items_taken<'a>(array: &'a ArrayRef<'_>, taken: &'a Taken) -> Items<'a>
+pub fn items_taken<'a>(array: &'a ArrayRef<'_>, taken: &'a Bound) -> Items<'a>
     requires { (s : State) × (a : Array) × (plain : Bool) × (view : View) × Shows s a array.now × IsTaken s a array.now plain taken.now view }
     ensures { (s : State) (a : Array) (plain : Bool) (view : View) → Shows s a array.now → IsTaken s a array.now plain taken.now view
         → StandsFor s (viewed a view) result }
 {
     match taken {
-        Taken::View(view) => items_of_view(array, view),
-        Taken::Copy(copy) => copy.items(),
+        Bound::View { layout, .. } => items_of_view(array, layout),
+        Bound::Fresh(copy) => copy.items(),
     }
 }

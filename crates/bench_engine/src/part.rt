@@ -8,58 +8,75 @@ ghost use Rattle.script_lang.specs.declared.command.Viewing.TheVariants.{Whole, 
 ghost use Rattle.name_store.specs.Arrays.{is_bound};
 ghost use Rattle.name_store.specs.Shown.{Shows};
 ghost use Rattle.name_store.specs.States.{Array};
+ghost use Rattle.name_store.specs.declared.bound.Bound.TheVariants.{View};
 ghost use Rattle.bench_engine.specs.IndexLists.{names_in_index};
 ghost use Rattle.bench_engine.specs.Machine.{names_in_viewing};
-ghost use Rattle.bench_engine.specs.inside.Parts.{IsShown, Sees, SeesIn, Duplicates};
+ghost use Rattle.bench_engine.specs.inside.Parts.{IsShown, Sees, SeesIn, Duplicates, shape_of_bound, origin_of_bound};
 
 use crate::contents::shape_of;
 use crate::index::are_bound;
-use crate::taken::{Taken, take};
+use crate::replies::Origin;
+use crate::taken::take;
 use elem_descr::{Descr, Refusal};
-use name_store::{ArrayRef, Bench, Path};
+use name_store::{ArrayRef, Bench, Bound};
 use overlap_copy::Owned;
 use script_lang::{Index, Lengths, Text, Viewing};
 use shape_strides::{Layout, MemoryOrder, Shape};
 use std::alloc::Global;
 
-/// What a view shows: the path to a part of each item of a buffer, the element type of that part, and
-/// where in the buffer's block the parts lie.
+/// What is seen of an array, to be bound: items of the buffer that it lies in, or a copy of its items in
+/// C order; and their element type.
 #[derive(Drop)]
-pub struct Part<'a> {
-    pub path: Path,
+pub struct Viewed<'a> {
+    pub bound: Bound,
     pub descr: &'a Descr,
-    pub layout: Layout,
-    pub writable: bool,
 }
 
-/// What is seen of an array: a part of the buffer that it lies in, or a copy of its items, in C order.
-#[derive(Drop)]
-pub enum PartOrCopy<'a> {
-    Part(Part<'a>),
-    Copy(Owned),
+impl<'a> Viewed<'a> {
+    /// Its shape.
+    pub fn shape(&self) -> &Shape
+        ensures { result.now ≡ shape_of_bound self.now.bound }
+    {
+        match &self.bound {
+            Bound::Fresh(owned) => &owned.layout.shape,
+            Bound::View { layout, .. } => &layout.shape,
+        }
+    }
+
+    /// What a name is bound to that is bound to it.
+    pub fn origin(&self) -> Origin
+        ensures { result ≡ origin_of_bound self.now.bound }
+    {
+        match &self.bound {
+            Bound::Fresh(_) => Origin::Copy,
+            Bound::View { .. } => Origin::View,
+        }
+    }
 }
 
 /// The items of an array with this layout.
-fn items<'a>(array: &ArrayRef<'a>, layout: Layout, writable: bool) -> Part<'a>
-    ensures path { result.path ≡ array.now.path.now }
+fn items<'a>(array: &ArrayRef<'a>, layout: Layout, writable: bool) -> Viewed<'a>
+    ensures bound { result.bound ≡ View array.now.number array.now.path.now layout writable }
     ensures descr { result.descr ≡ array.now.descr }
-    ensures layout { result.layout ≡ layout }
-    ensures writable { result.writable ≡ writable }
 {
-    Part {
+    let bound = Bound::View {
+        number: array.number,
         path: *array.path,
-        descr: array.descr,
         layout,
         writable,
+    };
+    Viewed {
+        bound,
+        descr: array.descr,
     }
 }
 
 /// `Y`
-fn whole<'a>(alloc: Global, array: &ArrayRef<'a>) -> Result<PartOrCopy<'a>, Refusal>
+fn whole<'a>(alloc: Global, array: &ArrayRef<'a>) -> Result<Viewed<'a>, Refusal>
     ensures { Sees Whole array.now result }
 {
     let layout = Layout::try_copy(alloc, array.layout)?;
-    Ok(PartOrCopy::Part(items(array, layout, array.writable)))
+    Ok(items(array, layout, array.writable))
 }
 
 /// `Y[ix]`, which is a copy where the list names an array.
@@ -68,15 +85,16 @@ fn indexed<'a>(
     bench: &Bench,
     array: &ArrayRef<'a>,
     index: &Index,
-) -> Result<PartOrCopy<'a>, Refusal>
-    requires bound { list_all (is_bound bench.now) (names_in_index index.now) ≡ true }
-    requires shown { (a : Array) × Shows bench.now a array.now }
-    ensures { SeesIn bench.now (Indexed index.now) array.now result }
+) -> Result<Viewed<'a>, Refusal>
+    requires bound { list_all (is_bound bench.now.state) (names_in_index index.now) ≡ true }
+    requires shown { (a : Array) × Shows bench.now.state a array.now }
+    ensures { SeesIn bench.now.state (Indexed index.now) array.now result }
 {
-    match take(alloc, bench, array, index.as_slice())? {
-        Taken::View(layout) => Ok(PartOrCopy::Part(items(array, layout, array.writable))),
-        Taken::Copy(owned) => Ok(PartOrCopy::Copy(owned)),
-    }
+    let bound = take(alloc, bench, array, index.as_slice())?;
+    Ok(Viewed {
+        bound,
+        descr: array.descr,
+    })
 }
 
 /// `transpose Y [(axes)]`
@@ -84,15 +102,15 @@ fn transposed<'a>(
     alloc: Global,
     array: &ArrayRef<'a>,
     axes: Option<&[i128]>,
-) -> Result<PartOrCopy<'a>, Refusal>
+) -> Result<Viewed<'a>, Refusal>
     ensures { Sees (Transposed (option_copied axes.entry)) array.now result }
 {
     let layout = view_ops::transpose(alloc, array.layout, axes)?;
-    Ok(PartOrCopy::Part(items(array, layout, array.writable)))
+    Ok(items(array, layout, array.writable))
 }
 
 /// `field Y "f"`
-fn field<'a>(alloc: Global, array: &ArrayRef<'a>, field: &Text) -> Result<PartOrCopy<'a>, Refusal>
+fn field<'a>(alloc: Global, array: &ArrayRef<'a>, field: &Text) -> Result<Viewed<'a>, Refusal>
     requires { IsShown array.now }
     ensures { Sees (Field field.now) array.now result }
 {
@@ -100,12 +118,16 @@ fn field<'a>(alloc: Global, array: &ArrayRef<'a>, field: &Text) -> Result<PartOr
         return Err(Refusal::NoSuchField);
     };
     let layout = view_ops::field(alloc, array.layout, array.descr, field.as_slice())?;
-    Ok(PartOrCopy::Part(Part {
+    let bound = Bound::View {
+        number: array.number,
         path: array.path.then(k),
-        descr: &array.descr.field(k).descr,
         layout,
         writable: array.writable,
-    }))
+    };
+    Ok(Viewed {
+        bound,
+        descr: &array.descr.field(k).descr,
+    })
 }
 
 /// `broadcast Y S`: it may not be written, since one item may stand at many indexes.
@@ -113,12 +135,12 @@ fn broadcast<'a>(
     alloc: Global,
     array: &ArrayRef<'a>,
     lengths: &Lengths,
-) -> Result<PartOrCopy<'a>, Refusal>
+) -> Result<Viewed<'a>, Refusal>
     ensures { Sees (Broadcast lengths.now) array.now result }
 {
     let shape = shape_of(alloc, lengths)?;
     let layout = broadcasting::stretch(alloc, array.layout, &shape)?;
-    Ok(PartOrCopy::Part(items(array, layout, false)))
+    Ok(items(array, layout, false))
 }
 
 /// The items of an array in a block of their own, in C order, under a shape with as many items.
@@ -126,7 +148,7 @@ fn duplicate<'a>(
     alloc: Global,
     array: &ArrayRef<'a>,
     shape: &Shape,
-) -> Result<PartOrCopy<'a>, Refusal>
+) -> Result<Viewed<'a>, Refusal>
     requires shown { IsShown array.now }
     requires items { count shape.now ≡ count array.now.layout.now.shape }
     ensures { Duplicates shape.now array.now result }
@@ -139,7 +161,10 @@ fn duplicate<'a>(
         MemoryOrder::C,
     )?;
     let owned = Owned::over(alloc, copy.descr, shape, MemoryOrder::C, copy.block)?;
-    Ok(PartOrCopy::Copy(owned))
+    Ok(Viewed {
+        bound: Bound::Fresh(owned),
+        descr: array.descr,
+    })
 }
 
 /// `reshape Y S`: where no strides lead to the items under the new shape, they are copied.
@@ -147,20 +172,20 @@ fn reshaped<'a>(
     alloc: Global,
     array: &ArrayRef<'a>,
     numbers: &[i128],
-) -> Result<PartOrCopy<'a>, Refusal>
+) -> Result<Viewed<'a>, Refusal>
     requires { IsShown array.now }
     ensures { Sees (Reshaped numbers.now) array.now result }
 {
     let shape = reshape_rule::target(alloc, &array.layout.shape, numbers)?;
     if let Some(layout) = reshape_rule::no_copy(alloc, array.layout, &shape)? {
-        return Ok(PartOrCopy::Part(items(array, layout, array.writable)));
+        return Ok(items(array, layout, array.writable));
     }
     duplicate(alloc, array, &shape)
 }
 
 /// Whether the names in a way of seeing an array are bound.
 pub fn has_bound(bench: &Bench, how: &Viewing) -> bool
-    ensures { result ≡ list_all (is_bound bench.now) (names_in_viewing how.now) }
+    ensures { result ≡ list_all (is_bound bench.now.state) (names_in_viewing how.now) }
 {
     match how {
         Viewing::Indexed(index) => are_bound(bench, index.as_slice()),
@@ -174,10 +199,10 @@ pub fn seen<'a>(
     bench: &Bench,
     array: &ArrayRef<'a>,
     how: &Viewing,
-) -> Result<PartOrCopy<'a>, Refusal>
-    requires shown { (a : Array) × Shows bench.now a array.now }
-    requires bound { list_all (is_bound bench.now) (names_in_viewing how.now) ≡ true }
-    ensures { SeesIn bench.now how.now array.now result }
+) -> Result<Viewed<'a>, Refusal>
+    requires shown { (a : Array) × Shows bench.now.state a array.now }
+    requires bound { list_all (is_bound bench.now.state) (names_in_viewing how.now) ≡ true }
+    ensures { SeesIn bench.now.state how.now array.now result }
 {
     match how {
         Viewing::Whole => whole(alloc, array),

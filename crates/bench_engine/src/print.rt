@@ -13,8 +13,8 @@ use std::alloc::Global;
 /// Prints a name's array.
 pub fn print(alloc: Global, bench: &Bench, name: &Name, out: &mut Vec<u8>) -> Result<(), Refusal>
     ensures room { vec_capacity out.old ≤ vec_capacity out.new }
-    ensures answers { CarriesOut (is_bound bench.now name.now) (λ choice. print_outcome bench.now name.now)
-        bench.now bench.now out.old.items out.new.items result }
+    ensures answers { CarriesOut (is_bound bench.now.state name.now) (λ choice. print_outcome bench.now.state name.now)
+        bench.now.state bench.now.state out.old.items out.new.items result }
 {
     let Some(array) = bench.get(name) else {
         return Err(Refusal::UnknownName);

@@ -55,7 +55,7 @@ pub fn save<N: NpyStore>(
 ) -> Result<(), Refusal>
     requires room { vec_len out.old + 64 ≤ vec_capacity out.old }
     ensures room { vec_capacity out.old ≤ vec_capacity out.new }
-    ensures answers { Carried (MayAnswerSave (world bench.now (N.shelf store.old)) name.now file.now (world bench.now (N.shelf store.new)))
+    ensures answers { Carried (MayAnswerSave (world bench.now.state (N.shelf store.old)) name.now file.now (world bench.now.state (N.shelf store.new)))
         out.old.items out.new.items result }
 {
     let Some(array) = bench.get(name) else {

@@ -73,8 +73,8 @@ impl Session {
         ensures room { HasRoom self.new }
         ensures next { HoldsPiece self.new.line [] }
         ensures few { self.new.accepted + self.new.refused ≤ self.old.accepted + self.old.refused + 1 }
-        ensures ok { OnOk result (Told AnswersLine (world self.old.bench (N.shelf store.old)) (world self.new.bench (N.shelf store.new)) (W.contents writer.old) (W.contents writer.new) self.old self.new) }
-        ensures err { OnErr result (ToldInPart AnswersLine (world self.old.bench (N.shelf store.old)) (world self.new.bench (N.shelf store.new)) (W.contents writer.old) (W.contents writer.new) self.old) }
+        ensures ok { OnOk result (Told AnswersLine (world self.old.bench.state (N.shelf store.old)) (world self.new.bench.state (N.shelf store.new)) (W.contents writer.old) (W.contents writer.new) self.old self.new) }
+        ensures err { OnErr result (ToldInPart AnswersLine (world self.old.bench.state (N.shelf store.old)) (world self.new.bench.state (N.shelf store.new)) (W.contents writer.old) (W.contents writer.new) self.old) }
     {
         if self.answer_line(alloc, store).is_none() {
             return Ok(());
@@ -166,7 +166,7 @@ impl Session {
         ensures few { self.new.accepted + self.new.refused ≤ self.old.accepted + self.old.refused + 1 }
         ensures ok { OnOk result ((first : World) (before : Option (List ℕ)) (read : List ℕ) →
             FedMachine first (N.shelf store.old) before (W.contents writer.old) read self.old →
-            HasTold AnswersLine first (world self.new.bench (N.shelf store.new)) before (W.contents writer.new) (lines read) self.new) }
+            HasTold AnswersLine first (world self.new.bench.state (N.shelf store.new)) before (W.contents writer.new) (lines read) self.new) }
         ensures err { OnErr result ((first : World) (before : Option (List ℕ)) (read : List ℕ) →
             FedMachine first (N.shelf store.old) before (W.contents writer.old) read self.old →
             AnswersInPart (lines read) first (N.shelf store.new) before (W.contents writer.new)) }

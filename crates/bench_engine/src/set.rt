@@ -11,14 +11,14 @@ ghost use Rattle.bench_engine.specs.Machine.{new_items, write_outcome, write_rep
 ghost use Rattle.bench_engine.specs.inside.Assigns.{IsTarget, GivesItems};
 ghost use Rattle.bench_engine.specs.inside.Contract.{CarriesOut};
 
-use crate::assign::{assign, target_of};
-use crate::given::{Given, give};
+use crate::assign::target_of;
+use crate::given::give;
 use crate::index::are_bound;
 use crate::operand::has_bound;
 use crate::update::updated;
 use elem_descr::Refusal;
 use itoa::Buffer;
-use name_store::{ArrayRef, Bench, Target};
+use name_store::{ArrayRef, Bench, Source, Target};
 use script_lang::{Argument, Index, Name, Operation};
 use std::alloc::Global;
 
@@ -40,24 +40,24 @@ fn push_count(out: &mut Vec<u8>, operation: Option<Operation>, count: usize)
 }
 
 /// The new items of a target in an array: those of the argument, or what an operation gives with it.
-fn new_items<'a>(
+fn new_items(
     alloc: Global,
     bench: &Bench,
     array: &ArrayRef<'_>,
     target: &Target,
     operation: Option<Operation>,
-    value: &'a Argument,
-) -> Result<Given<'a>, Refusal>
-    requires bound { list_all (is_bound bench.now) (names_in_argument value.now) ≡ true }
-    requires target { (name : List ℕ) × (a : Array) × (part : Array) × Shows bench.now a array.now × IsTarget bench.now name a part target.now }
-    ensures { (name : List ℕ) (a part : Array) → Shows bench.now a array.now → IsTarget bench.now name a part target.now
-        → GivesItems bench.now array.now.descr.now (count part.shape) result (new_items bench.now array.now.descr.now part operation value.now) }
+    value: &Argument,
+) -> Result<Source, Refusal>
+    requires bound { list_all (is_bound bench.now.state) (names_in_argument value.now) ≡ true }
+    requires target { (name : List ℕ) × (a : Array) × (part : Array) × Shows bench.now.state a array.now × IsTarget bench.now.state name a part target.now }
+    ensures { (name : List ℕ) (a part : Array) → Shows bench.now.state a array.now → IsTarget bench.now.state name a part target.now
+        → GivesItems bench.now.state array.now.descr.now (count part.shape) result (new_items bench.now.state array.now.descr.now part operation value.now) }
 {
     match operation {
         None => give(alloc, bench, value, target.shape(), array.descr),
         Some(operation) => {
             let owned = updated(alloc, bench, array, target, operation, value)?;
-            Ok(Given::Own(owned))
+            Ok(Source::Block(owned))
         }
     }
 }
@@ -75,8 +75,8 @@ pub fn set(
 ) -> Result<(), Refusal>
     requires room { vec_len out.old + 64 ≤ vec_capacity out.old }
     ensures room { vec_capacity out.old ≤ vec_capacity out.new }
-    ensures answers { CarriesOut (list_all (is_bound bench.old) (name.now ∷ names_in_index index.now ++ names_in_argument value.now))
-        (λ choice. write_outcome bench.old name.now index.now operation value.now) bench.old bench.new out.old.items out.new.items result }
+    ensures answers { CarriesOut (list_all (is_bound bench.old.state) (name.now ∷ names_in_index index.now ++ names_in_argument value.now))
+        (λ choice. write_outcome bench.old.state name.now index.now operation value.now) bench.old.state bench.new.state out.old.items out.new.items result }
 {
     let Some(array) = bench.get(name) else {
         return Err(Refusal::UnknownName);
@@ -91,7 +91,7 @@ pub fn set(
     let items = new_items(alloc, bench, &array, &target, operation, value)?;
     // What is known of the number of items of a shape comes with this call.
     let _count = target.shape().items();
-    let count = assign(alloc, bench, name, target, items)?;
+    let count = bench.write_items(alloc, name, target, items)?;
     push_count(out, operation, count);
     Ok(())
 }

@@ -20,8 +20,8 @@ pub fn shares(
 ) -> Result<(), Refusal>
     requires room { vec_len out.old + 64 ≤ vec_capacity out.old }
     ensures room { vec_capacity out.old ≤ vec_capacity out.new }
-    ensures answers { CarriesOut (is_bound bench.now left.now && is_bound bench.now right.now) (λ choice. shares_outcome bench.now left.now right.now)
-        bench.now bench.now out.old.items out.new.items result }
+    ensures answers { CarriesOut (is_bound bench.now.state left.now && is_bound bench.now.state right.now) (λ choice. shares_outcome bench.now.state left.now right.now)
+        bench.now.state bench.now.state out.old.items out.new.items result }
 {
     let yes = bench.shares(alloc, left, right)?;
     out.extend_from_slice(b"shares ").unwrap();

@@ -17,19 +17,11 @@ ghost use Rattle.bench_engine.specs.inside.OwnContents.{IsInCOrder};
 use crate::index::{are_plain, named_items, planned};
 use elem_descr::{Descr, Refusal};
 use fancy_index::Plan;
-use name_store::{ArrayRef, Bench};
+use name_store::{ArrayRef, Bench, Bound};
 use overlap_copy::Owned;
 use script_lang::Name;
-use shape_strides::{IndexItem, Layout, MemoryOrder};
+use shape_strides::{IndexItem, MemoryOrder};
 use std::alloc::{AllocError, Global};
-
-/// What an index list takes of an array: a view of its layout, or a copy of the items to which the
-/// arrays of the list lead.
-#[derive(Drop)]
-pub enum Taken {
-    View(Layout),
-    Copy(Owned),
-}
 
 /// The items to which a plan leads, in a block of their own.
 fn gathered(alloc: Global, array: &ArrayRef<'_>, plan: &Plan) -> Result<Owned, AllocError>
@@ -53,15 +45,20 @@ pub fn take(
     bench: &Bench,
     array: &ArrayRef<'_>,
     index: &[IndexItem<Name>],
-) -> Result<Taken, Refusal>
-    requires bound { list_all (is_bound bench.now) (names_in_index index.now) ≡ true }
-    requires shown { (a : Array) × Shows bench.now a array.now }
-    ensures { (a : Array) → Shows bench.now a array.now
-        → GivesTaken bench.now a array.now (list_all is_basic index.now) result (taken bench.now a index.now) }
+) -> Result<Bound, Refusal>
+    requires bound { list_all (is_bound bench.now.state) (names_in_index index.now) ≡ true }
+    requires shown { (a : Array) × Shows bench.now.state a array.now }
+    ensures { (a : Array) → Shows bench.now.state a array.now
+        → GivesTaken bench.now.state a array.now (list_all is_basic index.now) result (taken bench.now.state a index.now) }
 {
     if are_plain(index) {
-        return Ok(Taken::View(named_items(alloc, array.layout, index)?));
+        return Ok(Bound::View {
+            number: array.number,
+            path: *array.path,
+            layout: named_items(alloc, array.layout, index)?,
+            writable: array.writable,
+        });
     }
     let plan = planned(alloc, bench, array, index)?;
-    Ok(Taken::Copy(gathered(alloc, array, &plan)?))
+    Ok(Bound::Fresh(gathered(alloc, array, &plan)?))
 }

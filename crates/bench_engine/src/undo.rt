@@ -10,8 +10,8 @@ use name_store::Bench;
 pub fn undo(bench: &mut Bench, out: &mut Vec<u8>) -> Result<(), Refusal>
     requires room { vec_len out.old + 64 ≤ vec_capacity out.old }
     ensures room { vec_capacity out.old ≤ vec_capacity out.new }
-    ensures answers { CarriesOut false (λ choice. undo_outcome bench.old)
-        bench.old bench.new out.old.items out.new.items result }
+    ensures answers { CarriesOut false (λ choice. undo_outcome bench.old.state)
+        bench.old.state bench.new.state out.old.items out.new.items result }
 {
     bench.undo()?;
     out.extend_from_slice(b"ok undo").unwrap();

@@ -90,11 +90,11 @@ fn changed_by_operand(
     old: Items<'_>,
     operand: &Operand,
 ) -> Result<Owned, Refusal>
-    requires bound { list_all (is_bound bench.now) (names_in_argument (argument.Operand operand.now)) ≡ true }
+    requires bound { list_all (is_bound bench.now.state) (names_in_argument (argument.Operand operand.now)) ≡ true }
     requires few { count old.layout.now.shape * item_size old.descr.now ≤ max_bytes }
     requires inside { LieInside old }
     ensures { (v : OperandValues) → Stands v old.entry → GivesChanged old.entry.descr.now (count v.shape) result
-        (changed_with operation old.entry.descr.now v (argument_values bench.now operation old.entry.descr.now (argument.Operand operand.now))) }
+        (changed_with operation old.entry.descr.now v (argument_values bench.now.state operation old.entry.descr.now (argument.Operand operand.now))) }
 {
     let array = bench.get(&operand.name).unwrap();
     let taken = operand_items(alloc, bench, &array, &operand.index)?;
@@ -109,11 +109,11 @@ fn changed(
     old: Items<'_>,
     value: &Argument,
 ) -> Result<Owned, Refusal>
-    requires bound { list_all (is_bound bench.now) (names_in_argument value.now) ≡ true }
+    requires bound { list_all (is_bound bench.now.state) (names_in_argument value.now) ≡ true }
     requires few { count old.layout.now.shape * item_size old.descr.now ≤ max_bytes }
     requires inside { LieInside old }
     ensures { (v : OperandValues) → Stands v old.entry → GivesChanged old.entry.descr.now (count v.shape) result
-        (changed_with operation old.entry.descr.now v (argument_values bench.now operation old.entry.descr.now value.now)) }
+        (changed_with operation old.entry.descr.now v (argument_values bench.now.state operation old.entry.descr.now value.now)) }
 {
     match value {
         Argument::Literal(literal) => changed_by_literal(alloc, operation, old, literal),
@@ -130,10 +130,10 @@ pub fn updated(
     operation: Operation,
     value: &Argument,
 ) -> Result<Owned, Refusal>
-    requires bound { list_all (is_bound bench.now) (names_in_argument value.now) ≡ true }
-    requires target { (name : List ℕ) × (a : Array) × (part : Array) × Shows bench.now a array.now × IsTarget bench.now name a part target.now }
-    ensures { (name : List ℕ) (a part : Array) → Shows bench.now a array.now → IsTarget bench.now name a part target.now
-        → GivesChanged array.now.descr.now (count part.shape) result (updated bench.now array.now.descr.now part operation value.now) }
+    requires bound { list_all (is_bound bench.now.state) (names_in_argument value.now) ≡ true }
+    requires target { (name : List ℕ) × (a : Array) × (part : Array) × Shows bench.now.state a array.now × IsTarget bench.now.state name a part target.now }
+    ensures { (name : List ℕ) (a part : Array) → Shows bench.now.state a array.now → IsTarget bench.now.state name a part target.now
+        → GivesChanged array.now.descr.now (count part.shape) result (updated bench.now.state array.now.descr.now part operation value.now) }
 {
     match target {
         Target::View(layout) => {

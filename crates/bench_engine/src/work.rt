@@ -222,9 +222,9 @@ fn work_operand(
     left: Items<'_>,
     operand: &Operand,
 ) -> Result<Owned, Refusal>
-    requires bound { list_all (is_bound bench.now) (names_in_argument (argument.Operand operand.now)) ≡ true }
+    requires bound { list_all (is_bound bench.now.state) (names_in_argument (argument.Operand operand.now)) ≡ true }
     requires left { All (λ offset. offset + item_size left.descr.now ≤ length left.block.now) (offsets left.layout.now) }
-    ensures { (v : OperandValues) → Stands v left.entry → Gives held result (operation_with operation v (argument_values bench.now operation v.descr (argument.Operand operand.now))) }
+    ensures { (v : OperandValues) → Stands v left.entry → Gives held result (operation_with operation v (argument_values bench.now.state operation v.descr (argument.Operand operand.now))) }
 {
     let array = bench.get(&operand.name).unwrap();
     let taken = operand_items(alloc, bench, &array, &operand.index)?;
@@ -239,9 +239,9 @@ pub fn work_argument(
     left: Items<'_>,
     right: &Argument,
 ) -> Result<Owned, Refusal>
-    requires bound { list_all (is_bound bench.now) (names_in_argument right.now) ≡ true }
+    requires bound { list_all (is_bound bench.now.state) (names_in_argument right.now) ≡ true }
     requires left { All (λ offset. offset + item_size left.descr.now ≤ length left.block.now) (offsets left.layout.now) }
-    ensures { (v : OperandValues) → Stands v left.entry → Gives held result (operation_with operation v (argument_values bench.now operation v.descr right.now)) }
+    ensures { (v : OperandValues) → Stands v left.entry → Gives held result (operation_with operation v (argument_values bench.now.state operation v.descr right.now)) }
 {
     match right {
         Argument::Literal(literal) => work_literal(alloc, operation, left, literal),

@@ -1,36 +1,36 @@
 -- What a write to places of a name's array is, by the number of its buffer.
-use Rattle.std.proofs.Common.{◌≡◌, ◌+◌, ◌*◌, ◌<◌, ◌≤◌, ℕ, List, [], ◌∷◌, length, map, replicate, refl, sym, ap, subst, ◌∙◌, Some, Ok, All, Bor, arith}
+use Rattle.std.proofs.Common.{◌≡◌, ◌+◌, ◌*◌, ◌<◌, ◌≤◌, ℕ, List, [], ◌∷◌, length, map, refl, sym, ap, subst, ◌∙◌, Some, Ok, All, false, arith}
 use Rattle.std.specs.List.{AllByRecursion}
 use Rattle.std.proofs.lemmas.List.Elements.{All-from_recursion}
+use Rattle.elem_descr.specs.declared.descr.Descr.{Descr}
 use Rattle.elem_descr.specs.Items.{item_size, decode_item}
+use Rattle.elem_descr.specs.Values.{LeafValue}
 use Rattle.shape_strides.specs.declared.layout.Layout.{Layout}
 use Rattle.shape_strides.specs.Layouts.{offsets, Fits, IsNested, offsets_of}
-use Rattle.overlap_copy.specs.declared.owned.Owned.{Owned}
 use Rattle.overlap_copy.specs.Assignments.{items_at, with_items}
 use Rattle.name_store.specs.States.{State, Array}
 use Rattle.name_store.specs.Arrays.{find_array, descr_of, written}
 use Rattle.name_store.specs.Calls.{AnswersWrite}
 use Rattle.name_store.specs.Invariants.{Holds}
 use Rattle.name_store.specs.Parts.{start_at}
-use Rattle.name_store.specs.Targets.{IsAim, IsFor, MayWrite, LeadsTo, target_offsets, source_items, items_of}
+use Rattle.name_store.specs.Targets.{IsAim, Supplies, MayWrite, LeadsTo, target_offsets}
 use Rattle.name_store.specs.View.{named_array, present}
 use Rattle.name_store.specs.declared.entry.Entry.{Entry}
 use Rattle.name_store.specs.declared.entry.Key.{Key}
 use Rattle.name_store.specs.declared.home.Home.{Home}
-use Rattle.name_store.specs.declared.items.Items.{Items}
-use Rattle.name_store.specs.declared.items.Items.TheVariants as items
 use Rattle.name_store.specs.declared.slot.Slot.{Slot}
 use Rattle.name_store.specs.declared.target.Source.{Source}
-use Rattle.name_store.specs.declared.target.Source.TheVariants as source
+use Rattle.name_store.specs.declared.target.Source.TheVariants.{One, Block, Buffer}
 use Rattle.name_store.specs.declared.target.Target.{Target}
 use Rattle.name_store.specs.declared.target.Target.TheVariants.{View, Plan}
 use Rattle.name_store.specs.inside.Homes.{IsHome}
-use Rattle.name_store.specs.inside.Puts.{AreItems, CanPut, MayPut, Puts, Resolves, block_in, parts_of}
+use Rattle.name_store.specs.inside.Puts.{AreItems, CanPut, MayPut, Puts, block_in, parts_of}
 use Rattle.name_store.proofs.BlockLaws.{item-inside}
 use Rattle.name_store.proofs.PartLaws.{part-within}
-use Rattle.name_store.proofs.RewriteLaws.{parts-whole, some-same}
+use Rattle.name_store.proofs.RewriteLaws.{parts-whole}
 use Rattle.name_store.proofs.SourceLaws.{map-replicated, alike-items}
-use Rattle.name_store.proofs.WriteLaws.{home-some, size-is, home-fits, home-reads, within, spread, written-state}
+use Rattle.name_store.proofs.ViewLaws.{view-slot, view-fits, view-reads}
+use Rattle.name_store.proofs.WriteLaws.{home-some, size-is, home-fits, within, spread, written-state}
 use Rattle.name_store.proofs.PastLaws.{Slots}
 
 -- parts of items among n of them end within the bytes of all
@@ -68,75 +68,57 @@ module _ (es : List (Key × Entry)) (slots : Slots) (name : List ℕ) (number wi
     may-put (View layout) leads may = (fits layout leads.found may, subst (IsNested (offsets layout)) (size-is es slots name number width home array leads.found) may.1)
     may-put (Plan plan) leads may = planned (Plan plan) leads
 
-  module _ (name' : Bor (List ℕ)) (number' width' : ℕ) (other : IsHome es slots name'.now number' width') where
-    other-fits : (layout : Layout) (array : Array) (n : ℕ) → find_array (map named_array es) name ≡ Some array → IsFor state (descr_of state array) n (source.Name name' layout) → Fits layout (length other.slot.block) width
-    other-fits layout array n found r =
-        subst (Fits layout (length other.slot.block))
-        (sym (size-is es slots name'.now number' width' other r.array r.found) ∙ r.alike.size ∙ size-is es slots name number width home array found)
-        (home-fits es slots name'.now number' width' other r.array r.found layout r.fits)
-
   module _ (array : Array) (found : find_array (map named_array es) name ≡ Some array) (n : ℕ) where
-    size : item_size (descr_of state array) ≡ width
+    abbrev descr : Descr
+    descr = descr_of state array
+
+    size : item_size descr ≡ width
     size = size-is es slots name number width home array found
 
-    are-items : (from : Source) (own : Items) → Resolves es slots from own → IsFor state (descr_of state array) n from → AreItems slots width n own
-    are-items (source.One a) (items.One b) same r = ap (λ (x : Bor (List ℕ)). length x.now) (sym same) ∙ r ∙ size
-    are-items (source.Block a) (items.Block b) same r = (ap (λ (o : Owned). item_size o.descr) (sym same) ∙ r.alike.size ∙ size, ap (λ (o : Owned). length (offsets o.layout)) (sym same) ∙ r.count)
-    are-items (source.Name name' layout) (items.Buffer number' layout') same r =
-        let other = same.1.1 in (
-          other.slot,
-          other.there,
-          subst (λ (l : Layout). Fits l (length other.slot.block) width) same.0 (other-fits name' number' same.1.0 other layout array n found r),
-          ap (λ (l : Layout). length (offsets l)) (sym same.0) ∙ r.count,
+    are-items : (source : Source) (items : List (List LeafValue)) → Supplies state descr n source items → AreItems slots width n source
+    are-items (One bytes) items has = has.0 ∙ size
+    are-items (Block owned) items has = (has.0.alike.size ∙ size, has.0.count)
+    are-items (Buffer q layout) items has =
+        let from = has.0 in
+        let slot = view-slot es slots q from.path layout false from has.1.view in (
+          slot.0,
+          slot.1,
+          subst (Fits layout (length slot.0.block)) (has.1.alike.size ∙ size) (view-fits es slots q from.path layout false from has.1.view slot.0 slot.1),
+          has.1.count,
         )
-    are-items (source.One a) (items.Block b) same r = absurd same
-    are-items (source.One a) (items.Buffer number' b) same r = absurd same
-    are-items (source.Block a) (items.One b) same r = absurd same
-    are-items (source.Block a) (items.Buffer number' b) same r = absurd same
-    are-items (source.Name name' a) (items.One b) same r = absurd same
-    are-items (source.Name name' a) (items.Block b) same r = absurd same
 
-    parts-are : (from : Source) (own : Items) → Resolves es slots from own → IsFor state (descr_of state array) n from → map (decode_item (descr_of state array)) (parts_of slots width n own) ≡ source_items state (descr_of state array) n from
-    parts-are (source.One a) (items.One b) same r = map-replicated (decode_item (descr_of state array)) n b.now ∙ ap (λ (x : Bor (List ℕ)). replicate n (decode_item (descr_of state array) x.now)) (sym same)
-    parts-are (source.Block a) (items.Block b) same r =
-        ap (λ (o : Owned). map (decode_item (descr_of state array)) (items_at (offsets o.layout) width o.block)) (sym same) ∙ alike-items a.descr (descr_of state array) width a.block (offsets a.layout) r.alike size
-    parts-are (source.Name name' layout) (items.Buffer number' layout') same r =
-        let other = same.1.1 in
-        (λ i. map (decode_item (descr_of state array)) (items_at (offsets (sym same.0 i)) width (block_in (other.there i))))
-        ∙ alike-items (descr_of state r.array) (descr_of state array) width other.slot.block (offsets layout) r.alike size
-        ∙ sym (home-reads es slots name'.now number' same.1.0 other r.array r.found layout r.places r.offsets_are r.among)
-        ∙ ap (λ a. items_of state a layout) (sym r.found)
-    parts-are (source.One a) (items.Block b) same r = absurd same
-    parts-are (source.One a) (items.Buffer number' b) same r = absurd same
-    parts-are (source.Block a) (items.One b) same r = absurd same
-    parts-are (source.Block a) (items.Buffer number' b) same r = absurd same
-    parts-are (source.Name name' a) (items.One b) same r = absurd same
-    parts-are (source.Name name' a) (items.Block b) same r = absurd same
+    parts-are : (source : Source) (items : List (List LeafValue)) → Supplies state descr n source items → map (decode_item descr) (parts_of slots width n source) ≡ items
+    parts-are (One bytes) items has = map-replicated (decode_item descr) n bytes.items ∙ has.1
+    parts-are (Block owned) items has = alike-items owned.descr descr width owned.block (offsets owned.layout) has.0.alike size ∙ has.1
+    parts-are (Buffer q layout) items has =
+        let from = has.0 in
+        let slot = view-slot es slots q from.path layout false from has.1.view in
+        ap (λ o. map (decode_item descr) (items_at (offsets layout) width (block_in o))) slot.1
+        ∙ alike-items (descr_of state from) descr width slot.0.block (offsets layout) has.1.alike size
+        ∙ sym (view-reads es slots q from.path layout false from has.1.view slot.0 slot.1)
+        ∙ has.2
 
-  module _ (target : Target) (from : Source) (own : Items) (same : Resolves es slots from own) (aim : IsAim state name target from) where
+  module _ (target : Target) (source : Source) (aim : IsAim state name target source) where
     abbrev n : ℕ
     n = length (target_offsets target)
 
-    pub can-put : CanPut slots at target own
+    pub can-put : CanPut slots at target source
     can-put = record {
       slot = s;
       there = home.there;
       some = home-some es slots name number width home;
       inside = planned aim.array aim.places target aim.leads;
       may = may-put aim.array aim.places target aim.leads aim.may_write;
-      are = are-items aim.array aim.leads.found n from own same aim.source_for;
+      are = are-items aim.array aim.leads.found n source aim.items aim.supplies;
     }
 
-    pub whole-parts : AllByRecursion (λ part. length part ≡ width) (parts_of slots width n own)
-    whole-parts = parts-whole slots width n own can-put.are
+    pub whole-parts : AllByRecursion (λ part. length part ≡ width) (parts_of slots width n source)
+    whole-parts = parts-whole slots width n source can-put.are
 
-    pub put-answers : (h : Holds es slots) (after : Slots) → Puts slots at target own after → AnswersWrite state name target from (Ok n) (present es after)
+    pub put-answers : (h : Holds es slots) (after : Slots) → Puts slots at target source after → AnswersWrite state name target source (Ok n) (present es after)
     put-answers h after puts = (
       refl,
-      λ array places leads.
-          written-state es slots name number width home h (with_items (target_offsets target) (parts_of slots width n own) s.block) after (puts s home.there) target array places leads (parts_of slots width n own) whole-parts refl
-          ∙ ap (written state array places) (parts-are array leads.found n from own same (source-for array leads.found)),
+      λ array places items leads has.
+          written-state es slots name number width home h (with_items (target_offsets target) (parts_of slots width n source) s.block) after (puts s home.there) target array places leads (parts_of slots width n source) whole-parts refl
+          ∙ ap (written state array places) (parts-are array leads.found n source items has),
     )
-      where
-        source-for : (array : Array) → find_array (map named_array es) name ≡ Some array → IsFor state (descr_of state array) n from
-        source-for array found = subst (λ (a : Array). IsFor state (descr_of state a) n from) (some-same aim.array array (sym aim.leads.found ∙ found)) aim.source_for

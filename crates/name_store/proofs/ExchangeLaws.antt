@@ -14,9 +14,9 @@ use Rattle.shape_strides.specs.Layouts.{offsets, multiples, Fits}
 use Rattle.overlap_copy.specs.declared.owned.Owned.{Owned}
 use Rattle.overlap_copy.specs.Assignments.{items_at, with_items}
 use Rattle.name_store.specs.declared.home.Home.{Home}
-use Rattle.name_store.specs.declared.items.Items.{Items}
 use Rattle.name_store.specs.declared.old_items.OldItems.{OldItems}
 use Rattle.name_store.specs.declared.slot.Slot.{Slot}
+use Rattle.name_store.specs.declared.target.Source.{Source}
 use Rattle.name_store.specs.declared.target.Target.{Target}
 use Rattle.name_store.specs.inside.Exchanges.{AreAll, IsPacked}
 use Rattle.name_store.specs.inside.OldItems.{AreOld}
@@ -90,7 +90,7 @@ own-packed o width size test =
       items = ap (λ os. items_at os width o.block) (sym (c-packed width (offsets o.layout) test (subst (λ n. AllByRecursion (λ a. a + width ≤ n) (offsets o.layout)) whole inside)));
     }
 
-module _ (slots : List (Option Slot)) (home : Home) (target : Target) (own : Items) (can : CanPut slots home target own) (s : Slot) (there : slot_at slots home.number ≡ Some s) (all : AreAll home.width s.block (target_offsets target)) where
+module _ (slots : List (Option Slot)) (home : Home) (target : Target) (source : Source) (can : CanPut slots home target source) (s : Slot) (there : slot_at slots home.number ≡ Some s) (all : AreAll home.width s.block (target_offsets target)) where
   abbrev os : List ℕ
   os = target_offsets target
 
@@ -98,13 +98,13 @@ module _ (slots : List (Option Slot)) (home : Home) (target : Target) (own : Ite
   width = home.width
 
   inside : AllByRecursion (λ o. o + width ≤ length s.block) os
-  inside = recursion_from_All (λ o. o + width ≤ length s.block) os (can-inside slots home target own can s there)
+  inside = recursion_from_All (λ o. o + width ≤ length s.block) os (can-inside slots home target source can s there)
 
   to-run : os ≡ multiples width (length os)
   to-run = c-packed width os all.order (subst (λ n. AllByRecursion (λ o. o + width ≤ n) os) all.whole inside)
 
   -- a block of new items is what writing all of them would have made
-  pub replaced : (new : List ℕ) → IsPacked (length os) width (parts_of slots width (length os) own) new → new ≡ with_items os (parts_of slots width (length os) own) s.block
+  pub replaced : (new : List ℕ) → IsPacked (length os) width (parts_of slots width (length os) source) new → new ≡ with_items os (parts_of slots width (length os) source) s.block
   replaced new packed =
       sym (ap (λ parts. with_items os parts s.block) (sym packed.items ∙ ap (λ at. items_at at width new) (sym to-run))
       ∙ all-put width os new s.block to-run (all.whole ∙ sym packed.long) packed.long (subst (λ n. AllByRecursion (λ o. o + width ≤ n) os) (all.whole ∙ sym packed.long) inside))

@@ -10,9 +10,9 @@ use Rattle.name_store.specs.Invariants.{users_of, users_at}
 use Rattle.name_store.specs.Targets.{target_offsets}
 use Rattle.name_store.specs.View.{slot_at}
 use Rattle.name_store.specs.declared.home.Home.{Home}
-use Rattle.name_store.specs.declared.items.Items.{Items}
-use Rattle.name_store.specs.declared.items.Items.TheVariants.{One, Block, Buffer}
 use Rattle.name_store.specs.declared.slot.Slot.{Slot}
+use Rattle.name_store.specs.declared.target.Source.{Source}
+use Rattle.name_store.specs.declared.target.Source.TheVariants.{One, Block, Buffer}
 use Rattle.name_store.specs.declared.target.Target.{Target}
 use Rattle.name_store.specs.inside.Homes.{HasNew}
 use Rattle.name_store.specs.inside.Held.{stand}
@@ -74,8 +74,8 @@ err-so (Ok a) f h = h
 err-so (Err e) f h = f h
 
 -- each item has as many bytes as it must
-pub parts-whole : (slots : List (Option Slot)) (width n : ℕ) (own : Items) → AreItems slots width n own → AllByRecursion (λ part. length part ≡ width) (parts_of slots width n own)
-parts-whole slots width n (One item) are = all-replicated (λ part. length part ≡ width) n item.now are
+pub parts-whole : (slots : List (Option Slot)) (width n : ℕ) (source : Source) → AreItems slots width n source → AllByRecursion (λ part. length part ≡ width) (parts_of slots width n source)
+parts-whole slots width n (One item) are = all-replicated (λ part. length part ≡ width) n item.items are
 parts-whole slots width n (Block owned) are = items-whole (offsets owned.layout) width owned.block (offsets-within owned.layout (length owned.block) width (subst (Fits owned.layout (length owned.block)) are.0 owned.fills_block.fits))
 parts-whole slots width n (Buffer number layout) are =
     items-whole (offsets layout) width (block_in (slot_at slots number)) (subst (λ o. AllByRecursion (λ offset. offset + width ≤ length (block_in o)) (offsets layout)) (sym are.1) (offsets-within layout (length are.0.block) width are.2))
@@ -83,7 +83,7 @@ parts-whole slots width n (Buffer number layout) are =
 pub owned-within : (owned : Owned) (width n : ℕ) (slots : List (Option Slot)) → AreItems slots width n (Block owned) → All (λ offset. offset + width ≤ length owned.block) (offsets owned.layout)
 owned-within owned width n slots are = offsets_within owned.layout (length owned.block) width (subst (Fits owned.layout (length owned.block)) are.0 owned.fills_block.fits)
 
-module _ (slots : List (Option Slot)) (home : Home) (target : Target) (own : Items) (can : CanPut slots home target own) where
+module _ (slots : List (Option Slot)) (home : Home) (target : Target) (source : Source) (can : CanPut slots home target source) where
   pub can-within : home.number < length slots
   can-within = slot_at-within slots home.number can.slot can.there
 

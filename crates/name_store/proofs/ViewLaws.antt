@@ -1,23 +1,26 @@
 -- A view: places of an array, in a buffer that is there.
-use Rattle.std.proofs.Common.{◌≡◌, ◌<◌, ℕ, Bool, List, length, map, refl, sym, ap, subst, ◌∙◌, cond, Option, Some, None, is_some, true, false, unwrap_or, arith}
+use Rattle.std.proofs.Common.{◌≡◌, ◌<◌, ◌*◌, ℕ, Bool, List, length, map, refl, sym, ap, subst, ◌∙◌, cond, Option, Some, None, is_some, true, false, unwrap_or, arith}
 use Rattle.std.specs.Option.{option_map}
+use Rattle.elem_descr.specs.declared.descr.Descr.{Descr}
+use Rattle.elem_descr.specs.Blocks.{item_from}
 use Rattle.elem_descr.specs.Items.{item_size}
 use Rattle.shape_strides.specs.declared.layout.Layout.{Layout}
-use Rattle.shape_strides.specs.Layouts.{offsets, offsets_of}
+use Rattle.shape_strides.specs.Layouts.{offsets, Fits, offsets_of}
 use Rattle.name_store.specs.States.{Array, Buffer}
-use Rattle.name_store.specs.Arrays.{buffer_of, is_in_use, no_buffer}
+use Rattle.name_store.specs.Arrays.{buffer_of, descr_of, is_in_use, no_buffer, placed_item, read}
 use Rattle.name_store.specs.Invariants.{LiesIn}
-use Rattle.name_store.specs.Parts.{start_at, IsPathOf}
+use Rattle.name_store.specs.Parts.{descr_at, start_at, span_at, part_at, IsPathOf}
 use Rattle.overlap_copy.specs.Blocks.{places_of}
 use Rattle.name_store.specs.View.{array_at, named_array, buffer_in, slot_at, present}
-use Rattle.name_store.specs.Views.{IsViewIn}
+use Rattle.name_store.specs.Views.{IsLaidOut, IsViewIn}
 use Rattle.name_store.specs.declared.entry.Entry.{Entry}
 use Rattle.name_store.specs.declared.entry.Key.{Key}
 use Rattle.name_store.specs.declared.slot.Slot.{Slot}
 use Rattle.name_store.proofs.BlockLaws.{length-items_in}
 use Rattle.name_store.specs.ArrayLaws.{places-offsets}
-use Rattle.name_store.proofs.LaidLaws.{laid-same}
+use Rattle.name_store.proofs.LaidLaws.{laid-same, places-within}
 use Rattle.name_store.proofs.PartLaws.{part-some, part-within}
+use Rattle.name_store.proofs.PutLaws.{items-read}
 use Rattle.name_store.proofs.SlotLaws.{get-buffers, get-used, slot_at-within}
 use Rattle.name_store.proofs.PastLaws.{Slots}
 
@@ -48,6 +51,28 @@ module _ (es : List (Key × Entry)) (slots : Slots) (number : ℕ) (path : List 
 
   slot-buffer : (s : Slot) → slot_at slots number ≡ Some s → buffer_of (present es slots) array ≡ buffer_in s
   slot-buffer s there = ap (λ n. buffer_of (present es slots) (record array { buffer = n })) (sym view.number_is) ∙ ap (λ o. unwrap_or o no_buffer) (get-used es slots number view-used ∙ ap (option_map buffer_in) there)
+
+  -- what the layout shows in the slot
+  module _ (s : Slot) (there : slot_at slots number ≡ Some s) where
+    slot-descr : (buffer_of (present es slots) array).descr ≡ s.descr
+    slot-descr = ap (λ (b : Buffer). b.descr) (slot-buffer s there)
+
+    slot-count : length (buffer_of (present es slots) array).items ≡ s.items
+    slot-count = ap (λ (b : Buffer). length b.items) (slot-buffer s there) ∙ length-items_in s.descr s.items s.block
+
+    slot-laid : IsLaidOut s.descr s.items array layout writable
+    slot-laid = laid-same (buffer_of (present es slots) array).descr s.descr (length (buffer_of (present es slots) array).items) s.items array array layout layout writable writable slot-descr slot-count refl refl refl view.laid
+
+    pub view-fits : Fits layout (length s.block) (item_size (descr_of (present es slots) array))
+    view-fits =
+        subst (λ n. Fits layout n (item_size (descr_of (present es slots) array))) (sym s.is_whole.whole) (subst (λ (d : Descr). Fits layout (s.items * item_size s.descr) (item_size (descr_at d array.path))) (sym slot-descr) slot-laid.fits)
+
+    pub view-reads : read (present es slots) array ≡ map (item_from (descr_of (present es slots) array) s.block) (offsets layout)
+    view-reads =
+        ap (λ (b : Buffer). map (λ place. part_at (span_at b.descr array.path) (placed_item b.items place)) array.places) (slot-buffer s there)
+        ∙ items-read s.descr s.is_whole.legal array.path slot-laid.part s.items s.block array.places
+        (places-within s.descr s.items array layout writable slot-laid (part-some s.descr s.is_whole.legal array.path slot-laid.part))
+        ∙ λ i. map (item_from (descr_at (sym slot-descr i) array.path) s.block) (sym slot-laid.places i)
 
   module _ (v : Entry) (s : Slot) (there : slot_at slots number ≡ Some s) (v-number : v.number ≡ number) (layout-is : v.layout ≡ layout) (item-is : v.item ≡ item_size s.descr) (writable-is : v.writable ≡ writable) (path-is : v.path ≡ path) where
     buffer : buffer_of (present es slots) array ≡ buffer_in s

@@ -8,15 +8,16 @@ use Rattle.std.proofs.Math.ListN.{drop_of_length-le}
 use Rattle.circular_buffer.specs.Buffer.{Buffer as Ring, buffer, keep_last}
 use Rattle.elem_descr.specs.declared.descr.Descr.{Descr}
 use Rattle.elem_descr.specs.Items.{item_size}
+use Rattle.elem_descr.specs.Values.{LeafValue}
 use Rattle.shape_strides.specs.declared.layout.Layout.{Layout}
 use Rattle.overlap_copy.specs.Assignments.{items_at, with_items}
 use Rattle.name_store.specs.States.{State, Array}
-use Rattle.name_store.specs.Arrays.{is_in_use, keeping, written, find_array, descr_of}
+use Rattle.name_store.specs.Arrays.{is_in_use, keeping, find_array, descr_of}
 use Rattle.name_store.specs.Calls.{AnswersWrite, CountsWrite}
 use Rattle.name_store.specs.Invariants.{Holds, IsSound, LiesAt, GoBackAt, GoBack, IsUndoable, users_at, users_in, pins, all_pins}
 use Rattle.name_store.specs.Kept.{with_old, Names, past_names, past_buffers, kept_states, patch_size}
 use Rattle.name_store.specs.Memory.{MoveInPlace, NeedsNoMemory}
-use Rattle.name_store.specs.Targets.{target_offsets, source_items, items_of, LeadsTo, MayWrite, IsFor, IsAim}
+use Rattle.name_store.specs.Targets.{target_offsets, LeadsTo, MayWrite, Supplies, IsAim}
 use Rattle.name_store.specs.View.{array_at, named_array, slot_at, present, state_of, value_of}
 use Rattle.name_store.specs.declared.change.Change.{Change}
 use Rattle.name_store.specs.declared.change.Change.TheVariants.{Write}
@@ -25,15 +26,14 @@ use Rattle.name_store.specs.declared.entry.Key.{Key}
 use Rattle.name_store.specs.declared.old_items.OldItems.{OldItems}
 use Rattle.name_store.specs.declared.slot.Slot.{Slot}
 use Rattle.name_store.specs.declared.target.Source.{Source}
-use Rattle.name_store.specs.declared.target.Source.TheVariants.{One, Block, Name}
+use Rattle.name_store.specs.declared.target.Source.TheVariants.{One, Block, Buffer}
 use Rattle.name_store.specs.declared.target.Target.{Target}
 use Rattle.name_store.specs.declared.target.Target.TheVariants.{View, Plan}
 use Rattle.name_store.specs.inside.Homes.{IsHome, HasNew}
-use Rattle.name_store.specs.inside.Puts.{CanPut, NeedsNone, Puts, Resolves, parts_of}
-use Rattle.name_store.specs.declared.items.Items.{Items}
-use Rattle.name_store.specs.declared.items.Items.TheVariants as items
+use Rattle.name_store.specs.inside.Puts.{CanPut, NeedsNone, Puts, parts_of}
 use Rattle.name_store.specs.inside.Held.{IsLowest, stand}
 use Rattle.name_store.specs.inside.OldItems.{AreOld, AreOldAt, AreSame}
+use Rattle.name_store.proofs.BindLaws.{view-present}
 use Rattle.name_store.proofs.AimLaws.{can-put, put-answers, whole-parts}
 use Rattle.name_store.proofs.HeldLaws.{lowest-same}
 use Rattle.name_store.proofs.KeepLaws.{keep-sound, keep-state, patches-push}
@@ -60,28 +60,21 @@ module _ (es : List (Key × Entry)) (slots : Slots) (ring : Ring Change) where
   may-now array (View layout) may = may
   may-now array (Plan plan) may = may
 
-  for-now : (descr : Descr) (n : ℕ) (source : Source) → IsFor whole descr n source → IsFor now descr n source
-  for-now descr n (One bytes) is = is
-  for-now descr n (Block owned) is = is
-  for-now descr n (Name name layout) r = record { array = r.array; places = r.places; found = r.found; alike = r.alike; offsets_are = r.offsets_are; among = r.among; fits = r.fits; count = r.count }
+  pub supplies-now : (descr : Descr) (n : ℕ) (source : Source) (items : List (List LeafValue)) → Supplies whole descr n source items → Supplies now descr n source items
+  supplies-now descr n (One bytes) items has = has
+  supplies-now descr n (Block owned) items has = has
+  supplies-now descr n (Buffer number layout) items has =
+      (has.0, record { view = view-present es slots ring number has.0.path layout false has.0 has.1.view; alike = has.1.alike; count = has.1.count }, has.2)
 
   pub aim-now : (name : List ℕ) (target : Target) (source : Source) → IsAim whole name target source → IsAim now name target source
   aim-now name target source aim = record {
     array = aim.array;
     places = aim.places;
+    items = aim.items;
     leads = leads-now name target aim.array aim.places aim.leads;
     may_write = may-now aim.array target aim.may_write;
-    source_for = for-now (descr_of now aim.array) (length (target_offsets target)) source aim.source_for;
+    supplies = supplies-now (descr_of now aim.array) (length (target_offsets target)) source aim.items aim.supplies;
   }
-
-  items-now : (found : Option Array) (layout : Layout) → items_of whole found layout ≡ items_of now found layout
-  items-now None layout = refl
-  items-now (Some array) layout = refl
-
-  pub source-now : (descr : Descr) (n : ℕ) (source : Source) → source_items whole descr n source ≡ source_items now descr n source
-  source-now descr n (One bytes) = refl
-  source-now descr n (Block owned) = refl
-  source-now descr n (Name name layout) = items-now (find_array (map named_array es) name.now) layout
 
   pub needs-shallow : (name : List ℕ) (target : Target) (source : Source) → NeedsNoMemory whole name target source → ring.capacity ≡ 0
   needs-shallow name (View to) source needs-none = needs-none.0
@@ -90,7 +83,7 @@ module _ (es : List (Key × Entry)) (slots : Slots) (ring : Ring Change) where
   pub needs-now : (name : List ℕ) (target : Target) (source : Source) → NeedsNoMemory whole name target source → NeedsNoMemory now name target source
   needs-now name (View to) (One bytes) needs-none = (refl, needs-none.1)
   needs-now name (View to) (Block owned) needs-none = (refl, needs-none.1)
-  needs-now name (View to) (Name other from) needs-none = (refl, needs-none.1)
+  needs-now name (View to) (Buffer number from) needs-none = (refl, needs-none.1)
   needs-now name (Plan plan) source needs-none = (refl, needs-none.1)
 
 -- no state that is kept is another where the same stands in each slot
@@ -133,44 +126,39 @@ same-still es slots after ring spare same sound = record {
     shaped q = alike-shape (slot_at after q) (slot_at slots q) (same q).0
 
 -- Items of a source were put at a target of a name's array.
-module _ (es : List (Key × Entry)) (slots : Slots) (ring : Ring Change) (spare : ℕ) (sound : IsSound es slots ring spare) (name : List ℕ) (number width : ℕ) (home : IsHome es slots name number width) (target : Target) (source : Source) (own : Items)
-    (resolved : Resolves es slots source own) (aim : IsAim (state_of es slots ring) name target source) where
+module _ (es : List (Key × Entry)) (slots : Slots) (ring : Ring Change) (spare : ℕ) (sound : IsSound es slots ring spare) (name : List ℕ) (number width : ℕ) (home : IsHome es slots name number width) (target : Target) (source : Source)
+    (aim : IsAim (state_of es slots ring) name target source) where
   now-aim : IsAim (present es slots) name target source
   now-aim = aim-now es slots ring name target source aim
 
-  pub put-can : CanPut slots (record { number = number; width = width }) target own
-  put-can = can-put es slots name number width home target source own resolved now-aim
+  pub put-can : CanPut slots (record { number = number; width = width }) target source
+  put-can = can-put es slots name number width home target source now-aim
 
-  pub none-can : NeedsNoMemory (state_of es slots ring) name target source → NeedsNone (record { number = number; width = width }) target own
-  none-can needs-none = by target source own resolved (needs-now es slots ring name target source needs-none)
+  pub none-can : NeedsNoMemory (state_of es slots ring) name target source → NeedsNone (record { number = number; width = width }) target source
+  none-can needs-none = by target source (needs-now es slots ring name target source needs-none)
     where
-      by : (target : Target) (source : Source) (own : Items) → Resolves es slots source own → NeedsNoMemory (present es slots) name target source → NeedsNone (record { number = number; width = width }) target own
-      by target source (items.One b) same none = tt
-      by target source (items.Block b) same none = tt
-      by (View to) (Name other from) (items.Buffer number' from') same none = λ is.
-          let there = same.1.1 in
-          subst (λ (l : Layout). MoveInPlace to l width) same.0
-          (subst (MoveInPlace to from) (size-is es slots name number width home (array_at home.entry) home.found)
-          (none.1 (array_at home.entry) (array_at there.entry) home.found there.found (sym home.number_is ∙ sym is ∙ there.number_is)))
-      by (Plan plan) (Name other from) (items.Buffer number' from') same none = absurd none.1
-      by target (One a) (items.Buffer number' b) same none = absurd same
-      by target (Block a) (items.Buffer number' b) same none = absurd same
+      by : (target : Target) (source : Source) → NeedsNoMemory (present es slots) name target source → NeedsNone (record { number = number; width = width }) target source
+      by target (One bytes) none = tt
+      by target (Block owned) none = tt
+      by (View to) (Buffer q from) none = λ is.
+          subst (MoveInPlace to from) (size-is es slots name number width home (array_at home.entry) home.found) (none.1 (array_at home.entry) home.found (sym home.number_is ∙ sym is))
+      by (Plan plan) (Buffer q from) none = absurd none.1
 
-  module _ (after : Slots) (puts : Puts slots (record { number = number; width = width }) target own after) where
+  module _ (after : Slots) (puts : Puts slots (record { number = number; width = width }) target source after) where
     abbrev n : ℕ
     n = length (target_offsets target)
 
     abbrev parts : List (List ℕ)
-    parts = parts_of slots width n own
+    parts = parts_of slots width n source
 
     whole' : AllByRecursion (λ part. length part ≡ width) parts
-    whole' = whole-parts es slots name number width home target source own resolved now-aim
+    whole' = whole-parts es slots name number width home target source now-aim
 
     new : HasNew slots number home.slot (with_items (target_offsets target) parts home.slot.block) after
     new = puts home.slot home.there
 
     present-answers : AnswersWrite (present es slots) name target source (Ok n) (present es after)
-    present-answers = put-answers es slots name number width home target source own resolved now-aim sound.holds after puts
+    present-answers = put-answers es slots name number width home target source now-aim sound.holds after puts
 
     abbrev names : Names
     names = map named_array es
@@ -214,11 +202,11 @@ module _ (es : List (Key × Entry)) (slots : Slots) (ring : Ring Change) (spare 
     pub none-answers : ring.capacity ≡ 0 → AnswersWrite (state_of es slots ring) name target source (Ok n) (state_of es after ring)
     none-answers shallow = (
       refl,
-      λ array places leads.
-          let is = present-answers.1 array places (leads-now es slots ring name target array places leads) in
+      λ array places values leads has.
           let descr : Descr = descr_of (present es slots) array in
+          let is = present-answers.1 array places values (leads-now es slots ring name target array places leads) (supplies-now es slots ring descr n source values has) in
           λ i. record (keeping (state_of es slots ring)) {
-            buffers = (ap (λ (x : State). x.buffers) is ∙ ap (λ items. (written (present es slots) array places items).buffers) (sym (source-now es slots ring descr n source))) i;
+            buffers = (ap (λ (x : State). x.buffers) is) i;
             kept = (ap (λ cs. kept_states cs names after) (none-items ring.capacity ring.items sound.short shallow) ∙ sym (none-last ring.capacity (kept_states ring.items names slots ++ (names, past_buffers [] names slots) ∷ []) shallow)) i;
           },
     )
@@ -239,7 +227,7 @@ module _ (es : List (Key × Entry)) (slots : Slots) (ring : Ring Change) (spare 
       c = Write number target items
 
       within : AllByRecursion (λ o. o + width ≤ length s.block) os
-      within = recursion_from_All (λ o. o + width ≤ length s.block) os (can-inside slots (record { number = number; width = width }) target own put-can s home.there)
+      within = recursion_from_All (λ o. o + width ≤ length s.block) os (can-inside slots (record { number = number; width = width }) target source put-can s home.there)
 
       bytes-back : with_old os items s'.block ≡ s.block
       bytes-back =
@@ -292,12 +280,12 @@ module _ (es : List (Key × Entry)) (slots : Slots) (ring : Ring Change) (spare 
         pub write-answers : AnswersWrite (state_of es slots ring) name target source (Ok n) (state_of es last ring')
         write-answers = (
           refl,
-          λ array places leads.
-              let is = present-answers.1 array places (leads-now es slots ring name target array places leads) in
+          λ array places values leads has.
               let descr : Descr = descr_of (present es slots) array in
+              let is = present-answers.1 array places values (leads-now es slots ring name target array places leads) (supplies-now es slots ring descr n source values has) in
               keep-state es slots ring spare sound es after c refl holds restored own' ring' last spare' ring-is freed counted room
               ∙ λ i. record (keeping (state_of es slots ring)) {
-                buffers = (ap (λ (x : State). x.buffers) is ∙ ap (λ items. (written (present es slots) array places items).buffers) (sym (source-now es slots ring descr n source))) i;
+                buffers = (ap (λ (x : State). x.buffers) is) i;
               },
         )
 
@@ -307,11 +295,11 @@ module _ (es : List (Key × Entry)) (slots : Slots) (ring : Ring Change) (spare 
             ∙ ap (λ bytes. keep_last ring.capacity (map patch_size ring.items ++ bytes ∷ [])) (old.whole ∙ ap (λ size. n * size) (old.size ∙ sym (size-is es slots name number width home array found)))
 
 -- Whether items were put or not, names' arrays lie in their slots, and as many hold each.
-module _ (es : List (Key × Entry)) (slots : Slots) (ring : Ring Change) (spare : ℕ) (sound : IsSound es slots ring spare) (name : List ℕ) (number width : ℕ) (home : IsHome es slots name number width) (target : Target) (source : Source) (own : Items)
-    (resolved : Resolves es slots source own) (aim : IsAim (state_of es slots ring) name target source) (after : Slots) where
-  pub tried-sound : {A E : Type 0} (r : Result A E) → IfOk r (λ _. Puts slots (record { number = number; width = width }) target own after) → IfErr r (λ _. AreSame slots after) → IsSound es after ring spare
-  tried-sound (Ok a) puts _ = wrote-sound es slots ring spare sound name number width home target source own resolved aim after puts
+module _ (es : List (Key × Entry)) (slots : Slots) (ring : Ring Change) (spare : ℕ) (sound : IsSound es slots ring spare) (name : List ℕ) (number width : ℕ) (home : IsHome es slots name number width) (target : Target) (source : Source)
+    (aim : IsAim (state_of es slots ring) name target source) (after : Slots) where
+  pub tried-sound : {A E : Type 0} (r : Result A E) → IfOk r (λ _. Puts slots (record { number = number; width = width }) target source after) → IfErr r (λ _. AreSame slots after) → IsSound es after ring spare
+  tried-sound (Ok a) puts _ = wrote-sound es slots ring spare sound name number width home target source aim after puts
   tried-sound (Err e) _ same = same-still es slots after ring spare same sound
 
-  pub tried-lowest : {A E : Type 0} (r : Result A E) → IfOk r (λ _. Puts slots (record { number = number; width = width }) target own after) → IfErr r (λ _. AreSame slots after) → (low : ℕ) → IsLowest slots low → IsLowest after low
+  pub tried-lowest : {A E : Type 0} (r : Result A E) → IfOk r (λ _. Puts slots (record { number = number; width = width }) target source after) → IfErr r (λ _. AreSame slots after) → (low : ℕ) → IsLowest slots low → IsLowest after low
   tried-lowest r puts same low = lowest-same slots after low (λ q. (tried-sound r puts same).counted q ∙ sym (sound.counted q))

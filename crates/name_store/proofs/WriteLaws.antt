@@ -18,7 +18,7 @@ use Rattle.name_store.specs.States.{State, Array, Buffer}
 use Rattle.name_store.specs.Arrays.{find_array, buffer_of, descr_of, span_of, addresses, read, placed_item, write, written, is_in_use, is_bound}
 use Rattle.name_store.specs.Invariants.{Holds, LiesAt, LiesIn}
 use Rattle.name_store.specs.Parts.{descr_at, start_at, span_at, part_at}
-use Rattle.name_store.specs.Targets.{target_offsets, items_of, FitsBuffer, LeadsTo}
+use Rattle.name_store.specs.Targets.{target_offsets, FitsBuffer, LeadsTo}
 use Rattle.name_store.specs.inside.Homes.{IsHome, HasNew}
 use Rattle.name_store.specs.View.{array_at, named_array, buffer_in, slot_at, present}
 use Rattle.name_store.specs.declared.entry.Entry.{Entry}
@@ -106,21 +106,6 @@ module _ (es : List (Key × Entry)) (slots : Slots) (name : List ℕ) (number wi
 
     pub spread : (os places : List ℕ) → os ≡ addresses state (record array { places = places }) → os ≡ offsets_of (item_size s.descr) (start_at s.descr e.path) places
     spread os places is = is ∙ λ i. offsets_of (item_size (type-is i)) (start-is i) places
-
-    -- the items that a layout has there are those of their bytes
-    pub home-reads : (l : Layout) (places : List ℕ) → offsets l ≡ addresses state (record array { places = places }) → All (Contains array.places) places → items_of state (Some array) l ≡ map (item_from (descr_of state array) s.block) (offsets l)
-    home-reads l places is among =
-        ap (λ ps. read state (record array { places = ps })) places-are
-        ∙ (λ i. map (λ place. part_at (span_at (type-is i) (path-is i)) (placed_item (ap (λ (b : Buffer). b.items) buffer i) place)) places)
-        ∙ items-read s.descr s.is_whole.legal e.path home.lies.laid.part s.items s.block places (within places among)
-        ∙ ap (map (item_from (descr_at s.descr e.path) s.block)) (sym (spread (offsets l) places is))
-        ∙ ap (λ d. map (item_from d s.block) (offsets l)) (sym own-is)
-      where
-        starts : start_at (buffer_of state array).descr array.path < item_size (buffer_of state array).descr
-        starts = omega (arith, start-is, ap item_size type-is, part-within s.descr s.is_whole.legal e.path home.lies.laid.part, part-some s.descr s.is_whole.legal e.path home.lies.laid.part)
-
-        places-are : places_of (item_size (buffer_of state array).descr) (offsets l) ≡ places
-        places-are = ap (places_of (item_size (buffer_of state array).descr)) is ∙ places-offsets (item_size (buffer_of state array).descr) (start_at (buffer_of state array).descr array.path) places starts
 
   -- the bytes of its buffer are new
   module _ (h : Holds es slots) (bytes : List ℕ) (after : Slots) (new : HasNew slots number s bytes after) where

@@ -12,9 +12,7 @@ use Rattle.name_store.specs.States.{State, Array}
 use Rattle.name_store.specs.Arrays.{find_array, buffer_of, addresses, read}
 use Rattle.name_store.specs.Parts.{start_at}
 use Rattle.name_store.specs.Shown.{Shows, Finds}
-use Rattle.name_store.specs.Targets.{items_of, source_items}
 use Rattle.name_store.specs.declared.array_ref.ArrayRef.{ArrayRef}
-use Rattle.name_store.specs.declared.target.Source.TheVariants.{Name}
 
 -- where an array is found there is one, and it is shown
 pub found-array : (s : State) (found : Option Array) (r : ArrayRef) → Finds s found (Some r) → (array : Array) × (found ≡ Some array) × Shows s array r
@@ -32,13 +30,6 @@ pub places-offsets : (item start : ℕ) (places : List ℕ) → start < item →
 places-offsets item start [] less = refl
 places-offsets item start (place ∷ places) less =
     λ i. (ap (λ at. (at + start) / item) (mul_comm item place) ∙ div-mul-add place item start less) i ∷ places-offsets item start places less i
-
--- what is read by a name and a layout: the items at the places whose addresses are the layout's offsets
-pub named-items : (s : State) (name : Bor (List ℕ)) (layout : Layout) (descr : Descr) (n : ℕ) (array : Array) (places : List ℕ) → find_array s.names name.now ≡ Some array → offsets layout ≡ addresses s (record array { places = places }) →
-    start_at (buffer_of s array).descr array.path < item_size (buffer_of s array).descr → source_items s descr n (Name name layout) ≡ read s (record array { places = places })
-named-items s name layout descr n array places found offsets-are starts =
-    ap (λ a. items_of s a layout) found
-    ∙ ap (λ ps. read s (record array { places = ps })) (ap (places_of (item_size (buffer_of s array).descr)) offsets-are ∙ places-offsets (item_size (buffer_of s array).descr) (start_at (buffer_of s array).descr array.path) places starts)
 
 pub offsets-at : (item start : ℕ) (places shape : List ℕ) (leads : List ℕ → List ℕ) (is : List (List ℕ)) → All (λ i. rank shape (leads i) < length places) is →
     map (λ i. slice_index (offsets_of item start places) (rank shape (leads i))) is ≡ offsets_of item start (map (λ i. slice_index places (rank shape (leads i))) is)

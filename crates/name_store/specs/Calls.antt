@@ -6,13 +6,14 @@ use Rattle.elem_descr.specs.declared.refusal.Refusal.{Refusal}
 use Rattle.elem_descr.specs.declared.refusal.Refusal.TheVariants.{OutOfMemory, TooManyNames, UnknownName, NothingToUndo}
 use Rattle.overlap_copy.specs.declared.owned.Owned.{Owned}
 use Rattle.elem_descr.specs.Items.{item_size}
+use Rattle.elem_descr.specs.Values.{LeafValue}
 use Rattle.shape_strides.specs.Indexes.{count}
 use Rattle.shape_strides.specs.Layouts.{offsets}
 use Rattle.overlap_copy.specs.Blocks.{places_of}
 use Rattle.name_store.specs.States.{State, Array, BenchValue, Buffer}
 use Rattle.name_store.specs.Arrays.{has_kept, undone, is_bound, has_room_for, bound_to, bound_view, unbound, descr_of, written, find_array, share_cells}
 use Rattle.elem_descr.specs.Blocks.{items_in}
-use Rattle.name_store.specs.Targets.{target_offsets, source_items, LeadsTo}
+use Rattle.name_store.specs.Targets.{target_offsets, LeadsTo, Supplies}
 use Rattle.name_store.specs.declared.target.Source.{Source}
 use Rattle.name_store.specs.declared.target.Target.{Target}
 use Rattle.name_store.specs.declared.bound.Bound.{Bound}
@@ -67,7 +68,8 @@ AnswersUndo old (Err refusal) new = (has_kept old ≡ false) × (refusal ≡ Not
 abbrev pub AnswersWrite : State → List ℕ → Target → Source → Result ℕ Refusal → State → Type 0
 AnswersWrite old name target source (Ok n) new =
     (n ≡ length (target_offsets target))
-    × ((array : Array) (places : List ℕ) → LeadsTo old name target array places → new ≡ written old array places (source_items old (descr_of old array) n source))
+    × ((array : Array) (places : List ℕ) (items : List (List LeafValue)) → LeadsTo old name target array places → Supplies old (descr_of old array) n source items
+    → new ≡ written old array places items)
 AnswersWrite old name target source (Err refusal) new = (new ≡ old) × (refusal ≡ OutOfMemory)
 
 -- A change that is made is counted by the bytes of old items that it takes to undo it, and the oldest beyond the depth

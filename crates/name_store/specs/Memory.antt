@@ -10,7 +10,7 @@ use Rattle.overlap_copy.specs.Assignments.{IsRun}
 use Rattle.name_store.specs.States.{State, Array}
 use Rattle.name_store.specs.Arrays.{find_array, descr_of}
 use Rattle.name_store.specs.declared.target.Source.{Source}
-use Rattle.name_store.specs.declared.target.Source.TheVariants.{One, Block, Name}
+use Rattle.name_store.specs.declared.target.Source.TheVariants.{One, Block, Buffer}
 use Rattle.name_store.specs.declared.target.Target.{Target}
 use Rattle.name_store.specs.declared.target.Target.TheVariants.{View, Plan}
 
@@ -42,14 +42,14 @@ MoveInPlace to from item = AreApart to item from item ⊎ (AreRuns to from ⊎ (
 abbrev pub NeedsNoneInView : State → List ℕ → Layout → Source → Type 0
 NeedsNoneInView s name to (One bytes) = Unit {0}
 NeedsNoneInView s name to (Block owned) = Unit {0}
-NeedsNoneInView s name to (Name other from) =
-    (a b : Array) → find_array s.names name ≡ Some a → find_array s.names other.now ≡ Some b → a.buffer ≡ b.buffer → MoveInPlace to from (item_size (descr_of s a))
+NeedsNoneInView s name to (Buffer number from) =
+    (array : Array) → find_array s.names name ≡ Some array → array.buffer ≡ number → MoveInPlace to from (item_size (descr_of s array))
 
 -- Where a plan leads, one item is, and the items of a block in C order.
 abbrev pub NeedsNoneInPlan : Source → Type 0
 NeedsNoneInPlan (One bytes) = Unit {0}
 NeedsNoneInPlan (Block owned) = IsTrue (is_c_contiguous (item_size owned.descr) (offsets owned.layout))
-NeedsNoneInPlan (Name other from) = ⊥
+NeedsNoneInPlan (Buffer number from) = ⊥
 
 abbrev pub NeedsNoMemory : State → List ℕ → Target → Source → Type 0
 NeedsNoMemory s name (View to) source = (s.depth ≡ 0) × NeedsNoneInView s name to source

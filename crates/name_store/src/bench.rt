@@ -7,7 +7,6 @@ use crate::bound::Bound;
 use crate::change::Change;
 use crate::entry::Key;
 use crate::history::History;
-use crate::items::items_of;
 use crate::keep::{keep, make_room};
 use crate::names::Names;
 use crate::table::Table;
@@ -112,22 +111,21 @@ impl Bench {
         alloc: Global,
         name: &Name,
         target: Target,
-        source: Source<'_>,
+        source: Source,
     ) -> Result<usize, Refusal>
         requires aim { IsAim self.old.state name.now target source }
-        ensures answers { AnswersWrite self.old.state name.now target source.entry result self.new.state }
+        ensures answers { AnswersWrite self.old.state name.now target source result self.new.state }
         ensures patches { CountsWrite self.old name.now target result self.new }
-        ensures no_memory { NeedsNoMemory self.old.state name.now target source.entry → IsOk result }
+        ensures no_memory { NeedsNoMemory self.old.state name.now target source → IsOk result }
     {
         let home = self.table.home(&Key::of(alloc, name));
-        let items = items_of(alloc, &self.table, source);
         let count = target.count();
         if self.history.capacity() == 0 {
-            write_items(alloc, &mut self.table.slots.cells, home, &target, items)?;
+            write_items(alloc, &mut self.table.slots.cells, home, &target, source)?;
             return Ok(count);
         }
         make_room(&mut self.table.names, &self.history, 0)?;
-        let items = write_over(alloc, &mut self.table.slots.cells, home, &target, items)?;
+        let items = write_over(alloc, &mut self.table.slots.cells, home, &target, source)?;
         let change = Change::Write {
             number: home.number,
             target,

@@ -13,11 +13,10 @@ ghost use Rattle.name_store.specs.inside.OldItems.{AreOldAt};
 ghost use Rattle.name_store.specs.inside.Puts.{AreItems, CanPut, Puts, parts_of};
 
 use crate::home::Home;
-use crate::items::Items;
 use crate::old_items::OldItems;
 use crate::slot::Slot;
 use crate::slots::{slot_mut, slot_of};
-use crate::target::Target;
+use crate::target::{Source, Target};
 use overlap_copy::{Owned, gather};
 use raw_block::{BlockBuilder, RawBlock};
 use std::alloc::{AllocError, Global};
@@ -36,11 +35,11 @@ pub(crate) fn is_all(block: &RawBlock, target: &Target, width: usize) -> bool
 }
 
 /// Whether the items lie in a block of their own, one after another.
-pub(crate) fn are_packed(items: &Items<'_>, width: usize) -> bool
-    ensures { result ≡ are_packed width items.now }
+pub(crate) fn are_packed(source: &Source, width: usize) -> bool
+    ensures { result ≡ are_packed width source.now }
 {
-    match items {
-        Items::Block(owned) => owned.layout.is_c(width),
+    match source {
+        Source::Block(owned) => owned.layout.is_c(width),
         _ => false,
     }
 }
@@ -76,18 +75,20 @@ fn own_block(alloc: Global, owned: Owned, width: usize) -> Result<RawBlock, Allo
 fn packed(
     alloc: Global,
     slots: &[Option<Slot>],
-    items: Items<'_>,
+    source: Source,
     width: usize,
     count: usize,
 ) -> Result<RawBlock, AllocError>
-    requires { AreItems slots.now width count items }
-    ensures packed { IfOk result (IsPacked count width (parts_of slots.now width count items.entry)) }
-    ensures no_memory { IsTrue (are_packed width items.entry) → IsOk result }
+    requires { AreItems slots.now width count source }
+    ensures packed { IfOk result (IsPacked count width (parts_of slots.now width count source)) }
+    ensures no_memory { IsTrue (are_packed width source) → IsOk result }
 {
-    match items {
-        Items::One(item) => repeated(alloc, item, count),
-        Items::Block(owned) => own_block(alloc, owned, width),
-        Items::Buffer(number, from) => gather(alloc, &slot_of(slots, number).block, &from, width),
+    match source {
+        Source::One(item) => repeated(alloc, item.as_slice(), count),
+        Source::Block(owned) => own_block(alloc, owned, width),
+        Source::Buffer(number, from) => {
+            gather(alloc, &slot_of(slots, number as usize).block, &from, width)
+        }
     }
 }
 
@@ -98,16 +99,16 @@ pub(crate) fn replace(
     slots: &mut Vec<Option<Slot>>,
     home: Home,
     target: &Target,
-    items: Items<'_>,
+    source: Source,
 ) -> Result<OldItems, AllocError>
-    requires can { CanPut slots.old.items home target.now items }
+    requires can { CanPut slots.old.items home target.now source }
     requires all { (s : Slot) → slot_at slots.old.items home.number ≡ Some s → AreAll home.width s.block (target_offsets target.now) }
-    ensures written { IfOk result (λ _. Puts slots.old.items home target.now items.entry slots.new.items) }
+    ensures written { IfOk result (λ _. Puts slots.old.items home target.now source slots.new.items) }
     ensures old { IfOk result (λ old. AreOldAt slots.old.items home target.now old) }
     ensures kept { IfErr result (λ _. slots.new.items ≡ slots.old.items) }
-    ensures no_memory { IsTrue (are_packed home.width items.entry) → IsOk result }
+    ensures no_memory { IsTrue (are_packed home.width source) → IsOk result }
 {
-    let mut block = packed(alloc, slots.as_slice(), items, home.width, target.count())?;
+    let mut block = packed(alloc, slots.as_slice(), source, home.width, target.count())?;
     if let Some(slot) = slot_mut(slots, home.number) {
         swap(&mut slot.block, &mut block);
     }

@@ -10,7 +10,6 @@ mod entry;
 mod exchange;
 mod history;
 mod home;
-mod items;
 mod keep;
 mod names;
 mod old_items;

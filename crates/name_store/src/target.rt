@@ -4,7 +4,6 @@ ghost use Rattle.name_store.specs.Targets.{target_offsets, target_shape};
 
 use fancy_index::Plan;
 use overlap_copy::Owned;
-use script_lang::Name;
 use shape_strides::{Layout, Shape};
 
 /// Where in a name's array items are written.
@@ -39,14 +38,13 @@ impl Target {
     }
 }
 
-/// What is written. An item of a block or of an array is of the same bytes as one of the target.
+/// What is written. An item of a block or of a buffer is of the same bytes as one of the target.
 #[derive(Drop)]
-pub enum Source<'a> {
+pub enum Source {
     /// The bytes of one item, for every place.
-    One(&'a [u8]),
+    One(Vec<u8>),
     /// The items of a block of its own, one for each place.
     Block(Owned),
-    /// Items of an array of the same bench, one for each place: those where a layout says in its
-    /// buffer.
-    Name(&'a Name, Layout),
+    /// Items of the buffer with this number, one for each place: those where a layout says.
+    Buffer(u64, Layout),
 }

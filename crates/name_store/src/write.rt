@@ -2,26 +2,25 @@
 ghost use Rattle.std.specs.Prelude.{◌≡◌, ◌≢◌, IfOk, IfErr, IsOk};
 ghost use Rattle.name_store.specs.inside.OldItems.{AreSame};
 ghost use Rattle.name_store.specs.inside.Puts.{CanPut, Puts, InPlace, NeedsNone};
-ghost use Rattle.name_store.specs.declared.items.Items.TheVariants.{One, Block, Buffer};
+ghost use Rattle.name_store.specs.declared.target.Source.TheVariants.{One, Block, Buffer};
 
 use crate::exchange::{are_packed, is_all, replace};
 use crate::home::Home;
-use crate::items::Items;
 use crate::rewrite::{copy_to, fill, move_to};
 use crate::slot::Slot;
 use crate::slots::{slot_mut, slot_of};
-use crate::target::Target;
+use crate::target::{Source, Target};
 use overlap_copy::Owned;
 use shape_strides::Layout;
 use std::alloc::{AllocError, Global};
 
 /// Writes one item.
-fn write_one(slots: &mut Vec<Option<Slot>>, home: Home, target: &Target, item: &[u8])
-    requires { CanPut slots.old.items home target.now (One item) }
-    ensures { Puts slots.old.items home target.now (One item.entry) slots.new.items }
+fn write_one(slots: &mut Vec<Option<Slot>>, home: Home, target: &Target, item: &Vec<u8>)
+    requires { CanPut slots.old.items home target.now (One item.now) }
+    ensures { Puts slots.old.items home target.now (One item.now) slots.new.items }
 {
     if let Some(slot) = slot_mut(slots, home.number) {
-        fill(&mut slot.block, target, item);
+        fill(&mut slot.block, target, item.as_slice());
     }
 }
 
@@ -87,21 +86,22 @@ pub(crate) fn copy_items(
     slots: &mut Vec<Option<Slot>>,
     home: Home,
     target: &Target,
-    items: &Items<'_>,
+    source: &Source,
 ) -> Result<(), AllocError>
-    requires { CanPut slots.old.items home target.now items.now }
-    ensures written { IfOk result (λ _. Puts slots.old.items home target.now items.now slots.new.items) }
+    requires { CanPut slots.old.items home target.now source.now }
+    ensures written { IfOk result (λ _. Puts slots.old.items home target.now source.now slots.new.items) }
     ensures kept { IfErr result (λ _. AreSame slots.old.items slots.new.items) }
-    ensures no_memory { NeedsNone home target.now items.now → IsOk result }
+    ensures no_memory { NeedsNone home target.now source.now → IsOk result }
 {
-    match items {
-        Items::One(item) => write_one(slots, home, target, item),
-        Items::Block(owned) => copy_block(slots, home, target, owned),
-        Items::Buffer(number, from) => {
-            if *number == home.number {
+    match source {
+        Source::One(item) => write_one(slots, home, target, item),
+        Source::Block(owned) => copy_block(slots, home, target, owned),
+        Source::Buffer(number, from) => {
+            let number = *number as usize;
+            if number == home.number {
                 return copy_within(alloc, slots, home, target, from);
             }
-            copy_across(slots, home, target, *number, from);
+            copy_across(slots, home, target, number, from);
         }
     }
     Ok(())
@@ -113,17 +113,17 @@ pub(crate) fn write_items(
     slots: &mut Vec<Option<Slot>>,
     home: Home,
     target: &Target,
-    items: Items<'_>,
+    source: Source,
 ) -> Result<(), AllocError>
-    requires { CanPut slots.old.items home target.now items }
-    ensures written { IfOk result (λ _. Puts slots.old.items home target.now items.entry slots.new.items) }
+    requires { CanPut slots.old.items home target.now source }
+    ensures written { IfOk result (λ _. Puts slots.old.items home target.now source slots.new.items) }
     ensures kept { IfErr result (λ _. AreSame slots.old.items slots.new.items) }
-    ensures no_memory { NeedsNone home target.now items.entry → IsOk result }
+    ensures no_memory { NeedsNone home target.now source → IsOk result }
 {
     let block = &slot_of(slots.as_slice(), home.number).block;
-    if are_packed(&items, home.width) && is_all(block, target, home.width) {
-        let _old = replace(alloc, slots, home, target, items)?;
+    if are_packed(&source, home.width) && is_all(block, target, home.width) {
+        let _old = replace(alloc, slots, home, target, source)?;
         return Ok(());
     }
-    copy_items(alloc, slots, home, target, &items)
+    copy_items(alloc, slots, home, target, &source)
 }

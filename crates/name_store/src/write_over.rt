@@ -5,11 +5,10 @@ ghost use Rattle.name_store.specs.inside.Puts.{CanPut, Puts};
 
 use crate::exchange::{is_all, replace};
 use crate::home::Home;
-use crate::items::Items;
 use crate::old_items::{OldItems, old_items};
 use crate::slot::Slot;
 use crate::slots::slot_of;
-use crate::target::Target;
+use crate::target::{Source, Target};
 use crate::write::copy_items;
 use std::alloc::{AllocError, Global};
 
@@ -20,18 +19,18 @@ pub(crate) fn write_over(
     slots: &mut Vec<Option<Slot>>,
     home: Home,
     target: &Target,
-    items: Items<'_>,
+    source: Source,
 ) -> Result<OldItems, AllocError>
-    requires { CanPut slots.old.items home target.now items }
-    ensures written { IfOk result (λ _. Puts slots.old.items home target.now items.entry slots.new.items) }
+    requires { CanPut slots.old.items home target.now source }
+    ensures written { IfOk result (λ _. Puts slots.old.items home target.now source slots.new.items) }
     ensures old { IfOk result (λ old. AreOldAt slots.old.items home target.now old) }
     ensures kept { IfErr result (λ _. AreSame slots.old.items slots.new.items) }
 {
     let block = &slot_of(slots.as_slice(), home.number).block;
     if is_all(block, target, home.width) {
-        return replace(alloc, slots, home, target, items);
+        return replace(alloc, slots, home, target, source);
     }
     let old = old_items(alloc, block, home.width, target)?;
-    copy_items(alloc, slots, home, target, &items)?;
+    copy_items(alloc, slots, home, target, &source)?;
     Ok(old)
 }

@@ -34,7 +34,7 @@ pub record HasRoom (s : Session) : Type 0 where
 pub record AnswersHeld (shelf shelf' : StoreState) (old new : Session) (answered : Option Bool) : Type 0 where
   pub replies : List Reply
   pub tells : Tells replies answered new.out.items
-  pub answers : (piece : List ℕ) → HoldsPiece old.line piece → AnswersLine (world old.bench shelf) (trimmed piece) (world new.bench shelf') replies
+  pub answers : (piece : List ℕ) → HoldsPiece old.line piece → AnswersLine (world old.bench.state shelf) (trimmed piece) (world new.bench.state shelf') replies
   pub accepted : new.accepted ≡ old.accepted + accepted_count replies
   pub refused : new.refused ≡ old.refused + refused_count replies
 
@@ -71,7 +71,7 @@ pub record Fed {World : Type 0} (Answer : World → List ℕ → World → List 
 
 -- The same of the machine.
 abbrev pub FedMachine : World → StoreState → Option (List ℕ) → Option (List ℕ) → List ℕ → Session → Type 0
-FedMachine first shelf' written written' bytes s = Fed AnswersLine first (world s.bench shelf') written written' bytes s
+FedMachine first shelf' written written' bytes s = Fed AnswersLine first (world s.bench.state shelf') written written' bytes s
 
 -- What was read so far is fed to the session.
 pub record Reading (depth : ℕ) (before after : Outside) (s : Session) : Type 0 where
@@ -84,7 +84,7 @@ pub record Ended (depth : ℕ) (before after : Outside) (s : Session) : Type 0 w
   pub input : List ℕ
   pub read : Consumes before.unread after.unread input
   pub ended : IsAtEnd after.unread
-  pub told : HasTold AnswersLine (first_world depth before) (world s.bench after.store) before.written after.written (lines input) s
+  pub told : HasTold AnswersLine (first_world depth before) (world s.bench.state after.store) before.written after.written (lines input) s
 
 abbrev pub Turned : Bool → ℕ → Outside → Outside → Session → Type 0
 Turned true = Ended
@@ -93,7 +93,7 @@ Turned false = Reading
 -- No byte has come, and the bench keeps so many earlier states.
 pub record IsNew (depth : ℕ) (s : Session) : Type 0 where
   pub room : HasRoom s
-  pub bench : s.bench ≡ start depth
+  pub bench : s.bench.state ≡ start depth
   pub line : s.line.bytes.items ≡ []
   pub whole : s.line.is_long ≡ false
   pub accepted : s.accepted ≡ 0

@@ -3,8 +3,8 @@ use Rattle.std.specs.Prelude.{◌≡◌, ◌*◌, ℕ, List, length, Bool, false
 use Rattle.shape_strides.specs.Contiguity.{is_c_contiguous}
 use Rattle.shape_strides.specs.Layouts.{offsets, multiples}
 use Rattle.overlap_copy.specs.Assignments.{items_at}
-use Rattle.name_store.specs.declared.items.Items.{Items}
-use Rattle.name_store.specs.declared.items.Items.TheVariants.{One, Block, Buffer}
+use Rattle.name_store.specs.declared.target.Source.{Source}
+use Rattle.name_store.specs.declared.target.Source.TheVariants.{One, Block, Buffer}
 
 -- the items of so many bytes at these offsets are all that the block has, one after another
 pub record AreAll (width : ℕ) (block os : List ℕ) : Type 0 where
@@ -17,7 +17,7 @@ pub record IsPacked (n width : ℕ) (parts : List (List ℕ)) (block : List ℕ)
   pub items : items_at (multiples width n) width block ≡ parts
 
 -- whether items of so many bytes lie one after another in a block of their own
-abbrev pub are_packed : ℕ → Items → Bool
+abbrev pub are_packed : ℕ → Source → Bool
 are_packed width (One item) = false
 are_packed width (Block owned) = is_c_contiguous width (offsets owned.layout)
 are_packed width (Buffer number layout) = false

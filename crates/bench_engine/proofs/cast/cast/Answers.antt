@@ -12,28 +12,28 @@ returns-in_default-clause-answers c = (refl, unchanged _, inr (λ choice. cast-u
 
 pub returns-then-not-has_room_for-clause-answers : goal.returns-then-not-has_room_for-clause-answers
 returns-then-not-has_room_for-clause-answers c =
-    let it = found c.args.bench.now _ c.in-Some.array c.in-Some.ensures in
+    let it = found c.args.bench.now.state _ c.in-Some.array c.in-Some.ensures in
     (refl, unchanged _, inr (λ choice. cast-many choice _ _ _ _ it.0 it.1 (sym c.if-not-has_room_for.ensures)))
 
 pub converted-requires : goal.converted-requires
 converted-requires c =
-    let it = found c.args.bench.now _ c.in-Some.array c.in-Some.ensures in
-    (c.args.bench.now, it.0, it.2)
+    let it = found c.args.bench.now.state _ c.in-Some.array c.in-Some.ensures in
+    (c.args.bench.now.state, it.0, it.2)
 
 pub returns-in_err-owned-clause-answers : goal.returns-in_err-owned-clause-answers
 returns-in_err-owned-clause-answers c =
     let p = err_from_is_err_and c.from_residual.result c.from_residual.ensures.1 in
-    let it = found c.args.bench.now _ c.in-Some.array c.in-Some.ensures in
+    let it = found c.args.bench.now.state _ c.in-Some.array c.in-Some.ensures in
     rw (p.1, p.2) (
       refl,
       unchanged _,
-      refused-or _ _ _ _ (bound c.args.bench.now c.args.source.now it.0 it.1) (c.in_err-owned.ensures c.args.bench.now it.0 it.2)
+      refused-or _ _ _ _ (bound c.args.bench.now.state c.args.source.now it.0 it.1) (c.in_err-owned.ensures c.args.bench.now.state it.0 it.2)
           (λ bad choice. cast-bad choice _ _ _ _ it.0 _ it.1 (sym c.if-not-has_room_for.ensures) bad),
     )
 
 pub returns-clause-answers : goal.returns-clause-answers
 returns-clause-answers c =
-    let s = c.args.bench.now in
+    let s = c.args.bench.now.state in
     let it = found s _ c.in-Some.array c.in-Some.ensures in
     same-answers s _ _ _ _ _ _ _ _ (bound s c.args.source.now it.0 it.1)
     (λ choice. cast-done choice s c.args.name.now c.args.source.now c.args.descr.now it.0 _ it.1 (sym c.if-not-has_room_for.ensures) (c.in_ok-owned.ensures s it.0 it.2)) c.bind_new.ensures.answers

@@ -16,28 +16,28 @@ use Rattle.bench_engine.proofs.computed.combined.Goals as goal
 
 pub returns-in_err-taken : goal.returns-in_err-taken
 returns-in_err-taken c =
-    let s = c.args.bench.now in
+    let s = c.args.bench.now.state in
     let it = found-array s _ c.unwrap-array.result (rw c.unwrap-array.ensures at c.get.ensures) in
     let p = err_from_is_err_and c.from_residual.result c.from_residual.ensures.1 in
     rw (p.1, p.2) (passed (taken s it.0 (unwrap_or c.args.left.now.index (Ellipsis ∷ []))) _ _ (λ bad. combined-bad s c.args.operation c.args.left.now c.args.right.now _ (part-bad s c.args.left.now it.0 it.1 _ bad)) (c.in_err-taken.ensures it.0 it.2))
 
 pub items_taken-items-requires : goal.items_taken-items-requires
 items_taken-items-requires c =
-    let s = c.args.bench.now in
+    let s = c.args.bench.now.state in
     let it = found-array s _ c.unwrap-array.result (rw c.unwrap-array.ensures at c.get.ensures) in
     let is = given-taken s it.0 c.unwrap-array.result (list_all is_basic (unwrap_or c.args.left.now.index (Ellipsis ∷ []))) c.in_ok-taken.taken (taken s it.0 (unwrap_or c.args.left.now.index (Ellipsis ∷ []))) (c.in_ok-taken.ensures it.0 it.2) in
     (s, it.0, _, is.0, it.2, is.2)
 
 pub work_argument-requires-clause-left : goal.work_argument-requires-clause-left
 work_argument-requires-clause-left c =
-    let s = c.args.bench.now in
+    let s = c.args.bench.now.state in
     let it = found-array s _ c.unwrap-array.result (rw c.unwrap-array.ensures at c.get.ensures) in
     let is = given-taken s it.0 c.unwrap-array.result (list_all is_basic (unwrap_or c.args.left.now.index (Ellipsis ∷ []))) c.in_ok-taken.taken (taken s it.0 (unwrap_or c.args.left.now.index (Ellipsis ∷ []))) (c.in_ok-taken.ensures it.0 it.2) in
     (c.items_taken-items.ensures s it.0 _ is.0 it.2 is.2).inside
 
 pub returns : goal.returns
 returns c =
-    let s = c.args.bench.now in
+    let s = c.args.bench.now.state in
     let it = found-array s _ c.unwrap-array.result (rw c.unwrap-array.ensures at c.get.ensures) in
     let is = given-taken s it.0 c.unwrap-array.result (list_all is_basic (unwrap_or c.args.left.now.index (Ellipsis ∷ []))) c.in_ok-taken.taken (taken s it.0 (unwrap_or c.args.left.now.index (Ellipsis ∷ []))) (c.in_ok-taken.ensures it.0 it.2) in
     let stands = c.items_taken-items.ensures s it.0 _ is.0 it.2 is.2 in

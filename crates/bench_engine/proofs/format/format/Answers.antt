@@ -10,8 +10,8 @@ returns-in_default-clause-answers c = (refl, unchanged _, inr (λ choice. format
 
 pub returns-clause-answers : goal.returns-clause-answers
 returns-clause-answers c =
-    let it = found c.args.bench.now _ c.in-Some.array c.in-Some.ensures in
-    let any = spare c.args.bench.now in (
+    let it = found c.args.bench.now.state _ c.in-Some.array c.in-Some.ensures in
+    let any = spare c.args.bench.now.state in (
       any.0,
       any.1,
       format_text c.in-Some.array.descr.now,

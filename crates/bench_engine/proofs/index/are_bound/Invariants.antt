@@ -6,4 +6,4 @@ use Rattle.bench_engine.proofs.index.are_bound.Given as goal
 
 -- the names so far are bound
 abbrev pub invariant-loop-item : goal.invariant-loop-item
-invariant-loop-item l = list_all (is_bound l.bench) (names_in_index (take l.item-index l.index)) ≡ true
+invariant-loop-item l = list_all (is_bound l.bench.state) (names_in_index (take l.item-index l.index)) ≡ true

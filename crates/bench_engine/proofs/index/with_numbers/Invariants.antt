@@ -7,7 +7,7 @@ use Rattle.bench_engine.proofs.index.with_numbers.Given as goal
 -- the items so far, with their arrays
 abbrev pub invariant-loop-item : goal.invariant-loop-item
 invariant-loop-item l = record {
-  items : with_arrays (map index_array_of l.arrays.items) l.items.items ≡ map (array_by_items l.bench) (take l.item-index l.index);
+  items : with_arrays (map index_array_of l.arrays.items) l.items.items ≡ map (array_by_items l.bench.state) (take l.item-index l.index);
   named : All (IsNamed (length l.arrays.items)) l.items.items;
   lie : All LiesInBlock l.arrays.items;
 }

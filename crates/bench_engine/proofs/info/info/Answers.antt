@@ -14,7 +14,7 @@ returns-in_default-clause-answers c = (refl, unchanged _, inr (λ choice. info-u
 
 pub returns-clause-answers : goal.returns-clause-answers
 returns-clause-answers c =
-    let s = c.args.bench.now in
+    let s = c.args.bench.now.state in
     let it = found s _ c.in-Some.array c.in-Some.ensures in
     let any = spare s in
     let r = c.in-Some.array in

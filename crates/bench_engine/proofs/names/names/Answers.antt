@@ -5,5 +5,5 @@ use Rattle.bench_engine.proofs.names.names.Goals as goal
 
 pub returns-clause-answers : goal.returns-clause-answers
 returns-clause-answers c =
-    let any = spare c.args.bench.now in
-    (any.0, any.1, names_text c.args.bench.now, refl, c.in_ok-push_names.ensures.ok)
+    let any = spare c.args.bench.now.state in
+    (any.0, any.1, names_text c.args.bench.now.state, refl, c.in_ok-push_names.ensures.ok)

@@ -8,7 +8,7 @@ use Rattle.bench_engine.proofs.names.push_names.Given as goal
 -- the names that are left complete the text
 abbrev pub invariant-loop-k : goal.invariant-loop-k
 invariant-loop-k l = record {
-  so_far : l.out.items ++ listed (drop l.k l.bench.names) ≡ l.fn.out.items ++ names_text l.bench;
+  so_far : l.out.items ++ listed (drop l.k l.bench.state.names) ≡ l.fn.out.items ++ names_text l.bench.state;
   kept : StartsWith l.out.items l.fn.out.items;
   room : vec_capacity l.fn.out ≤ vec_capacity l.out;
 }

@@ -10,5 +10,4 @@ returns c s array shows =
     let r = c.args.array.now in
     let shape = c.in_ok-shape.shape in
     let given = subst (λ (old : List ℕ). GivesView r.layout.now (Ok c.in_ok-layout.layout) (stretched old shape)) shows.view.laid.shape c.in_ok-layout.ensures in
-    rw c.in_ok-shape.ensures (viewed-part s array r false (stretched array.shape shape) c.items.result shows c.items.ensures.path c.items.ensures.descr c.items.ensures.writable
-    (rw c.items.ensures.layout given) (λ free. absurd (false≢true free)))
+    rw c.in_ok-shape.ensures (viewed-part s array r false (stretched array.shape shape) c.items.result _ shows c.items.ensures.bound c.items.ensures.descr given (λ free. absurd (false≢true free)))

@@ -1,3 +1,4 @@
+use Rattle.std.proofs.Common.{refl}
 use Rattle.std.proofs.lemmas.Result.{err_from_is_err_and}
 use Rattle.bench_engine.proofs.Reshapes.{items-duplicated, duplicate-refused}
 use Rattle.bench_engine.proofs.part.duplicate.Goals as goal
@@ -11,4 +12,4 @@ pub returns : goal.returns
 returns c s array shows =
     let e = c.in_ok-copy.ensures in
     items-duplicated s array c.args.array.now c.args.shape.now c.in_ok-copy.copy c.in_ok-owned.owned shows c.requires.items e.within e.descr e.order e.items
-    c.in_ok-owned.ensures.descr c.in_ok-owned.ensures.shape c.in_ok-owned.ensures.block c.in_ok-owned.ensures.order
+    c.in_ok-owned.ensures.descr c.in_ok-owned.ensures.shape c.in_ok-owned.ensures.block c.in_ok-owned.ensures.order _ refl refl

@@ -9,8 +9,8 @@ returns-in_err-shape c s array shows =
 
 pub returns-in-Some : goal.returns-in-Some
 returns-in-Some c s array shows =
-    seen-where_it_stands s array c.args.array.now c.args.numbers.now c.in_ok-shape.shape c.items.result shows c.in_ok-shape.ensures.value (rw c.in-Some.is at c.in_ok-layout.ensures.decided)
-    c.items.ensures.path c.items.ensures.descr c.items.ensures.writable (rw c.items.ensures.layout (rw c.in-Some.is at c.in_ok-layout.ensures.reshape))
+    seen-where_it_stands s array c.args.array.now c.args.numbers.now c.in_ok-shape.shape c.items.result _ shows c.in_ok-shape.ensures.value (rw c.in-Some.is at c.in_ok-layout.ensures.decided)
+    c.items.ensures.bound c.items.ensures.descr (rw c.in-Some.is at c.in_ok-layout.ensures.reshape)
 
 pub returns : goal.returns
 returns c s array shows =

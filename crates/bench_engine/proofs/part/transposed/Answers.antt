@@ -1,6 +1,7 @@
-use Rattle.std.proofs.Common.{subst, ◌∙◌, List, ℕ, Ok, option_copied}
+use Rattle.std.proofs.Common.{subst, ap, ◌∙◌, List, ℕ, Ok, option_copied}
 use Rattle.view_ops.specs.Views.{GivesView}
 use Rattle.view_ops.specs.Transposes.{transposed}
+use Rattle.name_store.specs.declared.bound.Bound.TheVariants.{View}
 use Rattle.bench_engine.proofs.Views.{viewed-part}
 use Rattle.bench_engine.proofs.part.transposed.Goals as goal
 
@@ -9,5 +10,5 @@ returns c s array shows =
     let r = c.args.array.now in
     let axes = option_copied c.args.axes in
     let given = subst (λ (shape : List ℕ). GivesView r.layout.now (Ok c.in_ok-layout.layout) (transposed shape axes)) shows.view.laid.shape c.in_ok-layout.ensures.view in
-    viewed-part s array r array.writable (transposed array.shape axes) c.items.result shows c.items.ensures.path c.items.ensures.descr (c.items.ensures.writable ∙ shows.view.laid.writable_is)
-    (rw c.items.ensures.layout given) (λ free. (free, rw c.items.ensures.layout c.in_ok-layout.ensures.nested))
+    viewed-part s array r array.writable (transposed array.shape axes) c.items.result _ shows (c.items.ensures.bound ∙ ap (View r.number r.path.now c.in_ok-layout.layout) shows.view.laid.writable_is) c.items.ensures.descr
+    given (λ free. (free, c.in_ok-layout.ensures.nested))

@@ -11,8 +11,8 @@ returns-in_default-clause-answers c = (refl, unchanged _, inr (λ choice. print-
 
 pub returns-clause-answers : goal.returns-clause-answers
 returns-clause-answers c =
-    let it = found c.args.bench.now _ c.in-Some.array c.in-Some.ensures in
-    let any = spare c.args.bench.now in
+    let it = found c.args.bench.now.state _ c.in-Some.array c.in-Some.ensures in
+    let any = spare c.args.bench.now.state in
     let r = c.in-Some.array in (
       any.0,
       any.1,

@@ -9,7 +9,7 @@ returns-in_err-count-clause-read g c _ depth before reading =
     record {
       input = reading.input;
       replies = reading.fed.told.replies;
-      state = c.args.session.now.bench;
+      state = c.args.session.now.bench.state;
       read = consumes_kept _ _ _ reading.input reading.read kept;
       run = reading.fed.told.run;
       sent = reading.fed.told.sent;

@@ -1,6 +1,6 @@
 use Rattle.std.proofs.lemmas.Result.{err_from_is_err_and}
 use Rattle.bench_engine.specs.Machine.{updated}
-use Rattle.bench_engine.proofs.Written.{own-items}
+use Rattle.bench_engine.proofs.SetOutcomes.{block-items}
 use Rattle.bench_engine.proofs.set.new_items.Goals as goal
 
 pub returns-in_err-owned-in-Some : goal.returns-in_err-owned-in-Some
@@ -10,4 +10,4 @@ returns-in_err-owned-in-Some c name a part shows is =
 
 pub returns-in_ok-owned-in-Some : goal.returns-in_ok-owned-in-Some
 returns-in_ok-owned-in-Some c name a part shows is =
-    rw c.in-Some.is (own-items c.args.bench.now c.args.array.now.descr.now _ c.in_ok-owned-in-Some.owned (updated c.args.bench.now c.args.array.now.descr.now part c.in-Some.operation c.args.value.now) (c.in_ok-owned-in-Some.ensures name a part shows is))
+    rw c.in-Some.is (block-items c.args.bench.now.state c.args.array.now.descr.now _ c.in_ok-owned-in-Some.owned (updated c.args.bench.now.state c.args.array.now.descr.now part c.in-Some.operation c.args.value.now) (c.in_ok-owned-in-Some.ensures name a part shows is))

@@ -3,13 +3,13 @@ use Rattle.std.proofs.lemmas.Result.{err_from_is_err_and}
 use Rattle.shape_strides.specs.Indexes.{count}
 use Rattle.elem_descr.specs.declared.descr.Descr.{Descr}
 use Rattle.shape_strides.specs.declared.index_item.IndexItem.{IndexItem}
-use Rattle.name_store.specs.Arrays.{written}
+use Rattle.name_store.specs.Arrays.{descr_of, written}
 use Rattle.name_store.specs.ArrayLaws.{found-array as found}
-use Rattle.name_store.specs.Targets.{target_offsets}
+use Rattle.name_store.specs.Targets.{Supplies}
 use Rattle.bench_engine.specs.Machine.{target_part, new_items, write_reply, accepted_with}
-use Rattle.bench_engine.specs.inside.Assigns.{GivesTarget, AreFor, given_items}
+use Rattle.bench_engine.specs.inside.Assigns.{GivesTarget}
 use Rattle.bench_engine.proofs.Looks.{unchanged, not_found}
-use Rattle.bench_engine.proofs.SetOutcomes.{set-unknown, set-unbound, set-target, set-items, set-done, both-bound, all-bound, given-target, given-given}
+use Rattle.bench_engine.proofs.SetOutcomes.{set-unknown, set-unbound, set-target, set-items, set-done, both-bound, all-bound, given-target, given-given, supplied}
 use Rattle.bench_engine.proofs.Steps.{spare}
 use Rattle.bench_engine.proofs.Views.{refused-or}
 use Rattle.bench_engine.proofs.set.set.Goals as goal
@@ -19,19 +19,19 @@ returns-in_default-clause-answers c = (refl, unchanged _, inr (λ choice. set-un
 
 pub returns-then-not-are_bound-clause-answers : goal.returns-then-not-are_bound-clause-answers
 returns-then-not-are_bound-clause-answers c =
-    let it = found c.args.bench.now _ c.in-Some.array c.in-Some.ensures in
+    let it = found c.args.bench.now.state _ c.in-Some.array c.in-Some.ensures in
     let left = rw c.as_slice.ensures at (sym c.if-not-are_bound.ensures) in
-    (refl, unchanged _, inr (λ choice. set-unbound _ _ _ _ _ it.0 it.1 (both-bound c.args.bench.now c.args.name.now c.args.index.now c.args.operation c.args.value.now _ _ left refl)))
+    (refl, unchanged _, inr (λ choice. set-unbound _ _ _ _ _ it.0 it.1 (both-bound c.args.bench.now.state c.args.name.now c.args.index.now c.args.operation c.args.value.now _ _ left refl)))
 
 pub returns-then-not-has_bound-clause-answers : goal.returns-then-not-has_bound-clause-answers
 returns-then-not-has_bound-clause-answers c =
-    let it = found c.args.bench.now _ c.in-Some.array c.in-Some.ensures in
+    let it = found c.args.bench.now.state _ c.in-Some.array c.in-Some.ensures in
     let left = rw c.as_slice.ensures at (sym c.if-not-are_bound.ensures) in
-    (refl, unchanged _, inr (λ choice. set-unbound _ _ _ _ _ it.0 it.1 (both-bound c.args.bench.now c.args.name.now c.args.index.now c.args.operation c.args.value.now _ _ left (sym c.if-not-has_bound.ensures))))
+    (refl, unchanged _, inr (λ choice. set-unbound _ _ _ _ _ it.0 it.1 (both-bound c.args.bench.now.state c.args.name.now c.args.index.now c.args.operation c.args.value.now _ _ left (sym c.if-not-has_bound.ensures))))
 
 pub returns-in_err-target-clause-answers : goal.returns-in_err-target-clause-answers
 returns-in_err-target-clause-answers c =
-    let s = c.args.bench.now in
+    let s = c.args.bench.now.state in
     let p = err_from_is_err_and c.from_residual.result c.from_residual.ensures.1 in
     let it = found s _ c.in-Some.array c.in-Some.ensures in
     let left = rw c.as_slice.ensures at (sym c.if-not-are_bound.ensures) in
@@ -47,14 +47,14 @@ returns-in_err-target-clause-answers c =
 
 pub new_items-requires : goal.new_items-requires
 new_items-requires c =
-    let s = c.args.bench.now in
+    let s = c.args.bench.now.state in
     let it = found s _ c.in-Some.array c.in-Some.ensures in
     let part = given-target s c.args.name.now it.0 c.in_ok-target.target (target_part s it.0 c.as_slice-2.result.now) (c.in_ok-target.ensures c.args.name.now it.0 it.1 it.2) in
     record { bound = sym c.if-not-has_bound.ensures; target = (c.args.name.now, it.0, part.0, it.2, part.2) }
 
 pub returns-in_err-items-clause-answers : goal.returns-in_err-items-clause-answers
 returns-in_err-items-clause-answers c =
-    let s = c.args.bench.now in
+    let s = c.args.bench.now.state in
     let p = err_from_is_err_and c.from_residual-in_err-items.result c.from_residual-in_err-items.ensures.1 in
     let it = found s _ c.in-Some.array c.in-Some.ensures in
     let left = rw c.as_slice.ensures at (sym c.if-not-are_bound.ensures) in
@@ -69,53 +69,52 @@ returns-in_err-items-clause-answers c =
           ((λ i. new_items s (it.2.descr i) part.0 c.args.operation c.args.value.now) ∙ bad)),
     )
 
-pub assign-requires : goal.assign-requires
-assign-requires c =
-    let s = c.args.bench.now in
+pub write_items-requires : goal.write_items-requires
+write_items-requires c =
+    let s = c.args.bench.now.state in
     let it = found s _ c.in-Some.array c.in-Some.ensures in
     let part = given-target s c.args.name.now it.0 c.in_ok-target.target (target_part s it.0 c.as_slice-2.result.now) (c.in_ok-target.ensures c.args.name.now it.0 it.1 it.2) in
     let given = given-given s c.in-Some.array.descr.now (count part.0.shape) c.in_ok-items.items (new_items s c.in-Some.array.descr.now part.0 c.args.operation c.args.value.now) (c.in_ok-items.ensures c.args.name.now it.0 part.0 it.2 part.2) in
     record {
-      aim = (
-        it.0,
-        part.2.places,
-        part.2.leads,
-        part.2.may_write,
-        subst (λ (d : Descr). AreFor s d (length (target_offsets c.in_ok-target.target)) c.in_ok-items.items) (sym it.2.descr)
-            (subst (λ n. AreFor s c.in-Some.array.descr.now n c.in_ok-items.items) (ap count (ap (λ a. a.shape) part.2.part_is) ∙ sym part.2.counted) given.2),
-      );
+      aim = record {
+        array = it.0;
+        places = part.2.places;
+        items = given.0;
+        leads = part.2.leads;
+        may_write = part.2.may_write;
+        supplies = supplied s it.0 part.0 c.in-Some.array c.in_ok-target.target c.in_ok-items.items given.0 it.2 part.2 given.2;
+      };
     }
 
 pub returns-in_err-count-clause-answers : goal.returns-in_err-count-clause-answers
 returns-in_err-count-clause-answers c =
-    let s = c.args.bench.now in
+    let s = c.args.bench.now.state in
     let p = err_from_is_err_and c.from_residual-in_err-count.result c.from_residual-in_err-count.ensures.1 in
     let it = found s _ c.in-Some.array c.in-Some.ensures in
     let left = rw c.as_slice.ensures at (sym c.if-not-are_bound.ensures) in
     let right = sym c.if-not-has_bound.ensures in
-    rw p.1 (c.in_err-count.ensures.refused.0, unchanged _, inl (p.2 ∙ c.in_err-count.ensures.refused.1, all-bound s c.args.name.now c.args.index.now c.args.operation c.args.value.now it.0 it.1 left right))
+    rw p.1 (c.in_err-count.ensures.answers.0, unchanged _, inl (p.2 ∙ c.in_err-count.ensures.answers.1, all-bound s c.args.name.now c.args.index.now c.args.operation c.args.value.now it.0 it.1 left right))
 
 pub push_count-requires-clause-count : goal.push_count-requires-clause-count
 push_count-requires-clause-count c =
-    let s = c.args.bench.now in
+    let s = c.args.bench.now.state in
     let it = found s _ c.in-Some.array c.in-Some.ensures in
     let part = given-target s c.args.name.now it.0 c.in_ok-target.target (target_part s it.0 c.as_slice-2.result.now) (c.in_ok-target.ensures c.args.name.now it.0 it.1 it.2) in
-    omega (arith, c.in_ok-count.ensures.count, part.2.counted, ap count c.shape.ensures, c.items-count.ensures.value, c.items-count.ensures.limit)
+    omega (arith, c.in_ok-count.ensures.answers.0, part.2.counted, ap count c.shape.ensures, c.items-count.ensures.value, c.items-count.ensures.limit)
 
 pub returns-clause-answers : goal.returns-clause-answers
 returns-clause-answers c =
-    let s = c.args.bench.now in
+    let s = c.args.bench.now.state in
     let it = found s _ c.in-Some.array c.in-Some.ensures in
     let left = rw c.as_slice.ensures at (sym c.if-not-are_bound.ensures) in
     let right = sym c.if-not-has_bound.ensures in
     let named = both-bound s c.args.name.now c.args.index.now c.args.operation c.args.value.now _ _ left right in
     let part = given-target s c.args.name.now it.0 c.in_ok-target.target (target_part s it.0 c.as_slice-2.result.now) (c.in_ok-target.ensures c.args.name.now it.0 it.1 it.2) in
     let given = given-given s c.in-Some.array.descr.now (count part.0.shape) c.in_ok-items.items (new_items s c.in-Some.array.descr.now part.0 c.args.operation c.args.value.now) (c.in_ok-items.ensures c.args.name.now it.0 part.0 it.2 part.2) in
-    let n = c.in_ok-count.ensures.count ∙ part.2.counted ∙ ap count (ap (λ a. a.shape) (sym part.2.part_is)) in
-    let counted = n in
-    let items-are = (λ i. given_items s (it.2.descr i) (counted i) c.in_ok-items.items) ∙ given.3 in
-    let done : c.assign.new.bench ≡ written s it.0 part.0.places given.0 =
-    c.in_ok-count.ensures.written it.0 part.2.places part.2.leads ∙ (λ i. written s it.0 (sym part.2.part_is i).places (items-are i)) in
+    let n = c.in_ok-count.ensures.answers.0 ∙ part.2.counted ∙ ap count (ap (λ a. a.shape) (sym part.2.part_is)) in
+    let has = subst (λ (k : ℕ). Supplies s (descr_of s it.0) k c.in_ok-items.items given.0) (sym c.in_ok-count.ensures.answers.0) (supplied s it.0 part.0 c.in-Some.array c.in_ok-target.target c.in_ok-items.items given.0 it.2 part.2 given.2) in
+    let done : c.write_items.new.self.state ≡ written s it.0 part.0.places given.0 =
+    c.in_ok-count.ensures.answers.1 it.0 part.2.places given.0 part.2.leads has ∙ (λ i. written s it.0 (sym part.2.part_is i).places given.0) in
     let any = spare s in (
       any.0,
       any.1,

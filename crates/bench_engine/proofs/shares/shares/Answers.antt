@@ -15,12 +15,12 @@ returns-in_err-yes-clause-answers c =
 
 pub returns-clause-answers : goal.returns-clause-answers
 returns-clause-answers c =
-    let any = spare c.args.bench.now in
+    let any = spare c.args.bench.now.state in
     let a = c.in_ok-yes.ensures.answers.0 in
     let b = c.in_ok-yes.ensures.answers.1 in (
       any.0,
       any.1,
       shares_text c.in_ok-yes.yes,
-      shares-done _ _ _ a b c.in_ok-yes.ensures.answers.2 c.in_ok-yes.ensures.answers.3 ∙ ap (λ t. accepted_with c.args.bench.now (shares_text t)) (sym c.in_ok-yes.ensures.answers.4),
+      shares-done _ _ _ a b c.in_ok-yes.ensures.answers.2 c.in_ok-yes.ensures.answers.3 ∙ ap (λ t. accepted_with c.args.bench.now.state (shares_text t)) (sym c.in_ok-yes.ensures.answers.4),
       grind (arith, common_steps),
     )

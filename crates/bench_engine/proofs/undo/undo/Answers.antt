@@ -9,14 +9,14 @@ use Rattle.bench_engine.proofs.undo.undo.Goals as goal
 pub returns-in_err-undo-clause-answers : goal.returns-in_err-undo-clause-answers
 returns-in_err-undo-clause-answers c =
     let p = err_from_is_err_and c.from_residual.result c.from_residual.ensures.1 in
-    rw (p.1, p.2) (c.in_err-undo.ensures.2, unchanged _, inr (λ choice. undo-nothing _ _ c.in_err-undo.ensures.0 c.in_err-undo.ensures.1))
+    rw (p.1, p.2) (c.in_err-undo.ensures.answers.2, unchanged _, inr (λ choice. undo-nothing _ _ c.in_err-undo.ensures.answers.0 c.in_err-undo.ensures.answers.1))
 
 pub returns-clause-answers : goal.returns-clause-answers
 returns-clause-answers c =
-    let any = spare c.args.bench.now in (
+    let any = spare c.args.bench.now.state in (
       any.0,
       any.1,
       codes "ok undo",
-      undo-done c.args.bench.now c.undo.new.self c.in_ok-undo.ensures.0 c.in_ok-undo.ensures.1,
+      undo-done c.args.bench.now.state c.undo.new.self.state c.in_ok-undo.ensures.answers.0 c.in_ok-undo.ensures.answers.1,
       grind (arith, common_steps),
     )

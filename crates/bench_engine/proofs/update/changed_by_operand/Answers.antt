@@ -19,7 +19,7 @@ use Rattle.bench_engine.proofs.update.changed_by_operand.Goals as goal
 
 pub returns-in_err-taken : goal.returns-in_err-taken
 returns-in_err-taken c v stands =
-    let s = c.args.bench.now in
+    let s = c.args.bench.now.state in
     let it = found-array s _ c.unwrap-array.result (rw c.unwrap-array.ensures at c.get.ensures) in
     let p = err_from_is_err_and c.from_residual.result c.from_residual.ensures.1 in
     rw (p.1, p.2) (passed (taken s it.0 (unwrap_or c.args.operand.now.index (Ellipsis ∷ []))) _ _
@@ -27,21 +27,21 @@ returns-in_err-taken c v stands =
 
 pub items_taken-requires : goal.items_taken-requires
 items_taken-requires c =
-    let s = c.args.bench.now in
+    let s = c.args.bench.now.state in
     let it = found-array s _ c.unwrap-array.result (rw c.unwrap-array.ensures at c.get.ensures) in
     let is = given-taken s it.0 c.unwrap-array.result (list_all is_basic (unwrap_or c.args.operand.now.index (Ellipsis ∷ []))) c.in_ok-taken.taken (taken s it.0 (unwrap_or c.args.operand.now.index (Ellipsis ∷ []))) (c.in_ok-taken.ensures it.0 it.2) in
     (s, it.0, _, is.0, it.2, is.2)
 
 pub changed_by_items-requires-clause-also : goal.changed_by_items-requires-clause-also
 changed_by_items-requires-clause-also c =
-    let s = c.args.bench.now in
+    let s = c.args.bench.now.state in
     let it = found-array s _ c.unwrap-array.result (rw c.unwrap-array.ensures at c.get.ensures) in
     let is = given-taken s it.0 c.unwrap-array.result (list_all is_basic (unwrap_or c.args.operand.now.index (Ellipsis ∷ []))) c.in_ok-taken.taken (taken s it.0 (unwrap_or c.args.operand.now.index (Ellipsis ∷ []))) (c.in_ok-taken.ensures it.0 it.2) in
     (c.items_taken.ensures s it.0 _ is.0 it.2 is.2).inside
 
 pub returns : goal.returns
 returns c v stands =
-    let s = c.args.bench.now in
+    let s = c.args.bench.now.state in
     let it = found-array s _ c.unwrap-array.result (rw c.unwrap-array.ensures at c.get.ensures) in
     let is = given-taken s it.0 c.unwrap-array.result (list_all is_basic (unwrap_or c.args.operand.now.index (Ellipsis ∷ []))) c.in_ok-taken.taken (taken s it.0 (unwrap_or c.args.operand.now.index (Ellipsis ∷ []))) (c.in_ok-taken.ensures it.0 it.2) in
     let other = c.items_taken.ensures s it.0 _ is.0 it.2 is.2 in

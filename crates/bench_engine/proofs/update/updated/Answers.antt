@@ -12,30 +12,30 @@ use Rattle.bench_engine.proofs.update.updated.Goals as goal
 pub changed-requires-clause-inside : goal.changed-requires-clause-inside
 changed-requires-clause-inside c =
     let t = c.requires.target in
-    let is = subst (λ (t' : Target). IsTarget c.args.bench.now t.0 t.1 t.2 t') c.in-View.is t.4 in
-    view-inside c.args.bench.now t.0 t.1 t.2 c.args.array.now t.3 _ is
+    let is = subst (λ (t' : Target). IsTarget c.args.bench.now.state t.0 t.1 t.2 t') c.in-View.is t.4 in
+    view-inside c.args.bench.now.state t.0 t.1 t.2 c.args.array.now t.3 _ is
 
 pub invariant_of-old : goal.invariant_of-old
 invariant_of-old c =
     let t = c.requires.target in
-    let is = subst (λ (t' : Target). IsTarget c.args.bench.now t.0 t.1 t.2 t') c.in-View.is t.4 in
-    record { inside = view-inside c.args.bench.now t.0 t.1 t.2 c.args.array.now t.3 _ is }
+    let is = subst (λ (t' : Target). IsTarget c.args.bench.now.state t.0 t.1 t.2 t') c.in-View.is t.4 in
+    record { inside = view-inside c.args.bench.now.state t.0 t.1 t.2 c.args.array.now t.3 _ is }
 
 pub returns-in-View : goal.returns-in-View
 returns-in-View c name a part shows target =
-    let s = c.args.bench.now in
+    let s = c.args.bench.now.state in
     let is = subst (λ (t : Target). IsTarget s name a part t) c.in-View.is target in
     c.changed.ensures (operand_values s part) (all-stand s part _ (old-view s name a part c.args.array.now shows _ _ is refl refl refl))
 
 pub gather_owned-requires : goal.gather_owned-requires
 gather_owned-requires c =
     let t = c.requires.target in
-    let is = subst (λ (t' : Target). IsTarget c.args.bench.now t.0 t.1 t.2 t') c.in-Plan.is t.4 in
-    plan-inside c.args.bench.now t.0 t.1 t.2 c.args.array.now t.3 _ is
+    let is = subst (λ (t' : Target). IsTarget c.args.bench.now.state t.0 t.1 t.2 t') c.in-Plan.is t.4 in
+    plan-inside c.args.bench.now.state t.0 t.1 t.2 c.args.array.now t.3 _ is
 
 pub returns-in_ok-old-in-Plan : goal.returns-in_ok-old-in-Plan
 returns-in_ok-old-in-Plan c name a part shows target =
-    let s = c.args.bench.now in
+    let s = c.args.bench.now.state in
     let is = subst (λ (t : Target). IsTarget s name a part t) c.in-Plan.is target in
     let e = c.in_ok-old-in-Plan.ensures in
     let own = c.items_of.ensures in

@@ -6,7 +6,7 @@ use Rattle.name_store.specs.Targets.{target_offsets}
 use Rattle.name_store.specs.View.{slot_at}
 use Rattle.name_store.specs.inside.Homes.{HasNew}
 use Rattle.name_store.specs.inside.Puts.{block_in}
-use Rattle.name_store.specs.declared.items.Items.TheVariants.{Buffer}
+use Rattle.name_store.specs.declared.target.Source.TheVariants.{Buffer}
 use Rattle.name_store.specs.declared.slot.Slot.{Slot}
 use Rattle.name_store.proofs.SlotLaws.{slot_at-get_or, slot_at-within}
 use Rattle.name_store.proofs.RewriteLaws.{can-inside, can-within, lent-new, set-twice, set-other, some-same}

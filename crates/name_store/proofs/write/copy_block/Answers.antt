@@ -3,7 +3,7 @@ use Rattle.std.specs.Option.{option_copied_mut}
 use Rattle.shape_strides.specs.Layouts.{offsets}
 use Rattle.overlap_copy.specs.Assignments.{assigned}
 use Rattle.name_store.specs.Targets.{target_offsets}
-use Rattle.name_store.specs.declared.items.Items.TheVariants.{Block}
+use Rattle.name_store.specs.declared.target.Source.TheVariants.{Block}
 use Rattle.name_store.specs.declared.slot.Slot.{Slot}
 use Rattle.name_store.proofs.RewriteLaws.{can-within, lent-new, owned-within}
 use Rattle.name_store.proofs.write.copy_block.Goals as goal

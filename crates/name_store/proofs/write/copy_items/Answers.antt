@@ -1,19 +1,19 @@
 use Rattle.std.proofs.Common.{sym, ap, ◌∙◌, subst, IfOk}
 use Rattle.name_store.specs.inside.Puts.{Puts}
-use Rattle.name_store.specs.declared.items.Items.{Items}
-use Rattle.name_store.specs.declared.items.Items.TheVariants.{Buffer}
+use Rattle.name_store.specs.declared.target.Source.{Source}
+use Rattle.name_store.specs.declared.target.Source.TheVariants.{Buffer}
 use Rattle.name_store.proofs.write.copy_items.Goals as goal
 
 pub returns-in-One-clause-written : goal.returns-in-One-clause-written
-returns-in-One-clause-written c = subst (λ (own : Items). Puts c.args.slots.now.items c.args.home c.args.target.now own c.write_one.new.slots.items) (sym c.in-One.is) c.write_one.ensures
+returns-in-One-clause-written c = subst (λ (source : Source). Puts c.args.slots.now.items c.args.home c.args.target.now source c.write_one.new.slots.items) (sym c.in-One.is) c.write_one.ensures
 
 pub returns-in-Block-clause-written : goal.returns-in-Block-clause-written
-returns-in-Block-clause-written c = subst (λ (own : Items). Puts c.args.slots.now.items c.args.home c.args.target.now own c.copy_block.new.slots.items) (sym c.in-Block.is) c.copy_block.ensures
+returns-in-Block-clause-written c = subst (λ (source : Source). Puts c.args.slots.now.items c.args.home c.args.target.now source c.copy_block.new.slots.items) (sym c.in-Block.is) c.copy_block.ensures
 
 pub returns-then-number-home-clause-written : goal.returns-then-number-home-clause-written
 returns-then-number-home-clause-written c =
-    subst (λ (own : Items). IfOk c.copy_within.result (λ _. Puts c.args.slots.now.items c.args.home c.args.target.now own c.copy_within.new.slots.items))
+    subst (λ (source : Source). IfOk c.copy_within.result (λ _. Puts c.args.slots.now.items c.args.home c.args.target.now source c.copy_within.new.slots.items))
     (sym (c.in-Buffer.is ∙ ap (λ n. Buffer n c.in-Buffer.from) c.if-number-home.true)) c.copy_within.ensures.written
 
 pub returns-else-number-home-clause-written : goal.returns-else-number-home-clause-written
-returns-else-number-home-clause-written c = subst (λ (own : Items). Puts c.args.slots.now.items c.args.home c.args.target.now own c.copy_across.new.slots.items) (sym c.in-Buffer.is) c.copy_across.ensures
+returns-else-number-home-clause-written c = subst (λ (source : Source). Puts c.args.slots.now.items c.args.home c.args.target.now source c.copy_across.new.slots.items) (sym c.in-Buffer.is) c.copy_across.ensures

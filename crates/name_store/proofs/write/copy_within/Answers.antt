@@ -5,7 +5,7 @@ use Rattle.overlap_copy.specs.Assignments.{items_at, with_items}
 use Rattle.name_store.specs.Targets.{target_offsets}
 use Rattle.name_store.specs.View.{slot_at}
 use Rattle.name_store.specs.inside.Puts.{block_in}
-use Rattle.name_store.specs.declared.items.Items.TheVariants.{Buffer}
+use Rattle.name_store.specs.declared.target.Source.TheVariants.{Buffer}
 use Rattle.name_store.specs.declared.slot.Slot.{Slot}
 use Rattle.name_store.proofs.RewriteLaws.{can-may, can-within, lent-new, kept-same, ok-so, err-so, some-same}
 use Rattle.name_store.proofs.write.copy_within.Goals as goal

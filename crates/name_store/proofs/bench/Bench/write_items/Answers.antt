@@ -11,21 +11,20 @@ use Rattle.name_store.specs.View.{state_of, value_of}
 use Rattle.name_store.specs.declared.entry.Entry.{Entry}
 use Rattle.name_store.specs.declared.entry.Key.{Key}
 use Rattle.name_store.specs.declared.home.Home.{Home}
-use Rattle.name_store.specs.declared.items.Items.{Items}
 use Rattle.name_store.specs.declared.target.Target.{Target}
 use Rattle.name_store.specs.inside.Homes.{IsHome}
 use Rattle.name_store.specs.inside.OldItems.{AreSame}
-use Rattle.name_store.specs.inside.Puts.{CanPut, Puts, Resolves}
+use Rattle.name_store.specs.inside.Puts.{CanPut, Puts}
 use Rattle.name_store.proofs.HeldLaws.{lowest-same}
 use Rattle.name_store.proofs.RewriteLaws.{new-users}
 use Rattle.name_store.proofs.UnbindLaws.{same-sound}
 use Rattle.name_store.proofs.WriteKept.{same-still, same-state, same-value, tried-sound, tried-lowest, put-can, none-can, none-answers, none-counts, wrote-sound, write-held, write-sound, write-answers, write-counts}
 use Rattle.name_store.proofs.bench.Bench.write_items.Goals as goal
-use Rattle.name_store.proofs.bench.Bench.write_items.Goals.{After-items_of-items, After-keep}
+use Rattle.name_store.proofs.bench.Bench.write_items.Goals.{After-home-home, After-keep}
 use Rattle.name_store.proofs.PastLaws.{Slots}
 
 -- where the array lies, and that the target leads there
-aimed : (c : After-items_of-items) → IsHome c.self.inside.table.names.entries c.self.inside.table.slots.cells.items c.args.name.now c.home-home.result.number c.home-home.result.width × IsAim (state_of c.self.inside.table.names.entries c.self.inside.table.slots.cells.items c.self.inside.history) c.args.name.now c.args.target c.args.source
+aimed : (c : After-home-home) → IsHome c.self.inside.table.names.entries c.self.inside.table.slots.cells.items c.args.name.now c.home-home.result.number c.home-home.result.width × IsAim (state_of c.self.inside.table.names.entries c.self.inside.table.slots.cells.items c.self.inside.history) c.args.name.now c.args.target c.args.source
 aimed c = (
   subst (λ (n : List ℕ). IsHome c.self.inside.table.names.entries c.self.inside.table.slots.cells.items n c.home-home.result.number c.home-home.result.width) c.of.ensures c.home-home.ensures,
   subst (λ (v : BenchValue). IsAim v.state c.args.name.now c.args.target c.args.source) (sym c.self.view_is) c.requires.aim,
@@ -36,13 +35,13 @@ kept c =
     let home = subst (λ (n : List ℕ). IsHome c.self.inside.table.names.entries c.self.inside.table.slots.cells.items n c.home-home.result.number c.home-home.result.width) c.of.ensures c.home-home.ensures in
     let aim = subst (λ (v : BenchValue). IsAim v.state c.args.name.now c.args.target c.args.source) (sym c.self.view_is) c.requires.aim in
     same-sound c.self.inside.table.names.entries c.make_room.new.names.entries c.keep.new.slots.cells.items c.keep.new.history (spare c.make_room.new.names) (spare c.make_room.new.names) c.in_ok-make_room.ensures.entries (omega arith)
-    (write-sound c.self.inside.table.names.entries c.self.inside.table.slots.cells.items c.self.inside.history _ c.self.invariant c.args.name.now c.home-home.result.number c.home-home.result.width home c.args.target c.args.source c.items_of-items.result c.items_of-items.ensures aim c.write_over.new.slots.items c.in_ok-items.ensures.written c.in_ok-items.items c.in_ok-items.ensures.old
+    (write-sound c.self.inside.table.names.entries c.self.inside.table.slots.cells.items c.self.inside.history _ c.self.invariant c.args.name.now c.home-home.result.number c.home-home.result.width home c.args.target c.args.source aim c.write_over.new.slots.items c.in_ok-items.ensures.written c.in_ok-items.items c.in_ok-items.ensures.old
     c.keep.new.history c.keep.new.slots.cells.items (spare c.make_room.new.names) c.keep.ensures.history c.keep.ensures.freed c.keep.ensures.users (omega (arith, c.in_ok-make_room.ensures.room)))
 
 pub write_items-requires : goal.write_items-requires
 write_items-requires c =
-    let h = aimed (goal.at.write_items-requires c).After-items_of-items in
-    put-can c.self.inside.table.names.entries c.self.inside.table.slots.cells.items c.self.inside.history _ c.self.invariant c.args.name.now c.home-home.result.number c.home-home.result.width h.0 c.args.target c.args.source c.items_of-items.result c.items_of-items.ensures h.1
+    let h = aimed (goal.at.write_items-requires c).After-home-home in
+    put-can c.self.inside.table.names.entries c.self.inside.table.slots.cells.items c.self.inside.history _ c.self.invariant c.args.name.now c.home-home.result.number c.home-home.result.width h.0 c.args.target c.args.source h.1
 
 pub returns-in_err-write_items-clause-answers : goal.returns-in_err-write_items-clause-answers
 returns-in_err-write_items-clause-answers c =
@@ -51,24 +50,24 @@ returns-in_err-write_items-clause-answers c =
 
 pub returns-in_err-write_items-clause-no_memory : goal.returns-in_err-write_items-clause-no_memory
 returns-in_err-write_items-clause-no_memory c =
-    let h = aimed (goal.at.returns-in_err-write_items-clause-no_memory c).After-items_of-items in
+    let h = aimed (goal.at.returns-in_err-write_items-clause-no_memory c).After-home-home in
     λ needs.
-    absurd (false≢true (c.in_err-write_items.ensures.no_memory (none-can c.self.inside.table.names.entries c.self.inside.table.slots.cells.items c.self.inside.history _ c.self.invariant c.args.name.now c.home-home.result.number c.home-home.result.width h.0 c.args.target c.args.source c.items_of-items.result c.items_of-items.ensures h.1 (subst (λ (v : BenchValue). NeedsNoMemory v.state c.args.name.now c.args.target c.args.source) (sym c.self.view_is) needs))))
+    absurd (false≢true (c.in_err-write_items.ensures.no_memory (none-can c.self.inside.table.names.entries c.self.inside.table.slots.cells.items c.self.inside.history _ c.self.invariant c.args.name.now c.home-home.result.number c.home-home.result.width h.0 c.args.target c.args.source h.1 (subst (λ (v : BenchValue). NeedsNoMemory v.state c.args.name.now c.args.target c.args.source) (sym c.self.view_is) needs))))
 
 pub invariant_of-self-then-capacity-eq0 : goal.invariant_of-self-then-capacity-eq0
 invariant_of-self-then-capacity-eq0 c =
-    let h = aimed (goal.at.invariant_of-self-then-capacity-eq0 c).After-items_of-items in
-    wrote-sound c.self.inside.table.names.entries c.self.inside.table.slots.cells.items c.self.inside.history _ c.self.invariant c.args.name.now c.home-home.result.number c.home-home.result.width h.0 c.args.target c.args.source c.items_of-items.result c.items_of-items.ensures h.1 c.write_items.new.slots.items c.in_ok-write_items.ensures.written
+    let h = aimed (goal.at.invariant_of-self-then-capacity-eq0 c).After-home-home in
+    wrote-sound c.self.inside.table.names.entries c.self.inside.table.slots.cells.items c.self.inside.history _ c.self.invariant c.args.name.now c.home-home.result.number c.home-home.result.width h.0 c.args.target c.args.source h.1 c.write_items.new.slots.items c.in_ok-write_items.ensures.written
 
 pub returns-then-capacity-eq0-clause-answers : goal.returns-then-capacity-eq0-clause-answers
 returns-then-capacity-eq0-clause-answers c =
-    let h = aimed (goal.at.returns-then-capacity-eq0-clause-answers c).After-items_of-items in
-    rw (← c.self.view_is, c.count-count.ensures) (none-answers c.self.inside.table.names.entries c.self.inside.table.slots.cells.items c.self.inside.history _ c.self.invariant c.args.name.now c.home-home.result.number c.home-home.result.width h.0 c.args.target c.args.source c.items_of-items.result c.items_of-items.ensures h.1 c.write_items.new.slots.items c.in_ok-write_items.ensures.written (omega (arith, c.capacity.ensures.capacity, c.if-capacity-eq0.true)))
+    let h = aimed (goal.at.returns-then-capacity-eq0-clause-answers c).After-home-home in
+    rw (← c.self.view_is, c.count-count.ensures) (none-answers c.self.inside.table.names.entries c.self.inside.table.slots.cells.items c.self.inside.history _ c.self.invariant c.args.name.now c.home-home.result.number c.home-home.result.width h.0 c.args.target c.args.source h.1 c.write_items.new.slots.items c.in_ok-write_items.ensures.written (omega (arith, c.capacity.ensures.capacity, c.if-capacity-eq0.true)))
 
 pub write_over-requires : goal.write_over-requires
 write_over-requires c =
-    let h = aimed (goal.at.write_over-requires c).After-items_of-items in
-    put-can c.self.inside.table.names.entries c.self.inside.table.slots.cells.items c.self.inside.history _ c.self.invariant c.args.name.now c.home-home.result.number c.home-home.result.width h.0 c.args.target c.args.source c.items_of-items.result c.items_of-items.ensures h.1
+    let h = aimed (goal.at.write_over-requires c).After-home-home in
+    put-can c.self.inside.table.names.entries c.self.inside.table.slots.cells.items c.self.inside.history _ c.self.invariant c.args.name.now c.home-home.result.number c.home-home.result.width h.0 c.args.target c.args.source h.1
 
 pub invariant_of-self-in_err-items : goal.invariant_of-self-in_err-items
 invariant_of-self-in_err-items c =
@@ -85,8 +84,8 @@ returns-in_err-items-clause-answers c =
 
 pub keep-requires-clause-held : goal.keep-requires-clause-held
 keep-requires-clause-held c =
-    let h = aimed (goal.at.keep-requires-clause-held c).After-items_of-items in
-    write-held c.self.inside.table.names.entries c.self.inside.table.slots.cells.items c.self.inside.history _ c.self.invariant c.args.name.now c.home-home.result.number c.home-home.result.width h.0 c.args.target c.args.source c.items_of-items.result c.items_of-items.ensures h.1 c.write_over.new.slots.items c.in_ok-items.ensures.written c.in_ok-items.items c.in_ok-items.ensures.old
+    let h = aimed (goal.at.keep-requires-clause-held c).After-home-home in
+    write-held c.self.inside.table.names.entries c.self.inside.table.slots.cells.items c.self.inside.history _ c.self.invariant c.args.name.now c.home-home.result.number c.home-home.result.width h.0 c.args.target c.args.source h.1 c.write_over.new.slots.items c.in_ok-items.ensures.written c.in_ok-items.items c.in_ok-items.ensures.old
 
 pub invariant_of-self-2 : goal.invariant_of-self-2
 invariant_of-self-2 c = kept (goal.at.invariant_of-self-2 c).After-keep
@@ -96,23 +95,23 @@ invariant_of-self-inside-4 c = record { holds = (kept (goal.at.invariant_of-self
 
 pub returns-clause-answers : goal.returns-clause-answers
 returns-clause-answers c =
-    let h = aimed (goal.at.returns-clause-answers c).After-items_of-items in
-    rw (← c.self.view_is, c.count-count.ensures, c.in_ok-make_room.ensures.entries) (write-answers c.self.inside.table.names.entries c.self.inside.table.slots.cells.items c.self.inside.history _ c.self.invariant c.args.name.now c.home-home.result.number c.home-home.result.width h.0 c.args.target c.args.source c.items_of-items.result c.items_of-items.ensures h.1 c.write_over.new.slots.items c.in_ok-items.ensures.written c.in_ok-items.items c.in_ok-items.ensures.old
+    let h = aimed (goal.at.returns-clause-answers c).After-home-home in
+    rw (← c.self.view_is, c.count-count.ensures, c.in_ok-make_room.ensures.entries) (write-answers c.self.inside.table.names.entries c.self.inside.table.slots.cells.items c.self.inside.history _ c.self.invariant c.args.name.now c.home-home.result.number c.home-home.result.width h.0 c.args.target c.args.source h.1 c.write_over.new.slots.items c.in_ok-items.ensures.written c.in_ok-items.items c.in_ok-items.ensures.old
     c.keep.new.history c.keep.new.slots.cells.items (spare c.make_room.new.names) c.keep.ensures.history c.keep.ensures.freed c.keep.ensures.users (omega (arith, c.in_ok-make_room.ensures.room)))
 
 pub invariant_of-self-inside : goal.invariant_of-self-inside
 invariant_of-self-inside c =
-    let h = aimed (goal.at.invariant_of-self-inside c).After-items_of-items in (
-      (tried-lowest c.self.inside.table.names.entries c.self.inside.table.slots.cells.items c.self.inside.history _ c.self.invariant c.args.name.now c.home-home.result.number c.home-home.result.width h.0 c.args.target c.args.source c.items_of-items.result c.items_of-items.ensures h.1 c.write_items.new.slots.items c.write_items.result c.write_items.ensures.written c.write_items.ensures.kept c.self.inside.table.slots.lowest c.self.inside.table.slots.taken, tt),
-      ((tried-sound c.self.inside.table.names.entries c.self.inside.table.slots.cells.items c.self.inside.history _ c.self.invariant c.args.name.now c.home-home.result.number c.home-home.result.width h.0 c.args.target c.args.source c.items_of-items.result c.items_of-items.ensures h.1 c.write_items.new.slots.items c.write_items.result c.write_items.ensures.written c.write_items.ensures.kept).holds, tt),
+    let h = aimed (goal.at.invariant_of-self-inside c).After-home-home in (
+      (tried-lowest c.self.inside.table.names.entries c.self.inside.table.slots.cells.items c.self.inside.history _ c.self.invariant c.args.name.now c.home-home.result.number c.home-home.result.width h.0 c.args.target c.args.source h.1 c.write_items.new.slots.items c.write_items.result c.write_items.ensures.written c.write_items.ensures.kept c.self.inside.table.slots.lowest c.self.inside.table.slots.taken, tt),
+      ((tried-sound c.self.inside.table.names.entries c.self.inside.table.slots.cells.items c.self.inside.history _ c.self.invariant c.args.name.now c.home-home.result.number c.home-home.result.width h.0 c.args.target c.args.source h.1 c.write_items.new.slots.items c.write_items.result c.write_items.ensures.written c.write_items.ensures.kept).holds, tt),
     )
 
 pub invariant_of-self-inside-3 : goal.invariant_of-self-inside-3
 invariant_of-self-inside-3 c =
-    let h = aimed (goal.at.invariant_of-self-inside-3 c).After-items_of-items in
-    let s = tried-sound c.self.inside.table.names.entries c.self.inside.table.slots.cells.items c.self.inside.history _ c.self.invariant c.args.name.now c.home-home.result.number c.home-home.result.width h.0 c.args.target c.args.source c.items_of-items.result c.items_of-items.ensures h.1 c.write_over.new.slots.items c.write_over.result c.write_over.ensures.written c.write_over.ensures.kept in
+    let h = aimed (goal.at.invariant_of-self-inside-3 c).After-home-home in
+    let s = tried-sound c.self.inside.table.names.entries c.self.inside.table.slots.cells.items c.self.inside.history _ c.self.invariant c.args.name.now c.home-home.result.number c.home-home.result.width h.0 c.args.target c.args.source h.1 c.write_over.new.slots.items c.write_over.result c.write_over.ensures.written c.write_over.ensures.kept in
     let t = same-sound c.self.inside.table.names.entries c.make_room.new.names.entries c.write_over.new.slots.items c.self.inside.history _ (spare c.make_room.new.names) c.in_ok-make_room.ensures.entries c.in_ok-make_room.ensures.kept s in (
-      (tried-lowest c.self.inside.table.names.entries c.self.inside.table.slots.cells.items c.self.inside.history _ c.self.invariant c.args.name.now c.home-home.result.number c.home-home.result.width h.0 c.args.target c.args.source c.items_of-items.result c.items_of-items.ensures h.1 c.write_over.new.slots.items c.write_over.result c.write_over.ensures.written c.write_over.ensures.kept c.self.inside.table.slots.lowest c.self.inside.table.slots.taken, tt),
+      (tried-lowest c.self.inside.table.names.entries c.self.inside.table.slots.cells.items c.self.inside.history _ c.self.invariant c.args.name.now c.home-home.result.number c.home-home.result.width h.0 c.args.target c.args.source h.1 c.write_over.new.slots.items c.write_over.result c.write_over.ensures.written c.write_over.ensures.kept c.self.inside.table.slots.lowest c.self.inside.table.slots.taken, tt),
       (t.holds, tt),
     )
 
@@ -123,8 +122,8 @@ returns-in_err-write_items-clause-patches c = λ array found.
 
 pub returns-then-capacity-eq0-clause-patches : goal.returns-then-capacity-eq0-clause-patches
 returns-then-capacity-eq0-clause-patches c =
-    let h = aimed (goal.at.returns-then-capacity-eq0-clause-patches c).After-items_of-items in
-    rw (← c.self.view_is) (none-counts c.self.inside.table.names.entries c.self.inside.table.slots.cells.items c.self.inside.history _ c.self.invariant c.args.name.now c.home-home.result.number c.home-home.result.width h.0 c.args.target c.args.source c.items_of-items.result c.items_of-items.ensures h.1 c.write_items.new.slots.items c.in_ok-write_items.ensures.written (omega (arith, c.capacity.ensures.capacity, c.if-capacity-eq0.true)))
+    let h = aimed (goal.at.returns-then-capacity-eq0-clause-patches c).After-home-home in
+    rw (← c.self.view_is) (none-counts c.self.inside.table.names.entries c.self.inside.table.slots.cells.items c.self.inside.history _ c.self.invariant c.args.name.now c.home-home.result.number c.home-home.result.width h.0 c.args.target c.args.source h.1 c.write_items.new.slots.items c.in_ok-write_items.ensures.written (omega (arith, c.capacity.ensures.capacity, c.if-capacity-eq0.true)))
 
 pub returns-in_err-items-clause-patches : goal.returns-in_err-items-clause-patches
 returns-in_err-items-clause-patches c = λ array found.
@@ -134,6 +133,6 @@ returns-in_err-items-clause-patches c = λ array found.
 
 pub returns-clause-patches : goal.returns-clause-patches
 returns-clause-patches c =
-    let h = aimed (goal.at.returns-clause-patches c).After-items_of-items in
-    rw (← c.self.view_is) (write-counts c.self.inside.table.names.entries c.self.inside.table.slots.cells.items c.self.inside.history _ c.self.invariant c.args.name.now c.home-home.result.number c.home-home.result.width h.0 c.args.target c.args.source c.items_of-items.result c.items_of-items.ensures h.1 c.write_over.new.slots.items c.in_ok-items.ensures.written c.in_ok-items.items c.in_ok-items.ensures.old
+    let h = aimed (goal.at.returns-clause-patches c).After-home-home in
+    rw (← c.self.view_is) (write-counts c.self.inside.table.names.entries c.self.inside.table.slots.cells.items c.self.inside.history _ c.self.invariant c.args.name.now c.home-home.result.number c.home-home.result.width h.0 c.args.target c.args.source h.1 c.write_over.new.slots.items c.in_ok-items.ensures.written c.in_ok-items.items c.in_ok-items.ensures.old
     c.keep.new.history c.keep.new.slots.cells.items (spare c.make_room.new.names) c.keep.ensures.history c.keep.ensures.freed c.keep.ensures.users (omega (arith, c.in_ok-make_room.ensures.room)))
