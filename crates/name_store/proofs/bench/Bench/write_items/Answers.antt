@@ -1,8 +1,7 @@
-use Rattle.std.proofs.Common.{◌≡◌, ℕ, ap, sym, ◌∙◌, refl, subst, arith, List, Result, Ok, Err, IfOk, IfErr}
+use Rattle.std.proofs.Common.{ℕ, ap, sym, ◌∙◌, refl, subst, arith, List}
 use Rattle.std.proofs.lemmas.Bool.{false≢true}
 use Rattle.std.proofs.lemmas.Result.{err_from_is_err_and}
 use Rattle.indexmap.specs.IndexMap.{spare}
-use Rattle.name_store.specs.Invariants.{users_at}
 use Rattle.name_store.specs.Invariants.{IsSound}
 use Rattle.name_store.specs.Memory.{NeedsNoMemory}
 use Rattle.name_store.specs.States.{BenchValue}
@@ -10,18 +9,11 @@ use Rattle.name_store.specs.Targets.{IsAim}
 use Rattle.name_store.specs.View.{state_of, value_of}
 use Rattle.name_store.specs.declared.entry.Entry.{Entry}
 use Rattle.name_store.specs.declared.entry.Key.{Key}
-use Rattle.name_store.specs.declared.home.Home.{Home}
-use Rattle.name_store.specs.declared.target.Target.{Target}
 use Rattle.name_store.specs.inside.Homes.{IsHome}
-use Rattle.name_store.specs.inside.OldItems.{AreSame}
-use Rattle.name_store.specs.inside.Puts.{CanPut, Puts}
-use Rattle.name_store.proofs.HeldLaws.{lowest-same}
-use Rattle.name_store.proofs.RewriteLaws.{new-users}
 use Rattle.name_store.proofs.UnbindLaws.{same-sound}
 use Rattle.name_store.proofs.WriteKept.{same-still, same-state, same-value, tried-sound, tried-lowest, put-can, none-can, none-answers, none-counts, wrote-sound, write-held, write-sound, write-answers, write-counts}
 use Rattle.name_store.proofs.bench.Bench.write_items.Goals as goal
 use Rattle.name_store.proofs.bench.Bench.write_items.Goals.{After-home-home, After-keep}
-use Rattle.name_store.proofs.PastLaws.{Slots}
 
 -- where the array lies, and that the target leads there
 aimed : (c : After-home-home) → IsHome c.self.inside.table.names.entries c.self.inside.table.slots.cells.items c.args.name.now c.home-home.result.number c.home-home.result.width × IsAim (state_of c.self.inside.table.names.entries c.self.inside.table.slots.cells.items c.self.inside.history) c.args.name.now c.args.target c.args.source
