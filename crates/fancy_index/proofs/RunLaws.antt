@@ -1,9 +1,9 @@
 -- Runs that are moved, and runs of items that are copied and filled.
-use Rattle.std.proofs.Common.{◌≡◌, ℕ, ◌+◌, ◌-◌, ◌*◌, ◌<◌, ◌≤◌, List, [], ◌∷◌, map, length, get_or, All, sym, ap, subst, ◌∙◌, arith}
+use Rattle.std.proofs.Common.{◌≡◌, ℕ, ◌+◌, ◌-◌, ◌*◌, ◌<◌, ◌≤◌, ◌≤ℤ◌, List, [], ◌∷◌, map, length, get_or, All, sym, ap, subst, ◌∙◌, arith}
 use Rattle.std.proofs.lemmas.Int.{ints}
 use Rattle.std.proofs.lemmas.List.{length-map, get_or-map, get_or_default, same_lists}
 use Rattle.std.proofs.lemmas.List.Elements.{All-get_or}
-use lib.IntN.{ℤ, pos, nat_abs, ◌+ℤ◌, ◌*ℤ◌, zero-*ℤ, +ℤ_idr}
+use lib.IntN.{ℤ, pos, nat_abs, ◌+ℤ◌, ◌*ℤ◌, zero-*ℤ, *ℤ-zero, +ℤ_idr}
 use Rattle.raw_block.specs.Bytes.{position, place, EachWithin}
 use Rattle.raw_block.specs.BytesLaws.{not_negative}
 use Rattle.shape_strides.specs.declared.runs.Run.{Run}
@@ -72,6 +72,21 @@ module _ (run : Run) (base start : ℕ) (lies : LieWithin (run.count ∷ []) (ru
 
       default : (xs : List ℕ) (k d : ℕ) → k < length xs → get_or xs k d ≡ get_or xs k 0
       default xs k d low = get_or_default xs k d 0 low
+
+-- ---- the steps of a run
+
+module _ (run : Run) (lies : LieWithin (run.count ∷ []) (run.step ∷ []) run.offset max_bytes 1) (k : ℕ) (low : k < run.count) where
+  pub steps-low : pos 0 ≤ℤ (pos run.offset +ℤ run.step *ℤ pos k)
+  steps-low = omega (arith, ints, lies.from_zero (k ∷ []) (low, tt))
+
+  pub steps-high : (pos run.offset +ℤ run.step *ℤ pos k) ≤ℤ pos max_bytes
+  steps-high = omega (arith, ints, lies.within (k ∷ []) (low, tt))
+
+  pub first-low : run.offset ≤ max_bytes
+  first-low = omega (arith, ints, lies.within (0 ∷ []) (omega (arith, low), tt), *ℤ-zero run.step)
+
+  pub lies-there : (offset : ℕ) → pos offset ≡ pos run.offset +ℤ run.step *ℤ pos k → offset ≡ get_or (run_offsets run) k 0
+  lies-there offset there = ap natural there ∙ sym (nth-offset run k low)
 
 -- ---- items one after another
 

@@ -1,18 +1,15 @@
 -- Integers at equal steps.
-use Rattle.std.proofs.Common.{◌≡◌, ◌⊎◌, ℕ, ◌+◌, ◌<◌, ◌≤◌, ◌≢◌, ◌≤ℤ◌, Bool, true, false, cond, ◌&&◌, Some, None, unwrap_or, is_some, Ok, Err, is_ok, IfOk, IfErr, inl, inr, List, [], ◌∷◌, map, length, get_or, set, drop, refl, sym, ap, subst, ◌∙◌, arith, below_more, get_or-set_other, get_or-set_same}
+use Rattle.std.proofs.Common.{◌≡◌, ◌⊎◌, ℕ, ◌+◌, ◌<◌, ◌≤◌, ◌≢◌, Bool, true, false, cond, ◌&&◌, Some, None, unwrap_or, is_some, Ok, Err, is_ok, IfOk, IfErr, inl, inr, List, map, length, get_or, set, drop, refl, sym, ap, subst, ◌∙◌, arith, below_more, get_or-set_other, get_or-set_same}
 use Rattle.std.specs.List.{list_all}
 use Rattle.std.proofs.lemmas.Bool.{false≢true}
-use Rattle.std.proofs.lemmas.Int.{ints}
 use Rattle.std.proofs.lemmas.List.{same_lists, get_or-map, length-map, drop_more, drop_all, get_or_default}
 use Rattle.std.proofs.Math.ListN.{length-set}
-use lib.IntN.{ℤ, pos, ◌+ℤ◌, ◌*ℤ◌, *ℤ-zero}
+use lib.IntN.{ℤ, pos}
 use Rattle.elem_descr.specs.declared.descr.Descr.{Descr}
 use Rattle.elem_descr.specs.declared.refusal.Refusal.{Refusal}
 use Rattle.elem_descr.specs.declared.refusal.Refusal.TheVariants.{OutOfMemory, IndexOutOfRange}
 use Rattle.elem_descr.specs.Refusals.{check}
 use Rattle.raw_block.specs.Bytes.{item_at}
-use Rattle.shape_strides.specs.Addresses.{natural}
-use Rattle.shape_strides.specs.Limits.{max_bytes}
 use Rattle.shape_strides.specs.Runs.{run_offsets}
 use Rattle.shape_strides.specs.WalkLaws.{length-run_offsets}
 use Rattle.view_ops.specs.Slices.{is_place}
@@ -21,23 +18,10 @@ use Rattle.fancy_index.specs.declared.words.Reading.{Reading}
 use Rattle.fancy_index.specs.declared.words.Spread.{Spread}
 use Rattle.fancy_index.specs.inside.Words.{word, spread_numbers, AreWords, IsSpread, ArePlacesTo}
 use Rattle.fancy_index.specs.inside.PointLists.{place_of, named_place, named_places}
-use Rattle.overlap_copy.specs.RunLaws.{nth-offset}
 
 -- ---- items at equal steps
 
 module _ (width : ℕ) (items : Spread) (is : IsSpread width items) (k : ℕ) (low : k < items.run.count) where
-  pub steps-low : pos 0 ≤ℤ (pos items.run.offset +ℤ items.run.step *ℤ pos k)
-  steps-low = omega (arith, ints, is.limit.from_zero (k ∷ []) (low, tt))
-
-  pub steps-high : (pos items.run.offset +ℤ items.run.step *ℤ pos k) ≤ℤ pos max_bytes
-  steps-high = omega (arith, ints, is.limit.within (k ∷ []) (low, tt))
-
-  pub first-low : items.run.offset ≤ max_bytes
-  first-low = omega (arith, ints, is.limit.within (0 ∷ []) (omega (arith, low), tt), *ℤ-zero items.run.step)
-
-  pub lies-there : (offset : ℕ) → pos offset ≡ pos items.run.offset +ℤ items.run.step *ℤ pos k → offset ≡ get_or (run_offsets items.run) k 0
-  lies-there offset there = ap natural there ∙ sym (nth-offset items.run k low)
-
   pub ends-there : get_or (run_offsets items.run) k 0 + width ≤ length items.block.now
   ends-there = is.ends k 0 (omega (arith, low, length-run_offsets items.run))
 
