@@ -18,7 +18,7 @@ use Rattle.name_store.specs.Invariants.{Holds, IsSound, LiesAt, GoBackAt, GoBack
 use Rattle.name_store.specs.Kept.{with_old, Names, past_names, past_buffers, kept_states, patch_size}
 use Rattle.name_store.specs.Memory.{MoveInPlace, NeedsNoMemory}
 use Rattle.name_store.specs.Targets.{target_offsets, LeadsTo, MayWrite, Supplies, IsAim}
-use Rattle.name_store.specs.View.{array_at, named_array, slot_at, present, state_of, value_of}
+use Rattle.name_store.specs.View.{array_at, named_array, slot_at, present, state_of, bench_value}
 use Rattle.name_store.specs.declared.change.Change.{Change}
 use Rattle.name_store.specs.declared.change.Change.TheVariants.{Write}
 use Rattle.name_store.specs.declared.entry.Entry.{Entry}
@@ -97,7 +97,7 @@ same-kept (c ∷ cs) names slots after same = λ i. (past_names (c ∷ cs) names
 pub same-state : (es : List (Key × Entry)) (slots after : Slots) (ring : Ring Change) → AreSame slots after → state_of es after ring ≡ state_of es slots ring
 same-state es slots after ring same = λ i. record (state_of es slots ring) { buffers = same-past [] (map named_array es) slots after same i; kept = same-kept ring.items (map named_array es) slots after same i }
 
-pub same-value : (es : List (Key × Entry)) (slots after : Slots) (ring : Ring Change) → AreSame slots after → value_of es after ring ≡ value_of es slots ring
+pub same-value : (es : List (Key × Entry)) (slots after : Slots) (ring : Ring Change) → AreSame slots after → bench_value es after ring ≡ bench_value es slots ring
 same-value es slots after ring same = λ i. record { state = same-state es slots after ring same i; patches = map patch_size ring.items }
 
 -- where none is kept
@@ -211,7 +211,7 @@ module _ (es : List (Key × Entry)) (slots : Slots) (ring : Ring Change) (spare 
           },
     )
 
-    pub none-counts : ring.capacity ≡ 0 → CountsWrite (value_of es slots ring) name target (Ok n) (value_of es after ring)
+    pub none-counts : ring.capacity ≡ 0 → CountsWrite (bench_value es slots ring) name target (Ok n) (bench_value es after ring)
     none-counts shallow = λ array found.
         ap (map patch_size) (none-items ring.capacity ring.items sound.short shallow) ∙ sym (none-last ring.capacity (map patch_size ring.items ++ n * item_size (descr_of (present es slots) array) ∷ []) shallow)
 
@@ -289,7 +289,7 @@ module _ (es : List (Key × Entry)) (slots : Slots) (ring : Ring Change) (spare 
               },
         )
 
-        pub write-counts : CountsWrite (value_of es slots ring) name target (Ok n) (value_of es last ring')
+        pub write-counts : CountsWrite (bench_value es slots ring) name target (Ok n) (bench_value es last ring')
         write-counts = λ array found.
             patches-push ring ring' c ring-is
             ∙ ap (λ bytes. keep_last ring.capacity (map patch_size ring.items ++ bytes ∷ [])) (old.whole ∙ ap (λ size. n * size) (old.size ∙ sym (size-is es slots name number width home array found)))

@@ -4,5 +4,5 @@ use Rattle.name_store.specs.View.{present}
 use Rattle.name_store.specs.declared.table.Table.{Table}
 
 -- its names and buffers, with no state kept
-abbrev pub seen : Table → State
-seen table = present table.names.entries table.slots.cells.items
+abbrev pub table_state : Table → State
+table_state table = present table.names.entries table.slots.cells.items

@@ -20,5 +20,5 @@ present names slots = record { names = map named_array names; buffers = past_buf
 abbrev pub state_of : List (Key × Entry) → List (Option Slot) → Ring Change → State
 state_of names slots ring = record (present names slots) { depth = ring.capacity; kept = kept_states ring.items (map named_array names) slots }
 
-abbrev pub value_of : List (Key × Entry) → List (Option Slot) → Ring Change → BenchValue
-value_of names slots ring = record { state = state_of names slots ring; patches = map patch_size ring.items }
+abbrev pub bench_value : List (Key × Entry) → List (Option Slot) → Ring Change → BenchValue
+bench_value names slots ring = record { state = state_of names slots ring; patches = map patch_size ring.items }

@@ -36,11 +36,11 @@ impl Model for Bench {
 
     ghost coded = { value_code };
 
-    ghost use Rattle.name_store.specs.View.{value_of};
+    ghost use Rattle.name_store.specs.View.{bench_value};
     ghost use Rattle.name_store.specs.Invariants.{IsSound};
     ghost use Rattle.indexmap.specs.IndexMap.{spare};
 
-    ghost view = { λ f. value_of f.table.names.entries f.table.slots.cells.items f.history };
+    ghost view = { λ f. bench_value f.table.names.entries f.table.slots.cells.items f.history };
 
     ghost invariant = { λ f. IsSound f.table.names.entries f.table.slots.cells.items f.history (spare f.table.names) };
 }

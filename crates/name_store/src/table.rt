@@ -37,7 +37,7 @@ impl Table {
     ghost use Rattle.name_store.specs.Invariants.{users_at};
     ghost use Rattle.name_store.specs.Memory.{LieInTwo};
     ghost use Rattle.name_store.specs.Shown.{Finds};
-    ghost use Rattle.name_store.specs.Tables.{seen};
+    ghost use Rattle.name_store.specs.Tables.{table_state};
     ghost use Rattle.name_store.specs.Views.{MayBind};
     ghost use Rattle.name_store.specs.declared.change.Change.TheVariants.{Bind, Unbind, Write};
     ghost use Rattle.name_store.specs.inside.Homes.{IsHome};
@@ -57,14 +57,14 @@ impl Table {
 
     /// Whether a name may be bound.
     pub(crate) fn has_room_for(&self, key: &Key) -> bool
-        ensures { result ≡ has_room_for (seen self.now) key.now.bytes.items }
+        ensures { result ≡ has_room_for (table_state self.now) key.now.bytes.items }
     {
         self.names.contains_key(key) || self.names.len() < MAX_NAMES
     }
 
     /// The array of a name, if it is bound.
     pub(crate) fn get(&self, key: &Key) -> Option<ArrayRef<'_>>
-        ensures { Finds (seen self.now) (find_array (seen self.now).names key.now.bytes.items) result }
+        ensures { Finds (table_state self.now) (find_array (table_state self.now).names key.now.bytes.items) result }
     {
         let entry = self.names.get(key)?;
         let slot = self.slots.slot(entry.number);
@@ -80,7 +80,7 @@ impl Table {
 
     /// Where the array of a name lies that is bound.
     pub(crate) fn home(&self, key: &Key) -> Home
-        requires { is_bound (seen self.now) key.now.bytes.items ≡ true }
+        requires { is_bound (table_state self.now) key.now.bytes.items ≡ true }
         ensures { IsHome self.now.names.entries self.now.slots.cells.items key.now.bytes.items result.number result.width }
     {
         let entry = self.names.get(key).unwrap();
@@ -94,8 +94,8 @@ impl Table {
     /// Whether the arrays of two names share cells. Arrays in two buffers share none, and only for those
     /// in one is memory asked for.
     pub(crate) fn shares(&self, alloc: Global, left: &Key, right: &Key) -> Result<bool, Refusal>
-        ensures answers { AnswersShares (seen self.now) left.now.bytes.items right.now.bytes.items result }
-        ensures no_memory { LieInTwo (seen self.now) left.now.bytes.items right.now.bytes.items → IsOk result }
+        ensures answers { AnswersShares (table_state self.now) left.now.bytes.items right.now.bytes.items result }
+        ensures no_memory { LieInTwo (table_state self.now) left.now.bytes.items right.now.bytes.items → IsOk result }
     {
         let Some(first) = self.names.get(left) else {
             return Err(Refusal::UnknownName);
@@ -120,9 +120,10 @@ impl Table {
     /// An entry for what a name is to be bound to, whose buffer one more holds. Only the slot of a block of its own
     /// takes memory, and before the first change.
     fn lodge(&mut self, bound: Bound) -> Result<Entry, AllocError>
-        requires may { MayBind (seen self.old) bound }
+        requires may { MayBind (table_state self.old) bound }
         requires few { (q : ℕ) → users_at self.old.slots.cells.items q < usize.MAX }
-        ensures lodges { IfOk result (λ entry. Lodges self.old.names.entries self.old.slots.cells.items bound entry self.new.slots.cells.items) }
+        ensures lodges { IfOk result (λ entry. Lodges self.old.names.entries self.old.slots.cells.items bound entry
+            self.new.slots.cells.items) }
         ensures names { self.new.names ≡ self.old.names }
         ensures kept { OnErr result (self.new.slots.cells.items ≡ self.old.slots.cells.items) }
     {
@@ -166,11 +167,12 @@ impl Table {
 
     /// Binds a name, and answers what it was bound to.
     pub(crate) fn bind(&mut self, key: Key, bound: Bound) -> Result<Option<Entry>, AllocError>
-        requires room { has_room_for (seen self.old) key.bytes.items ≡ true }
+        requires room { has_room_for (table_state self.old) key.bytes.items ≡ true }
         requires spare { 0 < spare self.old.names }
-        requires may { MayBind (seen self.old) bound }
+        requires may { MayBind (table_state self.old) bound }
         requires few { (q : ℕ) → users_at self.old.slots.cells.items q < usize.MAX }
-        ensures done { IfOk result (λ earlier. Rebinds self.old.names.entries self.old.slots.cells.items key.bytes.items bound earlier self.new.names.entries self.new.slots.cells.items) }
+        ensures done { IfOk result (λ earlier. Rebinds self.old.names.entries self.old.slots.cells.items key.bytes.items bound
+            earlier self.new.names.entries self.new.slots.cells.items) }
         ensures kept { OnErr result ((self.new.names.entries ≡ self.old.names.entries) × (self.new.slots.cells.items ≡ self.old.slots.cells.items)) }
         ensures spare { spare self.old.names ≤ spare self.new.names + 1 }
     {

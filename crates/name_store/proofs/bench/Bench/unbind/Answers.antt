@@ -5,7 +5,7 @@ use Rattle.std.proofs.lemmas.Result.{err_from_is_err_and}
 use Rattle.indexmap.specs.IndexMap.{spare}
 use Rattle.name_store.specs.Arrays.{unbound}
 use Rattle.name_store.specs.Invariants.{Holds, IsSound}
-use Rattle.name_store.specs.View.{state_of, value_of}
+use Rattle.name_store.specs.View.{state_of, bench_value}
 use Rattle.name_store.specs.declared.entry.Entry.{Entry}
 use Rattle.name_store.specs.declared.entry.Key.{Key}
 use Rattle.name_store.proofs.KeepLaws.{patches-push}
@@ -67,7 +67,7 @@ returns-clause-answers c =
 pub returns-in_err-make_room-clause-patches : goal.returns-in_err-make_room-clause-patches
 returns-in_err-make_room-clause-patches c =
     let p = err_from_is_err_and c.from_residual.result c.from_residual.ensures.1 in
-    rw (p.1, ← c.self.view_is) (ap (λ (ns : List (Key × Entry)). value_of ns c.self.inside.table.slots.cells.items c.self.inside.history) c.in_err-make_room.ensures.entries)
+    rw (p.1, ← c.self.view_is) (ap (λ (ns : List (Key × Entry)). bench_value ns c.self.inside.table.slots.cells.items c.self.inside.history) c.in_err-make_room.ensures.entries)
 
 pub returns-clause-patches : goal.returns-clause-patches
 returns-clause-patches c = rw (← c.self.view_is) (patches-push c.self.inside.history c.keep.new.history _ c.keep.ensures.history)

@@ -2,7 +2,7 @@ use Rattle.std.proofs.Common.{◌∙◌, ap, refl, sym, subst}
 use Rattle.circular_buffer.specs.Buffer.{Buffer as Ring}
 use Rattle.indexmap.specs.IndexMap.{spare}
 use Rattle.name_store.specs.Invariants.{IsSound}
-use Rattle.name_store.specs.View.{state_of, value_of}
+use Rattle.name_store.specs.View.{state_of, bench_value}
 use Rattle.name_store.specs.declared.change.Change.{Change}
 use Rattle.name_store.proofs.UndoLaws.{undone-state, patches-pop, same-ring, with-last, none-kept}
 use Rattle.name_store.proofs.bench.Bench.undo.Goals as goal
@@ -39,7 +39,7 @@ invariant_of-self-in-Some c =
 
 pub returns-in-None-clause-patches : goal.returns-in-None-clause-patches
 returns-in-None-clause-patches c =
-    rw (← c.self.view_is) (ap (value_of c.self.inside.table.names.entries c.self.inside.table.slots.cells.items) (same-ring c.self.inside.history c.pop.new.self (sym c.in-None.is ∙ c.pop.ensures.value) c.pop.ensures.items))
+    rw (← c.self.view_is) (ap (bench_value c.self.inside.table.names.entries c.self.inside.table.slots.cells.items) (same-ring c.self.inside.history c.pop.new.self (sym c.in-None.is ∙ c.pop.ensures.value) c.pop.ensures.items))
 
 pub returns-in-Some-clause-patches : goal.returns-in-Some-clause-patches
 returns-in-Some-clause-patches c =

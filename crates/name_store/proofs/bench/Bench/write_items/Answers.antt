@@ -6,7 +6,7 @@ use Rattle.name_store.specs.Invariants.{IsSound}
 use Rattle.name_store.specs.Memory.{NeedsNoMemory}
 use Rattle.name_store.specs.States.{BenchValue}
 use Rattle.name_store.specs.Targets.{IsAim}
-use Rattle.name_store.specs.View.{state_of, value_of}
+use Rattle.name_store.specs.View.{state_of, bench_value}
 use Rattle.name_store.specs.declared.entry.Entry.{Entry}
 use Rattle.name_store.specs.declared.entry.Key.{Key}
 use Rattle.name_store.specs.inside.Homes.{IsHome}
@@ -120,7 +120,7 @@ returns-then-capacity-eq0-clause-patches c =
 pub returns-in_err-items-clause-patches : goal.returns-in_err-items-clause-patches
 returns-in_err-items-clause-patches c = λ array found.
     let p = err_from_is_err_and c.from_residual-in_err-items.result c.from_residual-in_err-items.ensures.1 in
-    rw (p.1, ← c.self.view_is) (ap (λ (ns : List (Key × Entry)). value_of ns c.write_over.new.slots.items c.self.inside.history) c.in_ok-make_room.ensures.entries
+    rw (p.1, ← c.self.view_is) (ap (λ (ns : List (Key × Entry)). bench_value ns c.write_over.new.slots.items c.self.inside.history) c.in_ok-make_room.ensures.entries
     ∙ same-value c.self.inside.table.names.entries c.self.inside.table.slots.cells.items c.write_over.new.slots.items c.self.inside.history c.in_err-items.ensures.kept)
 
 pub returns-clause-patches : goal.returns-clause-patches
