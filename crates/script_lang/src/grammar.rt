@@ -1,7 +1,7 @@
 //! What a line of the script says: the grammar of the commands.
 ghost use Rattle.std.specs.Prelude.{◌≡◌, ◌≤◌, length};
 ghost use Rattle.script_lang.specs.Commands.{load_at, verb_value_at, value_at, bind_at, ask_at, verb_command_at, form_at, command_at};
-ghost use Rattle.script_lang.specs.Lines.{is_silent_front, line_of, EachListAnyTurns};
+ghost use Rattle.script_lang.specs.Lines.{is_silent_front, spelled, line_of, EachListAnyTurns};
 ghost use Rattle.script_lang.specs.Reading.{Scans, Reads, Says, value_room, parts_take_memory};
 
 mod classes;
@@ -21,7 +21,7 @@ mod verbs;
 mod views;
 
 use crate::command::{Command, Value};
-use crate::grammar::classes::{Class, are_in};
+use crate::grammar::classes::are_allowed;
 use crate::grammar::computations::compute;
 use crate::grammar::creations::make;
 use crate::grammar::names::names_unless_verb;
@@ -127,17 +127,21 @@ fn form(alloc: Global, line: &[u8]) -> Result<(Command, &[u8]), Refusal>
     }
 }
 
-/// The command that the whole line spells.
+/// The command that the whole line spells. It is handed on as it is: it is the largest value of a line.
 #[tactic(auto, unfolding(crate::specs::Commands::command_at), using(crate::proofs::Commands::whole_line_room))]
-fn command(alloc: Global, line: &[u8]) -> Result<Command, Refusal>
-    ensures { Reads (λ c. c) parts_take_memory result (command_at line.now) }
+fn command(alloc: Global, line: &[u8]) -> Result<Option<Command>, Refusal>
+    ensures { Says result (spelled (command_at line.now)) }
 {
-    let (command, rest) = form(alloc, line)?;
-    if !is_at_end(rest) {
-        drop(command);
-        return Err(Refusal::Syntax);
+    match form(alloc, line) {
+        Ok((command, rest)) => {
+            if is_at_end(rest) {
+                return Ok(Some(command));
+            }
+            drop(command);
+            Err(Refusal::Syntax)
+        }
+        Err(refusal) => Err(refusal),
     }
-    Ok(command)
 }
 
 /// What a line asks for: a command, or nothing for a blank line or a comment. A byte that is
@@ -154,9 +158,8 @@ pub fn parse(alloc: Global, line: &[u8]) -> Result<Option<Command>, Refusal>
     if is_silent(text) {
         return Ok(None);
     }
-    if !are_in(Class::Allowed, line) {
+    if !are_allowed(line) {
         return Err(Refusal::ByteNotAllowed);
     }
-    let command = command(alloc, text)?;
-    Ok(Some(command))
+    command(alloc, text)
 }

@@ -1,13 +1,11 @@
 -- The classes of bytes that the scanners test.
 use Rattle.std.specs.Prelude.{ℕ, Bool, not}
 use Rattle.script_lang.specs.declared.grammar.classes.Class.{Class}
-use Rattle.script_lang.specs.declared.grammar.classes.Class.TheVariants.{Allowed, Blank, Filled, Digit, Name, Mark, Unquoted, File}
+use Rattle.script_lang.specs.declared.grammar.classes.Class.TheVariants.{Blank, Filled, Digit, Name, Mark, Unquoted, File}
 use Rattle.script_lang.specs.Tokens.{is_blank, is_digit, is_name_byte, is_unquoted, is_file_byte}
 use Rattle.script_lang.specs.Descriptors.{is_mark}
-use Rattle.script_lang.specs.Lines.{is_allowed}
 
 abbrev pub is_in : Class → ℕ → Bool
-is_in Allowed = is_allowed
 is_in Blank = is_blank
 is_in Filled = λ b. not (is_blank b)
 is_in Digit = is_digit

@@ -8,8 +8,6 @@ ghost use Rattle.script_lang.specs.Tokens.{is_blank, is_digit, is_sign, is_name_
 
 #[derive(Clone, Copy)]
 pub enum Class {
-    /// A tab, or 32 to 126.
-    Allowed,
     Blank,
     /// No blank.
     Filled,
@@ -77,7 +75,6 @@ fn is_in(class: Class, byte: u8) -> bool
     ensures { result ≡ is_in class byte }
 {
     match class {
-        Class::Allowed => is_allowed(byte),
         Class::Blank => is_blank(byte),
         Class::Filled => !is_blank(byte),
         Class::Digit => is_digit(byte),
@@ -96,9 +93,24 @@ pub fn front_len(class: Class, bytes: &[u8]) -> usize
     bytes.iter().take_while(|b| is_in(class, **b)).count()
 }
 
+/// How many blanks come first.
+pub fn blanks_len(bytes: &[u8]) -> usize
+    ensures value { result ≡ prefix_len is_blank bytes.now }
+    ensures within { result ≤ length bytes.now }
+{
+    bytes.iter().take_while(|b| is_blank(**b)).count()
+}
+
 /// Whether each byte is one of the class.
 pub fn are_in(class: Class, bytes: &[u8]) -> bool
     ensures { result ≡ list_all (is_in class) bytes.now }
 {
     bytes.iter().all(|b| is_in(class, *b))
+}
+
+/// Whether each byte is a tab, or 32 to 126.
+pub fn are_allowed(bytes: &[u8]) -> bool
+    ensures { result ≡ list_all is_allowed bytes.now }
+{
+    bytes.iter().all(|b| is_allowed(*b))
 }

@@ -20,9 +20,15 @@ pub fn set(alloc: Global, bytes: &[u8]) -> Result<(Command, &[u8]), Refusal>
     ensures { Reads (λ r. (r.0, r.1.now)) (λ r. parts_take_memory r.0) result (set_at bytes.now) }
 {
     let (name, rest) = name(bytes).ok_or(Refusal::Syntax)?;
-    let (index, rest) = bracket(alloc, rest)?;
+    let (index, rest) = match bracket(alloc, rest) {
+        Ok(found) => found,
+        Err(refusal) => return Err(refusal),
+    };
     let rest = symbol(b'=', rest).ok_or(Refusal::Syntax)?;
-    let (value, rest) = argument(alloc, rest)?;
+    let (value, rest) = match argument(alloc, rest) {
+        Ok(found) => found,
+        Err(refusal) => return Err(refusal),
+    };
     let name = Name::from_slice(alloc, name);
     Ok((Command::Set { name, index, value }, rest))
 }
@@ -33,10 +39,16 @@ pub fn update(alloc: Global, bytes: &[u8]) -> Result<(Command, &[u8]), Refusal>
     ensures { Reads (λ r. (r.0, r.1.now)) (λ r. parts_take_memory r.0) result (update_at bytes.now) }
 {
     let (name, rest) = name(bytes).ok_or(Refusal::Syntax)?;
-    let (index, rest) = bracket(alloc, rest)?;
+    let (index, rest) = match bracket(alloc, rest) {
+        Ok(found) => found,
+        Err(refusal) => return Err(refusal),
+    };
     let (word, rest) = word(rest).ok_or(Refusal::Syntax)?;
     let operation = operation(word).ok_or(Refusal::Syntax)?;
-    let (value, rest) = argument(alloc, rest)?;
+    let (value, rest) = match argument(alloc, rest) {
+        Ok(found) => found,
+        Err(refusal) => return Err(refusal),
+    };
     let name = Name::from_slice(alloc, name);
     let update = Command::Update {
         name,

@@ -6,7 +6,7 @@ ghost use Rattle.script_lang.specs.inside.Classes.{is_in};
 ghost use Rattle.script_lang.specs.Tokens.{is_digit, unspaced, byte_at, symbol_at, front_at, bytes_mark_at, is_parted, word_at, keyword_at, flag_at, at_end};
 ghost use Rattle.script_lang.specs.Reading.{Scans};
 
-use crate::grammar::classes::{Class, front_len, is_name_byte, is_sign};
+use crate::grammar::classes::{Class, blanks_len, front_len, is_name_byte, is_sign};
 
 /// The longest front of bytes of the class and the rest, unless it is empty.
 pub fn front(class: Class, bytes: &[u8]) -> Option<(&[u8], &[u8])>
@@ -23,7 +23,7 @@ pub fn front(class: Class, bytes: &[u8]) -> Option<(&[u8], &[u8])>
 pub fn unspaced(bytes: &[u8]) -> &[u8]
     ensures { result.now ≡ unspaced bytes.now }
 {
-    bytes.split_at(front_len(Class::Blank, bytes)).1
+    bytes.split_at(blanks_len(bytes)).1
 }
 
 /// The bytes behind this byte, which must come at once.
