@@ -1,17 +1,17 @@
 -- Laws of the shape that numbers mean: the product that is capped, and each refusal.
-use Rattle.std.proofs.Common.{◌≡◌, ℕ, ◌+◌, ◌*◌, ◌/◌, ◌%◌, ◌<◌, ◌≤◌, ◌==◌, min, nat_le, true, false, ℤ, pos, negsuc, int_le, Bool, List, [], ◌∷◌, map, length, get_or, drop, Err, inl, inr, refl, sym, ◌∙◌, ap, arith, one-mul, mul_comm, mul_assoc}
+use Rattle.std.proofs.Common.{◌≡◌, ℕ, ◌+◌, ◌*◌, ◌/◌, ◌%◌, ◌<◌, ◌≤◌, ◌==◌, min, nat_le, true, false, ℤ, pos, negsuc, int_le, Bool, List, ◌∷◌, map, length, get_or, drop, Err, inl, inr, refl, sym, ◌∙◌, ap, arith, one-mul, mul_comm, mul_assoc}
 use Rattle.std.specs.List.{list_all}
 use Rattle.std.proofs.Math.Nat.{min-eq_left, min-eq_right, div-eq_of_lt, mod-eq_of_lt}
-use Rattle.std.proofs.lemmas.Bool.{cases_lt, cases_Bool, and_parts}
+use Rattle.std.proofs.lemmas.Bool.{cases_lt}
 use Rattle.std.proofs.lemmas.Bool.Decides.{nat_tests}
-use Rattle.std.proofs.lemmas.List.{drop_more, length-map}
+use Rattle.std.proofs.lemmas.List.{drop_more}
 use Rattle.std.proofs.lemmas.Simd.{map-map}
 use Rattle.elem_descr.specs.Refusals.{◌>>=◌, check}
 use Rattle.elem_descr.specs.declared.refusal.Refusal.TheVariants.{TooManyAxes, BadReshape}
 use Rattle.shape_strides.specs.Limits.{max_axes, max_items}
 use Rattle.shape_strides.specs.Shapes.{shape_of}
 use Rattle.shape_strides.specs.CountLaws.{min-mul}
-use Rattle.shape_strides.specs.ShapeLaws.{shape_of-many, shape_of-long}
+use Rattle.shape_strides.specs.ShapeLaws.{shape_of-capped}
 use Rattle.reshape_rule.specs.Targets.{left_open, given, make_up, length_or, target_of}
 
 -- ---- the numbers from one on
@@ -52,35 +52,6 @@ left_over-capped items product top low =
     elim (cases_lt product top) [
       | inl below ↦ ap (λ p. items / p) (min-eq_left (omega arith))
       | inr above ↦ ap (λ p. items / p) (min-eq_right above) ∙ div-eq_of_lt low ∙ sym (div-eq_of_lt (omega arith))
-    ]
-
--- ---- lengths that are capped
-
-capped-tests : (lengths : List ℕ) → list_all (λ n. nat_le n max_items) (map (λ n. min n (max_items + 1)) lengths) ≡ list_all (λ n. nat_le n max_items) lengths
-capped-tests [] = refl
-capped-tests (n ∷ lengths) =
-    let same : nat_le (min n (max_items + 1)) max_items ≡ nat_le n max_items = grind (arith, nat_tests) in
-    rw (same, capped-tests lengths) refl
-
-le_from_test : (n m : ℕ) → nat_le n m ≡ true → n ≤ m
-le_from_test n m test = grind (arith, nat_tests)
-
-capped-same : (lengths : List ℕ) → list_all (λ n. nat_le n max_items) lengths ≡ true → map (λ n. min n (max_items + 1)) lengths ≡ lengths
-capped-same [] low = refl
-capped-same (n ∷ lengths) low =
-    let both = and_parts (nat_le n max_items) (list_all (λ m. nat_le m max_items) lengths) low in
-    let first : n ≤ max_items = le_from_test n max_items both.0 in
-    ap (λ m. m ∷ map (λ n. min n (max_items + 1)) lengths) (min-eq_left (omega arith)) ∙ ap (λ rest. n ∷ rest) (capped-same lengths both.1)
-
-pub shape_of-capped : (lengths : List ℕ) → shape_of (map (λ n. min n (max_items + 1)) lengths) ≡ shape_of lengths
-shape_of-capped lengths =
-    let size : length (map (λ n. min n (max_items + 1)) lengths) ≡ length lengths = length-map lengths (λ n. min n (max_items + 1)) in
-    elim (cases_lt max_axes (length lengths)) [
-      | inl many ↦ shape_of-many (map (λ n. min n (max_items + 1)) lengths) (omega arith) ∙ sym (shape_of-many lengths many)
-      | inr few ↦ elim (cases_Bool (list_all (λ n. nat_le n max_items) lengths)) [
-        | inl low ↦ ap shape_of (capped-same lengths low)
-        | inr high ↦ shape_of-long (map (λ n. min n (max_items + 1)) lengths) (omega arith) (capped-tests lengths ∙ high) ∙ sym (shape_of-long lengths few high)
-      ]
     ]
 
 -- ---- what numbers mean
@@ -133,4 +104,4 @@ target_of-unmade items numbers opened product made p is = passes-made items numb
 pub target_of-ok : (items : ℕ) (numbers : List ℤ) (opened product : ℕ) (made : Bool) (rest : ℕ) (lengths : List ℕ) → Passes items numbers opened product made → made ≡ true → rest ≡ items / product → lengths ≡ map (λ number. min (length_or rest number) (max_items + 1)) numbers → target_of items numbers ≡ shape_of lengths
 target_of-ok items numbers opened product made rest lengths p is rest-is are =
     let rest' : rest ≡ items / given numbers = rest-is ∙ ap (λ q. items / q) p.product_is ∙ left_over-capped items (given numbers) (max_items + 1) (omega (arith, p.low)) in
-    passes-made items numbers opened product made p ∙ ap (λ m. check m BadReshape >>= (λ _. shape_of (map (length_or (items / given numbers)) numbers))) is ∙ ap (λ r. shape_of (map (length_or r) numbers)) (sym rest') ∙ sym (shape_of-capped (map (length_or rest) numbers)) ∙ ap shape_of (map-map (λ n. min n (max_items + 1)) (length_or rest) numbers ∙ sym are)
+    passes-made items numbers opened product made p ∙ ap (λ m. check m BadReshape >>= (λ _. shape_of (map (length_or (items / given numbers)) numbers))) is ∙ ap (λ r. shape_of (map (length_or r) numbers)) (sym rest') ∙ sym (shape_of-capped (max_items + 1) (map (length_or rest) numbers) (omega arith)) ∙ ap shape_of (map-map (λ n. min n (max_items + 1)) (length_or rest) numbers ∙ sym are)

@@ -1,7 +1,7 @@
 -- Whether a list is affine in a shape. What is proved of it is its type: nothing hangs on the test that finds the answer.
-use Rattle.std.proofs.Common.{◌≡◌, Bool, true, false, ℕ, List, refl, sym, ◌∙◌}
+use Rattle.std.proofs.Common.{◌≡◌, true, false, ℕ, List, refl, sym, ◌∙◌}
 use Rattle.std.proofs.lemmas.Bool.{false≢true}
-use Rattle.reshape_rule.specs.Reshapes.{IsAffine, AffineOrNot, affine, not_affine}
+use Rattle.reshape_rule.specs.Reshapes.{AffineOrNot, affine, not_affine}
 use Rattle.reshape_rule.specs.inside.Tests.{is_affine}
 use Rattle.reshape_rule.specs.AffineLaws.{affine-from_test, test_from_affine}
 

@@ -1,5 +1,5 @@
 -- Which lengths are a shape, and which refusal is answered where they are none.
-use Rattle.std.proofs.Common.{◌≡◌, ℕ, ◌<◌, ◌≤◌, min, map, nat_le, true, false, List, length, Ok, Err, inl, inr, refl, ap, sym, ◌∙◌, arith, ◌-◌, All, [], ◌∷◌}
+use Rattle.std.proofs.Common.{◌≡◌, ℕ, ◌<◌, ◌≤◌, min, map, nat_le, true, false, List, length, Ok, Err, inl, inr, refl, ap, sym, ◌∙◌, arith, All, [], ◌∷◌}
 use Rattle.std.specs.List.{list_all}
 use Rattle.std.proofs.lemmas.Bool.{cases_lt, cases_Bool, lt-leb, le-leb, leb-true, leb-false, and_parts}
 use Rattle.std.proofs.lemmas.List.{length-map}
