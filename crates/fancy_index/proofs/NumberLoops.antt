@@ -1,17 +1,10 @@
 -- Loops over the numbers of an array.
 use Rattle.std.proofs.Common.{◌≡◌, ℕ, ◌+◌, true, false, List, [], ◌∷◌, ◌++◌, map, refl, sym, ap, ◌∙◌, append_assoc}
-use Rattle.std.specs.List.{list_all}
 use Rattle.std.specs.Ordering.{int_eq}
-use Rattle.std.proofs.lemmas.Bool.{and_parts}
 use lib.IntN.{ℤ, pos}
-use Rattle.view_ops.specs.Slices.{is_place}
 use Rattle.fancy_index.specs.inside.PointLists.{place_of, true_ranks}
 
 -- ---- a loop over the numbers of an array
-
-pub next_is_place : (n : ℕ) (f : ℕ → ℤ) (left left' : List ℕ) (offset : ℕ) → left ≡ offset ∷ left' → list_all (is_place n) (map f left) ≡ true → (is_place n (f offset) ≡ true) × (list_all (is_place n) (map f left') ≡ true)
-next_is_place n f left left' offset steps all =
-    and_parts (is_place n (f offset)) (list_all (is_place n) (map f left')) (sym (ap (λ l. list_all (is_place n) (map f l)) steps) ∙ all)
 
 -- one more place
 pub place_next : (n : ℕ) (f : ℕ → ℤ) (done new left left' whole : List ℕ) (offset at : ℕ) → left ≡ offset ∷ left' → at ≡ place_of n (f offset) → new ≡ done ++ at ∷ [] → done ++ map (place_of n) (map f left) ≡ whole → new ++ map (place_of n) (map f left') ≡ whole

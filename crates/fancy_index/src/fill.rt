@@ -3,13 +3,14 @@ ghost use Rattle.std.specs.Prelude.{◌≡◌, ◌+◌, ◌≤◌, length, map, 
 ghost use Rattle.shape_strides.specs.Limits.{max_bytes};
 ghost use Rattle.shape_strides.specs.Layouts.{offsets};
 ghost use Rattle.fancy_index.specs.Plans.{put_each};
-ghost use Rattle.fancy_index.specs.inside.Kept.{moved_offset, shifted_all, moved_all, IsMoved, AreStarts};
+ghost use Rattle.fancy_index.specs.inside.Kept.{moved_offset, moved_all, IsMoved, AreStarts};
+ghost use Rattle.fancy_index.specs.inside.Shifts.{shifted_offsets, CanShift};
 
-use crate::plans::moved;
+use crate::plans::{Shifted, moved};
 use crate::run_moves::{fill_run, moved_run};
 use crate::singles::fill_singles;
 use raw_block::RawBlock;
-use shape_strides::{Layout, Runs, Walk};
+use shape_strides::{Walk, Layout, Runs};
 
 /// Writes the item to those of a layout, where what began at its offset begins at `start`.
 fn fill_from(block: &mut RawBlock, inner: &Layout, start: usize, item: &[u8])
@@ -26,32 +27,31 @@ fn fill_from(block: &mut RawBlock, inner: &Layout, start: usize, item: &[u8])
 }
 
 /// The same from a place that is shifted by each shift.
-fn fill_runs(block: &mut RawBlock, shifts: &[u32], inner: &Layout, place: usize, item: &[u8])
-    requires base { inner.now.offset ≤ max_bytes }
-    requires starts { AreStarts inner.now.offset (offsets inner.now) shifts.now place }
-    requires inside { All (λ offset. offset + length item.now ≤ length block.old) (shifted_all inner.now.offset shifts.now (offsets inner.now) place) }
-    ensures written { block.new ≡ put_each (shifted_all inner.now.offset shifts.now (offsets inner.now) place) item.now block.old }
+fn fill_runs(block: &mut RawBlock, rows: Shifted<'_>, item: &[u8])
+    requires can { CanShift rows }
+    requires inside { All (λ offset. offset + length item.now ≤ length block.old) (shifted_offsets rows) }
+    ensures written { block.new ≡ put_each (shifted_offsets rows.entry) item.now block.old }
     ensures len { length block.new ≡ length block.old }
 {
-    for shift in shifts {
-        let start = moved(inner.offset, place, *shift as usize);
+    let inner = rows.inner;
+    for shift in rows.shifts {
+        let start = moved(inner.offset, rows.place, *shift as usize);
         fill_from(block, inner, start, item);
     }
 }
 
 /// The same, where a layout of one item needs no walk.
-fn fill_shifts(block: &mut RawBlock, shifts: &[u32], inner: &Layout, place: usize, item: &[u8])
-    requires base { inner.now.offset ≤ max_bytes }
-    requires starts { AreStarts inner.now.offset (offsets inner.now) shifts.now place }
-    requires inside { All (λ offset. offset + length item.now ≤ length block.old) (shifted_all inner.now.offset shifts.now (offsets inner.now) place) }
-    ensures written { block.new ≡ put_each (shifted_all inner.now.offset shifts.now (offsets inner.now) place) item.now block.old }
+fn fill_shifts(block: &mut RawBlock, rows: Shifted<'_>, item: &[u8])
+    requires can { CanShift rows }
+    requires inside { All (λ offset. offset + length item.now ≤ length block.old) (shifted_offsets rows) }
+    ensures written { block.new ≡ put_each (shifted_offsets rows.entry) item.now block.old }
     ensures len { length block.new ≡ length block.old }
 {
-    if inner.shape.items() == 1 {
-        fill_singles(block, shifts, inner.offset, place, item);
+    if rows.inner.shape.items() == 1 {
+        fill_singles(block, rows, item);
         return;
     }
-    fill_runs(block, shifts, inner, place, item);
+    fill_runs(block, rows, item);
 }
 
 /// The same from each place of the outer axes.
@@ -69,6 +69,11 @@ pub(crate) fn fill(
     ensures len { length block.new ≡ length block.old }
 {
     for place in Walk::new(outer) {
-        fill_shifts(block, shifts, inner, place, item);
+        let rows = Shifted {
+            shifts,
+            inner,
+            place,
+        };
+        fill_shifts(block, rows, item);
     }
 }

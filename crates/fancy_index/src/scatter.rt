@@ -3,15 +3,16 @@ ghost use Rattle.std.specs.Prelude.{◌≡◌, ◌+◌, ◌*◌, ◌≤◌, leng
 ghost use Rattle.shape_strides.specs.Limits.{max_bytes};
 ghost use Rattle.shape_strides.specs.Layouts.{offsets};
 ghost use Rattle.overlap_copy.specs.Assignments.{assigned};
-ghost use Rattle.fancy_index.specs.inside.Kept.{moved_offset, shifted_all, moved_all, IsMoved, AreStarts};
+ghost use Rattle.fancy_index.specs.inside.Kept.{moved_offset, moved_all, IsMoved, AreStarts};
 ghost use Rattle.fancy_index.specs.inside.Packed.{packed};
+ghost use Rattle.fancy_index.specs.inside.Shifts.{shifted_offsets, CanShift};
 
-use crate::plans::moved;
+use crate::plans::{Shifted, moved};
 use crate::run_moves::moved_run;
 use crate::singles::scatter_singles;
 use overlap_copy::{copy_run, packed_run};
 use raw_block::RawBlock;
-use shape_strides::{Layout, Runs, Walk};
+use shape_strides::{Walk, Layout, Runs};
 
 /// Copies items of `width` bytes that lie one after another from `at` on to those of a layout, where
 /// what began at its offset begins at `start`. The result is where they end.
@@ -50,24 +51,22 @@ fn scatter_from(
 /// The same from a place that is shifted by each shift.
 fn scatter_runs(
     block: &mut RawBlock,
-    shifts: &[u32],
-    inner: &Layout,
-    place: usize,
+    rows: Shifted<'_>,
     items: &RawBlock,
     at: usize,
     width: usize,
 ) -> usize
-    requires base { inner.now.offset ≤ max_bytes }
-    requires starts { AreStarts inner.now.offset (offsets inner.now) shifts.now place }
-    requires inside { All (λ offset. offset + width ≤ length block.old) (shifted_all inner.now.offset shifts.now (offsets inner.now) place) }
-    requires room { at + length (shifted_all inner.now.offset shifts.now (offsets inner.now) place) * width ≤ length items.now }
-    ensures written { let to = shifted_all inner.now.offset shifts.now (offsets inner.now) place in block.new ≡ assigned to (packed at width (length to)) width items.now block.old }
+    requires can { CanShift rows }
+    requires inside { All (λ offset. offset + width ≤ length block.old) (shifted_offsets rows) }
+    requires room { at + length (shifted_offsets rows) * width ≤ length items.now }
+    ensures written { let to = shifted_offsets rows.entry in block.new ≡ assigned to (packed at width (length to)) width items.now block.old }
     ensures len { length block.new ≡ length block.old }
-    ensures end { result ≡ at + length (shifted_all inner.now.offset shifts.now (offsets inner.now) place) * width }
+    ensures end { result ≡ at + length (shifted_offsets rows.entry) * width }
 {
+    let inner = rows.inner;
     let mut at = at;
-    for shift in shifts {
-        let start = moved(inner.offset, place, *shift as usize);
+    for shift in rows.shifts {
+        let start = moved(inner.offset, rows.place, *shift as usize);
         at = scatter_from(block, inner, start, items, at, width);
     }
     at
@@ -76,26 +75,22 @@ fn scatter_runs(
 /// The same, where a layout of one item needs no walk.
 fn scatter_shifts(
     block: &mut RawBlock,
-    shifts: &[u32],
-    inner: &Layout,
-    place: usize,
+    rows: Shifted<'_>,
     items: &RawBlock,
     at: usize,
     width: usize,
 ) -> usize
-    requires base { inner.now.offset ≤ max_bytes }
-    requires starts { AreStarts inner.now.offset (offsets inner.now) shifts.now place }
-    requires inside { All (λ offset. offset + width ≤ length block.old) (shifted_all inner.now.offset shifts.now (offsets inner.now) place) }
-    requires room { at + length (shifted_all inner.now.offset shifts.now (offsets inner.now) place) * width ≤ length items.now }
-    ensures written { let to = shifted_all inner.now.offset shifts.now (offsets inner.now) place in block.new ≡ assigned to (packed at width (length to)) width items.now block.old }
+    requires can { CanShift rows }
+    requires inside { All (λ offset. offset + width ≤ length block.old) (shifted_offsets rows) }
+    requires room { at + length (shifted_offsets rows) * width ≤ length items.now }
+    ensures written { let to = shifted_offsets rows.entry in block.new ≡ assigned to (packed at width (length to)) width items.now block.old }
     ensures len { length block.new ≡ length block.old }
-    ensures end { result ≡ at + length (shifted_all inner.now.offset shifts.now (offsets inner.now) place) * width }
+    ensures end { result ≡ at + length (shifted_offsets rows.entry) * width }
 {
-    if inner.shape.items() == 1 {
-        let base = inner.offset;
-        return scatter_singles(block, shifts, base, place, items, at, width);
+    if rows.inner.shape.items() == 1 {
+        return scatter_singles(block, rows, items, at, width);
     }
-    scatter_runs(block, shifts, inner, place, items, at, width)
+    scatter_runs(block, rows, items, at, width)
 }
 
 /// The same from each place of the outer axes, from the items' start on.
@@ -116,6 +111,11 @@ pub(crate) fn scatter(
 {
     let mut at = 0;
     for place in Walk::new(outer) {
-        at = scatter_shifts(block, shifts, inner, place, items, at, width);
+        let rows = Shifted {
+            shifts,
+            inner,
+            place,
+        };
+        at = scatter_shifts(block, rows, items, at, width);
     }
 }

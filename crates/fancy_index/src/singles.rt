@@ -1,11 +1,9 @@
 //! Single items, each at a place that is shifted: read, written and filled, one after the other.
 ghost use Rattle.std.specs.Prelude.{◌≡◌, ◌+◌, ◌*◌, ◌≤◌, ◌++◌, length, map, All};
 ghost use Rattle.raw_block.specs.Bytes.{item_at, put};
-ghost use Rattle.shape_strides.specs.Limits.{max_bytes};
 ghost use Rattle.overlap_copy.specs.Assignments.{assigned};
 ghost use Rattle.overlap_copy.specs.Joined.{joined_at};
 ghost use Rattle.fancy_index.specs.Plans.{put_each};
-ghost use Rattle.fancy_index.specs.inside.Kept.{moved_offset, IsMoved};
 ghost use Rattle.fancy_index.specs.inside.Packed.{packed};
 ghost use Rattle.fancy_index.specs.inside.Shifts.{first_offsets, CanShift};
 
@@ -132,25 +130,22 @@ pub(crate) fn push_singles(
 #[inline(always)]
 fn scatter_each(
     block: &mut RawBlock,
-    shifts: &[u32],
-    base: usize,
-    place: usize,
+    rows: Shifted<'_>,
     items: &RawBlock,
     at: usize,
     width: usize,
 ) -> usize
-    requires base { base ≤ max_bytes }
-    requires moved { All (IsMoved base place) shifts.now }
-    requires inside { All (λ offset. offset + width ≤ length block.old) (map (moved_offset base place) shifts.now) }
-    requires room { at + length shifts.now * width ≤ length items.now }
-    ensures written { block.new ≡ assigned (map (moved_offset base place) shifts.now) (packed at width (length shifts.now)) width items.now block.old }
+    requires can { CanShift rows }
+    requires inside { All (λ offset. offset + width ≤ length block.old) (first_offsets rows) }
+    requires room { at + length rows.shifts.now * width ≤ length items.now }
+    ensures written { block.new ≡ assigned (first_offsets rows.entry) (packed at width (length rows.entry.shifts.now)) width items.now block.old }
     ensures len { length block.new ≡ length block.old }
-    ensures end { result ≡ at + length shifts.now * width }
+    ensures end { result ≡ at + length rows.entry.shifts.now * width }
 {
     let _len = items.len();
     let mut from = at;
-    for shift in shifts {
-        let to = moved(base, place, *shift as usize);
+    for shift in rows.shifts {
+        let to = moved(rows.inner.offset, rows.place, *shift as usize);
         copy_item(block, to, items, from, width);
         from += width;
     }
@@ -160,66 +155,53 @@ fn scatter_each(
 /// The same, with a loop of its own for each usual width.
 pub(crate) fn scatter_singles(
     block: &mut RawBlock,
-    shifts: &[u32],
-    base: usize,
-    place: usize,
+    rows: Shifted<'_>,
     items: &RawBlock,
     at: usize,
     width: usize,
 ) -> usize
-    requires base { base ≤ max_bytes }
-    requires moved { All (IsMoved base place) shifts.now }
-    requires inside { All (λ offset. offset + width ≤ length block.old) (map (moved_offset base place) shifts.now) }
-    requires room { at + length shifts.now * width ≤ length items.now }
-    ensures written { block.new ≡ assigned (map (moved_offset base place) shifts.now) (packed at width (length shifts.now)) width items.now block.old }
+    requires can { CanShift rows }
+    requires inside { All (λ offset. offset + width ≤ length block.old) (first_offsets rows) }
+    requires room { at + length rows.shifts.now * width ≤ length items.now }
+    ensures written { block.new ≡ assigned (first_offsets rows.entry) (packed at width (length rows.entry.shifts.now)) width items.now block.old }
     ensures len { length block.new ≡ length block.old }
-    ensures end { result ≡ at + length shifts.now * width }
+    ensures end { result ≡ at + length rows.entry.shifts.now * width }
 {
     match width {
-        1 => scatter_each(block, shifts, base, place, items, at, 1),
-        2 => scatter_each(block, shifts, base, place, items, at, 2),
-        4 => scatter_each(block, shifts, base, place, items, at, 4),
-        8 => scatter_each(block, shifts, base, place, items, at, 8),
-        _ => scatter_each(block, shifts, base, place, items, at, width),
+        1 => scatter_each(block, rows, items, at, 1),
+        2 => scatter_each(block, rows, items, at, 2),
+        4 => scatter_each(block, rows, items, at, 4),
+        8 => scatter_each(block, rows, items, at, 8),
+        _ => scatter_each(block, rows, items, at, width),
     }
 }
 
 /// Writes the item at a place that is shifted by each shift. Where it is called with an item whose
 /// length is known, each is stored at once.
 #[inline(always)]
-fn fill_each(block: &mut RawBlock, shifts: &[u32], base: usize, place: usize, item: &[u8])
-    requires base { base ≤ max_bytes }
-    requires moved { All (IsMoved base place) shifts.now }
-    requires inside { All (λ offset. offset + length item.now ≤ length block.old) (map (moved_offset base place) shifts.now) }
-    ensures written { block.new ≡ put_each (map (moved_offset base place) shifts.now) item.now block.old }
+fn fill_each(block: &mut RawBlock, rows: Shifted<'_>, item: &[u8])
+    requires can { CanShift rows }
+    requires inside { All (λ offset. offset + length item.now ≤ length block.old) (first_offsets rows) }
+    ensures written { block.new ≡ put_each (first_offsets rows.entry) item.now block.old }
     ensures len { length block.new ≡ length block.old }
 {
-    for shift in shifts {
-        block.put(moved(base, place, *shift as usize), item);
+    for shift in rows.shifts {
+        block.put(moved(rows.inner.offset, rows.place, *shift as usize), item);
     }
 }
 
 /// The same, with a loop of its own for each usual length.
-pub(crate) fn fill_singles(
-    block: &mut RawBlock,
-    shifts: &[u32],
-    base: usize,
-    place: usize,
-    item: &[u8],
-)
-    requires base { base ≤ max_bytes }
-    requires moved { All (IsMoved base place) shifts.now }
-    requires inside { All (λ offset. offset + length item.now ≤ length block.old) (map (moved_offset base place) shifts.now) }
-    ensures written { block.new ≡ put_each (map (moved_offset base place) shifts.now) item.now block.old }
+pub(crate) fn fill_singles(block: &mut RawBlock, rows: Shifted<'_>, item: &[u8])
+    requires can { CanShift rows }
+    requires inside { All (λ offset. offset + length item.now ≤ length block.old) (first_offsets rows) }
+    ensures written { block.new ≡ put_each (first_offsets rows.entry) item.now block.old }
     ensures len { length block.new ≡ length block.old }
 {
     match *item {
-        [a] => fill_each(block, shifts, base, place, &[a]),
-        [a, b] => fill_each(block, shifts, base, place, &[a, b]),
-        [a, b, c, d] => fill_each(block, shifts, base, place, &[a, b, c, d]),
-        [a, b, c, d, e, f, g, h] => {
-            fill_each(block, shifts, base, place, &[a, b, c, d, e, f, g, h])
-        }
-        _ => fill_each(block, shifts, base, place, item),
+        [a] => fill_each(block, rows, &[a]),
+        [a, b] => fill_each(block, rows, &[a, b]),
+        [a, b, c, d] => fill_each(block, rows, &[a, b, c, d]),
+        [a, b, c, d, e, f, g, h] => { fill_each(block, rows, &[a, b, c, d, e, f, g, h]) }
+        _ => fill_each(block, rows, item),
     }
 }

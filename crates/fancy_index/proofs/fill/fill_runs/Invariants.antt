@@ -7,6 +7,6 @@ use Rattle.fancy_index.proofs.fill.fill_runs.Given as goal
 
 abbrev pub invariant-loop-shift : goal.invariant-loop-shift
 invariant-loop-shift l = record {
-  pass : Filling (shifted_all l.inner.offset (drop l.shift-index l.shifts) (offsets l.inner) l.place) l.item l.block (put_each (shifted_all l.inner.offset l.shifts (offsets l.inner) l.place) l.item l.fn.block);
+  pass : Filling (shifted_all l.rows.inner.now.offset (drop l.shift-index l.rows.shifts.now) (offsets l.rows.inner.now) l.rows.place) l.item l.block (put_each (shifted_all l.rows.inner.now.offset l.rows.shifts.now (offsets l.rows.inner.now) l.rows.place) l.item l.fn.block);
   len : length l.block ≡ length l.fn.block;
 }

@@ -8,7 +8,7 @@ use Rattle.fancy_index.proofs.scatter.scatter_runs.Given as goal
 
 abbrev pub invariant-loop-shift : goal.invariant-loop-shift
 invariant-loop-shift l = record {
-  pass : Scattering (shifted_all l.inner.offset (drop l.shift-index l.shifts) (offsets l.inner) l.place) l.at l.width (l.fn.at + length (shifted_all l.inner.offset l.shifts (offsets l.inner) l.place) * l.width) l.items l.block
-      (assigned (shifted_all l.inner.offset l.shifts (offsets l.inner) l.place) (packed l.fn.at l.width (length (shifted_all l.inner.offset l.shifts (offsets l.inner) l.place))) l.width l.items l.fn.block);
+  pass : Scattering (shifted_all l.rows.inner.now.offset (drop l.shift-index l.rows.shifts.now) (offsets l.rows.inner.now) l.rows.place) l.at l.width (l.fn.at + length (shifted_all l.rows.inner.now.offset l.rows.shifts.now (offsets l.rows.inner.now) l.rows.place) * l.width) l.items l.block
+      (assigned (shifted_all l.rows.inner.now.offset l.rows.shifts.now (offsets l.rows.inner.now) l.rows.place) (packed l.fn.at l.width (length (shifted_all l.rows.inner.now.offset l.rows.shifts.now (offsets l.rows.inner.now) l.rows.place))) l.width l.items l.fn.block);
   len : length l.block ≡ length l.fn.block;
 }

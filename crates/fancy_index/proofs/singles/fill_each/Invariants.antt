@@ -6,6 +6,6 @@ use Rattle.fancy_index.proofs.singles.fill_each.Given as goal
 
 abbrev pub invariant-loop-shift : goal.invariant-loop-shift
 invariant-loop-shift l = record {
-  pass : Filling (map (moved_offset l.base l.place) (drop l.shift-index l.shifts)) l.item l.block (put_each (map (moved_offset l.base l.place) l.shifts) l.item l.fn.block);
+  pass : Filling (map (moved_offset l.rows.inner.now.offset l.rows.place) (drop l.shift-index l.rows.shifts.now)) l.item l.block (put_each (map (moved_offset l.rows.inner.now.offset l.rows.place) l.rows.shifts.now) l.item l.fn.block);
   len : length l.block ≡ length l.fn.block;
 }

@@ -7,7 +7,7 @@ use Rattle.fancy_index.proofs.singles.scatter_each.Given as goal
 
 abbrev pub invariant-loop-shift : goal.invariant-loop-shift
 invariant-loop-shift l = record {
-  pass : Scattering (map (moved_offset l.base l.place) (drop l.shift-index l.shifts)) l.from l.width (l.at + length (map (moved_offset l.base l.place) l.shifts) * l.width) l.items l.block
-      (assigned (map (moved_offset l.base l.place) l.shifts) (packed l.at l.width (length (map (moved_offset l.base l.place) l.shifts))) l.width l.items l.fn.block);
+  pass : Scattering (map (moved_offset l.rows.inner.now.offset l.rows.place) (drop l.shift-index l.rows.shifts.now)) l.from l.width (l.at + length (map (moved_offset l.rows.inner.now.offset l.rows.place) l.rows.shifts.now) * l.width) l.items l.block
+      (assigned (map (moved_offset l.rows.inner.now.offset l.rows.place) l.rows.shifts.now) (packed l.at l.width (length (map (moved_offset l.rows.inner.now.offset l.rows.place) l.rows.shifts.now))) l.width l.items l.fn.block);
   len : length l.block ≡ length l.fn.block;
 }
