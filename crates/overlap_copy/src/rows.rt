@@ -16,7 +16,7 @@ const SHORT: usize = 32;
 
 /// Whether many rows of a layout begin at equal steps and are short, or lie nearer to one another than
 /// their items do.
-fn goes_by_columns(layout: &Layout) -> bool {
+pub fn goes_by_columns(layout: &Layout) -> bool {
     let Rows { starts, along } = layout.rows();
     let mut starts = starts;
     match starts.next() {

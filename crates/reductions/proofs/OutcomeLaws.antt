@@ -1,5 +1,5 @@
 -- What is refused, and what a result is.
-use Rattle.std.proofs.Common.{◌≡◌, ◌-◌, ◌*◌, ◌<◌, ℕ, zero, suc, ℤ, true, false, Bool, Option, Some, None, List, [], ◌∷◌, map, drop, length, get_or, Ok, Err, refl, sym, ap, ◌∙◌, arith, mul_comm, one-mul}
+use Rattle.std.proofs.Common.{◌≡◌, ◌*◌, ◌<◌, ℕ, zero, suc, ℤ, true, false, Bool, Option, Some, None, List, [], ◌∷◌, map, drop, length, get_or, Ok, Err, refl, sym, ap, ◌∙◌, arith, mul_comm, one-mul}
 use Rattle.std.proofs.lemmas.Bool.{ne_eqb}
 use Rattle.std.specs.Prelude.{nat_eq, Result, ◌&&◌, not, ◌==◌, slice_set, is_ok}
 use Rattle.std.specs.List.{range_with_len, insert, remove, flat_map}

@@ -1,5 +1,6 @@
 pub mod Numbers
 pub mod FoldLaws
+pub mod Extremes
 pub mod FoundLaws
 pub mod Axes
 pub mod Sources

@@ -1,6 +1,5 @@
 //! Reductions that go over numbers one by one.
 ghost use Rattle.std.specs.Prelude.{◌≡◌, ◌+◌, ◌<◌, ◌^◌, ℕ, ℤ, pos, Bool, true, false, [], ◌∷◌, ◌++◌, List, length, if◌then◌else◌, is_some, IfSome, refl};
-ghost use Rattle.std.specs.Int.{int_min, int_max};
 ghost use Rattle.std.specs.List.{fold, list_any, list_all};
 ghost use Rattle.elem_descr.specs.declared.scalar.Order.{Order};
 ghost use Rattle.elem_descr.specs.declared.scalar.Order.TheVariants.{Little};
@@ -8,15 +7,17 @@ ghost use Rattle.elem_descr.specs.Encoding.{low_bits, size};
 ghost use Rattle.raw_block.specs.Bytes.{EachWithin};
 ghost use Rattle.shape_strides.specs.Runs.{run_offsets};
 ghost use Rattle.machine_numbers.specs.declared.operators.Red.{Red};
-ghost use Rattle.machine_numbers.specs.declared.operators.Red.TheVariants.{Sum, Product, Minimum, Maximum, Any, All, ArgMin, ArgMax};
-ghost use Rattle.reductions.specs.Reductions.{is_true, sum_of, product_of, least, greatest, first_place, result_scalar};
+ghost use Rattle.machine_numbers.specs.declared.operators.Red.TheVariants.{Sum, Product, Any, All};
+ghost use Rattle.reductions.specs.Reductions.{is_true, sum_of, product_of, first_place, result_scalar};
 ghost use Rattle.reductions.specs.inside.Numbers.{numbers_at, IsStored, IsReduced};
-ghost use Rattle.reductions.specs.inside.FoldLaws.{sum_bits, product_bits, sum_is, product_is, wide_size, least_from, greatest_from, place_is, first_place-lt, is_true_bits, kept_is, kept_size};
-ghost use Rattle.reductions.specs.inside.FoundLaws.{HasFound};
+ghost use Rattle.reductions.specs.inside.FoldLaws.{sum_bits, product_bits, sum_is, product_is, wide_size, is_true_bits};
+ghost use Rattle.reductions.specs.inside.FoundLaws.{HasFound, better_next, better_stays};
+ghost use Rattle.reductions.specs.inside.Extremes.{reduction_of, places_of, is_better, better, best_of, best_from, best_is, best_size, place_is, place_size, better_kept, better_left};
 
 use crate::lines::{fold_each, place_of};
 use machine_numbers::{Number, Ordered};
 use shape_strides::Run;
+use std::marker::PhantomData;
 
 /// A reduction of numbers of a type, as it goes over them. It is given the first of them when it starts, and
 /// then all of them, that one too.
@@ -157,71 +158,65 @@ impl<S: Number> Fold<S> for ProductOf {
     }
 }
 
+/// Which of two numbers is the better one.
+pub(crate) trait Extreme {
+    ghost greatest: { Bool };
+
+    /// Whether a number is better than the best one so far.
+    fn is_better<S: Number>(item: S, best: S) -> bool
+        ensures { result ≡ is_better greatest (S.value item) (S.value best) };
+}
+
 pub(crate) struct Least;
 
-impl<S: Number> Fold<S> for Least {
-    type Held = S;
+impl Extreme for Least {
+    ghost greatest = { false };
 
-    type Total = S;
-
-    ghost reduction = { Minimum };
-
-    ghost holds = { λ held first seen. S.value held ≡ fold int_min first seen };
-
-    ghost meaning = { least };
-
-    const RESUMES: bool = true;
-
-    ghost RESUMES = { true };
-
-    ghost gives = { λ order bytes numbers few is. kept_is (S.scalar order) (S.scalar Little) bytes (least numbers) (S.is_little order) is };
-
-    ghost has_size = { λ order. kept_size (S.scalar order) S.WIDTH (S.has_width order) };
-
-    fn start(first: S) -> S {
-        first
-    }
-
-    fn step(held: S, item: S, place: usize) -> S {
-        if item.is_less(held) { item } else { held }
-    }
-
-    fn finish(held: S) -> S {
-        held
-    }
-
-    fn resume(total: S) -> Option<S> {
-        Some(total)
+    #[inline(always)]
+    fn is_better<S: Number>(item: S, best: S) -> bool {
+        item.is_less(best)
     }
 }
 
 pub(crate) struct Greatest;
 
-impl<S: Number> Fold<S> for Greatest {
+impl Extreme for Greatest {
+    ghost greatest = { true };
+
+    #[inline(always)]
+    fn is_better<S: Number>(item: S, best: S) -> bool {
+        best.is_less(item)
+    }
+}
+
+/// The best of numbers.
+pub(crate) struct Best<E>(PhantomData<E>);
+
+impl<S: Number, E: Extreme> Fold<S> for Best<E> {
     type Held = S;
 
     type Total = S;
 
-    ghost reduction = { Maximum };
+    ghost reduction = { reduction_of E.greatest };
 
-    ghost holds = { λ held first seen. S.value held ≡ fold int_max first seen };
+    ghost holds = { λ held first seen. S.value held ≡ fold (better E.greatest) first seen };
 
-    ghost meaning = { greatest };
+    ghost meaning = { best_of E.greatest };
 
     const RESUMES: bool = true;
 
     ghost RESUMES = { true };
 
-    ghost gives = { λ order bytes numbers few is. kept_is (S.scalar order) (S.scalar Little) bytes (greatest numbers) (S.is_little order) is };
+    ghost gives = { λ order bytes numbers few is. best_is E.greatest (S.scalar order) (S.scalar Little) bytes numbers (S.is_little order) is };
 
-    ghost has_size = { λ order. kept_size (S.scalar order) S.WIDTH (S.has_width order) };
+    ghost has_size = { λ order. best_size E.greatest (S.scalar order) S.WIDTH (S.has_width order) };
 
     fn start(first: S) -> S {
         first
     }
 
     fn step(held: S, item: S, place: usize) -> S {
-        if item.is_less(held) { held } else { item }
+        if E::is_better(item, held) { item } else { held }
     }
 
     fn finish(held: S) -> S {
@@ -316,26 +311,27 @@ pub(crate) struct Found<S> {
     place: usize,
 }
 
-pub(crate) struct PlaceOfLeast;
+/// The place of the best number.
+pub(crate) struct PlaceOf<E>(PhantomData<E>);
 
-impl<S: Number> Fold<S> for PlaceOfLeast {
+impl<S: Number, E: Extreme> Fold<S> for PlaceOf<E> {
     type Held = Found<S>;
 
     type Total = u64;
 
-    ghost reduction = { ArgMin };
+    ghost reduction = { places_of E.greatest };
 
-    ghost holds = { λ held first seen. HasFound int_min (S.value held.best) held.place first seen };
+    ghost holds = { λ held first seen. HasFound (better E.greatest) (S.value held.best) held.place first seen };
 
-    ghost meaning = { λ numbers. pos (first_place (least numbers) numbers) };
+    ghost meaning = { λ numbers. pos (first_place (best_of E.greatest numbers) numbers) };
 
     const RESUMES: bool = false;
 
     ghost RESUMES = { false };
 
-    ghost gives = { λ order bytes numbers few is. place_is bytes (first_place (least numbers) numbers) (first_place-lt (least numbers) numbers few) is };
+    ghost gives = { λ order bytes numbers few is. place_is E.greatest (S.scalar order) bytes numbers few is };
 
-    ghost has_size = { λ order. refl };
+    ghost has_size = { λ order. place_size E.greatest (S.scalar order) };
 
     fn start(first: S) -> Found<S> {
         Found {
@@ -345,7 +341,7 @@ impl<S: Number> Fold<S> for PlaceOfLeast {
     }
 
     fn step(held: Found<S>, item: S, place: usize) -> Found<S> {
-        if item.is_less(held.best) {
+        if E::is_better(item, held.best) {
             return Found { best: item, place };
         }
         held
@@ -363,72 +359,8 @@ impl<S: Number> Fold<S> for PlaceOfLeast {
         bytes: &[u8],
         block: Run,
     ) -> Option<Found<S>> {
-        let best = fold_each::<S, O, Least>(held.best, 0, bytes, block);
-        if !best.is_less(held.best) {
-            return Some(held);
-        }
-        let place = seen + place_of::<S, O>(best, bytes, block);
-        Some(Found { best, place })
-    }
-
-    fn finish(held: Found<S>) -> u64 {
-        held.place as u64
-    }
-
-    fn resume(total: u64) -> Option<Found<S>> {
-        None
-    }
-}
-
-pub(crate) struct PlaceOfGreatest;
-
-impl<S: Number> Fold<S> for PlaceOfGreatest {
-    type Held = Found<S>;
-
-    type Total = u64;
-
-    ghost reduction = { ArgMax };
-
-    ghost holds = { λ held first seen. HasFound int_max (S.value held.best) held.place first seen };
-
-    ghost meaning = { λ numbers. pos (first_place (greatest numbers) numbers) };
-
-    const RESUMES: bool = false;
-
-    ghost RESUMES = { false };
-
-    ghost gives = { λ order bytes numbers few is. place_is bytes (first_place (greatest numbers) numbers) (first_place-lt (greatest numbers) numbers few) is };
-
-    ghost has_size = { λ order. refl };
-
-    fn start(first: S) -> Found<S> {
-        Found {
-            best: first,
-            place: 0,
-        }
-    }
-
-    fn step(held: Found<S>, item: S, place: usize) -> Found<S> {
-        if held.best.is_less(item) {
-            return Found { best: item, place };
-        }
-        held
-    }
-
-    #[inline(always)]
-    fn looks_ahead() -> bool {
-        true
-    }
-
-    #[inline(always)]
-    fn fold_block<O: Ordered>(
-        held: Found<S>,
-        seen: usize,
-        bytes: &[u8],
-        block: Run,
-    ) -> Option<Found<S>> {
-        let best = fold_each::<S, O, Greatest>(held.best, 0, bytes, block);
-        if !held.best.is_less(best) {
+        let best = fold_each::<S, O, Best<E>>(held.best, 0, bytes, block);
+        if !E::is_better(best, held.best) {
             return Some(held);
         }
         let place = seen + place_of::<S, O>(best, bytes, block);

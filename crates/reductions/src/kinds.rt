@@ -8,9 +8,7 @@ ghost use Rattle.reductions.specs.Reductions.{wide, result_scalar, needs_items};
 ghost use Rattle.reductions.specs.inside.Numbers.{IsStored, IsReduced, AreReduced, lists_from, HaveItems};
 
 use crate::fills::{fill_all, fill_along};
-use crate::folds::{
-    AllTrue, AnyTrue, Fold, Greatest, Least, PlaceOfGreatest, PlaceOfLeast, ProductOf, SumOf,
-};
+use crate::folds::{AllTrue, AnyTrue, Best, Fold, Greatest, Least, PlaceOf, ProductOf, SumOf};
 use crate::lines::store_at;
 use crate::sources::Lists;
 use elem_descr::{Order, Scalar, Width};
@@ -120,12 +118,12 @@ impl<'a> NumberTask for Reducing<'a> {
         match reduction {
             Red::Sum => fill::<N, O, SumOf>(bytes, lists),
             Red::Product => fill::<N, O, ProductOf>(bytes, lists),
-            Red::Minimum => fill::<N, O, Least>(bytes, lists),
-            Red::Maximum => fill::<N, O, Greatest>(bytes, lists),
+            Red::Minimum => fill::<N, O, Best<Least>>(bytes, lists),
+            Red::Maximum => fill::<N, O, Best<Greatest>>(bytes, lists),
             Red::Any => fill::<N, O, AnyTrue>(bytes, lists),
             Red::All => fill::<N, O, AllTrue>(bytes, lists),
-            Red::ArgMin => fill::<N, O, PlaceOfLeast>(bytes, lists),
-            Red::ArgMax => fill::<N, O, PlaceOfGreatest>(bytes, lists),
+            Red::ArgMin => fill::<N, O, PlaceOf<Least>>(bytes, lists),
+            Red::ArgMax => fill::<N, O, PlaceOf<Greatest>>(bytes, lists),
         }
     }
 }

@@ -24,7 +24,7 @@ use crate::outcomes::{number_scalar, shape_after};
 use crate::sources::{Lists, Source};
 use elem_descr::{Descr, Refusal};
 use machine_numbers::{Red, on_number};
-use overlap_copy::{Items, Owned};
+use overlap_copy::{Items, Owned, copy, goes_by_columns};
 use raw_block::RawBlock;
 use shape_strides::{Layout, MemoryOrder, StridedAxis};
 use std::alloc::Global;
@@ -136,12 +136,8 @@ fn reduced_block(
     Ok(out)
 }
 
-/// Items reduced along an axis, where a negative number counts from the end, or all of
-/// them where no axis is named, in a block of their own in C order. The axes that go have length 1 in the
-/// result if they are to be kept. Refused are, in this order, items that are no numbers as
-/// `NotForThisKind`, an axis out of range as `BadAxis`, the least or greatest of no items and its place as
-/// `EmptyReduction`, and a result of more than 2^24 items as `TooLarge`.
-pub fn reduce(
+/// The same as `reduce`, however the items lie.
+fn reduce_items(
     alloc: Global,
     reduction: Red,
     items: Items<'_>,
@@ -167,4 +163,38 @@ pub fn reduce(
     let descr = Descr::Scalar(result_scalar(reduction, &scalar));
     let owned = Owned::over(alloc, descr, &shape, MemoryOrder::C, out)?;
     Ok(owned)
+}
+
+/// Items reduced along an axis, where a negative number counts from the end, or all of
+/// them where no axis is named, in a block of their own in C order. The axes that go have length 1 in the
+/// result if they are to be kept. Refused are, in this order, items that are no numbers as
+/// `NotForThisKind`, an axis out of range as `BadAxis`, the least or greatest of no items and its place as
+/// `EmptyReduction`, and a result of more than 2^24 items as `TooLarge`.
+pub fn reduce(
+    alloc: Global,
+    reduction: Red,
+    items: Items<'_>,
+    axis: Option<i128>,
+    keep: bool,
+) -> Result<Owned, Refusal>
+    ensures array { Gives outcome_of result (reduced_type reduction items.entry.descr.now items.entry.layout.now.shape axis keep) }
+    ensures order { IfOk result (λ o. offsets o.layout ≡ offsets_in C (item_size o.descr) o.layout.shape) }
+    ensures items { IfOk result (λ o. map (item_from o.descr o.block) (offsets o.layout)
+        ≡ reduced_items reduction o.descr items.entry.descr.now items.entry.block.now (lists items.entry.layout.now.shape (named_axis (length items.entry.layout.now.shape) axis) (offsets items.entry.layout.now))) }
+    ensures bytes { IfOk result (λ o. o.block ≡ flat_map (encode_item o.descr) (owned_items o)) }
+{
+    if axis.is_some() || items.descr.size() > 8 || !goes_by_columns(items.layout) {
+        return reduce_items(alloc, reduction, items, axis, keep);
+    }
+    let near = copy(
+        alloc,
+        items.block,
+        items.layout,
+        items.descr,
+        MemoryOrder::C,
+    );
+    let Ok(near) = near else {
+        return Err(Refusal::OutOfMemory);
+    };
+    reduce_items(alloc, reduction, near.items(), axis, keep)
 }

@@ -1,15 +1,14 @@
 -- Reductions that are made number by number.
-use Rattle.std.proofs.Common.{◌≡◌, ◌+◌, ◌*◌, ◌%◌, ◌<◌, ◌≤◌, ◌^◌, ℕ, suc, ℤ, pos, ◌+ℤ◌, ◌*ℤ◌, true, false, cond, Bool, List, [], ◌∷◌, length, refl, sym, ap, subst, ◌∙◌, arith}
-use Rattle.std.specs.Int.{int_wrap, cast_signed, cast_unsigned, int_min, int_max}
-use Rattle.std.specs.List.{fold}
+use Rattle.std.proofs.Common.{◌≡◌, ◌+◌, ◌*◌, ◌%◌, ◌<◌, ◌^◌, ℕ, ℤ, pos, ◌+ℤ◌, ◌*ℤ◌, true, false, Bool, List, refl, sym, ap, ◌∙◌}
+use Rattle.std.specs.Int.{int_wrap, cast_signed, cast_unsigned}
 use Rattle.std.specs.Ordering.{int_eq}
-use Rattle.std.proofs.lemmas.Int.{ints, clamps, of_z-to_z, int_wrap-add_left, int_wrap-add_right, int_wrap-mul_left, int_wrap-mul_right, wrapping_add-bits, wrapping_mul-bits}
+use Rattle.std.proofs.lemmas.Int.{of_z-to_z, int_wrap-add_left, int_wrap-add_right, int_wrap-mul_left, int_wrap-mul_right, wrapping_add-bits, wrapping_mul-bits}
 use Rattle.std.proofs.Math.Nat.{mod-lt}
 use Rattle.std.proofs.lemmas.Nat.{pow_pos}
 use mir.Syntax.{w64}
 use Rattle.std.specs.Prelude.{unsigned_abs, nat_eq, not, ◌==◌}
 use Rattle.std.specs.Cmp.{signed_Decides}
-use Rattle.std.proofs.lemmas.Bool.{false_from_ne_true, eqb-true, lt-ltb}
+use Rattle.std.proofs.lemmas.Bool.{false_from_ne_true, eqb-true}
 use Rattle.machine_numbers.specs.Bits.{AreBits}
 use Rattle.machine_numbers.specs.Kinds.{little}
 use Rattle.elem_descr.specs.declared.scalar.Order.TheVariants.{Little}
@@ -20,7 +19,7 @@ use Rattle.elem_descr.specs.Values.{number}
 use Rattle.elem_descr.specs.Encoding.{size, number_of, number_in, bytes_of, integer, low_bits, wrap}
 use Rattle.elem_descr.specs.EncodingLaws.{low_bits-lt, low_bits-integer}
 use Rattle.machine_numbers.specs.declared.operators.Red.TheVariants.{Sum, Product}
-use Rattle.reductions.specs.Reductions.{wide, sum_of, product_of, least, greatest, first_place, is_true}
+use Rattle.reductions.specs.Reductions.{wide, sum_of, product_of, is_true}
 use Rattle.reductions.specs.inside.Numbers.{IsStored, IsReduced}
 
 -- ---- the lowest 64 bits of sums and products
@@ -45,7 +44,7 @@ product_bits a b =
 bits_of : (m n : ℕ) → number (pos m) ≡ number (pos n) → m ≡ n
 bits_of m n same = ap (λ value. unsigned_abs (number_of value)) same
 
-wide_total : (signed : Bool) (bytes : List ℕ) (n : ℕ) → n < 2 ^ 64 → IsStored (Int false Eight Little) (pos n) bytes → IsStored (Int signed Eight Little) (integer signed 8 n) bytes
+pub wide_total : (signed : Bool) (bytes : List ℕ) (n : ℕ) → n < 2 ^ 64 → IsStored (Int false Eight Little) (pos n) bytes → IsStored (Int signed Eight Little) (integer signed 8 n) bytes
 wide_total signed bytes n low is = record {
   value = ap (λ m. number (integer signed 8 m)) (bits_of (number_in Little 8 bytes) n is.value);
   exact = is.exact ∙ ap (bytes_of Little 8) (low_bits-integer false 8 n low ∙ sym (low_bits-integer signed 8 n low));
@@ -75,38 +74,6 @@ little_size (Byte signed) = refl
 little_size (Int signed width order) = refl
 little_size (Bytes n) = refl
 
--- ---- the least and the greatest of numbers that begin with a first one, which is counted twice
-
-same_least : (first : ℤ) → int_min first first ≡ first
-same_least first = omega (arith, ints, clamps)
-
-same_greatest : (first : ℤ) → int_max first first ≡ first
-same_greatest first = omega (arith, ints, clamps)
-
-pub least_from : (first : ℤ) (rest : List ℤ) → fold int_min first (first ∷ rest) ≡ least (first ∷ rest)
-least_from first rest = ap (λ z. fold int_min z rest) (same_least first)
-
-pub greatest_from : (first : ℤ) (rest : List ℤ) → fold int_max first (first ∷ rest) ≡ greatest (first ∷ rest)
-greatest_from first rest = ap (λ z. fold int_max z rest) (same_greatest first)
-
--- ---- places, which are read with a sign
-
-pub place_is : (bytes : List ℕ) (n : ℕ) → n < 2 ^ 63 → IsStored (Int false Eight Little) (pos n) bytes → IsStored (Int true Eight Little) (pos n) bytes
-place_is bytes n few is =
-    let same : integer true 8 n ≡ pos n = rw (lt-ltb n (2 ^ 63) few) refl in
-    subst (λ z. IsStored (Int true Eight Little) z bytes) same (wide_total true bytes n (omega (arith, few)) is)
-
-first_place-le : (value : ℤ) (numbers : List ℤ) → first_place value numbers ≤ length numbers
-first_place-le value [] = omega arith
-first_place-le value (first ∷ numbers) =
-    elim (int_eq first value) as (λ t. cond t 0 (suc (first_place value numbers)) ≤ suc (length numbers)) [
-      | true ↦ omega arith
-      | false ↦ omega (arith, first_place-le value numbers)
-    ]
-
-pub first_place-lt : (value : ℤ) (numbers : List ℤ) → length numbers < 2 ^ 63 → first_place value numbers < 2 ^ 63
-first_place-lt value numbers few = omega (arith, few, first_place-le value numbers)
-
 -- ---- bools
 
 pub is_true_bits : (bits : ℕ) (z : ℤ) → AreBits bits z → not (bits == 0) ≡ is_true z
@@ -120,11 +87,3 @@ is_true_bits bits z are =
   where
     no_zero : (bits : ℕ) → nat_eq bits 0 ≡ false → bits ≡ 0 → ⊥
     no_zero bits e none = let is : false ≡ true = sym e ∙ ap (λ b. nat_eq b 0) none in absurd (cc)
-
--- ---- what the least and the greatest are in the lowest byte first
-
-pub kept_is : (scalar kept : Scalar) (bytes : List ℕ) (z : ℤ) → little scalar ≡ kept → IsStored kept z bytes → IsStored (little scalar) z bytes
-kept_is scalar kept bytes z same is = subst (λ s. IsStored s z bytes) (sym same) is
-
-pub kept_size : (scalar : Scalar) (width : ℕ) → size scalar ≡ width → size (little scalar) ≡ width
-kept_size scalar width is = little_size scalar ∙ is

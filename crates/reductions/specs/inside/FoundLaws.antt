@@ -1,15 +1,15 @@
 -- The place of the least or of the greatest of some numbers, as it is found block by block.
-use Rattle.std.proofs.Common.{◌≡◌, ◌+◌, ◌<◌, ℕ, zero, suc, ℤ, true, false, List, [], ◌∷◌, ◌++◌, All, length, get_or, inl, inr, refl, sym, ap, subst, ◌∙◌, arith, length-append}
-use Rattle.std.specs.Prelude.{int_lt}
+use Rattle.std.proofs.Common.{◌≡◌, ◌+◌, ◌<◌, ℕ, zero, suc, ℤ, true, false, Bool, List, [], ◌∷◌, ◌++◌, All, length, get_or, inl, inr, refl, sym, ap, subst, ◌∙◌, arith, length-append}
 use Rattle.std.specs.Cmp.{signed_Decides}
 use Rattle.std.specs.Int.{int_min, int_max}
 use Rattle.std.specs.List.{fold}
 use Rattle.std.specs.Ordering.{int_eq}
 use Rattle.std.proofs.lemmas.Bool.{false_from_ne_true}
-use Rattle.std.proofs.lemmas.Int.{ints, clamps, fold-int_min_bounds, fold-int_min_reached, fold-int_max_bounds, fold-int_max_reached}
+use Rattle.std.proofs.lemmas.Int.{ints, fold-int_min_bounds, fold-int_min_reached, fold-int_max_bounds, fold-int_max_reached}
 use Rattle.std.proofs.lemmas.List.Elements.{All-head, All-tail}
 use Rattle.std.proofs.lemmas.List.Sums.{fold-append}
 use Rattle.reductions.specs.Reductions.{first_place}
+use Rattle.reductions.specs.inside.Extremes.{better, is_better, better-one, better-none}
 use Rattle.elem_descr.specs.ListLaws.{first_is}
 
 -- so far a number is the best one, and this is its first place, where the first number is the one that was given
@@ -110,25 +110,16 @@ passed pick best place first (x ∷ seen) more so_far is = record {
 
 -- ---- the least, and the greatest
 
-pub less_taken : (best z : ℤ) (place : ℕ) (first : ℤ) (seen more : List ℤ) → HasFound int_min best place first seen → z ≡ fold int_min best more → int_lt z best ≡ true →
-    HasFound int_min z (length seen + first_place z more) first (seen ++ more)
-less_taken best z place first seen more so_far is less =
+pub better_taken : (greatest : Bool) (best z : ℤ) (place : ℕ) (first : ℤ) (seen more : List ℤ) → HasFound (better greatest) best place first seen → z ≡ fold (better greatest) best more → is_better greatest z best ≡ true →
+    HasFound (better greatest) z (length seen + first_place z more) first (seen ++ more)
+better_taken false best z place first seen more so_far is less =
     let bounds = fold-int_min_bounds first seen best so_far.best_is in
     taken int_min best z place first seen more so_far is (λ k d below same. let low = bounds.1 k d below in omega (arith, ints))
     (elim (fold-int_min_reached best more z is) as (λ _. first_place z more < length more) [
       | inl same ↦ absurd (omega (arith, ints))
       | inr there ↦ present z more there.0 there.1 there.2
     ])
-
-pub less_passed : (best z : ℤ) (place : ℕ) (first : ℤ) (seen more : List ℤ) → HasFound int_min best place first seen → z ≡ fold int_min best more → int_lt z best ≡ false → HasFound int_min best place first (seen ++ more)
-less_passed best z place first seen more so_far is more_is =
-    let low = (fold-int_min_bounds best more z is).0 in
-    let same : best ≡ z = omega (arith, ints) in
-    passed int_min best place first seen more so_far (same ∙ is)
-
-pub greater_taken : (best z : ℤ) (place : ℕ) (first : ℤ) (seen more : List ℤ) → HasFound int_max best place first seen → z ≡ fold int_max best more → int_lt best z ≡ true →
-    HasFound int_max z (length seen + first_place z more) first (seen ++ more)
-greater_taken best z place first seen more so_far is greater =
+better_taken true best z place first seen more so_far is greater =
     let bounds = fold-int_max_bounds first seen best so_far.best_is in
     taken int_max best z place first seen more so_far is (λ k d below same. let high = bounds.1 k d below in omega (arith, ints))
     (elim (fold-int_max_reached best more z is) as (λ _. first_place z more < length more) [
@@ -136,28 +127,23 @@ greater_taken best z place first seen more so_far is greater =
       | inr there ↦ present z more there.0 there.1 there.2
     ])
 
-pub greater_passed : (best z : ℤ) (place : ℕ) (first : ℤ) (seen more : List ℤ) → HasFound int_max best place first seen → z ≡ fold int_max best more → int_lt best z ≡ false → HasFound int_max best place first (seen ++ more)
-greater_passed best z place first seen more so_far is more_is =
+pub better_passed : (greatest : Bool) (best z : ℤ) (place : ℕ) (first : ℤ) (seen more : List ℤ) → HasFound (better greatest) best place first seen → z ≡ fold (better greatest) best more → is_better greatest z best ≡ false →
+    HasFound (better greatest) best place first (seen ++ more)
+better_passed false best z place first seen more so_far is more_is =
+    let low = (fold-int_min_bounds best more z is).0 in
+    let same : best ≡ z = omega (arith, ints) in
+    passed int_min best place first seen more so_far (same ∙ is)
+better_passed true best z place first seen more so_far is more_is =
     let high = (fold-int_max_bounds best more z is).0 in
     let same : best ≡ z = omega (arith, ints) in
     passed int_max best place first seen more so_far (same ∙ is)
 
 -- ---- one number more
 
-pub less_next : (best z : ℤ) (place at : ℕ) (first : ℤ) (seen : List ℤ) → HasFound int_min best place first seen → at ≡ length seen → int_lt z best ≡ true → HasFound int_min z at first (seen ++ z ∷ [])
-less_next best z place at first seen so_far there less =
-    let is : z ≡ int_min best z = omega (arith, ints, clamps) in
+pub better_next : (greatest : Bool) (best z : ℤ) (place at : ℕ) (first : ℤ) (seen : List ℤ) → HasFound (better greatest) best place first seen → at ≡ length seen → is_better greatest z best ≡ true → HasFound (better greatest) z at first (seen ++ z ∷ [])
+better_next greatest best z place at first seen so_far there is =
     let last : length seen + first_place z (z ∷ []) ≡ at = omega (arith, there, here z []) in
-    subst (λ n. HasFound int_min z n first (seen ++ z ∷ [])) last (less_taken best z place first seen (z ∷ []) so_far is less)
+    subst (λ n. HasFound (better greatest) z n first (seen ++ z ∷ [])) last (better_taken greatest best z place first seen (z ∷ []) so_far (better-one greatest best z is) is)
 
-pub less_stays : (best z : ℤ) (place : ℕ) (first : ℤ) (seen : List ℤ) → HasFound int_min best place first seen → int_lt z best ≡ false → HasFound int_min best place first (seen ++ z ∷ [])
-less_stays best z place first seen so_far more_is = passed int_min best place first seen (z ∷ []) so_far (omega (arith, ints, clamps))
-
-pub greater_next : (best z : ℤ) (place at : ℕ) (first : ℤ) (seen : List ℤ) → HasFound int_max best place first seen → at ≡ length seen → int_lt best z ≡ true → HasFound int_max z at first (seen ++ z ∷ [])
-greater_next best z place at first seen so_far there greater =
-    let is : z ≡ int_max best z = omega (arith, ints, clamps) in
-    let last : length seen + first_place z (z ∷ []) ≡ at = omega (arith, there, here z []) in
-    subst (λ n. HasFound int_max z n first (seen ++ z ∷ [])) last (greater_taken best z place first seen (z ∷ []) so_far is greater)
-
-pub greater_stays : (best z : ℤ) (place : ℕ) (first : ℤ) (seen : List ℤ) → HasFound int_max best place first seen → int_lt best z ≡ false → HasFound int_max best place first (seen ++ z ∷ [])
-greater_stays best z place first seen so_far more_is = passed int_max best place first seen (z ∷ []) so_far (omega (arith, ints, clamps))
+pub better_stays : (greatest : Bool) (best z : ℤ) (place : ℕ) (first : ℤ) (seen : List ℤ) → HasFound (better greatest) best place first seen → is_better greatest z best ≡ false → HasFound (better greatest) best place first (seen ++ z ∷ [])
+better_stays greatest best z place first seen so_far worse = passed (better greatest) best place first seen (z ∷ []) so_far (better-none greatest best z worse)

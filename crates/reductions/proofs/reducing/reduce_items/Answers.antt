@@ -14,7 +14,7 @@ use Rattle.reductions.specs.Reductions.{result_scalar, reduced_items}
 use Rattle.reductions.specs.inside.Axes.{IsAxisOf, shape_after}
 use Rattle.reductions.specs.inside.Numbers.{AreReduced}
 use Rattle.reductions.proofs.OutcomeLaws.{outcome_kind, outcome_axis, outcome_shape, outcome_ok, shape_is, length-lists, some_after, items_are, bytes_are}
-use Rattle.reductions.proofs.reducing.reduce.Goals as goal
+use Rattle.reductions.proofs.reducing.reduce_items.Goals as goal
 
 pub returns-in_err-scalar-clause-array : goal.returns-in_err-scalar-clause-array
 returns-in_err-scalar-clause-array c =
