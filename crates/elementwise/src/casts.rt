@@ -161,8 +161,7 @@ pub fn cast(alloc: Global, from: Items<'_>, to: &Descr) -> Result<Owned, Refusal
     ensures can { IfOk result (λ _. can_cast from.entry.descr.now to.now ≡ true) }
     ensures within { IfOk result (λ _. count from.entry.layout.now.shape * item_size to.now ≤ max_bytes) }
     ensures refused { IfErr result (λ refusal. refusal ≡ (if can_cast from.entry.descr.now to.now
-        then (if nat_le (count from.entry.layout.now.shape * item_size to.now) max_bytes then OutOfMemory else TooLarge)
-        else NoSuchCast)) }
+        then (if nat_le (count from.entry.layout.now.shape * item_size to.now) max_bytes then OutOfMemory else TooLarge) else NoSuchCast)) }
 {
     if !can_cast(from.descr, to) {
         return Err(Refusal::NoSuchCast);
