@@ -26,14 +26,14 @@ seen-requires-clause-shown c =
     let it = found c.args.bench.now.state _ c.in-Some.array c.in-Some.ensures in
     (it.0, it.2)
 
-pub returns-in_err-bound-clause-answers : goal.returns-in_err-bound-clause-answers
-returns-in_err-bound-clause-answers c =
+pub returns-in_err-viewed-clause-answers : goal.returns-in_err-viewed-clause-answers
+returns-in_err-viewed-clause-answers c =
     let p = err_from_is_err_and c.from_residual.result c.from_residual.ensures.1 in
     let it = found c.args.bench.now.state _ c.in-Some.array c.in-Some.ensures in
     rw (p.1, p.2) (
       refl,
       unchanged _,
-      refused-or _ _ _ _ (rw (bound c.args.bench.now.state c.args.source.now it.0 it.1, sym c.if-not-has_bound.ensures) refl) (c.in_err-bound.ensures it.0 it.2)
+      refused-or _ _ _ _ (rw (bound c.args.bench.now.state c.args.source.now it.0 it.1, sym c.if-not-has_bound.ensures) refl) (c.in_err-viewed.ensures it.0 it.2)
           (λ bad choice. view-bad choice _ _ _ _ it.0 _ (sym c.if-not-has_bound.ensures) it.1 (sym c.if-not-has_room_for.ensures) bad),
     )
 
@@ -41,15 +41,15 @@ pub bind-requires : goal.bind-requires
 bind-requires c =
     let s = c.args.bench.now.state in
     let it = found s _ c.in-Some.array c.in-Some.ensures in
-    let is = given-seen s _ (seen c.args.how.now s it.0) (c.in_ok-bound.ensures it.0 it.2) in
-    may-bind-seen s c.in_ok-bound.bound is.0 is.2
+    let is = given-seen s c.in_ok-viewed.viewed (seen c.args.how.now s it.0) (c.in_ok-viewed.ensures it.0 it.2) in
+    may-bind-seen s c.in_ok-viewed.viewed.bound is.0 is.2
 
 pub returns-clause-answers : goal.returns-clause-answers
 returns-clause-answers c =
     let s = c.args.bench.now.state in
     let it = found s _ c.in-Some.array c.in-Some.ensures in
-    let is = given-seen s _ (seen c.args.how.now s it.0) (c.in_ok-bound.ensures it.0 it.2) in
-    seen-answers s c.bind.new.self.state c.args.name.now _ _ c.in_ok-bound.bound c.in_ok-bound.descr.now is.0 c.bind.result c.args.out.now.items c.push_bound_text.new.out.items
+    let is = given-seen s c.in_ok-viewed.viewed (seen c.args.how.now s it.0) (c.in_ok-viewed.ensures it.0 it.2) in
+    seen-answers s c.bind.new.self.state c.args.name.now _ _ c.in_ok-viewed.viewed.bound c.in_ok-viewed.viewed.descr.now is.0 c.bind.result c.args.out.now.items c.push_bound_text.new.out.items
     (rw (bound s c.args.source.now it.0 it.1, sym c.if-not-has_bound.ensures) refl) (sym c.if-not-has_room_for.ensures)
     (λ choice. view-done choice s c.args.name.now c.args.source.now c.args.how.now it.0 is.0 (sym c.if-not-has_bound.ensures) it.1 (sym c.if-not-has_room_for.ensures) is.1)
     (rw (c.shape_of_bound-shape.ensures, c.origin_of_bound.ensures) at c.in_ok-push_bound_text.ensures.ok) is.2 is.3 c.bind.ensures.answers
