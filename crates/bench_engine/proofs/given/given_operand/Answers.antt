@@ -22,7 +22,7 @@ items_of_view-items-requires c =
     let it = found-array s _ c.unwrap-array.result (rw c.unwrap-array.ensures at c.get.ensures) in
     let index = unwrap_or c.args.operand.now.index (Ellipsis ∷ []) in
     let is = taken-view s it.0 c.unwrap-array.result (list_all is_basic index) _ c.in-View.number c.in-View.path c.in-View.layout c.in-View.writable (taken s it.0 index) c.in-View.is (c.in_ok-number.ensures it.0 it.2) in
-    record { inside = view-within s it.0 c.unwrap-array.result c.in-View.layout is.0 it.2 is.6 }
+    record { inside = view-within s it.0 c.unwrap-array.result c.in-View.layout is.0 it.2 is.2.4 }
 
 pub returns-in-View : goal.returns-in-View
 returns-in-View c =
@@ -31,8 +31,8 @@ returns-in-View c =
     let index = unwrap_or c.args.operand.now.index (Ellipsis ∷ []) in
     let is = taken-view s it.0 c.unwrap-array.result (list_all is_basic index) _ c.in-View.number c.in-View.path c.in-View.layout c.in-View.writable (taken s it.0 index) c.in-View.is (c.in_ok-number.ensures it.0 it.2) in
     let e = c.items_of_view-items.ensures in
-    view-given s c.args.operand.now c.args.descr.now c.args.shape.now it.0 it.1 c.unwrap-array.result it.2 c.in-View.layout is.0 is.1 is.6 c.items_of_view-items.result e.block e.layout e.descr c.fitted.result
-    (subst (λ n. Fitted c.items_of_view-items.result (Some n) c.args.shape.now c.args.descr.now c.fitted.result) is.3 c.fitted.ensures)
+    view-given s c.args.operand.now c.args.descr.now c.args.shape.now it.0 it.1 c.unwrap-array.result it.2 c.in-View.layout is.0 is.1 is.2.4 c.items_of_view-items.result e.block e.layout e.descr c.fitted.result
+    (subst (λ n. Fitted c.items_of_view-items.result (Some n) c.args.shape.now c.args.descr.now c.fitted.result) is.2.1 c.fitted.ensures)
 
 pub returns-in-Fresh : goal.returns-in-Fresh
 returns-in-Fresh c =
@@ -41,4 +41,4 @@ returns-in-Fresh c =
     let index = unwrap_or c.args.operand.now.index (Ellipsis ∷ []) in
     let is = taken-copy s it.0 c.unwrap-array.result (list_all is_basic index) _ c.in-Fresh.copy (taken s it.0 index) c.in-Fresh.is (c.in_ok-number.ensures it.0 it.2) in
     let e = c.items.ensures in
-    copy-given s c.args.operand.now c.args.descr.now c.args.shape.now it.0 it.1 is.0 is.1 c.in-Fresh.copy is.3 c.items.result e.block e.layout e.descr c.fitted-in-Fresh.result c.fitted-in-Fresh.ensures
+    copy-given s c.args.operand.now c.args.descr.now c.args.shape.now it.0 it.1 is.0 is.1 c.in-Fresh.copy is.2.1 c.items.result e.block e.layout e.descr c.fitted-in-Fresh.result c.fitted-in-Fresh.ensures
