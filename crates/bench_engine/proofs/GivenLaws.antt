@@ -207,7 +207,7 @@ module _ (s : State) (operand : Operand) (descr : Descr) (shape : List ℕ) (b :
   pub copy-given : (view : View) → taken s b index ≡ Ok view → (o : Owned) → Holds s (viewed b view) o → (x : Items) → x.block.now ≡ o.block → x.layout.now ≡ o.layout → x.descr.now ≡ o.descr →
       (result : Result Source Refusal) → Fitted x None shape descr result → GivesItems s descr (count shape) result (argument_items s (argument.Operand operand) descr shape)
   copy-given view good o holds x block laid typed (Ok (source.One bytes)) is = absurd is
-  copy-given view good o holds x block laid typed (Ok (source.Buffer number wide)) (same, rest) = let no : ⊥ = cc in absurd no
+  copy-given view good o holds x block laid typed (Ok (source.Buffer number wide)) (same, stretches, can, alike, items) = let no : ⊥ = cc in absurd no
   copy-given view good o holds x block laid typed (Ok (source.Block o')) is = block-given view good x (copy-stands s (viewed b view) o x holds block laid typed) None o' is
   copy-given view good o holds x block laid typed (Err e) is = none-given view good x (copy-stands s (viewed b view) o x holds block laid typed) None e is
 

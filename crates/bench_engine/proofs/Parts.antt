@@ -20,8 +20,7 @@ use Rattle.name_store.specs.declared.array_ref.ArrayRef.{ArrayRef}
 use Rattle.script_lang.specs.declared.command.Viewing.TheVariants.{Field}
 use Rattle.name_store.specs.declared.bound.Bound.{Bound}
 use Rattle.name_store.specs.declared.bound.Bound.TheVariants as bound
-use Rattle.bench_engine.specs.declared.part.Viewed.{Viewed}
-use Rattle.bench_engine.specs.inside.Parts.{IsOf, GivesSeen}
+use Rattle.bench_engine.specs.inside.Parts.{IsOf, IsSeen}
 use Rattle.bench_engine.specs.Machine.{a_view, seen}
 
 -- one field of an array
@@ -86,11 +85,11 @@ seen-part s base r path k new shows low goes is = record {
 part-descr : (s : State) (base : Array) (r : ArrayRef) (k : ℕ) → Shows s base r → descr_of s (part_of base k) ≡ (field_at r.descr.now k).descr
 part-descr s base r k shows = descr-then (buffer_of s base).descr base.path k ∙ ap (λ (d : Descr). (field_at d k).descr) shows.descr
 
-pub field-part : (s : State) (base : Array) (r : ArrayRef) (name : List ℕ) (x : Viewed) (path : List ℕ) (layout : Layout) (k : ℕ) → Shows s base r → field_of r.descr.now name ≡ Some k → k < length (fields r.descr.now) → path ≡ r.path.now ++ k ∷ [] →
-    x.bound ≡ bound.View r.number path layout r.writable → x.descr.now ≡ (field_at r.descr.now k).descr → GivesField r.layout.now r.descr.now (field_of r.descr.now name) (Ok layout) → GivesSeen s (Ok x) (seen (Field name) s base)
-field-part s base r name x path layout k shows there low goes is descr given =
-    subst (λ (o : Option ℕ). GivesSeen s (Ok x) (ok_or o NoSuchField >>= (λ k. Ok (a_view (part_of base k))))) (sym (ap (λ (d : Descr). field_of d name) shows.descr ∙ there)) (
+pub field-part : (s : State) (base : Array) (r : ArrayRef) (name : List ℕ) (what : Bound) (descr : Descr) (path : List ℕ) (layout : Layout) (k : ℕ) → Shows s base r → field_of r.descr.now name ≡ Some k → k < length (fields r.descr.now) → path ≡ r.path.now ++ k ∷ [] →
+    what ≡ bound.View r.number path layout r.writable → descr ≡ (field_at r.descr.now k).descr → GivesField r.layout.now r.descr.now (field_of r.descr.now name) (Ok layout) → IsSeen s what descr (seen (Field name) s base)
+field-part s base r name what descr path layout k shows there low goes is typed given =
+    subst (λ (o : Option ℕ). IsSeen s what descr (ok_or o NoSuchField >>= (λ k. Ok (a_view (part_of base k))))) (sym (ap (λ (d : Descr). field_of d name) shows.descr ∙ there)) (
       subst (λ (b : Bound). IsOf s b (a_view (part_of base k))) (sym is)
           (seen-part s base r path k layout shows low goes (subst (λ (o : Option ℕ). GivesField r.layout.now r.descr.now o (Ok layout)) there given)),
-      part-descr s base r k shows ∙ sym descr,
+      part-descr s base r k shows ∙ sym typed,
     )

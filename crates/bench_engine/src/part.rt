@@ -32,25 +32,23 @@ pub struct Viewed<'a> {
     pub descr: &'a Descr,
 }
 
-impl<'a> Viewed<'a> {
-    /// Its shape.
-    pub fn shape(&self) -> &Shape
-        ensures { result.now ≡ shape_of_bound self.now.bound }
-    {
-        match &self.bound {
-            Bound::Fresh(owned) => &owned.layout.shape,
-            Bound::View { layout, .. } => &layout.shape,
-        }
+/// The shape of what is bound.
+pub fn shape_of_bound(bound: &Bound) -> &Shape
+    ensures { result.now ≡ shape_of_bound bound.now }
+{
+    match bound {
+        Bound::Fresh(owned) => &owned.layout.shape,
+        Bound::View { layout, .. } => &layout.shape,
     }
+}
 
-    /// What a name is bound to that is bound to it.
-    pub fn origin(&self) -> Origin
-        ensures { result ≡ origin_of_bound self.now.bound }
-    {
-        match &self.bound {
-            Bound::Fresh(_) => Origin::Copy,
-            Bound::View { .. } => Origin::View,
-        }
+/// Whether it is a view or a copy.
+pub fn origin_of_bound(bound: &Bound) -> Origin
+    ensures { result ≡ origin_of_bound bound.now }
+{
+    match bound {
+        Bound::Fresh(_) => Origin::Copy,
+        Bound::View { .. } => Origin::View,
     }
 }
 

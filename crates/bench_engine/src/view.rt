@@ -6,7 +6,7 @@ ghost use Rattle.name_store.specs.Arrays.{is_bound};
 ghost use Rattle.bench_engine.specs.inside.Contract.{CarriesOut};
 ghost use Rattle.bench_engine.specs.Machine.{view_outcome, names_in_viewing};
 
-use crate::part::{has_bound, seen};
+use crate::part::{has_bound, origin_of_bound, seen, shape_of_bound};
 use crate::replies::push_bound_text;
 use elem_descr::Refusal;
 use name_store::Bench;
@@ -37,7 +37,15 @@ pub fn view(
         return Err(Refusal::TooManyNames);
     }
     let viewed = seen(alloc, bench, &array, how)?;
-    let shape = viewed.shape();
-    push_bound_text(alloc, out, name, viewed.descr, shape, viewed.origin())?;
-    bench.bind(alloc, name, viewed.bound)
+    let bound = viewed.bound;
+    let shape = shape_of_bound(&bound);
+    push_bound_text(
+        alloc,
+        out,
+        name,
+        viewed.descr,
+        shape,
+        origin_of_bound(&bound),
+    )?;
+    bench.bind(alloc, name, bound)
 }

@@ -35,10 +35,14 @@ abbrev pub descr_seen : State → ViewOrCopy → Descr
 descr_seen s (a_view array) = descr_of s array
 descr_seen s (a_copy contents) = contents.buffer.descr
 
--- what is viewed is what is there, with its element type; a refusal is the one that is there, unless memory ran out
+-- what is bound is what is there, with this element type
+abbrev pub IsSeen : State → Bound → Descr → Result ViewOrCopy Refusal → Type 0
+IsSeen s what descr (Ok there) = IsOf s what there × (descr_seen s there ≡ descr)
+IsSeen s what descr (Err refusal) = ⊥
+
+-- so is what is viewed; a refusal is the one that is there, unless memory ran out
 abbrev pub GivesSeen : State → Result Viewed Refusal → Result ViewOrCopy Refusal → Type 0
-GivesSeen s (Ok x) (Ok there) = IsOf s x.bound there × (descr_seen s there ≡ x.descr.now)
-GivesSeen s (Ok x) (Err refusal) = ⊥
+GivesSeen s (Ok x) there = IsSeen s x.bound x.descr.now there
 GivesSeen s (Err refusal) there = (refusal ≡ OutOfMemory) ⊎ (there ≡ Err refusal)
 
 -- what is given is what is seen of the array, in each state that has it

@@ -15,7 +15,7 @@ pub returns-then-keeps_items : goal.returns-then-keeps_items
 returns-then-keeps_items c =
     let r = c.args.items in
     let alike = c.if-keeps_items.ensures.alike refl in (
-      refl,
+      c.in-Some.is,
       stretches c.args.items.layout.now c.in_ok-wide.wide c.args.shape.now c.in_ok-wide.ensures,
       sym c.if-not-can_cast.ensures,
       alike,

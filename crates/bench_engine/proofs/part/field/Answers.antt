@@ -12,4 +12,4 @@ returns c s array shows =
     let r = c.args.array.now in
     let there = ap (field_of r.descr.now) (sym c.as_slice.ensures) ∙ sym c.in-Some.ensures.value in
     let given = rw c.as_slice-2.ensures at c.in_ok-layout.ensures in
-    field-part s array r c.args.field.now _ _ c.in_ok-layout.layout c.in-Some.k shows there c.in-Some.ensures.below c.then.ensures refl (ap (λ (f : Field). f.descr) c.field-2.ensures.value) given
+    field-part s array r c.args.field.now _ _ _ c.in_ok-layout.layout c.in-Some.k shows there c.in-Some.ensures.below c.then.ensures refl (ap (λ (f : Field). f.descr) c.field-2.ensures.value) given
