@@ -142,11 +142,7 @@ fn broadcast<'a>(
 }
 
 /// The items of an array in a block of their own, in C order, under a shape with as many items.
-fn duplicate<'a>(
-    alloc: Global,
-    array: &ArrayRef<'a>,
-    shape: &Shape,
-) -> Result<Viewed<'a>, Refusal>
+fn duplicate<'a>(alloc: Global, array: &ArrayRef<'a>, shape: &Shape) -> Result<Viewed<'a>, Refusal>
     requires shown { IsShown array.now }
     requires items { count shape.now ≡ count array.now.layout.now.shape }
     ensures { Duplicates shape.now array.now result }

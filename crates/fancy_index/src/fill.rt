@@ -10,7 +10,7 @@ use crate::plans::{Shifted, moved};
 use crate::run_moves::{fill_run, moved_run};
 use crate::singles::fill_singles;
 use raw_block::RawBlock;
-use shape_strides::{Walk, Layout, Runs};
+use shape_strides::{Layout, Runs, Walk};
 
 /// Writes the item to those of a layout, where what began at its offset begins at `start`.
 fn fill_from(block: &mut RawBlock, inner: &Layout, start: usize, item: &[u8])

@@ -12,7 +12,7 @@ use crate::run_moves::moved_run;
 use crate::singles::scatter_singles;
 use overlap_copy::{copy_run, packed_run};
 use raw_block::RawBlock;
-use shape_strides::{Walk, Layout, Runs};
+use shape_strides::{Layout, Runs, Walk};
 
 /// Copies items of `width` bytes that lie one after another from `at` on to those of a layout, where
 /// what began at its offset begins at `start`. The result is where they end.
