@@ -1,5 +1,5 @@
 -- Layouts that show items of an array, to be written or read.
-use Rattle.std.proofs.Common.{◌≡◌, ◌<◌, ◌≤◌, false, ◌+◌, ◌*◌, ℕ, zero, suc, List, [], ◌∷◌, length, sym, ap, subst, ◌∙◌, get_or, Result, Ok, Err, slice_index, Some, true, All, Contains, arith}
+use Rattle.std.proofs.Common.{◌≡◌, ◌<◌, ◌≤◌, false, ◌+◌, ◌*◌, ℕ, zero, suc, List, [], ◌∷◌, length, sym, ap, subst, ◌∙◌, refl, get_or, Result, Ok, Err, slice_index, Some, true, All, Contains, arith}
 use Rattle.std.proofs.lemmas.List.{length-map}
 use Rattle.std.proofs.lemmas.List.Elements.{All-map, All-contains, All-contains_itself, Contains-get_or}
 use Rattle.elem_descr.specs.declared.refusal.Refusal.{Refusal}
@@ -18,11 +18,11 @@ use Rattle.fancy_index.specs.Sources.{LiesInBlock}
 use Rattle.fancy_index.specs.declared.source.Indices.{Indices}
 use Rattle.view_ops.specs.Views.{View as Seen, view_through, IsViewOf, GivesView}
 use Rattle.name_store.specs.States.{State, Array}
-use Rattle.name_store.specs.Arrays.{find_array, buffer_of, addresses}
+use Rattle.name_store.specs.Arrays.{find_array, buffer_of, descr_of, addresses}
 use Rattle.name_store.specs.ArrayLaws.{offsets-at}
 use Rattle.name_store.specs.Parts.{start_at}
 use Rattle.name_store.specs.Shown.{Shows}
-use Rattle.name_store.specs.Targets.{FitsBuffer, LeadsTo}
+use Rattle.name_store.specs.Targets.{FitsBuffer, LeadsTo, ReadsFrom}
 use Rattle.name_store.specs.declared.array_ref.ArrayRef.{ArrayRef}
 use Rattle.name_store.specs.declared.target.Target.TheVariants.{View, Plan}
 
@@ -111,6 +111,29 @@ given-part s array old new (Err e) part is = absurd is
 -- items of one element type are alike
 pub same-alike : (a b whole : Descr) → a ≡ whole → b ≡ whole → AreAlike a b
 same-alike a b whole a-is b-is = record { leaves = ap leaves_of (a-is ∙ sym b-is); size = ap item_size (a-is ∙ sym b-is) }
+
+-- a part that is read
+abbrev pub part-read : (s : State) (array : Array) (l : Layout) → IsPart s array l → Array
+part-read s array l part = record array { shape = l.shape; places = part.places; writable = false }
+
+pub reads-part : (s : State) (array : Array) (r : ArrayRef) (l : Layout) (descr : Descr) (n : ℕ) (part : IsPart s array l) → Shows s array r → AreAlike (descr_of s array) descr → length (offsets l) ≡ n → ReadsFrom s r.number l descr n (part-read s array l part)
+reads-part s array r l descr n part shows alike many = record {
+  view = record {
+    number_is = shows.view.number_is;
+    path_is = refl;
+    there = shows.view.there;
+    laid = record {
+      part = shows.view.laid.part;
+      shape = refl;
+      places = part.offsets_are;
+      writable_is = refl;
+      fits = part.fits;
+      nested = λ (no : false ≡ true). cc;
+    };
+  };
+  alike = alike;
+  count = many;
+}
 
 -- a part that may be written
 pub leads-part : (s : State) (name : List ℕ) (array : Array) (r : ArrayRef) (l : Layout) (part : IsPart s array l) → find_array s.names name ≡ Some array → Shows s array r → r.writable ≡ true → LeadsTo s name (View l) array part.places

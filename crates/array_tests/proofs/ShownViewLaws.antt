@@ -1,10 +1,11 @@
 -- Views of an array that is looked up: all of it, and one of its items.
-use Rattle.std.proofs.Common.{◌≡◌, ◌+◌, ◌*◌, ◌≤◌, ℕ, Bool, List, [], ◌∷◌, length, map, refl, sym, ap, subst, ◌∙◌, Option, Some, None, slice_get, All, Contains, IsTrue, IfOk, arith, pos, ℤ, ◌<◌, ◌+ℤ◌, Bor, true}
+use Rattle.std.proofs.Common.{◌≡◌, ◌+◌, ◌*◌, ◌≤◌, ℕ, Bool, List, [], ◌∷◌, length, map, replicate, refl, sym, ap, subst, ◌∙◌, Option, Some, None, slice_get, All, Contains, IsTrue, IfOk, arith, pos, ℤ, ◌<◌, ◌+ℤ◌, true}
+use Rattle.std.specs.Global.{Vec}
 use Rattle.std.specs.Option.{option_map, ok_or}
 use Rattle.std.proofs.lemmas.Int.{ints}
 use Rattle.std.proofs.lemmas.List.Elements.{All-contains, All-contains_itself}
 use Rattle.std.proofs.lemmas.Option.{slice_get_within, get_or_from_slice_get, slice_get-map}
-use Rattle.elem_descr.specs.Items.{item_size}
+use Rattle.elem_descr.specs.Items.{item_size, decode_item}
 use Rattle.elem_descr.specs.declared.refusal.Refusal.{Refusal}
 use Rattle.shape_strides.specs.declared.layout.Layout.{Layout}
 use Rattle.shape_strides.specs.Indexes.{indexes}
@@ -120,11 +121,12 @@ if-within xs k limit None refusal h all = tt
 if-within xs k limit (Some x) refusal h all = let low : x + 1 ≤ limit = All-contains (λ x. x + 1 ≤ limit) xs x all (contains-at xs k x (sym h)) in omega arith
 
 -- every place of an array that is shown may be written
-pub aim-whole : (s : State) (name : List ℕ) (layout : Layout) (item : Bor (List ℕ)) (array : Array) (r : ArrayRef) → find_array s.names name ≡ Some array → Shows s array r → r.writable ≡ true → layout ≡ r.layout.now →
-    length item.now ≡ item_size r.descr.now → IsAim s name (target.View layout) (One item)
+pub aim-whole : (s : State) (name : List ℕ) (layout : Layout) (item : Vec ℕ) (array : Array) (r : ArrayRef) → find_array s.names name ≡ Some array → Shows s array r → r.writable ≡ true → layout ≡ r.layout.now →
+    length item.items ≡ item_size r.descr.now → IsAim s name (target.View layout) (One item)
 aim-whole s name layout item array r found shows writable-is layout-is long = record {
   array = array;
   places = array.places;
+  items = replicate (length (offsets layout)) (decode_item (descr_of s array) item.items);
   leads = record {
     found = found;
     writable = sym shows.view.laid.writable_is ∙ writable-is;
@@ -132,5 +134,5 @@ aim-whole s name layout item array r found shows writable-is layout-is long = re
     among = All-contains_itself array.places;
   };
   may_write = subst (λ (l : Layout). MayWrite s array (target.View l)) (sym layout-is) (shows.view.laid.fits, shows.view.laid.nested writable-is);
-  source_for = long ∙ ap item_size (sym shows.descr);
+  supplies = (long ∙ ap item_size (sym shows.descr), refl);
 }

@@ -45,7 +45,7 @@ fn too_long(rt: HostRuntime) {
 
 /// So many bytes from the fourth on are this number.
 fn loads(rt: &impl Abort, block: &RawBlock, width: usize, number: u64)
-    requires width { (1 ≤ width) × (width ≤ 8) }
+    requires width { width ≤ 8 }
     requires len { length block.now ≡ 12 }
 {
     check(rt, block.load(3, width) == number, "a number");
@@ -54,12 +54,14 @@ fn loads(rt: &impl Abort, block: &RawBlock, width: usize, number: u64)
 #[test]
 fn loads_and_stores(rt: HostRuntime) {
     let mut block = counted(&rt, rt.alloc());
+    loads(&rt, &block, 0, 0);
     loads(&rt, &block, 1, 3);
     loads(&rt, &block, 2, 0x0403);
     loads(&rt, &block, 3, 0x05_0403);
     loads(&rt, &block, 4, 0x0605_0403);
     loads(&rt, &block, 7, 0x0009_0807_0605_0403);
     loads(&rt, &block, 8, 0x0a09_0807_0605_0403);
+    block.store(12, 0, 0xff);
     block.store(1, 3, 0x0011_2233_4455_6677);
     has(
         &rt,

@@ -60,7 +60,13 @@ fn set_named(
     if items.shape.items() != places.shape.items() {
         return Err(Refusal::ShapesDoNotBroadcast);
     }
-    bench.write_items(alloc, to, Target::View(places), Source::Name(from, items))
+    let number = source.number;
+    bench.write_items(
+        alloc,
+        to,
+        Target::View(places),
+        Source::Buffer(number, items),
+    )
 }
 
 /// `set X[ix] = X[iy]`, where both show items that lie alike, some bytes further on or back. It asks
@@ -72,7 +78,7 @@ fn set_shifted(
     to_index: &[IndexItem<usize>],
     from_index: &[IndexItem<usize>],
 ) -> Result<usize, Refusal>
-    requires depth { bench.old.depth ≡ 0 }
+    requires depth { bench.old.state.depth ≡ 0 }
     requires to { list_all is_basic to_index.now ≡ true }
     requires from { list_all is_basic from_index.now ≡ true }
 {
@@ -87,7 +93,8 @@ fn set_shifted(
     if !are_shifted(&places, &items) {
         return Err(Refusal::ShapesDoNotBroadcast);
     }
-    let count = bench.write_items(alloc, name, Target::View(places), Source::Name(name, items));
+    let source = Source::Buffer(array.number, items);
+    let count = bench.write_items(alloc, name, Target::View(places), source);
     Ok(count.unwrap())
 }
 

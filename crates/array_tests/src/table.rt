@@ -50,6 +50,7 @@ pub(crate) fn fill(
         return Err(Refusal::ReadOnly);
     }
     let layout = Layout::try_copy(alloc, array.layout)?;
+    let item = Vec::from_slice(alloc, item)?;
     bench.write_items(alloc, name, Target::View(layout), Source::One(item))
 }
 

@@ -52,6 +52,7 @@ fn set_one(
         return Err(Refusal::ReadOnly);
     }
     let places = basic(alloc, target.layout, index)?;
+    let item = Vec::from_slice(alloc, item)?;
     bench.write_items(alloc, to, Target::View(places), Source::One(item))
 }
 

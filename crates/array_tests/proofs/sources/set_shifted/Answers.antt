@@ -1,13 +1,14 @@
 use Rattle.std.proofs.Common.{refl, sym, ap, ◌∙◌}
 use Rattle.shape_strides.specs.Indexes.{count}
 use Rattle.shape_strides.specs.LayoutLaws.{length-offsets}
+use Rattle.name_store.specs.Arrays.{read}
 use Rattle.name_store.specs.ArrayLaws.{found-array}
-use Rattle.array_tests.proofs.PartLaws.{whole-part, given-part, same-alike, leads-part}
+use Rattle.array_tests.proofs.PartLaws.{whole-part, given-part, same-alike, leads-part, part-read, reads-part}
 use Rattle.array_tests.proofs.sources.set_shifted.Goals as goal
 
 pub write_items-count-requires : goal.write_items-count-requires
 write_items-count-requires c =
-    let s = c.args.bench.now in
+    let s = c.args.bench.now.state in
     let it = found-array _ _ c.in-Some.array c.in-Some.ensures in
     let writable = c.if-not-array.false in
     let whole = whole-part s it.0 c.in-Some.array it.2 in
@@ -18,17 +19,9 @@ write_items-count-requires c =
       aim = record {
         array = it.0;
         places = places.places;
+        items = read s (part-read s it.0 c.in_ok-items.items items);
         leads = leads-part s _ it.0 c.in-Some.array c.in_ok-places.places places it.1 it.2 writable;
         may_write = (places.fits, c.in_ok-places.ensures.nested _ (it.2.view.laid.nested writable));
-        source_for = record {
-          array = it.0;
-          places = items.places;
-          found = it.1;
-          alike = same-alike _ _ _ refl refl;
-          offsets_are = items.offsets_are;
-          among = items.among;
-          fits = items.fits;
-          count = length-offsets c.in_ok-items.items ∙ ap count shifted.shape ∙ sym (length-offsets c.in_ok-places.places);
-        };
+        supplies = (part-read s it.0 c.in_ok-items.items items, reads-part s it.0 c.in-Some.array c.in_ok-items.items _ _ items it.2 (same-alike _ _ _ refl refl) (length-offsets c.in_ok-items.items ∙ ap count shifted.shape ∙ sym (length-offsets c.in_ok-places.places)), refl);
       };
     }

@@ -9,7 +9,7 @@ use Rattle.array_tests.proofs.table.fill.Goals as goal
 
 pub write_items-requires : goal.write_items-requires
 write_items-requires c =
-    let there : (array : Array) × (find_array c.args.bench.now.names c.args.name.now ≡ Some array) × Shows c.args.bench.now array c.in-Some.array = found-array _ _ c.in-Some.array c.in-Some.ensures in
+    let there : (array : Array) × (find_array c.args.bench.now.state.names c.args.name.now ≡ Some array) × Shows c.args.bench.now.state array c.in-Some.array = found-array _ _ c.in-Some.array c.in-Some.ensures in
     let writable : c.in-Some.array.writable ≡ true = search rules in
-    let long : length c.args.item.now ≡ item_size c.in-Some.array.descr.now = search rules in
-    record { aim = aim-whole c.args.bench.now c.args.name.now c.in_ok-layout.layout c.args.item there.0 c.in-Some.array there.1 there.2 writable c.in_ok-layout.ensures long }
+    let long : length c.in_ok-item.item.items ≡ item_size c.in-Some.array.descr.now = search rules in
+    record { aim = aim-whole c.args.bench.now.state c.args.name.now c.in_ok-layout.layout c.in_ok-item.item there.0 c.in-Some.array there.1 there.2 writable c.in_ok-layout.ensures long }

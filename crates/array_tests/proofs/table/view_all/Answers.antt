@@ -8,4 +8,4 @@ pub bind-requires : goal.bind-requires
 bind-requires c =
     let there = found-array _ _ c.in-Some.array c.in-Some.ensures in
     let may : IsTrue c.if-array.writable → IsTrue c.in-Some.array.writable = λ yes. elim c.if-array.branch [ then-array w ↦ w.if-array.true | else-array w ↦ sym w.writable-is ∙ yes ] in
-    may-view_all c.args.bench.now c.args.source.now there.0 c.in-Some.array there.1 there.2 c.in_ok-layout.layout c.if-array.writable c.in_ok-layout.ensures may
+    may-view_all c.args.bench.now.state c.args.source.now there.0 c.in-Some.array there.1 there.2 c.in_ok-layout.layout c.if-array.writable c.in_ok-layout.ensures may

@@ -26,4 +26,4 @@ invariant_of-layout c =
 pub bind-requires : goal.bind-requires
 bind-requires c =
     let there = found-array _ _ c.in-Some.array c.in-Some.ensures in
-    may-view_item c.args.bench.now c.args.source.now there.0 c.in-Some.array there.1 there.2 _ c.args.k (no-axes c.in_ok-try_new.field-0 c.in_ok-try_new.ensures) c.new.ensures c.in_ok-offset.ensures.entry
+    may-view_item c.args.bench.now.state c.args.source.now there.0 c.in-Some.array there.1 there.2 _ c.args.k (no-axes c.in_ok-try_new.field-0 c.in_ok-try_new.ensures) c.new.ensures c.in_ok-offset.ensures.entry
