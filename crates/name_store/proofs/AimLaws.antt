@@ -17,7 +17,7 @@ use Rattle.name_store.specs.Targets.{IsAim, Supplies, MayWrite, LeadsTo, target_
 use Rattle.name_store.specs.View.{named_array, present}
 use Rattle.name_store.specs.declared.entry.Entry.{Entry}
 use Rattle.name_store.specs.declared.entry.Key.{Key}
-use Rattle.name_store.specs.declared.home.Home.{Home}
+use Rattle.name_store.specs.declared.table.Home.{Home}
 use Rattle.name_store.specs.declared.slot.Slot.{Slot}
 use Rattle.name_store.specs.declared.target.Source.{Source}
 use Rattle.name_store.specs.declared.target.Source.TheVariants.{One, Block, Buffer}

@@ -9,7 +9,7 @@ use Rattle.overlap_copy.specs.declared.owned.Owned.{Owned}
 use Rattle.name_store.specs.Invariants.{users_of, users_at}
 use Rattle.name_store.specs.Targets.{target_offsets}
 use Rattle.name_store.specs.View.{slot_at}
-use Rattle.name_store.specs.declared.home.Home.{Home}
+use Rattle.name_store.specs.declared.table.Home.{Home}
 use Rattle.name_store.specs.declared.slot.Slot.{Slot}
 use Rattle.name_store.specs.declared.target.Source.{Source}
 use Rattle.name_store.specs.declared.target.Source.TheVariants.{One, Block, Buffer}

@@ -12,10 +12,10 @@ ghost use Rattle.name_store.specs.inside.Exchanges.{AreAll, IsPacked, are_packed
 ghost use Rattle.name_store.specs.inside.OldItems.{AreOldAt};
 ghost use Rattle.name_store.specs.inside.Puts.{AreItems, CanPut, Puts, parts_of};
 
-use crate::home::Home;
 use crate::old_items::OldItems;
 use crate::slot::Slot;
 use crate::slots::{slot_mut, slot_of};
+use crate::table::Home;
 use crate::target::{Source, Target};
 use overlap_copy::{Owned, gather};
 use raw_block::{BlockBuilder, RawBlock};

@@ -9,7 +9,6 @@ mod change;
 mod entry;
 mod exchange;
 mod history;
-mod home;
 mod keep;
 mod names;
 mod old_items;

@@ -6,7 +6,6 @@ use crate::array_ref::ArrayRef;
 use crate::bound::Bound;
 use crate::change::Change;
 use crate::entry::{Entry, Key};
-use crate::home::Home;
 use crate::old_items::{OldItems, put_back};
 use crate::path::Path;
 use crate::slot::Slot;
@@ -19,6 +18,13 @@ use std::alloc::{AllocError, Global};
 
 /// The most names that are bound at one time.
 const MAX_NAMES: usize = 1024;
+
+/// Where an array lies: the number of its buffer, and how many bytes each of its items has.
+#[derive(Clone, Copy)]
+pub struct Home {
+    pub number: usize,
+    pub width: usize,
+}
 
 /// Names and their arrays, in the order in which the names were first bound, and the buffers that the
 /// arrays lie in, by their numbers.

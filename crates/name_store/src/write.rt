@@ -5,10 +5,10 @@ ghost use Rattle.name_store.specs.inside.Puts.{CanPut, Puts, InPlace, NeedsNone}
 ghost use Rattle.name_store.specs.declared.target.Source.TheVariants.{One, Block, Buffer};
 
 use crate::exchange::{are_packed, is_all, replace};
-use crate::home::Home;
 use crate::rewrite::{copy_to, fill, move_to};
 use crate::slot::Slot;
 use crate::slots::{slot_mut, slot_of};
+use crate::table::Home;
 use crate::target::{Source, Target};
 use overlap_copy::Owned;
 use shape_strides::Layout;

@@ -4,10 +4,10 @@ ghost use Rattle.name_store.specs.inside.OldItems.{AreOldAt, AreSame};
 ghost use Rattle.name_store.specs.inside.Puts.{CanPut, Puts};
 
 use crate::exchange::{is_all, replace};
-use crate::home::Home;
 use crate::old_items::{OldItems, old_items};
 use crate::slot::Slot;
 use crate::slots::slot_of;
+use crate::table::Home;
 use crate::target::{Source, Target};
 use crate::write::copy_items;
 use std::alloc::{AllocError, Global};
