@@ -21,12 +21,11 @@ use Rattle.shape_strides.specs.AxisLaws.{axis_below}
 use Rattle.view_ops.specs.Slices.{from_front}
 use Rattle.overlap_copy.specs.declared.owned.Owned.{Owned}
 use Rattle.machine_numbers.specs.declared.operators.Red.{Red}
-use Rattle.reductions.specs.Lists.{lists, named_axis, is_axis}
+use Rattle.reductions.specs.Lists.{lists, named_axis, is_axis, IsAxisOf}
 use Rattle.reductions.specs.ListLaws.{IsIndex-insert}
 use Rattle.reductions.specs.Outcomes as reductions
 use Rattle.reductions.specs.Outcomes.{outcome_of, number_scalar}
 use Rattle.reductions.specs.Reductions.{reduced_item, reduced_items}
-use Rattle.reductions.specs.inside.Axes.{IsAxisOf}
 use Rattle.name_store.specs.States.{State, Array}
 use Rattle.name_store.specs.Arrays.{find_array, buffer_of, descr_of, read, span_of, placed_item}
 use Rattle.name_store.specs.Parts.{part_at}

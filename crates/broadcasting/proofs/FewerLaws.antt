@@ -17,7 +17,7 @@ use Rattle.shape_strides.specs.Indexes.{count, IsIndex}
 use Rattle.shape_strides.specs.Addresses.{dot, LieWithin}
 use Rattle.shape_strides.specs.Shapes.{shape_of}
 use Rattle.shape_strides.specs.ShapeLaws.{shape_of-ok}
-use Rattle.view_ops.specs.inside.Shows.{Shows}
+use Rattle.view_ops.specs.Shows.{ShowsThrough}
 use Rattle.view_ops.specs.ViewLaws.{LieWithin-view}
 
 -- ---- the axes that are left
@@ -60,7 +60,7 @@ pub record IsRest (old : Layout) (k : ℕ) (shape : List ℕ) (strides : List �
   pub shape_is : shape ≡ drop k old.shape
   pub strides_are : strides ≡ drop k old.strides
 
-rest-shows : (old : Layout) (k : ℕ) (shape : List ℕ) (strides : List ℤ) → IsRest old k shape strides → Shows old shape strides old.offset (λ index. replicate k 0 ++ index)
+rest-shows : (old : Layout) (k : ℕ) (shape : List ℕ) (strides : List ℤ) → IsRest old k shape strides → ShowsThrough old shape strides old.offset (λ index. replicate k 0 ++ index)
 rest-shows old k shape strides made = record {
   leads = λ index in'. IsIndex-front k old.shape index made.single made.few (subst (λ (s : List ℕ). IsIndex s index) made.shape_is in');
   same = λ index in'. ap (λ z. pos old.offset +ℤ z) (ap (λ s. dot s index) made.strides_are ∙ sym (dot-front k old.strides index));
@@ -88,6 +88,6 @@ rest-made old k seen shape seen-strides strides few single is axes short small t
   strides_are = are ∙ slice-rest k seen-strides ∙ ap (drop k) strides-is;
 }
 
-pub rest-moved : (old : Layout) (k : ℕ) (shape : List ℕ) (strides : List ℤ) → IsRest old k shape strides → Shows old (drop k old.shape) strides old.offset (λ index. replicate k 0 ++ index)
+pub rest-moved : (old : Layout) (k : ℕ) (shape : List ℕ) (strides : List ℤ) → IsRest old k shape strides → ShowsThrough old (drop k old.shape) strides old.offset (λ index. replicate k 0 ++ index)
 rest-moved old k shape strides made =
-    subst (λ (s : List ℕ). Shows old s strides old.offset (λ index. replicate k 0 ++ index)) made.shape_is (rest-shows old k shape strides made)
+    subst (λ (s : List ℕ). ShowsThrough old s strides old.offset (λ index. replicate k 0 ++ index)) made.shape_is (rest-shows old k shape strides made)

@@ -16,7 +16,7 @@ use Rattle.shape_strides.specs.Addresses.{dot, address_at, LieWithin}
 use Rattle.shape_strides.specs.IndexLaws.{rank-lt, length-index, number-lt, IsIndex-from_numbers}
 use Rattle.shape_strides.specs.Shapes.{shape_of}
 use Rattle.shape_strides.specs.ShapeLaws.{shape_of-ok}
-use Rattle.view_ops.specs.inside.Shows.{Shows}
+use Rattle.view_ops.specs.Shows.{ShowsThrough}
 use Rattle.view_ops.specs.ViewLaws.{LieWithin-view}
 use Rattle.broadcasting.specs.Broadcasts.{stretches, all_stretch, can_stretch, within_axes, broadcast_index}
 use Rattle.broadcasting.specs.BroadcastLaws.{broadcast_index-is, IsIndex-broadcast}
@@ -128,7 +128,7 @@ module _ (layout : Layout) (small seen : List ℕ) (can : CanShrink layout.shape
 
 -- ---- its layout
 
-shrunk-shows : (layout : Layout) (small : List ℕ) → CanShrink layout.shape layout.strides small → Shows layout small layout.strides layout.offset (λ index. index)
+shrunk-shows : (layout : Layout) (small : List ℕ) → CanShrink layout.shape layout.strides small → ShowsThrough layout small layout.strides layout.offset (λ index. index)
 shrunk-shows layout small can = record {
   leads = λ index in'. IsIndex-shrunk layout.shape small layout.strides index can in';
   same = λ index in'. refl;
@@ -137,7 +137,7 @@ shrunk-shows layout small can = record {
 pub shrunk-lies : (layout : Layout) (small : List ℕ) → CanShrink layout.shape layout.strides small → LieWithin small layout.strides layout.offset max_bytes 1
 shrunk-lies layout small can = LieWithin-view layout small layout.strides layout.offset (λ index. index) max_bytes 1 (shrunk-shows layout small can) layout.within_limit
 
-larger-shows : (layout new : Layout) → CanShrink layout.shape layout.strides new.shape → HasNumbers new new.shape layout.strides layout.offset → Shows new layout.shape layout.strides layout.offset (broadcast_index new.shape)
+larger-shows : (layout new : Layout) → CanShrink layout.shape layout.strides new.shape → HasNumbers new new.shape layout.strides layout.offset → ShowsThrough new layout.shape layout.strides layout.offset (broadcast_index new.shape)
 larger-shows layout new can has =
     let wide = can-shrunk layout.shape new.shape layout.strides layout.one_stride_an_axis can in
     let leads : (index : List ℕ) → IsIndex layout.shape index → IsIndex new.shape (broadcast_index new.shape index) = λ index in'. IsIndex-broadcast new.shape layout.shape index wide in' in

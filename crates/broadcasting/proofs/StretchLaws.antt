@@ -12,7 +12,7 @@ use Rattle.shape_strides.specs.Layouts.{offsets}
 use Rattle.shape_strides.specs.IndexLaws.{rank-lt}
 use Rattle.shape_strides.specs.AxisLaws.{dot-nil}
 use Rattle.view_ops.specs.Views.{view_through, IsViewOf, GivesView}
-use Rattle.view_ops.specs.inside.Shows.{Shows, IsView}
+use Rattle.view_ops.specs.Shows.{ShowsThrough, IsView}
 use Rattle.view_ops.specs.ViewLaws.{LieWithin-view, inside-view, offsets-view}
 use Rattle.broadcasting.specs.Broadcasts.{can_stretch, within_axes, broadcast_index, stretched}
 use Rattle.broadcasting.specs.inside.Stretches.{kept_strides}
@@ -51,7 +51,7 @@ stretched-dot old target strides index made in' =
     let more = length target - length old.shape in
     ap (λ s. dot s index) made.strides_are ∙ dot-behind more (kept_strides old.shape old.strides) index ∙ dot-kept old.shape old.strides (drop more index) old.one_stride_an_axis ∙ sym (ap (dot old.strides) (broadcast_index-is old.shape target index in'))
 
-pub stretched-shows : (old : Layout) (target : List ℕ) (strides : List ℤ) → IsStretched old target strides → Shows old target strides old.offset (broadcast_index old.shape)
+pub stretched-shows : (old : Layout) (target : List ℕ) (strides : List ℤ) → IsStretched old target strides → ShowsThrough old target strides old.offset (broadcast_index old.shape)
 stretched-shows old target strides made = record {
   leads = λ index in'. IsIndex-broadcast old.shape target index made.can in';
   same = λ index in'. ap (λ z. pos old.offset +ℤ z) (stretched-dot old target strides index made in');
@@ -79,7 +79,7 @@ pub record HasNumbers (new : Layout) (shape : List ℕ) (strides : List ℤ) (of
   pub strides_are : 0 < count shape → new.strides ≡ strides
   pub offset_is : 0 < count shape → new.offset ≡ offset
 
-shows-numbers : (old new : Layout) (shape : List ℕ) (strides : List ℤ) (offset : ℕ) (m : List ℕ → List ℕ) → Shows old shape strides offset m → HasNumbers new shape strides offset → IsView old new m
+shows-numbers : (old new : Layout) (shape : List ℕ) (strides : List ℤ) (offset : ℕ) (m : List ℕ → List ℕ) → ShowsThrough old shape strides offset m → HasNumbers new shape strides offset → IsView old new m
 shows-numbers old new shape strides offset m shows has = record {
   leads = λ index in'. shows.leads index (rw (← has.shape_is) in');
   same = λ index in'.
@@ -89,7 +89,7 @@ shows-numbers old new shape strides offset m shows has = record {
 }
 
 -- is a view
-pub numbers-view : (old new : Layout) (shape : List ℕ) (strides : List ℤ) (offset : ℕ) (m : List ℕ → List ℕ) → Shows old shape strides offset m → HasNumbers new shape strides offset → IsViewOf old new (record { shape = shape; leads = m })
+pub numbers-view : (old new : Layout) (shape : List ℕ) (strides : List ℤ) (offset : ℕ) (m : List ℕ → List ℕ) → ShowsThrough old shape strides offset m → HasNumbers new shape strides offset → IsViewOf old new (record { shape = shape; leads = m })
 numbers-view old new shape strides offset m shows has =
     let view : IsView old new m = shows-numbers old new shape strides offset m shows has in
     record {

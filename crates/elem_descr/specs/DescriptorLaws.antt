@@ -7,7 +7,7 @@ use Rattle.elem_descr.specs.Encoding.{size}
 use Rattle.elem_descr.specs.Fields.{Fields, no_more, scalar_field, record_field, Structure, total}
 use Rattle.elem_descr.specs.Descriptors.{IsLegal, InOrder, AreNamedWithin, fields_of, listed, before, leaf_count, depth}
 use Rattle.elem_descr.specs.Items.{item_size}
-use Rattle.elem_descr.specs.inside.Weights.{weight}
+use Rattle.elem_descr.specs.Weights.{weight}
 
 pub InOrder-within : (from : ℕ) (fields : Fields) (bytes : ℕ) → InOrder from fields bytes → from ≤ bytes
 InOrder-within from no_more bytes h = h

@@ -9,6 +9,9 @@ pub mod Descriptors
 pub mod Items
 pub mod Blocks
 pub mod Steps
+pub mod Weights
+pub mod Nuls
+pub mod StepCounts
 pub mod inside
 pub mod RecordBuilding
 pub mod FormatLetters

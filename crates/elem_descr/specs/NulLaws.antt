@@ -6,7 +6,7 @@ use Rattle.std.proofs.lemmas.Bool.{eqb-true}
 use Rattle.std.proofs.lemmas.List.{length-replicate, length-reverse, reverse-append, get_or-reverse, get_or-drop, get_or-replicate, same_lists, take-append-drop, take-append-le}
 use Rattle.std.proofs.lemmas.List.Sums.{prefix_len_passes, suffix_len-le-length}
 use Rattle.elem_descr.specs.Encoding.{without_nuls}
-use Rattle.elem_descr.specs.inside.Nuls.{nuls}
+use Rattle.elem_descr.specs.Nuls.{nuls}
 
 pub nul_at : (bytes : List ℕ) (k d : ℕ) → length bytes - nuls bytes ≤ k → k < length bytes → get_or bytes k d ≡ 0
 nul_at bytes k d late within =

@@ -11,7 +11,7 @@ use Rattle.std.proofs.lemmas.List.FromFn.{length-range_with_len, get_or-map-rang
 use Rattle.std.proofs.Math.IntN.{*ℤ-zero, +ℤ_idr}
 use lib.IntN.{negsuc-*ℤ-pos}
 use Rattle.elem_descr.specs.Steps.{is_before, numbers_from, stepped, IsGap}
-use Rattle.elem_descr.specs.inside.Counts.{Counts}
+use Rattle.elem_descr.specs.StepCounts.{CountsSteps}
 
 -- k steps end below a gap where k is below their number
 pub steps_end_below : (gap s k : ℕ) → 0 < s → (k < div_ceil gap s) ↔ (k * s < gap)
@@ -107,7 +107,7 @@ far_after gap start stop step k is far =
 
 -- ---- how many numbers are before the stop
 
-pub counted_within : (count gap : ℕ) (step : ℤ) → step ≢ pos 0 → Counts count gap step → count ≤ gap
+pub counted_within : (count gap : ℕ) (step : ℤ) → step ≢ pos 0 → CountsSteps count gap step → count ≤ gap
 counted_within zero gap step some counts = omega arith
 counted_within (suc c) gap step some counts =
     let near = (counts c).0 (omega arith) in
@@ -125,7 +125,7 @@ filter-front p f a (suc n) (suc c) few front back =
     rw (front a (omega arith) (omega arith)) (ap (λ xs. f a ∷ xs) rest)
 
 -- the numbers before the stop are the first of all
-pub stepped_first : (n count gap : ℕ) (start stop step : ℤ) → IsGap gap start stop step → Counts count gap step → count ≤ n → stepped n start stop step ≡ numbers_from start step count
+pub stepped_first : (n count gap : ℕ) (start stop step : ℤ) → IsGap gap start stop step → CountsSteps count gap step → count ≤ n → stepped n start stop step ≡ numbers_from start step count
 unfolding stepped
 stepped_first n count gap start stop step is counts few =
     filter-front (is_before step stop) (λ k. start +ℤ step *ℤ pos k) 0 n count few

@@ -14,7 +14,7 @@ use Rattle.elementwise.specs.inside.Passes.{put_all}
 use Rattle.elementwise.specs.inside.PairPasses.{pair_from}
 use Rattle.elementwise.proofs.PairLaws.{pairwise-append, joined_pairs, firsts, seconds}
 use Rattle.overlap_copy.specs.PackedLaws.{row-split}
-use Rattle.overlap_copy.specs.inside.Packed.{row_offsets}
+use Rattle.overlap_copy.specs.Packed.{row_offsets}
 
 -- ---- items put over bytes that are behind others
 

@@ -21,7 +21,7 @@ use Rattle.elementwise.specs.inside.LeafCasts.{source, HasSource, IsLeafCast}
 use Rattle.elementwise.proofs.RowLaws.{row-entry, AreBeside, landed, kept, row-in, rows-in, rows-lie, rows-beside}
 use Rattle.elementwise.proofs.LeafLaws.{length-leaf_cast, cast_read_back}
 use Rattle.overlap_copy.specs.PackedLaws.{length-row}
-use Rattle.overlap_copy.specs.inside.Packed.{row_offsets}
+use Rattle.overlap_copy.specs.Packed.{row_offsets}
 
 -- ---- which leaves are cast to which
 

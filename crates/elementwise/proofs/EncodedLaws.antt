@@ -16,7 +16,7 @@ use Rattle.elementwise.specs.inside.Passes.{put_all, leaf_from}
 use Rattle.elementwise.specs.inside.LeafCasts.{source, IsLeafCast}
 use Rattle.elementwise.proofs.RowLaws.{AreBeside}
 use Rattle.elementwise.proofs.CastLaws.{row-kept, each-wide, length-cast_item, leaf-encoded}
-use Rattle.overlap_copy.specs.inside.Packed.{row_offsets}
+use Rattle.overlap_copy.specs.Packed.{row_offsets}
 
 -- ---- leaves and what lies between them
 

@@ -5,7 +5,7 @@ use Rattle.std.proofs.Math.Seq.{take-append_seam}
 use Rattle.std.proofs.lemmas.List.{append-nil, length-replicate, take_all, take-take, take-append-le, replicate-append-replicate}
 use Rattle.elem_descr.specs.Encoding.{without_nuls, padded}
 use Rattle.elem_descr.specs.NulLaws.{without_nuls-back, without_nuls-more, without_nuls-twice, length-without_nuls}
-use Rattle.elem_descr.specs.inside.Nuls.{nuls}
+use Rattle.elem_descr.specs.Nuls.{nuls}
 
 -- ---- filled up
 

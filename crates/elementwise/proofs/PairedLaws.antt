@@ -21,7 +21,7 @@ use Rattle.elementwise.proofs.AppendedLaws.{put-rows}
 use Rattle.elementwise.proofs.RowLaws.{length-put_all, landed, rows-in, rows-lie}
 use Rattle.elementwise.proofs.PairLaws.{length-pairwise, map-pairwise, pairwise-map}
 use Rattle.overlap_copy.specs.PackedLaws.{length-row, row-multiples}
-use Rattle.overlap_copy.specs.inside.Packed.{row_offsets}
+use Rattle.overlap_copy.specs.Packed.{row_offsets}
 
 -- the item of a scalar is its value
 scalar-item : (scalar : Scalar) (bytes : List ℕ) (o : ℕ) → item_from (ScalarDescr scalar) bytes o ≡ decode scalar (item_at o (size scalar) bytes) ∷ []

@@ -8,7 +8,7 @@ use Rattle.elem_descr.specs.Encoding.{size}
 use Rattle.shape_strides.specs.Runs.{run_offsets}
 use Rattle.overlap_copy.specs.RunLaws.{run_offsets-more, place-at}
 use Rattle.overlap_copy.specs.PackedLaws.{length-row, row-split}
-use Rattle.overlap_copy.specs.inside.Packed.{row_offsets}
+use Rattle.overlap_copy.specs.Packed.{row_offsets}
 use Rattle.std.proofs.lemmas.Int.{ints}
 use Rattle.raw_block.specs.Bytes.{position, place, put, item_at, EachWithin}
 use Rattle.shape_strides.specs.declared.runs.Run.{Run}

@@ -7,7 +7,7 @@ use Rattle.raw_block.specs.BytesLaws.{length-put, item_at-put_same, item_at-put_
 use Rattle.shape_strides.specs.declared.runs.Run.{Run}
 use Rattle.overlap_copy.specs.RunLaws.{place-at}
 use Rattle.overlap_copy.specs.PackedLaws.{length-row}
-use Rattle.overlap_copy.specs.inside.Packed.{row_offsets}
+use Rattle.overlap_copy.specs.Packed.{row_offsets}
 use Rattle.elementwise.specs.inside.Passes.{put_all}
 use Rattle.elementwise.proofs.PassLaws.{row-within}
 

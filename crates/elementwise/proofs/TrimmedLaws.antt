@@ -11,7 +11,7 @@ use Rattle.elem_descr.specs.Encoding.{without_nuls}
 use Rattle.elem_descr.specs.Items.{item_size}
 use Rattle.elem_descr.specs.Blocks.{item_from}
 use Rattle.elem_descr.specs.NulLaws.{without_nuls-back, without_nuls-more, length-without_nuls}
-use Rattle.elem_descr.specs.inside.Nuls.{nuls}
+use Rattle.elem_descr.specs.Nuls.{nuls}
 use Rattle.raw_block.specs.Bytes.{item_at}
 use Rattle.shape_strides.specs.declared.layout.Layout.{Layout}
 use Rattle.shape_strides.specs.Layouts.{offsets}

@@ -4,7 +4,7 @@ ghost use Rattle.std.specs.List.{flat_map};
 ghost use Rattle.elem_descr.specs.Encoding.{size};
 ghost use Rattle.raw_block.specs.Bytes.{EachWithin};
 ghost use Rattle.shape_strides.specs.Runs.{run_offsets};
-ghost use Rattle.overlap_copy.specs.inside.Packed.{row_offsets};
+ghost use Rattle.overlap_copy.specs.Packed.{row_offsets};
 ghost use Rattle.elementwise.specs.Casts.{can_cast_scalar};
 ghost use Rattle.elementwise.specs.inside.Passes.{put_all, leaf_from};
 

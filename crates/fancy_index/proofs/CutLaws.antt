@@ -18,13 +18,13 @@ use Rattle.shape_strides.specs.Indexes.{count, IsIndex}
 use Rattle.shape_strides.specs.Shapes.{shape_of}
 use Rattle.shape_strides.specs.Addresses.{dot, address_at, LieWithin}
 use Rattle.shape_strides.specs.Layouts.{address}
-use Rattle.shape_strides.specs.inside.AxisIndexes.{padded}
+use Rattle.shape_strides.specs.AxisIndexes.{zero_filled}
 use Rattle.shape_strides.specs.CountLaws.{factors_pos}
 use Rattle.shape_strides.specs.IndexLaws.{length-index, IsIndex-append}
 use Rattle.shape_strides.specs.AxisLaws.{dot-zeros, IsIndex-first}
 use Rattle.shape_strides.specs.ReverseLaws.{count-append}
 use Rattle.shape_strides.specs.ShapeLaws.{shape_of-ok}
-use Rattle.view_ops.specs.inside.Shows.{Shows}
+use Rattle.view_ops.specs.Shows.{ShowsThrough}
 use Rattle.view_ops.specs.ViewLaws.{LieWithin-view}
 
 -- ---- sums
@@ -78,10 +78,10 @@ only-memory made shape e is (inr there) = absurd (false≢true (ap is_ok (sym th
 
 module _ (rest : Layout) (k : ℕ) (within : k ≤ length rest.shape) (some : 0 < count rest.shape) where
   abbrev zeros-before : List ℕ
-  zeros-before = padded (take k rest.shape) []
+  zeros-before = zero_filled (take k rest.shape) []
 
   abbrev zeros-behind : List ℕ
-  zeros-behind = padded (drop k rest.shape) []
+  zeros-behind = zero_filled (drop k rest.shape) []
 
   in-before : IsIndex (take k rest.shape) zeros-before
   in-before = IsIndex-first (take k rest.shape) (some-before rest.shape k some)
@@ -102,13 +102,13 @@ module _ (rest : Layout) (k : ℕ) (within : k ≤ length rest.shape) (some : 0 
       regroup : (b s x y : ℤ) → s ≡ x +ℤ y → (b +ℤ s) +ℤ b ≡ (b +ℤ x) +ℤ (b +ℤ y)
       regroup b s x y is = omega (arith, ints, is)
 
-  pub before-shows : Shows rest (take k rest.shape) (take k rest.strides) rest.offset (λ i. i ++ zeros-behind)
+  pub before-shows : ShowsThrough rest (take k rest.shape) (take k rest.strides) rest.offset (λ i. i ++ zeros-behind)
   before-shows = record {
     leads = λ i in-i. IsIndex-whole rest.shape k some i zeros-behind in-i in-behind;
     same = λ i in-i. ap (λ z. pos rest.offset +ℤ z) (sym (both i zeros-behind in-i ∙ ap (λ z. dot (take k rest.strides) i +ℤ z) (dot-zeros (drop k rest.strides) (drop k rest.shape)) ∙ +ℤ_idr (dot (take k rest.strides) i)));
   }
 
-  pub behind-shows : Shows rest (drop k rest.shape) (drop k rest.strides) rest.offset (λ j. zeros-before ++ j)
+  pub behind-shows : ShowsThrough rest (drop k rest.shape) (drop k rest.strides) rest.offset (λ j. zeros-before ++ j)
   behind-shows = record {
     leads = λ j in-j. IsIndex-whole rest.shape k some zeros-before j in-before in-j;
     same = λ j in-j. ap (λ z. pos rest.offset +ℤ z) (sym (both zeros-before j in-before ∙ ap (λ z. z +ℤ dot (drop k rest.strides) j) (dot-zeros (take k rest.strides) (take k rest.shape)) ∙ +ℤ_idl (dot (drop k rest.strides) j)));

@@ -11,7 +11,7 @@ use Rattle.shape_strides.specs.Limits.{max_bytes}
 use Rattle.shape_strides.specs.Indexes.{count, indexes, rank, IsIndex}
 use Rattle.shape_strides.specs.Addresses.{dot, address_at, natural}
 use Rattle.shape_strides.specs.Layouts.{address, offsets}
-use Rattle.shape_strides.specs.inside.AxisIndexes.{padded}
+use Rattle.shape_strides.specs.AxisIndexes.{zero_filled}
 use Rattle.shape_strides.specs.CountLaws.{factors_pos}
 use Rattle.shape_strides.specs.IndexLaws.{length-index, length-indexes}
 use Rattle.shape_strides.specs.AxisLaws.{dot-zeros, IsIndex-first}
@@ -93,7 +93,7 @@ module _ (layout rest outer inner : Layout) (parts : List IndexPart) (points : L
   k = points_place shown
 
   abbrev zeros : List ℕ
-  zeros = padded (other_axes shown) []
+  zeros = zero_filled (other_axes shown) []
 
   zeros-in : IsIndex (other_axes shown) zeros
   zeros-in = IsIndex-first (other_axes shown) laid.some
@@ -170,7 +170,7 @@ module _ (layout rest outer inner : Layout) (parts : List IndexPart) (points : L
 
   -- the first of the inner items
   abbrev inner-zeros : List ℕ
-  inner-zeros = padded inner.shape []
+  inner-zeros = zero_filled inner.shape []
 
   inner-some : 0 < count inner.shape
   inner-some = omega (arith, ap count laid.inner_shape, some-behind rest.shape k some)

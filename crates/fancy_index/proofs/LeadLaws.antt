@@ -7,7 +7,7 @@ use lib.IntN.{ℤ, pos, ◌+ℤ◌, ◌*ℤ◌, +ℤ_idl, *ℤ-zero}
 use Rattle.shape_strides.specs.Limits.{max_axes}
 use Rattle.shape_strides.specs.Indexes.{count, rank, IsIndex}
 use Rattle.shape_strides.specs.Addresses.{dot}
-use Rattle.shape_strides.specs.inside.AxisIndexes.{padded}
+use Rattle.shape_strides.specs.AxisIndexes.{zero_filled}
 use Rattle.shape_strides.specs.CountLaws.{factors_pos}
 use Rattle.shape_strides.specs.IndexLaws.{length-index, IsIndex-append}
 use Rattle.view_ops.specs.declared.pick.AxisPick.{AxisPick}
@@ -79,8 +79,8 @@ module _ (at : List ℕ) where
       (rw (number_at run k low) (are.0.below k low), leads-in shape parts index are.1 (tail (AxisPart (AlongAxis run)) parts ready) in'.1)
 
   -- the first item with the point
-  pub first-leads : (shape : List ℕ) (parts : List IndexPart) → AreParts shape parts → All (IsReadyAt at) parts → IsIndex (other_axes (map shown_part parts)) (padded (other_axes (map shown_part parts)) []) →
-      first_at parts at ≡ leads at (map shown_part parts) (padded (other_axes (map shown_part parts)) [])
+  pub first-leads : (shape : List ℕ) (parts : List IndexPart) → AreParts shape parts → All (IsReadyAt at) parts → IsIndex (other_axes (map shown_part parts)) (zero_filled (other_axes (map shown_part parts)) []) →
+      first_at parts at ≡ leads at (map shown_part parts) (zero_filled (other_axes (map shown_part parts)) [])
   first-leads shape (BetweenPart ∷ parts) are ready in' = first-leads shape parts are (tail BetweenPart parts ready) in'
   first-leads shape (PointsPart p ∷ parts) are ready in' =
       let point = lead-point p (head (PointsPart p) parts ready) in

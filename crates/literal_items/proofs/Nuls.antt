@@ -5,7 +5,7 @@ use Rattle.std.proofs.lemmas.List.{take_all, take_min, drop-replicate, replicate
 use Rattle.std.proofs.lemmas.List.Sums.{suffix_len-le-length}
 use Rattle.elem_descr.specs.Encoding.{without_nuls, padded}
 use Rattle.elem_descr.specs.NulLaws.{without_nuls-back, without_nuls-more}
-use Rattle.elem_descr.specs.inside.Nuls.{nuls}
+use Rattle.elem_descr.specs.Nuls.{nuls}
 
 padded-without_nuls : (n : ℕ) (bytes : List ℕ) → length bytes ≤ n → padded n (without_nuls bytes) ≡ bytes ++ replicate (n - length bytes) 0
 padded-without_nuls n bytes fits =

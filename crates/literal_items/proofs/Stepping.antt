@@ -10,7 +10,7 @@ use Rattle.elem_descr.specs.declared.scalar.Scalar.{Scalar}
 use Rattle.elem_descr.specs.Refusals.{◌>>=◌, check}
 use Rattle.elem_descr.specs.Steps.{is_before, numbers_from, IsGap}
 use Rattle.elem_descr.specs.Values.{LeafValue, number}
-use Rattle.elem_descr.specs.inside.Counts.{Counts}
+use Rattle.elem_descr.specs.StepCounts.{CountsSteps}
 use Rattle.elem_descr.specs.StepLaws.{steps_end_below, abs_pos, next_number, between_back, between_forth, near_before, far_after, counted_within, stepped_first, length-numbers_from}
 use Rattle.elem_descr.specs.Encoding.{is_value}
 use Rattle.shape_strides.specs.Limits.{max_items}
@@ -32,7 +32,7 @@ gap_within gap start stop step is =
 
 -- how many numbers there are, where it is known how far the stop is
 module _ (gap : ℕ) (start stop step : ℤ) (some : step ≢ pos 0) (is : IsGap gap start stop step) where
-  counts : Counts (div_ceil gap (unsigned_abs step)) gap step
+  counts : CountsSteps (div_ceil gap (unsigned_abs step)) gap step
   counts k = steps_end_below gap (unsigned_abs step) k (abs_pos step some)
 
   pub numbers-divided : range_numbers start stop step ≡ numbers_from start step (div_ceil gap (unsigned_abs step))

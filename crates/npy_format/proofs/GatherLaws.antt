@@ -13,7 +13,7 @@ use Rattle.shape_strides.specs.declared.runs.Run.{Run}
 use Rattle.shape_strides.specs.Indexes.{count, indexes, rank}
 use Rattle.shape_strides.specs.IndexLaws.{length-indexes, rank-lt, get_or-indexes, index_at}
 use Rattle.shape_strides.specs.AxisLaws.{rank-zeros, IsIndex-first}
-use Rattle.shape_strides.specs.inside.AxisIndexes.{padded}
+use Rattle.shape_strides.specs.AxisIndexes.{zero_filled}
 use Rattle.shape_strides.specs.ReverseLaws.{count-reverse, IsIndex-from_reverse}
 use Rattle.shape_strides.specs.Contiguity.{first_address, fortran_order, is_c_contiguous, is_f_contiguous}
 use Rattle.shape_strides.specs.declared.layout.Layout.{Layout}
@@ -154,7 +154,7 @@ fortran-within shape offsets len width long inside = λ k d low.
     subst (λ o. o + width ≤ len) (sym found.2) (inside (rank shape (reverse found.0)) 0 found.1)
 
 -- the first index in reverse
-zeros-padded : (shape : List ℕ) → padded shape [] ≡ replicate (length shape) 0
+zeros-padded : (shape : List ℕ) → zero_filled shape [] ≡ replicate (length shape) 0
 zeros-padded [] = refl
 zeros-padded (n ∷ shape) = ap (λ index. 0 ∷ index) (zeros-padded shape)
 
@@ -162,10 +162,10 @@ fortran-first : (shape offsets : List ℕ) → 0 < count shape → get_or (fortr
 fortran-first shape offsets some =
     let f = λ (index : List ℕ). get_or offsets (rank shape (reverse index)) 0 in
     let all = indexes (reverse shape) in
-    let zeros = padded (reverse shape) [] in
+    let zeros = zero_filled (reverse shape) [] in
     let some' : 0 < count (reverse shape) = omega (arith, some, count-reverse shape) in
     let here : get_or all 0 [] ≡ zeros = ap (λ r. get_or all r []) (sym (rank-zeros (reverse shape))) ∙ get_or-indexes (reverse shape) zeros [] (IsIndex-first (reverse shape) some') in
-    let back : reverse zeros ≡ padded shape [] = ap reverse (zeros-padded (reverse shape)) ∙ reverse-replicate (length (reverse shape)) ∙ ap (λ n. replicate n 0) (length-reverse shape) ∙ sym (zeros-padded shape) in
+    let back : reverse zeros ≡ zero_filled shape [] = ap reverse (zeros-padded (reverse shape)) ∙ reverse-replicate (length (reverse shape)) ∙ ap (λ n. replicate n 0) (length-reverse shape) ∙ sym (zeros-padded shape) in
     get_or-map f all 0 [] 0 (omega (arith, some', length-indexes (reverse shape))) ∙ ap f here ∙ ap (λ index. get_or offsets (rank shape index) 0) back ∙ ap (λ r. get_or offsets r 0) (rank-zeros shape)
 
 -- ---- all items

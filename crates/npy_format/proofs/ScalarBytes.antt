@@ -16,7 +16,7 @@ use Rattle.elem_descr.specs.declared.scalar.Scalar.TheVariants.{Bool as BoolScal
 use Rattle.elem_descr.specs.Encoding.{size, decode, encode, number_in, bytes_of, truth, width_size, without_nuls, padded}
 use Rattle.elem_descr.specs.EncodingLaws.{low_bits-integer}
 use Rattle.elem_descr.specs.NulLaws.{without_nuls-back}
-use Rattle.elem_descr.specs.inside.Nuls.{nuls}
+use Rattle.elem_descr.specs.Nuls.{nuls}
 use Rattle.elem_descr.specs.ByteLaws.{AreBytes, number-lt, truth-twice}
 use Rattle.npy_format.specs.inside.WrittenItems.{is_bool}
 

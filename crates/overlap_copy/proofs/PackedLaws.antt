@@ -10,7 +10,7 @@ use Rattle.shape_strides.specs.WalkLaws.{length-run_offsets, length-first}
 use Rattle.shape_strides.specs.RunPairs.{all_offsets}
 use Rattle.overlap_copy.specs.RunLaws.{place-at, assigned-append}
 use Rattle.overlap_copy.specs.Assignments.{assigned}
-use Rattle.overlap_copy.specs.inside.Packed.{row, row_offsets}
+use Rattle.overlap_copy.specs.Packed.{packed_run, row_offsets}
 use Rattle.overlap_copy.specs.Joined.{joined_at}
 use Rattle.overlap_copy.specs.PackedLaws.{length-row, row-split}
 
@@ -27,7 +27,7 @@ row-nested len at width n ends = record {
       let within = row-within len at width n ends in
       let low : k < n = omega (arith, below, length-row at width n) in
       let gap : suc j * width ≤ k * width = mul-le-mul_right width before in
-      omega (arith, gap, suc-mul j width, place-at len width (row at width n) j within (omega (arith, before, low)), place-at len width (row at width n) k within low);
+      omega (arith, gap, suc-mul j width, place-at len width (packed_run at width n) j within (omega (arith, before, low)), place-at len width (packed_run at width n) k within low);
 }
 
 -- the items of a run, and of those after it
@@ -44,7 +44,7 @@ joined-next left left' run width block pushed before walked is =
     ∙ ap (λ l. before ++ l) (sym (flat_map-append item (run_offsets run) (all_offsets left'))) ∙ ap (λ l. before ++ joined_at (all_offsets l) width block) (sym walked)
 
 -- and scattered
-pub scattered-next : (left left' : List Run) (run from : Run) (at width : ℕ) (other block block' whole : List ℕ) → left ≡ run ∷ left' → from ≡ row at width run.count → block' ≡ assigned (run_offsets run) (run_offsets from) width other block →
+pub scattered-next : (left left' : List Run) (run from : Run) (at width : ℕ) (other block block' whole : List ℕ) → left ≡ run ∷ left' → from ≡ packed_run at width run.count → block' ≡ assigned (run_offsets run) (run_offsets from) width other block →
     assigned (all_offsets left) (row_offsets at width (length (all_offsets left))) width other block ≡ whole → assigned (all_offsets left') (row_offsets (at + run.count * width) width (length (all_offsets left'))) width other block' ≡ whole
 scattered-next left left' run from at width other block block' whole walked is moved so_far =
     let next = row_offsets (at + run.count * width) width (length (all_offsets left')) in

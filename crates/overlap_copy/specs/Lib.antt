@@ -4,6 +4,7 @@ pub mod Overlaps
 pub mod RunLaws
 pub mod Assignments
 pub mod Apart
+pub mod Packed
 pub mod inside
 pub mod Joined
 pub mod JoinedLaws

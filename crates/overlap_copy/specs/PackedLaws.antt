@@ -8,12 +8,12 @@ use Rattle.shape_strides.specs.WalkLaws.{length-run_offsets, length-first}
 use Rattle.shape_strides.specs.RunPairs.{all_offsets}
 use Rattle.shape_strides.specs.Addresses.{natural}
 use Rattle.shape_strides.specs.Layouts.{multiples}
-use Rattle.overlap_copy.specs.inside.Packed.{row, row_offsets}
+use Rattle.overlap_copy.specs.Packed.{packed_run, row_offsets}
 use Rattle.elem_descr.specs.Steps.{numbers_from}
 use Rattle.elem_descr.specs.StepLaws.{numbers-split}
 
 pub length-row : (at width n : ℕ) → length (row_offsets at width n) ≡ n
-length-row at width n = length-run_offsets (row at width n)
+length-row at width n = length-run_offsets (packed_run at width n)
 
 -- there is room for the next run, and for those after it
 pub room-next : (left left' : List Run) (run : Run) (at width len : ℕ) → left ≡ run ∷ left' → at + length (all_offsets left) * width ≤ len → (at + run.count * width ≤ len) × (at + run.count * width + length (all_offsets left') * width ≤ len)

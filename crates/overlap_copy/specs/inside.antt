@@ -1,5 +1,4 @@
 pub mod Rows
 pub mod Marks
 pub mod Moves
-pub mod Packed
 pub mod Shifts

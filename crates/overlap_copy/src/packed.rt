@@ -6,7 +6,7 @@ ghost use Rattle.shape_strides.specs.Contiguity.{is_c_contiguous};
 ghost use Rattle.shape_strides.specs.Layouts.{offsets, multiples};
 ghost use Rattle.shape_strides.specs.Runs.{run_offsets};
 ghost use Rattle.overlap_copy.specs.Assignments.{items_at, assigned};
-ghost use Rattle.overlap_copy.specs.inside.Packed.{row_offsets};
+ghost use Rattle.overlap_copy.specs.Packed.{row_offsets};
 ghost use Rattle.overlap_copy.specs.Joined.{joined_at};
 
 use crate::rows::push_layout;

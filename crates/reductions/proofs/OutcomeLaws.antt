@@ -27,10 +27,10 @@ use Rattle.shape_strides.specs.Layouts.{offsets, multiples}
 use Rattle.shape_strides.specs.LayoutLaws.{offsets-none}
 use Rattle.shape_strides.specs.Shapes.{shape_of}
 use Rattle.machine_numbers.specs.declared.operators.Red.{Red}
-use Rattle.reductions.specs.Lists.{lists, reduced_shape, list_length, named_axis, is_axis}
+use Rattle.reductions.specs.Lists.{lists, reduced_shape, list_length, named_axis, is_axis, IsAxisOf}
 use Rattle.reductions.specs.Outcomes.{has_empty_list, number_scalar, reduced_type, ReducedType}
 use Rattle.reductions.specs.Reductions.{result_scalar, needs_items, reduced, reduced_item, reduced_items, item_number}
-use Rattle.reductions.specs.inside.Axes.{IsAxisOf, shape_after}
+use Rattle.reductions.specs.inside.Axes.{shape_after}
 use Rattle.reductions.specs.inside.Numbers.{number_at, numbers_at, AreReduced}
 
 -- ---- lengths

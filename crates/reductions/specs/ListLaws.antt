@@ -5,8 +5,7 @@ use Rattle.std.proofs.lemmas.List.{length-map, get_or-map, same_lists}
 use Rattle.std.proofs.lemmas.List.FromFn.{length-map-range_with_len, get_or-map-range_with_len}
 use Rattle.shape_strides.specs.Indexes.{count, indexes, rank, IsIndex}
 use Rattle.shape_strides.specs.IndexLaws.{length-indexes, rank-lt, get_or-indexes, index_at}
-use Rattle.reductions.specs.Lists.{lists}
-use Rattle.reductions.specs.inside.Axes.{IsAxisOf}
+use Rattle.reductions.specs.Lists.{lists, IsAxisOf}
 
 -- an index of the other axes, with a number on the axis, is an index
 pub IsIndex-insert : (shape index : List ℕ) (a k : ℕ) → a < length shape → IsIndex (remove shape a) index → k < get_or shape a 0 → IsIndex shape (insert index a k)

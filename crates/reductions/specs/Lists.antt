@@ -1,5 +1,5 @@
 -- The axis that a reduction goes along, and the items that each item of its result stands for.
-use Rattle.std.specs.Prelude.{ℕ, ℤ, Bool, true, false, Option, Some, None, List, [], ◌∷◌, map, slice_index, slice_set}
+use Rattle.std.specs.Prelude.{ℕ, ◌<◌, ℤ, Bool, true, false, Option, Some, None, List, [], ◌∷◌, map, slice_index, slice_set}
 use Rattle.std.specs.List.{range_with_len, insert, remove}
 use Rattle.shape_strides.specs.Addresses.{natural}
 use Rattle.shape_strides.specs.Indexes.{count, indexes, rank}
@@ -14,6 +14,11 @@ named_axis rank (Some axis) = Some (natural (from_front rank axis))
 abbrev pub is_axis : ℕ → Option ℤ → Bool
 is_axis rank None = true
 is_axis rank (Some axis) = is_place rank axis
+
+-- one of so many, or none
+abbrev pub IsAxisOf : ℕ → Option ℕ → Type 0
+IsAxisOf rank None = Unit {0}
+IsAxisOf rank (Some axis) = axis < rank
 
 -- the shape of the result: without the axis, or without any where none is named; those that are kept have length 1
 abbrev pub reduced_shape : List ℕ → Option ℕ → Bool → List ℕ

@@ -4,8 +4,8 @@ ghost use Rattle.std.specs.List.{remove};
 ghost use Rattle.elem_descr.specs.declared.refusal.Refusal.TheVariants.{BadAxis, OutOfMemory};
 ghost use Rattle.shape_strides.specs.Indexes.{count};
 ghost use Rattle.shape_strides.specs.Limits.{max_axes};
-ghost use Rattle.reductions.specs.Lists.{named_axis, is_axis, reduced_shape, list_length};
-ghost use Rattle.reductions.specs.inside.Axes.{IsAxisOf, AreStarts, IsUnlessMemory};
+ghost use Rattle.reductions.specs.Lists.{named_axis, is_axis, reduced_shape, list_length, IsAxisOf};
+ghost use Rattle.reductions.specs.inside.Axes.{AreStarts, IsUnlessMemory};
 
 use elem_descr::Refusal;
 use shape_strides::{Layout, Shape, Strides};

@@ -6,7 +6,8 @@ ghost use Rattle.elem_descr.specs.Refusals.{Gives};
 ghost use Rattle.shape_strides.specs.Indexes.{count};
 ghost use Rattle.reductions.specs.Reductions.{needs_items};
 ghost use Rattle.reductions.specs.Outcomes.{number_scalar, has_empty_list};
-ghost use Rattle.reductions.specs.inside.Axes.{IsAxisOf, shape_after};
+ghost use Rattle.reductions.specs.inside.Axes.{shape_after};
+ghost use Rattle.reductions.specs.Lists.{IsAxisOf};
 
 use crate::axes::{list_length, reduced_lengths};
 use crate::kinds::needs_items;

@@ -12,10 +12,9 @@ ghost use Rattle.shape_strides.specs.Layouts.{offsets};
 ghost use Rattle.shape_strides.specs.Limits.{max_items};
 ghost use Rattle.overlap_copy.specs.Blocks.{offsets_in};
 ghost use Rattle.overlap_copy.specs.ItemLists.{owned_items};
-ghost use Rattle.reductions.specs.Lists.{named_axis, list_length, lists};
+ghost use Rattle.reductions.specs.Lists.{named_axis, list_length, lists, IsAxisOf};
 ghost use Rattle.reductions.specs.Outcomes.{reduced_type, outcome_of};
 ghost use Rattle.reductions.specs.Reductions.{needs_items, reduced_items};
-ghost use Rattle.reductions.specs.inside.Axes.{IsAxisOf};
 ghost use Rattle.reductions.specs.inside.Sources.{lists_of, result_size, room_for, AreResults};
 
 use crate::axes::{list_length, named_axis, starts_of};

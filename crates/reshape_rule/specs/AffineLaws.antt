@@ -10,7 +10,7 @@ use Rattle.shape_strides.specs.Indexes.{count, indexes, rank, IsIndex}
 use Rattle.shape_strides.specs.Addresses.{dot, address_at}
 use Rattle.shape_strides.specs.Contiguity.{first_address, printed_strides}
 use Rattle.shape_strides.specs.IndexLaws.{length-indexes, get_or-indexes, rank-lt, index_at}
-use Rattle.shape_strides.specs.inside.AxisIndexes.{padded, unit}
+use Rattle.shape_strides.specs.AxisIndexes.{zero_filled, unit}
 use Rattle.shape_strides.specs.AxisLaws.{dot-zeros, rank-zeros, IsIndex-first, IsIndex-unit, rank-unit, dot-unit}
 use Rattle.shape_strides.specs.ContiguityLaws.{first_address-entry, printed-at, length-printed}
 use Rattle.reshape_rule.specs.Reshapes.{IsAffine}
@@ -33,7 +33,7 @@ dot-same (n ∷ shape) (x ∷ s) (y ∷ t) (suc k ∷ index) same same' are in' 
 
 affine-first : (list shape : List ℕ) → 0 < count shape → (affine : IsAffine list shape) → pos (get_or list 0 0) ≡ affine.first
 affine-first list shape some affine =
-    ap (λ r. pos (get_or list r 0)) (sym (rank-zeros shape)) ∙ affine.leads (padded shape []) (IsIndex-first shape some) ∙ ap (λ z. affine.first +ℤ z) (dot-zeros affine.strides shape) ∙ +ℤ_idr affine.first
+    ap (λ r. pos (get_or list r 0)) (sym (rank-zeros shape)) ∙ affine.leads (zero_filled shape []) (IsIndex-first shape some) ∙ ap (λ z. affine.first +ℤ z) (dot-zeros affine.strides shape) ∙ +ℤ_idr affine.first
 
 difference : (a b f s : ℤ) → a ≡ f +ℤ s → b ≡ f → a -ℤ b ≡ s
 difference a b f s is is' = omega (arith, ints)

@@ -10,4 +10,5 @@ pub mod RecordLaws
 pub mod RecordValues
 pub mod Tokens
 pub mod Verbs
+pub mod Nodes
 pub mod inside

@@ -6,7 +6,7 @@ use Rattle.script_lang.specs.declared.literal.Literal.{Literal}
 use Rattle.script_lang.specs.declared.literal.Literal.TheVariants.{Scalar, Record}
 use Rattle.script_lang.specs.RecordValues.{Values, no_values, scalar_value, record_value, value_count, scalars_of}
 use Rattle.script_lang.specs.Listed.{all_values, literals_of}
-use Rattle.script_lang.specs.inside.Nodes.{literal_nodes}
+use Rattle.script_lang.specs.Nodes.{literal_nodes}
 
 pub literals_of_listed : (literals : List Literal) → literals_of (all_values literals) ≡ literals
 literals_of_listed [] = refl

@@ -1,4 +1,3 @@
 pub mod NodeCounts
 pub mod Classes
 pub mod ValueCodes
-pub mod Nodes

@@ -12,7 +12,7 @@ use Rattle.shape_strides.specs.Walks.{AreAxes, IsOnWalk, offsets_at}
 use Rattle.shape_strides.specs.AxisLaws.{IsIndex-first, dot-zeros, rank-zeros, *ℤ-more}
 use Rattle.shape_strides.specs.LayoutLaws.{length-offsets, pos-offset}
 use Rattle.shape_strides.specs.IndexLaws.{length-index, length-indexes, number-lt}
-use Rattle.shape_strides.specs.inside.AxisIndexes.{padded}
+use Rattle.shape_strides.specs.AxisIndexes.{zero_filled}
 use Rattle.shape_strides.proofs.StepLaws.{length-padded, dot-padded, dot-push, dot-take_more, IsIndex-padded_push, rank-stepped, part_low, part_high, sum_start, sum_bounds, IsIndex-zeros, last-more}
 
 -- axes as a layout
@@ -31,26 +31,26 @@ unfolding offsets
 offsets-at l = refl
 
 -- the number before the zeros
-pub get_or-padded_take : (shape index : List ℕ) (j : ℕ) → IsIndex shape index → j < length shape → get_or (padded shape (take (suc j) index)) j 0 ≡ get_or index j 0
+pub get_or-padded_take : (shape index : List ℕ) (j : ℕ) → IsIndex shape index → j < length shape → get_or (zero_filled shape (take (suc j) index)) j 0 ≡ get_or index j 0
 get_or-padded_take [] index j in' below = absurd (omega arith)
 get_or-padded_take (n ∷ shape) [] j in' below = absurd in'
 get_or-padded_take (n ∷ shape) (k ∷ index) zero in' below = refl
 get_or-padded_take (n ∷ shape) (k ∷ index) (suc j) in' below = get_or-padded_take shape index j in'.1 (omega arith)
 
-pub set-padded_take : (shape index : List ℕ) (j x : ℕ) → IsIndex shape index → j < length shape → set (padded shape (take (suc j) index)) j x ≡ padded shape (take j index ++ x ∷ [])
+pub set-padded_take : (shape index : List ℕ) (j x : ℕ) → IsIndex shape index → j < length shape → set (zero_filled shape (take (suc j) index)) j x ≡ zero_filled shape (take j index ++ x ∷ [])
 set-padded_take [] index j x in' below = absurd (omega arith)
 set-padded_take (n ∷ shape) [] j x in' below = absurd in'
 set-padded_take (n ∷ shape) (k ∷ index) zero x in' below = refl
 set-padded_take (n ∷ shape) (k ∷ index) (suc j) x in' below = ap (λ i. k ∷ i) (set-padded_take shape index j x in'.1 (omega arith))
 
-pub set-padded_zero : (shape index : List ℕ) (j : ℕ) → IsIndex shape index → j < length shape → set (padded shape (take (suc j) index)) j 0 ≡ padded shape (take j index)
+pub set-padded_zero : (shape index : List ℕ) (j : ℕ) → IsIndex shape index → j < length shape → set (zero_filled shape (take (suc j) index)) j 0 ≡ zero_filled shape (take j index)
 set-padded_zero [] index j in' below = absurd (omega arith)
 set-padded_zero (n ∷ shape) [] j in' below = absurd in'
 set-padded_zero (n ∷ shape) (k ∷ index) zero in' below = refl
 set-padded_zero (n ∷ shape) (k ∷ index) (suc j) in' below = ap (λ i. k ∷ i) (set-padded_zero shape index j in'.1 (omega arith))
 
 -- the index as it was, in full
-pub padded-all : (shape index : List ℕ) → IsIndex shape index → padded shape index ≡ index
+pub padded-all : (shape index : List ℕ) → IsIndex shape index → zero_filled shape index ≡ index
 padded-all [] [] in' = refl
 padded-all [] (k ∷ index) in' = absurd in'
 padded-all (n ∷ shape) [] in' = absurd in'
@@ -59,7 +59,7 @@ padded-all (n ∷ shape) (k ∷ index) in' = ap (λ i. k ∷ i) (padded-all shap
 -- The loop before it looks at an axis below a: the axes from a on were at their last numbers and are at 0 now.
 pub record StandsAt (shape : List ℕ) (strides : List ℤ) (start : ℕ) (old index : List ℕ) (a offset : ℕ) : Type 0 where
   pub within : a ≤ length shape
-  pub index_is : index ≡ padded shape (take a old)
+  pub index_is : index ≡ zero_filled shape (take a old)
   pub offset_is : pos offset ≡ pos start +ℤ dot strides (take a old)
   pub last : rank (drop a shape) (drop a old) + 1 ≡ count (drop a shape)
 
@@ -81,7 +81,7 @@ pub record Turns (l : Layout) (old index : List ℕ) (j offset : ℕ) : Type 0 w
   pub in_shape : IsIndex l.shape old
   pub below : j < length l.shape
   pub few : get_or l.shape j 0 ≤ max_items
-  pub index_is : index ≡ padded l.shape (take (suc j) old)
+  pub index_is : index ≡ zero_filled l.shape (take (suc j) old)
   pub offset_is : pos offset ≡ pos l.offset +ℤ dot l.strides (take (suc j) old)
   pub last : rank (drop (suc j) l.shape) (drop (suc j) old) + 1 ≡ count (drop (suc j) l.shape)
 
@@ -110,7 +110,7 @@ offset-lt {l} {old} {index} {j} {offset} t =
 
 -- the next index
 abbrev pub stepped : Layout → List ℕ → ℕ → List ℕ
-stepped l old j = padded l.shape (take j old ++ (get_or old j 0 + 1) ∷ [])
+stepped l old j = zero_filled l.shape (take j old ++ (get_or old j 0 + 1) ∷ [])
 
 step_on : (off d d' d'' at s p q : ℤ) → at ≡ off +ℤ d' → d' ≡ d +ℤ p → d'' ≡ d +ℤ q → q ≡ p +ℤ s → at +ℤ s ≡ off +ℤ d''
 step_on off d d' d'' at s p q is one two more = omega (arith, ints)
@@ -125,7 +125,7 @@ step-address {l} {old} {index} {j} {offset} t =
     let front : length (take j old) ≡ j = length-take-le j old (omega arith) in
     let short : length (take j old ++ (k + 1) ∷ []) ≤ length l.shape = omega (arith, length-append (take j old) ((k + 1) ∷ []), t.below) in
     let new = dot-padded l.strides l.shape (take j old ++ (k + 1) ∷ []) short ∙ dot-push l.strides (take j old) (k + 1) j front axis in
-    step_on (pos l.offset) (dot l.strides (take j old)) (dot l.strides (take (suc j) old)) (dot l.strides (padded l.shape (take j old ++ (k + 1) ∷ []))) (pos offset) (s *ℤ pos 1) (s *ℤ pos k) (s *ℤ pos (k + 1)) t.offset_is (dot-take_more l.strides old j inside axis) new (*ℤ-more s k)
+    step_on (pos l.offset) (dot l.strides (take j old)) (dot l.strides (take (suc j) old)) (dot l.strides (zero_filled l.shape (take j old ++ (k + 1) ∷ []))) (pos offset) (s *ℤ pos 1) (s *ℤ pos k) (s *ℤ pos (k + 1)) t.offset_is (dot-take_more l.strides old j inside axis) new (*ℤ-more s k)
 
 pub IsIndex-stepped : {l : Layout} {old index : List ℕ} {j offset : ℕ} → Turns l old index j offset → get_or index j 0 + 1 < get_or l.shape j 0 → IsIndex l.shape (stepped l old j)
 IsIndex-stepped {l} {old} {index} {j} {offset} t below = IsIndex-padded_push l.shape old j (get_or old j 0 + 1) t.in_shape t.below (omega (arith, number_is t, below))
@@ -157,7 +157,7 @@ pub back-bounds : {l : Layout} {old index : List ℕ} {j offset : ℕ} → Turns
 back-bounds {l} {old} {index} {j} {offset} t =
     sum_bounds (pos l.offset +ℤ dot l.strides (take j old)) (pos offset -ℤ get_or l.strides j (pos 0) *ℤ pos (get_or old j 0)) max_bytes (back-address t) (part_low l old j t.in_shape) (part_high l old j t.in_shape)
 
-pub set-back : {l : Layout} {old index : List ℕ} {j offset : ℕ} → Turns l old index j offset → set index j 0 ≡ padded l.shape (take j old)
+pub set-back : {l : Layout} {old index : List ℕ} {j offset : ℕ} → Turns l old index j offset → set index j 0 ≡ zero_filled l.shape (take j old)
 set-back {l} {old} {index} {j} {offset} t = ap (λ i. set i j 0) t.index_is ∙ set-padded_zero l.shape old j t.in_shape t.below
 
 -- the axis before is at its last number too
@@ -187,12 +187,12 @@ over {shape} {strides} {start} {old} {index} {a} {offset} none in' at =
 
 -- ---- where the walk is over, or has not begun
 
-pub padded-nil : (shape : List ℕ) → replicate (length shape) 0 ≡ padded shape []
+pub padded-nil : (shape : List ℕ) → replicate (length shape) 0 ≡ zero_filled shape []
 padded-nil [] = refl
 padded-nil (n ∷ shape) = ap (λ i. 0 ∷ i) (padded-nil shape)
 
 -- a walk at the first index
-pub walk_begins : (shape : List ℕ) (strides : List ℤ) (start : ℕ) (index : List ℕ) (left : ℕ) → index ≡ padded shape [] → left ≡ count shape → IsOnWalk shape strides start index start left
+pub walk_begins : (shape : List ℕ) (strides : List ℤ) (start : ℕ) (index : List ℕ) (left : ℕ) → index ≡ zero_filled shape [] → left ≡ count shape → IsOnWalk shape strides start index start left
 walk_begins shape strides start index left zeros all = record {
   most = omega arith;
   axes = ap length zeros ∙ length-padded shape [];

@@ -11,7 +11,7 @@ use Rattle.shape_strides.specs.Limits.{max_items, max_bytes}
 use Rattle.shape_strides.specs.Addresses.{dot, natural}
 use Rattle.shape_strides.specs.Layouts.{offsets}
 use Rattle.shape_strides.specs.Contiguity.{first_address, printed_strides, is_c_contiguous}
-use Rattle.shape_strides.specs.inside.AxisIndexes.{unit}
+use Rattle.shape_strides.specs.AxisIndexes.{unit}
 use Rattle.shape_strides.specs.AxisLaws.{IsIndex-unit, rank-unit, dot-unit}
 use Rattle.shape_strides.specs.LayoutLaws.{entry-first, length-offsets, get_or-offsets, pos-offset, offsets_within, offsets-none}
 use Rattle.shape_strides.specs.ContiguityLaws.{first_address-entry, printed-at}

@@ -13,7 +13,7 @@ use Rattle.shape_strides.specs.Addresses.{dot, natural, address_at}
 use Rattle.shape_strides.specs.Joined.{strided_axes, leads_over, join_outside, all_joined}
 use Rattle.shape_strides.specs.Runs.{run_along, runs_from, runs}
 use Rattle.shape_strides.specs.Walks.{AreAxes, offsets_at}
-use Rattle.shape_strides.specs.inside.AxisIndexes.{padded}
+use Rattle.shape_strides.specs.AxisIndexes.{zero_filled}
 use Rattle.shape_strides.specs.inside.Single.{if_long}
 use Rattle.shape_strides.specs.inside.LastRuns.{IsLastRun}
 use Rattle.shape_strides.specs.AxisLaws.{dot-nil, IsIndex-first}
@@ -100,7 +100,7 @@ count-split shape zero = one-mul (count shape)
 count-split [] (suc k) = refl
 count-split (n ∷ shape) (suc k) = mul_assoc n (count (take k shape)) (count (drop k shape)) ∙ ap (λ c. n * c) (count-split shape k)
 
-padded-in : (shape index : List ℕ) (k : ℕ) → 0 < count shape → IsIndex (take k shape) index → IsIndex shape (padded shape index)
+padded-in : (shape index : List ℕ) (k : ℕ) → 0 < count shape → IsIndex (take k shape) index → IsIndex shape (zero_filled shape index)
 padded-in shape [] zero some in' = IsIndex-first shape some
 padded-in shape (i ∷ index) zero some in' = absurd in'
 padded-in [] index (suc k) some in' = tt
@@ -119,7 +119,7 @@ outside-axes shape strides offset k some low axes =
     let whole = count-split shape k in
     let both = factors_pos (count (take k shape)) (count (drop k shape)) (omega (arith, whole)) in
     let grown : count (take k shape) * 1 ≤ count (take k shape) * count (drop k shape) = mul-le-mul_left (count (take k shape)) both.1 in
-    let same : (index : List ℕ) → IsIndex (take k shape) index → address_at strides offset (padded shape index) ≡ address_at (take k strides) offset index = λ index in'.
+    let same : (index : List ℕ) → IsIndex (take k shape) index → address_at strides offset (zero_filled shape index) ≡ address_at (take k strides) offset index = λ index in'.
     let size = length-index (take k shape) index in' in
     let long = length-take k shape in
     ap (λ z. pos offset +ℤ z) (dot-padded strides shape index (omega arith) ∙ sym (dot-take strides index k (omega arith))) in
@@ -127,8 +127,8 @@ outside-axes shape strides offset k some low axes =
       one_stride_an_axis = omega (arith, length-take k strides, length-take k shape, axes.one_stride_an_axis);
       small = All-from_recursion (λ n. n ≤ max_items) (take k shape) (lengths-low (take k shape) max_items both.0 (omega arith));
       within_limit = record {
-        from_zero = λ index in'. subst (λ z. pos 0 ≤ℤ z) (same index in') (axes.within_limit.from_zero (padded shape index) (padded-in shape index k some in'));
-        within = λ index in'. subst (λ z. (z +ℤ pos 1) ≤ℤ pos max_bytes) (same index in') (axes.within_limit.within (padded shape index) (padded-in shape index k some in'));
+        from_zero = λ index in'. subst (λ z. pos 0 ≤ℤ z) (same index in') (axes.within_limit.from_zero (zero_filled shape index) (padded-in shape index k some in'));
+        within = λ index in'. subst (λ z. (z +ℤ pos 1) ≤ℤ pos max_bytes) (same index in') (axes.within_limit.within (zero_filled shape index) (padded-in shape index k some in'));
       };
       zero_if_empty = λ none. absurd (omega (arith, both.0));
     }

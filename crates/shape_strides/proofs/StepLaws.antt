@@ -4,7 +4,7 @@ use Rattle.std.proofs.lemmas.Int.{ints}
 use Rattle.std.proofs.lemmas.List.{take_more}
 use lib.IntN.{+ℤ_assoc, +ℤ_idl, +ℤ_idr}
 use Rattle.shape_strides.specs.declared.layout.Layout.{Layout}
-use Rattle.shape_strides.specs.inside.AxisIndexes.{padded}
+use Rattle.shape_strides.specs.AxisIndexes.{zero_filled}
 use Rattle.shape_strides.specs.AxisLaws.{dot-nil, dot-zeros, rank-zeros}
 use Rattle.shape_strides.specs.IndexLaws.{length-index}
 use Rattle.shape_strides.specs.Indexes.{count, rank, IsIndex}
@@ -12,12 +12,12 @@ use Rattle.shape_strides.specs.Limits.{max_bytes}
 use Rattle.shape_strides.specs.Addresses.{dot}
 use Rattle.shape_strides.specs.Layouts.{address}
 
-pub length-padded : (shape front : List ℕ) → length (padded shape front) ≡ length shape
+pub length-padded : (shape front : List ℕ) → length (zero_filled shape front) ≡ length shape
 length-padded [] front = refl
 length-padded (n ∷ shape) [] = ap suc (length-padded shape [])
 length-padded (n ∷ shape) (k ∷ front) = ap suc (length-padded shape front)
 
-pub dot-padded : (strides : List ℤ) (shape front : List ℕ) → length front ≤ length shape → dot strides (padded shape front) ≡ dot strides front
+pub dot-padded : (strides : List ℤ) (shape front : List ℕ) → length front ≤ length shape → dot strides (zero_filled shape front) ≡ dot strides front
 dot-padded [] shape front short = refl
 dot-padded (s ∷ strides) shape [] short = dot-zeros (s ∷ strides) shape
 dot-padded (s ∷ strides) [] (k ∷ front) short = absurd (omega arith)
@@ -33,14 +33,14 @@ dot-push (s ∷ strides) (k ∷ front) x (suc j) same below =
     ap (λ z. s *ℤ pos k +ℤ z) (dot-push strides front x j (omega arith) (omega arith)) ∙ sym (+ℤ_assoc (s *ℤ pos k) (dot strides front) (get_or strides j (pos 0) *ℤ pos x))
 
 -- the zeros are an index where there is one
-pub IsIndex-zeros : (shape index : List ℕ) → IsIndex shape index → IsIndex shape (padded shape [])
+pub IsIndex-zeros : (shape index : List ℕ) → IsIndex shape index → IsIndex shape (zero_filled shape [])
 IsIndex-zeros [] [] in' = tt
 IsIndex-zeros [] (k ∷ index) in' = absurd in'
 IsIndex-zeros (n ∷ shape) [] in' = absurd in'
 IsIndex-zeros (n ∷ shape) (k ∷ index) in' = (omega (arith, in'.0), IsIndex-zeros shape index in'.1)
 
 -- an index with zeros after its first numbers
-pub IsIndex-padded_take : (shape index : List ℕ) (j : ℕ) → IsIndex shape index → IsIndex shape (padded shape (take j index))
+pub IsIndex-padded_take : (shape index : List ℕ) (j : ℕ) → IsIndex shape index → IsIndex shape (zero_filled shape (take j index))
 IsIndex-padded_take [] [] j in' = tt
 IsIndex-padded_take [] (k ∷ index) j in' = absurd in'
 IsIndex-padded_take (n ∷ shape) [] j in' = absurd in'
@@ -48,14 +48,14 @@ IsIndex-padded_take (n ∷ shape) (k ∷ index) zero in' = (omega (arith, in'.0)
 IsIndex-padded_take (n ∷ shape) (k ∷ index) (suc j) in' = (in'.0, IsIndex-padded_take shape index j in'.1)
 
 -- with one number put after the first ones
-pub IsIndex-padded_push : (shape index : List ℕ) (j x : ℕ) → IsIndex shape index → j < length shape → x < get_or shape j 0 → IsIndex shape (padded shape (take j index ++ x ∷ []))
+pub IsIndex-padded_push : (shape index : List ℕ) (j x : ℕ) → IsIndex shape index → j < length shape → x < get_or shape j 0 → IsIndex shape (zero_filled shape (take j index ++ x ∷ []))
 IsIndex-padded_push [] index j x in' below fits = absurd (omega arith)
 IsIndex-padded_push (n ∷ shape) [] j x in' below fits = absurd in'
 IsIndex-padded_push (n ∷ shape) (k ∷ index) zero x in' below fits = (fits, IsIndex-zeros shape index in'.1)
 IsIndex-padded_push (n ∷ shape) (k ∷ index) (suc j) x in' below fits = (in'.0, IsIndex-padded_push shape index j x in'.1 (omega arith) fits)
 
 -- The index after this one, where the axes after j are at their last numbers.
-pub rank-stepped : (shape index : List ℕ) (j : ℕ) → IsIndex shape index → j < length shape → rank (drop (suc j) shape) (drop (suc j) index) + 1 ≡ count (drop (suc j) shape) → rank shape (padded shape (take j index ++ (get_or index j 0 + 1) ∷ [])) ≡ rank shape index + 1
+pub rank-stepped : (shape index : List ℕ) (j : ℕ) → IsIndex shape index → j < length shape → rank (drop (suc j) shape) (drop (suc j) index) + 1 ≡ count (drop (suc j) shape) → rank shape (zero_filled shape (take j index ++ (get_or index j 0 + 1) ∷ [])) ≡ rank shape index + 1
 rank-stepped [] index j in' below last = absurd (omega arith)
 rank-stepped (n ∷ shape) [] j in' below last = absurd in'
 rank-stepped (n ∷ shape) (k ∷ index) zero in' below last = omega (arith, rank-zeros shape, add-mul k 1 (count shape), last)
@@ -78,18 +78,18 @@ dot-take_more strides index j inside below =
     rw (← add-one j, take_more index j 0 inside) (dot-push strides (take j index) (get_or index j 0) j (length-take-le j index (omega arith)) below)
 
 -- the sum over the first axes is the address of an index, so it lies in the bytes too
-pub part-address : (l : Layout) (index : List ℕ) (j : ℕ) → IsIndex l.shape index → address l (padded l.shape (take j index)) ≡ pos l.offset +ℤ dot l.strides (take j index)
+pub part-address : (l : Layout) (index : List ℕ) (j : ℕ) → IsIndex l.shape index → address l (zero_filled l.shape (take j index)) ≡ pos l.offset +ℤ dot l.strides (take j index)
 part-address l index j in' =
     let short : length (take j index) ≤ length l.shape = omega (arith, length-take j index, length-index l.shape index in') in
     ap (λ z. pos l.offset +ℤ z) (dot-padded l.strides l.shape (take j index) short)
 
 pub part_low : (l : Layout) (index : List ℕ) (j : ℕ) → IsIndex l.shape index → pos 0 ≤ℤ (pos l.offset +ℤ dot l.strides (take j index))
 part_low l index j in' =
-    rw (← part-address l index j in') (l.within_limit.from_zero (padded l.shape (take j index)) (IsIndex-padded_take l.shape index j in'))
+    rw (← part-address l index j in') (l.within_limit.from_zero (zero_filled l.shape (take j index)) (IsIndex-padded_take l.shape index j in'))
 
 pub part_high : (l : Layout) (index : List ℕ) (j : ℕ) → IsIndex l.shape index → (pos l.offset +ℤ dot l.strides (take j index) +ℤ pos 1) ≤ℤ pos max_bytes
 part_high l index j in' =
-    rw (← part-address l index j in') (l.within_limit.within (padded l.shape (take j index)) (IsIndex-padded_take l.shape index j in'))
+    rw (← part-address l index j in') (l.within_limit.within (zero_filled l.shape (take j index)) (IsIndex-padded_take l.shape index j in'))
 
 -- `at` before axis j: the sum so far is at
 pub record ComesTo (l : Layout) (index : List ℕ) (j at : ℕ) : Type 0 where

@@ -6,7 +6,7 @@ use Rattle.std.proofs.lemmas.Bool.{false≢true, ltb-true, and_parts}
 use lib.IntN.{neg_ℤ, neg_ℤ-+ℤ, +ℤ_idr, *ℤ-zero, +ℤ_idl, one, *ℤ-one}
 use Rattle.shape_strides.specs.Addresses.{dot, natural}
 use Rattle.shape_strides.specs.Indexes.{count, rank, IsIndex}
-use Rattle.shape_strides.specs.inside.AxisIndexes.{padded, unit}
+use Rattle.shape_strides.specs.AxisIndexes.{zero_filled, unit}
 use Rattle.shape_strides.specs.CountLaws.{factors_pos}
 
 -- an index without numbers adds nothing
@@ -15,17 +15,17 @@ dot-nil [] = refl
 dot-nil (s ∷ strides) = refl
 
 -- and zeros add nothing
-pub dot-zeros : (strides : List ℤ) (shape : List ℕ) → dot strides (padded shape []) ≡ pos 0
+pub dot-zeros : (strides : List ℤ) (shape : List ℕ) → dot strides (zero_filled shape []) ≡ pos 0
 dot-zeros [] shape = refl
 dot-zeros (s ∷ strides) [] = refl
 dot-zeros (s ∷ strides) (n ∷ shape) = rw (*ℤ-zero s, dot-zeros strides shape)
 
-pub rank-zeros : (shape : List ℕ) → rank shape (padded shape []) ≡ 0
+pub rank-zeros : (shape : List ℕ) → rank shape (zero_filled shape []) ≡ 0
 rank-zeros [] = refl
 rank-zeros (n ∷ shape) = omega (arith, rank-zeros shape, zero-mul (count shape))
 
 -- the zeros are the first index, where there is one
-pub IsIndex-first : (shape : List ℕ) → 0 < count shape → IsIndex shape (padded shape [])
+pub IsIndex-first : (shape : List ℕ) → 0 < count shape → IsIndex shape (zero_filled shape [])
 IsIndex-first [] some = tt
 IsIndex-first (n ∷ shape) some = let both = factors_pos n (count shape) some in (both.0, IsIndex-first shape both.1)
 

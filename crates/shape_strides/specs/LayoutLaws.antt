@@ -7,7 +7,7 @@ use Rattle.shape_strides.specs.declared.layout.Layout.{Layout}
 use Rattle.shape_strides.specs.Addresses.{natural}
 use Rattle.shape_strides.specs.Indexes.{count, indexes, rank, IsIndex}
 use Rattle.shape_strides.specs.Layouts.{address, offsets, Fits}
-use Rattle.shape_strides.specs.inside.AxisIndexes.{padded}
+use Rattle.shape_strides.specs.AxisIndexes.{zero_filled}
 use Rattle.shape_strides.specs.IndexLaws.{length-indexes, rank-lt, get_or-indexes, index_at}
 use Rattle.shape_strides.specs.AxisLaws.{dot-zeros, rank-zeros, IsIndex-first}
 
@@ -42,7 +42,7 @@ offsets_within l len item fits = λ k d below.
 -- the first of them
 pub entry-first : (l : Layout) → 0 < count l.shape → get_or (offsets l) 0 0 ≡ l.offset
 entry-first l some =
-    let zeros = padded l.shape [] in
+    let zeros = zero_filled l.shape [] in
     ap (λ r. get_or (offsets l) r 0) (sym (rank-zeros l.shape)) ∙ get_or-offsets l zeros 0 (IsIndex-first l.shape some) ∙ ap (λ z. natural (pos l.offset +ℤ z)) (dot-zeros l.strides l.shape) ∙ ap natural (+ℤ_idr (pos l.offset))
 
 -- where there are no items there are no offsets

@@ -12,6 +12,7 @@ pub mod Contiguity
 pub mod Stacks
 pub mod AddressOrders
 pub mod IndexItems
+pub mod AxisIndexes
 pub mod inside
 pub mod CountLaws
 pub mod IndexLaws

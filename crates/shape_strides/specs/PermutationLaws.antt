@@ -8,8 +8,7 @@ use Rattle.std.proofs.lemmas.List.Elements.{All-from_recursion, recursion_from_A
 use Rattle.std.proofs.lemmas.List.Sums.{sum_by-cons}
 use Rattle.std.proofs.lemmas.List.Sorted.{IsPermutation-refl, IsPermutation-trans, IsPermutation-swap, IsPermutation-map, IsPermutation-keeps, All-permutation, Contains-permutation, sum_by-IsPermutation}
 use Rattle.shape_strides.specs.Indexes.{count, IsIndex}
-use Rattle.shape_strides.specs.Stacks.{Axis}
-use Rattle.shape_strides.specs.inside.Orders.{lengths_in}
+use Rattle.shape_strides.specs.Stacks.{Axis, lengths_in}
 use Rattle.shape_strides.specs.CountLaws.{factors_pos}
 
 -- ---- how many items

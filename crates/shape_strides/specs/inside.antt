@@ -2,7 +2,6 @@ pub mod Reach
 pub mod Starts
 pub mod Heads
 pub mod Alike
-pub mod AxisIndexes
 pub mod Single
 pub mod LastRuns
 pub mod Orders

@@ -13,14 +13,14 @@ use Rattle.shape_strides.specs.Layouts.{address, offsets, Fits, distance, IsNest
 use Rattle.shape_strides.specs.IndexLaws.{index_at}
 use Rattle.shape_strides.specs.LayoutLaws.{length-offsets, get_or-offsets}
 use Rattle.shape_strides.specs.AxisLaws.{IsIndex-first, dot-zeros}
-use Rattle.shape_strides.specs.inside.AxisIndexes.{padded}
+use Rattle.shape_strides.specs.AxisIndexes.{zero_filled}
 use Rattle.view_ops.specs.FieldViews.{GivesField}
 
 -- the first item stands at the offset
 pub offset-within : (l : Layout) (len item : ℕ) → Fits l len item → 0 < count l.shape → l.offset + item ≤ len
 offset-within l len item fits some =
-    let first = fits.within (padded l.shape []) (IsIndex-first l.shape some) in
-    let is : address l (padded l.shape []) ≡ pos l.offset = ap (λ z. pos l.offset +ℤ z) (dot-zeros l.strides l.shape) ∙ +ℤ_idr (pos l.offset) in
+    let first = fits.within (zero_filled l.shape []) (IsIndex-first l.shape some) in
+    let is : address l (zero_filled l.shape []) ≡ pos l.offset = ap (λ z. pos l.offset +ℤ z) (dot-zeros l.strides l.shape) ∙ +ℤ_idr (pos l.offset) in
     omega (arith, ints, is, first)
 
 -- each address of the new layout is so many bytes further on

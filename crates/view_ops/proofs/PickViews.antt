@@ -23,9 +23,10 @@ use Rattle.view_ops.specs.declared.pick.AxisPick.TheVariants.{At as AtAxis, Alon
 use Rattle.view_ops.specs.declared.slice.Progression.{Progression}
 use Rattle.view_ops.specs.Slices.{run_number, run_numbers, IsRunWithin}
 use Rattle.view_ops.specs.Basics.{axis_of, picked_shape, picked_index}
-use Rattle.view_ops.specs.inside.Picks.{pick_shown, ArePicks, first_of, axes_taken, run_stride, stride_of, picked_strides, IsSmallStep, IsSmallPick, HaveSmallSteps}
+use Rattle.view_ops.specs.inside.Picks.{pick_shown, ArePicks, axes_taken, run_stride, stride_of, picked_strides, IsSmallStep, IsSmallPick, HaveSmallSteps}
+use Rattle.view_ops.specs.Picks.{first_of}
 use Rattle.view_ops.specs.Views.{view_through, IsViewOf, KeepsNested}
-use Rattle.view_ops.specs.inside.Shows.{Shows}
+use Rattle.view_ops.specs.Shows.{ShowsThrough}
 use Rattle.view_ops.specs.PickLaws.{length-run, number_at, first_number}
 use Rattle.view_ops.specs.ViewLaws.{LieWithin-view, inside-view, offsets-view}
 use Rattle.view_ops.proofs.ViewLaws.{IsNested-view}
@@ -347,7 +348,7 @@ picked-address : (old : Layout) (shape : List ℕ) (strides : List ℤ) (offset 
 picked-address old shape strides offset picks index picked some in' =
     ap (λ o. o +ℤ dot strides index) (picked.offset_is some) ∙ ap (λ s. address old (firsts picks) +ℤ dot s index) (picked.strides_are some) ∙ +ℤ_assoc (pos old.offset) (dot old.strides (firsts picks)) (dot (picked_strides old.strides picks) index) ∙ ap (λ z. pos old.offset +ℤ z) (dot-picks old.strides old.shape picks index old.one_stride_an_axis picked.are in')
 
-pub picked-shows : (old : Layout) (shape : List ℕ) (strides : List ℤ) (offset : ℕ) (picks : List AxisPick) → IsPicked old shape strides offset picks → Shows old shape strides offset (leads_of_picks picks)
+pub picked-shows : (old : Layout) (shape : List ℕ) (strides : List ℤ) (offset : ℕ) (picks : List AxisPick) → IsPicked old shape strides offset picks → ShowsThrough old shape strides offset (leads_of_picks picks)
 picked-shows old shape strides offset picks picked = record {
   leads = λ index in'. leads-picks old.shape picks index picked.are (rw (← picked.shape_is) in');
   same = λ index in'. picked-address old shape strides offset picks index picked (omega (arith, rank-lt shape index in')) (rw (← picked.shape_is) in');

@@ -20,7 +20,7 @@ use Rattle.view_ops.specs.Transposes.{axes_of, transposed, transposed_shape, tra
 use Rattle.view_ops.specs.inside.Axes.{AreAxes, AreAllAxes}
 use Rattle.view_ops.specs.Views.{view_through, IsViewOf, GivesView, KeepsNested}
 use Rattle.view_ops.proofs.TransposeLaws.{dot-put_at, IsIndex-transposed, transposed-one, count-transposed}
-use Rattle.view_ops.specs.inside.Shows.{Shows, IsView}
+use Rattle.view_ops.specs.Shows.{ShowsThrough, IsView}
 use Rattle.view_ops.specs.ViewLaws.{LieWithin-view, inside-view, offsets-view}
 use Rattle.view_ops.proofs.ViewLaws.{IsNested-view, gives_refusal}
 use Rattle.view_ops.proofs.AxesLaws.{axis-lt}
@@ -53,7 +53,7 @@ turned-address old shape strides axes index turned =
     let size : length old.strides ≡ length axes = old.one_stride_an_axis ∙ sym turned.all.size in
     ap (λ s. pos old.offset +ℤ dot s index) turned.strides_are ∙ ap (λ z. pos old.offset +ℤ z) moved ∙ ap (λ n. pos old.offset +ℤ dot old.strides (put_at axes index (replicate n 0))) size
 
-pub turned-shows : (old : Layout) (shape : List ℕ) (strides : List ℤ) (axes : List ℕ) → IsTurned old shape strides axes → Shows old shape strides old.offset (transposed_index axes)
+pub turned-shows : (old : Layout) (shape : List ℕ) (strides : List ℤ) (axes : List ℕ) → IsTurned old shape strides axes → ShowsThrough old shape strides old.offset (transposed_index axes)
 turned-shows old shape strides axes turned = record {
   leads = λ index in'. IsIndex-transposed axes old.shape index turned.all.size turned.all.are (rw (← turned.shape_is) in');
   same = λ index in'. turned-address old shape strides axes index turned;
@@ -80,7 +80,7 @@ turned-zeros old shape strides axes turned none =
 
 pub turned-is : (old new : Layout) (axes : List ℕ) → IsTurned old new.shape new.strides axes → new.offset ≡ old.offset → IsViewOf old new (record { shape = transposed_shape axes old.shape; leads = transposed_index axes })
 turned-is old new axes turned same =
-    let view : IsView old new (transposed_index axes) = subst (λ o. Shows old new.shape new.strides o (transposed_index axes)) (sym same) (turned-shows old new.shape new.strides axes turned) in
+    let view : IsView old new (transposed_index axes) = subst (λ o. ShowsThrough old new.shape new.strides o (transposed_index axes)) (sym same) (turned-shows old new.shape new.strides axes turned) in
     record {
       shape = turned.shape_is;
       leads = λ index in'. view.leads index (rw turned.shape_is in');
@@ -91,7 +91,7 @@ turned-is old new axes turned same =
 
 pub turned-nested : (old new : Layout) (axes : List ℕ) → IsTurned old new.shape new.strides axes → new.offset ≡ old.offset → KeepsNested old new
 turned-nested old new axes turned same item nested =
-    let view : IsView old new (transposed_index axes) = subst (λ o. Shows old new.shape new.strides o (transposed_index axes)) (sym same) (turned-shows old new.shape new.strides axes turned) in
+    let view : IsView old new (transposed_index axes) = subst (λ o. ShowsThrough old new.shape new.strides o (transposed_index axes)) (sym same) (turned-shows old new.shape new.strides axes turned) in
     IsNested-view old new (transposed_index axes) item view (λ i j in-i in-j same. transposed-one axes old.shape i j turned.all.size turned.all.are (rw (← turned.shape_is) in-i) (rw (← turned.shape_is) in-j) same) nested
 
 -- ---- exits

@@ -10,7 +10,7 @@ use Rattle.shape_strides.specs.Layouts.{offsets, distance, IsNested}
 use Rattle.shape_strides.specs.IndexLaws.{rank-lt, rank-same, index_at}
 use Rattle.shape_strides.specs.LayoutLaws.{length-offsets, get_or-offsets}
 use Rattle.view_ops.specs.Views.{View, GivesView}
-use Rattle.view_ops.specs.inside.Shows.{IsView}
+use Rattle.view_ops.specs.Shows.{IsView}
 
 -- the offset of the view at the rank of an index
 offset-view : (old new : Layout) (m : List ℕ → List ℕ) → IsView old new m → (index : List ℕ) → IsIndex new.shape index → get_or (offsets new) (rank new.shape index) 0 ≡ get_or (offsets old) (rank old.shape (m index)) 0

@@ -4,6 +4,7 @@ pub mod Transposes
 pub mod Basics
 pub mod Picks
 pub mod FieldViews
+pub mod Shows
 pub mod inside
 pub mod ViewLaws
 pub mod PickLaws

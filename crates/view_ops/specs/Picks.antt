@@ -17,3 +17,9 @@ ArePicks [] [] = Unit {0}
 ArePicks (n ∷ shape) (AtAxis number ∷ picks) = (number < n) × ArePicks shape picks
 ArePicks (n ∷ shape) (AlongAxis run ∷ picks) = IsRunWithin run n × ArePicks shape picks
 ArePicks _ _ = ⊥
+
+-- the number of the first item that is picked, on the axis that a pick takes
+abbrev pub first_of : AxisPick → List ℕ
+first_of (AtAxis number) = number ∷ []
+first_of (AlongAxis run) = run.first ∷ []
+first_of NewAxis = []

@@ -8,10 +8,10 @@ use Rattle.shape_strides.specs.Indexes.{indexes, rank, IsIndex}
 use Rattle.shape_strides.specs.IndexLaws.{length-indexes, rank-lt, get_or-indexes, index_at, same_on_indexes}
 use Rattle.shape_strides.specs.LayoutLaws.{length-offsets, get_or-offsets}
 use Rattle.view_ops.specs.Views.{View, view_through, IsViewOf}
-use Rattle.view_ops.specs.inside.Shows.{Shows, IsView}
+use Rattle.view_ops.specs.Shows.{ShowsThrough, IsView}
 
 -- they lie within the bytes that the other fits
-pub LieWithin-view : (old : Layout) (shape : List ℕ) (strides : List ℤ) (offset : ℕ) (m : List ℕ → List ℕ) (len item : ℕ) → Shows old shape strides offset m → Fits old len item → LieWithin shape strides offset len item
+pub LieWithin-view : (old : Layout) (shape : List ℕ) (strides : List ℤ) (offset : ℕ) (m : List ℕ → List ℕ) (len item : ℕ) → ShowsThrough old shape strides offset m → Fits old len item → LieWithin shape strides offset len item
 LieWithin-view old shape strides offset m len item view fits = record {
   from_zero = λ index in'. rw (view.same index in') (fits.from_zero (m index) (view.leads index in'));
   within = λ index in'. rw (view.same index in') (fits.within (m index) (view.leads index in'));

@@ -1,3 +1,2 @@
 pub mod Axes
 pub mod Picks
-pub mod Shows

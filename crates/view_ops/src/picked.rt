@@ -4,8 +4,8 @@ ghost use Rattle.std.specs.List.{flat_map};
 ghost use Rattle.elem_descr.specs.Refusals.{Gives};
 ghost use Rattle.shape_strides.specs.Limits.{max_axes};
 ghost use Rattle.view_ops.specs.Basics.{axis_of, picked_shape, shape_picked, picked_view};
-ghost use Rattle.view_ops.specs.inside.Picks.{first_of, axes_taken, run_stride, stride_of, picked_strides, IsSmallStep, IsSmallPick, HaveSmallSteps};
-ghost use Rattle.view_ops.specs.Picks.{pick_shown, ArePicks};
+ghost use Rattle.view_ops.specs.inside.Picks.{axes_taken, run_stride, stride_of, picked_strides, IsSmallStep, IsSmallPick, HaveSmallSteps};
+ghost use Rattle.view_ops.specs.Picks.{first_of, pick_shown, ArePicks};
 ghost use Rattle.view_ops.specs.Views.{GivesView, KeepsNested};
 
 use crate::pick::AxisPick;

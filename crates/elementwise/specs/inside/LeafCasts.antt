@@ -7,7 +7,7 @@ use Rattle.elem_descr.specs.Encoding.{size}
 use Rattle.elem_descr.specs.Items.{item_size, leaves_of, leaf_at}
 use Rattle.raw_block.specs.Bytes.{item_at}
 use Rattle.elementwise.specs.inside.Passes.{leaf_from}
-use Rattle.overlap_copy.specs.inside.Packed.{row_offsets}
+use Rattle.overlap_copy.specs.Packed.{row_offsets}
 
 -- the leaf that is cast to the k-th one: a scalar is each time the same
 abbrev pub source : Descr → ℕ → Leaf

@@ -11,8 +11,7 @@ use Rattle.view_ops.specs.declared.pick.AxisPick.{AxisPick}
 use Rattle.view_ops.specs.declared.pick.AxisPick.TheVariants.{At as AtAxis, Along as AlongAxis, New as NewAxis}
 use Rattle.view_ops.specs.Slices.{IsRunWithin}
 use Rattle.view_ops.specs.Basics.{has_step, picked_index}
-use Rattle.view_ops.specs.Picks.{pick_shown}
-use Rattle.view_ops.specs.inside.Picks.{first_of}
+use Rattle.view_ops.specs.Picks.{pick_shown, first_of}
 use Rattle.broadcasting.specs.Broadcasts.{can_stretch, broadcast_index}
 use Rattle.fancy_index.specs.declared.points.PointList.{PointList}
 use Rattle.fancy_index.specs.declared.parts.IndexPart.{IndexPart}

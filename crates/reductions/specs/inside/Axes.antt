@@ -1,5 +1,5 @@
 -- Axes by their numbers.
-use Rattle.std.specs.Prelude.{◌≡◌, ℕ, ◌<◌, Bool, not, ◌&&◌, List, Option, Some, None, Result, Ok, Err}
+use Rattle.std.specs.Prelude.{◌≡◌, ℕ, Bool, not, ◌&&◌, List, Option, Result, Ok, Err}
 use Rattle.std.specs.List.{remove}
 use Rattle.elem_descr.specs.declared.refusal.Refusal.{Refusal}
 use Rattle.elem_descr.specs.declared.refusal.Refusal.TheVariants.{OutOfMemory, EmptyReduction}
@@ -10,11 +10,6 @@ use Rattle.reductions.specs.Lists.{reduced_shape}
 use Rattle.reductions.specs.Outcomes.{has_empty_list}
 use Rattle.reductions.specs.Reductions.{needs_items}
 use Rattle.shape_strides.specs.declared.layout.Layout.{Layout}
-
--- one of so many, or none
-abbrev pub IsAxisOf : ℕ → Option ℕ → Type 0
-IsAxisOf rank None = Unit {0}
-IsAxisOf rank (Some axis) = axis < rank
 
 -- a layout of the items at 0 on an axis, without it
 pub record AreStarts (layout : Layout) (axis : ℕ) (starts : Layout) : Type 0 where

@@ -14,12 +14,6 @@ pub record AddsPicks (old new : List AxisPick) (axes : List ℕ) (picks : List P
   pub are : ArePicks axes added
   pub show : map pick_shown added ≡ picks
 
--- the number of the first item that is picked, on the axis that a pick takes
-abbrev pub first_of : AxisPick → List ℕ
-first_of (AtAxis number) = number ∷ []
-first_of (AlongAxis run) = run.first ∷ []
-first_of NewAxis = []
-
 abbrev pub axes_taken : AxisPick → ℕ
 axes_taken NewAxis = 0
 axes_taken _ = 1

@@ -7,7 +7,7 @@ use Rattle.elem_descr.specs.declared.descr.Descr.TheVariants.{Record as RecordDe
 use Rattle.elem_descr.specs.Fields.{Structure, total}
 use Rattle.elem_descr.specs.Descriptors.{fields_of, listed, leaf_count}
 use Rattle.elem_descr.specs.Items.{leaves_of}
-use Rattle.elem_descr.specs.inside.Weights.{weight}
+use Rattle.elem_descr.specs.Weights.{weight}
 use Rattle.elem_descr.specs.DescriptorLaws.{rest_at, weight-one, listed-fields_of}
 use Rattle.elem_descr.specs.ItemLaws.{leaf_count-before, length-leaves_from}
 use Rattle.array_print.specs.Printed.{join_texts, record_end, field_texts, structure_text, in_parentheses, first_text}

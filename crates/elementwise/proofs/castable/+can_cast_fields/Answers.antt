@@ -1,6 +1,6 @@
 use Rattle.std.proofs.Common.{◌≡◌, sym, ap, ◌∙◌, arith}
 use Rattle.elem_descr.specs.Fields.{total}
-use Rattle.elem_descr.specs.inside.Weights.{weight}
+use Rattle.elem_descr.specs.Weights.{weight}
 use Rattle.elem_descr.specs.DescriptorLaws.{weight-one, seen_fields}
 use Rattle.elem_descr.specs.declared.descr.Field.{Field}
 use Rattle.elementwise.specs.inside.FieldCasts.{can_cast_field}

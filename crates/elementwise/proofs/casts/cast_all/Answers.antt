@@ -6,7 +6,7 @@ use Rattle.raw_block.specs.Bytes.{EachWithin}
 use Rattle.shape_strides.specs.Indexes.{count}
 use Rattle.shape_strides.specs.Limits.{max_bytes}
 use Rattle.overlap_copy.specs.RunLaws.{runs-within}
-use Rattle.overlap_copy.specs.inside.Packed.{row_offsets}
+use Rattle.overlap_copy.specs.Packed.{row_offsets}
 use Rattle.elementwise.specs.Casts.{can_cast_scalar}
 use Rattle.elem_descr.specs.Items.{item_size, leaves_of}
 use Rattle.shape_strides.specs.Layouts.{offsets}

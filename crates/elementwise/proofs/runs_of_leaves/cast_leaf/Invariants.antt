@@ -4,7 +4,7 @@ use Rattle.raw_block.specs.Bytes.{EachWithin}
 use Rattle.elementwise.specs.inside.Passes.{put_all, leaf_from}
 use Rattle.elementwise.proofs.runs_of_leaves.cast_leaf.Given as goal
 use Rattle.shape_strides.specs.RunPairs.{all_offsets}
-use Rattle.overlap_copy.specs.inside.Packed.{row_offsets}
+use Rattle.overlap_copy.specs.Packed.{row_offsets}
 
 -- the runs that are left lead to what all of them do
 abbrev pub invariant-loop-run : goal.invariant-loop-run

@@ -1,7 +1,7 @@
 use Rattle.std.proofs.Common.{sym, ap, ◌∙◌, arith}
 use Rattle.elem_descr.specs.Fields.{total}
 use Rattle.elem_descr.specs.Descriptors.{listed}
-use Rattle.elem_descr.specs.inside.Weights.{weight}
+use Rattle.elem_descr.specs.Weights.{weight}
 use Rattle.elem_descr.specs.DescriptorLaws.{weight-one, seen_fields}
 use Rattle.script_lang.specs.Listed.{all_values}
 use Rattle.literal_items.specs.LiteralItems.{is_castable, can_hold}

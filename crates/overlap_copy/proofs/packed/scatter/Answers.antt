@@ -4,7 +4,7 @@ use Rattle.shape_strides.specs.Limits.{max_bytes}
 use Rattle.shape_strides.specs.Layouts.{offsets}
 use Rattle.shape_strides.specs.Runs.{run_offsets}
 use Rattle.overlap_copy.specs.Assignments.{assigned}
-use Rattle.overlap_copy.specs.inside.Packed.{row_offsets}
+use Rattle.overlap_copy.specs.Packed.{row_offsets}
 use Rattle.overlap_copy.specs.PackedLaws.{row-multiples}
 use Rattle.overlap_copy.specs.RunLaws.{walked-within}
 use Rattle.overlap_copy.proofs.packed.scatter.Goals as goal

@@ -1,7 +1,7 @@
 use Rattle.std.proofs.Common.{◌≡◌, ◌+◌, ◌*◌, ◌≤◌, length, All}
 use Rattle.raw_block.specs.Bytes.{EachWithin}
 use Rattle.overlap_copy.specs.Assignments.{assigned}
-use Rattle.overlap_copy.specs.inside.Packed.{row_offsets}
+use Rattle.overlap_copy.specs.Packed.{row_offsets}
 use Rattle.overlap_copy.proofs.packed.scatter_runs.Given as goal
 use Rattle.shape_strides.specs.RunPairs.{all_offsets}
 

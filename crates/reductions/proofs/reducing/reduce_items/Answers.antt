@@ -8,10 +8,10 @@ use Rattle.elem_descr.specs.Items.{item_size, encode_item}
 use Rattle.elem_descr.specs.Refusals.{Gives}
 use Rattle.shape_strides.specs.Indexes.{count}
 use Rattle.shape_strides.specs.Layouts.{offsets, multiples}
-use Rattle.reductions.specs.Lists.{named_axis, is_axis, lists}
+use Rattle.reductions.specs.Lists.{named_axis, is_axis, lists, IsAxisOf}
 use Rattle.reductions.specs.Outcomes.{reduced_type, outcome_of}
 use Rattle.reductions.specs.Reductions.{result_scalar, reduced_items}
-use Rattle.reductions.specs.inside.Axes.{IsAxisOf, shape_after}
+use Rattle.reductions.specs.inside.Axes.{shape_after}
 use Rattle.reductions.specs.inside.Numbers.{AreReduced}
 use Rattle.reductions.proofs.OutcomeLaws.{outcome_kind, outcome_axis, outcome_shape, outcome_ok, shape_is, length-lists, some_after, items_are, bytes_are}
 use Rattle.reductions.proofs.reducing.reduce_items.Goals as goal

@@ -1,6 +1,6 @@
 use Rattle.std.proofs.Common.{◌++◌, get_or, sym, ap, ◌∙◌}
 use Rattle.view_ops.specs.declared.pick.AxisPick.TheVariants.{At}
-use Rattle.view_ops.specs.inside.Picks.{first_of}
+use Rattle.view_ops.specs.Picks.{first_of}
 use Rattle.view_ops.proofs.PickViews.{flat_map_on}
 use Rattle.view_ops.proofs.picked.first_index.Goals as goal
 

@@ -1,6 +1,6 @@
 use Rattle.std.proofs.Common.{◌≡◌, take}
 use Rattle.std.specs.List.{flat_map}
-use Rattle.view_ops.specs.inside.Picks.{first_of}
+use Rattle.view_ops.specs.Picks.{first_of}
 use Rattle.view_ops.proofs.picked.first_index.Given as goal
 
 abbrev pub invariant-loop-pick : goal.invariant-loop-pick

@@ -2,7 +2,7 @@ use Rattle.std.proofs.Common.{◌≡◌, ◌+◌, ◌*◌, ◌++◌, drop}
 use Rattle.elem_descr.specs.Fields.{total}
 use Rattle.elem_descr.specs.Descriptors.{InOrder, listed}
 use Rattle.elem_descr.specs.WrittenFormats.{written_fields}
-use Rattle.elem_descr.specs.inside.Weights.{weight}
+use Rattle.elem_descr.specs.Weights.{weight}
 use Rattle.elem_descr.proofs.format_text.write.+written.Given as goal
 
 abbrev pub decreases-push_descr : goal.decreases-push_descr

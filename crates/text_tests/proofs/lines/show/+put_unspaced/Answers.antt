@@ -1,6 +1,6 @@
 -- The values of a record have fewer nodes than it.
 use Rattle.std.proofs.Common.{arith, ap}
-use Rattle.script_lang.specs.inside.Nodes.{literal_nodes}
+use Rattle.script_lang.specs.Nodes.{literal_nodes}
 use Rattle.script_lang.specs.RecordLaws.{inner-literal_nodes}
 use Rattle.text_tests.proofs.lines.show.+put_unspaced.Goals as goal
 

@@ -1,6 +1,6 @@
 use Rattle.std.proofs.Common.{◌<◌}
 use Rattle.std.specs.List.{All}
-use Rattle.script_lang.specs.inside.Nodes.{literal_nodes}
+use Rattle.script_lang.specs.Nodes.{literal_nodes}
 use Rattle.text_tests.proofs.lines.show.+put_unspaced.Given as goal
 
 abbrev pub decreases-put_unspaced : goal.decreases-put_unspaced
