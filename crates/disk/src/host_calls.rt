@@ -55,14 +55,22 @@ pub(crate) fn is_there<R: Files>(rt: &R, path: Path) -> io::Result<bool> {
     }
 }
 
+fn open<R: Files>(rt: &R, path: Path) -> io::Result<R::File> {
+    uninterrupted(|| fs::open(rt, path))
+}
+
+fn metadata_of<F: OpenFile>(file: &F) -> io::Result<Metadata> {
+    uninterrupted(|| file.metadata())
+}
+
 /// Opens a plain file, and tells its length. What is no file, as a folder or a pipe, is not opened: a
 /// pipe would wait for its other end.
 pub(crate) fn open_file<R: Files>(rt: &R, path: Path) -> io::Result<(R::File, u64)> {
     if !is_there(rt, path)? {
         return Err(io::Error::from(ErrorKind::NotFound));
     }
-    let file = uninterrupted(|| fs::open(rt, path))?;
-    let len = uninterrupted(|| file.metadata())?.len();
+    let file = open(rt, path)?;
+    let len = metadata_of(&file)?.len();
     Ok((file, len))
 }
 
@@ -99,7 +107,7 @@ pub(crate) fn sync_file<F: OpenFile>(file: &F) -> io::Result<()> {
 /// Brings the names in a folder to the disk, where the folder can be opened and its file system can do
 /// that.
 pub(crate) fn sync_folder<R: Files>(rt: &R, dir: Path) -> io::Result<()> {
-    let Ok(folder) = uninterrupted(|| fs::open(rt, dir)) else {
+    let Ok(folder) = open(rt, dir) else {
         return Ok(());
     };
     match sync_file(&folder) {
@@ -114,7 +122,7 @@ fn lies_at<R: Files<File = File>>(rt: &R, file: &File, path: Path) -> io::Result
     let Some(there) = look_at(rt, path)? else {
         return Ok(false);
     };
-    let own = uninterrupted(|| file.metadata())?;
+    let own = metadata_of(file)?;
     Ok(own.ino() == there.ino() && own.dev() == there.dev())
 }
 
@@ -138,7 +146,7 @@ fn remove_leftover<R: Files<File = File>>(rt: &R, path: Path) -> io::Result<()> 
         Some(found) if !found.is_file() => return remove_file(rt, path),
         Some(_) => {}
     }
-    let file = uninterrupted(|| fs::open(rt, path))?;
+    let file = open(rt, path)?;
     lock(&file)?;
     if lies_at(rt, &file, path)? {
         return remove_file(rt, path);
@@ -174,7 +182,7 @@ pub(crate) fn create_file<R: Files<File = File>>(
         return Err(io::Error::from(ErrorKind::InvalidInput));
     }
     let file = claim_file(rt, path, PRIVATE_MODE)?;
-    if uninterrupted(|| file.metadata())?.mode() != old.mode() {
+    if metadata_of(&file)?.mode() != old.mode() {
         uninterrupted(|| file.set_permissions(old.permissions()))?;
     }
     Ok(file)

@@ -3,12 +3,12 @@ ghost use Rattle.std.specs.Prelude.{◌≡◌, ◌≤◌, length};
 ghost use Rattle.elem_descr.specs.declared.refusal.Refusal.TheVariants.{OutOfMemory};
 
 use std::alloc::{AllocError, AllocFailed};
-use thiserror::Error;
+use std::error::Error;
+use std::fmt;
 
 /// Why a command is refused, in the order of the codes. Its message is its code and its text, as a
 /// reply shows them.
-#[derive(Clone, Copy, Debug, PartialEq, Eq, Error)]
-#[error("{}", self.text())]
+#[derive(Clone, Copy, Debug, PartialEq, Eq)]
 pub enum Refusal {
     LineTooLong,
     ByteNotAllowed,
@@ -101,6 +101,14 @@ impl Refusal {
         self.reply().strip_prefix("no ").unwrap_or_default()
     }
 }
+
+impl fmt::Display for Refusal {
+    fn fmt<W: fmt::Write>(&self, f: &mut fmt::Formatter<W>) -> fmt::Result {
+        f.write_str(self.text())
+    }
+}
+
+impl Error for Refusal {}
 
 impl From<AllocError> for Refusal {
     ghost from_gives = { λ _ e. e ≡ OutOfMemory };
