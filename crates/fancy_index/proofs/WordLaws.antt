@@ -1,23 +1,28 @@
 -- Integers at equal steps.
-use Rattle.std.proofs.Common.{◌≡◌, ◌⊎◌, ℕ, ◌+◌, ◌<◌, ◌≤◌, ◌≢◌, Bool, true, false, cond, ◌&&◌, Some, None, unwrap_or, is_some, Ok, Err, is_ok, IfOk, IfErr, inl, inr, List, map, length, get_or, set, drop, refl, sym, ap, subst, ◌∙◌, arith, below_more, get_or-set_other, get_or-set_same}
+use Rattle.std.proofs.Common.{◌≡◌, ◌⊎◌, ℕ, suc, ◌+◌, ◌-◌, ◌*◌, ◌<◌, ◌≤◌, ◌≢◌, Bool, true, false, cond, ◌&&◌, Some, None, unwrap_or, is_some, Ok, Err, is_ok, IfOk, IfErr, inl, inr, List, map, length, get_or, set, drop, refl, sym, ap, subst, ◌∙◌, arith, below_more, get_or-set_other, get_or-set_same}
 use Rattle.std.specs.List.{list_all}
 use Rattle.std.proofs.lemmas.Bool.{false≢true}
 use Rattle.std.proofs.lemmas.List.{same_lists, get_or-map, length-map, drop_more, drop_all, get_or_default}
 use Rattle.std.proofs.Math.ListN.{length-set}
+use Rattle.std.proofs.Math.Nat.{mul-suc}
 use lib.IntN.{ℤ, pos}
 use Rattle.elem_descr.specs.declared.descr.Descr.{Descr}
 use Rattle.elem_descr.specs.declared.refusal.Refusal.{Refusal}
 use Rattle.elem_descr.specs.declared.refusal.Refusal.TheVariants.{OutOfMemory, IndexOutOfRange}
+use Rattle.elem_descr.specs.Encoding.{integer, number_in}
 use Rattle.elem_descr.specs.Refusals.{check}
 use Rattle.raw_block.specs.Bytes.{item_at}
+use Rattle.raw_block.specs.NumberRuns.{signed_number}
+use Rattle.shape_strides.specs.declared.runs.Run.{Run}
 use Rattle.shape_strides.specs.Runs.{run_offsets}
 use Rattle.shape_strides.specs.WalkLaws.{length-run_offsets}
 use Rattle.view_ops.specs.Slices.{is_place}
 use Rattle.fancy_index.specs.Sources.{number_from}
 use Rattle.fancy_index.specs.declared.words.Reading.{Reading}
 use Rattle.fancy_index.specs.declared.words.Spread.{Spread}
-use Rattle.fancy_index.specs.inside.Words.{word, spread_numbers, AreWords, IsSpread, ArePlacesTo}
+use Rattle.fancy_index.specs.inside.Words.{word, spread_numbers, AreWords, IsSpread, IsNative, ArePlacesTo}
 use Rattle.fancy_index.specs.inside.PointLists.{place_of, named_place, named_places}
+use Rattle.fancy_index.proofs.RunLaws.{packed-entry}
 
 -- ---- items at equal steps
 
@@ -31,6 +36,32 @@ module _ (width : ℕ) (items : Spread) (is : IsSpread width items) (k : ℕ) (l
 
 pub length-numbers : (reading : Reading) (width : ℕ) (items : Spread) → length (spread_numbers reading width items) ≡ items.run.count
 length-numbers reading width items = length-map (run_offsets items.run) (λ offset. word reading width (item_at offset width items.block.now)) ∙ length-run_offsets items.run
+
+-- ---- integers of the machine, one right after another
+
+native-entry : (width : ℕ) (run : Run) (k : ℕ) → run.step ≡ pos width → k < run.count → get_or (run_offsets run) k 0 ≡ run.offset + width * k
+native-entry width run k step low = (λ i. get_or (run_offsets (record { offset = run.offset; count = run.count; step = step i })) k 0) ∙ packed-entry run.offset width run.count k low
+
+-- the last of them ends in the block
+pub native-end : (width : ℕ) (items : Spread) → IsSpread width items → items.run.step ≡ pos width → items.run.offset + width * items.run.count ≤ length items.block.now
+native-end width items is step =
+    let last = items.run.count - 1 in
+    let low : last < items.run.count = omega (arith, is.some) in
+    let next : items.run.count ≡ suc last = omega (arith, is.some) in
+    let end : width * items.run.count ≡ width * last + width = ap (λ n. width * n) next ∙ mul-suc width last ∙ omega arith in
+    omega (arith, end, ends-there width items is last low, native-entry width items.run last step low)
+
+pub native-numbers : (reading : Reading) (width : ℕ) (items : Spread) (numbers : List ℤ) → IsSpread width items → IsNative reading width items.run → length numbers ≡ items.run.count
+    → ((k : ℕ) → k < items.run.count → get_or numbers k (pos 0) ≡ signed_number width (item_at (items.run.offset + width * k) width items.block.now)) → numbers ≡ spread_numbers reading width items
+native-numbers reading width items numbers is native many each =
+    same_lists numbers (spread_numbers reading width items) (many ∙ sym (length-numbers reading width items)) (λ k d below.
+    let low : k < items.run.count = omega (arith, below, many) in
+    let inside : k < length (spread_numbers reading width items) = omega (arith, low, length-numbers reading width items) in
+    sym (get_or_default numbers k (pos 0) d below)
+    ∙ each k low
+    ∙ (λ i. integer (sym native.signed i) width (number_in (sym native.order i) width (item_at (sym (native-entry width items.run k native.step low) i) width items.block.now)))
+    ∙ sym (number-there width items is k low reading)
+    ∙ get_or_default (spread_numbers reading width items) k (pos 0) d inside)
 
 -- the numbers of an array whose items are read so
 pub words-are : (reading : Reading) (width : ℕ) (descr : Descr) (items : Spread) (block offsets : List ℕ) → AreWords reading width descr → items.block.now ≡ block → run_offsets items.run ≡ offsets

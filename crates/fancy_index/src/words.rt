@@ -1,5 +1,5 @@
 //! Integers at equal steps, read where they stand, and the places that they name.
-ghost use Rattle.std.specs.Prelude.{◌≡◌, ◌≢◌, ◌≤◌, ◌<◌, pos, map, length, slice_index, IfSome};
+ghost use Rattle.std.specs.Prelude.{◌≡◌, ◌≢◌, ◌≤◌, ◌<◌, pos, map, length, slice_index, IfSome, IsTrue};
 ghost use Rattle.elem_descr.specs.Items.{item_size};
 ghost use Rattle.elem_descr.specs.Refusals.{Gives};
 ghost use Rattle.raw_block.specs.Bytes.{item_at};
@@ -10,13 +10,13 @@ ghost use Rattle.fancy_index.specs.declared.kind.Kind.TheVariants.{NoIndex};
 ghost use Rattle.fancy_index.specs.IndexArrays.{kind};
 ghost use Rattle.fancy_index.specs.Sources.{index_array_of, LiesInBlock};
 ghost use Rattle.fancy_index.specs.inside.PointLists.{named_place, named_places};
-ghost use Rattle.fancy_index.specs.inside.Words.{word, spread_numbers, AreWords, IsSpread};
+ghost use Rattle.fancy_index.specs.inside.Words.{word, spread_numbers, AreWords, IsSpread, IsNative};
 
 use crate::singles::array_at;
 use crate::source::{Indices, number_at};
 use byteorder::{BigEndian, ByteOrder, LittleEndian};
 use elem_descr::{Descr, Order, Refusal, Scalar};
-use raw_block::RawBlock;
+use raw_block::{RawBlock, RunI32, RunI64};
 use shape_strides::{Run, Walk};
 use std::alloc::Global;
 use view_ops::{from_front, is_place};
@@ -114,6 +114,20 @@ fn long_place(n: usize, at: i64) -> Option<u32>
     Some(place as u32)
 }
 
+/// The same of one of 32 bits.
+#[inline(always)]
+fn int_place(n: usize, at: i32) -> Option<u32>
+    requires { n ≤ max_items }
+    ensures { result ≡ named_place n at }
+{
+    let len = n as i32;
+    let place = if at < 0 { at + len } else { at };
+    if place < 0 || place >= len {
+        return None;
+    }
+    Some(place as u32)
+}
+
 /// The same of one without a sign.
 #[inline(always)]
 fn natural_place(n: usize, at: u64) -> Option<u32>
@@ -165,6 +179,83 @@ fn places_in<const N: usize>(
     Ok(places)
 }
 
+/// Whether integers that are read so lie one right after another, as the machine's own.
+fn is_native(reading: Reading, width: usize, run: Run) -> bool
+    requires { width ≤ 8 }
+    ensures { IsTrue result → IsNative reading width run }
+{
+    match (reading.order, reading.signed) {
+        (Order::Little, true) => run.step == width as isize,
+        _ => false,
+    }
+}
+
+/// The same of numbers of four bytes.
+fn int_places(alloc: Global, numbers: RunI32<'_>, n: usize) -> Result<Vec<u32>, Refusal>
+    requires { n ≤ max_items }
+    ensures { Gives (λ v. v.items) result (named_places n numbers.entry) }
+{
+    let mut places = vec![in alloc; 0u32; numbers.len()]?;
+    for k in 0..numbers.len() {
+        let Some(place) = int_place(n, numbers.get(k)) else {
+            return Err(Refusal::IndexOutOfRange);
+        };
+        places[k] = place;
+    }
+    Ok(places)
+}
+
+/// The same of eight.
+fn long_places(alloc: Global, numbers: RunI64<'_>, n: usize) -> Result<Vec<u32>, Refusal>
+    requires { n ≤ max_items }
+    ensures { Gives (λ v. v.items) result (named_places n numbers.entry) }
+{
+    let mut places = vec![in alloc; 0u32; numbers.len()]?;
+    for k in 0..numbers.len() {
+        let Some(place) = long_place(n, numbers.get(k)) else {
+            return Err(Refusal::IndexOutOfRange);
+        };
+        places[k] = place;
+    }
+    Ok(places)
+}
+
+/// The same of integers of four bytes, whatever their order and step.
+fn places_of_four(
+    alloc: Global,
+    reading: Reading,
+    items: Spread<'_>,
+    n: usize,
+) -> Result<Vec<u32>, Refusal>
+    requires small { n ≤ max_items }
+    requires spread { IsSpread 4 items }
+    ensures { Gives (λ v. v.items) result (named_places n (spread_numbers reading 4 items.entry)) }
+{
+    let run = items.run;
+    if is_native(reading, 4, run) {
+        return int_places(alloc, items.block.run_i32(run.offset, run.count), n);
+    }
+    places_in::<4>(alloc, reading, items, n)
+}
+
+/// The same of eight.
+fn places_of_eight(
+    alloc: Global,
+    reading: Reading,
+    items: Spread<'_>,
+    n: usize,
+) -> Result<Vec<u32>, Refusal>
+    requires small { n ≤ max_items }
+    requires spread { IsSpread 8 items }
+    ensures { Gives (λ v. v.items) result (named_places n (spread_numbers reading 8 items.entry)) }
+{
+    let run = items.run;
+    if is_native(reading, 8, run) {
+        return long_places(alloc, items.block.run_i64(run.offset, run.count), n);
+    }
+    places_in::<8>(alloc, reading, items, n)
+}
+
 /// The same of the numbers of an array.
 fn places_each(alloc: Global, array: Indices<'_>, n: usize) -> Result<Vec<u32>, Refusal>
     requires small { n ≤ max_items }
@@ -198,8 +289,8 @@ pub(crate) fn places(alloc: Global, array: Indices<'_>, n: usize) -> Result<Vec<
     match width {
         1 => places_in::<1>(alloc, reading, items, n),
         2 => places_in::<2>(alloc, reading, items, n),
-        4 => places_in::<4>(alloc, reading, items, n),
-        8 => places_in::<8>(alloc, reading, items, n),
+        4 => places_of_four(alloc, reading, items, n),
+        8 => places_of_eight(alloc, reading, items, n),
         _ => places_each(alloc, array, n),
     }
 }

@@ -1,12 +1,14 @@
 -- Integers by the bytes that they stand in.
-use Rattle.std.specs.Prelude.{◌≡◌, ℕ, ◌+◌, ◌<◌, ◌≤◌, ℤ, pos, List, [], ◌∷◌, map, length, get_or, drop, All}
+use Rattle.std.specs.Prelude.{◌≡◌, ℕ, ◌+◌, ◌<◌, ◌≤◌, true, ℤ, pos, List, [], ◌∷◌, map, length, get_or, drop, All}
 use Rattle.std.specs.List.{list_all}
 use Rattle.elem_descr.specs.declared.descr.Descr.{Descr}
+use Rattle.elem_descr.specs.declared.scalar.Order.TheVariants.{Little}
 use Rattle.elem_descr.specs.Encoding.{integer, number_in}
 use Rattle.elem_descr.specs.Items.{item_size}
 use Rattle.raw_block.specs.Bytes.{item_at}
 use Rattle.shape_strides.specs.Addresses.{LieWithin}
 use Rattle.shape_strides.specs.Limits.{max_items, max_bytes}
+use Rattle.shape_strides.specs.declared.runs.Run.{Run}
 use Rattle.shape_strides.specs.Runs.{run_offsets}
 use Rattle.view_ops.specs.Slices.{is_place}
 use Rattle.fancy_index.specs.Sources.{number_from}
@@ -28,8 +30,15 @@ pub record AreWords (reading : Reading) (width : ℕ) (descr : Descr) : Type 0 w
   pub few : width ≤ 8
   pub read : (block : List ℕ) (offset : ℕ) → number_from descr block offset ≡ word reading width (item_at offset width block)
 
+-- little-endian integers with a sign, one right after another
+pub record IsNative (reading : Reading) (width : ℕ) (run : Run) : Type 0 where
+  pub signed : reading.signed ≡ true
+  pub order : reading.order ≡ Little
+  pub step : run.step ≡ pos width
+
 -- items of so many bytes that lie in their block
 pub record IsSpread (width : ℕ) (items : Spread) : Type 0 where
+  pub some : 1 ≤ items.run.count
   pub few : items.run.count ≤ max_items
   pub limit : LieWithin (items.run.count ∷ []) (items.run.step ∷ []) items.run.offset max_bytes 1
   pub ends : All (λ offset. offset + width ≤ length items.block.now) (run_offsets items.run)
