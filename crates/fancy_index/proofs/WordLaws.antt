@@ -109,30 +109,45 @@ names_refused n numbers test e is (inr out) = inr (ap (λ t. check t IndexOutOfR
 
 -- ---- a loop over the numbers
 
-pub no_places : (n : ℕ) (numbers : List ℤ) (places : List ℕ) → length places ≡ length numbers → ArePlacesTo n 0 numbers places
+pub no_places : (n : ℕ) (numbers : List ℤ) (places : List ℕ) → length places ≡ length numbers → ArePlacesTo n 0 true numbers places
 no_places n numbers places many = record { many = many; done = λ j low. absurd (omega (arith, low)); left = refl }
 
 left_more : (n k : ℕ) (numbers : List ℤ) → k < length numbers → list_all (is_place n) (drop k numbers) ≡ (is_place n (get_or numbers k (pos 0)) && list_all (is_place n) (drop (k + 1) numbers))
 left_more n k numbers low = ap (list_all (is_place n)) (drop_more numbers k (pos 0) low)
 
-pub one_more_place : (n k : ℕ) (numbers : List ℤ) (places : List ℕ) (at : ℕ) → k < length numbers → named_place n (get_or numbers k (pos 0)) ≡ Some at → ArePlacesTo n k numbers places → ArePlacesTo n (k + 1) numbers (set places k at)
+and_assoc : (a b c : Bool) → ((a && b) && c) ≡ (a && (b && c))
+and_assoc true b c = refl
+and_assoc false b c = refl
+
+pub one_more_tested : (n k : ℕ) (are here : Bool) (numbers : List ℤ) (places : List ℕ) (at : ℕ) → k < length numbers → here ≡ is_place n (get_or numbers k (pos 0)) → at ≡ place_of n (get_or numbers k (pos 0)) →
+    ArePlacesTo n k are numbers places → ArePlacesTo n (k + 1) (are && here) numbers (set places k at)
+one_more_tested n k are here numbers places at low tested is so_far = record {
+  many = length-set places k at ∙ so_far.many;
+  done = below_more (λ j. get_or (set places k at) j 0 ≡ place_of n (get_or numbers j (pos 0))) k
+      (λ j below. let ne : j ≢ k = omega (arith, below) in rw get_or-set_other (so_far.done j below))
+      (let lt : k < length places = omega (arith, low, so_far.many) in rw get_or-set_same is);
+  left =
+      and_assoc are here (list_all (is_place n) (drop (k + 1) numbers))
+      ∙ ap (λ b. are && (b && list_all (is_place n) (drop (k + 1) numbers))) tested
+      ∙ ap (λ b. are && b) (sym (left_more n k numbers low))
+      ∙ so_far.left;
+}
+
+pub one_more_place : (n k : ℕ) (numbers : List ℤ) (places : List ℕ) (at : ℕ) → k < length numbers → named_place n (get_or numbers k (pos 0)) ≡ Some at → ArePlacesTo n k true numbers places → ArePlacesTo n (k + 1) true numbers (set places k at)
 one_more_place n k numbers places at low named so_far =
     let is = is_named n (get_or numbers k (pos 0)) at named in
-    record {
-      many = length-set places k at ∙ so_far.many;
-      done = below_more (λ j. get_or (set places k at) j 0 ≡ place_of n (get_or numbers j (pos 0))) k
-          (λ j below. let ne : j ≢ k = omega (arith, below) in rw get_or-set_other (so_far.done j below))
-          (let lt : k < length places = omega (arith, low, so_far.many) in rw get_or-set_same is.1);
-      left = sym (left_more n k numbers low ∙ ap (λ b. b && list_all (is_place n) (drop (k + 1) numbers)) is.0) ∙ so_far.left;
-    }
+    one_more_tested n k true true numbers places at low (sym is.0) is.1 so_far
 
-pub place_refused : (n k : ℕ) (numbers : List ℤ) (places : List ℕ) → k < length numbers → named_place n (get_or numbers k (pos 0)) ≡ None → ArePlacesTo n k numbers places → named_places n numbers ≡ Err IndexOutOfRange
+pub place_refused : (n k : ℕ) (numbers : List ℤ) (places : List ℕ) → k < length numbers → named_place n (get_or numbers k (pos 0)) ≡ None → ArePlacesTo n k true numbers places → named_places n numbers ≡ Err IndexOutOfRange
 place_refused n k numbers places low none so_far =
     one_names_none n numbers (sym so_far.left ∙ left_more n k numbers low ∙ ap (λ b. b && list_all (is_place n) (drop (k + 1) numbers)) (names_none n (get_or numbers k (pos 0)) none))
 
-pub all_places : (n k : ℕ) (numbers : List ℤ) (places : List ℕ) → length numbers ≤ k → ArePlacesTo n k numbers places → named_places n numbers ≡ Ok places
+pub all_places : (n k : ℕ) (numbers : List ℤ) (places : List ℕ) → length numbers ≤ k → ArePlacesTo n k true numbers places → named_places n numbers ≡ Ok places
 all_places n k numbers places past done =
     all_named n numbers places (sym done.left ∙ ap (list_all (is_place n)) (drop_all k numbers past))
     (same_lists places (map (place_of n) numbers) (done.many ∙ sym (length-map numbers (place_of n))) (λ j d below.
     let low : j < length numbers = omega (arith, below, done.many) in
     sym (get_or_default places j 0 d below) ∙ done.done j (omega (arith, low, past)) ∙ sym (get_or-map (place_of n) numbers j (pos 0) d low)))
+
+pub one_refused : (n k : ℕ) (numbers : List ℤ) (places : List ℕ) → ArePlacesTo n k false numbers places → named_places n numbers ≡ Err IndexOutOfRange
+one_refused n k numbers places done = one_names_none n numbers (sym done.left)

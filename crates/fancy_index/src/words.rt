@@ -6,10 +6,11 @@ ghost use Rattle.raw_block.specs.Bytes.{item_at};
 ghost use Rattle.shape_strides.specs.Layouts.{offsets};
 ghost use Rattle.shape_strides.specs.Limits.{max_items};
 ghost use Rattle.shape_strides.specs.Runs.{run_offsets};
+ghost use Rattle.view_ops.specs.Slices.{is_place};
 ghost use Rattle.fancy_index.specs.declared.kind.Kind.TheVariants.{NoIndex};
 ghost use Rattle.fancy_index.specs.IndexArrays.{kind};
 ghost use Rattle.fancy_index.specs.Sources.{index_array_of, LiesInBlock};
-ghost use Rattle.fancy_index.specs.inside.PointLists.{named_place, named_places};
+ghost use Rattle.fancy_index.specs.inside.PointLists.{place_of, named_place, named_places};
 ghost use Rattle.fancy_index.specs.inside.Words.{word, spread_numbers, AreWords, IsSpread, IsNative};
 
 use crate::singles::array_at;
@@ -114,18 +115,24 @@ fn long_place(n: usize, at: i64) -> Option<u32>
     Some(place as u32)
 }
 
-/// The same of one of 32 bits.
+/// Whether a number of 32 bits names one of `n` places.
 #[inline(always)]
-fn int_place(n: usize, at: i32) -> Option<u32>
+fn is_int_place(n: usize, at: i32) -> bool
     requires { n ≤ max_items }
-    ensures { result ≡ named_place n at }
+    ensures { result ≡ is_place n at }
 {
-    let len = n as i32;
-    let place = if at < 0 { at + len } else { at };
-    if place < 0 || place >= len {
-        return None;
-    }
-    Some(place as u32)
+    let end = n as i32;
+    -end <= at && at < end
+}
+
+/// The place that it names, if it names one.
+#[inline(always)]
+fn int_place(n: usize, at: i32) -> u32
+    requires { n ≤ max_items }
+    ensures { result ≡ place_of n at }
+{
+    let place = if at < 0 { at + n as i32 } else { at };
+    place.max(0) as u32
 }
 
 /// The same of one without a sign.
@@ -190,17 +197,21 @@ fn is_native(reading: Reading, width: usize, run: Run) -> bool
     }
 }
 
-/// The same of numbers of four bytes.
+/// The same of numbers of four bytes. All are looked at, which takes less time than to stop at the first
+/// that names none.
 fn int_places(alloc: Global, numbers: RunI32<'_>, n: usize) -> Result<Vec<u32>, Refusal>
     requires { n ≤ max_items }
     ensures { Gives (λ v. v.items) result (named_places n numbers.entry) }
 {
     let mut places = vec![in alloc; 0u32; numbers.len()]?;
+    let mut are = true;
     for k in 0..numbers.len() {
-        let Some(place) = int_place(n, numbers.get(k)) else {
-            return Err(Refusal::IndexOutOfRange);
-        };
-        places[k] = place;
+        let number = numbers.get(k);
+        are = are & is_int_place(n, number);
+        places[k] = int_place(n, number);
+    }
+    if !are {
+        return Err(Refusal::IndexOutOfRange);
     }
     Ok(places)
 }

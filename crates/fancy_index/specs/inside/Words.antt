@@ -1,5 +1,5 @@
 -- Integers by the bytes that they stand in.
-use Rattle.std.specs.Prelude.{◌≡◌, ℕ, ◌+◌, ◌<◌, ◌≤◌, true, ℤ, pos, List, [], ◌∷◌, map, length, get_or, drop, All}
+use Rattle.std.specs.Prelude.{◌≡◌, ℕ, ◌+◌, ◌<◌, ◌≤◌, Bool, true, ◌&&◌, ℤ, pos, List, [], ◌∷◌, map, length, get_or, drop, All}
 use Rattle.std.specs.List.{list_all}
 use Rattle.elem_descr.specs.declared.descr.Descr.{Descr}
 use Rattle.elem_descr.specs.declared.scalar.Order.TheVariants.{Little}
@@ -43,8 +43,8 @@ pub record IsSpread (width : ℕ) (items : Spread) : Type 0 where
   pub limit : LieWithin (items.run.count ∷ []) (items.run.step ∷ []) items.run.offset max_bytes 1
   pub ends : All (λ offset. offset + width ≤ length items.block.now) (run_offsets items.run)
 
--- the first k numbers name places of n, which stand in a list as long as they are
-pub record ArePlacesTo (n k : ℕ) (numbers : List ℤ) (places : List ℕ) : Type 0 where
+-- the places that the first k numbers name stand in a list as long as they are, and whether each of them names one of n is known
+pub record ArePlacesTo (n k : ℕ) (are : Bool) (numbers : List ℤ) (places : List ℕ) : Type 0 where
   pub many : length places ≡ length numbers
   pub done : (j : ℕ) → j < k → get_or places j 0 ≡ place_of n (get_or numbers j (pos 0))
-  pub left : list_all (is_place n) (drop k numbers) ≡ list_all (is_place n) numbers
+  pub left : (are && list_all (is_place n) (drop k numbers)) ≡ list_all (is_place n) numbers
