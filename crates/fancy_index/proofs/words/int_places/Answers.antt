@@ -1,4 +1,4 @@
-use Rattle.std.proofs.Common.{rules, ◌≡◌, w32, length, replicate, ap, sym, ◌∙◌, inr, subst, arith}
+use Rattle.std.proofs.Common.{rules, ◌≡◌, w32, length, replicate, ap, ◌∙◌, inr, subst, arith}
 use Rattle.std.proofs.lemmas.Int.{to_z-of_z}
 use Rattle.std.proofs.lemmas.List.{length-replicate}
 use mir.Val.{SFits}
