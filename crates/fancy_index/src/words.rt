@@ -115,26 +115,6 @@ fn long_place(n: usize, at: i64) -> Option<u32>
     Some(place as u32)
 }
 
-/// Whether a number of 32 bits names one of `n` places.
-#[inline(always)]
-fn is_int_place(n: usize, at: i32) -> bool
-    requires { n ≤ max_items }
-    ensures { result ≡ is_place n at }
-{
-    let end = n as i32;
-    -end <= at && at < end
-}
-
-/// The place that it names, if it names one.
-#[inline(always)]
-fn int_place(n: usize, at: i32) -> u32
-    requires { n ≤ max_items }
-    ensures { result ≡ place_of n at }
-{
-    let place = if at < 0 { at + n as i32 } else { at };
-    place.max(0) as u32
-}
-
 /// The same of one without a sign.
 #[inline(always)]
 fn natural_place(n: usize, at: u64) -> Option<u32>
@@ -186,19 +166,28 @@ fn places_in<const N: usize>(
     Ok(places)
 }
 
-/// Whether integers that are read so lie one right after another, as the machine's own.
-fn is_native(reading: Reading, width: usize, run: Run) -> bool
-    requires { width ≤ 8 }
-    ensures { IsTrue result → IsNative reading width run }
+/// Whether a number of 32 bits names one of `n` places.
+#[inline(always)]
+fn is_int_place(n: usize, at: i32) -> bool
+    requires { n ≤ max_items }
+    ensures { result ≡ is_place n at }
 {
-    match (reading.order, reading.signed) {
-        (Order::Little, true) => run.step == width as isize,
-        _ => false,
-    }
+    let end = n as i32;
+    -end <= at && at < end
 }
 
-/// The same of numbers of four bytes. All are looked at, which takes less time than to stop at the first
-/// that names none.
+/// The place that it names, if it names one.
+#[inline(always)]
+fn int_place(n: usize, at: i32) -> u32
+    requires { n ≤ max_items }
+    ensures { result ≡ place_of n at }
+{
+    let place = if at < 0 { at + n as i32 } else { at };
+    place.max(0) as u32
+}
+
+/// The places of `n` that numbers of four bytes name, or the refusal of one that names none. All are looked
+/// at, which takes less time than to stop at the first that names none.
 fn int_places(alloc: Global, numbers: RunI32<'_>, n: usize) -> Result<Vec<u32>, Refusal>
     requires { n ≤ max_items }
     ensures { Gives (λ v. v.items) result (named_places n numbers.entry) }
@@ -216,7 +205,7 @@ fn int_places(alloc: Global, numbers: RunI32<'_>, n: usize) -> Result<Vec<u32>, 
     Ok(places)
 }
 
-/// The same of eight.
+/// The same of eight bytes, up to the first that names none.
 fn long_places(alloc: Global, numbers: RunI64<'_>, n: usize) -> Result<Vec<u32>, Refusal>
     requires { n ≤ max_items }
     ensures { Gives (λ v. v.items) result (named_places n numbers.entry) }
@@ -231,7 +220,19 @@ fn long_places(alloc: Global, numbers: RunI64<'_>, n: usize) -> Result<Vec<u32>,
     Ok(places)
 }
 
-/// The same of integers of four bytes, whatever their order and step.
+/// Whether integers that are read so lie one right after another, as the machine's own.
+fn is_native(reading: Reading, width: usize, run: Run) -> bool
+    requires { width ≤ 8 }
+    ensures { IsTrue result → IsNative reading width run }
+{
+    match (reading.order, reading.signed) {
+        (Order::Little, true) => run.step == width as isize,
+        _ => false,
+    }
+}
+
+/// The places of `n` that integers of four bytes name, or the refusal of one that names none: native ones
+/// that lie one right after another are read as numbers.
 fn places_of_four(
     alloc: Global,
     reading: Reading,
@@ -267,7 +268,7 @@ fn places_of_eight(
     places_in::<8>(alloc, reading, items, n)
 }
 
-/// The same of the numbers of an array.
+/// The same of the numbers of an array, whatever their type.
 fn places_each(alloc: Global, array: Indices<'_>, n: usize) -> Result<Vec<u32>, Refusal>
     requires small { n ≤ max_items }
     requires kind { kind (index_array_of array) ≢ NoIndex }
