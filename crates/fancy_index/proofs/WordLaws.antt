@@ -1,23 +1,28 @@
 -- Integers at equal steps.
-use Rattle.std.proofs.Common.{◌≡◌, ◌⊎◌, ℕ, ◌+◌, ◌<◌, ◌≤◌, ◌≢◌, Bool, true, false, cond, ◌&&◌, Some, None, unwrap_or, is_some, Ok, Err, is_ok, IfOk, IfErr, inl, inr, List, map, length, get_or, set, drop, refl, sym, ap, subst, ◌∙◌, arith, below_more, get_or-set_other, get_or-set_same}
+use Rattle.std.proofs.Common.{◌≡◌, ◌⊎◌, ℕ, suc, ◌+◌, ◌-◌, ◌*◌, ◌<◌, ◌≤◌, ◌≢◌, Bool, true, false, cond, ◌&&◌, Some, None, unwrap_or, is_some, Ok, Err, is_ok, IfOk, IfErr, inl, inr, List, map, length, get_or, set, drop, refl, sym, ap, subst, ◌∙◌, arith, below_more, get_or-set_other, get_or-set_same}
 use Rattle.std.specs.List.{list_all}
 use Rattle.std.proofs.lemmas.Bool.{false≢true}
 use Rattle.std.proofs.lemmas.List.{same_lists, get_or-map, length-map, drop_more, drop_all, get_or_default}
 use Rattle.std.proofs.Math.ListN.{length-set}
+use Rattle.std.proofs.Math.Nat.{mul-suc}
 use lib.IntN.{ℤ, pos}
 use Rattle.elem_descr.specs.declared.descr.Descr.{Descr}
 use Rattle.elem_descr.specs.declared.refusal.Refusal.{Refusal}
 use Rattle.elem_descr.specs.declared.refusal.Refusal.TheVariants.{OutOfMemory, IndexOutOfRange}
+use Rattle.elem_descr.specs.Encoding.{integer, number_in}
 use Rattle.elem_descr.specs.Refusals.{check}
 use Rattle.raw_block.specs.Bytes.{item_at}
+use Rattle.raw_block.specs.NumberRuns.{signed_number}
+use Rattle.shape_strides.specs.declared.runs.Run.{Run}
 use Rattle.shape_strides.specs.Runs.{run_offsets}
 use Rattle.shape_strides.specs.WalkLaws.{length-run_offsets}
 use Rattle.view_ops.specs.Slices.{is_place}
 use Rattle.fancy_index.specs.Sources.{number_from}
 use Rattle.fancy_index.specs.declared.words.Reading.{Reading}
 use Rattle.fancy_index.specs.declared.words.Spread.{Spread}
-use Rattle.fancy_index.specs.inside.Words.{word, spread_numbers, AreWords, IsSpread, ArePlacesTo}
+use Rattle.fancy_index.specs.inside.Words.{word, spread_numbers, AreWords, IsSpread, IsNative, ArePlacesTo}
 use Rattle.fancy_index.specs.inside.PointLists.{place_of, named_place, named_places}
+use Rattle.fancy_index.proofs.RunLaws.{packed-entry}
 
 -- ---- items at equal steps
 
@@ -31,6 +36,32 @@ module _ (width : ℕ) (items : Spread) (is : IsSpread width items) (k : ℕ) (l
 
 pub length-numbers : (reading : Reading) (width : ℕ) (items : Spread) → length (spread_numbers reading width items) ≡ items.run.count
 length-numbers reading width items = length-map (run_offsets items.run) (λ offset. word reading width (item_at offset width items.block.now)) ∙ length-run_offsets items.run
+
+-- ---- integers of the machine, one right after another
+
+native-entry : (width : ℕ) (run : Run) (k : ℕ) → run.step ≡ pos width → k < run.count → get_or (run_offsets run) k 0 ≡ run.offset + width * k
+native-entry width run k step low = (λ i. get_or (run_offsets (record { offset = run.offset; count = run.count; step = step i })) k 0) ∙ packed-entry run.offset width run.count k low
+
+-- the last of them ends in the block
+pub native-end : (width : ℕ) (items : Spread) → IsSpread width items → items.run.step ≡ pos width → items.run.offset + width * items.run.count ≤ length items.block.now
+native-end width items is step =
+    let last = items.run.count - 1 in
+    let low : last < items.run.count = omega (arith, is.some) in
+    let next : items.run.count ≡ suc last = omega (arith, is.some) in
+    let end : width * items.run.count ≡ width * last + width = ap (λ n. width * n) next ∙ mul-suc width last ∙ omega arith in
+    omega (arith, end, ends-there width items is last low, native-entry width items.run last step low)
+
+pub native-numbers : (reading : Reading) (width : ℕ) (items : Spread) (numbers : List ℤ) → IsSpread width items → IsNative reading width items.run → length numbers ≡ items.run.count
+    → ((k : ℕ) → k < items.run.count → get_or numbers k (pos 0) ≡ signed_number width (item_at (items.run.offset + width * k) width items.block.now)) → numbers ≡ spread_numbers reading width items
+native-numbers reading width items numbers is native many each =
+    same_lists numbers (spread_numbers reading width items) (many ∙ sym (length-numbers reading width items)) (λ k d below.
+    let low : k < items.run.count = omega (arith, below, many) in
+    let inside : k < length (spread_numbers reading width items) = omega (arith, low, length-numbers reading width items) in
+    sym (get_or_default numbers k (pos 0) d below)
+    ∙ each k low
+    ∙ (λ i. integer (sym native.signed i) width (number_in (sym native.order i) width (item_at (sym (native-entry width items.run k native.step low) i) width items.block.now)))
+    ∙ sym (number-there width items is k low reading)
+    ∙ get_or_default (spread_numbers reading width items) k (pos 0) d inside)
 
 -- the numbers of an array whose items are read so
 pub words-are : (reading : Reading) (width : ℕ) (descr : Descr) (items : Spread) (block offsets : List ℕ) → AreWords reading width descr → items.block.now ≡ block → run_offsets items.run ≡ offsets
@@ -78,30 +109,45 @@ names_refused n numbers test e is (inr out) = inr (ap (λ t. check t IndexOutOfR
 
 -- ---- a loop over the numbers
 
-pub no_places : (n : ℕ) (numbers : List ℤ) (places : List ℕ) → length places ≡ length numbers → ArePlacesTo n 0 numbers places
+pub no_places : (n : ℕ) (numbers : List ℤ) (places : List ℕ) → length places ≡ length numbers → ArePlacesTo n 0 true numbers places
 no_places n numbers places many = record { many = many; done = λ j low. absurd (omega (arith, low)); left = refl }
 
 left_more : (n k : ℕ) (numbers : List ℤ) → k < length numbers → list_all (is_place n) (drop k numbers) ≡ (is_place n (get_or numbers k (pos 0)) && list_all (is_place n) (drop (k + 1) numbers))
 left_more n k numbers low = ap (list_all (is_place n)) (drop_more numbers k (pos 0) low)
 
-pub one_more_place : (n k : ℕ) (numbers : List ℤ) (places : List ℕ) (at : ℕ) → k < length numbers → named_place n (get_or numbers k (pos 0)) ≡ Some at → ArePlacesTo n k numbers places → ArePlacesTo n (k + 1) numbers (set places k at)
+and_assoc : (a b c : Bool) → ((a && b) && c) ≡ (a && (b && c))
+and_assoc true b c = refl
+and_assoc false b c = refl
+
+pub one_more_tested : (n k : ℕ) (are here : Bool) (numbers : List ℤ) (places : List ℕ) (at : ℕ) → k < length numbers → here ≡ is_place n (get_or numbers k (pos 0)) → at ≡ place_of n (get_or numbers k (pos 0)) →
+    ArePlacesTo n k are numbers places → ArePlacesTo n (k + 1) (are && here) numbers (set places k at)
+one_more_tested n k are here numbers places at low tested is so_far = record {
+  many = length-set places k at ∙ so_far.many;
+  done = below_more (λ j. get_or (set places k at) j 0 ≡ place_of n (get_or numbers j (pos 0))) k
+      (λ j below. let ne : j ≢ k = omega (arith, below) in rw get_or-set_other (so_far.done j below))
+      (let lt : k < length places = omega (arith, low, so_far.many) in rw get_or-set_same is);
+  left =
+      and_assoc are here (list_all (is_place n) (drop (k + 1) numbers))
+      ∙ ap (λ b. are && (b && list_all (is_place n) (drop (k + 1) numbers))) tested
+      ∙ ap (λ b. are && b) (sym (left_more n k numbers low))
+      ∙ so_far.left;
+}
+
+pub one_more_place : (n k : ℕ) (numbers : List ℤ) (places : List ℕ) (at : ℕ) → k < length numbers → named_place n (get_or numbers k (pos 0)) ≡ Some at → ArePlacesTo n k true numbers places → ArePlacesTo n (k + 1) true numbers (set places k at)
 one_more_place n k numbers places at low named so_far =
     let is = is_named n (get_or numbers k (pos 0)) at named in
-    record {
-      many = length-set places k at ∙ so_far.many;
-      done = below_more (λ j. get_or (set places k at) j 0 ≡ place_of n (get_or numbers j (pos 0))) k
-          (λ j below. let ne : j ≢ k = omega (arith, below) in rw get_or-set_other (so_far.done j below))
-          (let lt : k < length places = omega (arith, low, so_far.many) in rw get_or-set_same is.1);
-      left = sym (left_more n k numbers low ∙ ap (λ b. b && list_all (is_place n) (drop (k + 1) numbers)) is.0) ∙ so_far.left;
-    }
+    one_more_tested n k true true numbers places at low (sym is.0) is.1 so_far
 
-pub place_refused : (n k : ℕ) (numbers : List ℤ) (places : List ℕ) → k < length numbers → named_place n (get_or numbers k (pos 0)) ≡ None → ArePlacesTo n k numbers places → named_places n numbers ≡ Err IndexOutOfRange
+pub place_refused : (n k : ℕ) (numbers : List ℤ) (places : List ℕ) → k < length numbers → named_place n (get_or numbers k (pos 0)) ≡ None → ArePlacesTo n k true numbers places → named_places n numbers ≡ Err IndexOutOfRange
 place_refused n k numbers places low none so_far =
     one_names_none n numbers (sym so_far.left ∙ left_more n k numbers low ∙ ap (λ b. b && list_all (is_place n) (drop (k + 1) numbers)) (names_none n (get_or numbers k (pos 0)) none))
 
-pub all_places : (n k : ℕ) (numbers : List ℤ) (places : List ℕ) → length numbers ≤ k → ArePlacesTo n k numbers places → named_places n numbers ≡ Ok places
+pub all_places : (n k : ℕ) (numbers : List ℤ) (places : List ℕ) → length numbers ≤ k → ArePlacesTo n k true numbers places → named_places n numbers ≡ Ok places
 all_places n k numbers places past done =
     all_named n numbers places (sym done.left ∙ ap (list_all (is_place n)) (drop_all k numbers past))
     (same_lists places (map (place_of n) numbers) (done.many ∙ sym (length-map numbers (place_of n))) (λ j d below.
     let low : j < length numbers = omega (arith, below, done.many) in
     sym (get_or_default places j 0 d below) ∙ done.done j (omega (arith, low, past)) ∙ sym (get_or-map (place_of n) numbers j (pos 0) d low)))
+
+pub one_refused : (n k : ℕ) (numbers : List ℤ) (places : List ℕ) → ArePlacesTo n k false numbers places → named_places n numbers ≡ Err IndexOutOfRange
+one_refused n k numbers places done = one_names_none n numbers (sym done.left)

@@ -6,7 +6,7 @@ use Rattle.elem_descr.specs.Encoding.{number_of}
 use Rattle.elem_descr.specs.Items.{item_size}
 use Rattle.elem_descr.specs.Blocks.{item_from}
 use Rattle.shape_strides.specs.declared.index_item.IndexItem.{IndexItem}
-use Rattle.shape_strides.specs.declared.index_item.IndexItem.TheVariants.{Integer, Slice, Ellipsis, NewAxis, Array}
+use Rattle.shape_strides.specs.declared.index_item.IndexItem.TheVariants.{Array}
 use Rattle.shape_strides.specs.Layouts.{offsets}
 use Rattle.fancy_index.specs.declared.source.Indices.{Indices}
 use Rattle.fancy_index.specs.IndexArrays.{IndexArray, with_arrays}
@@ -27,19 +27,6 @@ index_array_of a = record { descr = a.descr.now; shape = a.layout.now.shape; num
 -- each item lies in the block
 abbrev pub LiesInBlock : Indices → Type 0
 LiesInBlock a = All (λ offset. offset + item_size a.descr.now ≤ length a.block.now) (offsets a.layout.now)
-
--- an item with its array, by the items of the array
-abbrev pub index_item_of : IndexItem Indices → IndexItem IndexArray
-index_item_of (Integer at) = Integer at
-index_item_of (Slice start stop step) = Slice start stop step
-index_item_of Ellipsis = Ellipsis
-index_item_of NewAxis = NewAxis
-index_item_of (Array a) = Array (index_array_of a)
-
--- the array that stands in an item lies in its block
-abbrev pub ItemsLieInBlock : IndexItem Indices → Type 0
-ItemsLieInBlock (Array a) = LiesInBlock a
-ItemsLieInBlock _ = Unit {0}
 
 -- an item names one of so many arrays
 abbrev pub IsNamed : ℕ → IndexItem ℕ → Type 0

@@ -6,7 +6,8 @@ ghost use Rattle.shape_strides.specs.Limits.{max_axes};
 ghost use Rattle.fancy_index.specs.IndexArrays.{kind, with_array, is_index, item_axes, array_axes_taken, array_axes_width, covers, cover};
 ghost use Rattle.fancy_index.specs.Indexed.{indexed};
 ghost use Rattle.fancy_index.specs.inside.PartLists.{IsChecked};
-ghost use Rattle.fancy_index.specs.Sources.{index_array_of, LiesInBlock, index_item_of, IsNamed, index_items};
+ghost use Rattle.fancy_index.specs.Sources.{index_array_of, LiesInBlock, IsNamed, index_items};
+ghost use Rattle.fancy_index.specs.inside.Items.{index_item_of};
 
 use crate::kind::Kind;
 use crate::source::{Indices, kind, resolved};

@@ -7,7 +7,8 @@ ghost use Rattle.shape_strides.specs.IndexItems.{is_ellipsis};
 ghost use Rattle.view_ops.specs.Basics.{has_step};
 ghost use Rattle.fancy_index.specs.IndexArrays.{is_index, item_axes, covers, is_within, are_within};
 ghost use Rattle.fancy_index.specs.Parts.{Between, wholes, parts_of, parts};
-ghost use Rattle.fancy_index.specs.Sources.{LiesInBlock, index_item_of, ItemsLieInBlock, IsNamed, index_items};
+ghost use Rattle.fancy_index.specs.Sources.{LiesInBlock, IsNamed, index_items};
+ghost use Rattle.fancy_index.specs.inside.Items.{index_item_of, ItemsLieInBlock};
 ghost use Rattle.fancy_index.specs.inside.PartLists.{IsChecked, shown_part, AreParts, AddsParts};
 
 use crate::checks::axes_end;

@@ -10,7 +10,8 @@ ghost use Rattle.shape_strides.specs.Layouts.{offsets, multiples};
 ghost use Rattle.overlap_copy.specs.Assignments.{items_at, assigned};
 ghost use Rattle.overlap_copy.specs.Blocks.{offsets_in};
 ghost use Rattle.fancy_index.specs.Plans.{put_each};
-ghost use Rattle.fancy_index.specs.inside.Kept.{moved_offset, moved_all, IsMoved, AreStarts, offsets_from};
+ghost use Rattle.fancy_index.specs.Kept.{moved_offset, moved_all, offsets_from};
+ghost use Rattle.fancy_index.specs.inside.Kept.{IsMoved, AreStarts};
 
 use crate::fill::fill;
 use crate::gather::push_all;
@@ -56,7 +57,8 @@ impl Model for Plan {
 
     ghost Value = { Planned };
 
-    ghost use Rattle.fancy_index.specs.inside.Kept.{IsPlan, offsets_from};
+    ghost use Rattle.fancy_index.specs.Kept.{offsets_from};
+    ghost use Rattle.fancy_index.specs.inside.Kept.{IsPlan};
 
     ghost view = { λ p. record { shape = p.shape; offsets = offsets_from p.axes.value } };
 

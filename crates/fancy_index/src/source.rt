@@ -3,7 +3,8 @@ ghost use Rattle.std.specs.Prelude.{◌≡◌, ◌≢◌, ◌+◌, ◌≤◌, le
 ghost use Rattle.elem_descr.specs.Items.{item_size};
 ghost use Rattle.fancy_index.specs.declared.kind.Kind.TheVariants.{NoIndex};
 ghost use Rattle.fancy_index.specs.IndexArrays.{kind, with_array};
-ghost use Rattle.fancy_index.specs.Sources.{number_from, index_array_of, LiesInBlock, index_item_of, ItemsLieInBlock, IsNamed};
+ghost use Rattle.fancy_index.specs.Sources.{number_from, index_array_of, LiesInBlock, IsNamed};
+ghost use Rattle.fancy_index.specs.inside.Items.{index_item_of, ItemsLieInBlock};
 
 use crate::kind::{Kind, kind_of};
 use elem_descr::{Descr, num_read};

@@ -1,22 +1,23 @@
 //! Integers at equal steps, read where they stand, and the places that they name.
-ghost use Rattle.std.specs.Prelude.{◌≡◌, ◌≢◌, ◌≤◌, ◌<◌, pos, map, length, slice_index, IfSome};
+ghost use Rattle.std.specs.Prelude.{◌≡◌, ◌≢◌, ◌≤◌, ◌<◌, pos, map, length, slice_index, IfSome, IsTrue};
 ghost use Rattle.elem_descr.specs.Items.{item_size};
 ghost use Rattle.elem_descr.specs.Refusals.{Gives};
 ghost use Rattle.raw_block.specs.Bytes.{item_at};
 ghost use Rattle.shape_strides.specs.Layouts.{offsets};
 ghost use Rattle.shape_strides.specs.Limits.{max_items};
 ghost use Rattle.shape_strides.specs.Runs.{run_offsets};
+ghost use Rattle.view_ops.specs.Slices.{is_place};
 ghost use Rattle.fancy_index.specs.declared.kind.Kind.TheVariants.{NoIndex};
 ghost use Rattle.fancy_index.specs.IndexArrays.{kind};
 ghost use Rattle.fancy_index.specs.Sources.{index_array_of, LiesInBlock};
-ghost use Rattle.fancy_index.specs.inside.PointLists.{named_place, named_places};
-ghost use Rattle.fancy_index.specs.inside.Words.{word, spread_numbers, AreWords, IsSpread};
+ghost use Rattle.fancy_index.specs.inside.PointLists.{place_of, named_place, named_places};
+ghost use Rattle.fancy_index.specs.inside.Words.{word, spread_numbers, AreWords, IsSpread, IsNative};
 
 use crate::singles::array_at;
 use crate::source::{Indices, number_at};
 use byteorder::{BigEndian, ByteOrder, LittleEndian};
 use elem_descr::{Descr, Order, Refusal, Scalar};
-use raw_block::RawBlock;
+use raw_block::{RawBlock, RunI32, RunI64};
 use shape_strides::{Run, Walk};
 use std::alloc::Global;
 use view_ops::{from_front, is_place};
@@ -165,7 +166,109 @@ fn places_in<const N: usize>(
     Ok(places)
 }
 
-/// The same of the numbers of an array.
+/// Whether a number of 32 bits names one of `n` places.
+#[inline(always)]
+fn is_int_place(n: usize, at: i32) -> bool
+    requires { n ≤ max_items }
+    ensures { result ≡ is_place n at }
+{
+    let end = n as i32;
+    -end <= at && at < end
+}
+
+/// The place that it names, if it names one.
+#[inline(always)]
+fn int_place(n: usize, at: i32) -> u32
+    requires { n ≤ max_items }
+    ensures { result ≡ place_of n at }
+{
+    let place = if at < 0 { at + n as i32 } else { at };
+    place.max(0) as u32
+}
+
+/// The places of `n` that numbers of four bytes name, or the refusal of one that names none. All are looked
+/// at, which takes less time than to stop at the first that names none.
+fn int_places(alloc: Global, numbers: RunI32<'_>, n: usize) -> Result<Vec<u32>, Refusal>
+    requires { n ≤ max_items }
+    ensures { Gives (λ v. v.items) result (named_places n numbers.entry) }
+{
+    let mut places = vec![in alloc; 0u32; numbers.len()]?;
+    let mut are = true;
+    for k in 0..numbers.len() {
+        let number = numbers.get(k);
+        are = are & is_int_place(n, number);
+        places[k] = int_place(n, number);
+    }
+    if !are {
+        return Err(Refusal::IndexOutOfRange);
+    }
+    Ok(places)
+}
+
+/// The same of eight bytes, up to the first that names none.
+fn long_places(alloc: Global, numbers: RunI64<'_>, n: usize) -> Result<Vec<u32>, Refusal>
+    requires { n ≤ max_items }
+    ensures { Gives (λ v. v.items) result (named_places n numbers.entry) }
+{
+    let mut places = vec![in alloc; 0u32; numbers.len()]?;
+    for k in 0..numbers.len() {
+        let Some(place) = long_place(n, numbers.get(k)) else {
+            return Err(Refusal::IndexOutOfRange);
+        };
+        places[k] = place;
+    }
+    Ok(places)
+}
+
+/// Whether integers that are read so lie one right after another, as the machine's own.
+fn is_native(reading: Reading, width: usize, run: Run) -> bool
+    requires { width ≤ 8 }
+    ensures { IsTrue result → IsNative reading width run }
+{
+    match (reading.order, reading.signed) {
+        (Order::Little, true) => run.step == width as isize,
+        _ => false,
+    }
+}
+
+/// The places of `n` that integers of four bytes name, or the refusal of one that names none: native ones
+/// that lie one right after another are read as numbers.
+fn places_of_four(
+    alloc: Global,
+    reading: Reading,
+    items: Spread<'_>,
+    n: usize,
+) -> Result<Vec<u32>, Refusal>
+    requires small { n ≤ max_items }
+    requires spread { IsSpread 4 items }
+    ensures { Gives (λ v. v.items) result (named_places n (spread_numbers reading 4 items.entry)) }
+{
+    let run = items.run;
+    if is_native(reading, 4, run) {
+        return int_places(alloc, items.block.run_i32(run.offset, run.count), n);
+    }
+    places_in::<4>(alloc, reading, items, n)
+}
+
+/// The same of eight.
+fn places_of_eight(
+    alloc: Global,
+    reading: Reading,
+    items: Spread<'_>,
+    n: usize,
+) -> Result<Vec<u32>, Refusal>
+    requires small { n ≤ max_items }
+    requires spread { IsSpread 8 items }
+    ensures { Gives (λ v. v.items) result (named_places n (spread_numbers reading 8 items.entry)) }
+{
+    let run = items.run;
+    if is_native(reading, 8, run) {
+        return long_places(alloc, items.block.run_i64(run.offset, run.count), n);
+    }
+    places_in::<8>(alloc, reading, items, n)
+}
+
+/// The same of the numbers of an array, whatever their type.
 fn places_each(alloc: Global, array: Indices<'_>, n: usize) -> Result<Vec<u32>, Refusal>
     requires small { n ≤ max_items }
     requires kind { kind (index_array_of array) ≢ NoIndex }
@@ -198,8 +301,8 @@ pub(crate) fn places(alloc: Global, array: Indices<'_>, n: usize) -> Result<Vec<
     match width {
         1 => places_in::<1>(alloc, reading, items, n),
         2 => places_in::<2>(alloc, reading, items, n),
-        4 => places_in::<4>(alloc, reading, items, n),
-        8 => places_in::<8>(alloc, reading, items, n),
+        4 => places_of_four(alloc, reading, items, n),
+        8 => places_of_eight(alloc, reading, items, n),
         _ => places_each(alloc, array, n),
     }
 }

@@ -1,12 +1,14 @@
 -- Integers by the bytes that they stand in.
-use Rattle.std.specs.Prelude.{◌≡◌, ℕ, ◌+◌, ◌<◌, ◌≤◌, ℤ, pos, List, [], ◌∷◌, map, length, get_or, drop, All}
+use Rattle.std.specs.Prelude.{◌≡◌, ℕ, ◌+◌, ◌<◌, ◌≤◌, Bool, true, ◌&&◌, ℤ, pos, List, [], ◌∷◌, map, length, get_or, drop, All}
 use Rattle.std.specs.List.{list_all}
 use Rattle.elem_descr.specs.declared.descr.Descr.{Descr}
+use Rattle.elem_descr.specs.declared.scalar.Order.TheVariants.{Little}
 use Rattle.elem_descr.specs.Encoding.{integer, number_in}
 use Rattle.elem_descr.specs.Items.{item_size}
 use Rattle.raw_block.specs.Bytes.{item_at}
 use Rattle.shape_strides.specs.Addresses.{LieWithin}
 use Rattle.shape_strides.specs.Limits.{max_items, max_bytes}
+use Rattle.shape_strides.specs.declared.runs.Run.{Run}
 use Rattle.shape_strides.specs.Runs.{run_offsets}
 use Rattle.view_ops.specs.Slices.{is_place}
 use Rattle.fancy_index.specs.Sources.{number_from}
@@ -28,14 +30,21 @@ pub record AreWords (reading : Reading) (width : ℕ) (descr : Descr) : Type 0 w
   pub few : width ≤ 8
   pub read : (block : List ℕ) (offset : ℕ) → number_from descr block offset ≡ word reading width (item_at offset width block)
 
+-- little-endian integers with a sign, one right after another
+pub record IsNative (reading : Reading) (width : ℕ) (run : Run) : Type 0 where
+  pub signed : reading.signed ≡ true
+  pub order : reading.order ≡ Little
+  pub step : run.step ≡ pos width
+
 -- items of so many bytes that lie in their block
 pub record IsSpread (width : ℕ) (items : Spread) : Type 0 where
+  pub some : 1 ≤ items.run.count
   pub few : items.run.count ≤ max_items
   pub limit : LieWithin (items.run.count ∷ []) (items.run.step ∷ []) items.run.offset max_bytes 1
   pub ends : All (λ offset. offset + width ≤ length items.block.now) (run_offsets items.run)
 
--- the first k numbers name places of n, which stand in a list as long as they are
-pub record ArePlacesTo (n k : ℕ) (numbers : List ℤ) (places : List ℕ) : Type 0 where
+-- the places that the first k numbers name stand in a list as long as they are, and whether each of them names one of n is known
+pub record ArePlacesTo (n k : ℕ) (are : Bool) (numbers : List ℤ) (places : List ℕ) : Type 0 where
   pub many : length places ≡ length numbers
   pub done : (j : ℕ) → j < k → get_or places j 0 ≡ place_of n (get_or numbers j (pos 0))
-  pub left : list_all (is_place n) (drop k numbers) ≡ list_all (is_place n) numbers
+  pub left : (are && list_all (is_place n) (drop k numbers)) ≡ list_all (is_place n) numbers

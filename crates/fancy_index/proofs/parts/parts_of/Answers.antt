@@ -2,7 +2,8 @@ use Rattle.std.proofs.Common.{◌≡◌, false, map, slice_range, sym, ap, subst
 use Rattle.std.proofs.lemmas.Result.{err_from_is_err_and}
 use Rattle.elem_descr.specs.declared.refusal.Refusal.TheVariants.{IndexOutOfRange}
 use Rattle.fancy_index.specs.IndexArrays.{with_array, is_within, are_within}
-use Rattle.fancy_index.specs.Sources.{index_array_of, index_item_of, index_items}
+use Rattle.fancy_index.specs.Sources.{index_array_of, index_items}
+use Rattle.fancy_index.specs.inside.Items.{index_item_of}
 use Rattle.fancy_index.specs.Parts.{parts_of}
 use Rattle.fancy_index.specs.inside.PartLists.{AddsParts}
 use Rattle.fancy_index.proofs.PartLaws.{EndsAt, parts_on, part_refused, passed, refused_as}
