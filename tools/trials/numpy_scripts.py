@@ -16,7 +16,6 @@ headers are altered are loaded too: each gets a reply.
 """
 import itertools
 import math
-import multiprocessing
 import random
 import re
 
@@ -26,7 +25,7 @@ import damaged
 import files
 import overlaps
 from formats import Formats
-from hostile_runs import Part, Runner, contents, fill
+from hostile_runs import Part, Runner, contents, fill, in_processes
 from limits import Limits
 from scripts import Script
 from values import random_value
@@ -148,8 +147,7 @@ def all_trials(given, _folder):
     """So many scripts of a seed, some at a time."""
     part = Part()
     tasks = [(given.program, given.seed, given.only, number) for number in range(given.scripts)]
-    with multiprocessing.Pool(given.processes) as pool:
-        for found in pool.imap_unordered(trial, tasks, 8):
-            part.add(found)
+    for found in in_processes(given, trial, tasks):
+        part.add(found)
     part.note("NumPy", np.__version__)
     return part

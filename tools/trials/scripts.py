@@ -346,8 +346,7 @@ class Script:
         text = source if taken is None else f"{source}[{list_text(taken)}]"
 
         def reply():
-            for known in [target, *names_in(source, taken or [])]:
-                self.world.array(known)
+            self.world.known([target, *names_in(source, taken or [])])
             aim = self.world.part(target, items)
             self.check_writable(aim)
             given = self.world.array(source) if taken is None else self.world.part(source, taken).read()
@@ -387,8 +386,7 @@ class Script:
         name = self.rng.choice(NAMES)
 
         def reply():
-            for known in names:
-                self.world.array(known)
+            self.world.known(names)
             return self.world.bind(name, computations.made(*work()), "new")
 
         return f"{name} = {line}", reply
@@ -417,8 +415,7 @@ class Script:
         text, names, other = self.argument(source, items)
 
         def reply():
-            for known in [source, *names]:
-                self.world.array(known)
+            self.world.known([source, *names])
             target = self.world.part(source, items)
             self.check_writable(target)
             dtype, shape = target.array.dtype, target.read().shape
