@@ -27,7 +27,7 @@ import overlaps
 from formats import Formats
 from hostile_runs import Part, Runner, contents, fill, in_processes
 from limits import Limits
-from scripts import Script
+from scripts import NAMES, Script
 from values import random_value
 from world import TALLY, Refused
 
@@ -39,7 +39,7 @@ class Indexes(Script):
     LISTS, ARRAYS, MASKS, FEWEST, ROOMY, RANKS = 0.9, 0.8, 0.05, 2, 0.8, [2, 3, 3, 4]
 
     def one_of(self, names):
-        wide = [name for name in names if len(self.shape_of(name)) > 1]
+        wide = [name for name in names if name in NAMES and len(self.shape_of(name)) > 1]
         return self.rng.choice(wide if wide and self.rng.random() < 0.8 else names)
 
     def fitting(self, target, items):
@@ -77,8 +77,17 @@ class Masks(Indexes):
 class Shares(Script):
     """A script of views of views, with what they share."""
 
-    WEIGHTS = {"make": 10, "index": 40, "transpose": 10, "field": 12, "reshape": 12, "broadcast": 5, "alias": 2, "copy": 2, "shares": 80}
-    LISTS, ROOMY, LENGTHS, RANKS = 0, 0.8, [2, 3, 5, 8, 12], [1, 1, 2, 2, 3]
+    WEIGHTS = {"make": 8, "index": 20, "transpose": 8, "field": 14, "reshape": 14, "broadcast": 4, "alias": 1, "copy": 1, "shares": 40, "twins": 60}
+    LISTS, ROOMY, LENGTHS, RANKS = 0, 1, [3, 5, 8, 12, 20], [1, 1, 2, 2]
+
+    def twins(self):
+        """Two views at the same steps, from places of their own on."""
+        source, names = self.scattered(), self.rng.sample(NAMES, 2)
+        steps = [self.rng.choice([1, 2, 3, 4, -2, -3]) if length > 2 else 1 for length in self.shape_of(source)]
+        for name in names:
+            items = [slice(self.rng.choice([0, 0, 1, 2] if step > 0 else [-1, -2, -3]), None, step) for step in steps]
+            self.add(*self.taken(name, source, items or [Ellipsis]))
+        return self.shares_of(*names)
 
 
 class Altered(Script):

@@ -108,7 +108,7 @@ class Script:
         shape = (*shape, 3)[: len(shape) + (self.rng.random() < 0.05)]
         axes = self.rng.randint(min(self.FEWEST, len(shape)), len(shape))
         arrays = self.ARRAYS if self.rng.random() < self.LISTS else 0
-        common = [self.rng.choice([0, 1, 2, 2, 3]) for _ in range(self.rng.choice([0, 1, 1, 1, 2, 3]))]
+        common = [self.rng.choice([0, 1, 2, 2, 3, 3, 4]) for _ in range(self.rng.choice([0, 1, 1, 1, 2, 3]))]
         cut = self.rng.randint(0, axes) if self.rng.random() < 0.3 else axes
         items = self.items_of(shape[:cut], arrays, common)
         if cut < axes or self.rng.random() < 0.1:
@@ -178,9 +178,10 @@ class Script:
         return self.made(self.rng.choice(NAMES), np.array(values, dtype=dtype).reshape(shape), values)
 
     def index(self):
-        name, source = self.rng.choice(NAMES), self.source()
-        items = self.items(self.shape_of(source))
+        source = self.source()
+        return self.taken(self.rng.choice(NAMES), source, self.items(self.shape_of(source)))
 
+    def taken(self, name, source, items):
         def reply():
             part = self.world.part(source, items)
             if part.places is None:
@@ -493,11 +494,13 @@ class Script:
 
     def shares(self):
         left = self.source()
-        right = self.related(left)
+        return self.shares_of(left, self.related(left))
 
+    def shares_of(self, left, right):
         def reply():
-            shared = "yes" if np.shares_memory(self.world.array(left), self.world.array(right)) else "no"
-            TALLY[f"shares {shared}"] += 1
+            pair = self.world.array(left), self.world.array(right)
+            shared = "yes" if np.shares_memory(*pair) else "no"
+            TALLY[f"shares {shared}{' over ranges that overlap' * np.may_share_memory(*pair)}"] += 1
             return f"shares {shared}"
 
         return f"shares {left} {right}", reply
