@@ -1,18 +1,17 @@
 """Random scripts by the program and by NumPy: views, gathers, computations, reshapes, casts, overlaps, files and undo, in one script.
 
-What NumPy leaves open is taken as the program's documents tell it: the stride of an axis shorter than 2 is 0, and so is each stride of an
-empty array; an integer for every axis gives an array of no axes; an index array of no axes is one all the same. A format text that
-sets `@` has it from its start to its end: of a record within that ends under another mark than it begins under, NumPy takes the
-later one for its alignment.
+What NumPy leaves open is taken as the program's documents tell it: the stride of an axis shorter than 2, and each stride of an empty array,
+is 0; an integer for every axis gives an array of no axes; an index array of no axes is one all the same. A format text that sets `@` has it
+to its end: of a record within that ends under another mark than it begins under, NumPy takes the later one for its alignment.
 
-Where a reshape shares and where it copies is worked out in `reshapes.py` from the addresses of the items, casts go by the rule in
-`casts.py`, and what NumPy does is held against both; differences are counted. An array that is assigned is copied first on NumPy's side.
-Byte strings have no `'`, no `\\` and no byte with a short escape, which the two print differently.
+Where a reshape shares is worked out in `reshapes.py` from the addresses of the items, casts go by the rule in `casts.py`, and what NumPy
+does is held against both; differences are counted. An array that is assigned is copied first on NumPy's side. Byte strings have no `'`, no
+`\\` and no byte with a short escape, which the two print differently.
 
 Each script has a depth of its own: before each command that changes the state NumPy's side copies all of it, and an `undo` takes the
-last copy that is left. And it has a folder of its own, with files that NumPy writes of random arrays, of both versions and orders, and
-some that are cut. What is saved is compared byte for byte with what `files.py` says of the array, and NumPy loads it. Files whose
-headers are altered are loaded too: each gets a reply.
+last copy. And it has a folder of its own, with files that NumPy writes of random arrays, of both versions and orders, some of them cut.
+What is saved is compared byte for byte with what `files.py` says of the array, and NumPy loads it. Files whose headers are altered are
+loaded too: each gets a reply.
 """
 import itertools
 import math

@@ -265,13 +265,8 @@ class Script:
         return f"{name} = reshape {source} ({','.join(map(str, numbers))})", reply
 
     def copy(self):
-        name, source = self.rng.choice(NAMES), self.scattered()
-        order = self.rng.choice("CF")
-
-        def reply():
-            return self.world.bind(name, self.world.array(source).copy(order), "copy")
-
-        return f"{name} = copy {source} {order}", reply
+        name, source, order = self.rng.choice(NAMES), self.scattered(), self.rng.choice("CF")
+        return f"{name} = copy {source} {order}", lambda: self.world.bind(name, self.world.array(source).copy(order), "copy")
 
     def field(self):
         name, source = self.rng.choice(NAMES), self.source()
@@ -394,11 +389,7 @@ class Script:
 
     def operation(self):
         (left, names, one), (right, more, other), word = self.operand(), self.argument(), self.rng.choice(WORDS)
-        return self.bound(f"{word} {left} {right}", names + more, lambda: self.worked(word, one(), other()))
-
-    def worked(self, word, one, other):
-        TALLY["computed"] += 1
-        return computations.worked(word, one, other)
+        return self.bound(f"{word} {left} {right}", names + more, lambda: computations.worked(word, one(), other()))
 
     def unary(self):
         (text, names, one), word = self.operand(), self.rng.choice(["neg", "not"])
@@ -507,13 +498,7 @@ class Script:
 
     def delete(self):
         source = self.source()
-
-        def reply():
-            self.world.array(source)
-            del self.world.arrays[source]
-            return f"ok del {source}"
-
-        return f"del {source}", reply
+        return f"del {source}", lambda: self.world.delete(source)
 
     def undo(self):
         return "undo", self.world.undo

@@ -184,6 +184,11 @@ class World:
     def bind_view(self, name, source, array):
         return self.bind(name, array, "view", self.starts[source])
 
+    def delete(self, name):
+        self.array(name)
+        del self.arrays[name]
+        return f"ok del {name}"
+
     def printed(self, name):
         array = self.array(name)
         if array.size == 0:
