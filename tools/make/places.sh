@@ -1,6 +1,6 @@
 #!/bin/sh
 # Which files of the tree `make install` puts where, those that are there, one a line: the file, its place below PREFIX, its mode.
-cd "$(dirname "$0")/.." || exit 1
+cd "$(dirname "$0")/../.." || exit 1
 
 one() {
     if [ -f "$1" ]; then echo "$1 $2 $3"; fi
