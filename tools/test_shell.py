@@ -23,6 +23,7 @@ class Terminal:
         self.pid, self.terminal = pty.fork()
         if self.pid == 0:
             os.chdir(folder)
+            signal.signal(signal.SIGINT, signal.SIG_DFL)  # a gate that runs behind a shell's & has it ignored
             settings = environment(TERM="xterm", INPUTRC="/dev/null", BENCH_HISTORY=str(folder / "history"))
             os.execve(TOOL, [str(TOOL), "shell", *words], settings)
         self.status = None
