@@ -14,7 +14,7 @@ all:
 
 # The launcher of what is installed is the end of the launcher here, and never builds.
 install: all
-	@sh tools/places.sh | while read -r file place mode; do \
+	@sh tools/make/places.sh | while read -r file place mode; do \
 	    mkdir -p "$(to)/$${place%/*}" && cp "$$file" "$(to)/$$place" && chmod "$$mode" "$(to)/$$place" || exit 1; \
 	done
 	@mkdir -p "$(to)/bin"
@@ -23,7 +23,7 @@ install: all
 	@echo "bench: installed below $(to)"
 
 uninstall:
-	@sh tools/places.sh | while read -r file place mode; do rm -f "$(to)/$$place"; done
+	@sh tools/make/places.sh | while read -r file place mode; do rm -f "$(to)/$$place"; done
 	@rm -f "$(to)/bin/bench" "$(to)/libexec/bench/bench_main"
 	@for place in libexec/bench lib/bench-tool share/bench share/doc/bench; do \
 	    if [ -d "$(to)/$$place" ]; then find "$(to)/$$place" -name __pycache__ -prune -exec rm -rf {} + ; \
@@ -31,7 +31,7 @@ uninstall:
 	done
 
 pictures: all
-	@sh tools/pictures.sh
+	@sh tools/make/pictures.sh
 
 check:
 	@sh tools/check.sh

@@ -22,7 +22,6 @@ LIST = TOP / "docs/believed.txt"
 # A verdict carries its proof, so that its type says all, whatever the test is that finds it.
 VERDICT = re.compile(r"→ \w+OrNot\b")
 WORD = re.compile(r"[^\s(){}\[\],;]+")
-HEAD = re.compile(r"^(?:(?:abbrev|unfoldable|opaque|pub|record|data)\s+)+(\S+)|^(\S+) : ")
 
 
 def uses(text):
@@ -37,21 +36,6 @@ def uses(text):
     return names, modules
 
 
-def definitions(text):
-    """The definitions of a file of specs/, each with its whole text."""
-    found, name = collections.OrderedDict(), None
-    for line in text.split("\n"):
-        head = HEAD.match(line)
-        if line.startswith(("use ", "pub use ", "pub mod ", "open ", "infix", "--")):
-            name = None
-        elif head:
-            name = head[1] or head[2]
-            found[name] = [line]
-        elif name:
-            found[name].append(line)
-    return {it: "\n".join(lines) for it, lines in found.items()}
-
-
 class Repository:
     def __init__(self):
         self.files, self.models = {}, {}
@@ -59,7 +43,7 @@ class Repository:
             for file in sorted(crate.glob("specs/**/*.antt")):
                 text = file.read_text()
                 module = f"{crate.name}.specs.{'.'.join(file.relative_to(crate / 'specs').with_suffix('').parts)}"
-                self.files[module] = (file, definitions(text), *uses(text))
+                self.files[module] = (file, {name: whole for name, _, _, whole in statements(text)}, *uses(text))
             for file in sorted(crate.glob("src/**/*.rt")):
                 text = file.read_text()
                 for name, body in re.findall(r"impl(?:<[^>]*>)? Model for (\w+)[^{]*\{(.*?)\n\}", text, re.S):
@@ -182,14 +166,11 @@ def statements(text):
     found, start = [], None
     for line in [*text.split("\n"), "use "]:
         head = NAMED.match(line)
-        is_new = head and not line.startswith(("use ", "pub use ", "mod ", "pub mod ", "open ", "infix", "--", "unfolding "))
-        if is_new and found and found[-1][0] == head[2] and start:
-            start.append(line)
-        elif is_new:
+        if line.startswith(("use ", "pub use ", "mod ", "pub mod ", "module ", "open ", "infix")):
+            start = None
+        elif head and (head[1] or line.startswith(f"{head[2]} : ")):
             start = [line]
             found.append((head[2], "pub" in head[1], start))
-        elif line.startswith(("use ", "pub use ", "mod ", "pub mod", "open ", "infix")):
-            start = None
         elif start is not None:
             start.append(line)
     for name, is_public, lines in found:

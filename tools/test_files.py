@@ -1,13 +1,11 @@
 """The files that the program leaves in a folder: their modes, links, what is no plain file, and two writers of one name."""
 import fcntl
 import os
-import pathlib
 import stat
 import subprocess
-import tempfile
 import unittest
 
-from companion_trials import PROGRAM, needs_program, share
+from trials.companion_trials import PROGRAM, InFolder, needs_program, share
 
 FAULT = b"no E27 store fault\n"
 
@@ -32,11 +30,9 @@ def mode(path):
     return stat.S_IMODE(os.lstat(path).st_mode)
 
 
-class InFolder(unittest.TestCase):
+class Saving(InFolder):
     def setUp(self):
-        folder = tempfile.TemporaryDirectory()
-        self.addCleanup(folder.cleanup)
-        self.folder = pathlib.Path(folder.name)
+        super().setUp()
         self.file = self.folder / "a.npy"
         self.part = self.folder / ".a.npy.part"
 
@@ -49,7 +45,7 @@ class InFolder(unittest.TestCase):
 
 
 @needs_program
-class Modes(InFolder):
+class Modes(Saving):
     def test_a_file_that_is_replaced_keeps_its_mode(self):
         self.save(1)
         for bits in (0o600, 0o640, 0o444, 0o755):
@@ -65,7 +61,7 @@ class Modes(InFolder):
 
 
 @needs_program
-class Links(InFolder):
+class Links(Saving):
     def test_a_save_through_a_link_is_refused(self):
         self.save(1)
         old = self.file.read_bytes()
@@ -94,7 +90,7 @@ class Links(InFolder):
 
 
 @needs_program
-class Writers(InFolder):
+class Writers(Saving):
     def test_what_was_left_goes_with_the_next_save_of_its_name(self):
         other = self.folder / ".b.npy.part"
         for path in (self.part, other):

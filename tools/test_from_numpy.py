@@ -5,7 +5,6 @@ import itertools
 import os
 import pathlib
 import re
-import struct
 import subprocess
 import sys
 import tempfile

@@ -49,7 +49,7 @@ class Launcher(unittest.TestCase):
         self.folder = pathlib.Path(tempfile.mkdtemp())
         self.addCleanup(shutil.rmtree, self.folder)
         self.tree = self.folder / "a tree"
-        for name in ("bench", "Makefile", "crates.txt", "tools/build.sh", "tools/places.sh", "docs/help.txt", "docs/LANGUAGE.md"):
+        for name in ("bench", "Makefile", "crates.txt", "tools/build.sh", "tools/make/places.sh", "docs/help.txt", "docs/LANGUAGE.md"):
             (self.tree / name).parent.mkdir(parents=True, exist_ok=True)
             shutil.copy(TOP / name, self.tree / name)
         for crate in listed():

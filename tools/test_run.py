@@ -8,7 +8,7 @@ import sys
 import tempfile
 import unittest
 
-from trials.companion_trials import PROGRAM, TOOL, environment, needs_program, numpy_or_none, share
+from trials.companion_trials import PROGRAM, TOOL, InFolder, environment, needs_program, numpy_or_none, share
 import hostile_scripts as scripts
 from bench_tool import main
 
@@ -73,12 +73,7 @@ def refusals(lines, output):
 
 
 @needs_program
-class Runs(unittest.TestCase):
-    def setUp(self):
-        folder = tempfile.TemporaryDirectory()
-        self.addCleanup(folder.cleanup)
-        self.folder = pathlib.Path(folder.name)
-
+class Runs(InFolder):
     def written(self, text):
         path = self.folder / "script.bench"
         path.write_bytes(text if isinstance(text, bytes) else text.encode())

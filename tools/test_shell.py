@@ -1,17 +1,15 @@
 """`bench-tool shell` in a pseudo-terminal: prompt, history, Tab, help, Ctrl-C, Ctrl-D, long lines."""
 import os
-import pathlib
 import pty
 import re
 import select
 import signal
 import subprocess
-import tempfile
 import threading
 import time
 import unittest
 
-from trials.companion_trials import TOOL, TOP, environment, needs_program
+from trials.companion_trials import TOOL, TOP, InFolder, environment, needs_program
 from bench_tool.shell import PROMPT
 
 UP, TAB, CTRL_C, CTRL_D, ENTER = b"\x1b[A", b"\t", b"\x03", b"\x04", b"\r"
@@ -25,6 +23,7 @@ class Terminal:
         self.pid, self.terminal = pty.fork()
         if self.pid == 0:
             os.chdir(folder)
+            signal.signal(signal.SIGINT, signal.SIG_DFL)  # a gate that runs behind a shell's & has it ignored
             settings = environment(TERM="xterm", INPUTRC="/dev/null", BENCH_HISTORY=str(folder / "history"))
             os.execve(TOOL, [str(TOOL), "shell", *words], settings)
         self.status = None
@@ -76,12 +75,7 @@ class Terminal:
 
 
 @needs_program
-class Shells(unittest.TestCase):
-    def setUp(self):
-        folder = tempfile.TemporaryDirectory()
-        self.addCleanup(folder.cleanup)
-        self.folder = pathlib.Path(folder.name)
-
+class Shells(InFolder):
     def shell(self, *words):
         terminal = Terminal(self.folder, *words)
         self.addCleanup(terminal.close)

@@ -1,20 +1,16 @@
 """`bench-tool show`: what load, info, format and print say of a file."""
-import pathlib
 import subprocess
-import tempfile
 import unittest
 
-from trials.companion_trials import PROGRAM, TOOL, environment, needs_program
+from trials.companion_trials import PROGRAM, TOOL, InFolder, environment, needs_program
 from bench_tool import Session
 
 
 @needs_program
-class Shows(unittest.TestCase):
+class Shows(InFolder):
     def setUp(self):
-        folder = tempfile.TemporaryDirectory()
-        self.addCleanup(folder.cleanup)
-        self.folder = pathlib.Path(folder.name)
-        with Session(PROGRAM, dir=folder.name) as bench:
+        super().setUp()
+        with Session(PROGRAM, dir=self.folder) as bench:
             bench.run("a = arange <i4 0 2000 1\nm = reshape a (100,20)\nsave m \"m.npy\"\nsave a \"a.npy\"")
             bench.run("r = array T{b:x:2s:s:} (2) (1,b'ab') (-2,b'c')\nsave r \"r.npy\"")
             self.whole = bench.send("print m").text

@@ -1,6 +1,5 @@
 """The words around the program: help, what is told of refused lines, manual pages, completions, syntax files."""
 import json
-import os
 import re
 import shutil
 import subprocess
@@ -76,10 +75,9 @@ class Words(unittest.TestCase):
             self.assertRegex(text, r"0 to 64", page)
             self.assertRegex(text, r"\b16\b", page)
 
+    @needs_program
     def test_examples_of_the_language(self):
         """The examples can be pasted: each is replied what stands behind it as a comment."""
-        if not os.access(PROGRAM, os.X_OK):
-            self.skipTest("left out: the program is not built")
         blocks = [block for block in re.findall(r"```\n(.*?)```", read("docs/LANGUAGE.md"), re.S)]
         self.assertGreater(len(blocks), 10)
         for block in blocks:
@@ -88,10 +86,9 @@ class Words(unittest.TestCase):
                 told = "".join(f"{line[2:]}\n" for line in block.splitlines() if line.startswith("# "))
                 self.assertEqual((done.stdout, done.stderr), (told, ""))
 
+    @needs_program
     def test_names_of_files(self):
         """Letters, digits, `_`, `-` and `.`, the last two not first, 64 bytes at most; else the line is no command."""
-        if not os.access(PROGRAM, os.X_OK):
-            self.skipTest("left out: the program is not built")
         self.assertIn("A file's name is letters, digits, `_`, `-` and `.`,\nbegins with neither of the last two, and has at most 64 bytes", read("docs/LANGUAGE.md"))
         good, bad = ["a", "_", "9-.x", "x" * 64, "A.b_c-d"], ["", "-a", ".a", "x" * 65, "a/b", "..", "a b", "\xe4"]
         with Session(PROGRAM, dir="/nowhere") as bench:

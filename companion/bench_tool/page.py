@@ -7,7 +7,7 @@ import zlib
 from base64 import b64encode
 from html import escape
 from pathlib import Path
-from typing import Any, Sequence
+from typing import Sequence
 
 from . import language
 from .picture import Drawn, Table, cut, hues_of, said

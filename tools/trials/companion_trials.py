@@ -2,6 +2,7 @@
 import os
 import pathlib
 import sys
+import tempfile
 import unittest
 
 TOP = pathlib.Path(__file__).resolve().parents[2]
@@ -31,3 +32,12 @@ def numpy_or_none():
         return numpy
     except ImportError:
         return None
+
+
+class InFolder(unittest.TestCase):
+    """Tests with a folder of their own, which goes with them."""
+
+    def setUp(self):
+        folder = tempfile.TemporaryDirectory()
+        self.addCleanup(folder.cleanup)
+        self.folder = pathlib.Path(folder.name)

@@ -6,7 +6,7 @@ import operator
 
 import numpy as np
 
-from world import Refused
+from world import TALLY, Refused
 
 OPERATIONS = ["add", "sub", "mul", "fdiv", "mod", "and", "or", "xor", "shl", "shr", "div"]
 COMPARISONS = {"eq": operator.eq, "ne": operator.ne, "lt": operator.lt, "le": operator.le, "gt": operator.gt, "ge": operator.ge}
@@ -83,6 +83,7 @@ def literal_type(value, beside):
 
 def worked(word, left, right):
     """What a word gives on an array and an array or a literal: the type, the shape and the items."""
+    TALLY["computed"] += 1
     if isinstance(right, np.ndarray):
         dtype = result_type(word, left.dtype, right.dtype)
     else:

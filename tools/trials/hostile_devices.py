@@ -44,7 +44,7 @@ class Trials:
 
     def run(self, text, words=(), before=(), through=None, seconds=MOST_WAIT, **streams):
         """Status, output and what is said on standard error; a run that takes too long is ended, and has none."""
-        process = self.start(words, before, through, stdin=subprocess.PIPE, **streams)
+        process = self.start(words, before, through, **{"stdin": subprocess.PIPE, **streams})
         try:
             out, err = process.communicate(text.encode(), seconds)
         except subprocess.TimeoutExpired:
@@ -191,7 +191,7 @@ class Trials:
         self.expect("an empty name as SCRIPT", self.run("", [""]), 3, "", "bench: no script\n")
         self.expect("a name that is too long", self.run("", ["x" * 5000]), 3, "", "bench: no script\n")
         folder = os.open(self.dir, os.O_RDONLY)
-        self.expect("a folder as standard input", self.run_with(folder), 3, "", "bench: read fault\n")
+        self.expect("a folder as standard input", self.run("", stdin=folder), 3, "", "bench: read fault\n")
         os.close(folder)
         self.expect("/dev/null as SCRIPT", self.run("", ["/dev/null"]), 0, "", "")
         if os.getuid() == 0:
@@ -199,12 +199,6 @@ class Trials:
             secret.write_text(SCRIPT)
             secret.chmod(0)
             self.expect("SCRIPT without rights", self.run("", [secret], NOBODY), 3, "", "bench: no script\n")
-
-    def run_with(self, given):
-        """A run whose standard input is some open file."""
-        process = self.start(stdin=given)
-        out, err = process.communicate(timeout=MOST_WAIT)
-        return process.returncode, out.decode(), err.decode()
 
     def folders(self):
         """Folders that are not there, that may not be used, or that are full."""

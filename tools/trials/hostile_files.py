@@ -3,12 +3,11 @@
 Each is an array or a refusal, and which one is worked out in `npy_rule.py` from the bytes alone. A run over many files keeps
 to the memory of an idle one, the bytes of a file and those of the array that it holds."""
 import math
-import multiprocessing
 import random
 
 import damaged
 import npy_rule
-from hostile_runs import MOST_SECONDS, Part, Runner, Talk, fill, shown
+from hostile_runs import MOST_SECONDS, Part, Runner, Talk, fill, in_processes, shown
 
 MAGIC = b"\x93NUMPY"
 DATA = b"\x01\0\0\0\x02\0\0\0\x03\0\0\0"
@@ -273,8 +272,7 @@ def all_trials(given, _folder):
     part.add(loads((given.program, idle, exact)))
     part.count("of them told or with other lengths", len(exact))
     seeds = [given.seed * 10_000 + number for number in range(math.ceil(ALTERED / BATCH))]
-    with multiprocessing.Pool(given.processes) as pool:
-        for found in pool.imap_unordered(batch, [(given.program, idle, seed) for seed in seeds]):
-            part.add(found)
+    for found in in_processes(given, batch, [(given.program, idle, seed) for seed in seeds]):
+        part.add(found)
     part.add(large_loads(given.program))
     return part

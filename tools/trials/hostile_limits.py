@@ -2,15 +2,13 @@
 
 Under each limit the program either does not come to its first reply (it is not loaded, says that it is out of memory, or ends
 while it takes its stack), or each reply is that of the script without the lines that are answered `no E40 out of memory`, and
-so are the files. Nothing ends it after its first reply. Each line of a script is followed by one that is no command, whose
-reply tells the others apart."""
+so are the files. Nothing ends it after its first reply."""
 import collections
-import multiprocessing
 import random
 
-from hostile_memory import E40, IN_PLACE, MARK, MARKED, NEVER
-from hostile_runs import Part, Ran, Runner, contents, fill, shown, with_launcher
-from hostile_scripts import is_silent, own_scripts, random_script, text_of
+from hostile_memory import E40, IN_PLACE, NEVER
+from hostile_runs import Part, Ran, Runner, contents, fill, in_processes, shown, with_launcher
+from hostile_scripts import marked, own_scripts, random_script, replies_of
 
 PAGE = 4096
 LACKING = Ran(3, b"", b"bench: out of memory\n")
@@ -40,28 +38,15 @@ class Limited:
     def run(self, lines, limits=()):
         """What a run comes to, and the files that it leaves."""
         fill(self.runner.dir, self.script.files)
-        ran = self.runner.run(text_of([line for pair in lines for line in (pair, MARK)]), self.words, limits=limits)
+        ran = self.runner.run(marked(lines), self.words, limits=limits)
         return ran, contents(self.runner.dir)
-
-    def replies(self, out, lines):
-        """The reply to each line, or none where they are not told apart."""
-        found, at = [], 0
-        for line in lines:
-            end = at if is_silent(line) else out.find(b"\n", at) + 1
-            while end and not out.startswith(MARKED, end):
-                end = out.find(b"\n", end) + 1
-            if not end and not (at == end and is_silent(line)):
-                return None
-            found.append(out[at:end])
-            at = end + len(MARKED)
-        return found if at == len(out) else None
 
     def expected(self, refused):
         """Replies and files of the script without some lines, in a run with all memory."""
         if refused not in self.without:
             lines = [line for k, line in enumerate(self.lines) if k not in refused]
             ran, files = self.run(lines)
-            self.without[refused] = self.replies(ran.out, lines), files
+            self.without[refused] = replies_of(ran.out, lines), files
         return self.without[refused]
 
     def judged(self, ran, files):
@@ -72,7 +57,7 @@ class Limited:
             return ("ended at the start" if ran.status < 0 else "not started"), None
         if ran.status != 1 or ran.err:
             return "ended otherwise", "status 1 and nothing on standard error"
-        replies = self.replies(ran.out, self.lines)
+        replies = replies_of(ran.out, self.lines)
         if replies is None:
             return "replies", "a reply to each line"
         refused = tuple(k for k, reply in enumerate(replies) if reply == E40)
@@ -170,10 +155,8 @@ def all_trials(given, folder):
     scripts = own_scripts() + [random_script(rng, number) for number in range(RANDOM_SCRIPTS)]
     part = stacks(given.program, folder)
     tasks = [(given.program, number, script, rng.random()) for number, script in enumerate(scripts)]
-    most = 0
-    with multiprocessing.Pool(given.processes) as pool:
-        for found, above in pool.imap_unordered(trials_of, tasks):
-            part.add(found)
-            most = max(most, above)
-    part.note("limits that end a run at its start, above the least under which it runs", f"up to {most:,} bytes")
+    found = list(in_processes(given, trials_of, tasks))
+    for runs, _ in found:
+        part.add(runs)
+    part.note("limits that end a run at its start, above the least under which it runs", f"up to {max(above for _, above in found):,} bytes")
     return part

@@ -5,7 +5,6 @@ most one reply is `no E40 out of memory` and all else, replies and files, is tha
 reply never stands for a line that takes no memory."""
 import dataclasses
 import itertools
-import multiprocessing
 import os
 import pathlib
 import random
@@ -14,14 +13,13 @@ import subprocess
 import time
 
 from hostile_files import reserved_when_idle
-from hostile_runs import Part, Ran, Runner, contents, fill, shown
-from hostile_scripts import is_silent, own_scripts, random_script, scripts_in, text_of
+from hostile_runs import Part, Ran, Runner, contents, fill, in_processes, shown
+from hostile_scripts import marked, own_scripts, random_script, replies_of, scripts_in, text_of
 
 SOURCE = pathlib.Path(__file__).resolve().parent / "refuse_memory.c"
 LACK = "no E40 out of memory"
 E40 = LACK.encode() + b"\n"
 ROOM = 2**25
-MARK, MARKED = b"?", b"no E03 syntax\n"
 NEVER = (b"no E01 ", b"no E02 ", b"no E06 ", b"no E26 ")
 # A list of more items than these takes memory as the line is read, before a name is looked up.
 IN_PLACE = 8
@@ -61,11 +59,11 @@ class Refusing:
         self.files = None
         self.without = {}
 
-    def run(self, lines, request=0):
-        """What a run over the lines comes to, the files that it leaves, and how many requests were made and refused."""
+    def run(self, text, request=0):
+        """What a run over a text comes to, the files that it leaves, and how many requests were made and refused."""
         if self.files is None or self.saves:
             fill(self.runner.dir, self.script.files)
-        ran, told = run_refusing(self.runner, self.library, text_of(lines), self.words, request)
+        ran, told = run_refusing(self.runner, self.library, text, self.words, request)
         left = contents(self.runner.dir) if self.files is None or self.saves else self.files
         return ran, left, told
 
@@ -77,16 +75,8 @@ class Refusing:
         ])
 
     def replies(self):
-        """The reply to each line, found by a line that is no command after each."""
-        marked = [line for pair in self.script.lines for line in (pair, MARK)]
-        rest, found = self.run(marked)[0].out, []
-        for line in self.script.lines:
-            end = 0 if is_silent(line) else rest.index(b"\n", 0) + 1
-            while not rest.startswith(MARKED, end):
-                end = rest.index(b"\n", end) + 1
-            found.append(rest[:end])
-            rest = rest[end + len(MARKED) :]
-        return found
+        """The reply to each line."""
+        return replies_of(self.run(marked(self.script.lines))[0].out, self.script.lines)
 
     def prepare(self):
         """Runs the script with all its memory."""
@@ -97,7 +87,7 @@ class Refusing:
         seconds = []
         for _ in range(2):
             began = time.monotonic()
-            self.whole, left, (self.requests, _) = self.run(self.script.lines)
+            self.whole, left, (self.requests, _) = self.run(text_of(self.script.lines))
             seconds.append(time.monotonic() - began)
         self.seconds, self.files = min(seconds), left
 
@@ -119,7 +109,7 @@ class Refusing:
         """Output and files of the script without a line."""
         if number not in self.without:
             lines = self.script.lines[:number] + self.script.lines[number + 1 :]
-            ran, left, _ = self.run(lines)
+            ran, left, _ = self.run(text_of(lines))
             self.without[number] = ran.out, left
         return self.without[number]
 
@@ -158,7 +148,7 @@ class Refusing:
 
     def trial(self, part, request):
         """A run with one request refused."""
-        ran, left, (_, refused) = self.run(self.script.lines, request)
+        ran, left, (_, refused) = self.run(text_of(self.script.lines), request)
         part.count("runs")
         if refused != 1:
             return part.fault(f"{self.script.name}, request {request}", f"{refused} requests refused", "the same requests in each run")
@@ -246,7 +236,6 @@ def all_trials(given, folder):
     library, part = built_library(folder), within_bounds(given.program)
     part.add(words_of_the_program(given.program, library))
     tasks = [(given.program, library, script, given.every) for script in scripts]
-    with multiprocessing.Pool(given.processes) as pool:
-        for found in pool.imap_unordered(trials_of, tasks):
-            part.add(found)
+    for found in in_processes(given, trials_of, tasks):
+        part.add(found)
     return part

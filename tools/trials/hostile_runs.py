@@ -1,5 +1,6 @@
 """Runs of the program under trial, the memory they take, and what a part of the trial counts."""
 import collections
+import multiprocessing
 import os
 import pathlib
 import re
@@ -87,6 +88,12 @@ def with_launcher(program, folder):
     placed.parent.mkdir(parents=True)
     shutil.copy(program, placed)
     return pathlib.Path(shutil.copy(TOP / "bench", tree / "bench"))
+
+
+def in_processes(given, trial, tasks):
+    """What a trial comes to on each task, some at a time."""
+    with multiprocessing.Pool(given.processes) as pool:
+        yield from pool.imap_unordered(trial, tasks)
 
 
 class Runner:

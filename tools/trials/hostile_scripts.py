@@ -7,6 +7,7 @@ import re
 TOP = pathlib.Path(__file__).resolve().parents[2]
 NAME = re.compile(rb"\s*([A-Za-z_]\w*)\s*=")
 LONGEST_LINE = 65536
+MARK, MARKED = b"?", b"no E03 syntax\n"
 
 
 @dataclasses.dataclass
@@ -39,6 +40,25 @@ def text_of(lines):
 
 def lines_of(text):
     return text.removesuffix(b"\n").split(b"\n")
+
+
+def marked(lines):
+    """The text of lines, each with one behind it that is no command, whose reply tells the others apart."""
+    return text_of([text for line in lines for text in (line, MARK)])
+
+
+def replies_of(out, lines):
+    """The replies to marked lines, one for each, or none where they are not told apart."""
+    found, at = [], 0
+    for line in lines:
+        end = at if is_silent(line) else out.find(b"\n", at) + 1
+        while end and not out.startswith(MARKED, end):
+            end = out.find(b"\n", end) + 1
+        if not end and not (at == end and is_silent(line)):
+            return None
+        found.append(out[at:end])
+        at = end + len(MARKED)
+    return found if at == len(out) else None
 
 
 def beside(path, ending):

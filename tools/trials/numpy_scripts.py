@@ -1,572 +1,92 @@
 """Random scripts by the program and by NumPy: views, gathers, computations, reshapes, casts, overlaps, files and undo, in one script.
 
-What NumPy leaves open is taken as the program's documents tell it: the stride of an axis shorter than 2 is 0, and so is each stride of an
-empty array; an integer for every axis gives an array of no axes; an index array of no axes is one all the same. A format text that
-sets `@` has it from its start to its end: of a record within that ends under another mark than it begins under, NumPy takes the
-later one for its alignment.
+What NumPy leaves open is taken as the program's documents tell it: the stride of an axis shorter than 2, and each stride of an empty array,
+is 0; an integer for every axis gives an array of no axes; an index array of no axes is one all the same. A format text that sets `@` has it
+to its end: of a record within that ends under another mark than it begins under, NumPy takes the later one for its alignment.
 
-Where a reshape shares and where it copies is worked out in `reshapes.py` from the addresses of the items, casts go by the rule in
-`casts.py`, and what NumPy does is held against both; differences are counted. An array that is assigned is copied first on NumPy's side.
-Byte strings have no `'`, no `\\` and no byte with a short escape, which the two print differently.
+Where a reshape shares is worked out in `reshapes.py` from the addresses of the items, casts go by the rule in `casts.py`, and what NumPy
+does is held against both; differences are counted. An array that is assigned is copied first on NumPy's side. Byte strings have no `'`, no
+`\\` and no byte with a short escape, which the two print differently.
 
 Each script has a depth of its own: before each command that changes the state NumPy's side copies all of it, and an `undo` takes the
-last copy that is left. And it has a folder of its own, with files that NumPy writes of random arrays, of both versions and orders, and
-some that are cut. What is saved is compared byte for byte with what `files.py` says of the array, and NumPy loads it. Files whose
-headers are altered are loaded too: each gets a reply.
+last copy. And it has a folder of its own, with files that NumPy writes of random arrays, of both versions and orders, some of them cut.
+What is saved is compared byte for byte with what `files.py` says of the array, and NumPy loads it. Files whose headers are altered are
+loaded too: each gets a reply.
 """
 import itertools
 import math
-import multiprocessing
 import random
 import re
 
 import numpy as np
 
-import casts
-import computations
 import damaged
 import files
 import overlaps
-import reshapes
 from formats import Formats
-from hostile_runs import Part, Runner, contents, fill
+from hostile_runs import Part, Runner, contents, fill, in_processes
 from limits import Limits
-from world import FAR, MOST_AXES, MOST_ITEMS, TALLY, Refused, World, fields, leaves, list_text, literal_text, type_text
-
-SCALARS = ["<i4", ">i2", "|u1", "|i1", "<u8", ">i8", "|b1", "<i8", ">u4", "<u2"]
-STRINGS = ["|S1", "|S2", "|S5"]
-INNER = np.dtype([("y", "<i4")])
-PAIR = np.dtype({"names": ["n", "s"], "formats": [">u2", "|i1"], "offsets": [1, 3], "itemsize": 5})
-RECORDS = [
-    np.dtype([("x", "<i2"), ("y", ">i4")]),
-    np.dtype({"names": ["on", "n", "big"], "formats": ["|b1", "|u1", "<i8"], "offsets": [0, 3, 4], "itemsize": 13}),
-    np.dtype({"names": ["x"], "formats": [">u2"], "offsets": [3], "itemsize": 5}),
-    np.dtype({"names": ["x", "s"], "formats": ["|i1", INNER], "offsets": [0, 4], "itemsize": 8}),
-    np.dtype([("s", INNER)]),
-    np.dtype([("p", PAIR), ("x", "|b1"), ("q", PAIR)]),
-    np.dtype([("x", "|u1"), ("s", [("p", PAIR), ("t", [("u", [("y", ">i8"), ("z", "|b1")]), ("y", "<u2")])])]),
-    np.dtype([("t", "|S3"), ("x", ">i4")]),
-    np.dtype([("n", "|i1"), ("s", [("t", "|S2"), ("u", "|S4")])]),
-]
-NAMES = "abcdefg"
-FILES = ["a.npy", "b.npy", "_", "9-.x"]
-DEPTHS = [0, 1, 3, 16, 64]
-INDEXES = "ijklmn"
-CHANGES = re.compile(r"\w+ =|set |upd |del ")
-WORDS = [*computations.OPERATIONS, *computations.COMPARISONS]
-LITERALS = [0, 1, -1, 2, 3, 7, 8, 31, 63, 64, 127, 128, 255, 256, 2**31, 2**63, -(2**63), 2**64, 10**29, -(10**29), True, False, b"a", b""]
-BYTES = b"abzQ09 \x00\x80\xff"
-UNKNOWN_TYPES = {"<i3": "E04", "<f4": "E05", "|S65537": "E09"}
+from scripts import NAMES, Script
+from values import random_value
+from world import TALLY, Refused
 
 
-def random_bytes(rng, length):
-    return bytes(rng.choice(BYTES) for _ in range(rng.randint(0, length + 1)))
+class Indexes(Script):
+    """A script of lists with arrays, mostly two and three with numbers, mostly of arrays of several axes."""
 
+    WEIGHTS = {"make": 16, "index": 30, "set": 18, "assign": 24, "update": 24, "transpose": 6, "broadcast": 3, "field": 5, "undo": 8}
+    LISTS, ARRAYS, MASKS, FEWEST, ROOMY, RANKS = 0.9, 0.8, 0.05, 2, 0.8, [2, 3, 3, 4]
 
-def edge_value(rng, dtype):
-    """A value at an end of an integer type, or of a narrower one."""
-    if dtype.kind == "b":
-        return rng.randint(0, 1)
-    ends = [dtype.itemsize * 8 - (dtype.kind == "i"), *range(7, dtype.itemsize * 8, 8), *range(8, dtype.itemsize * 8, 8)]
-    value = 2 ** rng.choice(ends) + rng.choice([-1, -1, 0, 1])
-    value = rng.choice([0, value, -value])
-    return value if np.iinfo(dtype).min <= value <= np.iinfo(dtype).max else np.iinfo(dtype).max
+    def one_of(self, names):
+        wide = [name for name in names if name in NAMES and len(self.shape_of(name)) > 1]
+        return self.rng.choice(wide if wide and self.rng.random() < 0.8 else names)
 
-
-def random_value(rng, dtype, low, top, edges=False):
-    """A value of a type: a number, a byte string, or for a record a tuple with one for each field."""
-    if dtype.names is not None:
-        return tuple(random_value(rng, inner, low, top, edges) for _, inner, _ in fields(dtype))
-    if dtype.kind == "S":
-        return random_bytes(rng, dtype.itemsize)
-    if edges and rng.random() < 0.5:
-        return edge_value(rng, dtype)
-    return rng.randint(low, 1 if dtype.kind == "b" and low == 0 else top)
-
-
-def stands_for(value, dtype):
-    """Whether a tuple has a value for each field of a record, and for no scalar; byte strings stand for such alone."""
-    if isinstance(value, tuple) != (dtype.names is not None):
-        return False
-    if dtype.names is None:
-        return isinstance(value, bytes) == (dtype.kind == "S")
-    return (
-        len(value) == len(dtype.names)
-        and all(stands_for(v, inner) for v, (_, inner, _) in zip(value, fields(dtype)))
-    )
-
-
-def numbers(value):
-    return [n for v in value for n in numbers(v)] if isinstance(value, tuple) else [value]
-
-
-def filled(value, dtype):
-    """A number in the place of each scalar of a record."""
-    return value if dtype.names is None else tuple(filled(value, inner) for _, inner, _ in fields(dtype))
-
-
-def names_in(name, items):
-    """The names of a part of an array: its own and those of the arrays in its index list."""
-    return [name, *(item for item in items if isinstance(item, str))]
-
-
-class Script:
-    """A random script, with the replies that NumPy gives. In a roomy one, arrays seldom become small."""
-
-    def __init__(self, rng, commands):
-        self.rng = rng
-        self.world = World(rng.choice(DEPTHS))
-        self.words = ["--undo", str(self.world.depth)]
-        self.roomy = rng.random() < 0.5
-        self.lines, self.replies = [], []
-        self.first, self.loads = {}, {}
-        self.files = self.world.files
-        self.indexes = itertools.cycle(INDEXES)
-        kinds = [
-            (self.make, 14), (self.index, 28), (self.alias, 5), (self.transpose, 9), (self.set, 16), (self.print, 12), (self.info, 8),
-            (self.shares, 5), (self.delete, 2), (self.names, 1), (self.field, 10), (self.broadcast, 9), (self.copy, 7), (self.reshape, 24),
-            (self.assign, 30), (self.cast, 14), (self.save, 8), (self.load, 10), (self.undo, 24), (self.operation, 24), (self.unary, 5),
-            (self.reduction, 12), (self.update, 20),
-        ]
-        for command in rng.choices(*zip(*kinds), k=commands):
-            self.add(*(command if self.world.arrays else self.make)())
-        for name in self.world.arrays:
-            self.add(f"info {name}", lambda: self.world.info(name))
-            self.add(f"print {name}", lambda: self.world.printed(name))
-
-    def add(self, line, reply):
-        self.lines.append(line)
-        before = self.world.whole() if CHANGES.match(line) else None
+    def fitting(self, target, items):
+        """A name of an array that stretches to some items of a target, mostly of a new one of their type."""
         try:
-            self.replies.append(reply())
-            if before is not None:
-                self.world.keep(before)
-        except Refused as refused:
-            self.replies.append(f"no {refused}")
-
-    def source(self):
-        """A name, nearly always one that is bound."""
-        bound = self.rng.random() < 0.97
-        return self.rng.choice(list(self.world.arrays) if bound else "xyz")
-
-    def shape_of(self, name):
-        return self.world.arrays[name].shape if name in self.world.arrays else (3,)
-
-    def integer(self, length):
-        if self.rng.random() < 0.1:
-            return self.rng.choice([length, -length - 1, FAR, -FAR])
-        return self.rng.randint(-length, length - 1) if length else 0
-
-    def slice(self, length):
-        bounds = [
-            None if self.rng.random() < (0.8 if self.roomy else 0.4)
-            else self.rng.choice([FAR, -FAR]) if self.rng.random() < 0.05
-            else self.rng.randint(-length - 2, length + 2)
-            for _ in range(2)
-        ]
-        step = self.rng.choice([None, None, 1, 2, -1, -2, 3, -3, -5, 7, FAR, -FAR, 0])
-        return slice(*bounds, step)
-
-    def items(self, shape):
-        """An index list: at least one item, `...` at most once, seldom one axis too many; in some names of arrays."""
-        axes, k, items = self.rng.randint(0, len(shape) + (self.rng.random() < 0.05)), 0, []
-        arrays = 0.5 if self.rng.random() < 0.25 else 0
-        while k < axes:
-            length = shape[min(k, len(shape) - 1)] if shape else 3
-            if self.rng.random() < arrays:
-                name, taken = self.index_array(shape[k:] or (length,))
-                items.append(name)
-                k += taken
-                continue
-            chosen = self.rng.random() < (0.15 if self.roomy else 0.45)
-            items.append(self.integer(length) if chosen else self.slice(length))
-            k += 1
-        for _ in range(self.rng.choice([0, 0, 1, 2])):
-            items.insert(self.rng.randint(0, len(items)), None)
-        if not items or self.rng.random() < 0.3:
-            items.insert(self.rng.randint(0, len(items)), Ellipsis)
-        return items
-
-    def index_array(self, shape):
-        """A mask or an index array for the first of some axes, seldom one that doesn't fit: its name, and for how many axes it stands."""
-        if self.rng.random() < 0.04:
-            return self.source(), 1
-        if self.rng.random() < 0.35:
-            lengths = [n + (self.rng.random() < 0.02) for n in shape[: self.rng.randint(1, min(3, len(shape)))]]
-            array = np.array([self.rng.random() < 0.5 for _ in range(math.prod(lengths))], dtype=bool).reshape(lengths)
-        else:
-            dtype, lengths = np.dtype(self.rng.choice(["|i1", "<i4", ">i2", "<i8", "|u1", "<u4"])), [shape[0]]
-            low, top = (0 if dtype.kind == "u" else -shape[0]), max(0, shape[0] - 1) + (self.rng.random() < 0.03)
-            own = [self.rng.choice([0, 1, 2, 2, 3]) for _ in range(self.rng.choice([0, 1, 1, 1, 2, 3]))]
-            array = np.array([self.rng.randint(low, top) for _ in range(math.prod(own))], dtype=dtype).reshape(own)
-        name = next(self.indexes)
-        self.add(*self.made(name, array, array.ravel().tolist()))
-        return name, len(lengths)
-
-    def made(self, name, array, values):
-        """The line that makes an array."""
-        shape, literals = ",".join(map(str, array.shape)), " ".join(map(literal_text, values))
-        return f"{name} = array {type_text(array.dtype)} ({shape}) {literals}", lambda: self.world.bind(name, array, "new")
-
-    def dtype(self):
-        return self.rng.choice(RECORDS) if self.rng.random() < 0.5 else np.dtype(self.rng.choice(SCALARS + STRINGS))
-
-    def values(self):
-        """A type, a shape, and a value for each item."""
-        dtype, edges = self.dtype(), self.rng.random() < 0.4
-        lengths, ranks = ([1, 2, 3, 4, 6], [2, 2, 3, 4]) if self.roomy else ([0, 1, 2, 3, 4], [0, 1, 1, 2, 2, 3, 4])
-        shape = [self.rng.choice(lengths) for _ in range(self.rng.choice(ranks))]
-        return dtype, shape, [random_value(self.rng, dtype, 0, 99, edges) for _ in range(int(np.prod(shape)))]
-
-    def array(self):
-        dtype, shape, values = self.values()
-        return np.array(values, dtype=dtype).reshape(shape)
-
-    def make(self):
-        dtype, shape, values = self.values()
-        return self.made(self.rng.choice(NAMES), np.array(values, dtype=dtype).reshape(shape), values)
-
-    def index(self):
-        name, source = self.rng.choice(NAMES), self.source()
-        items = self.items(self.shape_of(source))
-
-        def reply():
-            part = self.world.part(source, items)
-            if part.places is None:
-                return self.world.bind_view(name, source, part.read())
-            return self.world.bind(name, part.read(), "copy")
-
-        return f"{name} = {source}[{list_text(items)}]", reply
-
-    def alias(self):
-        name, source = self.rng.choice(NAMES), self.source()
-        return f"{name} = {source}", lambda: self.world.bind_view(name, source, self.world.array(source))
-
-    def transpose(self):
-        name, source = self.rng.choice(NAMES), self.source()
-        rank = len(self.shape_of(source))
-        axes = [axis - self.rng.choice([0, 0, rank]) for axis in self.rng.sample(range(rank), rank)]
-        if self.rng.random() < 0.1:
-            axes = axes[:-1] + [self.rng.choice([0, rank, -rank - 1])]
-        if self.rng.random() < 0.4:
-            axes = None
-        line = f"{name} = transpose {source}" + ("" if axes is None else f" ({','.join(map(str, axes))})")
-
-        def reply():
-            array = self.world.array(source)
-            if axes is not None and len(axes) != array.ndim:
-                raise Refused("E17")
-            try:
-                return self.world.bind_view(name, source, array.transpose(axes))
-            except ValueError:
-                raise Refused("E17") from None
-
-        return line, reply
-
-    def target(self, shape):
-        """A shape to which one broadcasts, seldom one to which it doesn't, or that is none."""
-        lengths = [self.rng.choice([0, 1, 2, 3, 4]) if length == 1 else length for length in shape]
-        if len(lengths) < 5:
-            lengths = [self.rng.choice([0, 1, 2, 3]) for _ in range(self.rng.choice([0, 0, 0, 1, 1, 2]))] + lengths
-        if lengths and self.rng.random() < 0.15:
-            lengths[self.rng.randrange(len(lengths))] = self.rng.choice([0, 1, 2, 5, 2**24 + 1, FAR])
-        if self.rng.random() < 0.05:
-            lengths = self.rng.choice([lengths[1:], [1] * 65])
-        return lengths
-
-    def broadcast(self):
-        name, source = self.rng.choice(NAMES), self.source()
-        shape = self.target(self.shape_of(source))
-
-        def reply():
-            array = self.world.array(source)
-            if len(shape) > MOST_AXES:
-                raise Refused("E08")
-            if max([0, *shape]) > MOST_ITEMS or math.prod(shape) > MOST_ITEMS:
-                raise Refused("E09")
-            try:
-                return self.world.bind_view(name, source, np.broadcast_to(array, shape))
-            except ValueError:
-                raise Refused("E16") from None
-
-        return f"{name} = broadcast {source} ({','.join(map(str, shape))})", reply
-
-    def scattered(self):
-        """A name, mostly of an array of several items that do not lie one after another, if there is one."""
-        several = [name for name, array in self.world.arrays.items() if array.size > 3]
-        found = [name for name in several if not self.world.arrays[name].flags.c_contiguous] or several
-        return self.rng.choice(found) if found and self.rng.random() < 0.8 else self.source()
-
-    def reshape(self):
-        name, source = self.rng.choice(NAMES), self.scattered()
-        numbers = reshapes.numbers_for(self.rng, self.shape_of(source))
-
-        def reply():
-            array = self.world.array(source)
-            fault = reshapes.refusal(array.size, numbers)
-            reshapes.compare_refusals(array, numbers, fault)
-            if fault:
-                raise Refused(fault)
-            result, kind = reshapes.reshaped(array, reshapes.target(array.size, numbers))
-            return self.world.bind(name, result, kind, self.world.starts[source] if kind == "view" else None)
-
-        return f"{name} = reshape {source} ({','.join(map(str, numbers))})", reply
-
-    def copy(self):
-        name, source = self.rng.choice(NAMES), self.scattered()
-        order = self.rng.choice("CF")
-
-        def reply():
-            return self.world.bind(name, self.world.array(source).copy(order), "copy")
-
-        return f"{name} = copy {source} {order}", reply
-
-    def field(self):
-        name, source = self.rng.choice(NAMES), self.source()
-        dtype = self.world.arrays[source].dtype if source in self.world.arrays else np.dtype("<i4")
-        known = dtype.names is not None and self.rng.random() < 0.9
-        field = self.rng.choice(dtype.names if known else ["z", "X"])
-
-        def reply():
-            array = self.world.array(source)
-            if array.dtype.names is None or field not in array.dtype.names:
-                raise Refused("E19")
-            return self.world.bind_view(name, source, array[field])
-
-        return f'{name} = field {source} "{field}"', reply
-
-    def value(self, source):
-        """A value for an array's items: a number, or for a record often a tuple, seldom one that does not fit."""
-        dtype = self.world.arrays[source].dtype if source in self.world.arrays else np.dtype("<i4")
-        if self.rng.random() < 0.05:
-            dtype = self.rng.choice(RECORDS)
-        if dtype.kind == "S" or self.rng.random() < 0.03:
-            return random_bytes(self.rng, 3)
-        if dtype.names is None or self.rng.random() < 0.3:
-            return self.rng.randint(-3, 120)
-        return random_value(self.rng, dtype, -3, 120)
-
-    def set(self):
-        source = self.source()
-        value = self.value(source)
-        items = self.items(self.shape_of(source))
-        line = f"set {source}[{list_text(items)}] = {literal_text(value)}"
-
-        def reply():
-            target = self.world.part(source, items)
-            dtype, count = target.array.dtype, target.read().size
-            self.check_writable(target)
-            whole = value if isinstance(value, tuple) else filled(value, dtype)
-            if not stands_for(whole, dtype):
-                raise Refused("E33")
-            for leaf, number in zip(leaves(dtype), numbers(whole)):
-                if leaf.kind not in "bS" and not np.iinfo(leaf).min <= number <= np.iinfo(leaf).max:
-                    raise Refused("E23")
-            target.write(np.full(target.read().shape, np.array(whole, dtype=dtype), dtype))
-            return f"ok set {count}"
-
-        return line, reply
-
-    def check_writable(self, part):
-        if not part.array.flags.writeable:
-            raise Refused("E20")
-
-    def related(self, target):
-        """A name, mostly of an array in the same buffer."""
-        if target not in self.world.arrays or self.rng.random() < 0.2:
+            taken = self.world.part(target, items).read()
+        except Refused:
             return self.source()
-        whole = self.world.arrays[target]
-        return self.rng.choice([
-            name for name, array in self.world.arrays.items() if array is whole or np.may_share_memory(array, whole)
-        ])
+        found = [name for name, array in self.world.arrays.items() if overlaps.stretches(array.shape, taken.shape)]
+        if found and self.rng.random() < 0.4:
+            return self.rng.choice(found)
+        shape = [self.rng.choice([1, n, n, n]) for n in taken.shape[self.rng.choice([0, 0, 0, 1]) :]]
+        while math.prod(shape) > 300:
+            shape.pop(0)
+        values = [random_value(self.rng, taken.dtype, 0, 99) for _ in range(math.prod(shape))]
+        self.add(*self.made("v", np.array(values, taken.dtype).reshape(shape), values))
+        return "v"
 
     def pair(self, target, items):
-        """A source for some items of a target, with other items of the target."""
-        source = self.related(target)
-        if self.rng.random() < 0.1:
-            return source, items, self.items(self.shape_of(source))
-        pair = overlaps.index_lists(self.rng, self.shape_of(target), self.shape_of(source))
-        whole = self.shape_of(source) == self.shape_of(target) and self.rng.random() < 0.2
-        return (source, [Ellipsis], None) if whole else (source, *pair)
+        return (self.fitting(target, items), items, None) if self.rng.random() < 0.9 else super().pair(target, items)
 
-    def assign(self):
-        target = self.source()
-        source, items, taken = self.pair(target, self.items(self.shape_of(target)))
-        text = source if taken is None else f"{source}[{list_text(taken)}]"
+    def argument(self, target=None, items=()):
+        if target is None or self.rng.random() < 0.4:
+            return super().argument()
+        name = self.fitting(target, items)
+        return name, [name], lambda: self.world.array(name)
 
-        def reply():
-            for known in [target, *names_in(source, taken or [])]:
-                self.world.array(known)
-            aim = self.world.part(target, items)
-            self.check_writable(aim)
-            given = self.world.array(source) if taken is None else self.world.part(source, taken).read()
-            shown = np.zeros(aim.read().shape, given.dtype)
-            try:
-                shown[...] = given
-            except ValueError:
-                raise Refused("E16") from None
-            if not casts.can_cast(given.dtype, aim.array.dtype):
-                raise Refused("E33")
-            casts.assign(aim, given, shown)
-            return f"ok set {shown.size}"
 
-        return f"set {target}[{list_text(items)}] = {text}", reply
+class Masks(Indexes):
+    """A script of lists with masks, mostly of two and three axes, alone and beside others."""
 
-    def number(self):
-        """A name, mostly of an array of numbers."""
-        found = [name for name, array in self.world.arrays.items() if computations.is_number(array.dtype)]
-        return self.rng.choice(found) if found and self.rng.random() < 0.9 else self.source()
+    MASKS, MASK_AXES, FEWEST = 0.7, [1, 2, 2, 3, 3], 3
 
-    def operand(self):
-        """A name, or some items of its array: the text, the names in it, and what gives the items."""
-        source = self.number()
-        if self.rng.random() < 0.5:
-            return source, [source], lambda: self.world.array(source)
-        items = self.items(self.shape_of(source))
-        return f"{source}[{list_text(items)}]", names_in(source, items), lambda: self.world.part(source, items).read()
 
-    def argument(self):
-        if self.rng.random() < 0.65:
-            return self.operand()
-        value = self.rng.choice(LITERALS)
-        return literal_text(value), [], lambda: value
+class Shares(Script):
+    """A script of views of views, with what they share."""
 
-    def bound(self, line, names, work):
-        """A line that binds what is computed once its names are known."""
-        name = self.rng.choice(NAMES)
+    WEIGHTS = {"make": 8, "index": 20, "transpose": 8, "field": 14, "reshape": 14, "broadcast": 4, "alias": 1, "copy": 1, "shares": 40, "twins": 60}
+    LISTS, ROOMY, LENGTHS, RANKS = 0, 1, [3, 5, 8, 12, 20], [1, 1, 2, 2]
 
-        def reply():
-            for known in names:
-                self.world.array(known)
-            return self.world.bind(name, computations.made(*work()), "new")
-
-        return f"{name} = {line}", reply
-
-    def operation(self):
-        (left, names, one), (right, more, other), word = self.operand(), self.argument(), self.rng.choice(WORDS)
-        return self.bound(f"{word} {left} {right}", names + more, lambda: self.worked(word, one(), other()))
-
-    def worked(self, word, one, other):
-        TALLY["computed"] += 1
-        return computations.worked(word, one, other)
-
-    def unary(self):
-        (text, names, one), word = self.operand(), self.rng.choice(["neg", "not"])
-        return self.bound(f"{word} {text}", names, lambda: computations.transformed(word, one()))
-
-    def reduction(self):
-        source, word = self.number(), self.rng.choice(computations.REDUCTIONS)
-        axis, keep = self.rng.choice([None, 0, 1, -1, 2, -2, 3]), self.rng.random() < 0.3
-        line = f"{word} {source}{'' if axis is None else f' {axis}'}{' keep' if keep else ''}"
-        return self.bound(line, [source], lambda: computations.reduced(word, self.world.array(source), axis, keep))
-
-    def update(self):
-        source, word = self.number(), self.rng.choice(WORDS)
-        items = self.items(self.shape_of(source))
-        text, names, other = self.argument()
-
-        def reply():
-            for known in [source, *names]:
-                self.world.array(known)
-            target = self.world.part(source, items)
-            self.check_writable(target)
-            dtype, shape = target.array.dtype, target.read().shape
-            values = computations.updated(word, target.read(), other())
-            target.write(computations.made(dtype, shape, [computations.wrapped(value, dtype) for value in values]))
-            return f"ok upd {math.prod(shape)}"
-
-        return f"upd {source}[{list_text(items)}] {word} {text}", reply
-
-    def cast(self):
-        name, source, dtype = self.rng.choice(NAMES), self.source(), self.dtype()
-        if source in self.world.arrays and self.rng.random() < 0.8:
-            old = self.world.arrays[source].dtype
-            types = [np.dtype(text) for text in SCALARS + STRINGS] + RECORDS
-            dtype = self.rng.choice([old, *(new for new in types if casts.can_cast(old, new))])
-        known = self.rng.random() < 0.95
-        text = type_text(dtype) if known else self.rng.choice(list(UNKNOWN_TYPES))
-
-        def reply():
-            array = self.world.array(source)
-            if not known:
-                raise Refused(UNKNOWN_TYPES[text])
-            if not casts.can_cast(array.dtype, dtype):
-                raise Refused("E33")
-            return self.world.bind(name, casts.cast(array, dtype), "new")
-
-        return f"{name} = cast {source} {text}", reply
-
-    def save(self):
-        source, file = self.source(), self.rng.choice(FILES)
-
-        def reply():
-            array = self.world.array(source)
-            self.files[file] = files.saved(array)
-            self.loads[file] = (casts.made(array, array.dtype).copy("F" if files.is_fortran(array) else "C"), 0)
-            TALLY["files saved"] += 1
-            TALLY["saved files that NumPy loads otherwise"] += not files.is_loaded_as(self.files[file], array)
-            return f"ok save {len(self.files[file])}"
-
-        return f'save {source} "{file}"', reply
-
-    def new_file(self):
-        """A file that NumPy writes, in the folder from the start."""
-        file = f"p{len(self.first)}.npy"
-        bytes_, array, rest = files.numpys(self.rng, self.array())
-        self.loads[file] = (array, rest)
-        if self.rng.random() < 0.1 and rest == 0:
-            bytes_, self.loads[file] = damaged.cut(self.rng, bytes_)
-        self.first[file] = self.files[file] = bytes_
-        return file
-
-    def load(self):
-        name, chosen = self.rng.choice(NAMES), self.rng.random()
-        file = self.new_file() if chosen < 0.6 else self.rng.choice(list(self.loads) or FILES) if chosen < 0.9 else "none.npy"
-
-        def reply():
-            if file not in self.loads:
-                raise Refused("E34")
-            if isinstance(self.loads[file], str):
-                raise Refused(self.loads[file])
-            array, rest = self.loads[file]
-            array = array.copy("F" if files.is_fortran(array) else "C")
-            TALLY["files loaded"] += 1
-            return f"{self.world.bind(name, array, 'new')} rest {rest}"
-
-        return f'{name} = load "{file}"', reply
-
-    def print(self):
-        source = self.source()
-        return f"print {source}", lambda: self.world.printed(source)
-
-    def info(self):
-        source = self.source()
-        return f"info {source}", lambda: self.world.info(source)
-
-    def shares(self):
-        left, right = self.source(), self.source()
-
-        def reply():
-            shared = np.shares_memory(self.world.array(left), self.world.array(right))
-            return f"shares {'yes' if shared else 'no'}"
-
-        return f"shares {left} {right}", reply
-
-    def delete(self):
-        source = self.source()
-
-        def reply():
-            self.world.array(source)
-            del self.world.arrays[source]
-            return f"ok del {source}"
-
-        return f"del {source}", reply
-
-    def undo(self):
-        return "undo", self.world.undo
-
-    def names(self):
-        return "names", lambda: " ".join(["names", *self.world.arrays])
+    def twins(self):
+        """Two views at the same steps, from places of their own on."""
+        source, names = self.scattered(), self.rng.sample(NAMES, 2)
+        steps = [self.rng.choice([1, 2, 3, 4, -2, -3]) if length > 2 else 1 for length in self.shape_of(source)]
+        for name in names:
+            items = [slice(self.rng.choice([0, 0, 1, 2] if step > 0 else [-1, -2, -3]), None, step) for step in steps]
+            self.add(*self.taken(name, source, items or [Ellipsis]))
+        return self.shares_of(*names)
 
 
 class Altered(Script):
@@ -589,8 +109,13 @@ class Altered(Script):
         return replied if alike else "a reply to each line\n"
 
 
-def script_of(number, rng):
+ONLY = {"indexes": Indexes, "masks": Masks, "shares": Shares}
+
+
+def script_of(number, rng, only):
     """Most scripts are mixed; some are of format texts, of altered files, and at the limits."""
+    if only:
+        return ONLY[only](rng, rng.randint(5, 40))
     if number % 5 == 4:
         return Formats(rng, 20)
     if number % 500 == 1:
@@ -600,9 +125,9 @@ def script_of(number, rng):
 
 def trial(task):
     """One script by both: each reply, the status, and each file that is left."""
-    program, seed, number = task
+    program, seed, only, number = task
     TALLY.clear()
-    part, script = Part(), script_of(number, random.Random(f"{seed} {number}"))
+    part, script = Part(), script_of(number, random.Random(f"{seed} {number}"), only)
     with Runner(program) as runner:
         fill(runner.dir, getattr(script, "first", {}))
         ran = runner.run("".join(f"{line}\n" for line in script.lines).encode(), ["--dir", str(runner.dir), *getattr(script, "words", ())])
@@ -629,9 +154,8 @@ def trial(task):
 def all_trials(given, _folder):
     """So many scripts of a seed, some at a time."""
     part = Part()
-    tasks = [(given.program, given.seed, number) for number in range(given.scripts)]
-    with multiprocessing.Pool(given.processes) as pool:
-        for found in pool.imap_unordered(trial, tasks, 8):
-            part.add(found)
+    tasks = [(given.program, given.seed, given.only, number) for number in range(given.scripts)]
+    for found in in_processes(given, trial, tasks):
+        part.add(found)
     part.note("NumPy", np.__version__)
     return part

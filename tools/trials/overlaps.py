@@ -41,3 +41,8 @@ def index_lists(rng, aim, given):
     pairs = [axis_pair(rng, m, n) for m, n in zip_longest(reversed(aim), reversed(given))]
     lists = [[item for pair in reversed(pairs) for item in pair[side]] for side in (0, 1)]
     return [items or [Ellipsis] for items in lists]
+
+
+def stretches(given, aim):
+    """Whether an array of one shape stretches to another."""
+    return len(given) <= len(aim) and all(m in (1, n) for m, n in zip(reversed(given), reversed(aim)))

@@ -167,6 +167,11 @@ class World:
             raise Refused("E06")
         return self.arrays[name]
 
+    def known(self, names):
+        """Refuses the first name that is not bound."""
+        for name in names:
+            self.array(name)
+
     def part(self, name, items):
         """The items that an index list names; arrays stand in it by their names."""
         return Part(self.array(name), [self.array(item) if isinstance(item, str) else item for item in items])
@@ -178,6 +183,11 @@ class World:
 
     def bind_view(self, name, source, array):
         return self.bind(name, array, "view", self.starts[source])
+
+    def delete(self, name):
+        self.array(name)
+        del self.arrays[name]
+        return f"ok del {name}"
 
     def printed(self, name):
         array = self.array(name)

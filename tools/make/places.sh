@@ -1,6 +1,6 @@
 #!/bin/sh
 # Which files of the tree `make install` puts where, those that are there, one a line: the file, its place below PREFIX, its mode.
-cd "$(dirname "$0")/.." || exit 1
+cd "$(dirname "$0")/../.." || exit 1
 
 one() {
     if [ -f "$1" ]; then echo "$1 $2 $3"; fi
@@ -19,8 +19,6 @@ one completions/bench.bash share/bash-completion/completions/bench 644
 one completions/bench-tool.bash share/bash-completion/completions/bench-tool 644
 one completions/_bench share/zsh/site-functions/_bench 644
 one completions/_bench-tool share/zsh/site-functions/_bench-tool 644
-one completions/bench.fish share/fish/vendor_completions.d/bench.fish 644
-one completions/bench-tool.fish share/fish/vendor_completions.d/bench-tool.fish 644
 all_below editors/vim share/vim/vimfiles
 all_below editors share/bench/editors
 one companion/bench-tool bin/bench-tool 755

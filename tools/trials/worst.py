@@ -1,9 +1,8 @@
-#!/usr/bin/env python3
 """Times the worst line that is known for each command, with sizes at the limits.
 
-    tools/worst.py BENCH [--only WORD] [--runs K] [--seconds N]
+    tools/try worst [--only WORD] [--runs K] [--seconds N]
 
-BENCH is the program that `./bench` builds. The time of a line is the difference between a run with it and one without it,
+The time of a line is the difference between a run with it and one without it,
 in processor time, the least of several runs. It is told in nanoseconds for each byte that the line reads, writes and prints,
 and of its own text: an item that is read many times counts once, as the items of an array that `broadcast` made. So a line
 whose number is large is one with which a stranger can keep the program busy. The rows that are marked as a floor do as much work
@@ -11,21 +10,17 @@ as their answer needs: each two items of two long columns are compared, and each
 bytes of the longer one. What takes a millisecond or less has no such number. --seconds N ends a run that takes longer.
 """
 import argparse
-import os
 import pathlib
-import resource
 import subprocess
-import tempfile
 import typing
 
-TUNABLES = {"hugetlb": 1, "mmap_threshold": 2**29, "trim_threshold": 2**29}
-ENVIRONMENT = {"GLIBC_TUNABLES": ":".join(f"glibc.malloc.{name}={value}" for name, value in TUNABLES.items()), **os.environ}
+from timed import refusal, seconds
+
 MOST_ITEMS = 2**24
 MOST_BYTES = 2**28
 LONGEST = 2**16
 COLUMN = MOST_BYTES // LONGEST
 SHORT = 0.001
-FOLDER = tempfile.TemporaryDirectory()
 
 
 class Row(typing.NamedTuple):
@@ -144,30 +139,13 @@ ROWS = [
 ]
 
 
-def seconds(program, lines, limit):
-    """The processor time of a script."""
-    text = "".join(f"{line}\n" for line in lines).encode()
-    before = resource.getrusage(resource.RUSAGE_CHILDREN)
-    subprocess.run([program, "--undo", "1"], input=text, stdout=subprocess.DEVNULL, env=ENVIRONMENT, cwd=FOLDER.name, timeout=limit)
-    after = resource.getrusage(resource.RUSAGE_CHILDREN)
-    return after.ru_utime + after.ru_stime - before.ru_utime - before.ru_stime
-
-
-def last_reply(program, row, limit):
-    """The reply to the row's line, or its beginning."""
-    text = "".join(f"{line}\n" for line in [*row.setup, row.line]).encode()
-    ran = subprocess.run([program, "--undo", "1"], input=text, stdout=subprocess.PIPE, env=ENVIRONMENT, cwd=FOLDER.name, timeout=limit)
-    replies = ran.stdout.split(b"\n")
-    refused = [reply for reply in replies if reply.startswith(b"no E")]
-    return refused[0].decode() if refused else ""
-
-
 def cells(program, row, runs, limit):
     """The texts of a row of the table."""
     try:
-        reply = last_reply(program, row, limit)
-        least = lambda lines: min(seconds(program, lines, limit) for _ in range(runs))
-        took = max(0.0, least([*row.setup, row.line]) - least(row.setup))
+        before, whole = ("".join(f"{line}\n" for line in lines) for lines in (row.setup, [*row.setup, row.line]))
+        reply = refusal(program, whole, 1, limit)
+        least = lambda text: min(seconds(program, text, 1, limit) for _ in range(runs))
+        took = max(0.0, least(whole) - least(before))
     except subprocess.TimeoutExpired:
         return row.command, row.name, f"above {limit} s", "", ""
     each = f"{took * 1e9 / row.touched:.2f}" if took > SHORT else ""
@@ -186,7 +164,3 @@ def main():
     for row in ROWS:
         if given.only in f"{row.command} {row.name}":
             print("| " + " | ".join(cells(program, row, given.runs, given.seconds)) + " |", flush=True)
-
-
-if __name__ == "__main__":
-    main()

@@ -1,14 +1,11 @@
-#!/usr/bin/env python3
 """Times commands of the program and the same work in NumPy, told as ratios.
 
-    tools/speed.py BENCH [--only WORD] [--sizes N ..] [--undo N ..] [--runs K]
+    tools/try speed [--only WORD] [--sizes N ..] [--undo N ..] [--runs K]
 
-BENCH is the program that `./bench` builds. A script has the set-up of a row and then its line again and again. The
-time of the line is the difference between a run with many repeats of it and a run with fewer, divided by the repeats
-between, so that neither the start of the program nor the set-up counts. Also the shorter run has more repeats than
-the depth of undo, so that what a line replaces is let go as fast as it is kept. NumPy's time is that of `timeit`.
-Both are processor time, the least of several runs; what the program writes goes nowhere. The program runs with the
-environment that `./bench` gives it.
+A script has the set-up of a row and then its line again and again. The time of the line is the difference between a run
+with many repeats of it and a run with fewer, divided by the repeats between, so that neither the start of the program nor
+the set-up counts. Also the shorter run has more repeats than the depth of undo, so that what a line replaces is let go as
+fast as it is kept. NumPy's time is that of `timeit`. Both are processor time, the least of several runs.
 
 Each row is timed for arrays of each size, at the default depth of undo and with --undo 0, which keeps nothing: the
 geometric mean of the ratios is told for each. A ratio above 1 says that the program takes longer than NumPy. A later
@@ -16,28 +13,23 @@ command is one more row.
 """
 import argparse
 import math
-import os
 import pathlib
-import resource
 import string
-import subprocess
 import sys
-import tempfile
 import time
 import timeit
 import typing
 
 import numpy as np
 
-TUNABLES = {"hugetlb": 1, "mmap_threshold": 2**29, "trim_threshold": 2**29}
-ENVIRONMENT = {"GLIBC_TUNABLES": ":".join(f"glibc.malloc.{name}={value}" for name, value in TUNABLES.items()), **os.environ}
+from timed import FOLDER, refusal, seconds
+
 SIZES = (100, 10000, 2**22)
 DEPTHS = (16, 0)
 MOST_REPEATS = 2**18
 BEFORE = 24
 LONG_ENOUGH = 0.15
 HIGH = 2
-FOLDER = tempfile.TemporaryDirectory()
 
 
 class Row(typing.NamedTuple):
@@ -197,31 +189,15 @@ def of_size(row, size):
     return Row(row.name, *(string.Template(text).substitute(numbers) for text in row[1:]))
 
 
-def seconds(program, row, depth, repeats):
+def repeated(program, row, depth, repeats):
     """The processor time of a run over a script with so many repeats of the row's line."""
-    with tempfile.TemporaryFile() as script:
-        script.write(f"{row.setup}\n".encode())
-        script.write(f"{row.line}\n".encode() * repeats)
-        script.seek(0)
-        before = resource.getrusage(resource.RUSAGE_CHILDREN)
-        subprocess.run(
-            [program, "--undo", str(depth)], stdin=script, stdout=subprocess.DEVNULL, env=ENVIRONMENT, cwd=FOLDER.name, check=True
-        )
-        after = resource.getrusage(resource.RUSAGE_CHILDREN)
-    return after.ru_utime + after.ru_stime - before.ru_utime - before.ru_stime
-
-
-def is_refused(program, row):
-    """Whether the program refuses the row's line, or one before it."""
-    text = f"{row.setup}\n{row.line}\n"
-    ran = subprocess.run([program], input=text.encode(), stdout=subprocess.PIPE, env=ENVIRONMENT, cwd=FOLDER.name)
-    return any(reply.startswith(b"no E") for reply in ran.stdout.split(b"\n"))
+    return seconds(program, f"{row.setup}\n" + f"{row.line}\n" * repeats, depth)
 
 
 def enough_repeats(program, row, depth):
     """Repeats that take long enough to be timed."""
-    repeats, start = 4, seconds(program, row, depth, BEFORE)
-    while repeats < MOST_REPEATS and seconds(program, row, depth, BEFORE + repeats) - start < LONG_ENOUGH:
+    repeats, start = 4, repeated(program, row, depth, BEFORE)
+    while repeats < MOST_REPEATS and repeated(program, row, depth, BEFORE + repeats) - start < LONG_ENOUGH:
         repeats *= 2
     return repeats
 
@@ -229,7 +205,7 @@ def enough_repeats(program, row, depth):
 def bench_time(program, row, depth, runs):
     """The seconds that one line of the program takes."""
     repeats = enough_repeats(program, row, depth)
-    pairs = [(seconds(program, row, depth, BEFORE), seconds(program, row, depth, BEFORE + repeats)) for _ in range(runs)]
+    pairs = [(repeated(program, row, depth, BEFORE), repeated(program, row, depth, BEFORE + repeats)) for _ in range(runs)]
     short, long = map(min, zip(*pairs))
     return (long - short) / repeats
 
@@ -243,7 +219,7 @@ def numpy_time(row, runs):
 
 def cells(program, row, depths, runs):
     """The texts of a row of the report, and its ratio for each depth."""
-    if is_refused(program, row):
+    if refusal(program, f"{row.setup}\n{row.line}\n", 16):
         return ("refused",), {}
     theirs = numpy_time(row, runs)
     ours = {depth: bench_time(program, row, depth, runs) for depth in depths}
@@ -295,7 +271,3 @@ def main():
     np.set_printoptions(threshold=sys.maxsize, linewidth=sys.maxsize)
     for size in given.sizes:
         report(given.bench.resolve(), size, given)
-
-
-if __name__ == "__main__":
-    main()
