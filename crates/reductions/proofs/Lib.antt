@@ -4,3 +4,5 @@ pub mod AxisLaws
 pub mod RunLaws
 pub mod OutcomeLaws
 pub mod RowLaws
+pub mod AddedLaws
+pub mod HeldLaws

@@ -1,12 +1,23 @@
-use Rattle.std.proofs.Common.{◌≡◌, ◌+◌, ◌++◌, length, take, sym, ap, subst, ◌∙◌, arith, length-take}
+use Rattle.std.proofs.Common.{◌≡◌, ◌+◌, ◌++◌, All, length, take, sym, ap, subst, ◌∙◌, arith, length-take}
 use Rattle.std.proofs.lemmas.List.{map-append, length-map}
-use Rattle.std.proofs.lemmas.List.Elements.{All-rest}
+use Rattle.std.proofs.lemmas.List.Elements.{All-head, All-rest}
 use Rattle.raw_block.specs.Bytes.{EachWithin}
 use Rattle.shape_strides.specs.Runs.{run_offsets}
 use Rattle.shape_strides.specs.RunPairs.{all_offsets}
 use Rattle.reductions.specs.inside.Numbers.{number_at, numbers_at}
 use Rattle.reductions.proofs.RunLaws.{run_fits, taken_more, after}
 use Rattle.reductions.proofs.fills.fold_runs.Goals as goal
+
+pub invariant_of-side : goal.invariant_of-side
+invariant_of-side g c =
+    let len = length c.args.bytes.now in
+    let run = c.in-Some.run' in
+    let steps = c.in-Some.ensures.steps in
+    record {
+      few = omega (arith, run_fits (all_offsets c.args.runs) c.loop-run.seen run c.next.new.self c.loop-run.run-iterator c.loop-run.invariant.left steps, c.requires.few);
+      within = subst (λ w. EachWithin len run.offset run.step w run.count) (sym c.WIDTH.ensures)
+          (All-head (λ r. EachWithin len r.offset r.step g.S.Number.WIDTH r.count) run c.next.new.self (subst (All (λ r. EachWithin len r.offset r.step g.S.Number.WIDTH r.count)) steps c.loop-run.invariant.within));
+    }
 
 pub fold_run-held-requires-clause-few : goal.fold_run-held-requires-clause-few
 fold_run-held-requires-clause-few g c =
