@@ -1,7 +1,6 @@
 mod Vectors
 pub mod LineLaws
 pub mod AxisLaws
-pub mod RunLaws
 pub mod OutcomeLaws
 pub mod RowLaws
 pub mod AddedLaws

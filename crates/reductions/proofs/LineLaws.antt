@@ -1,9 +1,8 @@
 -- Runs that a reduction goes over, item by item.
-use Rattle.std.proofs.Common.{◌≡◌, ◌+◌, ◌-◌, ◌*◌, ◌≤◌, ◌<◌, ℕ, zero, suc, List, [], ◌∷◌, ◌++◌, map, length, sym, ap, subst, ◌∙◌, arith, add-one, append_assoc, take, drop, ◌⊎◌, inl, inr, suc-mul, add-mul, mul-le-mul_right, get_or, get_or-append-add, length-take, length-append}
+use Rattle.std.proofs.Common.{◌≡◌, ◌+◌, ◌-◌, ◌≤◌, ◌<◌, ℕ, zero, suc, List, [], ◌∷◌, ◌++◌, map, length, refl, sym, ap, subst, ◌∙◌, arith, add-one, append_assoc, drop, get_or}
 use Rattle.std.specs.Prelude.{ℤ, pos, ◌+ℤ◌, ◌*ℤ◌, ◌≤ℤ◌, nat_abs}
 use Rattle.std.proofs.lemmas.Int.{ints}
-use Rattle.std.proofs.lemmas.List.{map-append, length-map, drop-drop, ext_get_or, get_or_append_left}
-use Rattle.std.proofs.lemmas.Bool.{cases_lt}
+use Rattle.std.proofs.lemmas.List.{map-append, length-map}
 use Rattle.std.proofs.Math.IntN.{zero-*ℤ, suc_ℤ-*ℤ, *ℤ_comm, +ℤ_idr}
 use Rattle.elem_descr.specs.declared.scalar.Scalar.{Scalar}
 use Rattle.elem_descr.specs.Encoding.{size, decode, number_of}
@@ -13,7 +12,7 @@ use Rattle.elem_descr.specs.Steps.{numbers_from}
 use Rattle.elem_descr.specs.StepLaws.{numbers-suc, numbers-split}
 use Rattle.shape_strides.specs.Addresses.{natural}
 use Rattle.raw_block.specs.Bytes.{position, place, item_at, EachWithin}
-use Rattle.raw_block.specs.BytesLaws.{not_negative, item_at-put_apart, length-item_at, byte_of, position-add}
+use Rattle.raw_block.specs.BytesLaws.{not_negative, position-add}
 use Rattle.shape_strides.specs.declared.runs.Run.{Run}
 use Rattle.shape_strides.specs.Runs.{run_offsets}
 use Rattle.shape_strides.specs.WalkLaws.{length-run_offsets}
@@ -134,3 +133,13 @@ found_in scalar bytes len width run k v low within none same =
     ∙ found-next v next numbers others (none ∙ sym long) same
     ∙ long)
 
+-- ---- one after another
+
+-- what takes in the numbers that are left holds all of them
+abbrev pub TakesOn : {Held : Type 0} → (Held → ℤ → List ℤ → Type 0) → Held → Held → ℕ → List ℤ → List ℤ → Type 0
+TakesOn {Held} holds start held seen left all = (end : Held) → TakesIn holds held seen left end → (first : ℤ) → holds start first [] → holds end first all
+
+-- a list with items begins with the first one
+pub headed : (xs : List ℕ) → 0 < length xs → xs ≡ get_or xs 0 0 ∷ drop 1 xs
+headed [] some = absurd (omega (arith, some))
+headed (x ∷ xs) some = refl

@@ -42,11 +42,7 @@ pub(crate) trait Fold<S: Number> {
 
     /// Goes over numbers that lie one right after the other, and have `seen` before them, where it does so
     /// otherwise than one by one.
-    fn fold_near<O: Ordered>(
-        held: Self::Held,
-        seen: usize,
-        near: Side<'_>,
-    ) -> Option<Self::Held>
+    fn fold_near<O: Ordered>(held: Self::Held, seen: usize, near: Side<'_>) -> Option<Self::Held>
         requires width { near.width ≡ S.WIDTH }
         requires few { seen + near.run.count < 2 ^ 63 }
         ensures { IfSome result (TakesIn holds held seen (numbers_of (S.scalar O.order) near.entry)) }

@@ -70,11 +70,7 @@ fn reduced_along(
 }
 
 /// A block of what comes of all items, of which there are some.
-fn reduced_whole(
-    alloc: Global,
-    reduction: Red,
-    source: Source<'_>,
-) -> Result<RawBlock, AllocError>
+fn reduced_whole(alloc: Global, reduction: Red, source: Source<'_>) -> Result<RawBlock, AllocError>
     requires number { IsNumber source.scalar.now }
     requires axis { source.axis ≡ None }
     requires some { 0 < count source.layout.now.shape }

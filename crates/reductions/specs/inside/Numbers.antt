@@ -8,7 +8,6 @@ use Rattle.shape_strides.specs.declared.layout.Layout.{Layout}
 use Rattle.shape_strides.specs.Indexes.{count}
 use Rattle.shape_strides.specs.Layouts.{offsets}
 use Rattle.shape_strides.specs.declared.joined.StridedAxis.{StridedAxis}
-use Rattle.shape_strides.specs.declared.runs.Run.{Run}
 use Rattle.shape_strides.specs.Runs.{run_along, run_offsets}
 use Rattle.machine_numbers.specs.declared.operators.Red.{Red}
 use Rattle.machine_numbers.specs.declared.sides.Side.{Side}

@@ -8,7 +8,7 @@ use Rattle.shape_strides.specs.Layouts.{offsets}
 use Rattle.shape_strides.specs.LayoutLaws.{length-offsets, entry-first}
 use Rattle.shape_strides.specs.Runs.{run_offsets, runs}
 use Rattle.reductions.specs.inside.Numbers.{number_at, numbers_at}
-use Rattle.reductions.proofs.RunLaws.{headed}
+use Rattle.reductions.proofs.LineLaws.{headed}
 use Rattle.reductions.proofs.fills.fold_all.Goals as goal
 
 pub number_at-first-requires : goal.number_at-first-requires

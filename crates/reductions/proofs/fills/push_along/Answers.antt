@@ -1,4 +1,4 @@
-use Rattle.std.proofs.Common.{◌≡◌, ◌+◌, ◌*◌, ◌≤◌, ◌++◌, ℕ, [], ◌∷◌, All, length, get_or, sym, ap, subst, ◌∙◌, arith, add-mul}
+use Rattle.std.proofs.Common.{◌≡◌, ◌+◌, ◌*◌, ◌≤◌, All, length, sym, ap, subst, ◌∙◌, arith, add-mul}
 use Rattle.std.proofs.lemmas.List.{map-append}
 use Rattle.std.proofs.lemmas.List.Elements.{All-head, All-rest}
 use Rattle.raw_block.specs.Bytes.{place, EachWithin}

@@ -1,4 +1,4 @@
-use Rattle.std.proofs.Common.{◌≡◌, ◌+◌, ◌∷◌, [], ◌++◌, length, sym, ap, ◌∙◌, arith}
+use Rattle.std.proofs.Common.{◌≡◌, ◌+◌, ◌∷◌, [], ◌++◌, length, sym, ap, ◌∙◌}
 use Rattle.elem_descr.specs.Encoding.{integer, low_bits}
 use Rattle.shape_strides.specs.Runs.{run_offsets}
 use Rattle.reductions.specs.Reductions.{first_place}

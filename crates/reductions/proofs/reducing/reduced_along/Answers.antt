@@ -1,4 +1,4 @@
-use Rattle.std.proofs.Common.{◌≡◌, ◌+◌, ◌*◌, ◌≤◌, Some, All, length, sym, ap, subst, ◌∙◌, arith}
+use Rattle.std.proofs.Common.{◌≡◌, ◌+◌, ◌≤◌, Some, All, length, sym, ap, subst, ◌∙◌, arith}
 use Rattle.elem_descr.specs.Encoding.{size}
 use Rattle.shape_strides.specs.Layouts.{offsets}
 use Rattle.reductions.specs.Lists.{lists}

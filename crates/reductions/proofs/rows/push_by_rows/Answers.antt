@@ -1,9 +1,7 @@
-use Rattle.std.proofs.Common.{◌≡◌, ◌+◌, ◌<◌, [], ◌∷◌, ◌++◌, length, take, drop, refl, sym, ap, subst, ◌∙◌, arith, get_or}
+use Rattle.std.proofs.Common.{◌+◌, ◌<◌, [], ◌∷◌, ◌++◌, length, take, drop, sym, ap, subst, ◌∙◌, get_or}
 use Rattle.std.proofs.Math.Seq.{take-append_seam}
-use Rattle.machine_numbers.specs.Sides.{number_of_side}
 use Rattle.raw_block.specs.Bytes.{place}
-use Rattle.shape_strides.specs.Runs.{run_offsets}
-use Rattle.reductions.specs.inside.Lines.{AreHeld, line_first, line_front, line_run}
+use Rattle.reductions.specs.inside.Lines.{line_first, line_front, line_run}
 use Rattle.reductions.specs.inside.Numbers.{number_at}
 use Rattle.reductions.proofs.LineLaws.{front, numbers-more, length-numbers, at_first}
 use Rattle.reductions.proofs.RowLaws.{row_number}

@@ -1,10 +1,10 @@
-use Rattle.std.proofs.Common.{◌≡◌, ◌+◌, ◌++◌, length, sym, ap, subst, ◌∙◌, arith, append_assoc, length-append}
+use Rattle.std.proofs.Common.{◌+◌, ◌++◌, sym, ap, subst, ◌∙◌, arith, append_assoc, length-append}
 use Rattle.std.specs.Prelude.{nat_eq, not}
 use Rattle.shape_strides.specs.Runs.{run_offsets}
 use Rattle.reductions.specs.inside.Extremes.{better}
 use Rattle.reductions.specs.inside.FoundLaws.{HasFound}
 use Rattle.reductions.specs.inside.Numbers.{numbers_at, numbers_of}
-use Rattle.reductions.proofs.LineLaws.{front, part, part_numbers, length-numbers}
+use Rattle.reductions.proofs.LineLaws.{front, part_numbers, length-numbers}
 use Rattle.reductions.proofs.folds.PlaceOfFold.fold_near.Goals as goal
 
 pub loop-done-preserved : goal.loop-done-preserved

@@ -1,5 +1,5 @@
 use Rattle.std.proofs.Common.{◌≡◌, refl, sym, ap, subst, ◌∙◌, length, arith}
-use Rattle.raw_block.specs.Bytes.{place, EachWithin}
+use Rattle.raw_block.specs.Bytes.{EachWithin}
 use Rattle.reductions.specs.inside.Lines.{row_run}
 use Rattle.reductions.proofs.RowLaws.{row_offset, row_within}
 use Rattle.reductions.proofs.sources.Lines.row.Goals as goal
