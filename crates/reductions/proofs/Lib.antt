@@ -1,6 +1,7 @@
 mod Vectors
 pub mod LineLaws
 pub mod AxisLaws
-pub mod RunLaws
 pub mod OutcomeLaws
 pub mod RowLaws
+pub mod AddedLaws
+pub mod HeldLaws

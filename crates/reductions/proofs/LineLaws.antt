@@ -1,23 +1,25 @@
 -- Runs that a reduction goes over, item by item.
-use Rattle.std.proofs.Common.{◌≡◌, ◌+◌, ◌-◌, ◌*◌, ◌≤◌, ◌<◌, ℕ, zero, suc, List, [], ◌∷◌, ◌++◌, map, length, sym, ap, subst, ◌∙◌, arith, add-one, append_assoc, take, drop, ◌⊎◌, inl, inr, suc-mul, add-mul, mul-le-mul_right, get_or, get_or-append-add, length-take, length-append}
-use Rattle.std.specs.Prelude.{ℤ, pos, ◌+ℤ◌, ◌*ℤ◌, ◌≤ℤ◌}
+use Rattle.std.proofs.Common.{◌≡◌, ◌+◌, ◌-◌, ◌≤◌, ◌<◌, ℕ, zero, suc, List, [], ◌∷◌, ◌++◌, map, length, refl, sym, ap, subst, ◌∙◌, arith, add-one, append_assoc, drop, get_or}
+use Rattle.std.specs.Prelude.{ℤ, pos, ◌+ℤ◌, ◌*ℤ◌, ◌≤ℤ◌, nat_abs}
 use Rattle.std.proofs.lemmas.Int.{ints}
-use Rattle.std.proofs.lemmas.List.{map-append, length-map, drop-drop, ext_get_or, get_or_append_left}
-use Rattle.std.proofs.lemmas.Bool.{cases_lt}
+use Rattle.std.proofs.lemmas.List.{map-append, length-map}
 use Rattle.std.proofs.Math.IntN.{zero-*ℤ, suc_ℤ-*ℤ, *ℤ_comm, +ℤ_idr}
 use Rattle.elem_descr.specs.declared.scalar.Scalar.{Scalar}
+use Rattle.elem_descr.specs.Encoding.{size, decode, number_of}
+use Rattle.machine_numbers.specs.declared.sides.Side.{Side}
+use Rattle.machine_numbers.specs.Sides.{number_of_side}
 use Rattle.elem_descr.specs.Steps.{numbers_from}
 use Rattle.elem_descr.specs.StepLaws.{numbers-suc, numbers-split}
 use Rattle.shape_strides.specs.Addresses.{natural}
 use Rattle.raw_block.specs.Bytes.{position, place, item_at, EachWithin}
-use Rattle.raw_block.specs.BytesLaws.{not_negative, item_at-put_apart, length-item_at, byte_of, position-add}
+use Rattle.raw_block.specs.BytesLaws.{not_negative, position-add}
 use Rattle.shape_strides.specs.declared.runs.Run.{Run}
 use Rattle.shape_strides.specs.Runs.{run_offsets}
 use Rattle.shape_strides.specs.WalkLaws.{length-run_offsets}
 use Rattle.overlap_copy.specs.RunLaws.{run_offsets-more}
 use Rattle.reductions.specs.Reductions.{first_place}
 use Rattle.reductions.specs.inside.FoundLaws.{found-next}
-use Rattle.reductions.specs.inside.Numbers.{number_at, numbers_at}
+use Rattle.reductions.specs.inside.Numbers.{number_at, numbers_at, numbers_of, IsPart, TakesIn}
 
 -- the first n items of a run
 abbrev pub front : ℕ → Run → Run
@@ -44,14 +46,30 @@ numbers-first scalar bytes run n is =
     ap (λ m. numbers_at scalar bytes (run_offsets (front m run))) is
     ∙ ap (λ offsets. numbers_at scalar bytes (map natural offsets)) (numbers-suc (pos run.offset) run.step n)
 
+-- the k-th number of a side
+pub side_number : (scalar : Scalar) (s : Side) (k : ℕ) → s.width ≡ size scalar → number_of_side scalar s k ≡ number_at scalar s.bytes.now (place s.run.offset s.run.step k)
+side_number scalar s k wide = ap (λ w. number_of (decode scalar (item_at (place s.run.offset s.run.step k) w s.bytes.now))) wide
+
+-- those after the first one
+abbrev pub side_rest : Scalar → Side → List ℤ
+side_rest scalar s = numbers_at scalar s.bytes.now (map natural (numbers_from (pos s.run.offset +ℤ s.run.step) s.run.step (s.run.count - 1)))
+
+pub at_first : (o : ℕ) (s : ℤ) → place o s 0 ≡ o
+at_first o s = ap nat_abs (ap (λ z. pos o +ℤ z) (zero-*ℤ s) ∙ +ℤ_idr (pos o))
+
+pub side_first : (scalar : Scalar) (s : Side) → 1 ≤ s.run.count → s.width ≡ size scalar → numbers_of scalar s ≡ number_of_side scalar s 0 ∷ side_rest scalar s
+side_first scalar s some wide =
+    numbers-first scalar s.bytes.now s.run (s.run.count - 1) (omega (arith, some))
+    ∙ ap (λ z. z ∷ side_rest scalar s) (ap (number_at scalar s.bytes.now) (sym (at_first s.run.offset s.run.step)) ∙ sym (side_number scalar s 0 wide))
+
 -- one number more is gone over
-pub one_more : (Holds : List ℤ → Type 0) (scalar : Scalar) (bytes : List ℕ) (len width : ℕ) (run : Run) (k : ℕ) (before : List ℤ) (at : ℕ) (v : ℤ) → k < run.count → EachWithin len run.offset run.step width run.count →
-    at ≡ place run.offset run.step k → v ≡ number_at scalar bytes at → Holds ((before ++ numbers_at scalar bytes (run_offsets (front k run))) ++ v ∷ []) → Holds (before ++ numbers_at scalar bytes (run_offsets (front (k + 1) run)))
-one_more Holds scalar bytes len width run k before at v low within there is held =
+pub one_more : (Holds : List ℤ → Type 0) (scalar : Scalar) (s : Side) (k : ℕ) (before : List ℤ) (v : ℤ) → k < s.run.count → v ≡ number_at scalar s.bytes.now (place s.run.offset s.run.step k) →
+    Holds ((before ++ numbers_at scalar s.bytes.now (run_offsets (front k s.run))) ++ v ∷ []) → Holds (before ++ numbers_at scalar s.bytes.now (run_offsets (front (k + 1) s.run)))
+one_more Holds scalar s k before v low is held =
     subst Holds
-    (append_assoc before (numbers_at scalar bytes (run_offsets (front k run))) (v ∷ [])
-    ∙ ap (λ z. before ++ (numbers_at scalar bytes (run_offsets (front k run)) ++ z ∷ [])) (is ∙ ap (number_at scalar bytes) there)
-    ∙ ap (λ all. before ++ all) (sym (numbers-more scalar bytes len width run k low within)))
+    (append_assoc before (numbers_at scalar s.bytes.now (run_offsets (front k s.run))) (v ∷ [])
+    ∙ ap (λ z. before ++ (numbers_at scalar s.bytes.now (run_offsets (front k s.run)) ++ z ∷ [])) is
+    ∙ ap (λ all. before ++ all) (sym (numbers-more scalar s.bytes.now (length s.bytes.now) s.width s.run k low s.within)))
     held
 
 -- ---- some numbers of a run after others
@@ -95,6 +113,12 @@ numbers-part scalar bytes len width run m n low within =
     numbers-cut scalar bytes run m n
     ∙ ap (λ z. numbers_at scalar bytes (run_offsets (front m run)) ++ numbers_at scalar bytes (map natural (numbers_from z run.step n))) at
 
+pub part_numbers : (scalar : Scalar) (s t : Side) (m n : ℕ) → m < s.run.count → IsPart m n s t →
+    numbers_at scalar s.bytes.now (run_offsets (front m s.run)) ++ numbers_of scalar t ≡ numbers_at scalar s.bytes.now (run_offsets (front (m + n) s.run))
+part_numbers scalar s t m n low are =
+    (λ i. numbers_at scalar s.bytes.now (run_offsets (front m s.run)) ++ numbers_at scalar (are.0 i) (run_offsets (are.2 i)))
+    ∙ sym (numbers-part scalar s.bytes.now (length s.bytes.now) s.width s.run m n low s.within)
+
 -- a number that is none of the first ones, but the next
 pub found_in : (scalar : Scalar) (bytes : List ℕ) (len width : ℕ) (run : Run) (k : ℕ) (v : ℤ) → k < run.count → EachWithin len run.offset run.step width run.count → first_place v (numbers_at scalar bytes (run_offsets (front k run))) ≡ k →
     number_at scalar bytes (place run.offset run.step k) ≡ v → k ≡ first_place v (numbers_at scalar bytes (run_offsets run))
@@ -109,62 +133,13 @@ found_in scalar bytes len width run k v low within none same =
     ∙ found-next v next numbers others (none ∙ sym long) same
     ∙ long)
 
--- ---- results in a row
+-- ---- one after another
 
--- what lies beside a result that is written is as before
-pub beside : (at n width other : ℕ) (new row : List ℕ) → n ≡ length new → length new ≡ width → at + width ≤ length row → other + width ≤ length row → (other + width ≤ at) ⊎ (at + width ≤ other) →
-    item_at other width (take at row ++ (new ++ drop n (drop at row))) ≡ item_at other width row
-beside at n width other new row whole wide within within' apart =
-    ap (λ bytes. item_at other width bytes) (sym (append_assoc (take at row) new (drop n (drop at row))))
-    ∙ ap (λ rest. item_at other width (take at row ++ new ++ rest)) (drop-drop n at row)
-    ∙ ap (λ m. item_at other width (take at row ++ new ++ drop (at + m) row)) whole
-    ∙ item_at-put_apart at new row other width (omega (arith, wide, within)) within' (elim apart [ inl before ↦ inl before | inr after ↦ inr (omega (arith, after, wide)) ])
+-- what takes in the numbers that are left holds all of them
+abbrev pub TakesOn : {Held : Type 0} → (Held → ℤ → List ℤ → Type 0) → Held → Held → ℕ → List ℤ → List ℤ → Type 0
+TakesOn {Held} holds start held seen left all = (end : Held) → TakesIn holds held seen left end → (first : ℤ) → holds start first [] → holds end first all
 
--- a result that lies before another one
-pub before_next : (j k width : ℕ) → j < k → j * width + width ≤ k * width
-before_next j k width low = let most : suc j * width ≤ k * width = mul-le-mul_right width low in omega (arith, most, suc-mul j width)
-
--- what lies in a row that is put among others
-pub amid : (at n o width : ℕ) (row out : List ℕ) → at ≤ length out → o + width ≤ length row → item_at (at + o) width (take at out ++ (row ++ drop n (drop at out))) ≡ item_at o width row
-amid at n o width row out low fits =
-    let rest = drop n (drop at out) in
-    let long : length (take at out) ≡ at = omega (arith, length-take at out) in
-    let whole = take at out ++ (row ++ rest) in
-    let far : at + o + width ≤ length whole = omega (arith, long, length-append (take at out) (row ++ rest), length-append row rest) in
-    ext_get_or 0 (item_at (at + o) width whole) (item_at o width row) (length-item_at (at + o) width whole far ∙ sym (length-item_at o width row fits)) (λ i inside.
-    let here : i < width = omega (arith, inside, length-item_at (at + o) width whole far) in
-    let on : at + o + i ≡ length (take at out) + (o + i) = omega (arith, long) in
-    byte_of (at + o) width i whole here
-    ∙ ap (λ p. get_or whole p 0) on
-    ∙ get_or-append-add (take at out) (row ++ rest) (o + i) 0
-    ∙ get_or_append_left row rest 0 (o + i) (omega (arith, here, fits))
-    ∙ sym (byte_of o width i row here))
-
--- what lies before such a row is as it was
-pub front_kept : (at n m o width : ℕ) (row out : List ℕ) → length row ≡ n → m ≡ n → at + n ≤ length out → o + width ≤ at → item_at o width (take at out ++ (row ++ drop m (drop at out))) ≡ item_at o width out
-front_kept at n m o width row out long same room low =
-    ap (λ bytes. item_at o width bytes) (sym (append_assoc (take at out) row (drop m (drop at out))))
-    ∙ ap (λ rest. item_at o width (take at out ++ row ++ rest)) (drop-drop m at out)
-    ∙ ap (λ k. item_at o width (take at out ++ row ++ drop (at + k) out)) (same ∙ sym long)
-    ∙ item_at-put_apart at row out o width (omega (arith, long, room)) (omega (arith, low, room)) (inl low)
-
--- results so far, and those of one run more
-pub in_turn : (P : ℕ → List ℕ → Type 0) (width m n : ℕ) (out new : List ℕ) → ((o : ℕ) → o + width ≤ m * width → item_at o width new ≡ item_at o width out) →
-    ((k : ℕ) → k < m → P k (item_at (k * width) width out)) → ((j : ℕ) → j < n → P (m + j) (item_at (m * width + j * width) width new)) → (k : ℕ) → k < m + n → P k (item_at (k * width) width new)
-in_turn P width m n out new kept before here k low =
-    elim (cases_lt k m) as (λ _. P k (item_at (k * width) width new)) [
-      | inl early ↦ subst (P k) (sym (kept (k * width) (before_next k m width early))) (before k early)
-      | inr late ↦
-          let is : m + (k - m) ≡ k = omega (arith, late) in
-          let at : m * width + (k - m) * width ≡ k * width = sym (add-mul m (k - m) width) ∙ ap (λ i. i * width) is in
-          subst (λ o. P k (item_at o width new)) at (subst (λ i. P i (item_at (m * width + (k - m) * width) width new)) is (here (k - m) (omega (arith, low, late))))
-    ]
-
--- results so far, and one more
-pub one_done : (P : ℕ → List ℕ → Type 0) (width m : ℕ) (out new : List ℕ) → ((o : ℕ) → o + width ≤ m * width → item_at o width new ≡ item_at o width out) →
-    ((k : ℕ) → k < m → P k (item_at (k * width) width out)) → P m (item_at (m * width) width new) → (k : ℕ) → k < m + 1 → P k (item_at (k * width) width new)
-one_done P width m out new kept before here k low =
-    elim (cases_lt k m) as (λ _. P k (item_at (k * width) width new)) [
-      | inl early ↦ subst (P k) (sym (kept (k * width) (before_next k m width early))) (before k early)
-      | inr late ↦ subst (λ n. P n (item_at (n * width) width new)) (omega (arith, low, late)) here
-    ]
+-- a list with items begins with the first one
+pub headed : (xs : List ℕ) → 0 < length xs → xs ≡ get_or xs 0 0 ∷ drop 1 xs
+headed [] some = absurd (omega (arith, some))
+headed (x ∷ xs) some = refl

@@ -1,5 +1,5 @@
 -- What is refused, and what a result is.
-use Rattle.std.proofs.Common.{◌≡◌, ◌*◌, ◌<◌, ℕ, zero, suc, ℤ, true, false, Bool, Option, Some, None, List, [], ◌∷◌, map, drop, length, get_or, Ok, Err, refl, sym, ap, ◌∙◌, arith, mul_comm, one-mul}
+use Rattle.std.proofs.Common.{◌≡◌, ◌*◌, ◌<◌, ◌≤◌, ℕ, zero, suc, ℤ, true, false, Bool, Option, Some, None, List, [], ◌∷◌, map, drop, length, get_or, Ok, Err, refl, sym, ap, ◌∙◌, arith, mul_comm, one-mul}
 use Rattle.std.proofs.lemmas.Bool.{ne_eqb}
 use Rattle.std.specs.Prelude.{nat_eq, Result, ◌&&◌, not, ◌==◌, slice_set, is_ok}
 use Rattle.std.specs.List.{range_with_len, insert, remove, flat_map}
@@ -10,7 +10,8 @@ use Rattle.elem_descr.specs.declared.descr.Descr.TheVariants.{Scalar as ScalarDe
 use Rattle.elem_descr.specs.declared.refusal.Refusal.{Refusal}
 use Rattle.elem_descr.specs.declared.refusal.Refusal.TheVariants.{EmptyReduction, BadAxis}
 use Rattle.elem_descr.specs.declared.scalar.Scalar.{Scalar}
-use Rattle.elem_descr.specs.Encoding.{size, decode, encode, number_of}
+use Rattle.elem_descr.specs.Encoding.{IsNumber, size, decode, encode, number_of}
+use Rattle.elem_descr.specs.NumberLaws.{number_size}
 use Rattle.elem_descr.specs.Refusals.{◌>>=◌, check}
 use Rattle.elem_descr.specs.RefusalLaws.{check_passed}
 use Rattle.shape_strides.specs.ShapeLaws.{shape_of-same}
@@ -27,6 +28,9 @@ use Rattle.shape_strides.specs.Layouts.{offsets, multiples}
 use Rattle.shape_strides.specs.LayoutLaws.{offsets-none}
 use Rattle.shape_strides.specs.Shapes.{shape_of}
 use Rattle.machine_numbers.specs.declared.operators.Red.{Red}
+use Rattle.machine_numbers.specs.declared.operators.Red.TheVariants.{Sum, Product, Minimum, Maximum, Any, All, ArgMin, ArgMax}
+use Rattle.reductions.specs.inside.Extremes.{place_size}
+use Rattle.reductions.specs.inside.FoldLaws.{total_size, little_size}
 use Rattle.reductions.specs.Lists.{lists, reduced_shape, list_length, named_axis, is_axis, IsAxisOf}
 use Rattle.reductions.specs.Outcomes.{has_empty_list, number_scalar, reduced_type, ReducedType}
 use Rattle.reductions.specs.Reductions.{result_scalar, needs_items, reduced, reduced_item, reduced_items, item_number}
@@ -154,7 +158,7 @@ items_are reduction scalar to block out ls n is many are =
     ap (decode to) (take-take (size to) (size to) (drop (size to * k) out) (omega arith))
     ∙ ap (λ o. decode to (item_at o (size to) out)) (mul_comm (size to) k)
     ∙ ap (λ s. decode s (item_at (k * size to) (size to) out)) is
-    ∙ (are k (omega (arith, low, many))).value
+    ∙ (are.each k (omega (arith, low, many))).value
     ∙ ap (λ s. number (reduced reduction s (numbers_at scalar block list))) (sym is)
     ∙ ap (λ numbers. number (reduced reduction to numbers)) (sym (numbers_are scalar block list))
     )
@@ -162,18 +166,30 @@ items_are reduction scalar to block out ls n is many are =
 
 -- ---- the bytes
 
-pub bytes_are : (reduction : Red) (scalar to : Scalar) (block out : List ℕ) (ls : List (List ℕ)) (n : ℕ) → to ≡ result_scalar reduction scalar → n ≡ length ls → length out ≡ n * size to → AreReduced reduction scalar block (size to) ls out →
+pub bytes_are : (reduction : Red) (scalar to : Scalar) (block out : List ℕ) (ls : List (List ℕ)) (n : ℕ) → to ≡ result_scalar reduction scalar → n ≡ length ls → AreReduced reduction scalar block (size to) ls out →
     out ≡ flat_map (encode_item (ScalarDescr to)) (reduced_items reduction (ScalarDescr to) (ScalarDescr scalar) block ls)
-bytes_are reduction scalar to block out ls n is many long are =
+bytes_are reduction scalar to block out ls n is many are =
     let f = encode_item (ScalarDescr to) in
     let g = λ (list : List ℕ). reduced_item reduction (ScalarDescr to) (map (item_from (ScalarDescr scalar) block) list) in
     let items = map g ls in
-    all_joined (λ k. f (get_or items k [])) (size to) n out long (λ k low.
+    all_joined (λ k. f (get_or items k [])) (size to) n out (are.len ∙ ap (λ m. m * size to) (sym many)) (λ k low.
     let list = get_or ls k [] in
-    (are k (omega (arith, low, many))).exact
+    (are.each k (omega (arith, low, many))).exact
     ∙ ap (λ s. encode s (number (reduced reduction s (numbers_at scalar block list)))) (sym is)
     ∙ ap (λ numbers. encode to (number (reduced reduction to numbers))) (sym (numbers_are scalar block list))
     ∙ sym (one-encoded to (number (reduced reduction to (map item_number (map (item_from (ScalarDescr scalar) block) list)))))
     ∙ ap f (sym (get_or-map g ls k [] [] (omega (arith, low, many)))))
     ∙ ap (joined (λ k. f (get_or items k []))) (many ∙ sym (length-map ls g))
     ∙ joined_list f [] items
+
+-- ---- how many bytes
+
+pub result_size-le : (reduction : Red) (scalar : Scalar) → IsNumber scalar → size (result_scalar reduction scalar) ≤ 8
+result_size-le Sum scalar is = omega (arith, total_size false scalar)
+result_size-le Product scalar is = omega (arith, total_size true scalar)
+result_size-le Minimum scalar is = omega (arith, little_size scalar, number_size scalar is)
+result_size-le Maximum scalar is = omega (arith, little_size scalar, number_size scalar is)
+result_size-le Any scalar is = omega arith
+result_size-le All scalar is = omega arith
+result_size-le ArgMin scalar is = omega (arith, place_size false scalar)
+result_size-le ArgMax scalar is = omega (arith, place_size true scalar)

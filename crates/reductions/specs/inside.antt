@@ -4,3 +4,4 @@ pub mod Extremes
 pub mod FoundLaws
 pub mod Axes
 pub mod Sources
+pub mod Lines

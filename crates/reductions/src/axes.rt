@@ -1,5 +1,5 @@
 //! The axis that a reduction goes along, the shape of its result, and where its lists begin.
-ghost use Rattle.std.specs.Prelude.{◌≡◌, ◌+◌, ◌<◌, ◌≤◌, true, false, map, length, replicate, Some, slice_index, IfOk, IfErr};
+ghost use Rattle.std.specs.Prelude.{◌≡◌, ◌+◌, ◌<◌, ◌≤◌, true, false, map, length, slice_index, IfOk, IfErr};
 ghost use Rattle.std.specs.List.{remove};
 ghost use Rattle.elem_descr.specs.declared.refusal.Refusal.TheVariants.{BadAxis, OutOfMemory};
 ghost use Rattle.shape_strides.specs.Indexes.{count};
@@ -25,37 +25,7 @@ pub(crate) fn named_axis(rank: usize, axis: Option<i128>) -> Result<Option<usize
     Ok(Some(from_front(rank, axis) as usize))
 }
 
-/// Axes of length 1.
-fn single_axes(alloc: Global, rank: usize) -> Result<SmallVec<usize, 8>, AllocError>
-    ensures { IfOk result (λ v. v.items ≡ replicate rank 1) }
-{
-    let mut single = SmallVec::new(alloc);
-    for _axis in 0..rank {
-        single.push(1)?;
-    }
-    Ok(single)
-}
-
-/// The lengths without an axis, or with a 1 in its place.
-fn lengths_without(
-    alloc: Global,
-    lengths: &[usize],
-    axis: usize,
-    keep: bool,
-) -> Result<SmallVec<usize, 8>, AllocError>
-    requires { axis < length lengths.now }
-    ensures { IfOk result (λ v. v.items ≡ reduced_shape lengths.now (Some axis) keep) }
-{
-    let mut others = SmallVec::from_slice(alloc, lengths)?;
-    others.remove(axis);
-    if !keep {
-        return Ok(others);
-    }
-    others.insert(axis, 1)?;
-    Ok(others)
-}
-
-/// The lengths of the axes of the result.
+/// The lengths of the axes of the result: without an axis, or with a 1 in its place.
 pub(crate) fn reduced_lengths(
     alloc: Global,
     lengths: &[usize],
@@ -65,11 +35,20 @@ pub(crate) fn reduced_lengths(
     requires { IsAxisOf (length lengths.now) axis }
     ensures { IfOk result (λ v. v.items ≡ reduced_shape lengths.now axis keep) }
 {
-    match axis {
-        Some(axis) => lengths_without(alloc, lengths, axis, keep),
-        None if keep => single_axes(alloc, lengths.len()),
-        None => Ok(SmallVec::new(alloc)),
+    let Some(axis) = axis else {
+        if !keep {
+            return Ok(SmallVec::new(alloc));
+        }
+        let ones = SmallVec::from_elem(alloc, 1, lengths.len())?;
+        return Ok(ones);
+    };
+    let mut others = SmallVec::from_slice(alloc, lengths)?;
+    others.remove(axis);
+    if !keep {
+        return Ok(others);
     }
+    others.insert(axis, 1)?;
+    Ok(others)
 }
 
 /// How many items each list has.

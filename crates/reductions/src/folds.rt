@@ -1,23 +1,18 @@
 //! Reductions that go over numbers one by one.
 ghost use Rattle.std.specs.Prelude.{◌≡◌, ◌+◌, ◌<◌, ◌^◌, ℕ, ℤ, pos, Bool, true, false, [], ◌∷◌, ◌++◌, List, length, if◌then◌else◌, is_some, IfSome, refl};
-ghost use Rattle.std.specs.List.{fold, list_any, list_all};
+ghost use Rattle.std.specs.List.{fold};
 ghost use Rattle.elem_descr.specs.declared.scalar.Order.{Order};
 ghost use Rattle.elem_descr.specs.declared.scalar.Order.TheVariants.{Little};
 ghost use Rattle.elem_descr.specs.Encoding.{low_bits, size};
-ghost use Rattle.raw_block.specs.Bytes.{EachWithin};
-ghost use Rattle.shape_strides.specs.Runs.{run_offsets};
 ghost use Rattle.machine_numbers.specs.declared.operators.Red.{Red};
-ghost use Rattle.machine_numbers.specs.declared.operators.Red.TheVariants.{Sum, Product, Any, All};
-ghost use Rattle.reductions.specs.Reductions.{is_true, sum_of, product_of, first_place, result_scalar};
-ghost use Rattle.reductions.specs.inside.Numbers.{numbers_at, IsStored, IsReduced};
-ghost use Rattle.reductions.specs.inside.FoldLaws.{sum_bits, product_bits, sum_is, product_is, wide_size, is_true_bits};
+ghost use Rattle.reductions.specs.Reductions.{first_place, result_scalar};
+ghost use Rattle.reductions.specs.inside.Numbers.{numbers_of, TakesIn, IsStored, IsReduced};
+ghost use Rattle.reductions.specs.inside.FoldLaws.{total_of, total, total_is, total_size, truth_of, truth, truth_is, truth_size, is_true_bits};
 ghost use Rattle.reductions.specs.inside.FoundLaws.{HasFound, better_next, better_stays};
 ghost use Rattle.reductions.specs.inside.Extremes.{reduction_of, places_of, is_better, better, best_of, best_from, best_is, best_size, place_is, place_size, better_kept, better_left};
 
-use crate::lines::{fold_each, place_of};
-use machine_numbers::{Number, Ordered};
-use shape_strides::Run;
-use std::marker::PhantomData;
+use crate::lines::{fold_each, part, place_of};
+use machine_numbers::{Number, Ordered, Side};
 
 /// A reduction of numbers of a type, as it goes over them. It is given the first of them when it starts, and
 /// then all of them, that one too.
@@ -35,11 +30,6 @@ pub(crate) trait Fold<S: Number> {
 
     ghost meaning: { List ℤ → ℤ };
 
-    /// Whether what is held is known from what came of the numbers so far.
-    const RESUMES: bool;
-
-    ghost RESUMES: { Bool };
-
     fn start(first: S) -> Self::Held
         ensures { holds result (S.value first) [] };
 
@@ -50,28 +40,12 @@ pub(crate) trait Fold<S: Number> {
     fn finish(held: Self::Held) -> Self::Total
         ensures { (first : ℤ) (rest : List ℤ) → holds held first (first ∷ rest) → Self.Total.value result ≡ meaning (first ∷ rest) };
 
-    /// What is held once this came of the numbers so far, where that can be told.
-    fn resume(total: Self::Total) -> Option<Self::Held>
-        ensures some { RESUMES ≡ true → is_some result ≡ true }
-        ensures held { IfSome result (λ held. (first : ℤ) (rest : List ℤ) → Self.Total.value total ≡ meaning (first ∷ rest) → holds held first (first ∷ rest)) };
-
-    /// Whether numbers that lie one right after the other are gone over in blocks.
-    fn looks_ahead() -> bool {
-        false
-    }
-
-    /// What is held once the numbers of a block, which have `seen` before them, are gone over at once, by a
-    /// reduction that does so.
-    fn fold_block<O: Ordered>(
-        held: Self::Held,
-        seen: usize,
-        bytes: &[u8],
-        block: Run,
-    ) -> Option<Self::Held>
-        requires few { seen + block.count < 2 ^ 63 }
-        requires within { EachWithin (length bytes.now) block.offset block.step S.WIDTH block.count }
-        ensures { IfSome result (λ after. (first : ℤ) (before : List ℤ) → seen ≡ length before → holds held first before
-            → holds after first (before ++ numbers_at (S.scalar O.order) bytes.now (run_offsets block))) }
+    /// Goes over numbers that lie one right after the other, and have `seen` before them, where it does so
+    /// otherwise than one by one.
+    fn fold_near<O: Ordered>(held: Self::Held, seen: usize, near: Side<'_>) -> Option<Self::Held>
+        requires width { near.width ≡ S.WIDTH }
+        requires few { seen + near.run.count < 2 ^ 63 }
+        ensures { IfSome result (TakesIn holds held seen (numbers_of (S.scalar O.order) near.entry)) }
     {
         None
     }
@@ -82,225 +56,114 @@ pub(crate) trait Fold<S: Number> {
     ghost has_size: { (order : Order) → size (result_scalar reduction (S.scalar order)) ≡ Self.Total.WIDTH };
 }
 
-pub(crate) struct SumOf;
+/// Sums or products, in as many bits as a total has.
+pub(crate) struct Wrapping<const PRODUCT: bool>;
 
-impl<S: Number> Fold<S> for SumOf {
+impl<S: Number, const PRODUCT: bool> Fold<S> for Wrapping<PRODUCT> {
     type Held = u64;
 
     type Total = u64;
 
-    ghost reduction = { Sum };
+    ghost reduction = { total_of PRODUCT };
 
-    ghost holds = { λ held first seen. held ≡ low_bits 8 (sum_of seen) };
+    ghost holds = { λ held first seen. held ≡ low_bits 8 (total PRODUCT seen) };
 
-    ghost meaning = { λ numbers. pos (low_bits 8 (sum_of numbers)) };
+    ghost meaning = { λ numbers. pos (low_bits 8 (total PRODUCT numbers)) };
 
-    const RESUMES: bool = true;
+    ghost gives = { λ order bytes numbers few is. total_is PRODUCT (S.scalar order) bytes numbers is };
 
-    ghost RESUMES = { true };
-
-    ghost gives = { λ order bytes numbers few is. sum_is (S.scalar order) bytes numbers is };
-
-    ghost has_size = { λ order. wide_size (S.scalar order) };
+    ghost has_size = { λ order. total_size PRODUCT (S.scalar order) };
 
     fn start(first: S) -> u64 {
-        0
+        u64::from(PRODUCT)
     }
 
     fn step(held: u64, item: S, place: usize) -> u64 {
+        if PRODUCT {
+            return held.wrapping_mul(item.bits());
+        }
         held.wrapping_add(item.bits())
     }
 
     fn finish(held: u64) -> u64 {
         held
     }
-
-    fn resume(total: u64) -> Option<u64> {
-        Some(total)
-    }
 }
 
-pub(crate) struct ProductOf;
+/// The least or the greatest of numbers.
+pub(crate) struct Best<const GREATEST: bool>;
 
-impl<S: Number> Fold<S> for ProductOf {
-    type Held = u64;
-
-    type Total = u64;
-
-    ghost reduction = { Product };
-
-    ghost holds = { λ held first seen. held ≡ low_bits 8 (product_of seen) };
-
-    ghost meaning = { λ numbers. pos (low_bits 8 (product_of numbers)) };
-
-    const RESUMES: bool = true;
-
-    ghost RESUMES = { true };
-
-    ghost gives = { λ order bytes numbers few is. product_is (S.scalar order) bytes numbers is };
-
-    ghost has_size = { λ order. wide_size (S.scalar order) };
-
-    fn start(first: S) -> u64 {
-        1
+/// Whether a number is better than the best one so far.
+#[inline(always)]
+fn is_better<S: Number, const GREATEST: bool>(item: S, best: S) -> bool
+    ensures { result ≡ is_better GREATEST (S.value item) (S.value best) }
+{
+    if GREATEST {
+        return best.is_less(item);
     }
-
-    fn step(held: u64, item: S, place: usize) -> u64 {
-        held.wrapping_mul(item.bits())
-    }
-
-    fn finish(held: u64) -> u64 {
-        held
-    }
-
-    fn resume(total: u64) -> Option<u64> {
-        Some(total)
-    }
+    item.is_less(best)
 }
 
-/// Which of two numbers is the better one.
-pub(crate) trait Extreme {
-    ghost greatest: { Bool };
-
-    /// Whether a number is better than the best one so far.
-    fn is_better<S: Number>(item: S, best: S) -> bool
-        ensures { result ≡ is_better greatest (S.value item) (S.value best) };
-}
-
-pub(crate) struct Least;
-
-impl Extreme for Least {
-    ghost greatest = { false };
-
-    #[inline(always)]
-    fn is_better<S: Number>(item: S, best: S) -> bool {
-        item.is_less(best)
-    }
-}
-
-pub(crate) struct Greatest;
-
-impl Extreme for Greatest {
-    ghost greatest = { true };
-
-    #[inline(always)]
-    fn is_better<S: Number>(item: S, best: S) -> bool {
-        best.is_less(item)
-    }
-}
-
-/// The best of numbers.
-pub(crate) struct Best<E>(PhantomData<E>);
-
-impl<S: Number, E: Extreme> Fold<S> for Best<E> {
+impl<S: Number, const GREATEST: bool> Fold<S> for Best<GREATEST> {
     type Held = S;
 
     type Total = S;
 
-    ghost reduction = { reduction_of E.greatest };
+    ghost reduction = { reduction_of GREATEST };
 
-    ghost holds = { λ held first seen. S.value held ≡ fold (better E.greatest) first seen };
+    ghost holds = { λ held first seen. S.value held ≡ fold (better GREATEST) first seen };
 
-    ghost meaning = { best_of E.greatest };
+    ghost meaning = { best_of GREATEST };
 
-    const RESUMES: bool = true;
+    ghost gives = { λ order bytes numbers few is. best_is GREATEST (S.scalar order) (S.scalar Little) bytes numbers (S.is_little order) is };
 
-    ghost RESUMES = { true };
-
-    ghost gives = { λ order bytes numbers few is. best_is E.greatest (S.scalar order) (S.scalar Little) bytes numbers (S.is_little order) is };
-
-    ghost has_size = { λ order. best_size E.greatest (S.scalar order) S.WIDTH (S.has_width order) };
+    ghost has_size = { λ order. best_size GREATEST (S.scalar order) S.WIDTH (S.has_width order) };
 
     fn start(first: S) -> S {
         first
     }
 
     fn step(held: S, item: S, place: usize) -> S {
-        if E::is_better(item, held) { item } else { held }
+        if is_better::<S, GREATEST>(item, held) {
+            return item;
+        }
+        held
     }
 
     fn finish(held: S) -> S {
         held
     }
-
-    fn resume(total: S) -> Option<S> {
-        Some(total)
-    }
 }
 
-pub(crate) struct AnyTrue;
+/// Whether any number is true, or all of them.
+pub(crate) struct Truth<const ALL: bool>;
 
-impl<S: Number> Fold<S> for AnyTrue {
+impl<S: Number, const ALL: bool> Fold<S> for Truth<ALL> {
     type Held = bool;
 
     type Total = bool;
 
-    ghost reduction = { Any };
+    ghost reduction = { truth_of ALL };
 
-    ghost holds = { λ held first seen. held ≡ list_any is_true seen };
+    ghost holds = { λ held first seen. held ≡ truth ALL seen };
 
-    ghost meaning = { λ numbers. if list_any is_true numbers then pos 1 else pos 0 };
+    ghost meaning = { λ numbers. if truth ALL numbers then pos 1 else pos 0 };
 
-    const RESUMES: bool = true;
+    ghost gives = { λ order bytes numbers few is. truth_is ALL (S.scalar order) bytes numbers is };
 
-    ghost RESUMES = { true };
-
-    ghost gives = { λ order bytes numbers few is. is };
-
-    ghost has_size = { λ order. refl };
+    ghost has_size = { λ order. truth_size ALL (S.scalar order) };
 
     fn start(first: S) -> bool {
-        false
+        ALL
     }
 
     fn step(held: bool, item: S, place: usize) -> bool {
-        held | (item.bits() != 0)
+        let is_true = item.bits() != 0;
+        if ALL { held & is_true } else { held | is_true }
     }
 
     fn finish(held: bool) -> bool {
         held
-    }
-
-    fn resume(total: bool) -> Option<bool> {
-        Some(total)
-    }
-}
-
-pub(crate) struct AllTrue;
-
-impl<S: Number> Fold<S> for AllTrue {
-    type Held = bool;
-
-    type Total = bool;
-
-    ghost reduction = { All };
-
-    ghost holds = { λ held first seen. held ≡ list_all is_true seen };
-
-    ghost meaning = { λ numbers. if list_all is_true numbers then pos 1 else pos 0 };
-
-    const RESUMES: bool = true;
-
-    ghost RESUMES = { true };
-
-    ghost gives = { λ order bytes numbers few is. is };
-
-    ghost has_size = { λ order. refl };
-
-    fn start(first: S) -> bool {
-        true
-    }
-
-    fn step(held: bool, item: S, place: usize) -> bool {
-        held & (item.bits() != 0)
-    }
-
-    fn finish(held: bool) -> bool {
-        held
-    }
-
-    fn resume(total: bool) -> Option<bool> {
-        Some(total)
     }
 }
 
@@ -311,27 +174,45 @@ pub(crate) struct Found<S> {
     place: usize,
 }
 
-/// The place of the best number.
-pub(crate) struct PlaceOf<E>(PhantomData<E>);
+/// The numbers that are gone over at once, first for the best of them and then for its place.
+const BLOCK: usize = 1024;
 
-impl<S: Number, E: Extreme> Fold<S> for PlaceOf<E> {
+/// Goes over the numbers of a block, which have `seen` before them.
+#[inline(always)]
+fn find_in<S: Number, O: Ordered, const GREATEST: bool>(
+    held: Found<S>,
+    seen: usize,
+    block: Side<'_>,
+) -> Found<S>
+    requires width { block.width ≡ S.WIDTH }
+    requires few { seen + block.run.count < 2 ^ 63 }
+    ensures { TakesIn (λ found first numbers. HasFound (better GREATEST) (S.value found.best) found.place first numbers) held seen (numbers_of (S.scalar O.order) block.entry) result }
+{
+    let best = fold_each::<S, O, Best<GREATEST>>(held.best, 0, block);
+    if !is_better::<S, GREATEST>(best, held.best) {
+        return held;
+    }
+    let place = seen + place_of::<S, O>(best, block);
+    Found { best, place }
+}
+
+/// The place of the best number.
+pub(crate) struct PlaceOf<const GREATEST: bool>;
+
+impl<S: Number, const GREATEST: bool> Fold<S> for PlaceOf<GREATEST> {
     type Held = Found<S>;
 
     type Total = u64;
 
-    ghost reduction = { places_of E.greatest };
+    ghost reduction = { places_of GREATEST };
 
-    ghost holds = { λ held first seen. HasFound (better E.greatest) (S.value held.best) held.place first seen };
+    ghost holds = { λ held first seen. HasFound (better GREATEST) (S.value held.best) held.place first seen };
 
-    ghost meaning = { λ numbers. pos (first_place (best_of E.greatest numbers) numbers) };
+    ghost meaning = { λ numbers. pos (first_place (best_of GREATEST numbers) numbers) };
 
-    const RESUMES: bool = false;
+    ghost gives = { λ order bytes numbers few is. place_is GREATEST (S.scalar order) bytes numbers few is };
 
-    ghost RESUMES = { false };
-
-    ghost gives = { λ order bytes numbers few is. place_is E.greatest (S.scalar order) bytes numbers few is };
-
-    ghost has_size = { λ order. place_size E.greatest (S.scalar order) };
+    ghost has_size = { λ order. place_size GREATEST (S.scalar order) };
 
     fn start(first: S) -> Found<S> {
         Found {
@@ -341,37 +222,24 @@ impl<S: Number, E: Extreme> Fold<S> for PlaceOf<E> {
     }
 
     fn step(held: Found<S>, item: S, place: usize) -> Found<S> {
-        if E::is_better(item, held.best) {
+        if is_better::<S, GREATEST>(item, held.best) {
             return Found { best: item, place };
         }
         held
     }
 
-    #[inline(always)]
-    fn looks_ahead() -> bool {
-        true
-    }
-
-    #[inline(always)]
-    fn fold_block<O: Ordered>(
-        held: Found<S>,
-        seen: usize,
-        bytes: &[u8],
-        block: Run,
-    ) -> Option<Found<S>> {
-        let best = fold_each::<S, O, Best<E>>(held.best, 0, bytes, block);
-        if !E::is_better(best, held.best) {
-            return Some(held);
+    fn fold_near<O: Ordered>(held: Found<S>, seen: usize, near: Side<'_>) -> Option<Found<S>> {
+        let mut held = held;
+        let mut done = 0;
+        while done < near.run.count {
+            let block = part(near, done, BLOCK.min(near.run.count - done));
+            held = find_in::<S, O, GREATEST>(held, seen + done, block);
+            done += block.run.count;
         }
-        let place = seen + place_of::<S, O>(best, bytes, block);
-        Some(Found { best, place })
+        Some(held)
     }
 
     fn finish(held: Found<S>) -> u64 {
         held.place as u64
-    }
-
-    fn resume(total: u64) -> Option<Found<S>> {
-        None
     }
 }

@@ -1,18 +1,20 @@
 //! All that goes by the word of a reduction: the type of its result, whether it needs items, what it makes of
 //! none, and which loop does it.
-ghost use Rattle.std.specs.Prelude.{◌≡◌, ◌*◌, ◌<◌, ℕ, [], true, length};
-ghost use Rattle.elem_descr.specs.declared.scalar.Order.TheVariants.{Little};
+ghost use Rattle.std.specs.Prelude.{◌≡◌, ◌*◌, ◌<◌, ◌≤◌, ℕ, [], true, length, IfOk};
 ghost use Rattle.elem_descr.specs.Encoding.{size};
 ghost use Rattle.raw_block.specs.Bytes.{item_at};
+ghost use Rattle.shape_strides.specs.Limits.{max_items};
 ghost use Rattle.reductions.specs.Reductions.{wide, result_scalar, needs_items};
-ghost use Rattle.reductions.specs.inside.Numbers.{IsStored, IsReduced, AreReduced, lists_from, HaveItems};
+ghost use Rattle.reductions.specs.inside.Numbers.{IsReduced, AreReduced, lists_from, HaveItems};
 
-use crate::fills::{fill_all, fill_along};
-use crate::folds::{AllTrue, AnyTrue, Best, Fold, Greatest, Least, PlaceOf, ProductOf, SumOf};
-use crate::lines::store_at;
+use crate::fills::reduced;
+use crate::folds::{Best, PlaceOf, Truth, Wrapping};
+use crate::results::repeated;
 use crate::sources::Lists;
 use elem_descr::{Order, Scalar, Width};
 use machine_numbers::{Number, NumberTask, Ordered, Red, little};
+use raw_block::RawBlock;
+use std::alloc::{AllocError, Global};
 
 /// An integer of 64 bits, with a sign unless the items are integers without one.
 fn wide(scalar: &Scalar) -> Scalar
@@ -56,74 +58,57 @@ pub(crate) fn needs_items(reduction: Red) -> bool
     }
 }
 
-/// Writes a number `count` times, one after another.
-fn fill_with<T: Number>(value: T, out: &mut [u8], count: usize)
-    requires { length out.old ≡ count * T.WIDTH }
-    ensures items { (k : ℕ) → k < count → IsStored (T.scalar Little) (T.value value) (item_at (k * T.WIDTH) T.WIDTH out.new) }
-    ensures len { length out.new ≡ length out.old }
-{
-    let _len = out.len();
-    for k in 0..count {
-        store_at(value, out, k * T::WIDTH);
-    }
-}
-
-/// Writes what a reduction makes of no items, `count` times, where it is one of no items.
-pub(crate) fn fill_empty(reduction: Red, _scalar: &Scalar, out: &mut [u8], count: usize)
-    requires room { length out.old ≡ count * size (result_scalar reduction _scalar.now) }
+/// A block of what a reduction makes of no items, `count` times, where it is one of no items.
+pub(crate) fn empty_block(
+    alloc: Global,
+    reduction: Red,
+    _scalar: &Scalar,
+    count: usize,
+) -> Result<RawBlock, AllocError>
+    requires few { count ≤ max_items }
     requires none { needs_items reduction ≡ true → count ≡ 0 }
-    ensures items { (k : ℕ) → k < count → IsReduced reduction _scalar.now []
-        (item_at (k * size (result_scalar reduction _scalar.now)) (size (result_scalar reduction _scalar.now)) out.new) }
-    ensures len { length out.new ≡ length out.old }
+    ensures items { IfOk result (λ b. (k : ℕ) → k < count → IsReduced reduction _scalar.now []
+        (item_at (k * size (result_scalar reduction _scalar.now)) (size (result_scalar reduction _scalar.now)) b)) }
+    ensures len { IfOk result (λ b. length b ≡ count * size (result_scalar reduction _scalar.now)) }
 {
     match reduction {
-        Red::Sum => fill_with(0_u64, out, count),
-        Red::Product => fill_with(1_u64, out, count),
-        Red::Any => fill_with(false, out, count),
-        Red::All => fill_with(true, out, count),
-        _ => {}
+        Red::Sum => repeated(alloc, 0_u64, count),
+        Red::Product => repeated(alloc, 1_u64, count),
+        Red::Any => repeated(alloc, false, count),
+        Red::All => repeated(alloc, true, count),
+        _ => RawBlock::try_zeroed(alloc, 0),
     }
 }
 
-/// Writes what comes of each list.
-#[inline(never)]
-fn fill<S: Number, O: Ordered, F: Fold<S>>(out: &mut [u8], lists: Lists<'_>)
-    requires width { lists.width ≡ S.WIDTH }
-    requires items { HaveItems (length lists.bytes.now) S.WIDTH lists.starts.now lists.axis }
-    requires room { length out.old ≡ length (lists_from lists.starts.now lists.axis) * F.Total.WIDTH }
-    ensures items { AreReduced F.reduction (S.scalar O.order) lists.entry.bytes.now F.Total.WIDTH (lists_from lists.entry.starts.now lists.entry.axis) out.new }
-    ensures len { length out.new ≡ length out.old }
-{
-    match lists.axis {
-        None => fill_all::<S, O, F>(out, lists.starts, lists.bytes),
-        Some(axis) => fill_along::<S, O, F>(out, lists.starts, axis, lists.bytes),
-    }
-}
-
-/// A reduction of lists, whose results are written one after another.
+/// A reduction of lists, whose results lie one after another in a block.
 pub(crate) struct Reducing<'a> {
+    pub(crate) alloc: Global,
     pub(crate) reduction: Red,
     pub(crate) lists: Lists<'a>,
 }
 
 impl<'a> NumberTask for Reducing<'a> {
-    type Out = ();
+    type Out = Result<RawBlock, AllocError>;
 
-    ghost Needs = { λ t scalar bytes. (t.lists.width ≡ size scalar) × HaveItems (length t.lists.bytes.now) (size scalar) t.lists.starts.now t.lists.axis × (length bytes ≡ length (lists_from t.lists.starts.now t.lists.axis) * size (result_scalar t.reduction scalar)) };
+    ghost Needs = { λ t scalar bytes. (t.lists.width ≡ size scalar) × HaveItems (length t.lists.bytes.now) (size scalar) t.lists.starts.now t.lists.axis };
 
-    ghost Gives = { λ t scalar old new _. AreReduced t.reduction scalar t.lists.bytes.now (size (result_scalar t.reduction scalar)) (lists_from t.lists.starts.now t.lists.axis) new × (length new ≡ length old) };
+    ghost Gives = { λ t scalar old new block. IfOk block (AreReduced t.reduction scalar t.lists.bytes.now (size (result_scalar t.reduction scalar)) (lists_from t.lists.starts.now t.lists.axis)) };
 
-    fn run<N: Number, O: Ordered>(self, bytes: &mut [u8]) {
-        let Reducing { reduction, lists } = self;
+    fn run<N: Number, O: Ordered>(self, bytes: &mut [u8]) -> Result<RawBlock, AllocError> {
+        let Reducing {
+            alloc,
+            reduction,
+            lists,
+        } = self;
         match reduction {
-            Red::Sum => fill::<N, O, SumOf>(bytes, lists),
-            Red::Product => fill::<N, O, ProductOf>(bytes, lists),
-            Red::Minimum => fill::<N, O, Best<Least>>(bytes, lists),
-            Red::Maximum => fill::<N, O, Best<Greatest>>(bytes, lists),
-            Red::Any => fill::<N, O, AnyTrue>(bytes, lists),
-            Red::All => fill::<N, O, AllTrue>(bytes, lists),
-            Red::ArgMin => fill::<N, O, PlaceOf<Least>>(bytes, lists),
-            Red::ArgMax => fill::<N, O, PlaceOf<Greatest>>(bytes, lists),
+            Red::Sum => reduced::<N, O, Wrapping<false>>(alloc, lists),
+            Red::Product => reduced::<N, O, Wrapping<true>>(alloc, lists),
+            Red::Minimum => reduced::<N, O, Best<false>>(alloc, lists),
+            Red::Maximum => reduced::<N, O, Best<true>>(alloc, lists),
+            Red::Any => reduced::<N, O, Truth<false>>(alloc, lists),
+            Red::All => reduced::<N, O, Truth<true>>(alloc, lists),
+            Red::ArgMin => reduced::<N, O, PlaceOf<false>>(alloc, lists),
+            Red::ArgMax => reduced::<N, O, PlaceOf<true>>(alloc, lists),
         }
     }
 }

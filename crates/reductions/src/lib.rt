@@ -9,6 +9,7 @@ mod kinds;
 mod lines;
 mod outcomes;
 mod reducing;
+mod results;
 mod rows;
 mod sources;
 

@@ -1,5 +1,5 @@
 //! Reductions of the items of an array.
-ghost use Rattle.std.specs.Prelude.{◌≡◌, ◌+◌, ◌*◌, ◌<◌, ◌≤◌, true, pos, Some, None, length, map, slice_index, slice_index_or, IfOk, IfErr, OnOk};
+ghost use Rattle.std.specs.Prelude.{◌≡◌, ◌+◌, ◌*◌, ◌<◌, ◌≤◌, true, pos, Some, None, length, map, slice_index, slice_index_or, IfOk, IfErr};
 ghost use Rattle.std.specs.List.{flat_map};
 ghost use Rattle.elem_descr.specs.declared.refusal.Refusal.TheVariants.{OutOfMemory};
 ghost use Rattle.elem_descr.specs.Blocks.{item_from};
@@ -15,10 +15,10 @@ ghost use Rattle.overlap_copy.specs.ItemLists.{owned_items};
 ghost use Rattle.reductions.specs.Lists.{named_axis, list_length, lists, IsAxisOf};
 ghost use Rattle.reductions.specs.Outcomes.{reduced_type, outcome_of};
 ghost use Rattle.reductions.specs.Reductions.{needs_items, reduced_items};
-ghost use Rattle.reductions.specs.inside.Sources.{lists_of, result_size, room_for, AreResults};
+ghost use Rattle.reductions.specs.inside.Sources.{lists_of, AreResults};
 
 use crate::axes::{list_length, named_axis, starts_of};
-use crate::kinds::{Reducing, fill_empty, result_scalar};
+use crate::kinds::{Reducing, empty_block, result_scalar};
 use crate::outcomes::{number_scalar, shape_after};
 use crate::sources::{Lists, Source};
 use elem_descr::{Descr, Refusal};
@@ -26,7 +26,7 @@ use machine_numbers::{Red, on_number};
 use overlap_copy::{Items, Owned, copy, goes_by_columns};
 use raw_block::RawBlock;
 use shape_strides::{Layout, MemoryOrder, StridedAxis};
-use std::alloc::Global;
+use std::alloc::{AllocError, Global};
 
 /// The axis with a number.
 fn axis_at(layout: &Layout, axis: usize) -> StridedAxis
@@ -40,20 +40,17 @@ fn axis_at(layout: &Layout, axis: usize) -> StridedAxis
     }
 }
 
-/// Writes what comes of the lists along an axis.
-fn reduce_along(
+/// A block of what comes of the lists along an axis.
+fn reduced_along(
     alloc: Global,
-    out: &mut [u8],
     reduction: Red,
     source: Source<'_>,
     axis: usize,
-) -> Result<(), Refusal>
+) -> Result<RawBlock, Refusal>
     requires number { IsNumber source.scalar.now }
     requires axis { (source.axis ≡ Some axis) × (axis < length source.layout.now.shape) }
     requires some { 1 ≤ slice_index source.layout.now.shape axis }
-    requires room { length out.old ≡ room_for reduction source }
-    ensures items { OnOk result (AreResults reduction source.entry out.new) }
-    ensures len { length out.new ≡ length out.old }
+    ensures items { IfOk result (AreResults reduction source.entry) }
     ensures err { IfErr result (λ refusal. refusal ≡ OutOfMemory) }
 {
     let starts = starts_of(alloc, source.layout, axis)?;
@@ -63,18 +60,21 @@ fn reduce_along(
         starts: &starts,
         axis: Some(axis_at(source.layout, axis)),
     };
-    on_number(source.scalar, Reducing { reduction, lists }, out);
-    Ok(())
+    let task = Reducing {
+        alloc,
+        reduction,
+        lists,
+    };
+    let block = on_number(source.scalar, task, &mut [])?;
+    Ok(block)
 }
 
-/// Writes what comes of all items, of which there are some.
-fn reduce_all(out: &mut [u8], reduction: Red, source: Source<'_>)
+/// A block of what comes of all items, of which there are some.
+fn reduced_whole(alloc: Global, reduction: Red, source: Source<'_>) -> Result<RawBlock, AllocError>
     requires number { IsNumber source.scalar.now }
     requires axis { source.axis ≡ None }
     requires some { 0 < count source.layout.now.shape }
-    requires room { length out.old ≡ room_for reduction source }
-    ensures items { AreResults reduction source.entry out.new }
-    ensures len { length out.new ≡ length out.old }
+    ensures { IfOk result (AreResults reduction source.entry) }
 {
     let lists = Lists {
         bytes: source.bytes,
@@ -82,35 +82,12 @@ fn reduce_all(out: &mut [u8], reduction: Red, source: Source<'_>)
         starts: source.layout,
         axis: None,
     };
-    on_number(source.scalar, Reducing { reduction, lists }, out);
-}
-
-/// Writes what comes of each of so many lists.
-fn reduce_into(
-    alloc: Global,
-    out: &mut [u8],
-    items: usize,
-    reduction: Red,
-    source: Source<'_>,
-) -> Result<(), Refusal>
-    requires number { IsNumber source.scalar.now }
-    requires axis { IsAxisOf (length source.layout.now.shape) source.axis }
-    requires items { items ≡ length (lists_of source) }
-    requires some { needs_items reduction ≡ true → list_length source.layout.now.shape source.axis ≡ 0 → items ≡ 0 }
-    requires room { length out.old ≡ room_for reduction source }
-    ensures items { OnOk result (AreResults reduction source.entry out.new) }
-    ensures len { length out.new ≡ length out.old }
-    ensures err { IfErr result (λ refusal. refusal ≡ OutOfMemory) }
-{
-    if list_length(&source.layout.shape, source.axis) == 0 {
-        fill_empty(reduction, source.scalar, out, items);
-        return Ok(());
-    }
-    if let Some(axis) = source.axis {
-        return reduce_along(alloc, out, reduction, source, axis);
-    }
-    reduce_all(out, reduction, source);
-    Ok(())
+    let task = Reducing {
+        alloc,
+        reduction,
+        lists,
+    };
+    on_number(source.scalar, task, &mut [])
 }
 
 /// A block of what comes of each of so many lists.
@@ -126,13 +103,17 @@ fn reduced_block(
     requires few { items ≤ max_items }
     requires some { needs_items reduction ≡ true → list_length source.layout.now.shape source.axis ≡ 0 → items ≡ 0 }
     ensures items { IfOk result (AreResults reduction source.entry) }
-    ensures len { IfOk result (λ out. length out ≡ items * result_size reduction source.entry) }
     ensures err { IfErr result (λ refusal. refusal ≡ OutOfMemory) }
 {
-    let width = result_scalar(reduction, source.scalar).size();
-    let mut out = RawBlock::try_zeroed(alloc, items * width)?;
-    reduce_into(alloc, out.bytes_mut(), items, reduction, source)?;
-    Ok(out)
+    if list_length(&source.layout.shape, source.axis) == 0 {
+        let block = empty_block(alloc, reduction, source.scalar, items)?;
+        return Ok(block);
+    }
+    if let Some(axis) = source.axis {
+        return reduced_along(alloc, reduction, source, axis);
+    }
+    let block = reduced_whole(alloc, reduction, source)?;
+    Ok(block)
 }
 
 /// The same as `reduce`, however the items lie.

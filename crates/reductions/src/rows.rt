@@ -1,154 +1,120 @@
-//! Rows of items that are taken into a row of results.
-ghost use Rattle.std.specs.Prelude.{◌≡◌, ◌+◌, ◌*◌, ◌^◌, ◌<◌, ◌≤◌, ◌⊎◌, ℕ, ℤ, List, [], ◌∷◌, ◌++◌, true, pos, length, IsTrue};
-ghost use Rattle.elem_descr.specs.declared.scalar.Order.TheVariants.{Little};
-ghost use Rattle.raw_block.specs.Bytes.{place, item_at, EachWithin};
-ghost use Rattle.shape_strides.specs.Runs.{run_along, run_offsets};
-ghost use Rattle.reductions.specs.inside.Numbers.{number_at, IsStored, IsReduced, line_numbers};
+//! Lines along an axis, reduced one after another, or all at once, row by row.
+ghost use Rattle.std.specs.Prelude.{◌≡◌, ◌*◌, ◌≤◌, [], ◌∷◌, length, IfOk, OnOk};
+ghost use Rattle.machine_numbers.specs.Sides.{number_of_side};
+ghost use Rattle.reductions.specs.inside.Numbers.{TakesIn, AddsReduced};
+ghost use Rattle.reductions.specs.inside.Lines.{all_lines, AreHeld, EachOf, EachPair};
 
 use crate::folds::Fold;
-use crate::lines::{fill_by_lines, line_along, moved, number_at, store_at};
-use machine_numbers::{LowFirst, Number, Ordered, place};
-use shape_strides::{Run, StridedAxis};
+use crate::lines::fold_line;
+use crate::results::push_total;
+use crate::sources::Lines;
+use machine_numbers::{Number, Ordered, Side};
+use raw_block::BlockBuilder;
+use std::alloc::{AllocError, Global};
 
-/// Takes a number, which has `seen` before it, into the result at a place.
-#[inline(always)]
-fn add_at<S: Number, F: Fold<S>>(row: &mut [u8], at: usize, item: S, seen: usize)
-    requires resumes { F.RESUMES ≡ true }
-    requires room { at + F.Total.WIDTH ≤ length row.old }
-    ensures value { (first : ℤ) (rest : List ℤ) → seen ≡ length (first ∷ rest)
-        → IsStored (F.Total.scalar Little) (F.meaning (first ∷ rest)) (item_at at F.Total.WIDTH row.old)
-        → IsStored (F.Total.scalar Little) (F.meaning (first ∷ (rest ++ S.value item ∷ []))) (item_at at F.Total.WIDTH row.new) }
-    ensures others { (other : ℕ) → other + F.Total.WIDTH ≤ length row.old → (other + F.Total.WIDTH ≤ at) ⊎ (at + F.Total.WIDTH ≤ other) → item_at other F.Total.WIDTH row.new ≡ item_at other F.Total.WIDTH row.old }
-    ensures len { length row.new ≡ length row.old }
+/// What is held of each line before its numbers.
+fn begin<S: Number, O: Ordered, F: Fold<S>>(
+    alloc: Global,
+    firsts: Side<'_>,
+) -> Result<Vec<F::Held>, AllocError>
+    requires { firsts.width ≡ S.WIDTH }
+    ensures len { IfOk result (λ v. length v.items ≡ firsts.entry.run.count) }
+    ensures held { IfOk result (λ v. EachOf firsts.entry.run.count v.items (λ j one. F.holds one (number_of_side (S.scalar O.order) firsts.entry j) [])) }
 {
-    let total = number_at::<F::Total, LowFirst>(row, at);
-    let held = F::step(F::resume(total).unwrap(), item, seen);
-    store_at(F::finish(held), row, at);
-}
-
-/// Takes each number of a run, which have `seen` before them, into a result.
-#[inline(always)]
-fn add_each<S: Number, O: Ordered, F: Fold<S>>(row: &mut [u8], run: Run, bytes: &[u8], seen: usize)
-    requires resumes { F.RESUMES ≡ true }
-    requires room { length row.old ≡ run.count * F.Total.WIDTH }
-    requires few { run.count < 2 ^ 63 }
-    requires within { EachWithin (length bytes.now) run.offset run.step S.WIDTH run.count }
-    ensures values { (j : ℕ) (first : ℤ) (rest : List ℤ) → j < run.count → seen ≡ length (first ∷ rest)
-        → IsStored (F.Total.scalar Little) (F.meaning (first ∷ rest)) (item_at (j * F.Total.WIDTH) F.Total.WIDTH row.old)
-        → IsStored (F.Total.scalar Little) (F.meaning (first ∷ (rest ++ number_at (S.scalar O.order) bytes.now (place run.offset run.step j) ∷ []))) (item_at (j * F.Total.WIDTH) F.Total.WIDTH row.new) }
-    ensures len { length row.new ≡ length row.old }
-{
-    let _len = row.len();
-    for j in 0..run.count {
-        let item = number_at::<S, O>(bytes, place(run, j));
-        add_at::<S, F>(row, j * <F::Total as Number>::WIDTH, item, seen);
+    let mut held = Vec::with_capacity(alloc, firsts.run.count)?;
+    for j in 0..firsts.run.count {
+        held.push_reserved(F::start(firsts.number::<S, O>(j)));
     }
+    Ok(held)
 }
 
-/// Whether the items of a run, of `width` bytes, lie one right after the other.
-fn is_near(run: Run, width: usize) -> bool
-    requires { width ≤ 8 }
-    ensures { IsTrue result → run.step ≡ pos width }
-{
-    run.step == width as isize
-}
-
-/// Such a run, with its step told by the width of its items.
+/// Takes each number of a row, which has `seen` before it on its line, into what is held of the line.
 #[inline(always)]
-fn near(run: Run, width: usize) -> Run
-    requires small { width ≤ 8 }
-    requires near { run.step ≡ pos width }
-    ensures { result ≡ run }
+fn take_each<S: Number, O: Ordered, F: Fold<S>>(held: &mut [F::Held], row: Side<'_>, seen: usize)
+    requires width { row.width ≡ S.WIDTH }
+    requires even { length held.old ≡ row.run.count }
+    ensures len { length held.new ≡ length held.old }
+    ensures held { EachPair row.entry.run.count held.old held.new (λ j one after. TakesIn F.holds one seen (number_of_side (S.scalar O.order) row.entry j ∷ []) after) }
 {
-    Run {
-        offset: run.offset,
-        count: run.count,
-        step: width as isize,
+    for j in 0..row.run.count {
+        held[j] = F::step(held[j], row.number::<S, O>(j), seen);
     }
 }
 
 /// The same, with a loop of its own for numbers that lie one right after the other.
-fn add_row<S: Number, O: Ordered, F: Fold<S>>(row: &mut [u8], run: Run, bytes: &[u8], seen: usize)
-    requires resumes { F.RESUMES ≡ true }
-    requires room { length row.old ≡ run.count * F.Total.WIDTH }
-    requires few { run.count < 2 ^ 63 }
-    requires within { EachWithin (length bytes.now) run.offset run.step S.WIDTH run.count }
-    ensures values { (j : ℕ) (first : ℤ) (rest : List ℤ) → j < run.count → seen ≡ length (first ∷ rest)
-        → IsStored (F.Total.scalar Little) (F.meaning (first ∷ rest)) (item_at (j * F.Total.WIDTH) F.Total.WIDTH row.old)
-        → IsStored (F.Total.scalar Little) (F.meaning (first ∷ (rest ++ number_at (S.scalar O.order) bytes.now (place run.offset run.step j) ∷ []))) (item_at (j * F.Total.WIDTH) F.Total.WIDTH row.new) }
-    ensures len { length row.new ≡ length row.old }
+fn take_row<S: Number, O: Ordered, F: Fold<S>>(held: &mut [F::Held], row: Side<'_>, seen: usize)
+    requires width { row.width ≡ S.WIDTH }
+    requires even { length held.old ≡ row.run.count }
+    ensures len { length held.new ≡ length held.old }
+    ensures held { EachPair row.entry.run.count held.old held.new (λ j one after. TakesIn F.holds one seen (number_of_side (S.scalar O.order) row.entry j ∷ []) after) }
 {
-    if is_near(run, S::WIDTH) {
-        add_each::<S, O, F>(row, near(run, S::WIDTH), bytes, seen);
-        return;
+    if row.run.step == S::WIDTH as isize {
+        return take_each::<S, O, F>(held, row.with_step(S::WIDTH as isize), seen);
     }
-    add_each::<S, O, F>(row, run, bytes, seen);
+    take_each::<S, O, F>(held, row, seen);
 }
 
-/// Writes what comes of each number of a run alone.
-fn start_row<S: Number, O: Ordered, F: Fold<S>>(row: &mut [u8], run: Run, bytes: &[u8])
-    requires room { length row.old ≡ run.count * F.Total.WIDTH }
-    requires few { run.count < 2 ^ 63 }
-    requires within { EachWithin (length bytes.now) run.offset run.step S.WIDTH run.count }
-    ensures values { (j : ℕ) → j < run.count → IsStored (F.Total.scalar Little) (F.meaning (number_at (S.scalar O.order) bytes.now (place run.offset run.step j) ∷ [])) (item_at (j * F.Total.WIDTH) F.Total.WIDTH row.new) }
-    ensures len { length row.new ≡ length row.old }
-{
-    let _len = row.len();
-    for j in 0..run.count {
-        let item = number_at::<S, O>(bytes, place(run, j));
-        let held = F::step(F::start(item), item, 0);
-        store_at(F::finish(held), row, j * <F::Total as Number>::WIDTH);
-    }
-}
-
-/// Writes what comes of the line along an axis from each item of a run on, row by row.
-pub(crate) fn fill_by_rows<S: Number, O: Ordered, F: Fold<S>>(
-    row: &mut [u8],
-    starts: Run,
-    axis: StridedAxis,
-    bytes: &[u8],
+/// Pushes what comes of each line, of which this is held.
+fn push_held<S: Number, O: Ordered, F: Fold<S>>(
+    block: &mut BlockBuilder,
+    held: &[F::Held],
+    lines: Lines<'_>,
 )
-    requires resumes { F.RESUMES ≡ true }
-    requires room { length row.old ≡ starts.count * F.Total.WIDTH }
-    requires some { (1 ≤ axis.len) × (1 ≤ starts.count) }
-    requires few { (axis.len < 2 ^ 63) × (starts.count < 2 ^ 63) }
-    requires starts { EachWithin (length bytes.now) starts.offset starts.step S.WIDTH starts.count }
-    requires lines { (j : ℕ) → j < starts.count → EachWithin (length bytes.now) (place starts.offset starts.step j) axis.stride S.WIDTH axis.len }
-    ensures items { (j : ℕ) → j < starts.count → IsReduced F.reduction (S.scalar O.order) (line_numbers (S.scalar O.order) bytes.now starts axis j) (item_at (j * F.Total.WIDTH) F.Total.WIDTH row.new) }
-    ensures len { length row.new ≡ length row.old }
+    requires some { 1 ≤ lines.axis.len }
+    requires held { AreHeld F.holds (S.scalar O.order) lines lines.axis.len held.now }
+    requires room { lines.starts.run.count * F.Total.WIDTH ≤ block.old.1 }
+    ensures { AddsReduced F.reduction (S.scalar O.order) lines.entry.starts.bytes.now F.Total.WIDTH (all_lines lines.entry) block.old block.new }
 {
-    start_row::<S, O, F>(row, starts, bytes);
-    for k in 1..axis.len {
-        let offset = place(line_along(axis, starts.offset), k);
-        add_row::<S, O, F>(row, moved(starts, offset, starts.count), bytes, k);
+    for j in 0..lines.starts.run.count {
+        push_total(block, F::finish(held[j]));
     }
 }
 
-/// Whether a reduction goes by rows: where they lie closer together than what stands on a line.
-fn goes_by_rows(resumes: bool, starts: Run, axis: StridedAxis) -> bool
-    ensures { IsTrue result → (resumes ≡ true) × (1 ≤ starts.count) }
+/// Pushes what comes of each line, row by row.
+fn push_by_rows<S: Number, O: Ordered, F: Fold<S>>(
+    alloc: Global,
+    block: &mut BlockBuilder,
+    lines: Lines<'_>,
+) -> Result<(), AllocError>
+    requires width { lines.starts.width ≡ S.WIDTH }
+    requires some { (1 ≤ lines.axis.len) × (1 ≤ lines.starts.run.count) }
+    requires room { lines.starts.run.count * F.Total.WIDTH ≤ block.old.1 }
+    ensures { OnOk result (AddsReduced F.reduction (S.scalar O.order) lines.entry.starts.bytes.now F.Total.WIDTH (all_lines lines.entry) block.old block.new) }
 {
-    resumes && starts.count > 3 && starts.step.unsigned_abs() < axis.stride.unsigned_abs()
+    let mut held = begin::<S, O, F>(alloc, lines.row(0))?;
+    for k in 0..lines.axis.len {
+        take_row::<S, O, F>(&mut held, lines.row(k), k);
+    }
+    push_held::<S, O, F>(block, &held, lines);
+    Ok(())
 }
 
-/// Writes what comes of the line along an axis from each item of a run on.
-pub(crate) fn fill_row<S: Number, O: Ordered, F: Fold<S>>(
-    row: &mut [u8],
-    starts: Run,
-    axis: StridedAxis,
-    bytes: &[u8],
-)
-    requires room { length row.old ≡ starts.count * F.Total.WIDTH }
-    requires some { 1 ≤ axis.len }
-    requires few { (axis.len < 2 ^ 63) × (starts.count < 2 ^ 63) }
-    requires starts { EachWithin (length bytes.now) starts.offset starts.step S.WIDTH starts.count }
-    requires lines { (j : ℕ) → j < starts.count → EachWithin (length bytes.now) (place starts.offset starts.step j) axis.stride S.WIDTH axis.len }
-    ensures items { (j : ℕ) → j < starts.count → IsReduced F.reduction (S.scalar O.order) (line_numbers (S.scalar O.order) bytes.now starts axis j) (item_at (j * F.Total.WIDTH) F.Total.WIDTH row.new) }
-    ensures len { length row.new ≡ length row.old }
+/// Pushes what comes of each line, line by line.
+fn push_by_lines<S: Number, O: Ordered, F: Fold<S>>(block: &mut BlockBuilder, lines: Lines<'_>)
+    requires width { lines.starts.width ≡ S.WIDTH }
+    requires some { 1 ≤ lines.axis.len }
+    requires room { lines.starts.run.count * F.Total.WIDTH ≤ block.old.1 }
+    ensures { AddsReduced F.reduction (S.scalar O.order) lines.entry.starts.bytes.now F.Total.WIDTH (all_lines lines.entry) block.old block.new }
 {
-    if goes_by_rows(F::RESUMES, starts, axis) {
-        fill_by_rows::<S, O, F>(row, starts, axis, bytes);
-        return;
+    for j in 0..lines.starts.run.count {
+        push_total(block, fold_line::<S, O, F>(lines.line(j)));
     }
-    fill_by_lines::<S, O, F>(row, starts, axis, bytes);
+}
+
+/// Pushes what comes of each line.
+pub(crate) fn push_lines<S: Number, O: Ordered, F: Fold<S>>(
+    alloc: Global,
+    block: &mut BlockBuilder,
+    lines: Lines<'_>,
+) -> Result<(), AllocError>
+    requires width { lines.starts.width ≡ S.WIDTH }
+    requires some { 1 ≤ lines.axis.len }
+    requires room { lines.starts.run.count * F.Total.WIDTH ≤ block.old.1 }
+    ensures { OnOk result (AddsReduced F.reduction (S.scalar O.order) lines.entry.starts.bytes.now F.Total.WIDTH (all_lines lines.entry) block.old block.new) }
+{
+    if lines.goes_by_rows() {
+        return push_by_rows::<S, O, F>(alloc, block, lines);
+    }
+    push_by_lines::<S, O, F>(block, lines);
+    Ok(())
 }

@@ -1,12 +1,14 @@
 -- Reductions that are made number by number.
-use Rattle.std.proofs.Common.{◌≡◌, ◌+◌, ◌*◌, ◌%◌, ◌<◌, ◌^◌, ℕ, ℤ, pos, ◌+ℤ◌, ◌*ℤ◌, true, false, Bool, List, refl, sym, ap, ◌∙◌}
+use Rattle.std.proofs.Common.{◌≡◌, ◌+◌, ◌*◌, ◌%◌, ◌<◌, ◌^◌, ℕ, ℤ, pos, ◌+ℤ◌, ◌*ℤ◌, true, false, Bool, List, [], ◌∷◌, ◌++◌, refl, sym, ap, ◌∙◌}
 use Rattle.std.specs.Int.{int_wrap, cast_signed, cast_unsigned}
 use Rattle.std.specs.Ordering.{int_eq}
 use Rattle.std.proofs.lemmas.Int.{of_z-to_z, int_wrap-add_left, int_wrap-add_right, int_wrap-mul_left, int_wrap-mul_right, wrapping_add-bits, wrapping_mul-bits}
 use Rattle.std.proofs.Math.Nat.{mod-lt}
 use Rattle.std.proofs.lemmas.Nat.{pow_pos}
 use mir.Syntax.{w64}
-use Rattle.std.specs.Prelude.{unsigned_abs, nat_eq, not, ◌==◌}
+use Rattle.std.specs.Prelude.{unsigned_abs, nat_eq, not, ◌==◌, if◌then◌else◌}
+use Rattle.std.specs.List.{list_any, list_all}
+use Rattle.std.proofs.lemmas.List.Sums.{fold-append}
 use Rattle.std.specs.Cmp.{signed_Decides}
 use Rattle.std.proofs.lemmas.Bool.{false_from_ne_true, eqb-true}
 use Rattle.machine_numbers.specs.Bits.{AreBits}
@@ -18,8 +20,9 @@ use Rattle.elem_descr.specs.declared.scalar.Scalar.TheVariants.{Bool as BoolScal
 use Rattle.elem_descr.specs.Values.{number}
 use Rattle.elem_descr.specs.Encoding.{size, number_of, number_in, bytes_of, integer, low_bits, wrap}
 use Rattle.elem_descr.specs.EncodingLaws.{low_bits-lt, low_bits-integer}
-use Rattle.machine_numbers.specs.declared.operators.Red.TheVariants.{Sum, Product}
-use Rattle.reductions.specs.Reductions.{wide, sum_of, product_of, is_true}
+use Rattle.machine_numbers.specs.declared.operators.Red.{Red}
+use Rattle.machine_numbers.specs.declared.operators.Red.TheVariants.{Sum, Product, Any, All}
+use Rattle.reductions.specs.Reductions.{wide, sum_of, product_of, is_true, result_scalar}
 use Rattle.reductions.specs.inside.Numbers.{IsStored, IsReduced}
 
 -- ---- the lowest 64 bits of sums and products
@@ -56,17 +59,38 @@ wrapped (Byte signed) bytes z is = wide_total signed bytes (low_bits 8 z) (low_b
 wrapped (Int signed width order) bytes z is = wide_total signed bytes (low_bits 8 z) (low_bits-lt 8 z) is
 wrapped (Bytes n) bytes z is = wide_total true bytes (low_bits 8 z) (low_bits-lt 8 z) is
 
-pub sum_is : (scalar : Scalar) (bytes : List ℕ) (numbers : List ℤ) → IsStored (Int false Eight Little) (pos (low_bits 8 (sum_of numbers))) bytes → IsReduced Sum scalar numbers bytes
-sum_is scalar bytes numbers is = wrapped scalar bytes (sum_of numbers) is
-
-pub product_is : (scalar : Scalar) (bytes : List ℕ) (numbers : List ℤ) → IsStored (Int false Eight Little) (pos (low_bits 8 (product_of numbers))) bytes → IsReduced Product scalar numbers bytes
-product_is scalar bytes numbers is = wrapped scalar bytes (product_of numbers) is
-
-pub wide_size : (scalar : Scalar) → size (wide scalar) ≡ 8
+wide_size : (scalar : Scalar) → size (wide scalar) ≡ 8
 wide_size BoolScalar = refl
 wide_size (Byte signed) = refl
 wide_size (Int signed width order) = refl
 wide_size (Bytes n) = refl
+
+-- the one or the other
+abbrev pub total_of : Bool → Red
+total_of false = Sum
+total_of true = Product
+
+abbrev pub total : Bool → List ℤ → ℤ
+total false = sum_of
+total true = product_of
+
+abbrev pub total_step : Bool → ℕ → ℕ → ℕ
+total_step false m n = (m + n) % 2 ^ 64
+total_step true m n = (m * n) % 2 ^ 64
+
+pub total_next : (product : Bool) (held bits : ℕ) (z : ℤ) (seen : List ℤ) → held ≡ low_bits 8 (total product seen) → low_bits 8 z ≡ bits → total_step product held bits ≡ low_bits 8 (total product (seen ++ z ∷ []))
+total_next false held bits z seen so_far is =
+    (λ i. (so_far i + sym is i) % 2 ^ 64) ∙ sym (sum_bits (sum_of seen) z) ∙ ap (low_bits 8) (sym (fold-append (λ sum value. sum +ℤ value) (pos 0) seen (z ∷ [])))
+total_next true held bits z seen so_far is =
+    (λ i. (so_far i * sym is i) % 2 ^ 64) ∙ sym (product_bits (product_of seen) z) ∙ ap (low_bits 8) (sym (fold-append (λ product value. product *ℤ value) (pos 1) seen (z ∷ [])))
+
+pub total_is : (product : Bool) (scalar : Scalar) (bytes : List ℕ) (numbers : List ℤ) → IsStored (Int false Eight Little) (pos (low_bits 8 (total product numbers))) bytes → IsReduced (total_of product) scalar numbers bytes
+total_is false scalar bytes numbers is = wrapped scalar bytes (sum_of numbers) is
+total_is true scalar bytes numbers is = wrapped scalar bytes (product_of numbers) is
+
+pub total_size : (product : Bool) (scalar : Scalar) → size (result_scalar (total_of product) scalar) ≡ 8
+total_size false scalar = wide_size scalar
+total_size true scalar = wide_size scalar
 
 pub little_size : (scalar : Scalar) → size (little scalar) ≡ size scalar
 little_size BoolScalar = refl
@@ -75,6 +99,22 @@ little_size (Int signed width order) = refl
 little_size (Bytes n) = refl
 
 -- ---- bools
+
+abbrev pub truth_of : Bool → Red
+truth_of false = Any
+truth_of true = All
+
+abbrev pub truth : Bool → List ℤ → Bool
+truth false = list_any is_true
+truth true = list_all is_true
+
+pub truth_is : (all : Bool) (scalar : Scalar) (bytes : List ℕ) (numbers : List ℤ) → IsStored BoolScalar (if truth all numbers then pos 1 else pos 0) bytes → IsReduced (truth_of all) scalar numbers bytes
+truth_is false scalar bytes numbers is = is
+truth_is true scalar bytes numbers is = is
+
+pub truth_size : (all : Bool) (scalar : Scalar) → size (result_scalar (truth_of all) scalar) ≡ 1
+truth_size false scalar = refl
+truth_size true scalar = refl
 
 pub is_true_bits : (bits : ℕ) (z : ℤ) → AreBits bits z → not (bits == 0) ≡ is_true z
 is_true_bits bits z are =

@@ -1,5 +1,5 @@
 -- Numbers that are read where they lie, and reductions of them as bytes.
-use Rattle.std.specs.Prelude.{◌≡◌, ◌*◌, ◌^◌, ◌<◌, ◌≤◌, ℕ, ℤ, Option, Some, None, List, [], ◌∷◌, length, map, slice_index_or, All}
+use Rattle.std.specs.Prelude.{◌≡◌, ◌*◌, ◌^◌, ◌<◌, ◌≤◌, ℕ, ℤ, Option, Some, None, List, [], ◌∷◌, ◌++◌, ◌+◌, length, map, slice_index_or, All}
 use Rattle.elem_descr.specs.declared.scalar.Scalar.{Scalar}
 use Rattle.elem_descr.specs.Values.{number}
 use Rattle.elem_descr.specs.Encoding.{size, decode, encode, number_of}
@@ -8,9 +8,9 @@ use Rattle.shape_strides.specs.declared.layout.Layout.{Layout}
 use Rattle.shape_strides.specs.Indexes.{count}
 use Rattle.shape_strides.specs.Layouts.{offsets}
 use Rattle.shape_strides.specs.declared.joined.StridedAxis.{StridedAxis}
-use Rattle.shape_strides.specs.declared.runs.Run.{Run}
 use Rattle.shape_strides.specs.Runs.{run_along, run_offsets}
 use Rattle.machine_numbers.specs.declared.operators.Red.{Red}
+use Rattle.machine_numbers.specs.declared.sides.Side.{Side}
 use Rattle.reductions.specs.Reductions.{result_scalar, reduced}
 
 -- the number of a scalar that lies at an offset
@@ -29,18 +29,35 @@ pub record IsStored (scalar : Scalar) (z : ℤ) (bytes : List ℕ) : Type 0 wher
 abbrev pub IsReduced : Red → Scalar → List ℤ → List ℕ → Type 0
 IsReduced reduction scalar numbers bytes = IsStored (result_scalar reduction scalar) (reduced reduction (result_scalar reduction scalar) numbers) bytes
 
--- those of the line along an axis from the k-th item of a run on
-abbrev pub line_numbers : Scalar → List ℕ → Run → StridedAxis → ℕ → List ℤ
-line_numbers scalar bytes starts axis k = numbers_at scalar bytes (run_offsets (run_along axis (place starts.offset starts.step k)))
+-- those of a side
+abbrev pub numbers_of : Scalar → Side → List ℤ
+numbers_of scalar s = numbers_at scalar s.bytes.now (run_offsets s.run)
+
+-- n items of a side from the m-th one on
+abbrev pub IsPart : ℕ → ℕ → Side → Side → Type 0
+IsPart m n s part = (part.bytes.now ≡ s.bytes.now) × (part.width ≡ s.width) × (part.run ≡ record { offset = place s.run.offset s.run.step m; count = n; step = s.run.step })
+
+-- what is held takes in numbers that have `seen` before them
+abbrev pub TakesIn : {Held : Type 0} → (Held → ℤ → List ℤ → Type 0) → Held → ℕ → List ℤ → Held → Type 0
+TakesIn holds held seen numbers after = (first : ℤ) (before : List ℤ) → seen ≡ length before → holds held first before → holds after first (before ++ numbers)
 
 -- the lines that an axis leads along from each of some offsets on
 abbrev pub lines : StridedAxis → List ℕ → List (List ℕ)
 lines axis offsets = map (λ offset. run_offsets (run_along axis offset)) offsets
 
 -- items one after another, of `width` bytes, are what a reduction makes of the numbers at the offsets of each list
-abbrev pub AreReduced : Red → Scalar → List ℕ → ℕ → List (List ℕ) → List ℕ → Type 0
-AreReduced reduction scalar bytes width lists out =
-    (k : ℕ) → k < length lists → IsReduced reduction scalar (numbers_at scalar bytes (slice_index_or lists k [])) (item_at (k * width) width out)
+pub record AreReduced (reduction : Red) (scalar : Scalar) (bytes : List ℕ) (width : ℕ) (lists : List (List ℕ)) (out : List ℕ) : Type 0 where
+  pub len : length out ≡ length lists * width
+  pub each : (k : ℕ) → k < length lists → IsReduced reduction scalar (numbers_at scalar bytes (slice_index_or lists k [])) (item_at (k * width) width out)
+
+-- what is made of these lists is pushed
+pub record AddsReduced (reduction : Red) (scalar : Scalar) (bytes : List ℕ) (width : ℕ) (lists : List (List ℕ)) (old new : List ℕ × ℕ) : Type 0 where
+  pub items : (done : List (List ℕ)) → AreReduced reduction scalar bytes width done old.0 → AreReduced reduction scalar bytes width (done ++ lists) new.0
+  pub left : length lists * width + new.1 ≡ old.1
+
+-- a number is pushed
+abbrev pub IsPushed : Scalar → ℕ → ℤ → List ℕ × ℕ → List ℕ × ℕ → Type 0
+IsPushed scalar width z old new = (new.0 ≡ old.0 ++ encode scalar (number z)) × IsStored scalar z (encode scalar (number z)) × (width + new.1 ≡ old.1)
 
 -- all items of a layout, or those along an axis from each of them on
 abbrev pub lists_from : Layout → Option StridedAxis → List (List ℕ)

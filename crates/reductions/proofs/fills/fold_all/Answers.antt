@@ -8,33 +8,33 @@ use Rattle.shape_strides.specs.Layouts.{offsets}
 use Rattle.shape_strides.specs.LayoutLaws.{length-offsets, entry-first}
 use Rattle.shape_strides.specs.Runs.{run_offsets, runs}
 use Rattle.reductions.specs.inside.Numbers.{number_at, numbers_at}
-use Rattle.reductions.proofs.RunLaws.{headed}
+use Rattle.reductions.proofs.LineLaws.{headed}
 use Rattle.reductions.proofs.fills.fold_all.Goals as goal
 
 pub number_at-first-requires : goal.number_at-first-requires
 number_at-first-requires g c =
-    let l = c.args.layout.now in
-    let first = c.requires.inside 0 0 (omega (arith, length-offsets l, c.requires.some)) in
-    omega (arith, first, entry-first l c.requires.some)
+    let l = c.args.lists.starts.now in
+    let first = c.args.lists.inside 0 0 (omega (arith, length-offsets l, c.requires.some)) in
+    omega (arith, first, entry-first l c.requires.some, c.requires.width)
 
 pub fold_runs-held-requires-clause-few : goal.fold_runs-held-requires-clause-few
 fold_runs-held-requires-clause-few g c =
-    let all : length (flat_map run_offsets c.new.result) ≡ count c.args.layout.now.shape = ap (λ rs. length (flat_map run_offsets rs)) c.new.ensures.runs ∙ ap length c.new.ensures.offsets ∙ length-offsets c.args.layout.now in
+    let all : length (flat_map run_offsets c.new.result) ≡ count c.args.lists.starts.now.shape = ap (λ rs. length (flat_map run_offsets rs)) c.new.ensures.runs ∙ ap length c.new.ensures.offsets ∙ length-offsets c.args.lists.starts.now in
     omega (arith, all, c.items-items.ensures.value, c.items-items.ensures.limit)
 
 pub fold_runs-held-requires-clause-within : goal.fold_runs-held-requires-clause-within
 fold_runs-held-requires-clause-within g c =
-    let l = c.args.layout.now in
-    let len = length c.args.bytes.now in
+    let l = c.args.lists.starts.now in
+    let len = length c.args.lists.bytes.now in
     let width = g.S.Number.WIDTH in
-    let ends = subst (All (λ offset. offset + width ≤ len)) (sym c.new.ensures.offsets) c.requires.inside in
+    let ends = subst (All (λ offset. offset + width ≤ len)) (sym c.new.ensures.offsets) (subst (λ w. All (λ offset. offset + w ≤ len) (offsets l)) c.requires.width c.args.lists.inside) in
     subst (All (λ run. EachWithin len run.offset run.step width run.count)) (sym c.new.ensures.runs) (runs-within len width (λ run. run) (runs l) (c.new.ensures.lie max_bytes 1 l.within_limit) ends)
 
 pub returns : goal.returns
 returns g c =
     let scalar = g.S.Number.scalar g.O.Ordered.order in
-    let bytes = c.args.bytes.now in
-    let l = c.args.layout.now in
+    let bytes = c.args.lists.bytes.now in
+    let l = c.args.lists.starts.now in
     let first = g.S.Number.value c.number_at-first.result in
     let rest = numbers_at scalar bytes (drop 1 (offsets l)) in
     let all : numbers_at scalar bytes (offsets l) ≡ first ∷ rest =

@@ -1,10 +1,8 @@
-use Rattle.std.proofs.Common.{◌≡◌, ℤ, List, ◌++◌, length}
+use Rattle.reductions.specs.inside.Numbers.{numbers_at, TakesIn}
 use Rattle.shape_strides.specs.Runs.{run_offsets}
-use Rattle.reductions.specs.inside.Numbers.{numbers_at}
 use Rattle.reductions.proofs.LineLaws.{front}
 use Rattle.reductions.proofs.lines.fold_each.Given as goal
 
--- what is held belongs to the numbers so far
+-- the numbers so far are taken in
 abbrev pub invariant-loop-k : goal.invariant-loop-k
-invariant-loop-k g l = (first : ℤ) (before : List ℤ) → l.seen ≡ length before → g.F.Fold.holds l.initial.held first before
-    → g.F.Fold.holds l.held first (before ++ numbers_at (g.S.Number.scalar g.O.Ordered.order) l.bytes (run_offsets (front l.k l.run)))
+invariant-loop-k g l = TakesIn g.F.Fold.holds l.initial.held l.seen (numbers_at (g.S.Number.scalar g.O.Ordered.order) l.side.bytes.now (run_offsets (front l.k l.side.run))) l.held

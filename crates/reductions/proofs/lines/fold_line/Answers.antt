@@ -1,19 +1,14 @@
-use Rattle.std.proofs.Common.{◌≡◌, ◌-◌, ℤ, List, [], ◌∷◌, pos, refl, sym, ap, subst, ◌∙◌, arith, map}
-use Rattle.std.specs.Prelude.{◌+ℤ◌}
-use Rattle.elem_descr.specs.Steps.{numbers_from}
-use Rattle.shape_strides.specs.Addresses.{natural}
-use Rattle.shape_strides.specs.Runs.{run_offsets}
-use Rattle.reductions.specs.inside.Numbers.{numbers_at}
-use Rattle.reductions.proofs.LineLaws.{numbers-first}
+use Rattle.std.proofs.Common.{◌≡◌, ℤ, List, [], ◌∷◌, refl, sym, ap, subst, ◌∙◌}
+use Rattle.reductions.specs.inside.Numbers.{numbers_of}
+use Rattle.reductions.proofs.LineLaws.{side_first, side_rest}
 use Rattle.reductions.proofs.lines.fold_line.Goals as goal
 
 pub returns : goal.returns
 returns g c =
     let scalar = g.S.Number.scalar g.O.Ordered.order in
-    let bytes = c.args.bytes.now in
     let line = c.args.line in
-    let first = g.S.Number.value c.number_at-first.result in
-    let rest = numbers_at scalar bytes (map natural (numbers_from (pos line.offset +ℤ line.step) line.step (line.count - 1))) in
-    let all : numbers_at scalar bytes (run_offsets line) ≡ first ∷ rest = numbers-first scalar bytes line (line.count - 1) (omega (arith, c.requires.some)) ∙ ap (λ z. z ∷ rest) (sym c.number_at-first.ensures) in
-    c.finish.ensures first rest (subst (λ (numbers : List ℤ). g.F.Fold.holds c.fold_run-held.result first numbers) all (c.fold_run-held.ensures first [] refl c.start.ensures))
+    let first = g.S.Number.value c.number-first.result in
+    let wide = c.requires.width ∙ sym (g.met.S.Number.has_width g.O.Ordered.order) in
+    let all : numbers_of scalar line ≡ first ∷ side_rest scalar line = side_first scalar line c.requires.some wide ∙ ap (λ z. z ∷ side_rest scalar line) (sym c.number-first.ensures) in
+    c.finish.ensures first (side_rest scalar line) (subst (λ (numbers : List ℤ). g.F.Fold.holds c.fold_run.result first numbers) all (c.fold_run.ensures first [] refl c.start.ensures))
     ∙ ap g.F.Fold.meaning (sym all)

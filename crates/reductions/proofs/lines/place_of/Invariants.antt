@@ -7,4 +7,4 @@ use Rattle.reductions.proofs.lines.place_of.Given as goal
 
 -- it is none of the numbers so far
 abbrev pub invariant-loop-k : goal.invariant-loop-k
-invariant-loop-k g l = first_place (g.S.Number.value l.fn.number) (numbers_at (g.S.Number.scalar g.O.Ordered.order) l.bytes (run_offsets (front l.k l.run))) ≡ l.k
+invariant-loop-k g l = first_place (g.S.Number.value l.fn.number) (numbers_at (g.S.Number.scalar g.O.Ordered.order) l.side.bytes.now (run_offsets (front l.k l.side.run))) ≡ l.k

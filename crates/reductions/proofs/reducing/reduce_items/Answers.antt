@@ -1,4 +1,4 @@
-use Rattle.std.proofs.Common.{◌≡◌, ◌+◌, ◌*◌, ◌≤◌, All, inl, inr, Ok, Err, map, length, refl, sym, ap, subst, ◌∙◌}
+use Rattle.std.proofs.Common.{◌≡◌, ◌+◌, ◌*◌, ◌≤◌, All, inl, inr, Ok, Err, map, length, refl, sym, ap, subst, ◌∙◌, arith, mul-le-mul_right}
 use Rattle.std.specs.List.{flat_map}
 use Rattle.std.proofs.lemmas.Result.{err_from_is_err_and}
 use Rattle.elem_descr.specs.declared.descr.Descr.TheVariants.{Scalar as ScalarDescr}
@@ -7,13 +7,14 @@ use Rattle.elem_descr.specs.Encoding.{size}
 use Rattle.elem_descr.specs.Items.{item_size, encode_item}
 use Rattle.elem_descr.specs.Refusals.{Gives}
 use Rattle.shape_strides.specs.Indexes.{count}
+use Rattle.shape_strides.specs.Limits.{max_items}
 use Rattle.shape_strides.specs.Layouts.{offsets, multiples}
 use Rattle.reductions.specs.Lists.{named_axis, is_axis, lists, IsAxisOf}
 use Rattle.reductions.specs.Outcomes.{reduced_type, outcome_of}
 use Rattle.reductions.specs.Reductions.{result_scalar, reduced_items}
 use Rattle.reductions.specs.inside.Axes.{shape_after}
 use Rattle.reductions.specs.inside.Numbers.{AreReduced}
-use Rattle.reductions.proofs.OutcomeLaws.{outcome_kind, outcome_axis, outcome_shape, outcome_ok, shape_is, length-lists, some_after, items_are, bytes_are}
+use Rattle.reductions.proofs.OutcomeLaws.{outcome_kind, outcome_axis, outcome_shape, outcome_ok, shape_is, length-lists, some_after, items_are, bytes_are, result_size-le}
 use Rattle.reductions.proofs.reducing.reduce_items.Goals as goal
 
 pub returns-in_err-scalar-clause-array : goal.returns-in_err-scalar-clause-array
@@ -65,6 +66,23 @@ reduced_block-requires-clause-some c needs none =
     ∙ ap count (sym (shape_is c.args.reduction shape c.in_ok-axis.axis c.args.keep c.in_ok-shape.shape c.in_ok-shape.ensures))
     ∙ some_after c.args.reduction shape c.in_ok-axis.axis c.args.keep c.in_ok-shape.shape c.in_ok-shape.ensures needs none
 
+pub over-requires-clause-whole : goal.over-requires-clause-whole
+over-requires-clause-whole c =
+    let shape = c.args.items.layout.now.shape in
+    let is = subst (λ n. IsAxisOf n c.in_ok-axis.axis) c.rank.ensures.value c.in_ok-axis.ensures.ok.2 in
+    let ls = lists shape c.in_ok-axis.axis (offsets c.args.items.layout.now) in
+    let many : count c.in_ok-shape.shape ≡ length ls =
+    ap count (sym (shape_is c.args.reduction shape c.in_ok-axis.axis c.args.keep c.in_ok-shape.shape c.in_ok-shape.ensures))
+    ∙ sym (length-lists shape c.in_ok-axis.axis c.args.keep (offsets c.args.items.layout.now) is) in
+    c.in_ok-out.ensures.items.len ∙ (λ i. sym many i * size (sym c.result_scalar.ensures i))
+
+pub over-requires-clause-small : goal.over-requires-clause-small
+over-requires-clause-small c =
+    let wide = size (result_scalar c.args.reduction c.in_ok-scalar.scalar) in
+    let long : length c.in_ok-out.out ≡ c.items.result * wide = over-requires-clause-whole c ∙ (λ i. sym c.items.ensures.value i * size (c.result_scalar.ensures i)) in
+    let most : c.items.result * wide ≤ max_items * wide = mul-le-mul_right wide c.items.ensures.limit in
+    omega (arith, long, most, result_size-le c.args.reduction c.in_ok-scalar.scalar c.in_ok-scalar.ensures.ok.1)
+
 pub returns-clause-array : goal.returns-clause-array
 returns-clause-array c =
     let shape = c.args.items.layout.now.shape in
@@ -108,6 +126,6 @@ returns-clause-bytes c =
     ∙ sym (length-lists shape c.in_ok-axis.axis c.args.keep (offsets c.args.items.layout.now) is) in
     let are = subst (λ b. AreReduced c.args.reduction scalar b (size to) ls c.in_ok-out.out) c.bytes.ensures c.in_ok-out.ensures.items in
     c.in_ok-owned.ensures.block
-    ∙ bytes_are c.args.reduction scalar to c.args.items.block.now c.in_ok-out.out ls (count c.in_ok-shape.shape) refl many (c.in_ok-out.ensures.len ∙ ap (λ n. n * size to) c.items.ensures.value) are
+    ∙ bytes_are c.args.reduction scalar to c.args.items.block.now c.in_ok-out.out ls (count c.in_ok-shape.shape) refl many are
     ∙ (λ i. flat_map (encode_item (sym typed i)) (reduced_items c.args.reduction (sym typed i) (sym c.in_ok-scalar.ensures.ok.2 i) c.args.items.block.now (lists shape (sym named i) (offsets c.args.items.layout.now))))
     ∙ ap (flat_map (encode_item c.in_ok-owned.owned.descr)) (sym (returns-clause-items c))
