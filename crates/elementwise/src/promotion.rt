@@ -5,9 +5,11 @@ ghost use Rattle.elem_descr.specs.declared.scalar.Width.TheVariants.{Eight};
 ghost use Rattle.elem_descr.specs.declared.scalar.Scalar.TheVariants.{Int};
 ghost use Rattle.elem_descr.specs.Refusals.{Answers};
 ghost use Rattle.machine_numbers.specs.Kinds.{is_bool, is_text, is_signed, little};
-ghost use Rattle.elementwise.specs.Promotion.{rank_of_kind, same_kind, integer_type, mixed_type, common_integers, common_type, serves_bools, is_division, promote, are_comparable, compared_type, literal_type, serves_one, promote_one};
+ghost use Rattle.elementwise.specs.Promotion.{rank_of_kind, same_kind, integer_type, mixed_type, common_integers, common_type, is_division, promote, are_comparable, compared_type, literal_type, promote_one};
+ghost use Rattle.elementwise.specs.Operations.{serves_bools};
 ghost use Rattle.elementwise.specs.Results.{scalar_of};
 
+use crate::operations::{serves_bools, serves_one};
 use elem_descr::{Descr, Order, Refusal, Scalar, Width};
 use machine_numbers::{BinOp, UnOp, is_bool, is_signed, is_text, little};
 
@@ -108,20 +110,6 @@ fn common_type(left: &Scalar, right: &Scalar) -> Result<Scalar, Refusal>
     common_integers(left, right)
 }
 
-/// Whether there is an operation of two bools.
-fn serves_bools(op: BinOp) -> bool
-    ensures { result ≡ serves_bools op }
-{
-    match op {
-        BinOp::Subtract
-        | BinOp::FloorDivide
-        | BinOp::Modulo
-        | BinOp::ShiftLeft
-        | BinOp::ShiftRight => false,
-        _ => true,
-    }
-}
-
 fn is_division(op: BinOp) -> bool
     ensures { result ≡ is_division op }
 {
@@ -186,16 +174,6 @@ pub fn literal_type(scalar: Scalar) -> Scalar
     match scalar {
         Scalar::Bool => integer_type(true, 8),
         _ => little(&scalar),
-    }
-}
-
-/// Whether there is an operation of items of a type.
-fn serves_one(op: UnOp, scalar: &Scalar) -> bool
-    ensures { result ≡ serves_one op scalar.now }
-{
-    match op {
-        UnOp::Negate => !is_text(scalar) && !is_bool(scalar),
-        UnOp::Invert => !is_text(scalar),
     }
 }
 
