@@ -119,7 +119,9 @@ impl<'a> Pairing<'a> {
             } => compare::<u64, i64, LowFirst>(*comparison, block, operands),
             Pairing::Texts(texts) => operands.push_all(texts, block),
             Pairing::With {
-                comparison, other, ..
+                comparison,
+                other,
+                ..
             } => {
                 let comparison = *comparison;
                 operands.push_all(&ComparingWith { comparison, other }, block)
