@@ -8,7 +8,7 @@ use Rattle.elem_descr.specs.declared.refusal.Refusal.TheVariants.{OutOfMemory}
 use Rattle.shape_strides.specs.declared.layout.Layout.{Layout}
 use Rattle.shape_strides.specs.Indexes.{indexes, rank}
 use Rattle.shape_strides.specs.Layouts.{offsets}
-use Rattle.view_ops.specs.Views.{View, view_through, IsViewOf, GivesView}
+use Rattle.view_ops.specs.Views.{View, IsViewOf, GivesView}
 use Rattle.broadcasting.specs.Broadcasts.{can_stretch, broadcast_index, stretched}
 use Rattle.elementwise.specs.inside.Shrunk.{IsStretched}
 

@@ -1,4 +1,4 @@
-use Rattle.std.proofs.Common.{map, sym, ap, ◌∙◌, length, arith}
+use Rattle.std.proofs.Common.{map, ap, ◌∙◌, length, arith}
 use Rattle.elem_descr.specs.declared.descr.Descr.TheVariants.{Scalar as ScalarDescr}
 use Rattle.elem_descr.specs.declared.scalar.Scalar.TheVariants.{Bool as BoolScalar, Bytes}
 use Rattle.elem_descr.specs.Blocks.{item_from}
