@@ -116,17 +116,11 @@ fn is_division(op: BinOp) -> bool
     matches!(op, BinOp::Divide)
 }
 
-fn are_bools(left: &Scalar, right: &Scalar) -> bool
-    ensures { result ≡ (is_bool left.now && is_bool right.now) }
-{
-    is_bool(left) && is_bool(right)
-}
-
 /// Whether there is an operation of items of two types, as far as bools go.
 fn serves(op: BinOp, left: &Scalar, right: &Scalar) -> bool
     ensures { result ≡ (serves_bools op || not (is_bool left.now && is_bool right.now)) }
 {
-    serves_bools(op) || !are_bools(left, right)
+    serves_bools(op) || !(is_bool(left) && is_bool(right))
 }
 
 /// The type of what an operation gives on items of two types: of bools and integers the smallest that
