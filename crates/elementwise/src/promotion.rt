@@ -5,7 +5,7 @@ ghost use Rattle.elem_descr.specs.declared.scalar.Width.TheVariants.{Eight};
 ghost use Rattle.elem_descr.specs.declared.scalar.Scalar.TheVariants.{Int};
 ghost use Rattle.elem_descr.specs.Refusals.{Answers};
 ghost use Rattle.machine_numbers.specs.Kinds.{is_bool, is_text, is_signed, little};
-ghost use Rattle.elementwise.specs.Promotion.{rank_of_kind, same_kind, integer_type, mixed_type, common_integers, common_type, is_division, promote, are_comparable, compared_type, literal_type, promote_one};
+ghost use Rattle.elementwise.specs.Promotion.{rank_of_kind, same_kind, integer_type, mixed_type, common_integers, common_type, promote, are_comparable, compared_type, literal_type, promote_one};
 ghost use Rattle.elementwise.specs.Operations.{serves_bools};
 ghost use Rattle.elementwise.specs.Results.{scalar_of};
 
@@ -110,12 +110,6 @@ fn common_type(left: &Scalar, right: &Scalar) -> Result<Scalar, Refusal>
     common_integers(left, right)
 }
 
-fn is_division(op: BinOp) -> bool
-    ensures { result ≡ is_division op }
-{
-    matches!(op, BinOp::Divide)
-}
-
 /// Whether there is an operation of items of two types, as far as bools go.
 fn serves(op: BinOp, left: &Scalar, right: &Scalar) -> bool
     ensures { result ≡ (serves_bools op || not (is_bool left.now && is_bool right.now)) }
@@ -136,7 +130,7 @@ pub fn promote(op: BinOp, left: Scalar, right: Scalar) -> Result<Scalar, Refusal
     if !serves(op, &left, &right) {
         return Err(Refusal::NotForThisKind);
     }
-    if is_division(op) {
+    if matches!(op, BinOp::Divide) {
         return Err(Refusal::NeedsFloats);
     }
     common_type(&left, &right)
