@@ -23,13 +23,6 @@ fn rank_of_kind(scalar: &Scalar) -> usize
     if is_signed(scalar) { 2 } else { 1 }
 }
 
-/// Whether either is a scalar of byte strings.
-fn has_text(left: &Scalar, right: &Scalar) -> bool
-    ensures { result ≡ (is_text left.now || is_text right.now) }
-{
-    is_text(left) || is_text(right)
-}
-
 /// Whether a result of one type may be written to items of another: its kind must not be above theirs in
 /// the order bool, unsigned, signed, whatever the widths. `NotSameKind` where it is, and for byte
 /// strings on either side.
@@ -37,7 +30,7 @@ fn has_text(left: &Scalar, right: &Scalar) -> bool
 pub fn same_kind(from: Scalar, to: Scalar) -> Result<(), Refusal>
     ensures { Answers (λ _. tt) result (same_kind from to) }
 {
-    if has_text(&from, &to) {
+    if is_text(&from) || is_text(&to) {
         return Err(Refusal::NotSameKind);
     }
     if rank_of_kind(&from) > rank_of_kind(&to) {
@@ -124,7 +117,7 @@ fn serves(op: BinOp, left: &Scalar, right: &Scalar) -> bool
 pub fn promote(op: BinOp, left: Scalar, right: Scalar) -> Result<Scalar, Refusal>
     ensures { Answers (λ s. s) result (promote op left right) }
 {
-    if has_text(&left, &right) {
+    if is_text(&left) || is_text(&right) {
         return Err(Refusal::NotForThisKind);
     }
     if !serves(op, &left, &right) {
