@@ -1,10 +1,10 @@
 -- Numbers by their lowest 64 bits.
-use Rattle.std.proofs.Common.{◌≡◌, ℕ, zero, suc, ◌-◌, ◌*◌, ◌%◌, ◌^◌, ◌<◌, ◌≤◌, inl, inr, cond, nat_lt, Bool, true, false, refl, sym, ap, ◌∙◌, arith}
-use Rattle.std.specs.Prelude.{ℤ, pos, negsuc, neg_ℤ, ◌-ℤ◌, ◌*ℤ◌, nat_le}
+use Rattle.std.proofs.Common.{◌≡◌, ℕ, zero, suc, ◌+◌, ◌-◌, ◌*◌, ◌%◌, ◌^◌, ◌<◌, ◌≤◌, inl, inr, cond, nat_lt, Bool, true, false, refl, sym, ap, ◌∙◌, arith}
+use Rattle.std.specs.Prelude.{ℤ, pos, negsuc, not, neg_ℤ, ◌+ℤ◌, ◌-ℤ◌, ◌*ℤ◌, nat_le}
 use Rattle.std.specs.Int.{w64, cast_signed, cast_unsigned, int_wrap}
 use Rattle.std.proofs.lemmas.Bool.{cases_lt, false≢true}
 use Rattle.std.proofs.lemmas.Bool.Decides.{nat_tests}
-use Rattle.std.proofs.lemmas.Int.{ints, wrapping_mul-bits, int_wrap-mul_left, int_wrap-mul_right, of_z-to_z}
+use Rattle.std.proofs.lemmas.Int.{ints, wrapping_add-bits, wrapping_sub-bits, wrapping_mul-bits, int_wrap-add_left, int_wrap-add_right, int_wrap-sub_right, int_wrap-mul_left, int_wrap-mul_right, of_z-to_z}
 use Rattle.std.proofs.lemmas.Nat.{div-add-mod', pow_below}
 use Rattle.std.proofs.Math.Nat.{mod-lt, mod-eq_of_lt, pos_of_ne-zero}
 use Rattle.std.proofs.Math.Bool.{beq}
@@ -14,25 +14,38 @@ use Rattle.elem_descr.specs.WrapLaws.{int_wrap-low_bits}
 use Rattle.elementwise.specs.Operations.{modulo, shifted_left}
 use Rattle.elementwise.specs.Bits.{is_negative, magnitude_of}
 
--- the lowest bits of a product are those of the product of the lowest bits
-pub low_bits-mul : (u v : ℤ) → low_bits 8 (u *ℤ v) ≡ (low_bits 8 u * low_bits 8 v) % 2 ^ 64
-low_bits-mul u v =
-    let x = low_bits 8 u in
-    let y = low_bits 8 v in
-    let same : cast_signed w64 (low_bits 8 (u *ℤ v)) ≡ cast_signed w64 ((x * y) % 2 ^ 64) =
-    sym (int_wrap-low_bits (u *ℤ v))
-    ∙ sym (int_wrap-mul_left w64 u v)
-    ∙ sym (int_wrap-mul_right w64 (int_wrap w64 u) v)
-    ∙ (λ i. int_wrap w64 (int_wrap-low_bits u i *ℤ int_wrap-low_bits v i))
-    ∙ sym (wrapping_mul-bits w64 x y (low_bits-lt 8 u) (low_bits-lt 8 v)) in
-    sym (of_z-to_z w64 (low_bits 8 (u *ℤ v)) (low_bits-lt 8 (u *ℤ v)))
-    ∙ ap (cast_unsigned w64) same
-    ∙ of_z-to_z w64 ((x * y) % 2 ^ 64) (mod-lt (x * y) (omega arith))
+-- the lowest bits of a sum, a difference or a product are what the lowest bits give
+module _ (f : ℕ → ℕ → ℕ) (op : ℤ → ℤ → ℤ) (first : (a b : ℤ) → int_wrap w64 (op (int_wrap w64 a) b) ≡ int_wrap w64 (op a b)) (second : (a b : ℤ) → int_wrap w64 (op a (int_wrap w64 b)) ≡ int_wrap w64 (op a b)) (word : (m n : ℕ) → m < 2 ^ 64 → n < 2 ^ 64 → cast_signed w64 (f m n) ≡ int_wrap w64 (op (cast_signed w64 m) (cast_signed w64 n))) (below : (m n : ℕ) → f m n < 2 ^ 64) where
+  low_bits-op : (u v : ℤ) → low_bits 8 (op u v) ≡ f (low_bits 8 u) (low_bits 8 v)
+  low_bits-op u v =
+      let x = low_bits 8 u in
+      let y = low_bits 8 v in
+      let same : cast_signed w64 (low_bits 8 (op u v)) ≡ cast_signed w64 (f x y) =
+      sym (int_wrap-low_bits (op u v))
+      ∙ sym (first u v)
+      ∙ sym (second (int_wrap w64 u) v)
+      ∙ (λ i. int_wrap w64 (op (int_wrap-low_bits u i) (int_wrap-low_bits v i)))
+      ∙ sym (word x y (low_bits-lt 8 u) (low_bits-lt 8 v)) in
+      sym (of_z-to_z w64 (low_bits 8 (op u v)) (low_bits-lt 8 (op u v)))
+      ∙ ap (cast_unsigned w64) same
+      ∙ of_z-to_z w64 (f x y) (below x y)
 
-pub product_low : (signed : Bool) (x y : ℕ) → x < 2 ^ 64 → y < 2 ^ 64 → (x * y) % 2 ^ 64 ≡ low_bits 8 (integer signed 8 x *ℤ integer signed 8 y)
-product_low signed x y below below' =
-    (λ i. (sym (low_bits-integer signed 8 x below) i * sym (low_bits-integer signed 8 y below') i) % 2 ^ 64)
-    ∙ sym (low_bits-mul (integer signed 8 x) (integer signed 8 y))
+  words_low : (signed other : Bool) (x y : ℕ) → x < 2 ^ 64 → y < 2 ^ 64 → f x y ≡ low_bits 8 (op (integer signed 8 x) (integer other 8 y))
+  words_low signed other x y fits fits' =
+      (λ i. f (sym (low_bits-integer signed 8 x fits) i) (sym (low_bits-integer other 8 y fits') i))
+      ∙ sym (low_bits-op (integer signed 8 x) (integer other 8 y))
+
+pub sum_low : (signed other : Bool) (x y : ℕ) → x < 2 ^ 64 → y < 2 ^ 64 → (x + y) % 2 ^ 64 ≡ low_bits 8 (integer signed 8 x +ℤ integer other 8 y)
+sum_low = words_low (λ x y. (x + y) % 2 ^ 64) (λ a b. a +ℤ b) (int_wrap-add_left w64) (int_wrap-add_right w64) (wrapping_add-bits w64) (λ m n. mod-lt (m + n) (omega arith))
+
+pub difference_low : (signed other : Bool) (x y : ℕ) → x < 2 ^ 64 → y < 2 ^ 64 → (x + (2 ^ 64 - y)) % 2 ^ 64 ≡ low_bits 8 (integer signed 8 x -ℤ integer other 8 y)
+difference_low = words_low (λ x y. (x + (2 ^ 64 - y)) % 2 ^ 64) (λ a b. a -ℤ b) (λ a b. int_wrap-add_left w64 a (neg_ℤ b)) (int_wrap-sub_right w64) (wrapping_sub-bits w64) (λ m n. mod-lt (m + (2 ^ 64 - n)) (omega arith))
+
+pub low_bits-mul : (u v : ℤ) → low_bits 8 (u *ℤ v) ≡ (low_bits 8 u * low_bits 8 v) % 2 ^ 64
+low_bits-mul = low_bits-op (λ x y. (x * y) % 2 ^ 64) (λ a b. a *ℤ b) (int_wrap-mul_left w64) (int_wrap-mul_right w64) (wrapping_mul-bits w64) (λ m n. mod-lt (m * n) (omega arith))
+
+pub product_low : (signed other : Bool) (x y : ℕ) → x < 2 ^ 64 → y < 2 ^ 64 → (x * y) % 2 ^ 64 ≡ low_bits 8 (integer signed 8 x *ℤ integer other 8 y)
+product_low = words_low (λ x y. (x * y) % 2 ^ 64) (λ a b. a *ℤ b) (int_wrap-mul_left w64) (int_wrap-mul_right w64) (wrapping_mul-bits w64) (λ m n. mod-lt (m * n) (omega arith))
 
 -- ---- signs
 
@@ -104,11 +117,17 @@ same_sign true x y below below' some same = elim (cases_lt x (2 ^ 63)) [
   ]
 ]
 
-agree : (a b : Bool) → beq a b ≡ true → a ≡ b
+pub agree : (a b : Bool) → beq a b ≡ true → a ≡ b
 agree true true same = refl
 agree true false same = absurd (false≢true same)
 agree false true same = absurd (false≢true same)
 agree false false same = refl
+
+pub differ : (a b : Bool) → beq a b ≡ false → not a ≡ b
+differ true true other = absurd (false≢true (sym other))
+differ true false other = refl
+differ false true other = refl
+differ false false other = absurd (false≢true (sym other))
 
 pub rest_low : (signed : Bool) (x y : ℕ) (below over : Bool) (size divisor result : ℕ) → x < 2 ^ 64 → y < 2 ^ 64 → below ≡ is_negative signed x → over ≡ is_negative signed y → size ≡ magnitude_of below x → divisor ≡ magnitude_of over y →
     result ≡ magnitude_of over (size % divisor) → (divisor ≡ 0 → ⊥) → beq below over ≡ true → result ≡ low_bits 8 (modulo (integer signed 8 x) (integer signed 8 y))

@@ -11,15 +11,12 @@ use Rattle.elem_descr.specs.declared.scalar.Scalar.TheVariants.{Bool as BoolScal
 use Rattle.elem_descr.specs.Values.{LeafValue, number}
 use Rattle.elem_descr.specs.Encoding.{IsNumber, wrap, number_of}
 use Rattle.elem_descr.specs.Blocks.{item_from}
-use Rattle.shape_strides.specs.declared.layout.Layout.{Layout}
-use Rattle.shape_strides.specs.Layouts.{offsets}
 use Rattle.elementwise.specs.Casts.{can_cast, cast_item}
 use Rattle.machine_numbers.specs.Kinds.{is_text}
-use Rattle.elementwise.specs.Results.{pairwise, value_in, stretched_items}
+use Rattle.elementwise.specs.Results.{pairwise, value_in}
 use Rattle.elementwise.specs.inside.PairPasses.{number_pair}
 use Rattle.elementwise.proofs.AppliedLaws.{pairwise-same}
 use Rattle.elementwise.proofs.LeafLaws.{cast_number, byte_alike, int_alike}
-use Rattle.broadcasting.specs.BroadcastLaws.{stretched-self}
 
 -- a sign makes no difference to the bytes
 pub as_byte : (from to : Scalar) (signed : Bool) → to ≡ Byte signed → number_pair from from (Byte false) (λ a _. wrap (Byte false) a) ≡ number_pair from from to (λ a _. wrap to a)
@@ -32,14 +29,14 @@ as_int from to signed width width' order order' is wide ordered =
     ∙ λ i. number_pair from from (sym is i) (λ a _. wrap (sym is i) a)
 
 -- numbers that are cast, item by item
-pub numbers_cast : (s to : Scalar) (d : Descr) (block : List ℕ) (l : Layout) → d ≡ ScalarDescr s → IsNumber to →
-    pairwise (λ x y. number (wrap to (number_of (value_in x))) ∷ []) (stretched_items d block l l.shape) (stretched_items d block l l.shape) ≡ map (λ offset. cast_item d (ScalarDescr to) (item_from d block offset)) (offsets l)
-numbers_cast s to d block l is number-is =
-    let seen = stretched_items d block l l.shape in
+pub numbers_cast : (s to : Scalar) (d : Descr) (block os : List ℕ) → d ≡ ScalarDescr s → IsNumber to →
+    pairwise (λ x y. number (wrap to (number_of (value_in x))) ∷ []) (map (item_from d block) os) (map (item_from d block) os) ≡ map (λ offset. cast_item d (ScalarDescr to) (item_from d block offset)) os
+numbers_cast s to d block os is number-is =
+    let seen = map (item_from d block) os in
     pairwise-same (λ (x y : List LeafValue). number (wrap to (number_of (value_in x))) ∷ []) seen
     ∙ (λ i. map (λ x. sym (cast_number to (value_in x) number-is) i ∷ []) seen)
-    ∙ (λ i. map (cast_item (sym is i) (ScalarDescr to)) (map (item_from d block) (stretched-self l i)))
-    ∙ map-map (cast_item d (ScalarDescr to)) (item_from d block) (offsets l)
+    ∙ (λ i. map (cast_item (sym is i) (ScalarDescr to)) seen)
+    ∙ map-map (cast_item d (ScalarDescr to)) (item_from d block) os
 
 -- a scalar that is cast is of numbers where the other is
 pub numbers_to : (s to : Scalar) → can_cast (ScalarDescr s) (ScalarDescr to) ≡ true → is_text s ≡ false → IsNumber s × IsNumber to

@@ -1,5 +1,5 @@
 -- What is compared, and what results there are.
-use Rattle.std.proofs.Common.{◌≡◌, ℕ, true, Ok, Err, List, [], ◌∷◌, refl, sym, arith}
+use Rattle.std.proofs.Common.{◌≡◌, ℕ, true, Ok, Err, List, [], ◌∷◌, refl, sym, subst, arith}
 use Rattle.std.specs.declared.cmp.Ordering.{Ordering}
 use Rattle.std.specs.Ordering.{nat_cmp, is_lt, is_gt}
 use Rattle.std.specs.Cmp.Lexicographic.{slice_cmp}
@@ -8,9 +8,12 @@ use Rattle.std.proofs.lemmas.Bool.Decides.{nat_tests}
 use Rattle.elem_descr.specs.declared.refusal.Refusal.{Refusal}
 use Rattle.elem_descr.specs.declared.refusal.Refusal.TheVariants.{NotForThisKind}
 use Rattle.elem_descr.specs.declared.scalar.Scalar.{Scalar}
-use Rattle.elem_descr.specs.declared.scalar.Scalar.TheVariants.{Bool as BoolScalar}
+use Rattle.elem_descr.specs.declared.scalar.Scalar.TheVariants.{Bool as BoolScalar, Byte, Int, Bytes}
 use Rattle.elem_descr.specs.declared.descr.Descr.{Descr}
 use Rattle.elem_descr.specs.declared.descr.Descr.TheVariants.{Scalar as ScalarDescr}
+use Rattle.elem_descr.specs.Encoding.{IsNumber}
+use Rattle.machine_numbers.specs.Kinds.{little}
+use Rattle.elementwise.specs.inside.Works.{AreComparable}
 use Rattle.elem_descr.specs.RefusalLaws.{same_answer, check_passed, check_test}
 use Rattle.broadcasting.specs.Broadcasts.{common_shape}
 use Rattle.elementwise.specs.Comparisons.{text_below}
@@ -32,6 +35,17 @@ pub compared_bools : (l r s : Scalar) → compared_type l r ≡ Ok s → (are_co
 unfolding compared_type
 compared_bools l r s found =
     (check_test (are_comparable l r) NotForThisKind (Ok BoolScalar) s found, sym (same_answer BoolScalar s (check_passed (are_comparable l r) NotForThisKind (Ok BoolScalar) s found)))
+
+-- element types that have these scalars
+pub comparable_scalars : (d d' : Descr) (a b : Scalar) → d ≡ ScalarDescr a → d' ≡ ScalarDescr b → are_comparable a b ≡ true → AreComparable d d'
+comparable_scalars d d' a b is is' can = subst (λ e. AreComparable e d') (sym is) (subst (AreComparable (ScalarDescr a)) (sym is') can)
+
+-- numbers are compared with those of the same scalar in another byte order
+pub comparable_numbers : (a : Scalar) → IsNumber a → are_comparable a (little a) ≡ true
+comparable_numbers BoolScalar is = refl
+comparable_numbers (Byte signed) is = refl
+comparable_numbers (Int signed width order) is = refl
+comparable_numbers (Bytes n) never = absurd never
 
 -- ---- results
 

@@ -36,6 +36,9 @@ over-made t d shape values o block same descr shape-is order is read wrote =
 pub made-as : (d : Descr) (shape : List ℕ) (xs ys : List (List LeafValue)) (result : Result Owned Refusal) → xs ≡ ys → IfOk result (IsMade d shape xs) → IfOk result (IsMade d shape ys)
 made-as d shape xs ys result same made = subst (λ values. IfOk result (IsMade d shape values)) same made
 
+pub made-in : (d : Descr) (shape shape' : List ℕ) (xs ys : List (List LeafValue)) (result : Result Owned Refusal) → shape ≡ shape' → xs ≡ ys → IfOk result (IsMade d shape xs) → IfOk result (IsMade d shape' ys)
+made-in d shape shape' xs ys result there same made = subst (λ s. IfOk result (IsMade d s ys)) there (made-as d shape xs ys result same made)
+
 -- what is told of a result
 module _ (d : Descr) (shape : List ℕ) (values : List (List LeafValue)) where
   pub made-gives : (result : Result Owned Refusal) (there : Result (Descr × List ℕ) Refusal) → there ≡ Ok (d, shape) → IfOk result (IsMade d shape values) → IfErr result (λ refusal. refusal ≡ OutOfMemory) → Gives (λ o. (o.descr, o.layout.shape)) result there

@@ -4,19 +4,29 @@ use Rattle.std.specs.List.{concat, flat_map, AllByRecursion as Each}
 use Rattle.std.proofs.lemmas.List.{length-replicate, take-take}
 use Rattle.std.proofs.lemmas.Simd.{map-map}
 use Rattle.std.proofs.lemmas.List.Elements.{All-from_recursion}
-use Rattle.elem_descr.specs.declared.descr.Descr.{Descr}
 use Rattle.elem_descr.specs.declared.descr.Descr.TheVariants.{Scalar as ScalarDescr}
 use Rattle.elem_descr.specs.declared.scalar.Scalar.{Scalar}
 use Rattle.elem_descr.specs.Values.{LeafValue}
 use Rattle.elem_descr.specs.Encoding.{size, decode, encode}
 use Rattle.elem_descr.specs.Blocks.{item_from}
 use Rattle.raw_block.specs.Bytes.{item_at}
-use Rattle.shape_strides.specs.Layouts.{multiples}
+use Rattle.shape_strides.specs.Indexes.{count}
+use Rattle.shape_strides.specs.Layouts.{offsets, multiples}
 use Rattle.elem_descr.specs.Items.{item_size, encode_item}
 use Rattle.elem_descr.specs.ByteLaws.{length-encode, one-encoded}
 use Rattle.elementwise.specs.Results.{pairwise, value_in}
 use Rattle.elementwise.specs.inside.Passes.{put_all}
+use Rattle.shape_strides.specs.LayoutLaws.{length-offsets}
+use Rattle.overlap_copy.specs.ItemLists.{items}
+use Rattle.overlap_copy.specs.declared.owned.Owned.{Owned}
+use Rattle.elementwise.specs.declared.pairing.Pairing.{Pairing}
+use Rattle.elementwise.specs.declared.rows.Operands.{Operands}
+use Rattle.elementwise.specs.inside.Made.{IsMade}
+use Rattle.elementwise.specs.inside.Operands.{pairs_of, made_of_all}
+use Rattle.elementwise.specs.inside.Works.{left_of, right_of, target_of, gives, pair_made, CanPair}
+use Rattle.elementwise.specs.inside.WorkLaws.{pair_reads_back}
 use Rattle.elementwise.specs.inside.PairPasses.{value_pair, pair_from}
+use Rattle.elementwise.proofs.MadeLaws.{over-made}
 use Rattle.elementwise.proofs.AppendedLaws.{put-rows}
 use Rattle.elementwise.proofs.RowLaws.{length-put_all, landed, rows-in, rows-lie}
 use Rattle.elementwise.proofs.PairLaws.{length-pairwise, map-pairwise, pairwise-map}
@@ -86,16 +96,25 @@ all_appended left right to gives a b xs ys bytes n many many' back wrote =
       wrote ∙ pairs-encoded left right to gives a b xs ys,
     )
 
--- the same of two operands that are stretched, as the code has them
-module _ (left right to : Scalar) (gives : LeafValue → LeafValue → LeafValue) (d d' : Descr) (a b xs ys xs' ys' : List ℕ) where
-  abbrev all-given : List (List LeafValue)
-  all-given = pairwise (λ x y. gives (value_in x) (value_in y) ∷ []) (map (item_from d a) xs') (map (item_from d' b) ys')
+-- ---- arrays of what is made of pairs
 
-  pub all_stretched : (bytes : List ℕ) (n : ℕ) → d ≡ ScalarDescr left → d' ≡ ScalarDescr right → length xs ≡ n → length ys ≡ n → xs ≡ xs' → ys ≡ ys' →
-      ((x y : LeafValue) → decode to (encode to (gives x y)) ≡ gives x y) → bytes ≡ concat (pairwise (pair_from (value_pair left right to gives) (item_size d) (item_size d') a b) xs ys) →
-      (length bytes ≡ n * size to) × (map (item_from (ScalarDescr to) bytes) (multiples (size to) n) ≡ all-given) × (bytes ≡ flat_map (encode_item (ScalarDescr to)) all-given)
-  all_stretched bytes n one two many many' at at' back wrote =
-      let all = all_appended left right to gives a b xs ys bytes n many many' back (wrote ∙ λ i. concat (pairwise (pair_from (value_pair left right to gives) (item_size (one i)) (item_size (two i)) a b) xs ys)) in
-      let shown : pairwise (λ x y. gives (value_in x) (value_in y) ∷ []) (map (item_from (ScalarDescr left) a) xs) (map (item_from (ScalarDescr right) b) ys) ≡ all-given =
-      λ i. pairwise (λ x y. gives (value_in x) (value_in y) ∷ []) (map (item_from (sym one i) a) (at i)) (map (item_from (sym two i) b) (at' i)) in
-      (all.0, all.1 ∙ shown, all.2 ∙ ap (flat_map (encode_item (ScalarDescr to))) shown)
+module _ (p : Pairing) (o : Operands) (can : CanPair p) (is : o.left.descr.now ≡ ScalarDescr (left_of p)) (is' : o.right.descr.now ≡ ScalarDescr (right_of p)) where
+  abbrev all-given : List (List LeafValue)
+  all-given = pairwise (λ x y. gives p (value_in x) (value_in y) ∷ []) (items o.left) (items o.right)
+
+  pub all_paired : (block : List ℕ) → block ≡ made_of_all (pair_made p) o →
+      (length block ≡ pairs_of o * size (target_of p)) × (map (item_from (ScalarDescr (target_of p)) block) (multiples (size (target_of p)) (pairs_of o)) ≡ all-given) × (block ≡ flat_map (encode_item (ScalarDescr (target_of p))) all-given)
+  all_paired block wrote =
+      let l = o.left.layout.now in let r = o.right.layout.now in
+      let a = o.left.block.now in let b = o.right.block.now in
+      let all = all_appended (left_of p) (right_of p) (target_of p) (gives p) a b (offsets l) (offsets r) block (count l.shape) (length-offsets l) (length-offsets r ∙ ap count (sym o.even)) (λ x y. pair_reads_back p x y can)
+      (wrote ∙ λ i. concat (pairwise (pair_from (pair_made p) (item_size (is i)) (item_size (is' i)) a b) (offsets l) (offsets r))) in
+      let shown : pairwise (λ x y. gives p (value_in x) (value_in y) ∷ []) (map (item_from (ScalarDescr (left_of p)) a) (offsets l)) (map (item_from (ScalarDescr (right_of p)) b) (offsets r)) ≡ all-given =
+      λ i. pairwise (λ x y. gives p (value_in x) (value_in y) ∷ []) (map (item_from (sym is i) a) (offsets l)) (map (item_from (sym is' i) b) (offsets r)) in
+      (all.0, all.1 ∙ shown, all.2 ∙ ap (flat_map (encode_item (ScalarDescr (target_of p)))) shown)
+
+  pub pairs_made : (to : Scalar) (block : List ℕ) (made : Owned) → to ≡ target_of p → block ≡ made_of_all (pair_made p) o →
+      made.descr ≡ ScalarDescr to → made.layout.shape ≡ o.left.layout.now.shape → offsets made.layout ≡ multiples (size to) (pairs_of o) → made.block ≡ block → IsMade (ScalarDescr (target_of p)) o.left.layout.now.shape all-given made
+  pairs_made to block made same wrote descr shape order held =
+      let all = all_paired block wrote in
+      over-made (ScalarDescr to) (ScalarDescr (target_of p)) o.left.layout.now.shape all-given made block (ap ScalarDescr same) descr shape order held all.1 all.2

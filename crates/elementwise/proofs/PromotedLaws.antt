@@ -19,7 +19,8 @@ use Rattle.machine_numbers.specs.declared.operators.UnOp.{UnOp}
 use Rattle.machine_numbers.specs.declared.operators.UnOp.TheVariants.{Negate, Invert}
 use Rattle.elementwise.specs.Casts.{can_cast}
 use Rattle.machine_numbers.specs.Kinds.{is_bool, is_text, is_signed, little}
-use Rattle.elementwise.specs.Promotion.{integer_type, mixed_type, common_integers, common_type, serves_bools, is_division, promote, serves_one, promote_one}
+use Rattle.elementwise.specs.Promotion.{integer_type, mixed_type, common_integers, common_type, is_division, promote, promote_one}
+use Rattle.elementwise.specs.Operations.{serves_bools, serves_one}
 use Rattle.elementwise.specs.Results.{scalar_of, binary_result, unary_result}
 use Rattle.elementwise.specs.inside.PairPasses.{IsNative}
 

@@ -8,7 +8,7 @@ use Rattle.elem_descr.specs.declared.descr.Descr.TheVariants.{Scalar as ScalarDe
 use Rattle.elem_descr.specs.declared.scalar.Scalar.TheVariants.{Bool as BoolScalar}
 use Rattle.elem_descr.specs.declared.scalar.Order.TheVariants.{Little}
 use Rattle.elem_descr.specs.Values.{LeafValue, number}
-use Rattle.elem_descr.specs.Encoding.{wrap, number_of, number_in}
+use Rattle.elem_descr.specs.Encoding.{number_in}
 use Rattle.elem_descr.specs.Blocks.{item_from}
 use Rattle.elem_descr.specs.ByteLaws.{truth-twice}
 use Rattle.shape_strides.specs.declared.layout.Layout.{Layout}
@@ -21,7 +21,8 @@ use Rattle.broadcasting.specs.Broadcasts.{can_stretch, broadcast_index}
 use Rattle.broadcasting.specs.BroadcastLaws.{IsIndex-broadcast, stretched-self}
 use Rattle.broadcasting.specs.Shrinking.{IsStretchOf}
 use Rattle.overlap_copy.specs.declared.owned.Owned.{Owned}
-use Rattle.elementwise.specs.Results.{stretched_items, pairwise, value_in}
+use Rattle.elementwise.specs.Casts.{cast_item}
+use Rattle.elementwise.specs.Results.{stretched_items, pairwise}
 use Rattle.elementwise.specs.inside.Shrunk.{IsShrunk}
 use Rattle.elementwise.specs.inside.Made.{IsMade}
 use Rattle.elementwise.proofs.PairLaws.{pairwise-map, get_or-pairwise}
@@ -100,14 +101,9 @@ each_spread f b d block l small once made is there =
     ∙ (λ i. map read (view_through (offsets small) (sym is.shape_is i) l.shape (broadcast_index (sym is.shape_is i))))
     ∙ ap (map read) (is.places ∙ stretched-self l)
 
-pub bools_again : (d : Descr) (block : List ℕ) (l : Layout) (shape : List ℕ) → d ≡ ScalarDescr BoolScalar →
-    pairwise (λ x y. number (wrap BoolScalar (number_of (value_in x))) ∷ []) (stretched_items d block l shape) (stretched_items d block l shape) ≡ stretched_items d block l shape
-bools_again d block l shape is =
-    let os = view_through (offsets l) l.shape shape (broadcast_index l.shape) in
-    let again = λ (x : List LeafValue). number (wrap BoolScalar (number_of (value_in x))) ∷ [] in
-    pairwise-same (λ (x y : List LeafValue). again x) (stretched_items d block l shape)
-    ∙ (λ i. map again (map (item_from (is i) block) os))
-    ∙ map-map again (item_from (ScalarDescr BoolScalar) block) os
+pub bools_again : (d : Descr) (block os : List ℕ) → d ≡ ScalarDescr BoolScalar → map (λ o. cast_item d (ScalarDescr BoolScalar) (item_from d block o)) os ≡ map (item_from d block) os
+bools_again d block os is =
+    (λ i. map (λ o. cast_item (is i) (ScalarDescr BoolScalar) (item_from (is i) block o)) os)
     ∙ (λ i. map (λ o. number (pos (truth-twice (number_in Little 1 (take 1 (take 1 (drop o block)))) i)) ∷ []) os)
     ∙ λ i. map (item_from (sym is i) block) os
 

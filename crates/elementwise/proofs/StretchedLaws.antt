@@ -8,8 +8,9 @@ use Rattle.elem_descr.specs.declared.refusal.Refusal.TheVariants.{OutOfMemory}
 use Rattle.shape_strides.specs.declared.layout.Layout.{Layout}
 use Rattle.shape_strides.specs.Indexes.{indexes, rank}
 use Rattle.shape_strides.specs.Layouts.{offsets}
-use Rattle.view_ops.specs.Views.{View, view_through, IsViewOf, GivesView}
+use Rattle.view_ops.specs.Views.{View, IsViewOf, GivesView}
 use Rattle.broadcasting.specs.Broadcasts.{can_stretch, broadcast_index, stretched}
+use Rattle.elementwise.specs.inside.Shrunk.{IsStretched}
 
 -- the view that there is
 abbrev wide : Layout → List ℕ → View
@@ -22,14 +23,6 @@ stretched-is from target can = rw can refl
 seen : (old new : Layout) (shape : List ℕ) → IsTrue (can_stretch old.shape shape) → GivesView old (Ok new) (stretched old.shape shape) → IsViewOf old new (wide old shape)
 seen old new shape can gives = subst (GivesView old (Ok new)) (stretched-is old.shape shape can) gives
 
-pub given_shape : (old : Layout) (shape : List ℕ) (result : Result Layout Refusal) → IsTrue (can_stretch old.shape shape) → GivesView old result (stretched old.shape shape) → IfOk result (λ l. l.shape ≡ shape)
-given_shape old shape (Ok new) can gives = (seen old new shape can gives).shape
-given_shape old shape (Err e) can gives = tt
-
-pub given_offsets : (old : Layout) (shape : List ℕ) (result : Result Layout Refusal) → IsTrue (can_stretch old.shape shape) → GivesView old result (stretched old.shape shape) → IfOk result (λ l. offsets l ≡ view_through (offsets old) old.shape shape (broadcast_index old.shape))
-given_offsets old shape (Ok new) can gives = (seen old new shape can gives).places
-given_offsets old shape (Err e) can gives = tt
-
 pub inside : (old new : Layout) (view : View) (len width : ℕ) → IsViewOf old new view → All (λ offset. offset + width ≤ len) (offsets old) → All (λ offset. offset + width ≤ len) (offsets new)
 inside old new view len width is ends k d below =
     let through = λ (index : List ℕ). get_or (offsets old) (rank old.shape (view.leads index)) 0 in
@@ -37,10 +30,11 @@ inside old new view len width is ends k d below =
     let there = get_or (indexes view.shape) k [] in
     subst (λ o. o + width ≤ len) (sym (ap (λ os. get_or os k d) is.places ∙ get_or-map through (indexes view.shape) k [] d low)) (ends (rank old.shape (view.leads there)) 0 (is.inside k [] low))
 
-pub given_inside : (old : Layout) (shape : List ℕ) (result : Result Layout Refusal) → IsTrue (can_stretch old.shape shape) → GivesView old result (stretched old.shape shape) →
-    IfOk result (λ l. (len width : ℕ) → All (λ offset. offset + width ≤ len) (offsets old) → All (λ offset. offset + width ≤ len) (offsets l))
-given_inside old shape (Ok new) can gives = λ len width ends. inside old new (wide old shape) len width (seen old new shape can gives) ends
-given_inside old shape (Err e) can gives = tt
+pub given_stretched : (old : Layout) (shape : List ℕ) (result : Result Layout Refusal) → IsTrue (can_stretch old.shape shape) → GivesView old result (stretched old.shape shape) → IfOk result (λ l. IsStretched l old shape)
+given_stretched old shape (Ok new) can gives =
+    let is = seen old new shape can gives in
+    record { shape_is = is.shape; places = is.places; inside = λ len width ends. inside old new (wide old shape) len width is ends }
+given_stretched old shape (Err e) can gives = tt
 
 pub given_refusal : (old : Layout) (shape : List ℕ) (result : Result Layout Refusal) → IsTrue (can_stretch old.shape shape) → GivesView old result (stretched old.shape shape) → IfErr result (λ refusal. refusal ≡ OutOfMemory)
 given_refusal old shape (Ok new) can gives = tt

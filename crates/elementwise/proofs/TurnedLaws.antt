@@ -1,11 +1,12 @@
 -- What is made of pairs column by column, and read in C order.
-use Rattle.std.proofs.Common.{◌≡◌, ◌+◌, ◌*◌, ◌<◌, ℕ, zero, suc, List, [], ◌∷◌, ◌++◌, Result, Ok, Err, IfOk, length, reverse, get_or, take, drop, sym, ap, ◌∙◌, arith, zero-mul, suc-mul, mul_comm, length-append}
+use Rattle.std.proofs.Common.{◌≡◌, ◌+◌, ◌*◌, ◌<◌, ℕ, zero, suc, List, [], ◌∷◌, ◌++◌, Option, Some, IfSome, length, reverse, get_or, take, drop, sym, ap, subst, ◌∙◌, arith, zero-mul, suc-mul, mul_comm, length-append}
 use Rattle.std.specs.List.{concat, AllByRecursion as Each}
 use Rattle.std.proofs.Math.Seq.{take-append_seam, drop-append-add}
 use Rattle.std.proofs.lemmas.List.{get_or-map}
 use Rattle.std.proofs.lemmas.List.FromFn.{length-map-range_with_len, get_or-map-range_with_len}
 use Rattle.raw_block.specs.Bytes.{item_at}
 use Rattle.raw_block.specs.JoinedLaws.{all_joined}
+use Rattle.shape_strides.specs.declared.layout.Layout.{Layout}
 use Rattle.shape_strides.specs.Contiguity.{fortran_order}
 use Rattle.shape_strides.specs.Indexes.{count, rank}
 use Rattle.shape_strides.specs.IndexLaws.{rank-lt, index_at}
@@ -13,13 +14,15 @@ use Rattle.shape_strides.specs.Layouts.{multiples}
 use Rattle.shape_strides.specs.ReverseLaws.{count-reverse, IsIndex-reverse}
 use Rattle.overlap_copy.specs.Assignments.{items_at}
 use Rattle.overlap_copy.specs.FortranLaws.{length-fortran, fortran-at}
+use Rattle.elementwise.specs.declared.operands.Layouts.{Layouts}
+use Rattle.elementwise.specs.inside.Made.{IsTurned}
 use Rattle.elementwise.specs.Results.{pairwise}
 use Rattle.elementwise.proofs.PairLaws.{length-pairwise, get_or-pairwise}
 
--- what holds of a result by two clauses of its call
-pub both-ok : {A E : Type 0} (P Q R : A → Type 0) (result : Result A E) → ((a : A) → P a → Q a → R a) → IfOk result P → IfOk result Q → IfOk result R
-both-ok P Q R (Ok a) so p q = so a p q
-both-ok P Q R (Err e) so p q = tt
+-- layouts in reverse, where there are such
+pub both_turned : (found : Option Layouts) (turned : Layouts) (l r : Layout) → found ≡ Some turned → IfSome found (λ t. IsTurned t.first l) → IfSome found (λ t. IsTurned t.second r) → IsTurned turned.first l × IsTurned turned.second r
+both_turned found turned l r is first second =
+    (subst (λ (o : Option Layouts). IfSome o (λ t. IsTurned t.first l)) is first, subst (λ (o : Option Layouts). IfSome o (λ t. IsTurned t.second r)) is second)
 
 -- ---- items of one width, joined
 

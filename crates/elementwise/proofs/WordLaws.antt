@@ -10,7 +10,7 @@ use Rattle.elem_descr.specs.declared.scalar.Scalar.{Scalar}
 use Rattle.elem_descr.specs.declared.scalar.Scalar.TheVariants.{Bool as BoolScalar, Byte, Int, Bytes}
 use Rattle.elem_descr.specs.Encoding.{IsNumber, width_size, integer, low_bits, wrap, truth}
 use Rattle.elem_descr.specs.EncodingLaws.{low_bits-integer, truth_suc}
-use Rattle.elem_descr.specs.WrapLaws.{integer-differs}
+use Rattle.elem_descr.specs.WrapLaws.{integer-differs, integer-fits}
 use Rattle.machine_numbers.specs.declared.operators.BinOp.{BinOp}
 use Rattle.machine_numbers.specs.declared.operators.BinOp.TheVariants.{Add, Subtract, Multiply, FloorDivide, Modulo, And, Or, Xor, ShiftLeft, ShiftRight, Divide}
 use Rattle.machine_numbers.specs.Kinds.{is_bool}
@@ -103,9 +103,12 @@ applied_one (Byte signed) z v r is small made low = made ∙ ap (λ n. wrap (Byt
 applied_one (Int signed width order) z v r is small made low = made ∙ ap (λ n. wrap (Int signed width order) (pos n)) low ∙ wrap-low (Int signed width order) z is refl
 applied_one (Bytes n) z v r never small made low = absurd never
 
-pub near_zero : (c b : ℤ) → IsTruth b → (unsigned_abs (c -ℤ pos 0) < 2 ^ 64) × (unsigned_abs (c -ℤ pos 1) < 2 ^ 64) → unsigned_abs (c -ℤ b) < 2 ^ 64
-near_zero c b (inl is) small = subst (λ z. unsigned_abs (c -ℤ z) < 2 ^ 64) (sym is) small.0
-near_zero c b (inr is) small = subst (λ z. unsigned_abs (c -ℤ z) < 2 ^ 64) (sym is) small.1
+few_bits : (n : ℕ) → n < 2 ^ 64 → (unsigned_abs (integer true 8 n -ℤ pos 0) < 2 ^ 64) × (unsigned_abs (integer true 8 n -ℤ pos 1) < 2 ^ 64)
+few_bits n below = let fits = integer-fits true 8 n (omega arith) below in (omega (arith, ints, fits.0, fits.1), omega (arith, ints, fits.0, fits.1))
+
+pub near_zero : (n : ℕ) (b : ℤ) → n < 2 ^ 64 → IsTruth b → unsigned_abs (integer true 8 n -ℤ b) < 2 ^ 64
+near_zero n b below (inl is) = subst (λ z. unsigned_abs (integer true 8 n -ℤ z) < 2 ^ 64) (sym is) (few_bits n below).0
+near_zero n b below (inr is) = subst (λ z. unsigned_abs (integer true 8 n -ℤ z) < 2 ^ 64) (sym is) (few_bits n below).1
 
 -- ---- bits of both
 

@@ -1,5 +1,5 @@
 -- Operations on numbers by their values, whose results are wrapped to a scalar.
-use Rattle.std.specs.Prelude.{ℕ, zero, suc, ◌*◌, ◌^◌, nat_lt, ℤ, pos, negsuc, ◌+ℤ◌, ◌-ℤ◌, ◌*ℤ◌, neg_ℤ, if◌then◌else◌, bit_and, bit_or, bit_xor}
+use Rattle.std.specs.Prelude.{ℕ, zero, suc, ◌*◌, ◌^◌, nat_lt, ℤ, pos, negsuc, ◌+ℤ◌, ◌-ℤ◌, ◌*ℤ◌, neg_ℤ, Bool, true, false, not, ◌&&◌, if◌then◌else◌, bit_and, bit_or, bit_xor}
 use Rattle.std.specs.Int.{int_div_euclid}
 use Rattle.elem_descr.specs.declared.scalar.Scalar.{Scalar}
 use Rattle.elem_descr.specs.Encoding.{size, wrap, low_bits}
@@ -7,7 +7,7 @@ use Rattle.machine_numbers.specs.declared.operators.BinOp.{BinOp}
 use Rattle.machine_numbers.specs.declared.operators.BinOp.TheVariants.{Add, Subtract, Multiply, FloorDivide, Modulo, And, Or, Xor, ShiftLeft, ShiftRight, Divide}
 use Rattle.machine_numbers.specs.declared.operators.UnOp.{UnOp}
 use Rattle.machine_numbers.specs.declared.operators.UnOp.TheVariants.{Negate, Invert}
-use Rattle.machine_numbers.specs.Kinds.{is_bool}
+use Rattle.machine_numbers.specs.Kinds.{is_bool, is_text}
 
 -- ---- division
 
@@ -61,6 +61,15 @@ exact Divide scalar a b = pos 0
 abbrev pub binary : BinOp → Scalar → ℤ → ℤ → ℤ
 binary op scalar a b = wrap scalar (exact op scalar a b)
 
+-- which operations there are of two bools
+abbrev pub serves_bools : BinOp → Bool
+serves_bools Subtract = false
+serves_bools FloorDivide = false
+serves_bools Modulo = false
+serves_bools ShiftLeft = false
+serves_bools ShiftRight = false
+serves_bools _ = true
+
 -- on one number of the scalar: its distance from 0 the other way, and all its bits complemented; of a bool the other bool
 abbrev pub exact_one : UnOp → Scalar → ℤ → ℤ
 exact_one Negate scalar a = pos 0 -ℤ a
@@ -68,3 +77,8 @@ exact_one Invert scalar a = (if is_bool scalar then pos 1 else negsuc 0) -ℤ a
 
 abbrev pub unary : UnOp → Scalar → ℤ → ℤ
 unary op scalar a = wrap scalar (exact_one op scalar a)
+
+-- which operations there are of one number
+abbrev pub serves_one : UnOp → Scalar → Bool
+serves_one Negate scalar = not (is_text scalar) && not (is_bool scalar)
+serves_one Invert scalar = not (is_text scalar)

@@ -10,9 +10,9 @@ use Rattle.elem_descr.specs.Encoding.{size}
 use Rattle.elem_descr.specs.Refusals.{◌>>=◌, check}
 use Rattle.machine_numbers.specs.Kinds.{is_bool, is_text, is_signed, little}
 use Rattle.machine_numbers.specs.declared.operators.BinOp.{BinOp}
-use Rattle.machine_numbers.specs.declared.operators.BinOp.TheVariants.{Subtract, FloorDivide, Modulo, ShiftLeft, ShiftRight, Divide}
+use Rattle.machine_numbers.specs.declared.operators.BinOp.TheVariants.{Divide}
 use Rattle.machine_numbers.specs.declared.operators.UnOp.{UnOp}
-use Rattle.machine_numbers.specs.declared.operators.UnOp.TheVariants.{Negate, Invert}
+use Rattle.elementwise.specs.Operations.{serves_bools, serves_one}
 
 -- ---- kinds
 
@@ -56,15 +56,6 @@ common_type left right =
 
 -- ---- the type of a result
 
--- which operations there are of two bools
-abbrev pub serves_bools : BinOp → Bool
-serves_bools Subtract = false
-serves_bools FloorDivide = false
-serves_bools Modulo = false
-serves_bools ShiftLeft = false
-serves_bools ShiftRight = false
-serves_bools _ = true
-
 abbrev pub is_division : BinOp → Bool
 is_division Divide = true
 is_division _ = false
@@ -91,11 +82,6 @@ compared_type left right = do
 abbrev pub literal_type : Scalar → Scalar
 literal_type BoolScalar = Int true Eight Little
 literal_type scalar = little scalar
-
--- which operations there are of one number
-abbrev pub serves_one : UnOp → Scalar → Bool
-serves_one Negate scalar = not (is_text scalar) && not (is_bool scalar)
-serves_one Invert scalar = not (is_text scalar)
 
 -- the type of what an operation gives on one scalar
 unfoldable pub promote_one : UnOp → Scalar → Result Scalar Refusal

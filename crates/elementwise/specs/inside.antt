@@ -3,7 +3,6 @@ pub mod Passes
 pub mod LeafCasts
 pub mod PairPasses
 pub mod PairLaws
-pub mod ByteStrings
 pub mod Shrunk
 pub mod Sides
 pub mod Operands

@@ -5,6 +5,7 @@ ghost use Rattle.elem_descr.specs.Blocks.{item_from};
 ghost use Rattle.elementwise.specs.Casts.{cast_item};
 
 use crate::casts::leaf_of;
+use crate::operands::note_bytes;
 use elem_descr::Descr;
 use raw_block::RawBlock;
 
@@ -38,20 +39,12 @@ pub fn are_alike(a: &Descr, b: &Descr) -> bool
     true
 }
 
-/// Whether a cast leaves the items in bytes as they are, byte for byte.
-fn keeps_bytes(bytes: &[u8], from: &Descr, to: &Descr) -> bool
-    ensures alike { IsTrue result → AreAlike from.now to.now }
-    ensures items { IsTrue result → (offset : ℕ) → cast_item from.now to.now (item_from from.now bytes.now offset) ≡ item_from to.now bytes.now offset }
-{
-    let _len = bytes.len();
-    are_alike(from, to)
-}
-
 /// Whether a cast leaves the items of a block as they are, byte for byte.
 pub fn keeps_items(block: &RawBlock, from: &Descr, to: &Descr) -> bool
     ensures alike { IsTrue result → AreAlike from.now to.now }
     ensures items { IsTrue result → (offset : ℕ) → offset + item_size from.now ≤ length block.now
         → cast_item from.now to.now (item_from from.now block.now offset) ≡ item_from to.now block.now offset }
 {
-    keeps_bytes(block.bytes(), from, to)
+    note_bytes(block);
+    are_alike(from, to)
 }

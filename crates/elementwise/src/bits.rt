@@ -1,40 +1,8 @@
 //! Operations on numbers that are given by their lowest 64 bits, above which the bits are those of their sign.
-ghost use Rattle.std.specs.Prelude.{◌≡◌, ◌≤◌, ◌/◌, ◌^◌, nat_lt, if◌then◌else◌, negsuc, ◌+ℤ◌, ◌-ℤ◌, ◌*ℤ◌, Bool, int_lt};
+ghost use Rattle.std.specs.Prelude.{◌≡◌, ◌≤◌, ◌/◌, ◌^◌, nat_lt, if◌then◌else◌, Bool, int_lt};
 ghost use Rattle.elem_descr.specs.Encoding.{integer, low_bits};
 ghost use Rattle.elementwise.specs.Operations.{floor_quotient, modulo, shifted_left, shifted_right};
 ghost use Rattle.elementwise.specs.Bits.{is_negative, magnitude_of};
-
-/// The bits of a sum.
-#[inline(always)]
-pub(crate) fn sum(left: u64, right: u64) -> u64
-    ensures { (signed : Bool) → result ≡ low_bits 8 (integer signed 8 left +ℤ integer signed 8 right) }
-{
-    left.wrapping_add(right)
-}
-
-/// The bits of a difference.
-#[inline(always)]
-pub(crate) fn difference(left: u64, right: u64) -> u64
-    ensures { (signed : Bool) → result ≡ low_bits 8 (integer signed 8 left -ℤ integer signed 8 right) }
-{
-    left.wrapping_sub(right)
-}
-
-/// The bits of -1 less a number.
-#[inline(always)]
-pub(crate) fn complement(bits: u64) -> u64
-    ensures { (signed : Bool) → result ≡ low_bits 8 (negsuc 0 -ℤ integer signed 8 bits) }
-{
-    u64::MAX - bits
-}
-
-/// The bits of a product.
-#[inline(always)]
-pub(crate) fn product(left: u64, right: u64) -> u64
-    ensures { (signed : Bool) → result ≡ low_bits 8 (integer signed 8 left *ℤ integer signed 8 right) }
-{
-    left.wrapping_mul(right)
-}
 
 /// Whether bits are those of a number below 0.
 #[inline(always)]

@@ -28,7 +28,7 @@ impl<S: Number, T: Number> Kernel<S, S, T> for Casting {
 pub(crate) fn cast<S: Number, P: Ordered>(
     scalar: &Scalar,
     block: BlockBuilder,
-    operands: Operands<'_>,
+    operands: Operands<'_, '_>,
 ) -> BlockBuilder
     requires number { IsNumber scalar.now }
     requires left { item_size operands.left.descr.now ≡ S.WIDTH }

@@ -17,9 +17,10 @@ ghost use Rattle.elementwise.specs.inside.LeafCasts.{source, HasSource};
 ghost use Rattle.elementwise.specs.inside.Made.{IsMade};
 
 use crate::castable::can_cast;
+use crate::made::made;
 use crate::pairing::{Pairing, Work};
+use crate::rows::Operands;
 use crate::runs_of_leaves::{LeafCast, cast_leaf};
-use crate::typed::make_stretched;
 use elem_descr::{Descr, Leaf, Refusal, Scalar};
 use machine_numbers::is_text;
 use overlap_copy::{Items, Owned};
@@ -111,7 +112,7 @@ fn cast_records(alloc: Global, from: Items<'_>, to: &Descr) -> Result<Owned, Ref
 }
 
 /// Numbers as those of another scalar, each pushed once.
-fn cast_numbers(
+pub(crate) fn cast_numbers(
     alloc: Global,
     from: Items<'_>,
     scalar: &Scalar,
@@ -128,7 +129,11 @@ fn cast_numbers(
         work: Work::Cast(*to),
         scalar: *scalar,
     };
-    make_stretched(alloc, &pairing, from, from, &from.layout.shape)
+    let operands = Operands {
+        left: from,
+        right: from,
+    };
+    made(alloc, &pairing, operands)
 }
 
 /// Items as items to which they can be cast.

@@ -1,285 +1,183 @@
 //! Comparisons of all items of arrays.
-ghost use Rattle.std.specs.Prelude.{◌≡◌, ℕ, [], ◌∷◌, ◌<◌, true, Ok, not, map, slice_index_or, IfOk, IfErr, IsTrue};
+ghost use Rattle.std.specs.Prelude.{◌≡◌, map, IfOk, IfErr};
 ghost use Rattle.std.specs.List.{flat_map};
 ghost use Rattle.elem_descr.specs.declared.refusal.Refusal.TheVariants.{OutOfMemory};
 ghost use Rattle.elem_descr.specs.declared.descr.Descr.TheVariants.{Scalar as ScalarDescr};
-ghost use Rattle.elem_descr.specs.declared.scalar.Order.TheVariants.{Little};
-ghost use Rattle.elem_descr.specs.declared.scalar.Width.TheVariants.{Eight};
-ghost use Rattle.elem_descr.specs.declared.scalar.Scalar.TheVariants.{Bool as BoolScalar, Int, Bytes};
+ghost use Rattle.elem_descr.specs.declared.scalar.Scalar.TheVariants.{Bool as BoolScalar, Bytes};
 ghost use Rattle.elem_descr.specs.Encoding.{IsNumber};
 ghost use Rattle.elem_descr.specs.Items.{item_size, encode_item};
 ghost use Rattle.elem_descr.specs.Blocks.{item_from};
 ghost use Rattle.elem_descr.specs.Refusals.{Gives};
 ghost use Rattle.shape_strides.specs.declared.memory_order.MemoryOrder.TheVariants.{C};
 ghost use Rattle.shape_strides.specs.Layouts.{offsets};
-ghost use Rattle.broadcasting.specs.Broadcasts.{can_stretch, common_shape};
 ghost use Rattle.overlap_copy.specs.Blocks.{offsets_in};
 ghost use Rattle.overlap_copy.specs.ItemLists.{owned_items};
-ghost use Rattle.elementwise.specs.Promotion.{are_comparable, compared_type};
 ghost use Rattle.elementwise.specs.Results.{compared_result, compared_item, stretched_items, pairwise};
-ghost use Rattle.elementwise.specs.inside.PairPasses.{AreHeld};
+ghost use Rattle.elementwise.specs.inside.Works.{AreComparable, IsComparing};
 ghost use Rattle.elementwise.specs.inside.Held.{stretched};
 ghost use Rattle.elementwise.specs.inside.Made.{IsMade};
 
-use crate::operands::{Scalars, read_as};
-use crate::pairing::{ComparingTexts, Pairing, Work};
+use crate::made::made;
+use crate::operands::{Broadcast, note_bytes, read_as};
+use crate::pairing::{Pairing, Work};
 use crate::promotion::{compared_type, eight_bytes, scalar_of};
+use crate::rows::Operands;
 use crate::shrunk::{spread, without_repeats};
+use crate::text_pairs::ComparingTexts;
 use crate::trimmed::trimmed_in;
-use crate::typed::{make_cast, make_stretched};
+use crate::typed::{make_cast, stretched_to};
 use broadcasting::{common, repeats};
 use elem_descr::{Descr, Refusal, Scalar};
 use machine_numbers::{Comparison, is_signed, little};
 use overlap_copy::{Items, Owned};
-use raw_block::RawBlock;
-use shape_strides::Shape;
 use std::alloc::Global;
 
-/// A block holds bytes.
-pub(crate) fn note_bytes(block: &RawBlock)
-    ensures { (k : ℕ) → slice_index_or block.now k 0 < 256 }
-{
-    let bytes = block.bytes();
-    let _len = bytes.len();
-}
-
-/// A comparison of two arrays of numbers that are stretched to a shape, by way of a scalar that holds the
-/// numbers of both.
-pub(crate) fn compare_held(
-    alloc: Global,
+/// How numbers of two scalars are compared: as those of a scalar that holds both, and else as integers of
+/// eight bytes, of which the first have a sign where the second have none, or the other way round.
+fn number_pairing<'a>(
     comparison: Comparison,
-    scalar: &Scalar,
-    left: Items<'_>,
-    right: Items<'_>,
-    shape: &Shape,
-) -> Result<Owned, Refusal>
-    requires number { IsNumber scalar.now }
-    requires left { AreHeld left.descr.now scalar.now }
-    requires right { AreHeld right.descr.now scalar.now }
-    requires stretches { IsTrue (can_stretch left.layout.now.shape shape.now) }
-    requires also { IsTrue (can_stretch right.layout.now.shape shape.now) }
-    ensures made { IfOk result (IsMade (ScalarDescr BoolScalar) shape.now (pairwise (compared_item comparison) (stretched left.entry shape.now) (stretched right.entry shape.now))) }
-    ensures refused { IfErr result (λ refusal. refusal ≡ OutOfMemory) }
+    left: &Scalar,
+    right: &Scalar,
+    both: Broadcast<'a>,
+) -> Pairing<'a>
+    requires left { IsNumber left.now }
+    requires right { IsNumber right.now }
+    ensures { IsComparing comparison left.now right.now result }
 {
-    note_bytes(left.block);
-    note_bytes(right.block);
-    let pairing = Pairing::Alike {
-        work: Work::Compare(comparison),
-        scalar: *scalar,
-    };
-    make_cast(alloc, &pairing, left, right, shape)
-}
-
-/// The same by way of integers of eight bytes, the first of which have a sign where the second have none.
-fn compare_signs(
-    alloc: Global,
-    comparison: Comparison,
-    left_signed: bool,
-    left: Items<'_>,
-    right: Items<'_>,
-    shape: &Shape,
-) -> Result<Owned, Refusal>
-    requires left { AreHeld left.descr.now (Int left_signed Eight Little) }
-    requires right { AreHeld right.descr.now (Int (not left_signed) Eight Little) }
-    requires stretches { IsTrue (can_stretch left.layout.now.shape shape.now) }
-    requires also { IsTrue (can_stretch right.layout.now.shape shape.now) }
-    ensures made { IfOk result (IsMade (ScalarDescr BoolScalar) shape.now (pairwise (compared_item comparison) (stretched left.entry shape.now) (stretched right.entry shape.now))) }
-    ensures refused { IfErr result (λ refusal. refusal ≡ OutOfMemory) }
-{
-    note_bytes(left.block);
-    note_bytes(right.block);
-    let pairing = Pairing::Signs {
+    let native = little(left);
+    let signed = is_signed(left);
+    let work = Work::Compare(comparison);
+    if native == little(right) {
+        let scalar = read_as(&native, both.left, both.right);
+        return Pairing::Alike { work, scalar };
+    }
+    if signed == is_signed(right) {
+        let scalar = eight_bytes(signed);
+        return Pairing::Alike { work, scalar };
+    }
+    Pairing::Signs {
         comparison,
-        left_signed,
-    };
-    make_cast(alloc, &pairing, left, right, shape)
+        left_signed: signed,
+    }
 }
 
-/// A comparison of two arrays of numbers that are stretched to a shape, by value: by way of their common
-/// type where they have one, and else of integers of eight bytes, which hold them.
+/// A comparison of numbers of two scalars, by value.
 fn compare_numbers(
     alloc: Global,
     comparison: Comparison,
-    left: &Scalars<'_>,
-    right: &Scalars<'_>,
-    shape: &Shape,
+    left: &Scalar,
+    right: &Scalar,
+    both: Broadcast<'_>,
 ) -> Result<Owned, Refusal>
-    requires from { left.now.items.descr.now ≡ ScalarDescr left.now.scalar }
-    requires other { right.now.items.descr.now ≡ ScalarDescr right.now.scalar }
-    requires left { IsNumber left.now.scalar }
-    requires right { IsNumber right.now.scalar }
-    requires stretches { IsTrue (can_stretch left.now.items.layout.now.shape shape.now) }
-    requires also { IsTrue (can_stretch right.now.items.layout.now.shape shape.now) }
-    ensures made { IfOk result (IsMade (ScalarDescr BoolScalar) shape.now (pairwise (compared_item comparison) (stretched left.now.items shape.now) (stretched right.now.items shape.now))) }
+    requires from { both.left.descr.now ≡ ScalarDescr left.now }
+    requires other { both.right.descr.now ≡ ScalarDescr right.now }
+    requires left { IsNumber left.now }
+    requires right { IsNumber right.now }
+    ensures made { IfOk result (IsMade (ScalarDescr BoolScalar) both.entry.shape.now (pairwise (compared_item comparison) (stretched both.entry.left both.entry.shape.now) (stretched both.entry.right both.entry.shape.now))) }
     ensures refused { IfErr result (λ refusal. refusal ≡ OutOfMemory) }
 {
-    let native = little(&left.scalar);
-    if native == little(&right.scalar) {
-        let read = read_as(&native, left.items, right.items);
-        return compare_held(alloc, comparison, &read, left.items, right.items, shape);
-    }
-    let signed = is_signed(&left.scalar);
-    if signed == is_signed(&right.scalar) {
-        let wide = eight_bytes(signed);
-        return compare_held(alloc, comparison, &wide, left.items, right.items, shape);
-    }
-    compare_signs(alloc, comparison, signed, left.items, right.items, shape)
+    note_bytes(both.left.block);
+    note_bytes(both.right.block);
+    let pairing = number_pairing(comparison, left, right, both);
+    make_cast(alloc, &pairing, both.left, both.right, both.shape)
 }
 
-/// A comparison of two arrays of byte strings that are stretched to a shape. The NULs at the ends of those
-/// that are shown more than once are looked at once.
+/// A comparison of byte strings. The NULs at the ends of those that are shown more than once are looked at
+/// once.
 fn compare_texts(
     alloc: Global,
-    pairing: &ComparingTexts,
-    left: Items<'_>,
-    right: Items<'_>,
-    shape: &Shape,
+    texts: ComparingTexts,
+    both: Broadcast<'_>,
 ) -> Result<Owned, Refusal>
-    requires left { left.descr.now ≡ ScalarDescr (Bytes pairing.now.width) }
-    requires right { right.descr.now ≡ ScalarDescr (Bytes pairing.now.other_width) }
-    requires stretches { IsTrue (can_stretch left.layout.now.shape shape.now) }
-    requires also { IsTrue (can_stretch right.layout.now.shape shape.now) }
-    ensures made { IfOk result (IsMade (ScalarDescr BoolScalar) shape.now (pairwise (compared_item pairing.now.comparison) (stretched left.entry shape.now) (stretched right.entry shape.now))) }
+    requires left { both.left.descr.now ≡ ScalarDescr (Bytes texts.width) }
+    requires right { both.right.descr.now ≡ ScalarDescr (Bytes texts.other_width) }
+    ensures made { IfOk result (IsMade (ScalarDescr BoolScalar) both.entry.shape.now (pairwise (compared_item texts.comparison) (stretched both.entry.left both.entry.shape.now) (stretched both.entry.right both.entry.shape.now))) }
     ensures refused { IfErr result (λ refusal. refusal ≡ OutOfMemory) }
 {
+    let Broadcast { left, right, shape } = both;
     let _items = shape.items();
-    let width = trimmed_in(alloc, left, pairing.width, shape)?;
-    let other_width = trimmed_in(alloc, right, pairing.other_width, shape)?;
+    let width = trimmed_in(alloc, left, texts.width, shape)?;
+    let other_width = trimmed_in(alloc, right, texts.other_width, shape)?;
     let cut = Pairing::Texts(ComparingTexts {
-        comparison: pairing.comparison,
+        comparison: texts.comparison,
         width,
         other_width,
     });
     let descr = Descr::Scalar(Scalar::Bytes(width));
-    let other = Descr::Scalar(Scalar::Bytes(other_width));
-    let first = Items {
-        block: left.block,
-        layout: left.layout,
-        descr: &descr,
+    let other_descr = Descr::Scalar(Scalar::Bytes(other_width));
+    let first = stretched_to(alloc, left.layout, shape)?;
+    let second = stretched_to(alloc, right.layout, shape)?;
+    let operands = Operands {
+        left: Items {
+            block: left.block,
+            layout: &first,
+            descr: &descr,
+        },
+        right: Items {
+            block: right.block,
+            layout: &second,
+            descr: &other_descr,
+        },
     };
-    let second = Items {
-        block: right.block,
-        layout: right.layout,
-        descr: &other,
-    };
-    make_stretched(alloc, &cut, first, second, shape)
+    made(alloc, &cut, operands)
 }
 
-/// A comparison of two arrays of numbers or of byte strings that are stretched to a shape.
+/// A comparison of numbers, or of byte strings.
 fn compare_scalars(
     alloc: Global,
     comparison: Comparison,
-    left: &Scalars<'_>,
-    right: &Scalars<'_>,
-    shape: &Shape,
+    both: Broadcast<'_>,
 ) -> Result<Owned, Refusal>
-    requires from { left.now.items.descr.now ≡ ScalarDescr left.now.scalar }
-    requires other { right.now.items.descr.now ≡ ScalarDescr right.now.scalar }
-    requires comparable { are_comparable left.now.scalar right.now.scalar ≡ true }
-    requires stretches { IsTrue (can_stretch left.now.items.layout.now.shape shape.now) }
-    requires also { IsTrue (can_stretch right.now.items.layout.now.shape shape.now) }
-    ensures made { IfOk result (IsMade (ScalarDescr BoolScalar) shape.now (pairwise (compared_item comparison) (stretched left.now.items shape.now) (stretched right.now.items shape.now))) }
+    requires { AreComparable both.left.descr.now both.right.descr.now }
+    ensures made { IfOk result (IsMade (ScalarDescr BoolScalar) both.entry.shape.now (pairwise (compared_item comparison) (stretched both.entry.left both.entry.shape.now) (stretched both.entry.right both.entry.shape.now))) }
     ensures refused { IfErr result (λ refusal. refusal ≡ OutOfMemory) }
 {
-    match (&left.scalar, &right.scalar) {
-        (Scalar::Bytes(width), Scalar::Bytes(other_width)) => {
-            let pairing = ComparingTexts {
+    match (both.left.descr, both.right.descr) {
+        (Descr::Scalar(Scalar::Bytes(width)), Descr::Scalar(Scalar::Bytes(other_width))) => {
+            let texts = ComparingTexts {
                 comparison,
                 width: *width,
                 other_width: *other_width,
             };
-            compare_texts(alloc, &pairing, left.items, right.items, shape)
+            compare_texts(alloc, texts, both)
         }
-        _ => compare_numbers(alloc, comparison, left, right, shape),
+        (Descr::Scalar(left), Descr::Scalar(right)) => {
+            compare_numbers(alloc, comparison, left, right, both)
+        }
+        _ => unreachable!(),
     }
-}
-
-/// The same of the items that differ, stretched.
-fn compare_shrunk(
-    alloc: Global,
-    comparison: Comparison,
-    left: &Scalars<'_>,
-    right: &Scalars<'_>,
-    shape: &Shape,
-) -> Result<Owned, Refusal>
-    requires from { left.now.items.descr.now ≡ ScalarDescr left.now.scalar }
-    requires other { right.now.items.descr.now ≡ ScalarDescr right.now.scalar }
-    requires comparable { are_comparable left.now.scalar right.now.scalar ≡ true }
-    requires stretches { IsTrue (can_stretch left.now.items.layout.now.shape shape.now) }
-    requires also { IsTrue (can_stretch right.now.items.layout.now.shape shape.now) }
-    ensures made { IfOk result (IsMade (ScalarDescr BoolScalar) shape.now (pairwise (compared_item comparison) (stretched left.now.items shape.now) (stretched right.now.items shape.now))) }
-    ensures refused { IfErr result (λ refusal. refusal ≡ OutOfMemory) }
-{
-    let small = without_repeats(alloc, left.items.layout, right.items.layout, shape)?;
-    let first = Scalars {
-        items: Items {
-            block: left.items.block,
-            layout: &small.first,
-            descr: left.items.descr,
-        },
-        scalar: left.scalar,
-    };
-    let second = Scalars {
-        items: Items {
-            block: right.items.block,
-            layout: &small.second,
-            descr: right.items.descr,
-        },
-        scalar: right.scalar,
-    };
-    let made = compare_scalars(alloc, comparison, &first, &second, &small.shape)?;
-    spread(alloc, &made, shape)
 }
 
 /// The same, once where the items of both repeat.
-fn compare_once(
+pub(crate) fn compare_once(
     alloc: Global,
     comparison: Comparison,
-    left: &Scalars<'_>,
-    right: &Scalars<'_>,
-    shape: &Shape,
+    both: Broadcast<'_>,
 ) -> Result<Owned, Refusal>
-    requires from { left.now.items.descr.now ≡ ScalarDescr left.now.scalar }
-    requires other { right.now.items.descr.now ≡ ScalarDescr right.now.scalar }
-    requires comparable { are_comparable left.now.scalar right.now.scalar ≡ true }
-    requires stretches { IsTrue (can_stretch left.now.items.layout.now.shape shape.now) }
-    requires also { IsTrue (can_stretch right.now.items.layout.now.shape shape.now) }
-    ensures made { IfOk result (IsMade (ScalarDescr BoolScalar) shape.now (pairwise (compared_item comparison) (stretched left.now.items shape.now) (stretched right.now.items shape.now))) }
+    requires { AreComparable both.left.descr.now both.right.descr.now }
+    ensures made { IfOk result (IsMade (ScalarDescr BoolScalar) both.entry.shape.now (pairwise (compared_item comparison) (stretched both.entry.left both.entry.shape.now) (stretched both.entry.right both.entry.shape.now))) }
     ensures refused { IfErr result (λ refusal. refusal ≡ OutOfMemory) }
 {
-    if repeats(left.items.layout) || repeats(right.items.layout) {
-        return compare_shrunk(alloc, comparison, left, right, shape);
+    let Broadcast { left, right, shape } = both;
+    if !repeats(left.layout) && !repeats(right.layout) {
+        return compare_scalars(alloc, comparison, both);
     }
-    compare_scalars(alloc, comparison, left, right, shape)
-}
-
-/// The shape to which two shapes broadcast.
-fn common_of<'a>(alloc: Global, left: &'a Shape, right: &'a Shape) -> Result<Shape, Refusal>
-    ensures value { Gives (λ s. s) result (common_shape (left.now ∷ right.now ∷ [])) }
-    ensures left { IfOk result (λ s. IsTrue (can_stretch left.now s)) }
-    ensures right { IfOk result (λ s. IsTrue (can_stretch right.now s)) }
-{
-    common(alloc, &[left, right])
-}
-
-/// What a comparison says of two arrays of scalars that are compared, broadcast together.
-fn compare_both(
-    alloc: Global,
-    comparison: Comparison,
-    left: &Scalars<'_>,
-    right: &Scalars<'_>,
-) -> Result<Owned, Refusal>
-    requires from { left.now.items.descr.now ≡ ScalarDescr left.now.scalar }
-    requires other { right.now.items.descr.now ≡ ScalarDescr right.now.scalar }
-    requires typed { compared_type left.now.scalar right.now.scalar ≡ Ok BoolScalar }
-    ensures gives { Gives (λ o. (o.descr, o.layout.shape)) result (compared_result left.now.items.descr.now left.now.items.layout.now.shape right.now.items.descr.now right.now.items.layout.now.shape) }
-    ensures order { IfOk result (λ o. offsets o.layout ≡ offsets_in C (item_size o.descr) o.layout.shape) }
-    ensures items { IfOk result (λ o. map (item_from o.descr o.block) (offsets o.layout)
-        ≡ pairwise (compared_item comparison) (stretched left.now.items o.layout.shape) (stretched right.now.items o.layout.shape)) }
-    ensures encoded { IfOk result (λ o. o.block ≡ flat_map (encode_item o.descr) (owned_items o)) }
-{
-    let shape = common_of(alloc, &left.items.layout.shape, &right.items.layout.shape)?;
-    compare_once(alloc, comparison, left, right, &shape)
+    let small = without_repeats(alloc, left.layout, right.layout, shape)?;
+    let once = Broadcast {
+        left: Items {
+            block: left.block,
+            layout: &small.first,
+            descr: left.descr,
+        },
+        right: Items {
+            block: right.block,
+            layout: &small.second,
+            descr: right.descr,
+        },
+        shape: &small.shape,
+    };
+    let made = compare_scalars(alloc, comparison, once)?;
+    spread(alloc, &made, shape)
 }
 
 /// What a comparison says of the items of two arrays that are broadcast together, as bools in a block of
@@ -301,14 +199,12 @@ pub fn compare(
 {
     let from = scalar_of(left.descr)?;
     let other = scalar_of(right.descr)?;
-    let first = Scalars {
-        items: left,
-        scalar: from,
+    compared_type(from, other)?;
+    let shape = common(alloc, &[&left.layout.shape, &right.layout.shape])?;
+    let both = Broadcast {
+        left,
+        right,
+        shape: &shape,
     };
-    let second = Scalars {
-        items: right,
-        scalar: other,
-    };
-    compared_type(first.scalar, second.scalar)?;
-    compare_both(alloc, comparison, &first, &second)
+    compare_once(alloc, comparison, both)
 }

@@ -1,11 +1,9 @@
 //! Comparisons of the numbers of operands: which kernel does them.
-ghost use Rattle.std.specs.Prelude.{◌≡◌, ◌+◌, ◌≤◌, ◌++◌};
+ghost use Rattle.std.specs.Prelude.{◌≡◌, ◌+◌, ◌≤◌, ◌++◌, pos, int_lt, if◌then◌else◌};
 ghost use Rattle.elem_descr.specs.declared.scalar.Scalar.TheVariants.{Bool as BoolScalar};
 ghost use Rattle.elem_descr.specs.Items.{item_size};
-ghost use Rattle.machine_numbers.specs.declared.operators.Comparison.{Comparison};
-ghost use Rattle.machine_numbers.specs.declared.operators.Comparison.TheVariants.{Equal, NotEqual, Less, LessOrEqual, Greater, GreaterOrEqual};
 ghost use Rattle.elementwise.specs.Comparisons.{says};
-ghost use Rattle.elementwise.specs.inside.PairPasses.{number_pair, says_number};
+ghost use Rattle.elementwise.specs.inside.PairPasses.{number_pair, said, says_number};
 ghost use Rattle.elementwise.specs.inside.Operands.{pairs_of, made_of_all};
 
 use crate::bits;
@@ -13,110 +11,39 @@ use crate::kernels::{Kernel, push_made};
 use crate::rows::Operands;
 use machine_numbers::{Comparison, LowFirst, Number, Ordered};
 use raw_block::BlockBuilder;
-use std::marker::PhantomData;
 
-/// A comparison, of two values of which it is known whether the first is below or above the second.
-trait Word {
-    ghost word: { Comparison };
-
-    fn says(below: bool, above: bool) -> bool
-        ensures { result ≡ says word below above };
-}
-
-struct IsEqual;
-
-impl Word for IsEqual {
-    ghost word = { Equal };
-
-    #[inline(always)]
-    fn says(below: bool, above: bool) -> bool {
-        !(below || above)
-    }
-}
-
-struct IsDifferent;
-
-impl Word for IsDifferent {
-    ghost word = { NotEqual };
-
-    #[inline(always)]
-    fn says(below: bool, above: bool) -> bool {
-        below || above
-    }
-}
-
-struct IsLess;
-
-impl Word for IsLess {
-    ghost word = { Less };
-
-    #[inline(always)]
-    fn says(below: bool, _above: bool) -> bool {
-        below
-    }
-}
-
-struct IsAtMost;
-
-impl Word for IsAtMost {
-    ghost word = { LessOrEqual };
-
-    #[inline(always)]
-    fn says(_below: bool, above: bool) -> bool {
-        !above
-    }
-}
-
-struct IsGreater;
-
-impl Word for IsGreater {
-    ghost word = { Greater };
-
-    #[inline(always)]
-    fn says(_below: bool, above: bool) -> bool {
-        above
-    }
-}
-
-struct IsAtLeast;
-
-impl Word for IsAtLeast {
-    ghost word = { GreaterOrEqual };
-
-    #[inline(always)]
-    fn says(below: bool, _above: bool) -> bool {
-        !below
-    }
-}
-
-/// The same by the word of a comparison.
+/// What a comparison says of two values of which it is known whether the first is below or above the second.
 pub(crate) fn says(comparison: Comparison, below: bool, above: bool) -> bool
     ensures { result ≡ says comparison below above }
 {
     match comparison {
-        Comparison::Equal => IsEqual::says(below, above),
-        Comparison::NotEqual => IsDifferent::says(below, above),
-        Comparison::Less => IsLess::says(below, above),
-        Comparison::LessOrEqual => IsAtMost::says(below, above),
-        Comparison::Greater => IsGreater::says(below, above),
-        Comparison::GreaterOrEqual => IsAtLeast::says(below, above),
+        Comparison::Equal => !(below || above),
+        Comparison::NotEqual => below || above,
+        Comparison::Less => below,
+        Comparison::LessOrEqual => !above,
+        Comparison::Greater => above,
+        Comparison::GreaterOrEqual => !below,
     }
 }
 
-/// A comparison as what is made of two numbers, which may be of two types.
-struct Said<W>(PhantomData<W>);
+/// A comparison as what is made of two numbers, which may be of two types: `HOLDS` where the first is below
+/// the second, if `BELOW`, and where it is above, if `ABOVE`; else the other bool.
+struct Said<const BELOW: bool, const ABOVE: bool, const HOLDS: bool>;
 
-impl<W: Word, A: Number, B: Number> Kernel<A, B, bool> for Said<W> {
-    ghost makes = { says_number W.word };
+impl<const BELOW: bool, const ABOVE: bool, const HOLDS: bool, A: Number, B: Number> Kernel<
+    A,
+    B,
+    bool,
+> for Said<BELOW, ABOVE, HOLDS> {
+    ghost makes = { λ a b. if said BELOW ABOVE HOLDS (int_lt a b) (int_lt b a) then pos 1 else pos 0 };
 
     #[inline(always)]
     fn make(left: A, right: B) -> bool {
         let first = left.bits();
         let second = right.bits();
-        W::says(
-            bits::is_below(A::SIGNED, first, B::SIGNED, second),
-            bits::is_below(B::SIGNED, second, A::SIGNED, first),
-        )
+        let below = bits::is_below(A::SIGNED, first, B::SIGNED, second);
+        let above = bits::is_below(B::SIGNED, second, A::SIGNED, first);
+        (BELOW & below | ABOVE & above) == HOLDS
     }
 }
 
@@ -124,7 +51,7 @@ impl<W: Word, A: Number, B: Number> Kernel<A, B, bool> for Said<W> {
 pub(crate) fn compare<A: Number, B: Number, O: Ordered>(
     comparison: Comparison,
     block: BlockBuilder,
-    operands: Operands<'_>,
+    operands: Operands<'_, '_>,
 ) -> BlockBuilder
     requires left { item_size operands.left.descr.now ≡ A.WIDTH }
     requires right { item_size operands.right.descr.now ≡ B.WIDTH }
@@ -133,19 +60,28 @@ pub(crate) fn compare<A: Number, B: Number, O: Ordered>(
     ensures left { pairs_of operands.entry + result.1 ≡ block.1 }
 {
     match comparison {
-        Comparison::Equal => push_made::<Said<IsEqual>, A, B, bool, O, LowFirst>(block, operands),
-        Comparison::NotEqual => push_made::<Said<IsDifferent>, A, B, bool, O, LowFirst>(
+        Comparison::Equal => push_made::<Said<true, true, false>, A, B, bool, O, LowFirst>(
             block, operands,
         ),
-        Comparison::Less => push_made::<Said<IsLess>, A, B, bool, O, LowFirst>(block, operands),
-        Comparison::LessOrEqual => push_made::<Said<IsAtMost>, A, B, bool, O, LowFirst>(
+        Comparison::NotEqual => push_made::<Said<true, true, true>, A, B, bool, O, LowFirst>(
             block, operands,
         ),
-        Comparison::Greater => push_made::<Said<IsGreater>, A, B, bool, O, LowFirst>(
+        Comparison::Less => push_made::<Said<true, false, true>, A, B, bool, O, LowFirst>(
             block, operands,
         ),
-        Comparison::GreaterOrEqual => push_made::<Said<IsAtLeast>, A, B, bool, O, LowFirst>(
+        Comparison::LessOrEqual => push_made::<Said<false, true, false>, A, B, bool, O, LowFirst>(
             block, operands,
         ),
+        Comparison::Greater => push_made::<Said<false, true, true>, A, B, bool, O, LowFirst>(
+            block, operands,
+        ),
+        Comparison::GreaterOrEqual => push_made::<
+            Said<true, false, false>,
+            A,
+            B,
+            bool,
+            O,
+            LowFirst,
+        >(block, operands),
     }
 }

@@ -18,9 +18,9 @@ ghost use Rattle.machine_numbers.specs.Kinds.{little};
 ghost use Rattle.elementwise.specs.Results.{integer_compared_result, compared_item, truth_item};
 ghost use Rattle.elementwise.specs.inside.Made.{IsMade};
 
-use crate::compared::{compare_held, note_bytes};
+use crate::compared::compare_once;
 use crate::comparing::says;
-use crate::operands::Scalars;
+use crate::operands::{Broadcast, note_bytes};
 use crate::promotion::scalar_of;
 use elem_descr::{Descr, Refusal, Scalar, is_value, num_write};
 use machine_numbers::{Comparison, is_text, little};
@@ -55,31 +55,27 @@ fn one_item(alloc: Global, scalar: &Scalar, integer: i128) -> Result<Owned, Refu
     Ok(owned)
 }
 
-/// A comparison of the numbers of an array with an integer that their type, in little-endian order, holds.
+/// A comparison of the numbers of an array with an integer that their type holds.
 fn compare_with_value(
     alloc: Global,
     comparison: Comparison,
-    scalar: &Scalar,
-    operand: &Scalars<'_>,
+    from: &Scalar,
+    operand: Items<'_>,
     integer: i128,
 ) -> Result<Owned, Refusal>
-    requires from { operand.now.items.descr.now ≡ ScalarDescr operand.now.scalar }
-    requires scalar { scalar.now ≡ little operand.now.scalar }
-    requires number { IsNumber operand.now.scalar }
-    requires held { wrap scalar.now integer ≡ integer }
-    ensures made { IfOk result (IsMade (ScalarDescr BoolScalar) operand.now.items.layout.now.shape (map (λ offset. compared_item comparison (item_from operand.now.items.descr.now operand.now.items.block.now offset) (number integer ∷ [])) (offsets operand.now.items.layout.now))) }
+    requires from { operand.descr.now ≡ ScalarDescr from.now }
+    requires number { IsNumber from.now }
+    requires held { wrap (little from.now) integer ≡ integer }
+    ensures made { IfOk result (IsMade (ScalarDescr BoolScalar) operand.entry.layout.now.shape (map (λ offset. compared_item comparison (item_from operand.entry.descr.now operand.entry.block.now offset) (number integer ∷ [])) (offsets operand.entry.layout.now))) }
     ensures refused { IfErr result (λ refusal. refusal ≡ OutOfMemory) }
 {
-    let item = one_item(alloc, scalar, integer)?;
-    let items = operand.items;
-    compare_held(
-        alloc,
-        comparison,
-        scalar,
-        items,
-        item.items(),
-        &items.layout.shape,
-    )
+    let item = one_item(alloc, &little(from), integer)?;
+    let both = Broadcast {
+        left: operand,
+        right: item.items(),
+        shape: &operand.layout.shape,
+    };
+    compare_once(alloc, comparison, both)
 }
 
 /// One bool so many times, as a block.
@@ -106,19 +102,20 @@ fn all_alike(alloc: Global, holds: bool, shape: &Shape) -> Result<Owned, Refusal
 fn compare_beyond(
     alloc: Global,
     comparison: Comparison,
-    operand: &Scalars<'_>,
+    from: &Scalar,
+    operand: Items<'_>,
     integer: i128,
 ) -> Result<Owned, Refusal>
-    requires from { operand.now.items.descr.now ≡ ScalarDescr operand.now.scalar }
-    requires number { IsNumber operand.now.scalar }
-    requires beyond { wrap (little operand.now.scalar) integer ≢ integer }
-    ensures made { IfOk result (IsMade (ScalarDescr BoolScalar) operand.now.items.layout.now.shape (map (λ offset. compared_item comparison (item_from operand.now.items.descr.now operand.now.items.block.now offset) (number integer ∷ [])) (offsets operand.now.items.layout.now))) }
+    requires from { operand.descr.now ≡ ScalarDescr from.now }
+    requires number { IsNumber from.now }
+    requires beyond { wrap (little from.now) integer ≢ integer }
+    ensures made { IfOk result (IsMade (ScalarDescr BoolScalar) operand.entry.layout.now.shape (map (λ offset. compared_item comparison (item_from operand.entry.descr.now operand.entry.block.now offset) (number integer ∷ [])) (offsets operand.entry.layout.now))) }
     ensures refused { IfErr result (λ refusal. refusal ≡ OutOfMemory) }
 {
-    note_bytes(operand.items.block);
+    note_bytes(operand.block);
     let above = integer.is_positive();
     let holds = says(comparison, above, !above);
-    all_alike(alloc, holds, &operand.items.layout.shape)
+    all_alike(alloc, holds, &operand.layout.shape)
 }
 
 /// What a comparison says of the numbers of an array and of an integer, which may be larger than their
@@ -140,13 +137,8 @@ pub fn compare_integer(
     if is_text(&from) {
         return Err(Refusal::NotForThisKind);
     }
-    let numbers = Scalars {
-        items: operand,
-        scalar: from,
-    };
-    let scalar = little(&from);
-    if is_value(&scalar, integer) {
-        return compare_with_value(alloc, comparison, &scalar, &numbers, integer);
+    if is_value(&little(&from), integer) {
+        return compare_with_value(alloc, comparison, &from, operand, integer);
     }
-    compare_beyond(alloc, comparison, &numbers, integer)
+    compare_beyond(alloc, comparison, &from, operand, integer)
 }

@@ -25,7 +25,7 @@ pub(crate) trait Kernel<A: Number, B: Number, T: Number> {
 #[inline(always)]
 fn push_each<K: Kernel<A, B, T>, A: Number, B: Number, T: Number, O: Ordered, Q: Ordered>(
     block: BlockBuilder,
-    pairs: Pairs<'_>,
+    pairs: Pairs<'_, '_>,
 ) -> BlockBuilder
     requires left { pairs.left.width ≡ A.WIDTH }
     requires right { pairs.right.width ≡ B.WIDTH }
@@ -58,7 +58,7 @@ impl<K: Kernel<A, B, T>, A: Number, B: Number, T: Number, O: Ordered, Q: Ordered
 
     // With a loop of its own where each side is items one right after the other, or one item.
     #[inline(always)]
-    fn push_row(&self, block: BlockBuilder, pairs: Pairs<'_>) -> BlockBuilder {
+    fn push_row(&self, block: BlockBuilder, pairs: Pairs<'_, '_>) -> BlockBuilder {
         let near = A::WIDTH as isize;
         let close = B::WIDTH as isize;
         match (pairs.left.run.step, pairs.right.run.step) {
@@ -87,7 +87,7 @@ pub(crate) fn push_made<
     T: Number,
     O: Ordered,
     Q: Ordered,
->(block: BlockBuilder, operands: Operands<'_>) -> BlockBuilder
+>(block: BlockBuilder, operands: Operands<'_, '_>) -> BlockBuilder
     requires left { item_size operands.left.descr.now ≡ A.WIDTH }
     requires right { item_size operands.right.descr.now ≡ B.WIDTH }
     requires room { pairs_of operands * T.WIDTH ≤ block.1 }

@@ -11,38 +11,7 @@ use elem_descr::{Order, Scalar, Width};
 use machine_numbers::{HighFirst, LowFirst, Number, NumberTask, Ordered, on_number};
 use shape_strides::Run;
 
-/// Casts the numbers of a run to those of a scalar. Its sign makes no difference to its bytes.
-fn cast_numbers_to<S: Number, P: Ordered>(
-    scalar: &Scalar,
-    bytes: &mut [u8],
-    to: Run,
-    other: &[u8],
-    from: Run,
-)
-    requires number { IsNumber scalar.now }
-    requires few { to.count < 2 ^ 63 }
-    requires to { EachWithin (length bytes.old) to.offset to.step (size scalar.now) to.count }
-    requires from { EachWithin (length other.now) from.offset from.step S.WIDTH to.count }
-    ensures { bytes.new ≡ made (leaf_cast (S.scalar P.order) scalar.now) S.WIDTH other.now to from to.count bytes.old }
-{
-    match scalar {
-        Scalar::Bool => cast_run::<S, P, bool, LowFirst>(bytes, to, other, from),
-        Scalar::Byte { .. } => cast_run::<S, P, u8, LowFirst>(bytes, to, other, from),
-        Scalar::Int { width, order, .. } => match (width, order) {
-            (Width::Two, Order::Little) => cast_run::<S, P, u16, LowFirst>(bytes, to, other, from),
-            (Width::Two, Order::Big) => cast_run::<S, P, u16, HighFirst>(bytes, to, other, from),
-            (Width::Four, Order::Little) => cast_run::<S, P, u32, LowFirst>(bytes, to, other, from),
-            (Width::Four, Order::Big) => cast_run::<S, P, u32, HighFirst>(bytes, to, other, from),
-            (Width::Eight, Order::Little) => cast_run::<S, P, u64, LowFirst>(
-                bytes, to, other, from,
-            ),
-            (Width::Eight, Order::Big) => cast_run::<S, P, u64, HighFirst>(bytes, to, other, from),
-        },
-        Scalar::Bytes(_) => unreachable!(),
-    }
-}
-
-/// Casts of numbers of one type to those of a scalar.
+/// Casts of the numbers of a run to those of a scalar. Its sign makes no difference to its bytes.
 struct CastTo<'a> {
     scalar: Scalar,
     to: Run,
@@ -64,7 +33,31 @@ impl<'a> NumberTask for CastTo<'a> {
             other,
             from,
         } = self;
-        cast_numbers_to::<N, O>(&scalar, bytes, to, other, from);
+        match scalar {
+            Scalar::Bool => cast_run::<N, O, bool, LowFirst>(bytes, to, other, from),
+            Scalar::Byte { .. } => cast_run::<N, O, u8, LowFirst>(bytes, to, other, from),
+            Scalar::Int { width, order, .. } => match (width, order) {
+                (Width::Two, Order::Little) => cast_run::<N, O, u16, LowFirst>(
+                    bytes, to, other, from,
+                ),
+                (Width::Two, Order::Big) => cast_run::<N, O, u16, HighFirst>(
+                    bytes, to, other, from,
+                ),
+                (Width::Four, Order::Little) => cast_run::<N, O, u32, LowFirst>(
+                    bytes, to, other, from,
+                ),
+                (Width::Four, Order::Big) => cast_run::<N, O, u32, HighFirst>(
+                    bytes, to, other, from,
+                ),
+                (Width::Eight, Order::Little) => cast_run::<N, O, u64, LowFirst>(
+                    bytes, to, other, from,
+                ),
+                (Width::Eight, Order::Big) => cast_run::<N, O, u64, HighFirst>(
+                    bytes, to, other, from,
+                ),
+            },
+            Scalar::Bytes(_) => unreachable!(),
+        }
     }
 }
 

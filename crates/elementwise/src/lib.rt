@@ -30,7 +30,6 @@ mod texts;
 mod trimmed;
 mod typed;
 mod words;
-mod working;
 
 pub use alike::{are_alike, keeps_items};
 pub use applied::{apply1, apply2};

@@ -1,16 +1,22 @@
-//! Blocks of what is made of pairs of items: row by row, or column by column where these lie nearer.
-ghost use Rattle.std.specs.Prelude.{◌≡◌, ◌*◌, ◌≤◌, IfOk};
+//! Arrays of what is made of pairs of items: row by row, or column by column where these lie nearer.
+ghost use Rattle.std.specs.Prelude.{◌≡◌, [], ◌∷◌, ◌*◌, ◌≤◌, IfOk, IfErr, IfSome};
+ghost use Rattle.elem_descr.specs.declared.refusal.Refusal.TheVariants.{OutOfMemory};
+ghost use Rattle.elem_descr.specs.declared.descr.Descr.TheVariants.{Scalar as ScalarDescr};
 ghost use Rattle.elem_descr.specs.Encoding.{size};
-ghost use Rattle.elem_descr.specs.Items.{item_size};
 ghost use Rattle.shape_strides.specs.Limits.{max_bytes};
-ghost use Rattle.elementwise.specs.inside.Operands.{pairs_of, made_of_all};
-ghost use Rattle.elementwise.specs.inside.Works.{left_of, right_of, target_of, pair_made, CanPair};
+ghost use Rattle.overlap_copy.specs.ItemLists.{items};
+ghost use Rattle.elementwise.specs.Results.{pairwise, value_in};
+ghost use Rattle.elementwise.specs.inside.Made.{IsMade, IsTurned};
+ghost use Rattle.elementwise.specs.inside.Operands.{pairs_of};
+ghost use Rattle.elementwise.specs.inside.Works.{left_of, right_of, target_of, gives, CanPair};
 
+use crate::operands::Layouts;
 use crate::pairing::Pairing;
 use crate::rows::Operands;
-use overlap_copy::{Items, gather};
-use raw_block::{BlockBuilder, RawBlock};
-use shape_strides::{Layout, Rows};
+use elem_descr::{Descr, Refusal};
+use overlap_copy::{Items, Owned, gather};
+use raw_block::BlockBuilder;
+use shape_strides::{Layout, MemoryOrder, Rows};
 use std::alloc::{AllocError, Global};
 
 /// Fewer pairs than these go by rows.
@@ -22,64 +28,62 @@ fn step(layout: &Layout) -> usize {
     along.stride.unsigned_abs()
 }
 
-/// How far apart they lie in both operands.
-fn both_steps(operands: Operands<'_>) -> usize {
-    step(operands.left.layout).saturating_add(step(operands.right.layout))
-}
-
-/// What is made of all pairs, one row after another.
-fn made_by_rows(
-    alloc: Global,
-    pairing: &Pairing,
-    operands: Operands<'_>,
-) -> Result<RawBlock, AllocError>
-    requires can { CanPair pairing.now }
-    requires left { item_size operands.left.descr.now ≡ size (left_of pairing.now) }
-    requires right { item_size operands.right.descr.now ≡ size (right_of pairing.now) }
-    requires few { pairs_of operands * size (target_of pairing.now) ≤ max_bytes }
-    ensures { IfOk result (λ b. b ≡ made_of_all (pair_made pairing.now) operands.entry) }
+/// Two layouts with their axes in reverse, if there are many items and those of columns lie nearer to one
+/// another than those of rows.
+fn columns(alloc: Global, left: &Layout, right: &Layout) -> Result<Option<Layouts>, AllocError>
+    ensures first { IfOk result (λ columns. IfSome columns (λ c. IsTurned c.first left.now)) }
+    ensures second { IfOk result (λ columns. IfSome columns (λ c. IsTurned c.second right.now)) }
 {
-    let pairs = operands.left.layout.shape.items();
-    let block = BlockBuilder::try_new(alloc, pairs * pairing.target().size())?;
-    Ok(pairing.push(block, operands).finish())
-}
-
-/// The same, and where the items of columns lie nearer to one another, one column after another and then
-/// in C order.
-pub(crate) fn made_of_pairs(
-    alloc: Global,
-    pairing: &Pairing,
-    operands: Operands<'_>,
-) -> Result<RawBlock, AllocError>
-    requires can { CanPair pairing.now }
-    requires left { item_size operands.left.descr.now ≡ size (left_of pairing.now) }
-    requires right { item_size operands.right.descr.now ≡ size (right_of pairing.now) }
-    requires few { pairs_of operands * size (target_of pairing.now) ≤ max_bytes }
-    ensures { IfOk result (λ b. b ≡ made_of_all (pair_made pairing.now) operands.entry) }
-{
-    let shape = &operands.left.layout.shape;
-    if shape.items() < FEW {
-        return made_by_rows(alloc, pairing, operands);
+    if left.shape.items() < FEW {
+        return Ok(None);
     }
-    let first = Layout::reversed(alloc, operands.left.layout)?;
-    let second = Layout::reversed(alloc, operands.right.layout)?;
+    let first = Layout::reversed(alloc, left)?;
+    let second = Layout::reversed(alloc, right)?;
+    let across = step(left).saturating_add(step(right));
+    if across <= step(&first).saturating_add(step(&second)) {
+        return Ok(None);
+    }
+    Ok(Some(Layouts { first, second }))
+}
+
+/// What is made of all pairs, in C order.
+pub(crate) fn made(
+    alloc: Global,
+    pairing: &Pairing<'_>,
+    operands: Operands<'_, '_>,
+) -> Result<Owned, Refusal>
+    requires can { CanPair pairing.now }
+    requires left { operands.left.descr.now ≡ ScalarDescr (left_of pairing.now) }
+    requires right { operands.right.descr.now ≡ ScalarDescr (right_of pairing.now) }
+    requires few { pairs_of operands * size (target_of pairing.now) ≤ max_bytes }
+    ensures made { IfOk result (IsMade (ScalarDescr (target_of pairing.now)) operands.entry.left.layout.now.shape (pairwise (λ x y. gives pairing.now (value_in x) (value_in y) ∷ []) (items operands.entry.left) (items operands.entry.right))) }
+    ensures refused { IfErr result (λ refusal. refusal ≡ OutOfMemory) }
+{
+    let Operands { left, right } = operands;
+    let shape = &left.layout.shape;
+    let scalar = pairing.target();
+    let width = scalar.size();
+    let block = BlockBuilder::try_new(alloc, shape.items() * width)?;
+    let Some(columns) = columns(alloc, left.layout, right.layout)? else {
+        let block = pairing.push(block, operands).finish();
+        let owned = Owned::over(alloc, Descr::Scalar(scalar), shape, MemoryOrder::C, block)?;
+        return Ok(owned);
+    };
     let turned = Operands {
         left: Items {
-            block: operands.left.block,
-            layout: &first,
-            descr: operands.left.descr,
+            block: left.block,
+            layout: &columns.first,
+            descr: left.descr,
         },
         right: Items {
-            block: operands.right.block,
-            layout: &second,
-            descr: operands.right.descr,
+            block: right.block,
+            layout: &columns.second,
+            descr: right.descr,
         },
     };
-    if both_steps(operands) <= both_steps(turned) {
-        return made_by_rows(alloc, pairing, operands);
-    }
-    let columns = made_by_rows(alloc, pairing, turned)?;
-    let width = pairing.target().size();
+    let block = pairing.push(block, turned).finish();
     let order = Layout::f_order(alloc, shape, width)?;
-    gather(alloc, &columns, &order, width)
+    let block = gather(alloc, &block, &order, width)?;
+    let owned = Owned::over(alloc, Descr::Scalar(scalar), shape, MemoryOrder::C, block)?;
+    Ok(owned)
 }

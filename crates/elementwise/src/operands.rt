@@ -1,16 +1,37 @@
 //! The operands of operations.
-ghost use Rattle.std.specs.Prelude.{◌≡◌};
+ghost use Rattle.std.specs.Prelude.{◌≡◌, ℕ, ◌<◌, slice_index_or, IsTrue};
+ghost use Rattle.broadcasting.specs.Broadcasts.{can_stretch};
 ghost use Rattle.machine_numbers.specs.Kinds.{little};
 
 use elem_descr::{Descr, Scalar};
 use machine_numbers::little;
 use overlap_copy::Items;
+use raw_block::RawBlock;
+use shape_strides::{Layout, Shape};
 
-/// Items of a scalar.
+/// Two arrays, and a shape to which both stretch.
 #[derive(Clone, Copy, Drop)]
-pub(crate) struct Scalars<'a> {
-    pub(crate) items: Items<'a>,
-    pub(crate) scalar: Scalar,
+pub(crate) struct Broadcast<'a> {
+    pub(crate) left: Items<'a>,
+    pub(crate) right: Items<'a>,
+    pub(crate) shape: &'a Shape,
+    pub(crate) ghost first: { IsTrue (can_stretch left.layout.now.shape shape.now) },
+    pub(crate) ghost second: { IsTrue (can_stretch right.layout.now.shape shape.now) },
+}
+
+/// The layouts of two operands.
+#[derive(Drop)]
+pub(crate) struct Layouts {
+    pub(crate) first: Layout,
+    pub(crate) second: Layout,
+}
+
+/// A block holds bytes.
+pub(crate) fn note_bytes(block: &RawBlock)
+    ensures { (k : ℕ) → slice_index_or block.now k 0 < 256 }
+{
+    let bytes = block.bytes();
+    let _len = bytes.len();
 }
 
 /// A little-endian scalar, in the byte order of an element type that is the same but for it.

@@ -1,20 +1,24 @@
-//! Operations on machine numbers: each is done on the lowest 64 bits, of which a number keeps its own. Which
-//! kernel does them stands below.
-ghost use Rattle.std.specs.Prelude.{◌≡◌, ◌+◌, ◌*◌, ◌≤◌, ◌++◌, false, pos, negsuc, ◌-ℤ◌};
+//! Work on operands of numbers, at the type that their scalar names, and which kernel does it. Each operation is done on
+//! the lowest 64 bits, of which a number keeps its own.
+ghost use Rattle.std.specs.Prelude.{◌≡◌, ◌+◌, ◌*◌, ◌≤◌, ◌++◌, true, ◌-ℤ◌};
 ghost use Rattle.elem_descr.specs.declared.scalar.Order.TheVariants.{Little};
-ghost use Rattle.elem_descr.specs.Encoding.{wrap};
+ghost use Rattle.elem_descr.specs.Encoding.{size, integer, wrap};
 ghost use Rattle.elem_descr.specs.Items.{item_size};
 ghost use Rattle.machine_numbers.specs.declared.operators.BinOp.TheVariants.{Add, Subtract, Multiply, FloorDivide, Modulo, And, Or, Xor, ShiftLeft, ShiftRight};
 ghost use Rattle.machine_numbers.specs.Kinds.{is_bool};
-ghost use Rattle.elementwise.specs.Promotion.{is_division};
-ghost use Rattle.elementwise.specs.Operations.{binary, unary};
+ghost use Rattle.elementwise.specs.Operations.{binary, unary, serves_bools, serves_one};
 ghost use Rattle.elementwise.specs.inside.PairPasses.{number_pair};
 ghost use Rattle.elementwise.specs.inside.Operands.{pairs_of, made_of_all};
+ghost use Rattle.elementwise.specs.inside.Works.{target, meaning, IsWork};
 
 use crate::bits;
+use crate::casting::cast;
+use crate::comparing::compare;
 use crate::kernels::{Kernel, push_made};
+use crate::pairing::Work;
 use crate::rows::Operands;
-use machine_numbers::{BinOp, LowFirst, Number, Ordered, UnOp};
+use elem_descr::Scalar;
+use machine_numbers::{BinOp, LowFirst, Number, NumberTask, Ordered, UnOp, is_bool, is_text};
 use raw_block::BlockBuilder;
 
 struct Adding;
@@ -24,7 +28,7 @@ impl<N: Number> Kernel<N, N, N> for Adding {
 
     #[inline(always)]
     fn make(left: N, right: N) -> N {
-        N::of_bits(bits::sum(left.bits(), right.bits()))
+        N::of_bits(left.bits().wrapping_add(right.bits()))
     }
 }
 
@@ -35,7 +39,7 @@ impl<N: Number> Kernel<N, N, N> for Subtracting {
 
     #[inline(always)]
     fn make(left: N, right: N) -> N {
-        N::of_bits(bits::difference(left.bits(), right.bits()))
+        N::of_bits(left.bits().wrapping_sub(right.bits()))
     }
 }
 
@@ -46,7 +50,7 @@ impl<N: Number> Kernel<N, N, N> for Multiplying {
 
     #[inline(always)]
     fn make(left: N, right: N) -> N {
-        N::of_bits(bits::product(left.bits(), right.bits()))
+        N::of_bits(left.bits().wrapping_mul(right.bits()))
     }
 }
 
@@ -127,87 +131,90 @@ impl<N: Number> Kernel<N, N, N> for MovingDown {
     }
 }
 
-/// The second number, negated.
-struct Negating;
+/// What the second number leaves of the integer with these bits.
+struct TakingFrom<const BITS: u64>;
 
-impl<N: Number> Kernel<N, N, N> for Negating {
-    ghost makes = { λ _ b. wrap (N.scalar Little) (pos 0 -ℤ b) };
-
-    #[inline(always)]
-    fn make(_left: N, right: N) -> N {
-        N::of_bits(bits::difference(0, right.bits()))
-    }
-}
-
-/// All bits of the second number, complemented.
-struct Complementing;
-
-impl<N: Number> Kernel<N, N, N> for Complementing {
-    ghost makes = { λ _ b. wrap (N.scalar Little) (negsuc 0 -ℤ b) };
+impl<const BITS: u64, N: Number> Kernel<N, N, N> for TakingFrom<BITS> {
+    ghost makes = { λ _ b. wrap (N.scalar Little) (integer true 8 BITS -ℤ b) };
 
     #[inline(always)]
     fn make(_left: N, right: N) -> N {
-        N::of_bits(bits::complement(right.bits()))
+        N::of_bits(BITS.wrapping_sub(right.bits()))
     }
 }
 
-/// The lowest bit of the second number, complemented: the other bool.
-struct Flipping;
+/// Work on operands of one scalar, whose results are pushed.
+pub(crate) struct Working<'a, 'b> {
+    pub(crate) work: Work,
+    /// Whether the numbers are bools.
+    pub(crate) bools: bool,
+    pub(crate) operands: Operands<'a, 'b>,
+    pub(crate) block: BlockBuilder,
+}
 
-impl<N: Number> Kernel<N, N, N> for Flipping {
-    ghost makes = { λ _ b. wrap (N.scalar Little) (pos 1 -ℤ b) };
+impl<'a, 'b> NumberTask for Working<'a, 'b> {
+    type Out = BlockBuilder;
 
-    #[inline(always)]
-    fn make(_left: N, right: N) -> N {
-        N::of_bits(bits::difference(1, right.bits()))
+    ghost Needs = { λ t scalar bytes. IsWork t.work × (t.bools ≡ is_bool scalar) × (item_size t.operands.left.descr.now ≡ size scalar) × (item_size t.operands.right.descr.now ≡ size scalar) × (pairs_of t.operands * size (target t.work scalar) ≤ t.block.1) };
+
+    ghost Gives = { λ t scalar old new block. (block.0 ≡ t.block.0 ++ made_of_all (number_pair scalar scalar (target t.work scalar) (meaning t.work scalar)) t.operands) × (pairs_of t.operands * size (target t.work scalar) + block.1 ≡ t.block.1) };
+
+    fn run<N: Number, O: Ordered>(self, bytes: &mut [u8]) -> BlockBuilder {
+        let Working {
+            work,
+            bools,
+            operands,
+            block,
+        } = self;
+        match work {
+            Work::Combine(op) => match op {
+                BinOp::Add => push_made::<Adding, N, N, N, O, LowFirst>(block, operands),
+                BinOp::Subtract => push_made::<Subtracting, N, N, N, O, LowFirst>(block, operands),
+                BinOp::Multiply => push_made::<Multiplying, N, N, N, O, LowFirst>(block, operands),
+                BinOp::FloorDivide => push_made::<Dividing, N, N, N, O, LowFirst>(block, operands),
+                BinOp::Modulo => push_made::<LeavingRests, N, N, N, O, LowFirst>(block, operands),
+                BinOp::And => push_made::<KeepingBoth, N, N, N, O, LowFirst>(block, operands),
+                BinOp::Or => push_made::<KeepingEither, N, N, N, O, LowFirst>(block, operands),
+                BinOp::Xor => push_made::<KeepingOne, N, N, N, O, LowFirst>(block, operands),
+                BinOp::ShiftLeft => push_made::<MovingUp, N, N, N, O, LowFirst>(block, operands),
+                BinOp::ShiftRight => push_made::<MovingDown, N, N, N, O, LowFirst>(block, operands),
+                BinOp::Divide => unreachable!(),
+            },
+            Work::Change(op) => match op {
+                UnOp::Negate => push_made::<TakingFrom<0>, N, N, N, O, LowFirst>(block, operands),
+                UnOp::Invert if bools => push_made::<TakingFrom<1>, N, N, N, O, LowFirst>(
+                    block, operands,
+                ),
+                UnOp::Invert => push_made::<TakingFrom<{ u64::MAX }>, N, N, N, O, LowFirst>(
+                    block, operands,
+                ),
+            },
+            Work::Compare(comparison) => compare::<N, N, O>(comparison, block, operands),
+            Work::Cast(to) => cast::<N, O>(&to, block, operands),
+        }
     }
 }
 
-/// An operation on numbers of one type, whose results are pushed with the lowest byte first.
-pub(crate) fn combine<N: Number, O: Ordered>(
-    op: BinOp,
-    block: BlockBuilder,
-    operands: Operands<'_>,
-) -> BlockBuilder
-    requires op { is_division op ≡ false }
-    requires left { item_size operands.left.descr.now ≡ N.WIDTH }
-    requires right { item_size operands.right.descr.now ≡ N.WIDTH }
-    requires room { pairs_of operands * N.WIDTH ≤ block.1 }
-    ensures bytes { result.0 ≡ block.0 ++ made_of_all (number_pair (N.scalar O.order) (N.scalar O.order) (N.scalar Little) (binary op (N.scalar Little))) operands.entry }
-    ensures left { pairs_of operands.entry * N.WIDTH + result.1 ≡ block.1 }
+/// Whether there is an operation of two bools.
+pub(crate) fn serves_bools(op: BinOp) -> bool
+    ensures { result ≡ serves_bools op }
 {
     match op {
-        BinOp::Add => push_made::<Adding, N, N, N, O, LowFirst>(block, operands),
-        BinOp::Subtract => push_made::<Subtracting, N, N, N, O, LowFirst>(block, operands),
-        BinOp::Multiply => push_made::<Multiplying, N, N, N, O, LowFirst>(block, operands),
-        BinOp::FloorDivide => push_made::<Dividing, N, N, N, O, LowFirst>(block, operands),
-        BinOp::Modulo => push_made::<LeavingRests, N, N, N, O, LowFirst>(block, operands),
-        BinOp::And => push_made::<KeepingBoth, N, N, N, O, LowFirst>(block, operands),
-        BinOp::Or => push_made::<KeepingEither, N, N, N, O, LowFirst>(block, operands),
-        BinOp::Xor => push_made::<KeepingOne, N, N, N, O, LowFirst>(block, operands),
-        BinOp::ShiftLeft => push_made::<MovingUp, N, N, N, O, LowFirst>(block, operands),
-        BinOp::ShiftRight => push_made::<MovingDown, N, N, N, O, LowFirst>(block, operands),
-        BinOp::Divide => unreachable!(),
+        BinOp::Subtract
+        | BinOp::FloorDivide
+        | BinOp::Modulo
+        | BinOp::ShiftLeft
+        | BinOp::ShiftRight => false,
+        _ => true,
     }
 }
 
-/// An operation on the second of two numbers of one type, and whether these are bools.
-pub(crate) fn change<N: Number, O: Ordered>(
-    op: UnOp,
-    bools: bool,
-    block: BlockBuilder,
-    operands: Operands<'_>,
-) -> BlockBuilder
-    requires bools { bools ≡ is_bool (N.scalar Little) }
-    requires left { item_size operands.left.descr.now ≡ N.WIDTH }
-    requires right { item_size operands.right.descr.now ≡ N.WIDTH }
-    requires room { pairs_of operands * N.WIDTH ≤ block.1 }
-    ensures bytes { result.0 ≡ block.0 ++ made_of_all (number_pair (N.scalar O.order) (N.scalar O.order) (N.scalar Little) (λ _ b. unary op (N.scalar Little) b)) operands.entry }
-    ensures left { pairs_of operands.entry * N.WIDTH + result.1 ≡ block.1 }
+/// Whether there is an operation of items of a type.
+pub(crate) fn serves_one(op: UnOp, scalar: &Scalar) -> bool
+    ensures { result ≡ serves_one op scalar.now }
 {
     match op {
-        UnOp::Negate => push_made::<Negating, N, N, N, O, LowFirst>(block, operands),
-        UnOp::Invert if bools => push_made::<Flipping, N, N, N, O, LowFirst>(block, operands),
-        UnOp::Invert => push_made::<Complementing, N, N, N, O, LowFirst>(block, operands),
+        UnOp::Negate => !is_text(scalar) && !is_bool(scalar),
+        UnOp::Invert => !is_text(scalar),
     }
 }

@@ -5,9 +5,10 @@ ghost use Rattle.elem_descr.specs.Items.{item_size};
 ghost use Rattle.elementwise.specs.inside.Operands.{pairs_of, made_of_all};
 
 use crate::comparing::compare;
+use crate::operations::Working;
 use crate::promotion::eight_bytes;
 use crate::rows::Operands;
-use crate::working::Working;
+use crate::text_pairs::{ComparingTexts, ComparingWith};
 use elem_descr::{BytesLen, Scalar};
 use machine_numbers::{BinOp, Comparison, LowFirst, UnOp, is_bool, little, on_number};
 use raw_block::BlockBuilder;
@@ -25,17 +26,9 @@ pub(crate) enum Work {
     Cast(Scalar),
 }
 
-/// A comparison of byte strings of two lengths.
-#[derive(Clone, Copy)]
-pub(crate) struct ComparingTexts {
-    pub(crate) comparison: Comparison,
-    pub(crate) width: BytesLen,
-    pub(crate) other_width: BytesLen,
-}
-
 /// What is made of pairs of values of two scalars.
 #[derive(Clone, Copy)]
-pub(crate) enum Pairing {
+pub(crate) enum Pairing<'a> {
     /// Work on numbers of one scalar.
     Alike {
         work: Work,
@@ -48,9 +41,15 @@ pub(crate) enum Pairing {
         left_signed: bool,
     },
     Texts(ComparingTexts),
+    /// A comparison of byte strings with one that no NULs end.
+    With {
+        comparison: Comparison,
+        width: BytesLen,
+        other: &'a [u8],
+    },
 }
 
-impl Pairing {
+impl<'a> Pairing<'a> {
     ghost use Rattle.elementwise.specs.inside.Works.{left_of, right_of, target_of, pair_made, CanPair};
 
     /// The scalar of the first items.
@@ -61,6 +60,7 @@ impl Pairing {
             Pairing::Alike { scalar, .. } => *scalar,
             Pairing::Signs { left_signed, .. } => eight_bytes(*left_signed),
             Pairing::Texts(texts) => Scalar::Bytes(texts.width),
+            Pairing::With { width, .. } => Scalar::Bytes(*width),
         }
     }
 
@@ -72,6 +72,7 @@ impl Pairing {
             Pairing::Alike { scalar, .. } => *scalar,
             Pairing::Signs { left_signed, .. } => eight_bytes(!*left_signed),
             Pairing::Texts(texts) => Scalar::Bytes(texts.other_width),
+            Pairing::With { width, .. } => Scalar::Bytes(*width),
         }
     }
 
@@ -90,7 +91,7 @@ impl Pairing {
     }
 
     /// Pushes what is made of each pair of items.
-    pub(crate) fn push(&self, block: BlockBuilder, operands: Operands<'_>) -> BlockBuilder
+    pub(crate) fn push(&self, block: BlockBuilder, operands: Operands<'_, '_>) -> BlockBuilder
         requires can { CanPair self.now }
         requires left { item_size operands.left.descr.now ≡ size (left_of self.now) }
         requires right { item_size operands.right.descr.now ≡ size (right_of self.now) }
@@ -117,6 +118,14 @@ impl Pairing {
                 left_signed: false,
             } => compare::<u64, i64, LowFirst>(*comparison, block, operands),
             Pairing::Texts(texts) => operands.push_all(texts, block),
+            Pairing::With {
+                comparison,
+                other,
+                ..
+            } => {
+                let comparison = *comparison;
+                operands.push_all(&ComparingWith { comparison, other }, block)
+            }
         }
     }
 }

@@ -5,9 +5,11 @@ ghost use Rattle.elem_descr.specs.declared.scalar.Width.TheVariants.{Eight};
 ghost use Rattle.elem_descr.specs.declared.scalar.Scalar.TheVariants.{Int};
 ghost use Rattle.elem_descr.specs.Refusals.{Answers};
 ghost use Rattle.machine_numbers.specs.Kinds.{is_bool, is_text, is_signed, little};
-ghost use Rattle.elementwise.specs.Promotion.{rank_of_kind, same_kind, integer_type, mixed_type, common_integers, common_type, serves_bools, is_division, promote, are_comparable, compared_type, literal_type, serves_one, promote_one};
+ghost use Rattle.elementwise.specs.Promotion.{rank_of_kind, same_kind, integer_type, mixed_type, common_integers, common_type, promote, are_comparable, compared_type, literal_type, promote_one};
+ghost use Rattle.elementwise.specs.Operations.{serves_bools};
 ghost use Rattle.elementwise.specs.Results.{scalar_of};
 
+use crate::operations::{serves_bools, serves_one};
 use elem_descr::{Descr, Order, Refusal, Scalar, Width};
 use machine_numbers::{BinOp, UnOp, is_bool, is_signed, is_text, little};
 
@@ -21,13 +23,6 @@ fn rank_of_kind(scalar: &Scalar) -> usize
     if is_signed(scalar) { 2 } else { 1 }
 }
 
-/// Whether either is a scalar of byte strings.
-fn has_text(left: &Scalar, right: &Scalar) -> bool
-    ensures { result ≡ (is_text left.now || is_text right.now) }
-{
-    is_text(left) || is_text(right)
-}
-
 /// Whether a result of one type may be written to items of another: its kind must not be above theirs in
 /// the order bool, unsigned, signed, whatever the widths. `NotSameKind` where it is, and for byte
 /// strings on either side.
@@ -35,7 +30,7 @@ fn has_text(left: &Scalar, right: &Scalar) -> bool
 pub fn same_kind(from: Scalar, to: Scalar) -> Result<(), Refusal>
     ensures { Answers (λ _. tt) result (same_kind from to) }
 {
-    if has_text(&from, &to) {
+    if is_text(&from) || is_text(&to) {
         return Err(Refusal::NotSameKind);
     }
     if rank_of_kind(&from) > rank_of_kind(&to) {
@@ -108,37 +103,11 @@ fn common_type(left: &Scalar, right: &Scalar) -> Result<Scalar, Refusal>
     common_integers(left, right)
 }
 
-/// Whether there is an operation of two bools.
-fn serves_bools(op: BinOp) -> bool
-    ensures { result ≡ serves_bools op }
-{
-    match op {
-        BinOp::Subtract
-        | BinOp::FloorDivide
-        | BinOp::Modulo
-        | BinOp::ShiftLeft
-        | BinOp::ShiftRight => false,
-        _ => true,
-    }
-}
-
-fn is_division(op: BinOp) -> bool
-    ensures { result ≡ is_division op }
-{
-    matches!(op, BinOp::Divide)
-}
-
-fn are_bools(left: &Scalar, right: &Scalar) -> bool
-    ensures { result ≡ (is_bool left.now && is_bool right.now) }
-{
-    is_bool(left) && is_bool(right)
-}
-
 /// Whether there is an operation of items of two types, as far as bools go.
 fn serves(op: BinOp, left: &Scalar, right: &Scalar) -> bool
     ensures { result ≡ (serves_bools op || not (is_bool left.now && is_bool right.now)) }
 {
-    serves_bools(op) || !are_bools(left, right)
+    serves_bools(op) || !(is_bool(left) && is_bool(right))
 }
 
 /// The type of what an operation gives on items of two types: of bools and integers the smallest that
@@ -148,13 +117,13 @@ fn serves(op: BinOp, left: &Scalar, right: &Scalar) -> bool
 pub fn promote(op: BinOp, left: Scalar, right: Scalar) -> Result<Scalar, Refusal>
     ensures { Answers (λ s. s) result (promote op left right) }
 {
-    if has_text(&left, &right) {
+    if is_text(&left) || is_text(&right) {
         return Err(Refusal::NotForThisKind);
     }
     if !serves(op, &left, &right) {
         return Err(Refusal::NotForThisKind);
     }
-    if is_division(op) {
+    if matches!(op, BinOp::Divide) {
         return Err(Refusal::NeedsFloats);
     }
     common_type(&left, &right)
@@ -186,16 +155,6 @@ pub fn literal_type(scalar: Scalar) -> Scalar
     match scalar {
         Scalar::Bool => integer_type(true, 8),
         _ => little(&scalar),
-    }
-}
-
-/// Whether there is an operation of items of a type.
-fn serves_one(op: UnOp, scalar: &Scalar) -> bool
-    ensures { result ≡ serves_one op scalar.now }
-{
-    match op {
-        UnOp::Negate => !is_text(scalar) && !is_bool(scalar),
-        UnOp::Invert => !is_text(scalar),
     }
 }
 

@@ -11,9 +11,9 @@ use shape_strides::RunPairs;
 
 /// The items of two arrays of one shape.
 #[derive(Clone, Copy, Drop)]
-pub(crate) struct Operands<'a> {
+pub(crate) struct Operands<'a, 'b> {
     pub(crate) left: Items<'a>,
-    pub(crate) right: Items<'a>,
+    pub(crate) right: Items<'b>,
     pub(crate) ghost even: { left.layout.now.shape ≡ right.layout.now.shape },
 }
 
@@ -31,7 +31,7 @@ pub(crate) trait Pass {
     ghost width: { Self → ℕ };
 
     /// Pushes what is made of each pair of two runs.
-    fn push_row(&self, block: BlockBuilder, pairs: Pairs<'_>) -> BlockBuilder
+    fn push_row(&self, block: BlockBuilder, pairs: Pairs<'_, '_>) -> BlockBuilder
         requires reads { Reads self.now pairs.left.width pairs.right.width }
         requires room { pair_count pairs * width self.now ≤ block.1 }
         ensures bytes { result.0 ≡ block.0 ++ joined (made_of (makes self.now) pairs.entry) (pair_count pairs.entry) }
@@ -40,7 +40,7 @@ pub(crate) trait Pass {
     ghost not_empty: { (pass : Self) → 1 ≤ width pass };
 }
 
-impl<'a> Operands<'a> {
+impl<'a, 'b> Operands<'a, 'b> {
     ghost use Rattle.elementwise.specs.inside.Operands.{pairs_of, made_of_all};
 
     /// Pushes what is made of each pair of items, in C order. The block is moved into each row and back.

@@ -8,11 +8,11 @@ ghost use Rattle.elementwise.specs.Results.{stretched_items};
 ghost use Rattle.elementwise.specs.inside.Shrunk.{IsShrunk};
 ghost use Rattle.elementwise.specs.inside.Made.{IsMade};
 
-use crate::pairing::{Pairing, Work};
-use crate::typed::{make_stretched, stretched_to};
+use crate::casts::cast_numbers;
+use crate::typed::stretched_to;
 use broadcasting::{shrink, shrunk_shape};
 use elem_descr::{Refusal, Scalar};
-use overlap_copy::Owned;
+use overlap_copy::{Items, Owned};
 use shape_strides::{Layout, Shape};
 use std::alloc::Global;
 
@@ -58,9 +58,12 @@ pub(crate) fn spread(alloc: Global, made: &Owned, shape: &Shape) -> Result<Owned
     ensures refused { IfErr result (λ refusal. refusal ≡ OutOfMemory) }
 {
     let _items = shape.items();
-    let pairing = Pairing::Alike {
-        work: Work::Cast(Scalar::Bool),
-        scalar: Scalar::Bool,
+    let items = made.items();
+    let wide = stretched_to(alloc, items.layout, shape)?;
+    let bools = Items {
+        block: items.block,
+        layout: &wide,
+        descr: items.descr,
     };
-    make_stretched(alloc, &pairing, made.items(), made.items(), shape)
+    cast_numbers(alloc, bools, &Scalar::Bool, &Scalar::Bool)
 }

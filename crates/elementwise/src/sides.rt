@@ -5,18 +5,18 @@ use machine_numbers::Side;
 
 /// Two runs of as many items.
 #[derive(Clone, Copy, Drop)]
-pub(crate) struct Pairs<'a> {
+pub(crate) struct Pairs<'a, 'b> {
     pub(crate) left: Side<'a>,
-    pub(crate) right: Side<'a>,
+    pub(crate) right: Side<'b>,
     pub(crate) ghost even: { left.run.count ≡ right.run.count },
 }
 
-impl<'a> Pairs<'a> {
+impl<'a, 'b> Pairs<'a, 'b> {
     ghost use Rattle.machine_numbers.specs.Sides.{AreSame};
 
     /// The same, whose steps are known to be these.
     #[inline(always)]
-    pub(crate) fn with_steps(self, left: isize, right: isize) -> Pairs<'a>
+    pub(crate) fn with_steps(self, left: isize, right: isize) -> Pairs<'a, 'b>
         requires left { self.left.run.step ≡ left }
         requires right { self.right.run.step ≡ right }
         ensures left { AreSame result.left self.entry.left }

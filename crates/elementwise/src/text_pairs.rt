@@ -1,13 +1,31 @@
-//! Comparisons of pairs of byte strings, row by row.
-ghost use Rattle.elementwise.specs.inside.PairPasses.{text_pair};
+//! Comparisons of byte strings, row by row.
+ghost use Rattle.elem_descr.specs.declared.scalar.Scalar.TheVariants.{Bool as BoolScalar};
+ghost use Rattle.elem_descr.specs.Values.{text};
+ghost use Rattle.elem_descr.specs.Encoding.{encode, without_nuls};
+ghost use Rattle.elementwise.specs.inside.PairPasses.{text_pair, truth_value};
 ghost use Rattle.std.proofs.Common.{arith};
 
-use crate::pairing::ComparingTexts;
 use crate::rows::Pass;
 use crate::sides::Pairs;
-use crate::text_comparing::are_items_compared;
-use machine_numbers::{LowFirst, Number};
+use crate::text_comparing::{are_compared, are_items_compared, without_nuls};
+use elem_descr::BytesLen;
+use machine_numbers::{Comparison, LowFirst, Number};
 use raw_block::BlockBuilder;
+
+/// A comparison of byte strings of two lengths.
+#[derive(Clone, Copy)]
+pub(crate) struct ComparingTexts {
+    pub(crate) comparison: Comparison,
+    pub(crate) width: BytesLen,
+    pub(crate) other_width: BytesLen,
+}
+
+/// A comparison of byte strings with one that no NULs end.
+#[derive(Clone, Copy, Drop)]
+pub(crate) struct ComparingWith<'a> {
+    pub(crate) comparison: Comparison,
+    pub(crate) other: &'a [u8],
+}
 
 impl Pass for ComparingTexts {
     ghost makes = { λ t. text_pair t.comparison };
@@ -18,10 +36,33 @@ impl Pass for ComparingTexts {
 
     ghost not_empty = { λ _. Prim.omega arith };
 
-    fn push_row(&self, block: BlockBuilder, pairs: Pairs<'_>) -> BlockBuilder {
+    fn push_row(&self, block: BlockBuilder, pairs: Pairs<'_, '_>) -> BlockBuilder {
         let mut block = block;
         for k in 0..pairs.left.run.count {
             let says = are_items_compared(self.comparison, pairs.left.item(k), pairs.right.item(k));
+            says.push::<LowFirst>(&mut block);
+        }
+        block
+    }
+}
+
+impl<'a> Pass for ComparingWith<'a> {
+    ghost makes = { λ t x y. encode BoolScalar (truth_value t.comparison (text (without_nuls x)) (text t.other.now)) };
+
+    ghost Reads = { λ _ _ _. Unit {0} };
+
+    ghost width = { λ _. 1 };
+
+    ghost not_empty = { λ _. Prim.omega arith };
+
+    fn push_row(&self, block: BlockBuilder, pairs: Pairs<'_, '_>) -> BlockBuilder {
+        let mut block = block;
+        for k in 0..pairs.left.run.count {
+            let says = are_compared(
+                self.comparison,
+                without_nuls(pairs.left.item(k)),
+                self.other,
+            );
             says.push::<LowFirst>(&mut block);
         }
         block

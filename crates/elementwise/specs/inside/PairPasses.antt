@@ -1,5 +1,5 @@
 -- Passes over pairs of items that lie at equal steps.
-use Rattle.std.specs.Prelude.{◌≡◌, ℕ, ℤ, pos, int_lt, if◌then◌else◌, List}
+use Rattle.std.specs.Prelude.{◌≡◌, ℕ, ℤ, pos, int_lt, Bool, true, false, not, ◌||◌, if◌then◌else◌, List}
 use Rattle.elem_descr.specs.declared.scalar.Order.TheVariants.{Little}
 use Rattle.elem_descr.specs.declared.scalar.Scalar.{Scalar}
 use Rattle.elem_descr.specs.declared.scalar.Scalar.TheVariants.{Bool as BoolScalar, Byte, Int, Bytes}
@@ -29,6 +29,16 @@ value_pair left right to f x y = encode to (f (decode left x) (decode right y))
 -- what f makes of the items at two offsets
 abbrev pub pair_from : (List ℕ → List ℕ → List ℕ) → ℕ → ℕ → List ℕ → List ℕ → ℕ → ℕ → List ℕ
 pair_from f width width' left right o o' = f (item_at o width left) (item_at o' width' right)
+
+-- what is said where the first value is below or above the second: `holds` in one of these cases or in both, and else the other bool
+abbrev pub said : Bool → Bool → Bool → Bool → Bool → Bool
+said true true true below above = below || above
+said true true false below above = not (below || above)
+said true false true below above = below
+said true false false below above = not below
+said false true true below above = above
+said false true false below above = not above
+said false false holds below above = not holds
 
 -- what a comparison says of two numbers, as 0 or 1
 abbrev pub says_number : Comparison → ℤ → ℤ → ℤ

@@ -11,3 +11,9 @@ pub record IsShrunk (small layout : Layout) (once shape : List ℕ) : Type 0 whe
   pub can : IsTrue (can_stretch once shape)
   pub places : view_through (offsets small) small.shape shape (broadcast_index small.shape) ≡ view_through (offsets layout) layout.shape shape (broadcast_index layout.shape)
   pub inside : (len width : ℕ) → All (λ offset. offset + width ≤ len) (offsets layout) → All (λ offset. offset + width ≤ len) (offsets small)
+
+-- a layout is another one, stretched to a shape
+pub record IsStretched (wide layout : Layout) (shape : List ℕ) : Type 0 where
+  pub shape_is : wide.shape ≡ shape
+  pub places : offsets wide ≡ view_through (offsets layout) layout.shape shape (broadcast_index layout.shape)
+  pub inside : (len width : ℕ) → All (λ offset. offset + width ≤ len) (offsets layout) → All (λ offset. offset + width ≤ len) (offsets wide)

@@ -2,7 +2,7 @@
 use Rattle.std.proofs.Common.{◌≡◌, ◌≤◌}
 use Rattle.std.specs.Prelude.{ℤ}
 use Rattle.elem_descr.specs.declared.scalar.Scalar.{Scalar}
-use Rattle.elem_descr.specs.Values.{LeafValue, number}
+use Rattle.elem_descr.specs.Values.{LeafValue, number, text}
 use Rattle.elem_descr.specs.Encoding.{IsNumber, size, number_of, decode, encode}
 use Rattle.elem_descr.specs.EncodingLaws.{decode_encode}
 use Rattle.elem_descr.specs.NumberLaws.{number_size}
@@ -12,7 +12,7 @@ use Rattle.elementwise.specs.inside.PairLaws.{number-little, number_small, bool_
 use Rattle.elementwise.specs.inside.Works.{target, meaning, IsWork, target_of, gives, CanPair}
 use Rattle.elementwise.specs.declared.pairing.Work.{Work}
 use Rattle.elementwise.specs.declared.pairing.Pairing.{Pairing}
-use Rattle.elementwise.specs.declared.pairing.Pairing.TheVariants.{Alike, Signs, Texts}
+use Rattle.elementwise.specs.declared.pairing.Pairing.TheVariants.{Alike, Signs, Texts, With}
 use Rattle.elementwise.specs.declared.pairing.Work.TheVariants.{Combine, Change, Compare, Cast}
 
 pub work_reads_back : (work : Work) (s : Scalar) (a b : ℤ) → IsNumber s → IsWork work → decode (target work s) (encode (target work s) (number (meaning work s a b))) ≡ number (meaning work s a b)
@@ -31,3 +31,4 @@ pub pair_reads_back : (p : Pairing) (x y : LeafValue) → CanPair p → decode (
 pair_reads_back (Alike work scalar) x y can = work_reads_back work scalar (number_of x) (number_of y) can.0 can.1
 pair_reads_back (Signs comparison left_signed) x y can = compared_reads_back comparison x y
 pair_reads_back (Texts texts) x y can = truth_reads_back texts.comparison x y
+pair_reads_back (With comparison width other) x y can = truth_reads_back comparison x (text other.now)

@@ -1,18 +1,21 @@
 -- What is made of the values of two items.
-use Rattle.std.specs.Prelude.{◌≡◌, ℕ, ℤ, List, not, false}
+use Rattle.std.specs.Prelude.{◌≡◌, ℕ, ℤ, List, not, true, false}
 use Rattle.elem_descr.specs.declared.scalar.Order.TheVariants.{Little}
 use Rattle.elem_descr.specs.declared.scalar.Width.TheVariants.{Eight}
 use Rattle.elem_descr.specs.declared.scalar.Scalar.{Scalar}
 use Rattle.elem_descr.specs.declared.scalar.Scalar.TheVariants.{Bool as BoolScalar, Int, Bytes}
-use Rattle.elem_descr.specs.Values.{LeafValue, number}
+use Rattle.elem_descr.specs.Values.{LeafValue, number, text}
+use Rattle.elem_descr.specs.declared.descr.Descr.{Descr}
+use Rattle.elem_descr.specs.declared.descr.Descr.TheVariants.{Scalar as ScalarDescr}
+use Rattle.machine_numbers.specs.declared.operators.Comparison.{Comparison}
 use Rattle.elem_descr.specs.Encoding.{IsNumber, number_of, wrap}
 use Rattle.machine_numbers.specs.Kinds.{little}
-use Rattle.elementwise.specs.Promotion.{is_division}
+use Rattle.elementwise.specs.Promotion.{is_division, are_comparable}
 use Rattle.elementwise.specs.Operations.{binary, unary}
-use Rattle.elementwise.specs.inside.PairPasses.{says_number, compared_value, truth_value, value_pair}
+use Rattle.elementwise.specs.inside.PairPasses.{says_number, compared_value, truth_value, value_pair, Holds}
 use Rattle.elementwise.specs.declared.pairing.Work.{Work}
 use Rattle.elementwise.specs.declared.pairing.Pairing.{Pairing}
-use Rattle.elementwise.specs.declared.pairing.Pairing.TheVariants.{Alike, Signs, Texts}
+use Rattle.elementwise.specs.declared.pairing.Pairing.TheVariants.{Alike, Signs, Texts, With}
 use Rattle.elementwise.specs.declared.pairing.Work.TheVariants.{Combine, Change, Compare, Cast}
 
 -- ---- of numbers of one scalar
@@ -45,23 +48,27 @@ abbrev pub left_of : Pairing → Scalar
 left_of (Alike work scalar) = scalar
 left_of (Signs comparison left_signed) = Int left_signed Eight Little
 left_of (Texts texts) = Bytes texts.width
+left_of (With comparison width other) = Bytes width
 
 abbrev pub right_of : Pairing → Scalar
 right_of (Alike work scalar) = scalar
 right_of (Signs comparison left_signed) = Int (not left_signed) Eight Little
 right_of (Texts texts) = Bytes texts.other_width
+right_of (With comparison width other) = Bytes width
 
 -- and of what is made
 abbrev pub target_of : Pairing → Scalar
 target_of (Alike work scalar) = target work scalar
 target_of (Signs comparison left_signed) = BoolScalar
 target_of (Texts texts) = BoolScalar
+target_of (With comparison width other) = BoolScalar
 
 -- what is made of two values
 abbrev pub gives : Pairing → LeafValue → LeafValue → LeafValue
 gives (Alike work scalar) x y = number (meaning work scalar (number_of x) (number_of y))
 gives (Signs comparison left_signed) x y = compared_value comparison x y
 gives (Texts texts) x y = truth_value texts.comparison x y
+gives (With comparison width other) x y = truth_value comparison x (text other.now)
 
 -- its bytes, of those of two items
 abbrev pub pair_made : Pairing → List ℕ → List ℕ → List ℕ
@@ -72,3 +79,19 @@ abbrev pub CanPair : Pairing → Type 0
 CanPair (Alike work scalar) = IsNumber scalar × IsWork work
 CanPair (Signs comparison left_signed) = Unit {0}
 CanPair (Texts texts) = Unit {0}
+CanPair (With comparison width other) = Unit {0}
+
+-- ---- comparisons
+
+-- the items of two element types are compared
+abbrev pub AreComparable : Descr → Descr → Type 0
+AreComparable (ScalarDescr left) (ScalarDescr right) = are_comparable left right ≡ true
+AreComparable _ _ = ⊥
+
+-- numbers of two scalars are compared by value, as those of scalars that hold them
+pub record IsComparing (comparison : Comparison) (from from' : Scalar) (p : Pairing) : Type 0 where
+  pub can : CanPair p
+  pub left : IsNumber (left_of p) × Holds from (left_of p)
+  pub right : IsNumber (right_of p) × Holds from' (right_of p)
+  pub target : target_of p ≡ BoolScalar
+  pub says : (x y : LeafValue) → gives p x y ≡ compared_value comparison x y

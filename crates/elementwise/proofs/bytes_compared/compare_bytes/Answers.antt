@@ -1,8 +1,9 @@
-use Rattle.std.proofs.Common.{[], ◌∷◌, map, inr, sym, ◌∙◌}
+use Rattle.std.proofs.Common.{[], ◌∷◌, map, inr, ap, ◌∙◌}
 use Rattle.std.proofs.lemmas.Result.{err_from_is_err_and}
 use Rattle.elem_descr.specs.declared.descr.Descr.TheVariants.{Scalar as ScalarDescr}
 use Rattle.elem_descr.specs.declared.scalar.Scalar.TheVariants.{Bool as BoolScalar}
 use Rattle.shape_strides.specs.Layouts.{offsets}
+use Rattle.machine_numbers.specs.Kinds.{is_text}
 use Rattle.elem_descr.specs.Values.{text}
 use Rattle.elem_descr.specs.Encoding.{without_nuls}
 use Rattle.elem_descr.specs.Blocks.{item_from}
@@ -17,17 +18,16 @@ returns-in_err-from-clause-gives c =
     let p = err_from_is_err_and c.from_residual.result c.from_residual.ensures.1 in
     rw (p.1, p.2) (inr (operand_refused c.args.operand.descr.now c.args.operand.layout.now.shape c.in_err-from.field-0.0 c.in_err-from.ensures))
 
-pub returns-then-not-is_text-clause-gives : goal.returns-then-not-is_text-clause-gives
-returns-then-not-is_text-clause-gives c =
-    inr (number_refused c.args.operand.descr.now c.args.operand.layout.now.shape c.in_ok-from.from c.in_ok-from.ensures (sym c.is_text.ensures ∙ c.if-not-is_text.true))
+pub returns-in_default : goal.returns-in_default
+returns-in_default c = record { gives = inr (number_refused c.args.operand.descr.now c.args.operand.layout.now.shape c.in_ok-from.from c.in_ok-from.ensures c.in_default.not-Bytes); order = tt; items = tt; encoded = tt }
 
-pub compare_once-requires-clause-from : goal.compare_once-requires-clause-from
-compare_once-requires-clause-from c = is_scalar c.args.operand.descr.now c.in_ok-from.from c.in_ok-from.ensures
+pub compare_once-requires : goal.compare_once-requires
+compare_once-requires c = is_scalar c.args.operand.descr.now c.in_ok-from.from c.in_ok-from.ensures ∙ ap ScalarDescr c.in-Bytes.is
 
 pub returns-clause-gives : goal.returns-clause-gives
 returns-clause-gives c =
     made-gives (ScalarDescr BoolScalar) c.args.operand.layout.now.shape _ c.compare_once.result _
-    (one_given c.args.operand.descr.now c.args.operand.layout.now.shape c.in_ok-from.from c.in_ok-from.ensures (sym c.is_text.ensures ∙ c.if-not-is_text.false))
+    (one_given c.args.operand.descr.now c.args.operand.layout.now.shape c.in_ok-from.from c.in_ok-from.ensures (ap is_text c.in-Bytes.is))
     c.compare_once.ensures.made c.compare_once.ensures.refused
 
 pub returns-clause-order : goal.returns-clause-order

@@ -1,6 +1,11 @@
-use Rattle.std.proofs.Common.{inr, Ok, ap, ◌∙◌}
+use Rattle.std.proofs.Common.{inl, inr, Ok, refl, ◌∙◌}
 use Rattle.std.proofs.lemmas.Result.{err_from_is_err_and}
-use Rattle.elementwise.proofs.ComparedLaws.{compared_bools, left_refused, right_refused, type_refused}
+use Rattle.elem_descr.specs.declared.descr.Descr.TheVariants.{Scalar as ScalarDescr}
+use Rattle.elem_descr.specs.declared.scalar.Scalar.TheVariants.{Bool as BoolScalar}
+use Rattle.elementwise.specs.Results.{pairwise, compared_item}
+use Rattle.elementwise.specs.inside.Held.{stretched}
+use Rattle.elementwise.proofs.ComparedLaws.{compared_bools, comparable_scalars, left_refused, right_refused, type_refused, shapes_refused, all_given}
+use Rattle.elementwise.proofs.MadeLaws.{made-gives, made-order, made-items, made-encoded}
 use Rattle.elementwise.proofs.compared.compare.Goals as goal
 use Rattle.elementwise.specs.ResultLaws.{is_scalar}
 
@@ -19,11 +24,32 @@ returns-in_err-compared_type-clause-gives c =
     let p = err_from_is_err_and c.from_residual-in_err-compared_type.result c.from_residual-in_err-compared_type.ensures.1 in
     rw (p.1, p.2) (inr (type_refused c.args.left.descr.now c.args.left.layout.now.shape c.args.right.descr.now c.args.right.layout.now.shape c.in_ok-from.from c.in_ok-other.other c.in_err-compared_type.field-0.0 c.in_ok-from.ensures c.in_ok-other.ensures c.in_err-compared_type.ensures))
 
-pub compare_both-requires-clause-from : goal.compare_both-requires-clause-from
-compare_both-requires-clause-from c = is_scalar c.args.left.descr.now c.in_ok-from.from c.in_ok-from.ensures
+pub returns-in_err-shape-clause-gives : goal.returns-in_err-shape-clause-gives
+returns-in_err-shape-clause-gives c =
+    let p = err_from_is_err_and c.from_residual-in_err-shape.result c.from_residual-in_err-shape.ensures.1 in
+    rw (p.1, p.2) (elim c.in_err-shape.ensures.value [
+      | inl none ↦ inl none
+      | inr there ↦ inr (shapes_refused c.args.left.descr.now c.args.left.layout.now.shape c.args.right.descr.now c.args.right.layout.now.shape c.in_ok-from.from c.in_ok-other.other _ c.in_err-shape.field-0.0 c.in_ok-from.ensures c.in_ok-other.ensures c.in_ok-compared_type.ensures there)
+    ])
 
-pub compare_both-requires-clause-other : goal.compare_both-requires-clause-other
-compare_both-requires-clause-other c = is_scalar c.args.right.descr.now c.in_ok-other.other c.in_ok-other.ensures
+pub compare_once-requires : goal.compare_once-requires
+compare_once-requires c =
+    comparable_scalars c.args.left.descr.now c.args.right.descr.now c.in_ok-from.from c.in_ok-other.other (is_scalar c.args.left.descr.now c.in_ok-from.from c.in_ok-from.ensures) (is_scalar c.args.right.descr.now c.in_ok-other.other c.in_ok-other.ensures)
+    (compared_bools c.in_ok-from.from c.in_ok-other.other _ c.in_ok-compared_type.ensures).0
 
-pub compare_both-requires-clause-typed : goal.compare_both-requires-clause-typed
-compare_both-requires-clause-typed c = c.in_ok-compared_type.ensures ∙ ap Ok (compared_bools c.in_ok-from.from c.in_ok-other.other _ c.in_ok-compared_type.ensures).1
+pub returns-clause-gives : goal.returns-clause-gives
+returns-clause-gives c =
+    made-gives (ScalarDescr BoolScalar) c.in_ok-shape.shape _ c.compare_once.result _
+    (all_given c.args.left.descr.now c.args.left.layout.now.shape c.args.right.descr.now c.args.right.layout.now.shape c.in_ok-from.from c.in_ok-other.other _ c.in_ok-shape.shape c.in_ok-from.ensures c.in_ok-other.ensures c.in_ok-compared_type.ensures c.in_ok-shape.ensures.value
+    ∙ λ i. Ok (ScalarDescr ((compared_bools c.in_ok-from.from c.in_ok-other.other _ c.in_ok-compared_type.ensures).1 i), c.in_ok-shape.shape))
+    c.compare_once.ensures.made c.compare_once.ensures.refused
+
+pub returns-clause-order : goal.returns-clause-order
+returns-clause-order c = made-order (ScalarDescr BoolScalar) c.in_ok-shape.shape _ c.compare_once.result c.compare_once.ensures.made
+
+pub returns-clause-items : goal.returns-clause-items
+returns-clause-items c =
+    made-items (ScalarDescr BoolScalar) c.in_ok-shape.shape _ (λ _ shape. pairwise (compared_item c.args.comparison) (stretched c.args.left shape) (stretched c.args.right shape)) c.compare_once.result refl c.compare_once.ensures.made
+
+pub returns-clause-encoded : goal.returns-clause-encoded
+returns-clause-encoded c = made-encoded (ScalarDescr BoolScalar) c.in_ok-shape.shape _ c.compare_once.result c.compare_once.ensures.made

@@ -1,7 +1,9 @@
-use Rattle.std.proofs.Common.{◌*◌, ◌≤◌, [], ◌∷◌, map, ap, ◌∙◌, arith}
+use Rattle.std.proofs.Common.{◌≡◌, ◌*◌, ◌≤◌, List, [], ◌∷◌, length, map, ap, ◌∙◌, arith}
 use Rattle.std.proofs.Math.Nat.{mul-le-mul_left}
 use Rattle.elem_descr.specs.declared.descr.Descr.TheVariants.{Scalar as ScalarDescr}
+use Rattle.elem_descr.specs.Values.{LeafValue}
 use Rattle.elem_descr.specs.Encoding.{size}
+use Rattle.elem_descr.specs.Items.{item_size}
 use Rattle.elem_descr.specs.Blocks.{item_from}
 use Rattle.shape_strides.specs.Indexes.{count}
 use Rattle.shape_strides.specs.Layouts.{offsets}
@@ -11,26 +13,34 @@ use Rattle.elementwise.specs.Results.{pairwise, value_in, stretched_items}
 use Rattle.elementwise.specs.inside.Works.{left_of, right_of, target_of, gives}
 use Rattle.elementwise.proofs.PairLaws.{pairwise-map}
 use Rattle.elementwise.proofs.TypedLaws.{stretched-cast}
-use Rattle.elementwise.proofs.MadeLaws.{made-as}
+use Rattle.elementwise.proofs.MadeLaws.{made-in}
 use Rattle.elementwise.proofs.typed.make_cast.Goals as goal
 
-pub make_stretched-requires-clause-left : goal.make_stretched-requires-clause-left
-make_stretched-requires-clause-left c = c.items.ensures.descr ∙ c.in_ok-left_held.ensures.descr ∙ ap ScalarDescr c.left.ensures
+pub stretched_to-requires : goal.stretched_to-requires
+stretched_to-requires c = (λ i. can_stretch ((c.items-left.ensures.shape ∙ c.in_ok-left_held.ensures.shape) i) c.args.shape.now) ∙ c.requires.stretches
 
-pub make_stretched-requires-clause-right : goal.make_stretched-requires-clause-right
-make_stretched-requires-clause-right c = c.items-2.ensures.descr ∙ c.in_ok-right_held.ensures.descr ∙ ap ScalarDescr c.right.ensures
+pub stretched_to-requires-2 : goal.stretched_to-requires-2
+stretched_to-requires-2 c = (λ i. can_stretch ((c.items-right.ensures.shape ∙ c.in_ok-right_held.ensures.shape) i) c.args.shape.now) ∙ c.requires.also
 
-pub make_stretched-requires-clause-few : goal.make_stretched-requires-clause-few
-make_stretched-requires-clause-few c =
+pub invariant_of-operands : goal.invariant_of-operands
+invariant_of-operands c = let x = c.items-left.result in record { inside = c.in_ok-first.ensures.stretched.inside (length x.block.now) (item_size x.descr.now) x.inside }
+
+pub invariant_of-operands-2 : goal.invariant_of-operands-2
+invariant_of-operands-2 c = let y = c.items-right.result in record { inside = c.in_ok-second.ensures.stretched.inside (length y.block.now) (item_size y.descr.now) y.inside }
+
+pub made-requires-clause-left : goal.made-requires-clause-left
+made-requires-clause-left c = c.items-left.ensures.descr ∙ c.in_ok-left_held.ensures.descr ∙ ap ScalarDescr c.left.ensures
+
+pub made-requires-clause-right : goal.made-requires-clause-right
+made-requires-clause-right c = c.items-right.ensures.descr ∙ c.in_ok-right_held.ensures.descr ∙ ap ScalarDescr c.right.ensures
+
+pub made-requires-clause-few : goal.made-requires-clause-few
+made-requires-clause-few c =
     let n = count c.args.shape.now in
-    let most : n * size (target_of c.args.pairing.now) ≤ n * 8 = mul-le-mul_left n c.requires.small.2 in
-    omega (arith, most, c.items-items.ensures.value, c.items-items.ensures.limit)
-
-pub make_stretched-requires-clause-stretches : goal.make_stretched-requires-clause-stretches
-make_stretched-requires-clause-stretches c = (λ i. can_stretch ((c.items.ensures.shape ∙ c.in_ok-left_held.ensures.shape) i) c.args.shape.now) ∙ c.requires.stretches
-
-pub make_stretched-requires-clause-also : goal.make_stretched-requires-clause-also
-make_stretched-requires-clause-also c = (λ i. can_stretch ((c.items-2.ensures.shape ∙ c.in_ok-right_held.ensures.shape) i) c.args.shape.now) ∙ c.requires.also
+    let to = size (target_of c.args.pairing.now) in
+    let same : count c.in_ok-first.first.shape * to ≡ n * to = ap (λ s. count s * to) c.in_ok-first.ensures.stretched.shape_is in
+    let most : n * to ≤ n * 8 = mul-le-mul_left n c.requires.small.2 in
+    omega (arith, same, most, c.items-items.ensures.value, c.items-items.ensures.limit)
 
 pub returns-clause-made : goal.returns-clause-made
 returns-clause-made c =
@@ -38,17 +48,16 @@ returns-clause-made c =
     let x = c.args.left in
     let y = c.args.right in
     let shape = c.args.shape.now in
-    let held = c.items.result in
-    let held' = c.items-2.result in
+    let held = c.items-left.result in
+    let held' = c.items-right.result in
     let cast = cast_item x.descr.now (ScalarDescr (left_of p)) in
     let cast' = cast_item y.descr.now (ScalarDescr (right_of p)) in
-    let xs = stretched_items x.descr.now x.block.now x.layout.now shape in
-    let ys = stretched_items y.descr.now y.block.now y.layout.now shape in
-    let first = stretched-cast cast x.descr.now held.descr.now x.block.now held.block.now x.layout.now held.layout.now shape (c.items.ensures.shape ∙ c.in_ok-left_held.ensures.shape) c.requires.stretches
-    (c.items.ensures.items ∙ c.in_ok-left_held.ensures.items ∙ λ i. map (cast_item x.descr.now (ScalarDescr (c.left.ensures i))) (map (item_from x.descr.now x.block.now) (offsets x.layout.now))) in
-    let second = stretched-cast cast' y.descr.now held'.descr.now y.block.now held'.block.now y.layout.now held'.layout.now shape (c.items-2.ensures.shape ∙ c.in_ok-right_held.ensures.shape) c.requires.also
-    (c.items-2.ensures.items ∙ c.in_ok-right_held.ensures.items ∙ λ i. map (cast_item y.descr.now (ScalarDescr (c.right.ensures i))) (map (item_from y.descr.now y.block.now) (offsets y.layout.now))) in
-    made-as (ScalarDescr (target_of p)) shape _ _ c.make_stretched.result
-    ((λ i. pairwise (λ x y. gives p (value_in x) (value_in y) ∷ []) (first i) (second i))
-    ∙ pairwise-map (λ x y. gives p (value_in x) (value_in y) ∷ []) cast cast' xs ys)
-    c.make_stretched.ensures.made
+    let make = λ (u v : List LeafValue). gives p (value_in u) (value_in v) ∷ [] in
+    let first = ap (map (item_from held.descr.now held.block.now)) c.in_ok-first.ensures.stretched.places ∙ stretched-cast cast x.descr.now held.descr.now x.block.now held.block.now x.layout.now held.layout.now shape (c.items-left.ensures.shape ∙ c.in_ok-left_held.ensures.shape) c.requires.stretches
+    (c.items-left.ensures.items ∙ c.in_ok-left_held.ensures.items ∙ λ i. map (cast_item x.descr.now (ScalarDescr (c.left.ensures i))) (map (item_from x.descr.now x.block.now) (offsets x.layout.now))) in
+    let second = ap (map (item_from held'.descr.now held'.block.now)) c.in_ok-second.ensures.stretched.places ∙ stretched-cast cast' y.descr.now held'.descr.now y.block.now held'.block.now y.layout.now held'.layout.now shape (c.items-right.ensures.shape ∙ c.in_ok-right_held.ensures.shape) c.requires.also
+    (c.items-right.ensures.items ∙ c.in_ok-right_held.ensures.items ∙ λ i. map (cast_item y.descr.now (ScalarDescr (c.right.ensures i))) (map (item_from y.descr.now y.block.now) (offsets y.layout.now))) in
+    made-in (ScalarDescr (target_of p)) c.in_ok-first.first.shape shape _ _ c.made.result c.in_ok-first.ensures.stretched.shape_is
+    ((λ i. pairwise make (first i) (second i))
+    ∙ pairwise-map make cast cast' (stretched_items x.descr.now x.block.now x.layout.now shape) (stretched_items y.descr.now y.block.now y.layout.now shape))
+    c.made.ensures.made

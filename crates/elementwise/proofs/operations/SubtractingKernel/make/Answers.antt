@@ -1,13 +1,16 @@
-use Rattle.std.proofs.Common.{sym, ◌∙◌}
+use Rattle.std.proofs.Common.{ℕ, ◌+◌, ◌-◌, ◌%◌, ◌^◌, sym, ◌∙◌, arith}
 use Rattle.std.specs.Prelude.{pos, ◌-ℤ◌}
+use Rattle.std.proofs.Math.Nat.{mod-lt}
 use Rattle.elem_descr.specs.declared.scalar.Order.TheVariants.{Little}
 use Rattle.elem_descr.specs.Encoding.{low_bits}
 use Rattle.machine_numbers.specs.declared.operators.BinOp.TheVariants.{Subtract}
+use Rattle.elementwise.proofs.BitLaws.{difference_low}
 use Rattle.elementwise.proofs.WordLaws.{are_bits, applied}
 use Rattle.elementwise.proofs.operations.SubtractingKernel.make.Goals as goal
 
 pub returns : goal.returns
 returns g c =
-    applied Subtract (g.N.Number.scalar Little) _ _ _ c.difference.result (g.met.N.Number.is_number Little) (g.met.N.Number.is_truth Little c.args.left) (g.met.N.Number.is_truth Little c.args.right)
-    (c.of_bits.ensures Little (pos c.difference.result) (are_bits c.difference.result c.difference.type_inv))
-    (c.difference.ensures g.N.Number.SIGNED ∙ λ i. low_bits 8 (sym c.bits.ensures.exact i -ℤ sym c.bits-2.ensures.exact i))
+    let r : ℕ = (c.bits.result + (2 ^ 64 - c.bits-2.result)) % 2 ^ 64 in
+    applied Subtract (g.N.Number.scalar Little) _ _ _ r (g.met.N.Number.is_number Little) (g.met.N.Number.is_truth Little c.args.left) (g.met.N.Number.is_truth Little c.args.right)
+    (c.of_bits.ensures Little (pos r) (are_bits r (mod-lt _ (omega arith))))
+    (difference_low g.N.Number.SIGNED g.N.Number.SIGNED c.bits.result c.bits-2.result c.bits.type_inv c.bits-2.type_inv ∙ λ i. low_bits 8 (sym c.bits.ensures.exact i -ℤ sym c.bits-2.ensures.exact i))
