@@ -1,4 +1,5 @@
 //! Descriptors of scripts: type strings and format texts.
+use crate::check::check;
 use elem_descr::{Refusal, descr_read, format_write};
 use std::alloc::Global;
 use std::test::Fail;
@@ -44,7 +45,7 @@ fn meaning(alloc: Global, text: &str) -> Result<Vec<u8>, Refusal> {
 fn descriptors_of_scripts(rt: HostRuntime) -> Result<(), Fail> {
     for (text, written) in READ {
         let found = meaning(rt.alloc(), text)?;
-        assert!(rt; found.as_slice() == written.as_bytes(), "at {text}");
+        check(&rt, found.as_slice() == written.as_bytes(), text);
     }
     Ok(())
 }
@@ -53,6 +54,6 @@ fn descriptors_of_scripts(rt: HostRuntime) -> Result<(), Fail> {
 fn refused_descriptors(rt: HostRuntime) {
     for (text, refusal) in REFUSED {
         let found = meaning(rt.alloc(), text).err();
-        assert!(rt; found == Some(*refusal), "at {text}");
+        check(&rt, found == Some(*refusal), text);
     }
 }

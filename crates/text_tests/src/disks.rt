@@ -33,11 +33,22 @@ fn saves_and_loads(alloc: Global, call: usize, crashes: bool) -> (MemDisk, usize
     (disk, refused)
 }
 
-/// What a disk has under a name, seen through a store.
-fn contents(alloc: Global, disk: MemDisk, name: &[u8]) -> Result<(MemDisk, Option<Vec<u8>>), Fail> {
-    let mut store = folder_on(disk);
-    let found = store.read(alloc, name)?;
-    Ok((store.into_disk(), found))
+/// Whether a hidden file is left.
+fn has_hidden(disk: &mut MemDisk) -> Result<bool, Fail> {
+    Ok(disk.has_file(b".a.part")? || disk.has_file(b".b.part")?)
+}
+
+/// Which of the texts that are saved a file has, or that there is no such file.
+fn contents(alloc: Global, folder: &mut MemFolder, name: &[u8]) -> Result<&'static str, Fail> {
+    let Some(found) = folder.read(alloc, name)? else {
+        return Ok("none");
+    };
+    for text in ["one", "two", "three", "four"] {
+        if found.as_slice() == text.as_bytes() {
+            return Ok(text);
+        }
+    }
+    Ok("another")
 }
 
 /// The one that meets the failing call is refused, and no other; each file is one of those that were saved,
@@ -46,19 +57,15 @@ fn contents(alloc: Global, disk: MemDisk, name: &[u8]) -> Result<(MemDisk, Optio
 fn each_call_fails(rt: HostRuntime) -> Result<(), Fail> {
     for call in 0..CALLS + 2 {
         let (mut disk, refused) = saves_and_loads(rt.alloc(), call, false);
-        assert!(rt; refused == usize::from(call < CALLS), "at {call}");
-        assert!(rt; !disk.has_file(b".a.part")?, "at {call}");
-        assert!(rt; !disk.has_file(b".b.part")?, "at {call}");
-        let (disk, a) = contents(rt.alloc(), disk, b"a")?;
-        let is_last = a.as_deref() == Some(b"three".as_slice());
-        assert!(rt;
-            is_last || a.as_deref() == Some(b"one".as_slice()),
-            "at {call}"
-        );
-        assert!(rt; is_last || refused == 1, "at {call}");
-        let (_, b) = contents(rt.alloc(), disk, b"b")?;
-        let is_there = b.as_deref() == Some(b"two".as_slice());
-        assert!(rt; is_there || (b.is_none() && refused == 1), "at {call}");
+        let is_hidden = has_hidden(&mut disk)?;
+        let mut folder = folder_on(disk);
+        let a = contents(rt.alloc(), &mut folder, b"a")?;
+        let b = contents(rt.alloc(), &mut folder, b"b")?;
+        let is_last = a == "three" && b == "two";
+        let is_saved = (a == "three" || a == "one") && (b == "two" || b == "none");
+        let is_one_refused = refused == usize::from(call < CALLS);
+        let is_told = is_last || (is_saved && refused == 1);
+        assert!(rt; !is_hidden && is_one_refused && is_told, "at {call}");
     }
     Ok(())
 }
@@ -68,17 +75,13 @@ fn each_call_fails(rt: HostRuntime) -> Result<(), Fail> {
 fn a_crash_at_each_call(rt: HostRuntime) -> Result<(), Fail> {
     for call in 0..CALLS {
         let (disk, _) = saves_and_loads(rt.alloc(), call, true);
-        let (disk, a) = contents(rt.alloc(), disk, b"a")?;
-        let is_old = a.as_deref() == Some(b"one".as_slice());
-        let is_new = a.as_deref() == Some(b"three".as_slice());
-        assert!(rt; is_new || is_old || a.is_none(), "at {call}");
-        assert!(rt; is_new || call < 18, "at {call}");
-        let mut store = folder_on(disk);
-        store.write(rt.alloc(), b"a", b"four")?;
-        let mut disk = store.into_disk();
-        assert!(rt; !disk.has_file(b".a.part")?, "at {call}");
-        let (_, a) = contents(rt.alloc(), disk, b"a")?;
-        assert!(rt; a.as_deref() == Some(b"four".as_slice()), "at {call}");
+        let mut folder = folder_on(disk);
+        let old = contents(rt.alloc(), &mut folder, b"a")?;
+        folder.write(rt.alloc(), b"a", b"four")?;
+        let new = contents(rt.alloc(), &mut folder, b"a")?;
+        let is_hidden = folder.into_disk().has_file(b".a.part")?;
+        let is_whole = old == "three" || (call < 18 && (old == "one" || old == "none"));
+        assert!(rt; is_whole && new == "four" && !is_hidden, "at {call}");
     }
     Ok(())
 }

@@ -1,11 +1,12 @@
 //! NPY files that are read, and stores of files.
 ghost use Rattle.std.specs.Prelude.{◌≤◌, length};
 
+use crate::check::check;
 use elem_descr::Refusal;
 use npy_files::{FileParts, FuseStore, MemStore, NpyStore, StoreFault, npy_load, npy_read};
-use overlap_copy::Owned;
 use raw_block::RawBlock;
 use std::alloc::Global;
+use std::process::Abort;
 use std::test::Fail;
 
 /// Three integers, in a file of version 2.0, with a byte behind them.
@@ -23,49 +24,64 @@ fn a_file_of_version_two(rt: HostRuntime) -> Result<(), Fail> {
     Ok(())
 }
 
+fn refusal(alloc: Global, file: &[u8]) -> Option<Refusal> {
+    npy_read(alloc, file).err()
+}
+
 #[test]
 fn files_that_are_cut(rt: HostRuntime) {
     for len in 0..FILE.len() {
-        let found = npy_read(rt.alloc(), &FILE[..len]).err();
         let wanted = match len {
             0..=5 => Some(Refusal::BadMagic),
             81 => None,
             _ => Some(Refusal::Truncated),
         };
-        assert!(rt; found == wanted, "at {len}");
+        assert!(rt; refusal(rt.alloc(), &FILE[..len]) == wanted, "at {len}");
     }
 }
 
-/// What is loaded of a file whose first `cut` bytes are its first part.
-fn load_cut(alloc: Global, file: &[u8], cut: usize) -> Result<(Owned, usize), Refusal>
+/// How many bytes are behind the items of a file whose first `cut` bytes are its first part.
+fn load_cut(rt: &impl Abort, alloc: Global, file: &[u8], cut: usize) -> Result<usize, Refusal>
     requires { cut ≤ length file.now }
 {
     let front = Vec::from_slice(alloc, &file[..cut])?;
     let block = RawBlock::try_copied(alloc, &file[cut..])?;
-    npy_load(alloc, FileParts { front, block })
+    let (array, rest) = npy_load(alloc, FileParts { front, block })?;
+    check(rt, array.block.bytes() == ITEMS, "the items");
+    Ok(rest)
 }
 
 /// Wherever a file is cut in two, it is the same file, with a byte behind its items or without.
 #[test]
-fn files_in_two_parts(rt: HostRuntime) -> Result<(), Fail> {
+fn files_in_two_parts(rt: HostRuntime) {
     for cut in 0..81 {
-        for len in [81, 82] {
-            let (array, rest) = load_cut(rt.alloc(), &FILE[..len], cut)?;
-            assert!(rt; rest == len - 81, "at {cut}");
-            assert!(rt; array.block.bytes() == ITEMS, "at {cut}");
-        }
-        let cut_short = load_cut(rt.alloc(), &FILE[..80], cut.min(80)).err();
-        assert!(rt; cut_short == Some(Refusal::Truncated), "at {cut}");
+        let whole = load_cut(&rt, rt.alloc(), &FILE[..81], cut);
+        let more = load_cut(&rt, rt.alloc(), FILE, cut);
+        let short = load_cut(&rt, rt.alloc(), &FILE[..80], cut.min(80));
+        let wanted = (Ok(0), Ok(1), Err(Refusal::Truncated));
+        assert!(rt; (whole, more, short) == wanted, "at {cut}");
     }
-    Ok(())
 }
 
 #[test]
 fn files_that_are_refused(rt: HostRuntime) {
-    let version = npy_read(rt.alloc(), b"\x93NUMPY\x03\x00").err();
-    assert!(rt; version == Some(Refusal::BadVersion));
-    let long = npy_read(rt.alloc(), b"\x93NUMPY\x02\x00\x01\x00\x10\x00").err();
-    assert!(rt; long == Some(Refusal::TooLarge));
+    let version = refusal(rt.alloc(), b"\x93NUMPY\x03\x00");
+    check(&rt, version == Some(Refusal::BadVersion), "a version");
+    let long = refusal(rt.alloc(), b"\x93NUMPY\x02\x00\x01\x00\x10\x00");
+    check(&rt, long == Some(Refusal::TooLarge), "too long");
+}
+
+/// A store has this file under a name, or none.
+pub fn has_file<N: NpyStore>(
+    rt: &impl Abort,
+    alloc: Global,
+    store: &mut N,
+    name: &[u8],
+    bytes: Option<&[u8]>,
+) -> Result<(), StoreFault> {
+    let found = store.read(alloc, name)?;
+    check(rt, found.as_deref() == bytes, "what a file has");
+    Ok(())
 }
 
 #[test]
@@ -74,14 +90,27 @@ fn a_store_in_memory(rt: HostRuntime) -> Result<(), Fail> {
     store.write(rt.alloc(), b"a", b"one")?;
     store.write(rt.alloc(), b"b", b"two")?;
     store.write(rt.alloc(), b"a", b"new")?;
-    let found = store.read(rt.alloc(), b"a")?;
-    assert!(rt; matches!(&found, Some(bytes) if bytes.as_slice() == b"new".as_slice()));
-    let kept = store.read(rt.alloc(), b"b")?;
-    assert!(rt; matches!(&kept, Some(bytes) if bytes.as_slice() == b"two".as_slice()));
-    let none = store.read(rt.alloc(), b"c")?;
-    assert!(rt; none.is_none());
+    has_file(&rt, rt.alloc(), &mut store, b"a", Some(b"new"))?;
+    has_file(&rt, rt.alloc(), &mut store, b"b", Some(b"two"))?;
+    has_file(&rt, rt.alloc(), &mut store, b"c", None)?;
     let long = store.write(rt.alloc(), b"a", b"three");
-    assert!(rt; long == Err(StoreFault::TooLong));
+    check(&rt, long == Err(StoreFault::TooLong), "too long");
+    Ok(())
+}
+
+/// The two parts of a file are these bytes, one part behind the other.
+fn has_parts<N: NpyStore>(
+    rt: &impl Abort,
+    alloc: Global,
+    store: &mut N,
+    name: &[u8],
+    bytes: &[u8],
+) -> Result<(), StoreFault> {
+    let Some(FileParts { front, block }) = store.read_parts(alloc, name)? else {
+        panic!(rt; "no file");
+    };
+    let rest = bytes.strip_prefix(front.as_slice());
+    check(rt, rest == Some(block.bytes()), "the parts of a file");
     Ok(())
 }
 
@@ -91,16 +120,11 @@ fn two_parts_in_memory(rt: HostRuntime) -> Result<(), Fail> {
     let mut store = FuseStore::new(rt.alloc(), 6, 1);
     store.write_parts(rt.alloc(), b"a", b"one", b"two")?;
     let failed = store.read_parts(rt.alloc(), b"a").err();
-    assert!(rt; failed == Some(StoreFault::Device));
-    let found = store.read(rt.alloc(), b"a")?;
-    assert!(rt; matches!(&found, Some(bytes) if bytes.as_slice() == b"onetwo".as_slice()));
+    check(&rt, failed == Some(StoreFault::Device), "a fault");
+    has_file(&rt, rt.alloc(), &mut store, b"a", Some(b"onetwo"))?;
     let long = store.write_parts(rt.alloc(), b"a", b"one", b"four");
-    assert!(rt; long == Err(StoreFault::TooLong));
-    let Some(FileParts { mut front, block }) = store.read_parts(rt.alloc(), b"a")? else {
-        panic!(rt; "no file");
-    };
-    front.extend_from_slice(block.bytes())?;
-    assert!(rt; front.as_slice() == b"onetwo".as_slice());
+    check(&rt, long == Err(StoreFault::TooLong), "too long");
+    has_parts(&rt, rt.alloc(), &mut store, b"a", b"onetwo")?;
     Ok(())
 }
 
@@ -110,8 +134,7 @@ fn a_store_that_fails_once(rt: HostRuntime) -> Result<(), Fail> {
     store.write(rt.alloc(), b"a", b"one")?;
     let failed = store.write(rt.alloc(), b"a", b"two");
     assert!(rt; failed == Err(StoreFault::Device));
-    let found = store.read(rt.alloc(), b"a")?;
-    assert!(rt; matches!(&found, Some(bytes) if bytes.as_slice() == b"one".as_slice()));
+    has_file(&rt, rt.alloc(), &mut store, b"a", Some(b"one"))?;
     store.write(rt.alloc(), b"a", b"two")?;
     Ok(())
 }

@@ -1,4 +1,5 @@
 //! Format texts of PEP 3118, read and written.
+use crate::check::check;
 use elem_descr::{Descr, Field, Refusal, Scalar, format_read, format_write, typestr_write};
 use std::alloc::{AllocError, Global};
 use std::process::Abort;
@@ -275,8 +276,8 @@ fn is_as_told(
 ) -> Result<(), AllocError> {
     let mut shown = Vec::new(alloc);
     push_fields(alloc, &mut shown, descr)?;
-    assert!(rt; descr.size() == size, "at {fields}");
-    assert!(rt; shown.as_slice() == fields.as_bytes(), "at {fields}");
+    check(rt, descr.size() == size, fields);
+    check(rt, shown.as_slice() == fields.as_bytes(), fields);
     Ok(())
 }
 
@@ -346,10 +347,10 @@ fn nests(
 ) -> Result<(), Refusal> {
     let descr = format_read(alloc, text.as_bytes())?;
     let shown = leaves(alloc, &descr)?;
-    assert!(rt; shown.as_slice() == want.as_bytes(), "at {text}");
+    check(rt, shown.as_slice() == want.as_bytes(), text);
     let again = copied(alloc, &descr)?;
     let written = format_write(alloc, &again)?;
-    assert!(rt; written.as_slice() == spelled.as_bytes(), "at {text}");
+    check(rt, written.as_slice() == spelled.as_bytes(), text);
     Ok(())
 }
 
@@ -361,51 +362,69 @@ fn records_within_records(rt: HostRuntime) -> Result<(), Fail> {
     Ok(())
 }
 
-/// Appends a record of so many bytes.
-fn push_record(text: &mut Vec<u8>, bytes: usize) -> Result<(), AllocError> {
-    text.extend_from_slice(b"T{")?;
-    for _ in 0..bytes {
-        text.push(b'b')?;
-    }
-    text.push(b'}')?;
-    Ok(())
-}
+/// A record of 32 bytes.
+const RECORD: &str = "T{bbbbbbbbbbbbbbbbbbbbbbbbbbbbbbbb}";
 
-/// The leaves of a record of so many records with 32 leaves each, and one of so many more.
-fn read_leaves(alloc: Global, records: usize, more: usize) -> Result<usize, Refusal> {
-    let mut text = Vec::from_slice(alloc, b"T{")?;
+/// The leaves of a record of so many such records and a last one.
+fn read_leaves(alloc: Global, records: u32, last: &str) -> Result<usize, Refusal> {
+    let mut text = String::from_str(alloc, "T{")?;
     for _ in 0..records {
-        push_record(&mut text, 32)?;
+        text.push_str(RECORD)?;
     }
-    push_record(&mut text, more)?;
-    text.push(b'}')?;
-    let descr = format_read(alloc, text.as_slice())?;
-    Ok(descr.leaf_count())
+    text.push_str(last)?;
+    text.push_str("}")?;
+    Ok(format_read(alloc, text.as_bytes())?.leaf_count())
 }
 
-/// The fields of a record of so many bytes.
-fn read_fields(alloc: Global, fields: usize) -> Result<usize, Refusal> {
-    let mut text = Vec::new(alloc);
-    push_record(&mut text, fields)?;
-    let descr = format_read(alloc, text.as_slice())?;
-    Ok(descr.fields().len())
+const LEAVES: &[(u32, &str, Result<usize, Refusal>)] = &[
+    (63, RECORD, Ok(2048)),
+    (
+        63,
+        "T{bbbbbbbbbbbbbbbbbbbbbbbbbbbbbbbbb}",
+        Err(Refusal::TooLarge),
+    ),
+    (64, "T{b}", Err(Refusal::TooLarge)),
+];
+
+#[test]
+fn most_leaves(rt: HostRuntime) {
+    for (records, last, wanted) in LEAVES {
+        check(
+            &rt,
+            read_leaves(rt.alloc(), *records, last) == *wanted,
+            last,
+        );
+    }
+}
+
+/// Records of 64 and of 65 bytes.
+const FIELDS_OF: &[(&str, Result<usize, Refusal>)] = &[
+    (
+        "T{bbbbbbbbbbbbbbbbbbbbbbbbbbbbbbbbbbbbbbbbbbbbbbbbbbbbbbbbbbbbbbbb}",
+        Ok(64),
+    ),
+    (
+        "T{bbbbbbbbbbbbbbbbbbbbbbbbbbbbbbbbbbbbbbbbbbbbbbbbbbbbbbbbbbbbbbbbb}",
+        Err(Refusal::TooLarge),
+    ),
+];
+
+fn read_fields(alloc: Global, text: &str) -> Result<usize, Refusal> {
+    Ok(format_read(alloc, text.as_bytes())?.fields().len())
 }
 
 #[test]
-fn most_fields_and_leaves(rt: HostRuntime) {
-    let alloc = rt.alloc();
-    assert!(rt; read_fields(alloc, 64) == Ok(64));
-    assert!(rt; read_fields(alloc, 65) == Err(Refusal::TooLarge));
-    assert!(rt; read_leaves(alloc, 63, 32) == Ok(2048));
-    assert!(rt; read_leaves(alloc, 63, 33) == Err(Refusal::TooLarge));
-    assert!(rt; read_leaves(alloc, 64, 1) == Err(Refusal::TooLarge));
+fn most_fields(rt: HostRuntime) {
+    for (text, wanted) in FIELDS_OF {
+        check(&rt, read_fields(rt.alloc(), text) == *wanted, text);
+    }
 }
 
 #[test]
 fn refused_formats(rt: HostRuntime) {
     for (text, refusal) in REFUSED {
         let found = format_read(rt.alloc(), text.as_bytes()).err();
-        assert!(rt; found == Some(*refusal), "at {text}");
+        check(&rt, found == Some(*refusal), text);
     }
 }
 
@@ -419,7 +438,7 @@ fn written(alloc: Global, text: &str) -> Result<Vec<u8>, Refusal> {
 fn written_formats(rt: HostRuntime) -> Result<(), Fail> {
     for (text, want) in WRITTEN {
         let written = written(rt.alloc(), text)?;
-        assert!(rt; written.as_slice() == want.as_bytes(), "at {text}");
+        check(&rt, written.as_slice() == want.as_bytes(), text);
     }
     Ok(())
 }
@@ -427,7 +446,7 @@ fn written_formats(rt: HostRuntime) -> Result<(), Fail> {
 /// The fields of `T{i:x:2xh:y:}` by name and by place.
 fn finds_fields(rt: &impl Abort, descr: &Descr) {
     for (name, place) in FIELDS {
-        assert!(rt; descr.leaf_of(name.as_bytes()) == *place, "at {name}");
+        check(rt, descr.leaf_of(name.as_bytes()) == *place, name);
     }
     assert!(rt; descr.leaf_count() == 2);
     let (scalar, at) = descr.leaf_at(1);

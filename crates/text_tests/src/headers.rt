@@ -1,6 +1,9 @@
 //! Headers of NPY files, read as `numpy.lib.format` has them, and refused in the order of the reader.
+use crate::check::check;
 use elem_descr::{Refusal, format_write};
 use npy_files::header_read;
+use std::alloc::Global;
+use std::process::Abort;
 use std::test::Fail;
 
 /// A header, the format text of its element type, whether the items are in Fortran order, and the shape.
@@ -43,108 +46,54 @@ const READ: &[(&str, &str, bool, &[usize])] = &[
     ),
 ];
 
-const REFUSED: &[(&str, Refusal)] = &[
-    ("", Refusal::BadHeader),
-    ("{}", Refusal::BadHeader),
+/// Headers by the refusal.
+const REFUSED: &[(Refusal, &[&str])] = &[
     (
-        "{'descr': '<i4', 'fortran_order': False}",
         Refusal::BadHeader,
+        &[
+            "",
+            "{}",
+            "{'descr': '<i4', 'fortran_order': False}",
+            "{'descr': '<i4', 'fortran_order': False, 'shape': (-1,)}",
+            "{'descr': '<i4', 'fortran_order': False, 'shape': (03,)}",
+            "{'descr': '<i4', 'fortran_order': False, 'shape': (3)}",
+            "{'descr': '<i4', 'fortran_order': False, 'shape': [3]}",
+            "{'descr': '<i4', 'fortran_order': 0, 'shape': (3,)}",
+            "{'shape': (3,), 'descr': '<i4', 'fortran_order': False, 'shape': (3,)}",
+            "{'descr': '<f8', 'fortran_order': False, 'shape': (3,), 'x': 1}",
+            "{'descr': u'<i4', 'fortran_order': False, 'shape': (3,)}",
+            "{'descr': '<i4', 'fortran_order': False, 'shape': (3,)} x",
+            "{'descr': [[[[[[[[[[[[[[[[]]]]]]]]]]]]]]]], 'fortran_order': False, 'shape': (3,)}",
+        ],
     ),
     (
-        "{'descr': '<i4', 'fortran_order': False, 'shape': (-1,)}",
-        Refusal::BadHeader,
-    ),
-    (
-        "{'descr': '<i4', 'fortran_order': False, 'shape': (03,)}",
-        Refusal::BadHeader,
-    ),
-    (
-        "{'descr': '<i4', 'fortran_order': False, 'shape': (3)}",
-        Refusal::BadHeader,
-    ),
-    (
-        "{'descr': '<i4', 'fortran_order': False, 'shape': [3]}",
-        Refusal::BadHeader,
-    ),
-    (
-        "{'descr': '<i4', 'fortran_order': 0, 'shape': (3,)}",
-        Refusal::BadHeader,
-    ),
-    (
-        "{'shape': (3,), 'descr': '<i4', 'fortran_order': False, 'shape': (3,)}",
-        Refusal::BadHeader,
-    ),
-    (
-        "{'descr': '<f8', 'fortran_order': False, 'shape': (3,), 'x': 1}",
-        Refusal::BadHeader,
-    ),
-    (
-        "{'descr': u'<i4', 'fortran_order': False, 'shape': (3,)}",
-        Refusal::BadHeader,
-    ),
-    (
-        "{'descr': '<i4', 'fortran_order': False, 'shape': (3,)} x",
-        Refusal::BadHeader,
-    ),
-    (
-        "{'descr': 3, 'fortran_order': False, 'shape': (3,)}",
         Refusal::BadDescriptor,
+        &[
+            "{'descr': 3, 'fortran_order': False, 'shape': (3,)}",
+            "{'descr': {}, 'fortran_order': False, 'shape': (3,)}",
+            "{'descr': '<i3', 'fortran_order': False, 'shape': (3,)}",
+            "{'descr': [('x', '<i4'), ('x', '<i4')], 'fortran_order': False, 'shape': (3,)}",
+        ],
     ),
     (
-        "{'descr': {}, 'fortran_order': False, 'shape': (3,)}",
-        Refusal::BadDescriptor,
-    ),
-    (
-        "{'descr': '<i3', 'fortran_order': False, 'shape': (3,)}",
-        Refusal::BadDescriptor,
-    ),
-    (
-        "{'descr': '<f8', 'fortran_order': False, 'shape': (16777217,)}",
         Refusal::DescriptorLeftOut,
+        &[
+            "{'descr': '<f8', 'fortran_order': False, 'shape': (16777217,)}",
+            "{'descr': [], 'fortran_order': False, 'shape': (3,)}",
+            "{'descr': [('x', '<i4', (2,))], 'fortran_order': False, 'shape': (3,)}",
+            "{'descr': [('x', '<i4'), ('x', '<f4')], 'fortran_order': False, 'shape': (3,)}",
+            "{'descr': [[[[[[[[[[[[[[[]]]]]]]]]]]]]]], 'fortran_order': False, 'shape': (3,)}",
+            "{'descr': [('x', '|V65537')], 'fortran_order': False, 'shape': (3,)}",
+        ],
     ),
     (
-        "{'descr': [], 'fortran_order': False, 'shape': (3,)}",
-        Refusal::DescriptorLeftOut,
-    ),
-    (
-        "{'descr': [('x', '<i4', (2,))], 'fortran_order': False, 'shape': (3,)}",
-        Refusal::DescriptorLeftOut,
-    ),
-    (
-        "{'descr': [('x', '<i4'), ('x', '<f4')], 'fortran_order': False, 'shape': (3,)}",
-        Refusal::DescriptorLeftOut,
-    ),
-    (
-        "{'descr': [('x', '<i4'), ('x', '<i4')], 'fortran_order': False, 'shape': (3,)}",
-        Refusal::BadDescriptor,
-    ),
-    (
-        "{'descr': [[[[[[[[[[[[[[[]]]]]]]]]]]]]]], 'fortran_order': False, 'shape': (3,)}",
-        Refusal::DescriptorLeftOut,
-    ),
-    (
-        "{'descr': [[[[[[[[[[[[[[[[]]]]]]]]]]]]]]]], 'fortran_order': False, 'shape': (3,)}",
-        Refusal::BadHeader,
-    ),
-    (
-        "{'descr': [('x', '|V65537')], 'fortran_order': False, 'shape': (3,)}",
-        Refusal::DescriptorLeftOut,
-    ),
-    (
-        "{'descr': [('', '|V65537')], 'fortran_order': False, 'shape': (3,)}",
         Refusal::TooLarge,
-    ),
-    (
-        "{'descr': '<i4', 'fortran_order': False, 'shape': (16777217,)}",
-        Refusal::TooLarge,
-    ),
-    (
-        "{'descr': '<i4', 'fortran_order': False, 'shape': (0, 16777217)}",
-        Refusal::TooLarge,
-    ),
-    (
-        "{'descr': '<i4', 'fortran_order': False, 'shape': (4096, 8192)}",
-        Refusal::TooLarge,
+        &[
+            "{'descr': [('', '|V65537')], 'fortran_order': False, 'shape': (3,)}",
+            "{'descr': '<i4', 'fortran_order': False, 'shape': (16777217,)}",
+            "{'descr': '<i4', 'fortran_order': False, 'shape': (0, 16777217)}",
+            "{'descr': '<i4', 'fortran_order': False, 'shape': (4096, 8192)}",
+        ],
     ),
 ];
 
@@ -153,17 +102,23 @@ fn headers_that_are_read(rt: HostRuntime) -> Result<(), Fail> {
     for (text, format, fortran, shape) in READ {
         let header = header_read(rt.alloc(), text.as_bytes())?;
         let written = format_write(rt.alloc(), &header.descr)?;
-        assert!(rt; written.as_slice() == format.as_bytes(), "at {text}");
-        assert!(rt; header.fortran == *fortran, "at {text}");
-        assert!(rt; header.shape.as_slice() == *shape, "at {text}");
+        check(&rt, written.as_slice() == format.as_bytes(), text);
+        check(&rt, header.fortran == *fortran, text);
+        check(&rt, header.shape.as_slice() == *shape, text);
     }
     Ok(())
 }
 
+fn are_refused(rt: &impl Abort, alloc: Global, refusal: Refusal, texts: &[&str]) {
+    for text in texts {
+        let found = header_read(alloc, text.as_bytes()).err();
+        check(rt, found == Some(refusal), text);
+    }
+}
+
 #[test]
 fn headers_that_are_refused(rt: HostRuntime) {
-    for (text, refusal) in REFUSED {
-        let found = header_read(rt.alloc(), text.as_bytes()).err();
-        assert!(rt; found == Some(*refusal), "at {text}");
+    for (refusal, texts) in REFUSED {
+        are_refused(&rt, rt.alloc(), *refusal, texts);
     }
 }

@@ -2,6 +2,8 @@
 #![tactic(auto)]
 
 #[cfg(test)]
+mod check;
+#[cfg(test)]
 mod descriptors;
 #[cfg(test)]
 mod disks;
@@ -15,6 +17,8 @@ mod headers;
 mod lines;
 #[cfg(test)]
 mod literals;
+#[cfg(test)]
+mod made;
 #[cfg(test)]
 mod numbers;
 #[cfg(test)]

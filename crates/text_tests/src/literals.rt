@@ -1,126 +1,82 @@
 //! Items as NumPy's `numpy.array` makes them of literals, where it takes the same.
+use crate::check::check;
+use crate::made::command_of;
+use elem_descr::Refusal::{LiteralOutOfRange, NoSuchCast};
 use elem_descr::{Descr, Refusal, descr_read};
 use literal_items::{can_be_item, write_item, write_items};
-use script_lang::{Command, Literal, NewItems, Value, parse};
+use script_lang::{Command, Literal, NewItems, Value};
 use std::alloc::{AllocError, Global};
 use std::process::Abort;
 
 /// The bytes that a command makes, or why it is refused.
 pub type Made = Result<&'static [u8], Refusal>;
 
+/// Behind `a = array`, and what is made.
 const LINES: &[(&str, Made)] = &[
-    ("a = array |S3 (1) b'abcd'", Ok(&[97, 98, 99])),
-    ("a = array |S4 (1) b'a\\x00b\\x00c'", Ok(&[97, 0, 98, 0])),
-    ("a = array |S3 (1) b'a'", Ok(&[97, 0, 0])),
-    ("a = array |S2 (1) b''", Ok(&[0, 0])),
+    ("|S3 (1) b'abcd'", Ok(&[97, 98, 99])),
+    ("|S4 (1) b'a\\x00b\\x00c'", Ok(&[97, 0, 98, 0])),
+    ("|S3 (1) b'a'", Ok(&[97, 0, 0])),
+    ("|S2 (1) b''", Ok(&[0, 0])),
     (
-        "a = array T{<b:x:3x<i:y:} (1) (5,-1)",
+        "T{<b:x:3x<i:y:} (1) (5,-1)",
         Ok(&[5, 0, 0, 0, 255, 255, 255, 255]),
     ),
+    ("T{<b:x:3x<i:y:} (1) 7", Ok(&[7, 0, 0, 0, 7, 0, 0, 0])),
+    ("T{>h:x:2x?:y:3x} (1) -2", Ok(&[255, 254, 0, 0, 1, 0, 0, 0])),
+    ("T{<B:x:2s:t:} (1) (255,b'xyz')", Ok(&[255, 120, 121])),
+    ("|u1 (1) 255", Ok(&[255])),
+    ("|u1 (1) 300", Err(LiteralOutOfRange)),
+    ("|u1 (1) -1", Err(LiteralOutOfRange)),
+    ("|i1 (1) -128", Ok(&[128])),
+    ("|i1 (1) 128", Err(LiteralOutOfRange)),
+    (">u2 (1) 258", Ok(&[1, 2])),
     (
-        "a = array T{<b:x:3x<i:y:} (1) 7",
-        Ok(&[7, 0, 0, 0, 7, 0, 0, 0]),
-    ),
-    (
-        "a = array T{>h:x:2x?:y:3x} (1) -2",
-        Ok(&[255, 254, 0, 0, 1, 0, 0, 0]),
-    ),
-    (
-        "a = array T{<B:x:2s:t:} (1) (255,b'xyz')",
-        Ok(&[255, 120, 121]),
-    ),
-    ("a = array |u1 (1) 255", Ok(&[255])),
-    ("a = array |u1 (1) 300", Err(Refusal::LiteralOutOfRange)),
-    ("a = array |u1 (1) -1", Err(Refusal::LiteralOutOfRange)),
-    ("a = array |i1 (1) -128", Ok(&[128])),
-    ("a = array |i1 (1) 128", Err(Refusal::LiteralOutOfRange)),
-    ("a = array >u2 (1) 258", Ok(&[1, 2])),
-    (
-        "a = array <u8 (1) 18446744073709551615",
+        "<u8 (1) 18446744073709551615",
         Ok(&[255, 255, 255, 255, 255, 255, 255, 255]),
     ),
+    ("<u8 (1) 18446744073709551616", Err(LiteralOutOfRange)),
     (
-        "a = array <u8 (1) 18446744073709551616",
-        Err(Refusal::LiteralOutOfRange),
-    ),
-    (
-        "a = array <i8 (1) -9223372036854775808",
+        "<i8 (1) -9223372036854775808",
         Ok(&[0, 0, 0, 0, 0, 0, 0, 128]),
     ),
+    ("<i8 (1) 9223372036854775808", Err(LiteralOutOfRange)),
+    ("? (1) 7", Ok(&[1])),
+    ("? (1) -999999999999999999999999999999", Ok(&[1])),
+    ("? (1) 0", Ok(&[0])),
+    ("? (1) True", Ok(&[1])),
+    ("<i4 (1) True", Ok(&[1, 0, 0, 0])),
+    ("|i1 (1) False", Ok(&[0])),
+    ("<i4 (1) b'a'", Err(NoSuchCast)),
+    ("? (1) b'a'", Err(NoSuchCast)),
+    ("|S2 (1) 1", Err(NoSuchCast)),
+    ("|S2 (1) True", Err(NoSuchCast)),
+    ("<i4 (1) (5,-1)", Err(NoSuchCast)),
+    ("T{<b:x:3x<i:y:} (1) (5,6,7)", Err(NoSuchCast)),
+    ("T{b:x:b:y:b:z:} (1) (5,6)", Err(NoSuchCast)),
+    ("T{<B:x:2s:t:} (1) (300,1)", Err(NoSuchCast)),
+    ("T{<B:x:2s:t:} (1) (300,b'a')", Err(LiteralOutOfRange)),
+    ("T{<B:x:2s:t:} (1) 7", Err(NoSuchCast)),
     (
-        "a = array <i8 (1) 9223372036854775808",
-        Err(Refusal::LiteralOutOfRange),
-    ),
-    ("a = array ? (1) 7", Ok(&[1])),
-    ("a = array ? (1) -999999999999999999999999999999", Ok(&[1])),
-    ("a = array ? (1) 0", Ok(&[0])),
-    ("a = array ? (1) True", Ok(&[1])),
-    ("a = array <i4 (1) True", Ok(&[1, 0, 0, 0])),
-    ("a = array |i1 (1) False", Ok(&[0])),
-    ("a = array <i4 (1) b'a'", Err(Refusal::NoSuchCast)),
-    ("a = array ? (1) b'a'", Err(Refusal::NoSuchCast)),
-    ("a = array |S2 (1) 1", Err(Refusal::NoSuchCast)),
-    ("a = array |S2 (1) True", Err(Refusal::NoSuchCast)),
-    ("a = array <i4 (1) (5,-1)", Err(Refusal::NoSuchCast)),
-    (
-        "a = array T{<b:x:3x<i:y:} (1) (5,6,7)",
-        Err(Refusal::NoSuchCast),
-    ),
-    (
-        "a = array T{b:x:b:y:b:z:} (1) (5,6)",
-        Err(Refusal::NoSuchCast),
-    ),
-    (
-        "a = array T{<B:x:2s:t:} (1) (300,1)",
-        Err(Refusal::NoSuchCast),
-    ),
-    (
-        "a = array T{<B:x:2s:t:} (1) (300,b'a')",
-        Err(Refusal::LiteralOutOfRange),
-    ),
-    ("a = array T{<B:x:2s:t:} (1) 7", Err(Refusal::NoSuchCast)),
-    (
-        "a = array T{<b:x:3xT{<i:y:}:s:} (1) (1,(2))",
+        "T{<b:x:3xT{<i:y:}:s:} (1) (1,(2))",
         Ok(&[1, 0, 0, 0, 2, 0, 0, 0]),
     ),
+    ("T{<b:x:3xT{<i:y:}:s:} (1) 5", Ok(&[5, 0, 0, 0, 5, 0, 0, 0])),
     (
-        "a = array T{<b:x:3xT{<i:y:}:s:} (1) 5",
-        Ok(&[5, 0, 0, 0, 5, 0, 0, 0]),
-    ),
-    (
-        "a = array T{T{T{>h:z:}:y:2s:t:}:x:B:w:} (1) (((258),b'a'),7)",
+        "T{T{T{>h:z:}:y:2s:t:}:x:B:w:} (1) (((258),b'a'),7)",
         Ok(&[1, 2, 97, 0, 7]),
     ),
-    (
-        "a = array T{<b:x:3xT{<i:y:}:s:} (1) (1,2)",
-        Err(Refusal::NoSuchCast),
-    ),
-    (
-        "a = array T{<b:x:3xT{<i:y:}:s:} (1) ((1),(2))",
-        Err(Refusal::NoSuchCast),
-    ),
-    (
-        "a = array T{<b:x:3xT{<i:y:}:s:} (1) (1,(2,3))",
-        Err(Refusal::NoSuchCast),
-    ),
-    (
-        "a = array T{<b:x:T{<B:y:}:s:} (1) (1,(300))",
-        Err(Refusal::LiteralOutOfRange),
-    ),
-    (
-        "a = array T{T{<B:y:}:s:2s:t:} (1) ((300),1)",
-        Err(Refusal::NoSuchCast),
-    ),
-    ("a = array |u1 (1) ((1))", Err(Refusal::NoSuchCast)),
-    ("a = array |u1 (3) 3 True 255", Ok(&[3, 1, 255])),
-    ("a = array >i2 (2) -2 515", Ok(&[255, 254, 2, 3])),
-    ("a = array T{<b:x:x} (2) 1 -1", Ok(&[1, 0, 255, 0])),
-    (
-        "a = array T{T{b:y:}:s:b:x:} (2) 7 ((1),2)",
-        Ok(&[7, 7, 1, 2]),
-    ),
-    ("a = array |u1 (2) 3 -1", Err(Refusal::LiteralOutOfRange)),
-    ("a = array |u1 (2) 300 b'a'", Err(Refusal::NoSuchCast)),
+    ("T{<b:x:3xT{<i:y:}:s:} (1) (1,2)", Err(NoSuchCast)),
+    ("T{<b:x:3xT{<i:y:}:s:} (1) ((1),(2))", Err(NoSuchCast)),
+    ("T{<b:x:3xT{<i:y:}:s:} (1) (1,(2,3))", Err(NoSuchCast)),
+    ("T{<b:x:T{<B:y:}:s:} (1) (1,(300))", Err(LiteralOutOfRange)),
+    ("T{T{<B:y:}:s:2s:t:} (1) ((300),1)", Err(NoSuchCast)),
+    ("|u1 (1) ((1))", Err(NoSuchCast)),
+    ("|u1 (3) 3 True 255", Ok(&[3, 1, 255])),
+    (">i2 (2) -2 515", Ok(&[255, 254, 2, 3])),
+    ("T{<b:x:x} (2) 1 -1", Ok(&[1, 0, 255, 0])),
+    ("T{T{b:y:}:s:b:x:} (2) 7 ((1),2)", Ok(&[7, 7, 1, 2])),
+    ("|u1 (2) 3 -1", Err(LiteralOutOfRange)),
+    ("|u1 (2) 300 b'a'", Err(NoSuchCast)),
 ];
 
 /// Bytes or a refusal, as a row has them.
@@ -180,12 +136,9 @@ fn items_of(rt: &impl Abort, alloc: Global, command: &Command) -> Result<Vec<u8>
     items(rt, alloc, &descr, values.as_slice())
 }
 
-/// What a line of the table makes.
-fn made(rt: &impl Abort, alloc: Global, line: &str) -> Result<Vec<u8>, Refusal> {
-    assert!(rt; line.len() <= 65536);
-    let Some(command) = parse(alloc, line.as_bytes())? else {
-        return Err(Refusal::Syntax);
-    };
+/// What a row of the table makes.
+fn made(rt: &impl Abort, alloc: Global, text: &str) -> Result<Vec<u8>, Refusal> {
+    let command = command_of(rt, alloc, "array", text)?;
     let made = items_of(rt, alloc, &command);
     drop(command);
     made
@@ -195,6 +148,6 @@ fn made(rt: &impl Abort, alloc: Global, line: &str) -> Result<Vec<u8>, Refusal> 
 fn literals_as_bytes(rt: HostRuntime) {
     for (line, told) in LINES {
         let made = made(&rt, rt.alloc(), line);
-        assert!(rt; is_as_told(&made, told), "{line}");
+        check(&rt, is_as_told(&made, told), line);
     }
 }

@@ -1,34 +1,29 @@
 //! Items as NumPy's `numpy.arange` makes them, where it takes the same.
+use crate::check::check;
 use crate::literals::{Made, is_as_told};
+use crate::made::command_of;
+use elem_descr::Refusal::{LiteralOutOfRange, TooLarge, ZeroStep};
 use elem_descr::{Refusal, Scalar, typestr_read};
 use literal_items::{range_block, range_len};
-use script_lang::{Command, NewItems, Value, parse};
+use script_lang::{Command, NewItems, Value};
 use std::alloc::Global;
 use std::process::Abort;
 
+/// Behind `a = arange`, and what is made.
 const LINES: &[(&str, Made)] = &[
-    ("a = arange |i1 0 201 100", Err(Refusal::LiteralOutOfRange)),
-    ("a = arange |i1 0 200 100", Ok(&[0, 100])),
-    ("a = arange <i2 0 5 1", Ok(&[0, 0, 1, 0, 2, 0, 3, 0, 4, 0])),
-    ("a = arange >i2 5 0 -2", Ok(&[0, 5, 0, 3, 0, 1])),
-    ("a = arange <i4 3 3 1", Ok(&[])),
-    ("a = arange <i4 3 9 -1", Ok(&[])),
-    ("a = arange |u1 250 257 5", Ok(&[250, 255])),
-    (
-        "a = arange |i1 1 -7 -999999999999999999999999999999",
-        Ok(&[1]),
-    ),
-    (
-        "a = arange <i8 0 999999999999999999999999999999 1",
-        Err(Refusal::TooLarge),
-    ),
-    ("a = arange |u1 0 16777217 1", Err(Refusal::TooLarge)),
-    (
-        "a = arange |u1 0 16777216 1",
-        Err(Refusal::LiteralOutOfRange),
-    ),
-    ("a = arange <i4 0 5 0", Err(Refusal::ZeroStep)),
-    ("a = arange <i4 5 5 0", Err(Refusal::ZeroStep)),
+    ("|i1 0 201 100", Err(LiteralOutOfRange)),
+    ("|i1 0 200 100", Ok(&[0, 100])),
+    ("<i2 0 5 1", Ok(&[0, 0, 1, 0, 2, 0, 3, 0, 4, 0])),
+    (">i2 5 0 -2", Ok(&[0, 5, 0, 3, 0, 1])),
+    ("<i4 3 3 1", Ok(&[])),
+    ("<i4 3 9 -1", Ok(&[])),
+    ("|u1 250 257 5", Ok(&[250, 255])),
+    ("|i1 1 -7 -999999999999999999999999999999", Ok(&[1])),
+    ("<i8 0 999999999999999999999999999999 1", Err(TooLarge)),
+    ("|u1 0 16777217 1", Err(TooLarge)),
+    ("|u1 0 16777216 1", Err(LiteralOutOfRange)),
+    ("<i4 0 5 0", Err(ZeroStep)),
+    ("<i4 5 5 0", Err(ZeroStep)),
 ];
 
 /// The numbers of a range as items.
@@ -63,12 +58,9 @@ fn range_of(alloc: Global, command: &Command) -> Result<Vec<u8>, Refusal> {
     range(alloc, &scalar, start, stop, step)
 }
 
-/// What a line of the table makes.
-fn made(rt: &impl Abort, alloc: Global, line: &str) -> Result<Vec<u8>, Refusal> {
-    assert!(rt; line.len() <= 65536);
-    let Some(command) = parse(alloc, line.as_bytes())? else {
-        return Err(Refusal::Syntax);
-    };
+/// What a row of the table makes.
+fn made(rt: &impl Abort, alloc: Global, text: &str) -> Result<Vec<u8>, Refusal> {
+    let command = command_of(rt, alloc, "arange", text)?;
     let made = range_of(alloc, &command);
     drop(command);
     made
@@ -78,7 +70,7 @@ fn made(rt: &impl Abort, alloc: Global, line: &str) -> Result<Vec<u8>, Refusal> 
 fn ranges_as_bytes(rt: HostRuntime) {
     for (line, told) in LINES {
         let made = made(&rt, rt.alloc(), line);
-        assert!(rt; is_as_told(&made, told), "{line}");
+        check(&rt, is_as_told(&made, told), line);
     }
 }
 

@@ -1,4 +1,5 @@
 //! The code and the text of each refusal.
+use crate::check::check;
 use elem_descr::Refusal;
 use std::test::Fail;
 
@@ -45,7 +46,7 @@ const TEXTS: &[(Refusal, &str)] = &[
 fn texts(rt: HostRuntime) -> Result<(), Fail> {
     for (refusal, text) in TEXTS {
         let shown = format!(in rt.alloc(); "{refusal}")?;
-        assert!(rt; shown.as_str() == *text, "for {text}");
+        check(&rt, shown.as_str() == *text, text);
     }
     Ok(())
 }

@@ -1,21 +1,21 @@
 //! NPY files that are written, as `numpy.lib.format` has them, and a folder of files.
-use elem_descr::{Descr, Refusal, descr_read};
-use npy_files::{DirStore, FileParts, NpyStore, SavedParts, npy_parts, npy_read, npy_write};
-use raw_block::RawBlock;
-use shape_strides::{Layout, Shape, Strides};
+use crate::check::check;
+use crate::files::has_file;
+use crate::made::{Array, Numbers, array_of};
+use elem_descr::Refusal;
+use npy_files::{
+    DirStore, FileParts, NpyStore, SavedParts, StoreFault, npy_parts, npy_read, npy_write,
+};
 use std::alloc::{AllocError, Global};
 use std::fs;
 use std::process::Abort;
 use std::test::Fail;
 
-/// A descriptor as a script gives it, the lengths of the axes, the bytes that they step over, the first
-/// offset and the bytes of a block; and of the file the header's text, the spaces behind it and the
-/// bytes of the items.
+/// A descriptor as a script gives it, a layout and the bytes of a block; and of the file the header's
+/// text, the spaces behind it and the bytes of the items.
 struct Row {
     descr: &'static str,
-    lengths: &'static [usize],
-    steps: &'static [isize],
-    offset: usize,
+    numbers: Numbers,
     block: &'static [u8],
     text: &'static str,
     spaces: usize,
@@ -25,20 +25,16 @@ struct Row {
 const ROWS: &[Row] = &[
     Row {
         descr: "<i4",
-        lengths: &[3],
-        steps: &[4],
-        offset: 0,
-        block: b"\x01\x00\x00\x00\x02\x00\x00\x00\x03\x00\x00\x00",
+        numbers: (&[3], &[4], 0),
+        block: b"\x01\0\0\0\x02\0\0\0\x03\0\0\0",
         text: "{'descr': '<i4', 'fortran_order': False, 'shape': (3,), }",
         spaces: 60,
-        items: b"\x01\x00\x00\x00\x02\x00\x00\x00\x03\x00\x00\x00",
+        items: b"\x01\0\0\0\x02\0\0\0\x03\0\0\0",
     },
     // In Fortran order.
     Row {
         descr: "<i4",
-        lengths: &[2, 3],
-        steps: &[4, 8],
-        offset: 0,
+        numbers: (&[2, 3], &[4, 8], 0),
         block: b"\x01\0\0\0\x04\0\0\0\x02\0\0\0\x05\0\0\0\x03\0\0\0\x06\0\0\0",
         text: "{'descr': '<i4', 'fortran_order': True, 'shape': (2, 3), }",
         spaces: 59,
@@ -46,9 +42,7 @@ const ROWS: &[Row] = &[
     },
     Row {
         descr: "T{<i:x:>h:y:}",
-        lengths: &[1],
-        steps: &[6],
-        offset: 0,
+        numbers: (&[1], &[6], 0),
         block: b"\0\0\0\0\x01\x02",
         text: "{'descr': [('x', '<i4'), ('y', '>i2')], 'fortran_order': False, 'shape': (1,), }",
         spaces: 37,
@@ -57,19 +51,15 @@ const ROWS: &[Row] = &[
     // What lies in padding isn't written.
     Row {
         descr: "T{b:x:1x}",
-        lengths: &[1],
-        steps: &[2],
-        offset: 0,
+        numbers: (&[1], &[2], 0),
         block: b"\x01\xff",
         text: "{'descr': [('x', '|i1'), ('', '|V1')], 'fortran_order': False, 'shape': (1,), }",
         spaces: 38,
-        items: b"\x01\x00",
+        items: b"\x01\0",
     },
     Row {
         descr: "T{b:x:T{i:y:}:s:}",
-        lengths: &[2],
-        steps: &[8],
-        offset: 0,
+        numbers: (&[2], &[8], 0),
         block: b"\x01\xff\xff\xff\x02\0\0\0\x03\xff\xff\xff\x04\0\0\0",
         text: "{'descr': [('x', '|i1'), ('', '|V3'), ('s', [('y', '<i4')])], 'fortran_order': False, 'shape': (2,), }",
         spaces: 15,
@@ -78,30 +68,24 @@ const ROWS: &[Row] = &[
     // A bool is 0 or 1, alone and in a record.
     Row {
         descr: "|b1",
-        lengths: &[4],
-        steps: &[1],
-        offset: 0,
-        block: b"\x00\x01\x02\xff",
+        numbers: (&[4], &[1], 0),
+        block: b"\0\x01\x02\xff",
         text: "{'descr': '|b1', 'fortran_order': False, 'shape': (4,), }",
         spaces: 60,
-        items: b"\x00\x01\x01\x01",
+        items: b"\0\x01\x01\x01",
     },
     Row {
         descr: "T{<?:x:<2s:y:}",
-        lengths: &[2],
-        steps: &[3],
-        offset: 0,
-        block: b"\x02a\x00\x00\xffb",
+        numbers: (&[2], &[3], 0),
+        block: b"\x02a\0\0\xffb",
         text: "{'descr': [('x', '|b1'), ('y', '|S2')], 'fortran_order': False, 'shape': (2,), }",
         spaces: 37,
-        items: b"\x01a\x00\x00\xffb",
+        items: b"\x01a\0\0\xffb",
     },
     // Backwards, every other item, rows of a larger array, and one item stretched.
     Row {
         descr: "<i2",
-        lengths: &[3],
-        steps: &[-2],
-        offset: 4,
+        numbers: (&[3], &[-2], 4),
         block: b"\x01\0\x02\0\x03\0",
         text: "{'descr': '<i2', 'fortran_order': False, 'shape': (3,), }",
         spaces: 60,
@@ -109,9 +93,7 @@ const ROWS: &[Row] = &[
     },
     Row {
         descr: "|S2",
-        lengths: &[2],
-        steps: &[4],
-        offset: 2,
+        numbers: (&[2], &[4], 2),
         block: b"aabbccdd",
         text: "{'descr': '|S2', 'fortran_order': False, 'shape': (2,), }",
         spaces: 60,
@@ -119,9 +101,7 @@ const ROWS: &[Row] = &[
     },
     Row {
         descr: "|u1",
-        lengths: &[2, 2],
-        steps: &[3, 1],
-        offset: 0,
+        numbers: (&[2, 2], &[3, 1], 0),
         block: b"\x01\x02\x03\x04\x05\x06",
         text: "{'descr': '|u1', 'fortran_order': False, 'shape': (2, 2), }",
         spaces: 58,
@@ -129,9 +109,7 @@ const ROWS: &[Row] = &[
     },
     Row {
         descr: ">u2",
-        lengths: &[2, 2],
-        steps: &[0, 0],
-        offset: 0,
+        numbers: (&[2, 2], &[0, 0], 0),
         block: b"\x01\x02",
         text: "{'descr': '>u2', 'fortran_order': False, 'shape': (2, 2), }",
         spaces: 58,
@@ -140,9 +118,7 @@ const ROWS: &[Row] = &[
     // One item, which is in both orders, and none.
     Row {
         descr: "|u1",
-        lengths: &[],
-        steps: &[],
-        offset: 1,
+        numbers: (&[], &[], 1),
         block: b"\x01\x02",
         text: "{'descr': '|u1', 'fortran_order': False, 'shape': (), }",
         spaces: 62,
@@ -150,9 +126,7 @@ const ROWS: &[Row] = &[
     },
     Row {
         descr: "|u1",
-        lengths: &[3, 0],
-        steps: &[0, 0],
-        offset: 0,
+        numbers: (&[3, 0], &[0, 0], 0),
         block: b"",
         text: "{'descr': '|u1', 'fortran_order': False, 'shape': (3, 0), }",
         spaces: 58,
@@ -160,85 +134,63 @@ const ROWS: &[Row] = &[
     },
 ];
 
-fn layout_of(
-    rt: &impl Abort,
-    alloc: Global,
-    lengths: &[usize],
-    steps: &[isize],
-    offset: usize,
-) -> Result<Layout, Refusal> {
-    let shape = Shape::try_new(alloc, lengths)?;
-    let strides = Strides::from_slice(alloc, steps)?;
-    assert!(rt; strides.as_slice().len() == shape.as_slice().len());
-    Ok(Layout::new(shape, strides, offset).expect(rt, "no layout"))
-}
-
-/// The file of the items of a layout in a block of these bytes.
-fn saved(
-    rt: &impl Abort,
-    alloc: Global,
-    bytes: &[u8],
-    layout: &Layout,
-    descr: &Descr,
-) -> Result<Vec<u8>, Refusal> {
-    let mut block = RawBlock::try_zeroed(alloc, bytes.len())?;
-    block.put(0, bytes);
-    saved_of(rt, alloc, &block, layout, descr)
-}
-
-fn saved_of(
-    rt: &impl Abort,
-    alloc: Global,
-    block: &RawBlock,
-    layout: &Layout,
-    descr: &Descr,
-) -> Result<Vec<u8>, Refusal> {
-    assert!(rt; layout.fits(block.len(), descr.size()));
+/// The file of an array.
+fn saved(rt: &impl Abort, alloc: Global, array: &Array) -> Result<Vec<u8>, Refusal> {
+    let Array {
+        descr,
+        layout,
+        block,
+    } = array;
+    check(rt, layout.fits(block.len(), descr.size()), "within");
     npy_write(alloc, block, layout, descr)
 }
 
-/// The file that a row tells, of version 1.0.
-fn wanted(alloc: Global, row: &Row) -> Result<Vec<u8>, AllocError> {
-    let mut file = Vec::from_slice(alloc, b"\x93NUMPY\x01\x00\x76\x00")?;
-    file.extend_from_slice(row.text.as_bytes())?;
-    for _ in 0..row.spaces {
-        file.push(b' ')?;
-    }
-    file.push(b'\n')?;
-    file.extend_from_slice(row.items)?;
-    Ok(file)
+/// The same in two parts.
+fn saved_parts<'a>(
+    rt: &impl Abort,
+    alloc: Global,
+    array: &'a Array,
+) -> Result<SavedParts<'a>, Refusal> {
+    let Array {
+        descr,
+        layout,
+        block,
+    } = array;
+    check(rt, layout.fits(block.len(), descr.size()), "within");
+    npy_parts(alloc, block, layout, descr)
+}
+
+const SPACES: &[u8] = &[b' '; 64];
+
+/// The items in a file of version 1.0, if its header is the row's.
+fn items_in<'a>(row: &Row, file: &'a [u8]) -> Option<&'a [u8]> {
+    let header = file.strip_prefix(b"\x93NUMPY\x01\0\x76\0".as_slice())?;
+    let rest = header.strip_prefix(row.text.as_bytes())?;
+    rest.strip_prefix(SPACES.get(..row.spaces)?)?
+        .strip_prefix(b"\n".as_slice())
+}
+
+fn is_told(rt: &impl Abort, row: &Row, file: &[u8]) {
+    check(rt, items_in(row, file) == Some(row.items), row.text);
+}
+
+fn array(rt: &impl Abort, alloc: Global, row: &Row) -> Result<Array, Refusal> {
+    array_of(rt, alloc, row.descr, row.numbers, row.block)
 }
 
 fn saves_row(rt: &impl Abort, alloc: Global, row: &Row) -> Result<(), Refusal> {
-    let descr = descr_read(alloc, row.descr.as_bytes())?;
-    let layout = layout_of(rt, alloc, row.lengths, row.steps, row.offset)?;
-    let file = saved(rt, alloc, row.block, &layout, &descr)?;
-    let wanted = wanted(alloc, row)?;
-    assert!(rt; file.as_slice() == wanted.as_slice(), "at {}", row.text);
-    let block = RawBlock::try_copied(alloc, row.block)?;
-    let SavedParts { mut front, items } = parts_of(rt, alloc, &block, &layout, &descr)?;
+    let array = array(rt, alloc, row)?;
+    is_told(rt, row, saved(rt, alloc, &array)?.as_slice());
+    let SavedParts { mut front, items } = saved_parts(rt, alloc, &array)?;
     front.extend_from_slice(items)?;
-    assert!(rt; front.as_slice() == wanted.as_slice(), "at {}", row.text);
+    is_told(rt, row, front.as_slice());
     Ok(())
-}
-
-fn parts_of<'a>(
-    rt: &impl Abort,
-    alloc: Global,
-    block: &'a RawBlock,
-    layout: &Layout,
-    descr: &Descr,
-) -> Result<SavedParts<'a>, Refusal> {
-    assert!(rt; layout.fits(block.len(), descr.size()));
-    npy_parts(alloc, block, layout, descr)
 }
 
 /// How many bytes of a row's file are those of the block.
 fn uncopied(rt: &impl Abort, alloc: Global, row: &Row) -> Result<usize, Refusal> {
-    let descr = descr_read(alloc, row.descr.as_bytes())?;
-    let layout = layout_of(rt, alloc, row.lengths, row.steps, row.offset)?;
-    let block = RawBlock::try_copied(alloc, row.block)?;
-    Ok(parts_of(rt, alloc, &block, &layout, &descr)?.items.len())
+    let array = array(rt, alloc, row)?;
+    Ok(saved_parts(rt, alloc, &array)?.items.len())
 }
 
 /// The items of the first three rows lie in the block as in the file, and so does the one item.
@@ -248,7 +200,7 @@ fn items_are_not_copied(rt: HostRuntime) -> Result<(), Fail> {
     for row in ROWS {
         bytes = uncopied(&rt, rt.alloc(), row)?.saturating_add(bytes);
     }
-    assert!(rt; bytes == 12 + 24 + 6 + 1);
+    check(&rt, bytes == 12 + 24 + 6 + 1, "bytes of blocks");
     Ok(())
 }
 
@@ -256,95 +208,99 @@ fn items_are_not_copied(rt: HostRuntime) -> Result<(), Fail> {
 #[test]
 fn arrays_are_saved(rt: HostRuntime) {
     for row in ROWS {
-        if let Err(refusal) = saves_row(&rt, rt.alloc(), row) {
-            assert!(rt; refusal == Refusal::OutOfMemory, "at {}", row.text);
-        }
+        let saved = saves_row(&rt, rt.alloc(), row);
+        let is_known = matches!(saved, Ok(()) | Err(Refusal::OutOfMemory));
+        check(&rt, is_known, row.text);
     }
 }
+
+const ZEROS: &[u8] = &[0; 65_536];
 
 /// One item of 65,536 bytes, stretched to more than 2^28 bytes.
 #[test]
 fn too_many_bytes(rt: HostRuntime) -> Result<(), Fail> {
-    let descr = descr_read(rt.alloc(), b"|S65536")?;
-    let layout = layout_of(&rt, rt.alloc(), &[4097], &[0], 0)?;
-    let block = RawBlock::try_zeroed(rt.alloc(), 65_536)?;
-    let refusal = saved_of(&rt, rt.alloc(), &block, &layout, &descr).err();
-    assert!(rt; refusal == Some(Refusal::TooLarge));
+    let array = array_of(&rt, rt.alloc(), "|S65536", (&[4097], &[0], 0), ZEROS)?;
+    let refusal = saved(&rt, rt.alloc(), &array).err();
+    check(&rt, refusal == Some(Refusal::TooLarge), "too large");
     Ok(())
 }
 
-/// The format text of a record of `whole` records of 64 bytes with names of 64 letters and digits, and
-/// of one record of 16 such bytes and one with a name of `last` letters.
-fn many_fields(alloc: Global, whole: usize, last: usize) -> Result<Vec<u8>, AllocError> {
-    let mut text = Vec::from_slice(alloc, b"T{")?;
-    for _ in 0..whole {
-        text.extend_from_slice(b"T{")?;
-        push_fields(&mut text, 64)?;
-        text.push(b'}')?;
+const MARK: &str = "xxxxxxxxxxxxxxxxxxxxxxxxxxxxxxxxxxxxxxxxxxxxxxxxxxxxxxxxxxxxxx";
+
+/// A record of so many bytes with names of 64 letters and digits, and what else it has.
+fn push_record(text: &mut String, count: u32, more: &str) -> Result<(), AllocError> {
+    text.push_str("T{")?;
+    for k in 0..count {
+        write!(text, "b:{MARK}{}{}:", k / 10, k % 10)?;
     }
-    text.extend_from_slice(b"T{")?;
-    push_fields(&mut text, 16)?;
-    text.extend_from_slice(b"b:")?;
-    for _ in 0..last {
-        text.push(b'y')?;
+    text.push_str(more)?;
+    text.push_str("}")
+}
+
+/// The format text of a record of 13 records of 64 bytes, and of one of 16 bytes and a last one.
+fn many_fields(alloc: Global, last: &str) -> Result<String, AllocError> {
+    let mut text = String::from_str(alloc, "T{")?;
+    for _ in 0..13 {
+        push_record(&mut text, 64, "")?;
     }
-    text.extend_from_slice(b":}}")?;
+    push_record(&mut text, 16, last)?;
+    text.push_str("}")?;
     Ok(text)
 }
 
-fn push_fields(text: &mut Vec<u8>, count: usize) -> Result<(), AllocError> {
-    let mut left = count;
-    for ten in b"0123456" {
-        for one in b"0123456789" {
-            if left == 0 {
-                return Ok(());
-            }
-            left -= 1;
-            text.extend_from_slice(b"b:")?;
-            text.extend_from_slice(&[b'x'; 62])?;
-            text.push(*ten)?;
-            text.push(*one)?;
-            text.push(b':')?;
-        }
-    }
+/// The file of one such record.
+fn long_file(rt: &impl Abort, alloc: Global, last: &str) -> Result<Vec<u8>, Refusal> {
+    let text = many_fields(alloc, last)?;
+    let array = array_of(rt, alloc, text.as_str(), (&[], &[], 0), &[7; 849])?;
+    saved(rt, alloc, &array)
+}
+
+/// The file is read again, as a record of 849 bytes.
+fn is_read(rt: &impl Abort, alloc: Global, file: &[u8]) -> Result<(), Refusal> {
+    let (array, rest) = npy_read(alloc, file)?;
+    check(rt, rest == 0, "no bytes behind it");
+    check(rt, array.descr.leaf_count() == 849, "its leaves");
+    check(rt, array.block.bytes() == [7; 849].as_slice(), "its items");
     Ok(())
 }
 
-/// The length of such a file, and of it what comes before the text of the header.
-fn front_of(rt: &impl Abort, alloc: Global, last: usize) -> Result<(usize, Vec<u8>), Refusal> {
-    let text = many_fields(alloc, 13, last)?;
-    let descr = descr_read(alloc, text.as_slice())?;
-    let layout = layout_of(rt, alloc, &[], &[], 0)?;
-    let file = saved(rt, alloc, &[7; 849], &layout, &descr)?;
-    assert!(rt; file.len() > 12);
-    Ok((file.len(), Vec::from_slice(alloc, &file[..12])?))
-}
-
+/// The last of a record's bytes, the length of its file, and what comes before the text of the header.
 /// Version 1.0 has room for a text of 65,525 bytes, and 2.0 is for one byte more.
+const LONG: &[(&str, usize, &[u8])] = &[
+    (
+        "b:yyyyyyyyyyyyyyyyyyyyyy:",
+        10 + 65_526 + 849,
+        b"\x93NUMPY\x01\0\xf6\xff{'",
+    ),
+    (
+        "b:yyyyyyyyyyyyyyyyyyyyyyy:",
+        12 + 65_588 + 849,
+        b"\x93NUMPY\x02\0\x34\0\x01\0",
+    ),
+];
+
+/// What is written of a record in both versions is read again.
 #[test]
 fn long_headers(rt: HostRuntime) -> Result<(), Fail> {
-    let (len, front) = front_of(&rt, rt.alloc(), 22)?;
-    assert!(rt; len == 10 + 65_526 + 849);
-    assert!(rt; front.as_slice() == b"\x93NUMPY\x01\x00\xf6\xff{'".as_slice());
-    let (len, front) = front_of(&rt, rt.alloc(), 23)?;
-    assert!(rt; len == 12 + 65_588 + 849);
-    assert!(rt; front.as_slice() == b"\x93NUMPY\x02\x00\x34\x00\x01\x00".as_slice());
+    for (last, len, front) in LONG {
+        let file = long_file(&rt, rt.alloc(), last)?;
+        check(&rt, file.len() == *len && file.starts_with(front), last);
+        is_read(&rt, rt.alloc(), file.as_slice())?;
+    }
     Ok(())
 }
 
-/// What was written of a record in both versions is read again.
-#[test]
-fn long_files_are_read(rt: HostRuntime) -> Result<(), Fail> {
-    for last in [22, 23] {
-        let text = many_fields(rt.alloc(), 13, last)?;
-        let descr = descr_read(rt.alloc(), text.as_slice())?;
-        let layout = layout_of(&rt, rt.alloc(), &[], &[], 0)?;
-        let file = saved(&rt, rt.alloc(), &[7; 849], &layout, &descr)?;
-        let (array, rest) = npy_read(rt.alloc(), file.as_slice())?;
-        assert!(rt; rest == 0);
-        assert!(rt; array.descr.leaf_count() == 849);
-        assert!(rt; array.block.bytes() == [7; 849].as_slice());
-    }
+fn writes_over<N: NpyStore>(
+    rt: &impl Abort,
+    alloc: Global,
+    store: &mut N,
+) -> Result<(), StoreFault> {
+    store.write(alloc, b"a.npy", b"one")?;
+    store.write(alloc, b"a.npy", b"new")?;
+    has_file(rt, alloc, store, b"a.npy", Some(b"new"))?;
+    has_file(rt, alloc, store, b"b.npy", None)?;
+    let outside = store.write(alloc, b"../a.npy", b"one");
+    check(rt, outside.is_err(), "outside");
     Ok(())
 }
 
@@ -353,44 +309,74 @@ fn long_files_are_read(rt: HostRuntime) -> Result<(), Fail> {
 fn a_folder_of_files(rt: HostRuntime) -> Result<(), Fail> {
     fs::create_dir_all(&rt, "folder_of_files")?;
     let mut store = DirStore::try_new(&rt, rt.alloc(), "folder_of_files")?;
-    store.write(rt.alloc(), b"a.npy", b"one")?;
-    store.write(rt.alloc(), b"a.npy", b"new")?;
-    let found = store.read(rt.alloc(), b"a.npy")?;
-    assert!(rt; matches!(&found, Some(bytes) if bytes.as_slice() == b"new".as_slice()));
-    let none = store.read(rt.alloc(), b"b.npy")?;
-    assert!(rt; none.is_none());
-    let outside = store.write(rt.alloc(), b"../a.npy", b"one");
-    assert!(rt; outside.is_err());
+    writes_over(&rt, rt.alloc(), &mut store)?;
     fs::remove_file(&rt, "folder_of_files/a.npy")?;
     fs::remove_dir(&rt, "folder_of_files")?;
     Ok(())
+}
+
+/// What is written as two parts is read as these.
+fn reads_parts<N: NpyStore>(
+    rt: &impl Abort,
+    alloc: Global,
+    store: &mut N,
+    written: (&[u8], &[u8]),
+    wanted: (&[u8], &[u8]),
+) -> Result<(), StoreFault> {
+    store.write_parts(alloc, b"a.npy", written.0, written.1)?;
+    let Some(FileParts { front, block }) = store.read_parts(alloc, b"a.npy")? else {
+        panic!(rt; "no file");
+    };
+    check(rt, front.as_slice() == wanted.0, "the first part");
+    check(rt, block.bytes() == wanted.1, "the second part");
+    Ok(())
+}
+
+fn cuts<N: NpyStore>(
+    rt: &impl Abort,
+    alloc: Global,
+    store: &mut N,
+    items: &[u8],
+) -> Result<(), StoreFault> {
+    let written: (&[u8], &[u8]) = (b"\x93NUMPY\x01\0\x02\0{}", items);
+    reads_parts(rt, alloc, store, written, written)?;
+    reads_parts(rt, alloc, store, (b"no ", b"file"), (b"", b"no file"))?;
+    let none = store.read_parts(alloc, b"b.npy")?;
+    check(rt, none.is_none(), "no file");
+    Ok(())
+}
+
+fn many_bytes(alloc: Global) -> Result<Vec<u8>, AllocError> {
+    let mut bytes = Vec::new(alloc);
+    for k in 0..200_000u32 {
+        bytes.push((k % 251) as u8)?;
+    }
+    Ok(bytes)
 }
 
 /// An NPY file of a folder is cut behind its header, and of what is none nothing stands in front.
 #[test]
 fn two_parts_in_a_folder(rt: HostRuntime) -> Result<(), Fail> {
     fs::create_dir_all(&rt, "two_parts")?;
+    let items = many_bytes(rt.alloc())?;
     let mut store = DirStore::try_new(&rt, rt.alloc(), "two_parts")?;
-    let mut items = Vec::new(rt.alloc());
-    for k in 0..200_000u32 {
-        items.push((k % 251) as u8)?;
-    }
-    let header = b"\x93NUMPY\x01\x00\x02\x00{}";
-    store.write_parts(rt.alloc(), b"a.npy", header, items.as_slice())?;
-    let found = store.read_parts(rt.alloc(), b"a.npy")?;
-    assert!(rt; matches!(&found, Some(parts) if parts.front.as_slice() == header.as_slice()));
-    assert!(rt; matches!(&found, Some(parts) if parts.block.bytes() == items.as_slice()));
-    store.write_parts(rt.alloc(), b"a.npy", b"no ", b"file")?;
-    let found = store.read_parts(rt.alloc(), b"a.npy")?;
-    assert!(rt; matches!(&found, Some(FileParts { front, .. }) if front.is_empty()));
-    assert!(rt;
-        matches!(&found, Some(FileParts { block, .. }) if block.bytes() == b"no file".as_slice())
-    );
-    let none = store.read_parts(rt.alloc(), b"b.npy")?;
-    assert!(rt; none.is_none());
+    cuts(&rt, rt.alloc(), &mut store, items.as_slice())?;
     fs::remove_file(&rt, "two_parts/a.npy")?;
     fs::remove_dir(&rt, "two_parts")?;
     Ok(())
+}
+
+fn tells_folders<N: NpyStore>(
+    rt: &impl Abort,
+    alloc: Global,
+    store: &mut N,
+) -> Result<(), StoreFault> {
+    let found = store.read(alloc, b"a.npy");
+    check(rt, found.is_err(), "a folder is read");
+    let written = store.write(alloc, b"a.npy", b"one");
+    check(rt, written.is_err(), "a folder is written");
+    store.write(alloc, b"b.npy", b"new")?;
+    has_file(rt, alloc, store, b"b.npy", Some(b"new"))
 }
 
 /// A folder in the place of a file is no file, and a part that was left behind is written anew.
@@ -399,13 +385,7 @@ fn what_is_no_file(rt: HostRuntime) -> Result<(), Fail> {
     fs::create_dir_all(&rt, "no_files/a.npy")?;
     fs::write(&rt, "no_files/.b.npy.part", "left behind")?;
     let mut store = DirStore::try_new(&rt, rt.alloc(), "no_files")?;
-    let found = store.read(rt.alloc(), b"a.npy");
-    assert!(rt; found.is_err());
-    let written = store.write(rt.alloc(), b"a.npy", b"one");
-    assert!(rt; written.is_err());
-    store.write(rt.alloc(), b"b.npy", b"new")?;
-    let found = store.read(rt.alloc(), b"b.npy")?;
-    assert!(rt; matches!(&found, Some(bytes) if bytes.as_slice() == b"new".as_slice()));
+    tells_folders(&rt, rt.alloc(), &mut store)?;
     fs::remove_dir(&rt, "no_files/a.npy")?;
     fs::remove_file(&rt, "no_files/b.npy")?;
     fs::remove_dir(&rt, "no_files")?;

@@ -1,4 +1,5 @@
 //! Type strings, read as NumPy reads them, and written.
+use crate::check::check;
 use elem_descr::{Order, Refusal, Scalar, Width, typestr_read, typestr_write};
 use std::test::Fail;
 
@@ -63,14 +64,14 @@ fn numbers_as_numpy_reads_them(rt: HostRuntime) {
         ("i2", integer(true, Width::Two, Order::Little)),
     ];
     for (text, scalar) in table {
-        assert!(rt; typestr_read(text.as_bytes()) == Ok(scalar), "at {text}");
+        check(&rt, typestr_read(text.as_bytes()) == Ok(scalar), text);
     }
 }
 
 #[test]
 fn refused_type_strings(rt: HostRuntime) {
     for (text, refusal) in REFUSED {
-        assert!(rt; typestr_read(text.as_bytes()) == Err(*refusal), "at {text}");
+        check(&rt, typestr_read(text.as_bytes()) == Err(*refusal), text);
     }
 }
 
@@ -79,7 +80,7 @@ fn written_type_strings(rt: HostRuntime) -> Result<(), Fail> {
     for (text, want) in WRITTEN {
         let scalar = typestr_read(text.as_bytes())?;
         let written = typestr_write(rt.alloc(), scalar)?;
-        assert!(rt; written.as_slice() == want.as_bytes(), "at {text}");
+        check(&rt, written.as_slice() == want.as_bytes(), text);
     }
     Ok(())
 }
