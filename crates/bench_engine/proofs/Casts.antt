@@ -88,21 +88,3 @@ pub cast-gives : (s : State) (a : Array) (r : ArrayRef) (text : List ℕ) (descr
     IfErr result (λ e. e ≡ (if can_cast r.descr.now descr then (if nat_le (count r.layout.now.shape * item_size descr) max_bytes then OutOfMemory else TooLarge) else NoSuchCast)) → Gives held result (cast_contents s a text)
 cast-gives s a r text descr (Ok o) shows good typed shaped laid items can few refused = cast-held s a r text descr o shows good can few typed shaped laid items
 cast-gives s a r text descr (Err e) shows good typed shaped laid items can few refused = cast-refused s a r text descr e shows good refused
-
--- ---- the command
-
-pub cast-unknown : (choice : Choice) (s : State) (name source text : List ℕ) → find_array s.names source ≡ None → cast_outcome choice s name source text ≡ Err UnknownName
-unfolding cast_outcome
-cast-unknown choice s name source text none = rw none refl
-
-pub cast-many : (choice : Choice) (s : State) (name source text : List ℕ) (a : Array) → find_array s.names source ≡ Some a → has_room_for s name ≡ false → cast_outcome choice s name source text ≡ Err TooManyNames
-unfolding cast_outcome
-cast-many choice s name source text a is full = rw (is, full) refl
-
-pub cast-bad : (choice : Choice) (s : State) (name source text : List ℕ) (a : Array) (e : Refusal) → find_array s.names source ≡ Some a → has_room_for s name ≡ true → cast_contents s a text ≡ Err e → cast_outcome choice s name source text ≡ Err e
-unfolding cast_outcome
-cast-bad choice s name source text a e is room bad = rw (is, room, bad) refl
-
-pub cast-done : (choice : Choice) (s : State) (name source text : List ℕ) (a : Array) (new : Contents) → find_array s.names source ≡ Some a → has_room_for s name ≡ true → cast_contents s a text ≡ Ok new → cast_outcome choice s name source text ≡ bound_new choice s name origin.New new
-unfolding cast_outcome
-cast-done choice s name source text a new is room good = rw (is, room, good) refl

@@ -65,21 +65,3 @@ pub copied-gives : (s : State) (a : Array) (r : ArrayRef) (order : MemoryOrder) 
     IfErr result (λ e. e ≡ (if nat_le (count r.layout.now.shape * item_size r.descr.now) max_bytes then OutOfMemory else TooLarge)) → Gives held result (copied_contents s a order a.shape)
 copied-gives s a r order (Ok o) shows typed shaped laid items few refused = items-copied s a r order o shows few typed shaped laid items
 copied-gives s a r order (Err e) shows typed shaped laid items few refused = copy-refused s a r order e shows refused
-
--- ---- the command
-
-pub copy-unknown : (choice : Choice) (s : State) (name source : List ℕ) (order : MemoryOrder) → find_array s.names source ≡ None → copy_outcome choice s name source order ≡ Err UnknownName
-unfolding copy_outcome
-copy-unknown choice s name source order none = rw none refl
-
-pub copy-many : (choice : Choice) (s : State) (name source : List ℕ) (order : MemoryOrder) (a : Array) → find_array s.names source ≡ Some a → has_room_for s name ≡ false → copy_outcome choice s name source order ≡ Err TooManyNames
-unfolding copy_outcome
-copy-many choice s name source order a is full = rw (is, full) refl
-
-pub copy-bad : (choice : Choice) (s : State) (name source : List ℕ) (order : MemoryOrder) (a : Array) (e : Refusal) → find_array s.names source ≡ Some a → has_room_for s name ≡ true → copied_contents s a order a.shape ≡ Err e → copy_outcome choice s name source order ≡ Err e
-unfolding copy_outcome
-copy-bad choice s name source order a e is room bad = rw (is, room, bad) refl
-
-pub copy-done : (choice : Choice) (s : State) (name source : List ℕ) (order : MemoryOrder) (a : Array) (new : Contents) → find_array s.names source ≡ Some a → has_room_for s name ≡ true → copied_contents s a order a.shape ≡ Ok new → copy_outcome choice s name source order ≡ bound_new choice s name origin.Copy new
-unfolding copy_outcome
-copy-done choice s name source order a new is room good = rw (is, room, good) refl

@@ -2,18 +2,14 @@
 ghost use Rattle.std.specs.Prelude.{◌≡◌, ◌≤◌, ◌+◌, ◌++◌, ◌&&◌, [], List, vec_len, vec_capacity};
 ghost use Rattle.std.specs.List.{list_all};
 ghost use Rattle.name_store.specs.Arrays.{is_bound};
-ghost use Rattle.script_lang.specs.declared.command.Value.TheVariants.{Compute};
-ghost use Rattle.script_lang.specs.declared.command.Command.TheVariants.{Bind};
 ghost use Rattle.bench_engine.specs.inside.Contract.{CarriesOut, Carried};
-ghost use Rattle.bench_engine.specs.Machine.{bind_outcome, question_outcome, bound_in_question, may_lack_memory};
+ghost use Rattle.bench_engine.specs.Machine.{question_outcome, bound_in_question};
 ghost use Rattle.bench_engine.specs.Replies.{Reply};
 ghost use Rattle.bench_engine.specs.Meanings.{MayAnswerBind, MayAnswer, Answered};
 ghost use Rattle.bench_engine.specs.Worlds.{world};
 ghost use Rattle.bench_engine.specs.inside.ReadLines.{ReadsAs, Tells, meaning_of_read};
 
-use crate::cast::cast;
-use crate::compute::{combine, reduce, transform};
-use crate::copy::copy;
+use crate::compute::compute;
 use crate::create::make;
 use crate::delete::delete;
 use crate::format::format;
@@ -30,43 +26,11 @@ use crate::view::view;
 use elem_descr::Refusal;
 use name_store::Bench;
 use npy_files::NpyStore;
-use script_lang::{Command, Computation, Name, Question, Value, parse, word};
+use script_lang::{Command, Name, Question, Value, parse, word};
 use std::alloc::Global;
 
 /// The most bytes of a refusal's text.
 pub const MAX_REFUSAL_LEN: usize = 64;
-
-/// Binds a name to what is computed, and appends the reply.
-fn compute(
-    alloc: Global,
-    bench: &mut Bench,
-    name: &Name,
-    computation: &Computation,
-    out: &mut Vec<u8>,
-) -> Result<(), Refusal>
-    ensures answers { CarriesOut (may_lack_memory bench.old.state (Bind name.now (Compute computation.now)))
-        (λ choice. bind_outcome choice bench.old.state name.now (Compute computation.now)) bench.old.state bench.new.state out.old.items out.new.items result }
-    ensures room { vec_capacity out.old ≤ vec_capacity out.new }
-{
-    match computation {
-        Computation::Duplicate { source, order } => copy(alloc, bench, name, source, *order, out),
-        Computation::Cast { source, descr } => cast(alloc, bench, name, source, descr, out),
-        Computation::Combine {
-            operation,
-            left,
-            right,
-        } => combine(alloc, bench, name, *operation, left, right, out),
-        Computation::Transform { operation, operand } => {
-            transform(alloc, bench, name, *operation, operand, out)
-        }
-        Computation::Reduce {
-            reduction,
-            source,
-            axis,
-            keep,
-        } => reduce(alloc, bench, name, *reduction, source, *axis, *keep, out),
-    }
-}
 
 /// Binds a name, and appends the reply.
 fn bind<N: NpyStore>(
