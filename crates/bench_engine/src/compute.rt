@@ -16,7 +16,6 @@ use crate::replies::Origin;
 use elem_descr::Refusal;
 use name_store::Bench;
 use script_lang::{Computation, Name};
-use std::alloc::Global;
 
 /// Whether the names in a computation are bound.
 fn are_bound(bench: &Bench, computation: &Computation) -> bool
@@ -43,7 +42,6 @@ fn origin_of(computation: &Computation) -> Origin
 
 /// Binds a name to what is computed, and appends the reply.
 pub fn compute(
-    alloc: Global,
     bench: &mut Bench,
     name: &Name,
     computation: &Computation,
@@ -59,6 +57,6 @@ pub fn compute(
     if !bench.has_room_for(name) {
         return Err(Refusal::TooManyNames);
     }
-    let owned = computed(alloc, bench, computation)?;
-    bind_new(alloc, bench, name, owned, origin_of(computation), out)
+    let owned = computed(*out.allocator(), bench, computation)?;
+    bind_new(bench, name, owned, origin_of(computation), out)
 }

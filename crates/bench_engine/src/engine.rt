@@ -19,7 +19,7 @@ use crate::load::load;
 use crate::names::names;
 use crate::print::print;
 use crate::save::save;
-use crate::set::set;
+use crate::set::{Assignment, set};
 use crate::shares::shares;
 use crate::undo::undo;
 use crate::view::view;
@@ -34,7 +34,6 @@ pub const MAX_REFUSAL_LEN: usize = 64;
 
 /// Binds a name, and appends the reply.
 fn bind<N: NpyStore>(
-    alloc: Global,
     bench: &mut Bench,
     store: &mut N,
     name: &Name,
@@ -46,16 +45,15 @@ fn bind<N: NpyStore>(
     ensures room { vec_capacity out.old ≤ vec_capacity out.new }
 {
     match value {
-        Value::Make { descr, items } => make(alloc, bench, name, descr, items, out),
-        Value::View { source, how } => view(alloc, bench, name, source, how, out),
-        Value::Compute(computation) => compute(alloc, bench, name, computation, out),
-        Value::Load { file } => load(alloc, bench, store, name, file, out),
+        Value::Make { descr, items } => make(bench, name, descr, items, out),
+        Value::View { source, how } => view(bench, name, source, how, out),
+        Value::Compute(computation) => compute(bench, name, computation, out),
+        Value::Load { file } => load(bench, store, name, file, out),
     }
 }
 
 /// Appends what is asked.
 fn reply(
-    alloc: Global,
     bench: &Bench,
     question: &Question,
     out: &mut Vec<u8>,
@@ -66,18 +64,17 @@ fn reply(
     ensures room { vec_capacity out.old ≤ vec_capacity out.new }
 {
     match question {
-        Question::Print { name } => print(alloc, bench, name, out),
-        Question::Info { name } => info(alloc, bench, name, out),
-        Question::Format { name } => format(alloc, bench, name, out),
+        Question::Print { name } => print(bench, name, out),
+        Question::Info { name } => info(bench, name, out),
+        Question::Format { name } => format(bench, name, out),
         Question::Names => names(bench, out),
-        Question::Shares { left, right } => shares(alloc, bench, left, right, out),
+        Question::Shares { left, right } => shares(bench, left, right, out),
     }
 }
 
 /// Carries out a command and appends its reply. A refusal changes nothing, but for what stands past
 /// the old end of `out`.
 fn perform<N: NpyStore>(
-    alloc: Global,
     bench: &mut Bench,
     store: &mut N,
     command: &Command,
@@ -89,17 +86,33 @@ fn perform<N: NpyStore>(
     ensures room { vec_capacity out.old ≤ vec_capacity out.new }
 {
     match command {
-        Command::Bind { name, value } => bind(alloc, bench, store, name, value, out),
-        Command::Set { name, index, value } => set(alloc, bench, name, index, None, value, out),
+        Command::Bind { name, value } => bind(bench, store, name, value, out),
+        Command::Set { name, index, value } => {
+            let assignment = Assignment {
+                name,
+                index,
+                operation: None,
+                value,
+            };
+            set(bench, assignment, out)
+        }
         Command::Update {
             name,
             index,
             operation,
             value,
-        } => set(alloc, bench, name, index, Some(*operation), value, out),
-        Command::Delete { name } => delete(alloc, bench, name, out),
-        Command::Ask(question) => reply(alloc, bench, question, out),
-        Command::Save { name, file } => save(alloc, bench, store, name, file, out),
+        } => {
+            let assignment = Assignment {
+                name,
+                index,
+                operation: Some(*operation),
+                value,
+            };
+            set(bench, assignment, out)
+        }
+        Command::Delete { name } => delete(bench, name, out),
+        Command::Ask(question) => reply(bench, question, out),
+        Command::Save { name, file } => save(bench, store, name, file, out),
         Command::Undo => undo(bench, out),
     }
 }
@@ -108,7 +121,6 @@ fn perform<N: NpyStore>(
 /// command changes nothing. Out of memory is never the answer where a name is unknown, nor for `del`
 /// where no state is kept, nor for `undo`.
 pub fn execute<N: NpyStore>(
-    alloc: Global,
     bench: &mut Bench,
     store: &mut N,
     command: &Command,
@@ -121,7 +133,7 @@ pub fn execute<N: NpyStore>(
     ensures room { vec_capacity out.old ≤ vec_capacity out.new }
 {
     let before = out.len();
-    match perform(alloc, bench, store, command, out) {
+    match perform(bench, store, command, out) {
         Ok(()) => true,
         Err(refusal) => {
             out.truncate(before);
@@ -146,7 +158,6 @@ fn read_line(alloc: Global, line: Line<'_>) -> Result<Option<Command>, Refusal>
 
 /// Answers a line: whether its command was accepted, or nothing where it asks for nothing.
 pub fn answer<N: NpyStore>(
-    alloc: Global,
     bench: &mut Bench,
     store: &mut N,
     line: Line<'_>,
@@ -158,10 +169,10 @@ pub fn answer<N: NpyStore>(
         × Answered (world bench.old.state (N.shelf store.old)) (meaning_of_read line.entry) (world bench.new.state (N.shelf store.new)) replies }
     ensures room { vec_capacity out.old ≤ vec_capacity out.new }
 {
-    match read_line(alloc, line) {
+    match read_line(*out.allocator(), line) {
         Ok(None) => None,
         Ok(Some(command)) => {
-            let accepted = execute(alloc, bench, store, &command, out);
+            let accepted = execute(bench, store, &command, out);
             drop(command);
             Some(accepted)
         }
