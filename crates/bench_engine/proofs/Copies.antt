@@ -1,8 +1,8 @@
 -- Arrays that are copied.
-use Rattle.std.proofs.Common.{◌≡◌, ◌⊎◌, ◌≤◌, ◌*◌, ℕ, nat_le, true, false, List, map, refl, sym, ap, ◌∙◌, subst, if◌then◌else◌, Some, Result, Ok, Err, IfOk, IfErr, None, inl, inr, arith}
+use Rattle.std.proofs.Common.{◌≡◌, ◌⊎◌, ◌≤◌, ◌*◌, ℕ, nat_le, true, false, List, map, refl, sym, ap, ◌∙◌, subst, if◌then◌else◌, Result, Ok, Err, IfOk, IfErr, inl, inr, arith}
 use Rattle.std.proofs.lemmas.Bool.{le-leb}
 use Rattle.elem_descr.specs.declared.refusal.Refusal.{Refusal}
-use Rattle.elem_descr.specs.declared.refusal.Refusal.TheVariants.{OutOfMemory, TooLarge, UnknownName, TooManyNames}
+use Rattle.elem_descr.specs.declared.refusal.Refusal.TheVariants.{OutOfMemory, TooLarge}
 use Rattle.elem_descr.specs.Refusals.{Gives}
 use Rattle.elem_descr.specs.declared.descr.Descr.{Descr}
 use Rattle.elem_descr.specs.Items.{item_size}
@@ -15,13 +15,12 @@ use Rattle.shape_strides.specs.Layouts.{offsets}
 use Rattle.overlap_copy.specs.declared.owned.Owned.{Owned}
 use Rattle.overlap_copy.specs.Blocks.{offsets_in, places_of}
 use Rattle.name_store.specs.States.{State, Array}
-use Rattle.name_store.specs.Arrays.{find_array, has_room_for, descr_of, read}
+use Rattle.name_store.specs.Arrays.{descr_of, read}
 use Rattle.name_store.specs.Shown.{Shows}
 use Rattle.name_store.specs.declared.array_ref.ArrayRef.{ArrayRef}
-use Rattle.bench_engine.specs.declared.replies.Origin.TheVariants as origin
-use Rattle.bench_engine.specs.Contents.{Contents, new_contents_in}
+use Rattle.bench_engine.specs.Contents.{new_contents_in}
 use Rattle.bench_engine.specs.inside.OwnContents.{held}
-use Rattle.bench_engine.specs.Machine.{Choice, copied_contents, copy_outcome, bound_new}
+use Rattle.bench_engine.specs.Machine.{copied_contents}
 use Rattle.bench_engine.proofs.Stored.{places-stored, stored-is}
 
 pub copied-large : (s : State) (a : Array) (order : MemoryOrder) (shape : List ℕ) → nat_le (count shape * item_size (descr_of s a)) max_bytes ≡ false → copied_contents s a order shape ≡ Err TooLarge

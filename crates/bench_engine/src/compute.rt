@@ -24,7 +24,8 @@ fn are_bound(bench: &Bench, computation: &Computation) -> bool
     match computation {
         Computation::Duplicate { source, .. } => bench.get(source).is_some(),
         Computation::Cast { source, .. } => bench.get(source).is_some(),
-        Computation::Combine { left, right, .. } => is_bound(bench, left) && has_bound(bench, right),
+        Computation::Combine { left, right, .. } => is_bound(bench, left)
+            && has_bound(bench, right),
         Computation::Transform { operand, .. } => is_bound(bench, operand),
         Computation::Reduce { source, .. } => bench.get(source).is_some(),
     }

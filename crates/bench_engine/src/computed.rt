@@ -98,11 +98,7 @@ fn reduced(
 }
 
 /// What a computation gives.
-pub fn computed(
-    alloc: Global,
-    bench: &Bench,
-    computation: &Computation,
-) -> Result<Owned, Refusal>
+pub fn computed(alloc: Global, bench: &Bench, computation: &Computation) -> Result<Owned, Refusal>
     requires bound { list_all (is_bound bench.now.state) (bound_in_value (Compute computation.now)) ≡ true }
     ensures { Gives held result (computed_contents bench.now.state computation.now) }
 {
@@ -126,12 +122,6 @@ pub fn computed(
             source,
             axis,
             keep,
-        } => reduced(
-            alloc,
-            &bench.get(source).unwrap(),
-            *reduction,
-            *axis,
-            *keep,
-        ),
+        } => reduced(alloc, &bench.get(source).unwrap(), *reduction, *axis, *keep),
     }
 }

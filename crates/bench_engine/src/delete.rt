@@ -9,11 +9,7 @@ use name_store::Bench;
 use script_lang::Name;
 
 /// Unbinds a name. Only to keep the state before does it take memory, which is before the change.
-pub fn delete(
-    bench: &mut Bench,
-    name: &Name,
-    out: &mut Vec<u8>,
-) -> Result<(), Refusal>
+pub fn delete(bench: &mut Bench, name: &Name, out: &mut Vec<u8>) -> Result<(), Refusal>
     requires room { vec_len out.old + 64 ≤ vec_capacity out.old }
     ensures room { vec_capacity out.old ≤ vec_capacity out.new }
     ensures answers { CarriesOut (nat_lt 0 bench.old.state.depth && is_bound bench.old.state name.now) (λ choice. delete_outcome bench.old.state name.now)

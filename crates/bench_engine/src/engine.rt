@@ -53,11 +53,7 @@ fn bind<N: NpyStore>(
 }
 
 /// Appends what is asked.
-fn reply(
-    bench: &Bench,
-    question: &Question,
-    out: &mut Vec<u8>,
-) -> Result<(), Refusal>
+fn reply(bench: &Bench, question: &Question, out: &mut Vec<u8>) -> Result<(), Refusal>
     requires room { vec_len out.old + 64 ≤ vec_capacity out.old }
     ensures answers { CarriesOut (list_all (is_bound bench.now.state) (bound_in_question question.now))
         (λ choice. question_outcome bench.now.state question.now) bench.now.state bench.now.state out.old.items out.new.items result }

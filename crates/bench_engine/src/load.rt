@@ -61,13 +61,7 @@ fn push_loaded_text(
     ensures kept { StartsWith out.new.items out.old.items }
     ensures room { vec_capacity out.old ≤ vec_capacity out.new }
 {
-    push_bound_text(
-        out,
-        name,
-        &owned.descr,
-        &owned.layout.shape,
-        Origin::New,
-    )?;
+    push_bound_text(out, name, &owned.descr, &owned.layout.shape, Origin::New)?;
     push_rest(out, rest)
 }
 

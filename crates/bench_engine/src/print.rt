@@ -18,6 +18,12 @@ pub fn print(bench: &Bench, name: &Name, out: &mut Vec<u8>) -> Result<(), Refusa
     let Some(array) = bench.get(name) else {
         return Err(Refusal::UnknownName);
     };
-    print_into(*out.allocator(), out, array.block.bytes(), array.layout, array.descr)?;
+    print_into(
+        *out.allocator(),
+        out,
+        array.block.bytes(),
+        array.layout,
+        array.descr,
+    )?;
     Ok(())
 }

@@ -61,7 +61,13 @@ pub fn save<N: NpyStore>(
         return Err(Refusal::UnknownName);
     };
     let parts = npy_parts(*out.allocator(), array.block, array.layout, array.descr)?;
-    put(*out.allocator(), store, file, parts.front.as_slice(), parts.items)?;
+    put(
+        *out.allocator(),
+        store,
+        file,
+        parts.front.as_slice(),
+        parts.items,
+    )?;
     push_saved_text(out, parts.front.len() + parts.items.len());
     Ok(())
 }

@@ -74,11 +74,7 @@ fn new_items(
 
 /// Writes to the items of a name's array that an index list takes: what stands behind `=`, or what the
 /// operation of `upd` gives on them and what stands behind it.
-pub fn set(
-    bench: &mut Bench,
-    assignment: Assignment<'_>,
-    out: &mut Vec<u8>,
-) -> Result<(), Refusal>
+pub fn set(bench: &mut Bench, assignment: Assignment<'_>, out: &mut Vec<u8>) -> Result<(), Refusal>
     requires room { vec_len out.old + 64 ≤ vec_capacity out.old }
     ensures room { vec_capacity out.old ≤ vec_capacity out.new }
     ensures answers { CarriesOut (list_all (is_bound bench.old.state) (assignment.entry.name.now ∷ names_in_index assignment.entry.index.now ++ names_in_argument assignment.entry.value.now))

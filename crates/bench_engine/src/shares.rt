@@ -10,12 +10,7 @@ use name_store::Bench;
 use script_lang::Name;
 
 /// Tells whether two names' arrays share memory.
-pub fn shares(
-    bench: &Bench,
-    left: &Name,
-    right: &Name,
-    out: &mut Vec<u8>,
-) -> Result<(), Refusal>
+pub fn shares(bench: &Bench, left: &Name, right: &Name, out: &mut Vec<u8>) -> Result<(), Refusal>
     requires room { vec_len out.old + 64 ≤ vec_capacity out.old }
     ensures room { vec_capacity out.old ≤ vec_capacity out.new }
     ensures answers { CarriesOut (is_bound bench.now.state left.now && is_bound bench.now.state right.now) (λ choice. shares_outcome bench.now.state left.now right.now)

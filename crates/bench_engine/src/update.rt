@@ -152,13 +152,7 @@ pub fn updated(
         }
         Target::Plan(plan) => {
             let old = plan.gather_owned(alloc, array.block, array.descr)?;
-            changed(
-                alloc,
-                bench,
-                change.operation,
-                items_of(&old),
-                change.value,
-            )
+            changed(alloc, bench, change.operation, items_of(&old), change.value)
         }
     }
 }

@@ -37,12 +37,6 @@ pub fn view(
     let viewed = seen(*out.allocator(), bench, &array, how)?;
     let bound = viewed.bound;
     let shape = shape_of_bound(&bound);
-    push_bound_text(
-        out,
-        name,
-        viewed.descr,
-        shape,
-        origin_of_bound(&bound),
-    )?;
+    push_bound_text(out, name, viewed.descr, shape, origin_of_bound(&bound))?;
     bench.bind(*out.allocator(), name, bound)
 }

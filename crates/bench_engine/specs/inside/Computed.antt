@@ -1,5 +1,5 @@
 -- What a computation gives, and how it is told.
-use Rattle.std.specs.Prelude.{List, ℕ, Result}
+use Rattle.std.specs.Prelude.{Result}
 use Rattle.elem_descr.specs.declared.refusal.Refusal.{Refusal}
 use Rattle.elem_descr.specs.Refusals.{◌>>=◌}
 use Rattle.script_lang.specs.declared.command.Computation.{Computation}
