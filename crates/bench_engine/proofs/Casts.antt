@@ -1,9 +1,9 @@
 -- Arrays that are cast.
-use Rattle.std.proofs.Common.{◌≡◌, ◌⊎◌, ◌≤◌, ◌*◌, ℕ, nat_le, true, false, List, map, refl, sym, ap, ◌∙◌, subst, if◌then◌else◌, Some, Result, Ok, Err, IfOk, IfErr, None, inl, inr}
+use Rattle.std.proofs.Common.{◌≡◌, ◌⊎◌, ◌≤◌, ◌*◌, ℕ, nat_le, true, false, List, map, refl, sym, ap, ◌∙◌, subst, if◌then◌else◌, Result, Ok, Err, IfOk, IfErr, inl, inr}
 use Rattle.std.proofs.lemmas.Bool.{le-leb}
 use Rattle.std.proofs.lemmas.Simd.{map-map}
 use Rattle.elem_descr.specs.declared.refusal.Refusal.{Refusal}
-use Rattle.elem_descr.specs.declared.refusal.Refusal.TheVariants.{OutOfMemory, TooLarge, NoSuchCast, UnknownName, TooManyNames}
+use Rattle.elem_descr.specs.declared.refusal.Refusal.TheVariants.{OutOfMemory, TooLarge, NoSuchCast}
 use Rattle.elem_descr.specs.Refusals.{Gives}
 use Rattle.elem_descr.specs.DescrTexts.{descriptor}
 use Rattle.elem_descr.specs.declared.descr.Descr.{Descr}
@@ -18,13 +18,12 @@ use Rattle.shape_strides.specs.Layouts.{offsets}
 use Rattle.overlap_copy.specs.declared.owned.Owned.{Owned}
 use Rattle.overlap_copy.specs.Blocks.{offsets_in}
 use Rattle.name_store.specs.States.{State, Array}
-use Rattle.name_store.specs.Arrays.{find_array, has_room_for, descr_of, read}
+use Rattle.name_store.specs.Arrays.{descr_of, read}
 use Rattle.name_store.specs.Shown.{Shows}
 use Rattle.name_store.specs.declared.array_ref.ArrayRef.{ArrayRef}
-use Rattle.bench_engine.specs.declared.replies.Origin.TheVariants as origin
-use Rattle.bench_engine.specs.Contents.{Contents, new_contents}
+use Rattle.bench_engine.specs.Contents.{new_contents}
 use Rattle.bench_engine.specs.inside.OwnContents.{held}
-use Rattle.bench_engine.specs.Machine.{Choice, cast_items, cast_contents, cast_outcome, bound_new}
+use Rattle.bench_engine.specs.Machine.{cast_items, cast_contents}
 use Rattle.bench_engine.proofs.Copies.{made-held}
 
 -- ---- what is made
@@ -88,21 +87,3 @@ pub cast-gives : (s : State) (a : Array) (r : ArrayRef) (text : List ℕ) (descr
     IfErr result (λ e. e ≡ (if can_cast r.descr.now descr then (if nat_le (count r.layout.now.shape * item_size descr) max_bytes then OutOfMemory else TooLarge) else NoSuchCast)) → Gives held result (cast_contents s a text)
 cast-gives s a r text descr (Ok o) shows good typed shaped laid items can few refused = cast-held s a r text descr o shows good can few typed shaped laid items
 cast-gives s a r text descr (Err e) shows good typed shaped laid items can few refused = cast-refused s a r text descr e shows good refused
-
--- ---- the command
-
-pub cast-unknown : (choice : Choice) (s : State) (name source text : List ℕ) → find_array s.names source ≡ None → cast_outcome choice s name source text ≡ Err UnknownName
-unfolding cast_outcome
-cast-unknown choice s name source text none = rw none refl
-
-pub cast-many : (choice : Choice) (s : State) (name source text : List ℕ) (a : Array) → find_array s.names source ≡ Some a → has_room_for s name ≡ false → cast_outcome choice s name source text ≡ Err TooManyNames
-unfolding cast_outcome
-cast-many choice s name source text a is full = rw (is, full) refl
-
-pub cast-bad : (choice : Choice) (s : State) (name source text : List ℕ) (a : Array) (e : Refusal) → find_array s.names source ≡ Some a → has_room_for s name ≡ true → cast_contents s a text ≡ Err e → cast_outcome choice s name source text ≡ Err e
-unfolding cast_outcome
-cast-bad choice s name source text a e is room bad = rw (is, room, bad) refl
-
-pub cast-done : (choice : Choice) (s : State) (name source text : List ℕ) (a : Array) (new : Contents) → find_array s.names source ≡ Some a → has_room_for s name ≡ true → cast_contents s a text ≡ Ok new → cast_outcome choice s name source text ≡ bound_new choice s name origin.New new
-unfolding cast_outcome
-cast-done choice s name source text a new is room good = rw (is, room, good) refl

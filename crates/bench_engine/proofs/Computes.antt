@@ -1,15 +1,16 @@
 -- A name bound to what is computed of other arrays.
-use Rattle.std.proofs.Common.{◌≡◌, ◌&&◌, ℕ, Bool, true, false, Some, None, is_some, unwrap_or, List, [], ◌∷◌, ◌++◌, map, IfOk, Result, Ok, Err, refl, sym, ap, ◌∙◌, inl, inr}
+use Rattle.std.proofs.Common.{◌≡◌, ◌&&◌, ℕ, Bool, true, false, Some, None, unwrap_or, List, [], ◌∷◌, ◌++◌, map, IfOk, Option, Result, Ok, Err, refl, sym, ap, ◌∙◌, inl, inr}
 use Rattle.std.specs.List.{list_all}
 use Rattle.std.proofs.lemmas.List.Folds.{list_all-append}
 use Rattle.std.proofs.lemmas.Simd.{map-map}
 use Rattle.elem_descr.specs.declared.refusal.Refusal.{Refusal}
-use Rattle.elem_descr.specs.declared.refusal.Refusal.TheVariants.{UnknownName}
+use Rattle.elem_descr.specs.declared.refusal.Refusal.TheVariants.{UnknownName, TooManyNames}
 use Rattle.elem_descr.specs.declared.descr.Descr.{Descr}
-use Rattle.elem_descr.specs.Refusals.{Gives}
+use Rattle.elem_descr.specs.Refusals.{Gives, check, ◌>>=◌}
 use Rattle.elem_descr.specs.Blocks.{item_from}
 use Rattle.shape_strides.specs.declared.index_item.IndexItem.{IndexItem}
 use Rattle.shape_strides.specs.declared.index_item.IndexItem.TheVariants.{Ellipsis}
+use Rattle.shape_strides.specs.declared.memory_order.MemoryOrder.{MemoryOrder}
 use Rattle.shape_strides.specs.declared.memory_order.MemoryOrder.TheVariants.{C}
 use Rattle.shape_strides.specs.Layouts.{offsets}
 use Rattle.view_ops.specs.Views.{View}
@@ -20,33 +21,67 @@ use Rattle.script_lang.specs.declared.operation.Operation.{Operation}
 use Rattle.machine_numbers.specs.declared.operators.UnOp.{UnOp}
 use Rattle.script_lang.specs.declared.command.Operand.{Operand}
 use Rattle.script_lang.specs.declared.command.Argument.{Argument}
+use Rattle.script_lang.specs.declared.command.Computation.{Computation}
+use Rattle.script_lang.specs.declared.command.Computation.TheVariants.{Duplicate, Cast, Combine, Transform, Reduce}
+use Rattle.script_lang.specs.declared.command.Value.TheVariants.{Compute}
 use Rattle.name_store.specs.States.{State, Array}
-use Rattle.name_store.specs.Arrays.{find_array, is_bound, descr_of, read}
+use Rattle.name_store.specs.Arrays.{find_array, is_bound, has_room_for, descr_of, read}
 use Rattle.bench_engine.specs.Contents.{Contents, new_contents}
 use Rattle.bench_engine.specs.IndexLists.{taken}
-use Rattle.bench_engine.specs.Machine.{Choice, operand_values, viewed, operand_part, argument_values, operation_with, operation_contents, transformed, creation_outcome, computed_outcome}
-use Rattle.bench_engine.specs.inside.Contract.{IsRefused}
+use Rattle.bench_engine.specs.Machine.{Choice, Outcome, array_of, bound_in_value, bind_outcome, bound_new, copy_outcome, cast_outcome, operand_values, viewed, operand_part, argument_values, operation_with, operation_contents, transformed, creation_outcome, computed_outcome}
+use Rattle.bench_engine.specs.inside.Computed.{computed_contents, origin_of}
 use Rattle.bench_engine.specs.inside.Operands.{StandsFor}
 use Rattle.bench_engine.specs.inside.OwnContents.{held, IsInCOrder}
 use Rattle.bench_engine.proofs.Copies.{made-held}
 
 -- ---- the command
 
-module _ (s : State) (name : List ℕ) (names : List (List ℕ)) (contents : Result Contents Refusal) where
-  pub computed-unknown : (choice : Choice) → list_all (is_bound s) names ≡ false → computed_outcome choice s name names contents ≡ Err UnknownName
-  unfolding computed_outcome
-  computed-unknown choice none = rw none refl
+-- a computation is carried out where its names are bound and there is room for one more
+unfoldable computing : Choice → State → List ℕ → Computation → Outcome
+computing choice s name c = do
+  _ ← check (list_all (is_bound s) (bound_in_value (Compute c))) UnknownName
+  _ ← check (has_room_for s name) TooManyNames
+  new ← computed_contents s c
+  bound_new choice s name (origin_of c) new
 
-  pub computed-bound : (choice : Choice) → list_all (is_bound s) names ≡ true → computed_outcome choice s name names contents ≡ creation_outcome choice s name contents
-  unfolding computed_outcome
-  computed-bound choice all = rw all refl
+copied-so : (choice : Choice) (s : State) (name source : List ℕ) (order : MemoryOrder) (found : Option Array) → find_array s.names source ≡ found → copy_outcome choice s name source order ≡ computing choice s name (Duplicate source order)
+unfolding copy_outcome computing
+copied-so choice s name source order None is = rw is refl
+copied-so choice s name source order (Some a) is = rw is refl
 
-  pub computed-refused : (e : Refusal) → list_all (is_bound s) names ≡ true → IsRefused true (λ choice. creation_outcome choice s name contents) e → IsRefused (list_all (is_bound s) names) (λ choice. computed_outcome choice s name names contents) e
-  computed-refused e all (inl lacks) = inl (lacks.0, all)
-  computed-refused e all (inr bad) = inr (λ choice. computed-bound choice all ∙ bad choice)
+cast-so : (choice : Choice) (s : State) (name source text : List ℕ) (found : Option Array) → find_array s.names source ≡ found → cast_outcome choice s name source text ≡ computing choice s name (Cast source text)
+unfolding cast_outcome computing
+cast-so choice s name source text None is = rw is refl
+cast-so choice s name source text (Some a) is = rw is refl
 
-pub unbound : (s : State) (name : List ℕ) → find_array s.names name ≡ None → is_bound s name ≡ false
-unbound s name none = ap is_some none
+carried-so : (choice : Choice) (s : State) (name : List ℕ) (c : Computation) → bind_outcome choice s name (Compute c) ≡ computing choice s name c
+unfolding computed_outcome creation_outcome computing
+carried-so choice s name (Duplicate source order) = copied-so choice s name source order (find_array s.names source) refl
+carried-so choice s name (Cast source text) = cast-so choice s name source text (find_array s.names source) refl
+carried-so choice s name (Combine op left right) = refl
+carried-so choice s name (Transform op operand) = refl
+carried-so choice s name (Reduce reduction source axis keep) = refl
+
+module _ (s : State) (name : List ℕ) (c : Computation) where
+  pub compute-unknown : list_all (is_bound s) (bound_in_value (Compute c)) ≡ false → (choice : Choice) → bind_outcome choice s name (Compute c) ≡ Err UnknownName
+  unfolding computing
+  compute-unknown none choice = carried-so choice s name c ∙ rw none refl
+
+  module _ (all : list_all (is_bound s) (bound_in_value (Compute c)) ≡ true) where
+    pub compute-many : has_room_for s name ≡ false → (choice : Choice) → bind_outcome choice s name (Compute c) ≡ Err TooManyNames
+    unfolding computing
+    compute-many full choice = carried-so choice s name c ∙ rw (all, full) refl
+
+    pub compute-bad : (e : Refusal) → has_room_for s name ≡ true → computed_contents s c ≡ Err e → (choice : Choice) → bind_outcome choice s name (Compute c) ≡ Err e
+    unfolding computing
+    compute-bad e room bad choice = carried-so choice s name c ∙ rw (all, room, bad) refl
+
+    pub compute-done : (new : Contents) → has_room_for s name ≡ true → computed_contents s c ≡ Ok new → (choice : Choice) → bind_outcome choice s name (Compute c) ≡ bound_new choice s name (origin_of c) new
+    unfolding computing
+    compute-done new room good choice = carried-so choice s name c ∙ rw (all, room, good) refl
+
+pub of-array : {X : Type 0} (s : State) (name : List ℕ) (a : Array) (f : Array → Result X Refusal) → find_array s.names name ≡ Some a → array_of s name >>= f ≡ f a
+of-array s name a f is = rw is refl
 
 pub bound-both : (s : State) (first second : List (List ℕ)) (a b : Bool) → list_all (is_bound s) first ≡ a → list_all (is_bound s) second ≡ b → list_all (is_bound s) (first ++ second) ≡ (a && b)
 bound-both s first second a b left right = list_all-append (is_bound s) first second ∙ λ i. left i && right i

@@ -1,8 +1,8 @@
 -- Arrays that are copied.
-use Rattle.std.proofs.Common.{◌≡◌, ◌⊎◌, ◌≤◌, ◌*◌, ℕ, nat_le, true, false, List, map, refl, sym, ap, ◌∙◌, subst, if◌then◌else◌, Some, Result, Ok, Err, IfOk, IfErr, None, inl, inr, arith}
+use Rattle.std.proofs.Common.{◌≡◌, ◌⊎◌, ◌≤◌, ◌*◌, ℕ, nat_le, true, false, List, map, refl, sym, ap, ◌∙◌, subst, if◌then◌else◌, Result, Ok, Err, IfOk, IfErr, inl, inr, arith}
 use Rattle.std.proofs.lemmas.Bool.{le-leb}
 use Rattle.elem_descr.specs.declared.refusal.Refusal.{Refusal}
-use Rattle.elem_descr.specs.declared.refusal.Refusal.TheVariants.{OutOfMemory, TooLarge, UnknownName, TooManyNames}
+use Rattle.elem_descr.specs.declared.refusal.Refusal.TheVariants.{OutOfMemory, TooLarge}
 use Rattle.elem_descr.specs.Refusals.{Gives}
 use Rattle.elem_descr.specs.declared.descr.Descr.{Descr}
 use Rattle.elem_descr.specs.Items.{item_size}
@@ -15,13 +15,12 @@ use Rattle.shape_strides.specs.Layouts.{offsets}
 use Rattle.overlap_copy.specs.declared.owned.Owned.{Owned}
 use Rattle.overlap_copy.specs.Blocks.{offsets_in, places_of}
 use Rattle.name_store.specs.States.{State, Array}
-use Rattle.name_store.specs.Arrays.{find_array, has_room_for, descr_of, read}
+use Rattle.name_store.specs.Arrays.{descr_of, read}
 use Rattle.name_store.specs.Shown.{Shows}
 use Rattle.name_store.specs.declared.array_ref.ArrayRef.{ArrayRef}
-use Rattle.bench_engine.specs.declared.replies.Origin.TheVariants as origin
-use Rattle.bench_engine.specs.Contents.{Contents, new_contents_in}
+use Rattle.bench_engine.specs.Contents.{new_contents_in}
 use Rattle.bench_engine.specs.inside.OwnContents.{held}
-use Rattle.bench_engine.specs.Machine.{Choice, copied_contents, copy_outcome, bound_new}
+use Rattle.bench_engine.specs.Machine.{copied_contents}
 use Rattle.bench_engine.proofs.Stored.{places-stored, stored-is}
 
 pub copied-large : (s : State) (a : Array) (order : MemoryOrder) (shape : List ℕ) → nat_le (count shape * item_size (descr_of s a)) max_bytes ≡ false → copied_contents s a order shape ≡ Err TooLarge
@@ -65,21 +64,3 @@ pub copied-gives : (s : State) (a : Array) (r : ArrayRef) (order : MemoryOrder) 
     IfErr result (λ e. e ≡ (if nat_le (count r.layout.now.shape * item_size r.descr.now) max_bytes then OutOfMemory else TooLarge)) → Gives held result (copied_contents s a order a.shape)
 copied-gives s a r order (Ok o) shows typed shaped laid items few refused = items-copied s a r order o shows few typed shaped laid items
 copied-gives s a r order (Err e) shows typed shaped laid items few refused = copy-refused s a r order e shows refused
-
--- ---- the command
-
-pub copy-unknown : (choice : Choice) (s : State) (name source : List ℕ) (order : MemoryOrder) → find_array s.names source ≡ None → copy_outcome choice s name source order ≡ Err UnknownName
-unfolding copy_outcome
-copy-unknown choice s name source order none = rw none refl
-
-pub copy-many : (choice : Choice) (s : State) (name source : List ℕ) (order : MemoryOrder) (a : Array) → find_array s.names source ≡ Some a → has_room_for s name ≡ false → copy_outcome choice s name source order ≡ Err TooManyNames
-unfolding copy_outcome
-copy-many choice s name source order a is full = rw (is, full) refl
-
-pub copy-bad : (choice : Choice) (s : State) (name source : List ℕ) (order : MemoryOrder) (a : Array) (e : Refusal) → find_array s.names source ≡ Some a → has_room_for s name ≡ true → copied_contents s a order a.shape ≡ Err e → copy_outcome choice s name source order ≡ Err e
-unfolding copy_outcome
-copy-bad choice s name source order a e is room bad = rw (is, room, bad) refl
-
-pub copy-done : (choice : Choice) (s : State) (name source : List ℕ) (order : MemoryOrder) (a : Array) (new : Contents) → find_array s.names source ≡ Some a → has_room_for s name ≡ true → copied_contents s a order a.shape ≡ Ok new → copy_outcome choice s name source order ≡ bound_new choice s name origin.Copy new
-unfolding copy_outcome
-copy-done choice s name source order a new is room good = rw (is, room, good) refl

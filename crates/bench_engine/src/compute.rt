@@ -1,95 +1,63 @@
-//! `X = OP operand Z`, `X = neg operand` or `not`, `X = RED Y [axis] [keep]`: a name is bound to what is
+//! `X = copy Y C`, `cast Y D`, `OP operand Z`, `neg operand`, `RED Y [axis] [keep]`: a name is bound to what is
 //! computed of other arrays.
-ghost use Rattle.std.specs.Prelude.{◌≡◌, ◌≤◌, ◌∷◌, ◌++◌, [], true, vec_capacity};
+ghost use Rattle.std.specs.Prelude.{◌≡◌, ◌≤◌, vec_capacity};
 ghost use Rattle.std.specs.List.{list_all};
+ghost use Rattle.script_lang.specs.declared.command.Command.TheVariants.{Bind};
+ghost use Rattle.script_lang.specs.declared.command.Value.TheVariants.{Compute};
 ghost use Rattle.name_store.specs.Arrays.{is_bound};
-ghost use Rattle.bench_engine.specs.Machine.{computed_outcome, names_in_operand, names_in_argument, operation_contents, transformed, reduced_contents};
+ghost use Rattle.bench_engine.specs.Machine.{bind_outcome, bound_in_value, may_lack_memory};
+ghost use Rattle.bench_engine.specs.inside.Computed.{origin_of};
 ghost use Rattle.bench_engine.specs.inside.Contract.{CarriesOut};
 
-use crate::computed;
+use crate::computed::computed;
 use crate::create::bind_new;
 use crate::operand::{has_bound, is_bound};
 use crate::replies::Origin;
 use elem_descr::Refusal;
-use machine_numbers::{Red, UnOp};
 use name_store::Bench;
-use script_lang::{Argument, Name, Operand, Operation};
-use std::alloc::Global;
+use script_lang::{Computation, Name};
 
-/// Binds a name to what an operation gives on an operand and an argument.
-pub fn combine(
-    alloc: Global,
-    bench: &mut Bench,
-    name: &Name,
-    operation: Operation,
-    left: &Operand,
-    right: &Argument,
-    out: &mut Vec<u8>,
-) -> Result<(), Refusal>
-    ensures room { vec_capacity out.old ≤ vec_capacity out.new }
-    ensures answers { CarriesOut (list_all (is_bound bench.old.state) (names_in_operand left.now ++ names_in_argument right.now))
-        (λ choice. computed_outcome choice bench.old.state name.now (names_in_operand left.now ++ names_in_argument right.now) (operation_contents bench.old.state operation left.now right.now))
-        bench.old.state bench.new.state out.old.items out.new.items result }
+/// Whether the names in a computation are bound.
+fn are_bound(bench: &Bench, computation: &Computation) -> bool
+    ensures { result ≡ list_all (is_bound bench.now.state) (bound_in_value (Compute computation.now)) }
 {
-    if !is_bound(bench, left) {
-        return Err(Refusal::UnknownName);
+    match computation {
+        Computation::Duplicate { source, .. } => bench.get(source).is_some(),
+        Computation::Cast { source, .. } => bench.get(source).is_some(),
+        Computation::Combine { left, right, .. } => is_bound(bench, left)
+            && has_bound(bench, right),
+        Computation::Transform { operand, .. } => is_bound(bench, operand),
+        Computation::Reduce { source, .. } => bench.get(source).is_some(),
     }
-    if !has_bound(bench, right) {
-        return Err(Refusal::UnknownName);
-    }
-    if !bench.has_room_for(name) {
-        return Err(Refusal::TooManyNames);
-    }
-    let owned = computed::combined(alloc, bench, operation, left, right)?;
-    bind_new(alloc, bench, name, owned, Origin::New, out)
 }
 
-/// Binds a name to what an operation gives on an operand.
-pub fn transform(
-    alloc: Global,
-    bench: &mut Bench,
-    name: &Name,
-    operation: UnOp,
-    operand: &Operand,
-    out: &mut Vec<u8>,
-) -> Result<(), Refusal>
-    ensures room { vec_capacity out.old ≤ vec_capacity out.new }
-    ensures answers { CarriesOut (list_all (is_bound bench.old.state) (names_in_operand operand.now))
-        (λ choice. computed_outcome choice bench.old.state name.now (names_in_operand operand.now) (transformed bench.old.state operation operand.now))
-        bench.old.state bench.new.state out.old.items out.new.items result }
+/// Whether what is computed is told as new or as a copy.
+fn origin_of(computation: &Computation) -> Origin
+    ensures { result ≡ origin_of computation.now }
 {
-    if !is_bound(bench, operand) {
-        return Err(Refusal::UnknownName);
+    match computation {
+        Computation::Duplicate { .. } => Origin::Copy,
+        _ => Origin::New,
     }
-    if !bench.has_room_for(name) {
-        return Err(Refusal::TooManyNames);
-    }
-    let owned = computed::transformed(alloc, bench, operation, operand)?;
-    bind_new(alloc, bench, name, owned, Origin::New, out)
 }
 
-/// Binds a name to what a reduction gives on an array.
-pub fn reduce(
-    alloc: Global,
+/// Binds a name to what is computed, and appends the reply.
+pub fn compute(
     bench: &mut Bench,
     name: &Name,
-    reduction: Red,
-    source: &Name,
-    axis: Option<i128>,
-    keep: bool,
+    computation: &Computation,
     out: &mut Vec<u8>,
 ) -> Result<(), Refusal>
+    ensures answers { CarriesOut (may_lack_memory bench.old.state (Bind name.now (Compute computation.now)))
+        (λ choice. bind_outcome choice bench.old.state name.now (Compute computation.now)) bench.old.state bench.new.state out.old.items out.new.items result }
     ensures room { vec_capacity out.old ≤ vec_capacity out.new }
-    ensures answers { CarriesOut (list_all (is_bound bench.old.state) (source.now ∷ []))
-        (λ choice. computed_outcome choice bench.old.state name.now (source.now ∷ []) (reduced_contents bench.old.state reduction source.now axis keep))
-        bench.old.state bench.new.state out.old.items out.new.items result }
 {
-    let Some(array) = bench.get(source) else {
+    if !are_bound(bench, computation) {
         return Err(Refusal::UnknownName);
-    };
+    }
     if !bench.has_room_for(name) {
         return Err(Refusal::TooManyNames);
     }
-    let owned = computed::reduced(alloc, &array, reduction, axis, keep)?;
-    bind_new(alloc, bench, name, owned, Origin::New, out)
+    let owned = computed(*out.allocator(), bench, computation)?;
+    bind_new(bench, name, owned, origin_of(computation), out)
 }

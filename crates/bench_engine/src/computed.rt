@@ -2,25 +2,50 @@
 ghost use Rattle.std.specs.Prelude.{◌≡◌, ℕ, List, true, Some};
 ghost use Rattle.std.specs.List.{list_all};
 ghost use Rattle.elem_descr.specs.Refusals.{Gives};
+ghost use Rattle.script_lang.specs.declared.command.Value.TheVariants.{Compute};
 ghost use Rattle.name_store.specs.Arrays.{find_array, is_bound};
 ghost use Rattle.name_store.specs.Shown.{Shows};
 ghost use Rattle.name_store.specs.States.{State, Array};
-ghost use Rattle.bench_engine.specs.Machine.{names_in_operand, names_in_argument, operation_contents, transformed, reduced_contents};
+ghost use Rattle.bench_engine.specs.Machine.{bound_in_value, names_in_operand, names_in_argument, operation_contents, transformed, reduced_contents};
+ghost use Rattle.bench_engine.specs.inside.Computed.{computed_contents};
 ghost use Rattle.bench_engine.specs.inside.OwnContents.{held};
-ghost use Rattle.bench_engine.specs.inside.Parts.{IsShown};
+ghost use Rattle.bench_engine.specs.inside.Parts.{IsShown, Copies, Casts};
 
 use crate::operand::{items_taken, operand_items};
 use crate::work::work_argument;
-use elem_descr::Refusal;
-use elementwise::apply1;
+use elem_descr::{Refusal, descr_read};
+use elementwise::{Items, apply1};
 use machine_numbers::{Red, UnOp};
 use name_store::{ArrayRef, Bench};
-use overlap_copy::{Items, Owned};
-use script_lang::{Argument, Operand, Operation};
+use overlap_copy::Owned;
+use script_lang::{Argument, Computation, Operand, Operation, Text};
+use shape_strides::MemoryOrder;
 use std::alloc::Global;
 
+/// The items of an array in a block of their own, stored in an order.
+fn copied(alloc: Global, array: &ArrayRef<'_>, order: MemoryOrder) -> Result<Owned, Refusal>
+    requires { IsShown array.now }
+    ensures { Copies order array.now result }
+{
+    overlap_copy::copy(alloc, array.block, array.layout, array.descr, order)
+}
+
+/// The items of an array as items of an element type, in a block of their own.
+fn converted(alloc: Global, array: &ArrayRef<'_>, descr: &Text) -> Result<Owned, Refusal>
+    requires { IsShown array.now }
+    ensures { Casts descr.now array.now result }
+{
+    let descr = descr_read(alloc, descr.as_slice())?;
+    let items = Items {
+        block: array.block,
+        layout: array.layout,
+        descr: array.descr,
+    };
+    elementwise::cast(alloc, items, &descr)
+}
+
 /// What an operation gives on an operand and an argument.
-pub fn combined(
+fn combined(
     alloc: Global,
     bench: &Bench,
     operation: Operation,
@@ -38,7 +63,7 @@ pub fn combined(
 }
 
 /// What an operation gives on an operand.
-pub fn transformed(
+fn transformed(
     alloc: Global,
     bench: &Bench,
     operation: UnOp,
@@ -53,7 +78,7 @@ pub fn transformed(
 }
 
 /// What a reduction gives on an array.
-pub fn reduced(
+fn reduced(
     alloc: Global,
     array: &ArrayRef<'_>,
     reduction: Red,
@@ -70,4 +95,33 @@ pub fn reduced(
         descr: array.descr,
     };
     reductions::reduce(alloc, reduction, items, axis, keep)
+}
+
+/// What a computation gives.
+pub fn computed(alloc: Global, bench: &Bench, computation: &Computation) -> Result<Owned, Refusal>
+    requires bound { list_all (is_bound bench.now.state) (bound_in_value (Compute computation.now)) ≡ true }
+    ensures { Gives held result (computed_contents bench.now.state computation.now) }
+{
+    match computation {
+        Computation::Duplicate { source, order } => {
+            copied(alloc, &bench.get(source).unwrap(), *order)
+        }
+        Computation::Cast { source, descr } => {
+            converted(alloc, &bench.get(source).unwrap(), descr)
+        }
+        Computation::Combine {
+            operation,
+            left,
+            right,
+        } => combined(alloc, bench, *operation, left, right),
+        Computation::Transform { operation, operand } => {
+            transformed(alloc, bench, *operation, operand)
+        }
+        Computation::Reduce {
+            reduction,
+            source,
+            axis,
+            keep,
+        } => reduced(alloc, &bench.get(source).unwrap(), *reduction, *axis, *keep),
+    }
 }

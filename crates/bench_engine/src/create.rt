@@ -12,12 +12,10 @@ use elem_descr::Refusal;
 use name_store::{Bench, Bound};
 use overlap_copy::Owned;
 use script_lang::{Name, NewItems, Text};
-use std::alloc::Global;
 
 /// Binds a name, for which there is room, to a new array. The reply is appended before the change,
 /// which is the last step that may lack memory.
 pub fn bind_new(
-    alloc: Global,
     bench: &mut Bench,
     name: &Name,
     owned: Owned,
@@ -29,13 +27,12 @@ pub fn bind_new(
     ensures answers { CarriesOut true (λ choice. bound_new choice bench.old.state name.now origin (held owned))
         bench.old.state bench.new.state out.old.items out.new.items result }
 {
-    push_bound_text(alloc, out, name, &owned.descr, &owned.layout.shape, origin)?;
-    bench.bind(alloc, name, Bound::Fresh(owned))
+    push_bound_text(out, name, &owned.descr, &owned.layout.shape, origin)?;
+    bench.bind(*out.allocator(), name, Bound::Fresh(owned))
 }
 
 /// Binds a name to a new array.
 pub fn make(
-    alloc: Global,
     bench: &mut Bench,
     name: &Name,
     descr: &Text,
@@ -49,6 +46,6 @@ pub fn make(
     if !bench.has_room_for(name) {
         return Err(Refusal::TooManyNames);
     }
-    let owned = contents::contents_of(alloc, descr, items)?;
-    bind_new(alloc, bench, name, owned, Origin::New, out)
+    let owned = contents::contents_of(*out.allocator(), descr, items)?;
+    bind_new(bench, name, owned, Origin::New, out)
 }

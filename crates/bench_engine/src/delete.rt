@@ -7,21 +7,15 @@ ghost use Rattle.bench_engine.specs.Machine.{delete_outcome};
 use elem_descr::Refusal;
 use name_store::Bench;
 use script_lang::Name;
-use std::alloc::Global;
 
 /// Unbinds a name. Only to keep the state before does it take memory, which is before the change.
-pub fn delete(
-    alloc: Global,
-    bench: &mut Bench,
-    name: &Name,
-    out: &mut Vec<u8>,
-) -> Result<(), Refusal>
+pub fn delete(bench: &mut Bench, name: &Name, out: &mut Vec<u8>) -> Result<(), Refusal>
     requires room { vec_len out.old + 64 ≤ vec_capacity out.old }
     ensures room { vec_capacity out.old ≤ vec_capacity out.new }
     ensures answers { CarriesOut (nat_lt 0 bench.old.state.depth && is_bound bench.old.state name.now) (λ choice. delete_outcome bench.old.state name.now)
         bench.old.state bench.new.state out.old.items out.new.items result }
 {
-    bench.unbind(alloc, name)?;
+    bench.unbind(*out.allocator(), name)?;
     out.extend_from_slice(b"ok del ").unwrap();
     out.extend_from_slice(name.as_slice()).unwrap();
     Ok(())

@@ -2,18 +2,14 @@
 ghost use Rattle.std.specs.Prelude.{◌≡◌, ◌≤◌, ◌+◌, ◌++◌, ◌&&◌, [], List, vec_len, vec_capacity};
 ghost use Rattle.std.specs.List.{list_all};
 ghost use Rattle.name_store.specs.Arrays.{is_bound};
-ghost use Rattle.script_lang.specs.declared.command.Value.TheVariants.{Compute};
-ghost use Rattle.script_lang.specs.declared.command.Command.TheVariants.{Bind};
 ghost use Rattle.bench_engine.specs.inside.Contract.{CarriesOut, Carried};
-ghost use Rattle.bench_engine.specs.Machine.{bind_outcome, question_outcome, bound_in_question, may_lack_memory};
+ghost use Rattle.bench_engine.specs.Machine.{question_outcome, bound_in_question};
 ghost use Rattle.bench_engine.specs.Replies.{Reply};
 ghost use Rattle.bench_engine.specs.Meanings.{MayAnswerBind, MayAnswer, Answered};
 ghost use Rattle.bench_engine.specs.Worlds.{world};
 ghost use Rattle.bench_engine.specs.inside.ReadLines.{ReadsAs, Tells, meaning_of_read};
 
-use crate::cast::cast;
-use crate::compute::{combine, reduce, transform};
-use crate::copy::copy;
+use crate::compute::compute;
 use crate::create::make;
 use crate::delete::delete;
 use crate::format::format;
@@ -23,54 +19,21 @@ use crate::load::load;
 use crate::names::names;
 use crate::print::print;
 use crate::save::save;
-use crate::set::set;
+use crate::set::{Assignment, set};
 use crate::shares::shares;
 use crate::undo::undo;
 use crate::view::view;
 use elem_descr::Refusal;
 use name_store::Bench;
 use npy_files::NpyStore;
-use script_lang::{Command, Computation, Name, Question, Value, parse, word};
+use script_lang::{Command, Name, Question, Value, parse, word};
 use std::alloc::Global;
 
 /// The most bytes of a refusal's text.
 pub const MAX_REFUSAL_LEN: usize = 64;
 
-/// Binds a name to what is computed, and appends the reply.
-fn compute(
-    alloc: Global,
-    bench: &mut Bench,
-    name: &Name,
-    computation: &Computation,
-    out: &mut Vec<u8>,
-) -> Result<(), Refusal>
-    ensures answers { CarriesOut (may_lack_memory bench.old.state (Bind name.now (Compute computation.now)))
-        (λ choice. bind_outcome choice bench.old.state name.now (Compute computation.now)) bench.old.state bench.new.state out.old.items out.new.items result }
-    ensures room { vec_capacity out.old ≤ vec_capacity out.new }
-{
-    match computation {
-        Computation::Duplicate { source, order } => copy(alloc, bench, name, source, *order, out),
-        Computation::Cast { source, descr } => cast(alloc, bench, name, source, descr, out),
-        Computation::Combine {
-            operation,
-            left,
-            right,
-        } => combine(alloc, bench, name, *operation, left, right, out),
-        Computation::Transform { operation, operand } => {
-            transform(alloc, bench, name, *operation, operand, out)
-        }
-        Computation::Reduce {
-            reduction,
-            source,
-            axis,
-            keep,
-        } => reduce(alloc, bench, name, *reduction, source, *axis, *keep, out),
-    }
-}
-
 /// Binds a name, and appends the reply.
 fn bind<N: NpyStore>(
-    alloc: Global,
     bench: &mut Bench,
     store: &mut N,
     name: &Name,
@@ -82,38 +45,32 @@ fn bind<N: NpyStore>(
     ensures room { vec_capacity out.old ≤ vec_capacity out.new }
 {
     match value {
-        Value::Make { descr, items } => make(alloc, bench, name, descr, items, out),
-        Value::View { source, how } => view(alloc, bench, name, source, how, out),
-        Value::Compute(computation) => compute(alloc, bench, name, computation, out),
-        Value::Load { file } => load(alloc, bench, store, name, file, out),
+        Value::Make { descr, items } => make(bench, name, descr, items, out),
+        Value::View { source, how } => view(bench, name, source, how, out),
+        Value::Compute(computation) => compute(bench, name, computation, out),
+        Value::Load { file } => load(bench, store, name, file, out),
     }
 }
 
 /// Appends what is asked.
-fn reply(
-    alloc: Global,
-    bench: &Bench,
-    question: &Question,
-    out: &mut Vec<u8>,
-) -> Result<(), Refusal>
+fn reply(bench: &Bench, question: &Question, out: &mut Vec<u8>) -> Result<(), Refusal>
     requires room { vec_len out.old + 64 ≤ vec_capacity out.old }
     ensures answers { CarriesOut (list_all (is_bound bench.now.state) (bound_in_question question.now))
         (λ choice. question_outcome bench.now.state question.now) bench.now.state bench.now.state out.old.items out.new.items result }
     ensures room { vec_capacity out.old ≤ vec_capacity out.new }
 {
     match question {
-        Question::Print { name } => print(alloc, bench, name, out),
-        Question::Info { name } => info(alloc, bench, name, out),
-        Question::Format { name } => format(alloc, bench, name, out),
+        Question::Print { name } => print(bench, name, out),
+        Question::Info { name } => info(bench, name, out),
+        Question::Format { name } => format(bench, name, out),
         Question::Names => names(bench, out),
-        Question::Shares { left, right } => shares(alloc, bench, left, right, out),
+        Question::Shares { left, right } => shares(bench, left, right, out),
     }
 }
 
 /// Carries out a command and appends its reply. A refusal changes nothing, but for what stands past
 /// the old end of `out`.
 fn perform<N: NpyStore>(
-    alloc: Global,
     bench: &mut Bench,
     store: &mut N,
     command: &Command,
@@ -125,17 +82,33 @@ fn perform<N: NpyStore>(
     ensures room { vec_capacity out.old ≤ vec_capacity out.new }
 {
     match command {
-        Command::Bind { name, value } => bind(alloc, bench, store, name, value, out),
-        Command::Set { name, index, value } => set(alloc, bench, name, index, None, value, out),
+        Command::Bind { name, value } => bind(bench, store, name, value, out),
+        Command::Set { name, index, value } => {
+            let assignment = Assignment {
+                name,
+                index,
+                operation: None,
+                value,
+            };
+            set(bench, assignment, out)
+        }
         Command::Update {
             name,
             index,
             operation,
             value,
-        } => set(alloc, bench, name, index, Some(*operation), value, out),
-        Command::Delete { name } => delete(alloc, bench, name, out),
-        Command::Ask(question) => reply(alloc, bench, question, out),
-        Command::Save { name, file } => save(alloc, bench, store, name, file, out),
+        } => {
+            let assignment = Assignment {
+                name,
+                index,
+                operation: Some(*operation),
+                value,
+            };
+            set(bench, assignment, out)
+        }
+        Command::Delete { name } => delete(bench, name, out),
+        Command::Ask(question) => reply(bench, question, out),
+        Command::Save { name, file } => save(bench, store, name, file, out),
         Command::Undo => undo(bench, out),
     }
 }
@@ -144,7 +117,6 @@ fn perform<N: NpyStore>(
 /// command changes nothing. Out of memory is never the answer where a name is unknown, nor for `del`
 /// where no state is kept, nor for `undo`.
 pub fn execute<N: NpyStore>(
-    alloc: Global,
     bench: &mut Bench,
     store: &mut N,
     command: &Command,
@@ -157,7 +129,7 @@ pub fn execute<N: NpyStore>(
     ensures room { vec_capacity out.old ≤ vec_capacity out.new }
 {
     let before = out.len();
-    match perform(alloc, bench, store, command, out) {
+    match perform(bench, store, command, out) {
         Ok(()) => true,
         Err(refusal) => {
             out.truncate(before);
@@ -182,7 +154,6 @@ fn read_line(alloc: Global, line: Line<'_>) -> Result<Option<Command>, Refusal>
 
 /// Answers a line: whether its command was accepted, or nothing where it asks for nothing.
 pub fn answer<N: NpyStore>(
-    alloc: Global,
     bench: &mut Bench,
     store: &mut N,
     line: Line<'_>,
@@ -194,10 +165,10 @@ pub fn answer<N: NpyStore>(
         × Answered (world bench.old.state (N.shelf store.old)) (meaning_of_read line.entry) (world bench.new.state (N.shelf store.new)) replies }
     ensures room { vec_capacity out.old ≤ vec_capacity out.new }
 {
-    match read_line(alloc, line) {
+    match read_line(*out.allocator(), line) {
         Ok(None) => None,
         Ok(Some(command)) => {
-            let accepted = execute(alloc, bench, store, &command, out);
+            let accepted = execute(bench, store, &command, out);
             drop(command);
             Some(accepted)
         }

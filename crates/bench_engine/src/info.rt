@@ -44,12 +44,12 @@ fn strides_text(alloc: Global, layout: &Layout) -> Result<String, AllocError>
 }
 
 /// Appends `strides SHAPE`. Where memory runs out, some of it may stand past the old end.
-fn push_strides(alloc: Global, out: &mut Vec<u8>, layout: &Layout) -> Result<(), AllocError>
+fn push_strides(out: &mut Vec<u8>, layout: &Layout) -> Result<(), AllocError>
     ensures ok { OnOk result (out.new.items ≡ out.old.items ++ (codes "strides " ++ strides_text (printed_strides layout.now.shape (offsets layout.now)))) }
     ensures kept { StartsWith out.new.items out.old.items }
     ensures room { vec_capacity out.old ≤ vec_capacity out.new }
 {
-    let text = strides_text(alloc, layout)?;
+    let text = strides_text(*out.allocator(), layout)?;
     out.extend_from_slice(b"strides ")?;
     out.extend_from_slice(text.as_bytes())
 }
@@ -67,7 +67,6 @@ fn push_number(out: &mut Vec<u8>, number: usize) -> Result<(), AllocError>
 /// Appends `strides SHAPE at N order O write W`. Where memory runs out, some of it may stand past the
 /// old end.
 fn push_layout_words(
-    alloc: Global,
     out: &mut Vec<u8>,
     layout: &Layout,
     item: usize,
@@ -77,7 +76,7 @@ fn push_layout_words(
     ensures kept { StartsWith out.new.items out.old.items }
     ensures room { vec_capacity out.old ≤ vec_capacity out.new }
 {
-    push_strides(alloc, out, layout)?;
+    push_strides(out, layout)?;
     out.extend_from_slice(b" at ")?;
     push_number(out, layout.first_address())?;
     out.extend_from_slice(b" order ")?;
@@ -88,7 +87,6 @@ fn push_layout_words(
 
 /// Appends the whole reply. Where memory runs out, some of it may stand past the old end.
 fn push_info_text(
-    alloc: Global,
     out: &mut Vec<u8>,
     name: &Name,
     descr: &Descr,
@@ -100,13 +98,13 @@ fn push_info_text(
     ensures room { vec_capacity out.old ≤ vec_capacity out.new }
 {
     out.extend_from_slice(b"info ")?;
-    push_array_words(alloc, out, name, descr, &layout.shape)?;
+    push_array_words(out, name, descr, &layout.shape)?;
     out.push(b' ')?;
-    push_layout_words(alloc, out, layout, descr.size(), writable)
+    push_layout_words(out, layout, descr.size(), writable)
 }
 
 /// Tells where the items of a name's array lie in its buffer, in bytes.
-pub fn info(alloc: Global, bench: &Bench, name: &Name, out: &mut Vec<u8>) -> Result<(), Refusal>
+pub fn info(bench: &Bench, name: &Name, out: &mut Vec<u8>) -> Result<(), Refusal>
     ensures room { vec_capacity out.old ≤ vec_capacity out.new }
     ensures answers { CarriesOut (is_bound bench.now.state name.now) (λ choice. info_outcome bench.now.state name.now)
         bench.now.state bench.now.state out.old.items out.new.items result }
@@ -114,6 +112,6 @@ pub fn info(alloc: Global, bench: &Bench, name: &Name, out: &mut Vec<u8>) -> Res
     let Some(array) = bench.get(name) else {
         return Err(Refusal::UnknownName);
     };
-    push_info_text(alloc, out, name, array.descr, array.layout, array.writable)?;
+    push_info_text(out, name, array.descr, array.layout, array.writable)?;
     Ok(())
 }

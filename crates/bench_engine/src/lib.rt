@@ -3,11 +3,9 @@
 #![tactic(auto)]
 
 mod assign;
-mod cast;
 mod compute;
 mod computed;
 mod contents;
-mod copy;
 mod create;
 mod delete;
 mod engine;

@@ -39,18 +39,18 @@ fn find<N: NpyStore>(
 }
 
 /// Appends ` rest N`. Where memory runs out, nothing is appended.
-fn push_rest(alloc: Global, out: &mut Vec<u8>, rest: usize) -> Result<(), AllocError>
+fn push_rest(out: &mut Vec<u8>, rest: usize) -> Result<(), AllocError>
     ensures ok { OnOk result (out.new.items ≡ out.old.items ++ (codes " rest " ++ decimal rest)) }
     ensures kept { StartsWith out.new.items out.old.items }
     ensures room { vec_capacity out.old ≤ vec_capacity out.new }
 {
+    let alloc = *out.allocator();
     let text = format!(in alloc; " rest {rest}")?;
     out.extend_from_slice(text.as_bytes())
 }
 
 /// Appends `ok X DESCR SHAPE new rest N`. Where memory runs out, some of it may stand past the old end.
 fn push_loaded_text(
-    alloc: Global,
     out: &mut Vec<u8>,
     name: &Name,
     owned: &Owned,
@@ -61,21 +61,13 @@ fn push_loaded_text(
     ensures kept { StartsWith out.new.items out.old.items }
     ensures room { vec_capacity out.old ≤ vec_capacity out.new }
 {
-    push_bound_text(
-        alloc,
-        out,
-        name,
-        &owned.descr,
-        &owned.layout.shape,
-        Origin::New,
-    )?;
-    push_rest(alloc, out, rest)
+    push_bound_text(out, name, &owned.descr, &owned.layout.shape, Origin::New)?;
+    push_rest(out, rest)
 }
 
 /// Binds a name, for which there is room, to an array that was loaded. The reply is appended before
 /// the change, which is the last step that may lack memory.
 fn bind_loaded(
-    alloc: Global,
     bench: &mut Bench,
     name: &Name,
     owned: Owned,
@@ -87,13 +79,12 @@ fn bind_loaded(
     ensures answers { CarriesOut true (λ choice. bound_loaded choice bench.old.state name.now rest (held owned))
         bench.old.state bench.new.state out.old.items out.new.items result }
 {
-    push_loaded_text(alloc, out, name, &owned, rest)?;
-    bench.bind(alloc, name, Bound::Fresh(owned))
+    push_loaded_text(out, name, &owned, rest)?;
+    bench.bind(*out.allocator(), name, Bound::Fresh(owned))
 }
 
 /// Binds a name to the array in a file. The store is asked only where there is room for the name.
 pub fn load<N: NpyStore>(
-    alloc: Global,
     bench: &mut Bench,
     store: &mut N,
     name: &Name,
@@ -107,6 +98,6 @@ pub fn load<N: NpyStore>(
     if !bench.has_room_for(name) {
         return Err(Refusal::TooManyNames);
     }
-    let (owned, rest) = find(alloc, store, file)?;
-    bind_loaded(alloc, bench, name, owned, rest, out)
+    let (owned, rest) = find(*out.allocator(), store, file)?;
+    bind_loaded(bench, name, owned, rest, out)
 }

@@ -8,10 +8,9 @@ use array_print::print_into;
 use elem_descr::Refusal;
 use name_store::Bench;
 use script_lang::Name;
-use std::alloc::Global;
 
 /// Prints a name's array.
-pub fn print(alloc: Global, bench: &Bench, name: &Name, out: &mut Vec<u8>) -> Result<(), Refusal>
+pub fn print(bench: &Bench, name: &Name, out: &mut Vec<u8>) -> Result<(), Refusal>
     ensures room { vec_capacity out.old ≤ vec_capacity out.new }
     ensures answers { CarriesOut (is_bound bench.now.state name.now) (λ choice. print_outcome bench.now.state name.now)
         bench.now.state bench.now.state out.old.items out.new.items result }
@@ -19,6 +18,12 @@ pub fn print(alloc: Global, bench: &Bench, name: &Name, out: &mut Vec<u8>) -> Re
     let Some(array) = bench.get(name) else {
         return Err(Refusal::UnknownName);
     };
-    print_into(alloc, out, array.block.bytes(), array.layout, array.descr)?;
+    print_into(
+        *out.allocator(),
+        out,
+        array.block.bytes(),
+        array.layout,
+        array.descr,
+    )?;
     Ok(())
 }

@@ -20,28 +20,28 @@ fn descr_text(alloc: Global, descr: &Descr) -> Result<Vec<u8>, AllocError>
 }
 
 /// Appends an element type. Where memory runs out, nothing is appended.
-fn push_descr(alloc: Global, out: &mut Vec<u8>, descr: &Descr) -> Result<(), AllocError>
+fn push_descr(out: &mut Vec<u8>, descr: &Descr) -> Result<(), AllocError>
     ensures ok { OnOk result (out.new.items ≡ out.old.items ++ descr_text descr.now) }
     ensures kept { StartsWith out.new.items out.old.items }
     ensures room { vec_capacity out.old ≤ vec_capacity out.new }
 {
-    let text = descr_text(alloc, descr)?;
+    let text = descr_text(*out.allocator(), descr)?;
     out.extend_from_slice(text.as_slice())
 }
 
 /// Appends a shape. Where memory runs out, nothing is appended.
-fn push_shape(alloc: Global, out: &mut Vec<u8>, shape: &Shape) -> Result<(), AllocError>
+fn push_shape(out: &mut Vec<u8>, shape: &Shape) -> Result<(), AllocError>
     ensures ok { OnOk result (out.new.items ≡ out.old.items ++ shape_text shape.now) }
     ensures kept { StartsWith out.new.items out.old.items }
     ensures room { vec_capacity out.old ≤ vec_capacity out.new }
 {
+    let alloc = *out.allocator();
     let text = format!(in alloc; "{shape}")?;
     out.extend_from_slice(text.as_bytes())
 }
 
 /// Appends `X DESCR SHAPE`. Where memory runs out, some of it may stand past the old end.
 pub fn push_array_words(
-    alloc: Global,
     out: &mut Vec<u8>,
     name: &Name,
     descr: &Descr,
@@ -53,9 +53,9 @@ pub fn push_array_words(
 {
     out.extend_from_slice(name.as_slice())?;
     out.push(b' ')?;
-    push_descr(alloc, out, descr)?;
+    push_descr(out, descr)?;
     out.push(b' ')?;
-    push_shape(alloc, out, shape)
+    push_shape(out, shape)
 }
 
 /// What a name is bound to: a new array, a view of another, or a copy of its items.
@@ -80,7 +80,6 @@ impl Origin {
 
 /// Appends `ok X DESCR SHAPE ORIGIN`. Where memory runs out, some of it may stand past the old end.
 pub fn push_bound_text(
-    alloc: Global,
     out: &mut Vec<u8>,
     name: &Name,
     descr: &Descr,
@@ -92,7 +91,7 @@ pub fn push_bound_text(
     ensures room { vec_capacity out.old ≤ vec_capacity out.new }
 {
     out.extend_from_slice(b"ok ")?;
-    push_array_words(alloc, out, name, descr, shape)?;
+    push_array_words(out, name, descr, shape)?;
     out.push(b' ')?;
     out.extend_from_slice(origin.word())
 }

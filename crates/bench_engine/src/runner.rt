@@ -46,7 +46,6 @@ const MAX_READS: u64 = 1 << 32;
 
 /// Takes what one read gives, and answers whether that is the end.
 fn take_turn<S: ScriptSource, W: Write, N: NpyStore>(
-    alloc: Global,
     source: &mut S,
     writer: &mut W,
     store: &mut N,
@@ -72,56 +71,55 @@ fn take_turn<S: ScriptSource, W: Write, N: NpyStore>(
 {
     let count = source.read_some(chunk).ok_or(RunFault::Read)?;
     if count == 0 {
-        session.end(alloc, writer, store)?;
+        session.end(writer, store)?;
         return Ok(true);
     }
-    session.feed(alloc, writer, store, &chunk[..count])?;
+    session.feed(writer, store, &chunk[..count])?;
     Ok(false)
 }
 
-/// A run of at most so many reads, each of which asks for so many bytes, that keeps so many earlier states.
+/// How many earlier states a run keeps, how many reads it makes at most, and for how many bytes each asks.
+#[derive(Clone, Copy)]
+pub struct Limits {
+    pub depth: usize,
+    pub reads: u64,
+    pub size: usize,
+}
+
+/// A run within limits.
 pub fn run_within<S: ScriptSource, W: Write, N: NpyStore>(
     alloc: Global,
     source: &mut S,
     writer: &mut W,
     store: &mut N,
-    depth: usize,
-    reads: u64,
-    size: usize,
+    limits: Limits,
 ) -> Result<Summary, RunFault>
-    requires depth { depth ≤ 64 }
-    requires reads { reads ≤ 2 ^ 32 }
-    requires some { 1 ≤ size }
-    requires size { size ≤ 65538 }
+    requires depth { limits.depth ≤ 64 }
+    requires reads { limits.reads ≤ 2 ^ 32 }
+    requires some { 1 ≤ limits.size }
+    requires size { limits.size ≤ 65538 }
     // Each line was answered by a step of the machine, up to the end of what there was to read.
-    ensures script { IfOk result (AnswersScript depth
+    ensures script { IfOk result (AnswersScript limits.depth
         (outside (S.remaining source.old) (W.contents writer.old) (N.shelf store.old))
         (outside (S.remaining source.new) (W.contents writer.new) (N.shelf store.new))) }
     // A read failed, or too many were made: the lines that came whole were answered.
-    ensures read_failed { IsErrOf result RunFault.Read → AnswersWholeLines depth
+    ensures read_failed { IsErrOf result RunFault.Read → AnswersWholeLines limits.depth
         (outside (S.remaining source.old) (W.contents writer.old) (N.shelf store.old))
         (outside (S.remaining source.new) (W.contents writer.new) (N.shelf store.new)) }
     // A write failed: some first lines were answered, and of the last reply a last part has not gone out.
-    ensures write_failed { IsErrOf result RunFault.Write → AnswersFirstLines depth
+    ensures write_failed { IsErrOf result RunFault.Write → AnswersFirstLines limits.depth
         (outside (S.remaining source.old) (W.contents writer.old) (N.shelf store.old))
         (outside (S.remaining source.new) (W.contents writer.new) (N.shelf store.new)) }
     // No memory was found to begin with: nothing was read, written or stored.
     ensures no_memory { IsErrOf result RunFault.Memory →
         (source.new ≡ source.old) × (writer.new ≡ writer.old) × (store.new ≡ store.old) }
     // So many reads are made at most.
-    ensures reads { S.reads source.new ≤ S.reads source.old + reads }
+    ensures reads { S.reads source.new ≤ S.reads source.old + limits.reads }
 {
-    let mut session = Session::new(alloc, depth)?;
-    let mut chunk = vec![in alloc; 0u8; size]?;
-    for turn in 0..reads {
-        if take_turn(
-            alloc,
-            source,
-            writer,
-            store,
-            &mut session,
-            chunk.as_mut_slice(),
-        )? {
+    let mut session = Session::new(alloc, limits.depth)?;
+    let mut chunk = vec![in alloc; 0u8; limits.size]?;
+    for turn in 0..limits.reads {
+        if take_turn(source, writer, store, &mut session, chunk.as_mut_slice())? {
             return Ok(session.into_summary());
         }
     }
@@ -161,5 +159,10 @@ pub fn run<S: ScriptSource, W: Write, N: NpyStore>(
     // So many reads are made at most.
     ensures reads { S.reads source.new ≤ S.reads source.old + 2 ^ 32 }
 {
-    run_within(alloc, source, writer, store, depth, MAX_READS, READ_SIZE)
+    let limits = Limits {
+        depth,
+        reads: MAX_READS,
+        size: READ_SIZE,
+    };
+    run_within(alloc, source, writer, store, limits)
 }

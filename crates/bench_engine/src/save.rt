@@ -46,7 +46,6 @@ fn push_saved_text(out: &mut Vec<u8>, len: usize)
 /// Writes a name's array to a file. The store is asked last, and what can be refused without it is
 /// refused before.
 pub fn save<N: NpyStore>(
-    alloc: Global,
     bench: &Bench,
     store: &mut N,
     name: &Name,
@@ -61,8 +60,14 @@ pub fn save<N: NpyStore>(
     let Some(array) = bench.get(name) else {
         return Err(Refusal::UnknownName);
     };
-    let parts = npy_parts(alloc, array.block, array.layout, array.descr)?;
-    put(alloc, store, file, parts.front.as_slice(), parts.items)?;
+    let parts = npy_parts(*out.allocator(), array.block, array.layout, array.descr)?;
+    put(
+        *out.allocator(),
+        store,
+        file,
+        parts.front.as_slice(),
+        parts.items,
+    )?;
     push_saved_text(out, parts.front.len() + parts.items.len());
     Ok(())
 }

@@ -36,7 +36,7 @@ pub struct Session {
 
 impl Session {
     /// Answers the line, and begins the next one. What is answered stands in `out`.
-    fn answer_line<N: NpyStore>(&mut self, alloc: Global, store: &mut N) -> Option<bool>
+    fn answer_line<N: NpyStore>(&mut self, store: &mut N) -> Option<bool>
         requires room { HasRoom self.old }
         requires few { self.old.accepted + self.old.refused < 2 ^ 50 }
         ensures room { HasRoom self.new }
@@ -45,13 +45,7 @@ impl Session {
         ensures answered { AnswersHeld (N.shelf store.old) (N.shelf store.new) self.old self.new result }
     {
         self.out.clear();
-        let answered = answer(
-            alloc,
-            &mut self.bench,
-            store,
-            self.line.line(),
-            &mut self.out,
-        );
+        let answered = answer(&mut self.bench, store, self.line.line(), &mut self.out);
         self.line.clear();
         match answered {
             Some(true) => self.accepted += 1,
@@ -64,7 +58,6 @@ impl Session {
     /// Answers the line, begins the next one, and sends the reply.
     fn finish_line<W: Write, N: NpyStore>(
         &mut self,
-        alloc: Global,
         writer: &mut W,
         store: &mut N,
     ) -> Result<(), WriteFault>
@@ -76,7 +69,7 @@ impl Session {
         ensures ok { OnOk result (Told AnswersLine (world self.old.bench.state (N.shelf store.old)) (world self.new.bench.state (N.shelf store.new)) (W.contents writer.old) (W.contents writer.new) self.old self.new) }
         ensures err { OnErr result (ToldInPart AnswersLine (world self.old.bench.state (N.shelf store.old)) (world self.new.bench.state (N.shelf store.new)) (W.contents writer.old) (W.contents writer.new) self.old) }
     {
-        if self.answer_line(alloc, store).is_none() {
+        if self.answer_line(store).is_none() {
             return Ok(());
         }
         send_line(writer, &mut self.out)
@@ -85,7 +78,6 @@ impl Session {
     /// Takes the last piece of a line, which a newline ends.
     fn take_line<W: Write, N: NpyStore>(
         &mut self,
-        alloc: Global,
         writer: &mut W,
         store: &mut N,
         piece: &[u8],
@@ -103,13 +95,12 @@ impl Session {
             AnswersInPart (whole_lines (read ++ piece.now ++ 10 ∷ more)) first (N.shelf store.new) before (W.contents writer.new)) }
     {
         self.line.hold(piece);
-        self.finish_line(alloc, writer, store)
+        self.finish_line(writer, store)
     }
 
     /// Takes the next bytes that were read.
     pub fn feed<W: Write, N: NpyStore>(
         &mut self,
-        alloc: Global,
         writer: &mut W,
         store: &mut N,
         bytes: &[u8],
@@ -127,7 +118,7 @@ impl Session {
     {
         let mut rest = bytes;
         while let Some(end) = newline(rest) {
-            self.take_line(alloc, writer, store, &rest[..end])?;
+            self.take_line(writer, store, &rest[..end])?;
             rest = &rest[end + 1..];
         }
         self.line.hold(rest);
@@ -156,7 +147,6 @@ impl Session {
     /// Answers a last line that no newline ends, if there is one.
     pub fn end<W: Write, N: NpyStore>(
         &mut self,
-        alloc: Global,
         writer: &mut W,
         store: &mut N,
     ) -> Result<(), WriteFault>
@@ -174,7 +164,7 @@ impl Session {
         if self.line.is_empty() {
             return Ok(());
         }
-        self.finish_line(alloc, writer, store)
+        self.finish_line(writer, store)
     }
 
     /// What all came to.

@@ -15,7 +15,7 @@ use crate::assign::target_of;
 use crate::given::give;
 use crate::index::are_bound;
 use crate::operand::has_bound;
-use crate::update::updated;
+use crate::update::{Change, updated};
 use elem_descr::Refusal;
 use itoa::Buffer;
 use name_store::{ArrayRef, Bench, Source, Target};
@@ -39,24 +39,34 @@ fn push_count(out: &mut Vec<u8>, operation: Option<Operation>, count: usize)
         .unwrap();
 }
 
+/// What `set X[ix] = Z` says, or `upd X[ix] OP Z`, where there is an operation.
+#[derive(Clone, Copy)]
+pub struct Assignment<'a> {
+    pub name: &'a Name,
+    pub index: &'a Index,
+    pub operation: Option<Operation>,
+    pub value: &'a Argument,
+}
+
 /// The new items of a target in an array: those of the argument, or what an operation gives with it.
 fn new_items(
     alloc: Global,
     bench: &Bench,
     array: &ArrayRef<'_>,
     target: &Target,
-    operation: Option<Operation>,
-    value: &Argument,
+    assignment: Assignment<'_>,
 ) -> Result<Source, Refusal>
-    requires bound { list_all (is_bound bench.now.state) (names_in_argument value.now) ≡ true }
+    requires bound { list_all (is_bound bench.now.state) (names_in_argument assignment.value.now) ≡ true }
     requires target { (name : List ℕ) × (a : Array) × (part : Array) × Shows bench.now.state a array.now × IsTarget bench.now.state name a part target.now }
     ensures { (name : List ℕ) (a part : Array) → Shows bench.now.state a array.now → IsTarget bench.now.state name a part target.now
-        → GivesItems bench.now.state array.now.descr.now (count part.shape) result (new_items bench.now.state array.now.descr.now part operation value.now) }
+        → GivesItems bench.now.state array.now.descr.now (count part.shape) result (new_items bench.now.state array.now.descr.now part assignment.entry.operation assignment.entry.value.now) }
 {
-    match operation {
+    let value = assignment.value;
+    match assignment.operation {
         None => give(alloc, bench, value, target.shape(), array.descr),
         Some(operation) => {
-            let owned = updated(alloc, bench, array, target, operation, value)?;
+            let change = Change { operation, value };
+            let owned = updated(alloc, bench, array, target, change)?;
             Ok(Source::Block(owned))
         }
     }
@@ -64,34 +74,27 @@ fn new_items(
 
 /// Writes to the items of a name's array that an index list takes: what stands behind `=`, or what the
 /// operation of `upd` gives on them and what stands behind it.
-pub fn set(
-    alloc: Global,
-    bench: &mut Bench,
-    name: &Name,
-    index: &Index,
-    operation: Option<Operation>,
-    value: &Argument,
-    out: &mut Vec<u8>,
-) -> Result<(), Refusal>
+pub fn set(bench: &mut Bench, assignment: Assignment<'_>, out: &mut Vec<u8>) -> Result<(), Refusal>
     requires room { vec_len out.old + 64 ≤ vec_capacity out.old }
     ensures room { vec_capacity out.old ≤ vec_capacity out.new }
-    ensures answers { CarriesOut (list_all (is_bound bench.old.state) (name.now ∷ names_in_index index.now ++ names_in_argument value.now))
-        (λ choice. write_outcome bench.old.state name.now index.now operation value.now) bench.old.state bench.new.state out.old.items out.new.items result }
+    ensures answers { CarriesOut (list_all (is_bound bench.old.state) (assignment.entry.name.now ∷ names_in_index assignment.entry.index.now ++ names_in_argument assignment.entry.value.now))
+        (λ choice. write_outcome bench.old.state assignment.entry.name.now assignment.entry.index.now assignment.entry.operation assignment.entry.value.now) bench.old.state bench.new.state out.old.items out.new.items result }
 {
-    let Some(array) = bench.get(name) else {
+    let alloc = *out.allocator();
+    let Some(array) = bench.get(assignment.name) else {
         return Err(Refusal::UnknownName);
     };
-    if !are_bound(bench, index.as_slice()) {
+    if !are_bound(bench, assignment.index.as_slice()) {
         return Err(Refusal::UnknownName);
     }
-    if !has_bound(bench, value) {
+    if !has_bound(bench, assignment.value) {
         return Err(Refusal::UnknownName);
     }
-    let target = target_of(alloc, bench, &array, index.as_slice())?;
-    let items = new_items(alloc, bench, &array, &target, operation, value)?;
+    let target = target_of(alloc, bench, &array, assignment.index.as_slice())?;
+    let items = new_items(alloc, bench, &array, &target, assignment)?;
     // What is known of the number of items of a shape comes with this call.
     let _count = target.shape().items();
-    let count = bench.write_items(alloc, name, target, items)?;
-    push_count(out, operation, count);
+    let count = bench.write_items(alloc, assignment.name, target, items)?;
+    push_count(out, assignment.operation, count);
     Ok(())
 }

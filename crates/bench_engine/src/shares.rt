@@ -8,22 +8,15 @@ use crate::info::yes_or_no;
 use elem_descr::Refusal;
 use name_store::Bench;
 use script_lang::Name;
-use std::alloc::Global;
 
 /// Tells whether two names' arrays share memory.
-pub fn shares(
-    alloc: Global,
-    bench: &Bench,
-    left: &Name,
-    right: &Name,
-    out: &mut Vec<u8>,
-) -> Result<(), Refusal>
+pub fn shares(bench: &Bench, left: &Name, right: &Name, out: &mut Vec<u8>) -> Result<(), Refusal>
     requires room { vec_len out.old + 64 ≤ vec_capacity out.old }
     ensures room { vec_capacity out.old ≤ vec_capacity out.new }
     ensures answers { CarriesOut (is_bound bench.now.state left.now && is_bound bench.now.state right.now) (λ choice. shares_outcome bench.now.state left.now right.now)
         bench.now.state bench.now.state out.old.items out.new.items result }
 {
-    let yes = bench.shares(alloc, left, right)?;
+    let yes = bench.shares(*out.allocator(), left, right)?;
     out.extend_from_slice(b"shares ").unwrap();
     out.extend_from_slice(yes_or_no(yes)).unwrap();
     Ok(())

@@ -121,19 +121,25 @@ fn changed(
     }
 }
 
+/// `OP Z`, behind `upd X[ix]`.
+#[derive(Clone, Copy)]
+pub struct Change<'a> {
+    pub operation: Operation,
+    pub value: &'a Argument,
+}
+
 /// The items of a target in an array, changed by an operation with an argument.
 pub fn updated(
     alloc: Global,
     bench: &Bench,
     array: &ArrayRef<'_>,
     target: &Target,
-    operation: Operation,
-    value: &Argument,
+    change: Change<'_>,
 ) -> Result<Owned, Refusal>
-    requires bound { list_all (is_bound bench.now.state) (names_in_argument value.now) ≡ true }
+    requires bound { list_all (is_bound bench.now.state) (names_in_argument change.value.now) ≡ true }
     requires target { (name : List ℕ) × (a : Array) × (part : Array) × Shows bench.now.state a array.now × IsTarget bench.now.state name a part target.now }
     ensures { (name : List ℕ) (a part : Array) → Shows bench.now.state a array.now → IsTarget bench.now.state name a part target.now
-        → GivesChanged array.now.descr.now (count part.shape) result (updated bench.now.state array.now.descr.now part operation value.now) }
+        → GivesChanged array.now.descr.now (count part.shape) result (updated bench.now.state array.now.descr.now part change.entry.operation change.entry.value.now) }
 {
     match target {
         Target::View(layout) => {
@@ -142,11 +148,11 @@ pub fn updated(
                 layout,
                 descr: array.descr,
             };
-            changed(alloc, bench, operation, old, value)
+            changed(alloc, bench, change.operation, old, change.value)
         }
         Target::Plan(plan) => {
             let old = plan.gather_owned(alloc, array.block, array.descr)?;
-            changed(alloc, bench, operation, items_of(&old), value)
+            changed(alloc, bench, change.operation, items_of(&old), change.value)
         }
     }
 }

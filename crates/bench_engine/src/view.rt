@@ -11,12 +11,10 @@ use crate::replies::push_bound_text;
 use elem_descr::Refusal;
 use name_store::Bench;
 use script_lang::{Name, Viewing};
-use std::alloc::Global;
 
 /// Binds a name to an array, seen in some way. The reply is appended before the change, which is the
 /// last step that may lack memory.
 pub fn view(
-    alloc: Global,
     bench: &mut Bench,
     name: &Name,
     source: &Name,
@@ -36,16 +34,9 @@ pub fn view(
     if !bench.has_room_for(name) {
         return Err(Refusal::TooManyNames);
     }
-    let viewed = seen(alloc, bench, &array, how)?;
+    let viewed = seen(*out.allocator(), bench, &array, how)?;
     let bound = viewed.bound;
     let shape = shape_of_bound(&bound);
-    push_bound_text(
-        alloc,
-        out,
-        name,
-        viewed.descr,
-        shape,
-        origin_of_bound(&bound),
-    )?;
-    bench.bind(alloc, name, bound)
+    push_bound_text(out, name, viewed.descr, shape, origin_of_bound(&bound))?;
+    bench.bind(*out.allocator(), name, bound)
 }

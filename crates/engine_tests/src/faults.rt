@@ -3,7 +3,7 @@ use crate::fakes::{Counted, bytes_in, failing, in_pieces, room_for};
 use crate::rows::{FIRST_REPLIES, FIRST_RUN};
 use crate::runs::{DEPTH, check_fault, counts};
 use bench_engine::RunFault;
-use bench_engine::runner::run_within;
+use bench_engine::runner::{Limits, run_within};
 use npy_files::MemStore;
 
 #[test]
@@ -42,16 +42,12 @@ fn a_run_makes_few_reads(rt: HostRuntime) {
     let mut reader = in_pieces(script, 1);
     let mut writer = Vec::new(rt.alloc());
     let mut store = MemStore::new(rt.alloc(), 0);
-    let fault = run_within(
-        rt.alloc(),
-        &mut reader,
-        &mut writer,
-        &mut store,
-        DEPTH,
-        10,
-        1,
-    )
-    .err();
+    let limits = Limits {
+        depth: DEPTH,
+        reads: 10,
+        size: 1,
+    };
+    let fault = run_within(rt.alloc(), &mut reader, &mut writer, &mut store, limits).err();
     assert_eq!(rt; fault, Some(RunFault::Read));
     assert_eq!(rt; writer.as_slice(), b"no E06 unknown name\n".as_slice());
 }

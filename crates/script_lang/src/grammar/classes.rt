@@ -22,12 +22,6 @@ pub enum Class {
     File,
 }
 
-fn is_allowed(byte: u8) -> bool
-    ensures { result ≡ is_allowed byte }
-{
-    matches!(byte, b'\t' | b' '..=b'~')
-}
-
 fn is_blank(byte: u8) -> bool
     ensures { result ≡ is_blank byte }
 {
@@ -109,8 +103,11 @@ pub fn are_in(class: Class, bytes: &[u8]) -> bool
 }
 
 /// Whether each byte is a tab, or 32 to 126.
-pub fn are_allowed(bytes: &[u8]) -> bool
-    ensures { result ≡ list_all is_allowed bytes.now }
+pub fn are_allowed(mut bytes: &[u8]) -> bool
+    ensures { result ≡ list_all is_allowed bytes.entry.now }
 {
-    bytes.iter().all(|b| is_allowed(*b))
+    while let [b' '..=b'~' | b'\t', rest @ ..] = bytes {
+        bytes = rest;
+    }
+    bytes.is_empty()
 }

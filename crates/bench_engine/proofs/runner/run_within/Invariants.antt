@@ -8,9 +8,9 @@ abbrev pub invariant-loop-turn : goal.invariant-loop-turn
 invariant-loop-turn g l = record {
   room : HasRoom l.session;
   few : l.session.accepted + l.session.refused ≤ 65538 * l.turn;
-  chunk : vec_len l.chunk ≡ l.size;
+  chunk : vec_len l.chunk ≡ l.fn.limits.size;
   counted : g.S.ScriptSource.reads l.source ≤ g.S.ScriptSource.reads l.fn.source + l.turn;
-  fed : Reading l.depth
+  fed : Reading l.fn.limits.depth
       (outside (g.S.ScriptSource.remaining l.fn.source) (g.W.Write.contents l.fn.writer) (g.N.NpyStore.shelf l.fn.store))
       (outside (g.S.ScriptSource.remaining l.source) (g.W.Write.contents l.writer) (g.N.NpyStore.shelf l.store))
       l.session;

@@ -10,4 +10,4 @@ returns-in_err-owned-in-Some c name a part shows is =
 
 pub returns-in_ok-owned-in-Some : goal.returns-in_ok-owned-in-Some
 returns-in_ok-owned-in-Some c name a part shows is =
-    rw c.in-Some.is (block-items c.args.bench.now.state c.args.array.now.descr.now _ c.in_ok-owned-in-Some.owned (updated c.args.bench.now.state c.args.array.now.descr.now part c.in-Some.operation c.args.value.now) (c.in_ok-owned-in-Some.ensures name a part shows is))
+    rw c.in-Some.is (block-items c.args.bench.now.state c.args.array.now.descr.now _ c.in_ok-owned-in-Some.owned (updated c.args.bench.now.state c.args.array.now.descr.now part c.in-Some.operation c.args.assignment.value.now) (c.in_ok-owned-in-Some.ensures name a part shows is))

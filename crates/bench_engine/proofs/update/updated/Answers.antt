@@ -40,4 +40,4 @@ returns-in_ok-old-in-Plan c name a part shows target =
     let e = c.in_ok-old-in-Plan.ensures in
     let own = c.items_of.ensures in
     let stands = all-stand s part c.items_of.result (old-plan s name a part c.args.array.now shows _ c.in_ok-old-in-Plan.old c.items_of.result is e.descr e.shape e.items own.block own.layout own.descr own.inside) in
-    subst (λ (d : Descr). GivesChanged d (count part.shape) c.changed-in-Plan.result (updated s d part c.args.operation c.args.value.now)) (own.descr ∙ e.descr) (c.changed-in-Plan.ensures (operand_values s part) stands)
+    subst (λ (d : Descr). GivesChanged d (count part.shape) c.changed-in-Plan.result (updated s d part c.args.change.operation c.args.change.value.now)) (own.descr ∙ e.descr) (c.changed-in-Plan.ensures (operand_values s part) stands)

@@ -4,7 +4,7 @@ use Rattle.elem_descr.specs.declared.refusal.Refusal.TheVariants.{OutOfMemory}
 use Rattle.elem_descr.specs.DescrTexts.{descriptor}
 use Rattle.bench_engine.specs.Machine.{cast_contents}
 use Rattle.bench_engine.proofs.Casts.{cast-gives, contents-bad}
-use Rattle.bench_engine.proofs.cast.converted.Goals as goal
+use Rattle.bench_engine.proofs.computed.converted.Goals as goal
 
 pub returns-in_err-descr : goal.returns-in_err-descr
 returns-in_err-descr c s a shows =

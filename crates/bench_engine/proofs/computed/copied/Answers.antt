@@ -1,5 +1,5 @@
 use Rattle.bench_engine.proofs.Copies.{copied-gives}
-use Rattle.bench_engine.proofs.copy.copied.Goals as goal
+use Rattle.bench_engine.proofs.computed.copied.Goals as goal
 
 pub returns : goal.returns
 returns c s array shows =
