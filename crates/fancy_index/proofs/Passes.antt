@@ -15,8 +15,7 @@ use Rattle.overlap_copy.specs.Joined.{joined_at}
 use Rattle.overlap_copy.specs.RunLaws.{All-back, All-front, assigned-append}
 use lib.IntN.{pos}
 use Rattle.fancy_index.specs.Plans.{put_each}
-use Rattle.fancy_index.specs.Kept.{moved_offset, shifted_all, moved_all}
-use Rattle.fancy_index.specs.inside.Kept.{IsMoved}
+use Rattle.fancy_index.specs.inside.Kept.{moved_offset, shifted_all, moved_all, IsMoved}
 use Rattle.fancy_index.specs.inside.Packed.{packed}
 use Rattle.overlap_copy.specs.PackedLaws.{length-row as length-packed, row-split as packed-append}
 use Rattle.fancy_index.specs.PlanLaws.{put_each-append}

@@ -3,6 +3,5 @@ pub mod Parts
 pub mod Indexed
 pub mod Sources
 pub mod Plans
-pub mod Kept
 pub mod inside
 pub mod PlanLaws

@@ -3,8 +3,7 @@ ghost use Rattle.std.specs.Prelude.{◌≡◌, ◌+◌, ◌*◌, ◌≤◌, ◌+
 ghost use Rattle.shape_strides.specs.Limits.{max_bytes};
 ghost use Rattle.shape_strides.specs.Layouts.{offsets};
 ghost use Rattle.overlap_copy.specs.Joined.{joined_at};
-ghost use Rattle.fancy_index.specs.Kept.{moved_offset, moved_all};
-ghost use Rattle.fancy_index.specs.inside.Kept.{IsMoved, AreStarts};
+ghost use Rattle.fancy_index.specs.inside.Kept.{moved_offset, moved_all, IsMoved, AreStarts};
 ghost use Rattle.fancy_index.specs.inside.Shifts.{shifted_offsets, CanShift};
 
 use crate::plans::{Shifted, moved};

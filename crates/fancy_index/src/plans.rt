@@ -10,8 +10,7 @@ ghost use Rattle.shape_strides.specs.Layouts.{offsets, multiples};
 ghost use Rattle.overlap_copy.specs.Assignments.{items_at, assigned};
 ghost use Rattle.overlap_copy.specs.Blocks.{offsets_in};
 ghost use Rattle.fancy_index.specs.Plans.{put_each};
-ghost use Rattle.fancy_index.specs.Kept.{moved_offset, moved_all, offsets_from};
-ghost use Rattle.fancy_index.specs.inside.Kept.{IsMoved, AreStarts};
+ghost use Rattle.fancy_index.specs.inside.Kept.{moved_offset, moved_all, offsets_from, IsMoved, AreStarts};
 
 use crate::fill::fill;
 use crate::gather::push_all;
@@ -57,8 +56,7 @@ impl Model for Plan {
 
     ghost Value = { Planned };
 
-    ghost use Rattle.fancy_index.specs.Kept.{offsets_from};
-    ghost use Rattle.fancy_index.specs.inside.Kept.{IsPlan};
+    ghost use Rattle.fancy_index.specs.inside.Kept.{offsets_from, IsPlan};
 
     ghost view = { λ p. record { shape = p.shape; offsets = offsets_from p.axes.value } };
 

@@ -3,8 +3,7 @@ use Rattle.std.specs.Prelude.{◌≤◌, ℕ, List, map}
 use Rattle.shape_strides.specs.Limits.{max_bytes}
 use Rattle.shape_strides.specs.Layouts.{offsets}
 use Rattle.fancy_index.specs.declared.plans.Shifted.{Shifted}
-use Rattle.fancy_index.specs.Kept.{moved_offset, shifted_all}
-use Rattle.fancy_index.specs.inside.Kept.{AreStarts}
+use Rattle.fancy_index.specs.inside.Kept.{moved_offset, shifted_all, AreStarts}
 
 -- where the first of them lies with each shift, and where all lie
 abbrev pub first_offsets : Shifted → List ℕ

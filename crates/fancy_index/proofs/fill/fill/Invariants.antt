@@ -1,8 +1,7 @@
 use Rattle.std.proofs.Common.{◌≡◌, length, All}
 use Rattle.shape_strides.specs.Layouts.{offsets}
 use Rattle.fancy_index.specs.Plans.{put_each}
-use Rattle.fancy_index.specs.Kept.{moved_all}
-use Rattle.fancy_index.specs.inside.Kept.{AreStarts}
+use Rattle.fancy_index.specs.inside.Kept.{moved_all, AreStarts}
 use Rattle.fancy_index.proofs.Passes.{Filling}
 use Rattle.fancy_index.proofs.fill.fill.Given as goal
 

@@ -1,7 +1,7 @@
 use Rattle.std.proofs.Common.{◌≡◌, length, map}
 use Rattle.shape_strides.specs.Layouts.{offsets}
 use Rattle.fancy_index.specs.Plans.{put_each}
-use Rattle.fancy_index.specs.Kept.{moved_offset}
+use Rattle.fancy_index.specs.inside.Kept.{moved_offset}
 use Rattle.fancy_index.proofs.Passes.{RunsLeft, Filling, moved_runs}
 use Rattle.fancy_index.proofs.fill.fill_from.Given as goal
 

@@ -1,7 +1,6 @@
 use Rattle.std.proofs.Common.{All}
 use Rattle.shape_strides.specs.Layouts.{offsets}
-use Rattle.fancy_index.specs.Kept.{moved_all}
-use Rattle.fancy_index.specs.inside.Kept.{AreStarts}
+use Rattle.fancy_index.specs.inside.Kept.{moved_all, AreStarts}
 use Rattle.fancy_index.proofs.Passes.{Pushing}
 use Rattle.fancy_index.proofs.gather.push_all.Given as goal
 

@@ -1,6 +1,6 @@
 use Rattle.std.proofs.Common.{map}
 use Rattle.shape_strides.specs.Layouts.{offsets}
-use Rattle.fancy_index.specs.Kept.{moved_offset}
+use Rattle.fancy_index.specs.inside.Kept.{moved_offset}
 use Rattle.fancy_index.proofs.Passes.{RunsLeft, Pushing, moved_runs}
 use Rattle.fancy_index.proofs.gather.push_from.Given as goal
 

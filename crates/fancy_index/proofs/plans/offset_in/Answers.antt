@@ -1,8 +1,7 @@
 use Rattle.std.proofs.Common.{◌≡◌, ◌+◌, ◌*◌, ◌<◌, length, get_or, subst, ap, ◌∙◌, sym, arith}
 use Rattle.shape_strides.specs.Layouts.{offsets}
 use Rattle.shape_strides.specs.LayoutLaws.{length-offsets}
-use Rattle.fancy_index.specs.Kept.{moved_offset}
-use Rattle.fancy_index.specs.inside.Kept.{IsMoved}
+use Rattle.fancy_index.specs.inside.Kept.{moved_offset, IsMoved}
 use Rattle.fancy_index.proofs.PlanLaws.{some_of, place_low, get_or-moved_all, start_at, item_at}
 use Rattle.fancy_index.proofs.plans.offset_in.Goals as goal
 use Rattle.fancy_index.proofs.plans.offset_in.Goals.{After-spot_at-at}

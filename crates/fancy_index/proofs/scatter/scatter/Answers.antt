@@ -1,8 +1,7 @@
 use Rattle.std.proofs.Common.{◌∙◌}
 use Rattle.std.proofs.lemmas.List.Elements.{All-rest}
 use Rattle.shape_strides.specs.Layouts.{offsets}
-use Rattle.fancy_index.specs.Kept.{shifted_all, moved_all}
-use Rattle.fancy_index.specs.inside.Kept.{AreStarts}
+use Rattle.fancy_index.specs.inside.Kept.{shifted_all, moved_all, AreStarts}
 use Rattle.fancy_index.proofs.Passes.{scatter_front, scattered_front, split-places}
 use Rattle.fancy_index.proofs.scatter.scatter.Goals as goal
 

@@ -1,7 +1,7 @@
 use Rattle.std.proofs.Common.{◌≡◌, ◌+◌, ◌*◌, length, map}
 use Rattle.shape_strides.specs.Layouts.{offsets}
 use Rattle.overlap_copy.specs.Assignments.{assigned}
-use Rattle.fancy_index.specs.Kept.{moved_offset}
+use Rattle.fancy_index.specs.inside.Kept.{moved_offset}
 use Rattle.fancy_index.specs.inside.Packed.{packed}
 use Rattle.fancy_index.proofs.Passes.{RunsLeft, Scattering, moved_runs}
 use Rattle.fancy_index.proofs.scatter.scatter_from.Given as goal

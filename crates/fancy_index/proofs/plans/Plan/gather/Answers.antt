@@ -4,7 +4,7 @@ use Rattle.overlap_copy.specs.Assignments.{items_at}
 use Rattle.overlap_copy.specs.Joined.{joined_at}
 use Rattle.overlap_copy.specs.JoinedLaws.{length-joined_at, joined-items}
 use Rattle.fancy_index.specs.Plans.{Planned}
-use Rattle.fancy_index.specs.Kept.{moved_all}
+use Rattle.fancy_index.specs.inside.Kept.{moved_all}
 use Rattle.fancy_index.proofs.plans.Plan.gather.Goals as goal
 use Rattle.fancy_index.proofs.plans.Plan.gather.Goals.{After-as_slice-shifts, After-finish}
 

@@ -1,7 +1,7 @@
 use Rattle.std.proofs.Common.{ℕ, List, length, ap, ◌∙◌}
 use Rattle.shape_strides.specs.Layouts.{offsets}
 use Rattle.overlap_copy.specs.Assignments.{assigned}
-use Rattle.fancy_index.specs.Kept.{moved_all}
+use Rattle.fancy_index.specs.inside.Kept.{moved_all}
 use Rattle.overlap_copy.specs.PackedLaws.{row-multiples}
 use Rattle.fancy_index.proofs.plans.Plan.scatter.Goals as goal
 
