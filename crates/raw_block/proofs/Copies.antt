@@ -3,8 +3,17 @@ use Rattle.std.proofs.Common.{◌≡◌, ℕ, zero, suc, ◌+◌, ◌<◌, ◌�
 use lib.IntN.{ℤ}
 use Rattle.raw_block.specs.Bytes.{place, item_at, copied, EachWithin}
 use Rattle.raw_block.specs.ExchangeLaws.{last_or_before}
-use Rattle.raw_block.specs.BytesLaws.{item_at-put_same, item_at-put_apart, length-item_at, place_within, fewer}
-use Rattle.raw_block.proofs.Laws.{length-copied}
+use Rattle.raw_block.specs.BytesLaws.{item_at-put_same, item_at-put_apart, length-item_at, length-put, place_within, fewer}
+
+pub length-copied : (dst : ℕ) (dst_step : ℤ) (other : List ℕ) (src : ℕ) (src_step : ℤ) (width n : ℕ) (bytes : List ℕ) → EachWithin (length bytes) dst dst_step width n → EachWithin (length other) src src_step width n
+    → length (copied dst dst_step other src src_step width n bytes) ≡ length bytes
+length-copied dst dst_step other src src_step width zero bytes to from = refl
+length-copied dst dst_step other src src_step width (suc n) bytes to from =
+    let before = copied dst dst_step other src src_step width n bytes in let item = item_at (place src src_step n) width other in
+    let same : length before ≡ length bytes = length-copied dst dst_step other src src_step width n bytes (fewer _ dst dst_step width n to) (fewer _ src src_step width n from) in
+    let count : length item ≡ width = length-item_at (place src src_step n) width other (place_within _ src src_step width (suc n) n from (omega arith)) in
+    let within = place_within (length bytes) dst dst_step width (suc n) n to (omega arith) in
+    length-put (place dst dst_step n) item before (omega arith) ∙ same
 
 module _ (dst : ℕ) (dst_step : ℤ) (other : List ℕ) (src : ℕ) (src_step : ℤ) (width : ℕ) (bytes : List ℕ) where
   abbrev after : ℕ → List ℕ

@@ -8,16 +8,13 @@ ghost use Rattle.raw_block.specs.inside.Sizes.{IsSizeFor};
 
 mod builder;
 
-use crate::base::{Base, Bytes, Deed, WORD, allocate, deallocate};
+use crate::base::{Base, Bytes, Deed, WORD, deallocate};
 use crate::item::{move_item, number_of, put_item, put_number};
 use crate::number_runs::{RunI32, RunI64, items_at};
-use crate::strided;
+use crate::strided::{self, Items, Steps};
 pub use builder::BlockBuilder;
 use std::alloc::{AllocError, Global};
 use std::marker::Model;
-
-/// The longest block: with its last word filled up, its bytes are still numbered by an `isize`.
-const MAX_LEN: usize = isize::MAX as usize - 15;
 
 /// One block of memory, of zeros or of given bytes when it is made, which starts at a multiple of 16.
 /// A contract sees a block as the list of its bytes.
@@ -58,41 +55,18 @@ impl RawBlock {
     pub fn try_zeroed(alloc: Global, len: usize) -> Result<RawBlock, AllocError>
         ensures { IfOk result (λ b. b ≡ replicate len 0) }
     {
-        if len > MAX_LEN {
-            return Err(AllocError);
-        }
-        let (base, mut bytes, deed) = allocate(&alloc, len, padded(len))?;
-        for index in 0..len {
-            bytes.push(base, index, 0);
-        }
-        Ok(RawBlock {
-            base,
-            len,
-            bytes,
-            deed,
-            alloc,
-        })
+        let mut block = BlockBuilder::try_new(alloc, len)?;
+        block.push_zeros(len);
+        Ok(block.finish())
     }
 
     /// Takes memory for these bytes, and writes each of them once. An `Err` says that there is none.
     pub fn try_copied(alloc: Global, bytes: &[u8]) -> Result<RawBlock, AllocError>
         ensures { IfOk result (λ b. b ≡ bytes.now) }
     {
-        let len = bytes.len();
-        if len > MAX_LEN {
-            return Err(AllocError);
-        }
-        let (base, mut copied, deed) = allocate(&alloc, len, padded(len))?;
-        for index in 0..len {
-            copied.push(base, index, bytes[index]);
-        }
-        Ok(RawBlock {
-            base,
-            len,
-            bytes: copied,
-            deed,
-            alloc,
-        })
+        let mut block = BlockBuilder::try_new(alloc, bytes.len())?;
+        block.push_bytes(bytes);
+        Ok(block.finish())
     }
 
     /// The number of bytes.
@@ -203,8 +177,13 @@ impl RawBlock {
         ensures copied { self.new ≡ copied dst dst_step other.now src src_step width n self.old }
         ensures len { length self.new ≡ length self.old }
     {
-        let bytes = self.bytes_mut();
-        strided::copy(bytes, dst, dst_step, other.bytes(), src, src_step, width, n);
+        let from = Items::new(src, src_step, width, n);
+        strided::copy(
+            self.bytes_mut(),
+            Steps::new(dst, dst_step),
+            other.bytes(),
+            from,
+        );
     }
 
     /// Copies `n` items of `width` bytes of the block itself, one after the other: where they overlap,
@@ -223,7 +202,8 @@ impl RawBlock {
         ensures copied { self.new ≡ copied_within dst dst_step src src_step width n self.old }
         ensures len { length self.new ≡ length self.old }
     {
-        strided::copy_within(self.bytes_mut(), dst, dst_step, src, src_step, width, n);
+        let from = Items::new(src, src_step, width, n);
+        strided::copy_within(self.bytes_mut(), Steps::new(dst, dst_step), from);
     }
 
     /// Writes the item `n` times, first to `dst`, and each time a step further, in bytes.
@@ -232,7 +212,7 @@ impl RawBlock {
         ensures filled { self.new ≡ filled dst step item.now n self.old }
         ensures len { length self.new ≡ length self.old }
     {
-        strided::fill(self.bytes_mut(), dst, step, item, n);
+        strided::fill(self.bytes_mut(), Steps::new(dst, step), item, n);
     }
 
     /// Exchanges `n` pairs of items of `width` bytes, one pair after the other. The two items of a
@@ -251,7 +231,8 @@ impl RawBlock {
         ensures swapped { self.new ≡ swapped a a_step b b_step width n self.old }
         ensures len { length self.new ≡ length self.old }
     {
-        strided::swap(self.bytes_mut(), a, a_step, b, b_step, width, n);
+        let others = Items::new(b, b_step, width, n);
+        strided::swap(self.bytes_mut(), Steps::new(a, a_step), others);
     }
 }
 

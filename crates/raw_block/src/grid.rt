@@ -1,9 +1,9 @@
 //! Items of a grid, copied column by column to where they lie row by row.
 ghost use Rattle.std.specs.Prelude.{◌≡◌, ◌+◌, ◌*◌, ◌^◌, ◌<◌, ◌≤◌, ◌++◌, pos, ◌≤ℤ◌, ◌<ℤ◌, length, take};
-ghost use Rattle.raw_block.specs.Bytes.{position, grid_items, GridWithin};
+ghost use Rattle.raw_block.specs.Bytes.{position, place, grid_items, GridWithin};
 ghost use Rattle.raw_block.specs.inside.Bands.{band};
 
-use crate::strided::{copy_arrays, place};
+use crate::strided::{Steps, copy_arrays};
 
 /// Where items lie row by row: the first, and by how many bytes further the next row and the next
 /// column are.
@@ -24,12 +24,20 @@ impl Grid {
         ensures { result ≡ band self first rows }
     {
         Grid {
-            at: place(self.at, self.row_step, first),
-            row_step: self.row_step,
-            column_step: self.column_step,
+            at: Steps::new(self.at, self.row_step).place(first),
             rows,
-            columns: self.columns,
+            ..self
         }
+    }
+
+    /// Where the items of a column lie.
+    fn column(self, j: usize) -> Steps
+        requires low { pos 0 ≤ℤ position self.at self.column_step j }
+        requires high { position self.at self.column_step j <ℤ pos (2 ^ 64) }
+        ensures { (result.at ≡ place self.at self.column_step j) × (result.step ≡ self.row_step) }
+    {
+        let top = Steps::new(self.at, self.column_step).place(j);
+        Steps::new(top, self.row_step)
     }
 }
 
@@ -44,16 +52,12 @@ pub(crate) fn copy_by_columns<const N: usize>(bytes: &mut [u8], other: &[u8], gr
 {
     let row = grid.columns * N;
     for column in 0..grid.columns {
-        let top = place(grid.at, grid.column_step, column);
-        copy_arrays::<N>(
-            bytes,
-            column * N,
-            row as isize,
-            other,
-            top,
-            grid.row_step,
-            grid.rows,
-        );
+        let to = Steps {
+            at: column * N,
+            step: row as isize,
+        };
+        let from = grid.column(column);
+        copy_arrays::<N>(bytes, to, other, from, grid.rows);
     }
 }
 

@@ -1,6 +1,4 @@
-use Rattle.std.proofs.Common.{◌≡◌, ◌+◌, ◌*◌, ◌++◌, ℕ, suc, length, ap, ◌∙◌, append_assoc, length-append, suc-mul, w64, arith, rules}
-use Rattle.std.proofs.lemmas.Int.{to_z-of_z}
-use mir.Val.{SFits}
+use Rattle.std.proofs.Common.{◌≡◌, ◌+◌, ◌*◌, ◌++◌, ℕ, suc, length, ap, ◌∙◌, append_assoc, length-append, suc-mul, arith}
 use Rattle.raw_block.specs.Bytes.{place, item_at, joined}
 use Rattle.raw_block.specs.BytesLaws.{length-item_at, place_within}
 use Rattle.raw_block.proofs.pushing.push_arrays.Goals as goal
@@ -8,11 +6,9 @@ use Rattle.raw_block.proofs.pushing.push_arrays.Goals as goal
 pub loop-k-preserved : goal.loop-k-preserved
 loop-k-preserved g c =
     let N = g.row.N in let a = c.args in let k = c.loop-k.k in let inv = c.loop-k.invariant in let before = c.loop-k.bytes.items in
-    let fits : SFits w64 a.items.step = search rules in
-    let item = λ (k : ℕ). item_at (place a.items.at a.items.step k) N a.other.now in
-    let is : c.place.result ≡ place a.items.at a.items.step k = c.place.ensures ∙ ap (λ z. place a.items.at z k) (to_z-of_z w64 a.items.step fits) in
-    let pushed : c.push_array.new.self.items ≡ before ++ item k = c.push_array.ensures.1 ∙ ap (λ l. before ++ l) (c.array_at.ensures ∙ ap (λ p. item_at p N a.other.now) is) in
-    let long : length (item k) ≡ N = length-item_at (place a.items.at a.items.step k) N a.other.now (place_within (length a.other.now) a.items.at a.items.step N a.items.count k c.requires.source c.loop-k-test.true) in
+    let item = λ (k : ℕ). item_at (place a.items.steps.at a.items.steps.step k) N a.other.now in
+    let pushed : c.push_array.new.self.items ≡ before ++ item k = c.push_array.ensures.1 ∙ ap (λ l. before ++ l) (c.array_at-item.ensures ∙ ap (λ p. item_at p N a.other.now) c.place.ensures) in
+    let long : length (item k) ≡ N = length-item_at (place a.items.steps.at a.items.steps.step k) N a.other.now (place_within (length a.other.now) a.items.steps.at a.items.steps.step N a.items.count k c.requires.source c.loop-k-test.true) in
     let next : suc k ≡ k + 1 = omega arith in
     record {
       begin = c.push_array.ensures.0 ∙ inv.begin;

@@ -1,19 +1,14 @@
-use Rattle.std.proofs.Common.{◌≡◌, ◌+◌, ◌*◌, ◌++◌, ℕ, suc, length, ap, ◌∙◌, append_assoc, length-append, suc-mul, w64, arith, rules}
-use Rattle.std.proofs.lemmas.Int.{to_z-of_z}
-use mir.Val.{SFits}
+use Rattle.std.proofs.Common.{◌≡◌, ◌+◌, ◌*◌, ◌++◌, ℕ, suc, length, sym, ap, ◌∙◌, append_assoc, length-append, suc-mul, arith}
 use Rattle.raw_block.specs.Bytes.{place, item_at, joined}
-use Rattle.raw_block.specs.BytesLaws.{length-item_at, place_within}
 use Rattle.raw_block.proofs.pushing.push_each.Goals as goal
 
 pub loop-k-preserved : goal.loop-k-preserved
 loop-k-preserved c =
-    let a = c.args in let k = c.loop-k.k in let inv = c.loop-k.invariant in let before = c.loop-k.bytes.items in let width = a.width in
-    let fits : SFits w64 a.items.step = search rules in
-    let item = λ (k : ℕ). item_at (place a.items.at a.items.step k) width a.other.now in
-    let is : c.place.result ≡ place a.items.at a.items.step k = c.place.ensures ∙ ap (λ z. place a.items.at z k) (to_z-of_z w64 a.items.step fits) in
-    let here : c.part-item.result.now ≡ item k = c.part-item.ensures ∙ ap (λ p. item_at p width a.other.now) is in
+    let a = c.args in let k = c.loop-k.k in let inv = c.loop-k.invariant in let before = c.loop-k.bytes.items in let width = a.items.width in
+    let item = λ (k : ℕ). item_at (place a.items.steps.at a.items.steps.step k) width a.other.now in
+    let here : c.part-item.result.now ≡ item k = c.part-item.ensures.value ∙ ap (λ p. item_at p width a.other.now) c.place.ensures in
     let pushed : c.push_bytes.new.bytes.items ≡ before ++ item k = c.push_bytes.ensures.items ∙ ap (λ l. before ++ l) here in
-    let long : length (item k) ≡ width = length-item_at (place a.items.at a.items.step k) width a.other.now (place_within (length a.other.now) a.items.at a.items.step width a.items.count k c.requires.source c.loop-k-test.true) in
+    let long : length (item k) ≡ width = ap length (sym here) ∙ c.part-item.ensures.len in
     let next : suc k ≡ k + 1 = omega arith in
     record {
       begin = c.push_bytes.ensures.begin ∙ inv.begin;

@@ -1,19 +1,26 @@
-use Rattle.std.proofs.Common.{◌≡◌, ◌++◌, length, sym, ap, ◌∙◌, w64, rules}
-use Rattle.std.proofs.lemmas.Int.{to_z-of_z}
-use lib.IntN.{pos}
-use mir.Val.{SFits}
+use Rattle.std.proofs.Common.{◌+◌, ◌*◌, ◌++◌, length, sym, ap, ◌∙◌, length-append, arith}
 use Rattle.raw_block.proofs.Runs.{run_within}
 use Rattle.raw_block.specs.JoinedLaws.{joined_run}
 use Rattle.raw_block.proofs.pushing.push_items.Goals as goal
-use Rattle.raw_block.proofs.pushing.push_items.Goals.{Then-is_adjacent}
 
-step_is : (c : Then-is_adjacent) → c.args.items.step ≡ pos c.args.width
-step_is c = let fits : SFits w64 c.args.items.step = search rules in sym (to_z-of_z w64 c.args.items.step fits) ∙ c.is_adjacent.ensures c.if-is_adjacent.true
-
-pub part-run-requires : goal.part-run-requires
-part-run-requires c = run_within (length c.args.other.now) c.args.items.at c.args.items.step c.args.width c.args.items.count c.if-items-gt0.true (step_is (goal.at.part-run-requires c).Then-is_adjacent) c.requires.source
+pub part-requires : goal.part-requires
+part-requires c =
+    let items = c.args.items in
+    run_within (length c.args.other.now) items.steps.at items.steps.step items.width items.count c.if-count-gt0.true (c.is_adjacent.ensures c.if-is_adjacent.true) c.requires.source
 
 pub returns-then-is_adjacent-clause-items : goal.returns-then-is_adjacent-clause-items
 returns-then-is_adjacent-clause-items c =
-    let a = c.args in
-    c.push_bytes.ensures.items ∙ ap (λ l. a.bytes.now.items ++ l) (c.part-run.ensures ∙ joined_run a.items.at a.items.step a.width a.items.count a.other.now (step_is (goal.at.returns-then-is_adjacent-clause-items c).Then-is_adjacent))
+    let items = c.args.items in
+    c.push_bytes.ensures.items ∙ ap (λ l. c.args.bytes.now.items ++ l) (c.part.ensures.value ∙ joined_run items.steps.at items.steps.step items.width items.count c.args.other.now (c.is_adjacent.ensures c.if-is_adjacent.true))
+
+pub returns-then-is_adjacent-clause-count : goal.returns-then-is_adjacent-clause-count
+returns-then-is_adjacent-clause-count c = ap length c.push_bytes.ensures.items ∙ length-append c.args.bytes.now.items c.part.result.now ∙ omega (arith, c.requires.from, c.part.ensures.len)
+
+pub returns-then-is_adjacent-clause-left : goal.returns-then-is_adjacent-clause-left
+returns-then-is_adjacent-clause-left c = omega (arith, c.push_bytes.ensures.left, c.part.ensures.len)
+
+pub returns-then-steps-eq0-clause-count : goal.returns-then-steps-eq0-clause-count
+returns-then-steps-eq0-clause-count c = c.push_repeated.ensures.count ∙ ap (λ m. c.args.from + c.args.items.count * m) c.part-then-steps-eq0.ensures.len
+
+pub returns-then-steps-eq0-clause-left : goal.returns-then-steps-eq0-clause-left
+returns-then-steps-eq0-clause-left c = ap (λ m. c.args.items.count * m + c.push_repeated.new.bytes.room) (sym c.part-then-steps-eq0.ensures.len) ∙ c.push_repeated.ensures.left

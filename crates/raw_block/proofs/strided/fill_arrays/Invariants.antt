@@ -3,4 +3,4 @@ use Rattle.raw_block.specs.Bytes.{filled}
 use Rattle.raw_block.proofs.strided.fill_arrays.Given as goal
 
 abbrev pub invariant-loop-k : goal.invariant-loop-k
-invariant-loop-k g l = l.bytes ≡ filled l.dst l.step l.item l.k l.initial.bytes
+invariant-loop-k g l = l.bytes ≡ filled l.to.at l.to.step l.item l.k l.initial.bytes

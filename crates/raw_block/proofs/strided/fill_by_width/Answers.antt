@@ -1,5 +1,4 @@
-use Rattle.std.proofs.Common.{◌∙◌, w64}
-use Rattle.std.proofs.lemmas.Int.{to_z-of_z}
+use Rattle.std.proofs.Common.{◌∙◌}
 use Rattle.raw_block.specs.Bytes.{filled}
 use Rattle.raw_block.proofs.Runs.{eight_bytes}
 use Rattle.raw_block.proofs.strided.fill_by_width.Goals as goal
@@ -7,4 +6,4 @@ use Rattle.raw_block.proofs.strided.fill_by_width.Goals as goal
 pub returns-in-len8 : goal.returns-in-len8
 returns-in-len8 c =
     let item = c.args.item.now in let all = eight_bytes item c.in-len8.len_at_least c.in-len8.len_below in
-    c.fill_arrays-in-len8.ensures ∙ (λ i. filled c.args.dst (to_z-of_z w64 c.args.step c.ranges.step i) (all i) c.args.n c.args.bytes.now)
+    c.fill_arrays-in-len8.ensures ∙ (λ i. filled c.args.to.at c.args.to.step (all i) c.args.n c.args.bytes.now)
