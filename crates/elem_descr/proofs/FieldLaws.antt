@@ -15,9 +15,6 @@ use Rattle.elem_descr.specs.Items.{item_size, leaves_of, leaves_from, leaves_in,
 use Rattle.elem_descr.specs.ItemLaws.{entry_within, leaf_within, leaves_in_order, length-leaves_from, leaf_count-before, leaves_from-before}
 use Rattle.elem_descr.specs.DescriptorLaws.{field_within, rest_at, listed-fields_of, some_leaves}
 
-pub in_order_at : (from bytes : ℕ) (leaves : List Leaf) (leaf : Leaf) (i : ℕ) → i < length leaves → leaf ≡ get_or leaves i leaf → AreInOrder from (drop i leaves) bytes → AreInOrder from (leaf ∷ drop (i + 1) leaves) bytes
-in_order_at from bytes leaves leaf i l e h = rw (rest_at leaves leaf i l e) at h
-
 -- a field begins no earlier than where those before it end
 begins_after : (from : ℕ) (leaves : List Leaf) (bytes k : ℕ) (d : Leaf) → AreInOrder from leaves bytes → k < length leaves → from ≤ (get_or leaves k d).at
 begins_after from [] bytes k d order l = absurd (omega arith)

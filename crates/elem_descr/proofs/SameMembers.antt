@@ -40,9 +40,6 @@ marked_none mark b rest e = rw e refl
 marked_some : (mark next : Mark) (b : ℕ) (rest : List ℕ) → after mark b ≡ Some next → marked mark (b ∷ rest) ≡ marked next rest
 marked_some mark next b rest e = rw e refl
 
-after_colon : (mark : Mark) (b : ℕ) → is_colon b ≡ true → after mark b ≡ None
-after_colon mark b e = subst (λ c. after mark c ≡ None) (sym (one_of_one 58 b e)) refl
-
 -- no mark stands at the front
 abbrev pub Unmarked : Mark → List ℕ → Type 0
 Unmarked mark [] = Unit {0}
