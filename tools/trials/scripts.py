@@ -392,7 +392,7 @@ class Script:
         return self.bound(f"{word} {left} {right}", names + more, lambda: computations.worked(word, one(), other()))
 
     def unary(self):
-        (text, names, one), word = self.operand(), self.rng.choice(["neg", "not"])
+        (text, names, one), word = self.operand(), self.rng.choice(computations.UNARY)
         return self.bound(f"{word} {text}", names, lambda: computations.transformed(word, one()))
 
     def reduction(self):
