@@ -9,24 +9,11 @@ import tempfile
 import unittest
 
 from trials.companion_trials import PROGRAM, TOOL, InFolder, environment, needs_program, numpy_or_none, share
+import hostile_runs
 import hostile_scripts as scripts
 from bench_tool import main
 
 TOLD = re.compile(r"(.*):(\d+): (E\d\d) ([^:]*): ?(.*)")
-
-
-def put_files(folder, files):
-    for name, file in files.items():
-        path = pathlib.Path(folder, name)
-        if isinstance(file, bytes):
-            path.write_bytes(file)
-        else:
-            with open(path, "wb") as made:
-                made.truncate(file)
-
-
-def left_in(folder):
-    return {path.name: path.read_bytes() for path in pathlib.Path(folder).iterdir() if path.stat().st_size < 2**20}
 
 
 def program(words):
@@ -57,11 +44,12 @@ def companion(words):
 
 def ran(how, script, text):
     """The run of a script over a folder of its own: output, errors, status, files left."""
-    with tempfile.TemporaryDirectory() as folder:
-        put_files(folder, script.files)
-        words = [text, f"--dir={folder if script.has_folder else folder + '/nowhere'}"]
+    with tempfile.TemporaryDirectory() as top:
+        folder = pathlib.Path(top, "files")
+        hostile_runs.fill(folder, script.files)
+        words = [text, f"--dir={folder if script.has_folder else folder / 'nowhere'}"]
         words += [] if script.depth is None else ["--undo", str(script.depth)]
-        return *how(words), left_in(folder)
+        return *how(words), hostile_runs.contents(folder)
 
 
 def refusals(lines, output):
@@ -101,7 +89,7 @@ class Runs(InFolder):
     def test_random_scripts(self):
         for number in range(share(40, 1000)):
             with self.subTest(number):
-                self.compare(scripts.random_script(random.Random(f"run {number}"), number))
+                self.compare(scripts.random_script(PROGRAM, random.Random(f"run {number}"), number))
 
     def test_scripts_of_the_comparison_with_numpy(self):
         if numpy_or_none() is None:

@@ -7,7 +7,7 @@ import operator
 import numpy as np
 
 from bench_tool import language
-from world import TALLY, Refused
+from world import TALLY, Refused, refusing
 
 OPERATIONS, COMPARISONS, UNARY, REDUCTIONS = language.lists()
 # Words that Python's operators and NumPy have under other names.
@@ -101,10 +101,8 @@ def worked(word, left, right):
     """What a word gives on an array and an array or a literal: the type, the shape and the items."""
     TALLY["computed"] += 1
     dtype = type_beside(word, left, right)
-    try:
+    with refusing("E16"):
         one, other = np.broadcast_arrays(left, right)
-    except ValueError:
-        raise Refused("E16") from None
     return dtype, one.shape, [result_of(word, dtype, x, y) for x, y in zip(items(one), items(other))]
 
 
@@ -112,10 +110,8 @@ def updated(word, target, right):
     """The values that an update writes."""
     if KINDS[type_beside(word, target, right).kind] > KINDS[target.dtype.kind]:
         raise Refused("E24")
-    try:
+    with refusing("E16"):
         return worked(word, target, np.broadcast_to(right, target.shape) if isinstance(right, np.ndarray) else right)[2]
-    except ValueError:
-        raise Refused("E16") from None
 
 
 def reduced(word, array, axis, keep):

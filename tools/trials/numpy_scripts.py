@@ -54,7 +54,7 @@ class Indexes(Script):
         while math.prod(shape) > 300:
             shape.pop(0)
         values = [random_value(self.rng, taken.dtype, 0, 99) for _ in range(math.prod(shape))]
-        self.add(*self.made("v", np.array(values, taken.dtype).reshape(shape), values))
+        self.add(self.made("v", np.array(values, taken.dtype).reshape(shape), values))
         return "v"
 
     def pair(self, target, items):
@@ -85,7 +85,7 @@ class Shares(Script):
         steps = [self.rng.choice([1, 2, 3, 4, -2, -3]) if length > 2 else 1 for length in self.shape_of(source)]
         for name in names:
             items = [slice(self.rng.choice([0, 0, 1, 2] if step > 0 else [-1, -2, -3]), None, step) for step in steps]
-            self.add(*self.taken(name, source, items or [Ellipsis]))
+            self.add(self.taken(name, source, items or [Ellipsis]))
         return self.shares_of(*names)
 
 

@@ -1,5 +1,6 @@
 """What the program should hold and reply, as NumPy has it: arrays by name, texts, refusals, and the states to go back to."""
 import collections
+import contextlib
 import pathlib
 import re
 import sys
@@ -24,6 +25,15 @@ class Refused(Exception):
 
     def __str__(self):
         return f"{self.args[0]} {CODES[self.args[0]]}"
+
+
+@contextlib.contextmanager
+def refusing(code):
+    """Refuses by this code what NumPy refuses."""
+    try:
+        yield
+    except ValueError:
+        raise Refused(code) from None
 
 
 def tuple_text(numbers):
