@@ -7,7 +7,8 @@ import operator
 import numpy as np
 
 from bench_tool import language
-from world import TALLY, Refused, refusing
+from rules import Refused, refusing
+from world import TALLY
 
 OPERATIONS, COMPARISONS, UNARY, REDUCTIONS = language.lists()
 # Words that Python's operators and NumPy have under other names.

@@ -28,7 +28,8 @@ from hostile_runs import Part, Runner, contents, fill, in_processes
 from limits import Limits
 from scripts import NAMES, Script
 from values import random_value
-from world import TALLY, Refused
+from rules import Refused
+from world import TALLY
 
 
 class Indexes(Script):

@@ -11,8 +11,9 @@ import damaged
 import files
 import overlaps
 import reshapes
+from rules import MOST_AXES, MOST_ITEMS, Refused, refusing
 from values import INTEGERS, RECORDS, SCALARS, STRINGS, filled, numbers, random_bytes, random_value, stands_for
-from world import FAR, MOST_AXES, MOST_ITEMS, TALLY, Refused, World, leaves, list_text, literal_text, refusing, type_text
+from world import FAR, TALLY, World, leaves, list_text, literal_text, type_text
 
 NAMES = "abcdefg"
 FILES = ["a.npy", "b.npy", "_", "9-.x"]

@@ -1,19 +1,14 @@
 """Times commands of the program and the same work in NumPy, told as ratios.
 
-    tools/try speed [--only WORD] [--sizes N ..] [--undo N ..] [--runs K]
-
 A script has the set-up of a row and then its line again and again. The time of the line is the difference between a run
 with many repeats of it and a run with fewer, divided by the repeats between, so that neither the start of the program nor
 the set-up counts. Also the shorter run has more repeats than the depth of undo, so that what a line replaces is let go as
 fast as it is kept. NumPy's time is that of `timeit`. Both are processor time, the least of several runs.
 
 Each row is timed for arrays of each size, at the default depth of undo and with --undo 0, which keeps nothing: the
-geometric mean of the ratios is told for each. A ratio above 1 says that the program takes longer than NumPy. A later
-command is one more row.
+geometric mean of the ratios is told for each. A ratio above 1 says that the program takes longer than NumPy.
 """
-import argparse
 import math
-import pathlib
 import string
 import sys
 import time
@@ -22,7 +17,7 @@ import typing
 
 import numpy as np
 
-from timed import FOLDER, refusal, seconds
+from timed import FOLDER, refusal, seconds, words
 
 SIZES = (100, 10000, 2**22)
 DEPTHS = (16, 0)
@@ -41,11 +36,6 @@ class Row(typing.NamedTuple):
     line: str
     numpy_setup: str
     numpy: str
-
-
-def matrix(kind):
-    """A square of that type for both."""
-    return f"a = full {kind} ($side,$side) 7", f"a = np.full(($side, $side), 7, '{kind}')"
 
 
 def two(kind):
@@ -70,7 +60,7 @@ ROW = (
     "r = arange <i4 0 $side 1\na = zeros <i4 ($side,$side)",
     "r = np.arange($side, dtype='<i4'); a = np.zeros(($side, $side), '<i4')",
 )
-SQUARE = matrix("<i4")
+SQUARE = ("a = full <i4 ($side,$side) 7", "a = np.full(($side, $side), 7, '<i4')")
 TRANSPOSED = (f"{SQUARE[0]}\nt = transpose a", f"{SQUARE[1]}; t = a.T")
 FORTRAN = (f"{SQUARE[0]}\nf = copy a F", f"{SQUARE[1]}; f = a.copy('F')")
 NARROW = {
@@ -189,24 +179,15 @@ def of_size(row, size):
     return Row(row.name, *(string.Template(text).substitute(numbers) for text in row[1:]))
 
 
-def repeated(program, row, depth, repeats):
-    """The processor time of a run over a script with so many repeats of the row's line."""
-    return seconds(program, f"{row.setup}\n" + f"{row.line}\n" * repeats, depth)
-
-
-def enough_repeats(program, row, depth):
-    """Repeats that take long enough to be timed."""
-    repeats, start = 4, repeated(program, row, depth, BEFORE)
-    while repeats < MOST_REPEATS and repeated(program, row, depth, BEFORE + repeats) - start < LONG_ENOUGH:
-        repeats *= 2
-    return repeats
-
-
 def bench_time(program, row, depth, runs):
-    """The seconds that one line of the program takes."""
-    repeats = enough_repeats(program, row, depth)
-    pairs = [(repeated(program, row, depth, BEFORE), repeated(program, row, depth, BEFORE + repeats)) for _ in range(runs)]
-    short, long = map(min, zip(*pairs))
+    """The seconds that one line of the program takes, of so many repeats that these can be timed."""
+    def repeated(times):
+        return seconds(program, f"{row.setup}\n" + f"{row.line}\n" * times, depth)
+
+    repeats, start = 4, repeated(BEFORE)
+    while repeats < MOST_REPEATS and repeated(BEFORE + repeats) - start < LONG_ENOUGH:
+        repeats *= 2
+    short, long = map(min, zip(*((repeated(BEFORE), repeated(BEFORE + repeats)) for _ in range(runs))))
     return (long - short) / repeats
 
 
@@ -217,57 +198,39 @@ def numpy_time(row, runs):
     return min(timer.repeat(runs, loops)) / loops
 
 
-def cells(program, row, depths, runs):
-    """The texts of a row of the report, and its ratio for each depth."""
-    if refusal(program, f"{row.setup}\n{row.line}\n", 16):
-        return ("refused",), {}
-    theirs = numpy_time(row, runs)
-    ours = {depth: bench_time(program, row, depth, runs) for depth in depths}
-    ratios = {depth: taken / theirs for depth, taken in ours.items()}
-    texts = [f"{theirs * 1e6:.2f}"]
-    for depth in depths:
-        texts += [f"{ours[depth] * 1e6:.2f}", f"{ratios[depth]:.2f}"]
-    return tuple(texts), ratios
-
-
-def words():
-    """The words of the call."""
-    parser = argparse.ArgumentParser(description="Times commands of the program and the same work in NumPy.")
-    parser.add_argument("bench", type=pathlib.Path, help="the program")
-    parser.add_argument("--only", default="", metavar="WORD", help="the rows with this in their names")
-    parser.add_argument("--sizes", type=int, nargs="+", default=SIZES, metavar="N", help="items of the arrays, 100 or more")
-    parser.add_argument("--undo", type=int, nargs="+", default=DEPTHS, metavar="N", help="depths of undo, 0 to 20")
-    parser.add_argument("--runs", type=int, default=5, metavar="K", help="runs of which the least time counts (5)")
-    given = parser.parse_args()
-    if given.runs < 1 or min(given.sizes) < 100 or not all(0 <= depth <= 20 for depth in given.undo):
-        parser.error("--runs is 1 or more, each of --sizes 100 or more, and each of --undo 0 to 20")
-    return given
-
-
-def told(program, row, given, width):
+def told(row, given, width):
     """Prints a row for a size, and gives its ratio for each depth."""
-    texts, ratios = cells(program, row, given.undo, given.runs)
+    if refusal(given.bench, f"{row.setup}\n{row.line}\n", 16):
+        theirs, ours = 0, {}
+    else:
+        theirs, ours = numpy_time(row, given.runs), {depth: bench_time(given.bench, row, depth, given.runs) for depth in given.undo}
+    ratios = {depth: taken / theirs for depth, taken in ours.items()}
+    texts = [f"{theirs * 1e6:.2f}" if ours else "refused", *(text for depth in ours for text in (f"{ours[depth] * 1e6:.2f}", f"{ratios[depth]:.2f}"))]
     print(f"{row.name:{width}}  " + "  ".join(f"{text:>12}" for text in texts), flush=True)
     return ratios
 
 
-def report(program, size, given):
+def report(size, given):
     """Prints the rows for a size, and their geometric means."""
     rows = [of_size(row, size) for row in ROWS if given.only in row.name]
     width = max([14, *(len(row.name) for row in rows)])
     heads = ["NumPy us", *(head for depth in given.undo for head in (f"undo {depth} us", "ratio"))]
     print(f"\n{f'{size:,} items':{width}}  " + "  ".join(f"{head:>12}" for head in heads))
-    ratios = {row.name: told(program, row, given, width) for row in rows}
+    ratios = {row.name: told(row, given, width) for row in rows}
     for depth in given.undo:
         known = {name: of_row[depth] for name, of_row in ratios.items() if depth in of_row}
-        logs = [math.log(max(ratio, 0.001)) for ratio in known.values()]
         high = [f"{name} ({ratio:.1f})" for name, ratio in known.items() if ratio > HIGH]
-        mean = math.exp(sum(logs) / len(logs)) if logs else 0
+        mean = math.exp(sum(math.log(max(ratio, 0.001)) for ratio in known.values()) / max(1, len(known)))
         print(f"undo {depth}: geometric mean {mean:.2f}; above {HIGH}: {'; '.join(high) or 'none'}", flush=True)
 
 
 def main():
-    given = words()
+    parser = words("Times commands of the program and the same work in NumPy.", 5)
+    parser.add_argument("--sizes", type=int, nargs="+", default=SIZES, metavar="N", help="items of the arrays, 100 or more")
+    parser.add_argument("--undo", type=int, nargs="+", default=DEPTHS, metavar="N", help="depths of undo, 0 to 20")
+    given = parser.parse_args()
+    if given.runs < 1 or min(given.sizes) < 100 or not all(0 <= depth <= 20 for depth in given.undo):
+        parser.error("--runs is 1 or more, each of --sizes 100 or more, and each of --undo 0 to 20")
     np.set_printoptions(threshold=sys.maxsize, linewidth=sys.maxsize)
     for size in given.sizes:
-        report(given.bench.resolve(), size, given)
+        report(size, given)
