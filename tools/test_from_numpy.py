@@ -139,22 +139,22 @@ class FromNumPy(unittest.TestCase):
     def in_numpy(self, lines):
         """The same in NumPy, for the few forms that the table has."""
         names = {}
+        makes = {
+            "arange": lambda type_, start, stop, _: np.arange(int(start), int(stop), dtype=type_),
+            "full": lambda type_, shape, value: np.full(int(shape[1:-1]), eval(value), type_),
+            "array": lambda type_, _, *values: np.array(list(map(int, values)), type_),
+        }
         signs = {"eq": np.equal, "gt": np.greater, "fdiv": np.floor_divide, "shl": np.left_shift, "shr": np.right_shift}
         for line in lines:
-            words = line.replace("set ", "").split()
-            if line.startswith("set"):
+            name, _, verb, *words = line.split()
+            if name == "set":
                 exec(line[4:], names)
-            elif words[2] == "arange":
-                names[words[0]] = np.arange(int(words[4]), int(words[5]), dtype=words[3])
-            elif words[2] == "full":
-                names[words[0]] = np.full(int(words[4][1:-1]), eval(words[5]), words[3])
-            elif words[2] == "array":
-                names[words[0]] = np.array(list(map(int, words[5:])), words[3])
+            elif verb in makes:
+                names[name] = makes[verb](*words)
             else:
+                left = names[words[0]]
                 with np.errstate(all="ignore"):
-                    left = names[words[3]]
-                    right = names[words[4]] if words[4] in names else np.array(int(words[4]), left.dtype)
-                    names[words[0]] = signs[words[2]](left, right)
+                    names[name] = signs[verb](left, names[words[1]] if words[1] in names else np.array(int(words[1]), left.dtype))
         return str(names["x"] if "x" in names else names["a"])
 
     def test_slices_onto_slices(self):

@@ -173,10 +173,9 @@ def all_trials(given, _folder):
     with Runner(given.program) as runner:
         fill(runner.dir, {str(k): file for k, (file, _) in enumerate(loaded)})
         words = ["--dir", str(runner.dir)]
-        replies = runner.replies("".join(f"{line}\n" for line in SETUP).encode(), words)
-        part.count("trials", 0)
-        if not all(reply.startswith("ok") for reply in replies):
-            part.fault("\n".join(SETUP), replies, "all of it accepted")
+        setup = runner.run("".join(f"{line}\n" for line in SETUP).encode(), words)
+        if setup.status or setup.err:
+            part.fault("\n".join(SETUP), setup, "all of it accepted")
         for line, reply in lines:
             ran = runner.run("".join(f"{text}\n" for text in [*SETUP, line]).encode(), words)
             happened = "\n".join(ran.out.decode().splitlines()[len(SETUP) :]), ran.status, ran.err

@@ -122,10 +122,6 @@ class Runner:
             status = started.wait()
         return Ran(status, self.streams[1].read_bytes(), self.streams[2].read_bytes())
 
-    def replies(self, text, words=()):
-        """The lines that a run over a script writes, as texts."""
-        return self.run(text, words).out.decode().splitlines()
-
 
 class Talk:
     """A run that is spoken to through pipes, so that its memory can be looked at before it ends."""

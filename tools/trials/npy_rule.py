@@ -205,7 +205,7 @@ def header(file):
     return file[8 + wide : 8 + wide + length].decode("latin-1"), 8 + wide + length
 
 
-def loaded(file, more=0):
+def loaded(file, more):
     """What follows `ok x ` in the reply to a load of a file with more bytes behind it, and the bytes of the items."""
     text, start = header(file)
     descr, _, shape = header_values(text)
@@ -219,9 +219,10 @@ def loaded(file, more=0):
     return f"{shown} {tuple_text(shape)} new rest {rest}", total
 
 
-def reply(file):
-    """The reply to `x = load` of a file."""
+def reply(file, more=0):
+    """The reply to `x = load` of a file with more bytes behind it, and the bytes of the array's items."""
     try:
-        return f"ok x {loaded(file)[0]}"
+        text, items = loaded(file, more)
+        return f"ok x {text}", items
     except Refused as refused:
-        return f"no {refused}"
+        return f"no {refused}", 0

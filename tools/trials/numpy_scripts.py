@@ -8,10 +8,8 @@ Where a reshape shares is worked out in `reshapes.py` from the addresses of the 
 does is held against both; differences are counted. An array that is assigned is copied first on NumPy's side. Byte strings have no `'`, no
 `\\` and no byte with a short escape, which the two print differently.
 
-Each script has a depth of its own: before each command that changes the state NumPy's side copies all of it, and an `undo` takes the
-last copy. And it has a folder of its own, with files that NumPy writes of random arrays, of both versions and orders, some of them cut.
-What is saved is compared byte for byte with what `files.py` says of the array, and NumPy loads it. Files whose headers are altered are
-loaded too: each gets a reply.
+Each script has a depth and a folder of its own, with files that NumPy writes of random arrays, some of them cut. What is saved is compared
+byte for byte with what `files.py` says of the array, and NumPy loads it. Files whose headers are altered are loaded too.
 """
 import itertools
 import math

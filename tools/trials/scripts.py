@@ -288,9 +288,8 @@ class Script:
         value = self.value(source)
         items = self.items(self.shape_of(source))
         yield f"set {source}[{list_text(items)}] = {literal_text(value)}"
-        target = self.world.part(source, items)
+        target = self.world.target(source, items)
         dtype, shape = target.array.dtype, target.read().shape
-        self.check_writable(target)
         whole = value if isinstance(value, tuple) else filled(value, dtype)
         if not stands_for(whole, dtype):
             raise Refused("E33")
@@ -298,10 +297,6 @@ class Script:
             raise Refused("E23")
         target.write(np.full(shape, np.array(whole, dtype=dtype), dtype))
         yield f"ok set {math.prod(shape)}"
-
-    def check_writable(self, part):
-        if not part.array.flags.writeable:
-            raise Refused("E20")
 
     def related(self, target):
         """A name, mostly of an array in the same buffer."""
@@ -326,8 +321,7 @@ class Script:
         source, items, taken = self.pair(target, self.items(self.shape_of(target)))
         yield f"set {target}[{list_text(items)}] = {source if taken is None else f'{source}[{list_text(taken)}]'}"
         self.world.known([target, *names_in(source, taken or [])])
-        aim = self.world.part(target, items)
-        self.check_writable(aim)
+        aim = self.world.target(target, items)
         given = self.world.array(source) if taken is None else self.world.part(source, taken).read()
         shown = np.zeros(aim.read().shape, given.dtype)
         with refusing("E16"):
@@ -383,8 +377,7 @@ class Script:
         text, names, other = self.argument(source, items)
         yield f"upd {source}[{list_text(items)}] {word} {text}"
         self.world.known([source, *names])
-        target = self.world.part(source, items)
-        self.check_writable(target)
+        target = self.world.target(source, items)
         dtype, shape = target.array.dtype, target.read().shape
         values = computations.updated(word, target.read(), other())
         target.write(computations.made(dtype, shape, [computations.wrapped(value, dtype) for value in values]))

@@ -40,10 +40,7 @@ class Row(typing.NamedTuple):
 
 def two(kind):
     """Two arrays of that type for both."""
-    return (
-        f"a = full {kind} ($n) 7\nb = full {kind} ($n) 5",
-        f"a = np.full($n, 7, '{kind}'); b = np.full($n, 5, '{kind}')",
-    )
+    return f"a = full {kind} ($n) 7\nb = full {kind} ($n) 5", f"a = np.full($n, 7, '{kind}'); b = np.full($n, 5, '{kind}')"
 
 
 def places(kind):
@@ -56,10 +53,7 @@ def places(kind):
 
 ITEMS = ("a = full <i4 ($n) 7", "a = np.full($n, 7, '<i4')")
 FEW = ("a = full <i4 (10) 7", "a = np.full(10, 7, '<i4')")
-ROW = (
-    "r = arange <i4 0 $side 1\na = zeros <i4 ($side,$side)",
-    "r = np.arange($side, dtype='<i4'); a = np.zeros(($side, $side), '<i4')",
-)
+ROW = ("r = arange <i4 0 $side 1\na = zeros <i4 ($side,$side)", "r = np.arange($side, dtype='<i4'); a = np.zeros(($side, $side), '<i4')")
 SQUARE = ("a = full <i4 ($side,$side) 7", "a = np.full(($side, $side), 7, '<i4')")
 TRANSPOSED = (f"{SQUARE[0]}\nt = transpose a", f"{SQUARE[1]}; t = a.T")
 FORTRAN = (f"{SQUARE[0]}\nf = copy a F", f"{SQUARE[1]}; f = a.copy('F')")
@@ -74,10 +68,7 @@ SPREAD = (
     "r = arange <i4 0 $side 1\nw = broadcast r ($side,$side)\nq = reshape r ($side,1)\nh = broadcast q ($side,$side)",
     "r = np.arange($side, dtype='<i4'); w = np.broadcast_to(r, ($side, $side)); h = np.broadcast_to(r[:, None], ($side, $side))",
 )
-MASKED = (
-    "a = full <i4 ($n) 7\nm = zeros |b1 ($n)\nset m[::2] = True",
-    "a = np.full($n, 7, '<i4'); m = np.zeros($n, bool); m[::2] = True",
-)
+MASKED = (f"{ITEMS[0]}\nm = zeros |b1 ($n)\nset m[::2] = True", f"{ITEMS[1]}; m = np.zeros($n, bool); m[::2] = True")
 MASKED_SQUARE = (
     f"{SQUARE[0]}\nm = zeros |b1 ($side,$side)\nset m[:,::2] = True",
     f"{SQUARE[1]}; m = np.zeros(($side, $side), bool); m[:, ::2] = True",
@@ -106,8 +97,7 @@ def row(name, sides, line, numpy):
 ROWS = [
     row("zeros", ("", ""), "x = zeros <i4 ($n)", "x = np.zeros($n, '<i4')"),
     row("full", ("", ""), "x = full <i4 ($n) 7", "x = np.full($n, 7, '<i4')"),
-    row("arange <i4", ("", ""), "x = arange <i4 0 $n 1", "x = np.arange(0, $n, 1, '<i4')"),
-    row("arange <i8", ("", ""), "x = arange <i8 0 $n 1", "x = np.arange(0, $n, 1, '<i8')"),
+    *(row(f"arange {kind}", ("", ""), f"x = arange {kind} 0 $n 1", f"x = np.arange(0, $n, 1, '{kind}')") for kind in ("<i4", "<i8")),
     row("set, one item", ITEMS, "set a[12] = 8", "a[12] = 8"),
     row("set, one item, 1,000 names", NAMES, "set a[5] = 8", "a[5] = 8"),
     row("set, one item, blanks", ITEMS, f"set a[12] ={' ' * 200}8", "a[12] = 8"),
@@ -131,12 +121,9 @@ ROWS = [
     row("copy, a broadcast row", SPREAD, "x = copy w C", "x = w.copy()"),
     row("copy, a broadcast column", SPREAD, "x = copy h C", "x = h.copy('C')"),
     row("cast <i4 to <i8", ITEMS, "x = cast a <i8", "x = a.astype('<i8')"),
-    row("add <i4", two("<i4"), "x = add a b", "x = a + b"),
-    row("add <i8", two("<i8"), "x = add a b", "x = a + b"),
-    row("add >i4", two(">i4"), "x = add a b", "x = a + b"),
+    *(row(f"add {kind}", two(kind), "x = add a b", "x = a + b") for kind in ("<i4", "<i8", ">i4")),
     row("add, a row to every row", ROW, "x = add a r", "x = a + r"),
-    row("add, rows of 2", NARROW[2], "x = add a b", "x = a + b"),
-    row("add, rows of 3", NARROW[3], "x = add a b", "x = a + b"),
+    *(row(f"add, rows of {n}", NARROW[n], "x = add a b", "x = a + b") for n in NARROW),
     row("add, F to F", FORTRAN, "x = add f f", "x = f + f"),
     row("add, a field", RECORDS, "x = add a 1", "x = a + np.int32(1)"),
     row("lt", two("<i4"), "x = lt a b", "x = a < b"),
@@ -149,24 +136,19 @@ ROWS = [
     row("index, two arrays", PAIRS, "x = a[i,j]", "x = a[i, j]"),
     row("index, outer", PAIRS, "x = a[k,j]", "x = a[k, j]"),
     row("index, rows", PAIRS, "x = a[i]", "x = a[i]"),
-    row("set, index <i4", places("<i4"), "set a[i] = v", "a[i] = v"),
-    row("set, index <i8", places("<i8"), "set a[i] = v", "a[i] = v"),
+    *(row(f"set, index {kind}", places(kind), "set a[i] = v", "a[i] = v") for kind in ("<i4", "<i8")),
     row("upd, index <i8", places("<i8"), "upd a[i] add 1", "a[i] += 1"),
     row("mask", MASKED, "x = a[m]", "x = a[m]"),
     row("mask, two axes", MASKED_SQUARE, "x = a[m]", "x = a[m]"),
     row("set, mask", MASKED, "set a[m] = 5", "a[m] = 5"),
     row("set, mask, two axes", MASKED_SQUARE, "set a[m] = 5", "a[m] = 5"),
     row("upd, mask", MASKED, "upd a[m] add 1", "a[m] += 1"),
-    row("sum", ITEMS, "x = sum a", "x = a.sum()"),
-    row("max", ITEMS, "x = max a", "x = a.max()"),
-    row("argmax", ITEMS, "x = argmax a", "x = a.argmax()"),
-    row("sum, along 0", SQUARE, "x = sum a 0", "x = a.sum(0)"),
-    row("sum, along 1", SQUARE, "x = sum a 1", "x = a.sum(1)"),
+    *(row(word, ITEMS, f"x = {word} a", f"x = a.{word}()") for word in ("sum", "max", "argmax")),
+    *(row(f"sum, along {axis}", SQUARE, f"x = sum a {axis}", f"x = a.sum({axis})") for axis in (0, 1)),
     row("shares, two fields", RECORDS, "shares a b", "np.shares_memory(a, b)"),
-    row("shares, steps", (f"{ITEMS[0]}\nb = a[::2]\nc = a[1::2]", f"{ITEMS[1]}; b = a[::2]; c = a[1::2]"), "shares b c", "np.shares_memory(b, c)"),
-    row("shares, halves", (f"{ITEMS[0]}\nb = a[:$half]\nc = a[$half:]", f"{ITEMS[1]}; b = a[:$half]; c = a[$half:]"), "shares b c", "np.shares_memory(b, c)"),
     row("shares, a transpose", TRANSPOSED, "shares a t", "np.shares_memory(a, t)"),
-    row("shares, columns", (f"{SQUARE[0]}\nb = a[:,0]\nc = a[:,1]", f"{SQUARE[1]}; b = a[:, 0]; c = a[:, 1]"), "shares b c", "np.shares_memory(b, c)"),
+    *(row(f"shares, {name}", (f"{bench}\nb = {b}\nc = {c}", f"{numpy}; b = {b}; c = {c}"), "shares b c", "np.shares_memory(b, c)") for name, (bench, numpy), b, c in (
+        ("steps", ITEMS, "a[::2]", "a[1::2]"), ("halves", ITEMS, "a[:$half]", "a[$half:]"), ("columns", SQUARE, "a[:,0]", "a[:,1]"))),
     row("save", ITEMS, 'save a "a.npy"', f"np.save('{FOLDER.name}/n.npy', a)"),
     row("load", SAVED, 'x = load "a.npy"', "x = np.load(f)"),
     row("print, 100 x 100", ("a = arange <i4 0 10000 1\nb = reshape a (100,100)", "b = np.arange(10000, dtype='<i4').reshape(100, 100)"), "print b", "str(b)"),

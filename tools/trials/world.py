@@ -158,6 +158,12 @@ class World:
         """The items that an index list names; arrays stand in it by their names."""
         return Part(self.array(name), [self.array(item) if isinstance(item, str) else item for item in items])
 
+    def target(self, name, items):
+        """The same to be written."""
+        if not self.part(name, items).array.flags.writeable:
+            raise Refused("E20")
+        return self.part(name, items)
+
     def bind(self, name, array, kind, start=None):
         self.arrays[name] = array
         self.starts[name] = address(array) if start is None else start
