@@ -18,8 +18,7 @@ def ran(called, script, text):
     with tempfile.TemporaryDirectory() as top:
         folder = pathlib.Path(top, "files")
         hostile_runs.fill(folder, script.files)
-        words = [text, f"--dir={folder if script.has_folder else folder / 'nowhere'}"]
-        words += [] if script.depth is None else ["--undo", str(script.depth)]
+        words = [text, f"--dir={folder}", *([] if script.depth is None else ["--undo", str(script.depth)])]
         done = subprocess.run([*called, *words], capture_output=True, stdin=subprocess.DEVNULL, env=environment(), timeout=120)
         return done.stdout, done.stderr.decode(), done.returncode, hostile_runs.contents(folder)
 

@@ -1,4 +1,4 @@
-"""The words around the program: help, what is told of refused lines, manual pages, completions, syntax files."""
+"""The words around the program: help, what is told of refused lines, manual pages, completions, syntax files; definitions and their list."""
 import json
 import re
 import shutil
@@ -175,6 +175,11 @@ class Words(unittest.TestCase):
             first = next(p["name"] for p in patterns if (found := re.compile(p.get("match") or p["begin"]).search(line, line.index(text)))
                          and found.start() == line.index(text))
             self.assertTrue(first.startswith(name), (text, first))
+
+    def test_definitions(self):
+        """Each law and each definition stands once, and the list of what `run` reaches is as they are."""
+        for option in ("--twice", "--check"):
+            self.assertEqual(subprocess.run([TOP / "tools/believed.py", option], capture_output=True, text=True).stdout, "")
 
 
 @needs_program

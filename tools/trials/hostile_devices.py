@@ -184,10 +184,8 @@ class Trials:
         """Scripts that are no files."""
         missing = self.folder / "none.bench"
         self.expect("a folder as SCRIPT", self.run("", [self.dir]), 3, "", "bench: read fault\n")
-        self.expect("SCRIPT that is not there", self.run("", [missing]), 3, "", "bench: no script\n")
-        self.expect("SCRIPT under a file", self.run("", [self.program / "x"]), 3, "", "bench: no script\n")
-        self.expect("an empty name as SCRIPT", self.run("", [""]), 3, "", "bench: no script\n")
-        self.expect("a name that is too long", self.run("", ["x" * 5000]), 3, "", "bench: no script\n")
+        for where, word in (("not there", missing), ("under a file", self.program / "x"), ("an empty name", ""), ("a name that is too long", "x" * 5000)):
+            self.expect(f"SCRIPT: {where}", self.run("", [word]), 3, "", "bench: no script\n")
         folder = os.open(self.dir, os.O_RDONLY)
         self.expect("a folder as standard input", self.run("", stdin=folder), 3, "", "bench: read fault\n")
         os.close(folder)

@@ -19,8 +19,7 @@ class Lacking:
     def __init__(self, runner, part, name, script, most=None):
         self.runner, self.part, self.name, self.script = runner, part, name, script
         self.lines, self.most = script.lines, len(script.lines) if most is None else most
-        self.words = ["--dir", str(runner.dir if script.has_folder else runner.folder / "none")]
-        self.words += [] if script.depth is None else ["--undo", str(script.depth)]
+        self.words = ["--dir", str(runner.dir)] + ([] if script.depth is None else ["--undo", str(script.depth)])
         self.without = {}
 
     def run(self, lines, **bounds):
@@ -76,6 +75,6 @@ class Lacking:
         if word in ("ended at the start", "not started") and word not in may:
             should = "a run that starts, or says that it is out of memory"
         if should:
-            happened = f"status {ran.status}, {shown(ran.err)}, replies {shown(ran.out)}, files {shown(list(files or []))}"
+            happened = f"status {ran.status}, {shown(ran.err)}, replies {shown(ran.out)}, files {shown(list(files))}"
             self.part.fault(f"{self.name}, {where}", happened, should)
         return word

@@ -11,7 +11,7 @@ import time
 from hostile_files import reserved_when_idle
 from hostile_lacking import LACK, STOPPED, Lacking
 from hostile_runs import Part, Runner, contents, fill, in_processes, shown
-from hostile_scripts import own_scripts, random_script, scripts_in
+from hostile_scripts import own_scripts, random_script
 
 SOURCE = pathlib.Path(__file__).resolve().parent / "refuse_memory.c"
 ROOM = 2**25
@@ -141,8 +141,6 @@ def all_trials(given, folder):
     """The refused requests over all scripts."""
     rng = random.Random(given.seed)
     scripts = own_scripts() + [random_script(given.program, rng, number) for number in range(RANDOM_SCRIPTS)]
-    for rows in given.rows:
-        scripts += scripts_in(rows, "*.script")
     library, part = built_library(folder), within_bounds(given.program)
     part.add(words_of_the_program(given.program, library))
     tasks = [(given.program, library, script, given.every) for script in scripts]

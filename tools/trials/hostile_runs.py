@@ -70,8 +70,6 @@ def fill(folder, files):
 
 def contents(folder):
     """The files of a folder; of one that is long only its length."""
-    if not folder.is_dir():
-        return None
     sizes = {path: path.stat().st_size for path in folder.iterdir()}
     return {path.name: path.read_bytes() if size < 2**24 else size for path, size in sizes.items()}
 

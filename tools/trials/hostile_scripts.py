@@ -16,13 +16,12 @@ MARK, MARKED = b"\x7f", b"no E02 byte not allowed\n"
 
 @dataclasses.dataclass
 class Script:
-    """A script: its lines, the files of its folder (bytes, or a length of zeros) and its undo depth."""
+    """A script: its lines, the files of its folder and its undo depth."""
 
     name: str
     lines: list
     files: dict = dataclasses.field(default_factory=dict)
     depth: int | None = None
-    has_folder: bool = True
 
     def asking(self):
         """The script followed by `names` and `print` of every name that it binds."""
@@ -65,27 +64,12 @@ def replies_of(out, lines):
     return found if at == len(out) else None
 
 
-def beside(path, ending):
-    """The text of the file with another ending, or nothing."""
-    other = path.with_suffix(ending)
-    return other.read_text().strip() if other.is_file() else None
-
-
-def read_script(path):
-    """The script of a file, with what stands beside it: `.dir`, `.sparse`, `.nodir` and `.undo`."""
-    folder = path.with_suffix(".dir")
-    files = {file.name: file.read_bytes() for file in sorted(folder.iterdir())} if folder.is_dir() else {}
-    sparse, undo = beside(path, ".sparse"), beside(path, ".undo")
-    if sparse:
-        name, size = sparse.split()
-        files[name] = int(size)
-    return Script(path.name, lines_of(path.read_bytes()), files, int(undo) if undo else None, beside(path, ".nodir") is None)
-
-
-def scripts_in(folder, pattern):
-    """The scripts of a folder; rows that want other words, or a store with a limit, aren't runs over a folder."""
-    paths = [path for path in sorted(folder.glob(pattern)) if beside(path, ".words") is None and beside(path, ".limit") is None]
-    return [read_script(path) for path in paths if (beside(path, ".language") or "nested") == "nested"]
+def scripts_in(folder):
+    """The scripts of a folder, each with what stands beside it: NAME.dir with files, and NAME.undo with a depth."""
+    for path in sorted(folder.glob("*.bench")):
+        files, undo = path.with_suffix(".dir"), path.with_suffix(".undo")
+        kept = {file.name: file.read_bytes() for file in sorted(files.iterdir())} if files.is_dir() else {}
+        yield Script(path.name, lines_of(path.read_bytes()), kept, int(undo.read_text()) if undo.is_file() else None)
 
 
 def long_scripts():
@@ -105,8 +89,7 @@ def long_scripts():
 
 def own_scripts():
     """The scripts of the repository."""
-    examples = scripts_in(TOP / "examples", "*.bench")
-    return examples + scripts_in(TOP / "tools/trials/hostile", "*.bench") + long_scripts()
+    return [*scripts_in(TOP / "examples"), *scripts_in(TOP / "tools/trials/hostile"), *long_scripts()]
 
 
 INTEGERS = ["|i1", "<i2", ">i4", "<i4", "<i8", "|u1", ">u2", "<u4", "<u8"]
