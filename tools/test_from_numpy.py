@@ -24,8 +24,7 @@ SLICES = 2912
 def rows(title):
     """The rows of the table under a title, a cell as its lines."""
     part = PAGE.split(f"\n## {title}\n", 1)[1].split("\n## ", 1)[0]
-    found = [line for line in part.splitlines() if line.startswith("| ") and not line.startswith("| |")][0 if title == "Side by side" else 1:]
-    return [[cell.strip() for cell in re.split(r"(?<!\\)\|", line)[1:-1]] for line in found]
+    return [[cell.strip() for cell in re.split(r"(?<!\\)\|", line)[1:-1]] for line in part.splitlines() if line.startswith("| ")][1:]
 
 
 def lines_of(cell):
@@ -75,8 +74,8 @@ class FromNumPy(unittest.TestCase):
     @needs_numpy
     def test_side_by_side(self):
         self.assertGreaterEqual(len(rows("Side by side")), 30)
-        for number, numpy_cell, bench_cell in rows("Side by side"):
-            with self.subTest(number):
+        for numpy_cell, bench_cell in rows("Side by side"):
+            with self.subTest(numpy_cell):
                 bench = self.session()
                 replies = bench.run([*BLOCKS["bench"].splitlines(), *lines_of(bench_cell)])
                 self.assertEqual([reply.text for reply in replies if not reply.accepted], [])
@@ -121,10 +120,10 @@ class FromNumPy(unittest.TestCase):
 
     def test_every_code(self):
         table = rows("Every code")
-        self.assertEqual({code: words for code, words, _ in table}, {code: words for code, (words, _) in language.codes().items()})
-        for code, words, cell in table:
+        self.assertEqual([code for code, _ in table], list(language.codes()))
+        for code, cell in table:
             with self.subTest(code):
-                self.assertEqual(self.refused(code, cell).text, f"no {code} {words}")
+                self.assertEqual(self.refused(code, cell).text, f"no {code} {language.codes()[code][0]}")
 
     def test_open_or_wrong(self):
         for cell, ours, theirs, _ in rows("Where NumPy leaves it open, or is wrong"):
