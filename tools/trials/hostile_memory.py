@@ -1,5 +1,4 @@
 """Requests for memory that are refused, one in each run. At most one line may lack memory then."""
-import dataclasses
 import itertools
 import os
 import pathlib
@@ -11,7 +10,7 @@ import time
 from hostile_files import reserved_when_idle
 from hostile_lacking import LACK, STOPPED, Lacking
 from hostile_runs import Part, Runner, contents, fill, in_processes, shown
-from hostile_scripts import own_scripts, random_script
+from hostile_scripts import own_scripts, random_script, text_of
 
 SOURCE = pathlib.Path(__file__).resolve().parent / "refuse_memory.c"
 ROOM = 2**25
@@ -65,7 +64,7 @@ class Refusing(Lacking):
     def refuse(self, request):
         """A run with one request refused."""
         where = f"request {request} of {self.made} refused"
-        where += "" if self.part.faults else f", the script being\n{shown(b'\n'.join(self.lines).decode('latin-1'), 3000)}"
+        where += "" if self.part.faults else f", the script being\n{shown(text_of(self.lines).decode('latin-1'), 3000)}"
         self.trial(where, env=self.requests.refusing(request))
         self.part.expect(f"{self.name}, request {request}: requests refused", self.requests.counts()[1], 1)
 

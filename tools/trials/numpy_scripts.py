@@ -96,7 +96,7 @@ class Altered(Script):
     def __init__(self, rng, number):
         super().__init__(rng, 0)
         for k in range(number):
-            self.first[f"{k}.npy"] = damaged.altered(rng, files.numpys(rng, self.array())[0])
+            self.first[f"{k}.npy"] = damaged.altered(rng, files.numpys(rng, self.random_array()[0])[0])
         self.files = self.first
         self.lines = [f'x = load "{k}.npy"' for k in range(number)]
         TALLY["altered files"] += number

@@ -169,20 +169,17 @@ class Script:
     def dtype(self):
         return self.rng.choice(RECORDS) if self.rng.random() < 0.5 else np.dtype(self.rng.choice(SCALARS + STRINGS))
 
-    def values(self):
-        """A type, a shape, and a value for each item."""
+    def random_array(self):
+        """An array, and its items as literals."""
         dtype, edges = self.dtype(), self.rng.random() < 0.4
         lengths, ranks = (self.LENGTHS, self.RANKS) if self.roomy else ([0, 1, 2, 3, 4], [0, 1, 1, 2, 2, 3, 4])
         shape = [self.rng.choice(lengths) for _ in range(self.rng.choice(ranks))]
-        return dtype, shape, [random_value(self.rng, dtype, 0, 99, edges) for _ in range(int(np.prod(shape)))]
-
-    def array(self):
-        dtype, shape, values = self.values()
-        return np.array(values, dtype=dtype).reshape(shape)
+        values = [random_value(self.rng, dtype, 0, 99, edges) for _ in range(math.prod(shape))]
+        return np.array(values, dtype=dtype).reshape(shape), values
 
     def make(self):
-        dtype, shape, values = self.values()
-        return self.made(self.rng.choice(NAMES), np.array(values, dtype=dtype).reshape(shape), values)
+        array, values = self.random_array()
+        return self.made(self.rng.choice(NAMES), array, values)
 
     def index(self):
         source = self.source()
@@ -412,7 +409,7 @@ class Script:
     def new_file(self):
         """A file that NumPy writes, in the folder from the start."""
         file = f"p{len(self.first)}.npy"
-        bytes_, array, rest = files.numpys(self.rng, self.array())
+        bytes_, array, rest = files.numpys(self.rng, self.random_array()[0])
         self.loads[file] = (array, rest)
         if self.rng.random() < 0.1 and rest == 0:
             bytes_, self.loads[file] = damaged.cut(self.rng, bytes_)

@@ -147,8 +147,9 @@ ROWS = [
     *(row(f"sum, along {axis}", SQUARE, f"x = sum a {axis}", f"x = a.sum({axis})") for axis in (0, 1)),
     row("shares, two fields", RECORDS, "shares a b", "np.shares_memory(a, b)"),
     row("shares, a transpose", TRANSPOSED, "shares a t", "np.shares_memory(a, t)"),
-    *(row(f"shares, {name}", (f"{bench}\nb = {b}\nc = {c}", f"{numpy}; b = {b}; c = {c}"), "shares b c", "np.shares_memory(b, c)") for name, (bench, numpy), b, c in (
-        ("steps", ITEMS, "a[::2]", "a[1::2]"), ("halves", ITEMS, "a[:$half]", "a[$half:]"), ("columns", SQUARE, "a[:,0]", "a[:,1]"))),
+    *(row(f"shares, {name}", (f"{bench}\nb = {b}\nc = {c}", f"{numpy}; b = {b}; c = {c}"), "shares b c", "np.shares_memory(b, c)")
+      for name, (bench, numpy), b, c in (
+          ("steps", ITEMS, "a[::2]", "a[1::2]"), ("halves", ITEMS, "a[:$half]", "a[$half:]"), ("columns", SQUARE, "a[:,0]", "a[:,1]"))),
     row("save", ITEMS, 'save a "a.npy"', f"np.save('{FOLDER.name}/n.npy', a)"),
     row("load", SAVED, 'x = load "a.npy"', "x = np.load(f)"),
     row("print, 100 x 100", ("a = arange <i4 0 10000 1\nb = reshape a (100,100)", "b = np.arange(10000, dtype='<i4').reshape(100, 100)"), "print b", "str(b)"),
