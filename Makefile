@@ -2,6 +2,7 @@
 # make install        puts it in its places below PREFIX, with its launcher, pages, completions and companion
 # make uninstall      takes them away again
 # make pictures       draws the pictures of the docs from scripts in examples/
+# make words          writes the words of docs/LANGUAGE.md into help, manual page and syntax files
 # make check          the gate: every proof from nothing, and the tests of the tools
 #
 # DESTDIR is put before PREFIX while files are copied, for packages.
@@ -33,7 +34,10 @@ uninstall:
 pictures: all
 	@sh tools/make/pictures.sh
 
+words:
+	@tools/make/words.py
+
 check:
 	@sh tools/check.sh
 
-.PHONY: all install uninstall pictures check
+.PHONY: all install uninstall pictures words check

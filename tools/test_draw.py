@@ -85,10 +85,8 @@ def processor_time():
     return used.children_user + used.children_system
 
 
-def random_script(seed, commands):
-    rng = random.Random(seed)
-    depth = rng.choice([0, 1, 3, 16, 56])
-    return scripts.Maker(rng, depth).script(f"seed {seed}", commands)
+def random_script(seed):
+    return scripts.random_script(PROGRAM, random.Random(seed), seed, depths=(0, 1, 3, 16, 56))
 
 
 def bytes_seen(bound):
@@ -167,14 +165,14 @@ class Pictures(unittest.TestCase):
 
         for seed in range(share(8, 1000)):
             with tempfile.TemporaryDirectory() as folder:
-                self.run_script(random_script(seed, 24), look, folder)
+                self.run_script(random_script(seed), look, folder)
 
     def test_values_against_print(self):
         for seed in range(share(6, 200)):
             arrays = []
             with tempfile.TemporaryDirectory() as folder:
                 moments = self.run_script(
-                    random_script(-seed - 1, 24), lambda _, judge, __: arrays.append({name: judge.array(name) for name in judge.names()}), folder)
+                    random_script(-seed - 1), lambda _, judge, __: arrays.append({name: judge.array(name) for name in judge.names()}), folder)
             drawn = data_of(page("random", moments))
             told = [(moment, array) for moment, array in zip(moments, arrays) if moment.reply.text]
             self.assertEqual([line[0] for line in drawn], [moment.number for moment, _ in told])

@@ -199,11 +199,6 @@ class Texts(unittest.TestCase):
         said = subprocess.run([BUILT, "--help"], capture_output=True, text=True).stdout
         self.assertEqual((TOP / "docs/help.txt").read_text(), said)
 
-    def test_the_help_has_the_commands_of_the_source(self):
-        text = (TOP / "crates/bench_main/src/command_line.rt").read_text()
-        commands = re.search(r'const COMMANDS: &str = "(.*?[^\\])";', text, re.S)[1]
-        self.assertIn(commands.replace('\\"', '"').replace("\\\\", "\\"), (TOP / "docs/help.txt").read_text())
-
     @unittest.skipUnless((TOP / "man/bench.1").is_file(), "no manual page")
     def test_the_page_has_the_version_of_the_changelog(self):
         version = re.search(r"^## (\d[\w.]*)", (TOP / "CHANGELOG.md").read_text(), re.M)[1]

@@ -1,67 +1,26 @@
 """`bench-tool run`: what the program says and leaves, and each refusal at its line."""
-import os
 import pathlib
 import random
 import re
 import subprocess
-import sys
 import tempfile
 import unittest
 
 from trials.companion_trials import PROGRAM, TOOL, InFolder, environment, needs_program, numpy_or_none, share
+import hostile_runs
 import hostile_scripts as scripts
-from bench_tool import main
 
 TOLD = re.compile(r"(.*):(\d+): (E\d\d) ([^:]*): ?(.*)")
 
 
-def put_files(folder, files):
-    for name, file in files.items():
-        path = pathlib.Path(folder, name)
-        if isinstance(file, bytes):
-            path.write_bytes(file)
-        else:
-            with open(path, "wb") as made:
-                made.truncate(file)
-
-
-def left_in(folder):
-    return {path.name: path.read_bytes() for path in pathlib.Path(folder).iterdir() if path.stat().st_size < 2**20}
-
-
-def program(words):
-    """A run of the program: output, errors, status."""
-    done = subprocess.run([PROGRAM, *words], capture_output=True, stdin=subprocess.DEVNULL, timeout=120)
-    return done.stdout, done.stderr.decode(), done.returncode
-
-
-def companion(words):
-    """The same of `bench-tool run`, in a process that has read the companion already."""
-    with tempfile.TemporaryFile() as output, tempfile.TemporaryFile() as errors:
-        child = os.fork()
-        if child == 0:
-            status = 70
-            try:
-                os.environ["BENCH"] = PROGRAM
-                os.dup2(output.fileno(), 1)
-                os.dup2(errors.fileno(), 2)
-                sys.stdout, sys.stderr = open(1, "w", closefd=False), open(2, "w", closefd=False)
-                status = main.main(["run", *words])
-            finally:
-                os._exit(status)
-        status = os.waitstatus_to_exitcode(os.waitpid(child, 0)[1])
-        for file in (output, errors):
-            file.seek(0)
-        return output.read(), errors.read().decode(), status
-
-
-def ran(how, script, text):
+def ran(called, script, text):
     """The run of a script over a folder of its own: output, errors, status, files left."""
-    with tempfile.TemporaryDirectory() as folder:
-        put_files(folder, script.files)
-        words = [text, f"--dir={folder if script.has_folder else folder + '/nowhere'}"]
-        words += [] if script.depth is None else ["--undo", str(script.depth)]
-        return *how(words), left_in(folder)
+    with tempfile.TemporaryDirectory() as top:
+        folder = pathlib.Path(top, "files")
+        hostile_runs.fill(folder, script.files)
+        words = [text, f"--dir={folder}", *([] if script.depth is None else ["--undo", str(script.depth)])]
+        done = subprocess.run([*called, *words], capture_output=True, stdin=subprocess.DEVNULL, env=environment(), timeout=120)
+        return done.stdout, done.stderr.decode(), done.returncode, hostile_runs.contents(folder)
 
 
 def refusals(lines, output):
@@ -86,7 +45,7 @@ class Runs(InFolder):
 
     def compare(self, script):
         path = self.written(scripts.text_of(script.lines))
-        bench, tool = ran(program, script, path), ran(companion, script, path)
+        bench, tool = ran([PROGRAM], script, path), ran([TOOL, "run"], script, path)
         self.assertEqual((tool[0], tool[2], tool[3]), (bench[0], bench[2], bench[3]))
         told = [TOLD.fullmatch(line) for line in tool[1].splitlines() if ": note: " not in line]
         self.assertNotIn(None, told)
@@ -101,7 +60,7 @@ class Runs(InFolder):
     def test_random_scripts(self):
         for number in range(share(40, 1000)):
             with self.subTest(number):
-                self.compare(scripts.random_script(random.Random(f"run {number}"), number))
+                self.compare(scripts.random_script(PROGRAM, random.Random(f"run {number}"), number))
 
     def test_scripts_of_the_comparison_with_numpy(self):
         if numpy_or_none() is None:
@@ -112,23 +71,25 @@ class Runs(InFolder):
             with self.subTest(number):
                 self.compare(scripts.Script("of the comparison", [line.encode() for line in made.lines], made.first, made.world.depth))
 
+    def both(self, path):
+        """A script by the program and by the companion: output, errors and status."""
+        return [(done.stdout, done.stderr, done.returncode) for done in (
+            subprocess.run([*called, path], capture_output=True, env=environment()) for called in ([PROGRAM], [TOOL, "run"]))]
+
     def test_texts_as_they_are(self):
         """Last lines without a newline, carriage returns, NULs, bytes of no text, no line at all."""
         texts = [b"", b"\n", b"names", b"names\r\nnames\r", b"print a\0\n\xff\n#\xff\n", b"x" * 65537, b"x" * 70000 + b"\nnames\n",
                  b" " * 65536 + b"\r\n", b"#" * 200000 + b"\nnames"]
         for text in texts:
             with self.subTest(text[:40]):
-                path = self.written(text)
-                program = subprocess.run([PROGRAM, path], capture_output=True)
-                tool = subprocess.run([TOOL, "run", path], capture_output=True, env=environment())
-                self.assertEqual((tool.stdout, tool.returncode), (program.stdout, program.returncode))
+                program, tool = self.both(self.written(text))
+                self.assertEqual(tool[::2], program[::2])
 
     def test_what_cannot_be_run(self):
         for path in (str(self.folder / "nowhere"), str(self.folder)):
             with self.subTest(path):
-                program = subprocess.run([PROGRAM, path], capture_output=True)
-                tool = subprocess.run([TOOL, "run", path], capture_output=True, env=environment())
-                self.assertEqual((tool.stdout, tool.stderr, tool.returncode), (program.stdout, program.stderr, program.returncode))
+                program, tool = self.both(path)
+                self.assertEqual(tool, program)
 
     def test_replies_that_are_not_taken(self):
         path = self.written("names\nnames\n")

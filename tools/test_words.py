@@ -1,4 +1,4 @@
-"""The words around the program: help, what is told of refused lines, manual pages, completions, syntax files."""
+"""The words around the program: help, what is told of refused lines, manual pages, completions, syntax files; definitions and their list."""
 import json
 import re
 import shutil
@@ -8,6 +8,7 @@ import unittest
 
 from trials.companion_trials import PROGRAM, TOP, needs_program
 from bench_tool import Session, hints, language, main
+from make import words
 
 NAMES = """a = arange <i4 0 6 1
 m = reshape a (2,3)
@@ -41,8 +42,6 @@ class Words(unittest.TestCase):
         self.assertTrue(all(words and when for words, when in language.codes().values()))
         forms = [form for command in language.commands() for form in command.forms]
         self.assertTrue({"X = zeros D S", "X = Y[ix]", "set X[ix] = Y[iy]", "shares X Y", "undo"} <= set(forms))
-        reserved = re.search(r"no\s+names: `([^`]*)`", page)[1].split()
-        self.assertLessEqual(set(reserved), all_verbs())
         for name, told in language.GROUPS.items():
             self.assertLessEqual(set(told.split()), set(language.codes()), name)
 
@@ -56,13 +55,21 @@ class Words(unittest.TestCase):
             self.assertIn(texts, ({*told}, set()), path)
         self.assertGreater(found, 0)
 
-    def test_words_of_the_source(self):
-        """The words of the table in the source are those of the page, of the help, and of the trials' comparison with NumPy."""
-        source = set(re.findall(r'\(b"([a-z]+)", ', read("crates/script_lang/src/verb.rt")))
-        self.assertEqual(source, all_verbs())
-        self.assertLessEqual(source - {"div"}, set(re.findall(r"[a-z]+", read("docs/help.txt"))))
-        scripts = read("tools/trials/hostile_scripts.py") + read("tools/trials/computations.py")
-        self.assertLessEqual(source, set(re.findall(r"[a-z]+", scripts)))
+    def test_words_of_the_page(self):
+        """The words of the page are those of the table in the source, and the other texts have them as `make words` writes them."""
+        self.assertEqual(set(re.findall(r'\(b"([a-z]+)", ', read("crates/script_lang/src/verb.rt"))), all_verbs())
+        for path, text in words.texts().items():
+            self.assertEqual(read(path), text, path)
+
+    @needs_program
+    def test_words_of_the_program(self):
+        """No word is a name, and what OP, UN and RED stand for computes."""
+        with Session(PROGRAM) as bench:
+            bench.run("a = array <i4 (2) 3 1")
+            self.assertEqual({bench.send(f"print {verb}").code for verb in all_verbs()}, {"E03"})
+            forms = {"OP": "x = {} a a", "UN": "x = {} a", "RED": "x = {} a"}
+            refused = [word for key, verbs in language.operations().items() for word in verbs if not bench.send(forms[key].format(word)).accepted]
+            self.assertEqual(refused, ["div"])
 
     def test_depth(self):
         """How many changes `undo` takes back, at most and where it is not said."""
@@ -107,8 +114,6 @@ class Words(unittest.TestCase):
             self.assertIn(said, language.help_text(word))
 
     def test_manual_pages(self):
-        page = re.sub(r"\\(dq|-)", "", read("man/bench.1"))
-        self.assertLessEqual(all_verbs(), set(re.findall(r"[a-z]+", page)))
         if shutil.which("groff") is None:
             self.skipTest("left out: groff is not installed")
         for name in ("man/bench.1", "man/bench-tool.1"):
@@ -144,9 +149,6 @@ class Words(unittest.TestCase):
             self.assertEqual((done.stderr, done.returncode), ("", 0))
 
     def test_vim(self):
-        source = read("editors/vim/syntax/bench.vim")
-        keywords = {word for line in re.findall(r"syntax keyword \w+ (.*)", source) for word in line.split()}
-        self.assertEqual(keywords, all_verbs() | {"True", "False", "None"})
         if shutil.which("vim") is None:
             self.skipTest("left out: Vim is not installed")
         with tempfile.TemporaryDirectory() as folder:
@@ -166,13 +168,16 @@ class Words(unittest.TestCase):
     def test_text_mate(self):
         grammar = json.loads(read("editors/bench.tmLanguage.json"))
         patterns = [pattern if "name" in pattern else grammar["repository"]["record"] for pattern in grammar["patterns"]]
-        words = {word for pattern in patterns for group in re.findall(r"\(\?:([a-z|]{4,})\)", pattern.get("match", "")) for word in group.split("|")}
-        self.assertEqual(words, all_verbs())
         for row, text, _, name in NAMED:
             line = SAMPLE.splitlines()[row - 1]
             first = next(p["name"] for p in patterns if (found := re.compile(p.get("match") or p["begin"]).search(line, line.index(text)))
                          and found.start() == line.index(text))
             self.assertTrue(first.startswith(name), (text, first))
+
+    def test_definitions(self):
+        """Each law and each definition stands once, and the list of what `run` reaches is as they are."""
+        for option in ("--twice", "--check"):
+            self.assertEqual(subprocess.run([TOP / "tools/believed.py", option], capture_output=True, text=True).stdout, "")
 
 
 @needs_program

@@ -20,7 +20,7 @@ SIGNS = {
 }
 SIGN = r"(//|<<|>>|[=!<>]=|[-+*%&|^<>])"
 CHANGE = r"(//|<<|>>|[-+*%&|^])="
-FOLDS = "(sum|prod|min|max|any|all|argmin|argmax)"
+FOLDS = "(" + "|".join(language.operations()["RED"]) + ")"
 TWO = "(" + "|".join(SIGNS.values()) + ")"
 TYPES = {kind: ("|" if kind[1] == "1" else "<") + kind for kind in ("i1", "i2", "i4", "i8", "u1", "u2", "u4", "u8")}
 TYPES.update({f"{'u' * (kind[0] == 'u')}int{8 * int(kind[1])}": text for kind, text in list(TYPES.items())})

@@ -6,7 +6,7 @@ from typing import NamedTuple
 
 HERE = Path(__file__).resolve()
 PLACES = (HERE.parents[1] / "LANGUAGE.md", HERE.parents[2] / "docs/LANGUAGE.md")
-LISTS = re.compile(r"(?:OP is one of|the comparisons|RED one of) `([^`]*)`")
+LISTS = re.compile(r"(?:OP is one of|the comparisons|UN one of|RED one of)\s+`([^`]*)`")
 # What the words of the column of refusals stand for.
 GROUPS = {
     "type": "E04 E05 E09", "shape": "E08 E09", "index": "E10 E12 E11 E08 E14 E13 E15",
@@ -23,7 +23,7 @@ class Command(NamedTuple):
     refused: str
 
     def words(self) -> set[str]:
-        """The words that name the command: those of its forms, and those that OP and RED stand for."""
+        """The words that name the command: those of its forms, and those that OP, UN and RED stand for."""
         parts = " ".join(self.forms).split()
         return {word for part in parts for word in operations().get(part, re.findall(r"\b[a-z]{2,}\b", part))}
 
@@ -47,10 +47,16 @@ def rows(begin: str) -> list[list[str]]:
 
 
 @lru_cache(None)
+def lists() -> list[list[str]]:
+    """The words of the operations of two arrays, of the comparisons, of the operations of one array and of the reductions."""
+    return [words.split() for words in LISTS.findall(text())]
+
+
+@lru_cache(None)
 def operations() -> dict[str, list[str]]:
-    """The words that OP and RED stand for."""
-    lists = [words.split() for words in LISTS.findall(text().replace("\n", " "))]
-    return {"OP": sum(lists[:2], []), "RED": sum(lists[2:], [])}
+    """The words that OP, UN and RED stand for."""
+    binary, comparisons, unary, reductions = lists()
+    return {"OP": binary + comparisons, "UN": unary, "RED": reductions}
 
 
 @lru_cache(None)

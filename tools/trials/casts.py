@@ -10,22 +10,12 @@ import numpy as np
 from world import TALLY, fields, leaves
 
 
-def can_cast_scalar(source, target):
-    return (source.kind == "S") == (target.kind == "S")
-
-
-def can_cast_fields(source, target):
-    """The cast of one field to another, and of the fields within."""
-    if source.names is None or target.names is None:
-        return source.names is None and target.names is None and can_cast_scalar(source, target)
-    pairs = zip(fields(source), fields(target))
-    return len(source.names) == len(target.names) and all(can_cast_fields(m, n) for (_, m, _), (_, n, _) in pairs)
-
-
-def can_cast(source, target):
+def can_cast(source, target, in_record=False):
+    """The cast of one type to another, or of one field to another."""
     if source.names is None:
-        return all(can_cast_scalar(source, leaf) for leaf in leaves(target))
-    return can_cast_fields(source, target)
+        return not (in_record and target.names) and all((source.kind == "S") == (leaf.kind == "S") for leaf in leaves(target))
+    pairs = zip(fields(source), fields(target)) if target.names else ()
+    return len(source.names) == len(target.names or ()) and all(can_cast(m, n, True) for (_, m, _), (_, n, _) in pairs)
 
 
 def fill(target, source):

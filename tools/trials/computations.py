@@ -1,18 +1,24 @@
-"""What operations, comparisons, updates and reductions give: promotion of two arrays is NumPy's own, values are computed with Python's
-integers, since NumPy 1 compares signed with unsigned numbers as floats and promotes literals by their values. Where several refusals
-hold, the first of the documented order is raised."""
+"""What operations, comparisons, updates and reductions give. Promotion of two arrays, reductions and operations of one array are NumPy's own;
+values of two arrays are computed with Python's integers, since NumPy 1 compares signed with unsigned numbers as floats and promotes
+literals by their values. Where several refusals hold, the first of the documented order is raised."""
 import math
 import operator
 
 import numpy as np
 
-from world import TALLY, Refused
+from bench_tool import language
+from rules import Refused, refusing
+from world import TALLY
 
-OPERATIONS = ["add", "sub", "mul", "fdiv", "mod", "and", "or", "xor", "shl", "shr", "div"]
-COMPARISONS = {"eq": operator.eq, "ne": operator.ne, "lt": operator.lt, "le": operator.le, "gt": operator.gt, "ge": operator.ge}
-REDUCTIONS = ["sum", "prod", "min", "max", "any", "all", "argmin", "argmax"]
+OPERATIONS, COMPARISONS, UNARY, REDUCTIONS = language.lists()
+# Words that Python's operators and NumPy have under other names.
+OTHER_NAMES = {"fdiv": "floordiv", "and": "and_", "or": "or_", "neg": "negative", "not": "invert"}
 NOT_OF_BOOLS = {"sub", "fdiv", "mod", "shl", "shr"}
 KINDS = {"S": -1, "b": 0, "u": 1, "i": 2}
+
+
+def named(module, word):
+    return getattr(module, OTHER_NAMES.get(word, word))
 
 
 def wrapped(value, dtype):
@@ -29,15 +35,15 @@ def shifted(word, a, b, bits):
 
 
 def result_of(word, dtype, a, b):
-    """What an operation gives on two numbers of a type."""
+    """What an operation gives on two numbers, after both were wrapped to its type, or a comparison on two items."""
+    if word in COMPARISONS:
+        return int(named(operator, word)(a, b))
     a, b = wrapped(a, dtype), wrapped(b, dtype)
     if word in ("shl", "shr"):
         return wrapped(shifted(word, a, b, 8 * dtype.itemsize), dtype)
     if word in ("fdiv", "mod") and b == 0:
         return 0
-    python = {"add": operator.add, "sub": operator.sub, "mul": operator.mul, "fdiv": operator.floordiv, "mod": operator.mod,
-              "and": operator.and_, "or": operator.or_, "xor": operator.xor}
-    return wrapped(python[word](a, b), dtype)
+    return wrapped(named(operator, word)(a, b), dtype)
 
 
 def little(dtype):
@@ -81,76 +87,56 @@ def literal_type(value, beside):
     return beside if beside.kind in "iu" else np.dtype("<i8")
 
 
+def type_beside(word, left, right):
+    """The type of what a word gives on an array and an array or a literal."""
+    if isinstance(right, np.ndarray):
+        return result_type(word, left.dtype, right.dtype)
+    beside = literal_type(right, left.dtype)
+    dtype = result_type(word, left.dtype, beside)
+    if word not in COMPARISONS and not is_value(int(right), beside):
+        raise Refused("E23")
+    return dtype
+
+
 def worked(word, left, right):
     """What a word gives on an array and an array or a literal: the type, the shape and the items."""
     TALLY["computed"] += 1
-    if isinstance(right, np.ndarray):
-        dtype = result_type(word, left.dtype, right.dtype)
-    else:
-        beside = literal_type(right, left.dtype)
-        dtype = result_type(word, left.dtype, beside)
-        if word not in COMPARISONS and not is_value(int(right), beside):
-            raise Refused("E23")
-    try:
-        shape = np.broadcast_shapes(left.shape, np.shape(right))
-    except ValueError:
-        raise Refused("E16") from None
-    a = items(np.broadcast_to(left, shape))
-    b = items(np.broadcast_to(right, shape)) if isinstance(right, np.ndarray) else [right if isinstance(right, bytes) else int(right)] * len(a)
-    if word in COMPARISONS:
-        values = [int(COMPARISONS[word](x, y)) for x, y in zip(a, b)]
-    else:
-        values = [result_of(word, dtype, x, y) for x, y in zip(a, b)]
-    return dtype, shape, values
+    dtype = type_beside(word, left, right)
+    with refusing("E16"):
+        one, other = np.broadcast_arrays(left, right)
+    return dtype, one.shape, [result_of(word, dtype, x, y) for x, y in zip(items(one), items(other))]
 
 
 def updated(word, target, right):
     """The values that an update writes."""
-    if isinstance(right, np.ndarray):
-        dtype = result_type(word, target.dtype, right.dtype)
-        if KINDS[dtype.kind] > KINDS[target.dtype.kind]:
-            raise Refused("E24")
-        try:
-            np.broadcast_to(right, target.shape)
-        except ValueError:
-            raise Refused("E16") from None
-        return worked(word, target, right)[2]
-    dtype, _, values = worked(word, target, right)
-    if KINDS[dtype.kind] > KINDS[target.dtype.kind]:
+    if KINDS[type_beside(word, target, right).kind] > KINDS[target.dtype.kind]:
         raise Refused("E24")
-    return values
-
-
-def reduced_list(word, dtype, values):
-    if word == "sum":
-        return wrapped(sum(values), dtype)
-    if word == "prod":
-        return wrapped(math.prod(values), dtype)
-    if word in ("any", "all"):
-        return int({"any": any, "all": all}[word](values))
-    best = min(values) if word.endswith("min") else max(values)
-    return values.index(best) if word.startswith("arg") else best
+    with refusing("E16"):
+        return worked(word, target, np.broadcast_to(right, target.shape) if isinstance(right, np.ndarray) else right)[2]
 
 
 def reduced(word, array, axis, keep):
+    """What a reduction gives. NumPy also refuses to find the least of no items where there is none to be found."""
     if not is_number(array.dtype):
         raise Refused("E22")
     if axis is not None and not -array.ndim <= axis < array.ndim:
         raise Refused("E17")
-    wide = np.dtype("<u8") if array.dtype.kind == "u" else np.dtype("<i8")
-    dtype = {"sum": wide, "prod": wide, "min": little(array.dtype), "max": little(array.dtype), "any": np.dtype(bool),
-             "all": np.dtype(bool)}.get(word, np.dtype("<i8"))
-    rest = () if axis is None else tuple(n for k, n in enumerate(array.shape) if k != axis % array.ndim)
-    kept = tuple(1 if axis is None or k == axis % array.ndim else n for k, n in enumerate(array.shape))
-    lines = [items(array)] if axis is None else [items(line) for line in np.moveaxis(array, axis, -1).reshape(math.prod(rest), array.shape[axis])]
-    if word in ("min", "max", "argmin", "argmax") and any(not line for line in lines):
-        raise Refused("E25")
-    return dtype, kept if keep else rest, [reduced_list(word, dtype, line) for line in lines]
+    reduce, shape = named(np, word), np.any(array, axis=axis, keepdims=keep).shape
+    dtype = little(reduce(np.zeros(1, array.dtype)).dtype)
+    try:
+        return dtype, shape, items(np.asarray(reduce(array, axis=axis, keepdims=keep)))
+    except ValueError:
+        if math.prod(shape):
+            raise Refused("E25") from None
+        return dtype, shape, []
 
 
 def transformed(word, array):
-    if not is_number(array.dtype) or word == "neg" and array.dtype.kind == "b":
+    """What an operation gives on each item of an array."""
+    if not is_number(array.dtype):
         raise Refused("E22")
-    ones = 1 if array.dtype.kind == "b" else -1
-    values = [wrapped((0 if word == "neg" else ones) - x, array.dtype) for x in items(array)]
-    return little(array.dtype), array.shape, values
+    try:
+        result = np.asarray(named(np, word)(array))
+    except TypeError:
+        raise Refused("E22") from None
+    return little(result.dtype), array.shape, items(result)

@@ -3,14 +3,13 @@
 What no rule tells, as how a pipe that is closed ends a run, is told as it is found."""
 import fcntl
 import os
-import pathlib
 import shutil
 import signal
 import subprocess
 import time
 
 from hostile_files import FILE
-from hostile_runs import TOP, Part, limited, temporary_folder, with_launcher
+from hostile_runs import TOP, Part, limited, with_launcher
 
 SCRIPT = "a = arange <i4 0 3 1\nsave a \"a.npy\"\nx = load \"a.npy\"\nprint a\n"
 REPLIES = "ok a <i4 (3,) new\nok save 140\nok x <i4 (3,) new rest 0\n[0 1 2]\n"
@@ -42,15 +41,14 @@ class Trials:
         given = {"stdin": subprocess.DEVNULL, "stdout": subprocess.PIPE, "stderr": subprocess.PIPE, **streams}
         return subprocess.Popen([*map(str, before), str(through or self.program), *words], cwd=self.folder, **given)
 
-    def run(self, text, words=(), before=(), through=None, seconds=MOST_WAIT, **streams):
+    def run(self, text, words=(), before=(), through=None, **streams):
         """Status, output and what is said on standard error; a run that takes too long is ended, and has none."""
-        process = self.start(words, before, through, **{"stdin": subprocess.PIPE, **streams})
-        try:
-            out, err = process.communicate(text.encode(), seconds)
-        except subprocess.TimeoutExpired:
-            process.kill()
-            process.communicate()
-            return None, "", f"still running after {seconds} s"
+        with self.start(words, before, through, **{"stdin": subprocess.PIPE, **streams}) as process:
+            try:
+                out, err = process.communicate(text.encode(), MOST_WAIT)
+            except subprocess.TimeoutExpired:
+                process.kill()
+                return None, "", "still running"
         return process.returncode, (out or b"").decode(), (err or b"").decode()
 
     def expect(self, where, happened, status, out, err):
@@ -186,10 +184,8 @@ class Trials:
         """Scripts that are no files."""
         missing = self.folder / "none.bench"
         self.expect("a folder as SCRIPT", self.run("", [self.dir]), 3, "", "bench: read fault\n")
-        self.expect("SCRIPT that is not there", self.run("", [missing]), 3, "", "bench: no script\n")
-        self.expect("SCRIPT under a file", self.run("", [self.program / "x"]), 3, "", "bench: no script\n")
-        self.expect("an empty name as SCRIPT", self.run("", [""]), 3, "", "bench: no script\n")
-        self.expect("a name that is too long", self.run("", ["x" * 5000]), 3, "", "bench: no script\n")
+        for where, word in (("not there", missing), ("under a file", self.program / "x"), ("an empty name", ""), ("a name that is too long", "x" * 5000)):
+            self.expect(f"SCRIPT: {where}", self.run("", [word]), 3, "", "bench: no script\n")
         folder = os.open(self.dir, os.O_RDONLY)
         self.expect("a folder as standard input", self.run("", stdin=folder), 3, "", "bench: read fault\n")
         os.close(folder)
@@ -244,24 +240,14 @@ class Trials:
         self.changing_files()
 
     def fifos(self):
-        """A FIFO as the file that is loaded, with a writer and without: it is not opened."""
-        fifo = self.dir / "fifo"
+        """A FIFO as the file that is loaded, without a writer and with one: it is not opened."""
+        fifo, text = self.dir / "fifo", 'x = load "fifo"\nnames\n'
         os.mkfifo(fifo)
-        process = self.start(["--dir", self.dir], stdin=subprocess.PIPE)
-        process.stdin.write(b'x = load "fifo"\nnames\n')
-        process.stdin.flush()
-        try:
-            written = open_soon(fifo)
-            os.write(written, FILE)
-            os.close(written)
-            out, _ = process.communicate(timeout=MOST_WAIT)
-            self.part.expect("a FIFO with a writer as the file", out.decode(), "ok x <i4 (3,) new rest 0\nnames x\n")
-        except (TimeoutError, subprocess.TimeoutExpired):
-            process.kill()
-            out, _ = process.communicate()
-            self.part.note("a FIFO with a writer as the file", f"ended, after {out!r}")
-        status, out, err = self.run('x = load "fifo"\nnames\n', ["--dir", self.dir], seconds=5)
-        self.part.expect("a FIFO that nobody writes, as the file", (status, err), (1, ""))
+        self.over("a FIFO that nobody writes, as the file", self.dir, f"{FAULT}\nnames\n", text=text)
+        held = os.open(fifo, os.O_RDWR)
+        os.write(held, FILE)
+        self.over("a FIFO with a file in it", self.dir, f"{FAULT}\nnames\n", text=text)
+        os.close(held)
         fifo.unlink()
 
     def while_written(self, name, command):
@@ -294,25 +280,13 @@ class Trials:
         self.part.note("of its loads", f"{replies.count('ok x <i4 (3,) new rest 0')} arrays, {replies.count('no E28 bad magic')} without a byte")
 
 
-def open_soon(fifo):
-    """Opens a FIFO for writing, once somebody reads it."""
-    until = time.monotonic() + MOST_WAIT
-    while time.monotonic() < until:
-        try:
-            return os.open(fifo, os.O_WRONLY | os.O_NONBLOCK)
-        except OSError:
-            time.sleep(0.01)
-    raise TimeoutError
-
-
-def all_trials(given, _folder):
-    """All devices."""
-    folder = temporary_folder()
-    folder.chmod(0o755)
-    try:
-        trials = Trials(given.program, pathlib.Path(folder))
-        for kind in (trials.outputs, trials.limited_files, trials.words, trials.interrupted, trials.writers, trials.scripts, trials.folders, trials.files):
-            kind()
-        return trials.part
-    finally:
-        shutil.rmtree(folder, ignore_errors=True)
+def all_trials(given, folder):
+    """All devices, in a folder that another user may look at."""
+    own = folder / "devices"
+    own.mkdir()
+    for each in (folder, own):
+        each.chmod(0o755)
+    trials = Trials(given.program, own)
+    for kind in (trials.outputs, trials.limited_files, trials.words, trials.interrupted, trials.writers, trials.scripts, trials.folders, trials.files):
+        kind()
+    return trials.part

@@ -161,19 +161,11 @@ def reserved_when_idle(program):
     return reserved
 
 
-def array_bytes(file):
-    """The bytes of the items of the array that a file holds, or none."""
-    try:
-        return npy_rule.loaded(file)[1]
-    except npy_rule.Refused:
-        return 0
-
-
 def loads(task):
     """Loads files in one run, each with its reply; the run may reserve so much as an idle one, a file and its array."""
     program, idle, trials = task
     part = Part()
-    most = idle + SPARE + max(len(file) + array_bytes(file) for file, _ in trials)
+    most = idle + SPARE + max(len(file) + npy_rule.reply(file)[1] for file, _ in trials)
     with Runner(program) as runner:
         fill(runner.dir, {str(k): file for k, (file, _) in enumerate(trials)})
         text = "".join(f'x = load "{k}"\ninfo x\ndel x\n' for k in range(len(trials))).encode()
@@ -194,7 +186,7 @@ def loads(task):
 
 
 def with_replies(files):
-    return [(file, npy_rule.reply(file)) for file in files]
+    return [(file, npy_rule.reply(file)[0]) for file in files]
 
 
 def batch(task):
@@ -241,7 +233,7 @@ def large_loads(program):
         for name, front, zeros in large_files():
             peak, reply = peak_of_load(runner, name, front, zeros)
             length = len(front) + zeros
-            should, items = expected_of(front, zeros)
+            should, items = npy_rule.reply(front, zeros)
             part.expect(f"load of {name}", reply, should)
             part.note(f"load of {name}", f"{length:,} bytes of the file, {items:,} of the array, {peak:,} reserved")
             most = length + items + SLACK
@@ -250,24 +242,13 @@ def large_loads(program):
     return part
 
 
-def expected_of(front, zeros):
-    """The reply to a load, and the bytes of the array's items, without making the file's zeros."""
-    try:
-        start = npy_rule.header(front)[1]
-        behind = len(front) - start + zeros
-        text, items = npy_rule.loaded(front[:start], behind)
-        return f"ok x {text}", items
-    except npy_rule.Refused as refused:
-        return f"no {refused}", 0
-
-
 def all_trials(given, _folder):
     """The told files, those of all lengths of the header, the altered ones and the large ones."""
     idle, part = reserved_when_idle(given.program), Part()
     told = told_files()
-    for file, should in told:
-        if npy_rule.reply(file) != should:
-            part.fault(f"the rule, of {shown(file, 1000)}", npy_rule.reply(file), should)
+    for (file, should), (_, ruled) in zip(told, with_replies([file for file, _ in told])):
+        if ruled != should:
+            part.fault(f"the rule, of {shown(file, 1000)}", ruled, should)
     exact = told + with_replies(length_fields())
     part.add(loads((given.program, idle, exact)))
     part.count("of them told or with other lengths", len(exact))

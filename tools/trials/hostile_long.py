@@ -1,4 +1,5 @@
 """Long runs: their memory stays flat."""
+import itertools
 import random
 import time
 
@@ -14,78 +15,50 @@ DEPTH = 64
 SYNC = (b"print sync", b"314159265358979")
 
 
-class Long:
-    """A long run, whose memory is looked at after a first stretch and at its end."""
-
-    def __init__(self, part, program, what, words=()):
-        self.part, self.what = part, what
-        self.talk = Talk(program, words)
-        self.talk.say(b"sync = full <i8 () %b\n" % SYNC[1])
-        self.began = time.monotonic()
-        self.first = None
-
-    def look(self):
-        """The most memory so far, once all that was said is answered."""
-        if not self.talk.answered(*SYNC):
-            raise TimeoutError(f"{self.what}: no reply in time")
-        return self.talk.memory()
-
-    def say(self, text):
-        self.talk.say(text)
-
-    def is_warm(self):
-        """What comes from now on should take no more memory."""
-        self.first = self.look()
-
-    def end(self, status, replies=None):
-        """Ends the run, and counts it."""
-        last = self.look()
-        replied = self.talk.length
-        ended = self.talk.end()
-        seconds = time.monotonic() - self.began
-        self.part.note(self.what, f"{seconds:.1f} s, {self.first / 2**20:.1f} MB and then {last / 2**20:.1f} MB")
-        self.part.expect(f"{self.what}: status", ended, status)
-        self.part.expect(f"{self.what}: memory stays within {SPARE:,} bytes", last - self.first <= SPARE, True)
-        if replies is not None:
-            self.part.expect(f"{self.what}: bytes of all replies", replied, replies + len("ok sync <i8 () new\n") + 2 * (len(SYNC[1]) + 1))
+def memory(talk):
+    """The most memory of a run so far, once all that was said is answered."""
+    if not talk.answered(*SYNC):
+        raise TimeoutError("no reply in time")
+    return talk.memory()
 
 
-def cycle(number):
-    """Ten commands that bind, write, unbind and go back; the arrays are as many after them as before."""
-    return [
-        f"a = full <i4 (8) {number % 1000}", f"set a[1:] = {number % 7}", "upd a[::2] add a[1::2]", "b = a[::-1]", "c = cast b <i8", "del c",
-        "undo", "undo", "undo", "d = sum a",
-    ]
+def long_run(part, program, what, blocks, status, warm=1, words=()):
+    """A long run over blocks, each a text and the bytes of its replies, or none. Behind some of them it should take no more memory."""
+    talk, began, replies, first = Talk(program, words), time.monotonic(), 0, None
+    talk.say(b"sync = full <i8 () %b\n" % SYNC[1])
+    for number, (text, told) in enumerate(blocks):
+        if number == warm:
+            first = memory(talk)
+        talk.say(text)
+        replies = None if told is None else replies + told
+    last, replied = memory(talk), talk.length
+    ended, seconds = talk.end(), time.monotonic() - began
+    part.note(what, f"{seconds:.1f} s, {first / 2**20:.1f} MB and then {last / 2**20:.1f} MB")
+    part.expect(f"{what}: status", ended, status)
+    part.expect(f"{what}: memory stays within {SPARE:,} bytes", last - first <= SPARE, True)
+    if replies is not None:
+        part.expect(f"{what}: bytes of all replies", replied, replies + len("ok sync <i8 () new\n") + 2 * (len(SYNC[1]) + 1))
 
 
-def many_commands(part, program):
-    """A million commands at the greatest depth."""
-    run = Long(part, program, f"{COMMANDS:,} commands at depth {DEPTH}", ["--undo", str(DEPTH)])
-    run.say(b"b = zeros <i4 (8)\n")
+def cycles():
+    """Blocks of ten commands each that bind, write, unbind and go back; the arrays are as many after them as before."""
+    yield b"b = zeros <i4 (8)\n", None
     for start in range(0, COMMANDS // 10, FIRST // 10):
-        if start == FIRST // 10:
-            run.is_warm()
-        run.say("".join(f"{line}\n" for k in range(start, start + FIRST // 10) for line in cycle(k)).encode())
-    run.end(0)
+        yield "".join(
+            f"a = full <i4 (8) {k % 1000}\nset a[1:] = {k % 7}\nupd a[::2] add a[1::2]\nb = a[::-1]\nc = cast b <i8\ndel c\nundo\nundo\nundo\nd = sum a\n"
+            for k in range(start, start + FIRST // 10)
+        ).encode(), None
 
 
-def long_script(part, program):
-    """A script of a gigabyte."""
-    run = Long(part, program, f"a script of {SCRIPT_BYTES:,} bytes")
+def script_block():
+    """A block of a script with comments and empty lines."""
     short = b"a = zeros <i4 (2)\n" + b"set a[0] = 1\n\n  # a comment\n" * 400 + b"del a\n"
-    block = short + (b"#" * 1000 + b"\n") * 200 + (b"# ".ljust(FULL, b"x") + b"\n") * 12 + b"\n" * 4000
-    said = 0
-    while said < SCRIPT_BYTES:
-        if said and run.first is None:
-            run.is_warm()
-        run.say(block)
-        said += len(block)
-    replies = b"ok a <i4 (2,) new\n" + b"ok set 1\n" * 400 + b"ok del a\n"
-    run.end(0, said // len(block) * len(replies))
+    text = short + (b"#" * 1000 + b"\n") * 200 + (b"# ".ljust(FULL, b"x") + b"\n") * 12 + b"\n" * 4000
+    return text, len(b"ok a <i4 (2,) new\n" + b"ok set 1\n" * 400 + b"ok del a\n")
 
 
-def full_lines(part, program):
-    """Lines of the greatest length, and of one byte more, back to back."""
+def full_lines():
+    """Lines of the greatest length, and of one byte more, back to back, with their replies."""
     literals = b"a = array |u1 (16000)" + b" 200" * 16000
     commands = [
         (literals.ljust(FULL), b"ok a |u1 (16000,) new\n"),
@@ -101,37 +74,27 @@ def full_lines(part, program):
     ]
     for line, _ in commands:
         assert len(line.removesuffix(b"\r")) in (FULL, FULL + 1)
-    run = Long(part, program, f"{LINES:,} lines of {FULL:,} bytes")
-    block, replies = b"".join(line + b"\n" for line, _ in commands), sum(len(reply) for _, reply in commands)
-    for number in range(LINES // len(commands)):
-        if number == 1:
-            run.is_warm()
-        run.say(block)
-    run.end(1, LINES // len(commands) * replies)
+    return len(commands), b"".join(line + b"\n" for line, _ in commands), sum(len(reply) for _, reply in commands)
 
 
-def many_names(part, program, seed):
-    """The greatest number of names, bound and unbound in turn."""
-    rng = random.Random(seed)
-    run = Long(part, program, f"{NAMES} names bound and unbound {ROUNDS} times", ["--undo", str(DEPTH)])
-    replies, names = 0, [f"n{k:04}" for k in range(NAMES - 1)]
-    for number in range(ROUNDS):
-        if number == 2:
-            run.is_warm()
+def many_names(rng):
+    """Blocks that bind the greatest number of names, and unbind them in another order."""
+    names = [f"n{k:04}" for k in range(NAMES - 1)]
+    replies = (len("ok n0000 |u1 (3,) new\n") + 6 + len("ok del n0000\n")) * len(names) + len("no E07 too many names\n") + 2 * len("names sync\n")
+    for _ in range(ROUNDS):
         lines = [f"{name} = zeros |u1 (3)" for name in names] + ["more = zeros |u1 (3)", "names"]
-        replies += len("ok n0000 |u1 (3,) new\n") * len(names) + len("no E07 too many names\n") + len("names sync\n") + 6 * len(names)
         rng.shuffle(names)
-        lines += [f"del {name}" for name in names] + ["names"]
-        replies += len("ok del n0000\n") * len(names) + len("names sync\n")
-        run.say("".join(f"{line}\n" for line in lines).encode())
-    run.end(1, replies)
+        yield "".join(f"{line}\n" for line in [*lines, *(f"del {name}" for name in names), "names"]).encode(), replies
 
 
 def all_trials(given, _folder):
     """All long runs."""
-    part = Part()
-    many_commands(part, given.program)
-    long_script(part, given.program)
-    full_lines(part, given.program)
-    many_names(part, given.program, given.seed)
+    part, program, depth = Part(), given.program, ["--undo", str(DEPTH)]
+    long_run(part, program, f"{COMMANDS:,} commands at depth {DEPTH}", cycles(), 0, 2, depth)
+    block = script_block()
+    long_run(part, program, f"a script of {SCRIPT_BYTES:,} bytes", itertools.repeat(block, -(-SCRIPT_BYTES // len(block[0]))), 0)
+    lines, *block = full_lines()
+    long_run(part, program, f"{LINES:,} lines of {FULL:,} bytes", itertools.repeat(block, LINES // lines), 1)
+    names = many_names(random.Random(given.seed))
+    long_run(part, program, f"{NAMES} names bound and unbound {ROUNDS} times", names, 1, 2, depth)
     return part

@@ -6,21 +6,22 @@ from hostile_files import DATA, header_text, padded, with_header
 from hostile_runs import Part, Runner, fill
 
 NINES = "9" * 30
-E03, E09, E11, E17, E18, E23 = (
-    "no E03 syntax", "no E09 too large", "no E11 index out of range", "no E17 bad axis", "no E18 bad reshape", "no E23 literal out of range"
-)
 SETUP = [
     "a = arange <i4 0 5 1", "m = reshape a (1,5)", "q = arange <i8 0 5 1", "u = full <u8 (2) 7", "t = full ? (2) True", "s = full |S3 (2) b'x'",
     "r = zeros T{<i:x:?:y:} (2)", "i = array <i8 (2) 0 1",
 ]
+SYNTAX = "no E03 syntax"
+
+
+def refused(lines):
+    """Lines, by the refusal that is the reply to each."""
+    return [(line, f"no {refusal}") for refusal, texts in lines.items() for line in texts.split("; ")]
+
 
 # Lines with numbers of a script, and the replies to them.
 LINES = [
     ("x = a[::{B}]\nprint x", "ok x <i4 (1,) view\n[0]"),
     ("x = a[-{B}:]\nprint x", "ok x <i4 (5,) view\n[0 1 2 3 4]"),
-    ("x = a[{B}]", E11),
-    ("x = reshape a ({B},-1)", E18),
-    ("x = arange <i8 0 {B} 1", E09),
     ("x = a[{B}:]", "ok x <i4 (0,) view"),
     ("x = a[:{B}]", "ok x <i4 (5,) view"),
     ("x = a[:-{B}]", "ok x <i4 (0,) view"),
@@ -28,75 +29,47 @@ LINES = [
     ("x = a[-{B}:{B}:{B}]\nprint x", "ok x <i4 (1,) view\n[0]"),
     ("x = a[::-{B}]\nprint x", "ok x <i4 (1,) view\n[4]"),
     ("x = a[+{B}::+{B}]", "ok x <i4 (0,) view"),
-    ("x = a[-{B}]", E11),
-    ("x = m[0,{B}]", E11),
-    ("x = a[i,{B}]", "no E10 too many indices"),
-    ("x = m[i,{B}]", E11),
-    ("x = m[{B},i]", E11),
-    ("x = m[i,::{B}]", E11),
     ("x = m[:,i]\ny = a[i]", "ok x <i4 (1, 2) copy\nok y <i4 (2,) copy"),
-    ("set a[{B}] = 1", E11),
     ("set a[{B}:] = 1", "ok set 0"),
-    ("upd a[{B}] add 1", E11),
     ("upd a[:-{B}] add 1", "ok upd 0"),
-    ("x = zeros <i4 ({B})", E09),
-    ("x = zeros <i4 (0,{B})", E09),
-    ("x = zeros <i4 ({B},{B},{B})", E09),
-    ("x = full <i4 ({B}) 1", E09),
-    ("x = array <i4 ({B}) 1", E09),
-    ("x = zeros <i4 (-{B})", E03),
-    ("x = broadcast a ({B})", E09),
-    ("x = broadcast a ({B},5)", E09),
-    ("x = reshape a ({B})", E18),
-    ("x = reshape a (-{B})", E18),
-    ("x = reshape a (-1,{B})", E18),
-    ("x = reshape a (-1,-{B})", E18),
-    ("x = transpose m ({B},0)", E17),
-    ("x = transpose m (0,-{B})", E17),
-    ("x = sum a {B}", E17),
-    ("x = sum a -{B}", E17),
-    ("x = max m {B} keep", E17),
-    ("x = argmin m -{B} keep", E17),
-    ("x = arange <i8 0 -{B} -1", E09),
-    ("x = arange <i8 -{B} {B} 1", E09),
     ("x = arange <i8 0 {B} {B}\nprint x", "ok x <i8 (1,) new\n[0]"),
     ("x = arange <i8 {B} {B} 1", "ok x <i8 (0,) new"),
     ("x = arange <i8 {B} 0 1", "ok x <i8 (0,) new"),
-    ("x = arange <i8 -{B} {B} {B}", E23),
     ("x = arange <i8 0 1 -{B}", "ok x <i8 (0,) new"),
-    ("x = arange <i8 {B} -{B} -{B}", E23),
-    ("x = full <i4 (1) {B}", E23),
-    ("x = full <i8 (1) -{B}", E23),
-    ("x = full <u8 (1) {B}", E23),
     ("x = full ? (1) {B}\nprint x", "ok x |b1 (1,) new\n[ True]"),
-    ("x = full |S3 (1) {B}", "no E33 no such cast"),
-    ("x = array <i4 (2) 1 {B}", E23),
-    ("x = array |u1 (2) {B} -{B}", E23),
-    ("x = array T{{<i:x:?:y:}} (1) ({B},{B})", E23),
     ("x = array T{{<i:x:?:y:}} (1) (1,{B})\nprint x", "ok x T{<i:x:<?:y:} (1,) new\n[(1,  True)]"),
-    ("set a[0] = {B}", E23),
-    ("set a[0] = -{B}", E23),
     ("set t[0] = {B}", "ok set 1"),
-    ("set r[0] = ({B},1)", E23),
-    ("set r[0] = {B}", E23),
-    ("set s[0] = {B}", "no E33 no such cast"),
-    ("upd a[:] add {B}", E23),
-    ("upd u[:] mul -{B}", E23),
-    ("upd t[:] or {B}", E23),
-    ("x = add a {B}", E23),
-    ("x = shl q -{B}", E23),
-    ("x = fdiv u {B}", E23),
-    ("x = add t {B}", E23),
-    ("x = div a {B}", "no E21 needs floats"),
     ("x = lt a {B}\nprint x", "ok x |b1 (5,) new\n[ True  True  True  True  True]"),
     ("x = le q -{B}\nprint x", "ok x |b1 (5,) new\n[False False False False False]"),
     ("x = ne u {B}\nprint x", "ok x |b1 (2,) new\n[ True  True]"),
     ("x = eq t {B}\nprint x", "ok x |b1 (2,) new\n[False False]"),
-    ("x = eq s {B}", "no E22 not for this kind"),
-    ("x = add a[{B}] 1", E11),
-    ("x = add a[:] a[-{B}]", E11),
-    ("x = neg a[{B}]", E11),
-    ("x = sub a[{B}:] {B}", E23),
+    *refused({
+        "E11 index out of range": (
+            "x = a[{B}]; x = a[-{B}]; x = m[0,{B}]; x = m[i,{B}]; x = m[{B},i]; x = m[i,::{B}]; set a[{B}] = 1; upd a[{B}] add 1; "
+            "x = add a[{B}] 1; x = add a[:] a[-{B}]; x = neg a[{B}]"
+        ),
+        "E18 bad reshape": "x = reshape a ({B},-1); x = reshape a ({B}); x = reshape a (-{B}); x = reshape a (-1,{B}); x = reshape a (-1,-{B})",
+        "E09 too large": (
+            "x = arange <i8 0 {B} 1; x = zeros <i4 ({B}); x = zeros <i4 (0,{B}); x = zeros <i4 ({B},{B},{B}); "
+            "x = full <i4 ({B}) 1; x = array <i4 ({B}) 1; x = broadcast a ({B}); x = broadcast a ({B},5); "
+            "x = arange <i8 0 -{B} -1; x = arange <i8 -{B} {B} 1"
+        ),
+        "E10 too many indices": "x = a[i,{B}]",
+        "E03 syntax": "x = zeros <i4 (-{B})",
+        "E17 bad axis": (
+            "x = transpose m ({B},0); x = transpose m (0,-{B}); x = sum a {B}; x = sum a -{B}; x = max m {B} keep; "
+            "x = argmin m -{B} keep"
+        ),
+        "E23 literal out of range": (
+            "x = arange <i8 -{B} {B} {B}; x = arange <i8 {B} -{B} -{B}; x = full <i4 (1) {B}; x = full <i8 (1) -{B}; "
+            "x = full <u8 (1) {B}; x = array <i4 (2) 1 {B}; x = array |u1 (2) {B} -{B}; x = array T{{<i:x:?:y:}} (1) ({B},{B}); "
+            "set a[0] = {B}; set a[0] = -{B}; set r[0] = ({B},1); set r[0] = {B}; upd a[:] add {B}; upd u[:] mul -{B}; "
+            "upd t[:] or {B}; x = add a {B}; x = shl q -{B}; x = fdiv u {B}; x = add t {B}; x = sub a[{B}:] {B}"
+        ),
+        "E33 no such cast": "x = full |S3 (1) {B}; set s[0] = {B}",
+        "E21 needs floats": "x = div a {B}",
+        "E22 not for this kind": "x = eq s {B}",
+    }),
 ]
 
 # 30 digits with zeros before them, and the replies to them.
@@ -117,21 +90,14 @@ WITH_ZEROS = [
 ]
 
 # Types with digits, which are not counted: the replies with 30 digits, and with any more.
-TYPES = [
-    ("x = zeros |S{B} (1)", E09),
-    ("x = zeros {B}s (1)", E09),
-    ("x = zeros T{{{B}s:x:}} (1)", E09),
-    ("x = zeros T{{{B}x<i:y:}} (1)", E09),
-    ("x = zeros T{{<i:y:{B}x}} (1)", E09),
-    ("x = zeros {B}i (1)", "no E05 descriptor left out"),
-    ("x = zeros T{{{B}i:x:}} (1)", "no E05 descriptor left out"),
-    ("x = zeros T{{{B}T{{<i:x:}}:y:}} (1)", "no E05 descriptor left out"),
-    ("x = zeros <i{B} (1)", "no E04 bad descriptor"),
-    ("x = cast a |S{B}", E09),
-    ("x = cast s {B}s", E09),
-    ("x = zeros i{B} (1)", "no E04 bad descriptor"),
-    ("x = zeros f{B} (1)", "no E05 descriptor left out"),
-]
+TYPES = refused({
+    "E09 too large": (
+        "x = zeros |S{B} (1); x = zeros {B}s (1); x = zeros T{{{B}s:x:}} (1); x = zeros T{{{B}x<i:y:}} (1); "
+        "x = zeros T{{<i:y:{B}x}} (1); x = cast a |S{B}; x = cast s {B}s"
+    ),
+    "E05 descriptor left out": "x = zeros {B}i (1); x = zeros T{{{B}i:x:}} (1); x = zeros T{{{B}T{{<i:x:}}:y:}} (1); x = zeros f{B} (1)",
+    "E04 bad descriptor": "x = zeros <i{B} (1); x = zeros i{B} (1)",
+})
 TYPES_WITH_ZEROS = [
     ("x = zeros |S{3} (1)", "ok x |S3 (1,) new"),
     ("x = zeros {3}s (1)", "ok x |S3 (1,) new"),
@@ -142,39 +108,27 @@ TYPES_WITH_ZEROS = [
 
 # Values of the header of a file, in which digits are not counted either.
 HEADERS = [
-    (dict(shape="({B},)"), E09),
-    (dict(shape="(0, {B})"), E09),
-    (dict(shape="({B}, {B}, {B})"), E09),
-    (dict(shape="({B}L,)"), E09),
-    (dict(descr="'|S{B}'"), E09),
-    (dict(descr="[('x', '|S{B}')]"), E09),
-    (dict(descr="[('', '|V{B}'), ('x', '<i4')]"), E09),
-    (dict(descr="{B}"), "no E04 bad descriptor"),
-    (dict(descr="'<i{B}'"), "no E04 bad descriptor"),
-    (dict(fortran="{B}"), "no E30 bad header"),
-    (dict(shape="{B}"), "no E30 bad header"),
-    (dict(shape="(-{B},)"), "no E30 bad header"),
+    ("E09 too large", "shape", ["({B},)", "(0, {B})", "({B}, {B}, {B})", "({B}L,)"]),
+    ("E09 too large", "descr", ["'|S{B}'", "[('x', '|S{B}')]", "[('', '|V{B}'), ('x', '<i4')]"]),
+    ("E04 bad descriptor", "descr", ["{B}", "'<i{B}'"]),
+    ("E30 bad header", "fortran", ["{B}"]),
+    ("E30 bad header", "shape", ["{B}", "(-{B},)"]),
 ]
 
+# Numbers about the ends of the integers that there are.
 STEPS = [
     ("y = arange <u8 0 18446744073709551615 9223372036854775807\nprint y",
      "ok y <u8 (3,) new\n[                   0  9223372036854775807 18446744073709551614]"),
     ("y = arange <i8 -9223372036854775808 9223372036854775807 9223372036854775807\nprint y",
      "ok y <i8 (3,) new\n[-9223372036854775808                   -1  9223372036854775806]"),
-    ("y = full <i8 (1) -9223372036854775809", E23),
-    ("y = full <u8 (1) 18446744073709551616", E23),
-    ("y = full <u8 (1) -1", E23),
     ("y = a[9223372036854775807:-9223372036854775808:-9223372036854775808]\nprint y", "ok y <i4 (1,) view\n[4]"),
-    ("y = a[18446744073709551616]", E11),
-    ("y = a[-18446744073709551615]", E11),
-    ("y = zeros <i4 (18446744073709551616)", E09),
-    ("y = zeros <i4 (4294967296,4294967296)", E09),
-    ("y = zeros <i4 (18446744073709551617)", E09),
-    ("y = reshape a (18446744073709551621)", E18),
-    ("y = reshape a (340282366920938463463374607431,-1)", E18),
-    ("y = transpose m (18446744073709551616,1)", E17),
-    ("y = sum a 18446744073709551616", E17),
-    ("y = sum a -340282366920938463463374607431", E17),
+    *refused({
+        "E23 literal out of range": "y = full <i8 (1) -9223372036854775809; y = full <u8 (1) 18446744073709551616; y = full <u8 (1) -1",
+        "E11 index out of range": "y = a[18446744073709551616]; y = a[-18446744073709551615]",
+        "E09 too large": "y = zeros <i4 (18446744073709551616); y = zeros <i4 (4294967296,4294967296); y = zeros <i4 (18446744073709551617)",
+        "E18 bad reshape": "y = reshape a (18446744073709551621); y = reshape a (340282366920938463463374607431,-1)",
+        "E17 bad axis": "y = transpose m (18446744073709551616,1); y = sum a 18446744073709551616; y = sum a -340282366920938463463374607431",
+    }),
 ]
 
 
@@ -198,10 +152,10 @@ def trials():
     for line, reply in LINES:
         found.append((with_number(line, NINES), reply))
         if "{B}" in line:
-            found.append((with_number(asks(line), NINES + "9"), E03))
-            found.append((with_number(asks(line), NINES * 300), E03))
+            found.append((with_number(asks(line), NINES + "9"), SYNTAX))
+            found.append((with_number(asks(line), NINES * 300), SYNTAX))
     for line, reply in WITH_ZEROS:
-        found += [(zeros_before(line, 30), reply), (zeros_before(asks(line), 31), E03)]
+        found += [(zeros_before(line, 30), reply), (zeros_before(asks(line), 31), SYNTAX)]
     for digits in (30, 31, 1000):
         found += [(with_number(line, "9" * digits), reply) for line, reply in TYPES]
         found += [(zeros_before(line, digits), reply) for line, reply in TYPES_WITH_ZEROS]
@@ -210,25 +164,20 @@ def trials():
 
 def files():
     """Files with headers that have such numbers, and the replies to their loads."""
-    found = []
-    for values, reply in HEADERS:
-        for digits in (30, 31, 1000):
-            header = header_text(**{key: value.replace("{B}", "9" * digits) for key, value in values.items()})
-            found.append((with_header(padded(header), DATA), reply))
-    return found
+    rows = [(name, value.replace("{B}", "9" * digits), refusal) for refusal, name, values in HEADERS for value in values for digits in (30, 31, 1000)]
+    return [(with_header(padded(header_text(**{name: value})), DATA), f"no {refusal}") for name, value, refusal in rows]
 
 
 def all_trials(given, _folder):
     """Each trial in a run of its own setup, all in one script."""
     part, loaded = Part(), files()
-    lines = [(line, reply) for line, reply in trials()] + [(f'x = load "{k}"', reply) for k, (_, reply) in enumerate(loaded)]
+    lines = trials() + [(f'x = load "{k}"', reply) for k, (_, reply) in enumerate(loaded)]
     with Runner(given.program) as runner:
         fill(runner.dir, {str(k): file for k, (file, _) in enumerate(loaded)})
         words = ["--dir", str(runner.dir)]
-        replies = runner.replies("".join(f"{line}\n" for line in SETUP).encode(), words)
-        part.count("trials", 0)
-        if not all(reply.startswith("ok") for reply in replies):
-            part.fault("\n".join(SETUP), replies, "all of it accepted")
+        setup = runner.run("".join(f"{line}\n" for line in SETUP).encode(), words)
+        if setup.status or setup.err:
+            part.fault("\n".join(SETUP), setup, "all of it accepted")
         for line, reply in lines:
             ran = runner.run("".join(f"{text}\n" for text in [*SETUP, line]).encode(), words)
             happened = "\n".join(ran.out.decode().splitlines()[len(SETUP) :]), ran.status, ran.err

@@ -70,8 +70,6 @@ def fill(folder, files):
 
 def contents(folder):
     """The files of a folder; of one that is long only its length."""
-    if not folder.is_dir():
-        return None
     sizes = {path: path.stat().st_size for path in folder.iterdir()}
     return {path.name: path.read_bytes() if size < 2**24 else size for path, size in sizes.items()}
 
@@ -121,10 +119,6 @@ class Runner:
             resource.prlimit(started.pid, resource.RLIMIT_CPU, (seconds, seconds))
             status = started.wait()
         return Ran(status, self.streams[1].read_bytes(), self.streams[2].read_bytes())
-
-    def replies(self, text, words=()):
-        """The lines that a run over a script writes, as texts."""
-        return self.run(text, words).out.decode().splitlines()
 
 
 class Talk:

@@ -2,40 +2,27 @@
 import math
 import re
 
-SPACES = " \t\n\r"
-TOKEN = re.compile(r"""'([ -&(-\[\]-~]*)'|"([ !#-\[\]-~]*)"|(0|[1-9][0-9]*)L?(?![0-9])|(True|False|None)(?![A-Za-z])|([](){}[:,])""")
+from rules import LETTERS, MOST_AXES, MOST_BYTES, MOST_ITEMS, Refused, tuple_text
+
+TOKEN = re.compile(r"""[ \t\n\r]*(?:'([ -&(-\[\]-~]*)'|"([ !#-\[\]-~]*)"|(0|[1-9][0-9]*)L?(?![0-9])|(True|False|None)(?![A-Za-z])|([](){}[:,])|$)""")
 LITERALS = {"True": True, "False": False, "None": None}
-MOST_DEPTH, MOST_HEADER = 16, 2**20
-MOST_ITEMS, MOST_BYTES, MOST_ITEM = 2**24, 2**28, 65536
+MOST_DEPTH, MOST_HEADER, MOST_ITEM = 16, 2**20, 65536
 MOST_FIELDS, MOST_LEAVES, MOST_RECORDS = 64, 2048, 4
 NAME = re.compile(r"[ !#-&(-9;-\[\]-~]{1,64}")
-LETTERS = {"b1": "?", "i1": "b", "u1": "B", "i2": "h", "u2": "H", "i4": "i", "u4": "I", "i8": "q", "u8": "Q"}
-
-
-class Refused(Exception):
-    """A refusal: its code and text."""
-
-
-BAD_HEADER = Refused("E30 bad header")
-BAD_TYPE = Refused("E04 bad descriptor")
-LEFT_OUT = Refused("E05 descriptor left out")
-TOO_LARGE = Refused("E09 too large")
-TRUNCATED = Refused("E31 truncated")
+BAD_HEADER, BAD_TYPE, LEFT_OUT, TOO_LARGE, TRUNCATED = map(Refused, ("E30", "E04", "E05", "E09", "E31"))
 
 
 def tokens(text):
     """The tokens of a header: symbols as (`,`, None), literals as ("literal", value)."""
     found, at = [], 0
     while True:
-        while at < len(text) and text[at] in SPACES:
-            at += 1
-        if at == len(text):
-            return [*found, ("end", None)]
         token = TOKEN.match(text, at)
         if not token:
             raise BAD_HEADER
         at = token.end()
         single, double, digits, word, symbol = token.groups()
+        if not token[0].strip():
+            return [*found, ("end", None)]
         if symbol:
             found.append((symbol, None))
         elif digits:
@@ -192,8 +179,8 @@ def descriptor(descr):
 
 
 def checked_shape(shape):
-    if len(shape) > 64:
-        raise Refused("E08 too many axes")
+    if len(shape) > MOST_AXES:
+        raise Refused("E08")
     if max(shape, default=0) > MOST_ITEMS or math.prod(shape) > MOST_ITEMS:
         raise TOO_LARGE
     return math.prod(shape)
@@ -202,12 +189,12 @@ def checked_shape(shape):
 def header(file):
     """The text of the header and where the items begin."""
     if len(file) < 6 or file[:6] != b"\x93NUMPY":
-        raise Refused("E28 bad magic")
+        raise Refused("E28")
     if len(file) < 8:
         raise TRUNCATED
     wide = {b"\x01\x00": 2, b"\x02\x00": 4}.get(file[6:8])
     if wide is None:
-        raise Refused("E29 bad version")
+        raise Refused("E29")
     if len(file) < 8 + wide:
         raise TRUNCATED
     length = int.from_bytes(file[8 : 8 + wide], "little")
@@ -218,7 +205,7 @@ def header(file):
     return file[8 + wide : 8 + wide + length].decode("latin-1"), 8 + wide + length
 
 
-def loaded(file, more=0):
+def loaded(file, more):
     """What follows `ok x ` in the reply to a load of a file with more bytes behind it, and the bytes of the items."""
     text, start = header(file)
     descr, _, shape = header_values(text)
@@ -229,13 +216,13 @@ def loaded(file, more=0):
     rest = len(file) + more - start - total
     if rest < 0:
         raise TRUNCATED
-    lengths = f"({shape[0]},)" if len(shape) == 1 else f"({', '.join(map(str, shape))})"
-    return f"{shown} {lengths} new rest {rest}", total
+    return f"{shown} {tuple_text(shape)} new rest {rest}", total
 
 
-def reply(file):
-    """The reply to `x = load` of a file."""
+def reply(file, more=0):
+    """The reply to `x = load` of a file with more bytes behind it, and the bytes of the array's items."""
     try:
-        return f"ok x {loaded(file)[0]}"
+        text, items = loaded(file, more)
+        return f"ok x {text}", items
     except Refused as refused:
-        return f"no {refused}"
+        return f"no {refused}", 0

@@ -8,10 +8,8 @@ Where a reshape shares is worked out in `reshapes.py` from the addresses of the 
 does is held against both; differences are counted. An array that is assigned is copied first on NumPy's side. Byte strings have no `'`, no
 `\\` and no byte with a short escape, which the two print differently.
 
-Each script has a depth of its own: before each command that changes the state NumPy's side copies all of it, and an `undo` takes the
-last copy. And it has a folder of its own, with files that NumPy writes of random arrays, of both versions and orders, some of them cut.
-What is saved is compared byte for byte with what `files.py` says of the array, and NumPy loads it. Files whose headers are altered are
-loaded too: each gets a reply.
+Each script has a depth and a folder of its own, with files that NumPy writes of random arrays, some of them cut. What is saved is compared
+byte for byte with what `files.py` says of the array, and NumPy loads it. Files whose headers are altered are loaded too.
 """
 import itertools
 import math
@@ -28,7 +26,8 @@ from hostile_runs import Part, Runner, contents, fill, in_processes
 from limits import Limits
 from scripts import NAMES, Script
 from values import random_value
-from world import TALLY, Refused
+from rules import Refused
+from world import TALLY
 
 
 class Indexes(Script):
@@ -54,7 +53,7 @@ class Indexes(Script):
         while math.prod(shape) > 300:
             shape.pop(0)
         values = [random_value(self.rng, taken.dtype, 0, 99) for _ in range(math.prod(shape))]
-        self.add(*self.made("v", np.array(values, taken.dtype).reshape(shape), values))
+        self.add(self.made("v", np.array(values, taken.dtype).reshape(shape), values))
         return "v"
 
     def pair(self, target, items):
@@ -85,7 +84,7 @@ class Shares(Script):
         steps = [self.rng.choice([1, 2, 3, 4, -2, -3]) if length > 2 else 1 for length in self.shape_of(source)]
         for name in names:
             items = [slice(self.rng.choice([0, 0, 1, 2] if step > 0 else [-1, -2, -3]), None, step) for step in steps]
-            self.add(*self.taken(name, source, items or [Ellipsis]))
+            self.add(self.taken(name, source, items or [Ellipsis]))
         return self.shares_of(*names)
 
 
@@ -97,7 +96,7 @@ class Altered(Script):
     def __init__(self, rng, number):
         super().__init__(rng, 0)
         for k in range(number):
-            self.first[f"{k}.npy"] = damaged.altered(rng, files.numpys(rng, self.array())[0])
+            self.first[f"{k}.npy"] = damaged.altered(rng, files.numpys(rng, self.random_array()[0])[0])
         self.files = self.first
         self.lines = [f'x = load "{k}.npy"' for k in range(number)]
         TALLY["altered files"] += number

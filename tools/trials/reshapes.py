@@ -10,7 +10,8 @@ import operator
 
 import numpy as np
 
-from world import FAR, MOST_AXES, MOST_ITEMS, TALLY
+from rules import MOST_AXES, MOST_ITEMS
+from world import FAR, TALLY
 
 
 def refusal(items, numbers):
@@ -139,18 +140,13 @@ def lengths_for(rng, shape):
 def spoiled(rng, numbers):
     """The numbers with a fault."""
     at = rng.randint(0, len(numbers))
-    fault = rng.randrange(6)
-    if fault == 0:
-        return [-1, *numbers, -1]
-    if fault == 1:
-        return [*numbers[:at], rng.choice([-2, -7, -FAR]), *numbers[at:]]
-    if fault == 2:
-        return [*numbers[:at], *rng.choice([[0], [0, -1], [-1, 0]]), *numbers[at:]]
-    if fault == 3:
-        return [*numbers[:at], rng.choice([2, 3, 7, MOST_ITEMS + 1, FAR]), *numbers[at + 1:]]
-    if fault == 4:
-        return [rng.choice([1, -1, 2])] * (MOST_AXES + 2) + numbers
-    return numbers[:at] + numbers[at + 1:]
+    before, behind, rest = numbers[:at], numbers[at:], numbers[at + 1:]
+    faults = [[2, 3, 7, MOST_ITEMS + 1, FAR], [-2, -7, -FAR], [1, -1, 2]]
+    other, low, many = map(rng.choice, faults)
+    return rng.choice([
+        [-1, *numbers, -1], [*before, low, *behind], [*before, *rng.choice([[0], [0, -1], [-1, 0]]), *behind], [*before, other, *rest],
+        [many] * (MOST_AXES + 2) + numbers, before + rest,
+    ])
 
 
 def numbers_for(rng, shape):

@@ -1,4 +1,4 @@
-"""A random script of all commands, with the replies that NumPy gives."""
+"""A random script of all commands, with the replies that NumPy gives. A command is a generator: it gives its line, and then the reply."""
 import itertools
 import math
 import re
@@ -11,8 +11,9 @@ import damaged
 import files
 import overlaps
 import reshapes
+from rules import MOST_AXES, MOST_ITEMS, Refused, refusing
 from values import INTEGERS, RECORDS, SCALARS, STRINGS, filled, numbers, random_bytes, random_value, stands_for
-from world import FAR, MOST_AXES, MOST_ITEMS, TALLY, Refused, World, leaves, list_text, literal_text, type_text
+from world import FAR, TALLY, World, leaves, list_text, literal_text, type_text
 
 NAMES = "abcdefg"
 FILES = ["a.npy", "b.npy", "_", "9-.x"]
@@ -53,16 +54,17 @@ class Script:
         self.files = self.world.files
         self.indexes = itertools.cycle(INDEXES)
         for command in rng.choices(list(self.WEIGHTS), self.WEIGHTS.values(), k=commands):
-            self.add(*getattr(self, command if self.world.arrays else "make")())
+            self.add(getattr(self, command if self.world.arrays else "make")())
         for name in self.world.arrays:
-            self.add(f"info {name}", lambda: self.world.info(name))
-            self.add(f"print {name}", lambda: self.world.printed(name))
+            self.add(self.info(name))
+            self.add(self.print(name))
 
-    def add(self, line, reply):
+    def add(self, command):
+        line = next(command)
         self.lines.append(line)
         before = self.world.whole() if CHANGES.match(line) else None
         try:
-            self.replies.append(reply())
+            self.replies.append(next(command))
             if before is not None:
                 self.world.keep(before)
             self.count(line)
@@ -147,52 +149,51 @@ class Script:
             array = np.array([self.rng.randint(low, top) for _ in range(math.prod(own))], dtype=dtype).reshape(own)
         name, line = next(self.indexes), self.rng.choice(list(TURNS))
         if not array.ndim or self.rng.random() < 0.7:
-            self.add(*self.made(name, array, array.ravel().tolist()))
+            self.add(self.made(name, array, array.ravel().tolist()))
         else:
             array = TURNS[line](array).copy()
-            self.add(*self.made(name, array, array.ravel().tolist()))
-            self.add(line.format(name), lambda: self.world.bind_view(name, name, TURNS[line](array)))
+            self.add(self.made(name, array, array.ravel().tolist()))
+            self.add(self.turned(name, array, line))
         return name, len(lengths)
 
+    def turned(self, name, array, line):
+        yield line.format(name)
+        yield self.world.bind_view(name, name, TURNS[line](array))
+
     def made(self, name, array, values):
-        """The line that makes an array."""
+        """Makes an array."""
         shape, literals = ",".join(map(str, array.shape)), " ".join(map(literal_text, values))
-        return f"{name} = array {type_text(array.dtype)} ({shape}) {literals}", lambda: self.world.bind(name, array, "new")
+        yield f"{name} = array {type_text(array.dtype)} ({shape}) {literals}"
+        yield self.world.bind(name, array, "new")
 
     def dtype(self):
         return self.rng.choice(RECORDS) if self.rng.random() < 0.5 else np.dtype(self.rng.choice(SCALARS + STRINGS))
 
-    def values(self):
-        """A type, a shape, and a value for each item."""
+    def random_array(self):
+        """An array, and its items as literals."""
         dtype, edges = self.dtype(), self.rng.random() < 0.4
         lengths, ranks = (self.LENGTHS, self.RANKS) if self.roomy else ([0, 1, 2, 3, 4], [0, 1, 1, 2, 2, 3, 4])
         shape = [self.rng.choice(lengths) for _ in range(self.rng.choice(ranks))]
-        return dtype, shape, [random_value(self.rng, dtype, 0, 99, edges) for _ in range(int(np.prod(shape)))]
-
-    def array(self):
-        dtype, shape, values = self.values()
-        return np.array(values, dtype=dtype).reshape(shape)
+        values = [random_value(self.rng, dtype, 0, 99, edges) for _ in range(math.prod(shape))]
+        return np.array(values, dtype=dtype).reshape(shape), values
 
     def make(self):
-        dtype, shape, values = self.values()
-        return self.made(self.rng.choice(NAMES), np.array(values, dtype=dtype).reshape(shape), values)
+        array, values = self.random_array()
+        return self.made(self.rng.choice(NAMES), array, values)
 
     def index(self):
         source = self.source()
         return self.taken(self.rng.choice(NAMES), source, self.items(self.shape_of(source)))
 
     def taken(self, name, source, items):
-        def reply():
-            part = self.world.part(source, items)
-            if part.places is None:
-                return self.world.bind_view(name, source, part.read())
-            return self.world.bind(name, part.read(), "copy")
-
-        return f"{name} = {source}[{list_text(items)}]", reply
+        yield f"{name} = {source}[{list_text(items)}]"
+        part = self.world.part(source, items)
+        yield self.world.bind_view(name, source, part.read()) if part.places is None else self.world.bind(name, part.read(), "copy")
 
     def alias(self):
         name, source = self.rng.choice(NAMES), self.source()
-        return f"{name} = {source}", lambda: self.world.bind_view(name, source, self.world.array(source))
+        yield f"{name} = {source}"
+        yield self.world.bind_view(name, source, self.world.array(source))
 
     def transpose(self):
         name, source = self.rng.choice(NAMES), self.source()
@@ -202,18 +203,13 @@ class Script:
             axes = axes[:-1] + [self.rng.choice([0, rank, -rank - 1])]
         if self.rng.random() < 0.4:
             axes = None
-        line = f"{name} = transpose {source}" + ("" if axes is None else f" ({','.join(map(str, axes))})")
-
-        def reply():
-            array = self.world.array(source)
-            if axes is not None and len(axes) != array.ndim:
-                raise Refused("E17")
-            try:
-                return self.world.bind_view(name, source, array.transpose(axes))
-            except ValueError:
-                raise Refused("E17") from None
-
-        return line, reply
+        yield f"{name} = transpose {source}" + ("" if axes is None else f" ({','.join(map(str, axes))})")
+        array = self.world.array(source)
+        if axes is not None and len(axes) != array.ndim:
+            raise Refused("E17")
+        with refusing("E17"):
+            turned = array.transpose(axes)
+        yield self.world.bind_view(name, source, turned)
 
     def target(self, shape):
         """A shape to which one broadcasts, seldom one to which it doesn't, or that is none."""
@@ -229,19 +225,15 @@ class Script:
     def broadcast(self):
         name, source = self.rng.choice(NAMES), self.source()
         shape = self.target(self.shape_of(source))
-
-        def reply():
-            array = self.world.array(source)
-            if len(shape) > MOST_AXES:
-                raise Refused("E08")
-            if max([0, *shape]) > MOST_ITEMS or math.prod(shape) > MOST_ITEMS:
-                raise Refused("E09")
-            try:
-                return self.world.bind_view(name, source, np.broadcast_to(array, shape))
-            except ValueError:
-                raise Refused("E16") from None
-
-        return f"{name} = broadcast {source} ({','.join(map(str, shape))})", reply
+        yield f"{name} = broadcast {source} ({','.join(map(str, shape))})"
+        array = self.world.array(source)
+        if len(shape) > MOST_AXES:
+            raise Refused("E08")
+        if max([0, *shape]) > MOST_ITEMS or math.prod(shape) > MOST_ITEMS:
+            raise Refused("E09")
+        with refusing("E16"):
+            stretched = np.broadcast_to(array, shape)
+        yield self.world.bind_view(name, source, stretched)
 
     def scattered(self):
         """A name, mostly of an array of several items that do not lie one after another, if there is one."""
@@ -252,35 +244,30 @@ class Script:
     def reshape(self):
         name, source = self.rng.choice(NAMES), self.scattered()
         numbers = reshapes.numbers_for(self.rng, self.shape_of(source))
-
-        def reply():
-            array = self.world.array(source)
-            fault = reshapes.refusal(array.size, numbers)
-            reshapes.compare_refusals(array, numbers, fault)
-            if fault:
-                raise Refused(fault)
-            result, kind = reshapes.reshaped(array, reshapes.target(array.size, numbers))
-            return self.world.bind(name, result, kind, self.world.starts[source] if kind == "view" else None)
-
-        return f"{name} = reshape {source} ({','.join(map(str, numbers))})", reply
+        yield f"{name} = reshape {source} ({','.join(map(str, numbers))})"
+        array = self.world.array(source)
+        fault = reshapes.refusal(array.size, numbers)
+        reshapes.compare_refusals(array, numbers, fault)
+        if fault:
+            raise Refused(fault)
+        result, kind = reshapes.reshaped(array, reshapes.target(array.size, numbers))
+        yield self.world.bind(name, result, kind, self.world.starts[source] if kind == "view" else None)
 
     def copy(self):
         name, source, order = self.rng.choice(NAMES), self.scattered(), self.rng.choice("CF")
-        return f"{name} = copy {source} {order}", lambda: self.world.bind(name, self.world.array(source).copy(order), "copy")
+        yield f"{name} = copy {source} {order}"
+        yield self.world.bind(name, self.world.array(source).copy(order), "copy")
 
     def field(self):
         name, source = self.rng.choice(NAMES), self.source()
         dtype = self.world.arrays[source].dtype if source in self.world.arrays else np.dtype("<i4")
         known = dtype.names is not None and self.rng.random() < 0.9
         field = self.rng.choice(dtype.names if known else ["z", "X"])
-
-        def reply():
-            array = self.world.array(source)
-            if array.dtype.names is None or field not in array.dtype.names:
-                raise Refused("E19")
-            return self.world.bind_view(name, source, array[field])
-
-        return f'{name} = field {source} "{field}"', reply
+        yield f'{name} = field {source} "{field}"'
+        array = self.world.array(source)
+        if field not in (array.dtype.names or ()):
+            raise Refused("E19")
+        yield self.world.bind_view(name, source, array[field])
 
     def value(self, source):
         """A value for an array's items: a number, or for a record often a tuple, seldom one that does not fit."""
@@ -297,26 +284,16 @@ class Script:
         source = self.source()
         value = self.value(source)
         items = self.items(self.shape_of(source))
-        line = f"set {source}[{list_text(items)}] = {literal_text(value)}"
-
-        def reply():
-            target = self.world.part(source, items)
-            dtype, count = target.array.dtype, target.read().size
-            self.check_writable(target)
-            whole = value if isinstance(value, tuple) else filled(value, dtype)
-            if not stands_for(whole, dtype):
-                raise Refused("E33")
-            for leaf, number in zip(leaves(dtype), numbers(whole)):
-                if leaf.kind not in "bS" and not np.iinfo(leaf).min <= number <= np.iinfo(leaf).max:
-                    raise Refused("E23")
-            target.write(np.full(target.read().shape, np.array(whole, dtype=dtype), dtype))
-            return f"ok set {count}"
-
-        return line, reply
-
-    def check_writable(self, part):
-        if not part.array.flags.writeable:
-            raise Refused("E20")
+        yield f"set {source}[{list_text(items)}] = {literal_text(value)}"
+        target = self.world.target(source, items)
+        dtype, shape = target.array.dtype, target.read().shape
+        whole = value if isinstance(value, tuple) else filled(value, dtype)
+        if not stands_for(whole, dtype):
+            raise Refused("E33")
+        if any(leaf.kind not in "bS" and not computations.is_value(number, leaf) for leaf, number in zip(leaves(dtype), numbers(whole))):
+            raise Refused("E23")
+        target.write(np.full(shape, np.array(whole, dtype=dtype), dtype))
+        yield f"ok set {math.prod(shape)}"
 
     def related(self, target):
         """A name, mostly of an array in the same buffer."""
@@ -339,24 +316,17 @@ class Script:
     def assign(self):
         target = self.source()
         source, items, taken = self.pair(target, self.items(self.shape_of(target)))
-        text = source if taken is None else f"{source}[{list_text(taken)}]"
-
-        def reply():
-            self.world.known([target, *names_in(source, taken or [])])
-            aim = self.world.part(target, items)
-            self.check_writable(aim)
-            given = self.world.array(source) if taken is None else self.world.part(source, taken).read()
-            shown = np.zeros(aim.read().shape, given.dtype)
-            try:
-                shown[...] = given
-            except ValueError:
-                raise Refused("E16") from None
-            if not casts.can_cast(given.dtype, aim.array.dtype):
-                raise Refused("E33")
-            casts.assign(aim, given, shown)
-            return f"ok set {shown.size}"
-
-        return f"set {target}[{list_text(items)}] = {text}", reply
+        yield f"set {target}[{list_text(items)}] = {source if taken is None else f'{source}[{list_text(taken)}]'}"
+        self.world.known([target, *names_in(source, taken or [])])
+        aim = self.world.target(target, items)
+        given = self.world.array(source) if taken is None else self.world.part(source, taken).read()
+        shown = np.zeros(aim.read().shape, given.dtype)
+        with refusing("E16"):
+            shown[...] = given
+        if not casts.can_cast(given.dtype, aim.array.dtype):
+            raise Refused("E33")
+        casts.assign(aim, given, shown)
+        yield f"ok set {shown.size}"
 
     def number(self):
         """A name, mostly of an array of numbers."""
@@ -378,21 +348,18 @@ class Script:
         return literal_text(value), [], lambda: value
 
     def bound(self, line, names, work):
-        """A line that binds what is computed once its names are known."""
+        """Binds what is computed once its names are known."""
         name = self.rng.choice(NAMES)
-
-        def reply():
-            self.world.known(names)
-            return self.world.bind(name, computations.made(*work()), "new")
-
-        return f"{name} = {line}", reply
+        yield f"{name} = {line}"
+        self.world.known(names)
+        yield self.world.bind(name, computations.made(*work()), "new")
 
     def operation(self):
         (left, names, one), (right, more, other), word = self.operand(), self.argument(), self.rng.choice(WORDS)
         return self.bound(f"{word} {left} {right}", names + more, lambda: computations.worked(word, one(), other()))
 
     def unary(self):
-        (text, names, one), word = self.operand(), self.rng.choice(["neg", "not"])
+        (text, names, one), word = self.operand(), self.rng.choice(computations.UNARY)
         return self.bound(f"{word} {text}", names, lambda: computations.transformed(word, one()))
 
     def reduction(self):
@@ -405,17 +372,13 @@ class Script:
         source, word = self.number(), self.rng.choice(WORDS)
         items = self.items(self.shape_of(source))
         text, names, other = self.argument(source, items)
-
-        def reply():
-            self.world.known([source, *names])
-            target = self.world.part(source, items)
-            self.check_writable(target)
-            dtype, shape = target.array.dtype, target.read().shape
-            values = computations.updated(word, target.read(), other())
-            target.write(computations.made(dtype, shape, [computations.wrapped(value, dtype) for value in values]))
-            return f"ok upd {math.prod(shape)}"
-
-        return f"upd {source}[{list_text(items)}] {word} {text}", reply
+        yield f"upd {source}[{list_text(items)}] {word} {text}"
+        self.world.known([source, *names])
+        target = self.world.target(source, items)
+        dtype, shape = target.array.dtype, target.read().shape
+        values = computations.updated(word, target.read(), other())
+        target.write(computations.made(dtype, shape, [computations.wrapped(value, dtype) for value in values]))
+        yield f"ok upd {math.prod(shape)}"
 
     def cast(self):
         name, source, dtype = self.rng.choice(NAMES), self.source(), self.dtype()
@@ -425,34 +388,28 @@ class Script:
             dtype = self.rng.choice([old, *(new for new in types if casts.can_cast(old, new))])
         known = self.rng.random() < 0.95
         text = type_text(dtype) if known else self.rng.choice(list(UNKNOWN_TYPES))
-
-        def reply():
-            array = self.world.array(source)
-            if not known:
-                raise Refused(UNKNOWN_TYPES[text])
-            if not casts.can_cast(array.dtype, dtype):
-                raise Refused("E33")
-            return self.world.bind(name, casts.cast(array, dtype), "new")
-
-        return f"{name} = cast {source} {text}", reply
+        yield f"{name} = cast {source} {text}"
+        array = self.world.array(source)
+        if not known:
+            raise Refused(UNKNOWN_TYPES[text])
+        if not casts.can_cast(array.dtype, dtype):
+            raise Refused("E33")
+        yield self.world.bind(name, casts.cast(array, dtype), "new")
 
     def save(self):
         source, file = self.source(), self.rng.choice(FILES)
-
-        def reply():
-            array = self.world.array(source)
-            self.files[file] = files.saved(array)
-            self.loads[file] = (casts.made(array, array.dtype).copy("F" if files.is_fortran(array) else "C"), 0)
-            TALLY["files saved"] += 1
-            TALLY["saved files that NumPy loads otherwise"] += not files.is_loaded_as(self.files[file], array)
-            return f"ok save {len(self.files[file])}"
-
-        return f'save {source} "{file}"', reply
+        yield f'save {source} "{file}"'
+        array = self.world.array(source)
+        self.files[file] = files.saved(array)
+        self.loads[file] = (casts.made(array, array.dtype).copy("F" if files.is_fortran(array) else "C"), 0)
+        TALLY["files saved"] += 1
+        TALLY["saved files that NumPy loads otherwise"] += not files.is_loaded_as(self.files[file], array)
+        yield f"ok save {len(self.files[file])}"
 
     def new_file(self):
         """A file that NumPy writes, in the folder from the start."""
         file = f"p{len(self.first)}.npy"
-        bytes_, array, rest = files.numpys(self.rng, self.array())
+        bytes_, array, rest = files.numpys(self.rng, self.random_array()[0])
         self.loads[file] = (array, rest)
         if self.rng.random() < 0.1 and rest == 0:
             bytes_, self.loads[file] = damaged.cut(self.rng, bytes_)
@@ -462,46 +419,45 @@ class Script:
     def load(self):
         name, chosen = self.rng.choice(NAMES), self.rng.random()
         file = self.new_file() if chosen < 0.6 else self.rng.choice(list(self.loads) or FILES) if chosen < 0.9 else "none.npy"
+        yield f'{name} = load "{file}"'
+        found = self.loads.get(file, "E34")
+        if isinstance(found, str):
+            raise Refused(found)
+        array, rest = found
+        array = array.copy("F" if files.is_fortran(array) else "C")
+        TALLY["files loaded"] += 1
+        yield f"{self.world.bind(name, array, 'new')} rest {rest}"
 
-        def reply():
-            if file not in self.loads:
-                raise Refused("E34")
-            if isinstance(self.loads[file], str):
-                raise Refused(self.loads[file])
-            array, rest = self.loads[file]
-            array = array.copy("F" if files.is_fortran(array) else "C")
-            TALLY["files loaded"] += 1
-            return f"{self.world.bind(name, array, 'new')} rest {rest}"
+    def print(self, source=None):
+        source = source or self.source()
+        yield f"print {source}"
+        yield self.world.printed(source)
 
-        return f'{name} = load "{file}"', reply
-
-    def print(self):
-        source = self.source()
-        return f"print {source}", lambda: self.world.printed(source)
-
-    def info(self):
-        source = self.source()
-        return f"info {source}", lambda: self.world.info(source)
+    def info(self, source=None):
+        source = source or self.source()
+        yield f"info {source}"
+        yield self.world.info(source)
 
     def shares(self):
         left = self.source()
         return self.shares_of(left, self.related(left))
 
     def shares_of(self, left, right):
-        def reply():
-            pair = self.world.array(left), self.world.array(right)
-            shared = "yes" if np.shares_memory(*pair) else "no"
-            TALLY[f"shares {shared}{' over ranges that overlap' * np.may_share_memory(*pair)}"] += 1
-            return f"shares {shared}"
-
-        return f"shares {left} {right}", reply
+        yield f"shares {left} {right}"
+        pair = self.world.array(left), self.world.array(right)
+        shared = "yes" if np.shares_memory(*pair) else "no"
+        TALLY[f"shares {shared}{' over ranges that overlap' * np.may_share_memory(*pair)}"] += 1
+        yield f"shares {shared}"
 
     def delete(self):
         source = self.source()
-        return f"del {source}", lambda: self.world.delete(source)
+        yield f"del {source}"
+        yield self.world.delete(source)
 
     def undo(self):
-        return "undo", self.world.undo
+        yield "undo"
+        yield self.world.undo()
 
     def names(self):
-        return "names", lambda: " ".join(["names", *self.world.arrays])
+        yield "names"
+        yield " ".join(["names", *self.world.arrays])

@@ -1,19 +1,14 @@
 """Times commands of the program and the same work in NumPy, told as ratios.
 
-    tools/try speed [--only WORD] [--sizes N ..] [--undo N ..] [--runs K]
-
 A script has the set-up of a row and then its line again and again. The time of the line is the difference between a run
 with many repeats of it and a run with fewer, divided by the repeats between, so that neither the start of the program nor
 the set-up counts. Also the shorter run has more repeats than the depth of undo, so that what a line replaces is let go as
 fast as it is kept. NumPy's time is that of `timeit`. Both are processor time, the least of several runs.
 
 Each row is timed for arrays of each size, at the default depth of undo and with --undo 0, which keeps nothing: the
-geometric mean of the ratios is told for each. A ratio above 1 says that the program takes longer than NumPy. A later
-command is one more row.
+geometric mean of the ratios is told for each. A ratio above 1 says that the program takes longer than NumPy.
 """
-import argparse
 import math
-import pathlib
 import string
 import sys
 import time
@@ -22,7 +17,7 @@ import typing
 
 import numpy as np
 
-from timed import FOLDER, refusal, seconds
+from timed import FOLDER, refusal, seconds, words
 
 SIZES = (100, 10000, 2**22)
 DEPTHS = (16, 0)
@@ -43,17 +38,9 @@ class Row(typing.NamedTuple):
     numpy: str
 
 
-def matrix(kind):
-    """A square of that type for both."""
-    return f"a = full {kind} ($side,$side) 7", f"a = np.full(($side, $side), 7, '{kind}')"
-
-
 def two(kind):
     """Two arrays of that type for both."""
-    return (
-        f"a = full {kind} ($n) 7\nb = full {kind} ($n) 5",
-        f"a = np.full($n, 7, '{kind}'); b = np.full($n, 5, '{kind}')",
-    )
+    return f"a = full {kind} ($n) 7\nb = full {kind} ($n) 5", f"a = np.full($n, 7, '{kind}'); b = np.full($n, 5, '{kind}')"
 
 
 def places(kind):
@@ -66,11 +53,8 @@ def places(kind):
 
 ITEMS = ("a = full <i4 ($n) 7", "a = np.full($n, 7, '<i4')")
 FEW = ("a = full <i4 (10) 7", "a = np.full(10, 7, '<i4')")
-ROW = (
-    "r = arange <i4 0 $side 1\na = zeros <i4 ($side,$side)",
-    "r = np.arange($side, dtype='<i4'); a = np.zeros(($side, $side), '<i4')",
-)
-SQUARE = matrix("<i4")
+ROW = ("r = arange <i4 0 $side 1\na = zeros <i4 ($side,$side)", "r = np.arange($side, dtype='<i4'); a = np.zeros(($side, $side), '<i4')")
+SQUARE = ("a = full <i4 ($side,$side) 7", "a = np.full(($side, $side), 7, '<i4')")
 TRANSPOSED = (f"{SQUARE[0]}\nt = transpose a", f"{SQUARE[1]}; t = a.T")
 FORTRAN = (f"{SQUARE[0]}\nf = copy a F", f"{SQUARE[1]}; f = a.copy('F')")
 NARROW = {
@@ -84,10 +68,7 @@ SPREAD = (
     "r = arange <i4 0 $side 1\nw = broadcast r ($side,$side)\nq = reshape r ($side,1)\nh = broadcast q ($side,$side)",
     "r = np.arange($side, dtype='<i4'); w = np.broadcast_to(r, ($side, $side)); h = np.broadcast_to(r[:, None], ($side, $side))",
 )
-MASKED = (
-    "a = full <i4 ($n) 7\nm = zeros |b1 ($n)\nset m[::2] = True",
-    "a = np.full($n, 7, '<i4'); m = np.zeros($n, bool); m[::2] = True",
-)
+MASKED = (f"{ITEMS[0]}\nm = zeros |b1 ($n)\nset m[::2] = True", f"{ITEMS[1]}; m = np.zeros($n, bool); m[::2] = True")
 MASKED_SQUARE = (
     f"{SQUARE[0]}\nm = zeros |b1 ($side,$side)\nset m[:,::2] = True",
     f"{SQUARE[1]}; m = np.zeros(($side, $side), bool); m[:, ::2] = True",
@@ -116,8 +97,7 @@ def row(name, sides, line, numpy):
 ROWS = [
     row("zeros", ("", ""), "x = zeros <i4 ($n)", "x = np.zeros($n, '<i4')"),
     row("full", ("", ""), "x = full <i4 ($n) 7", "x = np.full($n, 7, '<i4')"),
-    row("arange <i4", ("", ""), "x = arange <i4 0 $n 1", "x = np.arange(0, $n, 1, '<i4')"),
-    row("arange <i8", ("", ""), "x = arange <i8 0 $n 1", "x = np.arange(0, $n, 1, '<i8')"),
+    *(row(f"arange {kind}", ("", ""), f"x = arange {kind} 0 $n 1", f"x = np.arange(0, $n, 1, '{kind}')") for kind in ("<i4", "<i8")),
     row("set, one item", ITEMS, "set a[12] = 8", "a[12] = 8"),
     row("set, one item, 1,000 names", NAMES, "set a[5] = 8", "a[5] = 8"),
     row("set, one item, blanks", ITEMS, f"set a[12] ={' ' * 200}8", "a[12] = 8"),
@@ -141,12 +121,9 @@ ROWS = [
     row("copy, a broadcast row", SPREAD, "x = copy w C", "x = w.copy()"),
     row("copy, a broadcast column", SPREAD, "x = copy h C", "x = h.copy('C')"),
     row("cast <i4 to <i8", ITEMS, "x = cast a <i8", "x = a.astype('<i8')"),
-    row("add <i4", two("<i4"), "x = add a b", "x = a + b"),
-    row("add <i8", two("<i8"), "x = add a b", "x = a + b"),
-    row("add >i4", two(">i4"), "x = add a b", "x = a + b"),
+    *(row(f"add {kind}", two(kind), "x = add a b", "x = a + b") for kind in ("<i4", "<i8", ">i4")),
     row("add, a row to every row", ROW, "x = add a r", "x = a + r"),
-    row("add, rows of 2", NARROW[2], "x = add a b", "x = a + b"),
-    row("add, rows of 3", NARROW[3], "x = add a b", "x = a + b"),
+    *(row(f"add, rows of {n}", NARROW[n], "x = add a b", "x = a + b") for n in NARROW),
     row("add, F to F", FORTRAN, "x = add f f", "x = f + f"),
     row("add, a field", RECORDS, "x = add a 1", "x = a + np.int32(1)"),
     row("lt", two("<i4"), "x = lt a b", "x = a < b"),
@@ -159,24 +136,20 @@ ROWS = [
     row("index, two arrays", PAIRS, "x = a[i,j]", "x = a[i, j]"),
     row("index, outer", PAIRS, "x = a[k,j]", "x = a[k, j]"),
     row("index, rows", PAIRS, "x = a[i]", "x = a[i]"),
-    row("set, index <i4", places("<i4"), "set a[i] = v", "a[i] = v"),
-    row("set, index <i8", places("<i8"), "set a[i] = v", "a[i] = v"),
+    *(row(f"set, index {kind}", places(kind), "set a[i] = v", "a[i] = v") for kind in ("<i4", "<i8")),
     row("upd, index <i8", places("<i8"), "upd a[i] add 1", "a[i] += 1"),
     row("mask", MASKED, "x = a[m]", "x = a[m]"),
     row("mask, two axes", MASKED_SQUARE, "x = a[m]", "x = a[m]"),
     row("set, mask", MASKED, "set a[m] = 5", "a[m] = 5"),
     row("set, mask, two axes", MASKED_SQUARE, "set a[m] = 5", "a[m] = 5"),
     row("upd, mask", MASKED, "upd a[m] add 1", "a[m] += 1"),
-    row("sum", ITEMS, "x = sum a", "x = a.sum()"),
-    row("max", ITEMS, "x = max a", "x = a.max()"),
-    row("argmax", ITEMS, "x = argmax a", "x = a.argmax()"),
-    row("sum, along 0", SQUARE, "x = sum a 0", "x = a.sum(0)"),
-    row("sum, along 1", SQUARE, "x = sum a 1", "x = a.sum(1)"),
+    *(row(word, ITEMS, f"x = {word} a", f"x = a.{word}()") for word in ("sum", "max", "argmax")),
+    *(row(f"sum, along {axis}", SQUARE, f"x = sum a {axis}", f"x = a.sum({axis})") for axis in (0, 1)),
     row("shares, two fields", RECORDS, "shares a b", "np.shares_memory(a, b)"),
-    row("shares, steps", (f"{ITEMS[0]}\nb = a[::2]\nc = a[1::2]", f"{ITEMS[1]}; b = a[::2]; c = a[1::2]"), "shares b c", "np.shares_memory(b, c)"),
-    row("shares, halves", (f"{ITEMS[0]}\nb = a[:$half]\nc = a[$half:]", f"{ITEMS[1]}; b = a[:$half]; c = a[$half:]"), "shares b c", "np.shares_memory(b, c)"),
     row("shares, a transpose", TRANSPOSED, "shares a t", "np.shares_memory(a, t)"),
-    row("shares, columns", (f"{SQUARE[0]}\nb = a[:,0]\nc = a[:,1]", f"{SQUARE[1]}; b = a[:, 0]; c = a[:, 1]"), "shares b c", "np.shares_memory(b, c)"),
+    *(row(f"shares, {name}", (f"{bench}\nb = {b}\nc = {c}", f"{numpy}; b = {b}; c = {c}"), "shares b c", "np.shares_memory(b, c)")
+      for name, (bench, numpy), b, c in (
+          ("steps", ITEMS, "a[::2]", "a[1::2]"), ("halves", ITEMS, "a[:$half]", "a[$half:]"), ("columns", SQUARE, "a[:,0]", "a[:,1]"))),
     row("save", ITEMS, 'save a "a.npy"', f"np.save('{FOLDER.name}/n.npy', a)"),
     row("load", SAVED, 'x = load "a.npy"', "x = np.load(f)"),
     row("print, 100 x 100", ("a = arange <i4 0 10000 1\nb = reshape a (100,100)", "b = np.arange(10000, dtype='<i4').reshape(100, 100)"), "print b", "str(b)"),
@@ -189,24 +162,15 @@ def of_size(row, size):
     return Row(row.name, *(string.Template(text).substitute(numbers) for text in row[1:]))
 
 
-def repeated(program, row, depth, repeats):
-    """The processor time of a run over a script with so many repeats of the row's line."""
-    return seconds(program, f"{row.setup}\n" + f"{row.line}\n" * repeats, depth)
-
-
-def enough_repeats(program, row, depth):
-    """Repeats that take long enough to be timed."""
-    repeats, start = 4, repeated(program, row, depth, BEFORE)
-    while repeats < MOST_REPEATS and repeated(program, row, depth, BEFORE + repeats) - start < LONG_ENOUGH:
-        repeats *= 2
-    return repeats
-
-
 def bench_time(program, row, depth, runs):
-    """The seconds that one line of the program takes."""
-    repeats = enough_repeats(program, row, depth)
-    pairs = [(repeated(program, row, depth, BEFORE), repeated(program, row, depth, BEFORE + repeats)) for _ in range(runs)]
-    short, long = map(min, zip(*pairs))
+    """The seconds that one line of the program takes, of so many repeats that these can be timed."""
+    def repeated(times):
+        return seconds(program, f"{row.setup}\n" + f"{row.line}\n" * times, depth)
+
+    repeats, start = 4, repeated(BEFORE)
+    while repeats < MOST_REPEATS and repeated(BEFORE + repeats) - start < LONG_ENOUGH:
+        repeats *= 2
+    short, long = map(min, zip(*((repeated(BEFORE), repeated(BEFORE + repeats)) for _ in range(runs))))
     return (long - short) / repeats
 
 
@@ -217,57 +181,39 @@ def numpy_time(row, runs):
     return min(timer.repeat(runs, loops)) / loops
 
 
-def cells(program, row, depths, runs):
-    """The texts of a row of the report, and its ratio for each depth."""
-    if refusal(program, f"{row.setup}\n{row.line}\n", 16):
-        return ("refused",), {}
-    theirs = numpy_time(row, runs)
-    ours = {depth: bench_time(program, row, depth, runs) for depth in depths}
-    ratios = {depth: taken / theirs for depth, taken in ours.items()}
-    texts = [f"{theirs * 1e6:.2f}"]
-    for depth in depths:
-        texts += [f"{ours[depth] * 1e6:.2f}", f"{ratios[depth]:.2f}"]
-    return tuple(texts), ratios
-
-
-def words():
-    """The words of the call."""
-    parser = argparse.ArgumentParser(description="Times commands of the program and the same work in NumPy.")
-    parser.add_argument("bench", type=pathlib.Path, help="the program")
-    parser.add_argument("--only", default="", metavar="WORD", help="the rows with this in their names")
-    parser.add_argument("--sizes", type=int, nargs="+", default=SIZES, metavar="N", help="items of the arrays, 100 or more")
-    parser.add_argument("--undo", type=int, nargs="+", default=DEPTHS, metavar="N", help="depths of undo, 0 to 20")
-    parser.add_argument("--runs", type=int, default=5, metavar="K", help="runs of which the least time counts (5)")
-    given = parser.parse_args()
-    if given.runs < 1 or min(given.sizes) < 100 or not all(0 <= depth <= 20 for depth in given.undo):
-        parser.error("--runs is 1 or more, each of --sizes 100 or more, and each of --undo 0 to 20")
-    return given
-
-
-def told(program, row, given, width):
+def told(row, given, width):
     """Prints a row for a size, and gives its ratio for each depth."""
-    texts, ratios = cells(program, row, given.undo, given.runs)
+    if refusal(given.bench, f"{row.setup}\n{row.line}\n", 16):
+        theirs, ours = 0, {}
+    else:
+        theirs, ours = numpy_time(row, given.runs), {depth: bench_time(given.bench, row, depth, given.runs) for depth in given.undo}
+    ratios = {depth: taken / theirs for depth, taken in ours.items()}
+    texts = [f"{theirs * 1e6:.2f}" if ours else "refused", *(text for depth in ours for text in (f"{ours[depth] * 1e6:.2f}", f"{ratios[depth]:.2f}"))]
     print(f"{row.name:{width}}  " + "  ".join(f"{text:>12}" for text in texts), flush=True)
     return ratios
 
 
-def report(program, size, given):
+def report(size, given):
     """Prints the rows for a size, and their geometric means."""
     rows = [of_size(row, size) for row in ROWS if given.only in row.name]
     width = max([14, *(len(row.name) for row in rows)])
     heads = ["NumPy us", *(head for depth in given.undo for head in (f"undo {depth} us", "ratio"))]
     print(f"\n{f'{size:,} items':{width}}  " + "  ".join(f"{head:>12}" for head in heads))
-    ratios = {row.name: told(program, row, given, width) for row in rows}
+    ratios = {row.name: told(row, given, width) for row in rows}
     for depth in given.undo:
         known = {name: of_row[depth] for name, of_row in ratios.items() if depth in of_row}
-        logs = [math.log(max(ratio, 0.001)) for ratio in known.values()]
         high = [f"{name} ({ratio:.1f})" for name, ratio in known.items() if ratio > HIGH]
-        mean = math.exp(sum(logs) / len(logs)) if logs else 0
+        mean = math.exp(sum(math.log(max(ratio, 0.001)) for ratio in known.values()) / max(1, len(known)))
         print(f"undo {depth}: geometric mean {mean:.2f}; above {HIGH}: {'; '.join(high) or 'none'}", flush=True)
 
 
 def main():
-    given = words()
+    parser = words("Times commands of the program and the same work in NumPy.", 5)
+    parser.add_argument("--sizes", type=int, nargs="+", default=SIZES, metavar="N", help="items of the arrays, 100 or more")
+    parser.add_argument("--undo", type=int, nargs="+", default=DEPTHS, metavar="N", help="depths of undo, 0 to 20")
+    given = parser.parse_args()
+    if given.runs < 1 or min(given.sizes) < 100 or not all(0 <= depth <= 20 for depth in given.undo):
+        parser.error("--runs is 1 or more, each of --sizes 100 or more, and each of --undo 0 to 20")
     np.set_printoptions(threshold=sys.maxsize, linewidth=sys.maxsize)
     for size in given.sizes:
-        report(given.bench.resolve(), size, given)
+        report(size, given)

@@ -1,5 +1,7 @@
 """Runs of the program whose processor time is taken, with the environment that `./bench` gives it, in a folder of their own."""
+import argparse
 import os
+import pathlib
 import resource
 import subprocess
 import tempfile
@@ -7,6 +9,15 @@ import tempfile
 TUNABLES = {"hugetlb": 1, "mmap_threshold": 2**29, "trim_threshold": 2**29}
 ENVIRONMENT = {"GLIBC_TUNABLES": ":".join(f"glibc.malloc.{name}={value}" for name, value in TUNABLES.items()), **os.environ}
 FOLDER = tempfile.TemporaryDirectory()
+
+
+def words(about, runs):
+    """The words of a call."""
+    parser = argparse.ArgumentParser(description=about)
+    parser.add_argument("bench", type=lambda path: pathlib.Path(path).resolve(), help="the program")
+    parser.add_argument("--only", default="", metavar="WORD", help="the rows with this in their names")
+    parser.add_argument("--runs", type=int, default=runs, metavar="K", help=f"runs of which the least time counts ({runs})")
+    return parser
 
 
 def run(program, text, depth, limit=None, out=subprocess.DEVNULL):

@@ -1,34 +1,16 @@
 """What the program should hold and reply, as NumPy has it: arrays by name, texts, refusals, and the states to go back to."""
 import collections
-import pathlib
-import re
 import sys
 
 import numpy as np
 
-TOP = pathlib.Path(__file__).resolve().parents[2]
-MOST_AXES = 64
-MOST_ITEMS = 2**24
-MOST_BYTES = 2**28
+from rules import LETTERS, Refused, tuple_text
+
 FAR = 10**29
-CODES = dict(re.findall(r"^\| (E\d\d) \| ([^|]+?) \|", (TOP / "docs/LANGUAGE.md").read_text(), re.M))
-LETTERS = {"b1": "?", "i1": "b", "u1": "B", "i2": "h", "u2": "H", "i4": "i", "u4": "I", "i8": "q", "u8": "Q"}
 # What came of the scripts, beside the replies.
 TALLY = collections.Counter()
 
 np.set_printoptions(threshold=sys.maxsize, linewidth=sys.maxsize)
-
-
-class Refused(Exception):
-    """A refusal by its code."""
-
-    def __str__(self):
-        return f"{self.args[0]} {CODES[self.args[0]]}"
-
-
-def tuple_text(numbers):
-    inside = ", ".join(map(str, numbers))
-    return f"({inside},)" if len(numbers) == 1 else f"({inside})"
 
 
 def fields(dtype):
@@ -175,6 +157,12 @@ class World:
     def part(self, name, items):
         """The items that an index list names; arrays stand in it by their names."""
         return Part(self.array(name), [self.array(item) if isinstance(item, str) else item for item in items])
+
+    def target(self, name, items):
+        """The same to be written."""
+        if not self.part(name, items).array.flags.writeable:
+            raise Refused("E20")
+        return self.part(name, items)
 
     def bind(self, name, array, kind, start=None):
         self.arrays[name] = array

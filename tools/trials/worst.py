@@ -1,20 +1,14 @@
 """Times the worst line that is known for each command, with sizes at the limits.
 
-    tools/try worst [--only WORD] [--runs K] [--seconds N]
-
-The time of a line is the difference between a run with it and one without it,
-in processor time, the least of several runs. It is told in nanoseconds for each byte that the line reads, writes and prints,
-and of its own text: an item that is read many times counts once, as the items of an array that `broadcast` made. So a line
-whose number is large is one with which a stranger can keep the program busy. The rows that are marked as a floor do as much work
-as their answer needs: each two items of two long columns are compared, and each pair costs up to a step for each eight
-bytes of the longer one. What takes a millisecond or less has no such number. --seconds N ends a run that takes longer.
+The time of a line is the difference between a run with it and one without it, in processor time, the least of several runs. It is told in
+nanoseconds for each byte that the line reads, writes and prints, and of its own text: an item that is read many times counts once. So a
+line whose number is large is one with which a stranger can keep the program busy. The rows that are marked as a floor do as much work
+as their answer needs. What takes a millisecond or less has no such number.
 """
-import argparse
-import pathlib
 import subprocess
 import typing
 
-from timed import refusal, seconds
+from timed import refusal, seconds, words
 
 MOST_ITEMS = 2**24
 MOST_BYTES = 2**28
@@ -153,14 +147,10 @@ def cells(program, row, runs, limit):
 
 
 def main():
-    parser = argparse.ArgumentParser(description="Times the worst line that is known for each command.")
-    parser.add_argument("bench", type=pathlib.Path, help="the program")
-    parser.add_argument("--only", default="", metavar="WORD", help="the rows with this in their command or name")
-    parser.add_argument("--runs", type=int, default=3, metavar="K", help="runs of which the least time counts (3)")
+    parser = words("Times the worst line that is known for each command.", 3)
     parser.add_argument("--seconds", type=int, default=120, metavar="N", help="the most that a run may take (120)")
     given = parser.parse_args()
-    program = given.bench.resolve()
     print("| Command | Its worst line | ms | ns a byte | |\n|---|---|---|---|---|")
     for row in ROWS:
         if given.only in f"{row.command} {row.name}":
-            print("| " + " | ".join(cells(program, row, given.runs, given.seconds)) + " |", flush=True)
+            print("| " + " | ".join(cells(given.bench, row, given.runs, given.seconds)) + " |", flush=True)

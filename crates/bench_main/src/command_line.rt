@@ -24,15 +24,14 @@ const COMMANDS: &str = "Commands, one a line:
   X = broadcast Y S     to the same items, repeated in a larger shape and read-only
   X = copy Y C, or F    to a copy of the items, in C order or in Fortran order
   X = cast Y D          to the items as items of type D
-  X = add Y Z           to what an operation gives: add sub mul fdiv mod and or xor shl shr
-  X = lt Y Z            to bools: eq ne lt le gt ge. Y is an array or Y[ix], Z that or a literal
-  X = neg Y, not Y      to the negatives, or the complements
-  X = sum Y [axis]      to a reduction: sum prod min max any all argmin argmax; keep behind it
+  X = OP Y Z            to what an operation or comparison gives, as c = sub a b[0], m = lt a 5
+  X = UN Y              to what a unary operation gives, as b = neg a
+  X = RED Y [axis]      to a reduction, as s = sum m, t = max m 0; keep behind it keeps the axis
   X = load \"f\"          to the array in the NPY file f
   save X \"f\"            writes the array to the NPY file f
   set X[ix] = L         writes a literal to the items that ix names, as set a[1,-1] = 7
   set X[ix] = Y[iy]     writes items of Y, as they were before
-  upd X[ix] add Z       changes items by an operation, as upd a[1:] add a[:-1]
+  upd X[ix] OP Z        changes items by an operation, as upd a[1:] add a[:-1]
   del X                 unbinds X
   undo                  takes back the last change of names or items that is not taken back yet
   names                 lists the names in the order in which they were first bound
@@ -43,6 +42,9 @@ const COMMANDS: &str = "Commands, one a line:
 
 D is a type string (<i4, >u2, |b1, |S5) or a format text of PEP 3118 (T{<i:x:>h:y:}).
 L is an integer, True, False, bytes as b'a\\x00', or a record of these, as (1,b'x').
+OP is one of add sub mul fdiv mod and or xor shl shr div, or of the comparisons eq ne lt le gt ge.
+UN is one of neg not, RED one of sum prod min max any all argmin argmax.
+Y and Z are arrays, or items of these as Y[ix]; Z may be a literal.
 
 A refused command replies `no`, a code and its meaning, and changes nothing.
 Status: 0 all commands were accepted, 1 one was refused, 2 bad words, 3 the run stopped.";

@@ -5,9 +5,9 @@ endif
 
 syntax case match
 syntax match benchName "\<\h\w*\>"
-syntax keyword benchMake zeros full arange array field transpose reshape broadcast copy cast load
-syntax keyword benchChange set upd del undo save
-syntax keyword benchAsk print info format names shares
+syntax keyword benchMake arange array broadcast cast copy field full load reshape transpose zeros
+syntax keyword benchChange del save set undo upd
+syntax keyword benchAsk names print info format shares
 syntax keyword benchOperation add sub mul fdiv mod and or xor shl shr div eq ne lt le gt ge neg not
 syntax keyword benchReduction sum prod min max any all argmin argmax
 syntax keyword benchConstant True False None

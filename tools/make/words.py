@@ -1,0 +1,57 @@
+#!/usr/bin/env python3
+"""Writes the words of the commands, as docs/LANGUAGE.md lists them, into the help, the manual page and the syntax files."""
+import pathlib
+import re
+import sys
+
+TOP = pathlib.Path(__file__).resolve().parents[2]
+sys.path.insert(0, str(TOP / "companion"))
+from bench_tool import language
+
+HELP, SOURCE = "docs/help.txt", "crates/bench_main/src/command_line.rt"
+LISTS = re.compile(r"((OP is one of|the comparisons|UN (?:is )?one of|RED (?:is )?one of)\s+(?:\.B )?)[a-z ]+")
+VIM, TEXT_MATE = "editors/vim/syntax/bench.vim", "editors/bench.tmLanguage.json"
+
+
+def listed(text):
+    """A text whose lists of what OP, UN and RED stand for are those of the page."""
+    words = dict(zip(("OP", "the", "UN", "RED"), language.lists()))
+    return LISTS.sub(lambda found: found[1] + " ".join(words[found[2].split()[0]]), text)
+
+
+def helped(source):
+    """The help: what the command line says of itself, and the commands of the source."""
+    commands = re.search(r'const COMMANDS: &str = "(.*?[^\\])";', source, re.S)[1].replace('\\"', '"').replace("\\\\", "\\")
+    return (TOP / HELP).read_text().partition("Commands, one a line:")[0] + commands + "\n"
+
+
+def groups():
+    """The words by what the syntax files tell apart."""
+    of, asks = language.operations(), [command.forms for command in language.commands() if not command.reply.startswith("ok")]
+    ask = [form.split()[0] for forms in asks for form in forms]
+    make = [word for word in language.verbs(True) if not any(word in words for words in of.values())]
+    change = [word for word in language.verbs(False) if word not in ask]
+    return {"Make": make, "Change": change, "Ask": ask, "Operation": of["OP"] + of["UN"], "Reduction": of["RED"]}
+
+
+def coloured(vim, text_mate):
+    """The syntax files with the words of each group."""
+    of = groups()
+    for name, words in of.items():
+        vim = re.sub(rf"(syntax keyword bench{name}) .*", rf"\1 {' '.join(words)}", vim)
+    scopes = {"keyword.control": of["Change"] + of["Ask"], "support.function": of["Make"] + of["Reduction"], "keyword.operator.word": of["Operation"]}
+    for name, words in scopes.items():
+        text_mate = re.sub(rf'("{name}.bench",\s*"match": "[^"]*\(\?:)[a-z|]*', lambda found: found[1] + "|".join(words), text_mate)
+    return vim, text_mate
+
+
+def texts():
+    """Each text as it is to be, by its path."""
+    kept = {path: (TOP / path).read_text() for path in (SOURCE, "man/bench.1", VIM, TEXT_MATE)}
+    made = {path: listed(kept[path]) for path in (SOURCE, "man/bench.1")}
+    return {**made, HELP: helped(made[SOURCE]), **dict(zip((VIM, TEXT_MATE), coloured(kept[VIM], kept[TEXT_MATE])))}
+
+
+if __name__ == "__main__":
+    for path, text in texts().items():
+        (TOP / path).write_text(text)
