@@ -1,25 +1,22 @@
 -- Laws of the texts of an item's values, and of their widths.
 use Rattle.std.proofs.Common.{◌≡◌, ℕ, zero, suc, ◌+◌, ◌<◌, ◌≤◌, List, [], ◌∷◌, ◌++◌, length, map, take, drop, replicate, get_or, refl, sym, ap, subst, ◌∙◌, ◌-◌, arith, append_assoc}
-use Rattle.std.specs.Prelude.{Bool, IfSome, slice_get}
-use Rattle.std.specs.Fmt.{signed_decimal}
+use Rattle.std.specs.Prelude.{IfSome, slice_get}
 use Rattle.std.proofs.lemmas.List.{take-take, drop-take, drop-drop, take_more, length-take}
 use Rattle.std.proofs.lemmas.Slice.Zip.{AllZip-long}
 use Rattle.elem_descr.specs.declared.scalar.Scalar.{Scalar}
 use Rattle.elem_descr.specs.declared.scalar.Scalar.TheVariants.{Bool as BoolScalar, Byte, Int, Bytes}
-use Rattle.elem_descr.specs.declared.scalar.Order.{Order}
-use Rattle.elem_descr.specs.declared.scalar.Width.{Width}
 use Rattle.elem_descr.specs.declared.leaf.Leaf.{Leaf}
 use Rattle.elem_descr.specs.declared.descr.Descr.{Descr}
 use Rattle.elem_descr.specs.declared.descr.Descr.TheVariants.{Scalar as ScalarDescr, Record as RecordDescr}
 use Rattle.elem_descr.specs.declared.descr.Field.{Field}
-use Rattle.elem_descr.specs.Fields.{Fields, Structure}
+use Rattle.elem_descr.specs.Fields.{Fields}
 use Rattle.elem_descr.specs.Descriptors.{before, listed}
 use Rattle.elem_descr.specs.ItemLaws.{length-leaves_from, leaf_value}
 use Rattle.elem_descr.specs.Values.{LeafValue}
-use Rattle.elem_descr.specs.Encoding.{size, decode, number_of}
-use Rattle.elem_descr.specs.Items.{item_size, leaves_of}
-use Rattle.array_print.specs.Printed.{leaf_text, leaf_texts, first_text, later_texts, leaf_width, leaf_widths, widths, widest, right_justified, all_justified, join_texts, in_parentheses, field_texts, structure_text}
-use Rattle.array_print.specs.inside.Shown.{IsWidth, AreWidths, lead, texts_at, shown}
+use Rattle.elem_descr.specs.Encoding.{size, decode}
+use Rattle.elem_descr.specs.Items.{leaves_of}
+use Rattle.array_print.specs.Printed.{leaf_text, leaf_texts, first_text, later_texts, leaf_width, leaf_widths, widths, right_justified, all_justified, join_texts, in_parentheses, field_texts, structure_text}
+use Rattle.array_print.specs.inside.Shown.{IsWidth, AreWidths, lead}
 
 -- ---- values in a block
 
@@ -78,12 +75,6 @@ text-at (leaf ∷ leaves) (w ∷ ws) bytes zero scalar at are below is =
     λ i. right_justified w (leaf_text (sym is.0 i) (decode (sym is.0 i) (take (size (sym is.0 i)) (drop (sym is.1 i) bytes))))
 text-at (leaf ∷ leaves) (w ∷ ws) bytes (suc k) scalar at are below is = text-at leaves ws bytes k scalar at are.1 (omega arith) is
 
-pub length-texts : (leaves : List Leaf) (ws bytes : List ℕ) → AreWidths leaves ws → length (all_justified ws (leaf_texts leaves (map (leaf_value bytes) leaves))) ≡ length leaves
-length-texts [] [] bytes are = refl
-length-texts [] (w ∷ ws) bytes are = absurd are
-length-texts (leaf ∷ leaves) [] bytes are = absurd are
-length-texts (leaf ∷ leaves) (w ∷ ws) bytes are = ap suc (length-texts leaves ws bytes are.1)
-
 -- one text more, with what leads it
 joined-push : (separator text : List ℕ) (texts : List (List ℕ)) → join_texts separator (texts ++ text ∷ []) ≡ join_texts separator texts ++ lead (length texts) separator ++ text
 joined-push separator text [] = refl
@@ -123,21 +114,7 @@ leaf-width-at (leaf ∷ leaves) bytes offsets (suc k) scalar at below is =
     ap (λ items. get_or (leaf_widths leaves items) k 0) (rest-texts leaf leaves bytes offsets)
     ∙ leaf-width-at leaves bytes offsets k scalar at (omega arith) is
 
--- an integer's text and width
-abbrev pub PrintsInteger : Scalar → Type 0
-PrintsInteger scalar = ((texts : List (List ℕ)) → leaf_width scalar texts ≡ widest texts) × ((value : LeafValue) → leaf_text scalar value ≡ signed_decimal (number_of value))
-
-pub byte-prints : (scalar : Scalar) (signed : Bool) → scalar ≡ Byte signed → PrintsInteger scalar
-byte-prints scalar signed is = subst PrintsInteger (sym is) ((λ texts. refl), (λ value. refl))
-
-pub int-prints : (scalar : Scalar) (signed : Bool) (wide : Width) (order : Order) → scalar ≡ Int signed wide order → PrintsInteger scalar
-int-prints scalar signed wide order is = subst PrintsInteger (sym is) ((λ texts. refl), (λ value. refl))
-
 -- ---- the texts of fields
-
-pub first_text-get : (texts : List (List ℕ)) → first_text texts ≡ get_or texts 0 []
-first_text-get [] = refl
-first_text-get (text ∷ texts) = refl
 
 -- the text of one field, and those after it
 pub field_texts-before : (name : List ℕ) (at : ℕ) (descr : Descr) (rest : Fields) (texts : List (List ℕ)) → field_texts (before name at descr rest) texts ≡ structure_text descr texts ∷ field_texts rest (drop (length (leaves_of descr)) texts)
@@ -151,15 +128,3 @@ length-field_texts (field ∷ fields) texts =
     ap length (field_texts-before field.name field.at field.descr (listed fields) texts) ∙ ap suc (length-field_texts fields (drop (length (leaves_of field.descr)) texts))
 
 -- ---- the texts of an item in a block
-
-pub length-texts-at : (descr : Descr) (ws block : List ℕ) (offset : ℕ) → AreWidths (leaves_of descr) ws → length (texts_at descr ws block offset) ≡ length (leaves_of descr)
-length-texts-at descr ws block offset are = length-texts (leaves_of descr) ws (take (item_size descr) (drop offset block)) are
-
--- the one text of a scalar stands alone
-pub shown-scalar : (descr : Descr) (scalar : Scalar) (ws block : List ℕ) (offset : ℕ) → descr ≡ ScalarDescr scalar → shown descr ws block offset ≡ get_or (texts_at descr ws block offset) 0 []
-shown-scalar descr scalar ws block offset is = ap (λ d. structure_text d (texts_at descr ws block offset)) is ∙ first_text-get (texts_at descr ws block offset)
-
--- those of a record stand in parentheses
-pub shown-record : (descr : Descr) (structure : Structure) (ws block : List ℕ) (offset : ℕ) → descr ≡ RecordDescr structure →
-    shown descr ws block offset ≡ in_parentheses (field_texts structure.fields (texts_at descr ws block offset))
-shown-record descr structure ws block offset is = ap (λ d. structure_text d (texts_at descr ws block offset)) is

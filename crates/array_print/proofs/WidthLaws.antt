@@ -1,17 +1,16 @@
 -- Widths of leaves, as they grow item by item.
-use Rattle.std.proofs.Common.{◌≡◌, ℕ, ◌+◌, ◌<◌, ◌≤◌, List, [], ◌∷◌, ◌++◌, length, map, max, take, drop, get_or, sym, ap, ◌∙◌, append_assoc}
+use Rattle.std.proofs.Common.{◌≡◌, ℕ, ◌+◌, ◌<◌, ◌≤◌, List, [], ◌∷◌, ◌++◌, length, map, take, drop, get_or, sym, ap, ◌∙◌, append_assoc}
 use Rattle.std.specs.Prelude.{IfSome, slice_get}
 use Rattle.std.specs.List.{refill}
 use Rattle.std.proofs.Math.Seq.{take-append_seam}
 use Rattle.std.proofs.lemmas.List.{map-append}
-use Rattle.std.proofs.lemmas.List.Sums.{fold-append}
 use Rattle.elem_descr.specs.declared.scalar.Scalar.{Scalar}
 use Rattle.elem_descr.specs.declared.descr.Descr.{Descr}
 use Rattle.elem_descr.specs.Encoding.{size, decode}
 use Rattle.elem_descr.specs.Items.{item_size, leaves_of}
 use Rattle.array_print.specs.Printed.{leaf_text, leaf_texts, leaf_width, leaf_widths, items_from}
-use Rattle.array_print.specs.inside.Shown.{integer_at, widths_at}
-use Rattle.array_print.proofs.LeafLaws.{PrintsInteger, are-leaf-widths, bytes-at, count-widths, leaf-width-at}
+use Rattle.array_print.specs.inside.Shown.{widths_at}
+use Rattle.array_print.proofs.LeafLaws.{are-leaf-widths, bytes-at, count-widths, leaf-width-at}
 
 -- the widths are those of the items so far
 pub record AreSoFar (descr : Descr) (block all left ws : List ℕ) : Type 0 where
@@ -46,16 +45,6 @@ one-wider descr block seen offset k scalar at width wider below within is so_far
     ∙ ap (λ b. leaf_width scalar (texts_of descr block scalar at seen ++ leaf_text scalar (decode scalar b) ∷ [])) (sym (bytes-at block offset at (size scalar) (item_size descr) within))
     ∙ ap (leaf_width scalar) (sym (map-append read seen (offset ∷ [])))
     ∙ sym (width-at descr block (seen ++ offset ∷ []) k scalar at below is)
-
--- the longest of some texts and one more
-pub one-longer : (scalar : Scalar) (block : List ℕ) (place width wider : ℕ) (texts : List (List ℕ)) → PrintsInteger scalar → wider ≡ max width (length (integer_at scalar block place)) → width ≡ leaf_width scalar texts →
-    wider ≡ leaf_width scalar (texts ++ leaf_text scalar (decode scalar (take (size scalar) (drop place block))) ∷ [])
-one-longer scalar block place width wider texts prints is so_far =
-    let text = leaf_text scalar (decode scalar (take (size scalar) (drop place block))) in
-    is
-    ∙ (λ i. max ((so_far ∙ prints.0 texts) i) (length (sym (prints.1 (decode scalar (take (size scalar) (drop place block)))) i)))
-    ∙ sym (fold-append (λ width item. max width (length item)) 0 texts (text ∷ []))
-    ∙ sym (prints.0 (texts ++ text ∷ []))
 
 -- the next item
 pub one-more : (descr : Descr) (block all left left' ws lent new ws' : List ℕ) (offset : ℕ) → left ≡ offset ∷ left' → lent ≡ ws → ((seen : List ℕ) → lent ≡ widths_at descr block seen → new ≡ widths_at descr block (seen ++ offset ∷ [])) → ws' ≡ new → AreSoFar descr block all left ws → AreSoFar descr block all left' ws'

@@ -168,33 +168,6 @@ fn push_block(
     Ok(())
 }
 
-/// Appends the text of an array. Where memory runs out, some of it may stand past the old end.
-fn push_array(
-    alloc: Global,
-    out: &mut Vec<u8>,
-    block: &[u8],
-    layout: &Layout,
-    descr: &Descr,
-) -> Result<(), AllocError>
-    requires inside { All (λ offset. offset + item_size descr.now ≤ length block.now) (offsets layout.now) }
-    ensures ok { OnOk result (out.new.items ≡ out.old.items
-        ++ array_text descr.now layout.now.shape (items_from descr.now block.now (offsets layout.now))) }
-    ensures kept { StartsWith out.new.items out.old.items }
-    ensures room { vec_capacity out.old ≤ vec_capacity out.new }
-{
-    if layout.shape.items() == 0 {
-        return out.extend_from_slice(b"[]");
-    }
-    let widths = widths_of(alloc, block, layout, descr)?;
-    let items = Items {
-        descr,
-        block,
-        widths: widths.as_slice(),
-    };
-    let mut walk = Walk::new(layout);
-    push_block(out, &mut walk, &items, layout.shape.as_slice(), 0)
-}
-
 /// Appends the text of an array whose items lie at the layout's offsets in a block. Where memory
 /// runs out, the text is as before.
 pub fn print_into(
@@ -210,8 +183,18 @@ pub fn print_into(
     ensures err { OnErr result (out.new.items ≡ out.old.items) }
     ensures room { vec_capacity out.old ≤ vec_capacity out.new }
 {
+    if layout.shape.items() == 0 {
+        return out.extend_from_slice(b"[]");
+    }
+    let widths = widths_of(alloc, block, layout, descr)?;
+    let items = Items {
+        descr,
+        block,
+        widths: widths.as_slice(),
+    };
     let before = out.len();
-    let printed = push_array(alloc, out, block, layout, descr);
+    let mut walk = Walk::new(layout);
+    let printed = push_block(out, &mut walk, &items, layout.shape.as_slice(), 0);
     if printed.is_err() {
         out.truncate(before);
     }

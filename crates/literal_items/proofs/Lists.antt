@@ -1,19 +1,12 @@
 -- Lists element by element.
-use Rattle.std.proofs.Common.{◌≡◌, ◌+◌, ◌≤◌, ◌<◌, ℕ, Bool, true, false, List, [], ◌∷◌, ◌++◌, length, get_or, take, map, refl, sym, ap, ◌∙◌}
-use Rattle.std.specs.Prelude.{◌&&◌}
+use Rattle.std.proofs.Common.{◌≡◌, ◌+◌, ◌<◌, ℕ, Bool, true, false, List, [], ◌∷◌, ◌++◌, length, get_or, take, map, refl, sym, ap, ◌∙◌}
 use Rattle.std.specs.List.{list_all}
-use Rattle.std.proofs.lemmas.List.{take_all, take_more, map-append}
+use Rattle.std.proofs.lemmas.List.{take_more, map-append}
 use Rattle.std.proofs.lemmas.List.Sums.{AllPass-from_list_all}
-use Rattle.std.proofs.lemmas.List.Folds.{list_all_more, list_all_at}
-
-pub all_more : {X : Type 0} (p : X → Bool) (xs : List X) (k : ℕ) (x : X) → k < length xs → get_or xs k x ≡ x → list_all p (take k xs) ≡ true → p x ≡ true → list_all p (take (k + 1) xs) ≡ true
-all_more p xs k x low is before here = list_all_more p xs k x low ∙ (λ i. before i && (ap p is ∙ here) i)
+use Rattle.std.proofs.lemmas.List.Folds.{list_all_at}
 
 pub all_fails : {X : Type 0} (p : X → Bool) (xs : List X) (k : ℕ) (x : X) → k < length xs → get_or xs k x ≡ x → p x ≡ false → list_all p xs ≡ false
 all_fails p xs k x low is here = list_all_at p xs k x low (ap p is ∙ here)
-
-pub all_passed : {X : Type 0} (p : X → Bool) (xs : List X) (k : ℕ) → length xs ≤ k → list_all p (take k xs) ≡ true → list_all p xs ≡ true
-all_passed p xs k whole passed = ap (list_all p) (sym (take_all k xs whole)) ∙ passed
 
 pub all_at : {X : Type 0} (p : X → Bool) (xs : List X) (k : ℕ) (x : X) → k < length xs → get_or xs k x ≡ x → list_all p xs ≡ true → p x ≡ true
 all_at p xs k x low is passed = ap p (sym is) ∙ AllPass-from_list_all p xs passed k x low

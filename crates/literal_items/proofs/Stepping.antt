@@ -11,7 +11,7 @@ use Rattle.elem_descr.specs.Refusals.{◌>>=◌, check}
 use Rattle.elem_descr.specs.Steps.{is_before, numbers_from, IsGap}
 use Rattle.elem_descr.specs.Values.{LeafValue, number}
 use Rattle.elem_descr.specs.StepCounts.{CountsSteps}
-use Rattle.elem_descr.specs.StepLaws.{steps_end_below, abs_pos, next_number, between_back, between_forth, near_before, far_after, counted_within, stepped_first, length-numbers_from}
+use Rattle.elem_descr.specs.StepLaws.{steps_end_below, abs_pos, between_back, between_forth, near_before, far_after, counted_within, stepped_first, length-numbers_from}
 use Rattle.elem_descr.specs.Encoding.{is_value}
 use Rattle.shape_strides.specs.Limits.{max_items}
 use Rattle.std.specs.Ordering.{int_eq}
@@ -110,13 +110,6 @@ unfolding range_items
 range_items-ok scalar start stop step n items is so are = λ i. ranged (is i) (so i) (are i)
 
 -- ---- the next number
-
--- the number after one, as a sum of 128 bits
-pub next_sum : (start step : ℤ) (k bits : ℕ) → bits < 2 ^ 128 → FitsSigned w128 step → cast_signed w128 bits ≡ start +ℤ step *ℤ pos k → FitsSigned w128 (start +ℤ step *ℤ pos (k + 1)) → cast_signed w128 ((bits + cast_unsigned w128 step) % 2 ^ 128) ≡ start +ℤ step *ℤ pos (k + 1)
-next_sum start step k bits few fits is next =
-    wrapping_add_onto w128 bits step few fits
-    ∙ ap (int_wrap w128) (next_number start step (cast_signed w128 bits) k is)
-    ∙ int_wrap_fits w128 (start +ℤ step *ℤ pos (k + 1)) next
 
 -- the number k steps after the start, as a product and a sum of 128 bits
 pub number_far : (start step : ℤ) (k : ℕ) → k < 2 ^ 64 → FitsSigned w128 start → FitsSigned w128 step → FitsSigned w128 (start +ℤ step *ℤ pos k) → cast_signed w128 ((k * cast_unsigned w128 step % 2 ^ 128 + cast_unsigned w128 start) % 2 ^ 128) ≡ start +ℤ step *ℤ pos k

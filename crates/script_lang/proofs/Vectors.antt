@@ -3,7 +3,7 @@ use Rattle.std.proofs.Common.{◌≡◌, ℕ, pos, true, [], ◌∷◌, Some, No
 use Rattle.script_lang.specs.declared.literal.ScalarLiteral.{ScalarLiteral}
 use Rattle.script_lang.specs.declared.literal.ScalarLiteral.TheVariants.{Integer, Boolean, Bytes}
 use Rattle.script_lang.specs.declared.literal.Literal.TheVariants.{Scalar, Record}
-use Rattle.script_lang.specs.RecordValues.{Values, no_values, scalar_value, record_value, value_count, scalars_of}
+use Rattle.script_lang.specs.RecordValues.{Values, no_values, scalar_value, record_value, value_count}
 use Rattle.script_lang.specs.Listed.{all_values, literals_of}
 use Rattle.script_lang.specs.Tokens.{word_at, number_at, integer_at, is_parted, bytes_mark_at}
 use Rattle.script_lang.specs.Lists.{by_rule, in_turns, entry_first, comma_next, one_or_more, none_or_more, row}
@@ -66,9 +66,6 @@ no_comma = refl
 -- (1, (2, (3)), True)
 abbrev nested : Values
 nested = scalar_value (number 1) (record_value (before 2 (just 3)) (scalar_value (Boolean true) no_values))
-
-scalars_in_order : scalars_of nested ≡ number 1 ∷ number 2 ∷ number 3 ∷ Boolean true ∷ []
-scalars_in_order = refl
 
 counted_at_the_top : value_count nested ≡ 3
 counted_at_the_top = refl

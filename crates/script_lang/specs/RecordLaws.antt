@@ -1,10 +1,10 @@
 -- Laws of the values of a record literal.
-use Rattle.std.specs.Prelude.{ℕ, zero, suc, ◌≡◌, ◌<◌, List, [], ◌∷◌, ◌++◌, length}
+use Rattle.std.specs.Prelude.{ℕ, zero, suc, ◌≡◌, ◌<◌, List, [], ◌∷◌, length}
 use Rattle.std.specs.List.{All}
-use Rattle.std.proofs.Common.{slice_index_or, arith, refl, ap, sym, ◌∙◌, append_assoc}
+use Rattle.std.proofs.Common.{slice_index_or, arith, refl, ap, sym, ◌∙◌}
 use Rattle.script_lang.specs.declared.literal.Literal.{Literal}
 use Rattle.script_lang.specs.declared.literal.Literal.TheVariants.{Scalar, Record}
-use Rattle.script_lang.specs.RecordValues.{Values, no_values, scalar_value, record_value, value_count, scalars_of}
+use Rattle.script_lang.specs.RecordValues.{Values, no_values, scalar_value, record_value, value_count}
 use Rattle.script_lang.specs.Listed.{all_values, literals_of}
 use Rattle.script_lang.specs.Nodes.{literal_nodes}
 
@@ -25,12 +25,6 @@ length_literals_of (record_value inner rest) = omega (arith, length_literals_of 
 
 pub value_count_listed : (literals : List Literal) → value_count (all_values literals) ≡ length literals
 value_count_listed literals = sym (length_literals_of (all_values literals)) ∙ ap length (literals_of_listed literals)
-
-pub scalars_of_listed_append : (front back : List Literal) → scalars_of (all_values (front ++ back)) ≡ scalars_of (all_values front) ++ scalars_of (all_values back)
-scalars_of_listed_append [] back = refl
-scalars_of_listed_append (Scalar scalar ∷ front) back = ap (λ ss. scalar ∷ ss) (scalars_of_listed_append front back)
-scalars_of_listed_append (Record inner ∷ front) back =
-    ap (λ ss. scalars_of inner ++ ss) (scalars_of_listed_append front back) ∙ sym (append_assoc (scalars_of inner) (scalars_of (all_values front)) (scalars_of (all_values back)))
 
 at-literal_nodes : (values : Values) (k : ℕ) (d : Literal) → k < length (literals_of values) → literal_nodes (slice_index_or (literals_of values) k d) < literal_nodes (Record values)
 at-literal_nodes no_values k d low = absurd (omega (arith, low))

@@ -1,5 +1,5 @@
 -- The values of a record literal.
-use Rattle.std.specs.Prelude.{ℕ, ◌+◌, List, [], ◌∷◌, ◌++◌}
+use Rattle.std.specs.Prelude.{ℕ, ◌+◌}
 use Rattle.script_lang.specs.declared.literal.ScalarLiteral.{ScalarLiteral}
 
 -- the values of a record literal in their order: each a scalar or a record's values, and those after it
@@ -13,12 +13,6 @@ abbrev pub value_count : Values → ℕ
 value_count no_values = 0
 value_count (scalar_value scalar rest) = 1 + value_count rest
 value_count (record_value inner rest) = 1 + value_count rest
-
--- the scalars in order, those of an inner record in its place
-abbrev pub scalars_of : Values → List ScalarLiteral
-scalars_of no_values = []
-scalars_of (scalar_value scalar rest) = scalar ∷ scalars_of rest
-scalars_of (record_value inner rest) = scalars_of inner ++ scalars_of rest
 
 -- the scalars and records at all levels
 abbrev pub node_count : Values → ℕ

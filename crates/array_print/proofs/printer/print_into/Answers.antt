@@ -1,6 +1,7 @@
-use Rattle.std.proofs.Common.{◌≡◌, ℕ, List, [], ◌∷◌, ◌++◌, cond, codes, length, map, take, drop, refl, sym, subst, ◌∙◌, ap, arith}
+use Rattle.std.proofs.Common.{true, Result, Ok, Err, is_err, ◌≡◌, ℕ, List, [], ◌∷◌, ◌++◌, cond, codes, length, map, take, drop, refl, sym, subst, ◌∙◌, ap, arith}
 use Rattle.std.proofs.lemmas.Bool.{ne_eqb}
 use Rattle.std.proofs.lemmas.List.{take_all}
+use Rattle.std.specs.Result.{OnOk}
 use Rattle.std.proofs.lemmas.Result.{on_ok_weaker}
 use Rattle.elem_descr.specs.declared.descr.Descr.{Descr}
 use Rattle.elem_descr.specs.Items.{leaves_of}
@@ -9,7 +10,8 @@ use Rattle.shape_strides.specs.Layouts.{offsets}
 use Rattle.array_print.specs.Printed.{array_text, block_text, item_text, widths, items_from}
 use Rattle.array_print.specs.inside.Shown.{AreWidths, shown}
 use Rattle.array_print.proofs.LeafLaws.{are-widths}
-use Rattle.array_print.proofs.printer.push_array.Goals as goal
+use Rattle.array_print.proofs.printer.print_into.Goals.{then-is_err, else-is_err}
+use Rattle.array_print.proofs.printer.print_into.Goals as goal
 
 texts-shown : (descr : Descr) (ws block offs : List ℕ) → map (shown descr ws block) offs ≡ map (item_text descr ws) (items_from descr block offs)
 texts-shown descr ws block [] = refl
@@ -29,14 +31,22 @@ printed descr block shape axes offs walk ws out out' all some same walked wide p
     ∙ ap (λ w. out ++ block_text 0 shape (map (item_text descr w) items)) wide
     ∙ ap (λ b. out ++ cond b (codes "[]") (block_text 0 shape texts)) (sym (ne_eqb (count shape) 0 some))
 
-pub push_block-requires-clause-widths : goal.push_block-requires-clause-widths
-push_block-requires-clause-widths c =
+pub push_block-printed-requires-clause-widths : goal.push_block-printed-requires-clause-widths
+push_block-printed-requires-clause-widths c =
     subst (λ ws. AreWidths (leaves_of c.args.descr.now) ws) (sym (c.as_slice.ensures ∙ c.in_ok-widths.ensures))
     (are-widths c.args.descr.now c.args.layout.now.shape (items_from c.args.descr.now c.args.block.now (offsets c.args.layout.now)))
+
+failed : {A E : Type 0} (r : Result A E) (P : Type 0) → is_err r ≡ true → OnOk r P
+failed (Ok x) P is = cc
+failed (Err e) P is = tt
 
 pub returns-clause-ok : goal.returns-clause-ok
 returns-clause-ok c =
     let some : count c.args.layout.now.shape ≡ 0 → ⊥ = λ none. c.if-items-eq0.false (c.items.ensures.value ∙ none) in
-    on_ok_weaker c.push_block.result
-    (λ pushed. printed c.args.descr.now c.args.block.now c.args.layout.now.shape c.as_slice-2.result.now (offsets c.args.layout.now) _ c.as_slice.result.now _ _ c.new-walk.ensures.count some c.as_slice-2.ensures.value c.new-walk.ensures.items (c.as_slice.ensures ∙ c.in_ok-widths.ensures) pushed)
-    c.push_block.ensures.ok
+    elim c.if-is_err.branch [
+      | then-is_err w ↦ failed c.push_block-printed.result _ (sym c.is_err.ensures.value ∙ w.if-is_err.true)
+      | else-is_err w ↦
+          on_ok_weaker c.push_block-printed.result
+          (λ pushed. printed c.args.descr.now c.args.block.now c.args.layout.now.shape c.as_slice-2.result.now (offsets c.args.layout.now) _ c.as_slice.result.now _ _ c.new-walk.ensures.count some c.as_slice-2.ensures.value c.new-walk.ensures.items (c.as_slice.ensures ∙ c.in_ok-widths.ensures) (ap (λ out. out.items) w.out-is ∙ pushed))
+          c.push_block-printed.ensures.ok
+    ]
